@@ -1,0 +1,46 @@
+//! Whole ranges of bytes, read and written.
+
+ghost use Rattle.std.specs.Prelude.{◌≡◌, ◌+◌, ◌≤◌, ◌<◌, ◌↔◌, length, IsErr, OnOk, OnErr};
+ghost use Rattle.rvm_mem.specs.Bytes.{slice, replaced};
+ghost use Rattle.rvm_mem.specs.Pages.{mark_bytes};
+
+use crate::memory::Memory;
+use thiserror::Error;
+
+/// The range does not lie within the memory.
+#[derive(Clone, Copy, Debug, PartialEq, Eq, Error)]
+#[error("the range is not in memory")]
+pub struct OutOfRange;
+
+/// Reads the bytes from a place on, as many as `bytes` has room for. `OutOfRange` where they are
+/// not all in memory; then `bytes` stays as it was.
+pub fn read_bytes<M: Memory>(memory: &M, at: u32, bytes: &mut [u8]) -> Result<(), OutOfRange>
+    ensures read { OnOk result (bytes.new ≡ slice (length bytes.old) at (M.bytes memory.now)) }
+    ensures out { IsErr result ↔ (length (M.bytes memory.now) < at + length bytes.old) }
+    ensures err { OnErr result (bytes.new ≡ bytes.old) }
+{
+    if u64::from(memory.len()) < u64::from(at) + bytes.len() as u64 {
+        return Err(OutOfRange);
+    }
+    for i in 0..bytes.len() {
+        bytes[i] = memory.load8(at + i as u32);
+    }
+    Ok(())
+}
+
+/// Writes bytes from a place on, and adds the page of each to the dirty log. `OutOfRange` where
+/// they do not all fit; then nothing changes.
+pub fn write_bytes<M: Memory>(memory: &mut M, at: u32, bytes: &[u8]) -> Result<(), OutOfRange>
+    ensures bytes { OnOk result (M.bytes memory.new ≡ replaced at bytes.now (M.bytes memory.old)) }
+    ensures dirty { OnOk result (M.dirty memory.new ≡ mark_bytes at (length bytes.now) (M.dirty memory.old)) }
+    ensures out { IsErr result ↔ (length (M.bytes memory.old) < at + length bytes.now) }
+    ensures err { OnErr result (memory.new ≡ memory.old) }
+{
+    if u64::from(memory.len()) < u64::from(at) + bytes.len() as u64 {
+        return Err(OutOfRange);
+    }
+    for i in 0..bytes.len() {
+        memory.store8(at + i as u32, bytes[i]);
+    }
+    Ok(())
+}
