@@ -1,0 +1,197 @@
+//! The signed immediates and offsets of an instruction, each in its range.
+
+ghost use Rattle.std.specs.Prelude.{◌≡◌, ◌<◌, ◌%◌, ◌^◌, ◌≤ℤ◌, pos, negsuc};
+ghost use Rattle.rvm_word.specs.Word.{signed_value, modulo};
+ghost use Rattle.rvm_isa.specs.Fields.{IsEven};
+
+use std::marker::Model;
+
+/// A signed immediate of twelve bits, -2048 to 2047.
+#[derive(Clone, Copy, PartialEq, Eq, Debug)]
+pub struct Imm12(i32);
+
+impl Model for Imm12 {
+    ghost use Rattle.std.specs.Prelude.{ℤ, pos, negsuc, ◌≤ℤ◌};
+
+    ghost Value = { ℤ };
+
+    ghost view = { λ a. a.0 };
+
+    ghost inverse = { λ v. record { 0 = v } };
+
+    ghost invariant = { λ a. (negsuc 2047 ≤ℤ a.0) × (a.0 ≤ℤ pos 2047) };
+}
+
+impl Imm12 {
+    /// The immediate of this number.
+    #[inline(always)]
+    pub fn new(value: i32) -> Imm12
+        requires low { negsuc 2047 ≤ℤ value }
+        requires high { value ≤ℤ pos 2047 }
+        ensures { result ≡ value }
+    {
+        Imm12(value)
+    }
+
+    /// The immediate whose two's complement bits these are.
+    #[inline(always)]
+    #[tactic(auto, unfolding(rvm_word::specs::Word::signed_value))]
+    pub fn from_bits(bits: u32) -> Imm12
+        requires { bits < 2 ^ 12 }
+        ensures value { result ≡ signed_value 12 bits }
+        ensures bits { modulo 12 result ≡ bits }
+    {
+        Imm12((bits << 20).cast_signed() >> 20)
+    }
+
+    /// The number.
+    #[inline(always)]
+    pub fn value(self) -> i32
+        ensures value { result ≡ self }
+        ensures low { negsuc 2047 ≤ℤ result }
+        ensures high { result ≤ℤ pos 2047 }
+    {
+        self.0
+    }
+
+    /// Its 12 bits in two's complement.
+    #[inline(always)]
+    #[tactic(auto, using(crate::proofs::Immediates::values))]
+    pub fn bits(self) -> u32
+        ensures bits { result ≡ modulo 12 self }
+        ensures value { signed_value 12 result ≡ self }
+        ensures below { result < 2 ^ 12 }
+    {
+        self.value().cast_unsigned() & 0xFFF
+    }
+}
+
+/// The offset of a branch: even, -4096 to 4094.
+#[derive(Clone, Copy, PartialEq, Eq, Debug)]
+pub struct Off13(i32);
+
+impl Model for Off13 {
+    ghost use Rattle.std.specs.Prelude.{ℤ, pos, negsuc, ◌≤ℤ◌};
+    ghost use Rattle.rvm_isa.specs.Fields.{IsEven};
+
+    ghost Value = { ℤ };
+
+    ghost view = { λ a. a.0 };
+
+    ghost inverse = { λ v. record { 0 = v } };
+
+    ghost invariant = { λ a. (negsuc 4095 ≤ℤ a.0) × (a.0 ≤ℤ pos 4094) × IsEven a.0 };
+}
+
+impl Off13 {
+    /// The offset of this number.
+    #[inline(always)]
+    pub fn new(value: i32) -> Off13
+        requires low { negsuc 4095 ≤ℤ value }
+        requires high { value ≤ℤ pos 4094 }
+        requires even { IsEven value }
+        ensures { result ≡ value }
+    {
+        Off13(value)
+    }
+
+    /// The offset whose two's complement bits these are.
+    #[inline(always)]
+    #[tactic(auto, unfolding(rvm_word::specs::Word::signed_value))]
+    pub fn from_bits(bits: u32) -> Off13
+        requires below { bits < 2 ^ 13 }
+        requires even { bits % 2 ≡ 0 }
+        ensures value { result ≡ signed_value 13 bits }
+        ensures bits { modulo 13 result ≡ bits }
+    {
+        Off13((bits << 19).cast_signed() >> 19)
+    }
+
+    /// The number.
+    #[inline(always)]
+    pub fn value(self) -> i32
+        ensures value { result ≡ self }
+        ensures low { negsuc 4095 ≤ℤ result }
+        ensures high { result ≤ℤ pos 4094 }
+        ensures even { IsEven result }
+    {
+        self.0
+    }
+
+    /// Its 13 bits in two's complement.
+    #[inline(always)]
+    #[tactic(auto, using(crate::proofs::Immediates::values))]
+    pub fn bits(self) -> u32
+        ensures bits { result ≡ modulo 13 self }
+        ensures value { signed_value 13 result ≡ self }
+        ensures below { result < 2 ^ 13 }
+        ensures even { result % 2 ≡ 0 }
+    {
+        self.value().cast_unsigned() & 0x1FFF
+    }
+}
+
+/// The offset of a jump: even, -2^20 to 2^20 - 2.
+#[derive(Clone, Copy, PartialEq, Eq, Debug)]
+pub struct Off21(i32);
+
+impl Model for Off21 {
+    ghost use Rattle.std.specs.Prelude.{ℤ, pos, negsuc, ◌≤ℤ◌};
+    ghost use Rattle.rvm_isa.specs.Fields.{IsEven};
+
+    ghost Value = { ℤ };
+
+    ghost view = { λ a. a.0 };
+
+    ghost inverse = { λ v. record { 0 = v } };
+
+    ghost invariant = { λ a. (negsuc 1048575 ≤ℤ a.0) × (a.0 ≤ℤ pos 1048574) × IsEven a.0 };
+}
+
+impl Off21 {
+    /// The offset of this number.
+    #[inline(always)]
+    pub fn new(value: i32) -> Off21
+        requires low { negsuc 1048575 ≤ℤ value }
+        requires high { value ≤ℤ pos 1048574 }
+        requires even { IsEven value }
+        ensures { result ≡ value }
+    {
+        Off21(value)
+    }
+
+    /// The offset whose two's complement bits these are.
+    #[inline(always)]
+    #[tactic(auto, unfolding(rvm_word::specs::Word::signed_value))]
+    pub fn from_bits(bits: u32) -> Off21
+        requires below { bits < 2 ^ 21 }
+        requires even { bits % 2 ≡ 0 }
+        ensures value { result ≡ signed_value 21 bits }
+        ensures bits { modulo 21 result ≡ bits }
+    {
+        Off21((bits << 11).cast_signed() >> 11)
+    }
+
+    /// The number.
+    #[inline(always)]
+    pub fn value(self) -> i32
+        ensures value { result ≡ self }
+        ensures low { negsuc 1048575 ≤ℤ result }
+        ensures high { result ≤ℤ pos 1048574 }
+        ensures even { IsEven result }
+    {
+        self.0
+    }
+
+    /// Its 21 bits in two's complement.
+    #[inline(always)]
+    #[tactic(auto, using(crate::proofs::Immediates::values))]
+    pub fn bits(self) -> u32
+        ensures bits { result ≡ modulo 21 self }
+        ensures value { signed_value 21 result ≡ self }
+        ensures below { result < 2 ^ 21 }
+        ensures even { result % 2 ≡ 0 }
+    {
+        self.value().cast_unsigned() & 0x1FFFFF
+    }
+}
