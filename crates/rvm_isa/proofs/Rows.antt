@@ -5,7 +5,7 @@ use Rattle.std.proofs.lemmas.Nat.{and_mask, and_block, div-add-mod'}
 use Rattle.std.proofs.lemmas.Bool.Decides.{nat_tests}
 use Rattle.std.proofs.lemmas.Bool.{cases_eq}
 use Rattle.rvm_isa.specs.Table.{Row, table, has_row, row_of, decoded, ins_of}
-use Rattle.rvm_isa.specs.Opcodes.{has, with_opcode}
+use Rattle.rvm_isa.specs.Opcodes.{agrees, with_opcode}
 
 -- a mask of a high and a low part takes the high part of the word and the low part
 and_parts : (w k a s : ℕ) → s < 2 ^ k → 0 < 2 ^ k →
@@ -44,7 +44,7 @@ mask_F800707F w =
 
 mask_F9F0707F : (w : ℕ) →
     bit_and w 0xF9F0707F
-        ≡ w / 2 ^ 27 % 32 * 2 ^ 27 + w / 2 ^ 20 % 32 * 2 ^ 20 + w / 4096 % 8 * 4096 + w % 128
+    ≡ w / 2 ^ 27 % 32 * 2 ^ 27 + w / 2 ^ 20 % 32 * 2 ^ 20 + w / 4096 % 8 * 4096 + w % 128
 mask_F9F0707F w =
     let h = and_parts w 27 31 0x1F0707F (lit< tt) (lit< tt) in
     let i = and_mask (w / 2 ^ 27) 5 in
@@ -58,7 +58,7 @@ mask_FFFFFFFF w = and_mask w 32
 
 -- The test of a row is that of its fixed parts, if the row has no bits beside its mask.
 abbrev AgreesAt : ℕ → Type 0
-AgreesAt m = (w b : ℕ) → bit_and b m ≡ b → eqb (bit_and w m) b ≡ has (w % 128) w m b
+AgreesAt m = (w b : ℕ) → bit_and b m ≡ b → eqb (bit_and w m) b ≡ agrees (w % 128) w m b
 
 at_mask_7F : AgreesAt 0x7F
 at_mask_7F w b within =
@@ -130,14 +130,14 @@ abbrev is_sound : Row → Bool
 is_sound r = is_known r.mask && eqb (bit_and r.bits r.mask) r.bits
 
 find_by_parts : (w : ℕ) (rows : List Row) → list_all is_sound rows ≡ true →
-    find (has_row w) rows ≡ find (λ r. has (w % 128) w r.mask r.bits) rows
+    find (has_row w) rows ≡ find (λ r. agrees (w % 128) w r.mask r.bits) rows
 find_by_parts w [] all = refl
 find_by_parts w (r ∷ rows) all =
     let known : is_known r.mask ≡ true = grind arith in
     let within : bit_and r.bits r.mask ≡ r.bits = grind (arith, nat_tests) in
     let rest : list_all is_sound rows ≡ true = grind arith in
     ap (λ x. cond x (Some r) (find (has_row w) rows)) (at_mask r.mask known w r.bits within)
-    ∙ ap (cond (has (w % 128) w r.mask r.bits) (Some r)) (find_by_parts w rows rest)
+    ∙ ap (cond (agrees (w % 128) w r.mask r.bits) (Some r)) (find_by_parts w rows rest)
 
 all_sound : list_all is_sound table ≡ true
 unfolding table

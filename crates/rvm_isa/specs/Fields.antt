@@ -7,6 +7,19 @@ use Rattle.rvm_word.specs.Word.{signed_value, modulo}
 abbrev pub part : (low width : ℕ) → ℕ → ℕ
 part low width w = w / 2 ^ low % 2 ^ width
 
+-- the fixed parts of a word, by which its row is found: bits 6 to 0, 14 to 12, 31 to 25, 31 to 27
+abbrev pub opcode : ℕ → ℕ
+opcode w = w % 2 ^ 7
+
+abbrev pub funct3 : ℕ → ℕ
+funct3 w = part 12 3 w
+
+abbrev pub funct7 : ℕ → ℕ
+funct7 w = part 25 7 w
+
+abbrev pub funct5 : ℕ → ℕ
+funct5 w = part 27 5 w
+
 -- the destination register, bits 11 to 7
 abbrev pub rd : ℕ → ℕ
 rd w = part 7 5 w

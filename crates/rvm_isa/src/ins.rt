@@ -1,11 +1,13 @@
-//! The instructions of RV32IMA, Zicsr and Zifencei.
+//! The instructions, one variant a row of the table.
 
 use crate::field::{CsrNo, Imm5, Imm20, Reg, Shamt};
 use crate::immediate::{Imm12, Off13, Off21};
 
-/// An instruction with its fields.
+/// An instruction of RV32IMA with Zicsr and Zifencei, mret or wfi, with its fields. Each variant has
+/// the mnemonic of the manual (Unprivileged ISA, "RV32/64G Instruction Set Listings").
 #[derive(Clone, Copy)]
 pub enum Ins {
+    // Upper immediates.
     Lui {
         rd: Reg,
         imm: Imm20,
@@ -14,6 +16,8 @@ pub enum Ins {
         rd: Reg,
         imm: Imm20,
     },
+
+    // Jumps and branches.
     Jal {
         rd: Reg,
         offset: Off21,
@@ -53,6 +57,8 @@ pub enum Ins {
         rs2: Reg,
         offset: Off13,
     },
+
+    // Loads and stores.
     Lb {
         rd: Reg,
         rs1: Reg,
@@ -93,6 +99,8 @@ pub enum Ins {
         rs2: Reg,
         imm: Imm12,
     },
+
+    // Integer computation with an immediate.
     Addi {
         rd: Reg,
         rs1: Reg,
@@ -138,6 +146,8 @@ pub enum Ins {
         rs1: Reg,
         amount: Shamt,
     },
+
+    // Integer computation on registers.
     Add {
         rd: Reg,
         rs1: Reg,
@@ -188,6 +198,8 @@ pub enum Ins {
         rs1: Reg,
         rs2: Reg,
     },
+
+    // Products, quotients and remainders: "M".
     Mul {
         rd: Reg,
         rs1: Reg,
@@ -228,6 +240,8 @@ pub enum Ins {
         rs1: Reg,
         rs2: Reg,
     },
+
+    // Order of memory accesses and of instruction fetches.
     Fence {
         rd: Reg,
         rs1: Reg,
@@ -238,10 +252,14 @@ pub enum Ins {
         rs1: Reg,
         imm: Imm12,
     },
+
+    // The environment and machine mode.
     Ecall,
     Ebreak,
     Mret,
     Wfi,
+
+    // Control and status registers: "Zicsr".
     Csrrw {
         rd: Reg,
         rs1: Reg,
@@ -272,6 +290,8 @@ pub enum Ins {
         imm: Imm5,
         csr: CsrNo,
     },
+
+    // Atomic accesses of words: "A".
     LrW {
         rd: Reg,
         rs1: Reg,

@@ -101,6 +101,27 @@ pub fn j_offset(word: u32) -> Off21
 }
 
 #[inline(always)]
+pub fn funct3(word: u32) -> u32
+    ensures { result ≡ fields.funct3 word }
+{
+    word >> 12 & 7
+}
+
+#[inline(always)]
+pub fn funct5(word: u32) -> u32
+    ensures { result ≡ fields.funct5 word }
+{
+    word >> 27
+}
+
+#[inline(always)]
+pub fn funct7(word: u32) -> u32
+    ensures { result ≡ fields.funct7 word }
+{
+    word >> 25
+}
+
+#[inline(always)]
 pub fn aq(word: u32) -> bool
     ensures { result ≡ fields.aq word }
 {
