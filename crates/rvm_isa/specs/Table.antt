@@ -2,9 +2,19 @@
 -- that such a word is, with its fields (Unprivileged ISA, "RV32/64G Instruction Set Listings";
 -- for mret and wfi Privileged ISA, "RISC-V Privileged Instruction Set Listings").
 use Rattle.std.specs.Prelude.{ℕ, ℤ, Bool, ◌==◌, List, [], ◌∷◌, Option, find, option_map, bit_and}
-use Rattle.rvm_isa.specs.Fields.{rd, rs1, rs2, csr, aq, rl, u_bits, i_imm, s_imm, b_offset, j_offset}
+use Rattle.rvm_isa.specs.Fields.{rd, rs1, rs2, csr, aq, rl, u_bits, i_imm, s_imm, b_offset}
+use Rattle.rvm_isa.specs.Fields.{j_offset}
 use Rattle.rvm_isa.specs.declared.ins.Ins.{Ins}
-use Rattle.rvm_isa.specs.declared.ins.Ins.TheVariants.{Lui, Auipc, Jal, Jalr, Beq, Bne, Blt, Bge, Bltu, Bgeu, Lb, Lh, Lw, Lbu, Lhu, Sb, Sh, Sw, Addi, Slti, Sltiu, Xori, Ori, Andi, Slli, Srli, Srai, Add, Sub, Sll, Slt, Sltu, Xor, Srl, Sra, Or, And, Mul, Mulh, Mulhsu, Mulhu, Div, Divu, Rem, Remu, Fence, FenceI, Ecall, Ebreak, Mret, Wfi, Csrrw, Csrrs, Csrrc, Csrrwi, Csrrsi, Csrrci, LrW, ScW, AmoswapW, AmoaddW, AmoxorW, AmoandW, AmoorW, AmominW, AmomaxW, AmominuW, AmomaxuW}
+use Rattle.rvm_isa.specs.declared.ins.Ins.TheVariants.{Lui, Auipc, Jal, Jalr, Beq, Bne, Blt, Bge}
+use Rattle.rvm_isa.specs.declared.ins.Ins.TheVariants.{Bltu, Bgeu, Lb, Lh, Lw, Lbu, Lhu, Sb, Sh}
+use Rattle.rvm_isa.specs.declared.ins.Ins.TheVariants.{Sw, Addi, Slti, Sltiu, Xori, Ori, Andi}
+use Rattle.rvm_isa.specs.declared.ins.Ins.TheVariants.{Slli, Srli, Srai, Add, Sub, Sll, Slt, Sltu}
+use Rattle.rvm_isa.specs.declared.ins.Ins.TheVariants.{Xor, Srl, Sra, Or, And, Mul, Mulh, Mulhsu}
+use Rattle.rvm_isa.specs.declared.ins.Ins.TheVariants.{Mulhu, Div, Divu, Rem, Remu, Fence, FenceI}
+use Rattle.rvm_isa.specs.declared.ins.Ins.TheVariants.{Ecall, Ebreak, Mret, Wfi, Csrrw, Csrrs}
+use Rattle.rvm_isa.specs.declared.ins.Ins.TheVariants.{Csrrc, Csrrwi, Csrrsi, Csrrci, LrW, ScW}
+use Rattle.rvm_isa.specs.declared.ins.Ins.TheVariants.{AmoswapW, AmoaddW, AmoxorW, AmoandW, AmoorW}
+use Rattle.rvm_isa.specs.declared.ins.Ins.TheVariants.{AmominW, AmomaxW, AmominuW, AmomaxuW}
 
 -- which fields an instruction has, with the instruction that they make
 pub data Shape : Type 0 where

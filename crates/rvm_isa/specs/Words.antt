@@ -2,36 +2,59 @@
 use Rattle.std.specs.Prelude.{ℕ, ℤ, ◌+◌, ◌*◌, ◌/◌, ◌%◌, ◌^◌, Bool, if◌then◌else◌}
 use Rattle.rvm_word.specs.Word.{modulo}
 use Rattle.rvm_isa.specs.declared.ins.Ins.{Ins}
-use Rattle.rvm_isa.specs.declared.ins.Ins.TheVariants.{Lui, Auipc, Jal, Jalr, Beq, Bne, Blt, Bge, Bltu, Bgeu, Lb, Lh, Lw, Lbu, Lhu, Sb, Sh, Sw, Addi, Slti, Sltiu, Xori, Ori, Andi, Slli, Srli, Srai, Add, Sub, Sll, Slt, Sltu, Xor, Srl, Sra, Or, And, Mul, Mulh, Mulhsu, Mulhu, Div, Divu, Rem, Remu, Fence, FenceI, Ecall, Ebreak, Mret, Wfi, Csrrw, Csrrs, Csrrc, Csrrwi, Csrrsi, Csrrci, LrW, ScW, AmoswapW, AmoaddW, AmoxorW, AmoandW, AmoorW, AmominW, AmomaxW, AmominuW, AmomaxuW}
+use Rattle.rvm_isa.specs.declared.ins.Ins.TheVariants.{Lui, Auipc, Jal, Jalr, Beq, Bne, Blt, Bge}
+use Rattle.rvm_isa.specs.declared.ins.Ins.TheVariants.{Bltu, Bgeu, Lb, Lh, Lw, Lbu, Lhu, Sb, Sh}
+use Rattle.rvm_isa.specs.declared.ins.Ins.TheVariants.{Sw, Addi, Slti, Sltiu, Xori, Ori, Andi}
+use Rattle.rvm_isa.specs.declared.ins.Ins.TheVariants.{Slli, Srli, Srai, Add, Sub, Sll, Slt, Sltu}
+use Rattle.rvm_isa.specs.declared.ins.Ins.TheVariants.{Xor, Srl, Sra, Or, And, Mul, Mulh, Mulhsu}
+use Rattle.rvm_isa.specs.declared.ins.Ins.TheVariants.{Mulhu, Div, Divu, Rem, Remu, Fence, FenceI}
+use Rattle.rvm_isa.specs.declared.ins.Ins.TheVariants.{Ecall, Ebreak, Mret, Wfi, Csrrw, Csrrs}
+use Rattle.rvm_isa.specs.declared.ins.Ins.TheVariants.{Csrrc, Csrrwi, Csrrsi, Csrrci, LrW, ScW}
+use Rattle.rvm_isa.specs.declared.ins.Ins.TheVariants.{AmoswapW, AmoaddW, AmoxorW, AmoandW, AmoorW}
+use Rattle.rvm_isa.specs.declared.ins.Ins.TheVariants.{AmominW, AmomaxW, AmominuW, AmomaxuW}
+
+-- The words of each shape: the bits of the row, and the fields. An immediate is cut into the parts
+-- that stand together in the word.
 
 -- rd, rs1 and a third field at bit 20: rs2, a shift amount or a CSR
 abbrev r_word : (bits rd rs1 third : ℕ) → ℕ
 r_word bits rd rs1 third = bits + 2 ^ 7 * rd + 2 ^ 15 * rs1 + 2 ^ 20 * third
 
+-- I: rd, rs1 and a signed immediate
 abbrev i_word : (bits rd rs1 : ℕ) → ℤ → ℕ
 i_word bits rd rs1 imm = r_word bits rd rs1 (modulo 12 imm)
 
+-- U: rd and the upper bits
 abbrev u_word : (bits rd imm : ℕ) → ℕ
 u_word bits rd imm = bits + 2 ^ 7 * rd + 2 ^ 12 * imm
 
+-- J: rd and a jump's offset, first by its bits
 abbrev j_bits_word : (bits rd o : ℕ) → ℕ
-j_bits_word bits rd o = bits + 2 ^ 7 * rd + 2 ^ 12 * (o / 2 ^ 12 % 2 ^ 8) + 2 ^ 20 * (o / 2 ^ 11 % 2) + 2 ^ 21 * (o / 2 % 2 ^ 10) + 2 ^ 31 * (o / 2 ^ 20)
+j_bits_word bits rd o =
+    bits + 2 ^ 7 * rd + 2 ^ 12 * (o / 2 ^ 12 % 2 ^ 8) + 2 ^ 20 * (o / 2 ^ 11 % 2)
+    + 2 ^ 21 * (o / 2 % 2 ^ 10) + 2 ^ 31 * (o / 2 ^ 20)
 
 abbrev j_word : (bits rd : ℕ) → ℤ → ℕ
 j_word bits rd offset = j_bits_word bits rd (modulo 21 offset)
 
+-- B: two sources and a branch's offset
 abbrev b_bits_word : (bits rs1 rs2 o : ℕ) → ℕ
-b_bits_word bits rs1 rs2 o = bits + 2 ^ 7 * (o / 2 ^ 11 % 2) + 2 ^ 8 * (o / 2 % 2 ^ 4) + 2 ^ 15 * rs1 + 2 ^ 20 * rs2 + 2 ^ 25 * (o / 2 ^ 5 % 2 ^ 6) + 2 ^ 31 * (o / 2 ^ 12)
+b_bits_word bits rs1 rs2 o =
+    bits + 2 ^ 7 * (o / 2 ^ 11 % 2) + 2 ^ 8 * (o / 2 % 2 ^ 4) + 2 ^ 15 * rs1 + 2 ^ 20 * rs2
+    + 2 ^ 25 * (o / 2 ^ 5 % 2 ^ 6) + 2 ^ 31 * (o / 2 ^ 12)
 
 abbrev b_word : (bits rs1 rs2 : ℕ) → ℤ → ℕ
 b_word bits rs1 rs2 offset = b_bits_word bits rs1 rs2 (modulo 13 offset)
 
+-- S: two sources and a signed immediate
 abbrev s_bits_word : (bits rs1 rs2 imm : ℕ) → ℕ
-s_bits_word bits rs1 rs2 imm = bits + 2 ^ 7 * (imm % 2 ^ 5) + 2 ^ 15 * rs1 + 2 ^ 20 * rs2 + 2 ^ 25 * (imm / 2 ^ 5)
+s_bits_word bits rs1 rs2 imm =
+    bits + 2 ^ 7 * (imm % 2 ^ 5) + 2 ^ 15 * rs1 + 2 ^ 20 * rs2 + 2 ^ 25 * (imm / 2 ^ 5)
 
 abbrev s_word : (bits rs1 rs2 : ℕ) → ℤ → ℕ
 s_word bits rs1 rs2 imm = s_bits_word bits rs1 rs2 (modulo 12 imm)
 
+-- an atomic access: a word of three registers with the bits aq and rl
 abbrev amo_word : (bits rd rs1 rs2 : ℕ) → (aq rl : Bool) → ℕ
 amo_word bits rd rs1 rs2 aq rl =
     r_word bits rd rs1 rs2 + (if rl then 2 ^ 25 else 0) + (if aq then 2 ^ 26 else 0)

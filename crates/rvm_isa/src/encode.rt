@@ -1,4 +1,4 @@
-//! From instructions to words.
+//! From instructions to words. What tells the rows of a shape apart is in numbers beside the fields.
 
 ghost use Rattle.std.specs.Prelude.{◌≡◌};
 ghost use Rattle.rvm_isa.specs.Words.{word_of};
@@ -10,7 +10,7 @@ use crate::shape::{
     amo_word, b_word, csr_imm_word, csr_word, i_word, j_word, r_word, s_word, shift_word, u_word,
 };
 
-/// The word that spells an instruction.
+/// The word of an instruction.
 #[tactic(auto, using(crate::proofs::Rows::opcodes), unfolding(crate::specs::Opcodes::with_opcode, crate::specs::Table::table, crate::specs::Words::word_of))]
 pub fn encode(ins: &Ins) -> u32
     ensures row { decoded result ≡ Some ins.now }

@@ -1,7 +1,7 @@
 //! The signed immediates and offsets of an instruction, each in its range.
 
-ghost use Rattle.std.specs.Prelude.{◌≡◌, ◌<◌, ◌%◌, ◌^◌, ◌≤ℤ◌, ◌↔◌, pos, negsuc, IsSome, IfSome};
-ghost use Rattle.rvm_word.specs.Word.{signed_value, modulo};
+ghost use Rattle.std.specs.Prelude.{◌≡◌, ◌<◌, ◌%◌, ◌^◌, ◌↔◌, IsSome, IfSome};
+ghost use Rattle.rvm_word.specs.Word.{signed_value, modulo, FitsSignedBits};
 ghost use Rattle.rvm_isa.specs.Fields.{IsEven};
 
 use std::marker::Model;
@@ -11,7 +11,8 @@ use std::marker::Model;
 pub struct Imm12(i32);
 
 impl Model for Imm12 {
-    ghost use Rattle.std.specs.Prelude.{ℤ, pos, negsuc, ◌≤ℤ◌};
+    ghost use Rattle.std.specs.Prelude.{ℤ};
+    ghost use Rattle.rvm_word.specs.Word.{FitsSignedBits};
 
     ghost Value = { ℤ };
 
@@ -19,15 +20,14 @@ impl Model for Imm12 {
 
     ghost inverse = { λ v. record { 0 = v } };
 
-    ghost invariant = { λ a. (negsuc 2047 ≤ℤ a.0) × (a.0 ≤ℤ pos 2047) };
+    ghost invariant = { λ a. FitsSignedBits 12 a.0 };
 }
 
 impl Imm12 {
     /// The immediate of this number.
     #[inline(always)]
     pub fn new(value: i32) -> Imm12
-        requires low { negsuc 2047 ≤ℤ value }
-        requires high { value ≤ℤ pos 2047 }
+        requires { FitsSignedBits 12 value }
         ensures { result ≡ value }
     {
         Imm12(value)
@@ -36,7 +36,7 @@ impl Imm12 {
     /// The immediate of this number, if it is in range.
     pub fn try_new(value: i32) -> Option<Imm12>
         ensures some { IfSome result (λ immediate. immediate ≡ value) }
-        ensures in_range { IsSome result ↔ ((negsuc 2047 ≤ℤ value) × (value ≤ℤ pos 2047)) }
+        ensures in_range { IsSome result ↔ FitsSignedBits 12 value }
     {
         if -2048 <= value && value <= 2047 {
             Some(Imm12(value))
@@ -60,8 +60,7 @@ impl Imm12 {
     #[inline(always)]
     pub fn value(self) -> i32
         ensures value { result ≡ self }
-        ensures low { negsuc 2047 ≤ℤ result }
-        ensures high { result ≤ℤ pos 2047 }
+        ensures in_range { FitsSignedBits 12 result }
     {
         self.0
     }
@@ -83,7 +82,8 @@ impl Imm12 {
 pub struct Off13(i32);
 
 impl Model for Off13 {
-    ghost use Rattle.std.specs.Prelude.{ℤ, pos, negsuc, ◌≤ℤ◌};
+    ghost use Rattle.std.specs.Prelude.{ℤ};
+    ghost use Rattle.rvm_word.specs.Word.{FitsSignedBits};
     ghost use Rattle.rvm_isa.specs.Fields.{IsEven};
 
     ghost Value = { ℤ };
@@ -92,15 +92,14 @@ impl Model for Off13 {
 
     ghost inverse = { λ v. record { 0 = v } };
 
-    ghost invariant = { λ a. (negsuc 4095 ≤ℤ a.0) × (a.0 ≤ℤ pos 4094) × IsEven a.0 };
+    ghost invariant = { λ a. FitsSignedBits 13 a.0 × IsEven a.0 };
 }
 
 impl Off13 {
     /// The offset of this number.
     #[inline(always)]
     pub fn new(value: i32) -> Off13
-        requires low { negsuc 4095 ≤ℤ value }
-        requires high { value ≤ℤ pos 4094 }
+        requires in_range { FitsSignedBits 13 value }
         requires even { IsEven value }
         ensures { result ≡ value }
     {
@@ -110,7 +109,7 @@ impl Off13 {
     /// The offset of this number, if it is in range and even.
     pub fn try_new(value: i32) -> Option<Off13>
         ensures some { IfSome result (λ offset. offset ≡ value) }
-        ensures in_range { IsSome result ↔ ((negsuc 4095 ≤ℤ value) × (value ≤ℤ pos 4094) × IsEven value) }
+        ensures in_range { IsSome result ↔ (FitsSignedBits 13 value × IsEven value) }
     {
         if -4096 <= value && value <= 4094 && value.cast_unsigned() % 2 == 0 {
             Some(Off13(value))
@@ -135,8 +134,7 @@ impl Off13 {
     #[inline(always)]
     pub fn value(self) -> i32
         ensures value { result ≡ self }
-        ensures low { negsuc 4095 ≤ℤ result }
-        ensures high { result ≤ℤ pos 4094 }
+        ensures in_range { FitsSignedBits 13 result }
         ensures even { IsEven result }
     {
         self.0
@@ -160,7 +158,8 @@ impl Off13 {
 pub struct Off21(i32);
 
 impl Model for Off21 {
-    ghost use Rattle.std.specs.Prelude.{ℤ, pos, negsuc, ◌≤ℤ◌};
+    ghost use Rattle.std.specs.Prelude.{ℤ};
+    ghost use Rattle.rvm_word.specs.Word.{FitsSignedBits};
     ghost use Rattle.rvm_isa.specs.Fields.{IsEven};
 
     ghost Value = { ℤ };
@@ -169,15 +168,14 @@ impl Model for Off21 {
 
     ghost inverse = { λ v. record { 0 = v } };
 
-    ghost invariant = { λ a. (negsuc 1048575 ≤ℤ a.0) × (a.0 ≤ℤ pos 1048574) × IsEven a.0 };
+    ghost invariant = { λ a. FitsSignedBits 21 a.0 × IsEven a.0 };
 }
 
 impl Off21 {
     /// The offset of this number.
     #[inline(always)]
     pub fn new(value: i32) -> Off21
-        requires low { negsuc 1048575 ≤ℤ value }
-        requires high { value ≤ℤ pos 1048574 }
+        requires in_range { FitsSignedBits 21 value }
         requires even { IsEven value }
         ensures { result ≡ value }
     {
@@ -187,7 +185,7 @@ impl Off21 {
     /// The offset of this number, if it is in range and even.
     pub fn try_new(value: i32) -> Option<Off21>
         ensures some { IfSome result (λ offset. offset ≡ value) }
-        ensures in_range { IsSome result ↔ ((negsuc 1048575 ≤ℤ value) × (value ≤ℤ pos 1048574) × IsEven value) }
+        ensures in_range { IsSome result ↔ (FitsSignedBits 21 value × IsEven value) }
     {
         if -1048576 <= value && value <= 1048574 && value.cast_unsigned() % 2 == 0 {
             Some(Off21(value))
@@ -212,8 +210,7 @@ impl Off21 {
     #[inline(always)]
     pub fn value(self) -> i32
         ensures value { result ≡ self }
-        ensures low { negsuc 1048575 ≤ℤ result }
-        ensures high { result ≤ℤ pos 1048574 }
+        ensures in_range { FitsSignedBits 21 result }
         ensures even { IsEven result }
     {
         self.0

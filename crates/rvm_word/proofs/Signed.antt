@@ -5,7 +5,7 @@ use Rattle.std.proofs.lemmas.Bool.Decides.{nat_tests}
 use Rattle.std.proofs.lemmas.Int.{ints}
 use Rattle.std.proofs.lemmas.Nat.{pow_pos, mod_below}
 use Rattle.std.proofs.Math.Nat.{pow-suc, mod-eq_of_lt}
-use Rattle.rvm_word.specs.Word.{signed_value, modulo}
+use Rattle.rvm_word.specs.Word.{signed_value, modulo, FitsSignedBits}
 
 -- what is added to a word may be reduced first
 pub modulo-add : (a : ℕ) (z : ℤ) → modulo 32 (pos a +ℤ z) ≡ (a + modulo 32 z) % 2 ^ 32
@@ -55,33 +55,27 @@ modulo-signed_value bits n some small =
 
 -- a whole number in range, reduced, has itself as its signed value
 pub signed_value-modulo : (bits : ℕ) (z : ℤ) → 0 < bits →
-    neg_ℤ (pos (2 ^ (bits - 1))) ≤ℤ z → z <ℤ pos (2 ^ (bits - 1)) →
-    signed_value bits (modulo bits z) ≡ z
-signed_value-modulo bits (pos n) some low high =
+    FitsSignedBits bits z → signed_value bits (modulo bits z) ≡ z
+signed_value-modulo bits (pos n) some (low, high) =
     let two = halves bits some in
     let below : n < 2 ^ (bits - 1) = omega (arith, ints) in
     let small : n < 2 ^ bits = omega arith in
     ap (signed_value bits) (mod-eq_of_lt small) ∙ lower bits n below
-signed_value-modulo bits (negsuc n) some low high =
+signed_value-modulo bits (negsuc n) some (low, high) =
     let two = halves bits some in
     let below : n < 2 ^ (bits - 1) = omega (arith, ints) in
     let small : n < 2 ^ bits = omega arith in
     let kept : n % 2 ^ bits ≡ n = mod-eq_of_lt small in
     upper bits (2 ^ bits - 1 - n % 2 ^ bits) n (omega arith) (omega arith)
 
--- the bounds of a signed value
-pub signed_value_low : (bits n : ℕ) → 0 < bits → n < 2 ^ bits →
-    neg_ℤ (pos (2 ^ (bits - 1))) ≤ℤ signed_value bits n
+-- the signed value of a number of so many bits is in range
+pub signed_value_fits : (bits n : ℕ) → 0 < bits → n < 2 ^ bits →
+    FitsSignedBits bits (signed_value bits n)
 unfolding signed_value
-signed_value_low bits n some small =
+signed_value_fits bits n some small =
     let two = halves bits some in
-    grind (arith, ints, nat_tests)
-
-pub signed_value_high : (bits n : ℕ) → signed_value bits n <ℤ pos (2 ^ (bits - 1))
-unfolding signed_value
-signed_value_high bits n =
     let positive = pow_pos (bits - 1) in
-    grind (arith, ints, nat_tests)
+    (grind (arith, ints, nat_tests), grind (arith, ints, nat_tests))
 
 -- a reduced number lies below the modulus
 pub modulo_below : (bits : ℕ) (z : ℤ) → modulo bits z < 2 ^ bits
