@@ -3,7 +3,7 @@ use Rattle.std.proofs.Common.{◌≡◌, ◌%◌, ◌^◌, ℤ, pos, negsuc, ap,
 use Rattle.std.specs.Int.{w32}
 use Rattle.std.proofs.lemmas.Int.{ints}
 use Rattle.std.proofs.lemmas.Nat.{and_mask}
-use Rattle.rvm_word.specs.Word.{signed_value, modulo, FitsSignedBits}
+use Rattle.rvm_word.specs.Word.{signed_value, signed, modulo, FitsSignedBits}
 use Rattle.rvm_word.proofs.Signed.{signed_value-modulo}
 use Rattle.rvm_word.proofs.Casts.{returned}
 
@@ -46,4 +46,12 @@ value_of_21 z in_range =
     ∙ ap (signed_value 21) (and_mask (modulo 32 z) 21 ∙ masked_21 z)
     ∙ signed_value-modulo 21 z (omega arith) in_range
 
-pub ruleset values = (value_of_12, value_of_13, value_of_21)
+-- an immediate of 12 bits is the signed value of its word
+pub value_of_word : (z : ℤ) → FitsSignedBits 12 z →
+    signed (of_z w32 (to_z w32 (of_z w32 z))) ≡ z
+value_of_word z in_range =
+    let fits : FitsSigned w32 z = grind (arith, ints) in
+    let in_word : FitsSignedBits 32 z = grind (arith, ints) in
+    ap signed (returned z fits) ∙ signed_value-modulo 32 z (omega arith) in_word
+
+pub ruleset values = (value_of_12, value_of_13, value_of_21, value_of_word)

@@ -1,7 +1,7 @@
 //! The signed immediates and offsets of an instruction, each in its range.
 
 ghost use Rattle.std.specs.Prelude.{◌≡◌, ◌<◌, ◌%◌, ◌^◌, ◌↔◌, IsSome, IfSome};
-ghost use Rattle.rvm_word.specs.Word.{signed_value, modulo, FitsSignedBits};
+ghost use Rattle.rvm_word.specs.Word.{signed_value, signed, modulo, FitsSignedBits};
 ghost use Rattle.rvm_isa.specs.Fields.{IsEven};
 
 use std::marker::Model;
@@ -63,6 +63,16 @@ impl Imm12 {
         ensures in_range { FitsSignedBits 12 result }
     {
         self.0
+    }
+
+    /// The number as a word, sign-extended.
+    #[inline(always)]
+    #[tactic(auto, using(crate::proofs::Immediates::values))]
+    pub fn word(self) -> u32
+        ensures word { result ≡ modulo 32 self }
+        ensures value { signed result ≡ self }
+    {
+        self.value().cast_unsigned()
     }
 
     /// Its 12 bits in two's complement.
