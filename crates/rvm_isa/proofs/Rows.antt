@@ -98,7 +98,9 @@ at_mask_FFFFFFFF w b within =
 
 -- the masks of the table
 abbrev is_known : ℕ → Bool
-is_known m = eqb m 0x7F || eqb m 0x707F || eqb m 0xFE00707F || eqb m 0xF800707F || eqb m 0xF9F0707F || eqb m 0xFFFFFFFF
+is_known m =
+    eqb m 0x7F || eqb m 0x707F || eqb m 0xFE00707F
+    || eqb m 0xF800707F || eqb m 0xF9F0707F || eqb m 0xFFFFFFFF
 
 at_mask : (m : ℕ) → is_known m ≡ true → AgreesAt m
 at_mask m known =

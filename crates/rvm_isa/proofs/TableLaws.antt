@@ -12,14 +12,20 @@ use Rattle.rvm_isa.specs.Laws.{HasRow, NoWordHasTwoRows, IsDecodedByItsRow}
 abbrev apart : Row → Row → Bool
 apart r s = not (eqb (bit_and r.bits s.mask) (bit_and s.bits r.mask))
 
+-- any two of the rows do
 abbrev all_apart : List Row → Bool
 all_apart [] = true
 all_apart (r ∷ rows) = list_all (apart r) rows && all_apart rows
 
+-- a word that has both rows would have both bits
 never_both : (r s : Row) → apart r s ≡ true → (w : ℕ) → HasRow w r → HasRow w s → ⊥
 never_both r s test w p q =
     let e : bit_and r.bits s.mask ≡ bit_and s.bits r.mask =
-    ap (λ b. bit_and b s.mask) (sym p) ∙ and_assoc s.mask w r.mask ∙ ap (bit_and w) (and_comm r.mask s.mask) ∙ sym (and_assoc r.mask w s.mask) ∙ ap (λ b. bit_and b r.mask) q in
+    ap (λ b. bit_and b s.mask) (sym p)
+    ∙ and_assoc s.mask w r.mask
+    ∙ ap (bit_and w) (and_comm r.mask s.mask)
+    ∙ sym (and_assoc r.mask w s.mask)
+    ∙ ap (λ b. bit_and b r.mask) q in
     let t = eq-eqb (bit_and r.bits s.mask) (bit_and s.bits r.mask) e in
     grind arith
 
@@ -27,13 +33,16 @@ table_apart : all_apart table ≡ true
 unfolding table
 table_apart = refl
 
-every : (p : Row → Bool) (P : Row → Type 0) → ((x : Row) → p x ≡ true → P x) → (rows : List Row) → list_all p rows ≡ true → All P rows
+-- what follows of a test that each row passes holds of each row
+every : (p : Row → Bool) (P : Row → Type 0) → ((x : Row) → p x ≡ true → P x) →
+    (rows : List Row) → list_all p rows ≡ true → All P rows
 every p P f [] t = All-nil P
 every p P f (r ∷ rows) t =
     let here : p r ≡ true = grind arith in
     let there : list_all p rows ≡ true = grind arith in
     All-cons P r rows (f r here) (every p P f rows there)
 
+-- no word has both rows
 abbrev Excludes : Row → Row → Type 0
 Excludes r s = (w : ℕ) → HasRow w r → HasRow w s → ⊥
 
@@ -51,7 +60,9 @@ either : (b : Bool) → (b ≡ true) ⊎ (b ≡ false)
 either true = inl refl
 either false = inr refl
 
-found : (w : ℕ) (rows : List Row) (r : Row) → find (has_row w) rows ≡ Some r → Contains rows r × (has_row w r ≡ true)
+-- the row that is found is one of the rows, and the word has it
+found : (w : ℕ) (rows : List Row) (r : Row) → find (has_row w) rows ≡ Some r →
+    Contains rows r × (has_row w r ≡ true)
 found w [] r e = absurd (let n : None ≡ Some r = e in cc)
 found w (x ∷ xs) r e =
     elim (either (has_row w x)) [
@@ -60,7 +71,9 @@ found w (x ∷ xs) r e =
           let h = found w xs r rest in ((suc h.0.0, omega (arith, h.0.1), h.0.2), h.1)
     ]
 
-found_only : (w : ℕ) (rows : List Row) (r : Row) → all_apart rows ≡ true → Contains rows r → has_row w r ≡ true → find (has_row w) rows ≡ Some r
+-- where no word has two rows, the row that a word has is found
+found_only : (w : ℕ) (rows : List Row) (r : Row) → all_apart rows ≡ true → Contains rows r →
+    has_row w r ≡ true → find (has_row w) rows ≡ Some r
 found_only w [] r t (k, l, e) h = absurd (omega (arith, l))
 found_only w (x ∷ xs) r t (zero, l, e) h =
     let same : x ≡ r = e in
@@ -76,7 +89,9 @@ found_only w (x ∷ xs) r t (suc k, l, e) h =
       | inr f ↦ let rest = found_only w xs r there inside h in grind arith
     ]
 
-option_map_some : (w : ℕ) (i : Ins) → (o : Option Row) → option_map (λ s. ins_of s.shape w) o ≡ Some i → (r : Row) × (o ≡ Some r) × (ins_of r.shape w ≡ i)
+option_map_some : (w : ℕ) (i : Ins) → (o : Option Row) →
+    option_map (λ s. ins_of s.shape w) o ≡ Some i →
+    (r : Row) × (o ≡ Some r) × (ins_of r.shape w ≡ i)
 option_map_some w i None e = absurd (let n : None ≡ Some i = e in cc)
 option_map_some w i (Some r) e = (r, refl, (let s : Some (ins_of r.shape w) ≡ Some i = e in cc))
 

@@ -1,4 +1,5 @@
-//! From instructions to words. What tells the rows of a shape apart is in numbers beside the fields.
+//! From instructions to words. What tells the rows of a shape apart stands as numbers before the
+//! fields: opcode, funct3, funct7 or funct5.
 
 ghost use Rattle.std.specs.Prelude.{◌≡◌};
 ghost use Rattle.rvm_isa.specs.Words.{word_of};

@@ -9,7 +9,7 @@ use crate::decode::decode;
 use crate::encode::encode;
 use crate::ins::Ins;
 
-/// The bits of any two rows differ under both their masks.
+/// No word has the bits of two rows of the table under their masks.
 pub fn no_word_has_two_rows()
     ensures { NoWordHasTwoRows }
 {}

@@ -1,5 +1,5 @@
-//! Words of each shape, made of their fixed bits and their fields from the lowest bit up. The clauses
-//! say which part of the word each one is.
+//! Words of each shape, made of their fixed bits and their fields from the lowest bit up. The
+//! clauses say which part of the word each one is.
 
 ghost use Rattle.std.specs.Prelude.{◌≡◌, ◌<◌, ◌^◌};
 ghost use Rattle.rvm_word.specs.Word.{modulo};

@@ -1,5 +1,7 @@
--- Words of 32 bits and the whole numbers that they stand for. A word itself is a number below 2 ^ 32.
-use Rattle.std.specs.Prelude.{ℕ, ℤ, pos, negsuc, neg_ℤ, ◌-◌, ◌/◌, ◌%◌, ◌^◌, ◌≤ℤ◌, ◌<ℤ◌, int_div, int_rem, if◌then◌else◌, ◌==◌, nat_lt}
+-- Words of 32 bits and the whole numbers that they stand for. A word itself is a number below
+-- 2 ^ 32.
+use Rattle.std.specs.Prelude.{ℕ, ℤ, pos, negsuc, neg_ℤ, ◌-◌, ◌/◌, ◌%◌, ◌^◌, ◌≤ℤ◌, ◌<ℤ◌}
+use Rattle.std.specs.Prelude.{int_div, int_rem, if◌then◌else◌, ◌==◌, nat_lt}
 
 -- the value of a two's complement number of so many bits: from half of 2 ^ bits on it is negative
 unfoldable pub signed_value : (bits n : ℕ) → ℤ
