@@ -1,0 +1,4 @@
+mod Examples
+pub mod Immediates
+pub mod Rows
+pub mod TableLaws

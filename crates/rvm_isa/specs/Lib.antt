@@ -1,0 +1,5 @@
+pub mod Fields
+pub mod Table
+pub mod Words
+pub mod Opcodes
+pub mod Laws

@@ -1,0 +1,35 @@
+//! What holds of the instruction table, and of words and instructions.
+
+ghost use Rattle.std.specs.Prelude.{◌≡◌, Some, IfSome};
+ghost use Rattle.rvm_isa.specs.Laws.{IsDecodedByItsRow, NoWordHasTwoRows};
+ghost use Rattle.rvm_isa.specs.Table.{decoded};
+ghost use Rattle.rvm_isa.specs.Words.{word_of};
+
+use crate::decode::decode;
+use crate::encode::encode;
+use crate::ins::Ins;
+
+/// No word has the bits of two rows of the table under their masks.
+pub fn no_word_has_two_rows()
+    ensures { NoWordHasTwoRows }
+{}
+
+/// A word is decoded exactly where the table has a row for it, as that row's instruction with the
+/// word's fields.
+pub fn a_word_is_decoded_by_its_row()
+    ensures { IsDecodedByItsRow }
+{}
+
+/// The instruction that a word is decoded as has that word.
+pub fn a_decoded_word_is_encoded_again(word: u32)
+    ensures { IfSome (decoded word) (λ i. word_of i ≡ word) }
+{
+    let _ins = decode(word);
+}
+
+/// The word of an instruction is decoded as that instruction.
+pub fn an_encoded_instruction_is_decoded_again(ins: &Ins)
+    ensures { decoded (word_of ins.now) ≡ Some ins.now }
+{
+    let _word = encode(ins);
+}

@@ -1,0 +1,56 @@
+-- Values that the standard states, computed by the definitions.
+use Rattle.std.proofs.Common.{◌≡◌, ◌*◌, ◌/◌, ◌^◌, ◌*ℤ◌, pos, negsuc, refl}
+use Rattle.rvm_word.specs.Word.{signed_value, signed, modulo, high, floor_shift, quotient, remainder, unsigned_quotient, unsigned_remainder}
+
+-- the one signed division that overflows: -2 ^ 31 by -1
+quotient_overflows : quotient 0x80000000 0xFFFFFFFF ≡ 0x80000000
+unfolding signed_value
+quotient_overflows = refl
+
+remainder_overflows : remainder 0x80000000 0xFFFFFFFF ≡ 0
+unfolding signed_value
+remainder_overflows = refl
+
+-- by zero
+quotient_by_zero : quotient 7 0 ≡ 0xFFFFFFFF
+quotient_by_zero = refl
+
+remainder_by_zero : remainder 7 0 ≡ 7
+remainder_by_zero = refl
+
+unsigned_quotient_by_zero : unsigned_quotient 7 0 ≡ 0xFFFFFFFF
+unsigned_quotient_by_zero = refl
+
+unsigned_remainder_by_zero : unsigned_remainder 7 0 ≡ 7
+unsigned_remainder_by_zero = refl
+
+-- -7 by 2 rounds towards zero: -3, and -1 is left
+quotient_rounds : quotient 0xFFFFFFF9 2 ≡ 0xFFFFFFFD
+unfolding signed_value
+quotient_rounds = refl
+
+remainder_keeps_sign : remainder 0xFFFFFFF9 2 ≡ 0xFFFFFFFF
+unfolding signed_value
+remainder_keeps_sign = refl
+
+-- the upper word of 0xFFFFFFFF by itself: both signed, the first signed, neither signed
+high_signed : high (signed 0xFFFFFFFF *ℤ signed 0xFFFFFFFF) ≡ 0
+unfolding signed_value
+high_signed = refl
+
+high_mixed : high (signed 0xFFFFFFFF *ℤ pos 0xFFFFFFFF) ≡ 0xFFFFFFFF
+unfolding signed_value
+high_mixed = refl
+
+high_unsigned : 0xFFFFFFFF * 0xFFFFFFFF / 2 ^ 32 ≡ 0xFFFFFFFE
+high_unsigned = refl
+
+-- -5 shifted right by one is -3
+shift_rounds_down : modulo 32 (floor_shift (signed 0xFFFFFFFB) 1) ≡ 0xFFFFFFFD
+unfolding signed_value
+shift_rounds_down = refl
+
+-- the byte 0x80 is -128
+byte_is_negative : signed_value 8 0x80 ≡ negsuc 127
+unfolding signed_value
+byte_is_negative = refl

@@ -1,0 +1,3 @@
+pub mod Casts
+mod Examples
+pub mod Signed
