@@ -3,3 +3,4 @@ pub mod Registers
 pub mod Table
 pub mod Traps
 pub mod Counters
+pub mod File

@@ -1,5 +1,5 @@
 -- What the registers of a hart keep, and the numbers that some of them are read as.
-use Rattle.std.specs.Prelude.{◌≡◌, ℕ, ◌+◌, ◌*◌, ◌/◌, ◌%◌, ◌^◌, ◌<◌, Bool, false, ◌==◌, if◌then◌else◌}
+use Rattle.std.specs.Prelude.{◌≡◌, ℕ, ◌+◌, ◌*◌, ◌/◌, ◌%◌, ◌^◌, Bool, false, ◌==◌, if◌then◌else◌}
 use Rattle.rvm_csr.specs.declared.interrupts.Interrupts.{Interrupts}
 
 -- the registers of one hart, by the manual's names; of mstatus, MIE and MPIE are kept

@@ -1,5 +1,5 @@
 -- Trap entry, return and pending interrupts (Privileged ISA, "Machine-Level ISA").
-use Rattle.std.specs.Prelude.{ℕ, ◌+◌, ◌-◌, ◌*◌, ◌%◌, ◌^◌, Bool, true, false, ◌&&◌, ◌==◌, if◌then◌else◌, List, [], ◌∷◌, Option, None, find}
+use Rattle.std.specs.Prelude.{ℕ, ◌+◌, ◌-◌, ◌*◌, ◌%◌, ◌^◌, Bool, true, false, ◌&&◌, ◌==◌, if◌then◌else◌, [], ◌∷◌, Option, None, find}
 use Rattle.rvm_csr.specs.declared.interrupts.Interrupts.{Interrupts}
 use Rattle.rvm_csr.specs.declared.cause.Interrupt.{Interrupt}
 use Rattle.rvm_csr.specs.declared.cause.Interrupt.TheVariants.{Software, Timer, External}

@@ -38,7 +38,17 @@ impl Exception {
     pub fn code(self) -> u32
         ensures { result ≡ exception_code self }
     {
-        todo
+        match self {
+            Exception::InstructionAddressMisaligned => 0,
+            Exception::InstructionAccessFault => 1,
+            Exception::IllegalInstruction => 2,
+            Exception::Breakpoint => 3,
+            Exception::LoadAddressMisaligned => 4,
+            Exception::LoadAccessFault => 5,
+            Exception::StoreAddressMisaligned => 6,
+            Exception::StoreAccessFault => 7,
+            Exception::EnvironmentCall => 11,
+        }
     }
 }
 
@@ -47,7 +57,11 @@ impl Interrupt {
     pub fn code(self) -> u32
         ensures { result ≡ interrupt_code self }
     {
-        todo
+        match self {
+            Interrupt::Software => 3,
+            Interrupt::Timer => 7,
+            Interrupt::External => 11,
+        }
     }
 }
 
@@ -56,6 +70,9 @@ impl Cause {
     pub fn number(self) -> u32
         ensures { result ≡ cause_number self }
     {
-        todo
+        match self {
+            Cause::Exception(exception) => exception.code(),
+            Cause::Interrupt(interrupt) => (1 << 31) + interrupt.code(),
+        }
     }
 }
