@@ -1,5 +1,5 @@
 -- Which device word stands at an address. The software interrupts and the timer lie as in the RISC-V ACLINT specification.
-use Rattle.std.specs.Prelude.{ℕ, ◌+◌, ◌-◌, ◌*◌, ◌/◌, ◌%◌, Bool, ◌&&◌, ◌==◌, nat_le, nat_lt, if◌then◌else◌, Option, Some, None}
+use Rattle.std.specs.Prelude.{⊤, ◌<◌, ℕ, ◌+◌, ◌-◌, ◌*◌, ◌/◌, ◌%◌, Bool, ◌&&◌, ◌==◌, nat_le, nat_lt, if◌then◌else◌, Option, Some, None}
 use Rattle.rvm_dev.specs.declared.register.Register.{Register}
 use Rattle.rvm_dev.specs.declared.register.Register.TheVariants.{Halt, Msip, MtimecmpLow, MtimecmpHigh, MtimeLow, MtimeHigh, Transmit, Receive, Status, InterruptEnable}
 
@@ -23,3 +23,10 @@ register_at harts a =
     if a == 0x10000004 then Some Receive else
     if a == 0x10000008 then Some Status else
     if a == 0x1000000C then Some InterruptEnable else None
+
+-- the word, if each hart has one, is that of one of so many harts
+abbrev pub IsOfHart : ℕ → Register → Type 0
+IsOfHart harts (Msip h) = h < harts
+IsOfHart harts (MtimecmpLow h) = h < harts
+IsOfHart harts (MtimecmpHigh h) = h < harts
+IsOfHart harts r = ⊤

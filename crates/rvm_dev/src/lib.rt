@@ -4,9 +4,10 @@
 //! Stands on `circular_buffer` for the queues; only `Devices::new` takes memory. Knows nothing of
 //! RAM, harts or instructions. Addresses are those of the guest; only aligned words come here.
 //!
-//! To be read in this order: `register`, `devices`.
+//! To be read in this order: `bits`, `register`, `devices`.
 #![tactic(auto)]
 
+mod bits;
 pub mod devices;
 pub mod register;
 
