@@ -1,0 +1,11 @@
+-- The counters of a hart (Privileged ISA, "Hardware Performance Monitor").
+use Rattle.std.specs.Prelude.{ℕ, ◌+◌, ◌%◌, ◌^◌, Bool, if◌then◌else◌}
+use Rattle.rvm_csr.specs.Registers.{CsrState}
+
+-- a counter of 64 bits after a step that it counts, or does not
+abbrev pub counted : Bool → ℕ → ℕ
+counted counts n = if counts then (n + 1) % 2 ^ 64 else n
+
+-- the registers after a step that mcycle, and minstret, count or do not
+abbrev pub ticked : Bool → Bool → CsrState → CsrState
+ticked cycle instret s = record s { mcycle = counted cycle s.mcycle; minstret = counted instret s.minstret }

@@ -1,0 +1,6 @@
+pub mod Cause
+pub mod Registers
+pub mod Table
+pub mod Traps
+pub mod Counters
+pub mod File

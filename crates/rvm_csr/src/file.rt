@@ -1,0 +1,234 @@
+//! The registers of one hart.
+
+ghost use Rattle.std.specs.Prelude.{◌≡◌, ◌%◌, is_some, unwrap_or};
+ghost use Rattle.rvm_csr.specs.Registers.{at_reset, mstatus_of};
+ghost use Rattle.rvm_csr.specs.Table.{csr_read, csr_write, value_of, written};
+ghost use Rattle.rvm_csr.specs.Traps.{trap_entered, trap_target, trap_left, pending};
+ghost use Rattle.rvm_csr.specs.Counters.{ticked};
+
+use crate::bits::{bit, high_half, is_set, low_half, with_high, with_low};
+use crate::cause::{Cause, Interrupt};
+use crate::interrupts::Interrupts;
+use crate::register::Csr;
+use std::marker::Model;
+
+/// What `misa` says: 32 bits, and the extensions I, M and A.
+const RV32IMA: u32 = 1 << 30 | 1 << 12 | 1 << 8 | 1;
+
+/// The control and status registers of one hart.
+#[derive(Drop)]
+pub struct CsrFile {
+    hart: u32,
+    /// `mstatus.MIE`: interrupts are taken.
+    interrupts_enabled: bool,
+    /// `mstatus.MPIE`: they were, before the trap.
+    enabled_before: bool,
+    mie: Interrupts,
+    mtvec: u32,
+    mscratch: u32,
+    mepc: u32,
+    mcause: u32,
+    mtval: u32,
+    mcycle: u64,
+    minstret: u64,
+}
+
+impl Model for CsrFile {
+    ghost use Rattle.rvm_csr.specs.Registers.{CsrState, IsKept};
+
+    ghost Value = { CsrState };
+
+    ghost use Rattle.rvm_csr.specs.File.{state_of};
+
+    ghost view = { state_of };
+
+    ghost invariant = { λ file. IsKept (state_of file) };
+}
+
+impl CsrFile {
+    /// The registers of a hart after reset: `mhartid` is the hart's number, all else 0.
+    pub fn new(hart: u32) -> CsrFile
+        ensures { result ≡ at_reset hart }
+    {
+        CsrFile {
+            hart,
+            interrupts_enabled: false,
+            enabled_before: false,
+            mie: Interrupts {
+                software: false,
+                timer: false,
+                external: false,
+            },
+            mtvec: 0,
+            mscratch: 0,
+            mepc: 0,
+            mcause: 0,
+            mtval: 0,
+            mcycle: 0,
+            minstret: 0,
+        }
+    }
+
+    /// The value that an instruction reads from the register of a number; `mip` is what is pending
+    /// at the hart now. None where the profile has no such register.
+    #[inline(never)]
+    pub fn read(&self, number: u32, mip: Interrupts) -> Option<u32>
+        ensures { result ≡ csr_read number mip self.now }
+    {
+        let csr = Csr::at(number)?;
+        Some(self.value_of(csr, mip))
+    }
+
+    /// Writes the register of a number. None, and nothing changes, where the profile has no such
+    /// register or its number says that it is read-only.
+    #[inline(never)]
+    pub fn write(&mut self, number: u32, value: u32) -> Option<()>
+        ensures file { self.new ≡ unwrap_or (csr_write number value self.old) self.old }
+        ensures written { is_some result ≡ is_some (csr_write number value self.old) }
+    {
+        if number >> 10 & 3 == 3 {
+            return None;
+        }
+        let csr = Csr::at(number)?;
+        self.set(csr, value);
+        Some(())
+    }
+
+    /// Enters a trap from the instruction at `pc`, with the value for `mtval`, and answers the
+    /// address of the handler (Privileged ISA, "Privilege and Global Interrupt-Enable Stack in
+    /// mstatus register" and "Machine Trap-Vector Base-Address (mtvec) Register").
+    #[inline(never)]
+    pub fn enter_trap(&mut self, cause: Cause, value: u32, pc: u32) -> u32
+        requires { pc % 4 ≡ 0 }
+        ensures file { self.new ≡ trap_entered cause value pc self.old }
+        ensures target { result ≡ trap_target cause self.old }
+    {
+        let target = self.trap_target(cause);
+        self.mepc = pc;
+        self.mcause = cause.number();
+        self.mtval = value;
+        self.enabled_before = self.interrupts_enabled;
+        self.interrupts_enabled = false;
+        target
+    }
+
+    /// Leaves a trap, and answers the address to go on at (Privileged ISA, "Trap-Return
+    /// Instructions").
+    pub fn mret(&mut self) -> u32
+        ensures file { self.new ≡ trap_left self.old }
+        ensures target { result ≡ self.old.mepc }
+    {
+        self.interrupts_enabled = self.enabled_before;
+        self.enabled_before = true;
+        self.mepc
+    }
+
+    /// The interrupt that is taken before the next instruction, if any; `mip` is what is pending at
+    /// the hart.
+    #[inline(always)]
+    pub fn pending(&self, mip: Interrupts) -> Option<Interrupt>
+        ensures { result ≡ pending mip self.now }
+    {
+        if !self.interrupts_enabled {
+            None
+        } else if mip.external && self.mie.external {
+            Some(Interrupt::External)
+        } else if mip.software && self.mie.software {
+            Some(Interrupt::Software)
+        } else if mip.timer && self.mie.timer {
+            Some(Interrupt::Timer)
+        } else {
+            None
+        }
+    }
+
+    /// Whether `mstatus.MIE` is set: where it is not, nothing is pending.
+    #[inline(always)]
+    pub fn interrupts_enabled(&self) -> bool
+        ensures { result ≡ self.now.interrupts_enabled }
+    {
+        self.interrupts_enabled
+    }
+
+    /// Counts one step: `cycle` says whether `mcycle` rises, `instret` whether `minstret` does.
+    /// Both wrap at 2^64.
+    #[inline(always)]
+    pub fn tick(&mut self, cycle: bool, instret: bool)
+        ensures { self.new ≡ ticked cycle instret self.old }
+    {
+        if cycle {
+            self.mcycle = self.mcycle.wrapping_add(1);
+        }
+        if instret {
+            self.minstret = self.minstret.wrapping_add(1);
+        }
+    }
+
+    /// The value that is read from a register.
+    fn value_of(&self, csr: Csr, mip: Interrupts) -> u32
+        ensures { result ≡ value_of csr mip self.now }
+    {
+        match csr {
+            Csr::Mstatus => self.mstatus(),
+            Csr::Misa => RV32IMA,
+            Csr::Mie => self.mie.bits(),
+            Csr::Mtvec => self.mtvec,
+            Csr::Mscratch => self.mscratch,
+            Csr::Mepc => self.mepc,
+            Csr::Mcause => self.mcause,
+            Csr::Mtval => self.mtval,
+            Csr::Mip => mip.bits(),
+            Csr::Mcycle => low_half(self.mcycle),
+            Csr::Minstret => low_half(self.minstret),
+            Csr::Mcycleh => high_half(self.mcycle),
+            Csr::Minstreth => high_half(self.minstret),
+            Csr::Mhartid => self.hart,
+            _ => 0,
+        }
+    }
+
+    /// The value of `mstatus`: MIE, MPIE, and MPP, which is always 3.
+    fn mstatus(&self) -> u32
+        ensures { result ≡ mstatus_of self.now }
+    {
+        bit(1 << 3, self.interrupts_enabled) + bit(1 << 7, self.enabled_before) + (3 << 11)
+    }
+
+    /// Writes a register; one that cannot be written ignores it.
+    #[tactic(auto, using(crate::proofs::Masks::and_not_2))]
+    fn set(&mut self, csr: Csr, value: u32)
+        ensures { self.new ≡ written csr value self.old }
+    {
+        match csr {
+            Csr::Mstatus => {
+                self.interrupts_enabled = is_set(value, 3);
+                self.enabled_before = is_set(value, 7);
+            }
+            Csr::Mie => self.mie = Interrupts::from_bits(value),
+            Csr::Mtvec => self.mtvec = value & !2,
+            Csr::Mscratch => self.mscratch = value,
+            Csr::Mepc => self.mepc = value & !3,
+            Csr::Mcause => self.mcause = value,
+            Csr::Mtval => self.mtval = value,
+            Csr::Mcycle => self.mcycle = with_low(self.mcycle, value),
+            Csr::Minstret => self.minstret = with_low(self.minstret, value),
+            Csr::Mcycleh => self.mcycle = with_high(self.mcycle, value),
+            Csr::Minstreth => self.minstret = with_high(self.minstret, value),
+            _ => {}
+        }
+    }
+
+    /// The handler's address: past the base of `mtvec` by four bytes times its number for an
+    /// interrupt, where the mode is vectored.
+    fn trap_target(&self, cause: Cause) -> u32
+        ensures { result ≡ trap_target cause self.now }
+    {
+        let base = self.mtvec & !3;
+        match cause {
+            Cause::Interrupt(interrupt) if self.mtvec & 1 == 1 => {
+                base.wrapping_add(4 * interrupt.code())
+            }
+            _ => base,
+        }
+    }
+}

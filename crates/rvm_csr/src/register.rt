@@ -1,0 +1,68 @@
+//! Which registers there are.
+
+ghost use Rattle.std.specs.Prelude.{◌≡◌};
+ghost use Rattle.rvm_csr.specs.Table.{csr_at};
+
+/// A register of the profile, by its name in the manual. Where the manual has a row of registers
+/// of one kind (`mhpmcounter3` to `mhpmcounter31`), one name stands for the row.
+#[derive(Clone, Copy, Debug, PartialEq, Eq)]
+pub enum Csr {
+    Mstatus,
+    Misa,
+    Mie,
+    Mtvec,
+    Mstatush,
+    Mcountinhibit,
+    Mhpmevent,
+    Mscratch,
+    Mepc,
+    Mcause,
+    Mtval,
+    Mip,
+    Mcycle,
+    Minstret,
+    Mhpmcounter,
+    Mcycleh,
+    Minstreth,
+    Mhpmcounterh,
+    Mvendorid,
+    Marchid,
+    Mimpid,
+    Mhartid,
+    Mconfigptr,
+}
+
+impl Csr {
+    /// The register of a number, if the profile has one there.
+    #[tactic(auto, unfolding(crate::specs::Table::table, crate::specs::Table::csr_at))]
+    pub fn at(number: u32) -> Option<Csr>
+        ensures { result ≡ csr_at number }
+    {
+        match number {
+            0x300 => Some(Csr::Mstatus),
+            0x301 => Some(Csr::Misa),
+            0x304 => Some(Csr::Mie),
+            0x305 => Some(Csr::Mtvec),
+            0x310 => Some(Csr::Mstatush),
+            0x320 => Some(Csr::Mcountinhibit),
+            0x323..=0x33F => Some(Csr::Mhpmevent),
+            0x340 => Some(Csr::Mscratch),
+            0x341 => Some(Csr::Mepc),
+            0x342 => Some(Csr::Mcause),
+            0x343 => Some(Csr::Mtval),
+            0x344 => Some(Csr::Mip),
+            0xB00 => Some(Csr::Mcycle),
+            0xB02 => Some(Csr::Minstret),
+            0xB03..=0xB1F => Some(Csr::Mhpmcounter),
+            0xB80 => Some(Csr::Mcycleh),
+            0xB82 => Some(Csr::Minstreth),
+            0xB83..=0xB9F => Some(Csr::Mhpmcounterh),
+            0xF11 => Some(Csr::Mvendorid),
+            0xF12 => Some(Csr::Marchid),
+            0xF13 => Some(Csr::Mimpid),
+            0xF14 => Some(Csr::Mhartid),
+            0xF15 => Some(Csr::Mconfigptr),
+            _ => None,
+        }
+    }
+}

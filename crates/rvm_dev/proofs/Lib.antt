@@ -1,0 +1,3 @@
+pub mod Harts
+pub mod Registers
+pub mod Examples

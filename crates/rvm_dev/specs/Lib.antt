@@ -1,0 +1,3 @@
+pub mod Map
+pub mod Devices
+pub mod Fields

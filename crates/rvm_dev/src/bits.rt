@@ -1,0 +1,47 @@
+//! Bits of a word, and halves of a number of 64 bits.
+
+ghost use Rattle.std.specs.Prelude.{◌≡◌, ◌<◌};
+ghost use Rattle.rvm_dev.specs.Devices.{bit, is_set, low_half, high_half, with_low, with_high};
+
+/// The weight of a bit that is set, or 0.
+pub fn bit(weight: u32, set: bool) -> u32
+    ensures { result ≡ bit weight set }
+{
+    if set { weight } else { 0 }
+}
+
+/// Whether a bit of a word is set; bit 0 has the least weight.
+pub fn is_set(word: u32, bit: u32) -> bool
+    requires { bit < 32 }
+    ensures { result ≡ is_set bit word }
+{
+    word >> bit & 1 == 1
+}
+
+/// Bits 31 to 0.
+pub fn low_half(number: u64) -> u32
+    ensures { result ≡ low_half number }
+{
+    (number & 0xFFFF_FFFF) as u32
+}
+
+/// Bits 63 to 32.
+pub fn high_half(number: u64) -> u32
+    ensures { result ≡ high_half number }
+{
+    (number >> 32) as u32
+}
+
+/// The number with its low half written.
+pub fn with_low(number: u64, value: u32) -> u64
+    ensures { result ≡ with_low value number }
+{
+    (number >> 32 << 32) | u64::from(value)
+}
+
+/// The number with its high half written.
+pub fn with_high(number: u64, value: u32) -> u64
+    ensures { result ≡ with_high value number }
+{
+    u64::from(value) << 32 | (number & 0xFFFF_FFFF)
+}

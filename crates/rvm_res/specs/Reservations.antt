@@ -1,0 +1,35 @@
+-- Who holds which word, and what ends it. A reservation is the address of its aligned word.
+use Rattle.std.specs.Prelude.{ℕ, ◌-◌, ◌%◌, Bool, false, ◌==◌, if◌then◌else◌, List, Option, Some, None, map, slice_set, get_or}
+
+-- the word that holds the byte at an address
+abbrev pub word_of : ℕ → ℕ
+word_of address = address - address % 4
+
+-- what is left of a reservation when its word, if it is this one, was written
+abbrev pub without : ℕ → Option ℕ → Option ℕ
+without word None = None
+without word (Some w) = if w == word then None else Some w
+
+-- LR: the hart's reservation is this word
+abbrev pub held : ℕ → ℕ → List (Option ℕ) → List (Option ℕ)
+held hart address words = slice_set words hart (Some address)
+
+-- a debugger's write ends each reservation of the word
+abbrev pub poked : ℕ → List (Option ℕ) → List (Option ℕ)
+poked address words = map (without (word_of address)) words
+
+-- a hart's store ends them too, but for its own
+abbrev pub stored : ℕ → ℕ → List (Option ℕ) → List (Option ℕ)
+stored hart address words = slice_set (poked address words) hart (get_or words hart None)
+
+-- SC ends its hart's reservation
+abbrev pub taken : ℕ → List (Option ℕ) → List (Option ℕ)
+taken hart words = slice_set words hart None
+
+abbrev pub is_of : ℕ → Option ℕ → Bool
+is_of address None = false
+is_of address (Some w) = w == address
+
+-- SC succeeds where its hart's reservation is the word at the address
+abbrev pub takes : ℕ → ℕ → List (Option ℕ) → Bool
+takes hart address words = is_of address (get_or words hart None)

@@ -1,0 +1,134 @@
+//! One word or none for each hart.
+
+ghost use Rattle.std.specs.Prelude.{◌≡◌, ◌<◌, ◌≤◌, None, length, replicate, map, is_some};
+ghost use Rattle.std.specs.List.{list_any};
+ghost use Rattle.rvm_res.specs.Reservations.{held, poked, stored, taken, takes, word_of, without};
+
+use std::marker::Model;
+
+/// The most harts that a board has.
+pub const MAX_HARTS: usize = 8;
+
+/// The word that each hart has reserved, if any.
+#[derive(Drop)]
+pub struct Reservations {
+    words: [Option<u32>; MAX_HARTS],
+    harts: usize,
+    /// Whether any hart has reserved a word, so that a store need not look at each.
+    any: bool,
+}
+
+impl Model for Reservations {
+    ghost use Rattle.std.specs.Prelude.{◌≡◌, ◌≤◌, List, ℕ, Option, take, is_some};
+    ghost use Rattle.std.specs.List.{list_any};
+
+    ghost Value = { List (Option ℕ) };
+
+    ghost view = { λ r. take r.harts r.words };
+
+    ghost invariant = { λ r. (r.harts ≤ 8) × (r.any ≡ list_any is_some (take r.harts r.words)) };
+}
+
+impl Reservations {
+    /// No hart of so many has reserved a word.
+    #[tactic(auto, using(crate::proofs::Words::words))]
+    pub fn new(harts: usize) -> Reservations
+        requires { harts ≤ 8 }
+        ensures { result ≡ replicate harts None }
+    {
+        Reservations {
+            words: [None; MAX_HARTS],
+            harts,
+            any: false,
+        }
+    }
+
+    /// Hart `hart` reserves the aligned word at an address, in place of the one before.
+    #[tactic(auto, using(crate::proofs::Words::words))]
+    pub fn hold(&mut self, hart: usize, address: u32)
+        requires { hart < length self.old }
+        ensures { self.new ≡ held hart address self.old }
+    {
+        self.any = true;
+        self.words[hart] = Some(address);
+    }
+
+    /// Hart `hart` stored into the word that holds the byte at an address: each other hart's
+    /// reservation of that word ends.
+    #[inline(always)]
+    pub fn stored(&mut self, hart: usize, address: u32)
+        requires { hart < length self.old }
+        ensures { self.new ≡ stored hart address self.old }
+    {
+        if self.any {
+            self.end_others(hart, address);
+        }
+    }
+
+    /// A debugger wrote the byte at an address: each reservation of its word ends.
+    #[inline(never)]
+    #[tactic(auto, using(crate::proofs::Words::words))]
+    pub fn poked(&mut self, address: u32)
+        ensures { self.new ≡ poked address self.old }
+    {
+        end_word(&mut self.words, word_of(address));
+        self.any = any_of(&self.words[..self.harts]);
+    }
+
+    /// Ends the reservation of hart `hart`, and answers whether it was of the word at an address.
+    #[tactic(auto, using(crate::proofs::Words::words))]
+    pub fn take(&mut self, hart: usize, address: u32) -> bool
+        requires { hart < length self.old }
+        ensures words { self.new ≡ taken hart self.old }
+        ensures takes { result ≡ takes hart address self.old }
+    {
+        let words = &mut self.words;
+        let own = words[hart];
+        words[hart] = None;
+        self.any = any_of(&self.words[..self.harts]);
+        own == Some(address)
+    }
+
+    /// What a store does where a reservation is held.
+    #[inline(never)]
+    fn end_others(&mut self, hart: usize, address: u32)
+        requires { hart < length self.old }
+        ensures { self.new ≡ stored hart address self.old }
+    {
+        let words = &mut self.words;
+        let own = words[hart];
+        end_word(words, word_of(address));
+        words[hart] = own;
+        self.any = any_of(&self.words[..self.harts]);
+    }
+}
+
+/// The aligned word that holds the byte at an address.
+fn word_of(address: u32) -> u32
+    ensures { result ≡ word_of address }
+{
+    address & !3
+}
+
+/// Ends each reservation of a word.
+fn end_word(words: &mut [Option<u32>], word: u32)
+    ensures { words.new ≡ map (without word) words.old }
+{
+    for held in words.iter_mut() {
+        *held = rest_of(*held, word);
+    }
+}
+
+/// What is left of a reservation when a word was written.
+fn rest_of(held: Option<u32>, word: u32) -> Option<u32>
+    ensures { result ≡ without word held }
+{
+    held.filter(|held| *held != word)
+}
+
+/// Whether any word is reserved.
+fn any_of(words: &[Option<u32>]) -> bool
+    ensures { result ≡ list_any is_some words.now }
+{
+    words.iter().any(|word| word.is_some())
+}
