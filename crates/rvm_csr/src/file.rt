@@ -69,6 +69,14 @@ impl CsrFile {
         }
     }
 
+    /// The hart's number, as `mhartid` has it.
+    #[inline(always)]
+    pub fn hart(&self) -> u32
+        ensures { result ≡ self.now.hart }
+    {
+        self.hart
+    }
+
     /// The value that an instruction reads from the register of a number; `mip` is what is pending
     /// at the hart now. None where the profile has no such register.
     #[inline(never)]
@@ -102,6 +110,7 @@ impl CsrFile {
         requires { pc % 4 ≡ 0 }
         ensures file { self.new ≡ trap_entered cause value pc self.old }
         ensures target { result ≡ trap_target cause self.old }
+        ensures aligned { result % 4 ≡ 0 }
     {
         let target = self.trap_target(cause);
         self.mepc = pc;
@@ -117,6 +126,7 @@ impl CsrFile {
     pub fn mret(&mut self) -> u32
         ensures file { self.new ≡ trap_left self.old }
         ensures target { result ≡ self.old.mepc }
+        ensures aligned { result % 4 ≡ 0 }
     {
         self.interrupts_enabled = self.enabled_before;
         self.enabled_before = true;
@@ -221,7 +231,8 @@ impl CsrFile {
     /// The handler's address: past the base of `mtvec` by four bytes times its number for an
     /// interrupt, where the mode is vectored.
     fn trap_target(&self, cause: Cause) -> u32
-        ensures { result ≡ trap_target cause self.now }
+        ensures target { result ≡ trap_target cause self.now }
+        ensures aligned { result % 4 ≡ 0 }
     {
         let base = self.mtvec & !3;
         match cause {

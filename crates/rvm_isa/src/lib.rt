@@ -9,9 +9,13 @@
 
 pub mod decode;
 pub mod encode;
-pub mod field;
-pub mod immediate;
-pub mod ins;
+mod field;
+mod immediate;
+mod ins;
 pub mod laws;
 mod read;
 mod shape;
+
+pub use field::{CsrNo, Imm5, Imm20, Reg, Shamt};
+pub use immediate::{Imm12, Off13, Off21};
+pub use ins::Ins;

@@ -1,2 +1,3 @@
+pub use Rattle.byteorder.specs.Endian
 pub mod Bytes
 pub mod Pages

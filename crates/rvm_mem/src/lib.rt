@@ -3,11 +3,12 @@
 //! Stands on `byteorder`, and knows nothing of addresses, harts or hosts: a place is an offset from
 //! the first byte of RAM. The layers above use the law of `Memory` and nothing else.
 //!
-//! To be read in this order: `memory`, `flat`, `bytes`.
+//! To be read in this order: `memory`, `flat`, `bytes`, `laws`.
 #![tactic(auto)]
 
 mod bytes;
 mod flat;
+pub mod laws;
 mod memory;
 
 pub use bytes::{OutOfRange, read_bytes, write_bytes};
