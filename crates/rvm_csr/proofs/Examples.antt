@@ -25,11 +25,13 @@ mstatus_at_reset : csr_read 0x300 no_interrupts (at_reset 0) ≡ Some 0x1800
 unfolding table csr_at
 mstatus_at_reset = refl
 
-mtvec_keeps_its_mode : csr_write 0x305 0xFFFF_FFFF (at_reset 0) ≡ Some (record (at_reset 0) { mtvec = 0xFFFF_FFFD })
+mtvec_keeps_its_mode :
+    csr_write 0x305 0xFFFF_FFFF (at_reset 0) ≡ Some (record (at_reset 0) { mtvec = 0xFFFF_FFFD })
 unfolding table csr_at
 mtvec_keeps_its_mode = refl
 
-mepc_is_aligned : csr_write 0x341 0x8000_0003 (at_reset 0) ≡ Some (record (at_reset 0) { mepc = 0x8000_0000 })
+mepc_is_aligned :
+    csr_write 0x341 0x8000_0003 (at_reset 0) ≡ Some (record (at_reset 0) { mepc = 0x8000_0000 })
 unfolding table csr_at
 mepc_is_aligned = refl
 
@@ -37,7 +39,8 @@ abbrev all_interrupts : Interrupts
 all_interrupts = record { software = true; timer = true; external = true }
 
 abbrev open_to_all : CsrState
-open_to_all = record (at_reset 0) { interrupts_enabled = true; mie = all_interrupts; mtvec = 0x8000_0101 }
+open_to_all =
+    record (at_reset 0) { interrupts_enabled = true; mie = all_interrupts; mtvec = 0x8000_0101 }
 
 external_is_first : pending all_interrupts open_to_all ≡ Some External
 external_is_first = refl

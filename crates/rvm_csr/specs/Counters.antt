@@ -8,4 +8,5 @@ counted counts n = if counts then (n + 1) % 2 ^ 64 else n
 
 -- the registers after a step that mcycle, and minstret, count or do not
 abbrev pub ticked : Bool → Bool → CsrState → CsrState
-ticked cycle instret s = record s { mcycle = counted cycle s.mcycle; minstret = counted instret s.minstret }
+ticked cycle instret s =
+    record s { mcycle = counted cycle s.mcycle; minstret = counted instret s.minstret }

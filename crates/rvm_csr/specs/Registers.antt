@@ -16,6 +16,7 @@ pub record CsrState : Type 0 where
   pub mcycle : ℕ
   pub minstret : ℕ
 
+-- the empty set
 abbrev pub no_interrupts : Interrupts
 no_interrupts = record { software = false; timer = false; external = false }
 
@@ -49,26 +50,32 @@ bit weight b = if b then weight else 0
 abbrev pub is_set : ℕ → ℕ → Bool
 is_set n w = w / 2 ^ n % 2 == 1
 
--- a set of interrupts as mip and mie hold it (Privileged ISA, "Machine Interrupt (mip and mie) Registers")
+-- a set of interrupts as mip and mie hold it
+-- (Privileged ISA, "Machine Interrupt (mip and mie) Registers")
 abbrev pub interrupt_bits : Interrupts → ℕ
 interrupt_bits i = bit (2 ^ 3) i.software + bit (2 ^ 7) i.timer + bit (2 ^ 11) i.external
 
+-- the set that a word has
 abbrev pub interrupts_of : ℕ → Interrupts
 interrupts_of w = record { software = is_set 3 w; timer = is_set 7 w; external = is_set 11 w }
 
--- mstatus: MIE, MPIE, and MPP, which is always 3 (Privileged ISA, "Machine Status (mstatus and mstatush) Registers")
+-- mstatus: MIE, MPIE, and MPP, which is always 3
+-- (Privileged ISA, "Machine Status (mstatus and mstatush) Registers")
 abbrev pub mstatus_of : CsrState → ℕ
 mstatus_of s = bit (2 ^ 3) s.interrupts_enabled + bit (2 ^ 7) s.enabled_before + 3 * 2 ^ 11
 
--- the halves of a number of 64 bits, and the number with one half written
+-- bits 31 to 0 of a number of 64 bits
 abbrev pub low_half : ℕ → ℕ
 low_half n = n % 2 ^ 32
 
+-- bits 63 to 32
 abbrev pub high_half : ℕ → ℕ
 high_half n = n / 2 ^ 32
 
+-- the number with its low half written
 abbrev pub with_low : ℕ → ℕ → ℕ
 with_low v n = high_half n * 2 ^ 32 + v
 
+-- the number with its high half written
 abbrev pub with_high : ℕ → ℕ → ℕ
 with_high v n = v * 2 ^ 32 + low_half n

@@ -1,4 +1,5 @@
--- The registers by number: which there are, the value read, the registers after a write (Privileged ISA, "CSR Listing").
+-- The registers by number: which there are, the value read, the registers after a write
+-- (Privileged ISA, "CSR Listing").
 use Rattle.std.specs.Prelude.{ℕ, ◌*◌, ◌-◌, ◌/◌, ◌%◌, ◌^◌, Bool, ◌&&◌, ◌==◌, nat_le, if◌then◌else◌, List, [], ◌∷◌, Option, None, find, option_map}
 use Rattle.rvm_csr.specs.declared.interrupts.Interrupts.{Interrupts}
 use Rattle.rvm_csr.specs.declared.register.Csr.{Csr}
@@ -11,12 +12,15 @@ pub record Row : Type 0 where
   pub last : ℕ
   pub csr : Csr
 
+-- one number has this register
 abbrev pub one : ℕ → Csr → Row
 one number csr = record { first = number; last = number; csr = csr }
 
+-- so do all of a range
 abbrev pub many : ℕ → ℕ → Csr → Row
 many first last csr = record { first = first; last = last; csr = csr }
 
+-- the profile's registers
 unfoldable pub table : List Row
 table =
     one 0x300 Mstatus ∷
@@ -46,7 +50,8 @@ table =
 
 -- the register of a number, if there is one
 unfoldable pub csr_at : ℕ → Option Csr
-csr_at number = option_map (λ r. r.csr) (find (λ r. nat_le r.first number && nat_le number r.last) table)
+csr_at number =
+    option_map (λ r. r.csr) (find (λ r. nat_le r.first number && nat_le number r.last) table)
 
 -- the value that is read; mip is what is pending at the hart. misa says RV32IMA
 abbrev pub value_of : Csr → Interrupts → CsrState → ℕ
@@ -89,7 +94,8 @@ written Mcycleh v s = record s { mcycle = with_high v s.mcycle }
 written Minstreth v s = record s { minstret = with_high v s.minstret }
 written csr v s = s
 
--- the top two of a number's twelve bits are set where it is read-only (Privileged ISA, "CSR Address Mapping Conventions")
+-- the top two of a number's twelve bits are set where it is read-only
+-- (Privileged ISA, "CSR Address Mapping Conventions")
 abbrev pub is_read_only : ℕ → Bool
 is_read_only number = number / 2 ^ 10 % 4 == 3
 
@@ -97,6 +103,7 @@ is_read_only number = number / 2 ^ 10 % 4 == 3
 abbrev pub csr_read : ℕ → Interrupts → CsrState → Option ℕ
 csr_read number mip s = option_map (λ csr. value_of csr mip s) (csr_at number)
 
--- the registers after an instruction's write, or none where there is no such register or it is read-only
+-- the registers after an instruction's write, or none where there is none to write
 abbrev pub csr_write : ℕ → ℕ → CsrState → Option CsrState
-csr_write number v s = if is_read_only number then None else option_map (λ csr. written csr v s) (csr_at number)
+csr_write number v s =
+    if is_read_only number then None else option_map (λ csr. written csr v s) (csr_at number)

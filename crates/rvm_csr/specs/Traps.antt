@@ -17,7 +17,8 @@ trap_entered c value pc s =
 abbrev pub vector_base : CsrState → ℕ
 vector_base s = s.mtvec - s.mtvec % 4
 
--- the handler's address: an interrupt goes four bytes times its number past the base where the mode is vectored
+-- the handler's address: where the mode is vectored, an interrupt goes past the base by four bytes
+-- times its number
 abbrev pub trap_target : Cause → CsrState → ℕ
 trap_target (cause.Exception e) s = vector_base s
 trap_target (cause.Interrupt i) s =
@@ -27,12 +28,16 @@ trap_target (cause.Interrupt i) s =
 abbrev pub trap_left : CsrState → CsrState
 trap_left s = record s { interrupts_enabled = s.enabled_before; enabled_before = true }
 
+-- whether an interrupt is in a set
 abbrev pub has : Interrupt → Interrupts → Bool
 has Software i = i.software
 has Timer i = i.timer
 has External i = i.external
 
--- an interrupt is pending where it is set in mip and in mie and MIE is set; the first of external, software, timer is taken
+-- an interrupt is pending where it is set in mip and in mie and MIE is set;
+-- the first of external, software, timer is taken
 abbrev pub pending : Interrupts → CsrState → Option Interrupt
 pending mip s =
-    if s.interrupts_enabled then find (λ i. has i mip && has i s.mie) (External ∷ Software ∷ Timer ∷ []) else None
+    if s.interrupts_enabled
+    then find (λ i. has i mip && has i s.mie) (External ∷ Software ∷ Timer ∷ [])
+    else None

@@ -4,7 +4,7 @@ use Rattle.rvm_dev.specs.declared.register.Register.{Register}
 use Rattle.rvm_dev.specs.declared.register.Register.TheVariants.{Halt, Msip, MtimecmpLow, MtimecmpHigh, MtimeLow, MtimeHigh, Transmit, Receive, Status, InterruptEnable}
 use Rattle.rvm_dev.specs.Map.{register_at}
 
--- msip and mtimecmp have one for each hart; input and output are the console's queues, oldest byte first
+-- msip and mtimecmp have one for each hart; input and output are queues, oldest byte first
 pub record DeviceState : Type 0 where
   pub msip : List Bool
   pub mtimecmp : List ℕ
@@ -29,6 +29,7 @@ at_reset harts =
       halted = None;
     }
 
+-- a bit with a weight
 abbrev pub bit : ℕ → Bool → ℕ
 bit weight b = if b then weight else 0
 
@@ -36,16 +37,19 @@ bit weight b = if b then weight else 0
 abbrev pub is_set : ℕ → ℕ → Bool
 is_set n w = w / 2 ^ n % 2 == 1
 
--- the halves of a number of 64 bits, and the number with one half written
+-- bits 31 to 0 of a number of 64 bits
 abbrev pub low_half : ℕ → ℕ
 low_half n = n % 2 ^ 32
 
+-- bits 63 to 32
 abbrev pub high_half : ℕ → ℕ
 high_half n = n / 2 ^ 32
 
+-- the number with its low half written
 abbrev pub with_low : ℕ → ℕ → ℕ
 with_low v n = high_half n * 2 ^ 32 + v
 
+-- the number with its high half written
 abbrev pub with_high : ℕ → ℕ → ℕ
 with_high v n = v * 2 ^ 32 + low_half n
 
@@ -54,9 +58,11 @@ abbrev pub received : List ℕ → ℕ
 received [] = 2 ^ 32 - 1
 received (b ∷ bytes) = b
 
+-- a byte waits for the guest
 abbrev pub is_waiting : List ℕ → Bool
 is_waiting bytes = nat_lt 0 (length bytes)
 
+-- the guest can send
 abbrev pub has_room : List ℕ → Bool
 has_room output = nat_lt (length output) 4096
 
@@ -80,14 +86,19 @@ after_load r d = d
 
 -- a byte that is sent into a full queue is dropped, and sets overrun
 abbrev pub sent : ℕ → DeviceState → DeviceState
-sent byte d = if has_room d.output then record d { output = d.output ++ byte ∷ [] } else record d { overrun = true }
+sent byte d =
+    if has_room d.output
+    then record d { output = d.output ++ byte ∷ [] }
+    else record d { overrun = true }
 
 -- the devices after a store of v
 abbrev pub after_store : Register → ℕ → DeviceState → DeviceState
 after_store Halt v d = record d { halted = Some (v % 2 ^ 8) }
 after_store (Msip h) v d = record d { msip = slice_set d.msip h (is_set 0 v) }
-after_store (MtimecmpLow h) v d = record d { mtimecmp = slice_set d.mtimecmp h (with_low v (get_or d.mtimecmp h 0)) }
-after_store (MtimecmpHigh h) v d = record d { mtimecmp = slice_set d.mtimecmp h (with_high v (get_or d.mtimecmp h 0)) }
+after_store (MtimecmpLow h) v d =
+    record d { mtimecmp = slice_set d.mtimecmp h (with_low v (get_or d.mtimecmp h 0)) }
+after_store (MtimecmpHigh h) v d =
+    record d { mtimecmp = slice_set d.mtimecmp h (with_high v (get_or d.mtimecmp h 0)) }
 after_store MtimeLow v d = record d { mtime = with_low v d.mtime }
 after_store MtimeHigh v d = record d { mtime = with_high v d.mtime }
 after_store Transmit v d = sent (v % 2 ^ 8) d
@@ -95,17 +106,20 @@ after_store Receive v d = d
 after_store Status v d = record d { overrun = d.overrun && not (is_set 2 v) }
 after_store InterruptEnable v d = record d { interrupt_enable = is_set 0 v }
 
+-- the device word at an address
 abbrev pub register_of : ℕ → DeviceState → Option Register
 register_of address d = register_at (length d.msip) address
 
--- the value that a load at an address gives, if a device has a word there, and the devices after it
+-- the value that a load at an address gives, if a device has a word there
 abbrev pub value_loaded : ℕ → DeviceState → Option ℕ
 value_loaded address d = option_map (λ r. value_of r d) (register_of address d)
 
+-- a load of no word changes nothing
 abbrev pub loaded_from : Option Register → DeviceState → DeviceState
 loaded_from None d = d
 loaded_from (Some r) d = after_load r d
 
+-- the devices after a load at an address
 abbrev pub loaded : ℕ → DeviceState → DeviceState
 loaded address d = loaded_from (register_of address d) d
 
@@ -113,7 +127,7 @@ loaded address d = loaded_from (register_of address d) d
 abbrev pub stored : ℕ → ℕ → DeviceState → Option DeviceState
 stored address v d = option_map (λ r. after_store r v d) (register_of address d)
 
--- the timer interrupt of a hart is pending while the time is at or past its mtimecmp, compared unsigned
+-- the timer interrupt of a hart is pending while the time has reached its mtimecmp, unsigned
 abbrev pub timer_is_pending : ℕ → DeviceState → Bool
 timer_is_pending hart d = nat_le (get_or d.mtimecmp hart 0) d.mtime
 

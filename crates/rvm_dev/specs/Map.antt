@@ -1,16 +1,21 @@
--- Which device word stands at an address. The software interrupts and the timer lie as in the RISC-V ACLINT specification.
+-- Which device word stands at an address.
+-- The software interrupts and the timer lie as in the RISC-V ACLINT specification.
 use Rattle.std.specs.Prelude.{⊤, ◌<◌, ℕ, ◌+◌, ◌-◌, ◌*◌, ◌/◌, ◌%◌, Bool, ◌&&◌, ◌==◌, nat_le, nat_lt, if◌then◌else◌, Option, Some, None}
 use Rattle.rvm_dev.specs.declared.register.Register.{Register}
 use Rattle.rvm_dev.specs.declared.register.Register.TheVariants.{Halt, Msip, MtimecmpLow, MtimecmpHigh, MtimeLow, MtimeHigh, Transmit, Receive, Status, InterruptEnable}
 
--- the address is that of a word in a row of one for each hart, which begins at first and has a word every so many bytes
+-- the address is that of a word in a row of one for each hart,
+-- which begins at first and has a word every so many bytes
 abbrev pub is_word_of : (first stride harts address : ℕ) → Bool
 is_word_of first stride harts address =
-    nat_le first address && nat_lt address (first + stride * harts) && (address - first) % stride == 0
+    nat_le first address && nat_lt address (first + stride * harts) &&
+    (address - first) % stride == 0
 
+-- the hart of such a word
 abbrev pub hart_of : (first stride address : ℕ) → ℕ
 hart_of first stride address = (address - first) / stride
 
+-- the device word at an address of a board of so many harts
 unfoldable pub register_at : (harts address : ℕ) → Option Register
 register_at harts a =
     if a == 0x100000 then Some Halt else

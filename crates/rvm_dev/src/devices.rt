@@ -103,7 +103,8 @@ impl Devices {
 
     /// A byte comes to the console.
     pub fn input(&mut self, byte: u8) -> Result<(), InputFull>
-        ensures taken { OnOk result (self.new ≡ record self.old { input = self.old.input ++ byte ∷ [] }) }
+        ensures taken { OnOk result
+            (self.new ≡ record self.old { input = self.old.input ++ byte ∷ [] }) }
         ensures full { IsErr result ↔ (length self.old.input ≡ 16) }
         ensures err { OnErr result (self.new ≡ self.old) }
     {

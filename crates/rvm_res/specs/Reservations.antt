@@ -26,6 +26,7 @@ stored hart address words = slice_set (poked address words) hart (get_or words h
 abbrev pub taken : ℕ → List (Option ℕ) → List (Option ℕ)
 taken hart words = slice_set words hart None
 
+-- whether a reservation is the word at an address
 abbrev pub is_of : ℕ → Option ℕ → Bool
 is_of address None = false
 is_of address (Some w) = w == address

@@ -8,4 +8,5 @@ pub loop-held-preserved : goal.loop-held-preserved
 loop-held-preserved c =
     rw c.rest_of.ensures
     (map_over_more (without c.args.word) c.args.words.now c.loop-held.words c.loop-held.held-index
-    (get_or c.loop-held.words c.loop-held.held-index None) (omega arith) c.loop-held.invariant (grind (arith, common_steps)))
+    (get_or c.loop-held.words c.loop-held.held-index None) (omega arith)
+    c.loop-held.invariant (grind (arith, common_steps)))

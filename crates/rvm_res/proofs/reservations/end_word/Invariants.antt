@@ -4,4 +4,5 @@ use Rattle.rvm_res.proofs.reservations.end_word.Given as goal
 
 abbrev pub invariant-loop-held : goal.invariant-loop-held
 invariant-loop-held l =
-    l.words ≡ map (without l.word) (take l.held-index l.initial.words) ++ drop l.held-index l.initial.words
+    l.words ≡
+    map (without l.word) (take l.held-index l.initial.words) ++ drop l.held-index l.initial.words
