@@ -1,0 +1,6 @@
+pub mod Machine
+pub mod Bus
+pub mod Outcome
+pub mod Rooms
+pub mod Rows
+pub mod Step

@@ -1,0 +1,40 @@
+-- What a step of one hart sees and changes: the hart, and what all harts share.
+use Rattle.std.specs.Prelude.{ℕ, List, [], ◌∷◌, Bool, Option, length}
+use Rattle.rvm_csr.specs.Registers.{CsrState}
+use Rattle.rvm_dev.specs.Devices.{DeviceState}
+
+-- a hart: x0 to x31, of which x0 is 0, the address of the next instruction, its control and status registers
+pub record HartState : Type 0 where
+  pub regs : List ℕ
+  pub pc : ℕ
+  pub csrs : CsrState
+
+-- what the harts share: the bytes of RAM, the devices, and the word that each hart reserved
+pub record Reach : Type 0 where
+  pub bytes : List ℕ
+  pub devices : DeviceState
+  pub reservations : List (Option ℕ)
+
+-- one hart and what it reaches
+pub record Machine : Type 0 where
+  pub hart : HartState
+  pub reach : Reach
+
+-- what a bus is: what it reaches, and for each page of RAM whether it is in the dirty log
+pub record BusState : Type 0 where
+  pub reach : Reach
+  pub dirty : List Bool
+
+abbrev pub machine : HartState → BusState → Machine
+machine h b = record { hart = h; reach = b.reach }
+
+-- the number of the hart that steps
+abbrev pub number_of : Machine → ℕ
+number_of m = m.hart.csrs.hart
+
+-- what no step changes: the hart's number, the size of RAM, and for how many harts reservations and devices are
+abbrev pub reach_shape : Reach → List ℕ
+reach_shape r = length r.bytes ∷ length r.reservations ∷ length r.devices.msip ∷ length r.devices.mtimecmp ∷ []
+
+abbrev pub shape : Machine → List ℕ
+shape m = number_of m ∷ reach_shape m.reach

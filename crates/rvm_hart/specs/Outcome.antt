@@ -1,0 +1,60 @@
+-- What an instruction comes to: it retires and leaves a machine, or it traps.
+use Rattle.std.specs.Prelude.{ℕ, ◌≡◌, ◌+◌, ◌%◌, ◌^◌, ◌==◌, if◌then◌else◌, List, [], Result, Ok, Err, slice_index, slice_set}
+use Rattle.rvm_csr.specs.declared.cause.Exception.{Exception}
+use Rattle.rvm_hart.specs.declared.outcome.Trap.{Trap}
+use Rattle.rvm_hart.specs.declared.outcome.Written.{Written}
+use Rattle.rvm_hart.specs.declared.outcome.Written.TheVariants.{Other}
+use Rattle.rvm_mem.specs.Pages.{mark_all}
+use Rattle.rvm_hart.specs.Machine.{HartState, BusState, Machine, machine}
+
+-- the machine that a retired instruction leaves, the pages that it wrote, and what the end of the step looks at; or the exception, with its value for mtval
+pub data Outcome : Type 0 where
+  Done : (after : Machine) → (pages : List ℕ) → (wrote : Written) → Outcome
+  Traps : (exception : Exception) → (value : ℕ) → Outcome
+
+-- the parts of an outcome; a trap leaves the machine as it was
+abbrev pub machine_after : Outcome → Machine → Machine
+machine_after (Done after pages wrote) m = after
+machine_after (Traps exception value) m = m
+
+abbrev pub pages_of : Outcome → List ℕ
+pages_of (Done after pages wrote) = pages
+pages_of (Traps exception value) = []
+
+abbrev pub result_of : Outcome → Result Written Trap
+result_of (Done after pages wrote) = Ok wrote
+result_of (Traps exception value) = Err (record { exception = exception; value = value })
+
+-- a hart and its bus do as an outcome says: the machine that it leaves, its pages in the dirty log, its result
+pub record Does (o : Outcome) (old : HartState) (old_bus : BusState) (new : HartState) (new_bus : BusState) (answer : Result Written Trap) : Type 0 where
+  pub machine : machine new new_bus ≡ machine_after o (machine old old_bus)
+  pub dirty : new_bus.dirty ≡ mark_all (pages_of o) old_bus.dirty
+  pub result : answer ≡ result_of o
+
+-- the value of a register
+abbrev pub reg : ℕ → HartState → ℕ
+reg r h = slice_index h.regs r
+
+-- the registers after a write: one to x0 is dropped (Unprivileged ISA, "Programmers' Model for Base Integer ISA")
+abbrev pub put : (rd value : ℕ) → List ℕ → List ℕ
+put rd v regs = if rd == 0 then regs else slice_set regs rd v
+
+-- the address of the instruction after this one
+abbrev pub next_pc : HartState → ℕ
+next_pc h = (h.pc + 4) % 2 ^ 32
+
+-- the hart goes on, with a value in rd
+abbrev pub given : (rd value : ℕ) → HartState → HartState
+given rd v h = record h { regs = put rd v h.regs; pc = next_pc h }
+
+-- the hart goes on, all else as it was
+abbrev pub passed : HartState → HartState
+passed h = record h { pc = next_pc h }
+
+-- the instruction retires, with a value in rd
+abbrev pub gives : (rd value : ℕ) → Machine → Outcome
+gives rd v m = Done (record m { hart = given rd v m.hart }) [] Other
+
+-- the instruction retires, and does nothing else
+abbrev pub passes : Machine → Outcome
+passes m = Done (record m { hart = passed m.hart }) [] Other

@@ -1,0 +1,97 @@
+-- What each row of the instruction table does. Sources are read before rd is written; values are whole numbers, reduced modulo 2 ^ 32.
+use Rattle.std.specs.Prelude.{ℕ, pos, ◌+◌, ◌-◌, ◌*◌, ◌/◌, ◌%◌, ◌^◌, ◌*ℤ◌, Bool, true, false, not, ◌==◌, nat_lt, int_lt, if◌then◌else◌, [], bit_and, bit_or, bit_xor}
+use Rattle.rvm_word.specs.Word.{signed, signed_value, modulo, high, floor_shift, quotient, remainder, unsigned_quotient, unsigned_remainder}
+use Rattle.rvm_isa.specs.declared.ins.Ins.{Ins}
+use Rattle.rvm_isa.specs.declared.ins.Ins.TheVariants.{Lui, Auipc, Jal, Jalr, Beq, Bne, Blt, Bge, Bltu, Bgeu, Lb, Lh, Lw, Lbu, Lhu, Sb, Sh, Sw, Addi, Slti, Sltiu, Xori, Ori, Andi, Slli, Srli, Srai, Add, Sub, Sll, Slt, Sltu, Xor, Srl, Sra, Or, And, Mul, Mulh, Mulhsu, Mulhu, Div, Divu, Rem, Remu, Fence, FenceI, Ecall, Ebreak, Mret, Wfi, Csrrw, Csrrs, Csrrc, Csrrwi, Csrrsi, Csrrci, LrW, ScW, AmoswapW, AmoaddW, AmoxorW, AmoandW, AmoorW, AmominW, AmomaxW, AmominuW, AmomaxuW}
+use Rattle.rvm_csr.specs.declared.cause.Exception.TheVariants.{EnvironmentCall, Breakpoint}
+use Rattle.rvm_csr.specs.Traps.{trap_left}
+use Rattle.rvm_hart.specs.declared.arithmetic.Operation.TheVariants as op
+use Rattle.rvm_hart.specs.declared.jumps.Comparison.TheVariants as test
+use Rattle.rvm_hart.specs.declared.atomics.Amo.TheVariants as amo
+use Rattle.rvm_hart.specs.declared.csrs.CsrChange.TheVariants as change
+use Rattle.rvm_hart.specs.declared.outcome.Written.TheVariants.{Other}
+use Rattle.rvm_hart.specs.Machine.{Machine}
+use Rattle.rvm_hart.specs.Outcome.{Outcome, Done, Traps, reg, gives, passes}
+use Rattle.rvm_hart.specs.Rooms as room
+
+-- a byte or a half, sign-extended to a word
+abbrev pub signed_byte : ℕ → ℕ
+signed_byte v = modulo 32 (signed_value 8 v)
+
+abbrev pub signed_half : ℕ → ℕ
+signed_half v = modulo 32 (signed_value 16 v)
+
+-- zero-extended
+abbrev pub as_it_is : ℕ → ℕ
+as_it_is v = v
+
+-- the outcome of an instruction; word is the one that it was decoded from
+unfoldable pub effect : (word : ℕ) → Ins → Machine → Outcome
+effect w (Lui rd i) m = gives rd (i * 2 ^ 12) m
+effect w (Auipc rd i) m = gives rd ((m.hart.pc + i * 2 ^ 12) % 2 ^ 32) m
+effect w (Jal rd i) m = room.jumps rd (room.sum m.hart.pc i) m
+effect w (Jalr rd rs1 i) m = room.jumps rd (room.even (room.sum (reg rs1 m.hart) i)) m
+effect w (Beq rs1 rs2 i) m = room.branches (room.holds test.Eq (reg rs1 m.hart) (reg rs2 m.hart)) i m
+effect w (Bne rs1 rs2 i) m = room.branches (room.holds test.Ne (reg rs1 m.hart) (reg rs2 m.hart)) i m
+effect w (Blt rs1 rs2 i) m = room.branches (room.holds test.Lt (reg rs1 m.hart) (reg rs2 m.hart)) i m
+effect w (Bge rs1 rs2 i) m = room.branches (room.holds test.Ge (reg rs1 m.hart) (reg rs2 m.hart)) i m
+effect w (Bltu rs1 rs2 i) m = room.branches (room.holds test.Ltu (reg rs1 m.hart) (reg rs2 m.hart)) i m
+effect w (Bgeu rs1 rs2 i) m = room.branches (room.holds test.Geu (reg rs1 m.hart) (reg rs2 m.hart)) i m
+effect w (Lb rd rs1 i) m = room.loads_byte signed_byte rd (room.sum (reg rs1 m.hart) i) m
+effect w (Lh rd rs1 i) m = room.loads_half signed_half rd (room.sum (reg rs1 m.hart) i) m
+effect w (Lw rd rs1 i) m = room.loads_word rd (room.sum (reg rs1 m.hart) i) m
+effect w (Lbu rd rs1 i) m = room.loads_byte as_it_is rd (room.sum (reg rs1 m.hart) i) m
+effect w (Lhu rd rs1 i) m = room.loads_half as_it_is rd (room.sum (reg rs1 m.hart) i) m
+effect w (Sb rs1 rs2 i) m = room.stores_byte (room.sum (reg rs1 m.hart) i) (reg rs2 m.hart) m
+effect w (Sh rs1 rs2 i) m = room.stores_half (room.sum (reg rs1 m.hart) i) (reg rs2 m.hart) m
+effect w (Sw rs1 rs2 i) m = room.stores_word (room.sum (reg rs1 m.hart) i) (reg rs2 m.hart) m
+effect w (Addi rd rs1 i) m = room.computes op.Add rd (reg rs1 m.hart) (modulo 32 i) m
+effect w (Slti rd rs1 i) m = room.computes op.Slt rd (reg rs1 m.hart) (modulo 32 i) m
+effect w (Sltiu rd rs1 i) m = room.computes op.Sltu rd (reg rs1 m.hart) (modulo 32 i) m
+effect w (Xori rd rs1 i) m = room.computes op.Xor rd (reg rs1 m.hart) (modulo 32 i) m
+effect w (Ori rd rs1 i) m = room.computes op.Or rd (reg rs1 m.hart) (modulo 32 i) m
+effect w (Andi rd rs1 i) m = room.computes op.And rd (reg rs1 m.hart) (modulo 32 i) m
+effect w (Slli rd rs1 n) m = room.computes op.Sll rd (reg rs1 m.hart) n m
+effect w (Srli rd rs1 n) m = room.computes op.Srl rd (reg rs1 m.hart) n m
+effect w (Srai rd rs1 n) m = room.computes op.Sra rd (reg rs1 m.hart) n m
+effect w (Add rd rs1 rs2) m = room.computes op.Add rd (reg rs1 m.hart) (reg rs2 m.hart) m
+effect w (Sub rd rs1 rs2) m = room.computes op.Sub rd (reg rs1 m.hart) (reg rs2 m.hart) m
+effect w (Sll rd rs1 rs2) m = room.computes op.Sll rd (reg rs1 m.hart) (reg rs2 m.hart) m
+effect w (Slt rd rs1 rs2) m = room.computes op.Slt rd (reg rs1 m.hart) (reg rs2 m.hart) m
+effect w (Sltu rd rs1 rs2) m = room.computes op.Sltu rd (reg rs1 m.hart) (reg rs2 m.hart) m
+effect w (Xor rd rs1 rs2) m = room.computes op.Xor rd (reg rs1 m.hart) (reg rs2 m.hart) m
+effect w (Srl rd rs1 rs2) m = room.computes op.Srl rd (reg rs1 m.hart) (reg rs2 m.hart) m
+effect w (Sra rd rs1 rs2) m = room.computes op.Sra rd (reg rs1 m.hart) (reg rs2 m.hart) m
+effect w (Or rd rs1 rs2) m = room.computes op.Or rd (reg rs1 m.hart) (reg rs2 m.hart) m
+effect w (And rd rs1 rs2) m = room.computes op.And rd (reg rs1 m.hart) (reg rs2 m.hart) m
+effect w (Mul rd rs1 rs2) m = room.computes op.Mul rd (reg rs1 m.hart) (reg rs2 m.hart) m
+effect w (Mulh rd rs1 rs2) m = room.computes op.Mulh rd (reg rs1 m.hart) (reg rs2 m.hart) m
+effect w (Mulhsu rd rs1 rs2) m = room.computes op.Mulhsu rd (reg rs1 m.hart) (reg rs2 m.hart) m
+effect w (Mulhu rd rs1 rs2) m = room.computes op.Mulhu rd (reg rs1 m.hart) (reg rs2 m.hart) m
+effect w (Div rd rs1 rs2) m = room.computes op.Div rd (reg rs1 m.hart) (reg rs2 m.hart) m
+effect w (Divu rd rs1 rs2) m = room.computes op.Divu rd (reg rs1 m.hart) (reg rs2 m.hart) m
+effect w (Rem rd rs1 rs2) m = room.computes op.Rem rd (reg rs1 m.hart) (reg rs2 m.hart) m
+effect w (Remu rd rs1 rs2) m = room.computes op.Remu rd (reg rs1 m.hart) (reg rs2 m.hart) m
+effect w (Fence rd rs1 i) m = passes m
+effect w (FenceI rd rs1 i) m = passes m
+effect w Ecall m = Traps EnvironmentCall 0
+effect w Ebreak m = Traps Breakpoint 0
+effect w Mret m = Done (record m { hart = record m.hart { pc = m.hart.csrs.mepc; csrs = trap_left m.hart.csrs } }) [] Other
+effect w Wfi m = passes m
+effect w (Csrrw rd rs1 n) m = room.accesses w rd n change.Write rs1 (reg rs1 m.hart) m
+effect w (Csrrs rd rs1 n) m = room.accesses w rd n change.Set rs1 (reg rs1 m.hart) m
+effect w (Csrrc rd rs1 n) m = room.accesses w rd n change.Clear rs1 (reg rs1 m.hart) m
+effect w (Csrrwi rd i n) m = room.accesses w rd n change.Write i i m
+effect w (Csrrsi rd i n) m = room.accesses w rd n change.Set i i m
+effect w (Csrrci rd i n) m = room.accesses w rd n change.Clear i i m
+effect w (LrW rd rs1 aq rl) m = room.reserves rd (reg rs1 m.hart) m
+effect w (ScW rd rs1 rs2 aq rl) m = room.stores_conditionally rd (reg rs1 m.hart) (reg rs2 m.hart) m
+effect w (AmoswapW rd rs1 rs2 aq rl) m = room.operates amo.Swap rd (reg rs1 m.hart) (reg rs2 m.hart) m
+effect w (AmoaddW rd rs1 rs2 aq rl) m = room.operates amo.Add rd (reg rs1 m.hart) (reg rs2 m.hart) m
+effect w (AmoxorW rd rs1 rs2 aq rl) m = room.operates amo.Xor rd (reg rs1 m.hart) (reg rs2 m.hart) m
+effect w (AmoandW rd rs1 rs2 aq rl) m = room.operates amo.And rd (reg rs1 m.hart) (reg rs2 m.hart) m
+effect w (AmoorW rd rs1 rs2 aq rl) m = room.operates amo.Or rd (reg rs1 m.hart) (reg rs2 m.hart) m
+effect w (AmominW rd rs1 rs2 aq rl) m = room.operates amo.Min rd (reg rs1 m.hart) (reg rs2 m.hart) m
+effect w (AmomaxW rd rs1 rs2 aq rl) m = room.operates amo.Max rd (reg rs1 m.hart) (reg rs2 m.hart) m
+effect w (AmominuW rd rs1 rs2 aq rl) m = room.operates amo.Minu rd (reg rs1 m.hart) (reg rs2 m.hart) m
+effect w (AmomaxuW rd rs1 rs2 aq rl) m = room.operates amo.Maxu rd (reg rs1 m.hart) (reg rs2 m.hart) m

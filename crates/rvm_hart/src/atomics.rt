@@ -1,0 +1,175 @@
+//! Atomic instructions (Unprivileged ISA, "A" Standard Extension). Each step is one atomic event, so
+//! that aq and rl ask for nothing more.
+
+ghost use Rattle.std.specs.Prelude.{◌≡◌, ◌<◌, length};
+ghost use Rattle.rvm_hart.specs.Machine.{machine};
+ghost use Rattle.rvm_hart.specs.Outcome.{Does, reg};
+ghost use Rattle.rvm_hart.specs.Rooms.{combined, operates, reserves, stores_conditionally};
+
+use crate::bus::Bus;
+use crate::hart::Hart;
+use crate::outcome::{Trap, Written};
+use rvm_csr::Exception;
+use rvm_isa::Reg;
+use rvm_mem::Memory;
+use rvm_word::less_signed;
+
+/// What an atomic memory operation makes of the old word and its source.
+#[derive(Clone, Copy, Debug, PartialEq, Eq)]
+pub enum Amo {
+    Swap,
+    Add,
+    Xor,
+    And,
+    Or,
+    Min,
+    Max,
+    Minu,
+    Maxu,
+}
+
+impl Amo {
+    /// The new word.
+    #[inline(always)]
+    fn of(self, old: u32, source: u32) -> u32
+        ensures { result ≡ combined self old source }
+    {
+        match self {
+            Amo::Swap => source,
+            Amo::Add => old.wrapping_add(source),
+            Amo::Xor => old ^ source,
+            Amo::And => old & source,
+            Amo::Or => old | source,
+            Amo::Min => if less_signed(old, source) {
+                old
+            } else {
+                source
+            },
+            Amo::Max => if less_signed(source, old) {
+                old
+            } else {
+                source
+            },
+            Amo::Minu => if old < source { old } else { source },
+            Amo::Maxu => if source < old { old } else { source },
+        }
+    }
+}
+
+impl Hart {
+    /// Loads a word of RAM and reserves it (LR.W).
+    #[inline(always)]
+    pub(crate) fn load_reserved<M: Memory>(
+        &mut self,
+        rd: Reg,
+        rs1: Reg,
+        bus: &mut Bus<M>,
+    ) -> Result<Written, Trap>
+        requires { self.old.csrs.hart < length bus.old.reach.reservations }
+        ensures { Does (reserves rd (reg rs1 self.old) (machine self.old bus.old)) self.old bus.old self.new bus.new result }
+    {
+        let address = self.get(rs1);
+        if address % 4 != 0 {
+            return Err(Trap {
+                exception: Exception::LoadAddressMisaligned,
+                value: address,
+            });
+        }
+        match bus.ram_load32(address) {
+            Some(value) => {
+                bus.hold(self.csrs.hart(), address);
+                self.give(rd, value);
+                Ok(Written::Other)
+            }
+            None => Err(Trap {
+                exception: Exception::LoadAccessFault,
+                value: address,
+            }),
+        }
+    }
+
+    /// Stores a word of RAM where the hart's reservation is that word, and says in rd whether it
+    /// did: 0, else 1. The reservation ends either way (SC.W).
+    #[inline(always)]
+    pub(crate) fn store_conditional<M: Memory>(
+        &mut self,
+        rd: Reg,
+        rs1: Reg,
+        rs2: Reg,
+        bus: &mut Bus<M>,
+    ) -> Result<Written, Trap>
+        requires { self.old.csrs.hart < length bus.old.reach.reservations }
+        ensures { Does (stores_conditionally rd (reg rs1 self.old) (reg rs2 self.old) (machine self.old bus.old)) self.old bus.old self.new bus.new result }
+    {
+        let address = self.get(rs1);
+        if address % 4 != 0 {
+            return Err(Trap {
+                exception: Exception::StoreAddressMisaligned,
+                value: address,
+            });
+        }
+        if bus.ram_load32(address).is_none() {
+            return Err(Trap {
+                exception: Exception::StoreAccessFault,
+                value: address,
+            });
+        }
+        let hart = self.csrs.hart();
+        if bus.take(hart, address) {
+            let _ = bus.ram_store32(hart, address, self.get(rs2));
+            self.give(rd, 0);
+        } else {
+            self.give(rd, 1);
+        }
+        Ok(Written::Other)
+    }
+
+    /// Gives rd the old word of RAM and stores what the operation makes of it (AMO).
+    #[inline(always)]
+    pub(crate) fn amo<M: Memory>(
+        &mut self,
+        operation: Amo,
+        rd: Reg,
+        rs1: Reg,
+        rs2: Reg,
+        bus: &mut Bus<M>,
+    ) -> Result<Written, Trap>
+        requires { self.old.csrs.hart < length bus.old.reach.reservations }
+        ensures { Does (operates operation rd (reg rs1 self.old) (reg rs2 self.old) (machine self.old bus.old)) self.old bus.old self.new bus.new result }
+    {
+        let address = self.get(rs1);
+        let source = self.get(rs2);
+        self.exchange(operation, rd, address, source, bus)
+    }
+
+    #[inline(always)]
+    fn exchange<M: Memory>(
+        &mut self,
+        operation: Amo,
+        rd: Reg,
+        address: u32,
+        source: u32,
+        bus: &mut Bus<M>,
+    ) -> Result<Written, Trap>
+        requires { self.old.csrs.hart < length bus.old.reach.reservations }
+        ensures { Does (operates operation rd address source (machine self.old bus.old)) self.old bus.old self.new bus.new result }
+    {
+        if address % 4 != 0 {
+            return Err(Trap {
+                exception: Exception::StoreAddressMisaligned,
+                value: address,
+            });
+        }
+        match bus.ram_load32(address) {
+            Some(old) => {
+                let _ = bus.ram_store32(self.csrs.hart(), address, operation.of(old, source));
+                self.give(rd, old);
+                Ok(Written::Other)
+            }
+            None => Err(Trap {
+                exception: Exception::StoreAccessFault,
+                value: address,
+            }),
+        }
+    }
+}

@@ -1,0 +1,272 @@
+//! What a hart reaches: RAM, devices and reservations.
+
+ghost use Rattle.std.specs.Prelude.{◌≡◌, ◌%◌, ◌<◌, ◌^◌, ◌+◌, ◌++◌, ◌∷◌, [], ◌↔◌, option_map, length, min, take, drop, IfNone, OnOk, OnErr, IsErr};
+ghost use Rattle.rvm_res.specs.Reservations as res;
+ghost use Rattle.rvm_hart.specs.Machine.{BusState};
+ghost use Rattle.rvm_hart.specs.Bus.{ram_load, word_loaded, after_word_load, ram_stored, word_stored, device_stored, left_by, wrote_of, mip_of};
+
+use crate::outcome::Written;
+use rvm_csr::Interrupts;
+use rvm_dev::register::{HALT, MTIME};
+use rvm_dev::{Devices, InputFull};
+use rvm_mem::Memory;
+use rvm_res::Reservations;
+use std::marker::Model;
+
+/// The address of RAM's first byte.
+pub const RAM_BASE: u32 = 0x8000_0000;
+
+/// The high half of the time.
+const MTIME_HIGH: u32 = MTIME + 4;
+
+/// RAM, devices and reservations of one board.
+#[derive(Drop)]
+pub struct Bus<M: Memory> {
+    ram: M,
+    devices: Devices,
+    reservations: Reservations,
+}
+
+impl<M: Memory> Model for Bus<M> {
+    ghost use Rattle.rvm_hart.specs.Machine.{BusState};
+
+    ghost Value = { BusState };
+
+    ghost view = { λ b. record { reach = record { bytes = M.bytes b.ram; devices = b.devices; reservations = b.reservations }; dirty = M.dirty b.ram } };
+}
+
+impl<M: Memory> Bus<M> {
+    /// The bus of these parts.
+    pub fn new(ram: M, devices: Devices, reservations: Reservations) -> Bus<M>
+        ensures { result ≡ record { reach = record { bytes = M.bytes ram; devices = devices; reservations = reservations }; dirty = M.dirty ram } }
+    {
+        Bus {
+            ram,
+            devices,
+            reservations,
+        }
+    }
+
+    /// The status that the board was halted with, if it was.
+    #[inline(always)]
+    pub fn halted(&self) -> Option<u8>
+        ensures { result ≡ self.now.reach.devices.halted }
+    {
+        self.devices.halted()
+    }
+
+    /// The interrupts that are pending at a hart, as `mip` has them.
+    #[inline(always)]
+    pub fn interrupts(&self, hart: u32) -> Interrupts
+        requires { hart < length self.now.reach.devices.msip }
+        ensures { result ≡ mip_of hart self.now.reach.devices }
+    {
+        Interrupts {
+            software: self.devices.software_is_pending(hart),
+            timer: self.devices.timer_is_pending(hart),
+            external: self.devices.external_is_pending(hart),
+        }
+    }
+
+    /// The time is one step later.
+    #[inline(always)]
+    pub fn tick(&mut self)
+        ensures { self.new ≡ record self.old { reach = record self.old.reach { devices = record self.old.reach.devices { mtime = (self.old.reach.devices.mtime + 1) % 2 ^ 64 } } } }
+    {
+        self.devices.tick();
+    }
+
+    /// A byte comes to the console; `InputFull`, and nothing changes, where 16 wait.
+    pub fn input(&mut self, byte: u8) -> Result<(), InputFull>
+        ensures taken { OnOk result (self.new ≡ record self.old { reach = record self.old.reach { devices = record self.old.reach.devices { input = self.old.reach.devices.input ++ byte ∷ [] } } }) }
+        ensures full { IsErr result ↔ (length self.old.reach.devices.input ≡ 16) }
+        ensures err { OnErr result (self.new ≡ self.old) }
+    {
+        self.devices.input(byte)
+    }
+
+    /// Takes the oldest bytes that the guest sent, as many as there are and fit, and says how many.
+    pub fn drain(&mut self, bytes: &mut [u8]) -> usize
+        ensures count { result ≡ min (length bytes.old) (length self.old.reach.devices.output) }
+        ensures bytes { bytes.new ≡ take result self.old.reach.devices.output ++ drop result bytes.old }
+        ensures bus { self.new ≡ record self.old { reach = record self.old.reach { devices = record self.old.reach.devices { output = drop result self.old.reach.devices.output } } } }
+    {
+        self.devices.drain(bytes)
+    }
+
+    /// How many bytes wait for the console.
+    #[inline(always)]
+    pub fn waiting(&self) -> usize
+        ensures { result ≡ length self.now.reach.devices.output }
+    {
+        self.devices.waiting()
+    }
+
+    /// The byte of RAM at an address.
+    #[inline(always)]
+    pub fn ram_load8(&self, address: u32) -> Option<u8>
+        ensures { result ≡ ram_load 1 address self.now.reach.bytes }
+    {
+        let at = address.wrapping_sub(RAM_BASE);
+        if at < self.ram.len() {
+            Some(self.ram.load8(at))
+        } else {
+            None
+        }
+    }
+
+    /// The two bytes of RAM at an aligned address.
+    #[inline(always)]
+    pub fn ram_load16(&self, address: u32) -> Option<u16>
+        requires { address % 2 ≡ 0 }
+        ensures { result ≡ ram_load 2 address self.now.reach.bytes }
+    {
+        let at = address.wrapping_sub(RAM_BASE);
+        if at < self.ram.len() {
+            Some(self.ram.load16(at))
+        } else {
+            None
+        }
+    }
+
+    /// The word of RAM at an aligned address.
+    #[inline(always)]
+    pub fn ram_load32(&self, address: u32) -> Option<u32>
+        requires { address % 4 ≡ 0 }
+        ensures { result ≡ ram_load 4 address self.now.reach.bytes }
+    {
+        let at = address.wrapping_sub(RAM_BASE);
+        if at < self.ram.len() {
+            Some(self.ram.load32(at))
+        } else {
+            None
+        }
+    }
+
+    /// The word at an aligned address, of RAM or a device.
+    #[inline(always)]
+    pub fn load32(&mut self, address: u32) -> Option<u32>
+        requires { address % 4 ≡ 0 }
+        ensures value { result ≡ word_loaded address self.old.reach }
+        ensures bus { self.new ≡ record self.old { reach = after_word_load address self.old.reach } }
+        ensures none { IfNone result (self.new ≡ self.old) }
+    {
+        let at = address.wrapping_sub(RAM_BASE);
+        if at < self.ram.len() {
+            Some(self.ram.load32(at))
+        } else {
+            self.devices.load(address)
+        }
+    }
+
+    /// Hart `hart` stores a byte of RAM. None, and nothing changes, where there is no RAM.
+    #[inline(always)]
+    pub fn ram_store8(&mut self, hart: u32, address: u32, value: u8) -> Option<Written>
+        requires { hart < length self.old.reach.reservations }
+        ensures bus { self.new ≡ left_by (ram_stored 1 hart address value self.old.reach) self.old }
+        ensures wrote { result ≡ option_map (λ s. s.wrote) (ram_stored 1 hart address value self.old.reach) }
+    {
+        let at = address.wrapping_sub(RAM_BASE);
+        if at < self.ram.len() {
+            self.ram.store8(at, value);
+            self.reservations.stored(hart as usize, address);
+            Some(Written::Other)
+        } else {
+            None
+        }
+    }
+
+    /// Hart `hart` stores two bytes of RAM at an aligned address.
+    #[inline(always)]
+    pub fn ram_store16(&mut self, hart: u32, address: u32, value: u16) -> Option<Written>
+        requires aligned { address % 2 ≡ 0 }
+        requires hart { hart < length self.old.reach.reservations }
+        ensures bus { self.new ≡ left_by (ram_stored 2 hart address value self.old.reach) self.old }
+        ensures wrote { result ≡ option_map (λ s. s.wrote) (ram_stored 2 hart address value self.old.reach) }
+    {
+        let at = address.wrapping_sub(RAM_BASE);
+        if at < self.ram.len() {
+            self.ram.store16(at, value);
+            self.reservations.stored(hart as usize, address);
+            Some(Written::Other)
+        } else {
+            None
+        }
+    }
+
+    /// Hart `hart` stores a word of RAM at an aligned address.
+    #[inline(always)]
+    pub fn ram_store32(&mut self, hart: u32, address: u32, value: u32) -> Option<Written>
+        requires aligned { address % 4 ≡ 0 }
+        requires hart { hart < length self.old.reach.reservations }
+        ensures bus { self.new ≡ left_by (ram_stored 4 hart address value self.old.reach) self.old }
+        ensures wrote { result ≡ option_map (λ s. s.wrote) (ram_stored 4 hart address value self.old.reach) }
+    {
+        let at = address.wrapping_sub(RAM_BASE);
+        if at < self.ram.len() {
+            self.ram.store32(at, value);
+            self.reservations.stored(hart as usize, address);
+            Some(Written::Other)
+        } else {
+            None
+        }
+    }
+
+    /// Hart `hart` stores a word at an aligned address, of RAM or a device.
+    #[inline(always)]
+    pub fn store32(&mut self, hart: u32, address: u32, value: u32) -> Option<Written>
+        requires aligned { address % 4 ≡ 0 }
+        requires hart { hart < length self.old.reach.reservations }
+        ensures bus { self.new ≡ left_by (word_stored hart address value self.old.reach) self.old }
+        ensures wrote { result ≡ option_map (λ s. s.wrote) (word_stored hart address value self.old.reach) }
+    {
+        let at = address.wrapping_sub(RAM_BASE);
+        if at < self.ram.len() {
+            self.ram.store32(at, value);
+            self.reservations.stored(hart as usize, address);
+            Some(Written::Other)
+        } else {
+            self.store_device(address, value)
+        }
+    }
+
+    /// Stores a word of a device.
+    #[inline(never)]
+    fn store_device(&mut self, address: u32, value: u32) -> Option<Written>
+        ensures bus { self.new ≡ left_by (device_stored address value self.old.reach) self.old }
+        ensures wrote { result ≡ option_map (λ s. s.wrote) (device_stored address value self.old.reach) }
+    {
+        self.devices.store(address, value)?;
+        Some(written_by(address, value))
+    }
+
+    /// Reserves the aligned word at an address for a hart.
+    #[inline(always)]
+    pub fn hold(&mut self, hart: u32, address: u32)
+        requires { hart < length self.old.reach.reservations }
+        ensures { self.new ≡ record self.old { reach = record self.old.reach { reservations = res.held hart address self.old.reach.reservations } } }
+    {
+        self.reservations.hold(hart as usize, address);
+    }
+
+    /// Ends a hart's reservation, and answers whether it was of the word at an address.
+    #[inline(always)]
+    pub fn take(&mut self, hart: u32, address: u32) -> bool
+        requires { hart < length self.old.reach.reservations }
+        ensures bus { self.new ≡ record self.old { reach = record self.old.reach { reservations = res.taken hart self.old.reach.reservations } } }
+        ensures takes { result ≡ res.takes hart address self.old.reach.reservations }
+    {
+        self.reservations.take(hart as usize, address)
+    }
+}
+
+/// What a store to a device's word writes that the end of the step looks at.
+fn written_by(address: u32, value: u32) -> Written
+    ensures { result ≡ wrote_of address value }
+{
+    match address {
+        HALT => Written::Halt((value & 0xFF) as u8),
+        MTIME | MTIME_HIGH => Written::Mtime,
+        _ => Written::Other,
+    }
+}

@@ -1,0 +1,135 @@
+//! The instructions that read and write control and status registers (Unprivileged ISA, "Zicsr").
+
+ghost use Rattle.std.specs.Prelude.{◌≡◌, ◌<◌, length};
+ghost use Rattle.rvm_hart.specs.Machine.{machine};
+ghost use Rattle.rvm_hart.specs.Outcome.{Does, reg};
+ghost use Rattle.rvm_hart.specs.Rooms.{accesses, changed, writes, wrote_csr};
+
+use crate::bus::Bus;
+use crate::hart::Hart;
+use crate::outcome::{Trap, Written};
+use rvm_csr::Exception;
+use rvm_isa::{CsrNo, Imm5, Reg};
+use rvm_mem::Memory;
+
+/// What an instruction makes of a register's old value and its source.
+#[derive(Clone, Copy, Debug, PartialEq, Eq)]
+pub enum CsrChange {
+    /// The source.
+    Write,
+    /// The old value with the source's bits set.
+    Set,
+    /// The old value with the source's bits cleared.
+    Clear,
+}
+
+impl CsrChange {
+    /// The new value.
+    fn of(self, old: u32, source: u32) -> u32
+        ensures { result ≡ changed self old source }
+    {
+        match self {
+            CsrChange::Write => source,
+            CsrChange::Set => old | source,
+            CsrChange::Clear => old & !source,
+        }
+    }
+}
+
+/// A write to a half of a counter, which is then not counted in that step.
+fn written_by(number: u32) -> Written
+    ensures { result ≡ wrote_csr number }
+{
+    match number {
+        0xB00 | 0xB80 => Written::Mcycle,
+        0xB02 | 0xB82 => Written::Minstret,
+        _ => Written::Other,
+    }
+}
+
+impl CsrChange {
+    /// Whether the instruction writes: to set or clear, its source field must not be 0.
+    #[inline(always)]
+    fn writes(self, field: u32) -> bool
+        ensures { result ≡ writes self field }
+    {
+        match self {
+            CsrChange::Write => true,
+            CsrChange::Set | CsrChange::Clear => field != 0,
+        }
+    }
+}
+
+impl Hart {
+    /// Reads a register into rd and changes it by a register's value; `word` is the instruction's
+    /// own (CSRRW, CSRRS, CSRRC).
+    #[inline(always)]
+    pub(crate) fn change_csr<M: Memory>(
+        &mut self,
+        word: u32,
+        change: CsrChange,
+        rd: Reg,
+        rs1: Reg,
+        csr: CsrNo,
+        bus: &mut Bus<M>,
+    ) -> Result<Written, Trap>
+        requires { self.old.csrs.hart < length bus.old.reach.devices.msip }
+        ensures { Does (accesses word rd csr change rs1 (reg rs1 self.old) (machine self.old bus.old)) self.old bus.old self.new bus.new result }
+    {
+        let source = self.get(rs1);
+        self.access_csr(word, change, rd, rs1.bits(), source, csr, bus)
+    }
+
+    /// The same by the number in the field of rs1 (CSRRWI, CSRRSI, CSRRCI).
+    #[inline(always)]
+    pub(crate) fn change_csr_immediate<M: Memory>(
+        &mut self,
+        word: u32,
+        change: CsrChange,
+        rd: Reg,
+        imm: Imm5,
+        csr: CsrNo,
+        bus: &mut Bus<M>,
+    ) -> Result<Written, Trap>
+        requires { self.old.csrs.hart < length bus.old.reach.devices.msip }
+        ensures { Does (accesses word rd csr change imm imm (machine self.old bus.old)) self.old bus.old self.new bus.new result }
+    {
+        self.access_csr(word, change, rd, imm.bits(), imm.bits(), csr, bus)
+    }
+
+    #[inline(never)]
+    fn access_csr<M: Memory>(
+        &mut self,
+        word: u32,
+        change: CsrChange,
+        rd: Reg,
+        field: u32,
+        source: u32,
+        csr: CsrNo,
+        bus: &mut Bus<M>,
+    ) -> Result<Written, Trap>
+        requires { self.old.csrs.hart < length bus.old.reach.devices.msip }
+        ensures { Does (accesses word rd csr change field source (machine self.old bus.old)) self.old bus.old self.new bus.new result }
+    {
+        let number = csr.bits();
+        let illegal = Trap {
+            exception: Exception::IllegalInstruction,
+            value: word,
+        };
+        let pending = bus.interrupts(self.csrs.hart());
+        let Some(old) = self.csrs.read(number, pending) else {
+            return Err(illegal);
+        };
+        if !change.writes(field) {
+            self.give(rd, old);
+            return Ok(Written::Other);
+        }
+        match self.csrs.write(number, change.of(old, source)) {
+            Some(()) => {
+                self.give(rd, old);
+                Ok(written_by(number))
+            }
+            None => Err(illegal),
+        }
+    }
+}

@@ -1,0 +1,94 @@
+//! A hart's registers.
+
+ghost use Rattle.std.specs.Prelude.{◌≡◌, ◌%◌, ◌<◌, length, replicate, slice_set};
+ghost use Rattle.rvm_csr.specs.Registers.{at_reset};
+ghost use Rattle.rvm_csr.specs.Traps.{trap_left};
+ghost use Rattle.rvm_hart.specs.declared.outcome.Written.TheVariants.{Other};
+ghost use Rattle.rvm_hart.specs.Machine.{HartState};
+ghost use Rattle.rvm_hart.specs.Outcome.{reg, given, passed};
+ghost use Rattle.rvm_hart.specs.Rooms.{sum};
+
+use crate::outcome::{Trap, Written};
+use rvm_csr::CsrFile;
+use rvm_isa::{Imm12, Reg};
+use rvm_word::add_signed;
+use std::marker::Model;
+
+/// One hart: x0 to x31, pc and the control and status registers.
+#[derive(Drop)]
+pub struct Hart {
+    pub(crate) regs: [u32; 32],
+    pub(crate) pc: u32,
+    pub(crate) csrs: CsrFile,
+}
+
+impl Model for Hart {
+    ghost use Rattle.std.specs.Prelude.{◌≡◌, ◌%◌, slice_index};
+    ghost use Rattle.rvm_hart.specs.Machine.{HartState};
+
+    ghost Value = { HartState };
+
+    ghost view = { λ h. record { regs = h.regs; pc = h.pc; csrs = h.csrs } };
+
+    ghost invariant = { λ h. (h.pc % 4 ≡ 0) × (slice_index h.regs 0 ≡ 0) };
+}
+
+impl Hart {
+    /// Hart `number` after reset: it starts at `entry` with its number in a0, all else is 0.
+    pub fn new(number: u32, entry: u32) -> Hart
+        requires { entry % 4 ≡ 0 }
+        ensures { result ≡ record { regs = slice_set (replicate 32 0) 10 number; pc = entry; csrs = at_reset number } }
+    {
+        let mut regs = [0; 32];
+        regs[10] = number;
+        Hart {
+            regs,
+            pc: entry,
+            csrs: CsrFile::new(number),
+        }
+    }
+
+    /// The value of a register.
+    #[inline(always)]
+    pub(crate) fn get(&self, register: Reg) -> u32
+        ensures { result ≡ reg register self.now }
+    {
+        self.regs[register.index()]
+    }
+
+    /// The sum of a register and an immediate: the address of a load or store.
+    #[inline(always)]
+    pub(crate) fn plus(&self, rs1: Reg, imm: Imm12) -> u32
+        ensures { result ≡ sum (reg rs1 self.now) imm }
+    {
+        add_signed(self.get(rs1), imm.value())
+    }
+
+    /// Writes a register, and goes on to the next instruction.
+    #[inline(always)]
+    pub(crate) fn give(&mut self, rd: Reg, value: u32)
+        ensures { self.new ≡ given rd value self.old }
+    {
+        self.regs[rd.index()] = value;
+        self.regs[0] = 0;
+        self.pc = self.pc.wrapping_add(4);
+    }
+
+    /// Goes on to the next instruction.
+    #[inline(always)]
+    pub(crate) fn pass(&mut self)
+        ensures { self.new ≡ passed self.old }
+    {
+        self.pc = self.pc.wrapping_add(4);
+    }
+
+    /// Returns from a trap (MRET).
+    #[inline(never)]
+    pub(crate) fn mret(&mut self) -> Result<Written, Trap>
+        ensures hart { self.new ≡ record self.old { pc = self.old.csrs.mepc; csrs = trap_left self.old.csrs } }
+        ensures result { result ≡ Ok Other }
+    {
+        self.pc = self.csrs.mret();
+        Ok(Written::Other)
+    }
+}

@@ -1,0 +1,156 @@
+//! Loads (Unprivileged ISA, "Load and Store Instructions"): alignment is looked at first, then
+//! whether something is there.
+
+ghost use Rattle.std.specs.Prelude.{◌≡◌};
+ghost use Rattle.rvm_hart.specs.Machine.{machine};
+ghost use Rattle.rvm_hart.specs.Outcome.{Does, reg};
+ghost use Rattle.rvm_hart.specs.Rooms.{sum, loads_byte, loads_half, loads_word};
+ghost use Rattle.rvm_hart.specs.Rows.{signed_byte, signed_half, as_it_is};
+
+use crate::bus::Bus;
+use crate::hart::Hart;
+use crate::outcome::{Trap, Written};
+use rvm_csr::Exception;
+use rvm_isa::{Imm12, Reg};
+use rvm_mem::Memory;
+use rvm_word::sext;
+
+impl Hart {
+    /// A byte of RAM, sign-extended (LB).
+    #[inline(always)]
+    pub(crate) fn load_signed_byte<M: Memory>(
+        &mut self,
+        rd: Reg,
+        rs1: Reg,
+        imm: Imm12,
+        bus: &mut Bus<M>,
+    ) -> Result<Written, Trap>
+        ensures { Does (loads_byte signed_byte rd (sum (reg rs1 self.old) imm) (machine self.old bus.old)) self.old bus.old self.new bus.new result }
+    {
+        let address = self.plus(rs1, imm);
+        match bus.ram_load8(address) {
+            Some(value) => {
+                self.give(rd, sext(u32::from(value), 8));
+                Ok(Written::Other)
+            }
+            None => Err(Trap {
+                exception: Exception::LoadAccessFault,
+                value: address,
+            }),
+        }
+    }
+
+    /// A byte of RAM, zero-extended (LBU).
+    #[inline(always)]
+    pub(crate) fn load_byte<M: Memory>(
+        &mut self,
+        rd: Reg,
+        rs1: Reg,
+        imm: Imm12,
+        bus: &mut Bus<M>,
+    ) -> Result<Written, Trap>
+        ensures { Does (loads_byte as_it_is rd (sum (reg rs1 self.old) imm) (machine self.old bus.old)) self.old bus.old self.new bus.new result }
+    {
+        let address = self.plus(rs1, imm);
+        match bus.ram_load8(address) {
+            Some(value) => {
+                self.give(rd, u32::from(value));
+                Ok(Written::Other)
+            }
+            None => Err(Trap {
+                exception: Exception::LoadAccessFault,
+                value: address,
+            }),
+        }
+    }
+
+    /// Two bytes of RAM, sign-extended (LH).
+    #[inline(always)]
+    pub(crate) fn load_signed_half<M: Memory>(
+        &mut self,
+        rd: Reg,
+        rs1: Reg,
+        imm: Imm12,
+        bus: &mut Bus<M>,
+    ) -> Result<Written, Trap>
+        ensures { Does (loads_half signed_half rd (sum (reg rs1 self.old) imm) (machine self.old bus.old)) self.old bus.old self.new bus.new result }
+    {
+        let address = self.plus(rs1, imm);
+        if address % 2 != 0 {
+            return Err(Trap {
+                exception: Exception::LoadAddressMisaligned,
+                value: address,
+            });
+        }
+        match bus.ram_load16(address) {
+            Some(value) => {
+                self.give(rd, sext(u32::from(value), 16));
+                Ok(Written::Other)
+            }
+            None => Err(Trap {
+                exception: Exception::LoadAccessFault,
+                value: address,
+            }),
+        }
+    }
+
+    /// Two bytes of RAM, zero-extended (LHU).
+    #[inline(always)]
+    pub(crate) fn load_half<M: Memory>(
+        &mut self,
+        rd: Reg,
+        rs1: Reg,
+        imm: Imm12,
+        bus: &mut Bus<M>,
+    ) -> Result<Written, Trap>
+        ensures { Does (loads_half as_it_is rd (sum (reg rs1 self.old) imm) (machine self.old bus.old)) self.old bus.old self.new bus.new result }
+    {
+        let address = self.plus(rs1, imm);
+        if address % 2 != 0 {
+            return Err(Trap {
+                exception: Exception::LoadAddressMisaligned,
+                value: address,
+            });
+        }
+        match bus.ram_load16(address) {
+            Some(value) => {
+                self.give(rd, u32::from(value));
+                Ok(Written::Other)
+            }
+            None => Err(Trap {
+                exception: Exception::LoadAccessFault,
+                value: address,
+            }),
+        }
+    }
+
+    /// A word of RAM or a device (LW).
+    #[inline(always)]
+    pub(crate) fn load_word<M: Memory>(
+        &mut self,
+        rd: Reg,
+        rs1: Reg,
+        imm: Imm12,
+        bus: &mut Bus<M>,
+    ) -> Result<Written, Trap>
+        ensures { Does (loads_word rd (sum (reg rs1 self.old) imm) (machine self.old bus.old)) self.old bus.old self.new bus.new result }
+    {
+        let address = self.plus(rs1, imm);
+        if address % 4 != 0 {
+            return Err(Trap {
+                exception: Exception::LoadAddressMisaligned,
+                value: address,
+            });
+        }
+        match bus.load32(address) {
+            Some(value) => {
+                self.give(rd, value);
+                Ok(Written::Other)
+            }
+            None => Err(Trap {
+                exception: Exception::LoadAccessFault,
+                value: address,
+            }),
+        }
+    }
+}

@@ -1,0 +1,114 @@
+//! One step of a hart.
+
+ghost use Rattle.std.specs.Prelude.{◌≡◌, ◌<◌, length, true, false};
+ghost use Rattle.rvm_mem.specs.Pages.{mark_all};
+ghost use Rattle.rvm_csr.specs.declared.cause.Cause.TheVariants as cause;
+ghost use Rattle.rvm_csr.specs.Traps.{pending};
+ghost use Rattle.rvm_hart.specs.Machine.{machine};
+ghost use Rattle.rvm_hart.specs.Bus.{mip_of};
+ghost use Rattle.rvm_hart.specs.Outcome.{Does};
+ghost use Rattle.rvm_hart.specs.Step.{execute, counts, counts_retired, answer_of, trapped, step};
+
+use crate::bus::Bus;
+use crate::hart::Hart;
+use crate::outcome::{Stepped, Trap, Written};
+use rvm_csr::{Cause, Exception, Interrupt};
+use rvm_isa::decode::decode;
+use rvm_mem::Memory;
+
+impl Hart {
+    /// One step: an interrupt that is pending is taken, else the instruction at pc runs; then the
+    /// counters rise. A halted board stays as it is. The pages that a store wrote are added to the
+    /// dirty log.
+    #[inline(always)]
+    pub fn step<M: Memory>(&mut self, bus: &mut Bus<M>) -> Stepped
+        requires reservation { self.old.csrs.hart < length bus.old.reach.reservations }
+        requires devices { self.old.csrs.hart < length bus.old.reach.devices.msip }
+        ensures machine { machine self.new bus.new ≡ (step (machine self.old bus.old)).machine }
+        ensures dirty { bus.new.dirty ≡ mark_all (step (machine self.old bus.old)).pages bus.old.dirty }
+        ensures answer { result ≡ (step (machine self.old bus.old)).answer }
+    {
+        if let Some(status) = bus.halted() {
+            return Stepped::Halted(status);
+        }
+        if let Some(interrupt) = self.pending(bus) {
+            self.enter(Cause::Interrupt(interrupt), 0, bus);
+            return Stepped::Interrupted(interrupt);
+        }
+        match self.execute(bus) {
+            Ok(Written::Other) => {
+                self.csrs.tick(true, true);
+                bus.tick();
+                Stepped::Retired
+            }
+            Ok(written) => self.retire_after(written, bus),
+            Err(trap) => {
+                self.enter(Cause::Exception(trap.exception), trap.value, bus);
+                Stepped::Trapped(trap.exception)
+            }
+        }
+    }
+
+    /// The interrupt that is taken before the next instruction, if any.
+    #[inline(always)]
+    fn pending<M: Memory>(&self, bus: &Bus<M>) -> Option<Interrupt>
+        requires { self.now.csrs.hart < length bus.now.reach.devices.msip }
+        ensures { result ≡ pending (mip_of self.now.csrs.hart bus.now.reach.devices) self.now.csrs }
+    {
+        if !self.csrs.interrupts_enabled() {
+            return None;
+        }
+        self.csrs.pending(bus.interrupts(self.csrs.hart()))
+    }
+
+    /// Runs the instruction at pc.
+    #[inline(always)]
+    fn execute<M: Memory>(&mut self, bus: &mut Bus<M>) -> Result<Written, Trap>
+        requires reservation { self.old.csrs.hart < length bus.old.reach.reservations }
+        requires devices { self.old.csrs.hart < length bus.old.reach.devices.msip }
+        ensures { Does (execute (machine self.old bus.old)) self.old bus.old self.new bus.new result }
+    {
+        let Some(word) = bus.ram_load32(self.pc) else {
+            return Err(Trap {
+                exception: Exception::InstructionAccessFault,
+                value: self.pc,
+            });
+        };
+        match decode(word) {
+            Some(ins) => self.apply(word, ins, bus),
+            None => Err(Trap {
+                exception: Exception::IllegalInstruction,
+                value: word,
+            }),
+        }
+    }
+
+    /// Ends the step of an instruction that wrote a counter or the halt word.
+    #[inline(never)]
+    fn retire_after<M: Memory>(&mut self, written: Written, bus: &mut Bus<M>) -> Stepped
+        ensures machine { machine self.new bus.new ≡ counts_retired written (machine self.old bus.old) }
+        ensures dirty { bus.new.dirty ≡ bus.old.dirty }
+        ensures answer { result ≡ answer_of written }
+    {
+        self.csrs
+            .tick(written != Written::Mcycle, written != Written::Minstret);
+        if written != Written::Mtime {
+            bus.tick();
+        }
+        match written {
+            Written::Halt(status) => Stepped::Halted(status),
+            _ => Stepped::Retired,
+        }
+    }
+
+    /// Enters a trap, and ends the step.
+    #[inline(never)]
+    fn enter<M: Memory>(&mut self, cause: Cause, value: u32, bus: &mut Bus<M>)
+        ensures machine { machine self.new bus.new ≡ counts true false true (trapped cause value (machine self.old bus.old)) }
+        ensures dirty { bus.new.dirty ≡ bus.old.dirty }
+    {
+        self.pc = self.csrs.enter_trap(cause, value, self.pc);
+        self.csrs.tick(true, false);
+        bus.tick();
+    }
+}
