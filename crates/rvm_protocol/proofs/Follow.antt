@@ -1,0 +1,153 @@
+-- Frames follow the replies that allow them, and carry the board.
+use Rattle.std.proofs.Common.{◌≡◌, ℕ, ◌==◌, ◌^◌, ◌-◌, nat_lt, nat_le, not, ◌&&◌, List, length, Option, Some, None, refl, sym, subst}
+use Rattle.std.proofs.lemmas.Bool.{eqb-true}
+use Rattle.rvm_protocol.specs.Commands.{Command, Board, Begin, Copy, Resend, AbortMove, HostEvent, Do, Came, is_allowed}
+use Rattle.rvm_protocol.specs.FrameCauses.{says_ready, says_committed, says_started, IsCaused}
+use Rattle.rvm_protocol.specs.Frames.{Frame, Offer, Accept, Refuse, Page, RoundEnd, Lost, State, Ready, Go, Started, Abort}
+use Rattle.rvm_protocol.specs.Guest.{Guest}
+use Rattle.rvm_protocol.specs.Host.{Host, obey_at, is_there, is_heard, outcome}
+use Rattle.rvm_protocol.specs.Modes.{Mode, Empty, Run, Offering, Copying, Stopped, Given, Staging, Held, Outcome, ignores, says, sends, refuses}
+use Rattle.rvm_protocol.specs.Obeying.{obey, begin, begin_allowed, begun, copy_page, sends_page, copy_last, sends_last, resend_last}
+use Rattle.rvm_protocol.specs.Pages.{size, least}
+use Rattle.rvm_protocol.specs.Receiving.{came, state_compared, guest_read, of_this_move, offered, offer_above}
+use Rattle.rvm_protocol.specs.Replies.{Reply, Accepted, Declined, BadState, BadSize, BadHost, EpochsSpent, SeqSpent, Stopping}
+use Rattle.rvm_protocol.specs.Rounds.{Rounds, Last, is_skipped, to_copy, stopped}
+use Rattle.rvm_protocol.specs.Staging.{Stage, lacks}
+use Rattle.rvm_protocol.proofs.Invariant.{New}
+use Rattle.rvm_protocol.proofs.Modes.{either}
+
+module _ {S P : Type 0} where
+  -- what the past said of a mode
+  abbrev pub Backed : (R C : ℕ → Type 0) → Mode S P → Type 0
+  Backed R C (Held n g) = R n
+  Backed R C (Given n) = C n
+  Backed R C mode = Unit {0}
+
+  -- where a Go of this move was sent, it was started here
+  abbrev pub RunOk : (C T : ℕ → Type 0) → Mode S P → Type 0
+  RunOk C T (Run n g) = C n → T n
+  RunOk C T mode = Unit {0}
+
+module _ {S P E A B : Type 0} (m : Guest S P E A B) (R C T : ℕ → Type 0) where
+  -- what a reply says is so
+  abbrev pub Now : HostEvent P E B → Reply A → Type 0
+  Now e r = ((n : ℕ) → says_ready n e r → R n) × ((n : ℕ) → says_committed n r → C n) × ((n : ℕ) → says_started n e r → T n)
+
+  abbrev pub Follows : HostEvent P E B → Outcome S P A B → Type 0
+  Follows e o = Now e o.reply → New (IsCaused R C T) o.made × Backed R C o.next
+
+  follow_equal : (e : HostEvent P E B) (n k : ℕ) (o : Outcome S P A B) (X : Mode S P) → Backed R C X → (n ≡ k → Follows e o) → Follows e (of_this_move m n k o X)
+  follow_equal e n k o X b h = either (Follows e) (n == k) o (ignores X) (λ q. h (eqb-true n k q)) (λ _ _. (tt, b))
+
+  follow_above : (e : HostEvent P E B) (limit s k a b : ℕ) (X : Mode S P) → Backed R C X → Follows e (offer_above m s limit k a b X)
+  follow_above e limit s k a b X q =
+      either (Follows e) (nat_lt s k) (offered m limit k a b X) (ignores X)
+      (λ _. either (Follows e) (nat_lt limit a) (sends (Declined limit) (Refuse k limit) X) (sends Accepted (Accept k) (Staging k _)) (λ _ _. (tt, q)) (λ _ _. (tt, tt)))
+      (λ _ _. (tt, q))
+
+  follow_read : (y n k : ℕ) (ns : List ℕ) (b : B) (s : Stage P) (q : Option S) → n ≡ k → Follows (Came y (State k ns b)) (guest_read m n s q)
+  follow_read y n k ns b s None same = λ now. (tt, tt)
+  follow_read y n k ns b s (Some g) same = λ now. (now.0 n (sym same), now.0 n (sym same))
+
+  pub follow_came : (limit y : ℕ) (f : Frame P B) (X : Mode S P) → Backed R C X → RunOk C T X → IsCaused R C T f → Follows (Came y f) (came m limit f X)
+  follow_came limit y (Offer k a b) (Empty n) q r j = follow_above (Came y (Offer k a b)) limit n k a b (Empty n) q
+  follow_came limit y (Offer k a b) (Given n) q r j = follow_above (Came y (Offer k a b)) limit n k a b (Given n) q
+  follow_came limit y (Offer k a b) (Held n g) q r j = follow_above (Came y (Offer k a b)) limit n k a b (Held n g) q
+  follow_came limit y (Offer k a b) (Staging n s) q r j =
+      either (Follows (Came y (Offer k a b))) (n == k) (sends Accepted (Accept n) (Staging n s)) (offer_above m n limit k a b (Staging n s)) (λ _ _. (tt, tt)) (λ _. follow_above (Came y (Offer k a b)) limit n k a b (Staging n s) q)
+  follow_came limit y (Accept k) (Offering n g p) q r j = follow_equal (Came y (Accept k)) n k _ (Offering n g p) q (λ e now. (tt, tt))
+  follow_came limit y (Refuse k a) (Offering n g p) q r j = follow_equal (Came y (Refuse k a)) n k _ (Offering n g p) q (λ e now. (tt, tt))
+  follow_came limit y (Page k i c b) (Staging n s) q r j =
+      follow_equal (Came y (Page k i c b)) n k _ (Staging n s) q
+      (λ e. either (Follows (Came y (Page k i c b))) (nat_lt i (length s.pages) && nat_lt (s.have i) c) _ (ignores (Staging n s)) (λ _ _. (tt, tt)) (λ _ _. (tt, tt)))
+  follow_came limit y (RoundEnd k a b c d) (Staging n s) q r j = follow_equal (Came y (RoundEnd k a b c d)) n k _ (Staging n s) q (λ e now. (tt, tt))
+  follow_came limit y (State k ns b) (Staging n s) q r j =
+      follow_equal (Came y (State k ns b)) n k _ (Staging n s) q
+      (λ e. either (Follows (Came y (State k ns b))) (length ns == length s.pages) (state_compared m n s ns b) (refuses BadState (Staging n s))
+      (λ _. either (Follows (Came y (State k ns b))) (nat_lt 0 (size (lacks s ns) (length s.pages))) _ (guest_read m n s (m.build s.processors b s.pages)) (λ _ _. (tt, tt)) (λ _. follow_read y n k ns b s (m.build s.processors b s.pages) e))
+      (λ _ _. (tt, tt)))
+  follow_came limit y (State k ns b) (Held n g) q r j = follow_equal (Came y (State k ns b)) n k _ (Held n g) q (λ e now. (q, q))
+  follow_came limit y (Lost k ps) (Stopped n l) q r j = follow_equal (Came y (Lost k ps)) n k _ (Stopped n l) q (λ e now. (tt, tt))
+  follow_came limit y (Ready k) (Stopped n l) q r j = follow_equal (Came y (Ready k)) n k _ (Stopped n l) q (λ e now. (now.1 n refl, now.1 n refl))
+  follow_came limit y (Go k) (Held n g) q r j = follow_equal (Came y (Go k)) n k _ (Held n g) q (λ e now. (now.2 n (sym e), tt))
+  follow_came limit y (Go k) (Run n g) q r j = follow_equal (Came y (Go k)) n k _ (Run n g) q (λ e now. (r (subst C (sym e) j), tt))
+  follow_came limit y (Started k) (Given n) q r j = follow_equal (Came y (Started k)) n k _ (Given n) q (λ e now. (tt, tt))
+  follow_came limit y (Abort k) (Staging n s) q r j = follow_equal (Came y (Abort k)) n k _ (Staging n s) q (λ e now. (tt, tt))
+  follow_came limit y (Abort k) (Held n g) q r j = follow_equal (Came y (Abort k)) n k _ (Held n g) q (λ e now. (tt, tt))
+  follow_came limit y f X q r j = λ now. (tt, q)
+
+  follow_copy : (n : ℕ) (r : Rounds S) (q : Option ℕ) → Follows (Do Copy) (copy_page m n r q)
+  follow_copy n r (Some p) = either (Follows (Do Copy)) (nat_le (2 ^ 32 - 1) r.copies) (refuses SeqSpent (Copying n r)) (sends_page m n r p) (λ _ _. (tt, tt)) (λ _ _. (tt, tt))
+  follow_copy n r None = λ now. (tt, tt)
+
+  follow_last : (n : ℕ) (l : Last S) (q : Option ℕ) → Follows (Do Copy) (copy_last m n l q)
+  follow_last n l (Some p) = either (Follows (Do Copy)) (nat_le (2 ^ 32 - 1) l.copies) (refuses SeqSpent (Stopped n l)) (sends_last m n l p) (λ _ _. (tt, tt)) (λ _ _. (tt, tt))
+  follow_last n l None = λ now. (tt, tt)
+
+  follow_resend : (n : ℕ) (l : Last S) (q : Option ℕ) → Follows (Do Resend) (resend_last m n l q)
+  follow_resend n l (Some p) = λ now. (tt, tt)
+  follow_resend n l None = λ now. (tt, tt)
+
+  pub follow_obey : (k : Command E) (X : Mode S P) → Backed R C X → Follows (Do k) (obey m k X)
+  follow_obey (Board e) (Empty n) q = λ now. (tt, q)
+  follow_obey (Board e) (Run n g) q = λ now. (tt, tt)
+  follow_obey (Board e) (Offering n g p) q = λ now. (tt, tt)
+  follow_obey (Board e) (Copying n r) q = λ now. (tt, tt)
+  follow_obey (Board e) (Stopped n l) q = λ now. (tt, tt)
+  follow_obey (Board e) (Given n) q = λ now. (tt, q)
+  follow_obey (Board e) (Staging n s) q = λ now. (tt, tt)
+  follow_obey (Board e) (Held n g) q = λ now. (tt, q)
+  follow_obey (Begin to p) (Empty n) q = λ now. (tt, q)
+  follow_obey (Begin to p) (Run n g) q =
+      either (Follows (Do (Begin to p))) (is_allowed p) (begin_allowed m p n g) (refuses BadSize (Run n g))
+      (λ _. either (Follows (Do (Begin to p))) (n == 2 ^ 64 - 1) (refuses EpochsSpent (Run n g)) (begun m p n g) (λ _ _. (tt, tt)) (λ _ _. (tt, tt)))
+      (λ _ _. (tt, tt))
+  follow_obey (Begin to p) (Offering n g r) q = λ now. (tt, tt)
+  follow_obey (Begin to p) (Copying n r) q = λ now. (tt, tt)
+  follow_obey (Begin to p) (Stopped n l) q = λ now. (tt, tt)
+  follow_obey (Begin to p) (Given n) q = λ now. (tt, q)
+  follow_obey (Begin to p) (Staging n s) q = λ now. (tt, tt)
+  follow_obey (Begin to p) (Held n g) q = λ now. (tt, q)
+  follow_obey Copy (Empty n) q = λ now. (tt, q)
+  follow_obey Copy (Run n g) q = λ now. (tt, tt)
+  follow_obey Copy (Offering n g p) q = λ now. (tt, tt)
+  follow_obey Copy (Copying n r) q =
+      either (Follows (Do Copy)) r.stop (says Stopping (Stopped n (stopped m r))) (copy_page m n r (least (λ x. r.to_send x && not (is_skipped r x)) r.scan (length (m.pages r.guest) - r.scan))) (λ _ _. (tt, tt)) (λ _. follow_copy n r _)
+  follow_obey Copy (Stopped n l) q = follow_last n l (to_copy m l)
+  follow_obey Copy (Given n) q = λ now. (tt, q)
+  follow_obey Copy (Staging n s) q = λ now. (tt, tt)
+  follow_obey Copy (Held n g) q = λ now. (tt, q)
+  follow_obey Resend (Empty n) q = λ now. (tt, q)
+  follow_obey Resend (Run n g) q = λ now. (tt, tt)
+  follow_obey Resend (Offering n g p) q = λ now. (tt, tt)
+  follow_obey Resend (Copying n r) q = λ now. (tt, tt)
+  follow_obey Resend (Stopped n l) q = follow_resend n l (to_copy m l)
+  follow_obey Resend (Given n) q = λ now. (q, q)
+  follow_obey Resend (Staging n s) q = λ now. (tt, tt)
+  follow_obey Resend (Held n g) q = λ now. (q, q)
+  follow_obey AbortMove (Empty n) q = λ now. (tt, q)
+  follow_obey AbortMove (Run n g) q = λ now. (tt, tt)
+  follow_obey AbortMove (Offering n g p) q = λ now. (tt, tt)
+  follow_obey AbortMove (Copying n r) q = λ now. (tt, tt)
+  follow_obey AbortMove (Stopped n l) q = λ now. (tt, tt)
+  follow_obey AbortMove (Given n) q = λ now. (tt, q)
+  follow_obey AbortMove (Staging n s) q = λ now. (tt, tt)
+  follow_obey AbortMove (Held n g) q = λ now. (tt, q)
+
+  pub follow_step : (x count limit : ℕ) (e : HostEvent P E B) (h : Host S P) → Backed R C h.mode → RunOk C T h.mode → ((y : ℕ) (f : Frame P B) → e ≡ Came y f → IsCaused R C T f) → Follows e (outcome m x count limit e h)
+  follow_step x count limit (Do (Begin to p)) h q r j = begins h.mode q
+    where
+      begins : (X : Mode S P) → Backed R C X → Follows (Do (Begin to p)) (obey_at m x count (Begin to p) X)
+      begins (Run n g) q = either (Follows (Do (Begin to p))) (is_there x count to) (begin m p (Run n g)) (refuses BadHost (Run n g)) (λ _. follow_obey (Begin to p) (Run n g) q) (λ _ _. (tt, tt))
+      begins (Empty n) q = λ now. (tt, q)
+      begins (Offering n g r) q = λ now. (tt, tt)
+      begins (Copying n r) q = λ now. (tt, tt)
+      begins (Stopped n l) q = λ now. (tt, tt)
+      begins (Given n) q = λ now. (tt, q)
+      begins (Staging n s) q = λ now. (tt, tt)
+      begins (Held n g) q = λ now. (tt, q)
+  follow_step x count limit (Do (Board e)) h q r j = follow_obey (Board e) h.mode q
+  follow_step x count limit (Do Copy) h q r j = follow_obey Copy h.mode q
+  follow_step x count limit (Do Resend) h q r j = follow_obey Resend h.mode q
+  follow_step x count limit (Do AbortMove) h q r j = follow_obey AbortMove h.mode q
+  follow_step x count limit (Came y f) h q r j = either (Follows (Came y f)) (is_heard x count y f h) (came m limit f h.mode) (ignores h.mode) (λ _. follow_came limit y f h.mode q r (j y f refl)) (λ _ _. (tt, q))

@@ -1,0 +1,18 @@
+mod Invariant
+mod Modes
+mod Other
+mod Sets
+mod Source
+mod Destination
+pub mod Told
+mod Apart
+mod Content
+pub mod Hosts
+pub mod Whole
+pub mod Follow
+pub mod Clauses
+pub mod Carry
+mod Drive
+pub mod Bound
+mod Counter
+mod Examples

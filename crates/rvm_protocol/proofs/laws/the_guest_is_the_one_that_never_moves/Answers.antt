@@ -1,0 +1,5 @@
+use Rattle.rvm_protocol.proofs.Whole.{the_law}
+use Rattle.rvm_protocol.proofs.laws.the_guest_is_the_one_that_never_moves.Goals as goal
+
+pub returns : goal.returns
+returns g c = record { always = λ m. the_law m }

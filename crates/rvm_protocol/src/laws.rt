@@ -1,0 +1,44 @@
+//! Laws of all runs, each the contract of a function with nothing to do.
+
+ghost use Rattle.rvm_protocol.specs.DrivenMove.{DriveCount};
+ghost use Rattle.rvm_protocol.specs.FewCopies.{CopiesAreBounded};
+ghost use Rattle.rvm_protocol.specs.FrameCauses.{FramesFollowTheirCauses};
+ghost use Rattle.rvm_protocol.specs.FrameContents.{FramesCarryTheGuest};
+ghost use Rattle.rvm_protocol.specs.FreshCopies.{NoStalePage};
+ghost use Rattle.rvm_protocol.specs.Guest.{Guest};
+ghost use Rattle.rvm_protocol.specs.OneGuest.{AlwaysOneGuest};
+
+/// For every list of events over the hosts of a world, with frames lost, repeated and reordered:
+/// the guest at the current host, and each answer it gave, are those of one guest that never moves;
+/// its events are answered or refused as the replies tell; a commit hands over exactly that guest;
+/// and never would two hosts answer one.
+pub fn the_guest_is_the_one_that_never_moves<S, P, E, A, B>()
+    ensures always { (m : Guest S P E A B) → AlwaysOneGuest m }
+{}
+
+/// While a source copies, no page is forgotten; and the copies that a state names, and all later
+/// ones of its move, equal the paused pages.
+pub fn a_state_names_only_fresh_copies<S, P, E, A, B>()
+    ensures always { (m : Guest S P E A B) → NoStalePage m }
+{}
+
+/// Every Ready, Go or Started of a move was made at or after that move's first ReadySent, Committed
+/// or Started.
+pub fn frames_follow_their_causes<S, P, E, A, B>()
+    ensures always { (m : Guest S P E A B) → FramesFollowTheirCauses m }
+{}
+
+/// Each Page carries the bytes, and each State the state, that the guest has when it is made.
+pub fn frames_carry_the_guest<S, P, E, A, B>()
+    ensures always { (m : Guest S P E A B) → FramesCarryTheGuest m }
+{}
+
+/// Before it stops, a move makes at most as many copies of a page as it may make rounds.
+pub fn copies_are_bounded<S, P, E, A, B>()
+    ensures always { (m : Guest S P E A B) → CopiesAreBounded m }
+{}
+
+/// A driven move of n pages has 2 n + 11 events.
+pub fn a_driven_move_is_counted()
+    ensures count { DriveCount }
+{}
