@@ -1,6 +1,6 @@
 -- What holds of frames and modes beside the current host and its partner.
 use Rattle.std.proofs.Common.{◌≡◌, ℕ, zero, suc, ◌<◌, ◌≤◌, Bool, true, false, refl, subst, arith}
-use Rattle.rvm_protocol.specs.Frames.{Frame, Offer, Accept, Refuse, Page, RoundEnd, Lost, State, Ready, Go, Started, Abort}
+use Rattle.rvm_protocol.specs.Frames.{Frame, Offer, Accept, Refuse, Page, RoundEnd, Lost, State, Ready, Go, Started, Abort, Part, Zero}
 use Rattle.rvm_protocol.specs.Guest.{Guest}
 use Rattle.rvm_protocol.specs.Modes.{Mode, Empty, Run, Offering, Copying, Stopped, Given, Staging, Held, move_of}
 use Rattle.rvm_protocol.proofs.Invariant.{lim, go_lim, ready_lim, own_ok, their_ok, Meet, HoldsNone, run_beside, offering_beside, held_beside, BesideOk, Content}
@@ -22,6 +22,8 @@ module _ {S P : Type 0} where
   from_ok X (RoundEnd k a b c d) = Unit {0}
   from_ok X (Lost k ps) = Unit {0}
   from_ok X (State k ns b) = k < suc (move_of X)
+  from_ok X (Part k st i u x) = k < suc (move_of X)
+  from_ok X (Zero k p n) = ⊥
   from_ok X (Ready k) = k < ready_lim X
   from_ok X (Go k) = Unit {0}
   from_ok X (Started k) = k < move_of X
@@ -42,6 +44,8 @@ module _ {P B : Type 0} where
   past_ok l (RoundEnd k a b c d) = Unit {0}
   past_ok l (Lost k ps) = Unit {0}
   past_ok l (State k ns b) = k < l
+  past_ok l (Part k st i u x) = k < l
+  past_ok l (Zero k p n) = ⊥
   past_ok l (Ready k) = k < l
   past_ok l (Go k) = k < l
   past_ok l (Started k) = k < l
@@ -59,6 +63,8 @@ module _ {P B : Type 0} where
   past_mono l l' le (RoundEnd k a b c d) h = tt
   past_mono l l' le (Lost k ps) h = tt
   past_mono l l' le (State k ns b) h = omega arith
+  past_mono l l' le (Part k st i u x) h = omega arith
+  past_mono l l' le (Zero k i u) h = h
   past_mono l l' le (Ready k) h = omega arith
   past_mono l l' le (Go k) h = omega arith
   past_mono l l' le (Started k) h = omega arith
@@ -86,6 +92,8 @@ module _ {S P B : Type 0} where
   past_own e g T (RoundEnd k a b c d) h q = tt
   past_own e g T (Lost k ps) h q = tt
   past_own e g T (State k ns b) h q = h
+  past_own e g T (Part k st i u x) h q = h
+  past_own e g T (Zero k i u) h q = h
   past_own e g T (Ready k) h q = h
   past_own e g T (Started k) h q = h
   past_own e g T (Abort k) h q = h
@@ -99,6 +107,8 @@ module _ {S P B : Type 0} where
   own_past e g T (RoundEnd k a b c d) lt h = tt
   own_past e g T (Lost k ps) lt h = tt
   own_past e g T (State k ns b) lt h = h
+  own_past e g T (Part k st i u x) lt h = h
+  own_past e g T (Zero k i u) lt h = h
   own_past e g T (Ready k) lt h = h
   own_past e g T (Started k) lt h = h
   own_past e g T (Abort k) lt h = h
@@ -112,6 +122,8 @@ module _ {S P B : Type 0} where
   their_past e g T (RoundEnd k a b c d) lt le h = tt
   their_past e g T (Lost k ps) lt le h = tt
   their_past e g T (State k ns b) lt le h = omega arith
+  their_past e g T (Part k st i u x) lt le h = omega arith
+  their_past e g T (Zero k i u) lt le h = h
   their_past e g T (Ready k) lt le h = omega arith
   their_past e g T (Started k) lt le h = omega arith
   their_past e g T (Abort k) lt le h = omega arith
@@ -125,6 +137,8 @@ module _ {S P B : Type 0} where
   their_from O T (RoundEnd k a b c d) h = tt
   their_from O T (Lost k ps) h = tt
   their_from O T (State k ns b) h = h
+  their_from O T (Part k st i u x) h = h
+  their_from O T (Zero k i u) h = h
   their_from O T (Ready k) h = h
   their_from O T (Started k) h = h
   their_from O T (Abort k) h = h
@@ -138,6 +152,8 @@ module _ {S P B : Type 0} where
   from_their O T (RoundEnd k a b c d) h q = tt
   from_their O T (Lost k ps) h q = tt
   from_their O T (State k ns b) h q = h
+  from_their O T (Part k st i u x) h q = h
+  from_their O T (Zero k i u) h q = h
   from_their O T (Ready k) h q = h
   from_their O T (Started k) h q = h
   from_their O T (Abort k) h q = h
@@ -152,6 +168,8 @@ module _ {S P B : Type 0} where
   from_up O T T' up (RoundEnd k a b c d) h = tt
   from_up O T T' up (Lost k ps) h = tt
   from_up O T T' up (State k ns b) h = up (State k ns b) h
+  from_up O T T' up (Part k st i u x) h = up (Part k st i u x) h
+  from_up O T T' up (Zero k i u) h = h
   from_up O T T' up (Ready k) h = up (Ready k) h
   from_up O T T' up (Started k) h = up (Started k) h
   from_up O T T' up (Abort k) h = up (Abort k) h
@@ -166,6 +184,8 @@ module _ {S P B : Type 0} where
   own_up O T T' le (RoundEnd k a b c d) h = tt
   own_up O T T' le (Lost k ps) h = tt
   own_up O T T' le (State k ns b) h = h
+  own_up O T T' le (Part k st i u x) h = h
+  own_up O T T' le (Zero k i u) h = h
   own_up O T T' le (Ready k) h = h
   own_up O T T' le (Started k) h = h
   own_up O T T' le (Abort k) h = h
@@ -180,6 +200,8 @@ module _ {S P B : Type 0} where
   given_from n (Given k) h (RoundEnd j a b c d) q = tt
   given_from n (Given k) h (Lost j ps) q = tt
   given_from n (Given k) h (State j ns b) q = omega arith
+  given_from n (Given k) h (Part j st i u x) q = omega arith
+  given_from n (Given k) h (Zero j i u) q = q
   given_from n (Given k) h (Ready j) q = omega arith
   given_from n (Given k) h (Started j) q = omega arith
   given_from n (Given k) h (Abort j) q = omega arith

@@ -5,7 +5,7 @@ use Rattle.std.proofs.lemmas.Bool.{leb-true, leb-false}
 use Rattle.std.proofs.Math.Nat.{mul-le-mul_right}
 use Rattle.rvm_protocol.specs.Commands.{Policy, Command, Board, Begin, Copy, Resend, AbortMove, HostEvent, Do, Came, is_allowed}
 use Rattle.rvm_protocol.specs.FewCopies.{FewCopies, CopiesAreBounded}
-use Rattle.rvm_protocol.specs.Frames.{Frame, Offer, Accept, Refuse, Page, RoundEnd, Lost, State, Ready, Go, Started, Abort}
+use Rattle.rvm_protocol.specs.Frames.{Frame, Offer, Accept, Refuse, Page, RoundEnd, Lost, State, Ready, Go, Started, Abort, is_compact, plain, Part}
 use Rattle.rvm_protocol.specs.Guest.{Guest}
 use Rattle.rvm_protocol.specs.Host.{outcome, Host, obey_at, is_there, is_heard}
 use Rattle.rvm_protocol.specs.Modes.{Mode, Empty, Run, Offering, Copying, Stopped, Given, Staging, Held, Outcome, ignores, says, sends, refuses}
@@ -18,6 +18,7 @@ use Rattle.rvm_protocol.specs.Staging.{Stage, lacks}
 use Rattle.rvm_protocol.specs.World.{World, Event, mode_at, happened, meaning, result_at, run, new_host, new_world}
 use Rattle.rvm_protocol.proofs.Modes.{either}
 use Rattle.rvm_protocol.proofs.Sets.{or_false, least_found}
+use Rattle.rvm_protocol.proofs.Cases.{state_cases, part_cases}
 
 -- copies made in rounds of at most count pages
 pub record Counted (count max round sent scan copies : ℕ) : Type 0 where
@@ -59,13 +60,13 @@ module _ {S P E A B : Type 0} (m : Guest S P E A B) where
       (λ e. let lt : r.round < r.policy.max_rounds = leb-false r.policy.max_rounds r.round (or_false _ _ (or_false _ _ e).0).0 in
       record { rounds = lt; sent_le = omega arith; scan_le = omega arith; copies_le = grind (arith, x, y, z) })
 
-  last_bound : (n : ℕ) (l : Last S) (q : Option ℕ) → Bounds (copy_last m n l q)
-  last_bound n l (Some p) = either Bounds (nat_le (2 ^ 32 - 1) l.copies) (refuses SeqSpent (Stopped n l)) (sends_last m n l p) (λ _. tt) (λ _. tt)
-  last_bound n l None = tt
+  last_bound : (v : ℕ) → (n : ℕ) (l : Last S) (q : Option ℕ) → Bounds (copy_last m v n l q)
+  last_bound v n l (Some p) = either Bounds (nat_le (2 ^ 32 - 1) l.copies) (refuses SeqSpent (Stopped n l)) (sends_last m n l p) (λ _. tt) (λ _. tt)
+  last_bound v n l None = either Bounds (is_compact v) _ _ (λ _. tt) (λ _. tt)
 
-  resend_bound : (n : ℕ) (l : Last S) (q : Option ℕ) → Bounds (resend_last m n l q)
-  resend_bound n l (Some p) = tt
-  resend_bound n l None = tt
+  resend_bound : (v : ℕ) → (n : ℕ) (l : Last S) (q : Option ℕ) → Bounds (resend_last m v n l q)
+  resend_bound v n l (Some p) = tt
+  resend_bound v n l None = either Bounds (is_compact v) _ _ (λ _. tt) (λ _. tt)
 
   few : (O : Mode S P) → Bounded O → FewCopies m O
   few (Copying n r) ok =
@@ -79,53 +80,53 @@ module _ {S P E A B : Type 0} (m : Guest S P E A B) where
   few (Staging n s) ok = tt
   few (Held n g) ok = tt
 
-  obey_bound : (c : Command E) (O : Mode S P) → Bounded O → Bounds (obey m c O)
-  obey_bound (Board e) (Empty n) ok = tt
-  obey_bound (Board e) (Run n g) ok = tt
-  obey_bound (Board e) (Offering n g p) ok = ok
-  obey_bound (Board e) (Copying n r) ok = let c : length (m.pages (m.next r.guest e)) ≡ length (m.pages r.guest) = m.same_length r.guest e in subst (λ z. Counted z r.policy.max_rounds r.round r.sent r.scan r.copies) (sym c) ok
-  obey_bound (Board e) (Stopped n l) ok = tt
-  obey_bound (Board e) (Given n) ok = tt
-  obey_bound (Board e) (Staging n s) ok = tt
-  obey_bound (Board e) (Held n g) ok = tt
-  obey_bound (Begin to q) (Empty n) ok = ok
-  obey_bound (Begin to q) (Run n g) ok =
+  obey_bound : (v : ℕ) → (c : Command E) (O : Mode S P) → Bounded O → Bounds (obey m v c O)
+  obey_bound v (Board e) (Empty n) ok = tt
+  obey_bound v (Board e) (Run n g) ok = tt
+  obey_bound v (Board e) (Offering n g p) ok = ok
+  obey_bound v (Board e) (Copying n r) ok = let c : length (m.pages (m.next r.guest e)) ≡ length (m.pages r.guest) = m.same_length r.guest e in subst (λ z. Counted z r.policy.max_rounds r.round r.sent r.scan r.copies) (sym c) ok
+  obey_bound v (Board e) (Stopped n l) ok = tt
+  obey_bound v (Board e) (Given n) ok = tt
+  obey_bound v (Board e) (Staging n s) ok = tt
+  obey_bound v (Board e) (Held n g) ok = tt
+  obey_bound v (Begin to q) (Empty n) ok = ok
+  obey_bound v (Begin to q) (Run n g) ok =
       either Bounds (is_allowed q) (begin_allowed m q n g) (refuses BadSize (Run n g))
       (λ h. either Bounds (n == 2 ^ 64 - 1) (refuses EpochsSpent (Run n g)) (begun m q n g) (λ _. tt) (λ _. allowed_rounds q h))
       (λ _. tt)
-  obey_bound (Begin to q) (Offering n g p) ok = ok
-  obey_bound (Begin to q) (Copying n r) ok = ok
-  obey_bound (Begin to q) (Stopped n l) ok = ok
-  obey_bound (Begin to q) (Given n) ok = ok
-  obey_bound (Begin to q) (Staging n s) ok = ok
-  obey_bound (Begin to q) (Held n g) ok = ok
-  obey_bound Copy (Empty n) ok = ok
-  obey_bound Copy (Run n g) ok = ok
-  obey_bound Copy (Offering n g p) ok = ok
-  obey_bound Copy (Copying n r) ok =
+  obey_bound v (Begin to q) (Offering n g p) ok = ok
+  obey_bound v (Begin to q) (Copying n r) ok = ok
+  obey_bound v (Begin to q) (Stopped n l) ok = ok
+  obey_bound v (Begin to q) (Given n) ok = ok
+  obey_bound v (Begin to q) (Staging n s) ok = ok
+  obey_bound v (Begin to q) (Held n g) ok = ok
+  obey_bound v Copy (Empty n) ok = ok
+  obey_bound v Copy (Run n g) ok = ok
+  obey_bound v Copy (Offering n g p) ok = ok
+  obey_bound v Copy (Copying n r) ok =
       either Bounds r.stop (says Stopping (Stopped n (stopped m r))) (copy_page m n r (least (λ x. r.to_send x && not (is_skipped r x)) r.scan (length (m.pages r.guest) - r.scan)))
       (λ _. tt)
       (λ _. page_bound n r _ ok refl)
-  obey_bound Copy (Stopped n l) ok = last_bound n l (to_copy m l)
-  obey_bound Copy (Given n) ok = ok
-  obey_bound Copy (Staging n s) ok = ok
-  obey_bound Copy (Held n g) ok = ok
-  obey_bound Resend (Empty n) ok = ok
-  obey_bound Resend (Run n g) ok = ok
-  obey_bound Resend (Offering n g p) ok = ok
-  obey_bound Resend (Copying n r) ok = ok
-  obey_bound Resend (Stopped n l) ok = resend_bound n l (to_copy m l)
-  obey_bound Resend (Given n) ok = ok
-  obey_bound Resend (Staging n s) ok = ok
-  obey_bound Resend (Held n g) ok = ok
-  obey_bound AbortMove (Empty n) ok = ok
-  obey_bound AbortMove (Run n g) ok = ok
-  obey_bound AbortMove (Offering n g p) ok = tt
-  obey_bound AbortMove (Copying n r) ok = tt
-  obey_bound AbortMove (Stopped n l) ok = tt
-  obey_bound AbortMove (Given n) ok = ok
-  obey_bound AbortMove (Staging n s) ok = ok
-  obey_bound AbortMove (Held n g) ok = ok
+  obey_bound v Copy (Stopped n l) ok = last_bound v n l (to_copy m l)
+  obey_bound v Copy (Given n) ok = ok
+  obey_bound v Copy (Staging n s) ok = ok
+  obey_bound v Copy (Held n g) ok = ok
+  obey_bound v Resend (Empty n) ok = ok
+  obey_bound v Resend (Run n g) ok = ok
+  obey_bound v Resend (Offering n g p) ok = ok
+  obey_bound v Resend (Copying n r) ok = ok
+  obey_bound v Resend (Stopped n l) ok = resend_bound v n l (to_copy m l)
+  obey_bound v Resend (Given n) ok = ok
+  obey_bound v Resend (Staging n s) ok = ok
+  obey_bound v Resend (Held n g) ok = ok
+  obey_bound v AbortMove (Empty n) ok = ok
+  obey_bound v AbortMove (Run n g) ok = ok
+  obey_bound v AbortMove (Offering n g p) ok = tt
+  obey_bound v AbortMove (Copying n r) ok = tt
+  obey_bound v AbortMove (Stopped n l) ok = tt
+  obey_bound v AbortMove (Given n) ok = ok
+  obey_bound v AbortMove (Staging n s) ok = ok
+  obey_bound v AbortMove (Held n g) ok = ok
 
   equal_bound : (n k : ℕ) (o : Outcome S P A B) (O : Mode S P) → Bounded O → Bounds o → Bounds (of_this_move m n k o O)
   equal_bound n k o O ok h = either Bounds (n == k) o (ignores O) (λ _. h) (λ _. ok)
@@ -135,10 +136,6 @@ module _ {S P E A B : Type 0} (m : Guest S P E A B) where
       either Bounds (nat_lt s k) (offered m limit k a b O) (ignores O)
       (λ _. either Bounds (nat_lt limit a) (sends (Declined limit) (Refuse k limit) O) (sends Accepted (Accept k) (Staging k _)) (λ _. ok) (λ _. tt))
       (λ _. ok)
-
-  guest_bound : (n : ℕ) (s : Stage P) (q : Option S) → Bounds (guest_read m n s q)
-  guest_bound n s None = tt
-  guest_bound n s (Some g) = tt
 
   came_bound : (limit : ℕ) (f : Frame P B) (O : Mode S P) → Bounded O → Bounds (came m limit f O)
   came_bound limit (Offer k a b) (Empty n) ok = above_bound limit n k a b (Empty n) ok
@@ -155,9 +152,10 @@ module _ {S P E A B : Type 0} (m : Guest S P E A B) where
   came_bound limit (RoundEnd k a b c d) (Staging n s) ok = equal_bound n k _ (Staging n s) ok tt
   came_bound limit (State k ns b) (Staging n s) ok =
       equal_bound n k _ (Staging n s) ok
-      (either Bounds (length ns == length s.pages) (state_compared m n s ns b) (refuses BadState (Staging n s))
-      (λ _. either Bounds (nat_lt 0 (size (lacks s ns) (length s.pages))) (sends (Lacking (size (lacks s ns) (length s.pages))) (Lost n (members (lacks s ns) 0 (length s.pages))) (Staging n s)) (guest_read m n s (m.build s.processors b s.pages)) (λ _. tt) (λ _. guest_bound n s _))
-      (λ _. tt))
+      (state_cases m Bounds n s s ns b tt tt (λ g _ _. tt))
+  came_bound limit (Part k st i u x) (Staging n s) ok =
+      equal_bound n k _ (Staging n s) ok (part_cases m Bounds n s st i u x tt tt (λ _. tt) (λ _ ns. tt) (λ _ xs ns b g _ _ _ _. tt))
+  came_bound limit (Part k st i u x) (Held n g) ok = equal_bound n k _ (Held n g) ok tt
   came_bound limit (State k ns b) (Held n g) ok = equal_bound n k _ (Held n g) ok tt
   came_bound limit (Lost k ps) (Stopped n l) ok = equal_bound n k _ (Stopped n l) ok tt
   came_bound limit (Ready k) (Stopped n l) ok = equal_bound n k _ (Stopped n l) ok tt
@@ -168,17 +166,17 @@ module _ {S P E A B : Type 0} (m : Guest S P E A B) where
   came_bound limit (Abort k) (Held n g) ok = equal_bound n k _ (Held n g) ok tt
   came_bound limit f O ok = ok
 
-  obey_at_bound : (self count : ℕ) (c : Command E) (O : Mode S P) → Bounded O → Bounds (obey_at m self count c O)
-  obey_at_bound self count (Begin to q) (Run n g) ok = either Bounds (is_there self count to) (begin m q (Run n g)) (refuses BadHost (Run n g)) (λ _. obey_bound (Begin to q) (Run n g) ok) (λ _. ok)
-  obey_at_bound self count c O ok = obey_bound c O ok
+  obey_at_bound : (v : ℕ) → (self count : ℕ) (c : Command E) (O : Mode S P) → Bounded O → Bounds (obey_at m v self count c O)
+  obey_at_bound v self count (Begin to q) (Run n g) ok = either Bounds (is_there self count to) (begin m q (Run n g)) (refuses BadHost (Run n g)) (λ _. obey_bound v (Begin to q) (Run n g) ok) (λ _. ok)
+  obey_at_bound v self count c O ok = obey_bound v c O ok
 
-  step_bound : (self count limit : ℕ) (e : HostEvent P E B) (h : Host S P) → Bounded h.mode → Bounds (outcome m self count limit e h)
-  step_bound self count limit (Do c) h ok = obey_at_bound self count c h.mode ok
-  step_bound self count limit (Came y f) h ok = either Bounds (is_heard self count y f h) (came m limit f h.mode) (ignores h.mode) (λ _. came_bound limit f h.mode ok) (λ _. ok)
+  step_bound : (v : ℕ) → (self count limit : ℕ) (e : HostEvent P E B) (h : Host S P) → Bounded h.mode → Bounds (outcome m v self count limit e h)
+  step_bound v self count limit (Do c) h ok = obey_at_bound v self count c h.mode ok
+  step_bound v self count limit (Came y f) h ok = either Bounds (is_heard self count y (plain m f) h) (came m limit (plain m f) h.mode) (ignores h.mode) (λ _. came_bound limit (plain m f) h.mode ok) (λ _. ok)
 
   happened_bound : (w : World S P B) (q : Option (ℕ × HostEvent P E B)) → ((x : ℕ) → Bounded (w.hosts x).mode) → (x : ℕ) → Bounded ((happened m w q).hosts x).mode
   happened_bound w None ok x = ok x
-  happened_bound w (Some (y, e)) ok x = either (λ (h : Host S P). Bounded h.mode) (x == y) (result_at m w y e).next (w.hosts x) (λ _. step_bound y w.count (w.limits y) e (w.hosts y) (ok y)) (λ _. ok x)
+  happened_bound w (Some (y, e)) ok x = either (λ (h : Host S P). Bounded h.mode) (x == y) (result_at m w y e).next (w.hosts x) (λ _. step_bound w.version y w.count (w.limits y) e (w.hosts y) (ok y)) (λ _. ok x)
 
   run_bound : (events : List (Event E)) (w : World S P B) → ((x : ℕ) → Bounded (w.hosts x).mode) → (x : ℕ) → Bounded ((run m w events).hosts x).mode
   unfolding run
@@ -190,4 +188,4 @@ module _ {S P E A B : Type 0} (m : Guest S P E A B) where
 
   pub bound_law : CopiesAreBounded m
   unfolding CopiesAreBounded
-  bound_law = λ g count limits events x. few (mode_at m (run m (new_world m g count limits) events) x) (run_bound events (new_world m g count limits) (new_bound g) x)
+  bound_law = λ g version count limits events x. few (mode_at m (run m (new_world m version g count limits) events) x) (run_bound events (new_world m version g count limits) (new_bound g) x)

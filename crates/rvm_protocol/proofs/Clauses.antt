@@ -3,7 +3,7 @@ use Rattle.std.proofs.Common.{◌≡◌, ◌⊎◌, inl, inr, ⊎_elim, ℕ, ◌
 use Rattle.std.proofs.lemmas.Bool.{eqb-true}
 use Rattle.rvm_protocol.specs.Commands.{Command, Board, Begin, Copy, Resend, AbortMove, HostEvent, Do, Came, is_allowed}
 use Rattle.rvm_protocol.specs.FrameCauses.{Somewhere, says_ready, says_committed, says_started, WasReady, WasCommitted, WasStarted, IsCaused, FramesFollowTheirCauses}
-use Rattle.rvm_protocol.specs.Frames.{Frame, Offer, Accept, Refuse, Page, RoundEnd, Lost, State, Ready, Go, Started, Abort, Addressed, posted}
+use Rattle.rvm_protocol.specs.Frames.{Frame, Offer, Accept, Refuse, Page, RoundEnd, Lost, State, Ready, Go, Started, Abort, Addressed, posted, Part, is_compact, plain, read, Zero}
 use Rattle.rvm_protocol.specs.Guest.{Guest}
 use Rattle.rvm_protocol.specs.Host.{Host, obey_at, is_there, is_heard, outcome, partner_then, addressee}
 use Rattle.rvm_protocol.specs.Modes.{Mode, Empty, Run, Offering, Copying, Stopped, Given, Staging, Held, Outcome, move_of, ignores, says, sends, refuses}
@@ -21,8 +21,9 @@ use Rattle.rvm_protocol.proofs.Sets.{some_is, same_or, is_either, both_false}
 use Rattle.rvm_protocol.proofs.Told.{is_stopped, is_paused, commanded}
 use Rattle.rvm_protocol.proofs.Apart.{lim_num, meet_num}
 use Rattle.rvm_protocol.proofs.Hosts.{reach, reach_here, reach_there, put_all, has_either, has_old, has_new}
-use Rattle.rvm_protocol.proofs.Whole.{SoundAt, Allowed, NoCommit, none_at, step_sound, happened_sound, event_allowed, told_more, new_sound}
+use Rattle.rvm_protocol.proofs.Whole.{SoundAt, Allowed, NoCommit, none_at, step_sound, happened_sound, event_allowed, told_more, new_sound, sent_after, has_read}
 use Rattle.rvm_protocol.proofs.Follow.{Backed, RunOk, Now, follow_step}
+use Rattle.rvm_protocol.proofs.Cases.{state_cases, part_cases}
 
 module _ {S P : Type 0} where
   -- the current host in Run: either no move was committed since it began its own, or that one was started
@@ -119,6 +120,8 @@ module _ {S P E A B : Type 0} (m : Guest S P E A B) (C T : ℕ → Type 0) where
   fresh_came limit y (Go k) (Held n g) Q i c h = fresh_equal (Came y (Go k)) n k _ (Held n g) tt (λ e now. inr (now n (sym e)))
   fresh_came limit y (Go k) (Run n g) Q i c h = fresh_equal (Came y (Go k)) n k _ (Run n g) h (λ e now. h)
   fresh_came limit y (State k ns b) (Held n g) Q i c h = fresh_equal (Came y (State k ns b)) n k _ (Held n g) tt (λ e now. tt)
+  fresh_came limit y (Part k st a u x) (Held n g) Q i c h = fresh_equal (Came y (Part k st a u x)) n k _ (Held n g) tt (λ e now. tt)
+  fresh_came limit y (Part k st a u x) (Staging n s) Q i c h = absurd i
   fresh_came limit y (Abort k) (Held n g) Q i c h = fresh_equal (Came y (Abort k)) n k _ (Held n g) tt (λ e now. tt)
   fresh_came limit y (Started k) (Given n) Q i c h = absurd i
   fresh_came limit y (Page k a b d) (Staging n s) Q i c h = absurd i
@@ -131,47 +134,47 @@ module _ {S P E A B : Type 0} (m : Guest S P E A B) (C T : ℕ → Type 0) where
   fresh_copy n r (Some p) = either (FreshTo (Do Copy)) (nat_le (2 ^ 32 - 1) r.copies) (refuses SeqSpent (Copying n r)) (sends_page m n r p) (λ _ _. tt) (λ _ _. tt)
   fresh_copy n r None = λ now. tt
 
-  fresh_last : (n : ℕ) (l : Last S) (q : Option ℕ) → FreshTo (Do Copy) (copy_last m n l q)
-  fresh_last n l (Some p) = either (FreshTo (Do Copy)) (nat_le (2 ^ 32 - 1) l.copies) (refuses SeqSpent (Stopped n l)) (sends_last m n l p) (λ _ _. tt) (λ _ _. tt)
-  fresh_last n l None = λ now. tt
+  fresh_last : (v : ℕ) → (n : ℕ) (l : Last S) (q : Option ℕ) → FreshTo (Do Copy) (copy_last m v n l q)
+  fresh_last v n l (Some p) = either (FreshTo (Do Copy)) (nat_le (2 ^ 32 - 1) l.copies) (refuses SeqSpent (Stopped n l)) (sends_last m n l p) (λ _ _. tt) (λ _ _. tt)
+  fresh_last v n l None = either (FreshTo (Do Copy)) (is_compact v) _ _ (λ _ now. tt) (λ _ now. tt)
 
-  fresh_resend : (n : ℕ) (l : Last S) (q : Option ℕ) → FreshTo (Do Resend) (resend_last m n l q)
-  fresh_resend n l (Some p) = λ now. tt
-  fresh_resend n l None = λ now. tt
+  fresh_resend : (v : ℕ) → (n : ℕ) (l : Last S) (q : Option ℕ) → FreshTo (Do Resend) (resend_last m v n l q)
+  fresh_resend v n l (Some p) = λ now. tt
+  fresh_resend v n l None = either (FreshTo (Do Resend)) (is_compact v) _ _ (λ _ now. tt) (λ _ now. tt)
 
-  pub fresh_obey : (k : Command E) (O Q : Mode S P) → Meet O Q → ((k : ℕ) → C k → k < go_lim O) → Fresh C T O → FreshTo (Do k) (obey m k O)
-  fresh_obey (Board e) (Run n g) Q i c h = λ now. h
-  fresh_obey (Board e) (Offering n g p) Q i c h = λ now. tt
-  fresh_obey (Board e) (Copying n r) Q i c h = λ now. tt
-  fresh_obey (Board e) (Stopped n l) Q i c h = λ now. tt
-  fresh_obey (Board e) (Held n g) Q i c h = λ now. tt
-  fresh_obey (Begin to p) (Run n g) Q i c h =
+  pub fresh_obey : (v : ℕ) → (k : Command E) (O Q : Mode S P) → Meet O Q → ((k : ℕ) → C k → k < go_lim O) → Fresh C T O → FreshTo (Do k) (obey m v k O)
+  fresh_obey v (Board e) (Run n g) Q i c h = λ now. h
+  fresh_obey v (Board e) (Offering n g p) Q i c h = λ now. tt
+  fresh_obey v (Board e) (Copying n r) Q i c h = λ now. tt
+  fresh_obey v (Board e) (Stopped n l) Q i c h = λ now. tt
+  fresh_obey v (Board e) (Held n g) Q i c h = λ now. tt
+  fresh_obey v (Begin to p) (Run n g) Q i c h =
       either (FreshTo (Do (Begin to p))) (is_allowed p) (begin_allowed m p n g) (refuses BadSize (Run n g))
       (λ _. either (FreshTo (Do (Begin to p))) (n == 2 ^ 64 - 1) (refuses EpochsSpent (Run n g)) (begun m p n g) (λ _ _. h) (λ _ _. tt))
       (λ _ _. h)
-  fresh_obey (Begin to p) (Offering n g r) Q i c h = λ now. tt
-  fresh_obey (Begin to p) (Copying n r) Q i c h = λ now. tt
-  fresh_obey (Begin to p) (Stopped n l) Q i c h = λ now. tt
-  fresh_obey (Begin to p) (Held n g) Q i c h = λ now. tt
-  fresh_obey Copy (Run n g) Q i c h = λ now. h
-  fresh_obey Copy (Offering n g p) Q i c h = λ now. tt
-  fresh_obey Copy (Copying n r) Q i c h =
+  fresh_obey v (Begin to p) (Offering n g r) Q i c h = λ now. tt
+  fresh_obey v (Begin to p) (Copying n r) Q i c h = λ now. tt
+  fresh_obey v (Begin to p) (Stopped n l) Q i c h = λ now. tt
+  fresh_obey v (Begin to p) (Held n g) Q i c h = λ now. tt
+  fresh_obey v Copy (Run n g) Q i c h = λ now. h
+  fresh_obey v Copy (Offering n g p) Q i c h = λ now. tt
+  fresh_obey v Copy (Copying n r) Q i c h =
       either (FreshTo (Do Copy)) r.stop (says Stopping (Stopped n (stopped m r))) (copy_page m n r (least (λ x. r.to_send x && not (is_skipped r x)) r.scan (length (m.pages r.guest) - r.scan))) (λ _ _. tt) (λ _. fresh_copy n r _)
-  fresh_obey Copy (Stopped n l) Q i c h = fresh_last n l (to_copy m l)
-  fresh_obey Copy (Held n g) Q i c h = λ now. tt
-  fresh_obey Resend (Run n g) Q i c h = λ now. h
-  fresh_obey Resend (Offering n g p) Q i c h = λ now. tt
-  fresh_obey Resend (Copying n r) Q i c h = λ now. tt
-  fresh_obey Resend (Stopped n l) Q i c h = fresh_resend n l (to_copy m l)
-  fresh_obey Resend (Held n g) Q i c h = λ now. tt
-  fresh_obey AbortMove (Run n g) Q i c h = λ now. h
-  fresh_obey AbortMove (Offering n g p) Q i c h = λ now. inl c
-  fresh_obey AbortMove (Copying n r) Q i c h = λ now. inl c
-  fresh_obey AbortMove (Stopped n l) Q i c h = λ now. inl c
-  fresh_obey AbortMove (Held n g) Q i c h = λ now. tt
-  fresh_obey k (Empty n) Q i c h = absurd i
-  fresh_obey k (Given n) Q i c h = absurd i
-  fresh_obey k (Staging n s) Q i c h = absurd i
+  fresh_obey v Copy (Stopped n l) Q i c h = fresh_last v n l (to_copy m l)
+  fresh_obey v Copy (Held n g) Q i c h = λ now. tt
+  fresh_obey v Resend (Run n g) Q i c h = λ now. h
+  fresh_obey v Resend (Offering n g p) Q i c h = λ now. tt
+  fresh_obey v Resend (Copying n r) Q i c h = λ now. tt
+  fresh_obey v Resend (Stopped n l) Q i c h = fresh_resend v n l (to_copy m l)
+  fresh_obey v Resend (Held n g) Q i c h = λ now. tt
+  fresh_obey v AbortMove (Run n g) Q i c h = λ now. h
+  fresh_obey v AbortMove (Offering n g p) Q i c h = λ now. inl c
+  fresh_obey v AbortMove (Copying n r) Q i c h = λ now. inl c
+  fresh_obey v AbortMove (Stopped n l) Q i c h = λ now. inl c
+  fresh_obey v AbortMove (Held n g) Q i c h = λ now. tt
+  fresh_obey v k (Empty n) Q i c h = absurd i
+  fresh_obey v k (Given n) Q i c h = absurd i
+  fresh_obey v k (Staging n s) Q i c h = absurd i
 
 abbrev is_commit : {A : Type 0} → Reply A → Bool
 is_commit (Committed n) = true
@@ -219,10 +222,6 @@ module _ {S P E A B : Type 0} (m : Guest S P E A B) where
       (λ _. either (Commits X) (nat_lt limit a) (sends (Declined limit) (Refuse k limit) X) (sends Accepted (Accept k) (Staging k _)) (λ _ n e. cc) (λ _ n e. cc))
       (λ _ n e. cc)
 
-  commit_read : (n : ℕ) (s : Stage P) (q : Option S) → Commits (Staging n s) (guest_read m n s q)
-  commit_read n s None = λ k e. cc
-  commit_read n s (Some g) = λ k e. cc
-
   same_move : (n k : ℕ) → ◌≡◌ {A = Reply A} (Committed n) (Committed k) → n ≡ k
   same_move n k e = cc
 
@@ -239,9 +238,11 @@ module _ {S P E A B : Type 0} (m : Guest S P E A B) where
   commit_came limit (RoundEnd k a b c d) (Staging n s) = commit_equal n k _ (Staging n s) (λ j e. cc)
   commit_came limit (State k ns b) (Staging n s) =
       commit_equal n k _ (Staging n s)
-      (either (Commits (Staging n s)) (length ns == length s.pages) (state_compared m n s ns b) (refuses BadState (Staging n s))
-      (λ _. either (Commits (Staging n s)) (nat_lt 0 (size (lacks s ns) (length s.pages))) _ (guest_read m n s (m.build s.processors b s.pages)) (λ _ j e. cc) (λ _. commit_read n s (m.build s.processors b s.pages)))
-      (λ _ j e. cc))
+      (state_cases m (Commits (Staging n s)) n s s ns b (λ j e. cc) (λ j e. cc) (λ g _ _ j e. cc))
+  commit_came limit (Part k st i u x) (Staging n s) =
+      commit_equal n k _ (Staging n s)
+      (part_cases m (Commits (Staging n s)) n s st i u x (λ j e. cc) (λ j e. cc) (λ _ j e. cc) (λ _ ns j e. cc) (λ _ xs ns b g _ _ _ _ j e. cc))
+  commit_came limit (Part k st i u x) (Held n g) = commit_equal n k _ (Held n g) (λ j e. cc)
   commit_came limit (State k ns b) (Held n g) = commit_equal n k _ (Held n g) (λ j e. cc)
   commit_came limit (Lost k ps) (Stopped n l) = commit_equal n k _ (Stopped n l) (λ j e. cc)
   commit_came limit (Ready k) (Stopped n l) = commit_equal n k _ (Stopped n l) (λ j e. (ap (λ z. Some (Go z)) (same_move n j e), refl))
@@ -259,14 +260,14 @@ module _ {S P E A B : Type 0} (m : Guest S P E A B) where
   stays_commits : (r : Reply A) → ((ts : ℕ → ℕ) (x : ℕ) → reply_current r ts x ≡ x) → (n : ℕ) → r ≡ Committed n → ⊥
   stays_commits r h n e = one_zero (subst (λ (r : Reply A). reply_current r (λ _. 1) 0 ≡ 0) e (h (λ _. 1) 0))
 
-  obey_no_commit : (k : Command E) (X : Mode S P) (n : ℕ) → (obey m k X).reply ≡ Committed n → ⊥
-  obey_no_commit k X n e = stays_commits (obey m k X).reply (commanded m k X).current n e
+  obey_no_commit : (v : ℕ) → (k : Command E) (X : Mode S P) (n : ℕ) → (obey m v k X).reply ≡ Committed n → ⊥
+  obey_no_commit v k X n e = stays_commits (obey m v k X).reply (commanded m v k X).current n e
 
-  commit_step : (x count limit : ℕ) (e : HostEvent P E B) (h : Host S P) → Commits h.mode (outcome m x count limit e h)
-  commit_step x count limit (Do (Begin to p)) h = begins h.mode
+  commit_step : (v : ℕ) → (x count limit : ℕ) (e : HostEvent P E B) (h : Host S P) → Commits h.mode (outcome m v x count limit e h)
+  commit_step v x count limit (Do (Begin to p)) h = begins h.mode
     where
-      begins : (X : Mode S P) → Commits X (obey_at m x count (Begin to p) X)
-      begins (Run n g) = either (Commits (Run n g)) (is_there x count to) (begin m p (Run n g)) (refuses BadHost (Run n g)) (λ _ j e. absurd (obey_no_commit (Begin to p) (Run n g) j e)) (λ _ j e. cc)
+      begins : (X : Mode S P) → Commits X (obey_at m v x count (Begin to p) X)
+      begins (Run n g) = either (Commits (Run n g)) (is_there x count to) (begin m p (Run n g)) (refuses BadHost (Run n g)) (λ _ j e. absurd (obey_no_commit v (Begin to p) (Run n g) j e)) (λ _ j e. cc)
       begins (Empty n) = λ j e. cc
       begins (Offering n g r) = λ j e. cc
       begins (Copying n r) = λ j e. cc
@@ -274,17 +275,21 @@ module _ {S P E A B : Type 0} (m : Guest S P E A B) where
       begins (Given n) = λ j e. cc
       begins (Staging n s) = λ j e. cc
       begins (Held n g) = λ j e. cc
-  commit_step x count limit (Do (Board b)) h = λ j e. absurd (obey_no_commit (Board b) h.mode j e)
-  commit_step x count limit (Do Copy) h = λ j e. absurd (obey_no_commit Copy h.mode j e)
-  commit_step x count limit (Do Resend) h = λ j e. absurd (obey_no_commit Resend h.mode j e)
-  commit_step x count limit (Do AbortMove) h = λ j e. absurd (obey_no_commit AbortMove h.mode j e)
-  commit_step x count limit (Came y f) h = either (Commits h.mode) (is_heard x count y f h) (came m limit f h.mode) (ignores h.mode) (λ _. commit_came limit f h.mode) (λ _ j e. cc)
+  commit_step v x count limit (Do (Board b)) h = λ j e. absurd (obey_no_commit v (Board b) h.mode j e)
+  commit_step v x count limit (Do Copy) h = λ j e. absurd (obey_no_commit v Copy h.mode j e)
+  commit_step v x count limit (Do Resend) h = λ j e. absurd (obey_no_commit v Resend h.mode j e)
+  commit_step v x count limit (Do AbortMove) h = λ j e. absurd (obey_no_commit v AbortMove h.mode j e)
+  commit_step v x count limit (Came y f) h = either (Commits h.mode) (is_heard x count y (plain m f) h) (came m limit (plain m f) h.mode) (ignores h.mode) (λ _. commit_came limit (plain m f) h.mode) (λ _ j e. cc)
 
-  fresh_step : (C T : ℕ → Type 0) (x count limit : ℕ) (e : HostEvent P E B) (h : Host S P) (Q : Mode S P) → Meet h.mode Q → ((k : ℕ) → C k → k < go_lim h.mode) → Fresh C T h.mode → FreshTo m C T e (outcome m x count limit e h)
-  fresh_step C T x count limit (Do (Begin to p)) h Q i c q = begins h.mode i c q
+  fresh_plain : (C T : ℕ → Type 0) (limit y : ℕ) (f : Frame P B) (X : Mode S P) → FreshTo m C T (Came y (plain m f)) (came m limit (plain m f) X) → FreshTo m C T (Came y f) (came m limit (plain m f) X)
+  fresh_plain C T limit y (Zero k p n) X h = h
+  fresh_plain C T limit y f X h = h
+
+  fresh_step : (v : ℕ) → (C T : ℕ → Type 0) (x count limit : ℕ) (e : HostEvent P E B) (h : Host S P) (Q : Mode S P) → Meet h.mode Q → ((k : ℕ) → C k → k < go_lim h.mode) → Fresh C T h.mode → FreshTo m C T e (outcome m v x count limit e h)
+  fresh_step v C T x count limit (Do (Begin to p)) h Q i c q = begins h.mode i c q
     where
-      begins : (O : Mode S P) → Meet O Q → ((k : ℕ) → C k → k < go_lim O) → Fresh C T O → FreshTo m C T (Do (Begin to p)) (obey_at m x count (Begin to p) O)
-      begins (Run n g) i c q = either (FreshTo m C T (Do (Begin to p))) (is_there x count to) (begin m p (Run n g)) (refuses BadHost (Run n g)) (λ _. fresh_obey m C T (Begin to p) (Run n g) Q i c q) (λ _ _. q)
+      begins : (O : Mode S P) → Meet O Q → ((k : ℕ) → C k → k < go_lim O) → Fresh C T O → FreshTo m C T (Do (Begin to p)) (obey_at m v x count (Begin to p) O)
+      begins (Run n g) i c q = either (FreshTo m C T (Do (Begin to p))) (is_there x count to) (begin m p (Run n g)) (refuses BadHost (Run n g)) (λ _. fresh_obey m C T v (Begin to p) (Run n g) Q i c q) (λ _ _. q)
       begins (Empty n) i c q = λ now. tt
       begins (Offering n g r) i c q = λ now. tt
       begins (Copying n r) i c q = λ now. tt
@@ -292,11 +297,11 @@ module _ {S P E A B : Type 0} (m : Guest S P E A B) where
       begins (Given n) i c q = λ now. tt
       begins (Staging n s) i c q = λ now. tt
       begins (Held n g) i c q = λ now. tt
-  fresh_step C T x count limit (Do (Board b)) h Q i c q = fresh_obey m C T (Board b) h.mode Q i c q
-  fresh_step C T x count limit (Do Copy) h Q i c q = fresh_obey m C T Copy h.mode Q i c q
-  fresh_step C T x count limit (Do Resend) h Q i c q = fresh_obey m C T Resend h.mode Q i c q
-  fresh_step C T x count limit (Do AbortMove) h Q i c q = fresh_obey m C T AbortMove h.mode Q i c q
-  fresh_step C T x count limit (Came y f) h Q i c q = either (FreshTo m C T (Came y f)) (is_heard x count y f h) (came m limit f h.mode) (ignores h.mode) (λ _. fresh_came m C T limit y f h.mode Q i c q) (λ _ _. q)
+  fresh_step v C T x count limit (Do (Board b)) h Q i c q = fresh_obey m C T v (Board b) h.mode Q i c q
+  fresh_step v C T x count limit (Do Copy) h Q i c q = fresh_obey m C T v Copy h.mode Q i c q
+  fresh_step v C T x count limit (Do Resend) h Q i c q = fresh_obey m C T v Resend h.mode Q i c q
+  fresh_step v C T x count limit (Do AbortMove) h Q i c q = fresh_obey m C T v AbortMove h.mode Q i c q
+  fresh_step v C T x count limit (Came y f) h Q i c q = either (FreshTo m C T (Came y f)) (is_heard x count y (plain m f) h) (came m limit (plain m f) h.mode) (ignores h.mode) (λ _. fresh_plain C T limit y f h.mode (fresh_came m C T limit y (plain m f) h.mode Q i c q)) (λ _ _. q)
 
   fresh_paused : (C T : ℕ → Type 0) (X : Mode S P) → is_paused X ≡ true → Fresh C T X
   fresh_paused C T (Run n g) h = cc
@@ -336,12 +341,12 @@ module _ {S P E A B : Type 0} (m : Guest S P E A B) where
 
   pub record Followed (w : World S P B) (t : Told S) (past : List (Entry P E A B)) : Type 0 where
     pub backed : (x : ℕ) → Backed (WasReady past) (WasCommitted past) (mode_at m w x)
-    pub frames : (a : Addressed P B) → Has w.sent a → IsCaused (WasReady past) (WasCommitted past) (WasStarted past) a.frame
-    pub gone : (k : ℕ) → WasCommitted past k → Gone w.sent k
+    pub frames : (a : Addressed P B) → Has (read m w.sent) a → IsCaused (WasReady past) (WasCommitted past) (WasStarted past) a.frame
+    pub gone : (k : ℕ) → WasCommitted past k → Gone (read m w.sent) k
     pub fresh : Fresh (WasCommitted past) (WasStarted past) (mode_at m w t.current)
 
   -- so it is below what the current host's mode allows
-  gone_below : (w : World S P B) (t : Told S) (s : SoundAt m w t) (k : ℕ) → Gone w.sent k → k < go_lim (mode_at m w s.c)
+  gone_below : (w : World S P B) (t : Told S) (s : SoundAt m w t) (k : ℕ) → Gone (read m w.sent) k → k < go_lim (mode_at m w s.c)
   gone_below w t s k g =
       let l = s.good in
       let O = mode_at m w s.c in
@@ -395,7 +400,7 @@ module _ {S P E A B : Type 0} (m : Guest S P E A B) where
   followed_step : (w : World S P B) (t : Told S) (past : List (Entry P E A B)) (x : ℕ) (e : HostEvent P E B) → Allowed m w x e → SoundAt m w t → Followed w t past
       → Followed (world_at m w x e) (told_reply m x e (result_at m w x e).reply t) (past ++ record { host = x; event = e; reply = (result_at m w x e).reply } ∷ [])
   followed_step w t past x e h s p =
-      let o = outcome m x w.count (w.limits x) e (w.hosts x) in
+      let o = outcome m w.version x w.count (w.limits x) e (w.hosts x) in
       let r = o.reply in
       let X = mode_at m w x in
       let entry : Entry P E A B = record { host = x; event = e; reply = r } in
@@ -411,28 +416,29 @@ module _ {S P E A B : Type 0} (m : Guest S P E A B) where
       let upT : (k : ℕ) → T k → T' k = λ k a. some_old (λ (z : Entry P E A B). says_started k z.event z.reply) past entry a in
       let newC : (k : ℕ) → C' k → C k ⊎ (r ≡ Committed k) = λ k a. ⊎_elim (λ b. inl b) (λ b. inr (says_is k r b)) (some_either (λ (z : Entry P E A B). says_committed k z.reply) past entry a) in
       let now : Now {S = S} {P = P} m R' C' T' e r = (λ n a. some_new (λ (z : Entry P E A B). says_ready n z.event z.reply) past entry a, λ n a. some_new (λ (z : Entry P E A B). says_committed n z.reply) past entry a, λ n a. some_new (λ (z : Entry P E A B). says_started n z.event z.reply) past entry a) in
-      let commits = commit_step x w.count (w.limits x) e (w.hosts x) in
+      let commits = commit_step w.version x w.count (w.limits x) e (w.hosts x) in
       let c_is : t.current ≡ s.c = s.good.current in
       let run : RunOk C T X = elim (same_or x t.current) [
         | inl q ↦ subst (λ z. RunOk C T (mode_at m w z)) (sym q) (fresh_ok C T (mode_at m w t.current) p.fresh)
-        | inr n ↦ none_ok C T X (none_at m (w.hosts s.c) (w.hosts s.d) w.hosts w.sent s.c s.d x t s.good (λ q. n (q ∙ sym c_is)))
+        | inr n ↦ none_ok C T X (none_at m (w.hosts s.c) (w.hosts s.d) w.hosts (read m w.sent) s.c s.d x t s.good (λ q. n (q ∙ sym c_is)))
       ] in
       let run' : RunOk C' T' X = run_more C C' T T' X (λ n a. ⊎_elim (λ b. inl b) (λ b. inr (commits n b).1) (newC n a)) upT run in
-      let just : (y : ℕ) (f : Frame P B) → e ≡ Came y f → IsCaused R' C' T' f = λ y f q. justified_more R R' C C' T T' f upR upC upT (p.frames (record { from = y; to = x; frame = f }) (subst (λ z. Allowed m w x z) q h)) in
-      let follows = follow_step m R' C' T' x w.count (w.limits x) e (w.hosts x) (backed_more R R' C C' X upR upC (p.backed x)) run' just now in
+      let just : (y : ℕ) (f : Frame P B) → e ≡ Came y f → IsCaused R' C' T' (plain m f) = λ y f q. justified_more R R' C C' T T' (plain m f) upR upC upT (p.frames (record { from = y; to = x; frame = plain m f }) (subst (λ z. Allowed m w x z) q h)) in
+      let follows = follow_step m R' C' T' w.version x w.count (w.limits x) e (w.hosts x) (backed_more R R' C C' X upR upC (p.backed x)) run' just now in
       let s' = step_sound m w x e t h s in
+      let after : read m w'.sent ≡ and_sent (read m w.sent) (posted x (addressee e p') o.made) = sent_after m w x e t h s in
       record {
         backed = λ y. put_all (λ z (v : Host S P). Backed R' C' v.mode) w.hosts x h' follows.1 (λ z _. backed_more R R' C C' (w.hosts z).mode upR upC (p.backed z)) y;
-        frames = λ a i. sent_either w.sent x (addressee e p') o.made a i (IsCaused R' C' T') (λ b. justified_more R R' C C' T T' a.frame upR upC upT (p.frames a b)) follows.0;
+        frames = λ a i. sent_either (read m w.sent) x (addressee e p') o.made a (subst (λ z. Has z a) after i) (IsCaused R' C' T') (λ b. justified_more R R' C C' T T' a.frame upR upC upT (p.frames a b)) follows.0;
         gone = λ k a. ⊎_elim
-            (λ b. let g = p.gone k b in record { from = g.from; to = g.to; was = sent_old w.sent x (addressee e p') o.made _ g.was })
-            (λ b. record { from = x; to = addressee e p'; was = sent_new w.sent x (addressee e p') o.made (Go k) (commits k b).0 })
+            (λ b. let g = p.gone k b in record { from = g.from; to = g.to; was = subst (λ z. Has z (record { from = g.from; to = g.to; frame = Go k })) (sym after) (sent_old (read m w.sent) x (addressee e p') o.made _ g.was) })
+            (λ b. record { from = x; to = addressee e p'; was = subst (λ z. Has z (record { from = x; to = addressee e p'; frame = Go k })) (sym after) (sent_new (read m w.sent) x (addressee e p') o.made (Go k) (commits k b).0) })
             (newC k a);
         fresh = elim (is_either (is_commit r)) [
           | inl sure ↦
               let n = commit_is r sure in
               let u = stopped_paused X (commits n.move n.is).1 in
-              let xc : x ≡ t.current = elim (same_or x t.current) [ inl q ↦ q | inr v ↦ absurd (u.1 (none_at m (w.hosts s.c) (w.hosts s.d) w.hosts w.sent s.c s.d x t s.good (λ q. v (q ∙ sym c_is)))) ] in
+              let xc : x ≡ t.current = elim (same_or x t.current) [ inl q ↦ q | inr v ↦ absurd (u.1 (none_at m (w.hosts s.c) (w.hosts s.d) w.hosts (read m w.sent) s.c s.d x t s.good (λ q. v (q ∙ sym c_is)))) ] in
               let was : t.paused ≡ true = s.good.paused ∙ ap (λ z. is_paused (mode_at m w z)) (sym c_is ∙ sym xc) ∙ u.0 in
               let is_now : t'.paused ≡ true = ap (λ (z : Reply A). reply_paused z t.paused) n.is ∙ was in
               fresh_paused C' T' (mode_at m w' t'.current) (ap (λ z. is_paused (mode_at m w' z)) s'.good.current ∙ sym s'.good.paused ∙ is_now)
@@ -442,7 +448,7 @@ module _ {S P E A B : Type 0} (m : Guest S P E A B) where
               subst (λ z. Fresh C' T' (mode_at m w' z)) (sym stays)
               (put_all (λ z (v : Host S P). z ≡ t.current → Fresh C' T' v.mode) w.hosts x h'
               (λ q. let xc : x ≡ s.c = q ∙ c_is in fresh_more C C' T' T' o.next oldC (λ k a. a)
-              (fresh_step C T' x w.count (w.limits x) e (w.hosts x) (mode_at m w s.d) (subst (λ z. Meet (mode_at m w z) (mode_at m w s.d)) (sym xc) s.good.modes.meet)
+              (fresh_step w.version C T' x w.count (w.limits x) e (w.hosts x) (mode_at m w s.d) (subst (λ z. Meet (mode_at m w z) (mode_at m w s.d)) (sym xc) s.good.modes.meet)
               (λ k a. subst (λ z. k < go_lim (mode_at m w z)) (sym xc) (gone_below w t s k (p.gone k a)))
               (subst (λ z. Fresh C T' (mode_at m w z)) (sym q) (fresh_more C C T T' (mode_at m w t.current) (λ k a. a) upT p.fresh)) now.2))
               (λ z _ q. fresh_more C C' T T' (w.hosts z).mode oldC upT (subst (λ v. Fresh C T (mode_at m w v)) (sym q) p.fresh))
@@ -466,9 +472,9 @@ module _ {S P E A B : Type 0} (m : Guest S P E A B) where
       (subst (λ z. Followed (run m (happened m w q) events) (told m (told m t (entry_of m w q)) (history m (happened m w q) events)) z) (append_assoc past (entry_of m w q) (history m (happened m w q) events))
       (run_followed events (happened m w q) (told m t (entry_of m w q)) (past ++ entry_of m w q) s' p'))
 
-  new_followed : (g : S) (count : ℕ) (limits : ℕ → ℕ) → Followed (new_world m g count limits) (at_start m g) []
-  unfolding Has Somewhere
-  new_followed g count limits =
+  new_followed : (version : ℕ) (g : S) (count : ℕ) (limits : ℕ → ℕ) → Followed (new_world m version g count limits) (at_start m g) []
+  unfolding Has Somewhere read
+  new_followed version g count limits =
       record {
         backed = λ x. either (λ (q : Mode S P). Backed (WasReady {P = P} {E = E} {A = A} {B = B} []) (WasCommitted {P = P} {E = E} {A = A} {B = B} []) q) (x == 0) (Run 0 g) (Empty 0) (λ _. tt) (λ _. tt);
         frames = λ a h. absurd h;
@@ -476,6 +482,12 @@ module _ {S P E A B : Type 0} (m : Guest S P E A B) where
         fresh = inl (λ k h. absurd h);
       }
 
+  caused_plain : (R C T : ℕ → Type 0) (f : Frame P B) → IsCaused R C T (plain m f) → IsCaused R C T f
+  caused_plain R C T (Zero k p n) h = tt
+  caused_plain R C T f h = h
+
   pub follow_law : FramesFollowTheirCauses m
   unfolding FramesFollowTheirCauses
-  follow_law = λ g count limits events a v h. (run_followed events (new_world m g count limits) (at_start m g) [] (new_sound m g count limits v) (new_followed g count limits)).frames a h
+  follow_law = λ g version count limits events a v h.
+      let end = run_followed events (new_world m version g count limits) (at_start m g) [] (new_sound m version g count limits v) (new_followed version g count limits) in
+      caused_plain _ _ _ a.frame (end.frames (record { from = a.from; to = a.to; frame = plain m a.frame }) (has_read m (run m (new_world m version g count limits) events).sent a h))

@@ -1,5 +1,5 @@
 -- A small guest: a counter and pages of one number each. An event writes a page or only counts.
-use Rattle.std.proofs.Common.{◌≡◌, ℕ, ◌+◌, Bool, true, false, ◌==◌, List, length, get_or, set, Some, refl}
+use Rattle.std.proofs.Common.{◌≡◌, ℕ, ◌+◌, Bool, true, false, ◌==◌, List, length, get_or, set, Some, refl, ◌∷◌, Option, eqb-true, [], arith, None}
 use Rattle.std.proofs.lemmas.Bool.{eqb-false}
 use Rattle.std.proofs.lemmas.List.{length-set, get_or-set_other}
 use Rattle.rvm_protocol.specs.Guest.{Guest}
@@ -28,6 +28,14 @@ pub toy_unwritten : (t : Toy) (e : ToyEvent) (q : ℕ) → toy_wrote t e q ≡ f
 toy_unwritten t Tick q h = refl
 toy_unwritten t (Write p v) q h = get_or-set_other t.pages p q v 0 (eqb-false q p h)
 
+-- a state goes in two pieces: the numbers, and the count
+abbrev pub toy_cut : List ℕ → ℕ → List (List ℕ)
+toy_cut ns b = ns ∷ (b ∷ []) ∷ []
+
+abbrev pub toy_join : List (List ℕ) → Option (List ℕ × ℕ)
+toy_join (ns ∷ (b ∷ []) ∷ []) = Some (ns, b)
+toy_join xs = None
+
 abbrev pub toy : Guest Toy ℕ ToyEvent ℕ ℕ
 toy =
     record {
@@ -37,6 +45,13 @@ toy =
       wrote = toy_wrote;
       processors = λ t. 1;
       zeros = 0;
+      is_zeros = λ p. p == 0;
+      cut = toy_cut;
+      join = toy_join;
+      zeros_pass = refl;
+      only_zeros_pass = λ p h. eqb-true p 0 h;
+      some_piece = λ ns b. omega arith;
+      joined = λ t ns v h k. refl;
       body = λ t. t.count;
       build = λ h b ps. Some (record { count = b; pages = ps });
       same_length = toy_length;

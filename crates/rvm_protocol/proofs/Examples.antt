@@ -8,7 +8,7 @@ use Rattle.rvm_protocol.specs.World.{Event, At, Deliver, replies, new_world}
 use Rattle.rvm_protocol.proofs.Counter.{ToyEvent, Tick, Write, toy}
 
 abbrev told_by : ℕ → List (Event ToyEvent) → List (Reply ℕ)
-told_by count events = replies toy (new_world toy (record { count = 0; pages = 0 ∷ 0 ∷ 0 ∷ 0 ∷ [] }) count (λ x. 4096)) events
+told_by count events = replies toy (new_world toy 1 (record { count = 0; pages = 0 ∷ 0 ∷ 0 ∷ 0 ∷ [] }) count (λ x. 4096)) events
 
 abbrev begins : Event ToyEvent
 begins = At 0 (Begin 1 (record { max_rounds = 3; min_left = 1; factor = 3 }))

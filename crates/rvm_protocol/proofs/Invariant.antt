@@ -1,9 +1,9 @@
 -- The invariant of a world: O is the mode of the current host, T that of the other, F the frames that the current host ever made, R those of the other.
-use Rattle.std.proofs.Common.{◌≡◌, ◌⊎◌, ℕ, suc, ◌<◌, ◌≤◌, true, List, length, get_or, Option, Some, None}
-use Rattle.rvm_protocol.specs.Frames.{Frame, Offer, Accept, Refuse, Page, RoundEnd, Lost, State, Ready, Go, Started, Abort}
+use Rattle.std.proofs.Common.{◌≡◌, ◌⊎◌, ℕ, suc, ◌<◌, ◌≤◌, true, List, length, get_or, Option, Some, None, ◌^◌, []}
+use Rattle.rvm_protocol.specs.Frames.{Frame, Offer, Accept, Refuse, Page, RoundEnd, Lost, State, Ready, Go, Started, Abort, Part, Zero}
 use Rattle.rvm_protocol.specs.Guest.{Guest}
 use Rattle.rvm_protocol.specs.Modes.{Mode, Empty, Run, Offering, Copying, Stopped, Given, Staging, Held, move_of}
-use Rattle.rvm_protocol.specs.Rounds.{Rounds, Last}
+use Rattle.rvm_protocol.specs.Rounds.{Rounds, Last, newest_numbers}
 use Rattle.rvm_protocol.specs.Staging.{Stage}
 
 -- the frames F and, if one was made, that one
@@ -51,6 +51,8 @@ module _ {S P : Type 0} where
   own_ok O T (RoundEnd k a b c d) = Unit {0}
   own_ok O T (Lost k ps) = Unit {0}
   own_ok O T (State k ns b) = k < state_lim O
+  own_ok O T (Part k st i u x) = k < state_lim O
+  own_ok O T (Zero k p n) = ⊥
   own_ok O T (Ready k) = k < suc (move_of O)
   own_ok O T (Go k) = k < move_of T
   own_ok O T (Started k) = k < lim O
@@ -65,6 +67,8 @@ module _ {S P : Type 0} where
   their_ok O T (RoundEnd k a b c d) = Unit {0}
   their_ok O T (Lost k ps) = Unit {0}
   their_ok O T (State k ns b) = k < suc (move_of T)
+  their_ok O T (Part k st i u x) = k < suc (move_of T)
+  their_ok O T (Zero k p n) = ⊥
   their_ok O T (Ready k) = k < ready_lim T
   their_ok O T (Go k) = k < go_lim O
   their_ok O T (Started k) = k < move_of T
@@ -125,6 +129,7 @@ module _ {P B : Type 0} where
   pub record CopiesOk (e : ℕ) (F : Frame P B → Type 0) (newest : ℕ → ℕ) (copies : ℕ) : Type 0 where
     pub number : (p k : ℕ) (b : P) → F (Page e p k b) → k ≤ newest p
     pub given : (p : ℕ) → newest p ≤ copies
+    pub fits : copies < 2 ^ 32
 
 module _ {S P E A B : Type 0} (m : Guest S P E A B) where
   -- the newest copy of page p equals its bytes
@@ -136,6 +141,7 @@ module _ {S P E A B : Type 0} (m : Guest S P E A B) where
     pub count : length s.pages ≡ c
     pub processors : s.processors ≡ h
     pub staged : (p : ℕ) → p < c → (s.have p ≡ 0) ⊎ F (Page e p (s.have p) (get_or s.pages p m.zeros))
+    pub kept : (i : ℕ) (x : List ℕ) → s.pieces i ≡ Some x → F (Part e s.stamp i s.parts x)
 
   abbrev pub BesideOk : ℕ → ℕ → ℕ → (Frame P B → Type 0) → Mode S P → Type 0
   BesideOk e c h F (Staging n s) = n ≡ e → StageOk e c h F s
@@ -158,6 +164,14 @@ module _ {S P E A B : Type 0} (m : Guest S P E A B) where
     pub named : (p : ℕ) → p < length (m.pages g) → 0 < get_or ns p 0
     pub copies : (p k : ℕ) (y : P) → p < length (m.pages g) → get_or ns p 0 ≤ k → F (Page e p k y) → y ≡ get_or (m.pages g) p m.zeros
 
+  -- a piece is one of those of a true state, which its stamp determines
+  pub record TruePiece (e : ℕ) (F : Frame P B → Type 0) (g : S) (copies : ℕ) (ns : List ℕ) (st i u : ℕ) (x : List ℕ) : Type 0 where
+    pub stamp : st ≤ copies
+    pub state : TrueState e F g ns (m.body g)
+    pub fits : (p : ℕ) → p < length ns → get_or ns p 0 < 2 ^ 32
+    pub count : u ≡ length (m.cut ns (m.body g))
+    pub piece : x ≡ get_or (m.cut ns (m.body g)) i []
+
   abbrev pub HeldOk : S → Mode S P → Type 0
   HeldOk g (Held n g') = g' ≡ g
   HeldOk g mode = Unit {0}
@@ -167,6 +181,10 @@ module _ {S P E A B : Type 0} (m : Guest S P E A B) where
     pub copies : CopiesOk e F l.newest l.copies
     pub stale : (p : ℕ) → p < length (m.pages l.guest) → (l.to_send p ≡ true) ⊎ ((l.to_fix p ≡ true) ⊎ IsFresh e F l.newest l.guest p)
     pub states : (ns : List ℕ) (b : B) → F (State e ns b) → TrueState e F l.guest ns b
+    -- the numbers that the pieces of a stamp name
+    pub numbers : ℕ → List ℕ
+    pub now : numbers l.copies ≡ newest_numbers m l
+    pub parts : (st i u : ℕ) (x : List ℕ) → F (Part e st i u x) → TruePiece e F l.guest l.copies (numbers st) st i u x
     pub held : HeldOk l.guest T
 
   abbrev pub Content : Mode S P → Mode S P → (Frame P B → Type 0) → Type 0

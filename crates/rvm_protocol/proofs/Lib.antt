@@ -1,5 +1,6 @@
 mod Invariant
 mod Modes
+mod Cases
 mod Other
 mod Sets
 mod Source

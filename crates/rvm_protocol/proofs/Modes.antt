@@ -2,10 +2,10 @@
 use Rattle.std.proofs.Common.{◌≡◌, inl, inr, ℕ, suc, ◌<◌, ◌≤◌, Bool, true, false, ◌==◌, if◌then◌else◌, nat_lt, length, Option, Some, None, refl, sym, subst, arith}
 use Rattle.std.proofs.lemmas.Bool.{ltb-true, eqb-true}
 use Rattle.rvm_protocol.specs.Commands.{Policy, Command, Board, Begin, Copy, Resend, AbortMove, is_allowed}
-use Rattle.rvm_protocol.specs.Frames.{Frame, Offer, Accept, Refuse, Page, RoundEnd, Lost, State, Ready, Go, Started, Abort}
+use Rattle.rvm_protocol.specs.Frames.{Frame, Offer, Accept, Refuse, Page, RoundEnd, Lost, State, Ready, Go, Started, Abort, Part, Zero, is_compact}
 use Rattle.rvm_protocol.specs.Guest.{Guest}
 use Rattle.rvm_protocol.specs.Modes.{Mode, Empty, Run, Offering, Copying, Stopped, Given, Staging, Held, Outcome, ignores, move_of}
-use Rattle.rvm_protocol.specs.Obeying.{obey, board, begin, begin_allowed, copy, resend, abort, copy_page, copy_last, resend_last}
+use Rattle.rvm_protocol.specs.Obeying.{obey, board, begin, begin_allowed, copy, resend, abort, copy_page, copy_last, resend_last, sends_state}
 use Rattle.rvm_protocol.specs.Receiving.{came, of_this_move, offered}
 use Rattle.rvm_protocol.specs.Replies.{Reply, Committed}
 use Rattle.rvm_protocol.specs.Rounds.{Rounds, Last, to_copy, opened}
@@ -20,6 +20,8 @@ module _ {S P B : Type 0} where
   own_grows O T O' T' a b c d e (RoundEnd k x y z w) h = h
   own_grows O T O' T' a b c d e (Lost k ps) h = h
   own_grows O T O' T' a b c d e (State k ns y) h = omega arith
+  own_grows O T O' T' a b c d e (Part k st i u x) h = omega arith
+  own_grows O T O' T' a b c d e (Zero k i u) h = h
   own_grows O T O' T' a b c d e (Ready k) h = omega arith
   own_grows O T O' T' a b c d e (Go k) h = omega arith
   own_grows O T O' T' a b c d e (Started k) h = omega arith
@@ -33,6 +35,8 @@ module _ {S P B : Type 0} where
   their_grows O T O' T' b c d (RoundEnd k x y z w) h = h
   their_grows O T O' T' b c d (Lost k ps) h = h
   their_grows O T O' T' b c d (State k ns y) h = omega arith
+  their_grows O T O' T' b c d (Part k st i u x) h = omega arith
+  their_grows O T O' T' b c d (Zero k i u) h = h
   their_grows O T O' T' b c d (Ready k) h = omega arith
   their_grows O T O' T' b c d (Go k) h = omega arith
   their_grows O T O' T' b c d (Started k) h = omega arith
@@ -160,15 +164,19 @@ module _ {S P E A B : Type 0} (m : Guest S P E A B) where
   copy_page_kept n r (Some p) T F R i = either (Kept T F R) _ _ _ (λ _. i) λ _. copying_kept n r _ T F R (Some _) i (omega arith)
   copy_page_kept n r None T F R i = copying_kept n r _ T F R (Some _) i tt
 
-  copy_last_kept : (n : ℕ) (l : Last S) (q : Option ℕ) (T : Mode S P) (F R : Frame P B → Type 0) → Modes (Stopped n l) T F R → Kept T F R (copy_last m n l q)
-  copy_last_kept n l (Some p) T F R i = either (Kept T F R) _ _ _ (λ _. i) λ _. stopped_kept n l _ T F R (Some _) i (omega arith)
-  copy_last_kept n l None T F R i = stopped_kept n l l T F R (Some _) i (omega arith)
+module _ {S P E A B : Type 0} (m : Guest S P E A B) (v : ℕ) where
+  sends_state_kept : (a b : Reply A) (n : ℕ) (l : Last S) (T : Mode S P) (F R : Frame P B → Type 0) → Modes (Stopped n l) T F R → Kept m T F R (sends_state m v a b n l)
+  sends_state_kept a b n l T F R i = either (Kept m T F R) (is_compact v) _ _ (λ _. stopped_kept m n l _ T F R (Some _) i (omega arith)) (λ _. stopped_kept m n l l T F R (Some _) i (omega arith))
 
-  copy_kept : (O T : Mode S P) (F R : Frame P B → Type 0) → Modes O T F R → Kept T F R (copy m O)
+  copy_last_kept : (n : ℕ) (l : Last S) (q : Option ℕ) (T : Mode S P) (F R : Frame P B → Type 0) → Modes (Stopped n l) T F R → Kept m T F R (copy_last m v n l q)
+  copy_last_kept n l (Some p) T F R i = either (Kept m T F R) _ _ _ (λ _. i) λ _. stopped_kept m n l _ T F R (Some _) i (omega arith)
+  copy_last_kept n l None T F R i = sends_state_kept _ _ n l T F R i
+
+  copy_kept : (O T : Mode S P) (F R : Frame P B → Type 0) → Modes O T F R → Kept m T F R (copy m v O)
   copy_kept (Copying n r) T F R i =
-      either (Kept T F R) r.stop _ _
+      either (Kept m T F R) r.stop _ _
       (λ _. owner_to (Copying n r) (Stopped n _) T F R None i (copying_stops n T i.meet) (omega arith) (omega arith) (omega arith) (omega arith) (omega arith) tt)
-      (λ _. copy_page_kept n r _ T F R i)
+      (λ _. copy_page_kept m n r _ T F R i)
   copy_kept (Stopped n l) T F R i = copy_last_kept n l (to_copy m l) T F R i
   copy_kept (Run n g) T F R i = i
   copy_kept (Offering n g p) T F R i = i
@@ -177,11 +185,11 @@ module _ {S P E A B : Type 0} (m : Guest S P E A B) where
   copy_kept (Given n) T F R i = i
   copy_kept (Staging n s) T F R i = i
 
-  resend_last_kept : (n : ℕ) (l : Last S) (q : Option ℕ) (T : Mode S P) (F R : Frame P B → Type 0) → Modes (Stopped n l) T F R → Kept T F R (resend_last m n l q)
+  resend_last_kept : (n : ℕ) (l : Last S) (q : Option ℕ) (T : Mode S P) (F R : Frame P B → Type 0) → Modes (Stopped n l) T F R → Kept m T F R (resend_last m v n l q)
   resend_last_kept n l (Some p) T F R i = i
-  resend_last_kept n l None T F R i = stopped_kept n l l T F R (Some _) i (omega arith)
+  resend_last_kept n l None T F R i = sends_state_kept _ _ n l T F R i
 
-  resend_kept : (O T : Mode S P) (F R : Frame P B → Type 0) → Modes O T F R → Kept T F R (resend m O)
+  resend_kept : (O T : Mode S P) (F R : Frame P B → Type 0) → Modes O T F R → Kept m T F R (resend m v O)
   resend_kept (Offering n g p) T F R i =
       owner_to (Offering n g p) (Offering n g p) T F R (Some _) i i.meet (omega arith) (omega arith) (omega arith) (omega arith) (omega arith) (omega arith)
   resend_kept (Stopped n l) T F R i = resend_last_kept n l (to_copy m l) T F R i
@@ -193,7 +201,7 @@ module _ {S P E A B : Type 0} (m : Guest S P E A B) where
   resend_kept (Given n) T F R i = absurd i.meet
   resend_kept (Staging n s) T F R i = i
 
-  abort_kept : (O T : Mode S P) (F R : Frame P B → Type 0) → Modes O T F R → Kept T F R (abort m O)
+  abort_kept : (O T : Mode S P) (F R : Frame P B → Type 0) → Modes O T F R → Kept m T F R (abort m O)
   abort_kept (Offering n g p) T F R i =
       owner_to (Offering n g p) (Run n g) T F R (Some (Abort n)) i (offering_runs n T i.meet) (omega arith) (omega arith) (omega arith) (omega arith) (omega arith) (omega arith)
   abort_kept (Copying n r) T F R i =
@@ -207,9 +215,9 @@ module _ {S P E A B : Type 0} (m : Guest S P E A B) where
   abort_kept (Staging n s) T F R i = i
 
   -- a command at the current host
-  pub owner_obeys : (c : Command E) (O T : Mode S P) (F R : Frame P B → Type 0) → Modes O T F R → Kept T F R (obey m c O)
-  owner_obeys (Board e) O T F R i = board_kept e O T F R i
-  owner_obeys (Begin to p) O T F R i = begin_kept p O T F R i
+  pub owner_obeys : (c : Command E) (O T : Mode S P) (F R : Frame P B → Type 0) → Modes O T F R → Kept m T F R (obey m v c O)
+  owner_obeys (Board e) O T F R i = board_kept m e O T F R i
+  owner_obeys (Begin to p) O T F R i = begin_kept m p O T F R i
   owner_obeys Copy O T F R i = copy_kept O T F R i
   owner_obeys Resend O T F R i = resend_kept O T F R i
   owner_obeys AbortMove O T F R i = abort_kept O T F R i
@@ -223,6 +231,8 @@ module _ {S P B : Type 0} where
   swap_own n n' l g e (RoundEnd k x y z w) h = h
   swap_own n n' l g e (Lost k ps) h = h
   swap_own n n' l g e (State k ns y) h = omega arith
+  swap_own n n' l g e (Part k st i u x) h = omega arith
+  swap_own n n' l g e (Zero k i u) h = h
   swap_own n n' l g e (Ready k) h = omega arith
   swap_own n n' l g e (Go k) h = omega arith
   swap_own n n' l g e (Started k) h = omega arith
@@ -236,6 +246,8 @@ module _ {S P B : Type 0} where
   swap_their n n' l g e (RoundEnd k x y z w) h = h
   swap_their n n' l g e (Lost k ps) h = h
   swap_their n n' l g e (State k ns y) h = omega arith
+  swap_their n n' l g e (Part k st i u x) h = omega arith
+  swap_their n n' l g e (Zero k i u) h = h
   swap_their n n' l g e (Ready k) h = omega arith
   swap_their n n' l g e (Go k) h = omega arith
   swap_their n n' l g e (Started k) h = omega arith
@@ -321,6 +333,10 @@ module _ {S P E A B : Type 0} (m : Guest S P E A B) where
   owner_receives limit (State k ns b) (Held n g) T F R h i =
       equal_after n k _ (Held n g) T F R i λ e.
       owner_to (Held n g) (Held n g) T F R (Some (Ready n)) i i.meet (omega arith) (omega arith) (omega arith) (omega arith) (omega arith) (omega arith)
+  owner_receives limit (Part k st j u x) (Held n g) T F R h i =
+      equal_after n k _ (Held n g) T F R i λ e.
+      owner_to (Held n g) (Held n g) T F R (Some (Ready n)) i i.meet (omega arith) (omega arith) (omega arith) (omega arith) (omega arith) (omega arith)
+  owner_receives limit (Part k st j u x) (Staging n s) T F R h i = absurd i.meet
   owner_receives limit (Abort k) (Held n g) T F R h i =
       equal_after n k _ (Held n g) T F R i λ e.
       let lt : k < move_of T = i.their (Abort k) h in let same : move_of T ≡ n = held_num n T i.meet in absurd (omega arith)

@@ -2,15 +2,17 @@
 use Rattle.std.proofs.Common.{◌≡◌, ℕ, suc, ◌<◌, ◌≤◌, ◌&&◌, ◌==◌, nat_lt, List, length, Option, Some, None, arith}
 use Rattle.std.proofs.lemmas.Bool.{ltb-true, eqb-true}
 use Rattle.rvm_protocol.specs.Commands.{Command, Board, Begin, Copy, Resend, AbortMove}
-use Rattle.rvm_protocol.specs.Frames.{Frame, Offer, Accept, Refuse, Page, RoundEnd, Lost, State, Ready, Go, Started, Abort}
+use Rattle.rvm_protocol.specs.Frames.{Frame, Offer, Accept, Refuse, Page, RoundEnd, Lost, State, Ready, Go, Started, Abort, Part}
 use Rattle.rvm_protocol.specs.Guest.{Guest}
-use Rattle.rvm_protocol.specs.Modes.{Mode, Empty, Run, Offering, Copying, Stopped, Given, Staging, Held, Outcome, ignores, move_of}
+use Rattle.rvm_protocol.specs.Modes.{Mode, Empty, Run, Offering, Copying, Stopped, Given, Staging, Held, Outcome, ignores, move_of, sends}
 use Rattle.rvm_protocol.specs.Obeying.{obey}
-use Rattle.rvm_protocol.specs.Pages.{size}
+use Rattle.rvm_protocol.specs.Pages.{size, members}
 use Rattle.rvm_protocol.specs.Receiving.{came, state_compared, guest_read, of_this_move, offered, offer_above}
-use Rattle.rvm_protocol.specs.Staging.{Stage, lacks}
+use Rattle.rvm_protocol.specs.Staging.{Stage, lacks, with_part}
 use Rattle.rvm_protocol.proofs.Invariant.{More, lim, go_lim, state_lim, ready_lim, their_ok, Meet, copying_beside, stopped_beside, HoldsNone, Modes}
 use Rattle.rvm_protocol.proofs.Modes.{either, other_to, held_num}
+use Rattle.rvm_protocol.proofs.Cases.{state_cases, part_cases}
+use Rattle.rvm_protocol.specs.Replies.{ReadySent, Lacking}
 
 module _ {S P : Type 0} where
   given_go : (O : Mode S P) (n : ℕ) → Meet O (Given n) → n < go_lim O
@@ -129,8 +131,9 @@ module _ {S P E A B : Type 0} (m : Guest S P E A B) where
   other_sends : (O T : Mode S P) (F R : Frame P B → Type 0) (x : Frame P B) → Modes O T F R → their_ok O T x → Modes O T F (More R (Some x))
   other_sends O T F R x i new = other_to O T T F R (Some x) i i.meet (omega arith) (omega arith) new
 
+module _ {S P E A B : Type 0} (m : Guest S P E A B) (v : ℕ) where
   -- a command at the other host
-  pub other_obeys : (c : Command E) (O T : Mode S P) (F R : Frame P B → Type 0) → Modes O T F R → Beside O F R (obey m c T)
+  pub other_obeys : (c : Command E) (O T : Mode S P) (F R : Frame P B → Type 0) → Modes O T F R → Beside m O F R (obey m v c T)
   other_obeys (Board e) O (Empty n) F R i = i
   other_obeys (Board e) O (Given n) F R i = i
   other_obeys (Board e) O (Staging n s) F R i = i
@@ -144,9 +147,9 @@ module _ {S P E A B : Type 0} (m : Guest S P E A B) where
   other_obeys Copy O (Staging n s) F R i = i
   other_obeys Copy O (Held n g) F R i = i
   other_obeys Resend O (Empty n) F R i = i
-  other_obeys Resend O (Given n) F R i = other_sends O (Given n) F R (Go n) i (given_go O n i.meet)
+  other_obeys Resend O (Given n) F R i = other_sends m O (Given n) F R (Go n) i (given_go O n i.meet)
   other_obeys Resend O (Staging n s) F R i = i
-  other_obeys Resend O (Held n g) F R i = other_sends O (Held n g) F R (Ready n) i (omega arith)
+  other_obeys Resend O (Held n g) F R i = other_sends m O (Held n g) F R (Ready n) i (omega arith)
   other_obeys AbortMove O (Empty n) F R i = i
   other_obeys AbortMove O (Given n) F R i = i
   other_obeys AbortMove O (Staging n s) F R i = i
@@ -156,62 +159,64 @@ module _ {S P E A B : Type 0} (m : Guest S P E A B) where
   other_obeys c O (Copying n r) F R i = absurd (alone O (Copying n r) i.meet)
   other_obeys c O (Stopped n l) F R i = absurd (alone O (Stopped n l) i.meet)
 
+module _ {S P E A B : Type 0} (m : Guest S P E A B) where
   -- an offer above what the other host has seen
-  offered_beside : (limit k a b : ℕ) (O T : Mode S P) (F R : Frame P B → Type 0) → Modes O T F R → F (Offer k a b) → move_of T < k → ready_lim T ≤ k → Beside O F R (offered m limit k a b T)
+  offered_beside : (limit k a b : ℕ) (O T : Mode S P) (F R : Frame P B → Type 0) → Modes O T F R → F (Offer k a b) → move_of T < k → ready_lim T ≤ k → Beside m O F R (offered m limit k a b T)
   offered_beside limit k a b O T F R i h lt le =
-      either (Beside O F R) (nat_lt limit a) _ _
-      (λ _. other_sends O T F R (Refuse k limit) i tt)
+      either (Beside m O F R) (nat_lt limit a) _ _
+      (λ _. other_sends m O T F R (Refuse k limit) i tt)
       (λ _. other_to O T (Staging k _) F R (Some (Accept k)) i (restaged O T k _ i.meet lt (i.own (Offer k a b) h)) (omega arith) le (omega arith))
 
-  above_beside : (limit k a b : ℕ) (O T : Mode S P) (F R : Frame P B → Type 0) → Modes O T F R → F (Offer k a b) → ready_lim T ≤ suc (move_of T) → Beside O F R (offer_above m (move_of T) limit k a b T)
+  above_beside : (limit k a b : ℕ) (O T : Mode S P) (F R : Frame P B → Type 0) → Modes O T F R → F (Offer k a b) → ready_lim T ≤ suc (move_of T) → Beside m O F R (offer_above m (move_of T) limit k a b T)
   above_beside limit k a b O T F R i h le =
-      either (Beside O F R) (nat_lt (move_of T) k) (offered m limit k a b T) (ignores T)
+      either (Beside m O F R) (nat_lt (move_of T) k) (offered m limit k a b T) (ignores T)
       (λ e. let lt : move_of T < k = ltb-true (move_of T) k e in offered_beside limit k a b O T F R i h lt (omega arith))
       (λ _. i)
 
-  guest_beside : (n : ℕ) (s : Stage P) (q : Option S) (k : ℕ) (O : Mode S P) (F R : Frame P B → Type 0) → Modes O (Staging n s) F R → n ≡ k → k < state_lim O → Beside O F R (guest_read m n s q)
-  guest_beside n s None k O F R i e lt = i
-  guest_beside n s (Some g) k O F R i e lt =
-      other_to O (Staging n s) (Held n g) F R (Some (Ready n)) i (ready_meets O n k s g e i.meet lt) (omega arith) (omega arith) (omega arith)
+  ready_beside : (n k : ℕ) (s : Stage P) (g : S) (O : Mode S P) (F R : Frame P B → Type 0) → Modes O (Staging n s) F R → n ≡ k → k < state_lim O → Beside m O F R (sends ReadySent (Ready n) (Held n g))
+  ready_beside n k s g O F R i e lt = other_to O (Staging n s) (Held n g) F R (Some (Ready n)) i (ready_meets O n k s g e i.meet lt) (omega arith) (omega arith) (omega arith)
 
-  compared_beside : (n : ℕ) (s : Stage P) (ns : List ℕ) (b : B) (k : ℕ) (O : Mode S P) (F R : Frame P B → Type 0) → Modes O (Staging n s) F R → n ≡ k → k < state_lim O → Beside O F R (state_compared m n s ns b)
-  compared_beside n s ns b k O F R i e lt =
-      either (Beside O F R) (nat_lt 0 (size (lacks s ns) (length s.pages))) _ (guest_read m n s (m.build s.processors b s.pages))
-      (λ _. other_sends O (Staging n s) F R (Lost n _) i tt)
-      (λ _. guest_beside n s (m.build s.processors b s.pages) k O F R i e lt)
+  lost_beside : (n : ℕ) (s t : Stage P) (ns : List ℕ) (O : Mode S P) (F R : Frame P B → Type 0) → Modes O (Staging n s) F R → Beside m O F R (sends (Lacking (size (lacks t ns) (length t.pages))) (Lost n (members (lacks t ns) 0 (length t.pages))) (Staging n t))
+  lost_beside n s t ns O F R i = other_to O (Staging n s) (Staging n t) F R (Some (Lost n _)) i (stage_stays O n s t i.meet) (omega arith) (omega arith) tt
 
   -- a frame that comes to the other host
-  pub other_receives : (limit : ℕ) (f : Frame P B) (O T : Mode S P) (F R : Frame P B → Type 0) → F f → Modes O T F R → Beside O F R (came m limit f T)
+  pub other_receives : (limit : ℕ) (f : Frame P B) (O T : Mode S P) (F R : Frame P B → Type 0) → F f → Modes O T F R → Beside m O F R (came m limit f T)
   other_receives limit (Offer k a b) O (Empty n) F R h i = above_beside limit k a b O (Empty n) F R i h (omega arith)
   other_receives limit (Offer k a b) O (Given n) F R h i = above_beside limit k a b O (Given n) F R i h (omega arith)
   other_receives limit (Offer k a b) O (Held n g) F R h i = above_beside limit k a b O (Held n g) F R i h (omega arith)
   other_receives limit (Offer k a b) O (Staging n s) F R h i =
-      either (Beside O F R) (n == k) _ (offer_above m n limit k a b (Staging n s))
-      (λ _. other_sends O (Staging n s) F R (Accept n) i (omega arith))
+      either (Beside m O F R) (n == k) _ (offer_above m n limit k a b (Staging n s))
+      (λ _. other_sends m O (Staging n s) F R (Accept n) i (omega arith))
       (λ _. above_beside limit k a b O (Staging n s) F R i h (omega arith))
   other_receives limit (Page k p q b) O (Staging n s) F R h i =
-      equal_beside n k _ O (Staging n s) F R i λ e.
-      either (Beside O F R) (nat_lt p (length s.pages) && nat_lt (s.have p) q) _ (ignores (Staging n s))
+      equal_beside m n k _ O (Staging n s) F R i λ e.
+      either (Beside m O F R) (nat_lt p (length s.pages) && nat_lt (s.have p) q) _ (ignores (Staging n s))
       (λ _. other_to O (Staging n s) (Staging n _) F R None i (stage_stays O n s _ i.meet) (omega arith) (omega arith) tt)
       (λ _. i)
-  other_receives limit (RoundEnd k a b c d) O (Staging n s) F R h i = equal_beside n k _ O (Staging n s) F R i λ e. i
+  other_receives limit (RoundEnd k a b c d) O (Staging n s) F R h i = equal_beside m n k _ O (Staging n s) F R i λ e. i
   other_receives limit (State k ns b) O (Staging n s) F R h i =
-      equal_beside n k _ O (Staging n s) F R i λ e.
-      either (Beside O F R) (length ns == length s.pages) (state_compared m n s ns b) _
-      (λ _. compared_beside n s ns b k O F R i e (i.own (State k ns b) h))
-      (λ _. i)
+      equal_beside m n k _ O (Staging n s) F R i λ e.
+      state_cases m (Beside m O F R) n s s ns b i (lost_beside n s s ns O F R i) (λ g _ _. ready_beside n k s g O F R i e (i.own (State k ns b) h))
+  other_receives limit (Part k st p u x) O (Staging n s) F R h i =
+      equal_beside m n k _ O (Staging n s) F R i λ e.
+      part_cases m (Beside m O F R) n s st p u x i i
+      (λ _. other_to O (Staging n s) (Staging n _) F R None i (stage_stays O n s _ i.meet) (omega arith) (omega arith) tt)
+      (λ _ ns. lost_beside n s (with_part s st p u x) ns O F R i)
+      (λ _ xs ns b g _ _ _ _. ready_beside n k s g O F R i e (i.own (Part k st p u x) h))
+  other_receives limit (Part k st p u x) O (Held n g) F R h i =
+      equal_beside m n k _ O (Held n g) F R i λ e. other_sends m O (Held n g) F R (Ready n) i (omega arith)
   other_receives limit (State k ns b) O (Held n g) F R h i =
-      equal_beside n k _ O (Held n g) F R i λ e. other_sends O (Held n g) F R (Ready n) i (omega arith)
+      equal_beside m n k _ O (Held n g) F R i λ e. other_sends m O (Held n g) F R (Ready n) i (omega arith)
   other_receives limit (Go k) O (Held n g) F R h i =
-      equal_beside n k _ O (Held n g) F R i λ e. let lt : k < n = i.own (Go k) h in absurd (omega arith)
+      equal_beside m n k _ O (Held n g) F R i λ e. let lt : k < n = i.own (Go k) h in absurd (omega arith)
   other_receives limit (Started k) O (Given n) F R h i =
-      equal_beside n k _ O (Given n) F R i λ e.
+      equal_beside m n k _ O (Given n) F R i λ e.
       other_to O (Given n) (Empty n) F R None i (finished_meets O n k e i.meet (i.own (Started k) h)) (omega arith) (omega arith) tt
   other_receives limit (Abort k) O (Staging n s) F R h i =
-      equal_beside n k _ O (Staging n s) F R i λ e.
+      equal_beside m n k _ O (Staging n s) F R i λ e.
       other_to O (Staging n s) (Empty n) F R None i (dropped_stage O n k s e i.meet (i.own (Abort k) h)) (omega arith) (omega arith) tt
   other_receives limit (Abort k) O (Held n g) F R h i =
-      equal_beside n k _ O (Held n g) F R i λ e.
+      equal_beside m n k _ O (Held n g) F R i λ e.
       other_to O (Held n g) (Empty n) F R None i (dropped_held O n k g e i.meet (i.own (Abort k) h)) (omega arith) (omega arith) tt
   other_receives limit (Accept k) O (Offering n g p) F R h i = absurd (alone O (Offering n g p) i.meet)
   other_receives limit (Refuse k a) O (Offering n g p) F R h i = absurd (alone O (Offering n g p) i.meet)

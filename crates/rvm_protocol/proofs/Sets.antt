@@ -2,7 +2,7 @@
 use Rattle.std.proofs.Common.{◌≡◌, ◌≢◌, ◌⊎◌, inl, inr, ⊎_elim, ℕ, zero, suc, ◌+◌, ◌<◌, ◌≤◌, Bool, true, false, not, ◌||◌, ◌&&◌, if◌then◌else◌, List, length, get_or, Some, None, refl, sym, ap, ◌∙◌, subst, arith, add-zero}
 use Rattle.std.proofs.lemmas.Bool.{eq-eqb, ne_eqb}
 use Rattle.std.proofs.lemmas.Bool.Decides.{eqb_tells}
-use Rattle.rvm_protocol.specs.Frames.{Frame, Offer, Page, RoundEnd, State}
+use Rattle.rvm_protocol.specs.Frames.{Frame, Offer, Page, RoundEnd, State, Part}
 use Rattle.rvm_protocol.specs.Pages.{Pages, least, size, listed, put}
 
 module _ {P B : Type 0} where
@@ -23,6 +23,21 @@ module _ {P B : Type 0} where
 
   pub round_no_state : (e e' w x y z : ℕ) (ns : List ℕ) (b : B) → ◌≡◌ {A = Frame P B} (RoundEnd e w x y z) (State e' ns b) → ⊥
   round_no_state e e' w x y z ns b h = cc
+
+  pub part_is : (e e' st st' i i' u u' : ℕ) (x x' : List ℕ) → ◌≡◌ {A = Frame P B} (Part e st i u x) (Part e' st' i' u' x') → (st ≡ st') × (i ≡ i') × (u ≡ u') × (x ≡ x')
+  part_is e e' st st' i i' u u' x x' h = (cc, cc, cc, cc)
+
+  pub part_no_page : (e e' st i u p k : ℕ) (x : List ℕ) (b : P) → ◌≡◌ {A = Frame P B} (Part e st i u x) (Page e' p k b) → ⊥
+  part_no_page e e' st i u p k x b h = cc
+
+  pub part_no_state : (e e' st i u : ℕ) (x ns : List ℕ) (b : B) → ◌≡◌ {A = Frame P B} (Part e st i u x) (State e' ns b) → ⊥
+  part_no_state e e' st i u x ns b h = cc
+
+  pub page_no_part : (e e' p k st i u : ℕ) (x : List ℕ) (b : P) → ◌≡◌ {A = Frame P B} (Page e p k b) (Part e' st i u x) → ⊥
+  page_no_part e e' p k st i u x b h = cc
+
+  pub state_no_part : (e e' st i u : ℕ) (ns x : List ℕ) (b : B) → ◌≡◌ {A = Frame P B} (State e ns b) (Part e' st i u x) → ⊥
+  state_no_part e e' st i u ns x b h = cc
 
   pub page_no_state : (e e' p k : ℕ) (ns : List ℕ) (b : P) (y : B) → ◌≡◌ {A = Frame P B} (Page e p k b) (State e' ns y) → ⊥
   page_no_state e e' p k ns b y h = cc
@@ -58,6 +73,10 @@ or_false false b h = (refl, h)
 pub and_first : (a b : Bool) → (a && b) ≡ true → a ≡ true
 and_first true b t = refl
 and_first false b t = t
+
+pub and_both : (a b : Bool) → (a && b) ≡ true → (a ≡ true) × (b ≡ true)
+and_both true b h = (refl, h)
+and_both false b h = cc
 
 pub and_not : (a b : Bool) → (a && not b) ≡ true → (a ≡ true) × (b ≡ false)
 and_not true true h = cc

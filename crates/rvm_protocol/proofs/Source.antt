@@ -1,24 +1,24 @@
 -- The third part of the invariant is kept by each event at the current host.
-use Rattle.std.proofs.Common.{◌≡◌, ◌≢◌, ◌⊎◌, inl, inr, ⊎_elim, ℕ, suc, ◌+◌, ◌-◌, ◌/◌, ◌%◌, ◌^◌, ◌<◌, ◌≤◌, ◌==◌, true, false, not, ◌||◌, ◌&&◌, if◌then◌else◌, nat_lt, nat_le, List, length, get_or, Option, Some, None, refl, sym, ap, ◌∙◌, subst, arith}
+use Rattle.std.proofs.Common.{◌≡◌, ◌≢◌, ◌⊎◌, inl, inr, ⊎_elim, ℕ, suc, ◌+◌, ◌-◌, ◌/◌, ◌%◌, ◌^◌, ◌<◌, ◌≤◌, ◌==◌, true, false, not, ◌||◌, ◌&&◌, if◌then◌else◌, nat_lt, nat_le, List, length, get_or, Option, Some, None, refl, sym, ap, ◌∙◌, subst, arith, leb-false, []}
 use Rattle.std.proofs.lemmas.Bool.{ltb-true, ltb-false}
 use Rattle.rvm_protocol.specs.Commands.{Policy, Command, Board, Begin, Copy, Resend, is_allowed}
-use Rattle.rvm_protocol.specs.Frames.{Frame, Offer, Page, RoundEnd, State}
+use Rattle.rvm_protocol.specs.Frames.{Frame, Offer, Page, RoundEnd, State, Part, is_compact}
 use Rattle.rvm_protocol.specs.Guest.{Guest}
 use Rattle.rvm_protocol.specs.Modes.{Mode, Empty, Run, Offering, Copying, Stopped, Given, Staging, Held, Outcome, says, refuses}
-use Rattle.rvm_protocol.specs.Obeying.{obey, begin_allowed, copy_page, copy_last, resend_last, state_frame, begun, sends_page, sends_last}
+use Rattle.rvm_protocol.specs.Obeying.{obey, begin_allowed, copy_page, copy_last, resend_last, state_frame, begun, sends_page, sends_last, part_frame, sends_state}
 use Rattle.rvm_protocol.specs.Pages.{least, listed, put, is_in}
-use Rattle.rvm_protocol.specs.Replies.{BadSize, SeqSpent, EpochsSpent, Stopping}
-use Rattle.rvm_protocol.specs.Rounds.{Rounds, Last, to_copy, stops, is_skipped, opened, page_copied, last_copied, next_round, round_over, stopped}
-use Rattle.rvm_protocol.proofs.Invariant.{More, run_beside, copying_beside, Modes, CopiesOk, IsFresh, BesideOk, OfferOk, CopyingOk, TrueState, HeldOk, StoppedOk, Content}
+use Rattle.rvm_protocol.specs.Replies.{BadSize, SeqSpent, EpochsSpent, Stopping, Reply}
+use Rattle.rvm_protocol.specs.Rounds.{Rounds, Last, to_copy, stops, is_skipped, opened, page_copied, last_copied, next_round, round_over, stopped, newest_numbers, next_turn, pieces_of}
+use Rattle.rvm_protocol.proofs.Invariant.{More, run_beside, copying_beside, Modes, CopiesOk, IsFresh, BesideOk, OfferOk, CopyingOk, TrueState, HeldOk, StoppedOk, Content, TruePiece}
 use Rattle.rvm_protocol.proofs.Modes.{either}
-use Rattle.rvm_protocol.proofs.Sets.{page_is, state_is, round_no_page, page_no_state, offer_is, state_no_page, both_false, is_either, or_left, or_right, or_false, and_not_false, put_same, put_other, same_or, IsLeast, least_found, least_none, listed_length, listed_at}
+use Rattle.rvm_protocol.proofs.Sets.{page_is, state_is, round_no_page, page_no_state, offer_is, state_no_page, both_false, is_either, or_left, or_right, or_false, and_not_false, put_same, put_other, same_or, IsLeast, least_found, least_none, listed_length, listed_at, page_no_part, state_no_part, part_no_page, part_no_state, part_is}
 
 module _ {S P E A B : Type 0} (m : Guest S P E A B) where
   pub beside_more : (e c h : ℕ) (F F' : Frame P B → Type 0) (T : Mode S P) → ((f : Frame P B) → F f → F' f) → BesideOk m e c h F T → BesideOk m e c h F' T
   beside_more e c h F F' (Staging n s) up ok =
       λ same.
       let k = ok same in
-      record { count = k.count; processors = k.processors; staged = λ p lt. ⊎_elim (λ z. inl z) (λ f. inr (up _ f)) (k.staged p lt) }
+      record { count = k.count; processors = k.processors; staged = λ p lt. ⊎_elim (λ z. inl z) (λ f. inr (up _ f)) (k.staged p lt); kept = λ i x q. up _ (k.kept i x q) }
   beside_more e c h F F' (Empty n) up ok = tt
   beside_more e c h F F' (Run n g) up ok = tt
   beside_more e c h F F' (Offering n g p) up ok = tt
@@ -42,14 +42,15 @@ module _ {S P E A B : Type 0} (m : Guest S P E A B) where
         (λ n. let a : (put newest p (suc copies)) q ≡ newest q = put_other newest p q (suc copies) n in let b : newest q ≤ copies = ok.given q in (omega arith, omega arith))
         (same_or q p)
 
-    pub copies_then : CopiesOk e (with_copy e F copies p g) (put newest p (suc copies)) (suc copies)
-    copies_then =
+    pub copies_then : nat_le (2 ^ 32 - 1) copies ≡ false → CopiesOk e (with_copy e F copies p g) (put newest p (suc copies)) (suc copies)
+    copies_then below =
         record {
           number = λ q k b. elim [
             | inl h ↦ let a : k ≤ newest q = ok.number q k b h in let u = newest_up q in omega (arith, u.0)
             | inr h ↦ let w = page_is e e p q (suc copies) k _ b h in let a : (put newest p (suc copies)) p ≡ suc copies = put_same newest p (suc copies) in let s : (put newest p (suc copies)) p ≡ (put newest p (suc copies)) q = ap (put newest p (suc copies)) w.1 in let t : suc copies ≡ k = w.2 in omega arith
           ];
           given = λ q. (newest_up q).1;
+          fits = let z : copies < 2 ^ 32 - 1 = leb-false (2 ^ 32 - 1) copies below in omega arith;
         }
 
     pub fresh_now : IsFresh m e (with_copy e F copies p g) (put newest p (suc copies)) g p
@@ -115,11 +116,11 @@ module _ {S P E A B : Type 0} (m : Guest S P E A B) where
       before_or : (q p : ℕ) → q ≢ p → (q < p) ⊎ (suc p ≤ q)
       before_or q p n = elim (is_either (nat_lt q p)) [ inl a ↦ inl (ltb-true q p a) | inr b ↦ inr (let z : p ≤ q = ltb-false q p b in omega (arith, n)) ]
 
-  pub copied_ok : (e : ℕ) (r : Rounds S) (p : ℕ) (T : Mode S P) (F : Frame P B → Type 0) → CopyingOk m e r T F → r.stop ≡ false → IsLeast (λ x. r.to_send x && not (is_skipped r x)) r.scan p (length (m.pages r.guest) - r.scan) → CopyingOk m e (page_copied m r p) T (with_copy e F r.copies p r.guest)
-  copied_ok e r p T F ok runs l =
+  pub copied_ok : (e : ℕ) (r : Rounds S) (p : ℕ) (T : Mode S P) (F : Frame P B → Type 0) → CopyingOk m e r T F → r.stop ≡ false → nat_le (2 ^ 32 - 1) r.copies ≡ false → IsLeast (λ x. r.to_send x && not (is_skipped r x)) r.scan p (length (m.pages r.guest) - r.scan) → CopyingOk m e (page_copied m r p) T (with_copy e F r.copies p r.guest)
+  copied_ok e r p T F ok runs below l =
       record {
         beside = beside_more e _ _ F (with_copy e F r.copies p r.guest) T (λ f h. inl h) ok.beside;
-        copies = copies_then e F r.newest r.copies p r.guest ok.copies;
+        copies = copies_then e F r.newest r.copies p r.guest ok.copies below;
         stale = λ q lt.
             elim (same_or q p) [
               | inl s ↦ inr (inr (subst (λ z. IsFresh m e (with_copy e F r.copies p r.guest) (put r.newest p (suc r.copies)) r.guest z) (sym s) (fresh_now e F r.newest r.copies p r.guest ok.copies)))
@@ -132,13 +133,16 @@ module _ {S P E A B : Type 0} (m : Guest S P E A B) where
   -- a frame that is neither a page nor a state
   module _ (e : ℕ) (F F' : Frame P B → Type 0) (up : (f : Frame P B) → F f → F' f) (down : (p k : ℕ) (b : P) → F' (Page e p k b) → F (Page e p k b)) where
     pub copies_same : (newest : ℕ → ℕ) (copies : ℕ) → CopiesOk e F newest copies → CopiesOk e F' newest copies
-    copies_same newest copies ok = record { number = λ p k b h. ok.number p k b (down p k b h); given = ok.given }
+    copies_same newest copies ok = record { number = λ p k b h. ok.number p k b (down p k b h); given = ok.given; fits = ok.fits }
 
     pub fresh_same : (newest : ℕ → ℕ) (g : S) (p : ℕ) → IsFresh m e F newest g p → IsFresh m e F' newest g p
     fresh_same newest g p fresh = (fresh.0, λ b h. fresh.1 b (down p (newest p) b h), up _ fresh.2)
 
     pub true_same : (g : S) (ns : List ℕ) (b : B) → TrueState m e F g ns b → TrueState m e F' g ns b
     true_same g ns b t = record { body = t.body; count = t.count; named = t.named; copies = λ p k y lt le h. t.copies p k y lt le (down p k y h) }
+
+    pub piece_same : (g : S) (copies : ℕ) (ns : List ℕ) (st i u : ℕ) (x : List ℕ) → TruePiece m e F g copies ns st i u x → TruePiece m e F' g copies ns st i u x
+    piece_same g copies ns st i u x t = record { stamp = t.stamp; state = true_same g ns (m.body g) t.state; fits = t.fits; count = t.count; piece = t.piece }
 
   -- at the end of a round each page is in the log or fresh
   pub scanned : (e : ℕ) (r : Rounds S) (T : Mode S P) (F : Frame P B → Type 0) → CopyingOk m e r T F → least (λ x. r.to_send x && not (is_skipped r x)) r.scan (length (m.pages r.guest) - r.scan) ≡ None → (q : ℕ) → q < length (m.pages r.guest) → (r.log q ≡ true) ⊎ IsFresh m e F r.newest r.guest q
@@ -185,8 +189,8 @@ module _ {S P E A B : Type 0} (m : Guest S P E A B) where
   held_none e g (Given n) h = tt
   held_none e g (Held n q) h = absurd h
 
-  pub stopping : (e : ℕ) (r : Rounds S) (T : Mode S P) (F : Frame P B → Type 0) → CopyingOk m e r T F → copying_beside e T → ((ns : List ℕ) (b : B) → F (State e ns b) → ⊥) → r.stop ≡ true → StoppedOk m e (stopped m r) T F
-  stopping e r T F ok beside fresh_state stop =
+  pub stopping : (e : ℕ) (r : Rounds S) (T : Mode S P) (F : Frame P B → Type 0) → CopyingOk m e r T F → copying_beside e T → ((ns : List ℕ) (b : B) → F (State e ns b) → ⊥) → ((st i u : ℕ) (x : List ℕ) → F (Part e st i u x) → ⊥) → r.stop ≡ true → StoppedOk m e (stopped m r) T F
+  stopping e r T F ok beside fresh_state fresh_part stop =
       record {
         beside = ok.beside;
         copies = ok.copies;
@@ -195,15 +199,30 @@ module _ {S P E A B : Type 0} (m : Guest S P E A B) where
           | inr rest ↦ elim rest [ inl logged ↦ inl logged | inr f ↦ inr (inr f) ]
         ];
         states = λ ns b h. absurd (fresh_state ns b h);
+        numbers = λ st. newest_numbers m (stopped m r);
+        now = refl;
+        parts = λ st i u x h. absurd (fresh_part st i u x h);
         held = held_none e r.guest T beside;
       }
 
-  pub last_copied_ok : (e : ℕ) (l : Last S) (p : ℕ) (T : Mode S P) (F : Frame P B → Type 0) → StoppedOk m e l T F → StoppedOk m e (last_copied m l p) T (with_copy e F l.copies p l.guest)
-  last_copied_ok e l p T F ok =
+  true_copied : (e : ℕ) (F : Frame P B → Type 0) (copies p : ℕ) (g : S) (ns : List ℕ) (b : B) → TrueState m e F g ns b → TrueState m e (with_copy e F copies p g) g ns b
+  true_copied e F copies p g ns b t =
+      record {
+        body = t.body;
+        count = t.count;
+        named = t.named;
+        copies = λ q k y lt le. elim [
+          | inl h ↦ t.copies q k y lt le h
+          | inr z ↦ let w = page_is e e p q (suc copies) k _ y z in sym w.3 ∙ ap (λ x. get_or (m.pages g) x m.zeros) w.1
+        ];
+      }
+
+  pub last_copied_ok : (e : ℕ) (l : Last S) (p : ℕ) (T : Mode S P) (F : Frame P B → Type 0) → StoppedOk m e l T F → nat_le (2 ^ 32 - 1) l.copies ≡ false → StoppedOk m e (last_copied m l p) T (with_copy e F l.copies p l.guest)
+  last_copied_ok e l p T F ok below =
       let F' = with_copy e F l.copies p l.guest in
       record {
         beside = beside_more e _ _ F F' T (λ f h. inl h) ok.beside;
-        copies = copies_then e F l.newest l.copies p l.guest ok.copies;
+        copies = copies_then e F l.newest l.copies p l.guest ok.copies below;
         stale = λ q lt.
             elim (same_or q p) [
               | inl s ↦ inr (inr (subst (λ z. IsFresh m e F' (put l.newest p (suc l.copies)) l.guest z) (sym s) (fresh_now e F l.newest l.copies p l.guest ok.copies)))
@@ -216,17 +235,18 @@ module _ {S P E A B : Type 0} (m : Guest S P E A B) where
               ]
             ];
         states = λ ns b. elim [
-          | inl h ↦ let t = ok.states ns b h in
-              record {
-                body = t.body;
-                count = t.count;
-                named = t.named;
-                copies = λ q k y lt le. elim [
-                  | inl h ↦ t.copies q k y lt le h
-                  | inr z ↦ let w = page_is e e p q (suc l.copies) k _ y z in sym w.3 ∙ ap (λ x. get_or (m.pages l.guest) x m.zeros) w.1
-                ];
-              }
+          | inl h ↦ true_copied e F l.copies p l.guest ns b (ok.states ns b h)
           | inr z ↦ absurd (page_no_state e e p (suc l.copies) ns _ b z)
+        ];
+        numbers = put ok.numbers (suc l.copies) (newest_numbers m (last_copied m l p));
+        now = put_same ok.numbers (suc l.copies) (newest_numbers m (last_copied m l p));
+        parts = λ st i u x. elim [
+          | inl h ↦
+              let t = ok.parts st i u x h in
+              let z : st ≤ l.copies = t.stamp in
+              subst (λ ns. TruePiece m e F' l.guest (suc l.copies) ns st i u x) (sym (put_other ok.numbers (suc l.copies) st (newest_numbers m (last_copied m l p)) (λ q. let y : st ≡ suc l.copies = q in omega arith)))
+              (record { stamp = omega arith; state = true_copied e F l.copies p l.guest (ok.numbers st) (m.body l.guest) t.state; fits = t.fits; count = t.count; piece = t.piece })
+          | inr z ↦ absurd (page_no_part e e p (suc l.copies) st i u x _ z)
         ];
         held = ok.held;
       }
@@ -240,13 +260,11 @@ module _ {S P E A B : Type 0} (m : Guest S P E A B) where
         | inr rest ↦ elim rest [ inl a ↦ absurd (both_false (l.to_fix q) a z.1) | inr f ↦ f ]
       ]
 
-  pub state_sent : (e : ℕ) (l : Last S) (T : Mode S P) (F : Frame P B → Type 0) → StoppedOk m e l T F → to_copy m l ≡ None → StoppedOk m e l T (More F (Some (state_frame m e l)))
-  state_sent e l T F ok none =
-      let F' = More F (Some (state_frame m e l)) in
+  -- what the newest numbers name
+  true_now : (e : ℕ) (l : Last S) (T : Mode S P) (F F' : Frame P B → Type 0) → StoppedOk m e l T F → to_copy m l ≡ None → ((p k : ℕ) (y : P) → F' (Page e p k y) → F (Page e p k y)) → TrueState m e F' l.guest (newest_numbers m l) (m.body l.guest)
+  true_now e l T F F' ok none down =
       let c = length (m.pages l.guest) in
-      let down : (p k : ℕ) (y : P) → F' (Page e p k y) → F (Page e p k y) = λ p k y. elim [ inl h ↦ h | inr z ↦ absurd (state_no_page e e p k (listed l.newest 0 c) y (m.body l.guest) z) ] in
-      let numbers : (p : ℕ) → p < c → get_or (listed l.newest 0 c) p 0 ≡ l.newest p = λ p lt. listed_at l.newest 0 0 c p lt ∙ (let z : 0 + p ≡ p = omega arith in ap l.newest z) in
-      let mine : TrueState m e F' l.guest (listed l.newest 0 c) (m.body l.guest) =
+      let numbers : (p : ℕ) → p < c → get_or (newest_numbers m l) p 0 ≡ l.newest p = λ p lt. listed_at l.newest 0 0 c p lt ∙ (let z : 0 + p ≡ p = omega arith in ap l.newest z) in
       record {
         body = refl;
         count = listed_length l.newest 0 c;
@@ -256,15 +274,66 @@ module _ {S P E A B : Type 0} (m : Guest S P E A B) where
             let b : k ≤ l.newest p = ok.copies.number p k y (down p k y h) in
             let s : k ≡ l.newest p = omega arith in
             (all_fresh e l T F ok none p lt).1 y (subst (λ z. F (Page e p z y)) s (down p k y h));
-      } in
+      }
+
+  fits_now : (e : ℕ) (l : Last S) (T : Mode S P) (F : Frame P B → Type 0) → StoppedOk m e l T F → (p : ℕ) → p < length (newest_numbers m l) → get_or (newest_numbers m l) p 0 < 2 ^ 32
+  fits_now e l T F ok p lt =
+      let c = length (m.pages l.guest) in
+      let n : length (newest_numbers m l) ≡ c = listed_length l.newest 0 c in
+      let is : get_or (newest_numbers m l) p 0 ≡ l.newest p = listed_at l.newest 0 0 c p (omega arith) ∙ (let z : 0 + p ≡ p = omega arith in ap l.newest z) in
+      let a : l.newest p ≤ l.copies = ok.copies.given p in
+      let b : l.copies < 2 ^ 32 = ok.copies.fits in
+      omega arith
+
+  pub state_sent : (e : ℕ) (l : Last S) (T : Mode S P) (F : Frame P B → Type 0) → StoppedOk m e l T F → to_copy m l ≡ None → StoppedOk m e l T (More F (Some (state_frame m e l)))
+  state_sent e l T F ok none =
+      let F' = More F (Some (state_frame m e l)) in
+      let down : (p k : ℕ) (y : P) → F' (Page e p k y) → F (Page e p k y) = λ p k y. elim [ inl h ↦ h | inr z ↦ absurd (state_no_page e e p k (newest_numbers m l) y (m.body l.guest) z) ] in
+      let mine : TrueState m e F' l.guest (newest_numbers m l) (m.body l.guest) = true_now e l T F F' ok none down in
       record {
         beside = beside_more e _ _ F F' T (λ f h. inl h) ok.beside;
         copies = copies_same e F F' (λ f h. inl h) down l.newest l.copies ok.copies;
         stale = λ q lt. inr (inr (fresh_same e F F' (λ f h. inl h) down l.newest l.guest q (all_fresh e l T F ok none q lt)));
         states = λ ns b. elim [
           | inl h ↦ true_same e F F' (λ f h. inl h) down l.guest ns b (ok.states ns b h)
-          | inr z ↦ let w = state_is e e (listed l.newest 0 c) ns (m.body l.guest) b z in
-              subst (λ (x : List ℕ). TrueState m e F' l.guest x b) w.1 (subst (λ (x : B). TrueState m e F' l.guest (listed l.newest 0 c) x) w.2 mine)
+          | inr z ↦ let w = state_is e e (newest_numbers m l) ns (m.body l.guest) b z in
+              subst (λ (x : List ℕ). TrueState m e F' l.guest x b) w.1 (subst (λ (x : B). TrueState m e F' l.guest (newest_numbers m l) x) w.2 mine)
+        ];
+        numbers = ok.numbers;
+        now = ok.now;
+        parts = λ st i u x. elim [
+          | inl h ↦ piece_same e F F' (λ f h. inl h) down l.guest l.copies (ok.numbers st) st i u x (ok.parts st i u x h)
+          | inr z ↦ absurd (state_no_part e e st i u (newest_numbers m l) x (m.body l.guest) z)
+        ];
+        held = ok.held;
+      }
+
+  pub part_sent : (e : ℕ) (l : Last S) (T : Mode S P) (F : Frame P B → Type 0) → StoppedOk m e l T F → to_copy m l ≡ None → StoppedOk m e (next_turn m l) T (More F (Some (part_frame m e l)))
+  part_sent e l T F ok none =
+      let xs = pieces_of m l in
+      let F' = More F (Some (part_frame m e l)) in
+      let down : (p k : ℕ) (y : P) → F' (Page e p k y) → F (Page e p k y) = λ p k y. elim [ inl h ↦ h | inr z ↦ absurd (part_no_page e e l.copies l.turn (length xs) p k (get_or xs l.turn []) y z) ] in
+      let mine : TruePiece m e F' l.guest l.copies (newest_numbers m l) l.copies l.turn (length xs) (get_or xs l.turn []) =
+      record { stamp = omega arith; state = true_now e l T F F' ok none down; fits = fits_now e l T F ok; count = refl; piece = refl } in
+      record {
+        beside = beside_more e _ _ F F' T (λ f h. inl h) ok.beside;
+        copies = copies_same e F F' (λ f h. inl h) down l.newest l.copies ok.copies;
+        stale = λ q lt. inr (inr (fresh_same e F F' (λ f h. inl h) down l.newest l.guest q (all_fresh e l T F ok none q lt)));
+        states = λ ns b. elim [
+          | inl h ↦ true_same e F F' (λ f h. inl h) down l.guest ns b (ok.states ns b h)
+          | inr z ↦ absurd (part_no_state e e l.copies l.turn (length xs) (get_or xs l.turn []) ns b z)
+        ];
+        numbers = ok.numbers;
+        now = ok.now;
+        parts = λ st i u x. elim [
+          | inl h ↦ piece_same e F F' (λ f h. inl h) down l.guest l.copies (ok.numbers st) st i u x (ok.parts st i u x h)
+          | inr z ↦
+              let w = part_is e e l.copies st l.turn i (length xs) u (get_or xs l.turn []) x z in
+              subst (λ q. TruePiece m e F' l.guest l.copies (ok.numbers q) q i u x) w.0
+              (subst (λ ns. TruePiece m e F' l.guest l.copies ns l.copies i u x) (sym ok.now)
+              (subst (λ q. TruePiece m e F' l.guest l.copies (newest_numbers m l) l.copies q u x) w.1
+              (subst (λ q. TruePiece m e F' l.guest l.copies (newest_numbers m l) l.copies l.turn q x) w.2
+              (subst (λ (q : List ℕ). TruePiece m e F' l.guest l.copies (newest_numbers m l) l.copies l.turn (length xs) q) w.3 mine))))
         ];
         held = ok.held;
       }
@@ -276,6 +345,9 @@ module _ {S P E A B : Type 0} (m : Guest S P E A B) where
         copies = ok.copies;
         stale = λ q lt. elim (ok.stale q lt) [ inl a ↦ inl a | inr rest ↦ inr (elim rest [ inl a ↦ inl (or_left (l.to_fix q) _ a) | inr f ↦ inr f ]) ];
         states = ok.states;
+        numbers = ok.numbers;
+        now = ok.now;
+        parts = ok.parts;
         held = ok.held;
       }
 
@@ -296,7 +368,7 @@ module _ {S P E A B : Type 0} (m : Guest S P E A B) where
   open_ok e g p T F R i beside =
       record {
         beside = beside;
-        copies = record { number = λ q k b h. let z : e < e = i.own (Page e q k b) h in absurd (omega arith); given = λ q. omega arith };
+        copies = record { number = λ q k b h. let z : e < e = i.own (Page e q k b) h in absurd (omega arith); given = λ q. omega arith; fits = omega arith };
         stale = λ q lt. inl (omega arith, refl);
         skip = λ q h. absurd (both_false false h refl);
         over = λ h. absurd (both_false false h refl);
@@ -308,16 +380,8 @@ module _ {S P E A B : Type 0} (m : Guest S P E A B) where
 
   pub copy_page_pages : (n : ℕ) (r : Rounds S) (q : Option ℕ) (T : Mode S P) (F : Frame P B → Type 0) → CopyingOk m n r T F → r.stop ≡ false → least (λ x. r.to_send x && not (is_skipped r x)) r.scan (length (m.pages r.guest) - r.scan) ≡ q → KeptPages T F (copy_page m n r q)
   copy_page_pages n r (Some p) T F ok runs found =
-      either (KeptPages T F) (nat_le (2 ^ 32 - 1) r.copies) (refuses SeqSpent (Copying n r)) (sends_page m n r p) (λ _. ok) (λ _. copied_ok n r p T F ok runs (least_found _ _ _ p found))
+      either (KeptPages T F) (nat_le (2 ^ 32 - 1) r.copies) (refuses SeqSpent (Copying n r)) (sends_page m n r p) (λ _. ok) (λ below. copied_ok n r p T F ok runs below (least_found _ _ _ p found))
   copy_page_pages n r None T F ok runs found = round_ended n _ _ _ _ r T F ok found runs
-
-  pub copy_last_pages : (n : ℕ) (l : Last S) (q : Option ℕ) (T : Mode S P) (F : Frame P B → Type 0) → StoppedOk m n l T F → to_copy m l ≡ q → KeptPages T F (copy_last m n l q)
-  copy_last_pages n l (Some p) T F ok found = either (KeptPages T F) (nat_le (2 ^ 32 - 1) l.copies) (refuses SeqSpent (Stopped n l)) (sends_last m n l p) (λ _. ok) (λ _. last_copied_ok n l p T F ok)
-  copy_last_pages n l None T F ok found = state_sent n l T F ok found
-
-  pub resend_last_pages : (n : ℕ) (l : Last S) (q : Option ℕ) (T : Mode S P) (F : Frame P B → Type 0) → StoppedOk m n l T F → to_copy m l ≡ q → KeptPages T F (resend_last m n l q)
-  resend_last_pages n l (Some p) T F ok found = ok
-  resend_last_pages n l None T F ok found = state_sent n l T F ok found
 
   pub begin_pages : (p : Policy) (n : ℕ) (g : S) (T : Mode S P) (F R : Frame P B → Type 0) → Modes (Run n g) T F R → KeptPages T F (begin_allowed m p n g)
   begin_pages p n g T F R i =
@@ -329,23 +393,35 @@ module _ {S P E A B : Type 0} (m : Guest S P E A B) where
         beside_none n _ _ _ T i.meet,
       )
 
-  pub owner_pages : (c : Command E) (O T : Mode S P) (F R : Frame P B → Type 0) → Modes O T F R → Content m O T F → KeptPages T F (obey m c O)
+module _ {S P E A B : Type 0} (m : Guest S P E A B) (v : ℕ) where
+  sends_state_pages : (a b : Reply A) (n : ℕ) (l : Last S) (T : Mode S P) (F : Frame P B → Type 0) → StoppedOk m n l T F → to_copy m l ≡ None → KeptPages m T F (sends_state m v a b n l)
+  sends_state_pages a b n l T F ok found = either (KeptPages m T F) (is_compact v) _ _ (λ _. part_sent m n l T F ok found) (λ _. state_sent m n l T F ok found)
+
+  pub copy_last_pages : (n : ℕ) (l : Last S) (q : Option ℕ) (T : Mode S P) (F : Frame P B → Type 0) → StoppedOk m n l T F → to_copy m l ≡ q → KeptPages m T F (copy_last m v n l q)
+  copy_last_pages n l (Some p) T F ok found = either (KeptPages m T F) (nat_le (2 ^ 32 - 1) l.copies) (refuses SeqSpent (Stopped n l)) (sends_last m n l p) (λ _. ok) (λ below. last_copied_ok m n l p T F ok below)
+  copy_last_pages n l None T F ok found = sends_state_pages _ _ n l T F ok found
+
+  pub resend_last_pages : (n : ℕ) (l : Last S) (q : Option ℕ) (T : Mode S P) (F : Frame P B → Type 0) → StoppedOk m n l T F → to_copy m l ≡ q → KeptPages m T F (resend_last m v n l q)
+  resend_last_pages n l (Some p) T F ok found = ok
+  resend_last_pages n l None T F ok found = sends_state_pages _ _ n l T F ok found
+
+  pub owner_pages : (c : Command E) (O T : Mode S P) (F R : Frame P B → Type 0) → Modes O T F R → Content m O T F → KeptPages m T F (obey m v c O)
   owner_pages (Board e) (Offering n g p) T F R i ok =
       let c = m.same_length g e in let h = m.same_processors g e in
-      (λ a b z. let w = ok.0 a b z in (w.0 ∙ sym c, w.1 ∙ sym h), beside_same n _ _ _ _ F T (sym c) (sym h) ok.1)
-  owner_pages (Board e) (Copying n r) T F R i ok = board_copying e n r T F ok
+      (λ a b z. let w = ok.0 a b z in (w.0 ∙ sym c, w.1 ∙ sym h), beside_same m n _ _ _ _ F T (sym c) (sym h) ok.1)
+  owner_pages (Board e) (Copying n r) T F R i ok = board_copying m e n r T F ok
   owner_pages (Board e) (Stopped n l) T F R i ok = ok
-  owner_pages (Begin to p) (Run n g) T F R i ok = either (KeptPages T F) (is_allowed p) (begin_allowed m p n g) (refuses BadSize (Run n g)) (λ _. begin_pages p n g T F R i) (λ _. tt)
+  owner_pages (Begin to p) (Run n g) T F R i ok = either (KeptPages m T F) (is_allowed p) (begin_allowed m p n g) (refuses BadSize (Run n g)) (λ _. begin_pages m p n g T F R i) (λ _. tt)
   owner_pages (Begin to p) (Offering n g q) T F R i ok = ok
   owner_pages (Begin to p) (Copying n r) T F R i ok = ok
   owner_pages (Begin to p) (Stopped n l) T F R i ok = ok
   owner_pages Copy (Offering n g p) T F R i ok = ok
   owner_pages Copy (Copying n r) T F R i ok =
-      either (KeptPages T F) r.stop (says Stopping (Stopped n (stopped m r))) (copy_page m n r (least (λ x. r.to_send x && not (is_skipped r x)) r.scan (length (m.pages r.guest) - r.scan)))
-      (λ s. stopping n r T F ok i.meet (λ ns b h. let z : n < n = i.own (State n ns b) h in omega arith) s)
-      (λ s. copy_page_pages n r _ T F ok s refl)
+      either (KeptPages m T F) r.stop (says Stopping (Stopped n (stopped m r))) (copy_page m n r (least (λ x. r.to_send x && not (is_skipped r x)) r.scan (length (m.pages r.guest) - r.scan)))
+      (λ s. stopping m n r T F ok i.meet (λ ns b h. let z : n < n = i.own (State n ns b) h in omega arith) (λ st j u x h. let z : n < n = i.own (Part n st j u x) h in omega arith) s)
+      (λ s. copy_page_pages m n r _ T F ok s refl)
   owner_pages Copy (Stopped n l) T F R i ok = copy_last_pages n l (to_copy m l) T F ok refl
-  owner_pages Resend (Offering n g p) T F R i ok = (offer_again n g F ok.0, beside_more n _ _ F _ T (λ f h. inl h) ok.1)
+  owner_pages Resend (Offering n g p) T F R i ok = (offer_again m n g F ok.0, beside_more m n _ _ F _ T (λ f h. inl h) ok.1)
   owner_pages Resend (Copying n r) T F R i ok = ok
   owner_pages Resend (Stopped n l) T F R i ok = resend_last_pages n l (to_copy m l) T F ok refl
   owner_pages c (Empty n) T F R i ok = absurd i.meet

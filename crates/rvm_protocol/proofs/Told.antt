@@ -2,7 +2,7 @@
 use Rattle.std.proofs.Common.{◌≡◌, ℕ, suc, ◌<◌, ◌==◌, ◌^◌, ◌-◌, Bool, true, false, not, ◌&&◌, nat_lt, nat_le, length, Option, Some, None, refl, ap, ◌∙◌, arith}
 use Rattle.std.proofs.lemmas.Bool.{ltb-true, eqb-true}
 use Rattle.rvm_protocol.specs.Commands.{Command, Board, Begin, Copy, Resend, AbortMove, HostEvent, Do, Came, is_allowed}
-use Rattle.rvm_protocol.specs.Frames.{Frame, Offer, Accept, Refuse, Page, RoundEnd, Lost, State, Ready, Go, Started, Abort}
+use Rattle.rvm_protocol.specs.Frames.{Frame, Offer, Accept, Refuse, Page, RoundEnd, Lost, State, Ready, Go, Started, Abort, is_compact, Part, Zero}
 use Rattle.rvm_protocol.specs.Guest.{Guest}
 use Rattle.rvm_protocol.specs.Modes.{Mode, Empty, Run, Offering, Copying, Stopped, Given, Staging, Held, Outcome, ignores, says, sends, refuses, move_of, guest_in}
 use Rattle.rvm_protocol.specs.Obeying.{obey, begun, begin_allowed, copy_page, sends_page, copy_last, sends_last, resend_last}
@@ -16,6 +16,7 @@ use Rattle.rvm_protocol.proofs.Invariant.{Meet, Modes}
 use Rattle.rvm_protocol.proofs.Modes.{either, held_num}
 use Rattle.rvm_protocol.proofs.Other.{alone}
 use Rattle.rvm_protocol.proofs.Sets.{put_same}
+use Rattle.rvm_protocol.proofs.Cases.{state_cases, part_cases}
 
 abbrev pub onto : {X : Type 0} → (X → X) → Option X → Option X
 onto f None = None
@@ -91,62 +92,62 @@ module _ {S P E A B : Type 0} (m : Guest S P E A B) where
         target = λ ts d a t. t;
       }
 
-  last_told : (n : ℕ) (l : Last S) (q : Option ℕ) → TellsKept (Do Copy) (Stopped n l) (copy_last m n l q)
-  last_told n l (Some p) =
+  last_told : (v : ℕ) → (n : ℕ) (l : Last S) (q : Option ℕ) → TellsKept (Do Copy) (Stopped n l) (copy_last m v n l q)
+  last_told v n l (Some p) =
       either (TellsKept (Do Copy) (Stopped n l)) (nat_le (2 ^ 32 - 1) l.copies) (refuses SeqSpent (Stopped n l)) (sends_last m n l p) (λ _. record { guest = refl; paused = refl; held = refl; current = λ ts x. refl; target = λ ts d a t. t }) (λ _. record { guest = refl; paused = refl; held = refl; current = λ ts x. refl; target = λ ts d a t. t })
-  last_told n l None = record { guest = refl; paused = refl; held = refl; current = λ ts x. refl; target = λ ts d a t. t }
+  last_told v n l None = either (TellsKept (Do Copy) (Stopped n l)) (is_compact v) _ _ (λ _. record { guest = refl; paused = refl; held = refl; current = λ ts x. refl; target = λ ts d a t. t }) (λ _. record { guest = refl; paused = refl; held = refl; current = λ ts x. refl; target = λ ts d a t. t })
 
-  resent_told : (n : ℕ) (l : Last S) (q : Option ℕ) → TellsKept (Do Resend) (Stopped n l) (resend_last m n l q)
-  resent_told n l (Some p) = record { guest = refl; paused = refl; held = refl; current = λ ts x. refl; target = λ ts d a t. t }
-  resent_told n l None = record { guest = refl; paused = refl; held = refl; current = λ ts x. refl; target = λ ts d a t. t }
+  resent_told : (v : ℕ) → (n : ℕ) (l : Last S) (q : Option ℕ) → TellsKept (Do Resend) (Stopped n l) (resend_last m v n l q)
+  resent_told v n l (Some p) = record { guest = refl; paused = refl; held = refl; current = λ ts x. refl; target = λ ts d a t. t }
+  resent_told v n l None = either (TellsKept (Do Resend) (Stopped n l)) (is_compact v) _ _ (λ _. record { guest = refl; paused = refl; held = refl; current = λ ts x. refl; target = λ ts d a t. t }) (λ _. record { guest = refl; paused = refl; held = refl; current = λ ts x. refl; target = λ ts d a t. t })
 
-  pub commanded : (c : Command E) (O : Mode S P) → TellsKept (Do c) O (obey m c O)
-  commanded (Board e) (Empty n) = record { guest = refl; paused = refl; held = refl; current = λ ts x. refl; target = λ ts d a t. t }
-  commanded (Board e) (Run n g) = record { guest = refl; paused = refl; held = refl; current = λ ts x. refl; target = λ ts d a t. t }
-  commanded (Board e) (Offering n g p) = record { guest = refl; paused = refl; held = refl; current = λ ts x. refl; target = λ ts d a t. t }
-  commanded (Board e) (Copying n r) = record { guest = refl; paused = refl; held = refl; current = λ ts x. refl; target = λ ts d a t. t }
-  commanded (Board e) (Stopped n l) = record { guest = refl; paused = refl; held = refl; current = λ ts x. refl; target = λ ts d a t. t }
-  commanded (Board e) (Given n) = record { guest = refl; paused = refl; held = refl; current = λ ts x. refl; target = λ ts d a t. t }
-  commanded (Board e) (Staging n s) = record { guest = refl; paused = refl; held = refl; current = λ ts x. refl; target = λ ts d a t. t }
-  commanded (Board e) (Held n g) = record { guest = refl; paused = refl; held = refl; current = λ ts x. refl; target = λ ts d a t. t }
-  commanded (Begin to q) (Empty n) = record { guest = refl; paused = refl; held = refl; current = λ ts x. refl; target = λ ts d a t. t }
-  commanded (Begin to q) (Run n g) =
+  pub commanded : (v : ℕ) → (c : Command E) (O : Mode S P) → TellsKept (Do c) O (obey m v c O)
+  commanded v (Board e) (Empty n) = record { guest = refl; paused = refl; held = refl; current = λ ts x. refl; target = λ ts d a t. t }
+  commanded v (Board e) (Run n g) = record { guest = refl; paused = refl; held = refl; current = λ ts x. refl; target = λ ts d a t. t }
+  commanded v (Board e) (Offering n g p) = record { guest = refl; paused = refl; held = refl; current = λ ts x. refl; target = λ ts d a t. t }
+  commanded v (Board e) (Copying n r) = record { guest = refl; paused = refl; held = refl; current = λ ts x. refl; target = λ ts d a t. t }
+  commanded v (Board e) (Stopped n l) = record { guest = refl; paused = refl; held = refl; current = λ ts x. refl; target = λ ts d a t. t }
+  commanded v (Board e) (Given n) = record { guest = refl; paused = refl; held = refl; current = λ ts x. refl; target = λ ts d a t. t }
+  commanded v (Board e) (Staging n s) = record { guest = refl; paused = refl; held = refl; current = λ ts x. refl; target = λ ts d a t. t }
+  commanded v (Board e) (Held n g) = record { guest = refl; paused = refl; held = refl; current = λ ts x. refl; target = λ ts d a t. t }
+  commanded v (Begin to q) (Empty n) = record { guest = refl; paused = refl; held = refl; current = λ ts x. refl; target = λ ts d a t. t }
+  commanded v (Begin to q) (Run n g) =
       either (TellsKept (Do (Begin to q)) (Run n g)) (is_allowed q) (begin_allowed m q n g) (refuses BadSize (Run n g))
       (λ _. either (TellsKept (Do (Begin to q)) (Run n g)) (n == 2 ^ 64 - 1) (refuses EpochsSpent (Run n g)) (begun m q n g) (λ _. record { guest = refl; paused = refl; held = refl; current = λ ts x. refl; target = λ ts d a t. t }) (λ _. record { guest = refl; paused = refl; held = refl; current = λ ts x. refl; target = λ ts d a t. put_same ts (suc n) to ∙ a }))
       (λ _. record { guest = refl; paused = refl; held = refl; current = λ ts x. refl; target = λ ts d a t. t })
-  commanded (Begin to q) (Offering n g p) = record { guest = refl; paused = refl; held = refl; current = λ ts x. refl; target = λ ts d a t. t }
-  commanded (Begin to q) (Copying n r) = record { guest = refl; paused = refl; held = refl; current = λ ts x. refl; target = λ ts d a t. t }
-  commanded (Begin to q) (Stopped n l) = record { guest = refl; paused = refl; held = refl; current = λ ts x. refl; target = λ ts d a t. t }
-  commanded (Begin to q) (Given n) = record { guest = refl; paused = refl; held = refl; current = λ ts x. refl; target = λ ts d a t. t }
-  commanded (Begin to q) (Staging n s) = record { guest = refl; paused = refl; held = refl; current = λ ts x. refl; target = λ ts d a t. t }
-  commanded (Begin to q) (Held n g) = record { guest = refl; paused = refl; held = refl; current = λ ts x. refl; target = λ ts d a t. t }
-  commanded Copy (Empty n) = record { guest = refl; paused = refl; held = refl; current = λ ts x. refl; target = λ ts d a t. t }
-  commanded Copy (Run n g) = record { guest = refl; paused = refl; held = refl; current = λ ts x. refl; target = λ ts d a t. t }
-  commanded Copy (Offering n g p) = record { guest = refl; paused = refl; held = refl; current = λ ts x. refl; target = λ ts d a t. t }
-  commanded Copy (Copying n r) =
+  commanded v (Begin to q) (Offering n g p) = record { guest = refl; paused = refl; held = refl; current = λ ts x. refl; target = λ ts d a t. t }
+  commanded v (Begin to q) (Copying n r) = record { guest = refl; paused = refl; held = refl; current = λ ts x. refl; target = λ ts d a t. t }
+  commanded v (Begin to q) (Stopped n l) = record { guest = refl; paused = refl; held = refl; current = λ ts x. refl; target = λ ts d a t. t }
+  commanded v (Begin to q) (Given n) = record { guest = refl; paused = refl; held = refl; current = λ ts x. refl; target = λ ts d a t. t }
+  commanded v (Begin to q) (Staging n s) = record { guest = refl; paused = refl; held = refl; current = λ ts x. refl; target = λ ts d a t. t }
+  commanded v (Begin to q) (Held n g) = record { guest = refl; paused = refl; held = refl; current = λ ts x. refl; target = λ ts d a t. t }
+  commanded v Copy (Empty n) = record { guest = refl; paused = refl; held = refl; current = λ ts x. refl; target = λ ts d a t. t }
+  commanded v Copy (Run n g) = record { guest = refl; paused = refl; held = refl; current = λ ts x. refl; target = λ ts d a t. t }
+  commanded v Copy (Offering n g p) = record { guest = refl; paused = refl; held = refl; current = λ ts x. refl; target = λ ts d a t. t }
+  commanded v Copy (Copying n r) =
       either (TellsKept (Do Copy) (Copying n r)) r.stop (says Stopping (Stopped n (stopped m r))) (copy_page m n r (least (λ x. r.to_send x && not (is_skipped r x)) r.scan (length (m.pages r.guest) - r.scan)))
       (λ _. record { guest = refl; paused = refl; held = refl; current = λ ts x. refl; target = λ ts d a t. t })
       (λ _. copied_told n r _)
-  commanded Copy (Stopped n l) = last_told n l (to_copy m l)
-  commanded Copy (Given n) = record { guest = refl; paused = refl; held = refl; current = λ ts x. refl; target = λ ts d a t. t }
-  commanded Copy (Staging n s) = record { guest = refl; paused = refl; held = refl; current = λ ts x. refl; target = λ ts d a t. t }
-  commanded Copy (Held n g) = record { guest = refl; paused = refl; held = refl; current = λ ts x. refl; target = λ ts d a t. t }
-  commanded Resend (Empty n) = record { guest = refl; paused = refl; held = refl; current = λ ts x. refl; target = λ ts d a t. t }
-  commanded Resend (Run n g) = record { guest = refl; paused = refl; held = refl; current = λ ts x. refl; target = λ ts d a t. t }
-  commanded Resend (Offering n g p) = record { guest = refl; paused = refl; held = refl; current = λ ts x. refl; target = λ ts d a t. t }
-  commanded Resend (Copying n r) = record { guest = refl; paused = refl; held = refl; current = λ ts x. refl; target = λ ts d a t. t }
-  commanded Resend (Stopped n l) = resent_told n l (to_copy m l)
-  commanded Resend (Given n) = record { guest = refl; paused = refl; held = refl; current = λ ts x. refl; target = λ ts d a t. t }
-  commanded Resend (Staging n s) = record { guest = refl; paused = refl; held = refl; current = λ ts x. refl; target = λ ts d a t. t }
-  commanded Resend (Held n g) = record { guest = refl; paused = refl; held = refl; current = λ ts x. refl; target = λ ts d a t. t }
-  commanded AbortMove (Empty n) = record { guest = refl; paused = refl; held = refl; current = λ ts x. refl; target = λ ts d a t. t }
-  commanded AbortMove (Run n g) = record { guest = refl; paused = refl; held = refl; current = λ ts x. refl; target = λ ts d a t. t }
-  commanded AbortMove (Offering n g p) = record { guest = refl; paused = refl; held = refl; current = λ ts x. refl; target = λ ts d a t. tt }
-  commanded AbortMove (Copying n r) = record { guest = refl; paused = refl; held = refl; current = λ ts x. refl; target = λ ts d a t. tt }
-  commanded AbortMove (Stopped n l) = record { guest = refl; paused = refl; held = refl; current = λ ts x. refl; target = λ ts d a t. tt }
-  commanded AbortMove (Given n) = record { guest = refl; paused = refl; held = refl; current = λ ts x. refl; target = λ ts d a t. t }
-  commanded AbortMove (Staging n s) = record { guest = refl; paused = refl; held = refl; current = λ ts x. refl; target = λ ts d a t. t }
-  commanded AbortMove (Held n g) = record { guest = refl; paused = refl; held = refl; current = λ ts x. refl; target = λ ts d a t. t }
+  commanded v Copy (Stopped n l) = last_told v n l (to_copy m l)
+  commanded v Copy (Given n) = record { guest = refl; paused = refl; held = refl; current = λ ts x. refl; target = λ ts d a t. t }
+  commanded v Copy (Staging n s) = record { guest = refl; paused = refl; held = refl; current = λ ts x. refl; target = λ ts d a t. t }
+  commanded v Copy (Held n g) = record { guest = refl; paused = refl; held = refl; current = λ ts x. refl; target = λ ts d a t. t }
+  commanded v Resend (Empty n) = record { guest = refl; paused = refl; held = refl; current = λ ts x. refl; target = λ ts d a t. t }
+  commanded v Resend (Run n g) = record { guest = refl; paused = refl; held = refl; current = λ ts x. refl; target = λ ts d a t. t }
+  commanded v Resend (Offering n g p) = record { guest = refl; paused = refl; held = refl; current = λ ts x. refl; target = λ ts d a t. t }
+  commanded v Resend (Copying n r) = record { guest = refl; paused = refl; held = refl; current = λ ts x. refl; target = λ ts d a t. t }
+  commanded v Resend (Stopped n l) = resent_told v n l (to_copy m l)
+  commanded v Resend (Given n) = record { guest = refl; paused = refl; held = refl; current = λ ts x. refl; target = λ ts d a t. t }
+  commanded v Resend (Staging n s) = record { guest = refl; paused = refl; held = refl; current = λ ts x. refl; target = λ ts d a t. t }
+  commanded v Resend (Held n g) = record { guest = refl; paused = refl; held = refl; current = λ ts x. refl; target = λ ts d a t. t }
+  commanded v AbortMove (Empty n) = record { guest = refl; paused = refl; held = refl; current = λ ts x. refl; target = λ ts d a t. t }
+  commanded v AbortMove (Run n g) = record { guest = refl; paused = refl; held = refl; current = λ ts x. refl; target = λ ts d a t. t }
+  commanded v AbortMove (Offering n g p) = record { guest = refl; paused = refl; held = refl; current = λ ts x. refl; target = λ ts d a t. tt }
+  commanded v AbortMove (Copying n r) = record { guest = refl; paused = refl; held = refl; current = λ ts x. refl; target = λ ts d a t. tt }
+  commanded v AbortMove (Stopped n l) = record { guest = refl; paused = refl; held = refl; current = λ ts x. refl; target = λ ts d a t. tt }
+  commanded v AbortMove (Given n) = record { guest = refl; paused = refl; held = refl; current = λ ts x. refl; target = λ ts d a t. t }
+  commanded v AbortMove (Staging n s) = record { guest = refl; paused = refl; held = refl; current = λ ts x. refl; target = λ ts d a t. t }
+  commanded v AbortMove (Held n g) = record { guest = refl; paused = refl; held = refl; current = λ ts x. refl; target = λ ts d a t. t }
 
   module _ (y : ℕ) where
     ignored_told : (f : Frame P B) (O : Mode S P) → TellsOwner (Came y f) O (ignores O)
@@ -178,6 +179,8 @@ module _ {S P E A B : Type 0} (m : Guest S P E A B) where
     received limit (Go k) (Run n g) T F R h i = equal_told n k _ (Go k) (Run n g) λ e. record { guest = refl; paused = refl; held = refl; current = λ ts x. refl; target = λ ts d a t. t }
     received limit (Go k) (Held n g) T F R h i = equal_told n k _ (Go k) (Held n g) λ e. record { guest = refl; paused = refl; held = refl; current = λ ts x. refl; target = λ ts d a t. t }
     received limit (State k ns b) (Held n g) T F R h i = equal_told n k _ (State k ns b) (Held n g) λ e. record { guest = refl; paused = refl; held = refl; current = λ ts x. refl; target = λ ts d a t. t }
+    received limit (Part k st j u x) (Held n g) T F R h i = equal_told n k _ (Part k st j u x) (Held n g) λ e. record { guest = refl; paused = refl; held = refl; current = λ ts x. refl; target = λ ts d a t. t }
+    received limit (Part k st j u x) (Staging n s) T F R h i = absurd i.meet
     received limit (Abort k) (Held n g) T F R h i =
         equal_told n k _ (Abort k) (Held n g) λ e. let lt : k < move_of T = i.their (Abort k) h in let same : move_of T ≡ n = held_num n T i.meet in absurd (omega arith)
     received limit (Page k p q b) (Staging n s) T F R h i = absurd i.meet
@@ -185,34 +188,35 @@ module _ {S P E A B : Type 0} (m : Guest S P E A B) where
     received limit (State k ns b) (Staging n s) T F R h i = absurd i.meet
     received limit (Started k) (Given n) T F R h i = absurd i.meet
     received limit (Abort k) (Staging n s) T F R h i = absurd i.meet
+    received limit (Zero k p n) O T F R h i = ignored_told (Zero k p n) O
     received limit f O T F R h i = record { guest = refl; paused = refl; held = refl; current = λ ts x. refl; target = λ ts d a t. t }
 
     -- a command at the other host
-    pub commanded_other : (c : Command E) (O T : Mode S P) → Meet O T → TellsOther (Do c) T (obey m c T)
-    commanded_other (Board e) O (Empty n) i = record { guest = λ g. refl; paused = λ b. refl; held = refl; current = λ ts x. refl; targets = λ ts. refl }
-    commanded_other (Board e) O (Given n) i = record { guest = λ g. refl; paused = λ b. refl; held = refl; current = λ ts x. refl; targets = λ ts. refl }
-    commanded_other (Board e) O (Staging n s) i = record { guest = λ g. refl; paused = λ b. refl; held = refl; current = λ ts x. refl; targets = λ ts. refl }
-    commanded_other (Board e) O (Held n g) i = record { guest = λ g. refl; paused = λ b. refl; held = refl; current = λ ts x. refl; targets = λ ts. refl }
-    commanded_other (Begin to q) O (Empty n) i = record { guest = λ g. refl; paused = λ b. refl; held = refl; current = λ ts x. refl; targets = λ ts. refl }
-    commanded_other (Begin to q) O (Given n) i = record { guest = λ g. refl; paused = λ b. refl; held = refl; current = λ ts x. refl; targets = λ ts. refl }
-    commanded_other (Begin to q) O (Staging n s) i = record { guest = λ g. refl; paused = λ b. refl; held = refl; current = λ ts x. refl; targets = λ ts. refl }
-    commanded_other (Begin to q) O (Held n g) i = record { guest = λ g. refl; paused = λ b. refl; held = refl; current = λ ts x. refl; targets = λ ts. refl }
-    commanded_other Copy O (Empty n) i = record { guest = λ g. refl; paused = λ b. refl; held = refl; current = λ ts x. refl; targets = λ ts. refl }
-    commanded_other Copy O (Given n) i = record { guest = λ g. refl; paused = λ b. refl; held = refl; current = λ ts x. refl; targets = λ ts. refl }
-    commanded_other Copy O (Staging n s) i = record { guest = λ g. refl; paused = λ b. refl; held = refl; current = λ ts x. refl; targets = λ ts. refl }
-    commanded_other Copy O (Held n g) i = record { guest = λ g. refl; paused = λ b. refl; held = refl; current = λ ts x. refl; targets = λ ts. refl }
-    commanded_other Resend O (Empty n) i = record { guest = λ g. refl; paused = λ b. refl; held = refl; current = λ ts x. refl; targets = λ ts. refl }
-    commanded_other Resend O (Given n) i = record { guest = λ g. refl; paused = λ b. refl; held = refl; current = λ ts x. refl; targets = λ ts. refl }
-    commanded_other Resend O (Staging n s) i = record { guest = λ g. refl; paused = λ b. refl; held = refl; current = λ ts x. refl; targets = λ ts. refl }
-    commanded_other Resend O (Held n g) i = record { guest = λ g. refl; paused = λ b. refl; held = refl; current = λ ts x. refl; targets = λ ts. refl }
-    commanded_other AbortMove O (Empty n) i = record { guest = λ g. refl; paused = λ b. refl; held = refl; current = λ ts x. refl; targets = λ ts. refl }
-    commanded_other AbortMove O (Given n) i = record { guest = λ g. refl; paused = λ b. refl; held = refl; current = λ ts x. refl; targets = λ ts. refl }
-    commanded_other AbortMove O (Staging n s) i = record { guest = λ g. refl; paused = λ b. refl; held = refl; current = λ ts x. refl; targets = λ ts. refl }
-    commanded_other AbortMove O (Held n g) i = record { guest = λ g. refl; paused = λ b. refl; held = refl; current = λ ts x. refl; targets = λ ts. refl }
-    commanded_other c O (Run n g) i = absurd (alone O (Run n g) i)
-    commanded_other c O (Offering n g p) i = absurd (alone O (Offering n g p) i)
-    commanded_other c O (Copying n r) i = absurd (alone O (Copying n r) i)
-    commanded_other c O (Stopped n l) i = absurd (alone O (Stopped n l) i)
+    pub commanded_other : (v : ℕ) → (c : Command E) (O T : Mode S P) → Meet O T → TellsOther (Do c) T (obey m v c T)
+    commanded_other v (Board e) O (Empty n) i = record { guest = λ g. refl; paused = λ b. refl; held = refl; current = λ ts x. refl; targets = λ ts. refl }
+    commanded_other v (Board e) O (Given n) i = record { guest = λ g. refl; paused = λ b. refl; held = refl; current = λ ts x. refl; targets = λ ts. refl }
+    commanded_other v (Board e) O (Staging n s) i = record { guest = λ g. refl; paused = λ b. refl; held = refl; current = λ ts x. refl; targets = λ ts. refl }
+    commanded_other v (Board e) O (Held n g) i = record { guest = λ g. refl; paused = λ b. refl; held = refl; current = λ ts x. refl; targets = λ ts. refl }
+    commanded_other v (Begin to q) O (Empty n) i = record { guest = λ g. refl; paused = λ b. refl; held = refl; current = λ ts x. refl; targets = λ ts. refl }
+    commanded_other v (Begin to q) O (Given n) i = record { guest = λ g. refl; paused = λ b. refl; held = refl; current = λ ts x. refl; targets = λ ts. refl }
+    commanded_other v (Begin to q) O (Staging n s) i = record { guest = λ g. refl; paused = λ b. refl; held = refl; current = λ ts x. refl; targets = λ ts. refl }
+    commanded_other v (Begin to q) O (Held n g) i = record { guest = λ g. refl; paused = λ b. refl; held = refl; current = λ ts x. refl; targets = λ ts. refl }
+    commanded_other v Copy O (Empty n) i = record { guest = λ g. refl; paused = λ b. refl; held = refl; current = λ ts x. refl; targets = λ ts. refl }
+    commanded_other v Copy O (Given n) i = record { guest = λ g. refl; paused = λ b. refl; held = refl; current = λ ts x. refl; targets = λ ts. refl }
+    commanded_other v Copy O (Staging n s) i = record { guest = λ g. refl; paused = λ b. refl; held = refl; current = λ ts x. refl; targets = λ ts. refl }
+    commanded_other v Copy O (Held n g) i = record { guest = λ g. refl; paused = λ b. refl; held = refl; current = λ ts x. refl; targets = λ ts. refl }
+    commanded_other v Resend O (Empty n) i = record { guest = λ g. refl; paused = λ b. refl; held = refl; current = λ ts x. refl; targets = λ ts. refl }
+    commanded_other v Resend O (Given n) i = record { guest = λ g. refl; paused = λ b. refl; held = refl; current = λ ts x. refl; targets = λ ts. refl }
+    commanded_other v Resend O (Staging n s) i = record { guest = λ g. refl; paused = λ b. refl; held = refl; current = λ ts x. refl; targets = λ ts. refl }
+    commanded_other v Resend O (Held n g) i = record { guest = λ g. refl; paused = λ b. refl; held = refl; current = λ ts x. refl; targets = λ ts. refl }
+    commanded_other v AbortMove O (Empty n) i = record { guest = λ g. refl; paused = λ b. refl; held = refl; current = λ ts x. refl; targets = λ ts. refl }
+    commanded_other v AbortMove O (Given n) i = record { guest = λ g. refl; paused = λ b. refl; held = refl; current = λ ts x. refl; targets = λ ts. refl }
+    commanded_other v AbortMove O (Staging n s) i = record { guest = λ g. refl; paused = λ b. refl; held = refl; current = λ ts x. refl; targets = λ ts. refl }
+    commanded_other v AbortMove O (Held n g) i = record { guest = λ g. refl; paused = λ b. refl; held = refl; current = λ ts x. refl; targets = λ ts. refl }
+    commanded_other v c O (Run n g) i = absurd (alone O (Run n g) i)
+    commanded_other v c O (Offering n g p) i = absurd (alone O (Offering n g p) i)
+    commanded_other v c O (Copying n r) i = absurd (alone O (Copying n r) i)
+    commanded_other v c O (Stopped n l) i = absurd (alone O (Stopped n l) i)
 
     ignored_other : (f : Frame P B) (T : Mode S P) → TellsOther (Came y f) T (ignores T)
     ignored_other f T = record { guest = λ g. refl; paused = λ b. refl; held = refl; current = λ ts x. refl; targets = λ ts. refl }
@@ -226,10 +230,6 @@ module _ {S P E A B : Type 0} (m : Guest S P E A B) where
         (λ _. either (TellsOther (Came y (Offer k a b)) T) (nat_lt limit a) _ _ (λ _. record { guest = λ g. refl; paused = λ b. refl; held = refl; current = λ ts x. refl; targets = λ ts. refl }) (λ _. record { guest = λ g. refl; paused = λ b. refl; held = refl; current = λ ts x. refl; targets = λ ts. refl }))
         (λ _. ignored_other (Offer k a b) T)
 
-    guest_other : (n : ℕ) (s : Stage P) (q : Option S) (f : Frame P B) → TellsOther (Came y f) (Staging n s) (guest_read m n s q)
-    guest_other n s None f = record { guest = λ g. refl; paused = λ b. refl; held = refl; current = λ ts x. refl; targets = λ ts. refl }
-    guest_other n s (Some g) f = record { guest = λ g. refl; paused = λ b. refl; held = refl; current = λ ts x. refl; targets = λ ts. refl }
-
     -- a frame that comes to the other host
     pub received_other : (limit : ℕ) (f : Frame P B) (O T : Mode S P) (F R : Frame P B → Type 0) → F f → Modes O T F R → TellsOther (Came y f) T (came m limit f T)
     received_other limit (Offer k a b) O (Empty n) F R h i = above_other limit n k a b (Empty n)
@@ -242,11 +242,16 @@ module _ {S P E A B : Type 0} (m : Guest S P E A B) where
         either (TellsOther (Came y (Page k p q b)) (Staging n s)) (nat_lt p (length s.pages) && nat_lt (s.have p) q) _ (ignores (Staging n s)) (λ _. record { guest = λ g. refl; paused = λ b. refl; held = refl; current = λ ts x. refl; targets = λ ts. refl }) (λ _. record { guest = λ g. refl; paused = λ b. refl; held = refl; current = λ ts x. refl; targets = λ ts. refl })
     received_other limit (RoundEnd k a b c d) O (Staging n s) F R h i = equal_other n k _ (RoundEnd k a b c d) (Staging n s) λ e. record { guest = λ g. refl; paused = λ b. refl; held = refl; current = λ ts x. refl; targets = λ ts. refl }
     received_other limit (State k ns b) O (Staging n s) F R h i =
-        let f : Frame P B = State k ns b in
         equal_other n k _ (State k ns b) (Staging n s) λ e.
-        either (TellsOther (Came y (State k ns b)) (Staging n s)) (length ns == length s.pages) (state_compared m n s ns b) (refuses BadState (Staging n s))
-        (λ _. either (TellsOther (Came y (State k ns b)) (Staging n s)) (nat_lt 0 (size (lacks s ns) (length s.pages))) _ (guest_read m n s (m.build s.processors b s.pages)) (λ _. record { guest = λ g. refl; paused = λ b. refl; held = refl; current = λ ts x. refl; targets = λ ts. refl }) (λ _. guest_other n s (m.build s.processors b s.pages) (State k ns b)))
+        state_cases m (TellsOther (Came y (State k ns b)) (Staging n s)) n s s ns b (record { guest = λ g. refl; paused = λ b. refl; held = refl; current = λ ts x. refl; targets = λ ts. refl }) (record { guest = λ g. refl; paused = λ b. refl; held = refl; current = λ ts x. refl; targets = λ ts. refl })
+        (λ g _ _. record { guest = λ g. refl; paused = λ b. refl; held = refl; current = λ ts x. refl; targets = λ ts. refl })
+    received_other limit (Part k st p u x) O (Staging n s) F R h i =
+        equal_other n k _ (Part k st p u x) (Staging n s) λ e.
+        part_cases m (TellsOther (Came y (Part k st p u x)) (Staging n s)) n s st p u x (record { guest = λ g. refl; paused = λ b. refl; held = refl; current = λ ts x. refl; targets = λ ts. refl }) (record { guest = λ g. refl; paused = λ b. refl; held = refl; current = λ ts x. refl; targets = λ ts. refl })
         (λ _. record { guest = λ g. refl; paused = λ b. refl; held = refl; current = λ ts x. refl; targets = λ ts. refl })
+        (λ _ ns. record { guest = λ g. refl; paused = λ b. refl; held = refl; current = λ ts x. refl; targets = λ ts. refl })
+        (λ _ xs ns b g _ _ _ _. record { guest = λ g. refl; paused = λ b. refl; held = refl; current = λ ts x. refl; targets = λ ts. refl })
+    received_other limit (Part k st p u x) O (Held n g) F R h i = equal_other n k _ (Part k st p u x) (Held n g) λ e. record { guest = λ g. refl; paused = λ b. refl; held = refl; current = λ ts x. refl; targets = λ ts. refl }
     received_other limit (State k ns b) O (Held n g) F R h i = equal_other n k _ (State k ns b) (Held n g) λ e. record { guest = λ g. refl; paused = λ b. refl; held = refl; current = λ ts x. refl; targets = λ ts. refl }
     received_other limit (Go k) O (Held n g) F R h i =
         equal_other n k _ (Go k) (Held n g) λ e. let lt : k < n = i.own (Go k) h in absurd (omega arith)

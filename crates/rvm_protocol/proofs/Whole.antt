@@ -1,12 +1,12 @@
 -- One event of the world, whole runs, and the law.
-use Rattle.std.proofs.Common.{◌≡◌, ◌≢◌, ◌⊎◌, inl, inr, ℕ, zero, suc, ◌<◌, ◌≤◌, ◌==◌, ◌-◌, ◌^◌, nat_lt, not, ◌||◌, Bool, true, false, ◌&&◌, if◌then◌else◌, List, [], ◌∷◌, ◌++◌, length, Option, Some, None, refl, sym, ap, ◌∙◌, subst, arith}
+use Rattle.std.proofs.Common.{◌≡◌, ◌≢◌, ◌⊎◌, inl, inr, ℕ, zero, suc, ◌<◌, ◌≤◌, ◌==◌, ◌-◌, ◌^◌, nat_lt, not, ◌||◌, Bool, true, false, ◌&&◌, if◌then◌else◌, List, [], ◌∷◌, ◌++◌, length, Option, Some, None, refl, sym, ap, ◌∙◌, subst, arith, get_or}
 use Rattle.std.specs.Prelude.{slice_get}
 use Rattle.std.proofs.lemmas.Bool.{ltb-true, eqb-true, eq-eqb, ne_eqb}
 use Rattle.rvm_protocol.specs.Commands.{Policy, Command, Board, Begin, Copy, Resend, AbortMove, HostEvent, Do, Came, is_allowed}
-use Rattle.rvm_protocol.specs.Frames.{Frame, Offer, Accept, Refuse, Page, RoundEnd, Lost, State, Ready, Go, Started, Abort, Addressed, posted}
+use Rattle.rvm_protocol.specs.Frames.{Frame, Offer, Accept, Refuse, Page, RoundEnd, Lost, State, Ready, Go, Started, Abort, Addressed, posted, Part, Zero, read, plain, made_as, written, is_compact}
 use Rattle.rvm_protocol.specs.FreshCopies.{NewestCopy, CopiesAreFresh, NoStalePage}
 use Rattle.rvm_protocol.specs.Guest.{Guest}
-use Rattle.rvm_protocol.specs.Host.{Host, obey_at, came_at, is_there, is_heard, is_offer_above, partner_then}
+use Rattle.rvm_protocol.specs.Host.{Host, obey_at, came_at, is_there, is_heard, is_offer_above, partner_then, outcome, addressee}
 use Rattle.rvm_protocol.specs.Modes.{Mode, Empty, Run, Offering, Copying, Stopped, Given, Staging, Held, Outcome, move_of, ignores, sends, refuses, guest_in}
 use Rattle.rvm_protocol.specs.NeverMoving.{is_answer, accepted_here, answered_here, accepted, answered, fold, fold_answers}
 use Rattle.rvm_protocol.specs.Obeying.{obey, board, begin, begin_allowed, begun}
@@ -21,12 +21,13 @@ use Rattle.rvm_protocol.specs.World.{World, Event, At, Deliver, Entry, mode_at, 
 use Rattle.rvm_protocol.proofs.Invariant.{More, New, lim, own_ok, their_ok, Meet, HoldsNone, Modes, CopiesOk, IsFresh, Content}
 use Rattle.rvm_protocol.proofs.Modes.{either, owner_obeys, owner_receives, turned}
 use Rattle.rvm_protocol.proofs.Other.{other_obeys, other_receives, alone}
-use Rattle.rvm_protocol.proofs.Sets.{some_is, both_false, is_either, or_true, put_same, same_or}
+use Rattle.rvm_protocol.proofs.Sets.{some_is, both_false, is_either, or_true, put_same, same_or, and_both}
 use Rattle.rvm_protocol.proofs.Source.{owner_pages}
-use Rattle.rvm_protocol.proofs.Destination.{owner_pages_came, other_pages_came, turned_pages}
+use Rattle.rvm_protocol.proofs.Destination.{owner_pages_came, other_pages_came, turned_pages, pieces_are_sent}
 use Rattle.rvm_protocol.proofs.Told.{onto_same, is_paused, is_stopped, is_held, TargetOk, aims, Tells, TellsOther, tells_owner, commanded, received, commanded_other, received_other}
 use Rattle.rvm_protocol.proofs.Apart.{is_run, from_ok, GivenOk, past_ok, go_ok, their_go, past_own, their_past, their_from, from_their, from_up, own_up, below, ready_num, lim_num, run_apart, apart_run, meets_apart, meet_num, content_apart, turn}
-use Rattle.rvm_protocol.proofs.Hosts.{put_all, Made, made_down, more_old, more_new, Pair, reach, reach_here, reach_there, Good, retarget_run, own_all, owner_good, commit_good, other_good}
+use Rattle.rvm_protocol.proofs.Hosts.{put_all, Made, made_down, more_old, more_new, Pair, reach, reach_here, reach_there, Good, retarget_run, own_all, owner_good, commit_good, other_good, made_new}
+use Rattle.rvm_protocol.proofs.Cases.{state_cases, part_cases}
 
 pub has_got : {X : Type 0} (xs : List X) (k : ℕ) (x : X) → slice_get xs k ≡ Some x → Has xs x
 unfolding Has
@@ -55,11 +56,43 @@ there_apart x count y h = λ e. not_same (nat_lt y count) (y == x) h (subst (λ 
     not_same true false h e = cc
     not_same false b h e = cc
 
-and_both : (a b : Bool) → (a && b) ≡ true → (a ≡ true) × (b ≡ true)
-and_both true b h = (refl, h)
-and_both false b h = cc
-
 module _ {S P E A B : Type 0} (m : Guest S P E A B) where
+  -- a frame is read as it was before it was written
+  plain_written : (v : ℕ) (f : Frame P B) → ((k p n : ℕ) → f ≡ Zero k p n → ⊥) → plain m (written m v f) ≡ f
+  plain_written v (Page n p k b) h =
+      either (λ f. plain m f ≡ Page n p k b) (is_compact v && m.is_zeros b) (Zero n p k) (Page n p k b)
+      (λ e. ap (λ z. Page n p k z) (sym (m.only_zeros_pass b (and_both (is_compact v) (m.is_zeros b) e).1)))
+      (λ _. refl)
+  plain_written v (Zero k p n) h = absurd (h k p n refl)
+  plain_written v (Offer n a b) h = refl
+  plain_written v (Accept n) h = refl
+  plain_written v (Refuse n a) h = refl
+  plain_written v (RoundEnd n a b c d) h = refl
+  plain_written v (Lost n ps) h = refl
+  plain_written v (State n ns b) h = refl
+  plain_written v (Part n st i u x) h = refl
+  plain_written v (Ready n) h = refl
+  plain_written v (Go n) h = refl
+  plain_written v (Started n) h = refl
+  plain_written v (Abort n) h = refl
+
+  read_more : (xs : List (Addressed P B)) (a : Addressed P B) → read m (xs ++ a ∷ []) ≡ read m xs ++ record { from = a.from; to = a.to; frame = plain m a.frame } ∷ []
+  unfolding read
+  read_more [] a = refl
+  read_more (x ∷ xs) a = ap (λ z. record { from = x.from; to = x.to; frame = plain m x.frame } ∷ z) (read_more xs a)
+
+  pub read_sent : (v : ℕ) (sent : List (Addressed P B)) (x y : ℕ) (made : Option (Frame P B)) → ((k p n : ℕ) → made ≡ Some (Zero k p n) → ⊥) → read m (and_sent sent (posted x y (made_as m v made))) ≡ and_sent (read m sent) (posted x y made)
+  read_sent v sent x y None h = refl
+  read_sent v sent x y (Some f) h =
+      read_more sent (record { from = x; to = y; frame = written m v f })
+      ∙ ap (λ (z : Frame P B). read m sent ++ record { from = x; to = y; frame = z } ∷ []) (plain_written v f (λ k p n e. h k p n (ap Some e)))
+
+  pub has_read : (sent : List (Addressed P B)) (a : Addressed P B) → Has sent a → Has (read m sent) (record { from = a.from; to = a.to; frame = plain m a.frame })
+  unfolding Has read
+  has_read [] a h = absurd h
+  has_read (x ∷ xs) a (inl e) = inl (ap (λ (z : Addressed P B). record { from = z.from; to = z.to; frame = plain m z.frame }) e)
+  has_read (x ∷ xs) a (inr h) = inr (has_read xs a h)
+
   -- at Committed the other host holds the board
   handed : (n : ℕ) (l : Last S) (T next : Mode S P) (F : Frame P B → Type 0) → Meet (Stopped n l) T → Meet T next → Content m (Stopped n l) T F → (guest_in T ≡ Some l.guest) × (is_paused T ≡ true)
   handed n l (Held k g) next F a b ok = (ap Some ok.held, refl)
@@ -84,31 +117,31 @@ module _ {S P E A B : Type 0} (m : Guest S P E A B) where
   held_valid : (O : Mode S P) (g : S) → guest_in O ≡ Some g → m.valid g ≡ true → (g' : S) → guest_in O ≡ Some g' → m.valid g' ≡ true
   held_valid O g is v g' same = subst (λ z. m.valid z ≡ true) (some_is g g' (sym is ∙ same)) v
 
-  same_mode : (c : Command E) (O T : Mode S P) → Meet O T → (obey m c T).next ≡ T
-  same_mode (Board e) O (Empty n) h = refl
-  same_mode (Board e) O (Given n) h = refl
-  same_mode (Board e) O (Staging n s) h = refl
-  same_mode (Board e) O (Held n g) h = refl
-  same_mode (Begin to q) O (Empty n) h = refl
-  same_mode (Begin to q) O (Given n) h = refl
-  same_mode (Begin to q) O (Staging n s) h = refl
-  same_mode (Begin to q) O (Held n g) h = refl
-  same_mode Copy O (Empty n) h = refl
-  same_mode Copy O (Given n) h = refl
-  same_mode Copy O (Staging n s) h = refl
-  same_mode Copy O (Held n g) h = refl
-  same_mode Resend O (Empty n) h = refl
-  same_mode Resend O (Given n) h = refl
-  same_mode Resend O (Staging n s) h = refl
-  same_mode Resend O (Held n g) h = refl
-  same_mode AbortMove O (Empty n) h = refl
-  same_mode AbortMove O (Given n) h = refl
-  same_mode AbortMove O (Staging n s) h = refl
-  same_mode AbortMove O (Held n g) h = refl
-  same_mode c O (Run n g) h = absurd (alone O (Run n g) h)
-  same_mode c O (Offering n g p) h = absurd (alone O (Offering n g p) h)
-  same_mode c O (Copying n r) h = absurd (alone O (Copying n r) h)
-  same_mode c O (Stopped n l) h = absurd (alone O (Stopped n l) h)
+  same_mode : (v : ℕ) → (c : Command E) (O T : Mode S P) → Meet O T → (obey m v c T).next ≡ T
+  same_mode v (Board e) O (Empty n) h = refl
+  same_mode v (Board e) O (Given n) h = refl
+  same_mode v (Board e) O (Staging n s) h = refl
+  same_mode v (Board e) O (Held n g) h = refl
+  same_mode v (Begin to q) O (Empty n) h = refl
+  same_mode v (Begin to q) O (Given n) h = refl
+  same_mode v (Begin to q) O (Staging n s) h = refl
+  same_mode v (Begin to q) O (Held n g) h = refl
+  same_mode v Copy O (Empty n) h = refl
+  same_mode v Copy O (Given n) h = refl
+  same_mode v Copy O (Staging n s) h = refl
+  same_mode v Copy O (Held n g) h = refl
+  same_mode v Resend O (Empty n) h = refl
+  same_mode v Resend O (Given n) h = refl
+  same_mode v Resend O (Staging n s) h = refl
+  same_mode v Resend O (Held n g) h = refl
+  same_mode v AbortMove O (Empty n) h = refl
+  same_mode v AbortMove O (Given n) h = refl
+  same_mode v AbortMove O (Staging n s) h = refl
+  same_mode v AbortMove O (Held n g) h = refl
+  same_mode v c O (Run n g) h = absurd (alone O (Run n g) h)
+  same_mode v c O (Offering n g p) h = absurd (alone O (Offering n g p) h)
+  same_mode v c O (Copying n r) h = absurd (alone O (Copying n r) h)
+  same_mode v c O (Stopped n l) h = absurd (alone O (Stopped n l) h)
 
   stopped_target : (O : Mode S P) (n : ℕ) (ts : ℕ → ℕ) (d : ℕ) → is_stopped O ≡ true → move_of O ≡ n → TargetOk ts d O → ts n ≡ d
   stopped_target (Stopped k l) n ts d h e q = ap ts (sym e) ∙ q
@@ -214,24 +247,24 @@ module _ {S P E A B : Type 0} (m : Guest S P E A B) where
   NoBegin (Begin to q) = ⊥
   NoBegin k = Unit {0}
 
-  run_quiet : (k : Command E) (n : ℕ) (g : S) → NoBegin k → ((obey m k (Run n g)).made ≡ None) × (is_run (obey m k (Run n g)).next ≡ true)
-  run_quiet (Board e) n g h = (refl, refl)
-  run_quiet (Begin to q) n g h = absurd h
-  run_quiet Copy n g h = (refl, refl)
-  run_quiet Resend n g h = (refl, refl)
-  run_quiet AbortMove n g h = (refl, refl)
+  run_quiet : (v : ℕ) → (k : Command E) (n : ℕ) (g : S) → NoBegin k → ((obey m v k (Run n g)).made ≡ None) × (is_run (obey m v k (Run n g)).next ≡ true)
+  run_quiet v (Board e) n g h = (refl, refl)
+  run_quiet v (Begin to q) n g h = absurd h
+  run_quiet v Copy n g h = (refl, refl)
+  run_quiet v Resend n g h = (refl, refl)
+  run_quiet v AbortMove n g h = (refl, refl)
 
   abbrev Obeyed : (ℕ → Host S P) → List (Addressed P B) → Told S → (c p : ℕ) → Command E → Outcome S P A B → Type 0
   Obeyed H sent t c p k o = After H sent t c (partner_then {P = P} {B = B} (Do k) o.reply p) (partner_then {P = P} {B = B} (Do k) o.reply p) (Do k) o
 
   -- d is the partner, or nothing is sent
-  obeyed : (k : Command E) (O : Mode S P) (p p' : ℕ) (hd : Host S P) (H : ℕ → Host S P) (sent : List (Addressed P B)) (c d : ℕ) (t : Told S) → Good m (record { mode = O; partner = p }) hd H sent c d t → ((to : ℕ) (q : Policy) → k ≡ Begin to q → to ≡ d) → posted c p' (obey m k O).made ≡ posted c d (obey m k O).made → (is_run (obey m k O).next ≡ false → p' ≡ d)
-      → After H sent t c p' p' (Do k) (obey m k O)
-  obeyed k O p p' hd H sent c d t l aim post par =
+  obeyed : (v : ℕ) → (k : Command E) (O : Mode S P) (p p' : ℕ) (hd : Host S P) (H : ℕ → Host S P) (sent : List (Addressed P B)) (c d : ℕ) (t : Told S) → Good m (record { mode = O; partner = p }) hd H sent c d t → ((to : ℕ) (q : Policy) → k ≡ Begin to q → to ≡ d) → posted c p' (obey m v k O).made ≡ posted c d (obey m v k O).made → (is_run (obey m v k O).next ≡ false → p' ≡ d)
+      → After H sent t c p' p' (Do k) (obey m v k O)
+  obeyed v k O p p' hd H sent c d t l aim post par =
       let T = hd.mode in
-      let o = obey m k O in
+      let o = obey m v k O in
       subst (λ z. Sound (put H c (record { mode = o.next; partner = p' })) (and_sent sent z) (told_reply m c (Do k) o.reply t)) (sym post)
-      (sound _ _ _ _ _ _ _ (owner_good m O p hd H sent c d t (Do k) o.reply o.made o.next p' l (owner_obeys m k O T (own_ok O T) (their_ok O T) (own_all m O T l.modes.meet)) (owner_pages m k O T (Made sent c d) (Made sent d c) l.modes l.pages) (commanded m k O) (aims_at k aim) par))
+      (sound _ _ _ _ _ _ _ (owner_good m O p hd H sent c d t (Do k) o.reply o.made o.next p' l (owner_obeys m v k O T (own_ok O T) (their_ok O T) (own_all m O T l.modes.meet)) (owner_pages m v k O T (Made sent c d) (Made sent d c) l.modes l.pages) (commanded m v k O) (aims_at k aim) par))
     where
       aims_at : (k : Command E) → ((to : ℕ) (q : Policy) → k ≡ Begin to q → to ≡ d) → aims m (Do k) d
       aims_at (Begin to q) aim = aim to q refl
@@ -241,22 +274,22 @@ module _ {S P E A B : Type 0} (m : Guest S P E A B) where
       aims_at AbortMove aim = tt
 
   -- a command other than Begin, and Begin where the host isn't in Run
-  obeyed_as : (k : Command E) (O : Mode S P) (p : ℕ) (hd : Host S P) (H : ℕ → Host S P) (sent : List (Addressed P B)) (c d : ℕ) (t : Told S) → Good m (record { mode = O; partner = p }) hd H sent c d t → NoBegin k → After H sent t c p p (Do k) (obey m k O)
-  obeyed_as k O p hd H sent c d t l nb =
-      obeyed k O p p hd H sent c d t l (λ to q e. absurd (subst NoBegin e nb)) (post O k l nb) (stays O k l nb)
+  obeyed_as : (v : ℕ) → (k : Command E) (O : Mode S P) (p : ℕ) (hd : Host S P) (H : ℕ → Host S P) (sent : List (Addressed P B)) (c d : ℕ) (t : Told S) → Good m (record { mode = O; partner = p }) hd H sent c d t → NoBegin k → After H sent t c p p (Do k) (obey m v k O)
+  obeyed_as v k O p hd H sent c d t l nb =
+      obeyed v k O p p hd H sent c d t l (λ to q e. absurd (subst NoBegin e nb)) (post O k l nb) (stays O k l nb)
     where
-      post : (O : Mode S P) (k : Command E) → Good m (record { mode = O; partner = p }) hd H sent c d t → NoBegin k → posted c p (obey m k O).made ≡ posted c d (obey m k O).made
-      post (Run n g) k l nb = ap (posted c p) (run_quiet k n g nb).0 ∙ sym (ap (posted c d) (run_quiet k n g nb).0)
-      post (Empty n) k l nb = ap (λ z. posted c z (obey m k (Empty n)).made) (l.partner refl)
-      post (Offering n g r) k l nb = ap (λ z. posted c z (obey m k (Offering n g r)).made) (l.partner refl)
-      post (Copying n r) k l nb = ap (λ z. posted c z (obey m k (Copying n r)).made) (l.partner refl)
-      post (Stopped n q) k l nb = ap (λ z. posted c z (obey m k (Stopped n q)).made) (l.partner refl)
-      post (Given n) k l nb = ap (λ z. posted c z (obey m k (Given n)).made) (l.partner refl)
-      post (Staging n s) k l nb = ap (λ z. posted c z (obey m k (Staging n s)).made) (l.partner refl)
-      post (Held n g) k l nb = ap (λ z. posted c z (obey m k (Held n g)).made) (l.partner refl)
+      post : (O : Mode S P) (k : Command E) → Good m (record { mode = O; partner = p }) hd H sent c d t → NoBegin k → posted c p (obey m v k O).made ≡ posted c d (obey m v k O).made
+      post (Run n g) k l nb = ap (posted c p) (run_quiet v k n g nb).0 ∙ sym (ap (posted c d) (run_quiet v k n g nb).0)
+      post (Empty n) k l nb = ap (λ z. posted c z (obey m v k (Empty n)).made) (l.partner refl)
+      post (Offering n g r) k l nb = ap (λ z. posted c z (obey m v k (Offering n g r)).made) (l.partner refl)
+      post (Copying n r) k l nb = ap (λ z. posted c z (obey m v k (Copying n r)).made) (l.partner refl)
+      post (Stopped n q) k l nb = ap (λ z. posted c z (obey m v k (Stopped n q)).made) (l.partner refl)
+      post (Given n) k l nb = ap (λ z. posted c z (obey m v k (Given n)).made) (l.partner refl)
+      post (Staging n s) k l nb = ap (λ z. posted c z (obey m v k (Staging n s)).made) (l.partner refl)
+      post (Held n g) k l nb = ap (λ z. posted c z (obey m v k (Held n g)).made) (l.partner refl)
 
-      stays : (O : Mode S P) (k : Command E) → Good m (record { mode = O; partner = p }) hd H sent c d t → NoBegin k → is_run (obey m k O).next ≡ false → p ≡ d
-      stays (Run n g) k l nb h = absurd (both_false (is_run (obey m k (Run n g)).next) (run_quiet k n g nb).1 h)
+      stays : (O : Mode S P) (k : Command E) → Good m (record { mode = O; partner = p }) hd H sent c d t → NoBegin k → is_run (obey m v k O).next ≡ false → p ≡ d
+      stays (Run n g) k l nb h = absurd (both_false (is_run (obey m v k (Run n g)).next) (run_quiet v k n g nb).1 h)
       stays (Empty n) k l nb h = l.partner refl
       stays (Offering n g r) k l nb h = l.partner refl
       stays (Copying n r) k l nb h = l.partner refl
@@ -272,13 +305,13 @@ module _ {S P E A B : Type 0} (m : Guest S P E A B) where
       subst (λ z. Sound (put H c (record { mode = o.next; partner = p' })) (and_sent sent z) (told_reply m c (Do (Begin to q)) o.reply t)) (sym post)
       (sound _ _ _ _ _ _ _ (owner_good m (Run n g) p hd H sent c d t (Do (Begin to q)) o.reply o.made o.next p' l f.0 f.1 f.2 aim par))
 
-  begins : (to : ℕ) (q : Policy) (n : ℕ) (g : S) (p : ℕ) (hd : Host S P) (H : ℕ → Host S P) (sent : List (Addressed P B)) (c d : ℕ) (t : Told S) → Good m (record { mode = Run n g; partner = p }) hd H sent c d t → to ≡ d → Obeyed H sent t c p (Begin to q) (begin m q (Run n g))
-  begins to q n g p hd H sent c d t l aim =
+  begins : (v : ℕ) → (to : ℕ) (q : Policy) (n : ℕ) (g : S) (p : ℕ) (hd : Host S P) (H : ℕ → Host S P) (sent : List (Addressed P B)) (c d : ℕ) (t : Told S) → Good m (record { mode = Run n g; partner = p }) hd H sent c d t → to ≡ d → Obeyed H sent t c p (Begin to q) (begin m q (Run n g))
+  begins v to q n g p hd H sent c d t l aim =
       let T = hd.mode in
       let O : Mode S P = Run n g in
       let Facts = λ (o : Outcome S P A B). (Modes o.next T (More (own_ok O T) o.made) (their_ok O T)) × Content m o.next T (More (Made sent c d) o.made) × Tells m (Do (Begin to q)) O o.reply o.next in
       let Q = λ (o : Outcome S P A B). Facts o → Obeyed H sent t c p (Begin to q) o in
-      let all : Facts (begin m q O) = (owner_obeys m (Begin to q) O T (own_ok O T) (their_ok O T) (own_all m O T l.modes.meet), owner_pages m (Begin to q) O T (Made sent c d) (Made sent d c) l.modes l.pages, commanded m (Begin to q) O) in
+      let all : Facts (begin m q O) = (owner_obeys m v (Begin to q) O T (own_ok O T) (their_ok O T) (own_all m O T l.modes.meet), owner_pages m v (Begin to q) O T (Made sent c d) (Made sent d c) l.modes l.pages, commanded m v (Begin to q) O) in
       either Q (is_allowed q) (begin_allowed m q n g) (refuses BadSize O)
       (λ _. either Q (n == 2 ^ 64 - 1) (refuses EpochsSpent O) (begun m q n g)
       (λ _ f. begun_as to q n g p hd H sent c d t l (refuses EpochsSpent O) f aim p l.partner refl)
@@ -286,22 +319,22 @@ module _ {S P E A B : Type 0} (m : Guest S P E A B) where
       (λ _ f. begun_as to q n g p hd H sent c d t l (refuses BadSize O) f aim p l.partner refl)
       all
 
-  current_obeys : (k : Command E) (O : Mode S P) (p count : ℕ) (hd : Host S P) (H : ℕ → Host S P) (sent : List (Addressed P B)) (c d : ℕ) (t : Told S) → Good m (record { mode = O; partner = p }) hd H sent c d t → Obeyed H sent t c p k (obey_at m c count k O)
-  current_obeys (Begin to q) (Run n g) p count hd H sent c d t l =
+  current_obeys : (v : ℕ) → (k : Command E) (O : Mode S P) (p count : ℕ) (hd : Host S P) (H : ℕ → Host S P) (sent : List (Addressed P B)) (c d : ℕ) (t : Told S) → Good m (record { mode = O; partner = p }) hd H sent c d t → Obeyed H sent t c p k (obey_at m v c count k O)
+  current_obeys v (Begin to q) (Run n g) p count hd H sent c d t l =
       either (Obeyed H sent t c p (Begin to q)) (is_there c count to) (begin m q (Run n g)) (refuses BadHost (Run n g))
-      (λ e. let ne = there_apart c count to e in begins to q n g p (H to) H sent c to t (retarget_run m n g p hd H sent c d to t l ne) refl)
+      (λ e. let ne = there_apart c count to e in begins v to q n g p (H to) H sent c to t (retarget_run m n g p hd H sent c d to t l ne) refl)
       (λ _. let l' = l in sound _ _ _ _ _ _ _ (owner_good m (Run n g) p hd H sent c d t (Do Copy) (Refused BadHost) None (Run n g) p l (own_all m (Run n g) hd.mode l.modes.meet) tt (record { guest = refl; paused = refl; held = refl; current = λ ts x. refl; target = λ ts d a t. tt }) tt l.partner))
-  current_obeys (Begin to q) (Offering n g r) p count hd H sent c d t l = sound _ _ _ _ _ _ _ (owner_good m (Offering n g r) p hd H sent c d t (Do Copy) (Refused Busy) None (Offering n g r) p l (own_all m (Offering n g r) hd.mode l.modes.meet) l.pages (record { guest = refl; paused = refl; held = refl; current = λ ts x. refl; target = λ ts d a t. t }) tt l.partner)
-  current_obeys (Begin to q) (Copying n r) p count hd H sent c d t l = sound _ _ _ _ _ _ _ (owner_good m (Copying n r) p hd H sent c d t (Do Copy) (Refused Busy) None (Copying n r) p l (own_all m (Copying n r) hd.mode l.modes.meet) l.pages (record { guest = refl; paused = refl; held = refl; current = λ ts x. refl; target = λ ts d a t. t }) tt l.partner)
-  current_obeys (Begin to q) (Stopped n r) p count hd H sent c d t l = sound _ _ _ _ _ _ _ (owner_good m (Stopped n r) p hd H sent c d t (Do Copy) (Refused Busy) None (Stopped n r) p l (own_all m (Stopped n r) hd.mode l.modes.meet) l.pages (record { guest = refl; paused = refl; held = refl; current = λ ts x. refl; target = λ ts d a t. t }) tt l.partner)
-  current_obeys (Begin to q) (Held n g) p count hd H sent c d t l = sound _ _ _ _ _ _ _ (owner_good m (Held n g) p hd H sent c d t (Do Copy) (Refused NotHere) None (Held n g) p l (own_all m (Held n g) hd.mode l.modes.meet) l.pages (record { guest = refl; paused = refl; held = refl; current = λ ts x. refl; target = λ ts d a t. t }) tt l.partner)
-  current_obeys (Begin to q) (Empty n) p count hd H sent c d t l = absurd l.modes.meet
-  current_obeys (Begin to q) (Given n) p count hd H sent c d t l = absurd l.modes.meet
-  current_obeys (Begin to q) (Staging n s) p count hd H sent c d t l = absurd l.modes.meet
-  current_obeys (Board e) O p count hd H sent c d t l = obeyed_as (Board e) O p hd H sent c d t l tt
-  current_obeys Copy O p count hd H sent c d t l = obeyed_as Copy O p hd H sent c d t l tt
-  current_obeys Resend O p count hd H sent c d t l = obeyed_as Resend O p hd H sent c d t l tt
-  current_obeys AbortMove O p count hd H sent c d t l = obeyed_as AbortMove O p hd H sent c d t l tt
+  current_obeys v (Begin to q) (Offering n g r) p count hd H sent c d t l = sound _ _ _ _ _ _ _ (owner_good m (Offering n g r) p hd H sent c d t (Do Copy) (Refused Busy) None (Offering n g r) p l (own_all m (Offering n g r) hd.mode l.modes.meet) l.pages (record { guest = refl; paused = refl; held = refl; current = λ ts x. refl; target = λ ts d a t. t }) tt l.partner)
+  current_obeys v (Begin to q) (Copying n r) p count hd H sent c d t l = sound _ _ _ _ _ _ _ (owner_good m (Copying n r) p hd H sent c d t (Do Copy) (Refused Busy) None (Copying n r) p l (own_all m (Copying n r) hd.mode l.modes.meet) l.pages (record { guest = refl; paused = refl; held = refl; current = λ ts x. refl; target = λ ts d a t. t }) tt l.partner)
+  current_obeys v (Begin to q) (Stopped n r) p count hd H sent c d t l = sound _ _ _ _ _ _ _ (owner_good m (Stopped n r) p hd H sent c d t (Do Copy) (Refused Busy) None (Stopped n r) p l (own_all m (Stopped n r) hd.mode l.modes.meet) l.pages (record { guest = refl; paused = refl; held = refl; current = λ ts x. refl; target = λ ts d a t. t }) tt l.partner)
+  current_obeys v (Begin to q) (Held n g) p count hd H sent c d t l = sound _ _ _ _ _ _ _ (owner_good m (Held n g) p hd H sent c d t (Do Copy) (Refused NotHere) None (Held n g) p l (own_all m (Held n g) hd.mode l.modes.meet) l.pages (record { guest = refl; paused = refl; held = refl; current = λ ts x. refl; target = λ ts d a t. t }) tt l.partner)
+  current_obeys v (Begin to q) (Empty n) p count hd H sent c d t l = absurd l.modes.meet
+  current_obeys v (Begin to q) (Given n) p count hd H sent c d t l = absurd l.modes.meet
+  current_obeys v (Begin to q) (Staging n s) p count hd H sent c d t l = absurd l.modes.meet
+  current_obeys v (Board e) O p count hd H sent c d t l = obeyed_as v (Board e) O p hd H sent c d t l tt
+  current_obeys v Copy O p count hd H sent c d t l = obeyed_as v Copy O p hd H sent c d t l tt
+  current_obeys v Resend O p count hd H sent c d t l = obeyed_as v Resend O p hd H sent c d t l tt
+  current_obeys v AbortMove O p count hd H sent c d t l = obeyed_as v AbortMove O p hd H sent c d t l tt
 
   -- the hosts that aren't current
   pub none_at : (hc hd : Host S P) (H : ℕ → Host S P) (sent : List (Addressed P B)) (c d x : ℕ) (t : Told S) → Good m hc hd H sent c d t → x ≢ c → HoldsNone (H x).mode
@@ -405,98 +438,98 @@ module _ {S P E A B : Type 0} (m : Guest S P E A B) where
       }))
 
   -- commands at other hosts
-  pub obey_other : (x count : ℕ) (k : Command E) (X : Mode S P) → HoldsNone X → obey_at m x count k X ≡ obey m k X
-  obey_other x count (Begin to q) (Run n g) h = absurd h
-  obey_other x count (Begin to q) (Empty n) h = refl
-  obey_other x count (Begin to q) (Offering n g r) h = refl
-  obey_other x count (Begin to q) (Copying n r) h = refl
-  obey_other x count (Begin to q) (Stopped n r) h = refl
-  obey_other x count (Begin to q) (Given n) h = refl
-  obey_other x count (Begin to q) (Staging n s) h = refl
-  obey_other x count (Begin to q) (Held n g) h = refl
-  obey_other x count (Board e) X h = refl
-  obey_other x count Copy X h = refl
-  obey_other x count Resend X h = refl
-  obey_other x count AbortMove X h = refl
+  pub obey_other : (v : ℕ) → (x count : ℕ) (k : Command E) (X : Mode S P) → HoldsNone X → obey_at m v x count k X ≡ obey m v k X
+  obey_other v x count (Begin to q) (Run n g) h = absurd h
+  obey_other v x count (Begin to q) (Empty n) h = refl
+  obey_other v x count (Begin to q) (Offering n g r) h = refl
+  obey_other v x count (Begin to q) (Copying n r) h = refl
+  obey_other v x count (Begin to q) (Stopped n r) h = refl
+  obey_other v x count (Begin to q) (Given n) h = refl
+  obey_other v x count (Begin to q) (Staging n s) h = refl
+  obey_other v x count (Begin to q) (Held n g) h = refl
+  obey_other v x count (Board e) X h = refl
+  obey_other v x count Copy X h = refl
+  obey_other v x count Resend X h = refl
+  obey_other v x count AbortMove X h = refl
 
-  then_other : (k : Command E) (X : Mode S P) (p : ℕ) → HoldsNone X → partner_then {P = P} {B = B} (Do k) (obey m k X).reply p ≡ p
-  then_other (Begin to q) (Run n g) p h = absurd h
-  then_other (Begin to q) (Empty n) p h = refl
-  then_other (Begin to q) (Offering n g r) p h = refl
-  then_other (Begin to q) (Copying n r) p h = refl
-  then_other (Begin to q) (Stopped n r) p h = refl
-  then_other (Begin to q) (Given n) p h = refl
-  then_other (Begin to q) (Staging n s) p h = refl
-  then_other (Begin to q) (Held n g) p h = refl
-  then_other (Board e) X p h = refl
-  then_other Copy X p h = refl
-  then_other Resend X p h = refl
-  then_other AbortMove X p h = refl
+  then_other : (v : ℕ) → (k : Command E) (X : Mode S P) (p : ℕ) → HoldsNone X → partner_then {P = P} {B = B} (Do k) (obey m v k X).reply p ≡ p
+  then_other v (Begin to q) (Run n g) p h = absurd h
+  then_other v (Begin to q) (Empty n) p h = refl
+  then_other v (Begin to q) (Offering n g r) p h = refl
+  then_other v (Begin to q) (Copying n r) p h = refl
+  then_other v (Begin to q) (Stopped n r) p h = refl
+  then_other v (Begin to q) (Given n) p h = refl
+  then_other v (Begin to q) (Staging n s) p h = refl
+  then_other v (Begin to q) (Held n g) p h = refl
+  then_other v (Board e) X p h = refl
+  then_other v Copy X p h = refl
+  then_other v Resend X p h = refl
+  then_other v AbortMove X p h = refl
 
-  same_next : (k : Command E) (X : Mode S P) → HoldsNone X → (obey m k X).next ≡ X
-  same_next (Board e) (Empty n) h = refl
-  same_next (Board e) (Given n) h = refl
-  same_next (Board e) (Staging n s) h = refl
-  same_next (Board e) (Held n g) h = refl
-  same_next (Begin to q) (Empty n) h = refl
-  same_next (Begin to q) (Given n) h = refl
-  same_next (Begin to q) (Staging n s) h = refl
-  same_next (Begin to q) (Held n g) h = refl
-  same_next Copy (Empty n) h = refl
-  same_next Copy (Given n) h = refl
-  same_next Copy (Staging n s) h = refl
-  same_next Copy (Held n g) h = refl
-  same_next Resend (Empty n) h = refl
-  same_next Resend (Given n) h = refl
-  same_next Resend (Staging n s) h = refl
-  same_next Resend (Held n g) h = refl
-  same_next AbortMove (Empty n) h = refl
-  same_next AbortMove (Given n) h = refl
-  same_next AbortMove (Staging n s) h = refl
-  same_next AbortMove (Held n g) h = refl
-  same_next c (Run n g) h = absurd h
-  same_next c (Offering n g p) h = absurd h
-  same_next c (Copying n r) h = absurd h
-  same_next c (Stopped n l) h = absurd h
+  same_next : (v : ℕ) → (k : Command E) (X : Mode S P) → HoldsNone X → (obey m v k X).next ≡ X
+  same_next v (Board e) (Empty n) h = refl
+  same_next v (Board e) (Given n) h = refl
+  same_next v (Board e) (Staging n s) h = refl
+  same_next v (Board e) (Held n g) h = refl
+  same_next v (Begin to q) (Empty n) h = refl
+  same_next v (Begin to q) (Given n) h = refl
+  same_next v (Begin to q) (Staging n s) h = refl
+  same_next v (Begin to q) (Held n g) h = refl
+  same_next v Copy (Empty n) h = refl
+  same_next v Copy (Given n) h = refl
+  same_next v Copy (Staging n s) h = refl
+  same_next v Copy (Held n g) h = refl
+  same_next v Resend (Empty n) h = refl
+  same_next v Resend (Given n) h = refl
+  same_next v Resend (Staging n s) h = refl
+  same_next v Resend (Held n g) h = refl
+  same_next v AbortMove (Empty n) h = refl
+  same_next v AbortMove (Given n) h = refl
+  same_next v AbortMove (Staging n s) h = refl
+  same_next v AbortMove (Held n g) h = refl
+  same_next v c (Run n g) h = absurd h
+  same_next v c (Offering n g p) h = absurd h
+  same_next v c (Copying n r) h = absurd h
+  same_next v c (Stopped n l) h = absurd h
 
-  go_obeyed : (l : ℕ) (k : Command E) (X : Mode S P) → HoldsNone X → GivenOk l X → New (go_ok {P = P} {B = B} l) (obey m k X).made
-  go_obeyed l (Board e) (Empty n) h q = tt
-  go_obeyed l (Board e) (Given n) h q = tt
-  go_obeyed l (Board e) (Staging n s) h q = tt
-  go_obeyed l (Board e) (Held n g) h q = tt
-  go_obeyed l (Begin to r) (Empty n) h q = tt
-  go_obeyed l (Begin to r) (Given n) h q = tt
-  go_obeyed l (Begin to r) (Staging n s) h q = tt
-  go_obeyed l (Begin to r) (Held n g) h q = tt
-  go_obeyed l Copy (Empty n) h q = tt
-  go_obeyed l Copy (Given n) h q = tt
-  go_obeyed l Copy (Staging n s) h q = tt
-  go_obeyed l Copy (Held n g) h q = tt
-  go_obeyed l Resend (Empty n) h q = tt
-  go_obeyed l Resend (Given n) h q = q
-  go_obeyed l Resend (Staging n s) h q = tt
-  go_obeyed l Resend (Held n g) h q = tt
-  go_obeyed l AbortMove (Empty n) h q = tt
-  go_obeyed l AbortMove (Given n) h q = tt
-  go_obeyed l AbortMove (Staging n s) h q = tt
-  go_obeyed l AbortMove (Held n g) h q = tt
-  go_obeyed l c (Run n g) h q = absurd h
-  go_obeyed l c (Offering n g p) h q = absurd h
-  go_obeyed l c (Copying n r) h q = absurd h
-  go_obeyed l c (Stopped n r) h q = absurd h
+  go_obeyed : (v : ℕ) → (l : ℕ) (k : Command E) (X : Mode S P) → HoldsNone X → GivenOk l X → New (go_ok {P = P} {B = B} l) (obey m v k X).made
+  go_obeyed v l (Board e) (Empty n) h q = tt
+  go_obeyed v l (Board e) (Given n) h q = tt
+  go_obeyed v l (Board e) (Staging n s) h q = tt
+  go_obeyed v l (Board e) (Held n g) h q = tt
+  go_obeyed v l (Begin to r) (Empty n) h q = tt
+  go_obeyed v l (Begin to r) (Given n) h q = tt
+  go_obeyed v l (Begin to r) (Staging n s) h q = tt
+  go_obeyed v l (Begin to r) (Held n g) h q = tt
+  go_obeyed v l Copy (Empty n) h q = tt
+  go_obeyed v l Copy (Given n) h q = tt
+  go_obeyed v l Copy (Staging n s) h q = tt
+  go_obeyed v l Copy (Held n g) h q = tt
+  go_obeyed v l Resend (Empty n) h q = tt
+  go_obeyed v l Resend (Given n) h q = q
+  go_obeyed v l Resend (Staging n s) h q = tt
+  go_obeyed v l Resend (Held n g) h q = tt
+  go_obeyed v l AbortMove (Empty n) h q = tt
+  go_obeyed v l AbortMove (Given n) h q = tt
+  go_obeyed v l AbortMove (Staging n s) h q = tt
+  go_obeyed v l AbortMove (Held n g) h q = tt
+  go_obeyed v l c (Run n g) h q = absurd h
+  go_obeyed v l c (Offering n g p) h q = absurd h
+  go_obeyed v l c (Copying n r) h q = absurd h
+  go_obeyed v l c (Stopped n r) h q = absurd h
 
-  other_do : (hc hd : Host S P) (H : ℕ → Host S P) (sent : List (Addressed P B)) (c d : ℕ) (t : Told S) (x : ℕ) (k : Command E) → Good m hc hd H sent c d t → x ≢ c → After H sent t x (H x).partner (H x).partner (Do k) (obey m k (H x).mode)
-  other_do hc hd H sent c d t x k l nc =
+  other_do : (v : ℕ) → (hc hd : Host S P) (H : ℕ → Host S P) (sent : List (Addressed P B)) (c d : ℕ) (t : Told S) (x : ℕ) (k : Command E) → Good m hc hd H sent c d t → x ≢ c → After H sent t x (H x).partner (H x).partner (Do k) (obey m v k (H x).mode)
+  other_do v hc hd H sent c d t x k l nc =
       let X = (H x).mode in
       let p = (H x).partner in
-      let o = obey m k X in
+      let o = obey m v k X in
       let none = none_at hc hd H sent c d x t l nc in
-      let given = subst (λ w. GivenOk (reach H c hc.mode p) w) (sym (same_next k X none)) (l.given x nc) in
+      let given = subst (λ w. GivenOk (reach H c hc.mode p) w) (sym (same_next v k X none)) (l.given x nc) in
       let far : move_of X < lim hc.mode → (x ≡ d → p ≢ c) → After H sent t x p p (Do k) o = λ lt q.
       behind_good hc hd H sent c d t x p p (Do k) o l nc lt q
-      (λ j is. let g = t.guest in let run = run_apart j X none (omega (arith, is, lt)) in other_obeys m k (Run j g) X (own_ok (Run j g) X) (their_ok (Run j g) X) (own_all m (Run j g) X run))
-      (commanded_other m x k (Run (move_of X) t.guest) X (run_apart (move_of X) X none (omega arith)))
-      (go_obeyed (reach H c hc.mode p) k X none (l.given x nc)) given in
+      (λ j is. let g = t.guest in let run = run_apart j X none (omega (arith, is, lt)) in other_obeys m v k (Run j g) X (own_ok (Run j g) X) (their_ok (Run j g) X) (own_all m (Run j g) X run))
+      (commanded_other m x v k (Run (move_of X) t.guest) X (run_apart (move_of X) X none (omega arith)))
+      (go_obeyed v (reach H c hc.mode p) k X none (l.given x nc)) given in
       elim (same_or x d) [
         | inr nd ↦ far (l.others x nc nd).1 (λ e. absurd (nd e))
         | inl e ↦ elim (same_or p c) [
@@ -507,11 +540,11 @@ module _ {S P E A B : Type 0} (m : Guest S P E A B) where
               let is : H x ≡ hd = ap H e ∙ sym l.is_d in
               let T = hd.mode in
               subst (λ w. After H sent t w p p (Do k) o) (sym e) (subst (λ w. After H sent t d w p (Do k) o) (sym pc)
-              (subst (λ (h : Host S P). After H sent t d c p (Do k) (obey m k h.mode)) (sym is)
-              (beside_good hc hd H sent c d t p (Do k) (obey m k T) l (other_obeys m k hc.mode T (own_ok hc.mode T) (their_ok hc.mode T) (own_all m hc.mode T l.modes.meet))
-              (subst (λ w. Content m hc.mode w (Made sent c d)) (sym (same_mode k hc.mode T l.modes.meet)) l.pages)
-              (commanded_other m x k hc.mode T l.modes.meet) (inr pc)
-              (subst (λ (h : Host S P). GivenOk (reach H c hc.mode p) (obey m k h.mode).next) is given))))
+              (subst (λ (h : Host S P). After H sent t d c p (Do k) (obey m v k h.mode)) (sym is)
+              (beside_good hc hd H sent c d t p (Do k) (obey m v k T) l (other_obeys m v k hc.mode T (own_ok hc.mode T) (their_ok hc.mode T) (own_all m hc.mode T l.modes.meet))
+              (subst (λ w. Content m hc.mode w (Made sent c d)) (sym (same_mode v k hc.mode T l.modes.meet)) l.pages)
+              (commanded_other m x v k hc.mode T l.modes.meet) (inr pc)
+              (subst (λ (h : Host S P). GivenOk (reach H c hc.mode p) (obey m v k h.mode).next) is given))))
         ]
       ]
 
@@ -532,10 +565,6 @@ module _ {S P E A B : Type 0} (m : Guest S P E A B) where
       (λ _. either (CameOk L l p y (Offer k a b)) (nat_lt limit a) (sends (Declined limit) (Refuse k limit) X) (sends Accepted (Accept k) (Staging k _)) (λ _. (tt, q, tt)) (λ _. (tt, tt, tt)))
       (λ _. (tt, q, tt))
 
-  read_ok : (L : ℕ → ℕ) (l p y : ℕ) (f : Frame P B) (n : ℕ) (s : Stage P) (q : Option S) → CameOk L l p y f (guest_read m n s q)
-  read_ok L l p y f n s None = (tt, tt, tt)
-  read_ok L l p y f n s (Some g) = (tt, tt, tt)
-
   pub came_ok : (L : ℕ → ℕ) (l p y limit : ℕ) (f : Frame P B) (X : Mode S P) → HoldsNone X → GivenOk (L p) X → CameOk L l p y f (came m limit f X)
   came_ok L l p y limit (Offer k a b) (Empty n) h q = above_ok L l p y limit n k a b (Empty n) q
   came_ok L l p y limit (Offer k a b) (Given n) h q = above_ok L l p y limit n k a b (Given n) q
@@ -548,9 +577,11 @@ module _ {S P E A B : Type 0} (m : Guest S P E A B) where
   came_ok L l p y limit (RoundEnd k a b c d) (Staging n s) h q = equal_ok L l p y (RoundEnd k a b c d) n k _ (Staging n s) q (tt, tt, tt)
   came_ok L l p y limit (State k ns b) (Staging n s) h q =
       equal_ok L l p y (State k ns b) n k _ (Staging n s) q
-      (either (CameOk L l p y (State k ns b)) (length ns == length s.pages) (state_compared m n s ns b) (refuses BadState (Staging n s))
-      (λ _. either (CameOk L l p y (State k ns b)) (nat_lt 0 (size (lacks s ns) (length s.pages))) _ (guest_read m n s (m.build s.processors b s.pages)) (λ _. (tt, tt, tt)) (λ _. read_ok L l p y (State k ns b) n s (m.build s.processors b s.pages)))
-      (λ _. (tt, tt, tt)))
+      (state_cases m (CameOk L l p y (State k ns b)) n s s ns b (tt, tt, tt) (tt, tt, tt) (λ g _ _. (tt, tt, tt)))
+  came_ok L l p y limit (Part k st i u x) (Staging n s) h q =
+      equal_ok L l p y (Part k st i u x) n k _ (Staging n s) q
+      (part_cases m (CameOk L l p y (Part k st i u x)) n s st i u x (tt, tt, tt) (tt, tt, tt) (λ _. (tt, tt, tt)) (λ _ ns. (tt, tt, tt)) (λ _ xs ns b g _ _ _ _. (tt, tt, tt)))
+  came_ok L l p y limit (Part k st i u x) (Held n g) h q = equal_ok L l p y (Part k st i u x) n k _ (Held n g) q (tt, tt, tt)
   came_ok L l p y limit (State k ns b) (Held n g) h q = equal_ok L l p y (State k ns b) n k _ (Held n g) q (tt, tt, tt)
   came_ok L l p y limit (Go k) (Held n g) h q = equal_ok L l p y (Go k) n k _ (Held n g) q (tt, tt, tt)
   came_ok L l p y limit (Started k) (Given n) h q = equal_ok L l p y (Started k) n k _ (Given n) q (tt, tt, tt)
@@ -663,34 +694,64 @@ module _ {S P E A B : Type 0} (m : Guest S P E A B) where
       (elim (or_true (y == (H x).partner) (is_offer_above (move_of (H x).mode) f) both.1) [ inl q ↦ inl (eqb-true y (H x).partner q) | inr q ↦ inr q ]))
       (λ _. idle_good hc hd H sent c d t x y f l nc)
 
-  -- one event of the world
+  -- one event of the world; frames are as they are read
   abbrev pub SoundAt : World S P B → Told S → Type 0
-  SoundAt w t = Sound w.hosts w.sent t
+  SoundAt w t = Sound w.hosts (read m w.sent) t
 
   -- a frame that comes was sent to this host
   abbrev pub Allowed : World S P B → ℕ → HostEvent P E B → Type 0
   Allowed w x (Do k) = Unit {0}
-  Allowed w x (Came y f) = Made w.sent y x f
+  Allowed w x (Came y f) = Made (read m w.sent) y x (plain m f)
 
-  pub step_sound : (w : World S P B) (x : ℕ) (e : HostEvent P E B) (t : Told S) → Allowed w x e → SoundAt w t → SoundAt (world_at m w x e) (told_reply m x e (result_at m w x e).reply t)
-  step_sound w x (Do k) t h s =
+  outcome_sound : (w : World S P B) (x : ℕ) (e : HostEvent P E B) (t : Told S) → Allowed w x e → SoundAt w t
+      → After w.hosts (read m w.sent) t x (addressee e (partner_then e (outcome m w.version x w.count (w.limits x) e (w.hosts x)).reply (w.hosts x).partner)) (partner_then e (outcome m w.version x w.count (w.limits x) e (w.hosts x)).reply (w.hosts x).partner) e (outcome m w.version x w.count (w.limits x) e (w.hosts x))
+  outcome_sound w x (Do k) t h s =
       let l = s.good in
+      let sent = read m w.sent in
       elim (same_or x s.c) [
-        | inl e ↦ subst (λ z. Obeyed w.hosts w.sent t z (w.hosts z).partner k (obey_at m z w.count k (w.hosts z).mode)) (sym e) (current_obeys k (w.hosts s.c).mode (w.hosts s.c).partner w.count (w.hosts s.d) w.hosts w.sent s.c s.d t l)
+        | inl e ↦ subst (λ z. Obeyed w.hosts sent t z (w.hosts z).partner k (obey_at m w.version z w.count k (w.hosts z).mode)) (sym e) (current_obeys w.version k (w.hosts s.c).mode (w.hosts s.c).partner w.count (w.hosts s.d) w.hosts sent s.c s.d t l)
         | inr n ↦
             let X = (w.hosts x).mode in
-            let none = none_at (w.hosts s.c) (w.hosts s.d) w.hosts w.sent s.c s.d x t l n in
-            subst (λ o. Obeyed w.hosts w.sent t x (w.hosts x).partner k o) (sym (obey_other x w.count k X none))
-            (subst (λ z. After w.hosts w.sent t x z z (Do k) (obey m k X)) (sym (then_other k X (w.hosts x).partner none))
-            (other_do (w.hosts s.c) (w.hosts s.d) w.hosts w.sent s.c s.d t x k l n))
+            let none = none_at (w.hosts s.c) (w.hosts s.d) w.hosts sent s.c s.d x t l n in
+            subst (λ o. Obeyed w.hosts sent t x (w.hosts x).partner k o) (sym (obey_other w.version x w.count k X none))
+            (subst (λ z. After w.hosts sent t x z z (Do k) (obey m w.version k X)) (sym (then_other w.version k X (w.hosts x).partner none))
+            (other_do w.version (w.hosts s.c) (w.hosts s.d) w.hosts sent s.c s.d t x k l n))
       ]
-  step_sound w x (Came y f) t h s =
+  outcome_sound w x (Came y g) t h s =
       let l = s.good in
+      let sent = read m w.sent in
+      let f = plain m g in
       elim (same_or x s.c) [
-        | inl e ↦ subst (λ z. After w.hosts w.sent t z y (partner_then {E = E} (Came y f) (came_at m z w.count (w.limits z) y f (w.hosts z)).reply (w.hosts z).partner) (Came y f) (came_at m z w.count (w.limits z) y f (w.hosts z))) (sym e)
-            (current_came (w.hosts s.c).mode (w.hosts s.c).partner w.count (w.limits s.c) (w.hosts s.d) w.hosts w.sent s.c s.d y t f l (subst (λ z. Made w.sent y z f) e h))
-        | inr n ↦ other_came (w.hosts s.c) (w.hosts s.d) w.hosts w.sent s.c s.d t x y w.count (w.limits x) f l n h
+        | inl e ↦ subst (λ z. After w.hosts sent t z y (partner_then {E = E} (Came y f) (came_at m z w.count (w.limits z) y f (w.hosts z)).reply (w.hosts z).partner) (Came y f) (came_at m z w.count (w.limits z) y f (w.hosts z))) (sym e)
+            (current_came (w.hosts s.c).mode (w.hosts s.c).partner w.count (w.limits s.c) (w.hosts s.d) w.hosts sent s.c s.d y t f l (subst (λ z. Made sent y z f) e h))
+        | inr n ↦ other_came (w.hosts s.c) (w.hosts s.d) w.hosts sent s.c s.d t x y w.count (w.limits x) f l n h
       ]
+
+  -- no host makes a Zero before its frames are written
+  no_zero : (H : ℕ → Host S P) (sent : List (Addressed P B)) (t : Told S) (x y k p n : ℕ) → Sound H sent t → Made sent x y (Zero k p n) → ⊥
+  no_zero H sent t x y k p n s h =
+      let l = s.good in
+      elim (l.past x y (Zero k p n) h) [
+        | inl q ↦ elim q [
+          | inl e ↦ l.modes.own (Zero k p n) (subst (λ z. Made sent s.c z (Zero k p n)) e.1 (subst (λ z. Made sent z y (Zero k p n)) e.0 h))
+          | inr e ↦ l.modes.their (Zero k p n) (subst (λ z. Made sent s.d z (Zero k p n)) e.1 (subst (λ z. Made sent z y (Zero k p n)) e.0 h))
+        ]
+        | inr q ↦ q
+      ]
+
+  -- the frames sent after an event, as they are read
+  pub sent_after : (w : World S P B) (x : ℕ) (e : HostEvent P E B) (t : Told S) → Allowed w x e → SoundAt w t
+      → read m (world_at m w x e).sent ≡ and_sent (read m w.sent) (posted x (addressee e (partner_then e (outcome m w.version x w.count (w.limits x) e (w.hosts x)).reply (w.hosts x).partner)) (outcome m w.version x w.count (w.limits x) e (w.hosts x)).made)
+  sent_after w x e t h s =
+      let o = outcome m w.version x w.count (w.limits x) e (w.hosts x) in
+      let p = partner_then e o.reply (w.hosts x).partner in
+      read_sent w.version w.sent x (addressee e p) o.made (λ k i n same. no_zero _ _ _ x (addressee e p) k i n (outcome_sound w x e t h s) (made_new (read m w.sent) x (addressee e p) o.made (Zero k i n) same))
+
+  pub step_sound : (w : World S P B) (x : ℕ) (e : HostEvent P E B) (t : Told S) → Allowed w x e → SoundAt w t → SoundAt (world_at m w x e) (told_reply m x e (result_at m w x e).reply t)
+  step_sound w x e t h s =
+      let o = outcome m w.version x w.count (w.limits x) e (w.hosts x) in
+      let p = partner_then e o.reply (w.hosts x).partner in
+      subst (λ z. Sound (put w.hosts x (record { mode = o.next; partner = p })) z (told_reply m x e o.reply t)) (sym (sent_after w x e t h s)) (outcome_sound w x e t h s)
 
   -- the replies due to board events
   owner_due : (O T : Mode S P) (g : S) (p : Bool) (e : E) → Meet O T → guest_in O ≡ Some g → p ≡ is_paused O → (board m e O).reply ≡ (if p then Refused Paused else Answered (m.answer g e))
@@ -756,7 +817,7 @@ module _ {S P E A B : Type 0} (m : Guest S P E A B) where
   happened_sound w t None h l = l
   happened_sound w t (Some y) h l = step_sound w y.0 y.1 t (h y.0 y.1 refl) l
 
-  deliver_allowed : (w : World S P B) (p : Option (Addressed P B)) → ((y : Addressed P B) → p ≡ Some y → Has w.sent y) → (x : ℕ) (e : HostEvent P E B) → frame_for m p ≡ Some (x, e) → Allowed w x e
+  deliver_allowed : (w : World S P B) (p : Option (Addressed P B)) → ((y : Addressed P B) → p ≡ Some y → Made (read m w.sent) y.from y.to (plain m y.frame)) → (x : ℕ) (e : HostEvent P E B) → frame_for m p ≡ Some (x, e) → Allowed w x e
   deliver_allowed w None h x e q = cc
   deliver_allowed w (Some a) h x e q =
       let s : (a.to, Came a.from a.frame) ≡ (x, e) = some_is _ _ q in
@@ -770,7 +831,7 @@ module _ {S P E A B : Type 0} (m : Guest S P E A B) where
 
   pub event_allowed : (w : World S P B) (ev : Event E) (x : ℕ) (e : HostEvent P E B) → meaning m w ev ≡ Some (x, e) → Allowed w x e
   event_allowed w (At y k) x e q = at_allowed w (nat_lt y w.count) y k x e q
-  event_allowed w (Deliver k) x e q = deliver_allowed w (slice_get w.sent k) (λ y h. has_got w.sent k y h) x e q
+  event_allowed w (Deliver k) x e q = deliver_allowed w (slice_get w.sent k) (λ y h. has_read w.sent y (has_got w.sent k y h)) x e q
 
   pub run_sound : (events : List (Event E)) (w : World S P B) (t : Told S) → SoundAt w t → SoundAt (run m w events) (told m t (history m w events))
   unfolding run history told
@@ -784,9 +845,9 @@ module _ {S P E A B : Type 0} (m : Guest S P E A B) where
   new_other : (g : S) (x : ℕ) → x ≢ 0 → (new_host m g x).mode ≡ Empty 0
   new_other g x n = ap (λ (t : Bool). if t then Run 0 g else Empty 0) (ne_eqb x 0 n)
 
-  pub new_sound : (g : S) (count : ℕ) (limits : ℕ → ℕ) → m.valid g ≡ true → SoundAt (new_world m g count limits) (at_start m g)
-  unfolding Has
-  new_sound g count limits v =
+  pub new_sound : (version : ℕ) (g : S) (count : ℕ) (limits : ℕ → ℕ) → m.valid g ≡ true → SoundAt (new_world m version g count limits) (at_start m g)
+  unfolding Has read
+  new_sound version g count limits v =
       record {
         c = 0;
         d = 1;
@@ -827,7 +888,7 @@ module _ {S P E A B : Type 0} (m : Guest S P E A B) where
             ∙ ap (λ (b : Bool). if b then (if t.paused then Refused Paused else Answered (m.answer t.guest e)) else (if t.waiting x then Refused Paused else Refused NotHere)) (sym (eq-eqb x t.current is))
         | inr n ↦
             let X = (w.hosts x).mode in
-            let none = none_at (w.hosts s.c) (w.hosts s.d) w.hosts w.sent s.c s.d x t l n in
+            let none = none_at (w.hosts s.c) (w.hosts s.d) w.hosts (read m w.sent) s.c s.d x t l n in
             other_due (Run (move_of X) t.guest) X (t.waiting x) e (run_apart (move_of X) X none (omega arith)) (l.waits x)
             ∙ ap (λ (b : Bool). if b then (if t.paused then Refused Paused else Answered (m.answer t.guest e)) else (if t.waiting x then Refused Paused else Refused NotHere)) (sym (ne_eqb x t.current (λ q. n (q ∙ l.current))))
       ]
@@ -838,7 +899,7 @@ module _ {S P E A B : Type 0} (m : Guest S P E A B) where
   no_answer_at : (w : World S P B) (t : Told S) (s : SoundAt w t) (x : ℕ) (e : E) → x ≢ s.c → is_answer (reply_to m w (At x (Board e))) ≡ false
   no_answer_at w t s x e n =
       let X = (w.hosts x).mode in
-      let none = none_at (w.hosts s.c) (w.hosts s.d) w.hosts w.sent s.c s.d x t s.good n in
+      let none = none_at (w.hosts s.c) (w.hosts s.d) w.hosts (read m w.sent) s.c s.d x t s.good n in
       elim (nat_lt x w.count) as (λ b. is_answer (reply_or m w (Refused BadHost) (if b then Some (x, Do (Board e)) else None)) ≡ false) [ true ↦ no_answer (Run (move_of X) t.guest) X e (run_apart (move_of X) X none (omega arith)) | false ↦ refl ]
 
   and_right : (a b : Bool) → b ≡ false → (a && b) ≡ false
@@ -910,15 +971,15 @@ module _ {S P E A B : Type 0} (m : Guest S P E A B) where
 
   pub the_law : AlwaysOneGuest m
   unfolding AlwaysOneGuest
-  the_law = λ g count limits events v.
-      let w = new_world m g count limits in
+  the_law = λ g version count limits events v.
+      let w = new_world m version g count limits in
       let past = history m w events in
       let t = told m (at_start m g) past in
-      let s = run_sound events w (at_start m g) (new_sound g count limits v) in
+      let s = run_sound events w (at_start m g) (new_sound version g count limits v) in
       let is_fold : t.guest ≡ fold m g (accepted past) = told_guest past (at_start m g) in
       record {
         board = board_at (run m w events) t s ∙ ap Some is_fold;
-        answers = run_answers events w (at_start m g) (new_sound g count limits v);
+        answers = run_answers events w (at_start m g) (new_sound version g count limits v);
         replies = replies_at (run m w events) t s;
         one_host = one_host_at (run m w events) t s;
         hands_over = λ ev n same. hands (run m w events) t s ev n same ∙ ap Some is_fold;
@@ -937,9 +998,13 @@ module _ {S P E A B : Type 0} (m : Guest S P E A B) where
       let to_d : (p z k : ℕ) (b : P) → Made sent c z (Page n p k b) → Made sent c d (Page n p k b) = λ p z k b h.
       elim (l.past c z (Page n p k b) h) [ inl e ↦ elim e [ inl v ↦ subst (λ w. Made sent c w (Page n p k b)) v.1 h | inr v ↦ absurd (l.apart (sym v.0)) ] | inr lt ↦ absurd (omega arith) ] in
       let state_d : (z : ℕ) (ns : List ℕ) (b : B) → Made sent c z (State n ns b) → Made sent c d (State n ns b) = λ z ns b h.
-      elim (l.past c z (State n ns b) h) [ inl e ↦ elim e [ inl v ↦ subst (λ w. Made sent c w (State n ns b)) v.1 h | inr v ↦ absurd (l.apart (sym v.0)) ] | inr lt ↦ absurd (omega arith) ] in (
+      elim (l.past c z (State n ns b) h) [ inl e ↦ elim e [ inl v ↦ subst (λ w. Made sent c w (State n ns b)) v.1 h | inr v ↦ absurd (l.apart (sym v.0)) ] | inr lt ↦ absurd (omega arith) ] in
+      let part_d : (st j u : ℕ) (x : List ℕ) (z : ℕ) → Made sent c z (Part n st j u x) → Made sent c d (Part n st j u x) = λ st j u x z h.
+      elim (l.past c z (Part n st j u x) h) [ inl e ↦ elim e [ inl v ↦ subst (λ w. Made sent c w (Part n st j u x)) v.1 h | inr v ↦ absurd (l.apart (sym v.0)) ] | inr lt ↦ absurd (omega arith) ] in (
         λ p lt. elim (l.pages.stale p lt) [ inl a ↦ inl a | inr b ↦ inr (elim b [ inl a ↦ inl a | inr f ↦ inr (newest_copy sent c d n r.newest r.copies r.guest p (to_d p) l.pages.copies f) ]) ],
         λ to z ns b p k y h lt le i. (l.pages.states ns b (state_d to ns b h)).copies p k y lt le (to_d p z k y i),
+        λ st z xs ns b p k y some were join lt le i.
+            (pieces_are_sent m n r hd.mode (Made sent c d) st xs ns b l.pages some (λ j inside. part_d st j (length xs) (get_or xs j []) (were j inside).to (were j inside).was_sent) join (subst (λ w. m.valid w ≡ true) (sym (some_is r.guest t.guest l.guest)) l.valid)).copies p k y lt le (to_d p z k y i),
       )
   stale_owner (Empty n) q hd H sent c d t l = tt
   stale_owner (Run n g) q hd H sent c d t l = tt
@@ -960,11 +1025,11 @@ module _ {S P E A B : Type 0} (m : Guest S P E A B) where
 
   pub stale_law : NoStalePage m
   unfolding NoStalePage
-  stale_law = λ g count limits events x v.
-      let w = run m (new_world m g count limits) events in
-      let s = run_sound events (new_world m g count limits) (at_start m g) (new_sound g count limits v) in
+  stale_law = λ g version count limits events x v.
+      let w = run m (new_world m version g count limits) events in
+      let s = run_sound events (new_world m version g count limits) (at_start m g) (new_sound version g count limits v) in
       let l = s.good in
       elim (same_or x s.c) [
-        | inl q ↦ subst (λ z. CopiesAreFresh m w.sent z (mode_at m w z)) (sym q) (stale_owner (w.hosts s.c).mode (w.hosts s.c).partner (w.hosts s.d) w.hosts w.sent s.c s.d _ l)
-        | inr n ↦ stale_other (Run (move_of (w.hosts x).mode) g) (w.hosts x).mode w.sent x (run_apart (move_of (w.hosts x).mode) (w.hosts x).mode (none_at (w.hosts s.c) (w.hosts s.d) w.hosts w.sent s.c s.d x _ l n) (omega arith))
+        | inl q ↦ subst (λ z. CopiesAreFresh m (read m w.sent) z (mode_at m w z)) (sym q) (stale_owner (w.hosts s.c).mode (w.hosts s.c).partner (w.hosts s.d) w.hosts (read m w.sent) s.c s.d _ l)
+        | inr n ↦ stale_other (Run (move_of (w.hosts x).mode) g) (w.hosts x).mode (read m w.sent) x (run_apart (move_of (w.hosts x).mode) (w.hosts x).mode (none_at (w.hosts s.c) (w.hosts s.d) w.hosts (read m w.sent) s.c s.d x _ l n) (omega arith))
       ]

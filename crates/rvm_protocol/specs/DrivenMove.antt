@@ -29,9 +29,9 @@ module _ {S P E A B : Type 0} (m : Guest S P E A B) where
   -- from a world of any run whose host `from` is in Run, to another host whose limit suffices: 2 * pages + 11 events
   unfoldable pub DriveLaw : Type 0
   DriveLaw =
-      (start g : S) (count : ℕ) (limits : ℕ → ℕ) (events : List (Event E)) (from to e : ℕ) (policy : Policy) → m.valid start ≡ true
-      → mode_at m (run m (new_world m start count limits) events) from ≡ Run e g → e < 2 ^ 64 - 1 → is_allowed policy ≡ true → from < count → is_there from count to ≡ true → page_count m g ≤ limits to → page_count m g < 2 ^ 32
-      → Driven (run m (new_world m start count limits) events) from to policy e g
+      (start g : S) (version count : ℕ) (limits : ℕ → ℕ) (events : List (Event E)) (from to e : ℕ) (policy : Policy) → m.valid start ≡ true
+      → mode_at m (run m (new_world m version start count limits) events) from ≡ Run e g → e < 2 ^ 64 - 1 → is_allowed policy ≡ true → from < count → is_there from count to ≡ true → page_count m g ≤ limits to → page_count m g < 2 ^ 32
+      → Driven (run m (new_world m version start count limits) events) from to policy e g
 
 unfoldable pub DriveCount : Type 0
 DriveCount = (from to k n : ℕ) (policy : Policy) → length (drive {E = ℕ} from to policy k n) ≡ 2 * n + 11

@@ -13,5 +13,5 @@ module _ {S P E A B : Type 0} (m : Guest S P E A B) where
 
   unfoldable pub CopiesAreBounded : Type 0
   CopiesAreBounded =
-      (g : S) (count : ℕ) (limits : ℕ → ℕ) (events : List (Event E)) (x : ℕ)
-      → FewCopies (mode_at m (run m (new_world m g count limits) events) x)
+      (g : S) (version count : ℕ) (limits : ℕ → ℕ) (events : List (Event E)) (x : ℕ)
+      → FewCopies (mode_at m (run m (new_world m version g count limits) events) x)

@@ -2,7 +2,7 @@
 -- Started without a Started.
 use Rattle.std.specs.Prelude.{◌≡◌, ◌⊎◌, ℕ, true, List, [], ◌∷◌}
 use Rattle.rvm_protocol.specs.Guest.{Guest}
-use Rattle.rvm_protocol.specs.Frames.{Frame, State, Ready, Go, Started, Addressed}
+use Rattle.rvm_protocol.specs.Frames.{Frame, State, Part, Ready, Go, Started, Addressed}
 use Rattle.rvm_protocol.specs.Commands.{HostEvent, Came}
 use Rattle.rvm_protocol.specs.Replies.{Reply, ReadySent, Committed, StartedHere}
 use Rattle.rvm_protocol.specs.World.{Event, Entry, run, history, new_world, Has}
@@ -29,6 +29,7 @@ module _ {P E A B : Type 0} where
   -- the state of move n was answered ReadySent
   abbrev pub says_ready : ℕ → HostEvent P E B → Reply A → Type 0
   says_ready n (Came from (State k numbers body)) ReadySent = k ≡ n
+  says_ready n (Came from (Part k stamp part parts bytes)) ReadySent = k ≡ n
   says_ready n e r = ⊥
 
   -- Go of move n was answered Started
@@ -50,9 +51,9 @@ module _ {S P E A B : Type 0} (m : Guest S P E A B) where
   -- Committed or Started
   unfoldable pub FramesFollowTheirCauses : Type 0
   FramesFollowTheirCauses =
-      (g : S) (count : ℕ) (limits : ℕ → ℕ) (events : List (Event E)) (a : Addressed P B)
+      (g : S) (version count : ℕ) (limits : ℕ → ℕ) (events : List (Event E)) (a : Addressed P B)
       → m.valid g ≡ true
-      → Has (run m (new_world m g count limits) events).sent a
-      → IsCaused (WasReady (history m (new_world m g count limits) events))
-      (WasCommitted (history m (new_world m g count limits) events))
-      (WasStarted (history m (new_world m g count limits) events)) a.frame
+      → Has (run m (new_world m version g count limits) events).sent a
+      → IsCaused (WasReady (history m (new_world m version g count limits) events))
+      (WasCommitted (history m (new_world m version g count limits) events))
+      (WasStarted (history m (new_world m version g count limits) events)) a.frame

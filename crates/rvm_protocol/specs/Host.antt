@@ -3,7 +3,7 @@
 use Rattle.std.specs.Prelude.{ℕ, Bool, false, not, ◌&&◌, ◌||◌, ◌==◌, if◌then◌else◌, nat_lt}
 use Rattle.std.specs.declared.option.Option.{Option}
 use Rattle.rvm_protocol.specs.Guest.{Guest}
-use Rattle.rvm_protocol.specs.Frames.{Frame, Offer, Addressed, posted}
+use Rattle.rvm_protocol.specs.Frames.{Frame, Offer, Addressed, posted, made_as, plain}
 use Rattle.rvm_protocol.specs.Commands.{Command, Begin, HostEvent, Do, Came}
 use Rattle.rvm_protocol.specs.Replies.{BadHost, Reply, Begun, Accepted}
 use Rattle.rvm_protocol.specs.Modes.{Mode, Run, Outcome, move_of, refuses, ignores}
@@ -47,28 +47,33 @@ addressee (Came from f) partner = from
 
 module _ {S P E A B : Type 0} (m : Guest S P E A B) where
   -- Begin looks at the target that it names first
-  abbrev pub obey_at : (self count : ℕ) → Command E → Mode S P → Outcome S P A B
-  obey_at self count (Begin to p) (Run n g) =
+  abbrev pub obey_at : (version self count : ℕ) → Command E → Mode S P → Outcome S P A B
+  obey_at version self count (Begin to p) (Run n g) =
       if is_there self count to then begin m p (Run n g) else refuses BadHost (Run n g)
-  obey_at self count c mode = obey m c mode
+  obey_at version self count c mode = obey m version c mode
 
   abbrev pub came_at : (self count limit from : ℕ) → Frame P B → Host S P → Outcome S P A B
   came_at self count limit from f h =
       if is_heard self count from f h then came m limit f h.mode else ignores h.mode
 
-  abbrev pub outcome : (self count limit : ℕ) → HostEvent P E B → Host S P → Outcome S P A B
-  outcome self count limit (Do c) h = obey_at self count c h.mode
-  outcome self count limit (Came from f) h = came_at self count limit from f h
+  abbrev pub outcome : (version self count limit : ℕ) → HostEvent P E B → Host S P
+      → Outcome S P A B
+  outcome version self count limit (Do c) h = obey_at version self count c h.mode
+  outcome version self count limit (Came from f) h = came_at self count limit from (plain m f) h
 
-  abbrev pub settled : ℕ → HostEvent P E B → ℕ → Outcome S P A B → Result S P A B
-  settled self e partner o =
+  abbrev pub settled : (version self : ℕ) → HostEvent P E B → ℕ → Outcome S P A B
+      → Result S P A B
+  settled version self e partner o =
       let p = partner_then e o.reply partner in
       record {
         reply = o.reply;
-        made = posted self (addressee e p) o.made;
+        made = posted self (addressee e p) (made_as m version o.made);
         next = record { mode = o.next; partner = p };
       }
 
-  -- one event at a host
-  abbrev pub host_step : (self count limit : ℕ) → HostEvent P E B → Host S P → Result S P A B
-  host_step self count limit e h = settled self e h.partner (outcome self count limit e h)
+  -- one event at a host that is called self in a world of count hosts, takes guests of at most limit
+  -- pages and writes frames of this stream version
+  abbrev pub host_step : (version self count limit : ℕ) → HostEvent P E B → Host S P
+      → Result S P A B
+  host_step version self count limit e h =
+      settled version self e h.partner (outcome version self count limit e h)

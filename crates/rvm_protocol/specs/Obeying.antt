@@ -1,13 +1,13 @@
 -- What each command does in each mode.
-use Rattle.std.specs.Prelude.{ℕ, suc, ◌-◌, ◌^◌, ◌||◌, ◌==◌, if◌then◌else◌, nat_le}
+use Rattle.std.specs.Prelude.{ℕ, suc, ◌-◌, ◌^◌, ◌||◌, ◌==◌, if◌then◌else◌, nat_le, length, get_or, []}
 use Rattle.std.specs.declared.option.Option.{Option}
 use Rattle.std.specs.declared.option.Option.TheVariants.{Some, None}
 use Rattle.rvm_protocol.specs.Guest.{Guest}
-use Rattle.rvm_protocol.specs.Frames.{Frame, Offer, Page, RoundEnd, State, Ready, Go, Abort}
+use Rattle.rvm_protocol.specs.Frames.{Frame, Offer, Page, RoundEnd, State, Part, Ready, Go, Abort, is_compact}
 use Rattle.rvm_protocol.specs.Commands.{Policy, is_allowed, Command, Board, Begin, Copy, Resend, AbortMove}
-use Rattle.rvm_protocol.specs.Replies.{BadSize, SeqSpent, NotHere, Paused, Busy, NoMove, EpochsSpent, Answered, Begun, Copied, RoundEnded, Stopping, StateSent, Resent, Aborted}
-use Rattle.rvm_protocol.specs.Pages.{size, listed}
-use Rattle.rvm_protocol.specs.Rounds.{Rounds, Last, page_count, page_of, next_page, stops, page_copied, next_round, round_over, stopped, to_copy, last_copied}
+use Rattle.rvm_protocol.specs.Replies.{BadSize, SeqSpent, NotHere, Paused, Busy, NoMove, EpochsSpent, Answered, Begun, Copied, RoundEnded, Stopping, StateSent, PartSent, Resent, Aborted, Reply}
+use Rattle.rvm_protocol.specs.Pages.{size}
+use Rattle.rvm_protocol.specs.Rounds.{Rounds, Last, page_count, page_of, next_page, stops, page_copied, next_round, round_over, stopped, to_copy, last_copied, newest_numbers, pieces_of, next_turn}
 use Rattle.rvm_protocol.specs.Modes.{Mode, Empty, Run, Offering, Copying, Stopped, Given, Staging, Held, Outcome, says, sends, refuses}
 
 module _ {S P E A B : Type 0} (m : Guest S P E A B) where
@@ -71,38 +71,50 @@ module _ {S P E A B : Type 0} (m : Guest S P E A B) where
 
   -- the state of the paused guest, and the number of each page's newest copy
   abbrev pub state_frame : ℕ → Last S → Frame P B
-  state_frame n l = State n (listed l.newest 0 (page_count m l.guest)) (m.body l.guest)
+  state_frame n l = State n (newest_numbers m l) (m.body l.guest)
+
+  -- the piece of the state whose turn it is
+  abbrev pub part_frame : ℕ → Last S → Frame P B
+  part_frame n l =
+      Part n l.copies l.turn (length (pieces_of m l)) (get_or (pieces_of m l) l.turn [])
+
+  -- the state whole, or in pieces, by the stream's version
+  abbrev pub sends_state : (version : ℕ) → (whole piece : Reply A) → ℕ → Last S → Outcome S P A B
+  sends_state version whole piece n l =
+      if is_compact version then sends piece (part_frame n l) (Stopped n (next_turn m l))
+      else sends whole (state_frame n l) (Stopped n l)
 
   -- the last pages, then the state
-  abbrev pub copy_last : ℕ → Last S → Option ℕ → Outcome S P A B
-  copy_last n l (Some p) =
+  abbrev pub copy_last : (version : ℕ) → ℕ → Last S → Option ℕ → Outcome S P A B
+  copy_last version n l (Some p) =
       if nat_le (2 ^ 32 - 1) l.copies then refuses SeqSpent (Stopped n l) else sends_last n l p
-  copy_last n l None = sends StateSent (state_frame n l) (Stopped n l)
+  copy_last version n l None =
+      sends_state version StateSent (PartSent l.turn (length (pieces_of m l))) n l
 
-  abbrev pub copy : Mode S P → Outcome S P A B
-  copy (Empty n) = refuses NotHere (Empty n)
-  copy (Run n g) = refuses NoMove (Run n g)
-  copy (Offering n g r) = refuses Busy (Offering n g r)
-  copy (Copying n r) =
+  abbrev pub copy : (version : ℕ) → Mode S P → Outcome S P A B
+  copy version (Empty n) = refuses NotHere (Empty n)
+  copy version (Run n g) = refuses NoMove (Run n g)
+  copy version (Offering n g r) = refuses Busy (Offering n g r)
+  copy version (Copying n r) =
       if r.stop then says Stopping (Stopped n (stopped m r)) else copy_page n r (next_page m r)
-  copy (Stopped n l) = copy_last n l (to_copy m l)
-  copy (Given n) = refuses NotHere (Given n)
-  copy (Staging n s) = refuses NotHere (Staging n s)
-  copy (Held n g) = refuses NotHere (Held n g)
+  copy version (Stopped n l) = copy_last version n l (to_copy m l)
+  copy version (Given n) = refuses NotHere (Given n)
+  copy version (Staging n s) = refuses NotHere (Staging n s)
+  copy version (Held n g) = refuses NotHere (Held n g)
 
-  abbrev pub resend_last : ℕ → Last S → Option ℕ → Outcome S P A B
-  resend_last n l (Some p) = refuses NoMove (Stopped n l)
-  resend_last n l None = sends Resent (state_frame n l) (Stopped n l)
+  abbrev pub resend_last : (version : ℕ) → ℕ → Last S → Option ℕ → Outcome S P A B
+  resend_last version n l (Some p) = refuses NoMove (Stopped n l)
+  resend_last version n l None = sends_state version Resent Resent n l
 
-  abbrev pub resend : Mode S P → Outcome S P A B
-  resend (Empty n) = refuses NoMove (Empty n)
-  resend (Run n g) = refuses NoMove (Run n g)
-  resend (Offering n g r) = sends Resent (offer_frame n g) (Offering n g r)
-  resend (Copying n r) = refuses NoMove (Copying n r)
-  resend (Stopped n l) = resend_last n l (to_copy m l)
-  resend (Given n) = sends Resent (Go n) (Given n)
-  resend (Staging n s) = refuses NoMove (Staging n s)
-  resend (Held n g) = sends Resent (Ready n) (Held n g)
+  abbrev pub resend : (version : ℕ) → Mode S P → Outcome S P A B
+  resend version (Empty n) = refuses NoMove (Empty n)
+  resend version (Run n g) = refuses NoMove (Run n g)
+  resend version (Offering n g r) = sends Resent (offer_frame n g) (Offering n g r)
+  resend version (Copying n r) = refuses NoMove (Copying n r)
+  resend version (Stopped n l) = resend_last version n l (to_copy m l)
+  resend version (Given n) = sends Resent (Go n) (Given n)
+  resend version (Staging n s) = refuses NoMove (Staging n s)
+  resend version (Held n g) = sends Resent (Ready n) (Held n g)
 
   -- only a source that has not committed can give a move up
   abbrev pub abort : Mode S P → Outcome S P A B
@@ -115,9 +127,9 @@ module _ {S P E A B : Type 0} (m : Guest S P E A B) where
   abort (Staging n s) = refuses NotHere (Staging n s)
   abort (Held n g) = refuses NotHere (Held n g)
 
-  abbrev pub obey : Command E → Mode S P → Outcome S P A B
-  obey (Board e) mode = board e mode
-  obey (Begin to p) mode = begin p mode
-  obey Copy mode = copy mode
-  obey Resend mode = resend mode
-  obey AbortMove mode = abort mode
+  abbrev pub obey : (version : ℕ) → Command E → Mode S P → Outcome S P A B
+  obey version (Board e) mode = board e mode
+  obey version (Begin to p) mode = begin p mode
+  obey version Copy mode = copy version mode
+  obey version Resend mode = resend version mode
+  obey version AbortMove mode = abort mode

@@ -33,6 +33,6 @@ module _ {S P E A B : Type 0} (m : Guest S P E A B) where
   -- after any events from a new world
   unfoldable pub AlwaysOneGuest : Type 0
   AlwaysOneGuest =
-      (g : S) (count : ℕ) (limits : ℕ → ℕ) (events : List (Event E)) → m.valid g ≡ true
-      → OneGuest g (run m (new_world m g count limits) events)
-      (history m (new_world m g count limits) events)
+      (g : S) (version count : ℕ) (limits : ℕ → ℕ) (events : List (Event E)) → m.valid g ≡ true
+      → OneGuest g (run m (new_world m version g count limits) events)
+      (history m (new_world m version g count limits) events)

@@ -22,6 +22,12 @@ unfoldable pub least : Pages → ℕ → ℕ → Option ℕ
 least s first zero = None
 least s first (suc count) = if s first then Some first else least s (suc first) count
 
+-- a first value and the rest, where both are there
+abbrev pub with_first : {V : Type 0} → Option V → Option (List V) → Option (List V)
+with_first (Some x) (Some xs) = Some (x ∷ xs)
+with_first None xs = None
+with_first x xs = None
+
 -- how many numbers below n are members
 unfoldable pub size : Pages → ℕ → ℕ
 size s zero = zero
@@ -37,6 +43,11 @@ unfoldable pub members : Pages → ℕ → ℕ → List ℕ
 members s first zero = []
 members s first (suc count) =
     if s first then first ∷ members s (suc first) count else members s (suc first) count
+
+-- the values of f at the count numbers from first, where it has all of them
+unfoldable pub gathered : {V : Type 0} → (ℕ → Option V) → ℕ → ℕ → Option (List V)
+gathered f first zero = Some []
+gathered f first (suc count) = with_first (f first) (gathered f (suc first) count)
 
 -- the set of a list's numbers
 unfoldable pub is_in : List ℕ → Pages

@@ -4,11 +4,11 @@ use Rattle.std.specs.Prelude.{ℕ, ◌&&◌, ◌||◌, ◌==◌, if◌then◌els
 use Rattle.std.specs.declared.option.Option.{Option}
 use Rattle.std.specs.declared.option.Option.TheVariants.{Some, None}
 use Rattle.rvm_protocol.specs.Guest.{Guest}
-use Rattle.rvm_protocol.specs.Frames.{Frame, Offer, Accept, Refuse, Page, RoundEnd, Lost, State, Ready, Go, Started, Abort}
-use Rattle.rvm_protocol.specs.Replies.{BadState, Resent, Accepted, Declined, Open, MoveDeclined, Stored, Noted, Lacking, ReadySent, Fixing, Committed, StartedHere, Finished, Dropped}
-use Rattle.rvm_protocol.specs.Pages.{size, members, is_in}
+use Rattle.rvm_protocol.specs.Frames.{Frame, Offer, Accept, Refuse, Page, RoundEnd, Lost, State, Part, Ready, Go, Started, Abort}
+use Rattle.rvm_protocol.specs.Replies.{BadState, Resent, Accepted, Declined, Open, MoveDeclined, Stored, Noted, Kept, Lacking, ReadySent, Fixing, Committed, StartedHere, Finished, Dropped}
+use Rattle.rvm_protocol.specs.Pages.{size, members, gathered, is_in}
 use Rattle.rvm_protocol.specs.Rounds.{Last, page_count, opened}
-use Rattle.rvm_protocol.specs.Staging.{Stage, new_stage, with_page, lacks}
+use Rattle.rvm_protocol.specs.Staging.{Stage, new_stage, with_page, lacks, takes_part, with_part}
 use Rattle.rvm_protocol.specs.Modes.{Mode, Empty, Run, Offering, Copying, Stopped, Given, Staging, Held, Outcome, says, sends, refuses, ignores}
 
 module _ {S P E A B : Type 0} (m : Guest S P E A B) where
@@ -33,23 +33,43 @@ module _ {S P E A B : Type 0} (m : Guest S P E A B) where
       then says (Stored p k) (Staging n (with_page s p k b))
       else ignores (Staging n s)
 
-  abbrev pub guest_read : ℕ → Stage P → Option S → Outcome S P A B
-  guest_read n s None = refuses BadState (Staging n s)
-  guest_read n s (Some g) = sends ReadySent (Ready n) (Held n g)
+  -- a state that is bad leaves the old stage
+  abbrev pub guest_read : ℕ → (old : Stage P) → Option S → Outcome S P A B
+  guest_read n old None = refuses BadState (Staging n old)
+  guest_read n old (Some g) = sends ReadySent (Ready n) (Held n g)
 
   -- the guest is made where every copy that the numbers name, or a newer one, is there
-  abbrev pub state_compared : ℕ → Stage P → List ℕ → B → Outcome S P A B
-  state_compared n s numbers body =
+  abbrev pub state_compared : ℕ → (old s : Stage P) → List ℕ → B → Outcome S P A B
+  state_compared n old s numbers body =
       let missing = lacks s numbers in
       let count = size (lacks s numbers) (length s.pages) in
       if nat_lt 0 count
       then sends (Lacking count) (Lost n (members missing 0 (length s.pages))) (Staging n s)
-      else guest_read n s (m.build s.processors body s.pages)
+      else guest_read n old (m.build s.processors body s.pages)
 
-  abbrev pub state_came : ℕ → Stage P → List ℕ → B → Outcome S P A B
-  state_came n s numbers body =
-      if length numbers == length s.pages then state_compared n s numbers body
-      else refuses BadState (Staging n s)
+  abbrev pub state_came : ℕ → (old s : Stage P) → List ℕ → B → Outcome S P A B
+  state_came n old s numbers body =
+      if length numbers == length s.pages then state_compared n old s numbers body
+      else refuses BadState (Staging n old)
+
+  abbrev pub pieces_joined : ℕ → (old s : Stage P) → Option (List ℕ × B) → Outcome S P A B
+  pieces_joined n old s None = refuses BadState (Staging n old)
+  pieces_joined n old s (Some state) = state_came n old s state.0 state.1
+
+  -- with all pieces there, each one is answered as the state that they join to
+  abbrev pub part_kept : ℕ → (old s : Stage P) → (part parts : ℕ) → Option (List (List ℕ))
+      → Outcome S P A B
+  part_kept n old s part parts None = says (Kept part parts) (Staging n s)
+  part_kept n old s part parts (Some pieces) = pieces_joined n old s (m.join pieces)
+
+  abbrev pub part_came : ℕ → Stage P → (stamp part parts : ℕ) → List ℕ → Outcome S P A B
+  part_came n s stamp part parts bytes =
+      if takes_part s stamp parts
+      then (
+      let t = with_part s stamp part parts bytes in
+      part_kept n s t part parts (gathered t.pieces 0 parts)
+      )
+      else ignores (Staging n s)
 
   -- pages that were lost are copied again
   abbrev pub lost_came : ℕ → Last S → List ℕ → Outcome S P A B
@@ -76,8 +96,12 @@ module _ {S P E A B : Type 0} (m : Guest S P E A B) where
   came limit (RoundEnd k a b c d) (Staging n s) =
       of_this_move n k (says Noted (Staging n s)) (Staging n s)
   came limit (State k numbers body) (Staging n s) =
-      of_this_move n k (state_came n s numbers body) (Staging n s)
+      of_this_move n k (state_came n s s numbers body) (Staging n s)
   came limit (State k numbers body) (Held n g) =
+      of_this_move n k (sends ReadySent (Ready n) (Held n g)) (Held n g)
+  came limit (Part k stamp part parts bytes) (Staging n s) =
+      of_this_move n k (part_came n s stamp part parts bytes) (Staging n s)
+  came limit (Part k stamp part parts bytes) (Held n g) =
       of_this_move n k (sends ReadySent (Ready n) (Held n g)) (Held n g)
   came limit (Lost k ps) (Stopped n l) = of_this_move n k (lost_came n l ps) (Stopped n l)
   came limit (Ready k) (Stopped n l) =

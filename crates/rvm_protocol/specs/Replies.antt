@@ -34,6 +34,7 @@ pub data Reply (A : Type 0) : Type 0 where
   RoundEnded : (round sent skipped left : ℕ) → Reply A
   Stopping : Reply A
   StateSent : Reply A
+  PartSent : (part parts : ℕ) → Reply A
   Resent : Reply A
   Aborted : Reply A
   -- replies to frames, at the source
@@ -47,6 +48,7 @@ pub data Reply (A : Type 0) : Type 0 where
   Declined : (limit : ℕ) → Reply A
   Stored : (page number : ℕ) → Reply A
   Noted : Reply A
+  Kept : (part parts : ℕ) → Reply A
   Lacking : (count : ℕ) → Reply A
   ReadySent : Reply A
   StartedHere : Reply A

@@ -2,11 +2,11 @@
 -- the paused guest (stop-and-copy). Each round sends the pages written during the one before, but
 -- skips a page that was written again: it is in the writable working set, and waits for a later
 -- round (Clark and others, 3.2, 4.1 and 5.4).
-use Rattle.std.specs.Prelude.{ℕ, suc, ◌-◌, ◌*◌, ◌/◌, ◌%◌, Bool, true, false, not, ◌&&◌, ◌||◌, ◌==◌, if◌then◌else◌, nat_lt, nat_le, length, get_or}
+use Rattle.std.specs.Prelude.{ℕ, suc, ◌-◌, ◌*◌, ◌/◌, ◌%◌, Bool, true, false, not, ◌&&◌, ◌||◌, ◌==◌, if◌then◌else◌, nat_lt, nat_le, List, length, get_or}
 use Rattle.std.specs.declared.option.Option.{Option}
 use Rattle.rvm_protocol.specs.Guest.{Guest}
 use Rattle.rvm_protocol.specs.Commands.{Policy}
-use Rattle.rvm_protocol.specs.Pages.{Pages, none, all, put, least, size}
+use Rattle.rvm_protocol.specs.Pages.{Pages, none, all, put, least, size, listed}
 
 -- the source while the guest runs
 pub record Rounds (S : Type 0) : Type 0 where
@@ -37,6 +37,8 @@ pub record Last (S : Type 0) : Type 0 where
   pub to_fix : Pages
   pub newest : ℕ → ℕ
   pub copies : ℕ
+  -- the piece of the state that is sent next; the first again after each copy
+  pub turn : ℕ
 
 -- the scan skips page p where the dirty log had it at the peek. Peeks are made for 64 pages at a
 -- time, by the copy that first looks at one of them
@@ -115,6 +117,7 @@ module _ {S P E A B : Type 0} (m : Guest S P E A B) where
         to_fix = none;
         newest = r.newest;
         copies = r.copies;
+        turn = 0;
       }
 
   -- the lowest page that is still to be copied
@@ -128,4 +131,17 @@ module _ {S P E A B : Type 0} (m : Guest S P E A B) where
         to_fix = put l.to_fix p false;
         newest = put l.newest p (suc l.copies);
         copies = suc l.copies;
+        turn = 0;
       }
+
+  -- the number of each page's newest copy
+  abbrev pub newest_numbers : Last S → List ℕ
+  newest_numbers l = listed l.newest 0 (page_count l.guest)
+
+  -- the pieces of the paused guest's state
+  abbrev pub pieces_of : Last S → List (List ℕ)
+  pieces_of l = m.cut (newest_numbers l) (m.body l.guest)
+
+  -- a piece was sent: the next one is due, the first again after the last
+  abbrev pub next_turn : Last S → Last S
+  next_turn l = record l { turn = if nat_lt (suc l.turn) (length (pieces_of l)) then suc l.turn else 0 }

@@ -12,6 +12,8 @@ use Rattle.rvm_protocol.specs.Modes.{Mode, Empty, Run}
 use Rattle.rvm_protocol.specs.Host.{Host, Result, host_step}
 
 pub record World (S P B : Type 0) : Type 0 where
+  -- the version of its streams
+  pub version : ℕ
   -- its hosts are the numbers below count
   pub count : ℕ
   -- how many pages each of them takes
@@ -47,7 +49,7 @@ module _ {S P E A B : Type 0} (m : Guest S P E A B) where
   mode_at w x = (w.hosts x).mode
 
   abbrev pub result_at : World S P B → ℕ → HostEvent P E B → Result S P A B
-  result_at w x e = host_step m x w.count (w.limits x) e (w.hosts x)
+  result_at w x e = host_step m w.version x w.count (w.limits x) e (w.hosts x)
 
   -- after an event at host x; each other host stays as it was
   abbrev pub world_at : World S P B → ℕ → HostEvent P E B → World S P B
@@ -105,6 +107,12 @@ module _ {S P E A B : Type 0} (m : Guest S P E A B) where
   abbrev pub new_host : S → ℕ → Host S P
   new_host g x = record { mode = if x == 0 then Run 0 g else Empty 0; partner = x }
 
-  abbrev pub new_world : S → ℕ → (ℕ → ℕ) → World S P B
-  new_world g count limits =
-      record { count = count; limits = limits; hosts = new_host g; sent = [] }
+  abbrev pub new_world : (version : ℕ) → S → (count : ℕ) → (limits : ℕ → ℕ) → World S P B
+  new_world version g count limits =
+      record {
+        version = version;
+        count = count;
+        limits = limits;
+        hosts = new_host g;
+        sent = [];
+      }
