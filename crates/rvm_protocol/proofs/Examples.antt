@@ -87,12 +87,12 @@ no_host = refl
 
 -- a driven move of four pages, from a fresh world and after an aborted one
 abbrev driven_from : List (Event ToyEvent) → ℕ → ℕ → List (Reply ℕ)
-driven_from before k to = told_by 3 (before ++ drive 0 to (record { max_rounds = 3; min_left = 1; factor = 3 }) k 4)
+driven_from before k to = told_by 3 (before ++ drive 0 to (record { max_rounds = 3; min_left = 1; factor = 3 }) k 4 1)
 
-driven_first : driven_from [] 0 1 ≡ drive_replies 1 4
+driven_first : driven_from [] 0 1 ≡ drive_replies 1 1 4 1
 unfolding replies least size listed members is_in
 driven_first = refl
 
-driven_later : driven_from (to_ready ++ At 0 AbortMove ∷ []) 10 2 ≡ told_by 3 (to_ready ++ At 0 AbortMove ∷ []) ++ drive_replies 2 4
+driven_later : driven_from (to_ready ++ At 0 AbortMove ∷ []) 10 2 ≡ told_by 3 (to_ready ++ At 0 AbortMove ∷ []) ++ drive_replies 1 2 4 1
 unfolding replies least size listed members is_in
 driven_later = refl

@@ -14,6 +14,8 @@ pub mod Follow
 pub mod Clauses
 pub mod Carry
 mod Drive
+mod Phases
+pub mod Arrival
 pub mod Bound
 mod Counter
 mod Examples

@@ -48,7 +48,7 @@ more_cases F None f h = inl h
 more_cases F (Some g) f (inl h) = inl h
 more_cases F (Some g) f (inr e) = inr (ap Some e)
 
-there_apart : (x count y : ℕ) → is_there x count y ≡ true → y ≢ x
+pub there_apart : (x count y : ℕ) → is_there x count y ≡ true → y ≢ x
 there_apart x count y h = λ e. not_same (nat_lt y count) (y == x) h (subst (λ z. (z == x) ≡ true) (sym e) (eq-eqb x x refl))
   where
     not_same : (a b : Bool) → (a && not b) ≡ true → b ≡ true → ⊥
@@ -58,7 +58,7 @@ there_apart x count y h = λ e. not_same (nat_lt y count) (y == x) h (subst (λ 
 
 module _ {S P E A B : Type 0} (m : Guest S P E A B) where
   -- a frame is read as it was before it was written
-  plain_written : (v : ℕ) (f : Frame P B) → ((k p n : ℕ) → f ≡ Zero k p n → ⊥) → plain m (written m v f) ≡ f
+  pub plain_written : (v : ℕ) (f : Frame P B) → ((k p n : ℕ) → f ≡ Zero k p n → ⊥) → plain m (written m v f) ≡ f
   plain_written v (Page n p k b) h =
       either (λ f. plain m f ≡ Page n p k b) (is_compact v && m.is_zeros b) (Zero n p k) (Page n p k b)
       (λ e. ap (λ z. Page n p k z) (sym (m.only_zeros_pass b (and_both (is_compact v) (m.is_zeros b) e).1)))

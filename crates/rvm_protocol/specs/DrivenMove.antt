@@ -1,8 +1,9 @@
 -- A driven move: each frame of it is delivered once, in order, and the guest has no event.
-use Rattle.std.specs.Prelude.{◌≡◌, ℕ, ◌+◌, ◌*◌, ◌^◌, ◌-◌, ◌<◌, ◌≤◌, true, List, [], ◌∷◌, ◌++◌, length}
+use Rattle.std.specs.Prelude.{◌≡◌, ℕ, suc, ◌+◌, ◌*◌, ◌^◌, ◌-◌, ◌<◌, ◌≤◌, true, if◌then◌else◌, List, [], ◌∷◌, ◌++◌, length}
 use Rattle.rvm_protocol.specs.Guest.{Guest}
+use Rattle.rvm_protocol.specs.Frames.{is_compact}
 use Rattle.rvm_protocol.specs.Commands.{Policy, is_allowed, Begin, Copy}
-use Rattle.rvm_protocol.specs.Replies.{Reply, Begun, Copied, RoundEnded, Stopping, StateSent, Accepted, Open, Stored, Noted, ReadySent, Committed, StartedHere, Finished}
+use Rattle.rvm_protocol.specs.Replies.{Reply, Begun, Copied, RoundEnded, Stopping, StateSent, PartSent, Accepted, Open, Stored, Noted, Kept, ReadySent, Committed, StartedHere, Finished}
 use Rattle.rvm_protocol.specs.Pages.{listed}
 use Rattle.rvm_protocol.specs.Rounds.{page_count}
 use Rattle.rvm_protocol.specs.Modes.{Empty, Run}
@@ -10,28 +11,72 @@ use Rattle.rvm_protocol.specs.Host.{is_there}
 use Rattle.rvm_protocol.specs.World.{World, Event, At, Deliver, mode_at, run, replies, new_world}
 
 module _ {E : Type 0} where
-  -- the events of a move of n pages, where k frames were sent before: each frame of it is delivered once, in order
-  abbrev pub drive : (from to : ℕ) → Policy → (k n : ℕ) → List (Event E)
-  drive from to policy k n =
-      At from (Begin to policy) ∷ Deliver k ∷ Deliver (k + 1) ∷ listed (λ p. At from Copy) 0 (n + 1) ++ listed (λ p. Deliver (k + 2 + p)) 0 (n + 1)
-      ++ At from Copy ∷ At from Copy ∷ Deliver (k + n + 3) ∷ Deliver (k + n + 4) ∷ Deliver (k + n + 5) ∷ Deliver (k + n + 6) ∷ []
+  -- the events that move n pages and a state of s frames, where k frames were sent before: the offer
+  -- and its answer; a copy of each page and the round's end, and these frames; the stop; the state,
+  -- and its frames; Ready, Go and Started
+  abbrev pub drive : (from to : ℕ) → Policy → (k n s : ℕ) → List (Event E)
+  drive from to policy k n s =
+      At from (Begin to policy) ∷ Deliver k ∷ Deliver (k + 1) ∷ []
+      ++ listed (λ p. At from Copy) 0 n
+      ++ At from Copy ∷ []
+      ++ listed (λ p. Deliver (k + 2 + p)) 0 n
+      ++ Deliver (k + 2 + n) ∷ At from Copy ∷ []
+      ++ listed (λ i. At from Copy) 0 s
+      ++ listed (λ i. Deliver (k + 3 + n + i)) 0 s
+      ++ Deliver (k + 3 + n + s) ∷ Deliver (k + 4 + n + s) ∷ Deliver (k + 5 + n + s) ∷ []
 
-abbrev pub drive_replies : {A : Type 0} → (e n : ℕ) → List (Reply A)
-drive_replies e n =
-    Begun e ∷ Accepted ∷ Open ∷ listed (λ p. Copied p (p + 1)) 0 n ++ RoundEnded 1 n 0 0 ∷ listed (λ p. Stored p (p + 1)) 0 n ++ Noted ∷ Stopping ∷ StateSent ∷ ReadySent ∷ Committed e ∷ StartedHere ∷ Finished ∷ []
+module _ {A : Type 0} where
+  -- the replies to the copies of a state of s frames, and to its frames
+  abbrev pub state_replies : (version s : ℕ) → List (Reply A)
+  state_replies version s =
+      if is_compact version then listed (λ i. PartSent i s) 0 s else StateSent ∷ []
+
+  abbrev pub arrival_replies : (version s : ℕ) → List (Reply A)
+  arrival_replies version s =
+      if is_compact version then listed (λ i. Kept i s) 0 (s - 1) ++ ReadySent ∷ []
+      else ReadySent ∷ []
+
+  -- the replies to a driven move
+  abbrev pub drive_replies : (version e n s : ℕ) → List (Reply A)
+  drive_replies version e n s =
+      Begun e ∷ Accepted ∷ Open ∷ []
+      ++ listed (λ p. Copied p (suc p)) 0 n
+      ++ RoundEnded 1 n 0 0 ∷ []
+      ++ listed (λ p. Stored p (suc p)) 0 n
+      ++ Noted ∷ Stopping ∷ []
+      ++ state_replies version s
+      ++ arrival_replies version s
+      ++ Committed e ∷ StartedHere ∷ Finished ∷ []
 
 module _ {S P E A B : Type 0} (m : Guest S P E A B) where
-  pub record Driven (w : World S P B) (from to : ℕ) (policy : Policy) (e : ℕ) (g : S) : Type 0 where
-    pub replied : replies m w (drive from to policy (length w.sent) (page_count m g)) ≡ drive_replies (e + 1) (page_count m g)
-    pub there : mode_at m (run m w (drive from to policy (length w.sent) (page_count m g))) to ≡ Run (e + 1) g
-    pub left : mode_at m (run m w (drive from to policy (length w.sent) (page_count m g))) from ≡ Empty (e + 1)
+  -- how many frames the state of g takes, where page p was copied as number p + 1
+  abbrev pub state_frames : (version : ℕ) → S → ℕ
+  state_frames version g =
+      if is_compact version then length (m.cut (listed suc 0 (page_count m g)) (m.body g)) else 1
 
-  -- from a world of any run whose host `from` is in Run, to another host whose limit suffices: 2 * pages + 11 events
-  unfoldable pub DriveLaw : Type 0
-  DriveLaw =
-      (start g : S) (version count : ℕ) (limits : ℕ → ℕ) (events : List (Event E)) (from to e : ℕ) (policy : Policy) → m.valid start ≡ true
-      → mode_at m (run m (new_world m version start count limits) events) from ≡ Run e g → e < 2 ^ 64 - 1 → is_allowed policy ≡ true → from < count → is_there from count to ≡ true → page_count m g ≤ limits to → page_count m g < 2 ^ 32
-      → Driven (run m (new_world m version start count limits) events) from to policy e g
+  -- these events are answered so, and then the guest stands unchanged at its target
+  pub record Arrives (w : World S P B) (from to : ℕ) (e : ℕ) (g : S) (events : List (Event E))
+      : Type 0 where
+    pub replied : replies m w events
+        ≡ drive_replies w.version (suc e) (page_count m g) (state_frames w.version g)
+    pub there : mode_at m (run m w events) to ≡ Run (suc e) g
+    pub left : mode_at m (run m w events) from ≡ Empty (suc e)
 
+  -- from a world of any run whose host `from` is in Run, to another host that takes that many pages
+  unfoldable pub ADrivenMoveArrives : Type 0
+  ADrivenMoveArrives =
+      (start g : S) (version count : ℕ) (limits : ℕ → ℕ) (events : List (Event E))
+      (from to e : ℕ) (policy : Policy) → m.valid start ≡ true
+      → mode_at m (run m (new_world m version start count limits) events) from ≡ Run e g
+      → e < 2 ^ 64 - 1 → is_allowed policy ≡ true → from < count → is_there from count to ≡ true
+      → page_count m g ≤ limits to → 0 < page_count m g → page_count m g < 2 ^ 32
+      → Arrives (run m (new_world m version start count limits) events) from to e g
+      (drive from to policy
+      (length (run m (new_world m version start count limits) events).sent) (page_count m g)
+      (state_frames version g))
+
+-- how many events that are
 unfoldable pub DriveCount : Type 0
-DriveCount = (from to k n : ℕ) (policy : Policy) → length (drive {E = ℕ} from to policy k n) ≡ 2 * n + 11
+DriveCount =
+    (from to k n s : ℕ) (policy : Policy)
+    → length (drive {E = ℕ} from to policy k n s) ≡ 2 * n + 9 + 2 * s

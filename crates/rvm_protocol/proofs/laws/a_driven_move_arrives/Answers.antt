@@ -1,0 +1,6 @@
+use Rattle.rvm_protocol.proofs.Arrival.{drive_law}
+use Rattle.rvm_protocol.proofs.Drive.{drive_count}
+use Rattle.rvm_protocol.proofs.laws.a_driven_move_arrives.Goals as goal
+
+pub returns : goal.returns
+returns g c = record { always = λ m. drive_law m; count = drive_count }
