@@ -1,21 +1,21 @@
-mod Invariant
-mod Modes
-mod Cases
-mod Other
-mod Sets
-mod Source
-mod Destination
-pub mod Told
-mod Apart
-mod Content
-pub mod Hosts
-pub mod Whole
-pub mod Follow
-pub mod Clauses
-pub mod Carry
-mod Drive
+mod PairInvariant
+mod CurrentModes
+mod StateCases
+mod OtherModes
+mod Basics
+mod CurrentPages
+mod OtherPages
+pub mod Tellings
+mod Behind
+mod PagesOfFrames
+pub mod WorldInvariant
+pub mod Runs
+pub mod Causes
+pub mod CausesOfRuns
+pub mod Contents
+mod DriveCount
 mod Phases
-pub mod Arrival
-pub mod Bound
+pub mod DrivenMove
+pub mod Bounds
 mod Counter
 mod Examples

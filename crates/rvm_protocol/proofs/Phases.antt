@@ -7,7 +7,7 @@ use Rattle.rvm_protocol.specs.Guest.{Guest}
 use Rattle.rvm_protocol.specs.Host.{Host, Result, host_step}
 use Rattle.rvm_protocol.specs.Replies.{Reply, Refused, BadHost, NoFrame}
 use Rattle.rvm_protocol.specs.World.{World, Event, At, Deliver, and_sent, frame_for, meaning, happened, result_at, reply_or, reply_to, step, run, replies}
-use Rattle.rvm_protocol.proofs.Sets.{put_same, put_other}
+use Rattle.rvm_protocol.proofs.Basics.{put_same, put_other}
 
 pub if_true : {X : Type 0} (b : Bool) (x y : X) → b ≡ true → (if b then x else y) ≡ x
 if_true b x y h = ap (λ (t : Bool). if t then x else y) h

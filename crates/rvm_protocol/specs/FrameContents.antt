@@ -1,6 +1,6 @@
 -- What frames carry: a Page the bytes, a Zero a page of zeros, a State the state and a Part a piece
 -- of the state of the guest at its event.
-use Rattle.std.specs.Prelude.{◌≡◌, ℕ, true, List, [], length, get_or}
+use Rattle.std.specs.Prelude.{◌≡◌, ◌<◌, ℕ, true, List, [], length, get_or}
 use Rattle.std.specs.declared.option.Option.TheVariants.{Some}
 use Rattle.rvm_protocol.specs.Guest.{Guest}
 use Rattle.rvm_protocol.specs.Frames.{Frame, Page, Zero, State, Part, Addressed}
@@ -14,6 +14,7 @@ module _ {S P E A B : Type 0} (m : Guest S P E A B) where
   pub record IsPieceOf (g : S) (part parts : ℕ) (bytes : List ℕ) : Type 0 where
     pub numbers : List ℕ
     pub count : parts ≡ length (m.cut numbers (m.body g))
+    pub inside : part < parts
     pub piece : bytes ≡ get_or (m.cut numbers (m.body g)) part []
 
   abbrev pub Carries : S → Frame P B → Type 0

@@ -1,4 +1,4 @@
-use Rattle.rvm_protocol.proofs.Bound.{bound_law}
+use Rattle.rvm_protocol.proofs.Bounds.{bound_law}
 use Rattle.rvm_protocol.proofs.laws.copies_are_bounded.Goals as goal
 
 pub returns : goal.returns

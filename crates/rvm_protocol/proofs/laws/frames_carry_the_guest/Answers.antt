@@ -1,4 +1,4 @@
-use Rattle.rvm_protocol.proofs.Carry.{carry_law}
+use Rattle.rvm_protocol.proofs.Contents.{carry_law}
 use Rattle.rvm_protocol.proofs.laws.frames_carry_the_guest.Goals as goal
 
 pub returns : goal.returns

@@ -1,4 +1,4 @@
-use Rattle.rvm_protocol.proofs.Clauses.{follow_law}
+use Rattle.rvm_protocol.proofs.CausesOfRuns.{follow_law}
 use Rattle.rvm_protocol.proofs.laws.frames_follow_their_causes.Goals as goal
 
 pub returns : goal.returns

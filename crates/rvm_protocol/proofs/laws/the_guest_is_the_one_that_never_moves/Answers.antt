@@ -1,4 +1,4 @@
-use Rattle.rvm_protocol.proofs.Whole.{the_law}
+use Rattle.rvm_protocol.proofs.Runs.{the_law}
 use Rattle.rvm_protocol.proofs.laws.the_guest_is_the_one_that_never_moves.Goals as goal
 
 pub returns : goal.returns

@@ -1,5 +1,5 @@
 -- The third part of the invariant is kept by each event at the current host.
-use Rattle.std.proofs.Common.{◌≡◌, ◌≢◌, ◌⊎◌, inl, inr, ⊎_elim, ℕ, suc, ◌+◌, ◌-◌, ◌/◌, ◌%◌, ◌^◌, ◌<◌, ◌≤◌, ◌==◌, true, false, not, ◌||◌, ◌&&◌, if◌then◌else◌, nat_lt, nat_le, List, length, get_or, Option, Some, None, refl, sym, ap, ◌∙◌, subst, arith, leb-false, []}
+use Rattle.std.proofs.Common.{◌≡◌, ◌≢◌, ◌⊎◌, inl, inr, ⊎_elim, ℕ, suc, ◌+◌, ◌-◌, ◌/◌, ◌%◌, ◌^◌, ◌<◌, ◌≤◌, ◌==◌, true, false, not, ◌||◌, ◌&&◌, if◌then◌else◌, nat_lt, nat_le, List, length, get_or, Option, Some, None, refl, sym, ap, ◌∙◌, subst, arith, leb-false, [], Bool}
 use Rattle.std.proofs.lemmas.Bool.{ltb-true, ltb-false}
 use Rattle.rvm_protocol.specs.Commands.{Policy, Command, Board, Begin, Copy, Resend, is_allowed}
 use Rattle.rvm_protocol.specs.Frames.{Frame, Offer, Page, RoundEnd, State, Part, is_compact}
@@ -9,9 +9,9 @@ use Rattle.rvm_protocol.specs.Obeying.{obey, begin_allowed, copy_page, copy_last
 use Rattle.rvm_protocol.specs.Pages.{least, listed, put, is_in}
 use Rattle.rvm_protocol.specs.Replies.{BadSize, SeqSpent, EpochsSpent, Stopping, Reply}
 use Rattle.rvm_protocol.specs.Rounds.{Rounds, Last, to_copy, stops, is_skipped, opened, page_copied, last_copied, next_round, round_over, stopped, newest_numbers, next_turn, pieces_of}
-use Rattle.rvm_protocol.proofs.Invariant.{More, run_beside, copying_beside, Modes, CopiesOk, IsFresh, BesideOk, OfferOk, CopyingOk, TrueState, HeldOk, StoppedOk, Content, TruePiece}
-use Rattle.rvm_protocol.proofs.Modes.{either}
-use Rattle.rvm_protocol.proofs.Sets.{page_is, state_is, round_no_page, page_no_state, offer_is, state_no_page, both_false, is_either, or_left, or_right, or_false, and_not_false, put_same, put_other, same_or, IsLeast, least_found, least_none, listed_length, listed_at, page_no_part, state_no_part, part_no_page, part_no_state, part_is}
+use Rattle.rvm_protocol.proofs.PairInvariant.{More, run_beside, copying_beside, Modes, CopiesOk, IsFresh, BesideOk, OfferOk, CopyingOk, TrueState, HeldOk, StoppedOk, Content, TruePiece}
+use Rattle.rvm_protocol.proofs.CurrentModes.{either}
+use Rattle.rvm_protocol.proofs.Basics.{page_is, state_is, round_no_page, page_no_state, offer_is, state_no_page, both_false, is_either, or_left, or_right, or_false, and_not_false, put_same, put_other, same_or, IsLeast, least_found, least_none, listed_length, listed_at, page_no_part, state_no_part, part_no_page, part_no_state, part_is}
 
 module _ {S P E A B : Type 0} (m : Guest S P E A B) where
   pub beside_more : (e c h : ℕ) (F F' : Frame P B → Type 0) (T : Mode S P) → ((f : Frame P B) → F f → F' f) → BesideOk m e c h F T → BesideOk m e c h F' T
@@ -199,6 +199,7 @@ module _ {S P E A B : Type 0} (m : Guest S P E A B) where
           | inr rest ↦ elim rest [ inl logged ↦ inl logged | inr f ↦ inr (inr f) ]
         ];
         states = λ ns b h. absurd (fresh_state ns b h);
+        turn = m.some_piece (newest_numbers m (stopped m r)) (m.body r.guest);
         numbers = λ st. newest_numbers m (stopped m r);
         now = refl;
         parts = λ st i u x h. absurd (fresh_part st i u x h);
@@ -238,6 +239,7 @@ module _ {S P E A B : Type 0} (m : Guest S P E A B) where
           | inl h ↦ true_copied e F l.copies p l.guest ns b (ok.states ns b h)
           | inr z ↦ absurd (page_no_state e e p (suc l.copies) ns _ b z)
         ];
+        turn = m.some_piece (newest_numbers m (last_copied m l p)) (m.body l.guest);
         numbers = put ok.numbers (suc l.copies) (newest_numbers m (last_copied m l p));
         now = put_same ok.numbers (suc l.copies) (newest_numbers m (last_copied m l p));
         parts = λ st i u x. elim [
@@ -299,6 +301,7 @@ module _ {S P E A B : Type 0} (m : Guest S P E A B) where
           | inr z ↦ let w = state_is e e (newest_numbers m l) ns (m.body l.guest) b z in
               subst (λ (x : List ℕ). TrueState m e F' l.guest x b) w.1 (subst (λ (x : B). TrueState m e F' l.guest (newest_numbers m l) x) w.2 mine)
         ];
+        turn = ok.turn;
         numbers = ok.numbers;
         now = ok.now;
         parts = λ st i u x. elim [
@@ -307,6 +310,12 @@ module _ {S P E A B : Type 0} (m : Guest S P E A B) where
         ];
         held = ok.held;
       }
+
+  next_inside : (t u : ℕ) → 0 < u → (if nat_lt t u then t else 0) < u
+  next_inside t u some = elim (is_either (nat_lt t u)) [
+    | inl h ↦ subst (λ (b : Bool). (if b then t else 0) < u) (sym h) (ltb-true t u h)
+    | inr h ↦ subst (λ (b : Bool). (if b then t else 0) < u) (sym h) some
+  ]
 
   pub part_sent : (e : ℕ) (l : Last S) (T : Mode S P) (F : Frame P B → Type 0) → StoppedOk m e l T F → to_copy m l ≡ None → StoppedOk m e (next_turn m l) T (More F (Some (part_frame m e l)))
   part_sent e l T F ok none =
@@ -323,6 +332,7 @@ module _ {S P E A B : Type 0} (m : Guest S P E A B) where
           | inl h ↦ true_same e F F' (λ f h. inl h) down l.guest ns b (ok.states ns b h)
           | inr z ↦ absurd (part_no_state e e l.copies l.turn (length xs) (get_or xs l.turn []) ns b z)
         ];
+        turn = next_inside (suc l.turn) (length xs) (m.some_piece (newest_numbers m l) (m.body l.guest));
         numbers = ok.numbers;
         now = ok.now;
         parts = λ st i u x. elim [
@@ -345,6 +355,7 @@ module _ {S P E A B : Type 0} (m : Guest S P E A B) where
         copies = ok.copies;
         stale = λ q lt. elim (ok.stale q lt) [ inl a ↦ inl a | inr rest ↦ inr (elim rest [ inl a ↦ inl (or_left (l.to_fix q) _ a) | inr f ↦ inr f ]) ];
         states = ok.states;
+        turn = ok.turn;
         numbers = ok.numbers;
         now = ok.now;
         parts = ok.parts;

@@ -12,11 +12,11 @@ use Rattle.rvm_protocol.specs.Replies.{Reply, Committed, Accepted, BadState, Sto
 use Rattle.rvm_protocol.specs.Rounds.{Rounds, Last, is_skipped, to_copy, stopped, stops, round_over, next_round}
 use Rattle.rvm_protocol.specs.Staging.{Stage, lacks}
 use Rattle.rvm_protocol.specs.Told.{reply_current, reply_targets, reply_paused, reply_waits, reply_guest}
-use Rattle.rvm_protocol.proofs.Invariant.{Meet, Modes}
-use Rattle.rvm_protocol.proofs.Modes.{either, held_num}
-use Rattle.rvm_protocol.proofs.Other.{alone}
-use Rattle.rvm_protocol.proofs.Sets.{put_same}
-use Rattle.rvm_protocol.proofs.Cases.{state_cases, part_cases}
+use Rattle.rvm_protocol.proofs.PairInvariant.{Meet, Modes}
+use Rattle.rvm_protocol.proofs.CurrentModes.{either, held_num}
+use Rattle.rvm_protocol.proofs.OtherModes.{alone}
+use Rattle.rvm_protocol.proofs.Basics.{put_same}
+use Rattle.rvm_protocol.proofs.StateCases.{state_cases, part_cases}
 
 abbrev pub onto : {X : Type 0} → (X → X) → Option X → Option X
 onto f None = None

@@ -1,4 +1,4 @@
--- The first two parts of the invariant are kept by each event.
+-- The first two parts of the invariant are kept by each event at the current host.
 use Rattle.std.proofs.Common.{◌≡◌, inl, inr, ℕ, suc, ◌<◌, ◌≤◌, Bool, true, false, ◌==◌, if◌then◌else◌, nat_lt, length, Option, Some, None, refl, sym, subst, arith}
 use Rattle.std.proofs.lemmas.Bool.{ltb-true, eqb-true}
 use Rattle.rvm_protocol.specs.Commands.{Policy, Command, Board, Begin, Copy, Resend, AbortMove, is_allowed}
@@ -9,7 +9,7 @@ use Rattle.rvm_protocol.specs.Obeying.{obey, board, begin, begin_allowed, copy, 
 use Rattle.rvm_protocol.specs.Receiving.{came, of_this_move, offered}
 use Rattle.rvm_protocol.specs.Replies.{Reply, Committed}
 use Rattle.rvm_protocol.specs.Rounds.{Rounds, Last, to_copy, opened}
-use Rattle.rvm_protocol.proofs.Invariant.{More, New, lim, go_lim, page_lim, state_lim, ready_lim, own_ok, their_ok, Meet, run_beside, offering_beside, copying_beside, stopped_beside, held_beside, Modes}
+use Rattle.rvm_protocol.proofs.PairInvariant.{More, New, lim, go_lim, page_lim, state_lim, ready_lim, own_ok, their_ok, Meet, run_beside, offering_beside, copying_beside, stopped_beside, held_beside, Modes}
 
 module _ {S P B : Type 0} where
   own_grows : (O T O' T' : Mode S P) → move_of O ≤ move_of O' → move_of T ≤ move_of T' → lim O ≤ lim O' → page_lim O ≤ page_lim O' → state_lim O ≤ state_lim O' → (f : Frame P B) → own_ok O T f → own_ok O' T' f

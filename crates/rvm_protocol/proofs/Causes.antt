@@ -1,4 +1,4 @@
--- Frames follow the replies that allow them, and carry the board.
+-- Each event of a host makes a Ready, Go or Started only after the replies that allow it.
 use Rattle.std.proofs.Common.{◌≡◌, ℕ, ◌==◌, ◌^◌, ◌-◌, nat_lt, nat_le, not, ◌&&◌, List, length, Option, Some, None, refl, sym, subst}
 use Rattle.std.proofs.lemmas.Bool.{eqb-true}
 use Rattle.rvm_protocol.specs.Commands.{Command, Board, Begin, Copy, Resend, AbortMove, HostEvent, Do, Came, is_allowed}
@@ -13,9 +13,9 @@ use Rattle.rvm_protocol.specs.Receiving.{came, state_compared, guest_read, of_th
 use Rattle.rvm_protocol.specs.Replies.{Reply, Accepted, Declined, BadState, BadSize, BadHost, EpochsSpent, SeqSpent, Stopping}
 use Rattle.rvm_protocol.specs.Rounds.{Rounds, Last, is_skipped, to_copy, stopped}
 use Rattle.rvm_protocol.specs.Staging.{Stage, lacks}
-use Rattle.rvm_protocol.proofs.Invariant.{New}
-use Rattle.rvm_protocol.proofs.Modes.{either}
-use Rattle.rvm_protocol.proofs.Cases.{state_cases, part_cases}
+use Rattle.rvm_protocol.proofs.PairInvariant.{New}
+use Rattle.rvm_protocol.proofs.CurrentModes.{either}
+use Rattle.rvm_protocol.proofs.StateCases.{state_cases, part_cases}
 
 module _ {S P : Type 0} where
   -- what the past said of a mode

@@ -1,5 +1,5 @@
--- Frames carry the board.
-use Rattle.std.proofs.Common.{◌≡◌, inl, inr, ℕ, ◌==◌, ◌^◌, ◌-◌, nat_lt, nat_le, not, ◌&&◌, length, Option, Some, None, ap, ◌∙◌, subst, get_or, sym, []}
+-- Frames carry the guest.
+use Rattle.std.proofs.Common.{◌≡◌, inl, inr, ℕ, ◌==◌, ◌^◌, ◌-◌, nat_lt, nat_le, not, ◌&&◌, length, Option, Some, None, ap, ◌∙◌, subst, get_or, sym, [], ◌<◌}
 use Rattle.rvm_protocol.specs.Commands.{Command, Board, Begin, Copy, Resend, AbortMove, HostEvent, Do, Came, is_allowed}
 use Rattle.rvm_protocol.specs.FrameContents.{Carries, FramesCarryTheGuest}
 use Rattle.rvm_protocol.specs.Frames.{Frame, Offer, Accept, Refuse, Page, RoundEnd, Lost, State, Ready, Go, Started, Abort, Addressed, posted, plain, written, made_as, Part, is_compact, Zero, read}
@@ -10,21 +10,21 @@ use Rattle.rvm_protocol.specs.Obeying.{begin, begin_allowed, begun, copy_page, s
 use Rattle.rvm_protocol.specs.Pages.{size, least}
 use Rattle.rvm_protocol.specs.Receiving.{came, state_compared, guest_read, of_this_move, offered, offer_above}
 use Rattle.rvm_protocol.specs.Replies.{Accepted, Declined, BadState, BadSize, BadHost, EpochsSpent, SeqSpent, Stopping, Reply}
-use Rattle.rvm_protocol.specs.Rounds.{Rounds, Last, is_skipped, to_copy, stopped, page_of, newest_numbers}
+use Rattle.rvm_protocol.specs.Rounds.{Rounds, Last, is_skipped, to_copy, stopped, page_of, newest_numbers, pieces_of}
 use Rattle.rvm_protocol.specs.Staging.{Stage, lacks}
 use Rattle.rvm_protocol.specs.Told.{told, at_start}
 use Rattle.rvm_protocol.specs.World.{mode_at, run, history, new_world}
-use Rattle.rvm_protocol.proofs.Invariant.{New, HoldsNone}
-use Rattle.rvm_protocol.proofs.Modes.{either}
-use Rattle.rvm_protocol.proofs.Sets.{some_is, same_or, and_both}
-use Rattle.rvm_protocol.proofs.Whole.{run_sound, new_sound, none_at, told_guest}
-use Rattle.rvm_protocol.proofs.Cases.{state_cases, part_cases}
+use Rattle.rvm_protocol.proofs.PairInvariant.{New, HoldsNone, Content}
+use Rattle.rvm_protocol.proofs.CurrentModes.{either}
+use Rattle.rvm_protocol.proofs.Basics.{some_is, same_or, and_both}
+use Rattle.rvm_protocol.proofs.Runs.{run_sound, new_sound, none_at, told_guest}
+use Rattle.rvm_protocol.proofs.StateCases.{state_cases, part_cases}
 
 module _ {S P E A B : Type 0} (m : Guest S P E A B) (g : S) where
   -- a source's guest is g
   abbrev pub SourceIs : Mode S P → Type 0
   SourceIs (Copying n r) = r.guest ≡ g
-  SourceIs (Stopped n l) = l.guest ≡ g
+  SourceIs (Stopped n l) = (l.guest ≡ g) × (l.turn < length (pieces_of m l))
   SourceIs mode = Unit {0}
 
   abbrev pub Carried : Outcome S P A B → Type 0
@@ -68,21 +68,22 @@ module _ {S P E A B : Type 0} (m : Guest S P E A B) (g : S) where
   carry_copy n r (Some p) same = either Carried (nat_le (2 ^ 32 - 1) r.copies) (refuses SeqSpent (Copying n r)) (sends_page m n r p) (λ _. tt) (λ _. ap (λ x. page_of m x p) same)
   carry_copy n r None same = tt
 
-  carry_state : (v : ℕ) (a b : Reply A) (n : ℕ) (l : Last S) → l.guest ≡ g → Carried (sends_state m v a b n l)
+  carry_state : (v : ℕ) (a b : Reply A) (n : ℕ) (l : Last S) → SourceIs (Stopped n l) → Carried (sends_state m v a b n l)
   carry_state v a b n l same =
       either Carried (is_compact v) _ _
       (λ _. record {
         numbers = newest_numbers m l;
-        count = ap (λ x. length (m.cut (newest_numbers m l) (m.body x))) same;
-        piece = ap (λ x. get_or (m.cut (newest_numbers m l) (m.body x)) l.turn []) same;
+        count = ap (λ x. length (m.cut (newest_numbers m l) (m.body x))) same.0;
+        inside = same.1;
+        piece = ap (λ x. get_or (m.cut (newest_numbers m l) (m.body x)) l.turn []) same.0;
       })
-      (λ _. ap m.body same)
+      (λ _. ap m.body same.0)
 
-  carry_last : (v : ℕ) → (n : ℕ) (l : Last S) (q : Option ℕ) → l.guest ≡ g → Carried (copy_last m v n l q)
-  carry_last v n l (Some p) same = either Carried (nat_le (2 ^ 32 - 1) l.copies) (refuses SeqSpent (Stopped n l)) (sends_last m n l p) (λ _. tt) (λ _. ap (λ x. page_of m x p) same)
+  carry_last : (v : ℕ) → (n : ℕ) (l : Last S) (q : Option ℕ) → SourceIs (Stopped n l) → Carried (copy_last m v n l q)
+  carry_last v n l (Some p) same = either Carried (nat_le (2 ^ 32 - 1) l.copies) (refuses SeqSpent (Stopped n l)) (sends_last m n l p) (λ _. tt) (λ _. ap (λ x. page_of m x p) same.0)
   carry_last v n l None same = carry_state v _ _ n l same
 
-  carry_resend : (v : ℕ) → (n : ℕ) (l : Last S) (q : Option ℕ) → l.guest ≡ g → Carried (resend_last m v n l q)
+  carry_resend : (v : ℕ) → (n : ℕ) (l : Last S) (q : Option ℕ) → SourceIs (Stopped n l) → Carried (resend_last m v n l q)
   carry_resend v n l (Some p) same = tt
   carry_resend v n l None same = carry_state v _ _ n l same
 
@@ -135,15 +136,15 @@ module _ {S P E A B : Type 0} (m : Guest S P E A B) (g : S) where
   carry_obey v x count AbortMove (Staging n s) same = tt
   carry_obey v x count AbortMove (Held n q) same = tt
 
-  source_here : (O : Mode S P) → guest_in O ≡ Some g → SourceIs O
-  source_here (Copying n r) h = some_is r.guest g h
-  source_here (Stopped n l) h = some_is l.guest g h
-  source_here (Empty n) h = tt
-  source_here (Run n q) h = tt
-  source_here (Offering n q p) h = tt
-  source_here (Given n) h = tt
-  source_here (Staging n s) h = tt
-  source_here (Held n q) h = tt
+  source_here : (O T : Mode S P) (F : Frame P B → Type 0) → Content m O T F → guest_in O ≡ Some g → SourceIs O
+  source_here (Copying n r) T F ok h = some_is r.guest g h
+  source_here (Stopped n l) T F ok h = (some_is l.guest g h, ok.turn)
+  source_here (Empty n) T F ok h = tt
+  source_here (Run n q) T F ok h = tt
+  source_here (Offering n q p) T F ok h = tt
+  source_here (Given n) T F ok h = tt
+  source_here (Staging n s) T F ok h = tt
+  source_here (Held n q) T F ok h = tt
 
   source_none : (X : Mode S P) → HoldsNone X → SourceIs X
   source_none (Copying n r) h = absurd h
@@ -190,7 +191,7 @@ module _ {S P E A B : Type 0} (m : Guest S P E A B) where
       let s = run_sound m events (new_world m version g count limits) (at_start m g) (new_sound m version g count limits v) in
       let l = s.good in
       let source : SourceIs m t.guest (mode_at m w x) = elim (same_or x s.c) [
-        | inl q ↦ source_here m t.guest (mode_at m w x) (ap (λ z. guest_in (mode_at m w z)) q ∙ l.guest)
+        | inl q ↦ subst (λ z. SourceIs m t.guest (mode_at m w z)) (sym q) (source_here m t.guest (mode_at m w s.c) (mode_at m w s.d) _ l.pages l.guest)
         | inr n ↦ source_none m t.guest (mode_at m w x) (none_at m (w.hosts s.c) (w.hosts s.d) w.hosts (read m w.sent) s.c s.d x t l n)
       ] in
       let o = outcome m w.version x w.count (w.limits x) e (w.hosts x) in

@@ -1,4 +1,5 @@
--- The phases of a driven move.
+-- A driven move, phase by phase: the opening, a copy of each page, the round's end, the copies' and
+-- its coming, the stop, the state and its coming, the close.
 use Rattle.std.proofs.Common.{◌≡◌, ◌≢◌, ◌⊎◌, inl, inr, ℕ, zero, suc, ◌+◌, ◌-◌, ◌*◌, ◌^◌, ◌/◌, ◌%◌, ◌<◌, ◌≤◌, ◌==◌, nat_lt, nat_le, not, ◌||◌, ◌&&◌, Bool, true, false, if◌then◌else◌, List, [], ◌∷◌, ◌++◌, length, get_or, set, Option, Some, None, refl, sym, ap, ◌∙◌, subst, arith, ext_get_or, add-zero, ne_eqb}
 use Rattle.std.specs.Prelude.{slice_get}
 use Rattle.std.proofs.lemmas.Bool.{eq-eqb, ltb-true, ltb-false, lt-ltb, le-ltb, ne_eqb, lt-leb, le-leb, leb-true}
@@ -15,13 +16,13 @@ use Rattle.rvm_protocol.specs.Obeying.{begin, begin_allowed, begun, copy, copy_p
 use Rattle.rvm_protocol.specs.Receiving.{came, of_this_move, offered, offer_above, page_came, state_came, state_compared, guest_read, pieces_joined, part_kept, part_came}
 use Rattle.rvm_protocol.specs.Host.{Host, Result, is_there, is_heard, host_step, settled}
 use Rattle.rvm_protocol.specs.World.{At, Deliver, Event, World, mode_at, run, new_world, step, happened, meaning}
-use Rattle.rvm_protocol.proofs.Invariant.{HoldsNone, Meet, lim}
-use Rattle.rvm_protocol.proofs.Sets.{same_or, some_is, or_left, put_same, put_other, listed_length, listed_at, or_right, is_either}
-use Rattle.rvm_protocol.proofs.Whole.{plain_written, SoundAt, none_at, run_sound, new_sound, there_apart}
+use Rattle.rvm_protocol.proofs.PairInvariant.{HoldsNone, Meet, lim}
+use Rattle.rvm_protocol.proofs.Basics.{same_or, some_is, or_left, put_same, put_other, listed_length, listed_at, or_right, is_either}
+use Rattle.rvm_protocol.proofs.Runs.{plain_written, SoundAt, none_at, run_sound, new_sound, there_apart}
 use Rattle.rvm_protocol.proofs.Phases.{Duo, Phase, if_true, if_false, nothing, after, same_replies, commands, to_source, to_target, Shows}
 use Rattle.rvm_protocol.specs.Told.{Told, at_start}
 use Rattle.rvm_protocol.specs.DrivenMove.{drive, drive_replies, state_replies, arrival_replies, state_frames, ADrivenMoveArrives}
-use Rattle.rvm_protocol.proofs.Apart.{apart_run}
+use Rattle.rvm_protocol.proofs.Behind.{apart_run}
 
 -- the frame at a place of a list that grew
 pub got_new : {X : Type 0} (xs : List X) (a : X) (k : ℕ) → k ≡ length xs → slice_get (xs ++ a ∷ []) k ≡ Some a

@@ -9,9 +9,9 @@ use Rattle.rvm_protocol.specs.Obeying.{obey}
 use Rattle.rvm_protocol.specs.Pages.{size, members}
 use Rattle.rvm_protocol.specs.Receiving.{came, state_compared, guest_read, of_this_move, offered, offer_above}
 use Rattle.rvm_protocol.specs.Staging.{Stage, lacks, with_part}
-use Rattle.rvm_protocol.proofs.Invariant.{More, lim, go_lim, state_lim, ready_lim, their_ok, Meet, copying_beside, stopped_beside, HoldsNone, Modes}
-use Rattle.rvm_protocol.proofs.Modes.{either, other_to, held_num}
-use Rattle.rvm_protocol.proofs.Cases.{state_cases, part_cases}
+use Rattle.rvm_protocol.proofs.PairInvariant.{More, lim, go_lim, state_lim, ready_lim, their_ok, Meet, copying_beside, stopped_beside, HoldsNone, Modes}
+use Rattle.rvm_protocol.proofs.CurrentModes.{either, other_to, held_num}
+use Rattle.rvm_protocol.proofs.StateCases.{state_cases, part_cases}
 use Rattle.rvm_protocol.specs.Replies.{ReadySent, Lacking}
 
 module _ {S P : Type 0} where

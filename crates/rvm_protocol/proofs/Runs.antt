@@ -1,4 +1,5 @@
--- One event of the world, whole runs, and the law.
+-- The invariant is kept by each event of a world, so it holds in whole runs; from it follow the law of
+-- the one guest and that of stale pages.
 use Rattle.std.proofs.Common.{◌≡◌, ◌≢◌, ◌⊎◌, inl, inr, ℕ, zero, suc, ◌<◌, ◌≤◌, ◌==◌, ◌-◌, ◌^◌, nat_lt, not, ◌||◌, Bool, true, false, ◌&&◌, if◌then◌else◌, List, [], ◌∷◌, ◌++◌, length, Option, Some, None, refl, sym, ap, ◌∙◌, subst, arith, get_or}
 use Rattle.std.specs.Prelude.{slice_get}
 use Rattle.std.proofs.lemmas.Bool.{ltb-true, eqb-true, eq-eqb, ne_eqb}
@@ -18,16 +19,16 @@ use Rattle.rvm_protocol.specs.Rounds.{Last, page_of}
 use Rattle.rvm_protocol.specs.Staging.{Stage, lacks}
 use Rattle.rvm_protocol.specs.Told.{Told, reply_guest, told, told_reply, at_start, due}
 use Rattle.rvm_protocol.specs.World.{World, Event, At, Deliver, Entry, mode_at, and_sent, world_at, result_at, happened, entry_of, meaning, frame_for, reply_to, reply_or, run, history, new_host, new_world, step, Has}
-use Rattle.rvm_protocol.proofs.Invariant.{More, New, lim, own_ok, their_ok, Meet, HoldsNone, Modes, CopiesOk, IsFresh, Content}
-use Rattle.rvm_protocol.proofs.Modes.{either, owner_obeys, owner_receives, turned}
-use Rattle.rvm_protocol.proofs.Other.{other_obeys, other_receives, alone}
-use Rattle.rvm_protocol.proofs.Sets.{some_is, both_false, is_either, or_true, put_same, same_or, and_both}
-use Rattle.rvm_protocol.proofs.Source.{owner_pages}
-use Rattle.rvm_protocol.proofs.Destination.{owner_pages_came, other_pages_came, turned_pages, pieces_are_sent}
-use Rattle.rvm_protocol.proofs.Told.{onto_same, is_paused, is_stopped, is_held, TargetOk, aims, Tells, TellsOther, tells_owner, commanded, received, commanded_other, received_other}
-use Rattle.rvm_protocol.proofs.Apart.{is_run, from_ok, GivenOk, past_ok, go_ok, their_go, past_own, their_past, their_from, from_their, from_up, own_up, below, ready_num, lim_num, run_apart, apart_run, meets_apart, meet_num, content_apart, turn}
-use Rattle.rvm_protocol.proofs.Hosts.{put_all, Made, made_down, more_old, more_new, Pair, reach, reach_here, reach_there, Good, retarget_run, own_all, owner_good, commit_good, other_good, made_new}
-use Rattle.rvm_protocol.proofs.Cases.{state_cases, part_cases}
+use Rattle.rvm_protocol.proofs.PairInvariant.{More, New, lim, own_ok, their_ok, Meet, HoldsNone, Modes, CopiesOk, IsFresh, Content}
+use Rattle.rvm_protocol.proofs.CurrentModes.{either, owner_obeys, owner_receives, turned}
+use Rattle.rvm_protocol.proofs.OtherModes.{other_obeys, other_receives, alone}
+use Rattle.rvm_protocol.proofs.Basics.{some_is, both_false, is_either, or_true, put_same, same_or, and_both}
+use Rattle.rvm_protocol.proofs.CurrentPages.{owner_pages}
+use Rattle.rvm_protocol.proofs.OtherPages.{owner_pages_came, other_pages_came, turned_pages, pieces_are_sent}
+use Rattle.rvm_protocol.proofs.Tellings.{onto_same, is_paused, is_stopped, is_held, TargetOk, aims, Tells, TellsOther, tells_owner, commanded, received, commanded_other, received_other}
+use Rattle.rvm_protocol.proofs.Behind.{is_run, from_ok, GivenOk, past_ok, go_ok, their_go, past_own, their_past, their_from, from_their, from_up, own_up, below, ready_num, lim_num, run_apart, apart_run, meets_apart, meet_num, content_apart, turn}
+use Rattle.rvm_protocol.proofs.WorldInvariant.{put_all, Made, made_down, more_old, more_new, Pair, reach, reach_here, reach_there, Good, retarget_run, own_all, owner_good, commit_good, other_good, made_new}
+use Rattle.rvm_protocol.proofs.StateCases.{state_cases, part_cases}
 
 pub has_got : {X : Type 0} (xs : List X) (k : ℕ) (x : X) → slice_get xs k ≡ Some x → Has xs x
 unfolding Has

@@ -1,4 +1,5 @@
--- The whole invariant of a world of any number of hosts, and its steps.
+-- The invariant of a world: one host is current, and it and its partner are as if they were alone; the
+-- others are behind, and so are all frames that are not between these two. What an event keeps of it.
 use Rattle.std.proofs.Common.{◌≡◌, ◌≢◌, ◌⊎◌, inl, inr, ⊎_elim, ℕ, suc, ◌<◌, ◌≤◌, ◌==◌, true, false, if◌then◌else◌, List, [], ◌∷◌, ◌++◌, Option, Some, None, refl, sym, ap, ◌∙◌, subst, arith}
 use Rattle.rvm_protocol.specs.Commands.{Board, HostEvent, Do, Came}
 use Rattle.rvm_protocol.specs.Frames.{Frame, Go, Abort, Addressed, posted}
@@ -9,11 +10,11 @@ use Rattle.rvm_protocol.specs.Pages.{put}
 use Rattle.rvm_protocol.specs.Replies.{Reply, Committed, Answered}
 use Rattle.rvm_protocol.specs.Told.{Told, reply_targets, reply_paused, reply_waits, reply_guest, told_reply}
 use Rattle.rvm_protocol.specs.World.{Has, and_sent}
-use Rattle.rvm_protocol.proofs.Invariant.{More, New, lim, go_lim, own_ok, their_ok, Meet, HoldsNone, Modes, Content}
-use Rattle.rvm_protocol.proofs.Sets.{some_is, put_same, put_other, same_or}
-use Rattle.rvm_protocol.proofs.Told.{onto, is_paused, is_held, TargetOk, aims, Tells, TellsOther}
-use Rattle.rvm_protocol.proofs.Apart.{is_run, from_ok, GivenOk, past_ok, go_ok, past_mono, go_mono, own_go, their_go, past_own, own_past, their_past, their_from, from_their, given_from, below, ready_num, run_apart, apart_run, given_mono, Turn}
-use Rattle.rvm_protocol.proofs.Content.{content_iff}
+use Rattle.rvm_protocol.proofs.PairInvariant.{More, New, lim, go_lim, own_ok, their_ok, Meet, HoldsNone, Modes, Content}
+use Rattle.rvm_protocol.proofs.Basics.{some_is, put_same, put_other, same_or}
+use Rattle.rvm_protocol.proofs.Tellings.{onto, is_paused, is_held, TargetOk, aims, Tells, TellsOther}
+use Rattle.rvm_protocol.proofs.Behind.{is_run, from_ok, GivenOk, past_ok, go_ok, past_mono, go_mono, own_go, their_go, past_own, own_past, their_past, their_from, from_their, given_from, below, ready_num, run_apart, apart_run, given_mono, Turn}
+use Rattle.rvm_protocol.proofs.PagesOfFrames.{content_iff}
 
 pub has_old : {X : Type 0} (xs : List X) (y x : X) → Has xs x → Has (xs ++ y ∷ []) x
 unfolding Has

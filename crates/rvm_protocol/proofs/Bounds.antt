@@ -16,9 +16,9 @@ use Rattle.rvm_protocol.specs.Replies.{Accepted, Lacking, Stored, BadState, Stop
 use Rattle.rvm_protocol.specs.Rounds.{Rounds, Last, is_skipped, to_copy, stopped, stops, round_over, next_round, opened}
 use Rattle.rvm_protocol.specs.Staging.{Stage, lacks}
 use Rattle.rvm_protocol.specs.World.{World, Event, mode_at, happened, meaning, result_at, run, new_host, new_world}
-use Rattle.rvm_protocol.proofs.Modes.{either}
-use Rattle.rvm_protocol.proofs.Sets.{or_false, least_found}
-use Rattle.rvm_protocol.proofs.Cases.{state_cases, part_cases}
+use Rattle.rvm_protocol.proofs.CurrentModes.{either}
+use Rattle.rvm_protocol.proofs.Basics.{or_false, least_found}
+use Rattle.rvm_protocol.proofs.StateCases.{state_cases, part_cases}
 
 -- copies made in rounds of at most count pages
 pub record Counted (count max round sent scan copies : ℕ) : Type 0 where

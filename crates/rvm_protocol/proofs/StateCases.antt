@@ -8,7 +8,7 @@ use Rattle.rvm_protocol.specs.Pages.{size, members, gathered}
 use Rattle.rvm_protocol.specs.Staging.{Stage, lacks, takes_part, with_part}
 use Rattle.rvm_protocol.specs.Modes.{Staging, Held, Outcome, says, sends, refuses, ignores}
 use Rattle.rvm_protocol.specs.Receiving.{guest_read, state_compared, state_came, pieces_joined, part_kept, part_came}
-use Rattle.rvm_protocol.proofs.Modes.{either}
+use Rattle.rvm_protocol.proofs.CurrentModes.{either}
 
 module _ {S P E A B : Type 0} (m : Guest S P E A B) (Q : Outcome S P A B → Type 0) where
   read_cases : (n : ℕ) (old : Stage P) (q : Option S) → Q (refuses BadState (Staging n old)) → ((g : S) → q ≡ Some g → Q (sends ReadySent (Ready n) (Held n g))) → Q (guest_read m n old q)

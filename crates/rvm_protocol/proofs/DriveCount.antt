@@ -5,7 +5,7 @@ use Rattle.rvm_protocol.specs.Commands.{Begin, Copy}
 use Rattle.rvm_protocol.specs.DrivenMove.{DriveCount}
 use Rattle.rvm_protocol.specs.Pages.{listed}
 use Rattle.rvm_protocol.specs.World.{Event, At, Deliver}
-use Rattle.rvm_protocol.proofs.Sets.{listed_length}
+use Rattle.rvm_protocol.proofs.Basics.{listed_length}
 
 pub drive_count : DriveCount
 unfolding DriveCount

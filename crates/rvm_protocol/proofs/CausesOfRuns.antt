@@ -1,4 +1,4 @@
--- The clauses on frames, of whole runs.
+-- In whole runs, frames follow their causes.
 use Rattle.std.proofs.Common.{◌≡◌, ◌⊎◌, inl, inr, ⊎_elim, ℕ, ◌<◌, ◌≤◌, ◌==◌, ◌^◌, ◌-◌, nat_lt, nat_le, not, ◌&&◌, Bool, true, false, List, [], ◌∷◌, ◌++◌, length, Option, Some, None, refl, sym, ap, ◌∙◌, subst, arith}
 use Rattle.std.proofs.lemmas.Bool.{eqb-true}
 use Rattle.rvm_protocol.specs.Commands.{Command, Board, Begin, Copy, Resend, AbortMove, HostEvent, Do, Came, is_allowed}
@@ -15,15 +15,15 @@ use Rattle.rvm_protocol.specs.Rounds.{Rounds, Last, is_skipped, to_copy, stopped
 use Rattle.rvm_protocol.specs.Staging.{lacks, Stage}
 use Rattle.rvm_protocol.specs.Told.{Told, told, told_reply, at_start, reply_current, reply_paused}
 use Rattle.rvm_protocol.specs.World.{World, Event, Entry, mode_at, happened, entry_of, meaning, run, history, result_at, world_at, and_sent, new_world, Has}
-use Rattle.rvm_protocol.proofs.Invariant.{New, lim, go_lim, Meet, HoldsNone}
-use Rattle.rvm_protocol.proofs.Modes.{either}
-use Rattle.rvm_protocol.proofs.Sets.{some_is, same_or, is_either, both_false}
-use Rattle.rvm_protocol.proofs.Told.{is_stopped, is_paused, commanded}
-use Rattle.rvm_protocol.proofs.Apart.{lim_num, meet_num}
-use Rattle.rvm_protocol.proofs.Hosts.{reach, reach_here, reach_there, put_all, has_either, has_old, has_new}
-use Rattle.rvm_protocol.proofs.Whole.{SoundAt, Allowed, NoCommit, none_at, step_sound, happened_sound, event_allowed, told_more, new_sound, sent_after, has_read}
-use Rattle.rvm_protocol.proofs.Follow.{Backed, RunOk, Now, follow_step}
-use Rattle.rvm_protocol.proofs.Cases.{state_cases, part_cases}
+use Rattle.rvm_protocol.proofs.PairInvariant.{New, lim, go_lim, Meet, HoldsNone}
+use Rattle.rvm_protocol.proofs.CurrentModes.{either}
+use Rattle.rvm_protocol.proofs.Basics.{some_is, same_or, is_either, both_false}
+use Rattle.rvm_protocol.proofs.Tellings.{is_stopped, is_paused, commanded}
+use Rattle.rvm_protocol.proofs.Behind.{lim_num, meet_num}
+use Rattle.rvm_protocol.proofs.WorldInvariant.{reach, reach_here, reach_there, put_all, has_either, has_old, has_new}
+use Rattle.rvm_protocol.proofs.Runs.{SoundAt, Allowed, NoCommit, none_at, step_sound, happened_sound, event_allowed, told_more, new_sound, sent_after, has_read}
+use Rattle.rvm_protocol.proofs.Causes.{Backed, RunOk, Now, follow_step}
+use Rattle.rvm_protocol.proofs.StateCases.{state_cases, part_cases}
 
 module _ {S P : Type 0} where
   -- the current host in Run: either no move was committed since it began its own, or that one was started

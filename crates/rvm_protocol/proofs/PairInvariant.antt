@@ -1,9 +1,11 @@
--- The invariant of a world: O is the mode of the current host, T that of the other, F the frames that the current host ever made, R those of the other.
+-- The invariant of the current host and one other: O is the mode of the first, T that of the other, F
+-- the frames that the first ever sent to the other, as they are read, R those that came back. It has
+-- three parts: which modes may meet, the move numbers of frames, and the pages.
 use Rattle.std.proofs.Common.{◌≡◌, ◌⊎◌, ℕ, suc, ◌<◌, ◌≤◌, true, List, length, get_or, Option, Some, None, ◌^◌, []}
 use Rattle.rvm_protocol.specs.Frames.{Frame, Offer, Accept, Refuse, Page, RoundEnd, Lost, State, Ready, Go, Started, Abort, Part, Zero}
 use Rattle.rvm_protocol.specs.Guest.{Guest}
 use Rattle.rvm_protocol.specs.Modes.{Mode, Empty, Run, Offering, Copying, Stopped, Given, Staging, Held, move_of}
-use Rattle.rvm_protocol.specs.Rounds.{Rounds, Last, newest_numbers}
+use Rattle.rvm_protocol.specs.Rounds.{Rounds, Last, newest_numbers, pieces_of}
 use Rattle.rvm_protocol.specs.Staging.{Stage}
 
 -- the frames F and, if one was made, that one
@@ -181,6 +183,7 @@ module _ {S P E A B : Type 0} (m : Guest S P E A B) where
     pub copies : CopiesOk e F l.newest l.copies
     pub stale : (p : ℕ) → p < length (m.pages l.guest) → (l.to_send p ≡ true) ⊎ ((l.to_fix p ≡ true) ⊎ IsFresh e F l.newest l.guest p)
     pub states : (ns : List ℕ) (b : B) → F (State e ns b) → TrueState e F l.guest ns b
+    pub turn : l.turn < length (pieces_of m l)
     -- the numbers that the pieces of a stamp name
     pub numbers : ℕ → List ℕ
     pub now : numbers l.copies ≡ newest_numbers m l

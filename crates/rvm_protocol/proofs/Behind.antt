@@ -3,10 +3,10 @@ use Rattle.std.proofs.Common.{◌≡◌, ℕ, zero, suc, ◌<◌, ◌≤◌, Boo
 use Rattle.rvm_protocol.specs.Frames.{Frame, Offer, Accept, Refuse, Page, RoundEnd, Lost, State, Ready, Go, Started, Abort, Part, Zero}
 use Rattle.rvm_protocol.specs.Guest.{Guest}
 use Rattle.rvm_protocol.specs.Modes.{Mode, Empty, Run, Offering, Copying, Stopped, Given, Staging, Held, move_of}
-use Rattle.rvm_protocol.proofs.Invariant.{lim, go_lim, ready_lim, own_ok, their_ok, Meet, HoldsNone, run_beside, offering_beside, held_beside, BesideOk, Content}
-use Rattle.rvm_protocol.proofs.Modes.{held_num}
-use Rattle.rvm_protocol.proofs.Other.{copying_num, stopped_num}
-use Rattle.rvm_protocol.proofs.Told.{is_stopped, TargetOk}
+use Rattle.rvm_protocol.proofs.PairInvariant.{lim, go_lim, ready_lim, own_ok, their_ok, Meet, HoldsNone, run_beside, offering_beside, held_beside, BesideOk, Content}
+use Rattle.rvm_protocol.proofs.CurrentModes.{held_num}
+use Rattle.rvm_protocol.proofs.OtherModes.{copying_num, stopped_num}
+use Rattle.rvm_protocol.proofs.Tellings.{is_stopped, TargetOk}
 
 module _ {S P : Type 0} where
   abbrev pub is_run : Mode S P → Bool

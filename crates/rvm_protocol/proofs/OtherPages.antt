@@ -10,12 +10,12 @@ use Rattle.rvm_protocol.specs.Receiving.{came, offered, offer_above, state_compa
 use Rattle.rvm_protocol.specs.Replies.{Reply, Committed, Accepted, Declined, Lacking, Stored, BadState}
 use Rattle.rvm_protocol.specs.Rounds.{Rounds, Last}
 use Rattle.rvm_protocol.specs.Staging.{Stage, lacks, new_stage, with_page, takes_part, with_part}
-use Rattle.rvm_protocol.proofs.Invariant.{More, Modes, StageOk, BesideOk, CopyingOk, TrueState, HeldOk, StoppedOk, Content}
-use Rattle.rvm_protocol.proofs.Modes.{either, held_num}
-use Rattle.rvm_protocol.proofs.Other.{alone, copying_num, stopped_num}
-use Rattle.rvm_protocol.proofs.Sets.{some_is, same_or, size_none, put_same, put_other, and_first, is_either, none_some, and_both}
-use Rattle.rvm_protocol.proofs.Source.{open_ok, fixing}
-use Rattle.rvm_protocol.proofs.Cases.{state_cases, part_cases}
+use Rattle.rvm_protocol.proofs.PairInvariant.{More, Modes, StageOk, BesideOk, CopyingOk, TrueState, HeldOk, StoppedOk, Content}
+use Rattle.rvm_protocol.proofs.CurrentModes.{either, held_num}
+use Rattle.rvm_protocol.proofs.OtherModes.{alone, copying_num, stopped_num}
+use Rattle.rvm_protocol.proofs.Basics.{some_is, same_or, size_none, put_same, put_other, and_first, is_either, none_some, and_both}
+use Rattle.rvm_protocol.proofs.CurrentPages.{open_ok, fixing}
+use Rattle.rvm_protocol.proofs.StateCases.{state_cases, part_cases}
 
 module _ {S P E A B : Type 0} (m : Guest S P E A B) where
   pub commits_pages : (n : ℕ) (l : Last S) (T : Mode S P) (F R : Frame P B → Type 0) → Modes (Stopped n l) T F R → R (Ready n) → Content m T (Given n) R
@@ -68,7 +68,7 @@ module _ {S P E A B : Type 0} (m : Guest S P E A B) where
   beside_copying e r T T' F ok new = record { beside = new; copies = ok.copies; stale = ok.stale; skip = ok.skip; over = ok.over }
 
   beside_stopped : (e : ℕ) (l : Last S) (T T' : Mode S P) (F : Frame P B → Type 0) → StoppedOk m e l T F → BesideOk m e (length (m.pages l.guest)) (m.processors l.guest) F T' → HeldOk m l.guest T' → StoppedOk m e l T' F
-  beside_stopped e l T T' F ok new held = record { beside = new; copies = ok.copies; stale = ok.stale; states = ok.states; numbers = ok.numbers; now = ok.now; parts = ok.parts; held = held }
+  beside_stopped e l T T' F ok new held = record { beside = new; copies = ok.copies; stale = ok.stale; states = ok.states; turn = ok.turn; numbers = ok.numbers; now = ok.now; parts = ok.parts; held = held }
 
   -- the other host goes to T'
   move_other : (O T T' : Mode S P) (F : Frame P B → Type 0) → ((e c h : ℕ) → BesideOk m e c h F T → BesideOk m e c h F T') → ((g : S) → HeldOk m g T → HeldOk m g T') → Content m O T F → Content m O T' F
