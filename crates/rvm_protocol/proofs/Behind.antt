@@ -6,7 +6,8 @@ use Rattle.rvm_protocol.specs.Modes.{Mode, Empty, Run, Offering, Copying, Stoppe
 use Rattle.rvm_protocol.proofs.PairInvariant.{lim, go_lim, ready_lim, own_ok, their_ok, Meet, HoldsNone, run_beside, offering_beside, held_beside, BesideOk, Content}
 use Rattle.rvm_protocol.proofs.CurrentModes.{held_num}
 use Rattle.rvm_protocol.proofs.OtherModes.{copying_num, stopped_num}
-use Rattle.rvm_protocol.proofs.Tellings.{is_stopped, TargetOk}
+use Rattle.rvm_protocol.proofs.Tellings.{is_stopped}
+use Rattle.rvm_protocol.specs.Shown.{IsTarget}
 
 module _ {S P : Type 0} where
   abbrev pub is_run : Mode S P → Bool
@@ -328,7 +329,7 @@ module _ {S P : Type 0} where
     pub beside : held_beside (lim O) X
     pub given : GivenOk (go_lim T) X
     pub runs : is_run T ≡ false
-    pub target : (ts : ℕ → ℕ) (d : ℕ) → TargetOk ts d T
+    pub target : (ts : ℕ → ℕ) (d : ℕ) → IsTarget ts d T
 
   turn_held : (n : ℕ) (l : _) (T X : Mode S P) → Meet (Stopped n l) T → Meet T X → Turn (Stopped n l) T X
   turn_held n l (Held k g) X a b =

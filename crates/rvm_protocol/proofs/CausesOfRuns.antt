@@ -18,12 +18,13 @@ use Rattle.rvm_protocol.specs.World.{World, Event, Entry, mode_at, happened, ent
 use Rattle.rvm_protocol.proofs.PairInvariant.{New, lim, go_lim, Meet, HoldsNone}
 use Rattle.rvm_protocol.proofs.CurrentModes.{either}
 use Rattle.rvm_protocol.proofs.Basics.{some_is, same_or, is_either, both_false}
-use Rattle.rvm_protocol.proofs.Tellings.{is_stopped, is_paused, commanded}
+use Rattle.rvm_protocol.proofs.Tellings.{is_stopped, commanded}
 use Rattle.rvm_protocol.proofs.Behind.{lim_num, meet_num}
 use Rattle.rvm_protocol.proofs.WorldInvariant.{reach, reach_here, reach_there, put_all, has_either, has_old, has_new}
 use Rattle.rvm_protocol.proofs.Runs.{SoundAt, Allowed, NoCommit, none_at, step_sound, happened_sound, event_allowed, told_more, new_sound, sent_after, has_read}
 use Rattle.rvm_protocol.proofs.Causes.{Backed, RunOk, Now, follow_step}
 use Rattle.rvm_protocol.proofs.StateCases.{state_cases, part_cases}
+use Rattle.rvm_protocol.specs.Shown.{is_paused}
 
 module _ {S P : Type 0} where
   -- the current host in Run: either no move was committed since it began its own, or that one was started
@@ -472,7 +473,7 @@ module _ {S P E A B : Type 0} (m : Guest S P E A B) where
       (subst (λ z. Followed (run m (happened m w q) events) (told m (told m t (entry_of m w q)) (history m (happened m w q) events)) z) (append_assoc past (entry_of m w q) (history m (happened m w q) events))
       (run_followed events (happened m w q) (told m t (entry_of m w q)) (past ++ entry_of m w q) s' p'))
 
-  new_followed : (version : ℕ) (g : S) (count : ℕ) (limits : ℕ → ℕ) → Followed (new_world m version g count limits) (at_start m g) []
+  new_followed : (version : ℕ) (g : S) (count : ℕ) (limits : ℕ → ℕ) → Followed (new_world m version g count limits) (at_start g) []
   unfolding Has Somewhere read
   new_followed version g count limits =
       record {
@@ -489,5 +490,5 @@ module _ {S P E A B : Type 0} (m : Guest S P E A B) where
   pub follow_law : FramesFollowTheirCauses m
   unfolding FramesFollowTheirCauses
   follow_law = λ g version count limits events a v h.
-      let end = run_followed events (new_world m version g count limits) (at_start m g) [] (new_sound m version g count limits v) (new_followed version g count limits) in
+      let end = run_followed events (new_world m version g count limits) (at_start g) [] (new_sound m version g count limits v) (new_followed version g count limits) in
       caused_plain _ _ _ a.frame (end.frames (record { from = a.from; to = a.to; frame = plain m a.frame }) (has_read m (run m (new_world m version g count limits) events).sent a h))

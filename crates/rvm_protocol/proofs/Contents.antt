@@ -187,13 +187,13 @@ module _ {S P E A B : Type 0} (m : Guest S P E A B) where
   unfolding FramesCarryTheGuest
   carry_law = λ g version count limits events ev x e a v is made.
       let w = run m (new_world m version g count limits) events in
-      let t = told m (at_start m g) (history m (new_world m version g count limits) events) in
-      let s = run_sound m events (new_world m version g count limits) (at_start m g) (new_sound m version g count limits v) in
+      let t = told m (at_start g) (history m (new_world m version g count limits) events) in
+      let s = run_sound m events (new_world m version g count limits) (at_start g) (new_sound m version g count limits v) in
       let l = s.good in
       let source : SourceIs m t.guest (mode_at m w x) = elim (same_or x s.c) [
         | inl q ↦ subst (λ z. SourceIs m t.guest (mode_at m w z)) (sym q) (source_here m t.guest (mode_at m w s.c) (mode_at m w s.d) _ l.pages l.guest)
         | inr n ↦ source_none m t.guest (mode_at m w x) (none_at m (w.hosts s.c) (w.hosts s.d) w.hosts (read m w.sent) s.c s.d x t l n)
       ] in
       let o = outcome m w.version x w.count (w.limits x) e (w.hosts x) in
-      subst (λ z. Carries m z a.frame) (told_guest m (history m (new_world m version g count limits) events) (at_start m g))
+      subst (λ z. Carries m z a.frame) (told_guest m (history m (new_world m version g count limits) events) (at_start g))
       (posted_carries m t.guest w.version x (addressee e (partner_then e o.reply (w.hosts x).partner)) o.made a made (carry_step m t.guest w.version x w.count (w.limits x) e (w.hosts x) source))

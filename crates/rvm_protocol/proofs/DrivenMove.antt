@@ -756,7 +756,7 @@ module _ {S P E A B : Type 0} (m : Guest S P E A B) where
   unfolding ADrivenMoveArrives
   drive_law = λ start g version count limits events from to e policy v is below allowed here there room some few.
       let w = run m (new_world m version start count limits) events in
-      let s = run_sound m events (new_world m version start count limits) (at_start m start) (new_sound m version start count limits v) in
+      let s = run_sound m events (new_world m version start count limits) (at_start start) (new_sound m version start count limits v) in
       let apart = there_apart from count to there in
       let b = behind_run w _ from to e g s is apart in
       let T = mode_at m w to in

@@ -11,7 +11,7 @@ use Rattle.rvm_protocol.specs.Host.{Host, obey_at, came_at, is_there, is_heard, 
 use Rattle.rvm_protocol.specs.Modes.{Mode, Empty, Run, Offering, Copying, Stopped, Given, Staging, Held, Outcome, move_of, ignores, sends, refuses, guest_in}
 use Rattle.rvm_protocol.specs.NeverMoving.{is_answer, accepted_here, answered_here, accepted, answered, fold, fold_answers}
 use Rattle.rvm_protocol.specs.Obeying.{obey, board, begin, begin_allowed, begun}
-use Rattle.rvm_protocol.specs.OneGuest.{AlwaysOneGuest}
+use Rattle.rvm_protocol.specs.OneGuest.{AlwaysOneGuest, OneGuest, OneGuestFromAnyWorld}
 use Rattle.rvm_protocol.specs.Pages.{put, size}
 use Rattle.rvm_protocol.specs.Receiving.{came, state_compared, guest_read, of_this_move, offered, offer_above}
 use Rattle.rvm_protocol.specs.Replies.{Reply, Committed, Answered, Accepted, Declined, BadState, BadSize, EpochsSpent, Refused, Paused, NotHere, BadHost, Ignored, NoFrame, Busy}
@@ -19,16 +19,17 @@ use Rattle.rvm_protocol.specs.Rounds.{Last, page_of}
 use Rattle.rvm_protocol.specs.Staging.{Stage, lacks}
 use Rattle.rvm_protocol.specs.Told.{Told, reply_guest, told, told_reply, at_start, due}
 use Rattle.rvm_protocol.specs.World.{World, Event, At, Deliver, Entry, mode_at, and_sent, world_at, result_at, happened, entry_of, meaning, frame_for, reply_to, reply_or, run, history, new_host, new_world, step, Has}
-use Rattle.rvm_protocol.proofs.PairInvariant.{More, New, lim, own_ok, their_ok, Meet, HoldsNone, Modes, CopiesOk, IsFresh, Content}
-use Rattle.rvm_protocol.proofs.CurrentModes.{either, owner_obeys, owner_receives, turned}
+use Rattle.rvm_protocol.proofs.PairInvariant.{More, New, lim, own_ok, their_ok, Meet, HoldsNone, Modes, CopiesOk, IsFresh, Content, held_beside}
+use Rattle.rvm_protocol.proofs.CurrentModes.{either, owner_obeys, owner_receives, turned, held_num}
 use Rattle.rvm_protocol.proofs.OtherModes.{other_obeys, other_receives, alone}
 use Rattle.rvm_protocol.proofs.Basics.{some_is, both_false, is_either, or_true, put_same, same_or, and_both}
 use Rattle.rvm_protocol.proofs.CurrentPages.{owner_pages}
 use Rattle.rvm_protocol.proofs.OtherPages.{owner_pages_came, other_pages_came, turned_pages, pieces_are_sent}
-use Rattle.rvm_protocol.proofs.Tellings.{onto_same, is_paused, is_stopped, is_held, TargetOk, aims, Tells, TellsOther, tells_owner, commanded, received, commanded_other, received_other}
+use Rattle.rvm_protocol.proofs.Tellings.{onto_same, is_stopped, aims, Tells, TellsOther, tells_owner, commanded, received, commanded_other, received_other}
 use Rattle.rvm_protocol.proofs.Behind.{is_run, from_ok, GivenOk, past_ok, go_ok, their_go, past_own, their_past, their_from, from_their, from_up, own_up, below, ready_num, lim_num, run_apart, apart_run, meets_apart, meet_num, content_apart, turn}
 use Rattle.rvm_protocol.proofs.WorldInvariant.{put_all, Made, made_down, more_old, more_new, Pair, reach, reach_here, reach_there, Good, retarget_run, own_all, owner_good, commit_good, other_good, made_new}
 use Rattle.rvm_protocol.proofs.StateCases.{state_cases, part_cases}
+use Rattle.rvm_protocol.specs.Shown.{is_paused, is_held, IsTarget, holds_current, IsCurrent, Shown, has_given}
 
 pub has_got : {X : Type 0} (xs : List X) (k : ℕ) (x : X) → slice_get xs k ≡ Some x → Has xs x
 unfolding Has
@@ -144,7 +145,7 @@ module _ {S P E A B : Type 0} (m : Guest S P E A B) where
   same_mode v c O (Copying n r) h = absurd (alone O (Copying n r) h)
   same_mode v c O (Stopped n l) h = absurd (alone O (Stopped n l) h)
 
-  stopped_target : (O : Mode S P) (n : ℕ) (ts : ℕ → ℕ) (d : ℕ) → is_stopped O ≡ true → move_of O ≡ n → TargetOk ts d O → ts n ≡ d
+  stopped_target : (O : Mode S P) (n : ℕ) (ts : ℕ → ℕ) (d : ℕ) → is_stopped O ≡ true → move_of O ≡ n → IsTarget ts d O → ts n ≡ d
   stopped_target (Stopped k l) n ts d h e q = ap ts (sym e) ∙ q
   stopped_target (Empty k) n ts d h e q = cc
   stopped_target (Run k g) n ts d h e q = cc
@@ -846,7 +847,7 @@ module _ {S P E A B : Type 0} (m : Guest S P E A B) where
   new_other : (g : S) (x : ℕ) → x ≢ 0 → (new_host m g x).mode ≡ Empty 0
   new_other g x n = ap (λ (t : Bool). if t then Run 0 g else Empty 0) (ne_eqb x 0 n)
 
-  pub new_sound : (version : ℕ) (g : S) (count : ℕ) (limits : ℕ → ℕ) → m.valid g ≡ true → SoundAt (new_world m version g count limits) (at_start m g)
+  pub new_sound : (version : ℕ) (g : S) (count : ℕ) (limits : ℕ → ℕ) → m.valid g ≡ true → SoundAt (new_world m version g count limits) (at_start g)
   unfolding Has read
   new_sound version g count limits v =
       record {
@@ -970,21 +971,170 @@ module _ {S P E A B : Type 0} (m : Guest S P E A B) where
       kept None = refl
       kept (Some y) = refl
 
+  -- what the modes show
+  held_shown : (e : ℕ) (c : ℕ) (hd : Host S P) → held_beside e hd.mode → hd.partner ≡ c → has_given e hd.mode × (hd.partner ≡ c)
+  held_shown e c hd i p = (given_as hd.mode i, p)
+    where
+      given_as : (T : Mode S P) → held_beside e T → has_given e T
+      given_as (Given k) h = h
+      given_as (Empty k) h = absurd h
+      given_as (Run k g) h = absurd h
+      given_as (Offering k g r) h = absurd h
+      given_as (Copying k r) h = absurd h
+      given_as (Stopped k l) h = absurd h
+      given_as (Staging k s) h = absurd h
+      given_as (Held k g) h = absurd h
+
+  current_shown : (O : Mode S P) (c : ℕ) (hd : Host S P) → Meet O hd.mode → (move_of hd.mode < lim O) ⊎ (hd.partner ≡ c) → holds_current hd c O
+  current_shown (Run n g) c hd i near = tt
+  current_shown (Offering n g p) c hd i near = tt
+  current_shown (Copying n r) c hd i near = tt
+  current_shown (Stopped n l) c hd i near = tt
+  current_shown (Held n g) c hd i near = held_shown n c hd i (elim near [ inl lt ↦ let q : move_of hd.mode ≡ n = held_num n hd.mode i in absurd (omega (arith, lt, q)) | inr q ↦ q ])
+  current_shown (Empty n) c hd i near = absurd i
+  current_shown (Given n) c hd i near = absurd i
+  current_shown (Staging n s) c hd i near = absurd i
+
+  run_shown : (O : Mode S P) (c : ℕ) (h h' : Host S P) → is_run O ≡ true → holds_current h c O → holds_current h' c O
+  run_shown (Run n g) c h h' q z = tt
+  run_shown (Empty n) c h h' q z = cc
+  run_shown (Offering n g p) c h h' q z = cc
+  run_shown (Copying n r) c h h' q z = cc
+  run_shown (Stopped n l) c h h' q z = cc
+  run_shown (Given n) c h h' q z = cc
+  run_shown (Staging n s) c h h' q z = cc
+  run_shown (Held n g) c h h' q z = cc
+
+  run_target : (ts : ℕ → ℕ) (d d' : ℕ) (O : Mode S P) → is_run O ≡ true → IsTarget ts d O → IsTarget ts d' O
+  run_target ts d d' (Run n g) q z = tt
+  run_target ts d d' (Empty n) q z = cc
+  run_target ts d d' (Offering n g p) q z = cc
+  run_target ts d d' (Copying n r) q z = cc
+  run_target ts d d' (Stopped n l) q z = cc
+  run_target ts d d' (Given n) q z = cc
+  run_target ts d d' (Staging n s) q z = cc
+  run_target ts d d' (Held n g) q z = cc
+
+  sound_shown : (w : World S P B) (t : Told S) → SoundAt w t → Shown w.hosts t
+  sound_shown w t s =
+      let l = s.good in
+      let O = (w.hosts s.c).mode in
+      let here : holds_current (w.hosts s.d) s.c O = current_shown O s.c (w.hosts s.d) l.modes.meet l.near in
+      let partner : holds_current (w.hosts (w.hosts s.c).partner) s.c O =
+      elim (is_either (is_run O)) [ inl h ↦ run_shown O s.c (w.hosts s.d) (w.hosts (w.hosts s.c).partner) h here | inr h ↦ subst (λ z. holds_current (w.hosts z) s.c O) (sym (l.partner h)) here ] in
+      let target : IsTarget t.targets (w.hosts s.c).partner O =
+      elim (is_either (is_run O)) [ inl h ↦ run_target t.targets s.d (w.hosts s.c).partner O h l.target | inr h ↦ subst (λ z. IsTarget t.targets z O) (sym (l.partner h)) l.target ] in
+      record {
+        current = subst (λ z. IsCurrent w.hosts z) (sym l.current) partner;
+        guest = board_at w t s;
+        paused = subst (λ z. t.paused ≡ is_paused (w.hosts z).mode) (sym l.current) l.paused;
+        waiting = l.waits;
+        target = subst (λ z. IsTarget t.targets (w.hosts z).partner (w.hosts z).mode) (sym l.current) target;
+      }
+
+  -- only one host is current
+  given_not : (X : Mode S P) (n l : ℕ) → has_given n X → GivenOk l X → n < l
+  given_not (Given k) n l h lt = let z : k ≡ n = h in let y : k < l = lt in omega arith
+  given_not (Empty k) n l h lt = absurd h
+  given_not (Run k g) n l h lt = absurd h
+  given_not (Offering k g p) n l h lt = absurd h
+  given_not (Copying k r) n l h lt = absurd h
+  given_not (Stopped k q) n l h lt = absurd h
+  given_not (Staging k s) n l h lt = absurd h
+  given_not (Held k g) n l h lt = absurd h
+
+  meets_given : (O T : Mode S P) (n : ℕ) → has_given n O → Meet O T → ⊥
+  meets_given (Given k) T n h i = i
+  meets_given (Empty k) T n h i = i
+  meets_given (Run k g) T n h i = h
+  meets_given (Offering k g p) T n h i = h
+  meets_given (Copying k r) T n h i = h
+  meets_given (Stopped k q) T n h i = h
+  meets_given (Staging k s) T n h i = i
+  meets_given (Held k g) T n h i = h
+
+  no_other : (X : Mode S P) (w : World S P B) (t : Told S) (s : SoundAt w t) (x : ℕ) → x ≢ s.c → (w.hosts x).mode ≡ X → HoldsNone X → holds_current (w.hosts (w.hosts x).partner) x X → ⊥
+  no_other (Held n g) w t s x ne is h now =
+      let l = s.good in
+      let p = (w.hosts x).partner in
+      elim (same_or p s.c) [
+        | inl q ↦ meets_given (w.hosts s.c).mode (w.hosts s.d).mode n (subst (λ z. has_given n (w.hosts z).mode) q now.0) l.modes.meet
+        | inr np ↦
+            let lt = given_not (w.hosts p).mode n (reach w.hosts s.c (w.hosts s.c).mode (w.hosts p).partner) now.0 (l.given p np) in
+            let r : reach w.hosts s.c (w.hosts s.c).mode (w.hosts p).partner ≡ n = ap (reach w.hosts s.c (w.hosts s.c).mode) now.1 ∙ reach_there w.hosts s.c (w.hosts s.c).mode x ne ∙ ap move_of is in
+            absurd (omega (arith, lt, r))
+      ]
+  no_other (Empty n) w t s x ne is h now = now
+  no_other (Given n) w t s x ne is h now = now
+  no_other (Staging n q) w t s x ne is h now = now
+  no_other (Run n g) w t s x ne is h now = h
+  no_other (Offering n g p) w t s x ne is h now = h
+  no_other (Copying n r) w t s x ne is h now = h
+  no_other (Stopped n q) w t s x ne is h now = h
+
+  shown_current : (w : World S P B) (t : Told S) (s : SoundAt w t) (x : ℕ) → IsCurrent w.hosts x → x ≡ s.c
+  shown_current w t s x now =
+      elim (same_or x s.c) [
+        | inl q ↦ q
+        | inr n ↦ absurd (no_other (w.hosts x).mode w t s x n refl (none_at (w.hosts s.c) (w.hosts s.d) w.hosts (read m w.sent) s.c s.d x t s.good n) now)
+      ]
+
+  -- whoever knows what the modes show knows enough
+  shown_sound : (w : World S P B) (t t' : Told S) → SoundAt w t → Shown w.hosts t' → SoundAt w t'
+  shown_sound w t t' s h =
+      let l = s.good in
+      let O = (w.hosts s.c).mode in
+      let is : t'.current ≡ s.c = shown_current w t s t'.current h.current in
+      let guest : guest_in O ≡ Some t'.guest = subst (λ z. guest_in (w.hosts z).mode ≡ Some t'.guest) is h.guest in
+      let target : IsTarget t'.targets (w.hosts s.c).partner O = subst (λ z. IsTarget t'.targets (w.hosts z).partner (w.hosts z).mode) is h.target in
+      record {
+        c = s.c;
+        d = s.d;
+        good = record {
+          current = is;
+          apart = l.apart;
+          is_c = l.is_c;
+          is_d = l.is_d;
+          partner = l.partner;
+          modes = l.modes;
+          pages = l.pages;
+          guest = guest;
+          valid = subst (λ z. m.valid z ≡ true) (some_is t.guest t'.guest (sym l.guest ∙ guest)) l.valid;
+          paused = subst (λ z. t'.paused ≡ is_paused (w.hosts z).mode) is h.paused;
+          waits = h.waiting;
+          target = elim (is_either (is_run O)) [ inl q ↦ run_target t'.targets (w.hosts s.c).partner s.d O q target | inr q ↦ subst (λ z. IsTarget t'.targets z O) (l.partner q) target ];
+          others = l.others;
+          near = l.near;
+          past = l.past;
+          took = l.took;
+          given = l.given;
+          from = l.from;
+        };
+      }
+
+  one_guest : (w : World S P B) (t : Told S) (events : List (Event E)) → SoundAt w t → OneGuest m t (run m w events) (history m w events)
+  one_guest w t events start =
+      let past = history m w events in
+      let s = run_sound events w t start in
+      let is_fold : (told m t past).guest ≡ fold m t.guest (accepted past) = told_guest past t in
+      record {
+        board = board_at (run m w events) (told m t past) s ∙ ap Some is_fold;
+        answers = run_answers events w t start;
+        replies = replies_at (run m w events) (told m t past) s;
+        one_host = one_host_at (run m w events) (told m t past) s;
+        hands_over = λ ev n same. hands (run m w events) (told m t past) s ev n same ∙ ap Some is_fold;
+        shown = sound_shown (run m w events) (told m t past) s;
+      }
+
   pub the_law : AlwaysOneGuest m
   unfolding AlwaysOneGuest
-  the_law = λ g version count limits events v.
+  the_law = λ g version count limits events v. one_guest (new_world m version g count limits) (at_start g) events (new_sound version g count limits v)
+
+  pub the_law_from_any_world : OneGuestFromAnyWorld m
+  unfolding OneGuestFromAnyWorld
+  the_law_from_any_world = λ g version count limits before events t v h.
       let w = new_world m version g count limits in
-      let past = history m w events in
-      let t = told m (at_start m g) past in
-      let s = run_sound events w (at_start m g) (new_sound version g count limits v) in
-      let is_fold : t.guest ≡ fold m g (accepted past) = told_guest past (at_start m g) in
-      record {
-        board = board_at (run m w events) t s ∙ ap Some is_fold;
-        answers = run_answers events w (at_start m g) (new_sound version g count limits v);
-        replies = replies_at (run m w events) t s;
-        one_host = one_host_at (run m w events) t s;
-        hands_over = λ ev n same. hands (run m w events) t s ev n same ∙ ap Some is_fold;
-      }
+      one_guest (run m w before) t events (shown_sound (run m w before) (told m (at_start g) (history m w before)) t (run_sound before w (at_start g) (new_sound version g count limits v)) h)
 
   -- the stale-page law
   newest_copy : (sent : List (Addressed P B)) (c d e : ℕ) (newest : ℕ → ℕ) (copies : ℕ) (g : S) (p : ℕ) → ((z k : ℕ) (b : P) → Made sent c z (Page e p k b) → Made sent c d (Page e p k b)) → CopiesOk e (Made sent c d) newest copies → IsFresh m e (Made sent c d) newest g p → NewestCopy sent c e p (page_of m g p)
@@ -1028,7 +1178,7 @@ module _ {S P E A B : Type 0} (m : Guest S P E A B) where
   unfolding NoStalePage
   stale_law = λ g version count limits events x v.
       let w = run m (new_world m version g count limits) events in
-      let s = run_sound events (new_world m version g count limits) (at_start m g) (new_sound version g count limits v) in
+      let s = run_sound events (new_world m version g count limits) (at_start g) (new_sound version g count limits v) in
       let l = s.good in
       elim (same_or x s.c) [
         | inl q ↦ subst (λ z. CopiesAreFresh m (read m w.sent) z (mode_at m w z)) (sym q) (stale_owner (w.hosts s.c).mode (w.hosts s.c).partner (w.hosts s.d) w.hosts (read m w.sent) s.c s.d _ l)

@@ -17,6 +17,7 @@ use Rattle.rvm_protocol.proofs.CurrentModes.{either, held_num}
 use Rattle.rvm_protocol.proofs.OtherModes.{alone}
 use Rattle.rvm_protocol.proofs.Basics.{put_same}
 use Rattle.rvm_protocol.proofs.StateCases.{state_cases, part_cases}
+use Rattle.rvm_protocol.specs.Shown.{is_paused, is_held, IsTarget}
 
 abbrev pub onto : {X : Type 0} → (X → X) → Option X → Option X
 onto f None = None
@@ -27,26 +28,9 @@ onto_same None = refl
 onto_same (Some x) = refl
 
 module _ {S P : Type 0} where
-  abbrev pub is_paused : Mode S P → Bool
-  is_paused (Stopped n l) = true
-  is_paused (Held n g) = true
-  is_paused mode = false
-
   abbrev pub is_stopped : Mode S P → Bool
   is_stopped (Stopped n l) = true
   is_stopped mode = false
-
-  abbrev pub is_held : Mode S P → Bool
-  is_held (Held n g) = true
-  is_held mode = false
-
-module _ {S P : Type 0} where
-  -- the replies told the target of a move that goes on
-  abbrev pub TargetOk : (ℕ → ℕ) → ℕ → Mode S P → Type 0
-  TargetOk ts d (Offering n g p) = ts n ≡ d
-  TargetOk ts d (Copying n r) = ts n ≡ d
-  TargetOk ts d (Stopped n l) = ts n ≡ d
-  TargetOk ts d mode = Unit {0}
 
 module _ {S P E A B : Type 0} (m : Guest S P E A B) where
   -- the target that a Begin names
@@ -60,7 +44,7 @@ module _ {S P E A B : Type 0} (m : Guest S P E A B) where
     pub paused : is_paused next ≡ reply_paused r (is_paused O)
     pub held : is_held next ≡ reply_waits r (is_held O)
     pub current : (ts : ℕ → ℕ) (x : ℕ) → reply_current r ts x ≡ x
-    pub target : (ts : ℕ → ℕ) (d : ℕ) → aims e d → TargetOk ts d O → TargetOk (reply_targets e r ts) d next
+    pub target : (ts : ℕ → ℕ) (d : ℕ) → aims e d → IsTarget ts d O → IsTarget (reply_targets e r ts) d next
 
   abbrev pub TellsKept : HostEvent P E B → Mode S P → Outcome S P A B → Type 0
   TellsKept e O o = Tells e O o.reply o.next

@@ -12,9 +12,10 @@ use Rattle.rvm_protocol.specs.Told.{Told, reply_targets, reply_paused, reply_wai
 use Rattle.rvm_protocol.specs.World.{Has, and_sent}
 use Rattle.rvm_protocol.proofs.PairInvariant.{More, New, lim, go_lim, own_ok, their_ok, Meet, HoldsNone, Modes, Content}
 use Rattle.rvm_protocol.proofs.Basics.{some_is, put_same, put_other, same_or}
-use Rattle.rvm_protocol.proofs.Tellings.{onto, is_paused, is_held, TargetOk, aims, Tells, TellsOther}
+use Rattle.rvm_protocol.proofs.Tellings.{onto, aims, Tells, TellsOther}
 use Rattle.rvm_protocol.proofs.Behind.{is_run, from_ok, GivenOk, past_ok, go_ok, past_mono, go_mono, own_go, their_go, past_own, own_past, their_past, their_from, from_their, given_from, below, ready_num, run_apart, apart_run, given_mono, Turn}
 use Rattle.rvm_protocol.proofs.PagesOfFrames.{content_iff}
+use Rattle.rvm_protocol.specs.Shown.{is_paused, is_held, IsTarget}
 
 pub has_old : {X : Type 0} (xs : List X) (y x : X) → Has xs x → Has (xs ++ y ∷ []) x
 unfolding Has
@@ -112,7 +113,7 @@ module _ {S P E A B : Type 0} (m : Guest S P E A B) where
     pub valid : m.valid t.guest ≡ true
     pub paused : t.paused ≡ is_paused hc.mode
     pub waits : (x : ℕ) → t.waiting x ≡ is_held (H x).mode
-    pub target : TargetOk t.targets d hc.mode
+    pub target : IsTarget t.targets d hc.mode
     -- each other host is behind
     pub others : (x : ℕ) → x ≢ c → x ≢ d → HoldsNone (H x).mode × (move_of (H x).mode < lim hc.mode)
     pub near : (move_of hd.mode < lim hc.mode) ⊎ (hd.partner ≡ c)
@@ -234,7 +235,7 @@ module _ {S P E A B : Type 0} (m : Guest S P E A B) where
 
   -- the source commits: its partner is current from now on
   pub commit_good : (O : Mode S P) (p : ℕ) (hd : Host S P) (H : ℕ → Host S P) (sent : List (Addressed P B)) (c d : ℕ) (t : Told S) (f : Frame P B) (n : ℕ) (made : Option (Frame P B)) (O' : Mode S P) (p' : ℕ) → Good (record { mode = O; partner = p }) hd H sent c d t
-      → Turn O hd.mode O' → Modes hd.mode O' (their_ok O hd.mode) (More (own_ok O hd.mode) made) → Content m hd.mode O' (Made sent d c) → (guest_in hd.mode ≡ guest_in O) × (is_paused hd.mode ≡ is_paused O) → is_held O' ≡ is_held O → t.targets n ≡ d → TargetOk t.targets c hd.mode → hd.partner ≡ c → p' ≡ d
+      → Turn O hd.mode O' → Modes hd.mode O' (their_ok O hd.mode) (More (own_ok O hd.mode) made) → Content m hd.mode O' (Made sent d c) → (guest_in hd.mode ≡ guest_in O) × (is_paused hd.mode ≡ is_paused O) → is_held O' ≡ is_held O → t.targets n ≡ d → IsTarget t.targets c hd.mode → hd.partner ≡ c → p' ≡ d
       → Good hd (record { mode = O'; partner = p' }) (put H c (record { mode = O'; partner = p' })) (and_sent sent (posted c d made)) d c (told_reply m c (Came d f) (Committed n) t)
   commit_good O p hd H sent c d t f n made O' p' l u i ok same held targets target back par =
       let h' : Host S P = record { mode = O'; partner = p' } in
@@ -382,5 +383,5 @@ module _ {S P E A B : Type 0} (m : Guest S P E A B) where
         | false ↦ put_all (λ w (h : Host S P). move_of (H w).mode ≤ move_of h.mode) H x h' le (λ w _. omega arith) y
       ]
 
-      same_target : (ts ts' : ℕ → ℕ) (d : ℕ) (O : Mode S P) → ts ≡ ts' → TargetOk ts' d O → TargetOk ts d O
-      same_target ts ts' d O q h = subst (λ w. TargetOk w d O) (sym q) h
+      same_target : (ts ts' : ℕ → ℕ) (d : ℕ) (O : Mode S P) → ts ≡ ts' → IsTarget ts' d O → IsTarget ts d O
+      same_target ts ts' d O q h = subst (λ w. IsTarget w d O) (sym q) h

@@ -11,6 +11,7 @@ pub mod Receiving
 pub mod Host
 pub mod World
 pub mod Told
+pub mod Shown
 pub mod NeverMoving
 pub mod OneGuest
 pub mod FreshCopies

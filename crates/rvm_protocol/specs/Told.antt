@@ -40,6 +40,17 @@ reply_waits Dropped b = false
 reply_waits StartedHere b = false
 reply_waits r b = b
 
+-- at the start the guest runs at host 0
+abbrev pub at_start : {S : Type 0} → S → Told S
+at_start g =
+    record {
+      current = 0;
+      paused = false;
+      waiting = λ x. false;
+      targets = λ n. 0;
+      guest = g;
+    }
+
 module _ {S P E A B : Type 0} (m : Guest S P E A B) where
   -- an event of the guest that was answered moves it on
   abbrev pub reply_guest : HostEvent P E B → Reply A → S → S
@@ -59,16 +70,6 @@ module _ {S P E A B : Type 0} (m : Guest S P E A B) where
   unfoldable pub told : Told S → List (Entry P E A B) → Told S
   told t [] = t
   told t (e ∷ es) = told (told_reply e.host e.event e.reply t) es
-
-  abbrev pub at_start : S → Told S
-  at_start g =
-      record {
-        current = 0;
-        paused = false;
-        waiting = λ x. false;
-        targets = λ n. 0;
-        guest = g;
-      }
 
   -- the reply that an event of the guest has to get at host x of count hosts
   abbrev pub due : ℕ → Told S → ℕ → E → Reply A

@@ -6,14 +6,16 @@ ghost use Rattle.rvm_protocol.specs.FrameCauses.{FramesFollowTheirCauses};
 ghost use Rattle.rvm_protocol.specs.FrameContents.{FramesCarryTheGuest};
 ghost use Rattle.rvm_protocol.specs.FreshCopies.{NoStalePage};
 ghost use Rattle.rvm_protocol.specs.Guest.{Guest};
-ghost use Rattle.rvm_protocol.specs.OneGuest.{AlwaysOneGuest};
+ghost use Rattle.rvm_protocol.specs.OneGuest.{AlwaysOneGuest, OneGuestFromAnyWorld};
 
 /// For every list of events over the hosts of a world, with frames lost, repeated and reordered:
 /// the guest at the current host, and each answer it gave, are those of one guest that never moves;
 /// its events are answered or refused as the replies tell; a commit hands over exactly that guest;
-/// and never would two hosts answer one.
+/// and never would two hosts answer one. So from a new world, and from any later one by what its modes
+/// show.
 pub fn the_guest_is_the_one_that_never_moves<S, P, E, A, B>()
     ensures always { (m : Guest S P E A B) → AlwaysOneGuest m }
+    ensures from_any_world { (m : Guest S P E A B) → OneGuestFromAnyWorld m }
 {}
 
 /// While a source copies, no page is forgotten; and the copies that a state names, and all later
