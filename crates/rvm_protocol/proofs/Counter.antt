@@ -1,6 +1,6 @@
 -- A small guest for the worked examples: it counts its events, and its pages are one number each. An
 -- event writes a page or only counts.
-use Rattle.std.proofs.Common.{◌≡◌, ℕ, suc, ◌+◌, Bool, true, false, ◌==◌, List, [], ◌∷◌, length, get_or, set, Option, Some, None, refl, arith}
+use Rattle.std.proofs.Common.{◌≡◌, ℕ, suc, ◌+◌, Bool, true, false, ◌==◌, List, [], ◌∷◌, length, get_or, set, Option, Some, None, refl, arith, ◌/◌, ◌%◌, ◌*◌, ◌<◌, ap}
 use Rattle.std.proofs.lemmas.Bool.{eqb-true, eqb-false}
 use Rattle.std.proofs.lemmas.List.{length-set, get_or-set_other}
 use Rattle.rvm_protocol.specs.Guest.{Guest}
@@ -34,10 +34,23 @@ abbrev pub join_one : List (List ℕ) → Option (List ℕ × ℕ)
 join_one ((b ∷ ns) ∷ []) = Some (ns, b)
 join_one xs = None
 
--- a state in two pieces: the numbers, and the count
+-- a state in two pieces, of which each has one half of the first number
+abbrev pub cut_two : List ℕ → ℕ → List (List ℕ)
+cut_two [] b = [] ∷ (b ∷ []) ∷ []
+cut_two (n ∷ ns) b = ((n / 2) ∷ ns) ∷ ((n % 2) ∷ b ∷ []) ∷ []
+
 abbrev pub join_two : List (List ℕ) → Option (List ℕ × ℕ)
-join_two (ns ∷ (b ∷ []) ∷ []) = Some (ns, b)
+join_two ([] ∷ (b ∷ []) ∷ []) = Some ([], b)
+join_two ((high ∷ ns) ∷ (low ∷ b ∷ []) ∷ []) = Some ((2 * high + low) ∷ ns, b)
 join_two xs = None
+
+pub some_two : (ns : List ℕ) (b : ℕ) → 0 < length (cut_two ns b)
+some_two [] b = omega arith
+some_two (n ∷ ns) b = omega arith
+
+pub joined_two : (ns : List ℕ) (b : ℕ) → join_two (cut_two ns b) ≡ Some (ns, b)
+joined_two [] b = refl
+joined_two (n ∷ ns) b = let z : 2 * (n / 2) + n % 2 ≡ n = omega arith in ap (λ q. Some (q ∷ ns, b)) z
 
 abbrev pub counter : Guest Counter ℕ CounterEvent ℕ ℕ
 counter =
@@ -69,8 +82,8 @@ counter =
 abbrev pub split_counter : Guest Counter ℕ CounterEvent ℕ ℕ
 split_counter =
     record counter {
-      cut = λ ns b. ns ∷ (b ∷ []) ∷ [];
+      cut = cut_two;
       join = join_two;
-      some_piece = λ ns b. omega arith;
-      joined = λ t ns v h k. refl;
+      some_piece = some_two;
+      joined = λ t ns v h k. joined_two ns t.count;
     }

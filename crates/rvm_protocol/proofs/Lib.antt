@@ -19,3 +19,4 @@ pub mod DrivenMove
 pub mod Bounds
 mod Counter
 mod Examples
+mod Witnesses
