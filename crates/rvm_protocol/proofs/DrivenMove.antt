@@ -7,7 +7,7 @@ use Rattle.std.proofs.lemmas.List.{length-set, length-replicate, get_or-set_same
 use Rattle.rvm_protocol.specs.Guest.{Guest}
 use Rattle.rvm_protocol.specs.Frames.{Frame, Offer, Accept, Refuse, Page, RoundEnd, State, Part, Ready, Go, Started, Addressed, is_compact, plain, written, read}
 use Rattle.rvm_protocol.specs.Commands.{Policy, is_allowed, Begin, Copy, Do, Came, HostEvent}
-use Rattle.rvm_protocol.specs.Replies.{Reply, Begun, Accepted, Declined, Open, Copied, RoundEnded, Stored, Noted, Kept, Lacking, Stopping, StateSent, PartSent, ReadySent, Committed, StartedHere, Finished}
+use Rattle.rvm_protocol.specs.Replies.{Reply, Begun, Accepted, Declined, Open, Copied, RoundEnded, Stored, Noted, Kept, Lacking, Stopping, StateSent, PartSent, ReadySent, Committed, StartedHere, Finished, MoveDeclined}
 use Rattle.rvm_protocol.specs.Pages.{Pages, all, none, put, least, size, listed, members, gathered, with_first}
 use Rattle.rvm_protocol.specs.Rounds.{Rounds, Last, page_count, page_of, is_skipped, opened, next_page, stops, page_copied, next_round, round_over, stopped, to_copy, newest_numbers, pieces_of, next_turn}
 use Rattle.rvm_protocol.specs.Staging.{Stage, new_stage, with_page, lacks, takes_part, with_part}
@@ -21,7 +21,7 @@ use Rattle.rvm_protocol.proofs.Basics.{same_or, some_is, or_left, put_same, put_
 use Rattle.rvm_protocol.proofs.Runs.{plain_written, SoundAt, none_at, run_sound, new_sound, there_apart}
 use Rattle.rvm_protocol.proofs.Phases.{Duo, Phase, if_true, if_false, nothing, after, same_replies, commands, to_source, to_target, Shows}
 use Rattle.rvm_protocol.specs.Told.{Told, at_start}
-use Rattle.rvm_protocol.specs.DrivenMove.{drive, drive_replies, state_replies, arrival_replies, state_frames, ADrivenMoveArrives}
+use Rattle.rvm_protocol.specs.DrivenMove.{drive, drive_replies, state_replies, arrival_replies, state_frames, ADrivenMoveArrives, ATooLargeGuestIsDeclined}
 use Rattle.rvm_protocol.proofs.Behind.{apart_run}
 
 -- the frame at a place of a list that grew
@@ -710,6 +710,53 @@ module _ {S P E A B : Type 0} (m : Guest S P E A B) (version count : ℕ) (limit
       let c7 = after m version count limits from to _ _ _ _ _ _ _ c6 state.arrived in
       record { at_last = _; goes = after m version count limits from to _ _ _ _ _ _ _ c7 g8 }
 
+module _ {S P E A B : Type 0} (m : Guest S P E A B) (version count : ℕ) (limits : ℕ → ℕ) (from to e : ℕ) (policy : Policy) (g : S) where
+  declined_above : (seen : ℕ) (T : Mode S P) → seen ≤ e → limits to < length (m.pages g) → offer_above m seen (limits to) (suc e) (length (m.pages g)) (m.processors g) T ≡ sends (Declined (limits to)) (Refuse (suc e) (limits to)) T
+  declined_above seen T le lt =
+      if_true (nat_lt seen (suc e)) (offered m (limits to) (suc e) (length (m.pages g)) (m.processors g) T) (ignores T) (lt-ltb seen (suc e) (omega arith))
+      ∙ if_true (nat_lt (limits to) (length (m.pages g))) (sends (Declined (limits to)) (Refuse (suc e) (limits to)) T) (sends Accepted (Accept (suc e)) (Staging (suc e) (new_stage m.zeros (length (m.pages g)) (m.processors g)))) (lt-ltb (limits to) (length (m.pages g)) lt)
+
+  offer_declined : (T : Mode S P) → HoldsNone T → move_of T ≤ e → limits to < length (m.pages g) → came m (limits to) (Offer (suc e) (length (m.pages g)) (m.processors g)) T ≡ sends (Declined (limits to)) (Refuse (suc e) (limits to)) T
+  offer_declined (Empty k) h le lt = declined_above k (Empty k) le lt
+  offer_declined (Given k) h le lt = declined_above k (Given k) le lt
+  offer_declined (Held k q) h le lt = declined_above k (Held k q) le lt
+  offer_declined (Staging k s) h le lt =
+      if_false (k == suc e) (sends Accepted (Accept k) (Staging k s)) (offer_above m k (limits to) (suc e) (length (m.pages g)) (m.processors g) (Staging k s)) (ne_eqb k (suc e) (λ q. let z : k ≡ suc e = q in omega arith))
+      ∙ declined_above k (Staging k s) le lt
+  offer_declined (Run k q) h le lt = absurd h
+  offer_declined (Offering k q p) h le lt = absurd h
+  offer_declined (Copying k r) h le lt = absurd h
+  offer_declined (Stopped k l) h le lt = absurd h
+
+  -- Begin, Offer, Refuse
+  declining : (p q : ℕ) (T : Mode S P) (sent : List (Addressed P B)) → to ≢ from → nat_lt from count ≡ true → is_there from count to ≡ true → is_there to count from ≡ true → e < 2 ^ 64 - 1 → is_allowed policy ≡ true → HoldsNone T → move_of T ≤ e → limits to < length (m.pages g)
+      → Phase m version count limits from to (record { source = record { mode = Run e g; partner = p }; target = record { mode = T; partner = q }; sent = sent }) (At from (Begin to policy) ∷ Deliver (length sent) ∷ Deliver (length sent + 1) ∷ []) (Begun (suc e) ∷ Declined (limits to) ∷ MoveDeclined (limits to) ∷ [])
+      (record { source = record { mode = Run (suc e) g; partner = to }; target = record { mode = T; partner = q }; sent = (sent ++ record { from = from; to = to; frame = Offer (suc e) (length (m.pages g)) (m.processors g) } ∷ []) ++ record { from = to; to = from; frame = Refuse (suc e) (limits to) } ∷ [] })
+  declining p q T sent apart here to_is_there from_is_there below allowed none le lt =
+      let M = suc e in
+      let offer : Frame P B = Offer M (length (m.pages g)) (m.processors g) in
+      let refuse : Frame P B = Refuse M (limits to) in
+      let offered_to : Addressed P B = record { from = from; to = to; frame = offer } in
+      let refused_by : Addressed P B = record { from = to; to = from; frame = refuse } in
+      let O : Mode S P = Offering M g policy in
+      let there : Host S P = record { mode = T; partner = q } in
+      let d0 : Duo S P B = record { source = record { mode = Run e g; partner = p }; target = there; sent = sent } in
+      let d1 : Duo S P B = record { source = record { mode = O; partner = to }; target = there; sent = sent ++ offered_to ∷ [] } in
+      let d2 : Duo S P B = record { source = record { mode = O; partner = to }; target = there; sent = (sent ++ offered_to ∷ []) ++ refused_by ∷ [] } in
+      let begins : host_step m version from count (limits from) (Do (Begin to policy)) (record { mode = Run e g; partner = p }) ≡ settled m version from (Do (Begin to policy)) p (begun m policy e g) =
+      ap (settled m version from (Do (Begin to policy)) p) (if_true (is_there from count to) (begin m policy (Run e g)) _ to_is_there ∙ if_true (is_allowed policy) (begin_allowed m policy e g) _ allowed ∙ if_false (e == 2 ^ 64 - 1) _ (begun m policy e g) (ne_eqb e (2 ^ 64 - 1) (λ z. let y : e ≡ 2 ^ 64 - 1 = z in omega (arith, below)))) in
+      let hears_offer : is_heard to count from offer there ≡ true = and_true _ _ from_is_there (or_right (from == q) (nat_lt (move_of T) M) (lt-ltb (move_of T) M (omega arith))) in
+      let offers : host_step m version to count (limits to) (Came from offer) there ≡ settled m version to (Came from offer) q (sends (Declined (limits to)) refuse T) =
+      ap (settled m version to (Came from offer) q) (if_true (is_heard to count from offer there) (came m (limits to) offer T) (ignores T) hears_offer ∙ offer_declined T none le lt) in
+      let hears_refuse : is_heard from count to refuse (record { mode = O; partner = to }) ≡ true = and_true _ _ to_is_there (or_left (to == to) _ (eq-eqb to to refl)) in
+      let refuses_it : host_step m version from count (limits from) (Came to refuse) (record { mode = O; partner = to }) ≡ settled m version from (Came to refuse) to (says (MoveDeclined (limits to)) (Run M g)) =
+      ap (settled m version from (Came to refuse) to) (if_true (is_heard from count to refuse (record { mode = O; partner = to })) (came m (limits from) refuse O) (ignores O) hears_refuse ∙ if_true (M == M) (says (MoveDeclined (limits to)) (Run M g)) (ignores O) (eq-eqb M M refl)) in
+      let one : Phase m version count limits from to d0 (At from (Begin to policy) ∷ []) (Begun M ∷ []) d1 = commands m version count limits from to (Begin to policy) d0 (settled m version from (Do (Begin to policy)) p (begun m policy e g)) apart here begins in
+      let two : Phase m version count limits from to d1 (Deliver (length sent) ∷ []) (Declined (limits to) ∷ []) d2 = to_target m version count limits from to (length sent) from offer d1 (settled m version to (Came from offer) q (sends (Declined (limits to)) refuse T)) apart (got_new sent offered_to (length sent) refl) offers in
+      let place : length sent + 1 ≡ length (sent ++ offered_to ∷ []) = let z = length_more sent offered_to in omega (arith, z) in
+      let three = to_source m version count limits from to (length sent + 1) to refuse d2 (settled m version from (Came to refuse) to (says (MoveDeclined (limits to)) (Run M g))) apart (got_new (sent ++ offered_to ∷ []) refused_by (length sent + 1) place) refuses_it in
+      after m version count limits from to _ _ _ _ _ _ _ (after m version count limits from to _ _ _ _ _ _ _ one two) three
+
 module _ {S P E A B : Type 0} (m : Guest S P E A B) where
   -- the hosts beside the one in Run are behind it
   record Behind (e : ℕ) (g : S) (T : Mode S P) : Type 0 where
@@ -781,4 +828,22 @@ module _ {S P E A B : Type 0} (m : Guest S P E A B) where
         replied = end.0 ∙ ap (λ z. drive_replies z (suc e) (page_count m g) (state_frames m z g)) (sym fixed.0);
         there = ap (λ (h : Host S P). h.mode) end.1.target_is;
         left = ap (λ (h : Host S P). h.mode) end.1.source_is;
+      }
+
+  pub declined_law : ATooLargeGuestIsDeclined m
+  unfolding ATooLargeGuestIsDeclined
+  declined_law = λ start g version count limits events from to e policy v is below allowed here there large.
+      let w = run m (new_world m version start count limits) events in
+      let s = run_sound m events (new_world m version start count limits) (at_start start) (new_sound m version start count limits v) in
+      let apart = there_apart from count to there in
+      let b = behind_run w _ from to e g s is apart in
+      let fixed = run_version events (new_world m version start count limits) in
+      let back = and_true (nat_lt from count) (not (from == to)) (lt-ltb from count here) (ap not (ne_eqb from to (λ q. apart (sym q)))) in
+      let goes = declining m version count limits from to e policy g (w.hosts from).partner (w.hosts to).partner (mode_at m w to) w.sent apart (lt-ltb from count here) there back below allowed b.none (let z = b.below in omega (arith, z)) large in
+      let shows : Shows m version count limits from to w (record { source = record { mode = Run e g; partner = (w.hosts from).partner }; target = w.hosts to; sent = w.sent }) =
+      record { version_is = fixed.0; count_is = fixed.1; limits_are = fixed.2; source_is = ap (λ z. record { mode = z; partner = (w.hosts from).partner }) is; target_is = refl; sent_is = refl } in
+      let end = goes.leads w shows in
+      record {
+        replied = end.0 ∙ ap (λ (z : ℕ → ℕ). Begun (suc e) ∷ Declined (z to) ∷ MoveDeclined (z to) ∷ []) (sym fixed.2);
+        stays = ap (λ (h : Host S P). h.mode) end.1.source_is;
       }

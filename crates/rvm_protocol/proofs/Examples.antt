@@ -1,14 +1,16 @@
 -- Worked moves, computed.
 use Rattle.std.proofs.Common.{◌≡◌, ℕ, ◌+◌, ◌*◌, List, [], ◌∷◌, ◌++◌, length, replicate, refl, ◌-◌}
-use Rattle.rvm_protocol.specs.Commands.{Policy, Board, Begin, Copy, Resend, AbortMove}
+use Rattle.rvm_protocol.specs.Commands.{Policy, Board, Begin, Copy, Resend, AbortMove, Came}
 use Rattle.rvm_protocol.specs.DrivenMove.{drive, drive_replies, state_frames}
 use Rattle.rvm_protocol.specs.Frames.{Frame, Zero, Page, Part, Offer, Accept, RoundEnd, Ready, Addressed, read}
 use Rattle.rvm_protocol.specs.Guest.{Guest}
-use Rattle.rvm_protocol.specs.Modes.{Run}
+use Rattle.rvm_protocol.specs.Modes.{Run, Staging}
 use Rattle.rvm_protocol.specs.Pages.{least, size, listed, members, gathered, is_in}
 use Rattle.rvm_protocol.specs.Replies.{NotHere, Paused, Ignored, BadHost, BadSize, NoFrame, NoMove, Busy, Reply, Answered, Begun, Copied, RoundEnded, Stopping, StateSent, PartSent, Resent, Aborted, Accepted, Declined, Open, MoveDeclined, Stored, Noted, Kept, Lacking, ReadySent, Fixing, Committed, StartedHere, Finished, Dropped, Refused}
 use Rattle.rvm_protocol.specs.World.{World, Event, At, Deliver, mode_at, run, replies, new_world}
 use Rattle.rvm_protocol.proofs.Counter.{Counter, CounterEvent, Tick, Write, counter, split_counter}
+use Rattle.rvm_protocol.specs.Host.{Host, host_step}
+use Rattle.rvm_protocol.specs.Staging.{new_stage}
 
 -- three rounds at most, one page left, three copies of each page
 abbrev some_policy : Policy
@@ -133,6 +135,25 @@ a_missing_target_is_found_before_a_bad_policy : told 1 3 4 (begins 0 0 ∷ begin
 unfolding replies
 a_missing_target_is_found_before_a_bad_policy = refl
 
+-- host 1 of three, which stages move 1 of host 0
+abbrev stages : Host Counter ℕ
+stages = record { mode = Staging 1 (new_stage 0 4 1); partner = 0 }
+
+abbrev hears : (from : ℕ) → Frame ℕ ℕ → Host Counter ℕ → Reply ℕ
+hears from f h = (host_step counter 1 1 3 4096 (Came from f) h).reply
+
+a_frame_of_another_host_is_ignored : hears 2 (Page 1 0 1 5) stages ≡ Refused Ignored
+a_frame_of_another_host_is_ignored = refl
+
+a_frame_of_the_partner_is_heard : hears 0 (Page 1 0 1 5) stages ≡ Stored 0 1
+a_frame_of_the_partner_is_heard = refl
+
+a_frame_of_another_move_is_ignored : hears 0 (Page 7 0 1 5) stages ≡ Refused Ignored
+a_frame_of_another_move_is_ignored = refl
+
+a_higher_offer_of_another_host_is_heard : hears 2 (Offer 7 4 1) stages ≡ Accepted
+a_higher_offer_of_another_host_is_heard = refl
+
 -- stream version 2
 the_state_goes_in_parts : told 2 2 4 (to_ready ++ d 8 ∷ d 9 ∷ d 10 ∷ []) ≡ drive_replies 2 1 4 1
 unfolding replies least size listed members gathered is_in
@@ -155,8 +176,8 @@ parts_of_an_older_state_are_ignored = refl
 abbrev told_split : List (Event CounterEvent) → List (Reply ℕ)
 told_split events = replies split_counter (new_world split_counter 2 (fresh 1) 2 (λ x. 4096)) events
 
-parts_come_in_turn_and_from_the_first_after_a_copy : told_split (opening ++ copies ∷ copies ∷ copies ∷ copies ∷ copies ∷ copies ∷ At 0 Resend ∷ d 4 ∷ d 4 ∷ d 5 ∷ d 8 ∷ copies ∷ copies ∷ d 9 ∷ d 10 ∷ d 5 ∷ copies ∷ d 11 ∷ [])
-    ≡ Begun 1 ∷ Accepted ∷ Open ∷ Copied 0 1 ∷ RoundEnded 1 1 0 0 ∷ Stopping ∷ PartSent 0 2 ∷ PartSent 1 2 ∷ PartSent 0 2 ∷ Resent ∷ Kept 0 2 ∷ Kept 0 2 ∷ Lacking 1 ∷ Fixing 1 ∷ Copied 0 2 ∷ PartSent 0 2 ∷ Stored 0 2 ∷ Kept 0 2 ∷ Refused Ignored ∷ PartSent 1 2 ∷ ReadySent ∷ []
+parts_come_in_turn_and_from_the_first_after_a_copy : told_split (opening ++ copies ∷ copies ∷ copies ∷ copies ∷ copies ∷ At 0 Resend ∷ d 4 ∷ d 4 ∷ d 5 ∷ d 7 ∷ copies ∷ copies ∷ d 8 ∷ d 9 ∷ d 5 ∷ copies ∷ copies ∷ d 10 ∷ d 11 ∷ [])
+    ≡ Begun 1 ∷ Accepted ∷ Open ∷ Copied 0 1 ∷ RoundEnded 1 1 0 0 ∷ Stopping ∷ PartSent 0 2 ∷ PartSent 1 2 ∷ Resent ∷ Kept 0 2 ∷ Kept 0 2 ∷ Lacking 1 ∷ Fixing 1 ∷ Copied 0 2 ∷ PartSent 0 2 ∷ Stored 0 2 ∷ Kept 0 2 ∷ Refused Ignored ∷ PartSent 1 2 ∷ PartSent 0 2 ∷ ReadySent ∷ ReadySent ∷ []
 unfolding replies least size listed members gathered is_in
 parts_come_in_turn_and_from_the_first_after_a_copy = refl
 

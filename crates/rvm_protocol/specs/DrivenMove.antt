@@ -3,7 +3,7 @@ use Rattle.std.specs.Prelude.{◌≡◌, ℕ, suc, ◌+◌, ◌*◌, ◌^◌, �
 use Rattle.rvm_protocol.specs.Guest.{Guest}
 use Rattle.rvm_protocol.specs.Frames.{is_compact}
 use Rattle.rvm_protocol.specs.Commands.{Policy, is_allowed, Begin, Copy}
-use Rattle.rvm_protocol.specs.Replies.{Reply, Begun, Copied, RoundEnded, Stopping, StateSent, PartSent, Accepted, Open, Stored, Noted, Kept, ReadySent, Committed, StartedHere, Finished}
+use Rattle.rvm_protocol.specs.Replies.{Reply, Begun, Copied, RoundEnded, Stopping, StateSent, PartSent, Accepted, Declined, Open, MoveDeclined, Stored, Noted, Kept, ReadySent, Committed, StartedHere, Finished}
 use Rattle.rvm_protocol.specs.Pages.{listed}
 use Rattle.rvm_protocol.specs.Rounds.{page_count}
 use Rattle.rvm_protocol.specs.Modes.{Empty, Run}
@@ -74,6 +74,30 @@ module _ {S P E A B : Type 0} (m : Guest S P E A B) where
       (drive from to policy
       (length (run m (new_world m version start count limits) events).sent) (page_count m g)
       (state_frames version g))
+
+-- the events up to the target's answer
+abbrev pub drive_opening : {E : Type 0} → (from to : ℕ) → Policy → (k : ℕ) → List (Event E)
+drive_opening from to policy k = At from (Begin to policy) ∷ Deliver k ∷ Deliver (k + 1) ∷ []
+
+module _ {S P E A B : Type 0} (m : Guest S P E A B) where
+  -- the target declines, and the guest runs on at its source
+  pub record IsDeclined (w : World S P B) (from to : ℕ) (e : ℕ) (g : S) (events : List (Event E))
+      : Type 0 where
+    pub replied : replies m w events
+        ≡ Begun (suc e) ∷ Declined (w.limits to) ∷ MoveDeclined (w.limits to) ∷ []
+    pub stays : mode_at m (run m w events) from ≡ Run (suc e) g
+
+  -- to a host that takes fewer pages
+  unfoldable pub ATooLargeGuestIsDeclined : Type 0
+  ATooLargeGuestIsDeclined =
+      (start g : S) (version count : ℕ) (limits : ℕ → ℕ) (events : List (Event E))
+      (from to e : ℕ) (policy : Policy) → m.valid start ≡ true
+      → mode_at m (run m (new_world m version start count limits) events) from ≡ Run e g
+      → e < 2 ^ 64 - 1 → is_allowed policy ≡ true → from < count → is_there from count to ≡ true
+      → limits to < page_count m g
+      → IsDeclined (run m (new_world m version start count limits) events) from to e g
+      (drive_opening from to policy
+      (length (run m (new_world m version start count limits) events).sent))
 
 -- how many events that are
 unfoldable pub DriveCount : Type 0

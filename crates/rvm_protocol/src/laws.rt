@@ -1,6 +1,6 @@
 //! Laws of all runs, each the contract of a function with nothing to do.
 
-ghost use Rattle.rvm_protocol.specs.DrivenMove.{ADrivenMoveArrives, DriveCount};
+ghost use Rattle.rvm_protocol.specs.DrivenMove.{ADrivenMoveArrives, ATooLargeGuestIsDeclined, DriveCount};
 ghost use Rattle.rvm_protocol.specs.FewCopies.{CopiesAreBounded};
 ghost use Rattle.rvm_protocol.specs.FrameCauses.{FramesFollowTheirCauses};
 ghost use Rattle.rvm_protocol.specs.FrameContents.{FramesCarryTheGuest};
@@ -43,8 +43,9 @@ pub fn copies_are_bounded<S, P, E, A, B>()
 /// From a world of any run, a driven move of a guest of n pages to another host that takes it is
 /// answered as planned, the last two times by Started and Finished, and the guest stands unchanged at
 /// its target. It has 2 n + 11 events, and where its state is sent in parts 2 n + 9 and two for each
-/// part.
+/// part. A host that takes fewer pages declines it, and the guest runs on at its source.
 pub fn a_driven_move_arrives<S, P, E, A, B>()
     ensures always { (m : Guest S P E A B) → ADrivenMoveArrives m }
+    ensures declined { (m : Guest S P E A B) → ATooLargeGuestIsDeclined m }
     ensures count { DriveCount }
 {}
