@@ -12,9 +12,9 @@ use Rattle.rvm_protocol.specs.Modes.{Mode, Empty, Run}
 use Rattle.rvm_protocol.specs.Host.{Host, Result, host_step}
 
 pub record World (S P B : Type 0) : Type 0 where
-  -- the version of its streams
+  -- the version of its streams: 1, 2 or 3
   pub version : ℕ
-  -- its hosts are the numbers below count
+  -- its hosts are the numbers below count; the laws hold of any count, a world has two to eight
   pub count : ℕ
   -- how many pages each of them takes
   pub limits : ℕ → ℕ
