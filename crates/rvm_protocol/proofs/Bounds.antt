@@ -10,11 +10,10 @@ use Rattle.rvm_protocol.specs.Guest.{Guest}
 use Rattle.rvm_protocol.specs.Host.{outcome, Host, obey_at, is_there, is_heard}
 use Rattle.rvm_protocol.specs.Modes.{Mode, Empty, Run, Offering, Copying, Stopped, Given, Staging, Held, Outcome, ignores, says, sends, refuses}
 use Rattle.rvm_protocol.specs.Obeying.{obey, begun, begin_allowed, copy_page, sends_page, copy_last, sends_last, resend_last, begin}
-use Rattle.rvm_protocol.specs.Pages.{size, put, members, least}
-use Rattle.rvm_protocol.specs.Receiving.{came, offered, offer_above, state_compared, guest_read, of_this_move}
-use Rattle.rvm_protocol.specs.Replies.{Accepted, Lacking, Stored, BadState, Stopping, SeqSpent, EpochsSpent, BadSize, BadHost, Open, Declined}
+use Rattle.rvm_protocol.specs.Pages.{put, least}
+use Rattle.rvm_protocol.specs.Receiving.{came, offered, offer_above, of_this_move}
+use Rattle.rvm_protocol.specs.Replies.{Accepted, Stored, Stopping, SeqSpent, EpochsSpent, BadSize, BadHost, Open, Declined}
 use Rattle.rvm_protocol.specs.Rounds.{Rounds, Last, is_skipped, to_copy, stopped, stops, round_over, next_round, opened}
-use Rattle.rvm_protocol.specs.Staging.{Stage, lacks}
 use Rattle.rvm_protocol.specs.World.{World, Event, mode_at, happened, meaning, result_at, run, new_host, new_world}
 use Rattle.rvm_protocol.proofs.CurrentModes.{either}
 use Rattle.rvm_protocol.proofs.Basics.{or_false, least_found}

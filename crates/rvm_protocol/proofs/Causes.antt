@@ -1,5 +1,5 @@
 -- Each event of a host makes a Ready, Go or Started only after the replies that allow it.
-use Rattle.std.proofs.Common.{◌≡◌, ℕ, ◌==◌, ◌^◌, ◌-◌, nat_lt, nat_le, not, ◌&&◌, List, length, Option, Some, None, refl, sym, subst}
+use Rattle.std.proofs.Common.{◌≡◌, ℕ, ◌==◌, ◌^◌, ◌-◌, nat_lt, nat_le, not, ◌&&◌, length, Option, Some, None, refl, sym, subst}
 use Rattle.std.proofs.lemmas.Bool.{eqb-true}
 use Rattle.rvm_protocol.specs.Commands.{Command, Board, Begin, Copy, Resend, AbortMove, HostEvent, Do, Came, is_allowed}
 use Rattle.rvm_protocol.specs.FrameCauses.{says_ready, says_committed, says_started, IsCaused}
@@ -8,11 +8,10 @@ use Rattle.rvm_protocol.specs.Guest.{Guest}
 use Rattle.rvm_protocol.specs.Host.{Host, obey_at, is_there, is_heard, outcome}
 use Rattle.rvm_protocol.specs.Modes.{Mode, Empty, Run, Offering, Copying, Stopped, Given, Staging, Held, Outcome, ignores, says, sends, refuses}
 use Rattle.rvm_protocol.specs.Obeying.{obey, begin, begin_allowed, begun, copy_page, sends_page, copy_last, sends_last, resend_last}
-use Rattle.rvm_protocol.specs.Pages.{size, least}
-use Rattle.rvm_protocol.specs.Receiving.{came, state_compared, guest_read, of_this_move, offered, offer_above}
-use Rattle.rvm_protocol.specs.Replies.{Reply, Accepted, Declined, BadState, BadSize, BadHost, EpochsSpent, SeqSpent, Stopping}
+use Rattle.rvm_protocol.specs.Pages.{least}
+use Rattle.rvm_protocol.specs.Receiving.{came, of_this_move, offered, offer_above}
+use Rattle.rvm_protocol.specs.Replies.{Reply, Accepted, Declined, BadSize, BadHost, EpochsSpent, SeqSpent, Stopping}
 use Rattle.rvm_protocol.specs.Rounds.{Rounds, Last, is_skipped, to_copy, stopped}
-use Rattle.rvm_protocol.specs.Staging.{Stage, lacks}
 use Rattle.rvm_protocol.proofs.PairInvariant.{New}
 use Rattle.rvm_protocol.proofs.CurrentModes.{either}
 use Rattle.rvm_protocol.proofs.StateCases.{state_cases, part_cases}

@@ -8,11 +8,10 @@ use Rattle.rvm_protocol.specs.Guest.{Guest}
 use Rattle.rvm_protocol.specs.Host.{Host, obey_at, is_there, is_heard, outcome, partner_then, addressee}
 use Rattle.rvm_protocol.specs.Modes.{Mode, Empty, Run, Offering, Copying, Stopped, Given, Staging, Held, Outcome, move_of, ignores, says, sends, refuses}
 use Rattle.rvm_protocol.specs.Obeying.{obey, begin, begin_allowed, begun, copy_page, sends_page, copy_last, sends_last, resend_last}
-use Rattle.rvm_protocol.specs.Pages.{least, size}
-use Rattle.rvm_protocol.specs.Receiving.{came, of_this_move, offered, offer_above, state_compared, guest_read}
-use Rattle.rvm_protocol.specs.Replies.{Reply, Accepted, Declined, BadState, Committed, BadSize, BadHost, EpochsSpent, SeqSpent, Stopping}
+use Rattle.rvm_protocol.specs.Pages.{least}
+use Rattle.rvm_protocol.specs.Receiving.{came, of_this_move, offered, offer_above}
+use Rattle.rvm_protocol.specs.Replies.{Reply, Accepted, Declined, Committed, BadSize, BadHost, EpochsSpent, SeqSpent, Stopping}
 use Rattle.rvm_protocol.specs.Rounds.{Rounds, Last, is_skipped, to_copy, stopped}
-use Rattle.rvm_protocol.specs.Staging.{lacks, Stage}
 use Rattle.rvm_protocol.specs.Told.{Told, told, told_reply, at_start, reply_current, reply_paused}
 use Rattle.rvm_protocol.specs.World.{World, Event, Entry, mode_at, happened, entry_of, meaning, run, history, result_at, world_at, and_sent, new_world, Has}
 use Rattle.rvm_protocol.proofs.PairInvariant.{New, lim, go_lim, Meet, HoldsNone}
@@ -27,7 +26,8 @@ use Rattle.rvm_protocol.proofs.StateCases.{state_cases, part_cases}
 use Rattle.rvm_protocol.specs.Shown.{is_paused}
 
 module _ {S P : Type 0} where
-  -- the current host in Run: either no move was committed since it began its own, or that one was started
+  -- the current host in Run: either no move was committed since it began its own, or that one was
+  -- started
   abbrev pub Fresh : (C T : ℕ → Type 0) → Mode S P → Type 0
   Fresh C T (Run n g) = ((k : ℕ) → C k → k < n) ⊎ T n
   Fresh C T mode = Unit {0}

@@ -7,11 +7,10 @@ use Rattle.rvm_protocol.specs.Guest.{Guest}
 use Rattle.rvm_protocol.specs.Host.{Host, obey_at, is_there, is_heard, outcome, partner_then, addressee}
 use Rattle.rvm_protocol.specs.Modes.{Mode, Empty, Run, Offering, Copying, Stopped, Given, Staging, Held, Outcome, ignores, says, sends, refuses, guest_in}
 use Rattle.rvm_protocol.specs.Obeying.{begin, begin_allowed, begun, copy_page, sends_page, copy_last, sends_last, resend_last, sends_state}
-use Rattle.rvm_protocol.specs.Pages.{size, least}
-use Rattle.rvm_protocol.specs.Receiving.{came, state_compared, guest_read, of_this_move, offered, offer_above}
-use Rattle.rvm_protocol.specs.Replies.{Accepted, Declined, BadState, BadSize, BadHost, EpochsSpent, SeqSpent, Stopping, Reply}
+use Rattle.rvm_protocol.specs.Pages.{least}
+use Rattle.rvm_protocol.specs.Receiving.{came, of_this_move, offered, offer_above}
+use Rattle.rvm_protocol.specs.Replies.{Accepted, Declined, BadSize, BadHost, EpochsSpent, SeqSpent, Stopping, Reply}
 use Rattle.rvm_protocol.specs.Rounds.{Rounds, Last, is_skipped, to_copy, stopped, page_of, newest_numbers, pieces_of}
-use Rattle.rvm_protocol.specs.Staging.{Stage, lacks}
 use Rattle.rvm_protocol.specs.Told.{told, at_start}
 use Rattle.rvm_protocol.specs.World.{mode_at, run, history, new_world}
 use Rattle.rvm_protocol.proofs.PairInvariant.{New, HoldsNone, Content}

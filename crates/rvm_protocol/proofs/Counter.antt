@@ -1,6 +1,6 @@
--- A small guest for the worked examples: it counts its events, and its pages are one number each. An
--- event writes a page or only counts.
-use Rattle.std.proofs.Common.{◌≡◌, ℕ, suc, ◌+◌, Bool, true, false, ◌==◌, List, [], ◌∷◌, length, get_or, set, Option, Some, None, refl, arith, ◌/◌, ◌%◌, ◌*◌, ◌<◌, ap}
+-- A small guest for the worked examples: it counts its events, and its pages are one number each.
+-- An event writes a page or only counts.
+use Rattle.std.proofs.Common.{◌≡◌, ℕ, ◌+◌, Bool, true, false, ◌==◌, List, [], ◌∷◌, length, get_or, set, Option, Some, None, refl, arith, ◌/◌, ◌%◌, ◌*◌, ◌<◌, ap}
 use Rattle.std.proofs.lemmas.Bool.{eqb-true, eqb-false}
 use Rattle.std.proofs.lemmas.List.{length-set, get_or-set_other}
 use Rattle.rvm_protocol.specs.Guest.{Guest}

@@ -6,7 +6,7 @@ use Rattle.rvm_protocol.specs.Frames.{Frame, Offer, Page, RoundEnd, State, Part,
 use Rattle.rvm_protocol.specs.Guest.{Guest}
 use Rattle.rvm_protocol.specs.Modes.{Mode, Empty, Run, Offering, Copying, Stopped, Given, Staging, Held, Outcome, says, refuses}
 use Rattle.rvm_protocol.specs.Obeying.{obey, begin_allowed, copy_page, copy_last, resend_last, state_frame, begun, sends_page, sends_last, part_frame, sends_state}
-use Rattle.rvm_protocol.specs.Pages.{least, listed, put, is_in}
+use Rattle.rvm_protocol.specs.Pages.{least, put, is_in}
 use Rattle.rvm_protocol.specs.Replies.{BadSize, SeqSpent, EpochsSpent, Stopping, Reply}
 use Rattle.rvm_protocol.specs.Rounds.{Rounds, Last, to_copy, stops, is_skipped, opened, page_copied, last_copied, next_round, round_over, stopped, newest_numbers, next_turn, pieces_of}
 use Rattle.rvm_protocol.proofs.PairInvariant.{More, run_beside, copying_beside, Modes, CopiesOk, IsFresh, BesideOk, OfferOk, CopyingOk, TrueState, HeldOk, StoppedOk, Content, TruePiece}

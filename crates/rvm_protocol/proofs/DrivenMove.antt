@@ -1,20 +1,20 @@
 -- A driven move, phase by phase: the opening, a copy of each page, the round's end, the copies' and
 -- its coming, the stop, the state and its coming, the close.
-use Rattle.std.proofs.Common.{◌≡◌, ◌≢◌, ◌⊎◌, inl, inr, ℕ, zero, suc, ◌+◌, ◌-◌, ◌*◌, ◌^◌, ◌/◌, ◌%◌, ◌<◌, ◌≤◌, ◌==◌, nat_lt, nat_le, not, ◌||◌, ◌&&◌, Bool, true, false, if◌then◌else◌, List, [], ◌∷◌, ◌++◌, length, get_or, set, Option, Some, None, refl, sym, ap, ◌∙◌, subst, arith, ext_get_or, add-zero, ne_eqb}
+use Rattle.std.proofs.Common.{◌≡◌, ◌≢◌, ◌⊎◌, inl, inr, ℕ, zero, suc, ◌+◌, ◌-◌, ◌^◌, ◌/◌, ◌%◌, ◌<◌, ◌≤◌, ◌==◌, nat_lt, nat_le, not, ◌||◌, ◌&&◌, Bool, true, false, if◌then◌else◌, List, [], ◌∷◌, ◌++◌, length, get_or, set, Option, Some, None, refl, sym, ap, ◌∙◌, subst, arith, ext_get_or, add-zero, ne_eqb}
 use Rattle.std.specs.Prelude.{slice_get}
-use Rattle.std.proofs.lemmas.Bool.{eq-eqb, ltb-true, ltb-false, lt-ltb, le-ltb, ne_eqb, lt-leb, le-leb, leb-true}
+use Rattle.std.proofs.lemmas.Bool.{eq-eqb, lt-ltb, le-ltb, ne_eqb, lt-leb, leb-true}
 use Rattle.std.proofs.lemmas.List.{length-set, length-replicate, get_or-set_same, get_or-set_other}
 use Rattle.rvm_protocol.specs.Guest.{Guest}
 use Rattle.rvm_protocol.specs.Frames.{Frame, Offer, Accept, Refuse, Page, RoundEnd, State, Part, Ready, Go, Started, Addressed, is_compact, plain, written, read}
 use Rattle.rvm_protocol.specs.Commands.{Policy, is_allowed, Begin, Copy, Do, Came, HostEvent}
-use Rattle.rvm_protocol.specs.Replies.{Reply, Begun, Accepted, Declined, Open, Copied, RoundEnded, Stored, Noted, Kept, Lacking, Stopping, StateSent, PartSent, ReadySent, Committed, StartedHere, Finished, MoveDeclined}
-use Rattle.rvm_protocol.specs.Pages.{Pages, all, none, put, least, size, listed, members, gathered, with_first}
+use Rattle.rvm_protocol.specs.Replies.{Reply, Begun, Accepted, Declined, Open, Copied, RoundEnded, Stored, Noted, Kept, Stopping, StateSent, PartSent, ReadySent, Committed, StartedHere, Finished, MoveDeclined}
+use Rattle.rvm_protocol.specs.Pages.{Pages, none, put, least, size, listed, gathered, with_first}
 use Rattle.rvm_protocol.specs.Rounds.{Rounds, Last, page_count, page_of, is_skipped, opened, next_page, stops, page_copied, next_round, round_over, stopped, to_copy, newest_numbers, pieces_of, next_turn}
 use Rattle.rvm_protocol.specs.Staging.{Stage, new_stage, with_page, lacks, takes_part, with_part}
-use Rattle.rvm_protocol.specs.Modes.{Mode, Empty, Run, Offering, Copying, Stopped, Given, Staging, Held, Outcome, move_of, says, sends, refuses, ignores, guest_in}
-use Rattle.rvm_protocol.specs.Obeying.{begin, begin_allowed, begun, copy, copy_page, sends_page, copy_last, sends_state, state_frame, part_frame}
+use Rattle.rvm_protocol.specs.Modes.{Mode, Empty, Run, Offering, Copying, Stopped, Given, Staging, Held, Outcome, move_of, says, sends, ignores, guest_in}
+use Rattle.rvm_protocol.specs.Obeying.{begin, begin_allowed, begun, copy, copy_page, sends_page, copy_last, state_frame, part_frame}
 use Rattle.rvm_protocol.specs.Receiving.{came, of_this_move, offered, offer_above, page_came, state_came, state_compared, guest_read, pieces_joined, part_kept, part_came}
-use Rattle.rvm_protocol.specs.Host.{Host, Result, is_there, is_heard, host_step, settled}
+use Rattle.rvm_protocol.specs.Host.{Host, is_there, is_heard, host_step, settled}
 use Rattle.rvm_protocol.specs.World.{At, Deliver, Event, World, mode_at, run, new_world, step, happened, meaning}
 use Rattle.rvm_protocol.proofs.PairInvariant.{HoldsNone, Meet, lim}
 use Rattle.rvm_protocol.proofs.Basics.{same_or, some_is, or_left, put_same, put_other, listed_length, listed_at, or_right, is_either}

@@ -2,11 +2,10 @@
 use Rattle.std.proofs.Common.{◌≡◌, ℕ, ◌+◌, ◌*◌, List, [], ◌∷◌, ◌++◌, length, replicate, refl, ◌-◌}
 use Rattle.rvm_protocol.specs.Commands.{Policy, Board, Begin, Copy, Resend, AbortMove, Came}
 use Rattle.rvm_protocol.specs.DrivenMove.{drive, drive_replies, state_frames}
-use Rattle.rvm_protocol.specs.Frames.{Frame, Zero, Page, Part, Offer, Accept, RoundEnd, Ready, Addressed, read}
-use Rattle.rvm_protocol.specs.Guest.{Guest}
+use Rattle.rvm_protocol.specs.Frames.{Frame, Zero, Page, Offer, Accept, RoundEnd}
 use Rattle.rvm_protocol.specs.Modes.{Run, Staging}
 use Rattle.rvm_protocol.specs.Pages.{least, size, listed, members, gathered, is_in}
-use Rattle.rvm_protocol.specs.Replies.{NotHere, Paused, Ignored, BadHost, BadSize, NoFrame, NoMove, Busy, Reply, Answered, Begun, Copied, RoundEnded, Stopping, StateSent, PartSent, Resent, Aborted, Accepted, Declined, Open, MoveDeclined, Stored, Noted, Kept, Lacking, ReadySent, Fixing, Committed, StartedHere, Finished, Dropped, Refused}
+use Rattle.rvm_protocol.specs.Replies.{NotHere, Paused, Ignored, BadHost, BadSize, NoFrame, NoMove, Reply, Answered, Begun, Copied, RoundEnded, Stopping, StateSent, PartSent, Resent, Aborted, Accepted, Declined, Open, MoveDeclined, Stored, Noted, Kept, Lacking, ReadySent, Fixing, Committed, StartedHere, Finished, Dropped, Refused}
 use Rattle.rvm_protocol.specs.World.{World, Event, At, Deliver, mode_at, run, replies, new_world}
 use Rattle.rvm_protocol.proofs.Counter.{Counter, CounterEvent, Tick, Write, counter, split_counter}
 use Rattle.rvm_protocol.specs.Host.{Host, host_step}
@@ -171,8 +170,8 @@ parts_of_an_older_state_are_ignored : told 2 2 4 (opening ++ four ++ copies ∷ 
 unfolding replies least size listed members gathered is_in
 parts_of_an_older_state_are_ignored = refl
 
--- a guest of one page whose state has two parts: frame 2 is its page, then come the round's end, the
--- parts and the reports of what is lost
+-- a guest of one page whose state has two parts: frame 2 is its page, then come the round's end,
+-- the parts and the reports of what is lost
 abbrev told_split : List (Event CounterEvent) → List (Reply ℕ)
 told_split events = replies split_counter (new_world split_counter 2 (fresh 1) 2 (λ x. 4096)) events
 

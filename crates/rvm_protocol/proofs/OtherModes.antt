@@ -1,5 +1,5 @@
 -- The first two parts of the invariant are kept by each event at the other host.
-use Rattle.std.proofs.Common.{◌≡◌, ℕ, suc, ◌<◌, ◌≤◌, ◌&&◌, ◌==◌, nat_lt, List, length, Option, Some, None, arith}
+use Rattle.std.proofs.Common.{◌≡◌, ℕ, suc, ◌<◌, ◌≤◌, ◌&&◌, ◌==◌, nat_lt, List, length, Some, None, arith}
 use Rattle.std.proofs.lemmas.Bool.{ltb-true, eqb-true}
 use Rattle.rvm_protocol.specs.Commands.{Command, Board, Begin, Copy, Resend, AbortMove}
 use Rattle.rvm_protocol.specs.Frames.{Frame, Offer, Accept, Refuse, Page, RoundEnd, Lost, State, Ready, Go, Started, Abort, Part}
@@ -7,7 +7,7 @@ use Rattle.rvm_protocol.specs.Guest.{Guest}
 use Rattle.rvm_protocol.specs.Modes.{Mode, Empty, Run, Offering, Copying, Stopped, Given, Staging, Held, Outcome, ignores, move_of, sends}
 use Rattle.rvm_protocol.specs.Obeying.{obey}
 use Rattle.rvm_protocol.specs.Pages.{size, members}
-use Rattle.rvm_protocol.specs.Receiving.{came, state_compared, guest_read, of_this_move, offered, offer_above}
+use Rattle.rvm_protocol.specs.Receiving.{came, of_this_move, offered, offer_above}
 use Rattle.rvm_protocol.specs.Staging.{Stage, lacks, with_part}
 use Rattle.rvm_protocol.proofs.PairInvariant.{More, lim, go_lim, state_lim, ready_lim, their_ok, Meet, copying_beside, stopped_beside, HoldsNone, Modes}
 use Rattle.rvm_protocol.proofs.CurrentModes.{either, other_to, held_num}

@@ -1,13 +1,14 @@
--- The third part of the invariant is kept by frames that come, at either host, and by commands at the other host.
-use Rattle.std.proofs.Common.{◌≡◌, inl, inr, ℕ, suc, ◌<◌, ◌≤◌, ◌==◌, true, ◌&&◌, nat_lt, List, length, get_or, set, replicate, Option, Some, None, refl, sym, ap, ◌∙◌, subst, arith, ext_get_or, ◌+◌, [], if◌then◌else◌, Bool, ◌||◌, ◌∷◌, add-zero, zero}
+-- The third part of the invariant is kept by frames that come, at either host, and by commands at
+-- the other host.
+use Rattle.std.proofs.Common.{◌≡◌, inl, inr, ℕ, suc, ◌<◌, ◌≤◌, ◌==◌, true, ◌&&◌, nat_lt, List, length, get_or, set, Option, Some, None, refl, sym, ap, ◌∙◌, subst, arith, ext_get_or, ◌+◌, [], if◌then◌else◌, Bool, ◌||◌, ◌∷◌, add-zero, zero}
 use Rattle.std.proofs.lemmas.Bool.{ltb-true, ltb-false, eqb-true}
 use Rattle.std.proofs.lemmas.List.{length-set, length-replicate, get_or-set_same, get_or-set_other}
 use Rattle.rvm_protocol.specs.Frames.{Frame, Offer, Accept, Refuse, Page, RoundEnd, Lost, State, Ready, Go, Started, Abort, Part}
 use Rattle.rvm_protocol.specs.Guest.{Guest}
-use Rattle.rvm_protocol.specs.Modes.{Mode, Empty, Run, Offering, Copying, Stopped, Given, Staging, Held, Outcome, ignores, says, sends, refuses, move_of, guest_in}
-use Rattle.rvm_protocol.specs.Pages.{size, put, members, gathered, with_first}
-use Rattle.rvm_protocol.specs.Receiving.{came, offered, offer_above, state_compared, guest_read, of_this_move}
-use Rattle.rvm_protocol.specs.Replies.{Reply, Committed, Accepted, Declined, Lacking, Stored, BadState}
+use Rattle.rvm_protocol.specs.Modes.{Mode, Empty, Run, Offering, Copying, Stopped, Given, Staging, Held, Outcome, ignores, says, sends, move_of, guest_in}
+use Rattle.rvm_protocol.specs.Pages.{size, put, gathered, with_first}
+use Rattle.rvm_protocol.specs.Receiving.{came, offered, offer_above, of_this_move}
+use Rattle.rvm_protocol.specs.Replies.{Reply, Committed, Accepted, Declined, Stored}
 use Rattle.rvm_protocol.specs.Rounds.{Rounds, Last}
 use Rattle.rvm_protocol.specs.Staging.{Stage, lacks, new_stage, with_page, takes_part, with_part}
 use Rattle.rvm_protocol.proofs.PairInvariant.{More, Modes, StageOk, BesideOk, CopyingOk, TrueState, HeldOk, StoppedOk, Content}

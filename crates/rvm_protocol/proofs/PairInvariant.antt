@@ -1,6 +1,6 @@
--- The invariant of the current host and one other: O is the mode of the first, T that of the other, F
--- the frames that the first ever sent to the other, as they are read, R those that came back. It has
--- three parts: which modes may meet, the move numbers of frames, and the pages.
+-- The invariant of the current host and one other: O is the mode of the first, T that of the other,
+-- F the frames that the first ever sent to the other, as they are read, R those that came back. It
+-- has three parts: which modes may meet, the move numbers of frames, and the pages.
 use Rattle.std.proofs.Common.{◌≡◌, ◌⊎◌, ℕ, suc, ◌<◌, ◌≤◌, true, List, length, get_or, Option, Some, None, ◌^◌, []}
 use Rattle.rvm_protocol.specs.Frames.{Frame, Offer, Accept, Refuse, Page, RoundEnd, Lost, State, Ready, Go, Started, Abort, Part, Zero}
 use Rattle.rvm_protocol.specs.Guest.{Guest}

@@ -1,5 +1,5 @@
 -- Two hosts of a world and the frames sent, and what lists of events at these two make of them.
-use Rattle.std.proofs.Common.{◌≡◌, ◌≢◌, ℕ, nat_lt, Bool, true, false, if◌then◌else◌, List, [], ◌∷◌, ◌++◌, Option, Some, refl, sym, ap, ◌∙◌, subst}
+use Rattle.std.proofs.Common.{◌≡◌, ◌≢◌, ℕ, nat_lt, Bool, true, false, if◌then◌else◌, List, [], ◌∷◌, ◌++◌, Some, refl, sym, ap, ◌∙◌, subst}
 use Rattle.std.specs.Prelude.{slice_get}
 use Rattle.rvm_protocol.specs.Commands.{Command, HostEvent, Do, Came}
 use Rattle.rvm_protocol.specs.Frames.{Frame, Addressed}

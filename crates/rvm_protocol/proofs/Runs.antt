@@ -1,5 +1,5 @@
--- The invariant is kept by each event of a world, so it holds in whole runs; from it follow the law of
--- the one guest and that of stale pages.
+-- The invariant is kept by each event of a world, so it holds in whole runs; from it follow the law
+-- of the one guest and that of stale pages.
 use Rattle.std.proofs.Common.{◌≡◌, ◌≢◌, ◌⊎◌, inl, inr, ℕ, zero, suc, ◌<◌, ◌≤◌, ◌==◌, ◌-◌, ◌^◌, nat_lt, not, ◌||◌, Bool, true, false, ◌&&◌, if◌then◌else◌, List, [], ◌∷◌, ◌++◌, length, Option, Some, None, refl, sym, ap, ◌∙◌, subst, arith, get_or}
 use Rattle.std.specs.Prelude.{slice_get}
 use Rattle.std.proofs.lemmas.Bool.{ltb-true, eqb-true, eq-eqb, ne_eqb}
@@ -12,11 +12,10 @@ use Rattle.rvm_protocol.specs.Modes.{Mode, Empty, Run, Offering, Copying, Stoppe
 use Rattle.rvm_protocol.specs.NeverMoving.{is_answer, accepted_here, answered_here, accepted, answered, fold, fold_answers}
 use Rattle.rvm_protocol.specs.Obeying.{obey, board, begin, begin_allowed, begun}
 use Rattle.rvm_protocol.specs.OneGuest.{AlwaysOneGuest, OneGuest, OneGuestFromAnyWorld}
-use Rattle.rvm_protocol.specs.Pages.{put, size}
-use Rattle.rvm_protocol.specs.Receiving.{came, state_compared, guest_read, of_this_move, offered, offer_above}
-use Rattle.rvm_protocol.specs.Replies.{Reply, Committed, Answered, Accepted, Declined, BadState, BadSize, EpochsSpent, Refused, Paused, NotHere, BadHost, Ignored, NoFrame, Busy}
+use Rattle.rvm_protocol.specs.Pages.{put}
+use Rattle.rvm_protocol.specs.Receiving.{came, of_this_move, offered, offer_above}
+use Rattle.rvm_protocol.specs.Replies.{Reply, Committed, Answered, Accepted, Declined, BadSize, EpochsSpent, Refused, Paused, NotHere, BadHost, Ignored, NoFrame, Busy}
 use Rattle.rvm_protocol.specs.Rounds.{Last, page_of}
-use Rattle.rvm_protocol.specs.Staging.{Stage, lacks}
 use Rattle.rvm_protocol.specs.Told.{Told, reply_guest, told, told_reply, at_start, due}
 use Rattle.rvm_protocol.specs.World.{World, Event, At, Deliver, Entry, mode_at, and_sent, world_at, result_at, happened, entry_of, meaning, frame_for, reply_to, reply_or, run, history, new_host, new_world, step, Has}
 use Rattle.rvm_protocol.proofs.PairInvariant.{More, New, lim, own_ok, their_ok, Meet, HoldsNone, Modes, CopiesOk, IsFresh, Content, held_beside}
@@ -349,7 +348,8 @@ module _ {S P E A B : Type 0} (m : Guest S P E A B) where
   abbrev Behind : Mode S P → S → Mode S P → Outcome S P A B → Type 0
   Behind O g X o = (j : ℕ) → lim O ≡ suc j → Modes (Run j g) o.next (own_ok {B = B} (Run j g) X) (More (their_ok (Run j g) X) o.made)
 
-  -- an event at a host that is behind, with no frame between it, as the partner, and the current one: as beside a host in Run
+  -- an event at a host that is behind, with no frame between it, as the partner, and the current
+  -- one: as beside a host in Run
   behind_good : (hc hd : Host S P) (H : ℕ → Host S P) (sent : List (Addressed P B)) (c d : ℕ) (t : Told S) (x z p' : ℕ) (e : HostEvent P E B) (o : Outcome S P A B) → Good m hc hd H sent c d t → x ≢ c → move_of (H x).mode < lim hc.mode → (x ≡ d → z ≢ c)
       → Behind hc.mode t.guest (H x).mode o → TellsOther m e (H x).mode o → New (go_ok (reach H c hc.mode z)) o.made → GivenOk (reach H c hc.mode p') o.next
       → After H sent t x z p' e o
@@ -391,7 +391,8 @@ module _ {S P E A B : Type 0} (m : Guest S P E A B) where
         from = λ f h. elim (more_cases (from_ok X) o.made f h) [ inl a ↦ from f a | inr q ↦ their_from (Run j g) X' f (w.their f (more_new (their_ok (Run j g) X) o.made f q)) ];
       }))
 
-  -- an event at the partner, with a frame of the current host or a command, and a frame to the current host
+  -- an event at the partner, with a frame of the current host or a command, and a frame to the
+  -- current host
   beside_good : (hc hd : Host S P) (H : ℕ → Host S P) (sent : List (Addressed P B)) (c d : ℕ) (t : Told S) (p' : ℕ) (e : HostEvent P E B) (o : Outcome S P A B) → Good m hc hd H sent c d t → Modes hc.mode o.next (own_ok hc.mode hd.mode) (More (their_ok hc.mode hd.mode) o.made) → Content m hc.mode o.next (Made sent c d)
       → TellsOther m e hd.mode o → (move_of o.next < lim hc.mode) ⊎ (p' ≡ c) → GivenOk (reach H c hc.mode p') o.next
       → After H sent t d c p' e o

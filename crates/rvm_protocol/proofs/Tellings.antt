@@ -6,11 +6,10 @@ use Rattle.rvm_protocol.specs.Frames.{Frame, Offer, Accept, Refuse, Page, RoundE
 use Rattle.rvm_protocol.specs.Guest.{Guest}
 use Rattle.rvm_protocol.specs.Modes.{Mode, Empty, Run, Offering, Copying, Stopped, Given, Staging, Held, Outcome, ignores, says, sends, refuses, move_of, guest_in}
 use Rattle.rvm_protocol.specs.Obeying.{obey, begun, begin_allowed, copy_page, sends_page, copy_last, sends_last, resend_last}
-use Rattle.rvm_protocol.specs.Pages.{size, least}
-use Rattle.rvm_protocol.specs.Receiving.{came, offered, offer_above, state_compared, guest_read, of_this_move}
-use Rattle.rvm_protocol.specs.Replies.{Reply, Committed, Accepted, BadState, Stopping, SeqSpent, EpochsSpent, BadSize}
+use Rattle.rvm_protocol.specs.Pages.{least}
+use Rattle.rvm_protocol.specs.Receiving.{came, offered, offer_above, of_this_move}
+use Rattle.rvm_protocol.specs.Replies.{Reply, Committed, Accepted, Stopping, SeqSpent, EpochsSpent, BadSize}
 use Rattle.rvm_protocol.specs.Rounds.{Rounds, Last, is_skipped, to_copy, stopped, stops, round_over, next_round}
-use Rattle.rvm_protocol.specs.Staging.{Stage, lacks}
 use Rattle.rvm_protocol.specs.Told.{reply_current, reply_targets, reply_paused, reply_waits, reply_guest}
 use Rattle.rvm_protocol.proofs.PairInvariant.{Meet, Modes}
 use Rattle.rvm_protocol.proofs.CurrentModes.{either, held_num}

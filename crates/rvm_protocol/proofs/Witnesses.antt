@@ -1,7 +1,8 @@
--- Runs that tell the definitions from wrong ones, each named by what would be wrong. In each of them
--- the guest at the current host is the one that never moved, and one host at most would answer it.
+-- Runs that tell the definitions from wrong ones, each named by what would be wrong. In each of
+-- them the guest at the current host is the one that never moved, and one host at most would answer
+-- it.
 use Rattle.std.proofs.Common.{◌≡◌, ℕ, ◌==◌, ◌&&◌, Bool, true, false, List, [], ◌∷◌, Option, Some, None, refl}
-use Rattle.rvm_protocol.specs.Commands.{Policy, Board, Begin, Copy, AbortMove}
+use Rattle.rvm_protocol.specs.Commands.{Board, Begin, Copy, AbortMove}
 use Rattle.rvm_protocol.specs.Guest.{Guest}
 use Rattle.rvm_protocol.specs.Modes.{guest_in}
 use Rattle.rvm_protocol.specs.NeverMoving.{accepted, fold, is_answer}

@@ -1,5 +1,6 @@
--- The invariant of a world: one host is current, and it and its partner are as if they were alone; the
--- others are behind, and so are all frames that are not between these two. What an event keeps of it.
+-- The invariant of a world: one host is current, and it and its partner are as if they were alone;
+-- the others are behind, and so are all frames that are not between these two. What an event keeps
+-- of it.
 use Rattle.std.proofs.Common.{◌≡◌, ◌≢◌, ◌⊎◌, inl, inr, ⊎_elim, ℕ, suc, ◌<◌, ◌≤◌, ◌==◌, true, false, if◌then◌else◌, List, [], ◌∷◌, ◌++◌, Option, Some, None, refl, sym, ap, ◌∙◌, subst, arith}
 use Rattle.rvm_protocol.specs.Commands.{Board, HostEvent, Do, Came}
 use Rattle.rvm_protocol.specs.Frames.{Frame, Go, Abort, Addressed, posted}
@@ -98,7 +99,8 @@ module _ {S P : Type 0} where
   reach_there H c O y n = put_other (λ z. move_of (H z).mode) c y (go_lim O) n
 
 module _ {S P E A B : Type 0} (m : Guest S P E A B) where
-  -- c is current and hc its mode; d, with hd, is its partner, or any other host where the current one is in Run
+  -- c is current and hc its mode; d, with hd, is its partner, or any other host where the current
+  -- one is in Run
   pub record Good (hc hd : Host S P) (H : ℕ → Host S P) (sent : List (Addressed P B)) (c d : ℕ) (t : Told S) : Type 0 where
     pub current : t.current ≡ c
     pub apart : d ≢ c

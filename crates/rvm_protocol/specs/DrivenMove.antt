@@ -11,9 +11,9 @@ use Rattle.rvm_protocol.specs.Host.{is_there}
 use Rattle.rvm_protocol.specs.World.{World, Event, At, Deliver, mode_at, run, replies, new_world}
 
 module _ {E : Type 0} where
-  -- the events that move n pages and a state of s frames, where k frames were sent before: the offer
-  -- and its answer; a copy of each page and the round's end, and these frames; the stop; the state,
-  -- and its frames; Ready, Go and Started
+  -- the events that move n pages and a state of s frames, where k frames were sent before: the
+  -- offer and its answer; a copy of each page and the round's end, and these frames; the stop; the
+  -- state, and its frames; Ready, Go and Started
   abbrev pub drive : (from to : ℕ) → Policy → (k n s : ℕ) → List (Event E)
   drive from to policy k n s =
       At from (Begin to policy) ∷ Deliver k ∷ Deliver (k + 1) ∷ []

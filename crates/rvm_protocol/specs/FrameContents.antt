@@ -31,4 +31,5 @@ module _ {S P E A B : Type 0} (m : Guest S P E A B) where
       (e : HostEvent P E B) (a : Addressed P B) → m.valid g ≡ true
       → meaning m (run m (new_world m version g count limits) events) ev ≡ Some (x, e)
       → (result_at m (run m (new_world m version g count limits) events) x e).made ≡ Some a
-      → Carries (fold m g (accepted (history m (new_world m version g count limits) events))) a.frame
+      → Carries (fold m g (accepted (history m (new_world m version g count limits) events)))
+      a.frame

@@ -1,6 +1,6 @@
 -- The stale-page law: no page of the source is forgotten, and a state names only copies that equal
--- the paused pages. A Zero is read as the Page that it stands for, and a state that is sent in pieces
--- is what the pieces of one stamp join to.
+-- the paused pages. A Zero is read as the Page that it stands for, and a state that is sent in
+-- pieces is what the pieces of one stamp join to.
 use Rattle.std.specs.Prelude.{◌≡◌, ◌⊎◌, ◌<◌, ◌≤◌, ℕ, true, List, [], length, get_or}
 use Rattle.std.specs.declared.option.Option.TheVariants.{Some}
 use Rattle.rvm_protocol.specs.Guest.{Guest}
@@ -10,7 +10,8 @@ use Rattle.rvm_protocol.specs.Modes.{Mode, Copying, Stopped}
 use Rattle.rvm_protocol.specs.World.{Event, mode_at, run, new_world, Has}
 
 -- the newest copy of page p in move n that host x ever sent has the bytes y
-pub record NewestCopy {P B : Type 0} (sent : List (Addressed P B)) (x n p : ℕ) (y : P) : Type 0 where
+pub record NewestCopy {P B : Type 0} (sent : List (Addressed P B)) (x n p : ℕ) (y : P)
+    : Type 0 where
   pub number : ℕ
   pub to : ℕ
   pub was_sent : Has sent (record { from = x; to = to; frame = Page n p number y })
@@ -66,6 +67,7 @@ module _ {S P E A B : Type 0} (m : Guest S P E A B) where
   -- at each host after any events from a new world
   unfoldable pub NoStalePage : Type 0
   NoStalePage =
-      (g : S) (version count : ℕ) (limits : ℕ → ℕ) (events : List (Event E)) (x : ℕ) → m.valid g ≡ true
+      (g : S) (version count : ℕ) (limits : ℕ → ℕ) (events : List (Event E)) (x : ℕ)
+      → m.valid g ≡ true
       → CopiesAreFresh (read m (run m (new_world m version g count limits) events).sent) x
       (mode_at m (run m (new_world m version g count limits) events) x)

@@ -1,6 +1,6 @@
 -- A guest: any machine that answers events one after the other and says which pages of its memory
--- each of them wrote. Live migration knows no more of it (Clark, Fraser, Hand, Hansen, Jul, Limpach,
--- Pratt, Warfield: Live Migration of Virtual Machines, NSDI 2005).
+-- each of them wrote. Live migration knows no more of it (Clark, Fraser, Hand, Hansen, Jul,
+-- Limpach, Pratt, Warfield: Live Migration of Virtual Machines, NSDI 2005).
 use Rattle.std.specs.Prelude.{◌≡◌, ℕ, ◌^◌, ◌<◌, Bool, true, false, List, length, get_or}
 use Rattle.std.specs.declared.option.Option.{Option}
 use Rattle.std.specs.declared.option.Option.TheVariants.{Some}

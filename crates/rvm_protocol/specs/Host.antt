@@ -71,8 +71,8 @@ module _ {S P E A B : Type 0} (m : Guest S P E A B) where
         next = record { mode = o.next; partner = p };
       }
 
-  -- one event at a host that is called self in a world of count hosts, takes guests of at most limit
-  -- pages and writes frames of this stream version
+  -- one event at a host that is called self in a world of count hosts, takes guests of at most
+  -- limit pages and writes frames of this stream version
   abbrev pub host_step : (version self count limit : ℕ) → HostEvent P E B → Host S P
       → Result S P A B
   host_step version self count limit e h =

@@ -11,8 +11,8 @@ use Rattle.rvm_protocol.specs.Shown.{Shown}
 use Rattle.rvm_protocol.specs.NeverMoving.{is_answer, accepted, answered, fold, fold_answers}
 
 module _ {S P E A B : Type 0} (m : Guest S P E A B) where
-  -- the law of one run: what is known at its beginning is t, w is the world where it ends, past what
-  -- was seen of it
+  -- the law of one run: what is known at its beginning is t, w is the world where it ends, past
+  -- what was seen of it
   pub record OneGuest (t : Told S) (w : World S P B) (past : List (Entry P E A B)) : Type 0 where
     -- the guest at the current host, which the replies alone name, is the one that never moves
     pub board : guest_in (mode_at m w (told m t past).current)
@@ -26,7 +26,8 @@ module _ {S P E A B : Type 0} (m : Guest S P E A B) where
     pub one_host : (x y : ℕ) (e f : E) → x ≢ y
         → (is_answer (reply_to m w (At x (Board e)))
         && is_answer (reply_to m w (At y (Board f)))) ≡ false
-    -- where the next event commits, the guest held at that move's target is the one that never moves
+    -- where the next event commits, the guest held at that move's target is the one that never
+    -- moves
     pub hands_over : (ev : Event E) (n : ℕ) → reply_to m w ev ≡ Committed n
         → guest_in (mode_at m (step m w ev) ((told m t past).targets n))
         ≡ Some (fold m t.guest (accepted past))

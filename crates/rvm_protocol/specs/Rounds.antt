@@ -144,4 +144,7 @@ module _ {S P E A B : Type 0} (m : Guest S P E A B) where
 
   -- a piece was sent: the next one is due, the first again after the last
   abbrev pub next_turn : Last S → Last S
-  next_turn l = record l { turn = if nat_lt (suc l.turn) (length (pieces_of l)) then suc l.turn else 0 }
+  next_turn l =
+      record l {
+        turn = if nat_lt (suc l.turn) (length (pieces_of l)) then suc l.turn else 0;
+      }

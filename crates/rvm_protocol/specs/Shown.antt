@@ -1,8 +1,8 @@
--- What the modes of a world show, whatever led to it: where the guest is, whether it is paused, which
--- hosts wait, and the target of the move that goes on.
+-- What the modes of a world show, whatever led to it: where the guest is, whether it is paused,
+-- which hosts wait, and the target of the move that goes on.
 use Rattle.std.specs.Prelude.{◌≡◌, ℕ, Bool, true, false}
 use Rattle.std.specs.declared.option.Option.TheVariants.{Some}
-use Rattle.rvm_protocol.specs.Modes.{Mode, Empty, Run, Offering, Copying, Stopped, Given, Staging, Held, guest_in}
+use Rattle.rvm_protocol.specs.Modes.{Mode, Run, Offering, Copying, Stopped, Given, Held, guest_in}
 use Rattle.rvm_protocol.specs.Host.{Host}
 use Rattle.rvm_protocol.specs.Told.{Told}
 

@@ -11,8 +11,8 @@ ghost use Rattle.rvm_protocol.specs.OneGuest.{AlwaysOneGuest, OneGuestFromAnyWor
 /// For every list of events over the hosts of a world, with frames lost, repeated and reordered:
 /// the guest at the current host, and each answer it gave, are those of one guest that never moves;
 /// its events are answered or refused as the replies tell; a commit hands over exactly that guest;
-/// and never would two hosts answer one. So from a new world, and from any later one by what its modes
-/// show.
+/// and never would two hosts answer one. So from a new world, and from any later one by what its
+/// modes show.
 pub fn the_guest_is_the_one_that_never_moves<S, P, E, A, B>()
     ensures always { (m : Guest S P E A B) → AlwaysOneGuest m }
     ensures from_any_world { (m : Guest S P E A B) → OneGuestFromAnyWorld m }
@@ -41,9 +41,9 @@ pub fn copies_are_bounded<S, P, E, A, B>()
 {}
 
 /// From a world of any run, a driven move of a guest of n pages to another host that takes it is
-/// answered as planned, the last two times by Started and Finished, and the guest stands unchanged at
-/// its target. It has 2 n + 11 events, and where its state is sent in parts 2 n + 9 and two for each
-/// part. A host that takes fewer pages declines it, and the guest runs on at its source.
+/// answered as planned, the last two times by Started and Finished, and the guest stands unchanged
+/// at its target. It has 2 n + 11 events, and where its state is sent in parts 2 n + 9 and two for
+/// each part. A host that takes fewer pages declines it, and the guest runs on at its source.
 pub fn a_driven_move_arrives<S, P, E, A, B>()
     ensures always { (m : Guest S P E A B) → ADrivenMoveArrives m }
     ensures declined { (m : Guest S P E A B) → ATooLargeGuestIsDeclined m }
