@@ -84,7 +84,8 @@ module _ {S P B : Type 0} where
   their_go O T (Go k) h = h
   their_go O T f h = tt
 
-  pub past_own : (e : ℕ) (g : S) (T : Mode S P) (f : Frame P B) → past_ok (suc e) f → go_ok (move_of T) f → own_ok (Run e g) T f
+  pub past_own : (e : ℕ) (g : S) (T : Mode S P) (f : Frame P B) → past_ok (suc e) f
+      → go_ok (move_of T) f → own_ok (Run e g) T f
   past_own e g T (Go k) h q = q
   past_own e g T (Offer k a b) h q = h
   past_own e g T (Accept k) h q = h
@@ -99,7 +100,8 @@ module _ {S P B : Type 0} where
   past_own e g T (Started k) h q = h
   past_own e g T (Abort k) h q = h
 
-  pub own_past : (e : ℕ) (g : S) (T : Mode S P) (f : Frame P B) → move_of T < suc e → own_ok (Run e g) T f → past_ok (suc e) f
+  pub own_past : (e : ℕ) (g : S) (T : Mode S P) (f : Frame P B) → move_of T < suc e
+      → own_ok (Run e g) T f → past_ok (suc e) f
   own_past e g T (Go k) lt h = omega arith
   own_past e g T (Offer k a b) lt h = h
   own_past e g T (Accept k) lt h = h
@@ -114,7 +116,8 @@ module _ {S P B : Type 0} where
   own_past e g T (Started k) lt h = h
   own_past e g T (Abort k) lt h = h
 
-  pub their_past : (e : ℕ) (g : S) (T : Mode S P) (f : Frame P B) → move_of T < suc e → ready_lim T ≤ suc (move_of T) → their_ok (Run e g) T f → past_ok (suc e) f
+  pub their_past : (e : ℕ) (g : S) (T : Mode S P) (f : Frame P B) → move_of T < suc e
+      → ready_lim T ≤ suc (move_of T) → their_ok (Run e g) T f → past_ok (suc e) f
   their_past e g T (Go k) lt le h = h
   their_past e g T (Offer k a b) lt le h = omega arith
   their_past e g T (Accept k) lt le h = omega arith
@@ -144,7 +147,8 @@ module _ {S P B : Type 0} where
   their_from O T (Started k) h = h
   their_from O T (Abort k) h = h
 
-  pub from_their : (O T : Mode S P) (f : Frame P B) → from_ok T f → go_ok (go_lim O) f → their_ok O T f
+  pub from_their : (O T : Mode S P) (f : Frame P B) → from_ok T f → go_ok (go_lim O) f
+      → their_ok O T f
   from_their O T (Go k) h q = q
   from_their O T (Offer k a b) h q = h
   from_their O T (Accept k) h q = h
@@ -160,7 +164,8 @@ module _ {S P B : Type 0} where
   from_their O T (Abort k) h q = h
 
   -- with the largest sets of frames: what is kept of their_ok is kept of from_ok
-  pub from_up : (O T T' : Mode S P) → ((f : Frame P B) → their_ok O T f → their_ok O T' f) → (f : Frame P B) → from_ok T f → from_ok T' f
+  pub from_up : (O T T' : Mode S P) → ((f : Frame P B) → their_ok O T f → their_ok O T' f)
+      → (f : Frame P B) → from_ok T f → from_ok T' f
   from_up O T T' up (Go k) h = tt
   from_up O T T' up (Offer k a b) h = up (Offer k a b) h
   from_up O T T' up (Accept k) h = up (Accept k) h
@@ -176,7 +181,8 @@ module _ {S P B : Type 0} where
   from_up O T T' up (Abort k) h = up (Abort k) h
 
   -- own_ok only grows with the other's number
-  pub own_up : (O T T' : Mode S P) → move_of T ≤ move_of T' → (f : Frame P B) → own_ok O T f → own_ok O T' f
+  pub own_up : (O T T' : Mode S P) → move_of T ≤ move_of T' → (f : Frame P B) → own_ok O T f
+      → own_ok O T' f
   own_up O T T' le (Go k) h = omega arith
   own_up O T T' le (Offer k a b) h = h
   own_up O T T' le (Accept k) h = h
@@ -192,7 +198,8 @@ module _ {S P B : Type 0} where
   own_up O T T' le (Abort k) h = h
 
   -- after a commit
-  pub given_from : (n : ℕ) (X : Mode S P) → held_beside n X → (f : Frame P B) → past_ok n f → from_ok X f
+  pub given_from : (n : ℕ) (X : Mode S P) → held_beside n X → (f : Frame P B) → past_ok n f
+      → from_ok X f
   given_from n (Given k) h (Go j) q = tt
   given_from n (Given k) h (Offer j a b) q = omega arith
   given_from n (Given k) h (Accept j) q = omega arith
@@ -229,7 +236,9 @@ module _ {S P : Type 0} where
   ready_num (Staging n s) = omega arith
   ready_num (Held n g) = omega arith
 
-  pub lim_num : (X : Mode S P) → (move_of X ≤ lim X) × (lim X ≤ suc (move_of X)) × (move_of X ≤ go_lim X) × (lim X ≤ go_lim X)
+  pub lim_num : (X : Mode S P)
+      → (move_of X ≤ lim X) × (lim X ≤ suc (move_of X)) × (move_of X ≤ go_lim X) ×
+      (lim X ≤ go_lim X)
   lim_num (Empty n) = (omega arith, omega arith, omega arith, omega arith)
   lim_num (Run n g) = (omega arith, omega arith, omega arith, omega arith)
   lim_num (Offering n g p) = (omega arith, omega arith, omega arith, omega arith)
@@ -269,12 +278,16 @@ module _ {S P : Type 0} where
   offering_apart e (Copying n r) h lt = h
   offering_apart e (Stopped n l) h lt = h
 
-  pub meets_apart : (O T X : Mode S P) → Meet O T → move_of T < lim O → HoldsNone X → move_of X < lim O → Meet O X
+  pub meets_apart : (O T X : Mode S P) → Meet O T → move_of T < lim O → HoldsNone X
+      → move_of X < lim O → Meet O X
   meets_apart (Run e g) T X i lt h le = run_apart e X h le
   meets_apart (Offering e g p) T X i lt h le = offering_apart e X h le
-  meets_apart (Copying e r) T X i lt h le = let q : move_of T ≡ e = copying_num e T i in absurd (omega arith)
-  meets_apart (Stopped e l) T X i lt h le = let q : move_of T ≡ e = stopped_num e T i in absurd (omega arith)
-  meets_apart (Held e g) T X i lt h le = let q : move_of T ≡ e = held_num e T i in absurd (omega arith)
+  meets_apart (Copying e r) T X i lt h le =
+      let q : move_of T ≡ e = copying_num e T i in absurd (omega arith)
+  meets_apart (Stopped e l) T X i lt h le =
+      let q : move_of T ≡ e = stopped_num e T i in absurd (omega arith)
+  meets_apart (Held e g) T X i lt h le =
+      let q : move_of T ≡ e = held_num e T i in absurd (omega arith)
   meets_apart (Empty e) T X i lt h le = absurd i
   meets_apart (Given e) T X i lt h le = absurd i
   meets_apart (Staging e s) T X i lt h le = absurd i
@@ -331,10 +344,23 @@ module _ {S P : Type 0} where
     pub runs : is_run T ≡ false
     pub target : (ts : ℕ → ℕ) (d : ℕ) → IsTarget ts d T
 
-  turn_held : (n : ℕ) (l : _) (T X : Mode S P) → Meet (Stopped n l) T → Meet T X → Turn (Stopped n l) T X
+  turn_held : (n : ℕ) (l : _) (T X : Mode S P) → Meet (Stopped n l) T → Meet T X
+      → Turn (Stopped n l) T X
   turn_held n l (Held k g) X a b =
       let q : move_of X ≡ k = held_num k X b in
-      record { there = a; now = a; left = omega arith; reached = refl; more = omega arith; beside = subst (λ z. held_beside z X) a b; given = given_held k X b; runs = refl; target = λ ts d. tt }
+      record {
+        there = a;
+        now = a;
+        left = omega arith;
+        reached = refl;
+        more = omega arith;
+        beside =
+            subst (λ z. held_beside z X) a b;
+        given =
+            given_held k X b;
+        runs = refl;
+        target = λ ts d. tt;
+      }
   turn_held n l (Empty k) X a b = absurd a
   turn_held n l (Run k g) X a b = absurd a
   turn_held n l (Offering k g p) X a b = absurd a
@@ -354,7 +380,8 @@ module _ {S P : Type 0} where
   turn (Held n g) T X h a b = cc
 
 module _ {S P E A B : Type 0} (m : Guest S P E A B) where
-  beside_apart : (e c h : ℕ) (F : Frame P B → Type 0) (X : Mode S P) → move_of X < e → BesideOk m e c h F X
+  beside_apart : (e c h : ℕ) (F : Frame P B → Type 0) (X : Mode S P) → move_of X < e
+      → BesideOk m e c h F X
   beside_apart e c h F (Staging n s) lt = λ same. absurd (omega arith)
   beside_apart e c h F (Empty n) lt = tt
   beside_apart e c h F (Run n g) lt = tt
@@ -364,11 +391,14 @@ module _ {S P E A B : Type 0} (m : Guest S P E A B) where
   beside_apart e c h F (Given n) lt = tt
   beside_apart e c h F (Held n g) lt = tt
 
-  pub content_apart : (O T X : Mode S P) (F : Frame P B → Type 0) → Meet O T → move_of T < lim O → move_of X < lim O → Content m O T F → Content m O X F
+  pub content_apart : (O T X : Mode S P) (F : Frame P B → Type 0) → Meet O T → move_of T < lim O
+      → move_of X < lim O → Content m O T F → Content m O X F
   content_apart (Run e g) T X F i lt le ok = tt
   content_apart (Offering e g p) T X F i lt le ok = (ok.0, beside_apart e _ _ F X le)
-  content_apart (Copying e r) T X F i lt le ok = let q : move_of T ≡ e = copying_num e T i in absurd (omega arith)
-  content_apart (Stopped e l) T X F i lt le ok = let q : move_of T ≡ e = stopped_num e T i in absurd (omega arith)
+  content_apart (Copying e r) T X F i lt le ok =
+      let q : move_of T ≡ e = copying_num e T i in absurd (omega arith)
+  content_apart (Stopped e l) T X F i lt le ok =
+      let q : move_of T ≡ e = stopped_num e T i in absurd (omega arith)
   content_apart (Held e g) T X F i lt le ok = tt
   content_apart (Empty e) T X F i lt le ok = tt
   content_apart (Given e) T X F i lt le ok = tt

@@ -29,29 +29,39 @@ module _ {S P E A B : Type 0} (m : Guest S P E A B) (g : S) where
   abbrev pub Carried : Outcome S P A B → Type 0
   Carried o = New (Carries m g) o.made
 
-  carry_equal : (n k : ℕ) (o : Outcome S P A B) (X : Mode S P) → Carried o → Carried (of_this_move m n k o X)
+  carry_equal : (n k : ℕ) (o : Outcome S P A B) (X : Mode S P) → Carried o
+      → Carried (of_this_move m n k o X)
   carry_equal n k o X h = either Carried (n == k) o (ignores X) (λ _. h) (λ _. tt)
 
   carry_above : (limit s k a b : ℕ) (X : Mode S P) → Carried (offer_above m s limit k a b X)
   carry_above limit s k a b X =
       either Carried (nat_lt s k) (offered m limit k a b X) (ignores X)
-      (λ _. either Carried (nat_lt limit a) (sends (Declined limit) (Refuse k limit) X) (sends Accepted (Accept k) (Staging k _)) (λ _. tt) (λ _. tt))
+      (λ _. either Carried (nat_lt limit a) (sends (Declined limit) (Refuse k limit) X)
+      (sends Accepted (Accept k) (Staging k _)) (λ _. tt) (λ _. tt))
       (λ _. tt)
 
   carry_came : (limit : ℕ) (f : Frame P B) (X : Mode S P) → Carried (came m limit f X)
   carry_came limit (Offer k a b) (Empty n) = carry_above limit n k a b (Empty n)
   carry_came limit (Offer k a b) (Given n) = carry_above limit n k a b (Given n)
   carry_came limit (Offer k a b) (Held n q) = carry_above limit n k a b (Held n q)
-  carry_came limit (Offer k a b) (Staging n s) = either Carried (n == k) (sends Accepted (Accept n) (Staging n s)) (offer_above m n limit k a b (Staging n s)) (λ _. tt) (λ _. carry_above limit n k a b (Staging n s))
+  carry_came limit (Offer k a b) (Staging n s) =
+      either Carried (n == k) (sends Accepted (Accept n) (Staging n s))
+      (offer_above m n limit k a b (Staging n s)) (λ _. tt)
+      (λ _. carry_above limit n k a b (Staging n s))
   carry_came limit (Accept k) (Offering n q p) = carry_equal n k _ (Offering n q p) tt
   carry_came limit (Refuse k a) (Offering n q p) = carry_equal n k _ (Offering n q p) tt
-  carry_came limit (Page k i c b) (Staging n s) = carry_equal n k _ (Staging n s) (either Carried (nat_lt i (length s.pages) && nat_lt (s.have i) c) _ (ignores (Staging n s)) (λ _. tt) (λ _. tt))
+  carry_came limit (Page k i c b) (Staging n s) =
+      carry_equal n k _ (Staging n s)
+      (either Carried (nat_lt i (length s.pages) && nat_lt (s.have i) c) _ (ignores (Staging n s))
+      (λ _. tt) (λ _. tt))
   carry_came limit (RoundEnd k a b c d) (Staging n s) = carry_equal n k _ (Staging n s) tt
   carry_came limit (State k ns b) (Staging n s) =
       carry_equal n k _ (Staging n s)
       (state_cases m Carried n s s ns b tt tt (λ q _ _. tt))
   carry_came limit (Part k st i u x) (Staging n s) =
-      carry_equal n k _ (Staging n s) (part_cases m Carried n s st i u x tt tt (λ _. tt) (λ _ ns. tt) (λ _ xs ns b q _ _ _ _. tt))
+      carry_equal n k _ (Staging n s)
+      (part_cases m Carried n s st i u x tt tt (λ _. tt) (λ _ ns. tt)
+      (λ _ xs ns b q _ _ _ _. tt))
   carry_came limit (Part k st i u x) (Held n q) = carry_equal n k _ (Held n q) tt
   carry_came limit (State k ns b) (Held n q) = carry_equal n k _ (Held n q) tt
   carry_came limit (Lost k ps) (Stopped n l) = carry_equal n k _ (Stopped n l) tt
@@ -64,10 +74,13 @@ module _ {S P E A B : Type 0} (m : Guest S P E A B) (g : S) where
   carry_came limit f X = tt
 
   carry_copy : (n : ℕ) (r : Rounds S) (q : Option ℕ) → r.guest ≡ g → Carried (copy_page m n r q)
-  carry_copy n r (Some p) same = either Carried (nat_le (2 ^ 32 - 1) r.copies) (refuses SeqSpent (Copying n r)) (sends_page m n r p) (λ _. tt) (λ _. ap (λ x. page_of m x p) same)
+  carry_copy n r (Some p) same =
+      either Carried (nat_le (2 ^ 32 - 1) r.copies) (refuses SeqSpent (Copying n r))
+      (sends_page m n r p) (λ _. tt) (λ _. ap (λ x. page_of m x p) same)
   carry_copy n r None same = tt
 
-  carry_state : (v : ℕ) (a b : Reply A) (n : ℕ) (l : Last S) → SourceIs (Stopped n l) → Carried (sends_state m v a b n l)
+  carry_state : (v : ℕ) (a b : Reply A) (n : ℕ) (l : Last S) → SourceIs (Stopped n l)
+      → Carried (sends_state m v a b n l)
   carry_state v a b n l same =
       either Carried (is_compact v) _ _
       (λ _. record {
@@ -78,18 +91,25 @@ module _ {S P E A B : Type 0} (m : Guest S P E A B) (g : S) where
       })
       (λ _. ap m.body same.0)
 
-  carry_last : (v : ℕ) → (n : ℕ) (l : Last S) (q : Option ℕ) → SourceIs (Stopped n l) → Carried (copy_last m v n l q)
-  carry_last v n l (Some p) same = either Carried (nat_le (2 ^ 32 - 1) l.copies) (refuses SeqSpent (Stopped n l)) (sends_last m n l p) (λ _. tt) (λ _. ap (λ x. page_of m x p) same.0)
+  carry_last : (v : ℕ) → (n : ℕ) (l : Last S) (q : Option ℕ) → SourceIs (Stopped n l)
+      → Carried (copy_last m v n l q)
+  carry_last v n l (Some p) same =
+      either Carried (nat_le (2 ^ 32 - 1) l.copies) (refuses SeqSpent (Stopped n l))
+      (sends_last m n l p) (λ _. tt) (λ _. ap (λ x. page_of m x p) same.0)
   carry_last v n l None same = carry_state v _ _ n l same
 
-  carry_resend : (v : ℕ) → (n : ℕ) (l : Last S) (q : Option ℕ) → SourceIs (Stopped n l) → Carried (resend_last m v n l q)
+  carry_resend : (v : ℕ) → (n : ℕ) (l : Last S) (q : Option ℕ) → SourceIs (Stopped n l)
+      → Carried (resend_last m v n l q)
   carry_resend v n l (Some p) same = tt
   carry_resend v n l None same = carry_state v _ _ n l same
 
-  carry_begin : (v : ℕ) → (to : ℕ) (x count : ℕ) (p : _) (X : Mode S P) → Carried (obey_at m v x count (Begin to p) X)
+  carry_begin : (v : ℕ) → (to : ℕ) (x count : ℕ) (p : _) (X : Mode S P)
+      → Carried (obey_at m v x count (Begin to p) X)
   carry_begin v to x count p (Run n q) =
       either Carried (is_there x count to) (begin m p (Run n q)) (refuses BadHost (Run n q))
-      (λ _. either Carried (is_allowed p) (begin_allowed m p n q) (refuses BadSize (Run n q)) (λ _. either Carried (n == 2 ^ 64 - 1) (refuses EpochsSpent (Run n q)) (begun m p n q) (λ _. tt) (λ _. tt)) (λ _. tt))
+      (λ _. either Carried (is_allowed p) (begin_allowed m p n q) (refuses BadSize (Run n q))
+      (λ _. either Carried (n == 2 ^ 64 - 1) (refuses EpochsSpent (Run n q)) (begun m p n q)
+      (λ _. tt) (λ _. tt)) (λ _. tt))
       (λ _. tt)
   carry_begin v to x count p (Empty n) = tt
   carry_begin v to x count p (Offering n q r) = tt
@@ -99,7 +119,8 @@ module _ {S P E A B : Type 0} (m : Guest S P E A B) (g : S) where
   carry_begin v to x count p (Staging n s) = tt
   carry_begin v to x count p (Held n q) = tt
 
-  carry_obey : (v : ℕ) → (x count : ℕ) (k : Command E) (X : Mode S P) → SourceIs X → Carried (obey_at m v x count k X)
+  carry_obey : (v : ℕ) → (x count : ℕ) (k : Command E) (X : Mode S P) → SourceIs X
+      → Carried (obey_at m v x count k X)
   carry_obey v x count (Begin to p) X same = carry_begin v to x count p X
   carry_obey v x count (Board e) (Empty n) same = tt
   carry_obey v x count (Board e) (Run n q) same = tt
@@ -113,7 +134,10 @@ module _ {S P E A B : Type 0} (m : Guest S P E A B) (g : S) where
   carry_obey v x count Copy (Run n q) same = tt
   carry_obey v x count Copy (Offering n q p) same = tt
   carry_obey v x count Copy (Copying n r) same =
-      either Carried r.stop (says Stopping (Stopped n (stopped m r))) (copy_page m n r (least (λ x. r.to_send x && not (is_skipped r x)) r.scan (length (m.pages r.guest) - r.scan))) (λ _. tt) (λ _. carry_copy n r _ same)
+      either Carried r.stop (says Stopping (Stopped n (stopped m r)))
+      (copy_page m n r
+      (least (λ x. r.to_send x && not (is_skipped r x)) r.scan
+      (length (m.pages r.guest) - r.scan))) (λ _. tt) (λ _. carry_copy n r _ same)
   carry_obey v x count Copy (Stopped n l) same = carry_last v n l (to_copy m l) same
   carry_obey v x count Copy (Given n) same = tt
   carry_obey v x count Copy (Staging n s) same = tt
@@ -135,7 +159,8 @@ module _ {S P E A B : Type 0} (m : Guest S P E A B) (g : S) where
   carry_obey v x count AbortMove (Staging n s) same = tt
   carry_obey v x count AbortMove (Held n q) same = tt
 
-  source_here : (O T : Mode S P) (F : Frame P B → Type 0) → Content m O T F → guest_in O ≡ Some g → SourceIs O
+  source_here : (O T : Mode S P) (F : Frame P B → Type 0) → Content m O T F → guest_in O ≡ Some g
+      → SourceIs O
   source_here (Copying n r) T F ok h = some_is r.guest g h
   source_here (Stopped n l) T F ok h = (some_is l.guest g h, ok.turn)
   source_here (Empty n) T F ok h = tt
@@ -155,9 +180,12 @@ module _ {S P E A B : Type 0} (m : Guest S P E A B) (g : S) where
   source_none (Staging n s) h = tt
   source_none (Held n q) h = tt
 
-  carry_step : (v : ℕ) → (x count limit : ℕ) (e : HostEvent P E B) (h : Host S P) → SourceIs h.mode → Carried (outcome m v x count limit e h)
+  carry_step : (v : ℕ) → (x count limit : ℕ) (e : HostEvent P E B) (h : Host S P) → SourceIs h.mode
+      → Carried (outcome m v x count limit e h)
   carry_step v x count limit (Do k) h same = carry_obey v x count k h.mode same
-  carry_step v x count limit (Came y f) h same = either Carried (is_heard x count y (plain m f) h) (came m limit (plain m f) h.mode) (ignores h.mode) (λ _. carry_came limit (plain m f) h.mode) (λ _. tt)
+  carry_step v x count limit (Came y f) h same =
+      either Carried (is_heard x count y (plain m f) h) (came m limit (plain m f) h.mode)
+      (ignores h.mode) (λ _. carry_came limit (plain m f) h.mode) (λ _. tt)
 
   written_carries : (v : ℕ) (f : Frame P B) → Carries m g f → Carries m g (written m v f)
   written_carries v (Page n p k b) q =
@@ -177,9 +205,11 @@ module _ {S P E A B : Type 0} (m : Guest S P E A B) (g : S) where
   written_carries v (Started n) q = q
   written_carries v (Abort n) q = q
 
-  posted_carries : (v x z : ℕ) (made : Option (Frame P B)) (a : Addressed P B) → posted x z (made_as m v made) ≡ Some a → New (Carries m g) made → Carries m g a.frame
+  posted_carries : (v x z : ℕ) (made : Option (Frame P B)) (a : Addressed P B)
+      → posted x z (made_as m v made) ≡ Some a → New (Carries m g) made → Carries m g a.frame
   posted_carries v x z None a h q = cc
-  posted_carries v x z (Some f) a h q = subst (λ (y : Addressed P B). Carries m g y.frame) (some_is _ a h) (written_carries v f q)
+  posted_carries v x z (Some f) a h q =
+      subst (λ (y : Addressed P B). Carries m g y.frame) (some_is _ a h) (written_carries v f q)
 
 module _ {S P E A B : Type 0} (m : Guest S P E A B) where
   pub carry_law : FramesCarryTheGuest m
@@ -187,12 +217,20 @@ module _ {S P E A B : Type 0} (m : Guest S P E A B) where
   carry_law = λ g version count limits events ev x e a v is made.
       let w = run m (new_world m version g count limits) events in
       let t = told m (at_start g) (history m (new_world m version g count limits) events) in
-      let s = run_sound m events (new_world m version g count limits) (at_start g) (new_sound m version g count limits v) in
+      let s = run_sound m events (new_world m version g count limits) (at_start g)
+      (new_sound m version g count limits v) in
       let l = s.good in
       let source : SourceIs m t.guest (mode_at m w x) = elim (same_or x s.c) [
-        | inl q ↦ subst (λ z. SourceIs m t.guest (mode_at m w z)) (sym q) (source_here m t.guest (mode_at m w s.c) (mode_at m w s.d) _ l.pages l.guest)
-        | inr n ↦ source_none m t.guest (mode_at m w x) (none_at m (w.hosts s.c) (w.hosts s.d) w.hosts (read m w.sent) s.c s.d x t l n)
+        | inl q ↦
+            subst (λ z. SourceIs m t.guest (mode_at m w z)) (sym q)
+            (source_here m t.guest (mode_at m w s.c) (mode_at m w s.d) _ l.pages l.guest)
+        | inr n ↦
+            source_none m t.guest (mode_at m w x)
+            (none_at m (w.hosts s.c) (w.hosts s.d) w.hosts (read m w.sent) s.c s.d x t l n)
       ] in
       let o = outcome m w.version x w.count (w.limits x) e (w.hosts x) in
-      subst (λ z. Carries m z a.frame) (told_guest m (history m (new_world m version g count limits) events) (at_start g))
-      (posted_carries m t.guest w.version x (addressee e (partner_then e o.reply (w.hosts x).partner)) o.made a made (carry_step m t.guest w.version x w.count (w.limits x) e (w.hosts x) source))
+      subst (λ z. Carries m z a.frame)
+      (told_guest m (history m (new_world m version g count limits) events) (at_start g))
+      (posted_carries m t.guest w.version x
+      (addressee e (partner_then e o.reply (w.hosts x).partner)) o.made a made
+      (carry_step m t.guest w.version x w.count (w.limits x) e (w.hosts x) source))

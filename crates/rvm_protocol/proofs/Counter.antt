@@ -25,7 +25,8 @@ pub same_length : (t : Counter) (e : CounterEvent) → length (counts t e).pages
 same_length t Tick = refl
 same_length t (Write p v) = length-set t.pages p v
 
-pub unwritten : (t : Counter) (e : CounterEvent) (q : ℕ) → writes t e q ≡ false → get_or (counts t e).pages q 0 ≡ get_or t.pages q 0
+pub unwritten : (t : Counter) (e : CounterEvent) (q : ℕ) → writes t e q ≡ false
+    → get_or (counts t e).pages q 0 ≡ get_or t.pages q 0
 unwritten t Tick q h = refl
 unwritten t (Write p v) q h = get_or-set_other t.pages p q v 0 (eqb-false q p h)
 
@@ -50,7 +51,8 @@ some_two (n ∷ ns) b = omega arith
 
 pub joined_two : (ns : List ℕ) (b : ℕ) → join_two (cut_two ns b) ≡ Some (ns, b)
 joined_two [] b = refl
-joined_two (n ∷ ns) b = let z : 2 * (n / 2) + n % 2 ≡ n = omega arith in ap (λ q. Some (q ∷ ns, b)) z
+joined_two (n ∷ ns) b =
+    let z : 2 * (n / 2) + n % 2 ≡ n = omega arith in ap (λ q. Some (q ∷ ns, b)) z
 
 abbrev pub counter : Guest Counter ℕ CounterEvent ℕ ℕ
 counter =

@@ -17,7 +17,8 @@ drive_count = λ from to k n s policy.
     let e : List (Event ℕ) = Deliver (k + 2 + n) ∷ At from Copy ∷ [] in
     let f : List (Event ℕ) = listed (λ i. At from Copy) 0 s in
     let g : List (Event ℕ) = listed (λ i. Deliver (k + 3 + n + i)) 0 s in
-    let h : List (Event ℕ) = Deliver (k + 3 + n + s) ∷ Deliver (k + 4 + n + s) ∷ Deliver (k + 5 + n + s) ∷ [] in
+    let h : List (Event ℕ) = Deliver (k + 3 + n + s) ∷ Deliver (k + 4 + n + s)
+    ∷ Deliver (k + 5 + n + s) ∷ [] in
     let lb : length b ≡ n = listed_length (λ p. At from Copy) 0 n in
     let ld : length d ≡ n = listed_length (λ p. Deliver (k + 2 + p)) 0 n in
     let lf : length f ≡ s = listed_length (λ i. At from Copy) 0 s in
@@ -29,5 +30,6 @@ drive_count = λ from to k n s policy.
     let s5 = length-append (a ++ b ++ c ++ d ++ e) f in
     let s6 = length-append (a ++ b ++ c ++ d ++ e ++ f) g in
     let s7 = length-append (a ++ b ++ c ++ d ++ e ++ f ++ g) h in
-    let all : length (a ++ b ++ c ++ d ++ e ++ f ++ g ++ h) ≡ 2 * n + 9 + 2 * s = omega (arith, lb, ld, lf, lg, s1, s2, s3, s4, s5, s6, s7) in
+    let all : length (a ++ b ++ c ++ d ++ e ++ f ++ g ++ h) ≡ 2 * n + 9 + 2 * s = omega
+    (arith, lb, ld, lf, lg, s1, s2, s3, s4, s5, s6, s7) in
     all

@@ -136,13 +136,16 @@ module _ {P B : Type 0} where
 module _ {S P E A B : Type 0} (m : Guest S P E A B) where
   -- the newest copy of page p equals its bytes
   abbrev pub IsFresh : ℕ → (Frame P B → Type 0) → (ℕ → ℕ) → S → ℕ → Type 0
-  IsFresh e F newest g p = (0 < newest p) × ((b : P) → F (Page e p (newest p) b) → b ≡ get_or (m.pages g) p m.zeros) × F (Page e p (newest p) (get_or (m.pages g) p m.zeros))
+  IsFresh e F newest g p =
+      (0 < newest p) × ((b : P) → F (Page e p (newest p) b) → b ≡ get_or (m.pages g) p m.zeros) × F
+      (Page e p (newest p) (get_or (m.pages g) p m.zeros))
 
   -- what is staged was sent
   pub record StageOk (e c h : ℕ) (F : Frame P B → Type 0) (s : Stage P) : Type 0 where
     pub count : length s.pages ≡ c
     pub processors : s.processors ≡ h
-    pub staged : (p : ℕ) → p < c → (s.have p ≡ 0) ⊎ F (Page e p (s.have p) (get_or s.pages p m.zeros))
+    pub staged : (p : ℕ) → p < c
+        → (s.have p ≡ 0) ⊎ F (Page e p (s.have p) (get_or s.pages p m.zeros))
     pub kept : (i : ℕ) (x : List ℕ) → s.pieces i ≡ Some x → F (Part e s.stamp i s.parts x)
 
   abbrev pub BesideOk : ℕ → ℕ → ℕ → (Frame P B → Type 0) → Mode S P → Type 0
@@ -155,7 +158,9 @@ module _ {S P E A B : Type 0} (m : Guest S P E A B) where
   pub record CopyingOk (e : ℕ) (r : Rounds S) (T : Mode S P) (F : Frame P B → Type 0) : Type 0 where
     pub beside : BesideOk e (length (m.pages r.guest)) (m.processors r.guest) F T
     pub copies : CopiesOk e F r.newest r.copies
-    pub stale : (p : ℕ) → p < length (m.pages r.guest) → ((r.scan ≤ p) × (r.to_send p ≡ true)) ⊎ ((r.log p ≡ true) ⊎ IsFresh e F r.newest r.guest p)
+    pub stale : (p : ℕ) → p < length (m.pages r.guest)
+        → ((r.scan ≤ p) × (r.to_send p ≡ true)) ⊎
+        ((r.log p ≡ true) ⊎ IsFresh e F r.newest r.guest p)
     pub skip : (p : ℕ) → r.to_skip p ≡ true → r.log p ≡ true
     pub over : r.stop ≡ true → length (m.pages r.guest) ≤ r.scan
 
@@ -164,10 +169,12 @@ module _ {S P E A B : Type 0} (m : Guest S P E A B) where
     pub body : b ≡ m.body g
     pub count : length ns ≡ length (m.pages g)
     pub named : (p : ℕ) → p < length (m.pages g) → 0 < get_or ns p 0
-    pub copies : (p k : ℕ) (y : P) → p < length (m.pages g) → get_or ns p 0 ≤ k → F (Page e p k y) → y ≡ get_or (m.pages g) p m.zeros
+    pub copies : (p k : ℕ) (y : P) → p < length (m.pages g) → get_or ns p 0 ≤ k → F (Page e p k y)
+        → y ≡ get_or (m.pages g) p m.zeros
 
   -- a piece is one of those of a true state, which its stamp determines
-  pub record TruePiece (e : ℕ) (F : Frame P B → Type 0) (g : S) (copies : ℕ) (ns : List ℕ) (st i u : ℕ) (x : List ℕ) : Type 0 where
+  pub record TruePiece (e : ℕ) (F : Frame P B → Type 0) (g : S) (copies : ℕ) (ns : List ℕ)
+      (st i u : ℕ) (x : List ℕ) : Type 0 where
     pub stamp : st ≤ copies
     pub state : TrueState e F g ns (m.body g)
     pub fits : (p : ℕ) → p < length ns → get_or ns p 0 < 2 ^ 32
@@ -181,17 +188,20 @@ module _ {S P E A B : Type 0} (m : Guest S P E A B) where
   pub record StoppedOk (e : ℕ) (l : Last S) (T : Mode S P) (F : Frame P B → Type 0) : Type 0 where
     pub beside : BesideOk e (length (m.pages l.guest)) (m.processors l.guest) F T
     pub copies : CopiesOk e F l.newest l.copies
-    pub stale : (p : ℕ) → p < length (m.pages l.guest) → (l.to_send p ≡ true) ⊎ ((l.to_fix p ≡ true) ⊎ IsFresh e F l.newest l.guest p)
+    pub stale : (p : ℕ) → p < length (m.pages l.guest)
+        → (l.to_send p ≡ true) ⊎ ((l.to_fix p ≡ true) ⊎ IsFresh e F l.newest l.guest p)
     pub states : (ns : List ℕ) (b : B) → F (State e ns b) → TrueState e F l.guest ns b
     pub turn : l.turn < length (pieces_of m l)
     -- the numbers that the pieces of a stamp name
     pub numbers : ℕ → List ℕ
     pub now : numbers l.copies ≡ newest_numbers m l
-    pub parts : (st i u : ℕ) (x : List ℕ) → F (Part e st i u x) → TruePiece e F l.guest l.copies (numbers st) st i u x
+    pub parts : (st i u : ℕ) (x : List ℕ) → F (Part e st i u x)
+        → TruePiece e F l.guest l.copies (numbers st) st i u x
     pub held : HeldOk l.guest T
 
   abbrev pub Content : Mode S P → Mode S P → (Frame P B → Type 0) → Type 0
-  Content (Offering e g p) T F = OfferOk e g F × BesideOk e (length (m.pages g)) (m.processors g) F T
+  Content (Offering e g p) T F =
+      OfferOk e g F × BesideOk e (length (m.pages g)) (m.processors g) F T
   Content (Copying e r) T F = CopyingOk e r T F
   Content (Stopped e l) T F = StoppedOk e l T F
   Content mode T F = Unit {0}
