@@ -20,7 +20,9 @@ use Rattle.rvm_protocol.proofs.Basics.{some_is, same_or, is_either, both_false}
 use Rattle.rvm_protocol.proofs.Tellings.{is_stopped, commanded}
 use Rattle.rvm_protocol.proofs.Behind.{lim_num, meet_num}
 use Rattle.rvm_protocol.proofs.WorldInvariant.{reach, reach_here, reach_there, put_all, has_either, has_old, has_new}
-use Rattle.rvm_protocol.proofs.Runs.{SoundAt, Allowed, NoCommit, none_at, step_sound, happened_sound, event_allowed, told_more, new_sound, sent_after, has_read}
+use Rattle.rvm_protocol.proofs.Runs.{SoundAt, Allowed, step_sound, happened_sound, event_allowed, told_more, new_sound, sent_after}
+use Rattle.rvm_protocol.proofs.OtherHosts.{NoCommit, none_at}
+use Rattle.rvm_protocol.proofs.ReadFrames.{has_read}
 use Rattle.rvm_protocol.proofs.Causes.{Backed, RunOk, Now, follow_step}
 use Rattle.rvm_protocol.proofs.StateCases.{state_cases, part_cases}
 use Rattle.rvm_protocol.specs.Shown.{is_paused}

@@ -16,7 +16,9 @@ use Rattle.rvm_protocol.specs.World.{mode_at, run, history, new_world}
 use Rattle.rvm_protocol.proofs.PairInvariant.{New, HoldsNone, Content}
 use Rattle.rvm_protocol.proofs.CurrentModes.{either}
 use Rattle.rvm_protocol.proofs.Basics.{some_is, same_or, and_both}
-use Rattle.rvm_protocol.proofs.Runs.{run_sound, new_sound, none_at, told_guest}
+use Rattle.rvm_protocol.proofs.Runs.{run_sound, new_sound}
+use Rattle.rvm_protocol.proofs.OtherHosts.{none_at}
+use Rattle.rvm_protocol.proofs.OneGuestHolds.{told_guest}
 use Rattle.rvm_protocol.proofs.StateCases.{state_cases, part_cases}
 
 module _ {S P E A B : Type 0} (m : Guest S P E A B) (g : S) where

@@ -18,7 +18,10 @@ use Rattle.rvm_protocol.specs.Host.{Host, is_there, is_heard, host_step, settled
 use Rattle.rvm_protocol.specs.World.{At, Deliver, Event, World, mode_at, run, new_world, step, happened, meaning}
 use Rattle.rvm_protocol.proofs.PairInvariant.{HoldsNone, Meet, lim}
 use Rattle.rvm_protocol.proofs.Basics.{same_or, some_is, or_left, put_same, put_other, listed_length, listed_at, or_right, is_either}
-use Rattle.rvm_protocol.proofs.Runs.{plain_written, SoundAt, none_at, run_sound, new_sound, there_apart}
+use Rattle.rvm_protocol.proofs.ReadFrames.{plain_written}
+use Rattle.rvm_protocol.proofs.Runs.{SoundAt, run_sound, new_sound}
+use Rattle.rvm_protocol.proofs.OtherHosts.{none_at}
+use Rattle.rvm_protocol.proofs.CurrentHost.{there_apart}
 use Rattle.rvm_protocol.proofs.Phases.{Duo, Phase, if_true, if_false, nothing, after, same_replies, commands, to_source, to_target, Shows}
 use Rattle.rvm_protocol.specs.Told.{Told, at_start}
 use Rattle.rvm_protocol.specs.DrivenMove.{drive, drive_replies, state_replies, arrival_replies, state_frames, ADrivenMoveArrives, ATooLargeGuestIsDeclined}

@@ -9,7 +9,12 @@ pub mod Tellings
 mod Behind
 mod PagesOfFrames
 pub mod WorldInvariant
+mod ReadFrames
+mod CurrentHost
+mod OtherHosts
 pub mod Runs
+pub mod OneGuestHolds
+pub mod NoStalePages
 pub mod Causes
 pub mod CausesOfRuns
 pub mod Contents

@@ -1,4 +1,4 @@
-use Rattle.rvm_protocol.proofs.Runs.{stale_law}
+use Rattle.rvm_protocol.proofs.NoStalePages.{stale_law}
 use Rattle.rvm_protocol.proofs.laws.a_state_names_only_fresh_copies.Goals as goal
 
 pub returns : goal.returns

@@ -1,4 +1,4 @@
-use Rattle.rvm_protocol.proofs.Runs.{the_law, the_law_from_any_world}
+use Rattle.rvm_protocol.proofs.OneGuestHolds.{the_law, the_law_from_any_world}
 use Rattle.rvm_protocol.proofs.laws.the_guest_is_the_one_that_never_moves.Goals as goal
 
 pub returns : goal.returns
