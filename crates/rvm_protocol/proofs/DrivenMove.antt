@@ -5,117 +5,23 @@ use Rattle.std.specs.Prelude.{slice_get}
 use Rattle.std.proofs.lemmas.Bool.{eq-eqb, lt-ltb, le-ltb, ne_eqb, lt-leb, leb-true}
 use Rattle.std.proofs.lemmas.List.{length-set, length-replicate, get_or-set_same, get_or-set_other}
 use Rattle.rvm_protocol.specs.Guest.{Guest}
-use Rattle.rvm_protocol.specs.Frames.{Frame, Offer, Accept, Refuse, Page, RoundEnd, State, Part, Ready, Go, Started, Addressed, is_compact, plain, written, read}
-use Rattle.rvm_protocol.specs.Commands.{Policy, is_allowed, Begin, Copy, Do, Came, HostEvent}
-use Rattle.rvm_protocol.specs.Replies.{Reply, Begun, Accepted, Declined, Open, Copied, RoundEnded, Stored, Noted, Kept, Stopping, StateSent, PartSent, ReadySent, Committed, StartedHere, Finished, MoveDeclined}
-use Rattle.rvm_protocol.specs.Pages.{Pages, none, put, least, size, listed, gathered, with_first}
+use Rattle.rvm_protocol.specs.Frames.{Frame, Offer, Accept, Refuse, Page, RoundEnd, State, Part, Ready, Go, Started, Addressed, is_compact, plain, written}
+use Rattle.rvm_protocol.specs.Commands.{Policy, is_allowed, Begin, Copy, Do, Came}
+use Rattle.rvm_protocol.specs.Replies.{Reply, Begun, Accepted, Declined, Open, Copied, RoundEnded, Stored, Noted, Kept, Stopping, StateSent, PartSent, ReadySent, Committed, StartedHere, Finished}
+use Rattle.rvm_protocol.specs.Pages.{none, put, least, size, listed, gathered}
 use Rattle.rvm_protocol.specs.Rounds.{Rounds, Last, page_count, page_of, is_skipped, opened, next_page, stops, page_copied, next_round, round_over, stopped, to_copy, newest_numbers, pieces_of, next_turn}
 use Rattle.rvm_protocol.specs.Staging.{Stage, new_stage, with_page, lacks, takes_part, with_part}
-use Rattle.rvm_protocol.specs.Modes.{Mode, Empty, Run, Offering, Copying, Stopped, Given, Staging, Held, Outcome, move_of, says, sends, ignores, guest_in}
+use Rattle.rvm_protocol.specs.Modes.{Mode, Empty, Run, Offering, Copying, Stopped, Given, Staging, Held, Outcome, move_of, says, sends, ignores}
 use Rattle.rvm_protocol.specs.Obeying.{begin, begin_allowed, begun, copy, copy_page, sends_page, copy_last, state_frame, part_frame}
 use Rattle.rvm_protocol.specs.Receiving.{came, of_this_move, offered, offer_above, page_came, state_came, state_compared, guest_read, pieces_joined, part_kept, part_came}
-use Rattle.rvm_protocol.specs.Host.{Host, is_there, is_heard, host_step, settled}
-use Rattle.rvm_protocol.specs.World.{At, Deliver, Event, World, mode_at, run, new_world, step, happened, meaning}
-use Rattle.rvm_protocol.proofs.PairInvariant.{HoldsNone, Meet, lim}
-use Rattle.rvm_protocol.proofs.Basics.{same_or, some_is, or_left, put_same, put_other, listed_length, listed_at, or_right, is_either}
+use Rattle.rvm_protocol.specs.Host.{is_there, is_heard, host_step, settled}
+use Rattle.rvm_protocol.specs.World.{At, Deliver, Event}
+use Rattle.rvm_protocol.proofs.PairInvariant.{HoldsNone}
+use Rattle.rvm_protocol.proofs.Basics.{same_or, or_left, put_same, put_other, listed_length, listed_at, or_right, is_either}
 use Rattle.rvm_protocol.proofs.ReadFrames.{plain_written}
-use Rattle.rvm_protocol.proofs.Runs.{SoundAt, run_sound, new_sound}
-use Rattle.rvm_protocol.proofs.OtherHosts.{none_at}
-use Rattle.rvm_protocol.proofs.CurrentHost.{there_apart}
-use Rattle.rvm_protocol.proofs.Phases.{Duo, Phase, if_true, if_false, nothing, after, same_replies, commands, to_source, to_target, Shows}
-use Rattle.rvm_protocol.specs.Told.{Told, at_start}
-use Rattle.rvm_protocol.specs.DrivenMove.{drive, drive_replies, state_replies, arrival_replies, state_frames, ADrivenMoveArrives, ATooLargeGuestIsDeclined}
-use Rattle.rvm_protocol.proofs.Behind.{apart_run}
-
--- the frame at a place of a list that grew
-pub got_new : {X : Type 0} (xs : List X) (a : X) (k : ℕ) → k ≡ length xs
-    → slice_get (xs ++ a ∷ []) k ≡ Some a
-got_new [] a k e = ap (slice_get (a ∷ [])) e
-got_new (x ∷ xs) a zero e = absurd (omega arith)
-got_new (x ∷ xs) a (suc k) e = got_new xs a k (omega arith)
-
-pub got_old : {X : Type 0} (xs : List X) (a b : X) (k : ℕ) → slice_get xs k ≡ Some a
-    → slice_get (xs ++ b ∷ []) k ≡ Some a
-got_old [] a b k h = cc
-got_old (x ∷ xs) a b zero h = h
-got_old (x ∷ xs) a b (suc k) h = got_old xs a b k h
-
-pub length_more : {X : Type 0} (xs : List X) (a : X) → length (xs ++ a ∷ []) ≡ suc (length xs)
-length_more [] a = refl
-length_more (x ∷ xs) a = ap suc (length_more xs a)
-
-and_true : (a b : Bool) → a ≡ true → b ≡ true → (a && b) ≡ true
-and_true true b h k = k
-and_true false b h k = cc
-
-least_here : (s : Pages) (first count : ℕ) → 0 < count → s first ≡ true
-    → least s first count ≡ Some first
-unfolding least
-least_here s first zero lt h = absurd (omega arith)
-least_here s first (suc count) lt h = if_true (s first) (Some first) (least s (suc first) count) h
-
-least_nowhere : (s : Pages) (first count : ℕ) → ((q : ℕ) → s q ≡ false) → least s first count ≡ None
-unfolding least
-least_nowhere s first zero h = refl
-least_nowhere s first (suc count) h =
-    if_false (s first) (Some first) (least s (suc first) count) (h first)
-    ∙ least_nowhere s (suc first) count h
-
-least_empty : (s : Pages) (first count : ℕ) → count ≡ 0 → least s first count ≡ None
-unfolding least
-least_empty s first zero h = refl
-least_empty s first (suc count) h = absurd (omega arith)
-
-size_of_all : (s : Pages) (n : ℕ) → ((q : ℕ) → s q ≡ true) → size s n ≡ n
-unfolding size
-size_of_all s zero h = refl
-size_of_all s (suc n) h =
-    let a = size_of_all s n h in let b = if_true {X = ℕ} (s n) 1 0 (h n) in omega (arith, a, b)
-
-size_of_none : (s : Pages) (n : ℕ) → ((q : ℕ) → q < n → s q ≡ false) → size s n ≡ 0
-unfolding size
-size_of_none s zero h = refl
-size_of_none s (suc n) h =
-    let a = size_of_none s n (λ q lt. h q (omega arith)) in let b = if_false {X = ℕ} (s n) 1 0
-    (h n (omega arith)) in omega (arith, a, b)
-
-pub listed_same : {V : Type 0} (f g : ℕ → V) (first count : ℕ)
-    → ((q : ℕ) → q < first + count → f q ≡ g q) → listed f first count ≡ listed g first count
-unfolding listed
-listed_same f g first zero h = refl
-listed_same f g first (suc count) h =
-    ap (λ z. z ∷ listed f (suc first) count) (h first (omega arith))
-    ∙ ap (λ z. g first ∷ z) (listed_same f g (suc first) count (λ q lt. h q (omega arith)))
-
-gathered_none : {V : Type 0} (f : ℕ → Option V) (first count j : ℕ) → first ≤ j → j < first + count
-    → f j ≡ None → gathered f first count ≡ None
-unfolding gathered
-gathered_none f first zero j a b h = absurd (omega arith)
-gathered_none f first (suc count) j a b h =
-    elim (same_or j first) [
-      | inl e ↦ ap (λ z. with_first z (gathered f (suc first) count)) (ap f (sym e) ∙ h)
-      | inr n ↦
-          ap (λ z. with_first (f first) z)
-          (gathered_none f (suc first) count j (omega (arith, n)) (omega arith) h)
-          ∙ no_rest (f first)
-    ]
-  where
-    no_rest : {V : Type 0} (q : Option V) → with_first q None ≡ None
-    no_rest None = refl
-    no_rest (Some x) = refl
-
-gathered_all : {V : Type 0} (f : ℕ → Option V) (d : V) (first : ℕ) (xs : List V)
-    → ((i : ℕ) → i < length xs → f (first + i) ≡ Some (get_or xs i d))
-    → gathered f first (length xs) ≡ Some xs
-unfolding gathered
-gathered_all f d first [] h = refl
-gathered_all f d first (x ∷ xs) h =
-    let here : f first ≡ Some x = ap f (sym (add-zero first)) ∙ h 0 (omega arith) in
-    let rest : gathered f (suc first) (length xs) ≡ Some xs = gathered_all f d (suc first) xs
-    (λ i lt. let z : suc first + i ≡ first + suc i = omega arith in ap f z
-    ∙ h (suc i) (omega arith)) in
-    ap (λ z. with_first z (gathered f (suc first) (length xs))) here
-    ∙ ap (λ z. with_first (Some x) z) rest
+use Rattle.rvm_protocol.proofs.Phases.{Duo, Phase, if_true, if_false, nothing, after, same_replies, commands, to_source, to_target}
+use Rattle.rvm_protocol.specs.DrivenMove.{drive, drive_replies, state_replies, arrival_replies, state_frames}
+use Rattle.rvm_protocol.proofs.Lists.{got_new, got_old, length_more, and_true, least_here, least_nowhere, least_empty, size_of_all, size_of_none, listed_same, gathered_none, gathered_all}
 
 module _ {S P E A B : Type 0} (m : Guest S P E A B) (version count : ℕ) (limits : ℕ → ℕ)
     (from to e : ℕ) (policy : Policy) (g : S) where
@@ -135,13 +41,13 @@ module _ {S P E A B : Type 0} (m : Guest S P E A B) (version count : ℕ) (limit
 module _ {S P E A B : Type 0} (m : Guest S P E A B) (version count : ℕ) (limits : ℕ → ℕ)
     (from to e : ℕ) (policy : Policy) (g : S)
     (ok : Drivable m version count limits from to e policy g) where
-  abbrev n : ℕ
+  abbrev pub n : ℕ
   n = length (m.pages g)
 
-  abbrev Goes : Duo S P B → List (Event E) → List (Reply A) → Duo S P B → Type 0
+  abbrev pub Goes : Duo S P B → List (Event E) → List (Reply A) → Duo S P B → Type 0
   Goes d es rs d' = Phase m version count limits from to d es rs d'
 
-  abbrev duo : Mode S P → Mode S P → List (Addressed P B) → Duo S P B
+  abbrev pub duo : Mode S P → Mode S P → List (Addressed P B) → Duo S P B
   duo O T sent =
       record {
         source = record { mode = O; partner = to };
@@ -150,7 +56,7 @@ module _ {S P E A B : Type 0} (m : Guest S P E A B) (version count : ℕ) (limit
         sent = sent;
       }
 
-  abbrev mail : ℕ → ℕ → Frame P B → Addressed P B
+  abbrev pub mail : ℕ → ℕ → Frame P B → Addressed P B
   mail x y f = record { from = x; to = y; frame = f }
 
   heard : (self other : ℕ) (f : Frame P B) (mode : Mode S P) → is_there self count other ≡ true
@@ -202,11 +108,11 @@ module _ {S P E A B : Type 0} (m : Guest S P E A B) (version count : ℕ) (limit
   offer_taken (Copying k r) h le = absurd h
   offer_taken (Stopped k l) h le = absurd h
 
-  abbrev offer_mail : Addressed P B
+  abbrev pub offer_mail : Addressed P B
   offer_mail = mail from to (Offer (suc e) n (m.processors g))
 
   -- the frames after the opening
-  abbrev opened_sent : List (Addressed P B) → List (Addressed P B)
+  abbrev pub opened_sent : List (Addressed P B) → List (Addressed P B)
   opened_sent sent = (sent ++ offer_mail ∷ []) ++ mail to from (Accept (suc e)) ∷ []
 
   -- Begin, Offer, Accept
@@ -282,7 +188,7 @@ module _ {S P E A B : Type 0} (m : Guest S P E A B) (version count : ℕ) (limit
       (after m version count limits from to _ _ _ _ _ _ _ one two) three
 
   -- the rounds after p copies
-  rounds_at : ℕ → Rounds S
+  pub rounds_at : ℕ → Rounds S
   rounds_at zero = opened m g policy
   rounds_at (suc p) = page_copied m (rounds_at p) p
 
@@ -345,11 +251,11 @@ module _ {S P E A B : Type 0} (m : Guest S P E A B) (version count : ℕ) (limit
   scanned (suc p) = scanned_more p (rounds_at p) (scanned p)
 
   -- a copy of page p
-  abbrev page_mail : ℕ → Addressed P B
+  abbrev pub page_mail : ℕ → Addressed P B
   page_mail p = mail from to (written m version (Page (suc e) p (suc p) (page_of m g p)))
 
   -- the frames after p copies
-  sent_at : List (Addressed P B) → ℕ → List (Addressed P B)
+  pub sent_at : List (Addressed P B) → ℕ → List (Addressed P B)
   sent_at sent zero = sent
   sent_at sent (suc p) = sent_at sent p ++ page_mail p ∷ []
 
@@ -427,7 +333,7 @@ module _ {S P E A B : Type 0} (m : Guest S P E A B) (version count : ℕ) (limit
       (copying c (suc p) T sent (omega (arith, is)))
 
   -- the round's end
-  abbrev ended : Rounds S
+  abbrev pub ended : Rounds S
   ended = round_over m (rounds_at n)
 
   ended_as : copy m version (Copying (suc e) (rounds_at n)) ≡ sends (RoundEnded 1 n 0 0)
@@ -479,7 +385,7 @@ module _ {S P E A B : Type 0} (m : Guest S P E A B) (version count : ℕ) (limit
           (third (nat_le 1 p.max_rounds) (nat_le p.max_rounds 1000) (nat_le 1 p.min_left)
           (nat_le p.min_left 4096) (nat_le 1 p.factor) (nat_le p.factor 100) h)
 
-  abbrev end_mail : Addressed P B
+  abbrev pub end_mail : Addressed P B
   end_mail = mail from to (RoundEnd (suc e) 1 n 0 0)
 
   ending : (T : Mode S P) (sent : List (Addressed P B))
@@ -491,7 +397,7 @@ module _ {S P E A B : Type 0} (m : Guest S P E A B) (version count : ℕ) (limit
       (copies (Copying (suc e) (rounds_at n)) _ ended_as)
 
   -- the stage after p copies came
-  stage_at : ℕ → Stage P
+  pub stage_at : ℕ → Stage P
   stage_at zero = new_stage m.zeros n (m.processors g)
   stage_at (suc p) = with_page (stage_at p) p (suc p) (page_of m g p)
 
@@ -586,7 +492,7 @@ module _ {S P E A B : Type 0} (m : Guest S P E A B) (version count : ℕ) (limit
       (delivering c (suc p) place O sent (omega (arith, is)) got)
 
   -- the paused source
-  abbrev last : Last S
+  abbrev pub last : Last S
   last = stopped m ended
 
   -- the round's end comes, and the source stops
@@ -651,7 +557,7 @@ module _ {S P E A B : Type 0} (m : Guest S P E A B) (version count : ℕ) (limit
       ∙ ap (guest_read m (suc e) old) build
 
   -- the state in one frame
-  abbrev state_mail : Addressed P B
+  abbrev pub state_mail : Addressed P B
   state_mail = mail from to (State (suc e) (listed suc 0 n) (m.body g))
 
   state_phase : (sent : List (Addressed P B)) (T : Mode S P) → is_compact version ≡ false
@@ -681,17 +587,17 @@ module _ {S P E A B : Type 0} (m : Guest S P E A B) (version count : ℕ) (limit
       ∙ state_taken (stage_at n) (stage_at n) refl refl refl))
 
   -- the pieces of the state
-  abbrev pieces : List (List ℕ)
+  abbrev pub pieces : List (List ℕ)
   pieces = m.cut (listed suc 0 n) (m.body g)
 
-  abbrev part_mail : ℕ → Addressed P B
+  abbrev pub part_mail : ℕ → Addressed P B
   part_mail i = mail from to (Part (suc e) n i (length pieces) (get_or pieces i []))
 
-  abbrev last_at : ℕ → Last S
+  abbrev pub last_at : ℕ → Last S
   last_at i = record last { turn = i }
 
   -- the frames after i pieces
-  parts_at : List (Addressed P B) → ℕ → List (Addressed P B)
+  pub parts_at : List (Addressed P B) → ℕ → List (Addressed P B)
   parts_at sent zero = sent
   parts_at sent (suc i) = parts_at sent i ++ part_mail i ∷ []
 
@@ -775,7 +681,7 @@ module _ {S P E A B : Type 0} (m : Guest S P E A B) (version count : ℕ) (limit
       (parts_phase c (suc i) sent T v (omega (arith, is)))
 
   -- the stage after i pieces came
-  kept_at : ℕ → Stage P
+  pub kept_at : ℕ → Stage P
   kept_at zero = stage_at n
   kept_at (suc i) = with_part (kept_at i) n i (length pieces) (get_or pieces i [])
 
@@ -954,7 +860,7 @@ module _ {S P E A B : Type 0} (m : Guest S P E A B) (version count : ℕ) (limit
       after m version count limits from to _ _ _ _ _ _ _
       (after m version count limits from to _ _ _ _ _ _ _ one two) three
 
-  abbrev frames : ℕ
+  abbrev pub frames : ℕ
   frames = state_frames m version g
 
   -- the state is sent in some frames, and these make the guest at the target
@@ -1023,9 +929,9 @@ module _ {S P E A B : Type 0} (m : Guest S P E A B) (version count : ℕ) (limit
       ]
 
   -- the whole move
-  record DriveGoes (p q : ℕ) (T : Mode S P) (sent : List (Addressed P B)) : Type 0 where
-    at_last : List (Addressed P B)
-    goes : Goes
+  pub record DriveGoes (p q : ℕ) (T : Mode S P) (sent : List (Addressed P B)) : Type 0 where
+    pub at_last : List (Addressed P B)
+    pub goes : Goes
         (record {
           source = record { mode = Run e g; partner = p };
           target =
@@ -1035,7 +941,8 @@ module _ {S P E A B : Type 0} (m : Guest S P E A B) (version count : ℕ) (limit
         (drive from to policy (length sent) n frames) (drive_replies version (suc e) n frames)
         (duo (Empty (suc e)) (Run (suc e) g) at_last)
 
-  drive_goes : (p q : ℕ) (T : Mode S P) (sent : List (Addressed P B)) → HoldsNone T → move_of T ≤ e
+  pub drive_goes : (p q : ℕ) (T : Mode S P) (sent : List (Addressed P B)) → HoldsNone T
+      → move_of T ≤ e
       → DriveGoes p q T sent
   unfolding rounds_at stage_at sent_at
   drive_goes p q T sent none le =
@@ -1068,277 +975,3 @@ module _ {S P E A B : Type 0} (m : Guest S P E A B) (version count : ℕ) (limit
       let c6 = after m version count limits from to _ _ _ _ _ _ _ c5 state.copied in
       let c7 = after m version count limits from to _ _ _ _ _ _ _ c6 state.arrived in
       record { at_last = _; goes = after m version count limits from to _ _ _ _ _ _ _ c7 g8 }
-
-module _ {S P E A B : Type 0} (m : Guest S P E A B) (version count : ℕ) (limits : ℕ → ℕ)
-    (from to e : ℕ) (policy : Policy) (g : S) where
-  declined_above : (seen : ℕ) (T : Mode S P) → seen ≤ e → limits to < length (m.pages g)
-      → offer_above m seen (limits to) (suc e) (length (m.pages g)) (m.processors g) T ≡ sends
-      (Declined (limits to)) (Refuse (suc e) (limits to)) T
-  declined_above seen T le lt =
-      if_true (nat_lt seen (suc e))
-      (offered m (limits to) (suc e) (length (m.pages g)) (m.processors g) T) (ignores T)
-      (lt-ltb seen (suc e) (omega arith))
-      ∙ if_true (nat_lt (limits to) (length (m.pages g)))
-      (sends (Declined (limits to)) (Refuse (suc e) (limits to)) T)
-      (sends Accepted (Accept (suc e))
-      (Staging (suc e) (new_stage m.zeros (length (m.pages g)) (m.processors g))))
-      (lt-ltb (limits to) (length (m.pages g)) lt)
-
-  offer_declined : (T : Mode S P) → HoldsNone T → move_of T ≤ e → limits to < length (m.pages g)
-      → came m (limits to) (Offer (suc e) (length (m.pages g)) (m.processors g)) T ≡ sends
-      (Declined (limits to)) (Refuse (suc e) (limits to)) T
-  offer_declined (Empty k) h le lt = declined_above k (Empty k) le lt
-  offer_declined (Given k) h le lt = declined_above k (Given k) le lt
-  offer_declined (Held k q) h le lt = declined_above k (Held k q) le lt
-  offer_declined (Staging k s) h le lt =
-      if_false (k == suc e) (sends Accepted (Accept k) (Staging k s))
-      (offer_above m k (limits to) (suc e) (length (m.pages g)) (m.processors g) (Staging k s))
-      (ne_eqb k (suc e) (λ q. let z : k ≡ suc e = q in omega arith))
-      ∙ declined_above k (Staging k s) le lt
-  offer_declined (Run k q) h le lt = absurd h
-  offer_declined (Offering k q p) h le lt = absurd h
-  offer_declined (Copying k r) h le lt = absurd h
-  offer_declined (Stopped k l) h le lt = absurd h
-
-  -- Begin, Offer, Refuse
-  declining : (p q : ℕ) (T : Mode S P) (sent : List (Addressed P B)) → to ≢ from
-      → nat_lt from count ≡ true → is_there from count to ≡ true → is_there to count from ≡ true
-      → e < 2 ^ 64 - 1 → is_allowed policy ≡ true → HoldsNone T → move_of T ≤ e
-      → limits to < length (m.pages g)
-      → Phase m version count limits from to
-      (record {
-        source = record { mode = Run e g; partner = p };
-        target =
-            record { mode = T; partner = q };
-        sent = sent;
-      })
-      (At from (Begin to policy) ∷ Deliver (length sent) ∷ Deliver (length sent + 1) ∷ [])
-      (Begun (suc e) ∷ Declined (limits to) ∷ MoveDeclined (limits to) ∷ [])
-      (record {
-        source = record { mode = Run (suc e) g; partner = to };
-        target =
-            record { mode = T; partner = q };
-        sent =
-            (sent ++ record {
-              from = from;
-              to = to;
-              frame = Offer (suc e) (length (m.pages g))
-                  (m.processors g);
-            } ∷ [])
-            ++ record { from = to; to = from; frame = Refuse (suc e) (limits to) } ∷ [];
-      })
-  declining p q T sent apart here to_is_there from_is_there below allowed none le lt =
-      let M = suc e in
-      let offer : Frame P B = Offer M (length (m.pages g)) (m.processors g) in
-      let refuse : Frame P B = Refuse M (limits to) in
-      let offered_to : Addressed P B = record { from = from; to = to; frame = offer } in
-      let refused_by : Addressed P B = record { from = to; to = from; frame = refuse } in
-      let O : Mode S P = Offering M g policy in
-      let there : Host S P = record { mode = T; partner = q } in
-      let d0 : Duo S P B =
-      record { source = record { mode = Run e g; partner = p }; target = there; sent = sent } in
-      let d1 : Duo S P B =
-      record {
-        source = record { mode = O; partner = to };
-        target = there;
-        sent = sent
-            ++ offered_to ∷ [];
-      } in
-      let d2 : Duo S P B =
-      record {
-        source = record { mode = O; partner = to };
-        target = there;
-        sent =
-            (sent ++ offered_to ∷ []) ++ refused_by ∷ [];
-      } in
-      let begins : host_step m version from count (limits from) (Do (Begin to policy))
-      (record { mode = Run e g; partner = p }) ≡ settled m version from (Do (Begin to policy)) p
-      (begun m policy e g) =
-      ap (settled m version from (Do (Begin to policy)) p)
-      (if_true (is_there from count to) (begin m policy (Run e g)) _ to_is_there
-      ∙ if_true (is_allowed policy) (begin_allowed m policy e g) _ allowed
-      ∙ if_false (e == 2 ^ 64 - 1) _ (begun m policy e g)
-      (ne_eqb e (2 ^ 64 - 1) (λ z. let y : e ≡ 2 ^ 64 - 1 = z in omega (arith, below)))) in
-      let hears_offer : is_heard to count from offer there ≡ true = and_true _ _ from_is_there
-      (or_right (from == q) (nat_lt (move_of T) M) (lt-ltb (move_of T) M (omega arith))) in
-      let offers : host_step m version to count (limits to)
-      (Came from offer) there ≡ settled m version to (Came from offer) q
-      (sends (Declined (limits to)) refuse T) =
-      ap (settled m version to (Came from offer) q)
-      (if_true (is_heard to count from offer there) (came m (limits to) offer T)
-      (ignores T) hears_offer ∙ offer_declined T none le lt) in
-      let hears_refuse : is_heard from count to refuse (record { mode = O; partner = to }) ≡ true =
-      and_true _ _ to_is_there (or_left (to == to) _ (eq-eqb to to refl)) in
-      let refuses_it : host_step m version from count (limits from) (Came to refuse)
-      (record { mode = O; partner = to }) ≡ settled m version from (Came to refuse) to
-      (says (MoveDeclined (limits to)) (Run M g)) =
-      ap (settled m version from (Came to refuse) to)
-      (if_true (is_heard from count to refuse (record { mode = O; partner = to }))
-      (came m (limits from) refuse O) (ignores O) hears_refuse
-      ∙ if_true (M == M) (says (MoveDeclined (limits to)) (Run M g)) (ignores O)
-      (eq-eqb M M refl)) in
-      let one : Phase m version count limits from to d0 (At from (Begin to policy) ∷ [])
-      (Begun M ∷ []) d1 =
-      commands m version count limits from to (Begin to policy) d0
-      (settled m version from (Do (Begin to policy)) p
-      (begun m policy e g)) apart here begins in
-      let two : Phase m version count limits from to d1 (Deliver (length sent) ∷ [])
-      (Declined (limits to) ∷ []) d2 =
-      to_target m version count limits from to (length sent) from offer d1
-      (settled m version to (Came from offer) q (sends (Declined (limits to)) refuse T)) apart
-      (got_new sent offered_to (length sent) refl) offers in
-      let place : length sent + 1 ≡ length (sent ++ offered_to ∷ []) = let z =
-      length_more sent offered_to in omega (arith, z) in
-      let three = to_source m version count limits from to (length sent + 1) to refuse d2
-      (settled m version from (Came to refuse) to
-      (says (MoveDeclined (limits to)) (Run M g))) apart
-      (got_new (sent ++ offered_to ∷ []) refused_by (length sent + 1) place) refuses_it in
-      after m version count limits from to _ _ _ _ _ _ _
-      (after m version count limits from to _ _ _ _ _ _ _ one two) three
-
-module _ {S P E A B : Type 0} (m : Guest S P E A B) where
-  -- the hosts beside the one in Run are behind it
-  record Behind (e : ℕ) (g : S) (T : Mode S P) : Type 0 where
-    none : HoldsNone T
-    below : move_of T < suc e
-    valid : m.valid g ≡ true
-
-  beside_run : (O : Mode S P) (T : Mode S P) (e : ℕ) (g : S) → O ≡ Run e g → Meet O T
-      → move_of T < suc e
-  beside_run O T e g is i = (apart_run e T (subst (λ z. Meet z T) is i)).1
-
-  behind_run : (w : World S P B) (t : Told S) (x y e : ℕ) (g : S) → SoundAt m w t
-      → mode_at m w x ≡ Run e g → y ≢ x → Behind e g (mode_at m w y)
-  behind_run w t x y e g s is ne =
-      let l = s.good in
-      let none = λ (z : ℕ) (nz : z ≢ s.c). none_at m (w.hosts s.c) (w.hosts s.d) w.hosts
-      (read m w.sent) s.c s.d z t l nz in
-      elim (same_or x s.c) [
-        | inr nx ↦ absurd (subst (λ (X : Mode S P). HoldsNone X) is (none x nx))
-        | inl xc ↦
-            let run : mode_at m w s.c ≡ Run e g = ap (mode_at m w) (sym xc) ∙ is in
-            let yc : y ≢ s.c = λ q. ne (q ∙ sym xc) in
-            let same : g ≡ t.guest = some_is g t.guest (ap guest_in (sym run) ∙ l.guest) in
-            record {
-              none = none y yc;
-              below = elim (same_or y s.d) [
-                | inl q ↦
-                    subst (λ z. move_of (mode_at m w z) < suc e) (sym q)
-                    (beside_run (mode_at m w s.c) (mode_at m w s.d) e g run l.modes.meet)
-                | inr nd ↦
-                    subst (λ (X : Mode S P). move_of (mode_at m w y) < lim X) run
-                    (l.others y yc nd).1
-              ];
-              valid = subst (λ z. m.valid z ≡ true) (sym same) l.valid;
-            }
-      ]
-
-  run_version : (events : List (Event E)) (w : World S P B)
-      → ((run m w events).version ≡ w.version) × ((run m w events).count ≡ w.count) ×
-      ((run m w events).limits ≡ w.limits)
-  unfolding run
-  run_version [] w = (refl, refl, refl)
-  run_version (ev ∷ events) w =
-      let rest = run_version events (step m w ev) in
-      let here = kept (meaning m w ev) in
-      (rest.0 ∙ here.0, rest.1 ∙ here.1, rest.2 ∙ here.2)
-    where
-      kept : (q : Option (ℕ × HostEvent P E B))
-          → ((happened m w q).version ≡ w.version) × ((happened m w q).count ≡ w.count) ×
-          ((happened m w q).limits ≡ w.limits)
-      kept None = (refl, refl, refl)
-      kept (Some y) = (refl, refl, refl)
-
-  pub drive_law : ADrivenMoveArrives m
-  unfolding ADrivenMoveArrives
-  drive_law =
-      λ start g version count limits events from to e policy v is below allowed here there room some few.
-      let w = run m (new_world m version start count limits) events in
-      let s = run_sound m events (new_world m version start count limits) (at_start start)
-      (new_sound m version start count limits v) in
-      let apart = there_apart from count to there in
-      let b = behind_run w _ from to e g s is apart in
-      let T = mode_at m w to in
-      let fixed = run_version events (new_world m version start count limits) in
-      let ok : Drivable m version count limits from to e policy g = record {
-        apart = apart;
-        here = lt-ltb from count here;
-        to_is_there = there;
-        from_is_there =
-            and_true (nat_lt from count) (not (from == to)) (lt-ltb from count here)
-            (ap not (ne_eqb from to (λ q. apart (sym q))));
-        below = below;
-        allowed = allowed;
-        room = room;
-        some = some;
-        few = few;
-        valid = b.valid;
-      } in
-      let goes = drive_goes m version count limits from to e policy g ok (w.hosts from).partner
-      (w.hosts to).partner T w.sent b.none (let z = b.below in omega (arith, z)) in
-      let shows : Shows m version count limits from to w
-      (record {
-        source = record { mode = Run e g; partner = (w.hosts from).partner };
-        target =
-            w.hosts to;
-        sent = w.sent;
-      }) =
-      record {
-        version_is = fixed.0;
-        count_is = fixed.1;
-        limits_are = fixed.2;
-        source_is = ap
-            (λ z. record { mode = z; partner = (w.hosts from).partner }) is;
-        target_is =
-            refl;
-        sent_is = refl;
-      } in
-      let end = goes.goes.leads w shows in
-      record {
-        replied =
-            end.0 ∙ ap (λ z. drive_replies z (suc e) (page_count m g) (state_frames m z g))
-            (sym fixed.0);
-        there = ap (λ (h : Host S P). h.mode) end.1.target_is;
-        left = ap (λ (h : Host S P). h.mode) end.1.source_is;
-      }
-
-  pub declined_law : ATooLargeGuestIsDeclined m
-  unfolding ATooLargeGuestIsDeclined
-  declined_law =
-      λ start g version count limits events from to e policy v is below allowed here there large.
-      let w = run m (new_world m version start count limits) events in
-      let s = run_sound m events (new_world m version start count limits) (at_start start)
-      (new_sound m version start count limits v) in
-      let apart = there_apart from count to there in
-      let b = behind_run w _ from to e g s is apart in
-      let fixed = run_version events (new_world m version start count limits) in
-      let back = and_true (nat_lt from count) (not (from == to)) (lt-ltb from count here)
-      (ap not (ne_eqb from to (λ q. apart (sym q)))) in
-      let goes = declining m version count limits from to e policy g (w.hosts from).partner
-      (w.hosts to).partner (mode_at m w to) w.sent apart
-      (lt-ltb from count here) there back below allowed b.none
-      (let z = b.below in omega (arith, z)) large in
-      let shows : Shows m version count limits from to w
-      (record {
-        source = record { mode = Run e g; partner = (w.hosts from).partner };
-        target =
-            w.hosts to;
-        sent = w.sent;
-      }) =
-      record {
-        version_is = fixed.0;
-        count_is = fixed.1;
-        limits_are = fixed.2;
-        source_is = ap
-            (λ z. record { mode = z; partner = (w.hosts from).partner }) is;
-        target_is =
-            refl;
-        sent_is = refl;
-      } in
-      let end = goes.leads w shows in
-      record {
-        replied =
-            end.0 ∙ ap (λ (z : ℕ → ℕ). Begun (suc e) ∷ Declined (z to) ∷ MoveDeclined (z to) ∷ [])
-            (sym fixed.2);
-        stays = ap (λ (h : Host S P). h.mode) end.1.source_is;
-      }

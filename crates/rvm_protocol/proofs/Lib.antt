@@ -20,7 +20,10 @@ pub mod CausesOfRuns
 pub mod Contents
 mod DriveCount
 mod Phases
-pub mod DrivenMove
+mod Lists
+mod DrivenMove
+mod DeclinedMove
+pub mod DrivenMoveHolds
 pub mod Bounds
 mod Counter
 mod Examples

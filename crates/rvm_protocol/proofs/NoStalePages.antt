@@ -1,33 +1,19 @@
 -- The law of stale pages follows from the invariant.
-use Rattle.std.proofs.Common.{◌≡◌, ◌≢◌, ◌⊎◌, inl, inr, ℕ, zero, suc, ◌<◌, ◌≤◌, ◌==◌, ◌-◌, ◌^◌, nat_lt, not, ◌||◌, Bool, true, false, ◌&&◌, if◌then◌else◌, List, [], ◌∷◌, ◌++◌, length, Option, Some, None, refl, sym, ap, ◌∙◌, subst, arith, get_or}
-use Rattle.std.specs.Prelude.{slice_get}
-use Rattle.std.proofs.lemmas.Bool.{ltb-true, eqb-true, eq-eqb, ne_eqb}
-use Rattle.rvm_protocol.specs.Commands.{Policy, Command, Board, Begin, Copy, Resend, AbortMove, HostEvent, Do, Came, is_allowed}
-use Rattle.rvm_protocol.specs.Frames.{Frame, Offer, Accept, Refuse, Page, RoundEnd, Lost, State, Ready, Go, Started, Abort, Addressed, posted, Part, Zero, read, plain, made_as, written, is_compact}
+use Rattle.std.proofs.Common.{◌≡◌, inl, inr, ℕ, true, List, [], length, sym, subst, arith, get_or}
+use Rattle.rvm_protocol.specs.Frames.{Page, State, Addressed, Part, read}
 use Rattle.rvm_protocol.specs.FreshCopies.{NewestCopy, CopiesAreFresh, NoStalePage}
 use Rattle.rvm_protocol.specs.Guest.{Guest}
-use Rattle.rvm_protocol.specs.Host.{Host, obey_at, came_at, is_there, is_heard, is_offer_above, partner_then, outcome, addressee}
-use Rattle.rvm_protocol.specs.Modes.{Mode, Empty, Run, Offering, Copying, Stopped, Given, Staging, Held, Outcome, move_of, ignores, sends, refuses, guest_in}
-use Rattle.rvm_protocol.specs.NeverMoving.{is_answer, accepted_here, answered_here, accepted, answered, fold, fold_answers}
-use Rattle.rvm_protocol.specs.Obeying.{obey, board, begin, begin_allowed, begun}
-use Rattle.rvm_protocol.specs.OneGuest.{AlwaysOneGuest, OneGuest, OneGuestFromAnyWorld}
-use Rattle.rvm_protocol.specs.Pages.{put}
-use Rattle.rvm_protocol.specs.Receiving.{came, of_this_move, offered, offer_above}
-use Rattle.rvm_protocol.specs.Replies.{Reply, Committed, Answered, Accepted, Declined, BadSize, EpochsSpent, Refused, Paused, NotHere, BadHost, Ignored, NoFrame, Busy}
-use Rattle.rvm_protocol.specs.Rounds.{Last, page_of}
-use Rattle.rvm_protocol.specs.Told.{Told, reply_guest, told, told_reply, at_start, due}
-use Rattle.rvm_protocol.specs.World.{World, Event, At, Deliver, Entry, mode_at, and_sent, world_at, result_at, happened, entry_of, meaning, frame_for, reply_to, reply_or, run, history, new_host, new_world, step, Has}
-use Rattle.rvm_protocol.proofs.PairInvariant.{More, New, lim, own_ok, their_ok, Meet, HoldsNone, Modes, CopiesOk, IsFresh, Content, held_beside}
-use Rattle.rvm_protocol.proofs.CurrentModes.{either, owner_obeys, owner_receives, turned, held_num}
-use Rattle.rvm_protocol.proofs.OtherModes.{other_obeys, other_receives, alone}
-use Rattle.rvm_protocol.proofs.Basics.{some_is, both_false, is_either, or_true, put_same, same_or, and_both}
-use Rattle.rvm_protocol.proofs.CurrentPages.{owner_pages}
-use Rattle.rvm_protocol.proofs.OtherPages.{owner_pages_came, other_pages_came, turned_pages, pieces_are_sent}
-use Rattle.rvm_protocol.proofs.Tellings.{onto_same, is_stopped, aims, Tells, TellsOther, tells_owner, commanded, received, commanded_other, received_other}
-use Rattle.rvm_protocol.proofs.Behind.{is_run, from_ok, GivenOk, past_ok, go_ok, their_go, past_own, their_past, their_from, from_their, from_up, own_up, below, ready_num, lim_num, run_apart, apart_run, meets_apart, meet_num, content_apart, turn}
-use Rattle.rvm_protocol.proofs.WorldInvariant.{put_all, Made, made_down, more_old, more_new, Pair, reach, reach_here, reach_there, Good, retarget_run, own_all, owner_good, commit_good, other_good, made_new}
-use Rattle.rvm_protocol.proofs.StateCases.{state_cases, part_cases}
-use Rattle.rvm_protocol.specs.Shown.{is_paused, is_held, IsTarget, holds_current, IsCurrent, Shown, has_given}
+use Rattle.rvm_protocol.specs.Host.{Host}
+use Rattle.rvm_protocol.specs.Modes.{Mode, Empty, Run, Offering, Copying, Stopped, Given, Staging, Held, move_of}
+use Rattle.rvm_protocol.specs.Rounds.{page_of}
+use Rattle.rvm_protocol.specs.Told.{Told, at_start}
+use Rattle.rvm_protocol.specs.World.{mode_at, run, new_world}
+use Rattle.rvm_protocol.proofs.PairInvariant.{Meet, CopiesOk, IsFresh}
+use Rattle.rvm_protocol.proofs.OtherModes.{alone}
+use Rattle.rvm_protocol.proofs.Basics.{some_is, same_or}
+use Rattle.rvm_protocol.proofs.OtherPages.{pieces_are_sent}
+use Rattle.rvm_protocol.proofs.Behind.{run_apart}
+use Rattle.rvm_protocol.proofs.WorldInvariant.{Made, Good}
 use Rattle.rvm_protocol.proofs.OtherHosts.{none_at}
 use Rattle.rvm_protocol.proofs.Runs.{new_sound, run_sound}
 
@@ -116,7 +102,8 @@ module _ {S P E A B : Type 0} (m : Guest S P E A B) where
                   inr (elim b [
                     | inl a ↦ inl a
                     | inr f ↦ inr
-                        (newest_copy sent c d n r.newest r.copies r.guest p (to_d p) l.pages.copies f)
+                        (newest_copy sent c d n r.newest r.copies r.guest p
+                        (to_d p) l.pages.copies f)
                   ])
             ],
         λ to z ns b p k y h lt le i. (l.pages.states ns b (state_d to ns b h)).copies p k y lt le

@@ -1,5 +1,5 @@
 use Rattle.rvm_protocol.proofs.DriveCount.{drive_count}
-use Rattle.rvm_protocol.proofs.DrivenMove.{drive_law, declined_law}
+use Rattle.rvm_protocol.proofs.DrivenMoveHolds.{drive_law, declined_law}
 use Rattle.rvm_protocol.proofs.laws.a_driven_move_arrives.Goals as goal
 
 pub returns : goal.returns
