@@ -78,7 +78,8 @@ module _ {S P E A B : Type 0} (m : Guest S P E A B) where
   pub drive_law : ADrivenMoveArrives m
   unfolding ADrivenMoveArrives
   drive_law =
-      λ start g version count limits events from to e policy v is below allowed here there room some few.
+      λ start g version count limits events from to e policy.
+      λ v is below allowed here there room some few.
       let w = run m (new_world m version start count limits) events in
       let s = run_sound m events (new_world m version start count limits) (at_start start)
       (new_sound m version start count limits v) in

@@ -1,6 +1,7 @@
 //! Laws of all runs, each the contract of a function with nothing to do.
 
-ghost use Rattle.rvm_protocol.specs.DrivenMove.{ADrivenMoveArrives, ATooLargeGuestIsDeclined, DriveCount};
+ghost use Rattle.rvm_protocol.specs.DrivenMove.{ADrivenMoveArrives, ATooLargeGuestIsDeclined};
+ghost use Rattle.rvm_protocol.specs.DrivenMove.{DriveCount};
 ghost use Rattle.rvm_protocol.specs.FewCopies.{CopiesAreBounded};
 ghost use Rattle.rvm_protocol.specs.FrameCauses.{FramesFollowTheirCauses};
 ghost use Rattle.rvm_protocol.specs.FrameContents.{FramesCarryTheGuest};
@@ -25,12 +26,13 @@ pub fn a_state_names_only_fresh_copies<S, P, E, A, B>()
 {}
 
 /// Every Ready, Go or Started of a move was made at or after that move's first ReadySent, Committed
-/// or Started.
+/// or Started reply.
 pub fn frames_follow_their_causes<S, P, E, A, B>()
     ensures always { (m : Guest S P E A B) → FramesFollowTheirCauses m }
 {}
 
-/// Each Page carries the bytes, and each State the state, that the guest has when it is made.
+/// Each Page carries the bytes, each Zero a page of zeros, each State the state and each Part a piece
+/// of the state that the guest has when it is made.
 pub fn frames_carry_the_guest<S, P, E, A, B>()
     ensures always { (m : Guest S P E A B) → FramesCarryTheGuest m }
 {}
