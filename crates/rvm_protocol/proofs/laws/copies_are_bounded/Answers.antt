@@ -1,0 +1,5 @@
+use Rattle.rvm_protocol.proofs.Bounds.{bound_law}
+use Rattle.rvm_protocol.proofs.laws.copies_are_bounded.Goals as goal
+
+pub returns : goal.returns
+returns g c = record { always = λ m. bound_law m }

@@ -1,0 +1,35 @@
+-- What frames carry: a Page the bytes, a Zero a page of zeros, a State the state and a Part a piece
+-- of the state of the guest at its event.
+use Rattle.std.specs.Prelude.{◌≡◌, ◌<◌, ℕ, true, List, [], length, get_or}
+use Rattle.std.specs.declared.option.Option.TheVariants.{Some}
+use Rattle.rvm_protocol.specs.Guest.{Guest}
+use Rattle.rvm_protocol.specs.Frames.{Frame, Page, Zero, State, Part, Addressed}
+use Rattle.rvm_protocol.specs.Commands.{HostEvent}
+use Rattle.rvm_protocol.specs.Rounds.{page_of}
+use Rattle.rvm_protocol.specs.World.{Event, run, history, meaning, result_at, new_world}
+use Rattle.rvm_protocol.specs.NeverMoving.{accepted, fold}
+
+module _ {S P E A B : Type 0} (m : Guest S P E A B) where
+  -- one of the pieces of the state of g
+  pub record IsPieceOf (g : S) (part parts : ℕ) (bytes : List ℕ) : Type 0 where
+    pub numbers : List ℕ
+    pub count : parts ≡ length (m.cut numbers (m.body g))
+    pub inside : part < parts
+    pub piece : bytes ≡ get_or (m.cut numbers (m.body g)) part []
+
+  abbrev pub Carries : S → Frame P B → Type 0
+  Carries g (Page n p k b) = b ≡ page_of m g p
+  Carries g (Zero n p k) = page_of m g p ≡ m.zeros
+  Carries g (Part n stamp part parts bytes) = IsPieceOf g part parts bytes
+  Carries g (State n numbers b) = b ≡ m.body g
+  Carries g f = Unit {0}
+
+  -- the guest is the one that never moves, at the event that makes the frame
+  unfoldable pub FramesCarryTheGuest : Type 0
+  FramesCarryTheGuest =
+      (g : S) (version count : ℕ) (limits : ℕ → ℕ) (events : List (Event E)) (ev : Event E) (x : ℕ)
+      (e : HostEvent P E B) (a : Addressed P B) → m.valid g ≡ true
+      → meaning m (run m (new_world m version g count limits) events) ev ≡ Some (x, e)
+      → (result_at m (run m (new_world m version g count limits) events) x e).made ≡ Some a
+      → Carries (fold m g (accepted (history m (new_world m version g count limits) events)))
+      a.frame

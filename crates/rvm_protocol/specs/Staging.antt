@@ -1,0 +1,51 @@
+-- The destination of a move: pages are staged as their copies come, each replaced by newer ones
+-- alone, until a state names copies that are all there.
+use Rattle.std.specs.Prelude.{ℕ, Bool, ◌&&◌, ◌||◌, ◌==◌, if◌then◌else◌, nat_lt, List, get_or, set, replicate}
+use Rattle.std.specs.declared.option.Option.{Option}
+use Rattle.std.specs.declared.option.Option.TheVariants.{Some, None}
+use Rattle.rvm_protocol.specs.Pages.{Pages, put}
+
+pub record Stage (P : Type 0) : Type 0 where
+  pub pages : List P
+  -- the number of each page's copy that is staged, 0 for none
+  pub have : ℕ → ℕ
+  pub processors : ℕ
+  -- the pieces of a state that are kept: the highest stamp seen, its count of parts, and by number
+  pub stamp : ℕ
+  pub parts : ℕ
+  pub pieces : ℕ → Option (List ℕ)
+
+-- pages of zeros, no copy, no piece
+abbrev pub new_stage : {P : Type 0} → P → (pages processors : ℕ) → Stage P
+new_stage zeros pages processors =
+    record {
+      pages = replicate pages zeros;
+      have = λ p. 0;
+      processors = processors;
+      stamp = 0;
+      parts = 0;
+      pieces = λ i. None;
+    }
+
+-- with a copy of page p
+abbrev pub with_page : {P : Type 0} → Stage P → (p number : ℕ) → P → Stage P
+with_page s p number b =
+    record s { pages = set s.pages p b; have = put s.have p number }
+
+-- the pages whose staged copy is older than the one named
+abbrev pub lacks : {P : Type 0} → Stage P → List ℕ → Pages
+lacks s numbers p = nat_lt (s.have p) (get_or numbers p 0)
+
+-- a piece counts where its stamp is above all seen in this move, or the highest with its count of
+-- parts
+abbrev pub takes_part : {P : Type 0} → Stage P → (stamp parts : ℕ) → Bool
+takes_part s stamp parts = nat_lt s.stamp stamp || (stamp == s.stamp && parts == s.parts)
+
+-- with a piece; a higher stamp drops the pieces kept
+abbrev pub with_part : {P : Type 0} → Stage P → (stamp part parts : ℕ) → List ℕ → Stage P
+with_part s stamp part parts bytes =
+    record s {
+      stamp = stamp;
+      parts = parts;
+      pieces = put (if nat_lt s.stamp stamp then (λ i. None) else s.pieces) part (Some bytes);
+    }

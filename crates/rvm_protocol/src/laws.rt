@@ -1,0 +1,53 @@
+//! Laws of all runs, each the contract of a function with nothing to do.
+
+ghost use Rattle.rvm_protocol.specs.DrivenMove.{ADrivenMoveArrives, ATooLargeGuestIsDeclined};
+ghost use Rattle.rvm_protocol.specs.DrivenMove.{DriveCount};
+ghost use Rattle.rvm_protocol.specs.FewCopies.{CopiesAreBounded};
+ghost use Rattle.rvm_protocol.specs.FrameCauses.{FramesFollowTheirCauses};
+ghost use Rattle.rvm_protocol.specs.FrameContents.{FramesCarryTheGuest};
+ghost use Rattle.rvm_protocol.specs.FreshCopies.{NoStalePage};
+ghost use Rattle.rvm_protocol.specs.Guest.{Guest};
+ghost use Rattle.rvm_protocol.specs.OneGuest.{AlwaysOneGuest, OneGuestFromAnyWorld};
+
+/// For every list of events over the hosts of a world, with frames lost, repeated and reordered:
+/// the guest at the current host, and each answer it gave, are those of one guest that never moves;
+/// its events are answered or refused as the replies tell; a commit hands over exactly that guest;
+/// and never would two hosts answer one. So from a new world, and from any later one by what its
+/// modes show.
+pub fn the_guest_is_the_one_that_never_moves<S, P, E, A, B>()
+    ensures always { (m : Guest S P E A B) → AlwaysOneGuest m }
+    ensures from_any_world { (m : Guest S P E A B) → OneGuestFromAnyWorld m }
+{}
+
+/// While a source copies, no page is forgotten; and the copies that a state names, and all later
+/// ones of its move, equal the paused pages.
+pub fn a_state_names_only_fresh_copies<S, P, E, A, B>()
+    ensures always { (m : Guest S P E A B) → NoStalePage m }
+{}
+
+/// Every Ready, Go or Started of a move was made at or after that move's first ReadySent, Committed
+/// or Started reply.
+pub fn frames_follow_their_causes<S, P, E, A, B>()
+    ensures always { (m : Guest S P E A B) → FramesFollowTheirCauses m }
+{}
+
+/// Each Page carries the bytes, each Zero a page of zeros, each State the state and each Part a piece
+/// of the state that the guest has when it is made.
+pub fn frames_carry_the_guest<S, P, E, A, B>()
+    ensures always { (m : Guest S P E A B) → FramesCarryTheGuest m }
+{}
+
+/// Before it stops, a move makes at most as many copies of a page as it may make rounds.
+pub fn copies_are_bounded<S, P, E, A, B>()
+    ensures always { (m : Guest S P E A B) → CopiesAreBounded m }
+{}
+
+/// From a world of any run, a driven move of a guest of n pages to another host that takes it is
+/// answered as planned, the last two times by Started and Finished, and the guest stands unchanged
+/// at its target. It has 2 n + 11 events, and where its state is sent in parts 2 n + 9 and two for
+/// each part. A host that takes fewer pages declines it, and the guest runs on at its source.
+pub fn a_driven_move_arrives<S, P, E, A, B>()
+    ensures always { (m : Guest S P E A B) → ADrivenMoveArrives m }
+    ensures declined { (m : Guest S P E A B) → ATooLargeGuestIsDeclined m }
+    ensures count { DriveCount }
+{}
