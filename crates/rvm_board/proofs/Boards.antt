@@ -1,0 +1,58 @@
+-- A board stays a board.
+use Rattle.std.proofs.Common.{◌≡◌, ℕ, Bool, ◌<◌, ◌≤◌, List, Option, None, false, length, get_or, set, map, replicate, sym, ap, ◌∙◌, arith, inl, inr}
+use Rattle.std.proofs.lemmas.List.{length-replicate, length-set, get_or-set_same, get_or-set_other}
+use Rattle.std.proofs.lemmas.List.FromFn.{get_or-map-range_with_len, length-map-range_with_len}
+use Rattle.std.proofs.lemmas.Bool.{cases_eq}
+use Rattle.std.specs.List.{range_with_len}
+use Rattle.rvm_dev.specs.Devices as dev
+use Rattle.rvm_hart.specs.Machine.{HartState, Machine, BusState, shape}
+use Rattle.rvm_hart.specs.Step.{step}
+use Rattle.rvm_hart.proofs.Shape.{step_keeps}
+use Rattle.rvm_board.specs.Board.{Board, IsBoard, machine_at, new_hart, stepped}
+
+-- the parts of a shape that is kept
+record Kept (m n : Machine) : Type 0 where
+  hart : m.hart.csrs.hart ≡ n.hart.csrs.hart
+  bytes : length m.reach.bytes ≡ length n.reach.bytes
+  reservations : length m.reach.reservations ≡ length n.reach.reservations
+  msip : length m.reach.devices.msip ≡ length n.reach.devices.msip
+
+kept : (m n : Machine) → shape m ≡ shape n → Kept m n
+kept m n e = record { hart = cc; bytes = cc; reservations = cc; msip = cc }
+
+number_after : (harts : List HartState) (h k : ℕ) (x blank : HartState) → h < length harts → x.csrs.hart ≡ h → (get_or harts k blank).csrs.hart ≡ k → (get_or (set harts h x) k blank).csrs.hart ≡ k
+number_after harts h k x blank inside same other =
+    elim (cases_eq h k) [
+      | inl e ↦ ap (λ (y : HartState). y.csrs.hart) (ap (λ n. get_or (set harts h x) n blank) (sym e) ∙ get_or-set_same harts h x blank inside) ∙ same ∙ e
+      | inr n ↦ ap (λ (y : HartState). y.csrs.hart) (get_or-set_other harts h k x blank (λ e. n (sym e))) ∙ other
+    ]
+
+pub step_is_board : (b : Board) (h : ℕ) → IsBoard b → h < length b.harts → IsBoard (stepped h b).board
+step_is_board b h board inside =
+    let m : Machine = machine_at h b in
+    let after : Machine = (step m).machine in
+    let k : Kept after m = kept after m (step_keeps m) in
+    let count : length (set b.harts h after.hart) ≡ length b.harts = length-set b.harts h after.hart in
+    record {
+      some = omega (arith, count, board.some);
+      bound = omega (arith, count, board.bound);
+      numbers = λ n below. number_after b.harts h n after.hart (new_hart 0 0) inside (k.hart ∙ board.numbers h inside) (board.numbers n (omega (arith, below, count)));
+      reservations = k.reservations ∙ board.reservations ∙ sym count;
+      msip = k.msip ∙ board.msip ∙ sym count;
+    }
+
+-- the parts that a board is made of
+pub made_is_board : (n entry : ℕ) (harts : List HartState) (bus : BusState) (bytes : List ℕ) (d : dev.DeviceState) (words : List (Option ℕ)) (dirty : List Bool) → 0 < n → n ≤ 8
+    → harts ≡ map (new_hart entry) (range_with_len 0 n) → d ≡ dev.at_reset n → words ≡ replicate n None
+    → bus ≡ record { reach = record { bytes = bytes; devices = d; reservations = words }; dirty = dirty } → IsBoard (record { harts = harts; reach = bus.reach })
+made_is_board n entry harts bus bytes d words dirty some bound of_harts of_devices of_words of_bus =
+    let count : length harts ≡ n = ap (λ hs. length hs) of_harts ∙ length-map-range_with_len (new_hart entry) 0 n in
+    record {
+      some = omega (arith, count, some);
+      bound = omega (arith, count, bound);
+      numbers = λ k below.
+          ap (λ (hs : List HartState). (get_or hs k (new_hart 0 0)).csrs.hart) of_harts
+          ∙ ap (λ (h : HartState). h.csrs.hart) (get_or-map-range_with_len (new_hart entry) 0 n k k (new_hart 0 0) (omega (arith, below, count)) (omega arith));
+      reservations = ap (λ (b : BusState). length b.reach.reservations) of_bus ∙ ap (λ ws. length ws) of_words ∙ length-replicate n None ∙ sym count;
+      msip = ap (λ (b : BusState). length b.reach.devices.msip) of_bus ∙ ap (λ (x : dev.DeviceState). length x.msip) of_devices ∙ length-replicate n false ∙ sym count;
+    }

@@ -1,0 +1,134 @@
+//! The board of 1 to 8 harts.
+
+ghost use Rattle.std.specs.List.{range_with_len};
+ghost use Rattle.std.specs.Prelude.{◌≡◌, ◌%◌, map, ◌<◌, ◌≤◌, ◌++◌, ◌∷◌, [], ◌↔◌, true, false, length, min, take, drop, IfOk, IfErr, OnOk, OnErr, IsErr};
+ghost use Rattle.rvm_mem.specs.Pages.{mark_all};
+ghost use Rattle.rvm_board.specs.declared.board.BoardError.TheVariants.{BadSize};
+ghost use Rattle.rvm_board.specs.Board.{at_reset, new_hart, stepped, with_input, with_output, is_allowed};
+
+use rvm_dev::{Devices, InputFull};
+use rvm_hart::{Bus, Hart, Stepped};
+use rvm_mem::Memory;
+use rvm_res::Reservations;
+use std::alloc::{AllocError, Global};
+use std::marker::Model;
+use thiserror::Error;
+
+/// The most harts that a board has.
+pub const MAX_HARTS: u32 = 8;
+
+/// Why there is no board.
+#[derive(Clone, Copy, Debug, PartialEq, Eq, Error)]
+pub enum BoardError {
+    /// No hart or more than 8, no RAM, or an entry that is no multiple of four.
+    #[error("harts, RAM or entry are outside limits")]
+    BadSize,
+    /// A growth was refused.
+    #[error("out of memory")]
+    OutOfMemory,
+}
+
+/// Harts, RAM and devices.
+#[derive(Drop)]
+pub struct Board<M: Memory> {
+    harts: Vec<Hart>,
+    bus: Bus<M>,
+}
+
+impl<M: Memory> Model for Board<M> {
+    ghost use Rattle.rvm_board.specs.Board.{BoardState, IsBoard};
+
+    ghost Value = { BoardState };
+
+    ghost view = { λ b. record { plain = record { harts = b.harts.items; reach = b.bus.reach }; dirty = b.bus.dirty } };
+
+    ghost invariant = { λ b. IsBoard (record { harts = b.harts.items; reach = b.bus.reach }) };
+}
+
+impl<M: Memory> Board<M> {
+    /// A board at reset: each hart starts at `entry` with its number in a0, mtimecmp is all ones,
+    /// all else is 0; the RAM is as it was handed in. `BadSize` for harts outside 1 to 8, a RAM of
+    /// no page, or an entry that is no multiple of four; each refusal hands the RAM back.
+    pub fn new(alloc: Global, harts: u32, ram: M, entry: u32) -> Result<Board<M>, (BoardError, M)>
+        ensures board { IfOk result (λ b. b.plain ≡ at_reset harts entry (M.bytes ram)) }
+        ensures dirty { IfOk result (λ b. b.dirty ≡ M.dirty ram) }
+        ensures allowed { OnOk result (is_allowed harts entry (M.bytes ram) ≡ true) }
+        ensures size { IfErr result (λ e. (e.0 ≡ BadSize) ↔ (is_allowed harts entry (M.bytes ram) ≡ false)) }
+        ensures ram { IfErr result (λ e. e.1 ≡ ram) }
+    {
+        if harts == 0 || harts > MAX_HARTS || ram.len() == 0 || entry % 4 != 0 {
+            return Err((BoardError::BadSize, ram));
+        }
+        let Ok(harts_at_reset) = new_harts(alloc, harts, entry) else {
+            return Err((BoardError::OutOfMemory, ram));
+        };
+        let Ok(devices) = Devices::new(alloc, harts) else {
+            return Err((BoardError::OutOfMemory, ram));
+        };
+        let reservations = Reservations::new(harts as usize);
+        Ok(Board {
+            harts: harts_at_reset,
+            bus: Bus::new(ram, devices, reservations),
+        })
+    }
+
+    /// How many harts there are, 1 to 8.
+    #[inline(always)]
+    pub fn harts(&self) -> u32
+        ensures count { result ≡ length self.now.plain.harts }
+        ensures some { 0 < result }
+        ensures bound { result ≤ 8 }
+    {
+        self.harts.len() as u32
+    }
+
+    /// One step of a hart.
+    #[inline(always)]
+    pub fn step(&mut self, hart: u32) -> Stepped
+        requires { hart < length self.old.plain.harts }
+        ensures board { self.new.plain ≡ (stepped hart self.old.plain).board }
+        ensures dirty { self.new.dirty ≡ mark_all (stepped hart self.old.plain).pages self.old.dirty }
+        ensures answer { result ≡ (stepped hart self.old.plain).answer }
+    {
+        let stepping = &mut self.harts[hart as usize];
+        stepping.step(&mut self.bus)
+    }
+
+    /// A byte comes to the console; `InputFull`, and nothing changes, where 16 wait.
+    pub fn input(&mut self, byte: u8) -> Result<(), InputFull>
+        ensures taken { OnOk result (self.new ≡ record self.old { plain = with_input (self.old.plain.reach.devices.input ++ byte ∷ []) self.old.plain }) }
+        ensures full { IsErr result ↔ (length self.old.plain.reach.devices.input ≡ 16) }
+        ensures err { OnErr result (self.new ≡ self.old) }
+    {
+        self.bus.input(byte)
+    }
+
+    /// How many bytes that the guest sent wait to be taken.
+    #[inline(always)]
+    pub fn waiting(&self) -> usize
+        ensures { result ≡ length self.now.plain.reach.devices.output }
+    {
+        self.bus.waiting()
+    }
+
+    /// Takes the oldest bytes that the guest sent, as many as there are and fit, and says how many.
+    pub fn drain(&mut self, bytes: &mut [u8]) -> usize
+        ensures count { result ≡ min (length bytes.old) (length self.old.plain.reach.devices.output) }
+        ensures bytes { bytes.new ≡ take result self.old.plain.reach.devices.output ++ drop result bytes.old }
+        ensures board { self.new ≡ record self.old { plain = with_output (drop result self.old.plain.reach.devices.output) self.old.plain } }
+    {
+        self.bus.drain(bytes)
+    }
+}
+
+/// The harts of a board at reset.
+fn new_harts(alloc: Global, count: u32, entry: u32) -> Result<Vec<Hart>, AllocError>
+    requires { entry % 4 ≡ 0 }
+    ensures { IfOk result (λ harts. harts.items ≡ map (new_hart entry) (range_with_len 0 count)) }
+{
+    let mut harts = Vec::with_capacity(alloc, count as usize)?;
+    for number in 0..count {
+        harts.push(Hart::new(number, entry))?;
+    }
+    Ok(harts)
+}

@@ -1,0 +1,49 @@
+//! `rvmove`: runs guests of a small RISC-V board. Reads the command line and the files, and calls
+//! the command.
+#![tactic(auto)]
+
+use rvm_command::arguments::{Arguments, RunArguments, parse_args};
+use rvm_command::run_command::run_command;
+use rvm_refusal::Refusal;
+use std::process::ExitCode;
+use std::{env, fs};
+
+fn main(rt: HostRuntime) -> anyhow::Result<ExitCode> {
+    let words: Vec<String> = env::args(&rt)?.collect(rt.alloc())?;
+    match parse_args(rt.alloc(), words.as_slice()) {
+        Ok(Arguments::Run(arguments)) => run(&rt, &arguments),
+        Err(error) => {
+            error.print(&rt)?;
+            Ok(ExitCode::from(if error.exit_code() == 0 { 0 } else { 2 }))
+        }
+    }
+}
+
+/// Reads the files of `run`, in the order in which the command names them, and runs.
+fn run(rt: &HostRuntime, arguments: &RunArguments) -> anyhow::Result<ExitCode> {
+    let Ok(image) = fs::read(rt, arguments.image) else {
+        return refuse(rt, Refusal::LinkFault);
+    };
+    let input = match arguments.input {
+        None => Vec::new(rt.alloc()),
+        Some(file) => match fs::read(rt, file) {
+            Ok(bytes) => bytes,
+            Err(_) => return refuse(rt, Refusal::LinkFault),
+        },
+    };
+    let status = run_command(
+        rt.alloc(),
+        arguments,
+        image.as_slice(),
+        input.as_slice(),
+        &mut rt.stdout(),
+        &mut rt.stderr(),
+    );
+    Ok(ExitCode::from(status))
+}
+
+/// Prints a refusal, and ends with status 1.
+fn refuse(rt: &HostRuntime, refusal: Refusal) -> anyhow::Result<ExitCode> {
+    eprintln!(rt; "{refusal}")?;
+    Ok(ExitCode::from(1))
+}
