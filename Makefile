@@ -1,0 +1,25 @@
+# make hi: proves, builds and runs the program on examples/hi.bin. make test: the merge gate.
+PREFIX ?= /usr/local
+
+.PHONY: build hi test bench install clean
+
+# The program lies in build/rvmove afterwards.
+build:
+	cd crates/rvmove && rt run -- --help > /dev/null
+	mkdir -p build
+	cp crates/rvmove/out/rvmove build/rvmove
+
+hi: build
+	./build/rvmove run examples/hi.bin --raw
+
+test:
+	rt ci
+
+bench: build
+	python3 bench/bench.py
+
+install: build
+	install -D build/rvmove $(PREFIX)/bin/rvmove
+
+clean:
+	rm -rf build
