@@ -7,7 +7,8 @@ use Rattle.std.specs.List.{range_with_len}
 use Rattle.rvm_dev.specs.Devices as dev
 use Rattle.rvm_hart.specs.Machine.{HartState, Machine, BusState, shape}
 use Rattle.rvm_hart.specs.Step.{step}
-use Rattle.rvm_hart.proofs.Shape.{step_keeps}
+use Rattle.rvm_hart.proofs.Shape.{step_keeps, length-poked_each}
+use Rattle.rvm_hart.specs.Pokes.{bus_poked}
 use Rattle.rvm_board.specs.Board.{Board, IsBoard, machine_at, new_hart, stepped}
 
 -- the parts of a shape that is kept
@@ -55,4 +56,15 @@ made_is_board n entry harts bus bytes d words dirty some bound of_harts of_devic
           ∙ ap (λ (h : HartState). h.csrs.hart) (get_or-map-range_with_len (new_hart entry) 0 n k k (new_hart 0 0) (omega (arith, below, count)) (omega arith));
       reservations = ap (λ (b : BusState). length b.reach.reservations) of_bus ∙ ap (λ ws. length ws) of_words ∙ length-replicate n None ∙ sym count;
       msip = ap (λ (b : BusState). length b.reach.devices.msip) of_bus ∙ ap (λ (x : dev.DeviceState). length x.msip) of_devices ∙ length-replicate n false ∙ sym count;
+    }
+
+-- other reservations, for as many harts, and other bytes
+pub poke_is_board : (harts : List HartState) (a : ℕ) (bytes : List ℕ) (old new : BusState) → IsBoard (record { harts = harts; reach = old.reach }) → new ≡ bus_poked a bytes old → IsBoard (record { harts = harts; reach = new.reach })
+poke_is_board harts a bytes old new board e =
+    record {
+      some = board.some;
+      bound = board.bound;
+      numbers = λ k below. board.numbers k below;
+      reservations = ap (λ (b : BusState). length b.reach.reservations) e ∙ length-poked_each a (length bytes) old.reach.reservations ∙ board.reservations;
+      msip = ap (λ (b : BusState). length b.reach.devices.msip) e ∙ board.msip;
     }

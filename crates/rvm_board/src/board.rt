@@ -1,18 +1,23 @@
 //! The board of 1 to 8 harts.
 
 ghost use Rattle.std.specs.List.{range_with_len};
-ghost use Rattle.std.specs.Prelude.{◌≡◌, ◌%◌, map, ◌<◌, ◌≤◌, ◌++◌, ◌∷◌, [], ◌↔◌, true, false, length, min, take, drop, IfOk, IfErr, OnOk, OnErr, IsErr};
+ghost use Rattle.std.specs.Prelude.{◌≡◌, ◌%◌, map, ◌<◌, ◌≤◌, ◌++◌, ◌∷◌, [], ◌↔◌, true, false, length, min, take, drop, IfOk, IfErr, OnOk, OnErr, IsErr, ◌≢◌};
 ghost use Rattle.rvm_mem.specs.Pages.{mark_all};
 ghost use Rattle.rvm_board.specs.declared.board.BoardError.TheVariants.{BadSize};
+ghost use Rattle.rvm_board.specs.declared.board.PokeError.TheVariants.{BadHart, OutOfRange};
+ghost use Rattle.rvm_board.specs.Pokes.{register_poked, memory_poked, is_view};
 ghost use Rattle.rvm_board.specs.Board.{at_reset, new_hart, stepped, with_input, with_output, is_allowed};
 
 use rvm_dev::{Devices, InputFull};
-use rvm_hart::{Bus, Hart, Stepped};
+use rvm_hart::{Bus, Hart, PC, Stepped};
 use rvm_mem::Memory;
 use rvm_res::Reservations;
 use std::alloc::{AllocError, Global};
 use std::marker::Model;
 use thiserror::Error;
+
+/// The most bytes that are read or written from outside at once.
+pub const VIEW_SIZE: usize = 256;
 
 /// The most harts that a board has.
 pub const MAX_HARTS: u32 = 8;
@@ -26,6 +31,17 @@ pub enum BoardError {
     /// A growth was refused.
     #[error("out of memory")]
     OutOfMemory,
+}
+
+/// Why a write from outside was refused.
+#[derive(Clone, Copy, Debug, PartialEq, Eq, Error)]
+pub enum PokeError {
+    /// There is no such hart.
+    #[error("there is no such hart")]
+    BadHart,
+    /// There is no such register, or the bytes are none, more than 256, or not wholly in RAM.
+    #[error("register, address or length are out of range")]
+    OutOfRange,
 }
 
 /// Harts, RAM and devices.
@@ -118,6 +134,45 @@ impl<M: Memory> Board<M> {
         ensures board { self.new ≡ record self.old { plain = with_output (drop result self.old.plain.reach.devices.output) self.old.plain } }
     {
         self.bus.drain(bytes)
+    }
+
+    /// Sets a register of a hart: x0 to x31 by its number, or pc by 32, of which bits 1:0 are
+    /// cleared; a write to x0 is dropped. `BadHart` comes before `OutOfRange`; a refusal changes
+    /// nothing.
+    pub fn poke_reg(&mut self, hart: u32, register: u32, value: u32) -> Result<(), PokeError>
+        ensures poked { OnOk result (self.new ≡ record self.old { plain = register_poked hart register value self.old.plain }) }
+        ensures hart { (result ≡ Err BadHart) ↔ (length self.old.plain.harts ≤ hart) }
+        ensures range { (result ≡ Err OutOfRange) ↔ ((hart < length self.old.plain.harts) × (32 < register)) }
+        ensures err { OnErr result (self.new ≡ self.old) }
+    {
+        if hart as usize >= self.harts.len() {
+            return Err(PokeError::BadHart);
+        }
+        if register > PC {
+            return Err(PokeError::OutOfRange);
+        }
+        let poked = &mut self.harts[hart as usize];
+        poked.poke(register, value);
+        Ok(())
+    }
+
+    /// Writes 1 to 256 bytes of RAM from an address on, adds their pages to the dirty log, and ends
+    /// each reservation of a word that is touched. `OutOfRange`, and nothing changes, for another
+    /// number of bytes or where they are not wholly in RAM.
+    pub fn poke_mem(&mut self, address: u32, bytes: &[u8]) -> Result<(), PokeError>
+        ensures poked { OnOk result (self.new ≡ memory_poked address bytes.now self.old) }
+        ensures range { (result ≡ Err OutOfRange) ↔ (is_view address (length bytes.now) self.old.plain ≡ false) }
+        ensures hart { result ≢ Err BadHart }
+        ensures err { OnErr result (self.new ≡ self.old) }
+    {
+        if bytes.is_empty() || bytes.len() > VIEW_SIZE {
+            return Err(PokeError::OutOfRange);
+        }
+        match self.bus.poke(address, bytes) {
+            Ok(()) => {}
+            Err(_) => return Err(PokeError::OutOfRange),
+        }
+        Ok(())
     }
 }
 

@@ -5,4 +5,4 @@
 
 mod board;
 
-pub use board::{Board, BoardError, MAX_HARTS};
+pub use board::{Board, BoardError, MAX_HARTS, PokeError, VIEW_SIZE};

@@ -1,5 +1,5 @@
 -- No step changes the hart's number, the size of RAM, or for how many harts reservations and devices are.
-use Rattle.std.proofs.Common.{◌≡◌, ℕ, ◌+◌, ◌-◌, ◌%◌, ◌^◌, ◌≤◌, Bool, true, false, List, [], ◌∷◌, Option, Some, None, length, map, refl, sym, ap, ◌∙◌, arith, ℤ, if◌then◌else◌, option_map, not, ◌==◌, nat_lt, int_lt}
+use Rattle.std.proofs.Common.{◌≡◌, ℕ, zero, suc, ◌+◌, ◌-◌, ◌%◌, ◌^◌, ◌≤◌, Bool, true, false, List, [], ◌∷◌, Option, Some, None, length, map, refl, sym, ap, ◌∙◌, arith, ℤ, if◌then◌else◌, option_map, not, ◌==◌, nat_lt, int_lt}
 use Rattle.std.proofs.lemmas.Bool.Decides.{nat_tests}
 use Rattle.std.proofs.lemmas.List.{length-set, length-map}
 use Rattle.rvm_mem.specs.Bytes.{store}
@@ -26,6 +26,7 @@ use Rattle.rvm_hart.specs.declared.outcome.Written.TheVariants as wrote
 use Rattle.rvm_hart.specs.Machine.{Machine, Reach, shape, reach_shape, number_of}
 use Rattle.rvm_hart.specs.Bus.{in_ram, ram_base, ram_load, in_ram_stored, ram_stored, device_stored, word_stored, word_loaded, after_word_load, Stored, mip_of, wrote_of}
 use Rattle.rvm_hart.specs.Outcome.{Outcome, Done, Traps, machine_after, gives, reg}
+use Rattle.rvm_hart.specs.Pokes.{poked_each}
 use Rattle.rvm_hart.specs.Rooms as room
 use Rattle.rvm_hart.specs.Rows.{effect, signed_byte, signed_half, as_it_is}
 use Rattle.rvm_word.specs.Word.{signed}
@@ -369,3 +370,10 @@ halted_keeps (Some s) m = refl
 
 pub step_keeps : (m : Machine) → shape (step m).machine ≡ shape m
 step_keeps m = halted_keeps m.reach.devices.halted m
+
+-- WRITES FROM OUTSIDE
+
+pub length-poked_each : (a n : ℕ) (words : List (Option ℕ)) → length (poked_each a n words) ≡ length words
+unfolding poked_each
+length-poked_each a zero words = refl
+length-poked_each a (suc n) words = length-map (poked_each a n words) _ ∙ length-poked_each a n words

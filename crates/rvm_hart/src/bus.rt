@@ -1,15 +1,16 @@
 //! What a hart reaches: RAM, devices and reservations.
 
-ghost use Rattle.std.specs.Prelude.{◌≡◌, ◌%◌, ◌<◌, ◌^◌, ◌+◌, ◌++◌, ◌∷◌, [], ◌↔◌, option_map, length, min, take, drop, IfNone, OnOk, OnErr, IsErr};
+ghost use Rattle.std.specs.Prelude.{◌≡◌, ◌%◌, ◌<◌, ◌^◌, ◌+◌, ◌++◌, ◌∷◌, [], ◌↔◌, option_map, length, min, take, drop, IfNone, OnOk, OnErr, IsErr, ◌≤◌, false};
 ghost use Rattle.rvm_res.specs.Reservations as res;
 ghost use Rattle.rvm_hart.specs.Machine.{BusState};
-ghost use Rattle.rvm_hart.specs.Bus.{ram_load, word_loaded, after_word_load, ram_stored, word_stored, device_stored, left_by, wrote_of, mip_of};
+ghost use Rattle.rvm_hart.specs.Pokes.{bus_poked, poked_each};
+ghost use Rattle.rvm_hart.specs.Bus.{in_ram, ram_load, word_loaded, after_word_load, ram_stored, word_stored, device_stored, left_by, wrote_of, mip_of};
 
 use crate::outcome::Written;
 use rvm_csr::Interrupts;
 use rvm_dev::register::{HALT, MTIME};
 use rvm_dev::{Devices, InputFull};
-use rvm_mem::Memory;
+use rvm_mem::{Memory, OutOfRange, write_bytes};
 use rvm_res::Reservations;
 use std::marker::Model;
 
@@ -230,6 +231,22 @@ impl<M: Memory> Bus<M> {
         }
     }
 
+    /// Writes bytes of RAM from outside, adds their pages to the dirty log, and ends each
+    /// reservation of a word that is touched. `OutOfRange`, and nothing changes, where they are not
+    /// wholly in RAM.
+    pub fn poke(&mut self, address: u32, bytes: &[u8]) -> Result<(), OutOfRange>
+        ensures poked { OnOk result (self.new ≡ bus_poked address bytes.now self.old) }
+        ensures out { IsErr result ↔ (in_ram (length bytes.now) address self.old.reach.bytes ≡ false) }
+        ensures err { OnErr result (self.new ≡ self.old) }
+    {
+        if address < RAM_BASE || address - RAM_BASE > self.ram.len() {
+            return Err(OutOfRange);
+        }
+        write_bytes(&mut self.ram, address - RAM_BASE, bytes)?;
+        poke_each(&mut self.reservations, address, bytes.len());
+        Ok(())
+    }
+
     /// Stores a word of a device.
     #[inline(never)]
     fn store_device(&mut self, address: u32, value: u32) -> Option<Written>
@@ -268,5 +285,15 @@ fn written_by(address: u32, value: u32) -> Written
         HALT => Written::Halt((value & 0xFF) as u8),
         MTIME | MTIME_HIGH => Written::Mtime,
         _ => Written::Other,
+    }
+}
+
+/// Ends the reservations of the words of so many bytes from an address on.
+fn poke_each(reservations: &mut Reservations, address: u32, count: usize)
+    requires { address + count ≤ 2 ^ 32 }
+    ensures { reservations.new ≡ poked_each address count reservations.old }
+{
+    for i in 0..count {
+        reservations.poked(address + i as u32);
     }
 }

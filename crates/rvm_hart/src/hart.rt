@@ -1,18 +1,22 @@
 //! A hart's registers.
 
-ghost use Rattle.std.specs.Prelude.{◌≡◌, ◌%◌, ◌<◌, length, replicate, slice_set};
+ghost use Rattle.std.specs.Prelude.{◌≡◌, ◌%◌, ◌<◌, length, replicate, slice_set, ◌≤◌};
 ghost use Rattle.rvm_csr.specs.Registers.{at_reset};
 ghost use Rattle.rvm_csr.specs.Traps.{trap_left};
 ghost use Rattle.rvm_hart.specs.declared.outcome.Written.TheVariants.{Other};
 ghost use Rattle.rvm_hart.specs.Machine.{HartState};
 ghost use Rattle.rvm_hart.specs.Outcome.{reg, given, passed};
 ghost use Rattle.rvm_hart.specs.Rooms.{sum};
+ghost use Rattle.rvm_hart.specs.Pokes.{register_poked};
 
 use crate::outcome::{Trap, Written};
 use rvm_csr::CsrFile;
 use rvm_isa::{Imm12, Reg};
 use rvm_word::add_signed;
 use std::marker::Model;
+
+/// The number of pc among the registers that are set from outside.
+pub const PC: u32 = 32;
 
 /// One hart: x0 to x31, pc and the control and status registers.
 #[derive(Drop)]
@@ -90,5 +94,18 @@ impl Hart {
     {
         self.pc = self.csrs.mret();
         Ok(Written::Other)
+    }
+
+    /// Sets a register from outside: x0 to x31 by its number, or pc by 32, of which bits 1:0 are
+    /// cleared. A write to x0 is dropped.
+    pub fn poke(&mut self, register: u32, value: u32)
+        requires { register ≤ 32 }
+        ensures { self.new ≡ register_poked register value self.old }
+    {
+        if register == PC {
+            self.pc = value & !3;
+        } else if register != 0 {
+            self.regs[register as usize] = value;
+        }
     }
 }

@@ -27,6 +27,6 @@ pub use arithmetic::Operation;
 pub use atomics::Amo;
 pub use bus::{Bus, RAM_BASE};
 pub use csrs::CsrChange;
-pub use hart::Hart;
+pub use hart::{Hart, PC};
 pub use jumps::Comparison;
 pub use outcome::{Stepped, Trap, Written};

@@ -1,0 +1,26 @@
+-- What a debugger's writes do to a hart and to what it reaches.
+use Rattle.std.specs.Prelude.{ℕ, zero, suc, ◌+◌, ◌-◌, ◌%◌, ◌==◌, if◌then◌else◌, List, Option, length}
+use Rattle.rvm_mem.specs.Bytes.{replaced}
+use Rattle.rvm_mem.specs.Pages.{mark_bytes}
+use Rattle.rvm_res.specs.Reservations.{poked}
+use Rattle.rvm_hart.specs.Machine.{HartState, Reach, BusState}
+use Rattle.rvm_hart.specs.Bus.{ram_base}
+use Rattle.rvm_hart.specs.Outcome.{put}
+
+-- a hart with a register set: x0 to x31 by number, or pc by 32, of which bits 1:0 are cleared
+abbrev pub register_poked : (register value : ℕ) → HartState → HartState
+register_poked r v h = if r == 32 then record h { pc = v - v % 4 } else record h { regs = put r v h.regs }
+
+-- the reservations after n bytes from an address were written: each byte ends those of its word
+unfoldable pub poked_each : (address n : ℕ) → List (Option ℕ) → List (Option ℕ)
+poked_each a zero words = words
+poked_each a (suc n) words = poked (a + n) (poked_each a n words)
+
+-- what the harts share after these bytes were written from an address of RAM on
+abbrev pub memory_poked : (address : ℕ) → List ℕ → Reach → Reach
+memory_poked a bytes r =
+    record r { bytes = replaced (a - ram_base) bytes r.bytes; reservations = poked_each a (length bytes) r.reservations }
+
+-- the bus after it, with the page of each byte in the dirty log
+abbrev pub bus_poked : (address : ℕ) → List ℕ → BusState → BusState
+bus_poked a bytes b = record { reach = memory_poked a bytes b.reach; dirty = mark_bytes (a - ram_base) (length bytes) b.dirty }
