@@ -1,6 +1,6 @@
 //! Fields at the front of bytes, each given with the bytes behind it; None where there are too few.
 
-ghost use Rattle.std.specs.Prelude.{◌≡◌, option_map};
+ghost use Rattle.std.specs.Prelude.{◌≡◌, IfSome, length, option_map};
 ghost use Rattle.rvm_codec.specs.Codec.{any, bytes_at, flag, number};
 ghost use Rattle.rvm_codec.specs.Numbers.{within};
 
@@ -96,7 +96,8 @@ pub fn flag_at(bytes: &[u8]) -> Option<(bool, &[u8])>
 
 /// So many bytes.
 pub fn bytes_at(count: usize, bytes: &[u8]) -> Option<(&[u8], &[u8])>
-    ensures { option_map (λ x. (x.0.now, x.1.now)) result ≡ bytes_at count bytes.now }
+    ensures value { option_map (λ x. (x.0.now, x.1.now)) result ≡ bytes_at count bytes.now }
+    ensures length { IfSome result (λ x. length x.0.now ≡ count) }
 {
     if bytes.len() < count {
         return None;

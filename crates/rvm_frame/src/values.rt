@@ -1,0 +1,108 @@
+//! What frames carry beside numbers; contracts see each as the list of its items.
+
+ghost use Rattle.std.specs.Prelude.{◌≡◌, IfOk, length};
+
+use std::alloc::{AllocError, Global};
+use std::marker::Model;
+
+/// A vector, seen as a list.
+#[derive(Drop)]
+pub struct Items<T> {
+    items: Vec<T>,
+}
+
+/// Page numbers.
+pub type PageNumbers = Items<u16>;
+
+/// Copy numbers.
+pub type CopyNumbers = Items<u32>;
+
+/// Bytes.
+pub type Bytes = Items<u8>;
+
+impl<T> Model for Items<T> {
+    ghost use Rattle.std.specs.Prelude.{List};
+
+    ghost Value = { List T };
+
+    ghost view = { λ s. s.items.items };
+}
+
+impl<T> Items<T> {
+    /// The items of a vector.
+    pub fn from_vec(items: Vec<T>) -> Items<T>
+        ensures { result ≡ items.items }
+    {
+        Items { items }
+    }
+
+    /// The items in order.
+    pub fn as_slice(&self) -> &[T]
+        ensures { result.now ≡ self.now }
+    {
+        self.items.as_slice()
+    }
+}
+
+impl<T: Copy + Drop> Items<T> {
+    /// The same items again.
+    pub fn copy(&self, alloc: Global) -> Result<Items<T>, AllocError>
+        ensures { IfOk result (λ copy. copy ≡ self.now) }
+    {
+        Ok(Items {
+            items: Vec::from_slice(alloc, self.items.as_slice())?,
+        })
+    }
+}
+
+/// The 4096 bytes of a page.
+#[derive(Drop)]
+pub struct PageBytes {
+    bytes: Box<[u8; 4096]>,
+}
+
+impl Model for PageBytes {
+    ghost use Rattle.std.specs.Prelude.{◌≡◌, length, List, ℕ};
+
+    ghost Value = { List ℕ };
+
+    ghost view = { λ s. s.bytes.value };
+
+    ghost invariant = { λ s. length s.bytes.value ≡ 4096 };
+}
+
+impl PageBytes {
+    /// A page with these bytes.
+    pub fn from_array(alloc: Global, bytes: &[u8; 4096]) -> Result<PageBytes, AllocError>
+        ensures { IfOk result (λ page. page ≡ bytes.now) }
+    {
+        Ok(PageBytes {
+            bytes: Box::new(alloc, *bytes)?,
+        })
+    }
+
+    /// A page with the bytes of a slice of that length.
+    pub fn from_slice(alloc: Global, bytes: &[u8]) -> Result<PageBytes, AllocError>
+        requires { length bytes.now ≡ 4096 }
+        ensures { IfOk result (λ page. page ≡ bytes.now) }
+    {
+        let mut page = [0u8; 4096];
+        page.copy_from_slice(bytes);
+        PageBytes::from_array(alloc, &page)
+    }
+
+    /// The bytes in order.
+    pub fn as_array(&self) -> &[u8; 4096]
+        ensures value { result.now ≡ self.now }
+        ensures length { length self.now ≡ 4096 }
+    {
+        self.bytes.as_ref()
+    }
+
+    /// The same bytes again.
+    pub fn copy(&self, alloc: Global) -> Result<PageBytes, AllocError>
+        ensures { IfOk result (λ copy. copy ≡ self.now) }
+    {
+        PageBytes::from_array(alloc, self.bytes.as_ref())
+    }
+}
