@@ -1,5 +1,5 @@
 -- What the bytes of a frame, of a beginning of one, and of what is refused are told to be.
-use Rattle.std.proofs.Common.{◌≡◌, ℕ, suc, ◌+◌, ◌<◌, ◌≤◌, Bool, true, false, not, cond, ltb, List, [], ◌∷◌, ◌++◌, length, take, drop, Option, Some, None, Ok, Err, refl, sym, ap, ◌∙◌, append-nil, arith, length-append}
+use Rattle.std.proofs.Common.{◌≡◌, ◌↔◌, ℕ, suc, ◌+◌, ◌<◌, ◌≤◌, Bool, true, false, not, cond, ltb, List, [], ◌∷◌, ◌++◌, length, take, drop, Option, Some, None, Ok, Err, refl, sym, ap, ◌∙◌, append-nil, arith, length-append}
 use Rattle.std.proofs.lemmas.Bool.{ltb-false, le-ltb}
 use Rattle.std.proofs.lemmas.Bool.Decides.{nat_tests}
 use Rattle.std.proofs.lemmas.List.{take_at, drop_at}
@@ -182,6 +182,9 @@ pub verdict_again : (g : Bool) (f : Frame) → HasSpelling f → MayStand g f �
 verdict_again g f fits stand =
     spelled_is g f (body_of f) fits stand
     ∙ behind_again (kind_of f) (move_of f) (body_of f) f fits.body_length (length_fits f fits.body) fits.move_number (contents_again f fits.body)
+
+pub whole_frame : (g : Bool) (bytes : List ℕ) (f : Frame) → IsBytes bytes → (verdict g bytes ≡ Ok (Some f)) ↔ (HasSpelling f × MayStand g f × (bytes ≡ spelling f))
+whole_frame g bytes f fits = (λ h. verdict_take g bytes f fits h, λ s. ap (verdict g) s.2 ∙ verdict_again g f s.0 s.1)
 
 -- a whole frame, and what goes on after one, is no beginning
 pub whole_or_past : (g : Bool) (f : Frame) (x : List ℕ) → HasSpelling f → MayStand g f → verdict g (spelling f ++ x) ≡ Ok None → ⊥

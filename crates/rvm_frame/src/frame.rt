@@ -3,8 +3,9 @@
 ghost use Rattle.std.specs.Prelude.{◌≡◌, IfOk};
 ghost use Rattle.rvm_frame.specs.Grammar.{kind_of, move_of};
 
+use crate::items::{Bytes, CopyNumbers, PageNumbers};
 use crate::kind::Kind;
-use crate::values::{Bytes, CopyNumbers, PageBytes, PageNumbers};
+use crate::page::PageBytes;
 use std::alloc::{AllocError, Global};
 
 /// A frame of stream version 1. Move numbers are at least 1, copy numbers too; a page number is

@@ -1,6 +1,6 @@
 //! What holds of all frames and all streams.
 
-ghost use Rattle.std.specs.Prelude.{◌≡◌, ◌++◌, ℕ, List, Bool, Err, false, take};
+ghost use Rattle.std.specs.Prelude.{◌≡◌, ◌↔◌, ◌++◌, ℕ, List, Bool, Ok, Err, Some, false, take};
 ghost use Rattle.rvm_codec.specs.Exact.{IsBytes};
 ghost use Rattle.rvm_frame.specs.Grammar.{HasSpelling, MayStand, spelling};
 ghost use Rattle.rvm_frame.specs.Verdict.{Decides, verdict};
@@ -13,6 +13,13 @@ ghost use Rattle.rvm_frame.specs.declared.fault.ReadFault.{ReadFault};
 pub fn no_frame_begins_another()
     ensures { (f g : Frame) (x y : List ℕ) → HasSpelling f → HasSpelling g
         → spelling f ++ x ≡ spelling g ++ y → (f ≡ g) × (x ≡ y) }
+{}
+
+/// Bytes are a whole frame exactly where they spell one that may stand there.
+pub fn a_whole_frame_is_what_spells_one()
+    ensures { (greeted : Bool) (bytes : List ℕ) (f : Frame) → IsBytes bytes
+        → (verdict greeted bytes ≡ Ok (Some f))
+        ↔ (HasSpelling f × MayStand greeted f × (bytes ≡ spelling f)) }
 {}
 
 /// Bytes that are refused begin no frame that may stand there.

@@ -4,25 +4,27 @@
 //! Stands on `rvm_codec` and the numbered refusals, and knows nothing of guests, moves or hosts:
 //! what a frame means is told above.
 //!
-//! To be read in this order: `values`, `frame`, `kind`, `fault`, `body`, `read`, `write`, `reader`,
-//! `laws`.
+//! To be read in this order: `items`, `page`, `frame`, `kind`, `fault`, `body`, `read`, `write`,
+//! `reader`, `laws`.
 #![tactic(auto)]
 
 mod body;
 mod fault;
 mod frame;
+mod items;
 mod kind;
 pub mod laws;
+mod page;
 mod read;
 mod reader;
 #[cfg(test)]
 mod tests;
-mod values;
 mod write;
 
 pub use fault::{FrameFault, ReadFault};
 pub use frame::Frame;
+pub use items::{Bytes, CopyNumbers, Items, PageNumbers};
+pub use page::PageBytes;
 pub use read::read_frame;
 pub use reader::FrameReader;
-pub use values::{Bytes, CopyNumbers, PageBytes, PageNumbers};
 pub use write::{append_frame, frame_bytes, frame_len, write_frame};
