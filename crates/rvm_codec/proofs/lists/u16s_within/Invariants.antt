@@ -1,0 +1,8 @@
+use Rattle.std.proofs.Common.{◌≡◌, ◌-◌}
+use Rattle.rvm_codec.specs.Codec.{number, read_each}
+use Rattle.rvm_codec.specs.Numbers.{within}
+use Rattle.rvm_codec.proofs.EachLoop.{with_front}
+use Rattle.rvm_codec.proofs.lists.u16s_within.Given as goal
+
+abbrev pub invariant-loop : goal.invariant-loop
+invariant-loop l = with_front l.numbers.items (read_each (number 2 (within l.low l.high)).read (l.count - l.counter) l.rest) ≡ read_each (number 2 (within l.low l.high)).read l.count l.bytes

@@ -1,0 +1,4 @@
+pub mod Numbers
+pub mod Codec
+pub mod Format
+pub mod Exact

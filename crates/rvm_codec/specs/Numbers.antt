@@ -1,0 +1,17 @@
+-- Numbers of so many bytes, the lowest byte first.
+use Rattle.std.specs.Prelude.{ℕ, ◌+◌, Bool, true, ◌&&◌, nat_le, nat_lt, drop, if◌then◌else◌, List, [], ◌∷◌, length, Option, Some, None}
+use Rattle.byteorder.specs.Endian.{little_number}
+
+-- a number of so many bytes and the bytes behind it, where there are as many
+unfoldable pub number_at : ℕ → List ℕ → Option (ℕ × List ℕ)
+number_at size bytes =
+    if nat_lt (length bytes) size then None else Some (little_number size bytes, drop size bytes)
+
+-- n lies in low to high
+abbrev pub within : ℕ → ℕ → ℕ → Bool
+within low high n = nat_le low n && nat_le n high
+
+-- the numbers rise strictly, the first of them from low on
+abbrev pub rise_from : ℕ → List ℕ → Bool
+rise_from low [] = true
+rise_from low (n ∷ ns) = nat_le low n && rise_from (n + 1) ns

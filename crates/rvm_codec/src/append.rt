@@ -1,0 +1,104 @@
+//! Fields put behind the bytes of a vector, in room that the caller made: no call takes memory.
+
+ghost use Rattle.std.specs.Prelude.{◌≡◌, ◌+◌, ◌*◌, ◌≤◌, ◌++◌, ◌∷◌, [], length, vec_len, vec_capacity};
+ghost use Rattle.std.specs.List.{flat_map};
+ghost use Rattle.byteorder.specs.Endian.{little_bytes};
+ghost use Rattle.rvm_codec.specs.Codec.{flag};
+
+use byteorder::{ByteOrder, LittleEndian};
+
+/// Puts bytes behind those that are there.
+pub fn append_bytes(out: &mut Vec<u8>, bytes: &[u8])
+    requires { vec_len out.old + length bytes.now ≤ vec_capacity out.old }
+    ensures items { out.new.items ≡ out.old.items ++ bytes.now }
+    ensures len { vec_len out.new ≡ vec_len out.old + length bytes.now }
+    ensures capacity { vec_capacity out.old ≤ vec_capacity out.new }
+{
+    let done = out.extend_from_slice(bytes);
+    let is_done = done.is_ok();
+    prove!(is_done);
+}
+
+/// Puts a byte behind those that are there.
+pub fn append_u8(out: &mut Vec<u8>, n: u8)
+    requires { vec_len out.old + 1 ≤ vec_capacity out.old }
+    ensures items { out.new.items ≡ out.old.items ++ little_bytes 1 n }
+    ensures len { vec_len out.new ≡ vec_len out.old + 1 }
+    ensures capacity { vec_capacity out.old ≤ vec_capacity out.new }
+{
+    append_bytes(out, &[n]);
+}
+
+/// Puts a flag behind the bytes that are there.
+pub fn append_flag(out: &mut Vec<u8>, is_set: bool)
+    requires { vec_len out.old + 1 ≤ vec_capacity out.old }
+    ensures items { out.new.items ≡ out.old.items ++ flag.write is_set }
+    ensures len { vec_len out.new ≡ vec_len out.old + 1 }
+    ensures capacity { vec_capacity out.old ≤ vec_capacity out.new }
+{
+    if is_set {
+        append_u8(out, 1);
+    } else {
+        append_u8(out, 0);
+    }
+}
+
+/// Puts a number of two bytes behind those that are there.
+pub fn append_u16(out: &mut Vec<u8>, n: u16)
+    requires { vec_len out.old + 2 ≤ vec_capacity out.old }
+    ensures items { out.new.items ≡ out.old.items ++ little_bytes 2 n }
+    ensures len { vec_len out.new ≡ vec_len out.old + 2 }
+    ensures capacity { vec_capacity out.old ≤ vec_capacity out.new }
+{
+    let mut bytes = [0u8; 2];
+    LittleEndian::write_u16(&mut bytes, n);
+    append_bytes(out, &bytes);
+}
+
+/// Puts a number of four bytes behind those that are there.
+pub fn append_u32(out: &mut Vec<u8>, n: u32)
+    requires { vec_len out.old + 4 ≤ vec_capacity out.old }
+    ensures items { out.new.items ≡ out.old.items ++ little_bytes 4 n }
+    ensures len { vec_len out.new ≡ vec_len out.old + 4 }
+    ensures capacity { vec_capacity out.old ≤ vec_capacity out.new }
+{
+    let mut bytes = [0u8; 4];
+    LittleEndian::write_u32(&mut bytes, n);
+    append_bytes(out, &bytes);
+}
+
+/// Puts a number of eight bytes behind those that are there.
+pub fn append_u64(out: &mut Vec<u8>, n: u64)
+    requires { vec_len out.old + 8 ≤ vec_capacity out.old }
+    ensures items { out.new.items ≡ out.old.items ++ little_bytes 8 n }
+    ensures len { vec_len out.new ≡ vec_len out.old + 8 }
+    ensures capacity { vec_capacity out.old ≤ vec_capacity out.new }
+{
+    let mut bytes = [0u8; 8];
+    LittleEndian::write_u64(&mut bytes, n);
+    append_bytes(out, &bytes);
+}
+
+/// Puts numbers of two bytes behind those that are there.
+pub fn append_u16s(out: &mut Vec<u8>, numbers: &[u16])
+    requires { vec_len out.old + 2 * length numbers.now ≤ vec_capacity out.old }
+    ensures items { out.new.items ≡ out.old.items ++ flat_map (little_bytes 2) numbers.now }
+    ensures len { vec_len out.new ≡ vec_len out.old + 2 * length numbers.now }
+    ensures capacity { vec_capacity out.old ≤ vec_capacity out.new }
+{
+    for n in numbers {
+        append_u16(out, *n);
+    }
+}
+
+/// Puts numbers of four bytes behind those that are there.
+pub fn append_u32s(out: &mut Vec<u8>, numbers: &[u32])
+    requires { vec_len out.old + 4 * length numbers.now ≤ vec_capacity out.old }
+    ensures items { out.new.items ≡ out.old.items ++ flat_map (little_bytes 4) numbers.now }
+    ensures len { vec_len out.new ≡ vec_len out.old + 4 * length numbers.now }
+    ensures capacity { vec_capacity out.old ≤ vec_capacity out.new }
+{
+    for n in numbers {
+        append_u32(out, *n);
+    }
+}

@@ -1,0 +1,90 @@
+//! Lists of numbers at the front of bytes.
+
+ghost use Rattle.std.specs.Prelude.{◌≡◌, IfOk, option_map};
+ghost use Rattle.rvm_codec.specs.Codec.{number, read_each};
+ghost use Rattle.rvm_codec.specs.Numbers.{rise_from, within};
+
+use crate::fields::{u16_within, u32_within};
+use std::alloc::{AllocError, Global};
+
+/// So many numbers of two bytes, each from `low` to `high`, and the bytes behind them; None where
+/// there are too few bytes or a number is another one.
+pub fn u16s_within(
+    alloc: Global,
+    count: usize,
+    low: u16,
+    high: u16,
+    bytes: &[u8],
+) -> Result<Option<(Vec<u16>, &[u8])>, AllocError>
+    ensures { IfOk result (λ read. option_map (λ x. (x.0.items, x.1.now)) read
+        ≡ read_each (number 2 (within low high)).read count bytes.now) }
+{
+    let mut numbers = Vec::new(alloc);
+    let mut rest = bytes;
+    for _ in 0..count {
+        match u16_within(low, high, rest) {
+            None => return Ok(None),
+            Some((n, behind)) => {
+                numbers.push(n)?;
+                rest = behind;
+            }
+        }
+    }
+    Ok(Some((numbers, rest)))
+}
+
+/// So many numbers of four bytes, each from `low` to `high`, and the bytes behind them; None where
+/// there are too few bytes or a number is another one.
+pub fn u32s_within(
+    alloc: Global,
+    count: usize,
+    low: u32,
+    high: u32,
+    bytes: &[u8],
+) -> Result<Option<(Vec<u32>, &[u8])>, AllocError>
+    ensures { IfOk result (λ read. option_map (λ x. (x.0.items, x.1.now)) read
+        ≡ read_each (number 4 (within low high)).read count bytes.now) }
+{
+    let mut numbers = Vec::new(alloc);
+    let mut rest = bytes;
+    for _ in 0..count {
+        match u32_within(low, high, rest) {
+            None => return Ok(None),
+            Some((n, behind)) => {
+                numbers.push(n)?;
+                rest = behind;
+            }
+        }
+    }
+    Ok(Some((numbers, rest)))
+}
+
+/// Whether the numbers rise strictly.
+pub fn u16s_rise(numbers: &[u16]) -> bool
+    ensures { result ≡ rise_from 0 numbers.now }
+{
+    let mut low = 0u32;
+    for n in numbers {
+        let n = u32::from(*n);
+        if n < low {
+            return false;
+        }
+        low = n + 1;
+    }
+    true
+}
+
+/// Whether the numbers rise strictly.
+pub fn u32s_rise(numbers: &[u32]) -> bool
+    ensures { result ≡ rise_from 0 numbers.now }
+{
+    let mut low = 0u64;
+    for n in numbers {
+        let n = u64::from(*n);
+        if n < low {
+            return false;
+        }
+        low = n + 1;
+    }
+    true
+}

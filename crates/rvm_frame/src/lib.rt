@@ -1,0 +1,30 @@
+//! The frames by which two hosts speak during a move, as bytes: one spelling a frame, and a reader
+//! that takes a stream in whatever pieces it comes.
+//!
+//! Stands on `rvm_codec` and the numbered refusals, and knows nothing of guests, moves or hosts:
+//! what a frame means is told above.
+//!
+//! To be read in this order: `items`, `page`, `frame`, `kind`, `fault`, `body`, `read`, `write`,
+//! `reader`, `laws`.
+#![tactic(auto)]
+
+mod body;
+mod fault;
+mod frame;
+mod items;
+mod kind;
+pub mod laws;
+mod page;
+mod read;
+mod reader;
+#[cfg(test)]
+mod tests;
+mod write;
+
+pub use fault::{FrameFault, ReadFault};
+pub use frame::Frame;
+pub use items::{Bytes, CopyNumbers, Items, PageNumbers};
+pub use page::PageBytes;
+pub use read::read_frame;
+pub use reader::FrameReader;
+pub use write::{append_frame, frame_bytes, frame_len, write_frame};
