@@ -16,7 +16,8 @@ is_view a n b = nat_lt 0 n && nat_le n 256 && in_ram n a b.reach.bytes
 abbrev pub bus_of : BoardState → BusState
 bus_of b = record { reach = b.plain.reach; dirty = b.dirty }
 
--- the board with these bytes from an address of RAM on: their pages are in the dirty log, and reservations of their words end
+-- the board with these bytes from an address of RAM on: their pages are in the dirty log, and reservations of their
+-- words end
 abbrev pub memory_poked : (address : ℕ) → List ℕ → BoardState → BoardState
 memory_poked a bytes b =
     let after = hart.bus_poked a bytes (bus_of b) in

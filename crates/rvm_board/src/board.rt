@@ -56,7 +56,10 @@ impl<M: Memory> Model for Board<M> {
 
     ghost Value = { BoardState };
 
-    ghost view = { λ b. record { plain = record { harts = b.harts.items; reach = b.bus.reach }; dirty = b.bus.dirty } };
+    ghost view = { λ b. record {
+      plain = record { harts = b.harts.items; reach = b.bus.reach };
+      dirty = b.bus.dirty;
+    } };
 
     ghost invariant = { λ b. IsBoard (record { harts = b.harts.items; reach = b.bus.reach }) };
 }
@@ -69,7 +72,8 @@ impl<M: Memory> Board<M> {
         ensures board { IfOk result (λ b. b.plain ≡ at_reset harts entry (M.bytes ram)) }
         ensures dirty { IfOk result (λ b. b.dirty ≡ M.dirty ram) }
         ensures allowed { OnOk result (is_allowed harts entry (M.bytes ram) ≡ true) }
-        ensures size { IfErr result (λ e. (e.0 ≡ BadSize) ↔ (is_allowed harts entry (M.bytes ram) ≡ false)) }
+        ensures size { IfErr result
+            (λ e. (e.0 ≡ BadSize) ↔ (is_allowed harts entry (M.bytes ram) ≡ false)) }
         ensures ram { IfErr result (λ e. e.1 ≡ ram) }
     {
         if harts == 0 || harts > MAX_HARTS || ram.len() == 0 || entry % 4 != 0 {
@@ -103,7 +107,8 @@ impl<M: Memory> Board<M> {
     pub fn step(&mut self, hart: u32) -> Stepped
         requires { hart < length self.old.plain.harts }
         ensures board { self.new.plain ≡ (stepped hart self.old.plain).board }
-        ensures dirty { self.new.dirty ≡ mark_all (stepped hart self.old.plain).pages self.old.dirty }
+        ensures dirty { self.new.dirty
+            ≡ mark_all (stepped hart self.old.plain).pages self.old.dirty }
         ensures answer { result ≡ (stepped hart self.old.plain).answer }
     {
         let stepping = &mut self.harts[hart as usize];
@@ -112,7 +117,9 @@ impl<M: Memory> Board<M> {
 
     /// A byte comes to the console; `InputFull`, and nothing changes, where 16 wait.
     pub fn input(&mut self, byte: u8) -> Result<(), InputFull>
-        ensures taken { OnOk result (self.new ≡ record self.old { plain = with_input (self.old.plain.reach.devices.input ++ byte ∷ []) self.old.plain }) }
+        ensures taken { OnOk result (self.new ≡ record self.old {
+          plain = with_input (self.old.plain.reach.devices.input ++ byte ∷ []) self.old.plain;
+        }) }
         ensures full { IsErr result ↔ (length self.old.plain.reach.devices.input ≡ 16) }
         ensures err { OnErr result (self.new ≡ self.old) }
     {
@@ -129,9 +136,13 @@ impl<M: Memory> Board<M> {
 
     /// Takes the oldest bytes that the guest sent, as many as there are and fit, and says how many.
     pub fn drain(&mut self, bytes: &mut [u8]) -> usize
-        ensures count { result ≡ min (length bytes.old) (length self.old.plain.reach.devices.output) }
-        ensures bytes { bytes.new ≡ take result self.old.plain.reach.devices.output ++ drop result bytes.old }
-        ensures board { self.new ≡ record self.old { plain = with_output (drop result self.old.plain.reach.devices.output) self.old.plain } }
+        ensures count { result
+            ≡ min (length bytes.old) (length self.old.plain.reach.devices.output) }
+        ensures bytes { bytes.new
+            ≡ take result self.old.plain.reach.devices.output ++ drop result bytes.old }
+        ensures board { self.new ≡ record self.old {
+          plain = with_output (drop result self.old.plain.reach.devices.output) self.old.plain;
+        } }
     {
         self.bus.drain(bytes)
     }
@@ -140,9 +151,11 @@ impl<M: Memory> Board<M> {
     /// cleared; a write to x0 is dropped. `BadHart` comes before `OutOfRange`; a refusal changes
     /// nothing.
     pub fn poke_reg(&mut self, hart: u32, register: u32, value: u32) -> Result<(), PokeError>
-        ensures poked { OnOk result (self.new ≡ record self.old { plain = register_poked hart register value self.old.plain }) }
+        ensures poked { OnOk result (self.new
+            ≡ record self.old { plain = register_poked hart register value self.old.plain }) }
         ensures hart { (result ≡ Err BadHart) ↔ (length self.old.plain.harts ≤ hart) }
-        ensures range { (result ≡ Err OutOfRange) ↔ ((hart < length self.old.plain.harts) × (32 < register)) }
+        ensures range { (result ≡ Err OutOfRange)
+            ↔ ((hart < length self.old.plain.harts) × (32 < register)) }
         ensures err { OnErr result (self.new ≡ self.old) }
     {
         if hart as usize >= self.harts.len() {
@@ -161,7 +174,8 @@ impl<M: Memory> Board<M> {
     /// number of bytes or where they are not wholly in RAM.
     pub fn poke_mem(&mut self, address: u32, bytes: &[u8]) -> Result<(), PokeError>
         ensures poked { OnOk result (self.new ≡ memory_poked address bytes.now self.old) }
-        ensures range { (result ≡ Err OutOfRange) ↔ (is_view address (length bytes.now) self.old.plain ≡ false) }
+        ensures range { (result ≡ Err OutOfRange)
+            ↔ (is_view address (length bytes.now) self.old.plain ≡ false) }
         ensures hart { result ≢ Err BadHart }
         ensures err { OnErr result (self.new ≡ self.old) }
     {

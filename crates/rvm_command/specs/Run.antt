@@ -54,4 +54,6 @@ ran (suc n) t input b =
     let f = fed input b in
     let s = turn t f in
     unless_halted s.answer s.board
-    (if t % 64 == 63 then after_bytes s.board.reach.devices.output (ran n (t + 1) f.input (drained s.board)) else ran n (t + 1) f.input s.board)
+    (if t % 64 == 63
+    then after_bytes s.board.reach.devices.output (ran n (t + 1) f.input (drained s.board))
+    else ran n (t + 1) f.input s.board)

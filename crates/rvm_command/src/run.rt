@@ -40,7 +40,8 @@ pub fn run<M: Memory, W: Write>(
     input: &[u8],
     writer: &mut W,
 ) -> Result<Ended, LinkFault>
-    ensures written { OnOk result (Appends (W.contents writer.old) (W.contents writer.new) (ran steps 0 input.now board.old.plain).written) }
+    ensures written { OnOk result (Appends (W.contents writer.old) (W.contents writer.new)
+        (ran steps 0 input.now board.old.plain).written) }
     ensures board { OnOk result (board.new.plain ≡ (ran steps 0 input.now board.old.plain).board) }
     ensures ended { IfOk result (λ e. e ≡ (ran steps 0 input.now board.old.plain).ended) }
 {
@@ -67,7 +68,8 @@ pub fn run<M: Memory, W: Write>(
 #[inline(always)]
 fn feed<M: Memory>(board: &mut Board<M>, input: &[u8], next: usize) -> usize
     requires { next ≤ length input.now }
-    ensures fed { record { board = board.new.plain; input = drop result input.now } ≡ fed (drop next input.now) board.old.plain }
+    ensures fed { record { board = board.new.plain; input = drop result input.now }
+        ≡ fed (drop next input.now) board.old.plain }
     ensures within { result ≤ length input.now }
 {
     if next < input.len() && board.input(input[next]).is_ok() {
@@ -90,7 +92,8 @@ fn next_hart(hart: u32, harts: u32) -> u32
 /// Writes all that the guest sent, and forgets it.
 #[inline(never)]
 fn drain<M: Memory, W: Write>(board: &mut Board<M>, writer: &mut W) -> Result<(), LinkFault>
-    ensures written { OnOk result (Appends (W.contents writer.old) (W.contents writer.new) board.old.plain.reach.devices.output) }
+    ensures written { OnOk result (Appends (W.contents writer.old) (W.contents writer.new)
+        board.old.plain.reach.devices.output) }
     ensures board { OnOk result (board.new.plain ≡ drained board.old.plain) }
 {
     let mut bytes = [0; DRAIN_SIZE];

@@ -43,9 +43,12 @@ pub fn run_command<O: Write, E: Write>(
     errors: &mut E,
 ) -> u8
     ensures status { (result ≡ 0) ⊎ (result ≡ 1) }
-    ensures output { result ≡ 0 → Appends (O.contents output.old) (O.contents output.new) (run_of arguments.now.harts arguments.now.pages arguments.now.steps image.now input.now).written }
-    ensures errors { result ≡ 0 → Appends (E.contents errors.old) (E.contents errors.new) (end_text (run_of arguments.now.harts arguments.now.pages arguments.now.steps image.now input.now).ended ++ codes "\n") }
-    ensures outside { 4096 * arguments.now.pages < length image.now → (result ≡ 1) × (O.contents output.new ≡ O.contents output.old) }
+    ensures output { result ≡ 0 → Appends (O.contents output.old) (O.contents output.new)
+        (run_of arguments.now.harts arguments.now.pages arguments.now.steps image.now input.now).written }
+    ensures errors { result ≡ 0 → Appends (E.contents errors.old) (E.contents errors.new)
+        (end_text (run_of arguments.now.harts arguments.now.pages arguments.now.steps image.now input.now).ended ++ codes "\n") }
+    ensures outside { 4096 * arguments.now.pages < length image.now
+        → (result ≡ 1) × (O.contents output.new ≡ O.contents output.old) }
 {
     let told = match run_image(alloc, arguments, image, input, output) {
         Ok(ended) => {
@@ -68,9 +71,12 @@ fn run_image<O: Write>(
     input: &[u8],
     output: &mut O,
 ) -> Result<Ended, Refusal>
-    ensures written { OnOk result (Appends (O.contents output.old) (O.contents output.new) (run_of arguments.now.harts arguments.now.pages arguments.now.steps image.now input.now).written) }
-    ensures ended { IfOk result (λ e. e ≡ (run_of arguments.now.harts arguments.now.pages arguments.now.steps image.now input.now).ended) }
-    ensures untouched { 4096 * arguments.now.pages < length image.now → O.contents output.new ≡ O.contents output.old }
+    ensures written { OnOk result (Appends (O.contents output.old) (O.contents output.new)
+        (run_of arguments.now.harts arguments.now.pages arguments.now.steps image.now input.now).written) }
+    ensures ended { IfOk result (λ e. e
+        ≡ (run_of arguments.now.harts arguments.now.pages arguments.now.steps image.now input.now).ended) }
+    ensures untouched { 4096 * arguments.now.pages < length image.now
+        → O.contents output.new ≡ O.contents output.old }
     ensures outside { (result ≡ Err OutsideRam) ↔ (4096 * arguments.now.pages < length image.now) }
 {
     if image.len() as u64 > u64::from(PAGE_SIZE) * u64::from(arguments.pages) {

@@ -21,7 +21,8 @@ in_ram n a bytes = nat_le ram_base a && nat_le (a + n) (ram_base + length bytes)
 abbrev pub ram_load : (n address : ℕ) → List ℕ → Option ℕ
 ram_load n a bytes = if in_ram n a bytes then Some (load n (a - ram_base) bytes) else None
 
--- the word at an address, of RAM or a device; and what the harts share after it is loaded, since a device may consume it
+-- the word at an address, of RAM or a device; and what the harts share after it is loaded, since a device may
+-- consume it
 abbrev pub word_loaded : ℕ → Reach → Option ℕ
 word_loaded a r = if in_ram 4 a r.bytes then Some (load 4 (a - ram_base) r.bytes) else dev.value_loaded a r.devices
 
@@ -34,7 +35,8 @@ pub record Stored : Type 0 where
   pub pages : List ℕ
   pub wrote : Written
 
--- a store of a hart into the n bytes of RAM from an address: its page is written, and other harts' reservations of the word end
+-- a store of a hart into the n bytes of RAM from an address: its page is written, and other harts' reservations of
+-- the word end
 abbrev pub in_ram_stored : (n hart address value : ℕ) → Reach → Stored
 in_ram_stored n hart a v r =
     record {
@@ -63,6 +65,15 @@ abbrev pub left_by : Option Stored → BusState → BusState
 left_by (Some s) b = record { reach = s.reach; dirty = mark_all s.pages b.dirty }
 left_by None b = b
 
+-- what the end of the step looks at after a store, if it went
+abbrev pub wrote_by : Option Stored → Option Written
+wrote_by s = option_map (λ x. x.wrote) s
+
 -- the interrupts that are pending at a hart (Privileged ISA, "Machine Interrupt (mip and mie) Registers")
 abbrev pub mip_of : ℕ → dev.DeviceState → Interrupts
-mip_of hart d = record { software = get_or d.msip hart false; timer = dev.timer_is_pending hart d; external = dev.external_is_pending hart d }
+mip_of hart d =
+    record {
+      software = get_or d.msip hart false;
+      timer = dev.timer_is_pending hart d;
+      external = dev.external_is_pending hart d;
+    }

@@ -25,6 +25,13 @@ pub record BusState : Type 0 where
   pub reach : Reach
   pub dirty : List Bool
 
+-- a bus with other devices, and with other reservations
+abbrev pub with_devices : DeviceState → BusState → BusState
+with_devices d b = record b { reach = record b.reach { devices = d } }
+
+abbrev pub with_reservations : List (Option ℕ) → BusState → BusState
+with_reservations words b = record b { reach = record b.reach { reservations = words } }
+
 abbrev pub machine : HartState → BusState → Machine
 machine h b = record { hart = h; reach = b.reach }
 

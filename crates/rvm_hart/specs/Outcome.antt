@@ -7,7 +7,8 @@ use Rattle.rvm_hart.specs.declared.outcome.Written.TheVariants.{Other}
 use Rattle.rvm_mem.specs.Pages.{mark_all}
 use Rattle.rvm_hart.specs.Machine.{HartState, BusState, Machine, machine}
 
--- the machine that a retired instruction leaves, the pages that it wrote, and what the end of the step looks at; or the exception, with its value for mtval
+-- the machine that a retired instruction leaves, the pages that it wrote, and what the end of the step looks at; or
+-- the exception, with its value for mtval
 pub data Outcome : Type 0 where
   Done : (after : Machine) → (pages : List ℕ) → (wrote : Written) → Outcome
   Traps : (exception : Exception) → (value : ℕ) → Outcome
@@ -25,11 +26,13 @@ abbrev pub result_of : Outcome → Result Written Trap
 result_of (Done after pages wrote) = Ok wrote
 result_of (Traps exception value) = Err (record { exception = exception; value = value })
 
--- a hart and its bus do as an outcome says: the machine that it leaves, its pages in the dirty log, its result
-pub record Does (o : Outcome) (old : HartState) (old_bus : BusState) (new : HartState) (new_bus : BusState) (answer : Result Written Trap) : Type 0 where
-  pub machine : machine new new_bus ≡ machine_after o (machine old old_bus)
-  pub dirty : new_bus.dirty ≡ mark_all (pages_of o) old_bus.dirty
-  pub result : answer ≡ result_of o
+-- a hart and its bus did what a function of the machine says: the machine that is left, the pages in the dirty log,
+-- the result
+pub record Does (f : Machine → Outcome) (old : HartState) (old_bus : BusState) (new : HartState) (new_bus : BusState)
+    (answer : Result Written Trap) : Type 0 where
+  pub left : machine new new_bus ≡ machine_after (f (machine old old_bus)) (machine old old_bus)
+  pub dirty : new_bus.dirty ≡ mark_all (pages_of (f (machine old old_bus))) old_bus.dirty
+  pub result : answer ≡ result_of (f (machine old old_bus))
 
 -- the value of a register
 abbrev pub reg : ℕ → HartState → ℕ

@@ -19,8 +19,15 @@ poked_each a (suc n) words = poked (a + n) (poked_each a n words)
 -- what the harts share after these bytes were written from an address of RAM on
 abbrev pub memory_poked : (address : ℕ) → List ℕ → Reach → Reach
 memory_poked a bytes r =
-    record r { bytes = replaced (a - ram_base) bytes r.bytes; reservations = poked_each a (length bytes) r.reservations }
+    record r {
+      bytes = replaced (a - ram_base) bytes r.bytes;
+      reservations = poked_each a (length bytes) r.reservations;
+    }
 
 -- the bus after it, with the page of each byte in the dirty log
 abbrev pub bus_poked : (address : ℕ) → List ℕ → BusState → BusState
-bus_poked a bytes b = record { reach = memory_poked a bytes b.reach; dirty = mark_bytes (a - ram_base) (length bytes) b.dirty }
+bus_poked a bytes b =
+    record {
+      reach = memory_poked a bytes b.reach;
+      dirty = mark_bytes (a - ram_base) (length bytes) b.dirty;
+    }

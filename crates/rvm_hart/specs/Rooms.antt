@@ -56,8 +56,8 @@ computes o rd a b m = gives rd (value_of o a b) m
 
 -- JUMPS AND BRANCHES (Unprivileged ISA, "Control Transfer Instructions")
 
--- to a target, with the next instruction's address in rd; a target that is no multiple of four traps, and rd is not written:
--- the hart, the result, and both as an outcome
+-- to a target, with the next instruction's address in rd; a target that is no multiple of four traps, and rd is not
+-- written: the hart, the result, and both as an outcome
 abbrev pub jumped : (rd target : ℕ) → HartState → HartState
 jumped rd target h = if target % 4 == 0 then record h { regs = put rd (next_pc h) h.regs; pc = target } else h
 
@@ -67,7 +67,8 @@ jump_result target =
 
 abbrev pub jumps : (rd target : ℕ) → Machine → Outcome
 jumps rd target m =
-    if target % 4 == 0 then Done (record m { hart = record m.hart { regs = put rd (next_pc m.hart) m.hart.regs; pc = target } }) [] Other
+    if target % 4 == 0
+    then Done (record m { hart = record m.hart { regs = put rd (next_pc m.hart) m.hart.regs; pc = target } }) [] Other
     else Traps InstructionAddressMisaligned target
 
 -- a number with bit 0 cleared
@@ -86,7 +87,8 @@ holds test.Geu a b = not (nat_lt a b)
 abbrev pub branches : (taken : Bool) → (offset : ℤ) → Machine → Outcome
 branches taken offset m = if taken then jumps 0 (sum m.hart.pc offset) m else passes m
 
--- LOADS (Unprivileged ISA, "Load and Store Instructions"): alignment is looked at first, then whether something is there
+-- LOADS (Unprivileged ISA, "Load and Store Instructions"): alignment is looked at first, then whether something is
+-- there
 
 abbrev pub loaded : (rd : ℕ) → (value : Option ℕ) → (address : ℕ) → Machine → Outcome
 loaded rd (Some v) a m = gives rd v m
@@ -99,12 +101,14 @@ loads_byte extended rd a m = loaded rd (option_map extended (ram_load 1 a m.reac
 -- two bytes of RAM, extended to a word
 abbrev pub loads_half : (extended : ℕ → ℕ) → (rd address : ℕ) → Machine → Outcome
 loads_half extended rd a m =
-    if a % 2 == 0 then loaded rd (option_map extended (ram_load 2 a m.reach.bytes)) a m else Traps LoadAddressMisaligned a
+    if a % 2 == 0 then loaded rd (option_map extended (ram_load 2 a m.reach.bytes)) a m
+    else Traps LoadAddressMisaligned a
 
 -- a word of RAM or a device
 abbrev pub loads_word : (rd address : ℕ) → Machine → Outcome
 loads_word rd a m =
-    if a % 4 == 0 then loaded rd (word_loaded a m.reach) a (record m { reach = after_word_load a m.reach }) else Traps LoadAddressMisaligned a
+    if a % 4 == 0 then loaded rd (word_loaded a m.reach) a (record m { reach = after_word_load a m.reach })
+    else Traps LoadAddressMisaligned a
 
 -- STORES (Unprivileged ISA, "Load and Store Instructions")
 
@@ -118,19 +122,26 @@ stores_byte a v m = stored (ram_stored 1 (number_of m) a (v % 2 ^ 8) m.reach) a 
 
 abbrev pub stores_half : (address value : ℕ) → Machine → Outcome
 stores_half a v m =
-    if a % 2 == 0 then stored (ram_stored 2 (number_of m) a (v % 2 ^ 16) m.reach) a m else Traps StoreAddressMisaligned a
+    if a % 2 == 0 then stored (ram_stored 2 (number_of m) a (v % 2 ^ 16) m.reach) a m
+    else Traps StoreAddressMisaligned a
 
 -- a word, to RAM or a device
 abbrev pub stores_word : (address value : ℕ) → Machine → Outcome
 stores_word a v m =
     if a % 4 == 0 then stored (word_stored (number_of m) a v m.reach) a m else Traps StoreAddressMisaligned a
 
--- ATOMICS (Unprivileged ISA, "A" Standard Extension): RAM alone; aq and rl ask for nothing more here, since each step is atomic
+-- ATOMICS (Unprivileged ISA, "A" Standard Extension): RAM alone; aq and rl ask for nothing more here, since each step
+-- is atomic
+
+-- the machine with other reservations
+abbrev pub with_words : List (Option ℕ) → Machine → Machine
+with_words words m = record m { reach = record m.reach { reservations = words } }
 
 -- LR: the word, which is reserved
 abbrev pub reserves : (rd address : ℕ) → Machine → Outcome
 reserves rd a m =
-    if a % 4 == 0 then loaded rd (ram_load 4 a m.reach.bytes) a (record m { reach = record m.reach { reservations = res.held (number_of m) a m.reach.reservations } })
+    if a % 4 == 0
+    then loaded rd (ram_load 4 a m.reach.bytes) a (with_words (res.held (number_of m) a m.reach.reservations) m)
     else Traps LoadAddressMisaligned a
 
 -- rd gets a value, and the word goes to RAM
@@ -140,9 +151,10 @@ exchanges rd v None a m = Traps StoreAccessFault a
 
 -- the machine with the hart's reservation ended
 abbrev pub unreserved : Machine → Machine
-unreserved m = record m { reach = record m.reach { reservations = res.taken (number_of m) m.reach.reservations } }
+unreserved m = with_words (res.taken (number_of m) m.reach.reservations) m
 
--- SC: the word is stored and rd is 0 where the hart's reservation is this word, else rd is 1; the reservation ends either way
+-- SC: the word is stored and rd is 0 where the hart's reservation is this word, else rd is 1; the reservation ends
+-- either way
 abbrev pub stores_conditionally : (rd address value : ℕ) → Machine → Outcome
 stores_conditionally rd a v m =
     if a % 4 == 0
@@ -171,7 +183,8 @@ operated op rd a v (Some old) m = exchanges rd old (ram_stored 4 (number_of m) a
 operated op rd a v None m = Traps StoreAccessFault a
 
 abbrev pub operates : Amo → (rd address value : ℕ) → Machine → Outcome
-operates op rd a v m = if a % 4 == 0 then operated op rd a v (ram_load 4 a m.reach.bytes) m else Traps StoreAddressMisaligned a
+operates op rd a v m =
+    if a % 4 == 0 then operated op rd a v (ram_load 4 a m.reach.bytes) m else Traps StoreAddressMisaligned a
 
 -- CSR INSTRUCTIONS (Unprivileged ISA, "Zicsr" Extension); word is the instruction's own, for mtval
 
@@ -188,10 +201,12 @@ wrote_csr n =
     if n == 0xB02 then Minstret else if n == 0xB82 then Minstret else Other
 
 abbrev pub csr_written : (word rd number old : ℕ) → Option CsrState → Machine → Outcome
-csr_written word rd n old (Some s) m = Done (record m { hart = record (given rd old m.hart) { csrs = s } }) [] (wrote_csr n)
+csr_written word rd n old (Some s) m =
+    Done (record m { hart = record (given rd old m.hart) { csrs = s } }) [] (wrote_csr n)
 csr_written word rd n old None m = Traps IllegalInstruction word
 
-abbrev pub csr_accessed : (word rd number : ℕ) → (writes : Bool) → CsrChange → (source : ℕ) → Option ℕ → Machine → Outcome
+abbrev pub csr_accessed : (word rd number : ℕ) → (writes : Bool) → CsrChange → (source : ℕ) → Option ℕ → Machine
+    → Outcome
 csr_accessed word rd n writes c s (Some old) m =
     if writes then csr_written word rd n old (csr_write n (changed c old s) m.hart.csrs) m else gives rd old m
 csr_accessed word rd n writes c s None m = Traps IllegalInstruction word

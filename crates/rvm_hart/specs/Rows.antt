@@ -1,4 +1,5 @@
--- What each row of the instruction table does. Sources are read before rd is written; values are whole numbers, reduced modulo 2 ^ 32.
+-- What each row of the instruction table does. Sources are read before rd is written; values are whole numbers,
+-- reduced modulo 2 ^ 32.
 use Rattle.std.specs.Prelude.{ℕ, pos, ◌+◌, ◌-◌, ◌*◌, ◌/◌, ◌%◌, ◌^◌, ◌*ℤ◌, Bool, true, false, not, ◌==◌, nat_lt, int_lt, if◌then◌else◌, [], bit_and, bit_or, bit_xor}
 use Rattle.rvm_word.specs.Word.{signed, signed_value, modulo, high, floor_shift, quotient, remainder, unsigned_quotient, unsigned_remainder}
 use Rattle.rvm_isa.specs.declared.ins.Ins.{Ins}
@@ -76,7 +77,8 @@ effect w (Fence rd rs1 i) m = passes m
 effect w (FenceI rd rs1 i) m = passes m
 effect w Ecall m = Traps EnvironmentCall 0
 effect w Ebreak m = Traps Breakpoint 0
-effect w Mret m = Done (record m { hart = record m.hart { pc = m.hart.csrs.mepc; csrs = trap_left m.hart.csrs } }) [] Other
+effect w Mret m =
+    Done (record m { hart = record m.hart { pc = m.hart.csrs.mepc; csrs = trap_left m.hart.csrs } }) [] Other
 effect w Wfi m = passes m
 effect w (Csrrw rd rs1 n) m = room.accesses w rd n change.Write rs1 (reg rs1 m.hart) m
 effect w (Csrrs rd rs1 n) m = room.accesses w rd n change.Set rs1 (reg rs1 m.hart) m

@@ -31,7 +31,10 @@ execute m = fetched_outcome (ram_load 4 m.hart.pc m.reach.bytes) m
 
 -- the machine in the handler of a trap (Privileged ISA, "Machine Trap-Vector Base-Address (mtvec) Register")
 abbrev pub trapped : Cause → (value : ℕ) → Machine → Machine
-trapped c v m = record m { hart = record m.hart { pc = trap_target c m.hart.csrs; csrs = trap_entered c v m.hart.pc m.hart.csrs } }
+trapped c v m =
+    record m {
+      hart = record m.hart { pc = trap_target c m.hart.csrs; csrs = trap_entered c v m.hart.pc m.hart.csrs };
+    }
 
 -- the counters after a step: which of mcycle, minstret and mtime rise
 abbrev pub counts : (cycle instret time : Bool) → Machine → Machine
@@ -62,13 +65,18 @@ pub record After : Type 0 where
   pub pages : List ℕ
   pub answer : Stepped
 
+-- a trap was entered: mcycle and mtime rise
+abbrev pub in_handler : Cause → (value : ℕ) → Stepped → Machine → After
+in_handler c v answer m = record { machine = counts true false true (trapped c v m); pages = []; answer = answer }
+
 abbrev pub settled : Outcome → Machine → After
-settled (Done after pages wrote) m = record { machine = counts_retired wrote after; pages = pages; answer = answer_of wrote }
-settled (Traps e v) m = record { machine = counts true false true (trapped (cause.Exception e) v m); pages = []; answer = Trapped e }
+settled (Done after pages wrote) m =
+    record { machine = counts_retired wrote after; pages = pages; answer = answer_of wrote }
+settled (Traps e v) m = in_handler (cause.Exception e) v (Trapped e) m
 
 -- an interrupt that is pending is taken before an instruction runs
 abbrev pub unless_pending : Option Interrupt → Machine → After
-unless_pending (Some i) m = record { machine = counts true false true (trapped (cause.Interrupt i) 0 m); pages = []; answer = Interrupted i }
+unless_pending (Some i) m = in_handler (cause.Interrupt i) 0 (Interrupted i) m
 unless_pending None m = settled (execute m) m
 
 -- a halted board stays as it is

@@ -74,7 +74,8 @@ impl Hart {
         rs1: Reg,
         rs2: Reg,
     ) -> Result<Written, Trap>
-        ensures hart { self.new ≡ given rd (value_of operation (reg rs1 self.old) (reg rs2 self.old)) self.old }
+        ensures hart { self.new
+            ≡ given rd (value_of operation (reg rs1 self.old) (reg rs2 self.old)) self.old }
         ensures result { result ≡ Ok Other }
     {
         self.give(rd, operation.of(self.get(rs1), self.get(rs2)));
@@ -90,7 +91,8 @@ impl Hart {
         rs1: Reg,
         imm: Imm12,
     ) -> Result<Written, Trap>
-        ensures hart { self.new ≡ given rd (value_of operation (reg rs1 self.old) (modulo 32 imm)) self.old }
+        ensures hart { self.new
+            ≡ given rd (value_of operation (reg rs1 self.old) (modulo 32 imm)) self.old }
         ensures result { result ≡ Ok Other }
     {
         self.give(rd, operation.of(self.get(rs1), imm.word()));

@@ -1,5 +1,5 @@
-//! Atomic instructions (Unprivileged ISA, "A" Standard Extension). Each step is one atomic event, so
-//! that aq and rl ask for nothing more.
+//! Atomic instructions (Unprivileged ISA, "A" Standard Extension). Each step is one atomic event,
+//! so that aq and rl ask for nothing more.
 
 ghost use Rattle.std.specs.Prelude.{◌≡◌, ◌<◌, length};
 ghost use Rattle.rvm_hart.specs.Machine.{machine};
@@ -66,7 +66,7 @@ impl Hart {
         bus: &mut Bus<M>,
     ) -> Result<Written, Trap>
         requires { self.old.csrs.hart < length bus.old.reach.reservations }
-        ensures { Does (reserves rd (reg rs1 self.old) (machine self.old bus.old)) self.old bus.old self.new bus.new result }
+        ensures { Does (reserves rd (reg rs1 self.old)) self.old bus.old self.new bus.new result }
     {
         let address = self.get(rs1);
         if address % 4 != 0 {
@@ -99,7 +99,8 @@ impl Hart {
         bus: &mut Bus<M>,
     ) -> Result<Written, Trap>
         requires { self.old.csrs.hart < length bus.old.reach.reservations }
-        ensures { Does (stores_conditionally rd (reg rs1 self.old) (reg rs2 self.old) (machine self.old bus.old)) self.old bus.old self.new bus.new result }
+        ensures { Does (stores_conditionally rd (reg rs1 self.old) (reg rs2 self.old))
+            self.old bus.old self.new bus.new result }
     {
         let address = self.get(rs1);
         if address % 4 != 0 {
@@ -135,7 +136,8 @@ impl Hart {
         bus: &mut Bus<M>,
     ) -> Result<Written, Trap>
         requires { self.old.csrs.hart < length bus.old.reach.reservations }
-        ensures { Does (operates operation rd (reg rs1 self.old) (reg rs2 self.old) (machine self.old bus.old)) self.old bus.old self.new bus.new result }
+        ensures { Does (operates operation rd (reg rs1 self.old) (reg rs2 self.old))
+            self.old bus.old self.new bus.new result }
     {
         let address = self.get(rs1);
         let source = self.get(rs2);
@@ -152,7 +154,8 @@ impl Hart {
         bus: &mut Bus<M>,
     ) -> Result<Written, Trap>
         requires { self.old.csrs.hart < length bus.old.reach.reservations }
-        ensures { Does (operates operation rd address source (machine self.old bus.old)) self.old bus.old self.new bus.new result }
+        ensures { Does (operates operation rd address source)
+            self.old bus.old self.new bus.new result }
     {
         if address % 4 != 0 {
             return Err(Trap {

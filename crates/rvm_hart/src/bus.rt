@@ -1,10 +1,10 @@
 //! What a hart reaches: RAM, devices and reservations.
 
-ghost use Rattle.std.specs.Prelude.{◌≡◌, ◌%◌, ◌<◌, ◌^◌, ◌+◌, ◌++◌, ◌∷◌, [], ◌↔◌, option_map, length, min, take, drop, IfNone, OnOk, OnErr, IsErr, ◌≤◌, false};
+ghost use Rattle.std.specs.Prelude.{◌≡◌, ◌%◌, ◌<◌, ◌^◌, ◌+◌, ◌++◌, ◌∷◌, [], ◌↔◌, length, min, take, drop, IfNone, OnOk, OnErr, IsErr, ◌≤◌, false};
 ghost use Rattle.rvm_res.specs.Reservations as res;
-ghost use Rattle.rvm_hart.specs.Machine.{BusState};
+ghost use Rattle.rvm_hart.specs.Machine.{BusState, with_devices, with_reservations};
 ghost use Rattle.rvm_hart.specs.Pokes.{bus_poked, poked_each};
-ghost use Rattle.rvm_hart.specs.Bus.{in_ram, ram_load, word_loaded, after_word_load, ram_stored, word_stored, device_stored, left_by, wrote_of, mip_of};
+ghost use Rattle.rvm_hart.specs.Bus.{in_ram, ram_load, word_loaded, after_word_load, ram_stored, word_stored, device_stored, left_by, wrote_by, wrote_of, mip_of};
 
 use crate::outcome::Written;
 use rvm_csr::Interrupts;
@@ -33,13 +33,19 @@ impl<M: Memory> Model for Bus<M> {
 
     ghost Value = { BusState };
 
-    ghost view = { λ b. record { reach = record { bytes = M.bytes b.ram; devices = b.devices; reservations = b.reservations }; dirty = M.dirty b.ram } };
+    ghost view = { λ b. record {
+      reach = record { bytes = M.bytes b.ram; devices = b.devices; reservations = b.reservations };
+      dirty = M.dirty b.ram;
+    } };
 }
 
 impl<M: Memory> Bus<M> {
     /// The bus of these parts.
     pub fn new(ram: M, devices: Devices, reservations: Reservations) -> Bus<M>
-        ensures { result ≡ record { reach = record { bytes = M.bytes ram; devices = devices; reservations = reservations }; dirty = M.dirty ram } }
+        ensures { result ≡ record {
+          reach = record { bytes = M.bytes ram; devices = devices; reservations = reservations };
+          dirty = M.dirty ram;
+        } }
     {
         Bus {
             ram,
@@ -72,14 +78,16 @@ impl<M: Memory> Bus<M> {
     /// The time is one step later.
     #[inline(always)]
     pub fn tick(&mut self)
-        ensures { self.new ≡ record self.old { reach = record self.old.reach { devices = record self.old.reach.devices { mtime = (self.old.reach.devices.mtime + 1) % 2 ^ 64 } } } }
+        ensures { self.new ≡ with_devices (record self.old.reach.devices { mtime = (self.old.reach.devices.mtime + 1) % 2 ^ 64 })
+            self.old }
     {
         self.devices.tick();
     }
 
     /// A byte comes to the console; `InputFull`, and nothing changes, where 16 wait.
     pub fn input(&mut self, byte: u8) -> Result<(), InputFull>
-        ensures taken { OnOk result (self.new ≡ record self.old { reach = record self.old.reach { devices = record self.old.reach.devices { input = self.old.reach.devices.input ++ byte ∷ [] } } }) }
+        ensures taken { OnOk result (self.new ≡ with_devices
+            (record self.old.reach.devices { input = self.old.reach.devices.input ++ byte ∷ [] }) self.old) }
         ensures full { IsErr result ↔ (length self.old.reach.devices.input ≡ 16) }
         ensures err { OnErr result (self.new ≡ self.old) }
     {
@@ -89,8 +97,10 @@ impl<M: Memory> Bus<M> {
     /// Takes the oldest bytes that the guest sent, as many as there are and fit, and says how many.
     pub fn drain(&mut self, bytes: &mut [u8]) -> usize
         ensures count { result ≡ min (length bytes.old) (length self.old.reach.devices.output) }
-        ensures bytes { bytes.new ≡ take result self.old.reach.devices.output ++ drop result bytes.old }
-        ensures bus { self.new ≡ record self.old { reach = record self.old.reach { devices = record self.old.reach.devices { output = drop result self.old.reach.devices.output } } } }
+        ensures bytes { bytes.new
+            ≡ take result self.old.reach.devices.output ++ drop result bytes.old }
+        ensures bus { self.new ≡ with_devices
+            (record self.old.reach.devices { output = drop result self.old.reach.devices.output }) self.old }
     {
         self.devices.drain(bytes)
     }
@@ -165,7 +175,7 @@ impl<M: Memory> Bus<M> {
     pub fn ram_store8(&mut self, hart: u32, address: u32, value: u8) -> Option<Written>
         requires { hart < length self.old.reach.reservations }
         ensures bus { self.new ≡ left_by (ram_stored 1 hart address value self.old.reach) self.old }
-        ensures wrote { result ≡ option_map (λ s. s.wrote) (ram_stored 1 hart address value self.old.reach) }
+        ensures wrote { result ≡ wrote_by (ram_stored 1 hart address value self.old.reach) }
     {
         let at = address.wrapping_sub(RAM_BASE);
         if at < self.ram.len() {
@@ -183,7 +193,7 @@ impl<M: Memory> Bus<M> {
         requires aligned { address % 2 ≡ 0 }
         requires hart { hart < length self.old.reach.reservations }
         ensures bus { self.new ≡ left_by (ram_stored 2 hart address value self.old.reach) self.old }
-        ensures wrote { result ≡ option_map (λ s. s.wrote) (ram_stored 2 hart address value self.old.reach) }
+        ensures wrote { result ≡ wrote_by (ram_stored 2 hart address value self.old.reach) }
     {
         let at = address.wrapping_sub(RAM_BASE);
         if at < self.ram.len() {
@@ -201,7 +211,7 @@ impl<M: Memory> Bus<M> {
         requires aligned { address % 4 ≡ 0 }
         requires hart { hart < length self.old.reach.reservations }
         ensures bus { self.new ≡ left_by (ram_stored 4 hart address value self.old.reach) self.old }
-        ensures wrote { result ≡ option_map (λ s. s.wrote) (ram_stored 4 hart address value self.old.reach) }
+        ensures wrote { result ≡ wrote_by (ram_stored 4 hart address value self.old.reach) }
     {
         let at = address.wrapping_sub(RAM_BASE);
         if at < self.ram.len() {
@@ -219,7 +229,7 @@ impl<M: Memory> Bus<M> {
         requires aligned { address % 4 ≡ 0 }
         requires hart { hart < length self.old.reach.reservations }
         ensures bus { self.new ≡ left_by (word_stored hart address value self.old.reach) self.old }
-        ensures wrote { result ≡ option_map (λ s. s.wrote) (word_stored hart address value self.old.reach) }
+        ensures wrote { result ≡ wrote_by (word_stored hart address value self.old.reach) }
     {
         let at = address.wrapping_sub(RAM_BASE);
         if at < self.ram.len() {
@@ -236,7 +246,8 @@ impl<M: Memory> Bus<M> {
     /// wholly in RAM.
     pub fn poke(&mut self, address: u32, bytes: &[u8]) -> Result<(), OutOfRange>
         ensures poked { OnOk result (self.new ≡ bus_poked address bytes.now self.old) }
-        ensures out { IsErr result ↔ (in_ram (length bytes.now) address self.old.reach.bytes ≡ false) }
+        ensures out { IsErr result
+            ↔ (in_ram (length bytes.now) address self.old.reach.bytes ≡ false) }
         ensures err { OnErr result (self.new ≡ self.old) }
     {
         if address < RAM_BASE || address - RAM_BASE > self.ram.len() {
@@ -251,7 +262,7 @@ impl<M: Memory> Bus<M> {
     #[inline(never)]
     fn store_device(&mut self, address: u32, value: u32) -> Option<Written>
         ensures bus { self.new ≡ left_by (device_stored address value self.old.reach) self.old }
-        ensures wrote { result ≡ option_map (λ s. s.wrote) (device_stored address value self.old.reach) }
+        ensures wrote { result ≡ wrote_by (device_stored address value self.old.reach) }
     {
         self.devices.store(address, value)?;
         Some(written_by(address, value))
@@ -261,7 +272,7 @@ impl<M: Memory> Bus<M> {
     #[inline(always)]
     pub fn hold(&mut self, hart: u32, address: u32)
         requires { hart < length self.old.reach.reservations }
-        ensures { self.new ≡ record self.old { reach = record self.old.reach { reservations = res.held hart address self.old.reach.reservations } } }
+        ensures { self.new ≡ with_reservations (res.held hart address self.old.reach.reservations) self.old }
     {
         self.reservations.hold(hart as usize, address);
     }
@@ -270,7 +281,7 @@ impl<M: Memory> Bus<M> {
     #[inline(always)]
     pub fn take(&mut self, hart: u32, address: u32) -> bool
         requires { hart < length self.old.reach.reservations }
-        ensures bus { self.new ≡ record self.old { reach = record self.old.reach { reservations = res.taken hart self.old.reach.reservations } } }
+        ensures bus { self.new ≡ with_reservations (res.taken hart self.old.reach.reservations) self.old }
         ensures takes { result ≡ res.takes hart address self.old.reach.reservations }
     {
         self.reservations.take(hart as usize, address)

@@ -74,7 +74,8 @@ impl Hart {
         bus: &mut Bus<M>,
     ) -> Result<Written, Trap>
         requires { self.old.csrs.hart < length bus.old.reach.devices.msip }
-        ensures { Does (accesses word rd csr change rs1 (reg rs1 self.old) (machine self.old bus.old)) self.old bus.old self.new bus.new result }
+        ensures { Does (accesses word rd csr change rs1 (reg rs1 self.old))
+            self.old bus.old self.new bus.new result }
     {
         let source = self.get(rs1);
         self.access_csr(word, change, rd, rs1.bits(), source, csr, bus)
@@ -92,7 +93,8 @@ impl Hart {
         bus: &mut Bus<M>,
     ) -> Result<Written, Trap>
         requires { self.old.csrs.hart < length bus.old.reach.devices.msip }
-        ensures { Does (accesses word rd csr change imm imm (machine self.old bus.old)) self.old bus.old self.new bus.new result }
+        ensures { Does (accesses word rd csr change imm imm)
+            self.old bus.old self.new bus.new result }
     {
         self.access_csr(word, change, rd, imm.bits(), imm.bits(), csr, bus)
     }
@@ -109,7 +111,8 @@ impl Hart {
         bus: &mut Bus<M>,
     ) -> Result<Written, Trap>
         requires { self.old.csrs.hart < length bus.old.reach.devices.msip }
-        ensures { Does (accesses word rd csr change field source (machine self.old bus.old)) self.old bus.old self.new bus.new result }
+        ensures { Does (accesses word rd csr change field source)
+            self.old bus.old self.new bus.new result }
     {
         let number = csr.bits();
         let illegal = Trap {

@@ -41,7 +41,11 @@ impl Hart {
     /// Hart `number` after reset: it starts at `entry` with its number in a0, all else is 0.
     pub fn new(number: u32, entry: u32) -> Hart
         requires { entry % 4 ≡ 0 }
-        ensures { result ≡ record { regs = slice_set (replicate 32 0) 10 number; pc = entry; csrs = at_reset number } }
+        ensures { result ≡ record {
+          regs = slice_set (replicate 32 0) 10 number;
+          pc = entry;
+          csrs = at_reset number;
+        } }
     {
         let mut regs = [0; 32];
         regs[10] = number;
@@ -89,7 +93,8 @@ impl Hart {
     /// Returns from a trap (MRET).
     #[inline(never)]
     pub(crate) fn mret(&mut self) -> Result<Written, Trap>
-        ensures hart { self.new ≡ record self.old { pc = self.old.csrs.mepc; csrs = trap_left self.old.csrs } }
+        ensures hart { self.new
+            ≡ record self.old { pc = self.old.csrs.mepc; csrs = trap_left self.old.csrs } }
         ensures result { result ≡ Ok Other }
     {
         self.pc = self.csrs.mret();

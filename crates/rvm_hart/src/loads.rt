@@ -25,7 +25,8 @@ impl Hart {
         imm: Imm12,
         bus: &mut Bus<M>,
     ) -> Result<Written, Trap>
-        ensures { Does (loads_byte signed_byte rd (sum (reg rs1 self.old) imm) (machine self.old bus.old)) self.old bus.old self.new bus.new result }
+        ensures { Does (loads_byte signed_byte rd (sum (reg rs1 self.old) imm))
+            self.old bus.old self.new bus.new result }
     {
         let address = self.plus(rs1, imm);
         match bus.ram_load8(address) {
@@ -49,7 +50,8 @@ impl Hart {
         imm: Imm12,
         bus: &mut Bus<M>,
     ) -> Result<Written, Trap>
-        ensures { Does (loads_byte as_it_is rd (sum (reg rs1 self.old) imm) (machine self.old bus.old)) self.old bus.old self.new bus.new result }
+        ensures { Does (loads_byte as_it_is rd (sum (reg rs1 self.old) imm))
+            self.old bus.old self.new bus.new result }
     {
         let address = self.plus(rs1, imm);
         match bus.ram_load8(address) {
@@ -73,7 +75,8 @@ impl Hart {
         imm: Imm12,
         bus: &mut Bus<M>,
     ) -> Result<Written, Trap>
-        ensures { Does (loads_half signed_half rd (sum (reg rs1 self.old) imm) (machine self.old bus.old)) self.old bus.old self.new bus.new result }
+        ensures { Does (loads_half signed_half rd (sum (reg rs1 self.old) imm))
+            self.old bus.old self.new bus.new result }
     {
         let address = self.plus(rs1, imm);
         if address % 2 != 0 {
@@ -103,7 +106,8 @@ impl Hart {
         imm: Imm12,
         bus: &mut Bus<M>,
     ) -> Result<Written, Trap>
-        ensures { Does (loads_half as_it_is rd (sum (reg rs1 self.old) imm) (machine self.old bus.old)) self.old bus.old self.new bus.new result }
+        ensures { Does (loads_half as_it_is rd (sum (reg rs1 self.old) imm))
+            self.old bus.old self.new bus.new result }
     {
         let address = self.plus(rs1, imm);
         if address % 2 != 0 {
@@ -133,7 +137,8 @@ impl Hart {
         imm: Imm12,
         bus: &mut Bus<M>,
     ) -> Result<Written, Trap>
-        ensures { Does (loads_word rd (sum (reg rs1 self.old) imm) (machine self.old bus.old)) self.old bus.old self.new bus.new result }
+        ensures { Does (loads_word rd (sum (reg rs1 self.old) imm))
+            self.old bus.old self.new bus.new result }
     {
         let address = self.plus(rs1, imm);
         if address % 4 != 0 {

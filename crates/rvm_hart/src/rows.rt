@@ -64,7 +64,7 @@ impl Hart {
     ) -> Result<Written, Trap>
         requires reservation { self.old.csrs.hart < length bus.old.reach.reservations }
         requires devices { self.old.csrs.hart < length bus.old.reach.devices.msip }
-        ensures { Does (effect word ins (machine self.old bus.old)) self.old bus.old self.new bus.new result }
+        ensures { Does (effect word ins) self.old bus.old self.new bus.new result }
     {
         match ins {
             Ins::Lui { rd, imm } => self.retire(rd, imm.bits() << 12),

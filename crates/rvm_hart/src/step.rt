@@ -25,7 +25,8 @@ impl Hart {
         requires reservation { self.old.csrs.hart < length bus.old.reach.reservations }
         requires devices { self.old.csrs.hart < length bus.old.reach.devices.msip }
         ensures machine { machine self.new bus.new ≡ (step (machine self.old bus.old)).machine }
-        ensures dirty { bus.new.dirty ≡ mark_all (step (machine self.old bus.old)).pages bus.old.dirty }
+        ensures dirty { bus.new.dirty
+            ≡ mark_all (step (machine self.old bus.old)).pages bus.old.dirty }
         ensures answer { result ≡ (step (machine self.old bus.old)).answer }
     {
         if let Some(status) = bus.halted() {
@@ -66,7 +67,7 @@ impl Hart {
     fn execute<M: Memory>(&mut self, bus: &mut Bus<M>) -> Result<Written, Trap>
         requires reservation { self.old.csrs.hart < length bus.old.reach.reservations }
         requires devices { self.old.csrs.hart < length bus.old.reach.devices.msip }
-        ensures { Does (execute (machine self.old bus.old)) self.old bus.old self.new bus.new result }
+        ensures { Does execute self.old bus.old self.new bus.new result }
     {
         let Some(word) = bus.ram_load32(self.pc) else {
             return Err(Trap {
@@ -86,7 +87,8 @@ impl Hart {
     /// Ends the step of an instruction that wrote a counter or the halt word.
     #[inline(never)]
     fn retire_after<M: Memory>(&mut self, written: Written, bus: &mut Bus<M>) -> Stepped
-        ensures machine { machine self.new bus.new ≡ counts_retired written (machine self.old bus.old) }
+        ensures machine { machine self.new bus.new
+            ≡ counts_retired written (machine self.old bus.old) }
         ensures dirty { bus.new.dirty ≡ bus.old.dirty }
         ensures answer { result ≡ answer_of written }
     {
@@ -104,7 +106,8 @@ impl Hart {
     /// Enters a trap, and ends the step.
     #[inline(never)]
     fn enter<M: Memory>(&mut self, cause: Cause, value: u32, bus: &mut Bus<M>)
-        ensures machine { machine self.new bus.new ≡ counts true false true (trapped cause value (machine self.old bus.old)) }
+        ensures machine { machine self.new bus.new
+            ≡ counts true false true (trapped cause value (machine self.old bus.old)) }
         ensures dirty { bus.new.dirty ≡ bus.old.dirty }
     {
         self.pc = self.csrs.enter_trap(cause, value, self.pc);

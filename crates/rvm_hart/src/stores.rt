@@ -24,7 +24,8 @@ impl Hart {
         bus: &mut Bus<M>,
     ) -> Result<Written, Trap>
         requires { self.old.csrs.hart < length bus.old.reach.reservations }
-        ensures { Does (stores_byte (sum (reg rs1 self.old) imm) (reg rs2 self.old) (machine self.old bus.old)) self.old bus.old self.new bus.new result }
+        ensures { Does (stores_byte (sum (reg rs1 self.old) imm) (reg rs2 self.old))
+            self.old bus.old self.new bus.new result }
     {
         let address = self.plus(rs1, imm);
         let value = self.get(rs2);
@@ -50,7 +51,8 @@ impl Hart {
         bus: &mut Bus<M>,
     ) -> Result<Written, Trap>
         requires { self.old.csrs.hart < length bus.old.reach.reservations }
-        ensures { Does (stores_half (sum (reg rs1 self.old) imm) (reg rs2 self.old) (machine self.old bus.old)) self.old bus.old self.new bus.new result }
+        ensures { Does (stores_half (sum (reg rs1 self.old) imm) (reg rs2 self.old))
+            self.old bus.old self.new bus.new result }
     {
         let address = self.plus(rs1, imm);
         let value = self.get(rs2);
@@ -82,7 +84,8 @@ impl Hart {
         bus: &mut Bus<M>,
     ) -> Result<Written, Trap>
         requires { self.old.csrs.hart < length bus.old.reach.reservations }
-        ensures { Does (stores_word (sum (reg rs1 self.old) imm) (reg rs2 self.old) (machine self.old bus.old)) self.old bus.old self.new bus.new result }
+        ensures { Does (stores_word (sum (reg rs1 self.old) imm) (reg rs2 self.old))
+            self.old bus.old self.new bus.new result }
     {
         let address = self.plus(rs1, imm);
         let value = self.get(rs2);

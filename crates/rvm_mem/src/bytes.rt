@@ -32,7 +32,8 @@ pub fn read_bytes<M: Memory>(memory: &M, at: u32, bytes: &mut [u8]) -> Result<()
 /// they do not all fit; then nothing changes.
 pub fn write_bytes<M: Memory>(memory: &mut M, at: u32, bytes: &[u8]) -> Result<(), OutOfRange>
     ensures bytes { OnOk result (M.bytes memory.new ≡ replaced at bytes.now (M.bytes memory.old)) }
-    ensures dirty { OnOk result (M.dirty memory.new ≡ mark_bytes at (length bytes.now) (M.dirty memory.old)) }
+    ensures dirty { OnOk result (M.dirty memory.new
+        ≡ mark_bytes at (length bytes.now) (M.dirty memory.old)) }
     ensures out { IsErr result ↔ (length (M.bytes memory.old) < at + length bytes.now) }
     ensures err { OnErr result (memory.new ≡ memory.old) }
 {

@@ -24,7 +24,8 @@ impl Model for FlatMemory {
 
     ghost view = { λ m. record { bytes = m.bytes.items; dirty = m.dirty.items } };
 
-    ghost invariant = { λ m. (length m.bytes.items ≡ 4096 * length m.dirty.items) × (length m.dirty.items ≤ 4096) };
+    ghost invariant = { λ m. (length m.bytes.items ≡ 4096 * length m.dirty.items)
+        × (length m.dirty.items ≤ 4096) };
 }
 
 impl FlatMemory {
