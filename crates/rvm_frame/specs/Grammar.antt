@@ -46,7 +46,8 @@ body_of (Offer m p h) = little_bytes 2 p ++ little_bytes 1 h
 body_of (Accept m) = []
 body_of (Refuse m l) = little_bytes 2 l
 body_of (Page m p n b) = little_bytes 2 p ++ (little_bytes 4 n ++ b)
-body_of (RoundEnd m r s k l) = little_bytes 2 r ++ (little_bytes 2 s ++ (little_bytes 2 k ++ little_bytes 2 l))
+body_of (RoundEnd m r s k l) =
+    little_bytes 2 r ++ (little_bytes 2 s ++ (little_bytes 2 k ++ little_bytes 2 l))
 body_of (Lost m ps) = little_bytes 2 (length ps) ++ flat_map (little_bytes 2) ps
 body_of (State m ns b) = (little_bytes 2 (length ns) ++ flat_map (little_bytes 4) ns) ++ b
 body_of (Ready m) = []
@@ -56,7 +57,9 @@ body_of (Abort m) = []
 
 -- kind, move number, length of the body, body
 abbrev pub spelling : Frame → List ℕ
-spelling f = byte_of (kind_of f) ∷ (little_bytes 8 (move_of f) ++ (little_bytes 4 (length (body_of f)) ++ body_of f))
+spelling f =
+    byte_of (kind_of f)
+    ∷ (little_bytes 8 (move_of f) ++ (little_bytes 4 (length (body_of f)) ++ body_of f))
 
 -- the frame's values, beside its move number, lie in their limits
 abbrev pub body_fits : Frame → Bool
@@ -65,7 +68,8 @@ body_fits (Offer m p h) = within 1 4096 p && within 1 8 h
 body_fits (Accept m) = true
 body_fits (Refuse m l) = within 1 4096 l
 body_fits (Page m p n b) = within 0 4095 p && (within 1 (2 ^ 32 - 1) n && (length b == 4096))
-body_fits (RoundEnd m r s k l) = nat_lt r (2 ^ 16) && (nat_lt s (2 ^ 16) && (nat_lt k (2 ^ 16) && nat_lt l (2 ^ 16)))
+body_fits (RoundEnd m r s k l) =
+    nat_lt r (2 ^ 16) && (nat_lt s (2 ^ 16) && (nat_lt k (2 ^ 16) && nat_lt l (2 ^ 16)))
 body_fits (Lost m ps) = within 1 4096 (length ps) && list_all (within 0 4095) ps && rise_from 0 ps
 body_fits (State m ns b) = within 1 4096 (length ns) && list_all (within 1 (2 ^ 32 - 1)) ns
 body_fits (Ready m) = true
@@ -73,7 +77,7 @@ body_fits (Go m) = true
 body_fits (Started m) = true
 body_fits (Abort m) = true
 
--- the frame is one that a stream may have: its values lie in their limits, and its body is not too long
+-- the frame's values lie in their limits, and its body is not too long
 pub record HasSpelling (f : Frame) : Type 0 where
   pub move_number : move_fits (kind_of f) (move_of f) ≡ true
   pub body : body_fits f ≡ true

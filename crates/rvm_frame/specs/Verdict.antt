@@ -40,7 +40,8 @@ at_header k (Some h) = after_header k h.0 h.1 h.2
 -- with its byte the kind, and whether it may stand there
 abbrev pub at_kind : Bool → Option Kind → List ℕ → Verdict
 at_kind greeted None bytes = Err BadFrame
-at_kind greeted (Some k) bytes = if stands greeted k then at_header k (header_at bytes) else Err BadFrame
+at_kind greeted (Some k) bytes =
+    if stands greeted k then at_header k (header_at bytes) else Err BadFrame
 
 -- what the bytes are, where a frame begins; `greeted` says that Hello came before
 abbrev pub verdict : Bool → List ℕ → Verdict
@@ -63,9 +64,11 @@ abbrev pub wanted : List ℕ → ℕ
 wanted [] = 1
 wanted (b ∷ bytes) = wanted_after (header_at bytes)
 
--- The shortest beginning of the piece that, behind what came before, is a whole frame or refused has
--- n bytes, and answer is what it is. Where there is none, n is all of the piece and answer `Ok None`.
-pub record Decides (greeted : Bool) (before piece : List ℕ) (n : ℕ) (answer : Verdict) : Type 0 where
+-- The shortest beginning of the piece that, behind what came before, is a whole frame or refused
+-- has n bytes, and answer is what it is. Where there is none, n is the piece's length and answer
+-- `Ok None`.
+pub record Decides (greeted : Bool) (before piece : List ℕ) (n : ℕ) (answer : Verdict)
+  : Type 0 where
   pub within_piece : n ≤ length piece
   pub undecided : (k : ℕ) → k < n → verdict greeted (before ++ take k piece) ≡ Ok None
   pub decided : verdict greeted (before ++ take n piece) ≡ answer

@@ -58,7 +58,7 @@ pub fn the_pieces_of_a_stream_do_not_matter()
 /// However a stream is cut into pieces, no reader gets past a byte at which one refused it.
 pub fn a_refusal_does_not_depend_on_the_pieces()
     ensures { (one other : List Feed) (new end : Gathered) (piece more : List ℕ) (n : ℕ)
-        (fault : ReadFault) → Run at_start one new → IsBytes piece
+        (fault : ReadFault) → Run at_start one new
         → Decides new.greeted new.bytes piece n (Err fault) → Run at_start other end
         → bytes_taken other ≡ (bytes_taken one ++ take n piece) ++ more → ⊥ }
 {}

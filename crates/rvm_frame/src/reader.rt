@@ -26,7 +26,8 @@ fn next_check(bytes: &[u8]) -> usize
 /// Puts `count` bytes of a piece behind those that are there.
 fn extend(bytes: &mut Vec<u8>, piece: &[u8], from: usize, count: usize) -> Result<(), AllocError>
     requires { from + count ≤ length piece.now }
-    ensures ok { OnOk result (bytes.new.items ≡ bytes.old.items ++ take count (drop from piece.now)) }
+    ensures ok { OnOk result
+        (bytes.new.items ≡ bytes.old.items ++ take count (drop from piece.now)) }
     ensures err { OnErr result (bytes.new.items ≡ bytes.old.items) }
 {
     bytes.extend_from_slice(&piece[from..from + count])
