@@ -80,7 +80,7 @@ fn gather(
 }
 
 /// A reader of one direction's stream: one Hello, and then frames without Hello.
-#[derive(Drop)]
+#[derive(Debug, Drop)]
 pub struct FrameReader {
     greeted: bool,
     failed: bool,
