@@ -16,7 +16,8 @@ pub record Takes (bytes text rest : List ℕ) : Type 0 where
 pub record IsExact {A : Type 0} (c : Codec A) : Type 0 where
   pub takes : (bytes : List ℕ) (x : A × List ℕ) → IsBytes bytes → c.read bytes ≡ Some x
       → Takes bytes (c.write x.0) x.1 × (c.fits x.0 ≡ true)
-  pub again : (a : A) (rest : List ℕ) → c.fits a ≡ true → c.read (c.write a ++ rest) ≡ Some (a, rest)
+  pub again : (a : A) (rest : List ℕ) → c.fits a ≡ true
+      → c.read (c.write a ++ rest) ≡ Some (a, rest)
 
 -- a format whose reader and writer agree
 pub record IsExactFormat {A : Type 0} (f : Format A) : Type 0 where

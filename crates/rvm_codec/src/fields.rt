@@ -52,7 +52,8 @@ pub fn u64_at(bytes: &[u8]) -> Option<(u64, &[u8])>
 
 /// A byte from `low` to `high`; None also for another one.
 pub fn u8_within(low: u8, high: u8, bytes: &[u8]) -> Option<(u8, &[u8])>
-    ensures { option_map (λ x. (x.0, x.1.now)) result ≡ (number 1 (within low high)).read bytes.now }
+    ensures { option_map (λ x. (x.0, x.1.now)) result
+        ≡ (number 1 (within low high)).read bytes.now }
 {
     let (n, rest) = u8_at(bytes)?;
     if low <= n && n <= high {
@@ -64,7 +65,8 @@ pub fn u8_within(low: u8, high: u8, bytes: &[u8]) -> Option<(u8, &[u8])>
 
 /// A number of two bytes from `low` to `high`; None also for another one.
 pub fn u16_within(low: u16, high: u16, bytes: &[u8]) -> Option<(u16, &[u8])>
-    ensures { option_map (λ x. (x.0, x.1.now)) result ≡ (number 2 (within low high)).read bytes.now }
+    ensures { option_map (λ x. (x.0, x.1.now)) result
+        ≡ (number 2 (within low high)).read bytes.now }
 {
     let (n, rest) = u16_at(bytes)?;
     if low <= n && n <= high {
@@ -76,7 +78,8 @@ pub fn u16_within(low: u16, high: u16, bytes: &[u8]) -> Option<(u16, &[u8])>
 
 /// A number of four bytes from `low` to `high`; None also for another one.
 pub fn u32_within(low: u32, high: u32, bytes: &[u8]) -> Option<(u32, &[u8])>
-    ensures { option_map (λ x. (x.0, x.1.now)) result ≡ (number 4 (within low high)).read bytes.now }
+    ensures { option_map (λ x. (x.0, x.1.now)) result
+        ≡ (number 4 (within low high)).read bytes.now }
 {
     let (n, rest) = u32_at(bytes)?;
     if low <= n && n <= high {

@@ -135,6 +135,12 @@ some_cases g rest piece (suc n) e waits h = omega arith
 some_taken : (g : Bool) (rest piece : List ℕ) (n : ℕ) (e : ReadFault) → verdict g rest ≡ Ok None → Decides g rest piece n (Err e) → 0 < n
 some_taken g rest piece n e waits d = some_cases g rest piece n e waits d.decided
 
+-- bytes that are no whole frame do not begin with one
+no_frame_first : (g : Bool) (f : Frame) (a x behind : List ℕ) → HasSpelling f → MayStand g f → length (spelling f) ≤ length a → spelling f ++ behind ≡ a ++ x → verdict g a ≡ Ok None → ⊥
+no_frame_first g f a x behind fits stand longer same waits =
+    let z = front (spelling f) behind a x longer same in
+    whole_or_past g f z.0 fits stand (ap (verdict g) z.1 ∙ waits)
+
 -- no frame that may stand there begins the stream where a reader refuses it
 none_begins : (g : Bool) (rest piece more : List ℕ) (n : ℕ) (e : ReadFault) (f : Frame) (behind : List ℕ) → verdict g rest ≡ Ok None → Decides g rest piece n (Err e) → HasSpelling f → MayStand g f
     → (rest ++ take n piece) ++ more ≡ spelling f ++ behind → ⊥
@@ -146,8 +152,7 @@ none_begins g rest piece more n e f behind waits d fits stand same =
           let short : length (take k piece) ≡ k = let within = d.within_piece in omega (arith, length-take k piece) in
           let whole : rest ++ take n piece ≡ (rest ++ take k piece) ++ drop k (take n piece) = split_at rest k n piece lt in
           let longer : length (spelling f) ≤ length (rest ++ take k piece) = omega (arith, short, length-append rest (take k piece)) in
-          let z = front (spelling f) behind (rest ++ take k piece) (drop k (take n piece) ++ more) longer (sym same ∙ ap (λ (b : List ℕ). b ++ more) whole ∙ append_assoc (rest ++ take k piece) (drop k (take n piece)) more) in
-          whole_or_past g f z.0 fits stand (ap (verdict g) z.1 ∙ d.undecided k lt)
+          no_frame_first g f (rest ++ take k piece) (drop k (take n piece) ++ more) behind fits stand longer (sym same ∙ ap (λ (b : List ℕ). b ++ more) whole ∙ append_assoc (rest ++ take k piece) (drop k (take n piece)) more) (d.undecided k lt)
       | inr le ↦
           let shorter : length (rest ++ take n piece) ≤ length (spelling f) = omega (arith, some_taken g rest piece n e waits d, len, length-append rest (take n piece)) in
           let z = front (rest ++ take n piece) more (spelling f) behind shorter same in

@@ -6,7 +6,7 @@ use std::alloc::{AllocError, Global};
 use std::marker::Model;
 
 /// The 4096 bytes of a page.
-#[derive(Drop)]
+#[derive(Debug, Drop)]
 pub struct PageBytes {
     bytes: Box<[u8; 4096]>,
 }

@@ -1,8 +1,8 @@
 //! What bytes are, where a frame begins, and reading one whole frame.
 
-ghost use Rattle.std.specs.Prelude.{◌≡◌, true, IfOk, option_map};
+ghost use Rattle.std.specs.Prelude.{◌≡◌, true, IfOk, IfSome, option_map};
 ghost use Rattle.rvm_frame.specs.declared.frame.Frame.{Frame};
-ghost use Rattle.rvm_frame.specs.Grammar.{HasSpelling, MayStand, spelling};
+ghost use Rattle.rvm_frame.specs.Grammar.{Spells};
 ghost use Rattle.rvm_frame.specs.Faults.{Gives};
 ghost use Rattle.rvm_frame.specs.Verdict.{after_header, header_at, one_frame_of, verdict};
 
@@ -58,7 +58,7 @@ fn judge_body(
 }
 
 /// What the bytes are, where a frame begins: a whole frame, or None for a beginning of one.
-pub(crate) fn judge(alloc: Global, greeted: bool, bytes: &[u8]) -> Result<Option<Frame>, ReadFault>
+fn decide(alloc: Global, greeted: bool, bytes: &[u8]) -> Result<Option<Frame>, ReadFault>
     ensures { Gives result (verdict greeted bytes.now) }
 {
     match bytes {
@@ -80,11 +80,19 @@ pub(crate) fn judge(alloc: Global, greeted: bool, bytes: &[u8]) -> Result<Option
     }
 }
 
+/// What the bytes are, where a frame begins; a whole frame is spelled so.
+pub(crate) fn judge(alloc: Global, greeted: bool, bytes: &[u8]) -> Result<Option<Frame>, ReadFault>
+    ensures value { Gives result (verdict greeted bytes.now) }
+    ensures whole { IfOk result (λ o. IfSome o (λ f. Spells greeted bytes.now f)) }
+{
+    decide(alloc, greeted, bytes)
+}
+
 /// The frame that all of the bytes spell, where Hello came before.
 fn one_frame(alloc: Global, bytes: &[u8]) -> Result<Frame, ReadFault>
     ensures { Gives result (one_frame_of (verdict true bytes.now)) }
 {
-    match judge(alloc, true, bytes) {
+    match decide(alloc, true, bytes) {
         Ok(Some(frame)) => Ok(frame),
         Ok(None) => Err(ReadFault::BadFrame),
         Err(fault) => Err(fault),
@@ -95,10 +103,9 @@ fn one_frame(alloc: Global, bytes: &[u8]) -> Result<Frame, ReadFault>
 /// 32768, BadFrame where the bytes are no such frame, end inside it or go on after it.
 pub fn read_frame(alloc: Global, bytes: &[u8]) -> Result<Frame, ReadFault>
     // What is read is spelled so.
-    ensures found { IfOk result (λ f. HasSpelling f × MayStand true f × (bytes.now ≡ spelling f)) }
+    ensures found { IfOk result (λ f. Spells true bytes.now f) }
     // What is spelled so is read, unless memory runs out.
-    ensures only { (f : Frame) → HasSpelling f → MayStand true f → bytes.now ≡ spelling f
-        → Gives result (Ok f) }
+    ensures only { (f : Frame) → Spells true bytes.now f → Gives result (Ok f) }
     // Which fault it is.
     ensures exact { Gives result (one_frame_of (verdict true bytes.now)) }
 {

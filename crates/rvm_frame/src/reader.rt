@@ -1,6 +1,7 @@
 //! A reader of a stream that comes in pieces.
 
-ghost use Rattle.std.specs.Prelude.{◌≡◌, ◌+◌, ◌≤◌, ◌++◌, false, true, length, min, take, drop, IfOk, IfErr, OnErr, OnOk};
+ghost use Rattle.std.specs.Prelude.{◌≡◌, ◌+◌, ◌≤◌, ◌++◌, false, true, length, min, take, drop, IfOk, IfErr, IfSome, OnErr, OnOk};
+ghost use Rattle.rvm_frame.specs.Grammar.{Spells};
 ghost use Rattle.rvm_frame.specs.Verdict.{Decides, verdict, wanted};
 ghost use Rattle.rvm_frame.specs.Reader.{Faults, Refuses, at_start, faulted_of, next_of};
 
@@ -26,7 +27,8 @@ fn next_check(bytes: &[u8]) -> usize
 /// Puts `count` bytes of a piece behind those that are there.
 fn extend(bytes: &mut Vec<u8>, piece: &[u8], from: usize, count: usize) -> Result<(), AllocError>
     requires { from + count ≤ length piece.now }
-    ensures ok { OnOk result (bytes.new.items ≡ bytes.old.items ++ take count (drop from piece.now)) }
+    ensures ok { OnOk result
+        (bytes.new.items ≡ bytes.old.items ++ take count (drop from piece.now)) }
     ensures err { OnErr result (bytes.new.items ≡ bytes.old.items) }
 {
     bytes.extend_from_slice(&piece[from..from + count])
@@ -48,6 +50,8 @@ fn gather(
 ) -> Result<(usize, Option<Frame>), ReadFault>
     requires { verdict greeted bytes.old.items ≡ Ok None }
     ensures decides { IfOk result (λ r. Decides greeted bytes.old.items piece.now r.0 (Ok r.1)) }
+    ensures whole { IfOk result
+        (λ r. IfSome r.1 (λ f. Spells greeted (bytes.old.items ++ take r.0 piece.now) f)) }
     ensures items { IfOk result (λ r. bytes.new.items ≡ bytes.old.items ++ take r.0 piece.now) }
     ensures refused { IfErr result (λ fault. Refuses greeted bytes.old.items piece.now fault) }
     ensures err { OnErr result (bytes.new.items ≡ bytes.old.items) }
@@ -76,7 +80,7 @@ fn gather(
 }
 
 /// A reader of one direction's stream: one Hello, and then frames without Hello.
-#[derive(Drop)]
+#[derive(Debug, Drop)]
 pub struct FrameReader {
     greeted: bool,
     failed: bool,
@@ -118,6 +122,9 @@ impl FrameReader {
         // The first frame that is whole, at its last byte, in whatever pieces the stream comes.
         ensures decides { IfOk result
             (λ r. Decides self.old.greeted self.old.bytes piece.now r.0 (Ok r.1)) }
+        ensures whole { IfOk result
+            (λ r. IfSome r.1
+            (λ f. Spells self.old.greeted (self.old.bytes ++ take r.0 piece.now) f)) }
         ensures next { IfOk result (λ r. self.new ≡ next_of self.old piece.now r.1) }
         ensures open { IfOk result (λ r. self.old.failed ≡ false) }
 

@@ -1,4 +1,5 @@
-use Rattle.std.proofs.Common.{◌≡◌, ◌+◌, ◌++◌, take, drop, Ok, None, Some, arith, sym, ap, ◌∙◌}
+use Rattle.std.proofs.Common.{◌≡◌, List, ℕ, subst, ◌+◌, ◌++◌, take, drop, Ok, None, Some, arith, sym, ap, ◌∙◌}
+use Rattle.rvm_frame.specs.Grammar.{Spells}
 use Rattle.rvm_frame.specs.Verdict.{verdict, wanted}
 use Rattle.rvm_frame.proofs.Gather.{wants_at, before_check, chunk, open_more, ok_of, frame_at, refuses_at}
 use Rattle.rvm_frame.proofs.reader.gather.Goals as goal
@@ -29,7 +30,7 @@ loop-used-preserved c =
     let grown : c.extend.new.bytes.items ≡ c.loop-used.bytes.items ++ take n (drop used piece) = ok_of c.extend.result (sym c.is_err.ensures.value ∙ c.if-is_err.false) c.extend.ensures.ok in
     let items : c.extend.new.bytes.items ≡ old ++ take (used + n) piece = grown ∙ chunk old piece c.loop-used.bytes.items used n i.items in
     let before = before_check g old piece c.loop-used.bytes.items used n i.undecided i.items (omega (arith, wants_at g old piece c.loop-used.bytes.items used i.undecided i.items, want-is, c.lesser-count.ensures)) in
-    let last : verdict g (old ++ take (used + n) piece) ≡ Ok None = ap (verdict g) (sym (c.as_slice-in-loop-used.ensures.value ∙ items)) ∙ (rw c.in-Ok-None.field-0-is at c.in-Ok-None.ensures) in
+    let last : verdict g (old ++ take (used + n) piece) ≡ Ok None = ap (verdict g) (sym (c.as_slice-in-loop-used.ensures.value ∙ items)) ∙ (rw c.in-Ok-None.field-0-is at c.in-Ok-None.ensures.value) in
     record {
       items = items;
       within = omega (arith, c.lesser-count.ensures);
@@ -53,7 +54,7 @@ returns-in-Ok-Some-clause-decides c =
     let grown : c.extend.new.bytes.items ≡ c.loop-used.bytes.items ++ take n (drop used piece) = ok_of c.extend.result (sym c.is_err.ensures.value ∙ c.if-is_err.false) c.extend.ensures.ok in
     let items : c.extend.new.bytes.items ≡ old ++ take (used + n) piece = grown ∙ chunk old piece c.loop-used.bytes.items used n i.items in
     let before = before_check g old piece c.loop-used.bytes.items used n i.undecided i.items (omega (arith, wants_at g old piece c.loop-used.bytes.items used i.undecided i.items, want-is, c.lesser-count.ensures)) in
-    let last : verdict g (old ++ take (used + n) piece) ≡ Ok (Some c.in-Ok-Some.frame) = ap (verdict g) (sym (c.as_slice-in-loop-used.ensures.value ∙ items)) ∙ (rw c.in-Ok-Some.field-0-is at c.in-Ok-Some.ensures) in
+    let last : verdict g (old ++ take (used + n) piece) ≡ Ok (Some c.in-Ok-Some.frame) = ap (verdict g) (sym (c.as_slice-in-loop-used.ensures.value ∙ items)) ∙ (rw c.in-Ok-Some.field-0-is at c.in-Ok-Some.ensures.value) in
     frame_at g old piece (used + n) c.in-Ok-Some.frame (omega (arith, c.lesser-count.ensures)) before last
 
 pub returns-in-Err-clause-refused : goal.returns-in-Err-clause-refused
@@ -69,4 +70,12 @@ returns-in-Err-clause-refused c =
     let items : c.extend.new.bytes.items ≡ old ++ take (used + n) piece = grown ∙ chunk old piece c.loop-used.bytes.items used n i.items in
     let before = before_check g old piece c.loop-used.bytes.items used n i.undecided i.items (omega (arith, wants_at g old piece c.loop-used.bytes.items used i.undecided i.items, want-is, c.lesser-count.ensures)) in
     let same = c.as_slice-in-loop-used.ensures.value ∙ items in
-    refuses_at g old piece (used + n) c.in-Err.fault (omega (arith, c.lesser-count.ensures)) before (rw (← same) c.in-Err.ensures)
+    refuses_at g old piece (used + n) c.in-Err.fault (omega (arith, c.lesser-count.ensures)) before (rw (← same) c.in-Err.ensures.value)
+
+pub returns-in-Ok-Some-clause-whole : goal.returns-in-Ok-Some-clause-whole
+returns-in-Ok-Some-clause-whole c =
+    let used = c.loop-used.used in
+    let n = c.lesser-count.result in
+    let grown : c.extend.new.bytes.items ≡ c.loop-used.bytes.items ++ take n (drop used c.args.piece.now) = ok_of c.extend.result (sym c.is_err.ensures.value ∙ c.if-is_err.false) c.extend.ensures.ok in
+    let items : c.extend.new.bytes.items ≡ c.args.bytes.now.items ++ take (used + n) c.args.piece.now = grown ∙ chunk c.args.bytes.now.items c.args.piece.now c.loop-used.bytes.items used n c.loop-used.invariant.items in
+    subst (λ (b : List ℕ). Spells c.args.greeted b c.in-Ok-Some.frame) (c.as_slice-in-loop-used.ensures.value ∙ items) (rw c.in-Ok-Some.field-0-is at c.in-Ok-Some.ensures.whole)
