@@ -1,0 +1,38 @@
+//! Tests that cross crates, and tests of what no clause says: whether the definitions are those of
+//! the RISC-V manuals, that each call can succeed, and what the program prints.
+//!
+//! Stands on every library. What it expects comes from the manuals, from their tests and from the
+//! GNU assembler, never from this program. Guests tell what they see as guests do: they send it to
+//! the console.
+//!
+//! To be read in this order: `program` and `bench`, which make guests and run them; then `words`,
+//! `rows`, `memory`, `instructions`, `traps`, `registers`, `interrupts`, `atomics`, `console`,
+//! `running`, `command_line`.
+#![tactic(auto)]
+
+#[cfg(test)]
+mod atomics;
+#[cfg(test)]
+mod bench;
+#[cfg(test)]
+mod command_line;
+#[cfg(test)]
+mod console;
+#[cfg(test)]
+mod instructions;
+#[cfg(test)]
+mod interrupts;
+#[cfg(test)]
+mod memory;
+#[cfg(test)]
+mod program;
+#[cfg(test)]
+mod registers;
+#[cfg(test)]
+mod rows;
+#[cfg(test)]
+mod running;
+#[cfg(test)]
+mod traps;
+#[cfg(test)]
+mod words;
