@@ -1,2 +1,3 @@
 mod Examples
 pub mod Lexing
+pub mod Texts

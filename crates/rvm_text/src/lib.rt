@@ -12,5 +12,5 @@ mod token;
 
 pub use numbers::number;
 pub use registers::{register, register_name};
-pub use strings::unescape;
+pub use strings::{text_length, unescape};
 pub use token::{Lexeme, TextError, Token, is_name, tokens};

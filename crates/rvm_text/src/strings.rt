@@ -1,6 +1,6 @@
 //! The text of a string.
 
-ghost use Rattle.std.specs.Prelude.{◌≡◌, IfOk};
+ghost use Rattle.std.specs.Prelude.{◌≡◌, ◌≤◌, IfOk, length};
 ghost use Rattle.rvm_text.specs.Strings.{escaped_byte, text_of};
 
 use std::alloc::{AllocError, Global};
@@ -24,6 +24,27 @@ pub fn unescape(alloc: Global, written: &[u8]) -> Result<Vec<u8>, AllocError>
         }
     }
     Ok(text)
+}
+
+/// How many bytes the text of a string has that is written so between its quotes.
+#[tactic(auto, unfolding(crate::specs::Strings::text_of))]
+pub fn text_length(written: &[u8]) -> usize
+    ensures length { result ≡ length (text_of written.now) }
+    ensures at_most { result ≤ length written.now }
+{
+    let mut length = 0;
+    let mut escaped = false;
+    for b in written {
+        if escaped {
+            length += 1;
+            escaped = false;
+        } else if *b == b'\\' {
+            escaped = true;
+        } else {
+            length += 1;
+        }
+    }
+    length
 }
 
 fn escaped_byte(b: u8) -> u8
