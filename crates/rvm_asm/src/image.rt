@@ -1,0 +1,28 @@
+//! What an assembly makes, and why there is none.
+
+use rvm_line::Fault;
+
+/// Bytes from an address on, and zeros behind them.
+#[derive(Drop)]
+pub struct Segment {
+    pub address: u64,
+    pub bytes: Vec<u8>,
+    /// How many zeros stand behind the bytes. The assembler makes zeros bytes like others.
+    pub zeros: u32,
+}
+
+/// A program: where it begins, and its bytes. Its segments rise by address and do not touch.
+#[derive(Drop)]
+pub struct Image {
+    pub entry: u32,
+    pub segments: Vec<Segment>,
+}
+
+/// Why a text has no image.
+#[derive(Debug, Drop, Clone, Copy, PartialEq, Eq)]
+pub enum AsmError {
+    /// Memory ran out.
+    OutOfMemory,
+    /// The line of this number, counted from 1, has this fault.
+    Line(usize, Fault),
+}
