@@ -1,6 +1,10 @@
 //! What an assembly makes, and why there is none.
 
-use rvm_line::Fault;
+ghost use Rattle.std.specs.Prelude.{◌≡◌};
+ghost use Rattle.rvm_asm.specs.Refusals.{error_at};
+
+use rvm_line::{Fault, LineError};
+use std::alloc::AllocError;
 
 /// Bytes from an address on, and zeros behind them.
 #[derive(Drop)]
@@ -25,4 +29,27 @@ pub enum AsmError {
     OutOfMemory,
     /// The line of this number, counted from 1, has this fault.
     Line(usize, Fault),
+}
+
+impl AsmError {
+    /// The error of the line with this number.
+    pub fn at(line: usize, error: LineError) -> AsmError
+        ensures { result ≡ error_at line error }
+    {
+        match error {
+            LineError::OutOfMemory => AsmError::OutOfMemory,
+            LineError::Faulty(fault) => AsmError::Line(line, fault),
+        }
+    }
+}
+
+impl From<AllocError> for AsmError {
+    ghost use Rattle.std.specs.Prelude.{◌≡◌};
+    ghost use Rattle.rvm_asm.specs.declared.image.AsmError.TheVariants.{OutOfMemory};
+
+    ghost from_gives = { λ _ e. e ≡ OutOfMemory };
+
+    fn from(_error: AllocError) -> AsmError {
+        AsmError::OutOfMemory
+    }
 }
