@@ -1,0 +1,4 @@
+pub mod Assembly
+pub mod Images
+pub mod Refusals
+pub mod Views

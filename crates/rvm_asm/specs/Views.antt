@@ -1,0 +1,75 @@
+-- What the code's values stand for.
+use Rattle.std.specs.Prelude.{◌≡◌, ℕ, List, Option, Some, map, Result, Ok, Err, IsSome, ◌⊎◌, Vec, length}
+use denote.Ref.{Bor}
+use Rattle.std.specs.declared.alloc.Global.{Global}
+use Rattle.rvm_text.specs.Lexemes.{Lexeme}
+use Rattle.rvm_text.specs.Tokens.{lexemes_of}
+use Rattle.rvm_text.specs.declared.token.Token.{Token}
+use Rattle.rvm_line.specs.declared.faults.Fault.{Fault}
+use Rattle.rvm_line.specs.declared.faults.LineError.{LineError}
+use Rattle.rvm_line.specs.declared.faults.LineError.TheVariants as line_error
+use Rattle.rvm_line.specs.declared.faults.Fault.TheVariants.{Defined, Overlap}
+use Rattle.rvm_line.specs.Contents.{bytes_at}
+use Rattle.rvm_line.specs.Statements.{Definition}
+use Rattle.rvm_line.specs.Values.{Names}
+use Rattle.rvm_asm.specs.declared.image.Segment.{Segment}
+use Rattle.rvm_asm.specs.Assembly.{IsPlaced, Defines, Takes, statement_of}
+use Rattle.rvm_asm.specs.Images.{Piece, Joins, IsFree, IsTaken, piece}
+use Rattle.rvm_asm.specs.Refusals.{IsUnplaced, IsTwice}
+
+-- the bytes of a segment, which has no zeros behind them
+abbrev pub piece_of : Segment → Piece
+piece_of s = piece s.address s.bytes.items
+
+-- the pieces of an image
+abbrev pub pieces_of : List Segment → List Piece
+pieces_of ss = map piece_of ss
+
+-- the bytes of lines of text
+abbrev pub texts_of : List (Bor (List ℕ)) → List (List ℕ)
+texts_of ls = map (λ l. l.now) ls
+
+-- the lexemes of lines
+abbrev pub lines_of : List (Vec Token Global) → List (List Lexeme)
+lines_of ls = map (λ l. lexemes_of l.items) ls
+
+-- no zeros stand behind a segment's bytes
+abbrev pub HasNoZeros : Segment → Type 0
+HasNoZeros s = s.zeros ≡ 0
+
+-- a line's definitions join the names
+pub record Lays (old new : Names) (place after : ℕ) (line : List Lexeme) : Type 0 where
+  pub kept : (n : List ℕ) (v : ℕ) → old n ≡ Some v → new n ≡ Some v
+  pub placed : IsPlaced new place after line
+  pub named : (n : List ℕ) → IsSome (new n) → IsSome (old n) ⊎ Defines new place line n
+
+-- a line's definitions join the names and the place behind it is given, or it has a fault
+abbrev pub IsLaying : Names → Names → ℕ → List Lexeme → Result ℕ LineError → Type 0
+IsLaying old new place line (Ok after) = Lays old new place after line
+IsLaying old new place line (Err line_error.OutOfMemory) = Unit {0}
+IsLaying old new place line (Err (line_error.Faulty f)) = IsUnplaced old place line f
+
+-- a line's bytes join an image where none stood
+pub record Puts (old new : List Piece) (names : Names) (place : ℕ) (line : List Lexeme) : Type 0 where
+  pub bytes : List ℕ
+  pub of_line : bytes_at names place (statement_of place line) ≡ Ok bytes
+  pub free : IsFree old place (length bytes)
+  pub joined : Joins old new (piece place bytes)
+
+-- a line's bytes can't join an image: it has a fault, or a byte stands there
+abbrev pub IsUnput : List Piece → Names → (place : ℕ) → List Lexeme → Fault → Type 0
+IsUnput image names place line fault =
+    (bytes_at names place (statement_of place line) ≡ Err fault)
+    ⊎ ((fault ≡ Overlap) × ((bs : List ℕ) × (bytes_at names place (statement_of place line) ≡ Ok bs) × IsTaken image place (length bs)))
+
+-- a line's bytes join an image, or it has a fault
+abbrev pub IsPutting : List Piece → List Piece → Names → ℕ → List Lexeme → Result (Unit {0}) LineError → Type 0
+IsPutting old new names place line (Ok done) = Puts old new names place line
+IsPutting old new names place line (Err line_error.OutOfMemory) = Unit {0}
+IsPutting old new names place line (Err (line_error.Faulty f)) = IsUnput old names place line f
+
+-- a definition joins the names, or its name has a value
+abbrev pub IsDefining : Names → Names → Option Definition → Result (Unit {0}) LineError → Type 0
+IsDefining old new d (Ok done) = Takes old new d
+IsDefining old new d (Err line_error.OutOfMemory) = Unit {0}
+IsDefining old new d (Err (line_error.Faulty f)) = (f ≡ Defined) × IsTwice old d

@@ -1,0 +1,55 @@
+//! What an assembly makes, and why there is none.
+
+ghost use Rattle.std.specs.Prelude.{◌≡◌};
+ghost use Rattle.rvm_asm.specs.Refusals.{error_at};
+
+use rvm_line::{Fault, LineError};
+use std::alloc::AllocError;
+
+/// Bytes from an address on, and zeros behind them.
+#[derive(Drop)]
+pub struct Segment {
+    pub address: u64,
+    pub bytes: Vec<u8>,
+    /// How many zeros stand behind the bytes. The assembler makes zeros bytes like others.
+    pub zeros: u32,
+}
+
+/// A program: where it begins, and its bytes. Its segments rise by address and do not touch.
+#[derive(Drop)]
+pub struct Image {
+    pub entry: u32,
+    pub segments: Vec<Segment>,
+}
+
+/// Why a text has no image.
+#[derive(Debug, Drop, Clone, Copy, PartialEq, Eq)]
+pub enum AsmError {
+    /// Memory ran out.
+    OutOfMemory,
+    /// The line of this number, counted from 1, has this fault.
+    Line(usize, Fault),
+}
+
+impl AsmError {
+    /// The error of the line with this number.
+    pub fn at(line: usize, error: LineError) -> AsmError
+        ensures { result ≡ error_at line error }
+    {
+        match error {
+            LineError::OutOfMemory => AsmError::OutOfMemory,
+            LineError::Faulty(fault) => AsmError::Line(line, fault),
+        }
+    }
+}
+
+impl From<AllocError> for AsmError {
+    ghost use Rattle.std.specs.Prelude.{◌≡◌};
+    ghost use Rattle.rvm_asm.specs.declared.image.AsmError.TheVariants.{OutOfMemory};
+
+    ghost from_gives = { λ _ e. e ≡ OutOfMemory };
+
+    fn from(_error: AllocError) -> AsmError {
+        AsmError::OutOfMemory
+    }
+}

@@ -1,0 +1,10 @@
+pub mod Contents
+pub mod Csrs
+pub mod Instructions
+pub mod Operands
+pub mod Operations
+pub mod Reading
+pub mod Statements
+pub mod Values
+pub mod Views
+pub mod Words

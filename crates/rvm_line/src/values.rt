@@ -1,0 +1,190 @@
+//! The values of expressions.
+
+ghost use Rattle.std.specs.Prelude.{◌≡◌, ◌<◌, ◌^◌, IfSome, length};
+ghost use Rattle.rvm_text.specs.Numbers.{number_of};
+ghost use Rattle.rvm_text.specs.Tokens.{lexemes_of};
+ghost use Rattle.rvm_line.specs.Reading.{known};
+ghost use Rattle.rvm_line.specs.Values.{negative_at, number_at, sum_at, simple_at, high, low, half_of, half_named, half_at, value_at, last_value, value_comma, fits_signed};
+ghost use Rattle.rvm_line.specs.Views.{names_of, seen, seen_half};
+
+use crate::faults::Fault;
+use crate::reading::{end, mark, next};
+use crate::symbols::{Symbol, lookup};
+use rvm_text::{Lexeme, Token, is_name, number};
+
+/// A half of a value that an instruction can hold.
+#[derive(Clone, Copy)]
+pub enum Half {
+    /// `%hi`: the upper 20 bits.
+    High,
+    /// `%lo`: the lower 12 bits.
+    Low,
+}
+
+impl Half {
+    fn of(self, value: u32) -> u32
+        ensures { result ≡ half_of self value }
+    {
+        match self {
+            Half::High => high(value),
+            Half::Low => low(value),
+        }
+    }
+}
+
+/// The upper 20 bits of a value, one more where its lower 12 bits are negative as signed.
+pub fn high(value: u32) -> u32
+    ensures value { result ≡ high value }
+    ensures below { result < 2 ^ 20 }
+{
+    value.wrapping_add(0x800) >> 12
+}
+
+/// The lower 12 bits of a value, sign-extended.
+pub fn low(value: u32) -> u32
+    ensures { result ≡ low value }
+{
+    let bits = value % 4096;
+    if bits < 2048 {
+        bits
+    } else {
+        bits + (u32::MAX - 4095)
+    }
+}
+
+/// Whether a value as signed is a number of so many bits.
+pub fn fits_signed(bits: u32, value: u32) -> bool
+    requires some { 0 < bits }
+    requires few { bits < 32 }
+    ensures { result ≡ fits_signed bits value }
+{
+    let limit = 1u32 << (bits - 1);
+    value < limit || value >= limit.wrapping_neg()
+}
+
+/// An expression.
+#[tactic(auto, using(crate::proofs::Expressions::value_by))]
+pub fn value<'t, 'a>(
+    symbols: &[Symbol],
+    tokens: &'t [Token<'a>],
+) -> Result<(u32, &'t [Token<'a>]), Fault>
+    ensures { seen result ≡ value_at (names_of symbols.now) (lexemes_of tokens.now) }
+{
+    match half_begun(tokens) {
+        Some((half, inner)) => {
+            let (whole, rest) = value(symbols, inner)?;
+            let rest = mark(rest, b')')?;
+            Ok((half.of(whole), rest))
+        }
+        None => simple(symbols, tokens),
+    }
+}
+
+/// `%hi(` or `%lo(`.
+fn half_begun<'t, 'a>(tokens: &'t [Token<'a>]) -> Option<(Half, &'t [Token<'a>])>
+    ensures half { seen_half result ≡ half_at (lexemes_of tokens.now) }
+    ensures shorter { IfSome result (λ x. length x.1.now < length tokens.now) }
+{
+    if let Some((Lexeme::Mark(b'%'), rest)) = next(tokens)
+        && let Some((Lexeme::Word(name), rest)) = next(rest)
+        && let Some((Lexeme::Mark(b'('), rest)) = next(rest)
+    {
+        return Some((half_named(name)?, rest));
+    }
+    None
+}
+
+fn half_named(word: &[u8]) -> Option<Half>
+    ensures { result ≡ half_named word.now }
+{
+    match word {
+        b"hi" => Some(Half::High),
+        b"lo" => Some(Half::Low),
+        _ => None,
+    }
+}
+
+/// A number, or a name and what is added to it or taken from it.
+fn simple<'t, 'a>(
+    symbols: &[Symbol],
+    tokens: &'t [Token<'a>],
+) -> Result<(u32, &'t [Token<'a>]), Fault>
+    ensures { seen result ≡ simple_at (names_of symbols.now) (lexemes_of tokens.now) }
+{
+    match next(tokens) {
+        Some((Lexeme::Word(word), rest)) => {
+            if !is_name(word) {
+                return signed_number(tokens);
+            }
+            match lookup(symbols, word) {
+                Some(value) => sum(value, rest),
+                None => Err(Fault::UnknownName),
+            }
+        }
+        _ => signed_number(tokens),
+    }
+}
+
+/// What is added to a value or taken from it.
+fn sum<'t, 'a>(value: u32, tokens: &'t [Token<'a>]) -> Result<(u32, &'t [Token<'a>]), Fault>
+    ensures { seen result ≡ sum_at value (lexemes_of tokens.now) }
+{
+    match next(tokens) {
+        Some((Lexeme::Mark(b'+'), rest)) => {
+            let (number, rest) = signed_number(rest)?;
+            Ok((value.wrapping_add(number), rest))
+        }
+        Some((Lexeme::Mark(b'-'), rest)) => {
+            let (number, rest) = signed_number(rest)?;
+            Ok((value.wrapping_sub(number), rest))
+        }
+        _ => Ok((value, tokens)),
+    }
+}
+
+/// A number with an optional minus.
+pub fn signed_number<'t, 'a>(tokens: &'t [Token<'a>]) -> Result<(u32, &'t [Token<'a>]), Fault>
+    ensures { seen result ≡ number_at (lexemes_of tokens.now) }
+{
+    match next(tokens) {
+        Some((Lexeme::Word(word), rest)) => Ok((unsigned_number(word)?, rest)),
+        Some((Lexeme::Mark(b'-'), rest)) => negative(rest),
+        _ => Err(Fault::BadToken),
+    }
+}
+
+/// The number behind a minus.
+fn negative<'t, 'a>(tokens: &'t [Token<'a>]) -> Result<(u32, &'t [Token<'a>]), Fault>
+    ensures { seen result ≡ negative_at (lexemes_of tokens.now) }
+{
+    match next(tokens) {
+        Some((Lexeme::Word(word), rest)) => {
+            let number = unsigned_number(word)?;
+            if number <= 1 << 31 {
+                Ok((number.wrapping_neg(), rest))
+            } else {
+                Err(Fault::BadToken)
+            }
+        }
+        _ => Err(Fault::BadToken),
+    }
+}
+
+fn unsigned_number(word: &[u8]) -> Result<u32, Fault>
+    ensures { result ≡ known Fault.BadToken (number_of word.now) }
+{
+    match number(word) {
+        Some(number) => Ok(number),
+        None => Err(Fault::BadToken),
+    }
+}
+
+/// An expression, and nothing behind it.
+#[tactic(auto, unfolding(crate::specs::Values::last_value))]
+pub fn last_value(symbols: &[Symbol], tokens: &[Token]) -> Result<u32, Fault>
+    ensures { result ≡ last_value (names_of symbols.now) (lexemes_of tokens.now) }
+{
+    let (value, rest) = value(symbols, tokens)?;
+    end(rest)?;
+    Ok(value)
+}

@@ -1,0 +1,3 @@
+mod Examples
+pub mod Lexing
+pub mod Texts

@@ -1,0 +1,16 @@
+//! The words of a line of assembly text: its tokens, each a part of the line, and what a word
+//! spells. It stands on nothing, and knows neither instructions nor what a line means.
+//!
+//! `token` takes a line apart; `numbers`, `registers` and `strings` read a number, the name of a
+//! register and the text of a string.
+#![tactic(auto)]
+
+mod numbers;
+mod registers;
+mod strings;
+mod token;
+
+pub use numbers::number;
+pub use registers::{register, register_name};
+pub use strings::{text_length, unescape};
+pub use token::{Lexeme, TextError, Token, is_name, tokens};
