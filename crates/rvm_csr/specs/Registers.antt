@@ -1,5 +1,6 @@
 -- What the registers of a hart keep, and the numbers that some of them are read as.
-use Rattle.std.specs.Prelude.{◌≡◌, ℕ, ◌+◌, ◌*◌, ◌/◌, ◌%◌, ◌^◌, Bool, false, ◌==◌, if◌then◌else◌}
+use Rattle.std.specs.Prelude.{◌≡◌, ℕ, ◌+◌, ◌*◌, ◌/◌, ◌%◌, ◌^◌, Bool, false}
+use Rattle.rvm_word.specs.Bits.{bit, is_set}
 use Rattle.rvm_csr.specs.declared.interrupts.Interrupts.{Interrupts}
 
 -- the registers of one hart, by the manual's names; of mstatus, MIE and MPIE are kept
@@ -42,14 +43,6 @@ pub record IsKept (s : CsrState) : Type 0 where
   pub mtvec : s.mtvec / 2 % 2 ≡ 0
   pub mepc : s.mepc % 4 ≡ 0
 
--- a bit with a weight
-abbrev pub bit : ℕ → Bool → ℕ
-bit weight b = if b then weight else 0
-
--- whether bit n of a word is set
-abbrev pub is_set : ℕ → ℕ → Bool
-is_set n w = w / 2 ^ n % 2 == 1
-
 -- a set of interrupts as mip and mie hold it
 -- (Privileged ISA, "Machine Interrupt (mip and mie) Registers")
 abbrev pub interrupt_bits : Interrupts → ℕ
@@ -63,19 +56,3 @@ interrupts_of w = record { software = is_set 3 w; timer = is_set 7 w; external =
 -- (Privileged ISA, "Machine Status (mstatus and mstatush) Registers")
 abbrev pub mstatus_of : CsrState → ℕ
 mstatus_of s = bit (2 ^ 3) s.interrupts_enabled + bit (2 ^ 7) s.enabled_before + 3 * 2 ^ 11
-
--- bits 31 to 0 of a number of 64 bits
-abbrev pub low_half : ℕ → ℕ
-low_half n = n % 2 ^ 32
-
--- bits 63 to 32
-abbrev pub high_half : ℕ → ℕ
-high_half n = n / 2 ^ 32
-
--- the number with its low half written
-abbrev pub with_low : ℕ → ℕ → ℕ
-with_low v n = high_half n * 2 ^ 32 + v
-
--- the number with its high half written
-abbrev pub with_high : ℕ → ℕ → ℕ
-with_high v n = v * 2 ^ 32 + low_half n

@@ -4,7 +4,8 @@ use Rattle.std.specs.Prelude.{ℕ, ◌*◌, ◌-◌, ◌/◌, ◌%◌, ◌^◌, 
 use Rattle.rvm_csr.specs.declared.interrupts.Interrupts.{Interrupts}
 use Rattle.rvm_csr.specs.declared.register.Csr.{Csr}
 use Rattle.rvm_csr.specs.declared.register.Csr.TheVariants.{Mstatus, Misa, Mie, Mtvec, Mstatush, Mcountinhibit, Mhpmevent, Mscratch, Mepc, Mcause, Mtval, Mip, Mcycle, Minstret, Mhpmcounter, Mcycleh, Minstreth, Mhpmcounterh, Mvendorid, Marchid, Mimpid, Mhartid, Mconfigptr}
-use Rattle.rvm_csr.specs.Registers.{CsrState, is_set, interrupt_bits, interrupts_of, mstatus_of, low_half, high_half, with_low, with_high}
+use Rattle.rvm_word.specs.Bits.{is_set, low_half, high_half, with_low, with_high}
+use Rattle.rvm_csr.specs.Registers.{CsrState, interrupt_bits, interrupts_of, mstatus_of}
 
 -- the numbers from first to last have this register
 pub record Row : Type 0 where

@@ -6,10 +6,10 @@ ghost use Rattle.rvm_csr.specs.Table.{csr_read, csr_write, value_of, written};
 ghost use Rattle.rvm_csr.specs.Traps.{trap_entered, trap_target, trap_left, pending};
 ghost use Rattle.rvm_csr.specs.Counters.{ticked};
 
-use crate::bits::{bit, high_half, is_set, low_half, with_high, with_low};
 use crate::cause::{Cause, Interrupt};
 use crate::interrupts::Interrupts;
 use crate::register::Csr;
+use rvm_word::{bit, high_half, is_set, low_half, with_high, with_low};
 use std::marker::Model;
 
 /// What `misa` says: 32 bits, and the extensions I, M and A.

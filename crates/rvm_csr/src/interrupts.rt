@@ -3,7 +3,7 @@
 ghost use Rattle.std.specs.Prelude.{◌≡◌};
 ghost use Rattle.rvm_csr.specs.Registers.{interrupt_bits, interrupts_of};
 
-use crate::bits::{bit, is_set};
+use rvm_word::{bit, is_set};
 
 /// One bit for each machine-level interrupt (Privileged ISA, "Machine Interrupt (mip and mie)
 /// Registers").

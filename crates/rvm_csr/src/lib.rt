@@ -1,13 +1,12 @@
 //! The control and status registers of one hart, its traps and its counters (Privileged ISA,
 //! chapters "Control and Status Registers" and "Machine-Level ISA").
 //!
-//! Stands on nothing, and knows nothing of instructions, memory or devices: which interrupts are
+//! Stands on `rvm_word`, and knows nothing of instructions, memory or devices: which interrupts are
 //! pending at the hart is told to it as an `Interrupts`.
 //!
-//! To be read in this order: `bits`, `interrupts`, `cause`, `register`, `file`.
+//! To be read in this order: `interrupts`, `cause`, `register`, `file`.
 #![tactic(auto)]
 
-mod bits;
 pub mod cause;
 pub mod file;
 pub mod interrupts;

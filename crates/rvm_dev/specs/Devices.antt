@@ -1,5 +1,6 @@
 -- What the devices keep, and what a load and a store of each word do.
 use Rattle.std.specs.Prelude.{ℕ, ◌+◌, ◌-◌, ◌*◌, ◌/◌, ◌%◌, ◌^◌, Bool, true, false, ◌&&◌, not, ◌==◌, nat_lt, nat_le, if◌then◌else◌, List, [], ◌∷◌, ◌++◌, length, Option, Some, None, option_map, get_or, slice_set, replicate, drop}
+use Rattle.rvm_word.specs.Bits.{bit, is_set, low_half, high_half, with_low, with_high}
 use Rattle.rvm_dev.specs.declared.register.Register.{Register}
 use Rattle.rvm_dev.specs.declared.register.Register.TheVariants.{Halt, Msip, MtimecmpLow, MtimecmpHigh, MtimeLow, MtimeHigh, Transmit, Receive, Status, InterruptEnable}
 use Rattle.rvm_dev.specs.Map.{register_at}
@@ -28,30 +29,6 @@ at_reset harts =
       overrun = false;
       halted = None;
     }
-
--- a bit with a weight
-abbrev pub bit : ℕ → Bool → ℕ
-bit weight b = if b then weight else 0
-
--- whether bit n of a word is set
-abbrev pub is_set : ℕ → ℕ → Bool
-is_set n w = w / 2 ^ n % 2 == 1
-
--- bits 31 to 0 of a number of 64 bits
-abbrev pub low_half : ℕ → ℕ
-low_half n = n % 2 ^ 32
-
--- bits 63 to 32
-abbrev pub high_half : ℕ → ℕ
-high_half n = n / 2 ^ 32
-
--- the number with its low half written
-abbrev pub with_low : ℕ → ℕ → ℕ
-with_low v n = high_half n * 2 ^ 32 + v
-
--- the number with its high half written
-abbrev pub with_high : ℕ → ℕ → ℕ
-with_high v n = v * 2 ^ 32 + low_half n
 
 -- the oldest input byte, or all ones
 abbrev pub received : List ℕ → ℕ

@@ -4,9 +4,9 @@ ghost use Rattle.std.specs.Prelude.{◌≡◌, ◌<◌, ◌≤◌, ◌%◌, ◌^
 ghost use Rattle.rvm_dev.specs.Devices.{at_reset, loaded, stored, value_loaded, timer_is_pending, external_is_pending, value_of, after_load, after_store, received, register_of, sent};
 ghost use Rattle.rvm_dev.specs.Map.{IsOfHart};
 
-use crate::bits::{bit, high_half, is_set, low_half, with_high, with_low};
 use crate::register::Register;
 use circular_buffer::HeapCircularBuffer;
+use rvm_word::{bit, high_half, is_set, low_half, with_high, with_low};
 use std::alloc::{AllocError, Global};
 use std::marker::Model;
 use thiserror::Error;

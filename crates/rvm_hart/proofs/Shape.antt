@@ -30,6 +30,7 @@ use Rattle.rvm_hart.specs.Pokes.{poked_each}
 use Rattle.rvm_hart.specs.Rooms as room
 use Rattle.rvm_hart.specs.Rows.{effect, signed_byte, signed_half, as_it_is}
 use Rattle.rvm_word.specs.Word.{signed}
+use Rattle.rvm_word.specs.Bits.{is_set}
 use Rattle.rvm_hart.specs.declared.atomics.Amo.TheVariants as amo
 use Rattle.rvm_hart.specs.declared.csrs.CsrChange.TheVariants as change
 use Rattle.rvm_hart.specs.declared.jumps.Comparison.TheVariants as test
@@ -49,7 +50,7 @@ branches_keeps taken offset m = grind (arith, jumps_keeps)
 
 stored_keeps_msip : (r : Register) (v : ℕ) (d : dev.DeviceState) → length (dev.after_store r v d).msip ≡ length d.msip
 stored_keeps_msip Halt v d = refl
-stored_keeps_msip (Msip h) v d = length-set d.msip h (dev.is_set 0 v)
+stored_keeps_msip (Msip h) v d = length-set d.msip h (is_set 0 v)
 stored_keeps_msip (MtimecmpLow h) v d = refl
 stored_keeps_msip (MtimecmpHigh h) v d = refl
 stored_keeps_msip MtimeLow v d = refl

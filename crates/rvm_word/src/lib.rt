@@ -1,10 +1,15 @@
 //! Arithmetic of 32-bit words, as RV32IM has it: each function is one whole-number formula,
-//! reduced modulo 2^32. It stands on nothing, and knows neither instructions nor registers.
+//! reduced modulo 2^32; and the bits of words and the halves of longer numbers. It stands on
+//! nothing, and knows neither instructions nor registers.
 #![tactic(auto)]
 
 ghost use Rattle.std.specs.Prelude.{◌≡◌, ◌<◌, ◌≤◌, ◌^◌, ◌*◌, ◌/◌, ◌%◌, ◌*ℤ◌, ◌+ℤ◌, pos, int_lt};
 ghost use Rattle.rvm_word.specs.Word.{signed_value, signed, modulo, high, floor_shift};
 ghost use Rattle.rvm_word.specs.Word.{quotient, remainder, unsigned_quotient, unsigned_remainder};
+
+mod bits;
+
+pub use bits::{bit, high_half, is_set, low_half, with_high, with_low};
 
 /// The word of the signed value of the lowest `bits` bits of `value`: they are sign-extended.
 #[inline(always)]

@@ -1,9 +1,10 @@
-//! Bits of a word, and halves of a number of 64 bits.
+//! Bits of a word, and halves of a number of 64 bits, as registers of 32 bits show them.
 
 ghost use Rattle.std.specs.Prelude.{◌≡◌, ◌<◌};
-ghost use Rattle.rvm_csr.specs.Registers.{bit, is_set, low_half, high_half, with_low, with_high};
+ghost use Rattle.rvm_word.specs.Bits.{bit, is_set, low_half, high_half, with_low, with_high};
 
 /// The weight of a bit that is set, or 0.
+#[inline(always)]
 pub fn bit(weight: u32, set: bool) -> u32
     ensures { result ≡ bit weight set }
 {
@@ -11,6 +12,7 @@ pub fn bit(weight: u32, set: bool) -> u32
 }
 
 /// Whether a bit of a word is set; bit 0 has the least weight.
+#[inline(always)]
 pub fn is_set(word: u32, bit: u32) -> bool
     requires { bit < 32 }
     ensures { result ≡ is_set bit word }
@@ -19,6 +21,7 @@ pub fn is_set(word: u32, bit: u32) -> bool
 }
 
 /// Bits 31 to 0.
+#[inline(always)]
 pub fn low_half(number: u64) -> u32
     ensures { result ≡ low_half number }
 {
@@ -26,6 +29,7 @@ pub fn low_half(number: u64) -> u32
 }
 
 /// Bits 63 to 32.
+#[inline(always)]
 pub fn high_half(number: u64) -> u32
     ensures { result ≡ high_half number }
 {
@@ -33,6 +37,7 @@ pub fn high_half(number: u64) -> u32
 }
 
 /// The number with its low half written.
+#[inline(always)]
 pub fn with_low(number: u64, value: u32) -> u64
     ensures { result ≡ with_low value number }
 {
@@ -40,6 +45,7 @@ pub fn with_low(number: u64, value: u32) -> u64
 }
 
 /// The number with its high half written.
+#[inline(always)]
 pub fn with_high(number: u64, value: u32) -> u64
     ensures { result ≡ with_high value number }
 {
