@@ -97,7 +97,7 @@ then_each c count d = record {
   fits = λ x. c.fits x.0 && ((length x.1 == count x.0) && list_all d.fits x.1);
   write = λ x. c.write x.0 ++ flat_map d.write x.1;
   read = λ bytes.
-    c.read bytes >>= λ x. read_each d.read (count x.0) x.1 >>= λ y. Some ((x.0, y.0), y.1);
+      c.read bytes >>= λ x. read_each d.read (count x.0) x.1 >>= λ y. Some ((x.0, y.0), y.1);
 }
 
 -- a count that passes a test, in so many bytes, and a list of as many
