@@ -1,6 +1,6 @@
 //! The console: bytes in and out, in order, and what happens where there is no room. And halting.
 
-use crate::bench::{board, drained, retire, sent, step};
+use crate::bench::{board, drained, halt_of, retire, sent, step};
 use crate::program::{CONSOLE, HALT, Program, a1, a2, t0, t1, t2, zero};
 use rvm_dev::{Devices, InputFull};
 use rvm_hart::Stepped;
@@ -59,44 +59,28 @@ fn overrun(alloc: Global) -> Result<Program, AllocError> {
 #[test]
 fn input_comes_in_order(rt: HostRuntime) -> Result<(), Fail> {
     let alloc = rt.alloc();
-    let mut read = Program::new(alloc)
-        .li(t0(), CONSOLE)?
-        .lw(t1(), t0(), 8)?
-        .send(t1())?;
-    for _ in 0..17 {
-        read = read.lw(t1(), t0(), 4)?.send(t1())?;
-    }
-    let program = read.lw(t1(), t0(), 8)?.send(t1())?.halt()?;
+    let program = echo(alloc)?;
     let mut board = board(alloc, 1, &program, &Program::new(alloc))?;
-    for byte in 0..16 {
-        board.input(byte)?;
+    for byte in b"sixteen letters." {
+        board.input(*byte)?;
     }
-    assert_eq!(rt; board.input(16), Err(InputFull));
+    assert_eq!(rt; board.input(b'x'), Err(InputFull));
+    assert_eq!(rt; halt_of(&rt, &mut board, 0), Some(0));
     // The status, the bytes, none left, and the status.
-    let told = [
-        3,
-        0,
-        1,
-        2,
-        3,
-        4,
-        5,
-        6,
-        7,
-        8,
-        9,
-        10,
-        11,
-        12,
-        13,
-        14,
-        15,
-        0xFFFF_FFFF,
-        2,
-    ];
-    let words = sent(&rt, alloc, &mut board, 0)?;
-    assert_eq!(rt; words.as_slice(), told.as_slice());
+    let told = b"\x03sixteen letters.\xFF\x02";
+    let bytes = drained(alloc, &mut board)?;
+    assert_eq!(rt; bytes.as_slice(), told.as_slice());
     Ok(())
+}
+
+/// Sends the low byte of the status, of seventeen reads of the receive word, and of the status.
+fn echo(alloc: Global) -> Result<Program, AllocError> {
+    let mut program = Program::new(alloc).li(t0(), CONSOLE)?;
+    program = program.lw(t1(), t0(), 8)?.sw(t1(), t0(), 0)?;
+    for _ in 0..17 {
+        program = program.lw(t1(), t0(), 4)?.sw(t1(), t0(), 0)?;
+    }
+    program.lw(t1(), t0(), 8)?.sw(t1(), t0(), 0)?.halt()
 }
 
 #[test]

@@ -1,7 +1,7 @@
 //! Tests that cross crates, and tests of what no clause says: whether the definitions are those of
 //! the RISC-V manuals, that each call can succeed, and what the program prints.
 //!
-//! Stands on every library. What it expects comes from the manuals, from their tests and from the
+//! Stands on the libraries. What it expects comes from the manuals, from their tests and from the
 //! GNU assembler, never from this program. Guests tell what they see as guests do: they send it to
 //! the console.
 //!

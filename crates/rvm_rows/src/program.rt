@@ -7,7 +7,7 @@ use rvm_isa::encode::encode;
 use rvm_isa::{CsrNo, Imm5, Imm12, Imm20, Ins, Off13, Reg, Shamt};
 use std::alloc::{AllocError, Global};
 
-/// Registers, by their names in the calling convention.
+// Registers, by their names in the calling convention.
 pub fn zero() -> Reg {
     Reg::new(0)
 }
@@ -40,7 +40,7 @@ pub fn a3() -> Reg {
     Reg::new(13)
 }
 
-/// What `send` and `halt` use.
+// What `send` and `halt` use.
 fn t5() -> Reg {
     Reg::new(30)
 }
@@ -49,7 +49,7 @@ fn t6() -> Reg {
     Reg::new(31)
 }
 
-/// Control and status registers, by their names in the manual.
+// Control and status registers, by their names in the manual.
 pub const MSTATUS: u32 = 0x300;
 
 pub const MIE: u32 = 0x304;
@@ -70,7 +70,7 @@ pub const MINSTRET: u32 = 0xB02;
 
 pub const MHARTID: u32 = 0xF14;
 
-/// Words of the board's devices.
+// Words of the board's devices.
 pub const HALT: u32 = 0x0010_0000;
 
 pub const MSIP: u32 = 0x0200_0000;

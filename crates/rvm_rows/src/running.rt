@@ -38,31 +38,25 @@ const LETTERS: [u32; 4] = [0x1000_02B7, 0x0415_0313, 0x0062_A023, 0xFFDF_F06F];
 #[test]
 fn a_guest_prints_and_ends(rt: HostRuntime) -> Result<(), Fail> {
     let alloc = rt.alloc();
-    let typed = "what is typed comes back, byte by byte\n".as_bytes();
+    let typed = "what is typed comes back, byte by byte\n";
     // The words, harts, turns and input, and then the output and how it ended.
-    let cases: [(&[u32], u32, u32, &[u8], &[u8], &str); 7] = [
-        (&HI, 1, 9, &[], &[0x48, 0x69, 0x0A], "halted 0\n"),
-        (&HI, 1, 1_000_000, &[], &[0x48, 0x69, 0x0A], "halted 0\n"),
-        (&HI, 1, 8, &[], &[0x48, 0x69, 0x0A], "steps spent\n"),
-        (&[0xFFFF_FFFF], 1, 2, &[], &[], "steps spent\n"),
+    let cases: [(&[u32], u32, u32, &str, &str, &str); 7] = [
+        (&HI, 1, 9, "", "Hi\n", "halted 0\n"),
+        (&HI, 1, 1_000_000, "", "Hi\n", "halted 0\n"),
+        (&HI, 1, 8, "", "Hi\n", "steps spent\n"),
+        (&[0xFFFF_FFFF], 1, 2, "", "", "steps spent\n"),
         (&ECHO, 1, 400, typed, typed, "steps spent\n"),
-        (&LETTERS, 1, 6, &[], &[b'A', b'A'], "steps spent\n"),
-        (
-            &LETTERS,
-            3,
-            18,
-            &[],
-            &[b'A', b'B', b'C', b'A', b'B', b'C'],
-            "steps spent\n",
-        ),
+        (&LETTERS, 1, 6, "", "AA", "steps spent\n"),
+        (&LETTERS, 3, 18, "", "ABCABC", "steps spent\n"),
     ];
     for (words, harts, steps, input, output, ended) in cases {
         let image = bytes_of(alloc, words)?;
         let arguments = arguments(&rt, harts, 1, steps);
         let (mut written, mut errors) = (Vec::new(alloc), Vec::new(alloc));
-        let status = run_command(alloc, &arguments, &image, input, &mut written, &mut errors);
+        let keys = input.as_bytes();
+        let status = run_command(alloc, &arguments, &image, keys, &mut written, &mut errors);
         assert_eq!(rt; errors.as_slice(), ended.as_bytes());
-        assert_eq!(rt; written.as_slice(), output);
+        assert_eq!(rt; written.as_slice(), output.as_bytes());
         assert_eq!(rt; status, 0);
     }
     Ok(())
