@@ -1,6 +1,6 @@
 //! What no clause says: each call that takes memory succeeds, and one that was refused memory
-//! gives its answer when it is made again. (`rt try --test --fail-alloc 1..` refuses each growth in
-//! turn.)
+//! gives its answer when it is made again. (`rt try --test --fail-alloc N` refuses the growth N of
+//! each test.)
 
 use super::*;
 use std::alloc::{AllocError, Global};
