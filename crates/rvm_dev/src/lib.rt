@@ -1,8 +1,9 @@
 //! The board's devices: the halt word, the software interrupts and the timer (laid out as in the
 //! RISC-V ACLINT specification, MSWI and MTIMER), and the console with its two queues.
 //!
-//! Stands on `circular_buffer` for the queues and on `rvm_word`; only `Devices::new` takes memory. Knows nothing of
-//! RAM, harts or instructions. Addresses are those of the guest; only aligned words come here.
+//! Stands on `rvm_word`, and on `circular_buffer` for the queues; only `Devices::new` takes memory.
+//! Knows nothing of RAM, harts or instructions. Addresses are those of the guest; only aligned words
+//! come here.
 //!
 //! To be read in this order: `register`, `devices`.
 #![tactic(auto)]
