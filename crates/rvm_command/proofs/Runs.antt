@@ -1,6 +1,6 @@
 -- A run, turn by turn, and writes after writes.
-use Rattle.std.proofs.Common.{◌≡◌, ℕ, suc, ◌+◌, ◌*◌, ◌/◌, ◌%◌, ◌<◌, List, [], ◌∷◌, ◌++◌, length, take, drop, min, Option, Some, None, Bool, false, refl, sym, ap, ◌∙◌, arith, append_assoc, append-nil, cond, nat_eq}
-use Rattle.std.proofs.lemmas.List.{take_at, take-append-drop, length-take, length-set}
+use Rattle.std.proofs.Common.{◌≡◌, ℕ, suc, OnErr, Result, Ok, Err, ◌+◌, ◌*◌, ◌/◌, ◌%◌, ◌<◌, List, [], ◌∷◌, ◌++◌, length, take, drop, min, Option, Some, None, Bool, false, refl, sym, ap, ◌∙◌, arith, append_assoc, append-nil, cond, nat_eq}
+use Rattle.std.proofs.lemmas.List.{take_at, take-append-drop, length-take, length-set, length-append}
 use Rattle.std.proofs.Math.Nat.{mod-add-div, add-mul-mod_self_left}
 use Rattle.std.proofs.lemmas.Nat.{mod_below}
 use Rattle.std.specs.Io.KnownBytes.{Appends}
@@ -19,6 +19,18 @@ appends_more None b c xs ys p q = tt
 appends_more (Some xs0) None c xs ys p q = absurd p
 appends_more (Some xs0) (Some ys0) None xs ys p q = absurd q
 appends_more (Some xs0) (Some ys0) (Some zs0) xs ys p q = q ∙ ap (λ (l : List ℕ). l ++ ys) p ∙ append_assoc xs0 xs ys
+
+-- an error, and what holds there
+pub on_err : {A E : Type 0} → (r : Result A E) → (P : Type 0) → P → OnErr r P
+on_err (Ok a) P p = tt
+on_err (Err e) P p = p
+
+-- bytes after others are some
+pub some_after : (xs ys : List ℕ) → 0 < length ys → 0 < length (xs ++ ys)
+some_after xs ys some = omega (arith, length-append xs ys, some)
+
+pub some_before : (xs ys : List ℕ) → 0 < length xs → 0 < length (xs ++ ys)
+some_before xs ys some = omega (arith, length-append xs ys, some)
 
 -- what one drain took, at the front of the buffer
 pub drained_piece : (count : ℕ) (sent old new : List ℕ) → count ≡ min (length old) (length sent) → new ≡ take count sent ++ drop count old → take count new ≡ take count sent

@@ -1,6 +1,6 @@
 //! The command line.
 
-ghost use Rattle.std.specs.Prelude.{◌≡◌, ◌≤◌, ◌↔◌, IfOk, IfSome};
+ghost use Rattle.std.specs.Prelude.{◌≡◌, ◌≤◌, ◌↔◌, ◌&&◌, nat_le, if◌then◌else◌, IfOk, IfSome};
 
 use clap::error::ErrorKind;
 use clap::{Arg, ArgAction, ArgMatches, Command, Error, value_parser};
@@ -134,7 +134,13 @@ fn number(run: &ArgMatches, option: &str, most: u32) -> Option<u32>
     if run.get_str(option)?.starts_with('+') {
         return None;
     }
-    let number = run.get_one::<u32>(option)?;
+    within(run.get_one::<u32>(option)?, most)
+}
+
+/// A number that is from 1 to a limit.
+fn within(number: u32, most: u32) -> Option<u32>
+    ensures { result ≡ (if nat_le 1 number && nat_le number most then Some number else None) }
+{
     if 1 <= number && number <= most {
         Some(number)
     } else {

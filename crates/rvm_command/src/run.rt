@@ -1,6 +1,6 @@
 //! The loop of `rvmove run`: turns of the harts, input to the guest, and what it sends.
 
-ghost use Rattle.std.specs.Prelude.{◌≡◌, ◌<◌, ◌≤◌, ◌+◌, ◌%◌, OnOk, IfOk, drop, length};
+ghost use Rattle.std.specs.Prelude.{◌≡◌, ◌<◌, ◌≤◌, ◌+◌, ◌%◌, OnOk, OnErr, IfOk, drop, length};
 ghost use Rattle.std.specs.Io.KnownBytes.{Appends};
 ghost use Rattle.rvm_command.specs.Run.{drained, fed, ran};
 
@@ -33,7 +33,8 @@ pub struct LinkFault;
 /// Makes `steps` turns, or turns until the guest halts the board. In turn t the next byte of
 /// `input`, if one is left and there is room, comes to the console, and then hart t modulo the
 /// number of harts takes a step. What the guest sends is written after each 64 turns, when the
-/// board is halted and at the end. `LinkFault` where the writer failed.
+/// board is halted and at the end. `LinkFault` where the writer failed, which needs something to
+/// write.
 pub fn run<M: Memory, W: Write>(
     board: &mut Board<M>,
     steps: u32,
@@ -44,6 +45,7 @@ pub fn run<M: Memory, W: Write>(
         (ran steps 0 input.now board.old.plain).written) }
     ensures board { OnOk result (board.new.plain ≡ (ran steps 0 input.now board.old.plain).board) }
     ensures ended { IfOk result (λ e. e ≡ (ran steps 0 input.now board.old.plain).ended) }
+    ensures err { OnErr result (0 < length (ran steps 0 input.now board.old.plain).written) }
 {
     let harts = board.harts();
     let mut next = 0;
@@ -95,6 +97,7 @@ fn drain<M: Memory, W: Write>(board: &mut Board<M>, writer: &mut W) -> Result<()
     ensures written { OnOk result (Appends (W.contents writer.old) (W.contents writer.new)
         board.old.plain.reach.devices.output) }
     ensures board { OnOk result (board.new.plain ≡ drained board.old.plain) }
+    ensures err { OnErr result (0 < length board.old.plain.reach.devices.output) }
 {
     let mut bytes = [0; DRAIN_SIZE];
     while board.waiting() > 0 {

@@ -1,8 +1,8 @@
 //! `rvmove run`: from the bytes of an image to what the guest sends and how it ends.
 
-ghost use Rattle.std.specs.Prelude.{◌≡◌, ◌⊎◌, ◌++◌, codes, ◌*◌, ◌<◌, ◌≤◌, ◌↔◌, IfOk, OnOk, length};
+ghost use Rattle.std.specs.Prelude.{◌≡◌, ◌⊎◌, ◌++◌, codes, ◌*◌, ◌<◌, ◌≤◌, ◌↔◌, IfOk, IfErr, OnOk, length};
 ghost use Rattle.std.specs.Io.KnownBytes.{Appends};
-ghost use Rattle.rvm_refusal.specs.declared.refusal.Refusal.TheVariants.{OutsideRam};
+ghost use Rattle.rvm_refusal.specs.declared.refusal.Refusal.TheVariants.{OutsideRam, OutOfMemory, LinkFault};
 ghost use Rattle.rvm_command.specs.Command.{ram_of, run_of, end_text};
 
 use crate::arguments::RunArguments;
@@ -78,6 +78,9 @@ fn run_image<O: Write>(
     ensures untouched { 4096 * arguments.now.pages < length image.now
         → O.contents output.new ≡ O.contents output.old }
     ensures outside { (result ≡ Err OutsideRam) ↔ (4096 * arguments.now.pages < length image.now) }
+    ensures told { IfErr result
+        (λ e. (e ≡ OutsideRam) ⊎ (e ≡ OutOfMemory) ⊎ (e ≡ LinkFault)) }
+    ensures memory { result ≡ Err OutOfMemory → O.contents output.new ≡ O.contents output.old }
 {
     if image.len() as u64 > u64::from(PAGE_SIZE) * u64::from(arguments.pages) {
         return Err(Refusal::OutsideRam);
