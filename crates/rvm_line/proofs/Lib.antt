@@ -1,3 +1,4 @@
+mod Examples
 pub mod Expressions
 pub mod Lists
 pub mod Parts
