@@ -16,6 +16,8 @@ test:
 	rt ci
 
 bench: build
+	cd crates/rvm_bench && rt run -- ../../examples/hi.bin 1 flat > /dev/null
+	cp crates/rvm_bench/out/rvm_bench build/rvm_bench
 	python3 bench/bench.py
 
 install: build

@@ -1,7 +1,8 @@
 #!/usr/bin/env python3
 """Measures `rvmove run` against the plain C interpreter beside this file: million instructions a
-second of both, and the ratio, from the best of several alternating runs. Wants gcc and a built
-`build/rvmove` (`make build`). More guests may be named: `bench.py NAME=IMAGE:HARTS:STEPS ..`."""
+second of both, and the ratio, from the best of several alternating runs; and `rvm_bench`, which has
+two memories in one program, over each of them. Wants gcc and what `make bench` builds. More guests
+may be named: `bench.py NAME=IMAGE:HARTS:STEPS ..`."""
 import os
 import struct
 import subprocess
@@ -38,14 +39,14 @@ def turns(interpreter, words):
     return int(done.stderr.split(b"turns ")[1].split()[0])
 
 
-def compare(name, interpreter, program, words):
+def compare(name, interpreter, program, words, command=None):
     steps = turns(interpreter, words)
     plain, proved = [], []
     for _ in range(RUNS):
         plain.append(seconds([interpreter, "run", *words]))
-        proved.append(seconds([program, "run", *words]))
+        proved.append(seconds(command or [program, "run", *words]))
     c, r = steps / min(plain) / 1e6, steps / min(proved) / 1e6
-    print(f"{name:12} {steps:11} steps   C {c:7.1f}   rvmove {r:7.1f}   ratio {r / c:5.2f}")
+    print(f"{name:13} {steps:11} steps   C {c:7.1f}   rvmove {r:7.1f}   ratio {r / c:5.2f}")
 
 
 def main():
@@ -58,6 +59,10 @@ def main():
         file.write(b"".join(struct.pack("<I", word) for word in LOOP))
     print("million instructions a second, best of", RUNS, "alternating runs")
     compare("loop, 1 hart", interpreter, program, [loop, "--raw", "--steps", "1000000000"])
+    for memory in ("flat", "wrapped"):
+        command = [os.path.join(BUILD, "rvm_bench"), loop, "1", memory]
+        words = [loop, "--raw", "--steps", "1000000000"]
+        compare(f"loop, {memory}", interpreter, program, words, command)
     compare("loop, 4 harts", interpreter, program, [loop, "--raw", "--harts", "4", "--steps", "100000000"])
     for guest in sys.argv[1:]:
         name, rest = guest.split("=")
