@@ -1,0 +1,19 @@
+//! Where a program begins, and its bytes.
+
+/// Bytes from an address on, and zeros behind them.
+#[derive(Drop)]
+pub struct Segment {
+    /// The address of the first byte.
+    pub address: u32,
+    pub bytes: Vec<u8>,
+    /// How many zeros stand behind the bytes.
+    pub zeros: u32,
+}
+
+/// A program. Where two segments have a byte at one address, the later one decides.
+#[derive(Drop)]
+pub struct Image {
+    /// The address at which a hart begins.
+    pub entry: u32,
+    pub segments: Vec<Segment>,
+}
