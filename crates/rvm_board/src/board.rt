@@ -1,12 +1,14 @@
 //! The board of 1 to 8 harts.
 
 ghost use Rattle.std.specs.List.{range_with_len};
-ghost use Rattle.std.specs.Prelude.{◌≡◌, ◌%◌, map, ◌<◌, ◌≤◌, ◌++◌, ◌∷◌, [], ◌↔◌, true, false, length, min, take, drop, IfOk, IfErr, OnOk, OnErr, IsErr, ◌≢◌};
+ghost use Rattle.std.specs.Prelude.{◌≡◌, ◌%◌, map, ◌<◌, ◌≤◌, ◌++◌, ◌∷◌, [], ◌↔◌, true, false, ◌-◌, length, min, take, drop, IfOk, IfErr, OnOk, OnErr, IsErr, ◌≢◌};
+ghost use Rattle.rvm_mem.specs.Bytes.{slice};
 ghost use Rattle.rvm_mem.specs.Pages.{mark_all};
+ghost use Rattle.rvm_hart.specs.Bus.{in_ram, ram_base, ram_load};
 ghost use Rattle.rvm_board.specs.declared.board.BoardError.TheVariants.{BadSize};
 ghost use Rattle.rvm_board.specs.declared.board.PokeError.TheVariants.{BadHart, OutOfRange};
 ghost use Rattle.rvm_board.specs.Pokes.{register_poked, memory_poked, is_view};
-ghost use Rattle.rvm_board.specs.Board.{at_reset, new_hart, stepped, with_input, with_output, is_allowed};
+ghost use Rattle.rvm_board.specs.Board.{at_reset, new_hart, hart_at, stepped, with_input, with_output, is_allowed};
 
 use rvm_dev::{Devices, InputFull};
 use rvm_hart::{Bus, Hart, PC, Stepped};
@@ -102,6 +104,31 @@ impl<M: Memory> Board<M> {
         self.harts.len() as u32
     }
 
+    /// The status that the board was halted with, if it was.
+    #[inline(always)]
+    pub fn halted(&self) -> Option<u8>
+        ensures { result ≡ self.now.plain.reach.devices.halted }
+    {
+        self.bus.halted()
+    }
+
+    /// x0 to x31 of a hart.
+    pub fn registers(&self, hart: u32) -> &[u32; 32]
+        requires { hart < length self.now.plain.harts }
+        ensures { result.now ≡ (hart_at hart self.now.plain).regs }
+    {
+        self.harts[hart as usize].registers()
+    }
+
+    /// The address of a hart's next instruction.
+    #[inline(always)]
+    pub fn pc(&self, hart: u32) -> u32
+        requires { hart < length self.now.plain.harts }
+        ensures { result ≡ (hart_at hart self.now.plain).pc }
+    {
+        self.harts[hart as usize].pc()
+    }
+
     /// One step of a hart.
     #[inline(always)]
     pub fn step(&mut self, hart: u32) -> Stepped
@@ -167,6 +194,26 @@ impl<M: Memory> Board<M> {
         let poked = &mut self.harts[hart as usize];
         poked.poke(register, value);
         Ok(())
+    }
+
+    /// The word of RAM at an aligned address, if there is RAM.
+    pub fn word(&self, address: u32) -> Option<u32>
+        requires { address % 4 ≡ 0 }
+        ensures { result ≡ ram_load 4 address self.now.plain.reach.bytes }
+    {
+        self.bus.ram_load32(address)
+    }
+
+    /// Reads bytes of RAM from an address on. `OutOfRange`, and nothing changes, where they are not
+    /// wholly in RAM.
+    pub fn read(&self, address: u32, bytes: &mut [u8]) -> Result<(), rvm_mem::OutOfRange>
+        ensures read { OnOk result (bytes.new
+            ≡ slice (length bytes.old) (address - ram_base) self.now.plain.reach.bytes) }
+        ensures out { IsErr result
+            ↔ (in_ram (length bytes.old) address self.now.plain.reach.bytes ≡ false) }
+        ensures err { OnErr result (bytes.new ≡ bytes.old) }
+    {
+        self.bus.read(address, bytes)
     }
 
     /// Writes 1 to 256 bytes of RAM from an address on, adds their pages to the dirty log, and ends

@@ -1,16 +1,17 @@
 //! What a hart reaches: RAM, devices and reservations.
 
-ghost use Rattle.std.specs.Prelude.{◌≡◌, ◌%◌, ◌<◌, ◌^◌, ◌+◌, ◌++◌, ◌∷◌, [], ◌↔◌, length, min, take, drop, IfNone, OnOk, OnErr, IsErr, ◌≤◌, false};
+ghost use Rattle.std.specs.Prelude.{◌≡◌, ◌%◌, ◌<◌, ◌^◌, ◌+◌, ◌-◌, ◌++◌, ◌∷◌, [], ◌↔◌, length, min, take, drop, IfNone, OnOk, OnErr, IsErr, ◌≤◌, false};
+ghost use Rattle.rvm_mem.specs.Bytes.{slice};
 ghost use Rattle.rvm_res.specs.Reservations as res;
 ghost use Rattle.rvm_hart.specs.Machine.{BusState, with_devices, with_reservations};
 ghost use Rattle.rvm_hart.specs.Pokes.{bus_poked, poked_each};
-ghost use Rattle.rvm_hart.specs.Bus.{in_ram, ram_load, word_loaded, after_word_load, ram_stored, word_stored, device_stored, left_by, wrote_by, wrote_of, mip_of};
+ghost use Rattle.rvm_hart.specs.Bus.{in_ram, ram_base, ram_load, word_loaded, after_word_load, ram_stored, word_stored, device_stored, left_by, wrote_by, wrote_of, mip_of};
 
 use crate::outcome::Written;
 use rvm_csr::Interrupts;
 use rvm_dev::register::{HALT, MTIME};
 use rvm_dev::{Devices, InputFull};
-use rvm_mem::{Memory, OutOfRange, write_bytes};
+use rvm_mem::{Memory, OutOfRange, read_bytes, write_bytes};
 use rvm_res::Reservations;
 use std::marker::Model;
 
@@ -239,6 +240,21 @@ impl<M: Memory> Bus<M> {
         } else {
             self.store_device(address, value)
         }
+    }
+
+    /// Reads bytes of RAM from outside. `OutOfRange`, and nothing changes, where they are not wholly
+    /// in RAM.
+    pub fn read(&self, address: u32, bytes: &mut [u8]) -> Result<(), OutOfRange>
+        ensures read { OnOk result (bytes.new
+            ≡ slice (length bytes.old) (address - ram_base) self.now.reach.bytes) }
+        ensures out { IsErr result
+            ↔ (in_ram (length bytes.old) address self.now.reach.bytes ≡ false) }
+        ensures err { OnErr result (bytes.new ≡ bytes.old) }
+    {
+        if address < RAM_BASE || address - RAM_BASE > self.ram.len() {
+            return Err(OutOfRange);
+        }
+        read_bytes(&self.ram, address - RAM_BASE, bytes)
     }
 
     /// Writes bytes of RAM from outside, adds their pages to the dirty log, and ends each

@@ -56,6 +56,21 @@ impl Hart {
         }
     }
 
+    /// x0 to x31.
+    pub fn registers(&self) -> &[u32; 32]
+        ensures { result.now ≡ self.now.regs }
+    {
+        &self.regs
+    }
+
+    /// The address of the next instruction.
+    #[inline(always)]
+    pub fn pc(&self) -> u32
+        ensures { result ≡ self.now.pc }
+    {
+        self.pc
+    }
+
     /// The value of a register.
     #[inline(always)]
     pub(crate) fn get(&self, register: Reg) -> u32

@@ -1,0 +1,48 @@
+-- A guest as its debugger sees it: a board, breakpoints, and which harts stand at one.
+use Rattle.std.specs.Prelude.{◌≡◌, ℕ, ◌<◌, ◌≤◌, Bool, false, not, ◌==◌, nat_lt, List, [], ◌∷◌, ◌++◌, length, filter, replicate}
+use Rattle.std.specs.List.{list_any}
+use Rattle.rvm_board.specs.Board.{Board, IsBoard}
+
+-- the board, the addresses at which steps stop, rising, and for each hart whether it stopped at pc and has not stepped
+-- since
+pub record Guest : Type 0 where
+  pub board : Board
+  pub breakpoints : List ℕ
+  pub stopped : List Bool
+
+-- a guest, and for each page of its RAM whether it is in the dirty log
+pub record GuestState : Type 0 where
+  pub guest : Guest
+  pub dirty : List Bool
+
+-- an address is in a list
+abbrev pub is_in : ℕ → List ℕ → Bool
+is_in a bs = list_any (λ b. b == a) bs
+
+-- a rising list with an address more, and without one
+abbrev pub with : ℕ → List ℕ → List ℕ
+with a bs = filter (λ b. nat_lt b a) bs ++ (a ∷ filter (λ b. nat_lt a b) bs)
+
+abbrev pub without : ℕ → List ℕ → List ℕ
+without a bs = filter (λ b. not (b == a)) bs
+
+-- all are above a number
+abbrev pub AreAbove : ℕ → List ℕ → Type 0
+AreAbove a [] = Unit {0}
+AreAbove a (b ∷ bs) = (a < b) × AreAbove a bs
+
+-- each is below all that follow
+abbrev pub AreRising : List ℕ → Type 0
+AreRising [] = Unit {0}
+AreRising (b ∷ bs) = AreAbove b bs × AreRising bs
+
+-- a board with at most 64 breakpoints
+pub record IsGuest (g : Guest) : Type 0 where
+  pub board : IsBoard g.board
+  pub rising : AreRising g.breakpoints
+  pub few : length g.breakpoints ≤ 64
+  pub harts : length g.stopped ≡ length g.board.harts
+
+-- a guest whose board was not debugged yet
+abbrev pub fresh : Board → Guest
+fresh b = record { board = b; breakpoints = []; stopped = replicate (length b.harts) false }

@@ -1,0 +1,2 @@
+pub mod Guest
+pub mod Events

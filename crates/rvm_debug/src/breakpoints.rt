@@ -1,0 +1,86 @@
+//! The addresses at which steps stop.
+
+ghost use Rattle.std.specs.Prelude.{◌≡◌, ◌≤◌, ◌↔◌, [], length, OnOk, OnErr, IsErr, false, count_by, nat_lt, if◌then◌else◌};
+ghost use Rattle.rvm_debug.specs.Guest.{is_in, with, without};
+
+use arrayvec::ArrayVec;
+use std::marker::Model;
+
+/// The most breakpoints that are set at once.
+pub const MAX_BREAKPOINTS: usize = 64;
+
+/// A new breakpoint beside 64.
+#[derive(Drop)]
+pub(crate) struct Full;
+
+/// At most 64 addresses, rising.
+#[derive(Drop)]
+pub(crate) struct Breakpoints {
+    addresses: ArrayVec<u32, MAX_BREAKPOINTS>,
+}
+
+impl Model for Breakpoints {
+    ghost use Rattle.std.specs.Prelude.{List, ℕ, ◌≤◌, length};
+    ghost use Rattle.rvm_debug.specs.Guest.{AreRising};
+
+    ghost Value = { List ℕ };
+
+    ghost view = { λ b. b.addresses.items };
+
+    ghost invariant = { λ b. (length b.addresses.items ≤ 64) × AreRising b.addresses.items };
+}
+
+impl Breakpoints {
+    /// None.
+    pub(crate) fn new() -> Breakpoints
+        ensures { result ≡ [] }
+    {
+        Breakpoints {
+            addresses: ArrayVec::new(),
+        }
+    }
+
+    /// Whether one is set at an address.
+    #[inline(always)]
+    pub(crate) fn has(&self, address: u32) -> bool
+        ensures { result ≡ is_in address self.now }
+    {
+        !self.addresses.is_empty() && self.addresses.contains(&address)
+    }
+
+    /// Sets one. `Full`, and nothing changes, where 64 others are set.
+    pub(crate) fn set(&mut self, address: u32) -> Result<(), Full>
+        ensures set { OnOk result (self.new ≡ (if is_in address self.old then self.old
+            else with address self.old)) }
+        ensures full { IsErr result
+            ↔ ((is_in address self.old ≡ false) × (length self.old ≡ 64)) }
+        ensures err { OnErr result (self.new ≡ self.old) }
+    {
+        if self.addresses.contains(&address) {
+            return Ok(());
+        }
+        if self.addresses.len() == MAX_BREAKPOINTS {
+            return Err(Full);
+        }
+        let index = count_below(&self.addresses, address);
+        self.addresses.insert(index, address);
+        Ok(())
+    }
+
+    /// Takes away the one at an address, if there is one.
+    pub(crate) fn clear(&mut self, address: u32)
+        ensures { self.new ≡ without address self.old }
+    {
+        let index = count_below(&self.addresses, address);
+        if self.has(address) {
+            self.addresses.remove(index);
+        }
+    }
+}
+
+/// How many addresses are below one.
+fn count_below(addresses: &[u32], address: u32) -> usize
+    ensures { result ≡ count_by (λ b. nat_lt b address) addresses.now }
+{
+    addresses.iter().filter(|set| **set < address).count()
+}

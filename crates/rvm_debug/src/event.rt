@@ -1,0 +1,100 @@
+//! What a host asks of a board, and what the board answers.
+
+ghost use Rattle.std.specs.Prelude.{◌≡◌};
+ghost use Rattle.rvm_debug.specs.Events.{reply_of};
+
+use crate::view::View;
+use rvm_csr::{Exception, Interrupt};
+use rvm_hart::Stepped;
+use thiserror::Error;
+
+/// What a host asks of its board. Harts count from 0; addresses are the guest's.
+#[derive(Drop)]
+pub enum BoardEvent {
+    /// One step of a hart.
+    Step(u32),
+    /// A byte comes to the console.
+    Input(u8),
+    /// The oldest bytes that the guest sent are taken, at most this many.
+    Drain(u32),
+    /// A breakpoint is set at an address.
+    Break(u32),
+    /// The breakpoint at an address is taken away.
+    Clear(u32),
+    /// The registers of a hart are asked for.
+    Regs(u32),
+    /// So many bytes of RAM are asked for.
+    Mem {
+        address: u32,
+        length: u32,
+    },
+    /// The word of RAM at an address is asked for.
+    Dis(u32),
+    /// A register of a hart is set: x0 to x31 by its number, or pc by 32.
+    PokeReg {
+        hart: u32,
+        register: u32,
+        value: u32,
+    },
+    /// Bytes of RAM are written.
+    PokeMem {
+        address: u32,
+        bytes: View,
+    },
+}
+
+/// What a board answers.
+#[derive(Drop)]
+pub enum BoardReply {
+    /// The instruction retired.
+    Retired,
+    /// The instruction trapped.
+    Trapped(Exception),
+    /// An interrupt was taken.
+    Interrupted(Interrupt),
+    /// The board is halted, with this status.
+    Halted(u8),
+    /// The hart stopped at the breakpoint at its pc, and did not step.
+    Break(u32),
+    /// It was done.
+    Done,
+    /// Bytes of RAM, or bytes that the guest sent.
+    Bytes(View),
+    /// x0 to x31 and pc.
+    Regs([u32; 33]),
+    /// The word of RAM at an address.
+    Line { address: u32, word: u32 },
+    /// It was refused, and nothing changed.
+    Refused(BoardRefusal),
+}
+
+/// Why an event was refused.
+#[derive(Clone, Copy, Debug, PartialEq, Eq, Error)]
+pub enum BoardRefusal {
+    /// An address, length or register is outside its range.
+    #[error("address, length or register are out of range")]
+    OutOfRange,
+    /// 16 input bytes wait.
+    #[error("16 input bytes wait")]
+    InputFull,
+    /// There is no such hart.
+    #[error("there is no such hart")]
+    BadHart,
+    /// 64 breakpoints are set.
+    #[error("64 breakpoints are set")]
+    TooManyBreaks,
+}
+
+impl BoardReply {
+    /// What a step did, as an answer.
+    pub(crate) fn of_step(stepped: Stepped) -> BoardReply
+        ensures { result ≡ reply_of stepped }
+    {
+        match stepped {
+            Stepped::Retired => BoardReply::Retired,
+            Stepped::Trapped(exception) => BoardReply::Trapped(exception),
+            Stepped::Interrupted(interrupt) => BoardReply::Interrupted(interrupt),
+            Stepped::Halted(status) => BoardReply::Halted(status),
+        }
+    }
+}

@@ -1,0 +1,16 @@
+//! The debugged board: a board with breakpoints, the events that a host hands it and its answers.
+//!
+//! Stands on `rvm_board`, and knows nothing of scripts, files or hosts. No event takes memory.
+//!
+//! To be read in this order: `view`, `breakpoints`, `event`, `debugged`.
+#![tactic(auto)]
+
+mod breakpoints;
+mod debugged;
+mod event;
+mod view;
+
+pub use breakpoints::MAX_BREAKPOINTS;
+pub use debugged::Debugged;
+pub use event::{BoardEvent, BoardRefusal, BoardReply};
+pub use view::View;
