@@ -10,7 +10,9 @@ mod bytes;
 mod flat;
 pub mod laws;
 mod memory;
+mod page_set;
 
 pub use bytes::{OutOfRange, read_bytes, write_bytes};
 pub use flat::FlatMemory;
 pub use memory::{Memory, PAGE_SIZE};
+pub use page_set::PageSet;
