@@ -1,10 +1,15 @@
 -- The dirty log: which pages of 4096 bytes were written since it was last taken; sets of pages.
 use Rattle.std.specs.Prelude.{ℕ, zero, suc, ◌+◌, ◌*◌, ◌/◌, List, [], ◌∷◌, Bool, true, false, ◌||◌, if◌then◌else◌, Option, take, drop, slice_set, slice_index_or, count_by, position}
+use Rattle.rvm_mem.specs.Bytes.{slice}
 
 -- what a memory is: its bytes, and for each page whether it is in the dirty log
 pub record Ram : Type 0 where
   pub bytes : List ℕ
   pub dirty : List Bool
+
+-- the bytes of a page
+abbrev pub page_of : ℕ → List ℕ → List ℕ
+page_of page bytes = slice 4096 (4096 * page) bytes
 
 -- the log with a page more
 abbrev pub mark : ℕ → List Bool → List Bool

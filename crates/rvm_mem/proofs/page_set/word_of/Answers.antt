@@ -1,4 +1,4 @@
-use Rattle.std.proofs.Common.{◌≡◌, ℕ, ◌+◌, ◌-◌, ◌*◌, ◌<◌, ◌≤◌, ◌^◌, drop, length, sym, ap, ◌∙◌, arith, length-drop}
+use Rattle.std.proofs.Common.{◌≡◌, ℕ, ◌+◌, ◌-◌, ◌*◌, ◌<◌, ◌^◌, drop, length, sym, ap, ◌∙◌, arith, length-drop}
 use Rattle.rvm_mem.specs.Pages.{bits}
 use Rattle.rvm_mem.proofs.Sets.{bits_fit, bits_none, bits_more}
 use Rattle.rvm_mem.proofs.page_set.word_of.Goals.{After-from}

@@ -1,5 +1,4 @@
-use Rattle.std.proofs.Common.{◌≡◌, ℕ, ◌<◌, length, refl, sym, ap, ◌∙◌, arith}
-use Rattle.rvm_mem.specs.Pages.{mark}
+use Rattle.std.proofs.Common.{◌≡◌, length, refl, ap, ◌∙◌, arith}
 use Rattle.rvm_mem.proofs.Sets.{joined, length-joined, joined_all, joined_more_yes, joined_more_no}
 use Rattle.rvm_mem.proofs.page_set.PageSet.add.Goals.{then-contains, else-contains}
 use Rattle.rvm_mem.proofs.page_set.PageSet.add.Goals as goal
@@ -15,10 +14,12 @@ insert-requires c =
 
 pub loop-page-preserved : goal.loop-page-preserved
 loop-page-preserved c =
-    elim c.if-contains.branch [ then-contains w ↦
-        let step = joined_more_yes c.loop-page.page c.args.self.now c.args.other.now (omega arith) (omega arith) (cc) in cc
-    | else-contains w ↦
-        let step = joined_more_no c.loop-page.page c.args.self.now c.args.other.now (cc) in cc ]
+    elim c.if-contains.branch [
+      | then-contains w ↦
+          let step = joined_more_yes c.loop-page.page c.args.self.now c.args.other.now (omega arith) (omega arith) (cc) in cc
+      | else-contains w ↦
+          let step = joined_more_no c.loop-page.page c.args.self.now c.args.other.now (cc) in cc
+    ]
 
 pub returns : goal.returns
 returns c =
