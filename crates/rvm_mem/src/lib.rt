@@ -18,6 +18,6 @@ mod paged;
 
 pub use bytes::{OutOfRange, read_bytes, write_bytes};
 pub use flat::FlatMemory;
-pub use memory::{Memory, PAGE_SIZE};
+pub use memory::{MAX_PAGES, Memory, PAGE_SIZE};
 pub use page_set::PageSet;
 pub use paged::PagedMemory;

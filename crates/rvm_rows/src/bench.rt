@@ -3,7 +3,7 @@
 use crate::program::{MCAUSE, MCYCLE, MEPC, MINSTRET, MSTATUS, MTIME, MTVAL, Program, a1, a2, a3};
 use rvm_board::Board;
 use rvm_hart::{RAM_BASE, Stepped};
-use rvm_mem::{FlatMemory, Memory, OutOfRange, PAGE_SIZE, write_bytes};
+use rvm_mem::{FlatMemory, Memory, OutOfRange, PAGE_SIZE, PagedMemory, write_bytes};
 use std::alloc::{AllocError, Global};
 use std::process::Abort;
 use std::test::Fail;

@@ -1,6 +1,6 @@
 //! Memory: little-endian numbers, and ranges of bytes.
 
-use rvm_mem::{FlatMemory, Memory, OutOfRange, read_bytes, write_bytes};
+use rvm_mem::{FlatMemory, Memory, OutOfRange, PagedMemory, read_bytes, write_bytes};
 use std::process::Abort;
 use std::test::Fail;
 
