@@ -15,6 +15,8 @@ pub mod laws;
 mod memory;
 mod page_set;
 mod paged;
+#[cfg(test)]
+mod tests;
 
 pub use bytes::{OutOfRange, read_bytes, write_bytes};
 pub use flat::FlatMemory;
