@@ -19,11 +19,13 @@ length-joined (suc n) [] others = refl
 length-joined (suc n) (here ∷ pages) [] = refl
 length-joined (suc n) (here ∷ pages) (there ∷ others) = ap suc (length-joined n pages others)
 
-pub joined_all : (pages others : List Bool) → length others ≡ length pages → joined (length pages) pages others ≡ union pages others
+pub joined_all : (n : ℕ) (pages others : List Bool) → length pages ≤ n → length others ≡ length pages → joined n pages others ≡ union pages others
 unfolding joined union
-joined_all [] others same = refl
-joined_all (here ∷ pages) [] same = refl
-joined_all (here ∷ pages) (there ∷ others) same = ap (λ rest. (here || there) ∷ rest) (joined_all pages others (omega arith))
+joined_all zero [] others all same = refl
+joined_all (suc n) [] others all same = refl
+joined_all zero (here ∷ pages) others all same = absurd (omega arith)
+joined_all (suc n) (here ∷ pages) [] all same = refl
+joined_all (suc n) (here ∷ pages) (there ∷ others) all same = ap (λ rest. (here || there) ∷ rest) (joined_all n pages others (omega arith) (omega arith))
 
 or-true : (here : Bool) → true ≡ (here || true)
 or-true true = refl
@@ -83,3 +85,10 @@ pub windowed : (flags : List Bool) (page start end : ℕ) → start ≡ min page
 windowed flags page start end start_is end_is =
     let few : end - start ≡ min 64 (length (drop start flags)) = omega (arith, length-drop start flags) in
     ap (λ n. take n (drop start flags)) few ∙ take_min 64 (drop start flags) ∙ ap (λ n. take 64 (drop n flags)) start_is ∙ ap (take 64) (drop_min page flags)
+
+pub joined_none : (pages others : List Bool) → joined 0 pages others ≡ pages
+unfolding joined
+joined_none pages others = refl
+
+-- how a sum of two sets comes about, page by page
+pub ruleset sums = (joined_none, length-joined, joined_more_yes, joined_more_no, joined_all)

@@ -103,6 +103,7 @@ impl PageSet {
     }
 
     /// Adds the pages of another set of the same memory.
+    #[tactic(auto, using(crate::proofs::Sets::sums))]
     pub fn add(&mut self, other: &PageSet)
         requires { length other.now ≡ length self.old }
         ensures { self.new ≡ union self.old other.now }
