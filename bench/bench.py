@@ -59,7 +59,7 @@ def main():
         file.write(b"".join(struct.pack("<I", word) for word in LOOP))
     print("million instructions a second, best of", RUNS, "alternating runs")
     compare("loop, 1 hart", interpreter, program, [loop, "--raw", "--steps", "1000000000"])
-    for memory in ("flat", "wrapped"):
+    for memory in ("flat", "paged"):
         command = [os.path.join(BUILD, "rvm_bench"), loop, "1", memory]
         words = [loop, "--raw", "--steps", "1000000000"]
         compare(f"loop, {memory}", interpreter, program, words, command)

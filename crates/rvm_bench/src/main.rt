@@ -1,17 +1,15 @@
-//! `rvm_bench IMAGE HARTS flat|wrapped`: runs an image as `rvmove run` does, over one of two
+//! `rvm_bench IMAGE HARTS flat|paged`: runs an image as `rvmove run` does, over one of two
 //! memories, so that the benchmark sees what a second instantiation of a step costs. What the guest
 //! sends goes to standard output.
 #![tactic(auto)]
 
-mod wrapped;
-
 use rvm_board::Board;
 use rvm_command::run::run;
 use rvm_hart::RAM_BASE;
-use rvm_mem::{FlatMemory, Memory, write_bytes};
+use rvm_mem::{FlatMemory, PagedMemory, write_bytes};
+use rvm_paged::PagedRam;
 use std::process::ExitCode;
 use std::{env, fs};
-use wrapped::WrappedMemory;
 
 const PAGES: u32 = 256;
 
@@ -20,22 +18,26 @@ const MOST_STEPS: u32 = 1_000_000_000;
 fn main(rt: HostRuntime) -> anyhow::Result<ExitCode> {
     let words: Vec<String> = env::args(&rt)?.collect(rt.alloc())?;
     let (Some(file), Some(harts), Some(memory)) = (words.get(1), words.get(2), words.get(3)) else {
-        eprintln!(&rt; "usage: rvm_bench IMAGE HARTS flat|wrapped")?;
+        eprintln!(&rt; "usage: rvm_bench IMAGE HARTS flat|paged")?;
         return Ok(ExitCode::from(2));
     };
     let harts: u32 = harts.as_str().parse()?;
     let image = fs::read(&rt, file.as_str())?;
-    let mut ram = FlatMemory::zeroed(rt.alloc(), PAGES)?;
-    write_bytes(&mut ram, 0, image.as_slice())?;
-    if memory.as_str() == "wrapped" {
-        run_over(&rt, harts, WrappedMemory { ram })
+    if memory.as_str() == "paged" {
+        run_over::<PagedRam>(&rt, harts, image.as_slice())
     } else {
-        run_over(&rt, harts, ram)
+        run_over::<FlatMemory>(&rt, harts, image.as_slice())
     }
 }
 
-/// Runs a board over this memory until it is halted.
-fn run_over<M: Memory + Drop>(rt: &HostRuntime, harts: u32, ram: M) -> anyhow::Result<ExitCode> {
+/// Runs a board whose RAM begins with an image until it is halted.
+fn run_over<M: PagedMemory + Drop>(
+    rt: &HostRuntime,
+    harts: u32,
+    image: &[u8],
+) -> anyhow::Result<ExitCode> {
+    let mut ram = M::zeroed(rt.alloc(), PAGES)?;
+    write_bytes(&mut ram, 0, image)?;
     let mut board = match Board::new(rt.alloc(), harts, ram, RAM_BASE) {
         Ok(board) => board,
         Err((error, _)) => return Err(anyhow::Error::from(error)),

@@ -9,7 +9,7 @@ use crate::arguments::RunArguments;
 use crate::run::{Ended, run};
 use rvm_board::{Board, BoardError};
 use rvm_hart::RAM_BASE;
-use rvm_mem::{FlatMemory, PAGE_SIZE, write_bytes};
+use rvm_mem::{FlatMemory, PAGE_SIZE, PagedMemory, write_bytes};
 use rvm_refusal::Refusal;
 use std::alloc::{AllocError, Global};
 use std::fmt;

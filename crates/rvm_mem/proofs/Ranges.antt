@@ -1,5 +1,5 @@
 -- One byte more of a range that is read or written.
-use Rattle.std.proofs.Common.{◌≡◌, ℕ, Bool, add-one, ◌+◌, ◌-◌, ◌*◌, ◌/◌, ◌%◌, ◌<◌, ◌≤◌, List, [], ◌∷◌, ◌++◌, length, take, drop, get_or, set, refl, sym, ap, ◌∙◌, arith, append_assoc, length-append}
+use Rattle.std.proofs.Common.{◌≡◌, ℕ, Bool, add-one, ◌+◌, ◌-◌, ◌/◌, ◌%◌, ◌<◌, ◌≤◌, List, [], ◌∷◌, ◌++◌, length, take, drop, get_or, set, refl, sym, ap, ◌∙◌, arith, append_assoc, length-append}
 use Rattle.std.proofs.lemmas.List.{take_more, drop_more, take_at, drop_at, get_or-drop, set-append_right, length-take-le}
 use Rattle.std.proofs.lemmas.List.{length-drop}
 use Rattle.rvm_mem.specs.Bytes.{load, store}

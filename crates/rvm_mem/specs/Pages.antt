@@ -1,10 +1,15 @@
--- The dirty log: which pages of 4096 bytes were written since it was last taken.
-use Rattle.std.specs.Prelude.{ℕ, zero, suc, ◌+◌, ◌/◌, List, [], ◌∷◌, Bool, true, slice_set}
+-- The dirty log: which pages of 4096 bytes were written since it was last taken; sets of pages.
+use Rattle.std.specs.Prelude.{ℕ, zero, suc, ◌+◌, ◌*◌, ◌/◌, List, [], ◌∷◌, Bool, true, false, ◌||◌, if◌then◌else◌, Option, take, drop, slice_set, slice_index_or, count_by, position}
+use Rattle.rvm_mem.specs.Bytes.{slice}
 
 -- what a memory is: its bytes, and for each page whether it is in the dirty log
 pub record Ram : Type 0 where
   pub bytes : List ℕ
   pub dirty : List Bool
+
+-- the bytes of a page
+abbrev pub page_of : ℕ → List ℕ → List ℕ
+page_of page bytes = slice 4096 (4096 * page) bytes
 
 -- the log with a page more
 abbrev pub mark : ℕ → List Bool → List Bool
@@ -19,3 +24,34 @@ mark_all (page ∷ pages) dirty = mark_all pages (mark page dirty)
 unfoldable pub mark_bytes : (at n : ℕ) → List Bool → List Bool
 mark_bytes at zero dirty = dirty
 mark_bytes at (suc n) dirty = mark ((at + n) / 4096) (mark_bytes at n dirty)
+
+-- the set with a page less
+abbrev pub unmark : ℕ → List Bool → List Bool
+unmark page pages = slice_set pages page false
+
+-- whether a page is in the set; a page past the end is not
+abbrev pub has : ℕ → List Bool → Bool
+has page pages = slice_index_or pages page false
+
+-- how many pages are in the set
+abbrev pub count : List Bool → ℕ
+count pages = count_by (λ here. here) pages
+
+-- the lowest page in the set
+abbrev pub first : List Bool → Option ℕ
+first pages = position (λ here. here) pages
+
+-- the pages that are in one of two sets
+unfoldable pub union : List Bool → List Bool → List Bool
+union [] others = []
+union (here ∷ pages) [] = here ∷ pages
+union (here ∷ pages) (there ∷ others) = (here || there) ∷ union pages others
+
+-- the flags of 64 pages from this one on, or as many as there are
+abbrev pub window : ℕ → List Bool → List Bool
+window page pages = take 64 (drop page pages)
+
+-- the number whose bit i is flag i
+unfoldable pub bits : List Bool → ℕ
+bits [] = 0
+bits (here ∷ pages) = (if here then 1 else 0) + 2 * bits pages

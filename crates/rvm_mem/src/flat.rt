@@ -4,16 +4,20 @@ ghost use Rattle.std.specs.Prelude.{◌≡◌, ℕ, ◌+◌, ◌*◌, ◌/◌, �
 ghost use Rattle.rvm_mem.specs.Bytes.{load, store};
 ghost use Rattle.rvm_mem.specs.Pages.{mark};
 
+use crate::block;
 use crate::memory::{Memory, PAGE_SIZE};
+use crate::page_set::PageSet;
+use crate::paged::PagedMemory;
 use byteorder::{ByteOrder, LittleEndian};
 use std::alloc::{AllocError, Global};
 use std::marker::Model;
+use std::mem;
 
 /// A memory whose bytes are one vector, with one flag a page.
 #[derive(Drop)]
 pub struct FlatMemory {
     bytes: Vec<u8>,
-    dirty: Vec<bool>,
+    dirty: PageSet,
 }
 
 impl Model for FlatMemory {
@@ -22,23 +26,10 @@ impl Model for FlatMemory {
 
     ghost Value = { Ram };
 
-    ghost view = { λ m. record { bytes = m.bytes.items; dirty = m.dirty.items } };
+    ghost view = { λ m. record { bytes = m.bytes.items; dirty = m.dirty } };
 
-    ghost invariant = { λ m. (length m.bytes.items ≡ 4096 * length m.dirty.items)
-        × (length m.dirty.items ≤ 4096) };
-}
-
-impl FlatMemory {
-    /// A memory of so many pages of zeros, none of them in the dirty log.
-    pub fn zeroed(alloc: Global, pages: u32) -> Result<FlatMemory, AllocError>
-        requires { pages ≤ 4096 }
-        ensures bytes { IfOk result (λ m. m.bytes ≡ replicate (4096 * pages) 0) }
-        ensures dirty { IfOk result (λ m. m.dirty ≡ replicate pages false) }
-    {
-        let bytes = vec![in alloc; 0u8; pages as usize * PAGE_SIZE as usize]?;
-        let dirty = vec![in alloc; false; pages as usize]?;
-        Ok(FlatMemory { bytes, dirty })
-    }
+    ghost invariant = { λ m. (length m.bytes.items ≡ 4096 * length m.dirty)
+        × (length m.dirty ≤ 4096) };
 }
 
 impl Memory for FlatMemory {
@@ -68,37 +59,52 @@ impl Memory for FlatMemory {
 
     #[inline(always)]
     fn store8(&mut self, at: u32, value: u8) {
-        self.dirty[at as usize / PAGE_SIZE as usize] = true;
+        self.dirty.insert(at / PAGE_SIZE);
         self.bytes[at as usize] = value;
     }
 
     #[inline(always)]
     fn store16(&mut self, at: u32, value: u16) {
-        self.dirty[at as usize / PAGE_SIZE as usize] = true;
-        put16(&mut self.bytes, at as usize, value);
+        self.dirty.insert(at / PAGE_SIZE);
+        block::put16(&mut self.bytes, at as usize, value);
     }
 
     #[inline(always)]
     fn store32(&mut self, at: u32, value: u32) {
-        self.dirty[at as usize / PAGE_SIZE as usize] = true;
-        put32(&mut self.bytes, at as usize, value);
+        self.dirty.insert(at / PAGE_SIZE);
+        block::put32(&mut self.bytes, at as usize, value);
     }
 }
 
-/// Writes two bytes of a slice.
-#[inline(always)]
-fn put16(bytes: &mut [u8], at: usize, value: u16)
-    requires { at + 2 ≤ length bytes.old }
-    ensures { bytes.new ≡ store 2 at value bytes.old }
-{
-    LittleEndian::write_u16(&mut bytes[at..at + 2], value);
-}
+impl PagedMemory for FlatMemory {
+    fn zeroed(alloc: Global, pages: u32) -> Result<FlatMemory, AllocError> {
+        let bytes = vec![in alloc; 0u8; pages as usize * PAGE_SIZE as usize]?;
+        let dirty = PageSet::new(alloc, pages)?;
+        Ok(FlatMemory { bytes, dirty })
+    }
 
-/// Writes four bytes of a slice.
-#[inline(always)]
-fn put32(bytes: &mut [u8], at: usize, value: u32)
-    requires { at + 4 ≤ length bytes.old }
-    ensures { bytes.new ≡ store 4 at value bytes.old }
-{
-    LittleEndian::write_u32(&mut bytes[at..at + 4], value);
+    fn pages(&self) -> u32 {
+        self.dirty.pages()
+    }
+
+    fn copy_page(&self, page: u32, into: &mut [u8; PAGE_SIZE as usize]) {
+        block::copy_page(&self.bytes, page, into);
+    }
+
+    fn put_page(&mut self, page: u32, from: &[u8; PAGE_SIZE as usize]) {
+        block::put_page(&mut self.bytes, page, from);
+    }
+
+    fn peek_dirty(&self, first: u32) -> u64 {
+        self.dirty.word(first)
+    }
+
+    fn dirty_count(&self) -> u32 {
+        self.dirty.count()
+    }
+
+    fn take_dirty(&mut self, into: &mut PageSet) {
+        mem::swap(&mut self.dirty, into);
+        self.dirty.clear();
+    }
 }

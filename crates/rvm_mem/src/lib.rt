@@ -1,16 +1,25 @@
-//! A guest's memory: what every memory promises, and one over a flat vector.
+//! A guest's memory: what every memory promises, what one promises whose pages are copied while a
+//! guest runs, sets of pages, and a memory over a flat vector.
 //!
 //! Stands on `byteorder`, and knows nothing of addresses, harts or hosts: a place is an offset from
-//! the first byte of RAM. The layers above use the law of `Memory` and nothing else.
+//! the first byte of RAM. The layers above use the laws of `Memory` and `PagedMemory`, and nothing
+//! else.
 //!
-//! To be read in this order: `memory`, `flat`, `bytes`, `laws`.
+//! To be read in this order: `memory`, `page_set`, `paged`, `block`, `flat`, `bytes`, `laws`.
 #![tactic(auto)]
 
+pub mod block;
 mod bytes;
 mod flat;
 pub mod laws;
 mod memory;
+mod page_set;
+mod paged;
+#[cfg(test)]
+mod tests;
 
 pub use bytes::{OutOfRange, read_bytes, write_bytes};
 pub use flat::FlatMemory;
-pub use memory::{Memory, PAGE_SIZE};
+pub use memory::{MAX_PAGES, Memory, PAGE_SIZE};
+pub use page_set::PageSet;
+pub use paged::PagedMemory;

@@ -7,6 +7,9 @@ ghost use Rattle.rvm_mem.specs.Pages.{mark};
 /// How many bytes a page has.
 pub const PAGE_SIZE: u32 = 4096;
 
+/// The most pages that a memory has.
+pub const MAX_PAGES: u32 = 4096;
+
 /// A guest's memory of whole pages, at most 4096 of them, and its dirty log: the set of pages that
 /// were written since the log was last taken. Numbers are little-endian (Unprivileged ISA, "Base
 /// Instruction-Length Encoding" and "Memory").

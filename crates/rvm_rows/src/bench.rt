@@ -3,7 +3,8 @@
 use crate::program::{MCAUSE, MCYCLE, MEPC, MINSTRET, MSTATUS, MTIME, MTVAL, Program, a1, a2, a3};
 use rvm_board::Board;
 use rvm_hart::{RAM_BASE, Stepped};
-use rvm_mem::{FlatMemory, Memory, OutOfRange, PAGE_SIZE, write_bytes};
+use rvm_mem::{FlatMemory, Memory, OutOfRange, PAGE_SIZE, PagedMemory, write_bytes};
+use rvm_paged::PagedRam;
 use std::alloc::{AllocError, Global};
 use std::process::Abort;
 use std::test::Fail;
@@ -29,18 +30,17 @@ pub fn board(
     program: &Program,
     handler: &Program,
 ) -> Result<Board<FlatMemory>, Fail> {
-    let ram = FlatMemory::zeroed(alloc, PAGES)?;
-    board_over(alloc, ram, harts, program, handler)
+    board_over(alloc, harts, program, handler)
 }
 
 /// The same over any memory.
-fn board_over<M: Memory + Drop>(
+fn board_over<M: PagedMemory + Drop>(
     alloc: Global,
-    mut ram: M,
     harts: u32,
     program: &Program,
     handler: &Program,
 ) -> Result<Board<M>, Fail> {
+    let mut ram = M::zeroed(alloc, PAGES)?;
     place(&mut ram, 0, program)?;
     place(&mut ram, PAGE_SIZE, handler)?;
     match Board::new(alloc, harts, ram, RAM_BASE) {
@@ -109,9 +109,21 @@ pub fn sent<M: Memory>(
     Ok(words)
 }
 
-/// The words that a program of hart 0 sends.
+/// The words that a program of hart 0 sends, over each kind of memory alike.
 pub fn sent_by(rt: &impl Abort, alloc: Global, program: &Program) -> Result<Vec<u32>, Fail> {
-    let mut board = board(alloc, 1, program, &Program::new(alloc))?;
+    let words = sent_over::<FlatMemory>(rt, alloc, program)?;
+    let paged = sent_over::<PagedRam>(rt, alloc, program)?;
+    assert_eq!(rt; paged.as_slice(), words.as_slice());
+    Ok(words)
+}
+
+/// The words that a program of hart 0 sends over one kind of memory.
+fn sent_over<M: PagedMemory + Drop>(
+    rt: &impl Abort,
+    alloc: Global,
+    program: &Program,
+) -> Result<Vec<u32>, Fail> {
+    let mut board: Board<M> = board_over(alloc, 1, program, &Program::new(alloc))?;
     Ok(sent(rt, alloc, &mut board, 0)?)
 }
 

@@ -1,5 +1,4 @@
-use Rattle.std.proofs.Common.{◌≡◌, ◌+◌, ap, ◌∙◌, set, arith}
-use Rattle.rvm_mem.specs.Bytes.{load}
+use Rattle.std.proofs.Common.{ap, ◌∙◌, set, arith}
 use Rattle.rvm_mem.proofs.Ranges.{read_more}
 use Rattle.rvm_mem.proofs.bytes.read_bytes.Goals as goal
 

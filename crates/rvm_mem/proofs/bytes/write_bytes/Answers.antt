@@ -1,4 +1,4 @@
-use Rattle.std.proofs.Common.{◌≡◌, ◌+◌, ◌/◌, ◌++◌, ap, ◌∙◌, sym, refl, take, drop, get_or, arith}
+use Rattle.std.proofs.Common.{◌+◌, ◌/◌, ◌++◌, ap, ◌∙◌, sym, refl, take, drop, get_or, arith}
 use Rattle.std.proofs.lemmas.List.{take-append-drop}
 use Rattle.rvm_mem.specs.Bytes.{store}
 use Rattle.rvm_mem.specs.Pages.{mark, mark_bytes}

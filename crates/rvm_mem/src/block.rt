@@ -1,0 +1,44 @@
+//! Numbers and pages in one block of bytes.
+
+ghost use Rattle.std.specs.Prelude.{◌≡◌, ℕ, ◌+◌, ◌*◌, ◌≤◌, List, length};
+ghost use Rattle.rvm_mem.specs.Bytes.{store, replaced};
+ghost use Rattle.rvm_mem.specs.Pages.{page_of};
+
+use crate::memory::PAGE_SIZE;
+use byteorder::{ByteOrder, LittleEndian};
+
+/// Writes the two bytes of a number at a place, the lower first.
+#[inline(always)]
+pub fn put16(bytes: &mut [u8], at: usize, value: u16)
+    requires { at + 2 ≤ length bytes.old }
+    ensures { bytes.new ≡ store 2 at value bytes.old }
+{
+    LittleEndian::write_u16(&mut bytes[at..at + 2], value);
+}
+
+/// Writes the four bytes of a number at a place, the lowest first.
+#[inline(always)]
+pub fn put32(bytes: &mut [u8], at: usize, value: u32)
+    requires { at + 4 ≤ length bytes.old }
+    ensures { bytes.new ≡ store 4 at value bytes.old }
+{
+    LittleEndian::write_u32(&mut bytes[at..at + 4], value);
+}
+
+/// Copies a page out of a block of whole pages.
+pub fn copy_page(bytes: &[u8], page: u32, into: &mut [u8; PAGE_SIZE as usize])
+    requires { 4096 * page + 4096 ≤ length bytes.now }
+    ensures { into.new ≡ page_of page bytes.now }
+{
+    let start = page as usize * PAGE_SIZE as usize;
+    into.copy_from_slice(&bytes[start..start + PAGE_SIZE as usize]);
+}
+
+/// Writes a page over one of a block of whole pages.
+pub fn put_page(bytes: &mut [u8], page: u32, from: &[u8; PAGE_SIZE as usize])
+    requires { 4096 * page + 4096 ≤ length bytes.old }
+    ensures { bytes.new ≡ replaced (4096 * page) from.now bytes.old }
+{
+    let start = page as usize * PAGE_SIZE as usize;
+    bytes[start..start + PAGE_SIZE as usize].copy_from_slice(from);
+}

@@ -1,0 +1,136 @@
+//! A memory of pages with its dirty log.
+
+ghost use Rattle.std.specs.Prelude.{◌≡◌, ◌*◌, ◌<◌, ◌↔◌, ◌⊎◌, false, replicate, IfOk};
+ghost use Rattle.rvm_paged.specs.declared.paged_ram.PagedError.TheVariants.{BadSize};
+
+use byteorder::{ByteOrder, LittleEndian};
+use rvm_mem::{MAX_PAGES, Memory, PAGE_SIZE, PageSet, PagedMemory, block};
+use std::alloc::{AllocError, Global};
+use std::marker::Model;
+use std::mem;
+use thiserror::Error;
+
+/// Why there is no memory.
+#[derive(Clone, Copy, Debug, PartialEq, Eq, Error)]
+pub enum PagedError {
+    /// No page, or more than 4096.
+    #[error("a memory has 1 to 4096 pages")]
+    BadSize,
+    /// A growth was refused.
+    #[error("out of memory")]
+    OutOfMemory,
+}
+
+/// A memory whose bytes are one block, with the set of its pages that were written.
+#[derive(Drop)]
+pub struct PagedRam {
+    bytes: Vec<u8>,
+    dirty: PageSet,
+}
+
+impl Model for PagedRam {
+    ghost use Rattle.std.specs.Prelude.{◌≡◌, ◌*◌, ◌≤◌, length};
+    ghost use Rattle.rvm_mem.specs.Pages.{Ram};
+
+    ghost Value = { Ram };
+
+    ghost view = { λ m. record { bytes = m.bytes.items; dirty = m.dirty } };
+
+    ghost invariant = { λ m. (length m.bytes.items ≡ 4096 * length m.dirty)
+        × (length m.dirty ≤ 4096) };
+}
+
+impl PagedRam {
+    /// A memory of so many pages of zeros, none of them in the dirty log. `BadSize` for no page or
+    /// more than 4096.
+    pub fn new(alloc: Global, pages: u32) -> Result<PagedRam, PagedError>
+        ensures bytes { IfOk result (λ m. m.bytes ≡ replicate (4096 * pages) 0) }
+        ensures dirty { IfOk result (λ m. m.dirty ≡ replicate pages false) }
+        ensures size { (result ≡ Err BadSize) ↔ ((pages ≡ 0) ⊎ (4096 < pages)) }
+    {
+        if pages == 0 || pages > MAX_PAGES {
+            return Err(PagedError::BadSize);
+        }
+        match PagedRam::zeroed(alloc, pages) {
+            Ok(ram) => Ok(ram),
+            Err(AllocError) => Err(PagedError::OutOfMemory),
+        }
+    }
+}
+
+impl Memory for PagedRam {
+    ghost bytes = { λ m. m.bytes };
+
+    ghost dirty = { λ m. m.dirty };
+
+    #[inline(always)]
+    fn len(&self) -> u32 {
+        self.bytes.len() as u32
+    }
+
+    #[inline(always)]
+    fn load8(&self, at: u32) -> u8 {
+        self.bytes[at as usize]
+    }
+
+    #[inline(always)]
+    fn load16(&self, at: u32) -> u16 {
+        LittleEndian::read_u16(&self.bytes[at as usize..])
+    }
+
+    #[inline(always)]
+    fn load32(&self, at: u32) -> u32 {
+        LittleEndian::read_u32(&self.bytes[at as usize..])
+    }
+
+    #[inline(always)]
+    fn store8(&mut self, at: u32, value: u8) {
+        self.dirty.insert(at / PAGE_SIZE);
+        self.bytes[at as usize] = value;
+    }
+
+    #[inline(always)]
+    fn store16(&mut self, at: u32, value: u16) {
+        self.dirty.insert(at / PAGE_SIZE);
+        block::put16(&mut self.bytes, at as usize, value);
+    }
+
+    #[inline(always)]
+    fn store32(&mut self, at: u32, value: u32) {
+        self.dirty.insert(at / PAGE_SIZE);
+        block::put32(&mut self.bytes, at as usize, value);
+    }
+}
+
+impl PagedMemory for PagedRam {
+    fn zeroed(alloc: Global, pages: u32) -> Result<PagedRam, AllocError> {
+        let bytes = vec![in alloc; 0u8; pages as usize * PAGE_SIZE as usize]?;
+        let dirty = PageSet::new(alloc, pages)?;
+        Ok(PagedRam { bytes, dirty })
+    }
+
+    fn pages(&self) -> u32 {
+        self.dirty.pages()
+    }
+
+    fn copy_page(&self, page: u32, into: &mut [u8; PAGE_SIZE as usize]) {
+        block::copy_page(&self.bytes, page, into);
+    }
+
+    fn put_page(&mut self, page: u32, from: &[u8; PAGE_SIZE as usize]) {
+        block::put_page(&mut self.bytes, page, from);
+    }
+
+    fn peek_dirty(&self, first: u32) -> u64 {
+        self.dirty.word(first)
+    }
+
+    fn dirty_count(&self) -> u32 {
+        self.dirty.count()
+    }
+
+    fn take_dirty(&mut self, into: &mut PageSet) {
+        mem::swap(&mut self.dirty, into);
+        self.dirty.clear();
+    }
+}
