@@ -1,0 +1,16 @@
+//! ELF files of RV32 programs, and raw ones, as images; and images loaded into a board.
+//!
+//! Stands on `rvm_image` and `rvm_board`, and knows nothing of text, runs or the operating system's
+//! files.
+//!
+//! To be read in this order: `error`, `layout`, `read`, `raw`.
+#![tactic(auto)]
+
+mod error;
+mod layout;
+mod raw;
+mod read;
+
+pub use error::ReadError;
+pub use raw::raw_image;
+pub use read::read_image;
