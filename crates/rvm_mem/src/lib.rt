@@ -11,6 +11,6 @@ mod flat;
 pub mod laws;
 mod memory;
 
-pub use bytes::{OutOfRange, read_bytes, write_bytes};
+pub use bytes::{OutOfRange, clear_bytes, read_bytes, write_bytes};
 pub use flat::FlatMemory;
 pub use memory::{Memory, PAGE_SIZE};
