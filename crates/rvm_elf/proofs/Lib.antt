@@ -1,2 +1,6 @@
 pub mod Headers
 pub mod Faults
+pub mod Ranges
+pub mod Blank
+pub mod Placing
+pub mod Loaded

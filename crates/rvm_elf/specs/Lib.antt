@@ -1,1 +1,3 @@
 pub mod File
+pub mod Load
+pub mod Placing

@@ -3,14 +3,16 @@
 //! Stands on `rvm_image` and `rvm_board`, and knows nothing of text, runs or the operating system's
 //! files.
 //!
-//! To be read in this order: `error`, `layout`, `read`, `raw`.
+//! To be read in this order: `error`, `layout`, `read`, `raw`, `loading`.
 #![tactic(auto)]
 
 mod error;
 mod layout;
+mod loading;
 mod raw;
 mod read;
 
 pub use error::ReadError;
+pub use loading::{OutsideRam, load};
 pub use raw::raw_image;
 pub use read::read_image;
