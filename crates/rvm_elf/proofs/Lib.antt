@@ -4,3 +4,4 @@ pub mod Ranges
 pub mod Blank
 pub mod Placing
 pub mod Loaded
+pub mod Writing

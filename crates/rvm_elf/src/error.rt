@@ -1,7 +1,8 @@
-//! Why a file has no image.
+//! Why a file has no image, and an image no file.
 
 ghost use Rattle.std.specs.Prelude.{◌≡◌};
-ghost use Rattle.rvm_elf.specs.declared.error.ReadError.TheVariants.{OutOfMemory};
+ghost use Rattle.rvm_elf.specs.declared.error.ReadError.TheVariants as read;
+ghost use Rattle.rvm_elf.specs.declared.error.WriteError.TheVariants as write;
 
 use std::alloc::{AllocError, AllocFailed};
 use thiserror::Error;
@@ -27,9 +28,31 @@ pub enum ReadError {
 }
 
 impl From<AllocError> for ReadError {
-    ghost from_gives = { λ _ error. error ≡ OutOfMemory };
+    ghost from_gives = { λ _ error. error ≡ read.OutOfMemory };
 
     fn from(_error: AllocError) -> ReadError {
         ReadError::OutOfMemory
+    }
+}
+
+/// Why an image has no file.
+#[derive(Clone, Copy, Debug, PartialEq, Eq, Error)]
+pub enum WriteError {
+    /// A growth was refused.
+    #[error("out of memory")]
+    OutOfMemory,
+    /// There are more than 16 segments.
+    #[error("more than 16 segments")]
+    TooMany,
+    /// The bytes are above 2^24, or bytes and zeros of a segment reach 2^32.
+    #[error("a segment is too large for a file")]
+    OutOfReach,
+}
+
+impl From<AllocError> for WriteError {
+    ghost from_gives = { λ _ error. error ≡ write.OutOfMemory };
+
+    fn from(_error: AllocError) -> WriteError {
+        WriteError::OutOfMemory
     }
 }

@@ -11,6 +11,18 @@ pub const HEADER_SIZE: usize = 52;
 /// How many bytes a program header has.
 pub const PROGRAM_HEADER_SIZE: usize = 32;
 
+/// The most program headers that a file may have.
+pub const MAX_HEADERS: usize = 16;
+
+/// An executable file.
+pub const ET_EXEC: u16 = 2;
+
+/// The number of RISC-V among machines.
+pub const EM_RISCV: u16 = 243;
+
+/// A part of the program that is loaded.
+pub const PT_LOAD: u32 = 1;
+
 // Places in the ELF header.
 pub const EI_CLASS: usize = 4;
 

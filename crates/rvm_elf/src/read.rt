@@ -8,22 +8,11 @@ ghost use Rattle.rvm_elf.specs.File.{is_elf, is_riscv32, lacks_headers, is_loade
 use crate::error::ReadError;
 use crate::layout::{
     E_ENTRY, E_MACHINE, E_PHENTSIZE, E_PHNUM, E_PHOFF, E_TYPE, EI_CLASS, EI_DATA, EI_VERSION,
-    HEADER_SIZE, PROGRAM_HEADER_SIZE, ProgramHeader, header_at, u16_at, u32_at,
+    EM_RISCV, ET_EXEC, HEADER_SIZE, MAX_HEADERS, PROGRAM_HEADER_SIZE, PT_LOAD, ProgramHeader,
+    header_at, u16_at, u32_at,
 };
 use rvm_image::{Image, Segment};
 use std::alloc::{AllocError, Global};
-
-/// The most program headers that a file may have.
-const MAX_HEADERS: usize = 16;
-
-/// An executable file.
-const ET_EXEC: u16 = 2;
-
-/// The number of RISC-V among machines.
-const EM_RISCV: u16 = 243;
-
-/// A part of the program that is loaded.
-const PT_LOAD: u32 = 1;
 
 /// The image of an ELF file: its entry, and for each program header that is loaded and has bytes or
 /// zeros the segment at its physical address, in order. Whatever is wrong with the file is found
