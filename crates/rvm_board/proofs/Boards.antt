@@ -8,7 +8,7 @@ use Rattle.rvm_dev.specs.Devices as dev
 use Rattle.rvm_hart.specs.Machine.{HartState, Machine, BusState, shape}
 use Rattle.rvm_hart.specs.Step.{step}
 use Rattle.rvm_hart.proofs.Shape.{step_keeps, length-poked_each}
-use Rattle.rvm_hart.specs.Pokes.{bus_poked}
+use Rattle.rvm_hart.specs.Pokes.{bus_poked, bus_cleared}
 use Rattle.rvm_board.specs.Board.{Board, IsBoard, machine_at, new_hart, stepped}
 
 -- the parts of a shape that is kept
@@ -66,5 +66,16 @@ poke_is_board harts a bytes old new board e =
       bound = board.bound;
       numbers = λ k below. board.numbers k below;
       reservations = ap (λ (b : BusState). length b.reach.reservations) e ∙ length-poked_each a (length bytes) old.reach.reservations ∙ board.reservations;
+      msip = ap (λ (b : BusState). length b.reach.devices.msip) e ∙ board.msip;
+    }
+
+-- no reservation, and other bytes
+pub clear_is_board : (harts : List HartState) (old new : BusState) → IsBoard (record { harts = harts; reach = old.reach }) → new ≡ bus_cleared old → IsBoard (record { harts = harts; reach = new.reach })
+clear_is_board harts old new board e =
+    record {
+      some = board.some;
+      bound = board.bound;
+      numbers = λ k below. board.numbers k below;
+      reservations = ap (λ (b : BusState). length b.reach.reservations) e ∙ length-replicate (length old.reach.reservations) None ∙ board.reservations;
       msip = ap (λ (b : BusState). length b.reach.devices.msip) e ∙ board.msip;
     }

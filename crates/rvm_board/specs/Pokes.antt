@@ -22,3 +22,9 @@ abbrev pub memory_poked : (address : ℕ) → List ℕ → BoardState → BoardS
 memory_poked a bytes b =
     let after = hart.bus_poked a bytes (bus_of b) in
     record { plain = record { harts = b.plain.harts; reach = after.reach }; dirty = after.dirty }
+
+-- the board with zeros in RAM, each page in the dirty log, and no reservation
+abbrev pub cleared : BoardState → BoardState
+cleared b =
+    let after = hart.bus_cleared (bus_of b) in
+    record { plain = record { harts = b.plain.harts; reach = after.reach }; dirty = after.dirty }

@@ -1,13 +1,13 @@
 //! The board of 1 to 8 harts.
 
 ghost use Rattle.std.specs.List.{range_with_len};
-ghost use Rattle.std.specs.Prelude.{◌≡◌, ◌%◌, map, ◌<◌, ◌≤◌, ◌++◌, ◌∷◌, [], ◌↔◌, true, false, ◌-◌, length, min, take, drop, IfOk, IfErr, OnOk, OnErr, IsErr, ◌≢◌};
+ghost use Rattle.std.specs.Prelude.{◌≡◌, ◌%◌, ◌*◌, ◌^◌, map, ◌<◌, ◌≤◌, ◌++◌, ◌∷◌, [], ◌↔◌, true, false, ◌-◌, length, min, take, drop, IfOk, IfErr, OnOk, OnErr, IsErr, ◌≢◌};
 ghost use Rattle.rvm_mem.specs.Bytes.{slice};
 ghost use Rattle.rvm_mem.specs.Pages.{mark_all};
 ghost use Rattle.rvm_hart.specs.Bus.{in_ram, ram_base, ram_load};
 ghost use Rattle.rvm_board.specs.declared.board.BoardError.TheVariants.{BadSize};
 ghost use Rattle.rvm_board.specs.declared.board.PokeError.TheVariants.{BadHart, OutOfRange};
-ghost use Rattle.rvm_board.specs.Pokes.{register_poked, memory_poked, is_view};
+ghost use Rattle.rvm_board.specs.Pokes.{cleared, register_poked, memory_poked, is_view};
 ghost use Rattle.rvm_board.specs.Board.{at_reset, new_hart, hart_at, stepped, with_input, with_output, is_allowed};
 
 use rvm_dev::{Devices, InputFull};
@@ -129,6 +129,15 @@ impl<M: Memory> Board<M> {
         self.harts[hart as usize].pc()
     }
 
+    /// How many bytes RAM has: whole pages, at most 4096 of them.
+    pub fn ram_size(&self) -> u32
+        ensures bytes { result ≡ length self.now.plain.reach.bytes }
+        ensures pages { result ≡ 4096 * length self.now.dirty }
+        ensures bound { result ≤ 2 ^ 24 }
+    {
+        self.bus.ram_size()
+    }
+
     /// One step of a hart.
     #[inline(always)]
     pub fn step(&mut self, hart: u32) -> Stepped
@@ -234,6 +243,13 @@ impl<M: Memory> Board<M> {
             Err(_) => return Err(PokeError::OutOfRange),
         }
         Ok(())
+    }
+
+    /// Makes RAM zeros, adds each page to the dirty log, and ends each reservation.
+    pub fn clear(&mut self)
+        ensures { self.new ≡ cleared self.old }
+    {
+        self.bus.clear();
     }
 }
 

@@ -1,5 +1,5 @@
 -- What a debugger's writes do to a hart and to what it reaches.
-use Rattle.std.specs.Prelude.{ℕ, zero, suc, ◌+◌, ◌-◌, ◌%◌, ◌==◌, if◌then◌else◌, List, Option, length}
+use Rattle.std.specs.Prelude.{ℕ, zero, suc, ◌+◌, ◌-◌, ◌%◌, ◌==◌, if◌then◌else◌, List, Option, None, true, length, replicate}
 use Rattle.rvm_mem.specs.Bytes.{replaced}
 use Rattle.rvm_mem.specs.Pages.{mark_bytes}
 use Rattle.rvm_res.specs.Reservations.{poked}
@@ -31,3 +31,15 @@ bus_poked a bytes b =
       reach = memory_poked a bytes b.reach;
       dirty = mark_bytes (a - ram_base) (length bytes) b.dirty;
     }
+
+-- what the harts share with zeros in RAM and no reservation
+abbrev pub memory_cleared : Reach → Reach
+memory_cleared r =
+    record r {
+      bytes = replicate (length r.bytes) 0;
+      reservations = replicate (length r.reservations) None;
+    }
+
+-- the bus with it, and each page in the dirty log
+abbrev pub bus_cleared : BusState → BusState
+bus_cleared b = record { reach = memory_cleared b.reach; dirty = replicate (length b.dirty) true }

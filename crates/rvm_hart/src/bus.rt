@@ -1,17 +1,17 @@
 //! What a hart reaches: RAM, devices and reservations.
 
-ghost use Rattle.std.specs.Prelude.{◌≡◌, ◌%◌, ◌<◌, ◌^◌, ◌+◌, ◌-◌, ◌++◌, ◌∷◌, [], ◌↔◌, length, min, take, drop, IfNone, OnOk, OnErr, IsErr, ◌≤◌, false};
+ghost use Rattle.std.specs.Prelude.{◌≡◌, ◌%◌, ◌<◌, ◌^◌, ◌+◌, ◌*◌, ◌-◌, ◌++◌, ◌∷◌, [], ◌↔◌, length, min, take, drop, IfNone, OnOk, OnErr, IsErr, ◌≤◌, false};
 ghost use Rattle.rvm_mem.specs.Bytes.{slice};
 ghost use Rattle.rvm_res.specs.Reservations as res;
 ghost use Rattle.rvm_hart.specs.Machine.{BusState, with_devices, with_reservations};
-ghost use Rattle.rvm_hart.specs.Pokes.{bus_poked, poked_each};
+ghost use Rattle.rvm_hart.specs.Pokes.{bus_cleared, bus_poked, poked_each};
 ghost use Rattle.rvm_hart.specs.Bus.{in_ram, ram_base, ram_load, word_loaded, after_word_load, ram_stored, word_stored, device_stored, left_by, wrote_by, wrote_of, mip_of};
 
 use crate::outcome::Written;
 use rvm_csr::Interrupts;
 use rvm_dev::register::{HALT, MTIME};
 use rvm_dev::{Devices, InputFull};
-use rvm_mem::{Memory, OutOfRange, read_bytes, write_bytes};
+use rvm_mem::{Memory, OutOfRange, clear_bytes, read_bytes, write_bytes};
 use rvm_res::Reservations;
 use std::marker::Model;
 
@@ -272,6 +272,23 @@ impl<M: Memory> Bus<M> {
         write_bytes(&mut self.ram, address - RAM_BASE, bytes)?;
         poke_each(&mut self.reservations, address, bytes.len());
         Ok(())
+    }
+
+    /// How many bytes RAM has: whole pages, at most 4096 of them.
+    pub fn ram_size(&self) -> u32
+        ensures bytes { result ≡ length self.now.reach.bytes }
+        ensures pages { result ≡ 4096 * length self.now.dirty }
+        ensures bound { result ≤ 2 ^ 24 }
+    {
+        self.ram.len()
+    }
+
+    /// RAM is zeros, with each page in the dirty log, and no hart has a reservation.
+    pub fn clear(&mut self)
+        ensures { self.new ≡ bus_cleared self.old }
+    {
+        clear_bytes(&mut self.ram);
+        self.reservations.clear();
     }
 
     /// Stores a word of a device.

@@ -1,6 +1,6 @@
 //! Whole ranges of bytes, read and written.
 
-ghost use Rattle.std.specs.Prelude.{◌≡◌, ◌+◌, ◌≤◌, ◌<◌, ◌↔◌, length, IsErr, OnOk, OnErr};
+ghost use Rattle.std.specs.Prelude.{◌≡◌, ◌+◌, ◌≤◌, ◌<◌, ◌↔◌, length, replicate, true, IsErr, OnOk, OnErr};
 ghost use Rattle.rvm_mem.specs.Bytes.{slice, replaced};
 ghost use Rattle.rvm_mem.specs.Pages.{mark_bytes};
 
@@ -44,4 +44,14 @@ pub fn write_bytes<M: Memory>(memory: &mut M, at: u32, bytes: &[u8]) -> Result<(
         memory.store8(at + i as u32, bytes[i]);
     }
     Ok(())
+}
+
+/// Writes zeros over the whole memory; each page is in the dirty log afterwards.
+pub fn clear_bytes<M: Memory>(memory: &mut M)
+    ensures bytes { M.bytes memory.new ≡ replicate (length (M.bytes memory.old)) 0 }
+    ensures dirty { M.dirty memory.new ≡ replicate (length (M.dirty memory.old)) true }
+{
+    for word in 0..memory.len() / 4 {
+        memory.store32(4 * word, 0);
+    }
 }

@@ -18,7 +18,7 @@ mod paged;
 #[cfg(test)]
 mod tests;
 
-pub use bytes::{OutOfRange, read_bytes, write_bytes};
+pub use bytes::{OutOfRange, clear_bytes, read_bytes, write_bytes};
 pub use flat::FlatMemory;
 pub use memory::{MAX_PAGES, Memory, PAGE_SIZE};
 pub use page_set::PageSet;

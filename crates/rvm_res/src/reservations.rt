@@ -43,6 +43,15 @@ impl Reservations {
         }
     }
 
+    /// Each reservation ends.
+    #[tactic(auto, using(crate::proofs::Words::words))]
+    pub fn clear(&mut self)
+        ensures { self.new ≡ replicate (length self.old) None }
+    {
+        self.words = [None; MAX_HARTS];
+        self.any = false;
+    }
+
     /// Hart `hart` reserves the aligned word at an address, in place of the one before.
     #[tactic(auto, using(crate::proofs::Words::words))]
     pub fn hold(&mut self, hart: usize, address: u32)

@@ -1,0 +1,7 @@
+pub mod Headers
+pub mod Faults
+pub mod Ranges
+pub mod Blank
+pub mod Placing
+pub mod Loaded
+pub mod Writing

@@ -1,0 +1,14 @@
+use Rattle.std.proofs.Common.{◌≡◌, drop, true, length}
+use Rattle.rvm_image.specs.Images.{pieces_of}
+use Rattle.rvm_elf.specs.Load.{pieces_fit}
+use Rattle.rvm_elf.specs.Placing.{with_ram, placed_all}
+use Rattle.rvm_elf.proofs.loading.write_segments.Given as goal
+
+-- only RAM has changed; with what is left, which fits, it is the whole
+abbrev pub invariant-loop-segment : goal.invariant-loop-segment
+invariant-loop-segment g l = record {
+  board : l.board ≡ with_ram l.board.plain.reach.bytes l.fn.board;
+  size : length l.board.plain.reach.bytes ≡ length l.fn.board.plain.reach.bytes;
+  ram : placed_all (pieces_of (drop l.segment-index l.segments)) l.board.plain.reach.bytes ≡ placed_all (pieces_of l.segments) l.fn.board.plain.reach.bytes;
+  fits : pieces_fit (pieces_of (drop l.segment-index l.segments)) (length l.fn.board.plain.reach.bytes) ≡ true;
+}

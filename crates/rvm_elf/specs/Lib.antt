@@ -1,0 +1,4 @@
+pub mod File
+pub mod Load
+pub mod Placing
+pub mod Spelling

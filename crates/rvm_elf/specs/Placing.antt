@@ -1,0 +1,29 @@
+-- Pieces written into a board one after the other.
+use Rattle.std.specs.Prelude.{◌≡◌, ℕ, ◌-◌, ◌≤◌, ◌^◌, true, List, [], ◌∷◌, ◌++◌, None, length, replicate}
+use Rattle.rvm_mem.specs.Bytes.{replaced}
+use Rattle.rvm_hart.specs.Machine.{HartState}
+use Rattle.rvm_hart.specs.Bus.{ram_base}
+use Rattle.rvm_board.specs.Board.{BoardState}
+use Rattle.rvm_image.specs.Images.{Piece}
+
+-- the board with other bytes in RAM, and with other harts
+abbrev pub with_ram : List ℕ → BoardState → BoardState
+with_ram bytes b = record b { plain = record b.plain { reach = record b.plain.reach { bytes = bytes } } }
+
+abbrev pub with_harts : List HartState → BoardState → BoardState
+with_harts harts b = record b { plain = record b.plain { harts = harts } }
+
+-- no hart has a reservation, and each page is in the dirty log, of a RAM that the address space has room for
+pub record IsBlank (b : BoardState) : Type 0 where
+  pub reservations : b.plain.reach.reservations ≡ replicate (length b.plain.reach.reservations) None
+  pub dirty : b.dirty ≡ replicate (length b.dirty) true
+  pub size : length b.plain.reach.bytes ≤ 2 ^ 24
+
+-- RAM with a piece and its zeros in it
+abbrev pub placed : Piece → List ℕ → List ℕ
+placed p ram = replaced (p.address - ram_base) (p.bytes ++ replicate p.zeros 0) ram
+
+-- RAM with pieces in it, of which the later ones overwrite the earlier
+unfoldable pub placed_all : List Piece → List ℕ → List ℕ
+placed_all [] ram = ram
+placed_all (p ∷ ps) ram = placed_all ps (placed p ram)

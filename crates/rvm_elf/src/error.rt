@@ -1,0 +1,58 @@
+//! Why a file has no image, and an image no file.
+
+ghost use Rattle.std.specs.Prelude.{◌≡◌};
+ghost use Rattle.rvm_elf.specs.declared.error.ReadError.TheVariants as read;
+ghost use Rattle.rvm_elf.specs.declared.error.WriteError.TheVariants as write;
+
+use std::alloc::{AllocError, AllocFailed};
+use thiserror::Error;
+
+/// Why a file has no image.
+#[derive(Clone, Copy, Debug, PartialEq, Eq, Error)]
+pub enum ReadError {
+    /// A growth was refused.
+    #[error("out of memory")]
+    OutOfMemory,
+    /// The file does not begin with the four magic bytes.
+    #[error("not an ELF file")]
+    BadMagic,
+    /// The file is no executable for 32-bit RISC-V, or a part has more bytes than memory.
+    #[error("not an executable for 32-bit RISC-V")]
+    NotRiscV32,
+    /// The file ends before its headers or its bytes do.
+    #[error("the file is cut short")]
+    Truncated,
+    /// There are more than 16 program headers.
+    #[error("more than 16 program headers")]
+    TooMany,
+}
+
+impl From<AllocError> for ReadError {
+    ghost from_gives = { λ _ error. error ≡ read.OutOfMemory };
+
+    fn from(_error: AllocError) -> ReadError {
+        ReadError::OutOfMemory
+    }
+}
+
+/// Why an image has no file.
+#[derive(Clone, Copy, Debug, PartialEq, Eq, Error)]
+pub enum WriteError {
+    /// A growth was refused.
+    #[error("out of memory")]
+    OutOfMemory,
+    /// There are more than 16 segments.
+    #[error("more than 16 segments")]
+    TooMany,
+    /// The bytes are above 2^24, or bytes and zeros of a segment reach 2^32.
+    #[error("a segment is too large for a file")]
+    OutOfReach,
+}
+
+impl From<AllocError> for WriteError {
+    ghost from_gives = { λ _ error. error ≡ write.OutOfMemory };
+
+    fn from(_error: AllocError) -> WriteError {
+        WriteError::OutOfMemory
+    }
+}
