@@ -7,7 +7,8 @@ use Rattle.rvm_text.specs.Lexemes.{Lexeme, lexemes}
 use Rattle.rvm_line.specs.Contents.{bytes_at}
 use Rattle.rvm_line.specs.Statements.{Definition, label_of, next_place, equ_at}
 use Rattle.rvm_line.specs.Values.{Names}
-use Rattle.rvm_asm.specs.Images.{Piece, byte_at, HasAt}
+use Rattle.rvm_image.specs.Images.{Piece, byte_at}
+use Rattle.rvm_asm.specs.Images.{HasAt}
 
 -- the statement of a line behind its label
 abbrev pub statement_of : (place : ℕ) → List Lexeme → List Lexeme

@@ -7,7 +7,7 @@ ghost use Rattle.rvm_asm.specs.Assembly.{IsLaid};
 ghost use Rattle.rvm_asm.specs.Refusals.{IsErrorOf};
 ghost use Rattle.rvm_asm.specs.Views.{lines_of, IsDefining, IsLaying};
 
-use crate::image::AsmError;
+use crate::error::AsmError;
 use rvm_line::{Fault, LineError, Symbol, definition, label, lookup, next_place};
 use rvm_text::Token;
 use std::alloc::Global;
