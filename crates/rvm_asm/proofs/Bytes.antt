@@ -1,5 +1,5 @@
 -- Bytes in pieces, and what one line adds to the image.
-use Rattle.std.proofs.Common.{◌≡◌, ℕ, ◌+◌, ◌-◌, ◌<◌, ◌≤◌, List, [], ◌∷◌, ◌++◌, length, get_or, take, drop, refl, ap, sym, ◌∙◌, Option, Some, None, Ok, Err, arith, subst, rules, inl, inr, ⊎_elim, length-append}
+use Rattle.std.proofs.Common.{◌≡◌, ℕ, ◌+◌, ◌-◌, ◌<◌, ◌≤◌, List, [], ◌∷◌, ◌++◌, length, get_or, take, drop, refl, ap, sym, ◌∙◌, Option, Some, None, Result, Ok, Err, arith, subst, rules, inl, inr, ⊎_elim, length-append}
 use Rattle.std.specs.Prelude.{◌⊎◌, IsSome}
 use Rattle.std.proofs.lemmas.Bool.Decides.{nat_tests}
 use Rattle.std.proofs.lemmas.List.{append-nil, take-append-drop, take-map, drop-map, map_push, get_or_append_left, get_or-append-add}
@@ -7,18 +7,18 @@ use Rattle.std.proofs.str.Laws.{order}
 use Rattle.rvm_text.specs.Lexemes.{Lexeme}
 use Rattle.rvm_line.specs.declared.faults.Fault.{Fault}
 use Rattle.rvm_line.specs.Contents.{bytes_at}
-use Rattle.rvm_line.specs.Statements.{label_of, Definition}
+use Rattle.rvm_line.specs.Statements.{label_of, next_place, Definition}
 use Rattle.rvm_line.specs.Values.{Names}
 use Rattle.rvm_line.proofs.Ends.{ends}
 use Rattle.rvm_image.specs.declared.image.Segment.{Segment}
 use Rattle.rvm_image.specs.Images.{Piece, piece, size, in_piece, byte_at, or_else, piece_of, pieces_of}
-use Rattle.rvm_asm.specs.Assembly.{IsImageTo, IsImage, IsLaid, IsPlaced, line_at}
-use Rattle.rvm_asm.specs.Images.{IsFree, IsTaken, Joins, HasSameBytes}
+use Rattle.rvm_asm.specs.Assembly.{BytesOf, IsImageTo, IsImage, IsLaid, line_at}
+use Rattle.rvm_asm.specs.Images.{HasAt, IsWithin, IsFree, IsTaken, Joins, HasSameBytes}
 use Rattle.rvm_asm.specs.Views.{Fits, Puts, IsUnput, IsPutting}
 use Rattle.rvm_asm.specs.Refusals.{IsErrorOf, error_at}
 use Rattle.rvm_line.specs.declared.faults.LineError.{LineError}
 use Rattle.rvm_line.specs.declared.faults.LineError.TheVariants.{OutOfMemory, Faulty}
-use Rattle.rvm_asm.proofs.Laying.{below_or_at}
+use Rattle.rvm_asm.proofs.Laying.{below_or_at, next_known}
 
 -- the byte inside a piece
 pub inside : (p : Piece) (a : ℕ) → p.address ≤ a → a < p.address + size p → in_piece p a ≡ Some (get_or p.bytes (a - p.address) 0)
@@ -132,6 +132,18 @@ apart_at p ps a free =
 pub plain_size : (place : ℕ) (bs : List ℕ) → size (piece place bs) ≡ length bs
 plain_size place bs = omega arith
 
+-- a line has the same bytes
+same_bytes : {bs cs : List ℕ} {r : Result (List ℕ) Fault} → r ≡ Ok bs → r ≡ Ok cs → bs ≡ cs
+same_bytes e f = let h : Ok _ ≡ Ok _ = sym e ∙ f in cc
+
+-- bytes that stand somewhere take it
+taken_at : (image : List Piece) (place a : ℕ) (bs : List ℕ) → HasAt image place bs → IsWithin a place bs → byte_at image a ≡ None → ⊥
+taken_at image place a bs at within none =
+    some_none (get_or bs (a - place) 0) (byte_at image a) none (ap (byte_at image) (let e : a ≡ place + (a - place) = omega (arith, within.0) in e) ∙ at (a - place) (omega (arith, within.0, within.1)))
+  where
+    some_none : (x : ℕ) (o : Option ℕ) → o ≡ None → o ≡ Some x → ⊥
+    some_none x o e f = cc
+
 -- a line's bytes join the image
 pub image_more : (lines : List (List Lexeme)) (i : ℕ) (names : Names) (places : List ℕ) (old new : List Piece) (place : ℕ) (line : List Lexeme) → IsImageTo lines i names places old → place ≡ get_or places i 0 → line ≡ line_at lines i → Puts old new names place line → IsImageTo lines (i + 1) names places new
 image_more lines i names places old new place line image at is puts =
@@ -139,16 +151,25 @@ image_more lines i names places old new place line image at is puts =
     let p : Piece = piece place bs in
     let n : size p ≡ length bs = plain_size place bs in
     let one : (a : ℕ) → (in_piece p a ≡ None) ⊎ (byte_at old a ≡ None) = λ a. apart_at p old a (subst (IsFree old place) (sym n) puts.free) in
-    let mine : bytes_at names (get_or places i 0) (label_of (get_or places i 0) (line_at lines i)).1 ≡ Ok bs = rw (← at, ← is) puts.of_line in
+    let mine : BytesOf lines names places i bs = rw (← at, ← is) puts.of_line in
     record {
       bytes = λ k h. ⊎_elim
           (λ below. let b = image.bytes k below in (b.0, b.1, λ j l. puts.joined (get_or places k 0 + j) ∙ kept_byte (in_piece p (get_or places k 0 + j)) (byte_at old (get_or places k 0 + j)) (get_or b.0 j 0) (one (get_or places k 0 + j)) (b.2 j l)))
           (λ same. rw same (bs, mine, λ j l. rw (← at) (puts.joined (place + j) ∙ new_byte (in_piece p (place + j)) (byte_at old (place + j)) (get_or bs j 0) (inside p (place + j) (omega arith) (omega arith) ∙ ap (λ m. Some (get_or bs m 0)) (back place j)))))
           (below_or_at k i h);
       others = λ a s. ⊎_elim
-          (λ now. let b = bounds p a now in (i, omega arith, bs, mine, rw (← at) b.0, rw (← at) (omega (arith, b.1))))
-          (λ before. let o = image.others a before in (o.0, omega (arith, o.1), o.2, o.3, o.4, o.5))
+          (λ now. let b = bounds p a now in (i, omega arith, bs, mine, (rw (← at) b.0, rw (← at) (omega (arith, b.1)))))
+          (λ before. let o = image.others a before in (o.0, omega (arith, o.1), o.2, o.3, o.4))
           (either (in_piece p a) (byte_at old a) (subst IsSome (puts.joined a) s));
+      apart = λ j k less h cs ds c d a first second. ⊎_elim
+          (λ below. image.apart j k less below cs ds c d a first second)
+          (λ same.
+          let b = image.bytes j (omega (arith, less, same)) in
+          let there : IsWithin a (get_or places j 0) b.0 = subst (IsWithin a (get_or places j 0)) (same_bytes c b.1) first in
+          let of_line : BytesOf lines names places i ds = subst (λ m. BytesOf lines names places m ds) same d in
+          let here : IsWithin a place bs = subst (λ m. IsWithin a m bs) (sym at) (subst (IsWithin a (get_or places i 0)) (same_bytes of_line mine) (subst (λ m. IsWithin a (get_or places m 0) ds) same second)) in
+          taken_at old (get_or places j 0) a b.0 b.2 there (puts.free a here.0 here.1))
+          (below_or_at k i h);
     }
 
 -- bytes of pieces in two parts
@@ -224,13 +245,14 @@ pub image_none : (lines : List (List Lexeme)) (names : Names) (places : List ℕ
 image_none lines names places ss e = record {
   bytes = λ i h. absurd (omega (arith, h));
   others = λ a s. absurd (none_some (byte_at (pieces_of ss) a) (ap (λ l. byte_at (pieces_of l) a) e) s);
+  apart = λ i j less h. absurd (omega (arith, h));
 }
 
 -- a line whose place and whose next line's place are known ends at 2 ^ 32 or before
 pub fits : (lines : List (List Lexeme)) (names : Names) (places : List ℕ) (i place : ℕ) (line : List Lexeme) → i < length lines → IsLaid lines names places → place ≡ get_or places i 0 → line ≡ line_at lines i → Fits names place line
 fits lines names places i place line inside laid at is = λ bs e.
-    let placed : IsPlaced names place (get_or places (i + 1) 0) line = rw (at, is) (laid.each i inside) in
-    ⊎_elim inl (λ o. inr (omega (arith, o.0, o.1))) (ends names place (get_or places (i + 1) 0) (label_of place line).1 bs placed.next e)
+    let next : next_place names place (label_of place line).1 ≡ Ok (get_or places (i + 1) 0) = rw (at, is) (next_known lines (length lines) names places laid i inside) in
+    ⊎_elim inl (λ o. inr (omega (arith, o.0, o.1))) (ends names place (get_or places (i + 1) 0) (label_of place line).1 bs next e)
 
 -- a line's bytes join
 pub puts_bytes : (old new : List Piece) (names : Names) (place : ℕ) (line : List Lexeme) (q : Option Definition × List Lexeme) (bs : List ℕ) → q ≡ label_of place line → bytes_at names place q.1 ≡ Ok bs → IsFree old place (length bs) → Joins old new (piece place bs) → Puts old new names place line
@@ -293,4 +315,5 @@ pub image_same : (lines : List (List Lexeme)) (names : Names) (places : List ℕ
 image_same lines names places xs ys image same = record {
   bytes = λ k h. let b = image.bytes k h in (b.0, b.1, λ j l. sym (same (get_or places k 0 + j)) ∙ b.2 j l);
   others = λ a s. image.others a (subst IsSome (sym (same a)) s);
+  apart = image.apart;
 }

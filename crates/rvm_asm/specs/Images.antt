@@ -7,6 +7,10 @@ abbrev pub HasAt : List Piece → (place : ℕ) → List ℕ → Type 0
 HasAt image place bytes =
     (k : ℕ) → k < length bytes → byte_at image (place + k) ≡ Some (slice_index bytes k)
 
+-- an address is one of those of bytes from a place on
+abbrev pub IsWithin : (a place : ℕ) → List ℕ → Type 0
+IsWithin a place bytes = (place ≤ a) × (a < place + length bytes)
+
 -- no byte stands in so many places from one on
 abbrev pub IsFree : List Piece → (place count : ℕ) → Type 0
 IsFree image place count = (a : ℕ) → place ≤ a → a < place + count → byte_at image a ≡ None

@@ -14,7 +14,7 @@ use Rattle.rvm_line.specs.Statements.{Definition}
 use Rattle.rvm_line.specs.Values.{Names}
 use Rattle.rvm_image.specs.declared.image.Segment.{Segment}
 use Rattle.rvm_image.specs.Images.{Piece, piece}
-use Rattle.rvm_asm.specs.Assembly.{IsPlaced, Defines, Takes, statement_of}
+use Rattle.rvm_asm.specs.Assembly.{Takes, Lays, statement_of}
 use Rattle.rvm_asm.specs.Images.{Joins, IsFree, IsTaken}
 use Rattle.rvm_asm.specs.Refusals.{IsUnplaced, IsTwice}
 
@@ -29,12 +29,6 @@ lines_of ls = map (λ l. lexemes_of l.items) ls
 -- no zeros stand behind a segment's bytes
 abbrev pub HasNoZeros : Segment → Type 0
 HasNoZeros s = s.zeros ≡ 0
-
--- a line's definitions join the names
-pub record Lays (old new : Names) (place after : ℕ) (line : List Lexeme) : Type 0 where
-  pub kept : (n : List ℕ) (v : ℕ) → old n ≡ Some v → new n ≡ Some v
-  pub placed : IsPlaced new place after line
-  pub named : (n : List ℕ) → IsSome (new n) → IsSome (old n) ⊎ Defines new place line n
 
 -- a line's definitions join the names and the place behind it is given, or it has a fault
 abbrev pub IsLaying : Names → Names → ℕ → List Lexeme → Result ℕ LineError → Type 0
