@@ -43,6 +43,7 @@ pub fn lay_out<'a>(alloc: Global, lines: &[Vec<Token<'a>>]) -> Result<Layout<'a>
 }
 
 /// Adds what a line at a place defines, and answers the place behind it.
+#[tactic(auto, using(crate::proofs::Laying::lays_from))]
 fn lay_line<'a>(
     symbols: &mut Vec<Symbol<'a>>,
     place: u64,
