@@ -1,3 +1,4 @@
 pub mod Bytes
 pub mod Laying
 pub mod Names
+pub mod Order

@@ -131,22 +131,3 @@ module _ (old new : Names) (kept : Kept old new) where
   pub next_kept : (place : ℕ) (ts : List Lexeme) (y : ℕ) → next_place old place ts ≡ Ok y → next_place new place ts ≡ Ok y
   next_kept place [] y e = e
   next_kept place (t ∷ ts) y e = bind_kept (keyword_at (t ∷ ts)) (keyword_at (t ∷ ts)) (λ x. place_after old place x.0 x.1) (λ x. place_after new place x.0 x.1) y (λ x h. h) (λ x. after_kept place x.0 x.1 y) e
-
-  equ_of_kept : (key : Keyword) (ts : List Lexeme) (y : Option Definition) → equ_of old key ts ≡ Ok y → equ_of new key ts ≡ Ok y
-  equ_of_kept k.Equ ts y e =
-      bind_kept (name_at ts) (name_at ts) (λ n. mark_at 44 n.1 >>= λ r. last_value old r >>= λ v. Ok (Some (n.0, v))) (λ n. mark_at 44 n.1 >>= λ r. last_value new r >>= λ v. Ok (Some (n.0, v))) y (λ x h. h)
-      (λ n. bind_kept (mark_at 44 n.1) (mark_at 44 n.1) (λ r. last_value old r >>= λ v. Ok (Some (n.0, v))) (λ r. last_value new r >>= λ v. Ok (Some (n.0, v))) y (λ x h. h)
-      (λ r. bind_kept (last_value old r) (last_value new r) (λ v. Ok (Some (n.0, v))) (λ v. Ok (Some (n.0, v))) y (last_kept r) (λ x h. h))) e
-  equ_of_kept k.Org ts y e = e
-  equ_of_kept k.Space ts y e = e
-  equ_of_kept k.Balign ts y e = e
-  equ_of_kept (k.List w) ts y e = e
-  equ_of_kept k.Ascii ts y e = e
-  equ_of_kept k.Asciz ts y e = e
-  equ_of_kept k.Text ts y e = e
-  equ_of_kept k.Global ts y e = e
-  equ_of_kept (k.Code code) ts y e = e
-
-  pub equ_kept : (ts : List Lexeme) (y : Option Definition) → equ_at old ts ≡ Ok y → equ_at new ts ≡ Ok y
-  equ_kept [] y e = e
-  equ_kept (t ∷ ts) y e = bind_kept (keyword_at (t ∷ ts)) (keyword_at (t ∷ ts)) (λ x. equ_of old x.0 x.1) (λ x. equ_of new x.0 x.1) y (λ x h. h) (λ x. equ_of_kept x.0 x.1 y) e

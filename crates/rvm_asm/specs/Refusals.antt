@@ -9,10 +9,11 @@ use Rattle.rvm_line.specs.declared.faults.LineError.TheVariants as line_error
 use Rattle.rvm_line.specs.Contents.{bytes_at}
 use Rattle.rvm_line.specs.Statements.{Definition, label_of, next_place, equ_at}
 use Rattle.rvm_line.specs.Values.{Names}
-use Rattle.rvm_asm.specs.declared.image.AsmError.{AsmError}
-use Rattle.rvm_asm.specs.declared.image.AsmError.TheVariants.{OutOfMemory, Line}
+use Rattle.rvm_asm.specs.declared.error.AsmError.{AsmError}
+use Rattle.rvm_asm.specs.declared.error.AsmError.TheVariants.{OutOfMemory, Line}
 use Rattle.rvm_asm.specs.Assembly.{statement_of, line_at, IsLaidTo, IsLaid, IsImageTo, BytesOf, AreRead, Takes}
-use Rattle.rvm_asm.specs.Images.{Piece, IsTaken}
+use Rattle.rvm_image.specs.Images.{Piece}
+use Rattle.rvm_asm.specs.Images.{IsTaken}
 
 -- a definition's name has a value already
 abbrev pub IsTwice : Names → Option Definition → Type 0

@@ -1,5 +1,5 @@
 -- What the code's values stand for.
-use Rattle.std.specs.Prelude.{◌≡◌, ℕ, List, Option, Some, map, Result, Ok, Err, IsSome, ◌⊎◌, Vec, length}
+use Rattle.std.specs.Prelude.{◌≡◌, ℕ, ◌+◌, ◌^◌, ◌≤◌, List, [], Option, Some, map, Result, Ok, Err, IsSome, ◌⊎◌, Vec, length}
 use denote.Ref.{Bor}
 use Rattle.std.specs.declared.alloc.Global.{Global}
 use Rattle.rvm_text.specs.Lexemes.{Lexeme}
@@ -12,18 +12,11 @@ use Rattle.rvm_line.specs.declared.faults.Fault.TheVariants.{Defined, Overlap}
 use Rattle.rvm_line.specs.Contents.{bytes_at}
 use Rattle.rvm_line.specs.Statements.{Definition}
 use Rattle.rvm_line.specs.Values.{Names}
-use Rattle.rvm_asm.specs.declared.image.Segment.{Segment}
-use Rattle.rvm_asm.specs.Assembly.{IsPlaced, Defines, Takes, statement_of}
-use Rattle.rvm_asm.specs.Images.{Piece, Joins, IsFree, IsTaken, piece}
+use Rattle.rvm_image.specs.declared.image.Segment.{Segment}
+use Rattle.rvm_image.specs.Images.{Piece, piece}
+use Rattle.rvm_asm.specs.Assembly.{Takes, Lays, statement_of}
+use Rattle.rvm_asm.specs.Images.{Joins, IsFree, IsTaken}
 use Rattle.rvm_asm.specs.Refusals.{IsUnplaced, IsTwice}
-
--- the bytes of a segment, which has no zeros behind them
-abbrev pub piece_of : Segment → Piece
-piece_of s = piece s.address s.bytes.items
-
--- the pieces of an image
-abbrev pub pieces_of : List Segment → List Piece
-pieces_of ss = map piece_of ss
 
 -- the bytes of lines of text
 abbrev pub texts_of : List (Bor (List ℕ)) → List (List ℕ)
@@ -37,17 +30,17 @@ lines_of ls = map (λ l. lexemes_of l.items) ls
 abbrev pub HasNoZeros : Segment → Type 0
 HasNoZeros s = s.zeros ≡ 0
 
--- a line's definitions join the names
-pub record Lays (old new : Names) (place after : ℕ) (line : List Lexeme) : Type 0 where
-  pub kept : (n : List ℕ) (v : ℕ) → old n ≡ Some v → new n ≡ Some v
-  pub placed : IsPlaced new place after line
-  pub named : (n : List ℕ) → IsSome (new n) → IsSome (old n) ⊎ Defines new place line n
-
 -- a line's definitions join the names and the place behind it is given, or it has a fault
 abbrev pub IsLaying : Names → Names → ℕ → List Lexeme → Result ℕ LineError → Type 0
 IsLaying old new place line (Ok after) = Lays old new place after line
 IsLaying old new place line (Err line_error.OutOfMemory) = Unit {0}
 IsLaying old new place line (Err (line_error.Faulty f)) = IsUnplaced old place line f
+
+-- a line's bytes end at 2 ^ 32 or before
+abbrev pub Fits : Names → (place : ℕ) → List Lexeme → Type 0
+Fits names place line =
+    (bs : List ℕ) → bytes_at names place (statement_of place line) ≡ Ok bs
+    → (bs ≡ []) ⊎ (place + length bs ≤ 2 ^ 32)
 
 -- a line's bytes join an image where none stood
 pub record Puts (old new : List Piece) (names : Names) (place : ℕ) (line : List Lexeme) : Type 0 where

@@ -5,11 +5,14 @@ ghost use Rattle.std.specs.Str.Lines.{lines};
 ghost use Rattle.rvm_line.specs.Views.{names_of};
 ghost use Rattle.rvm_asm.specs.Assembly.{entry_of, AreRead, IsAssemblyOf, IsAssembly};
 ghost use Rattle.rvm_asm.specs.Refusals.{IsErrorOf, IsReadError, IsError};
-ghost use Rattle.rvm_asm.specs.Views.{lines_of, pieces_of, texts_of, HasNoZeros};
+ghost use Rattle.rvm_asm.specs.Views.{lines_of, texts_of, HasNoZeros};
+ghost use Rattle.rvm_image.specs.Images.{IsRising, pieces_of};
 
-use crate::image::{AsmError, Image};
+use crate::error::AsmError;
 use crate::layout::lay_out;
-use crate::placing::{join, place_lines};
+use crate::placing::place_lines;
+use crate::segments::join;
+use rvm_image::Image;
 use rvm_line::{Fault, Symbol, lookup};
 use rvm_text::{TextError, Token, tokens};
 use std::alloc::{AllocError, Global};
@@ -19,6 +22,7 @@ use std::alloc::{AllocError, Global};
 /// ran out.
 pub fn assemble(alloc: Global, text: &str) -> Result<Image, AsmError>
     ensures image { IfOk result (λ v. IsAssembly text.now v.entry (pieces_of v.segments.items)) }
+    ensures rising { IfOk result (λ v. IsRising (pieces_of v.segments.items)) }
     ensures zeros { IfOk result (λ v. All HasNoZeros v.segments.items) }
     ensures refused { IfErr result (λ e. IsError text.now e) }
 {
@@ -56,6 +60,7 @@ fn read<'a>(alloc: Global, texts: &[&'a str]) -> Result<Vec<Vec<Token<'a>>>, Asm
 /// The image of lines.
 fn assemble_lines(alloc: Global, lines: &[Vec<Token>]) -> Result<Image, AsmError>
     ensures image { IfOk result (λ v. IsAssemblyOf (lines_of lines.now) v.entry (pieces_of v.segments.items)) }
+    ensures rising { IfOk result (λ v. IsRising (pieces_of v.segments.items)) }
     ensures zeros { IfOk result (λ v. All HasNoZeros v.segments.items) }
     ensures refused { IfErr result (λ e. IsErrorOf (lines_of lines.now) e) }
 {

@@ -7,7 +7,7 @@ ghost use Rattle.rvm_asm.specs.Assembly.{IsLaid};
 ghost use Rattle.rvm_asm.specs.Refusals.{IsErrorOf};
 ghost use Rattle.rvm_asm.specs.Views.{lines_of, IsDefining, IsLaying};
 
-use crate::image::AsmError;
+use crate::error::AsmError;
 use rvm_line::{Fault, LineError, Symbol, definition, label, lookup, next_place};
 use rvm_text::Token;
 use std::alloc::Global;
@@ -43,6 +43,7 @@ pub fn lay_out<'a>(alloc: Global, lines: &[Vec<Token<'a>>]) -> Result<Layout<'a>
 }
 
 /// Adds what a line at a place defines, and answers the place behind it.
+#[tactic(auto, using(crate::proofs::Laying::lays_from))]
 fn lay_line<'a>(
     symbols: &mut Vec<Symbol<'a>>,
     place: u64,

@@ -1,16 +1,21 @@
 //! The assembler: from assembly text to an image, the bytes of a program at their addresses. It
-//! stands on `rvm_text` for the tokens of a line and on `rvm_line` for what a line means, and knows
-//! no instruction.
+//! stands on `rvm_text` for the tokens of a line, on `rvm_line` for what a line means and on
+//! `rvm_image` for the image, and knows no instruction.
 //!
-//! `image` is what an assembly makes and why there is none; `assembler` reads the lines and runs
-//! both passes: `layout` gives each name its value and each line its place, `placing` puts the
-//! bytes of each line there.
+//! `assembler` reads the lines and runs both passes: `layout` gives each name its value and each
+//! line its place, `placing` puts the bytes of each line there, in the `segments` of an image.
+//! `error` says why a text has no image.
 #![tactic(auto)]
 
 mod assembler;
-mod image;
+mod error;
 mod layout;
 mod placing;
+mod segments;
 
 pub use assembler::assemble;
-pub use image::{AsmError, Image, Segment};
+pub use error::AsmError;
+pub use rvm_image::{Image, Segment};
+
+#[cfg(test)]
+mod tests;

@@ -1,7 +1,7 @@
 -- Lines, computed: their bytes at 0x80000000, the places behind them, and their faults.
-use Rattle.std.proofs.Common.{◌≡◌, ℕ, List, [], ◌∷◌, Option, Some, None, Result, Ok, Err, refl}
+use Rattle.std.proofs.Common.{◌≡◌, ℕ, List, [], ◌∷◌, Option, Some, Result, Ok, Err, refl}
 use Rattle.std.specs.Prelude.{codes, option_map}
-use Rattle.rvm_text.specs.Lexemes.{Lexeme, lexemes}
+use Rattle.rvm_text.specs.Lexemes.{lexemes}
 use Rattle.rvm_text.specs.Registers.{register_of, abi_names, numbered_names}
 use Rattle.rvm_text.specs.Strings.{text_of}
 use Rattle.rvm_isa.specs.Words.{word_of}

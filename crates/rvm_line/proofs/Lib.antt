@@ -1,3 +1,4 @@
+pub mod Ends
 mod Examples
 pub mod Expressions
 pub mod Lists

@@ -1,6 +1,7 @@
 pub mod Contents
 pub mod Csrs
 pub mod Instructions
+pub mod Laws
 pub mod Operands
 pub mod Operations
 pub mod Reading

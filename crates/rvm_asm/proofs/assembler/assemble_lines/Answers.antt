@@ -1,7 +1,8 @@
 use Rattle.std.proofs.Common.{◌∙◌, ap}
 use Rattle.rvm_line.specs.Views.{names_of}
 use Rattle.rvm_asm.specs.Assembly.{entry_of}
-use Rattle.rvm_asm.specs.Views.{lines_of, pieces_of}
+use Rattle.rvm_image.specs.Images.{pieces_of}
+use Rattle.rvm_asm.specs.Views.{lines_of}
 use Rattle.rvm_asm.proofs.Bytes.{image_same}
 use Rattle.rvm_asm.proofs.assembler.assemble_lines.Goals as goal
 

@@ -1,26 +1,10 @@
-//! What an assembly makes, and why there is none.
+//! Why a text has no image.
 
 ghost use Rattle.std.specs.Prelude.{◌≡◌};
 ghost use Rattle.rvm_asm.specs.Refusals.{error_at};
 
 use rvm_line::{Fault, LineError};
 use std::alloc::AllocError;
-
-/// Bytes from an address on, and zeros behind them.
-#[derive(Drop)]
-pub struct Segment {
-    pub address: u64,
-    pub bytes: Vec<u8>,
-    /// How many zeros stand behind the bytes. The assembler makes zeros bytes like others.
-    pub zeros: u32,
-}
-
-/// A program: where it begins, and its bytes. Its segments rise by address and do not touch.
-#[derive(Drop)]
-pub struct Image {
-    pub entry: u32,
-    pub segments: Vec<Segment>,
-}
 
 /// Why a text has no image.
 #[derive(Debug, Drop, Clone, Copy, PartialEq, Eq)]
@@ -45,7 +29,7 @@ impl AsmError {
 
 impl From<AllocError> for AsmError {
     ghost use Rattle.std.specs.Prelude.{◌≡◌};
-    ghost use Rattle.rvm_asm.specs.declared.image.AsmError.TheVariants.{OutOfMemory};
+    ghost use Rattle.rvm_asm.specs.declared.error.AsmError.TheVariants.{OutOfMemory};
 
     ghost from_gives = { λ _ e. e ≡ OutOfMemory };
 
