@@ -26,7 +26,7 @@ length_zeros : (n : ℕ) → length (some_zeros n) ≡ n
 length_zeros zero = refl
 length_zeros (suc n) = let e = length_zeros n in omega (arith, e)
 
-length_hex : (count n : ℕ) → length (hex_digits count n) ≡ count
+pub length_hex : (count n : ℕ) → length (hex_digits count n) ≡ count
 unfolding hex_digits
 length_hex zero n = refl
 length_hex (suc count) n =
