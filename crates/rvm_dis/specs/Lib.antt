@@ -1,0 +1,4 @@
+pub mod Pieces
+pub mod Texts
+pub mod Disassembly
+pub mod Assembles

@@ -1,0 +1,16 @@
+//! The disassembler: the text of the instruction that a word is, at an address.
+//!
+//! Stands on the instruction table and the names of registers, and knows neither boards nor runs.
+//! Its law is told in terms of what a line of assembly means, which no code here uses.
+//!
+//! To be read in this order: `shapes`, `rows`, `laws`.
+#![tactic(auto)]
+
+pub mod laws;
+mod rows;
+mod shapes;
+#[cfg(test)]
+mod tests;
+
+pub use rows::write_ins;
+pub use shapes::LinkFault;
