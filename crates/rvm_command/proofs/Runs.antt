@@ -1,14 +1,18 @@
 -- A run, turn by turn, and writes after writes.
-use Rattle.std.proofs.Common.{◌≡◌, ℕ, suc, OnErr, Result, Ok, Err, ◌+◌, ◌*◌, ◌/◌, ◌%◌, ◌<◌, List, [], ◌∷◌, ◌++◌, length, take, drop, min, Option, Some, None, Bool, false, refl, sym, ap, ◌∙◌, arith, append_assoc, append-nil, cond, nat_eq}
+use Rattle.std.proofs.Common.{◌≡◌, ℕ, suc, OnErr, Result, Ok, Err, ◌+◌, ◌*◌, ◌/◌, ◌%◌, ◌<◌, List, [], ◌∷◌, ◌++◌, length, take, drop, min, Option, Some, None, Bool, true, false, refl, sym, ap, ◌∙◌, arith, append_assoc, append-nil, cond, nat_eq}
 use Rattle.std.proofs.lemmas.List.{take_at, take-append-drop, length-take, length-set, length-append}
 use Rattle.std.proofs.Math.Nat.{mod-add-div, add-mul-mod_self_left}
 use Rattle.std.proofs.lemmas.Nat.{mod_below}
 use Rattle.std.specs.Io.KnownBytes.{Appends}
 use Rattle.rvm_hart.specs.declared.outcome.Stepped.{Stepped}
-use Rattle.rvm_hart.specs.declared.outcome.Stepped.TheVariants.{Retired, Trapped, Interrupted, Halted}
-use Rattle.rvm_board.specs.Board.{Board, Stepping, stepped}
+use Rattle.rvm_hart.specs.declared.outcome.Stepped.TheVariants as stepped
+use Rattle.rvm_debug.specs.declared.event.BoardReply.{BoardReply}
+use Rattle.rvm_debug.specs.declared.event.BoardReply.TheVariants.{Retired, Trapped, Interrupted, Halted, Break, Done, Bytes, Regs, Line, Refused}
+use Rattle.rvm_debug.specs.Guest.{Guest}
+use Rattle.rvm_debug.specs.Events.{Answered, leaves, pc_of, step_reply, steps, stops, takes_step, with_stopped}
+use Rattle.rvm_debug.specs.Events as events
 use Rattle.rvm_command.specs.declared.run.Ended.TheVariants as ended
-use Rattle.rvm_command.specs.Run.{Ran, Fed, fed, turn, ran, drained, ends, after_bytes, unless_halted}
+use Rattle.rvm_command.specs.Run.{Ran, Fed, fed, turn, ran, output_of, status_in, drained, ends, after_bytes, unless_halted}
 
 pub appends_none : (a : Option (List ℕ)) → Appends a a []
 appends_none None = tt
@@ -43,79 +47,112 @@ pub piece_more : (so_far sent all : List ℕ) (count : ℕ) → so_far ++ sent �
 piece_more so_far sent all count whole = append_assoc so_far (take count sent) (drop count sent) ∙ ap (λ l. so_far ++ l) (take-append-drop count sent) ∙ whole
 
 -- feeding changes no hart
-fed_count : (input : List ℕ) (b : Board) → length (fed input b).board.harts ≡ length b.harts
+fed_count : (input : List ℕ) (b : Guest) → length (fed input b).guest.board.harts ≡ length b.board.harts
 fed_count [] b = refl
 fed_count (byte ∷ rest) b = grind arith
 
 -- what is left of a run after a turn that left s
-abbrev pub after_turn : (m t : ℕ) → (rest : List ℕ) → Stepping → Ran
+abbrev pub after_turn : (m t : ℕ) → (rest : List ℕ) → Answered → Ran
 after_turn m t rest s =
-    unless_halted s.answer s.board
-    (cond (nat_eq (t % 64) 63) (after_bytes s.board.reach.devices.output (ran m (t + 1) rest (drained s.board))) (ran m (t + 1) rest s.board))
+    unless_halted s.reply s.guest
+    (cond (nat_eq (t % 64) 63) (after_bytes (output_of s.guest) (ran m (t + 1) rest (drained s.guest))) (ran m (t + 1) rest s.guest))
 
 -- the turn that was made: the board was fed, and this hart stepped
-pub record IsTurn (t hart : ℕ) (input rest : List ℕ) (b mid : Board) : Type 0 where
-  pub fed : record { board = mid; input = rest } ≡ fed input b
-  pub turn : hart ≡ t % length b.harts
+pub record IsTurn (t hart : ℕ) (input rest : List ℕ) (b mid : Guest) : Type 0 where
+  pub fed : record { guest = mid; input = rest } ≡ fed input b
+  pub turn : hart ≡ t % length b.board.harts
+
+-- a step changes no number of harts
+steps_on_count : (h : ℕ) (g : Guest) (stop : Bool) → length (cond stop (leaves (with_stopped h true g) (Break (pc_of h g))) (takes_step h g)).guest.board.harts ≡ length g.board.harts
+steps_on_count h g true = refl
+steps_on_count h g false = length-set g.board.harts h _
+
+halted_count : (h : ℕ) (g : Guest) (halted : Option ℕ) → length (events.unless_halted halted h g).guest.board.harts ≡ length g.board.harts
+halted_count h g None = steps_on_count h g (stops h g)
+halted_count h g (Some status) = refl
+
+steps_count : (h : ℕ) (g : Guest) → length (steps h g).guest.board.harts ≡ length g.board.harts
+steps_count h g = halted_count h g g.board.reach.devices.halted
 
 -- as many harts as before
-pub turn_count : (t hart : ℕ) (input rest : List ℕ) (b mid : Board) → IsTurn t hart input rest b mid → length (stepped hart mid).board.harts ≡ length b.harts
-turn_count t hart input rest b mid made = length-set mid.harts hart _ ∙ ap (λ (f : Fed). length f.board.harts) made.fed ∙ fed_count input b
+pub turn_count : (t hart : ℕ) (input rest : List ℕ) (b mid : Guest) → IsTurn t hart input rest b mid → length (steps hart mid).guest.board.harts ≡ length b.board.harts
+turn_count t hart input rest b mid made = steps_count hart mid ∙ ap (λ (f : Fed). length f.guest.board.harts) made.fed ∙ fed_count input b
 
-pub in_turn : (t hart : ℕ) (input rest : List ℕ) (b mid : Board) → IsTurn t hart input rest b mid → 0 < length b.harts → hart < length mid.harts
+pub in_turn : (t hart : ℕ) (input rest : List ℕ) (b mid : Guest) → IsTurn t hart input rest b mid → 0 < length b.board.harts → hart < length mid.board.harts
 in_turn t hart input rest b mid made some =
-    let same : length mid.harts ≡ length b.harts = ap (λ (f : Fed). length f.board.harts) made.fed ∙ fed_count input b in
-    let below : t % length b.harts < length b.harts = mod_below t (length b.harts) some in
+    let same : length mid.board.harts ≡ length b.board.harts = ap (λ (f : Fed). length f.guest.board.harts) made.fed ∙ fed_count input b in
+    let below : t % length b.board.harts < length b.board.harts = mod_below t (length b.board.harts) some in
     omega (arith, made.turn, below, same)
 
-one_more : (n m t hart : ℕ) (input rest : List ℕ) (b mid : Board) → n ≡ suc m → IsTurn t hart input rest b mid → ran n t input b ≡ after_turn m t rest (stepped hart mid)
+one_more : (n m t hart : ℕ) (input rest : List ℕ) (b mid : Guest) → n ≡ suc m → IsTurn t hart input rest b mid → ran n t input b ≡ after_turn m t rest (steps hart mid)
 unfolding ran
 one_more n m t hart input rest b mid e made =
-    let same : length mid.harts ≡ length b.harts = ap (λ (f : Fed). length f.board.harts) made.fed ∙ fed_count input b in
+    let same : length mid.board.harts ≡ length b.board.harts = ap (λ (f : Fed). length f.guest.board.harts) made.fed ∙ fed_count input b in
     rw e (ap (λ (f : Fed). after_turn m t f.input (turn t f)) (sym made.fed)
-    ∙ ap (λ h. after_turn m t rest (stepped h mid)) (ap (λ k. t % k) same ∙ sym made.turn))
+    ∙ ap (λ h. after_turn m t rest (steps h mid)) (ap (λ k. t % k) same ∙ sym made.turn))
 
-pub halted_run : (n m t hart s : ℕ) (input rest : List ℕ) (b mid : Board) (bytes : List ℕ) (whole : Ran) → n ≡ suc m → IsTurn t hart input rest b mid → Halted s ≡ (stepped hart mid).answer → after_bytes bytes (ran n t input b) ≡ whole
-    → whole ≡ after_bytes bytes (ends (ended.HaltedWith s) (stepped hart mid).board)
+pub halted_run : (n m t hart s : ℕ) (input rest : List ℕ) (b mid : Guest) (bytes : List ℕ) (whole : Ran) → n ≡ suc m → IsTurn t hart input rest b mid → Halted s ≡ (steps hart mid).reply → after_bytes bytes (ran n t input b) ≡ whole
+    → whole ≡ after_bytes bytes (ends (ended.HaltedWith s) (steps hart mid).guest)
 halted_run n m t hart s input rest b mid bytes whole e made a h =
     sym h ∙ ap (after_bytes bytes) (one_more n m t hart input rest b mid e made
-    ∙ ap (λ x. unless_halted x (stepped hart mid).board (cond (nat_eq (t % 64) 63) (after_bytes (stepped hart mid).board.reach.devices.output (ran m (t + 1) rest (drained (stepped hart mid).board))) (ran m (t + 1) rest (stepped hart mid).board))) (sym a))
+    ∙ ap (λ x. unless_halted x (steps hart mid).guest (cond (nat_eq (t % 64) 63) (after_bytes (output_of (steps hart mid).guest) (ran m (t + 1) rest (drained (steps hart mid).guest))) (ran m (t + 1) rest (steps hart mid).guest))) (sym a))
 
 -- the run that has no turn left
-pub spent_run : (n t : ℕ) (input : List ℕ) (b : Board) (bytes : List ℕ) (whole : Ran) → n ≡ 0 → after_bytes bytes (ran n t input b) ≡ whole → whole ≡ after_bytes bytes (ends ended.StepsSpent b)
+pub spent_run : (n t : ℕ) (input : List ℕ) (b : Guest) (bytes : List ℕ) (whole : Ran) → n ≡ 0 → after_bytes bytes (ran n t input b) ≡ whole → whole ≡ after_bytes bytes (ends ended.StepsSpent b)
 unfolding ran
 spent_run n t input b bytes whole e h = sym h ∙ ap (after_bytes bytes) (rw e refl)
 
 -- a turn at which the board was not halted
-open_turn : (x : Stepped) (b : Board) (rest : Ran) → ((s : ℕ) → x ≡ Halted s → ⊥) → unless_halted x b rest ≡ rest
+open_turn : (x : BoardReply) (b : Guest) (rest : Ran) → ((s : ℕ) → x ≡ Halted s → ⊥) → unless_halted x b rest ≡ rest
 open_turn Retired b rest no_halt = refl
 open_turn (Trapped e) b rest no_halt = refl
 open_turn (Interrupted i) b rest no_halt = refl
 open_turn (Halted s) b rest no_halt = absurd (no_halt s refl)
+open_turn (Break a) b rest no_halt = refl
+open_turn Done b rest no_halt = refl
+open_turn (Bytes bytes) b rest no_halt = refl
+open_turn (Regs values) b rest no_halt = refl
+open_turn (Line a word) b rest no_halt = refl
+open_turn (Refused why) b rest no_halt = refl
+
+-- a step that found the board halted, or halted it, answers so, and no other does
+pub halted_reply : (a s : ℕ) (x : Option Stepped) → status_in x ≡ Some s → Halted s ≡ step_reply a x
+halted_reply a s None e = absurd cc
+halted_reply a s (Some stepped.Retired) e = absurd cc
+halted_reply a s (Some (stepped.Trapped x)) e = absurd cc
+halted_reply a s (Some (stepped.Interrupted x)) e = absurd cc
+halted_reply a s (Some (stepped.Halted t)) e = cc
+
+pub halted_status : (a s : ℕ) (x : Option Stepped) → step_reply a x ≡ Halted s → status_in x ≡ Some s
+halted_status a s None e = absurd cc
+halted_status a s (Some stepped.Retired) e = absurd cc
+halted_status a s (Some (stepped.Trapped x)) e = absurd cc
+halted_status a s (Some (stepped.Interrupted x)) e = absurd cc
+halted_status a s (Some (stepped.Halted t)) e = cc
 
 -- an open turn after which what the guest sent is written
-pub flushed_run : (n m t hart : ℕ) (input rest : List ℕ) (b mid : Board) (bytes : List ℕ) (whole : Ran) → n ≡ suc m → IsTurn t hart input rest b mid → ((s : ℕ) → (stepped hart mid).answer ≡ Halted s → ⊥) → t % 64 ≡ 63 → after_bytes bytes (ran n t input b) ≡ whole
-    → after_bytes (bytes ++ (stepped hart mid).board.reach.devices.output) (ran m (t + 1) rest (drained (stepped hart mid).board)) ≡ whole
+pub flushed_run : (n m t hart : ℕ) (input rest : List ℕ) (b mid : Guest) (bytes : List ℕ) (whole : Ran) → n ≡ suc m → IsTurn t hart input rest b mid → ((s : ℕ) → (steps hart mid).reply ≡ Halted s → ⊥) → t % 64 ≡ 63 → after_bytes bytes (ran n t input b) ≡ whole
+    → after_bytes (bytes ++ output_of (steps hart mid).guest) (ran m (t + 1) rest (drained (steps hart mid).guest)) ≡ whole
 flushed_run n m t hart input rest b mid bytes whole e made goes f h =
-    let s : Stepping = stepped hart mid in
-    let more : Ran = after_bytes s.board.reach.devices.output (ran m (t + 1) rest (drained s.board)) in
-    let quiet : Ran = ran m (t + 1) rest s.board in
+    let s : Answered = steps hart mid in
+    let more : Ran = after_bytes (output_of s.guest) (ran m (t + 1) rest (drained s.guest)) in
+    let quiet : Ran = ran m (t + 1) rest s.guest in
     let one : ran n t input b ≡ more =
     one_more n m t hart input rest b mid e made
-    ∙ open_turn s.answer s.board (cond (nat_eq (t % 64) 63) more quiet) goes
+    ∙ open_turn s.reply s.guest (cond (nat_eq (t % 64) 63) more quiet) goes
     ∙ ap (λ (k : ℕ). cond (nat_eq k 63) more quiet) f in
     rw append_assoc (sym (ap (after_bytes bytes) one) ∙ h)
 
 -- an open turn after which nothing is written
-pub quiet_run : (n m t hart : ℕ) (input rest : List ℕ) (b mid : Board) (bytes : List ℕ) (whole : Ran) → n ≡ suc m → IsTurn t hart input rest b mid → ((s : ℕ) → (stepped hart mid).answer ≡ Halted s → ⊥) → nat_eq (t % 64) 63 ≡ false → after_bytes bytes (ran n t input b) ≡ whole
-    → after_bytes bytes (ran m (t + 1) rest (stepped hart mid).board) ≡ whole
+pub quiet_run : (n m t hart : ℕ) (input rest : List ℕ) (b mid : Guest) (bytes : List ℕ) (whole : Ran) → n ≡ suc m → IsTurn t hart input rest b mid → ((s : ℕ) → (steps hart mid).reply ≡ Halted s → ⊥) → nat_eq (t % 64) 63 ≡ false → after_bytes bytes (ran n t input b) ≡ whole
+    → after_bytes bytes (ran m (t + 1) rest (steps hart mid).guest) ≡ whole
 quiet_run n m t hart input rest b mid bytes whole e made goes f h =
-    let s : Stepping = stepped hart mid in
-    let more : Ran = after_bytes s.board.reach.devices.output (ran m (t + 1) rest (drained s.board)) in
-    let quiet : Ran = ran m (t + 1) rest s.board in
+    let s : Answered = steps hart mid in
+    let more : Ran = after_bytes (output_of s.guest) (ran m (t + 1) rest (drained s.guest)) in
+    let quiet : Ran = ran m (t + 1) rest s.guest in
     let one : ran n t input b ≡ quiet =
     one_more n m t hart input rest b mid e made
-    ∙ open_turn s.answer s.board (cond (nat_eq (t % 64) 63) more quiet) goes
+    ∙ open_turn s.reply s.guest (cond (nat_eq (t % 64) 63) more quiet) goes
     ∙ ap (λ (k : Bool). cond k more quiet) f in
     sym (ap (after_bytes bytes) one) ∙ h
 

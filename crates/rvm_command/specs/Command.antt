@@ -1,20 +1,56 @@
--- What `rvmove run` runs and prints.
-use Rattle.std.specs.Prelude.{ℕ, ◌*◌, ◌-◌, List, ◌++◌, length, replicate, codes}
+-- What the commands make of their files.
+use Rattle.std.specs.Prelude.{◌≡◌, ◌⊎◌, ℕ, ◌+◌, ◌-◌, ◌*◌, ◌%◌, ◌^◌, Bool, true, false, List, [], ◌∷◌, ◌++◌, Option, Some, None, Result, Ok, Err, IsOk, length, drop, replicate, codes}
 use Rattle.std.specs.Fmt.{decimal}
+use Rattle.byteorder.specs.Endian.{little_number}
+use Rattle.rvm_image.specs.Images.{Piece, piece}
+use Rattle.rvm_elf.specs.declared.error.ReadError.{ReadError}
+use Rattle.rvm_elf.specs.File.{meaning}
+use Rattle.rvm_elf.specs.Load.{loaded}
 use Rattle.rvm_board.specs.Board.{at_reset}
+use Rattle.rvm_debug.specs.Guest.{Guest, fresh}
+use Rattle.rvm_dis.specs.Disassembly.{line_at}
 use Rattle.rvm_command.specs.declared.run.Ended.{Ended}
 use Rattle.rvm_command.specs.declared.run.Ended.TheVariants.{HaltedWith, StepsSpent}
 use Rattle.rvm_command.specs.Run.{Ran, ran}
 
--- RAM of so many pages that begins with these bytes; the rest is zeros
-abbrev pub ram_of : (pages : ℕ) → List ℕ → List ℕ
-ram_of pages image = image ++ replicate (4096 * pages - length image) 0
+-- an entry and the pieces of a program, or why a file has none
+abbrev pub FileImage : Type 0
+FileImage = Result (ℕ × List Piece) ReadError
 
--- the run of a board at reset with these bytes from its first address on
-abbrev pub run_of : (harts pages steps : ℕ) → (image input : List ℕ) → Ran
-run_of harts pages steps image input = ran steps 0 input (at_reset harts 0x80000000 (ram_of pages image))
+-- the image of a file: an ELF file, or raw bytes from the start of RAM on
+abbrev pub image_of : (raw : Bool) → List ℕ → FileImage
+image_of true file = Ok (0x80000000, piece 0x80000000 file ∷ [])
+image_of false file = meaning file
+
+-- a guest at reset whose board was loaded with an image
+abbrev pub guest_of : (harts pages entry : ℕ) → List Piece → Guest
+guest_of harts pages entry pieces =
+    fresh (loaded entry pieces (at_reset harts 0x80000000 (replicate (4096 * pages) 0)))
+
+-- its run
+abbrev pub run_of : (harts pages steps : ℕ) → (image : ℕ × List Piece) → (input : List ℕ) → Ran
+run_of harts pages steps image input = ran steps 0 input (guest_of harts pages image.0 image.1)
 
 -- `halted S`, or `steps spent`
 abbrev pub end_text : Ended → List ℕ
 end_text (HaltedWith s) = codes "halted " ++ decimal s
 end_text StepsSpent = codes "steps spent"
+
+-- the lines of the words of bytes that stand from an address on, which is a multiple of four; what
+-- is left behind the last whole word has no line
+unfoldable pub word_lines : (address : ℕ) → List ℕ → List ℕ
+word_lines a (b0 ∷ b1 ∷ b2 ∷ b3 ∷ rest) =
+    line_at a (little_number 4 (b0 ∷ b1 ∷ b2 ∷ b3 ∷ [])) ++ codes "\n"
+    ++ word_lines ((a + 4) % 2 ^ 32) rest
+word_lines a bytes = []
+
+-- how many bytes stand between an address and the next multiple of four
+abbrev pub before_word : (address : ℕ) → ℕ
+before_word a = (4 - a % 4) % 4
+
+-- the lines of the whole aligned words of pieces, one piece after the other
+unfoldable pub listing : List Piece → List ℕ
+listing [] = []
+listing (p ∷ ps) =
+    word_lines ((p.address + before_word p.address) % 2 ^ 32) (drop (before_word p.address) p.bytes)
+    ++ listing ps

@@ -1,2 +1,3 @@
 pub mod Run
 pub mod Command
+pub mod Assembled

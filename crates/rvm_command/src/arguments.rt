@@ -20,56 +20,100 @@ pub const MAX_HARTS: u32 = 8;
 #[derive(Debug, Drop)]
 pub enum Arguments<'a> {
     Run(RunArguments<'a>),
+    Asm(AsmArguments<'a>),
+    Dis(DisArguments<'a>),
 }
 
-/// The arguments of `rvmove run`, each number within its limits.
+/// A guest: the file of its image, and its board. Each number is within its limits.
 #[derive(Debug, Drop)]
-pub struct RunArguments<'a> {
-    /// The file of the guest's bytes, which are placed at 0x80000000.
+pub struct GuestArguments<'a> {
+    /// The file of the image.
     pub image: &'a str,
-    /// The file whose bytes come to the console, if any.
-    pub input: Option<&'a str>,
+    /// Whether it is plain bytes, which are placed at 0x80000000, and not an ELF file.
+    pub raw: bool,
     /// 1 to 8 harts.
     pub harts: u32,
     /// 1 to 4096 pages of 4096 bytes.
     pub pages: u32,
-    /// 1 to 1000000000 turns.
-    pub steps: u32,
     ghost harts_allowed: { (1 ≤ harts) × (harts ≤ 8) },
     ghost pages_allowed: { (1 ≤ pages) × (pages ≤ 4096) },
+}
+
+/// The arguments of `rvmove run`.
+#[derive(Debug, Drop)]
+pub struct RunArguments<'a> {
+    pub guest: GuestArguments<'a>,
+    /// The file whose bytes come to the console, if any.
+    pub input: Option<&'a str>,
+    /// 1 to 1000000000 turns.
+    pub steps: u32,
     ghost steps_allowed: { (1 ≤ steps) × (steps ≤ 1000000000) },
+}
+
+/// The arguments of `rvmove asm`.
+#[derive(Debug, Drop)]
+pub struct AsmArguments<'a> {
+    /// The file of the text.
+    pub source: &'a str,
+    /// The file that is written.
+    pub output: &'a str,
+}
+
+/// The arguments of `rvmove dis`.
+#[derive(Debug, Drop)]
+pub struct DisArguments<'a> {
+    /// The file of the image.
+    pub image: &'a str,
+    /// Whether it is plain bytes, which stand at 0x80000000, and not an ELF file.
+    pub raw: bool,
 }
 
 /// Reads the command line, whose first word is the program's name. The error has `clap`'s text, and
 /// `exit_code` says what the program ends with.
 pub fn parse_args<'a, S: AsStr>(alloc: Global, words: &'a [S]) -> Result<Arguments<'a>, Error> {
-    let mut command = Command::new(alloc, "rvmove")
-        .about("Runs guests of a small RISC-V board")
-        .subcommand_required(true)
-        .arg_required_else_help(true)
-        .subcommand(run_arguments(alloc)?)?;
+    let mut command = program(alloc)?;
     let matches = command.try_get_matches_from_mut(words)?;
-    let fault = match matches.subcommand() {
-        Some(("run", run)) => match read_run(run) {
-            Ok(arguments) => return Ok(Arguments::Run(arguments)),
-            Err(fault) => fault,
-        },
-        _ => "a command is missing",
+    let read = match matches.subcommand() {
+        Some(("run", run)) => read_run(run),
+        Some(("asm", asm)) => read_asm(asm),
+        Some(("dis", dis)) => read_dis(dis),
+        _ => Err("a command is missing"),
     };
-    Err(command.error(ErrorKind::ValueValidation, fault)?)
+    match read {
+        Ok(arguments) => Ok(arguments),
+        Err(fault) => Err(command.error(ErrorKind::ValueValidation, fault)?),
+    }
 }
 
-/// The words that `run` takes.
-fn run_arguments<'a>(alloc: Global) -> Result<Command<'a>, Error> {
-    let image = Arg::new(alloc, "image")
+/// The command line that the program takes.
+fn program<'a>(alloc: Global) -> Result<Command<'a>, Error> {
+    Ok(Command::new(alloc, "rvmove")
+        .about("Assembles, disassembles and runs guests of a small RISC-V board")
+        .subcommand_required(true)
+        .arg_required_else_help(true)
+        .subcommand(run_command(alloc)?)?
+        .subcommand(asm_command(alloc)?)?
+        .subcommand(dis_command(alloc)?)?)
+}
+
+/// The file of an image.
+fn image_argument<'a>(alloc: Global) -> Arg<'a> {
+    Arg::new(alloc, "image")
         .value_name("IMAGE")
         .required(true)
-        .help("The file of the guest's bytes");
-    let raw = Arg::new(alloc, "raw")
+        .help("The image: an ELF file, or plain bytes")
+}
+
+/// Whether it is plain bytes.
+fn raw_argument<'a>(alloc: Global) -> Arg<'a> {
+    Arg::new(alloc, "raw")
         .long("raw")
-        .required(true)
         .action(ArgAction::SetTrue)
-        .help("IMAGE is plain bytes, to be placed at 0x80000000");
+        .help("IMAGE is plain bytes, to be placed at 0x80000000")
+}
+
+/// A command over a guest, with the words that describe it.
+fn guest_command<'a>(command: Command<'a>, alloc: Global) -> Result<Command<'a>, Error> {
     let harts = Arg::new(alloc, "harts")
         .long("harts")
         .value_name("N")
@@ -82,6 +126,15 @@ fn run_arguments<'a>(alloc: Global) -> Result<Command<'a>, Error> {
         .default_value("256")
         .value_parser(value_parser!(u32).range(1..=4096))
         .help("How many pages of 4096 bytes of RAM, 1 to 4096");
+    Ok(command
+        .arg(image_argument(alloc))?
+        .arg(raw_argument(alloc))?
+        .arg(harts)?
+        .arg(pages)?)
+}
+
+/// The words that `run` takes.
+fn run_command<'a>(alloc: Global) -> Result<Command<'a>, Error> {
     let steps = Arg::new(alloc, "steps")
         .long("steps")
         .value_name("N")
@@ -92,39 +145,86 @@ fn run_arguments<'a>(alloc: Global) -> Result<Command<'a>, Error> {
         .long("input")
         .value_name("FILE")
         .help("The file whose bytes come to the guest's console");
-    Ok(
-        Command::new(alloc, "run")
-            .about("Runs a guest, and writes what it sends")
-            .arg(image)?
-            .arg(raw)?
-            .arg(harts)?
-            .arg(pages)?
-            .arg(steps)?
-            .arg(input)?,
-    )
+    let run = Command::new(alloc, "run").about("Runs a guest, and writes what it sends");
+    Ok(guest_command(run, alloc)?.arg(steps)?.arg(input)?)
+}
+
+/// The words that `asm` takes.
+fn asm_command<'a>(alloc: Global) -> Result<Command<'a>, Error> {
+    let source = Arg::new(alloc, "source")
+        .value_name("SRC")
+        .required(true)
+        .help("The file of the assembly text");
+    let output = Arg::new(alloc, "output")
+        .value_name("OUT")
+        .required(true)
+        .help("The ELF file that is written");
+    Ok(Command::new(alloc, "asm")
+        .about("Assembles a text into an ELF file")
+        .arg(source)?
+        .arg(output)?)
+}
+
+/// The words that `dis` takes.
+fn dis_command<'a>(alloc: Global) -> Result<Command<'a>, Error> {
+    Ok(Command::new(alloc, "dis")
+        .about("Writes the instructions of an image")
+        .arg(image_argument(alloc))?
+        .arg(raw_argument(alloc))?)
 }
 
 /// The arguments of `run`, or which of them is not what it must be.
-fn read_run<'a>(run: &ArgMatches<'a>) -> Result<RunArguments<'a>, &'static str> {
-    let Some(image) = run.get_str("image") else {
-        return Err("IMAGE is missing");
-    };
-    let Some(harts) = number(run, "harts", MAX_HARTS) else {
-        return Err("--harts takes a decimal number from 1 to 8");
-    };
-    let Some(pages) = number(run, "pages", MAX_PAGES) else {
-        return Err("--pages takes a decimal number from 1 to 4096");
-    };
+fn read_run<'a>(run: &ArgMatches<'a>) -> Result<Arguments<'a>, &'static str> {
+    let guest = read_guest(run)?;
     let Some(steps) = number(run, "steps", MAX_STEPS) else {
         return Err("--steps takes a decimal number from 1 to 1000000000");
     };
-    Ok(RunArguments {
-        image,
+    Ok(Arguments::Run(RunArguments {
+        guest,
         input: run.get_str("input"),
+        steps,
+    }))
+}
+
+/// The guest of a command, or which of its arguments is not what it must be.
+fn read_guest<'a>(command: &ArgMatches<'a>) -> Result<GuestArguments<'a>, &'static str> {
+    let Some(image) = command.get_str("image") else {
+        return Err("IMAGE is missing");
+    };
+    let Some(harts) = number(command, "harts", MAX_HARTS) else {
+        return Err("--harts takes a decimal number from 1 to 8");
+    };
+    let Some(pages) = number(command, "pages", MAX_PAGES) else {
+        return Err("--pages takes a decimal number from 1 to 4096");
+    };
+    Ok(GuestArguments {
+        image,
+        raw: command.get_flag("raw"),
         harts,
         pages,
-        steps,
     })
+}
+
+/// The arguments of `asm`.
+fn read_asm<'a>(asm: &ArgMatches<'a>) -> Result<Arguments<'a>, &'static str> {
+    let Some(source) = asm.get_str("source") else {
+        return Err("SRC is missing");
+    };
+    let Some(output) = asm.get_str("output") else {
+        return Err("OUT is missing");
+    };
+    Ok(Arguments::Asm(AsmArguments { source, output }))
+}
+
+/// The arguments of `dis`.
+fn read_dis<'a>(dis: &ArgMatches<'a>) -> Result<Arguments<'a>, &'static str> {
+    let Some(image) = dis.get_str("image") else {
+        return Err("IMAGE is missing");
+    };
+    Ok(Arguments::Dis(DisArguments {
+        image,
+        raw: dis.get_flag("raw"),
+    }))
 }
 
 /// The number of an option, from 1 to a limit. It has no sign, also no plus sign.

@@ -1,17 +1,16 @@
 //! `rvmove run`: from the bytes of an image to what the guest sends and how it ends.
 
-ghost use Rattle.std.specs.Prelude.{◌≡◌, ◌⊎◌, ◌++◌, codes, ◌*◌, ◌<◌, ◌≤◌, ◌↔◌, IfOk, IfErr, OnOk, length};
+ghost use Rattle.std.specs.Prelude.{◌≡◌, ◌⊎◌, ◌++◌, codes, ◌*◌, IfOk, IfErr, OnOk, IsOk, IsErr, true, false};
 ghost use Rattle.std.specs.Io.KnownBytes.{Appends};
-ghost use Rattle.rvm_refusal.specs.declared.refusal.Refusal.TheVariants.{OutsideRam, OutOfMemory, LinkFault};
-ghost use Rattle.rvm_command.specs.Command.{ram_of, run_of, end_text};
+ghost use Rattle.rvm_refusal.specs.declared.refusal.Refusal.TheVariants.{LinkFault};
+ghost use Rattle.rvm_elf.specs.Load.{fits};
+ghost use Rattle.rvm_command.specs.Command.{end_text, image_of, run_of};
 
 use crate::arguments::RunArguments;
+use crate::guest::{new_guest, read_file, refusal_of};
 use crate::run::{Ended, run};
-use rvm_board::{Board, BoardError};
-use rvm_hart::RAM_BASE;
-use rvm_mem::{FlatMemory, PAGE_SIZE, PagedMemory, write_bytes};
 use rvm_refusal::Refusal;
-use std::alloc::{AllocError, Global};
+use std::alloc::Global;
 use std::fmt;
 use std::io::Write;
 
@@ -30,10 +29,10 @@ impl fmt::Display for Ended {
     }
 }
 
-/// Runs the guest whose bytes `image` has, and answers the status: 0, or 1 where it was refused.
-/// What the guest sends goes to `output`; `errors` gets how the run ended, or the refusal:
-/// `OutsideRam` for an image that is larger than RAM, `OutOfMemory`, and `LinkFault` where a write
-/// failed.
+/// Runs the guest whose file `image` is, and answers the status: 0, or 1 where it was refused. What
+/// the guest sends goes to `output`; `errors` gets how the run ended, or the refusal: that of the
+/// file, `OutsideRam` for an image that does not lie in RAM, `OutOfMemory`, and `LinkFault` where a
+/// write failed.
 pub fn run_command<O: Write, E: Write>(
     alloc: Global,
     arguments: &RunArguments,
@@ -43,12 +42,17 @@ pub fn run_command<O: Write, E: Write>(
     errors: &mut E,
 ) -> u8
     ensures status { (result ≡ 0) ⊎ (result ≡ 1) }
-    ensures output { result ≡ 0 → Appends (O.contents output.old) (O.contents output.new)
-        (run_of arguments.now.harts arguments.now.pages arguments.now.steps image.now input.now).written }
-    ensures errors { result ≡ 0 → Appends (E.contents errors.old) (E.contents errors.new)
-        (end_text (run_of arguments.now.harts arguments.now.pages arguments.now.steps image.now input.now).ended ++ codes "\n") }
-    ensures outside { 4096 * arguments.now.pages < length image.now
+    ensures output { result ≡ 0 → IfOk (image_of arguments.now.guest.raw image.now) (λ i.
+        Appends (O.contents output.old) (O.contents output.new)
+            (run_of arguments.now.guest.harts arguments.now.guest.pages arguments.now.steps i input.now).written) }
+    ensures errors { result ≡ 0 → IfOk (image_of arguments.now.guest.raw image.now) (λ i.
+        Appends (E.contents errors.old) (E.contents errors.new)
+            (end_text (run_of arguments.now.guest.harts arguments.now.guest.pages arguments.now.steps i input.now).ended ++ codes "\n")) }
+    ensures fault { IsErr (image_of arguments.now.guest.raw image.now)
         → (result ≡ 1) × (O.contents output.new ≡ O.contents output.old) }
+    ensures outside { IfOk (image_of arguments.now.guest.raw image.now) (λ i.
+        fits i.0 i.1 (4096 * arguments.now.guest.pages) ≡ false
+        → (result ≡ 1) × (O.contents output.new ≡ O.contents output.old)) }
 {
     let told = match run_image(alloc, arguments, image, input, output) {
         Ok(ended) => {
@@ -71,42 +75,27 @@ fn run_image<O: Write>(
     input: &[u8],
     output: &mut O,
 ) -> Result<Ended, Refusal>
-    ensures written { OnOk result (Appends (O.contents output.old) (O.contents output.new)
-        (run_of arguments.now.harts arguments.now.pages arguments.now.steps image.now input.now).written) }
-    ensures ended { IfOk result (λ e. e
-        ≡ (run_of arguments.now.harts arguments.now.pages arguments.now.steps image.now input.now).ended) }
-    ensures untouched { 4096 * arguments.now.pages < length image.now
+    ensures image { OnOk result (IsOk (image_of arguments.now.guest.raw image.now)) }
+    ensures written { OnOk result (IfOk (image_of arguments.now.guest.raw image.now) (λ i.
+        Appends (O.contents output.old) (O.contents output.new)
+            (run_of arguments.now.guest.harts arguments.now.guest.pages arguments.now.steps i input.now).written)) }
+    ensures ended { IfOk result (λ e. IfOk (image_of arguments.now.guest.raw image.now) (λ i.
+        e ≡ (run_of arguments.now.guest.harts arguments.now.guest.pages arguments.now.steps i input.now).ended)) }
+    ensures inside { OnOk result (IfOk (image_of arguments.now.guest.raw image.now) (λ i.
+        fits i.0 i.1 (4096 * arguments.now.guest.pages) ≡ true)) }
+    ensures fault { IsErr (image_of arguments.now.guest.raw image.now)
         → O.contents output.new ≡ O.contents output.old }
-    ensures outside { (result ≡ Err OutsideRam) ↔ (4096 * arguments.now.pages < length image.now) }
-    ensures told { IfErr result
-        (λ e. (e ≡ OutsideRam) ⊎ (e ≡ OutOfMemory) ⊎ (e ≡ LinkFault)) }
-    ensures memory { result ≡ Err OutOfMemory → O.contents output.new ≡ O.contents output.old }
+    ensures outside { IfOk (image_of arguments.now.guest.raw image.now) (λ i.
+        fits i.0 i.1 (4096 * arguments.now.guest.pages) ≡ false
+        → O.contents output.new ≡ O.contents output.old) }
 {
-    if image.len() as u64 > u64::from(PAGE_SIZE) * u64::from(arguments.pages) {
-        return Err(Refusal::OutsideRam);
-    }
-    let Ok(ram) = raw_memory(alloc, arguments.pages, image) else {
-        return Err(Refusal::OutOfMemory);
+    let program = match read_file(alloc, arguments.guest.raw, image) {
+        Ok(program) => program,
+        Err(error) => return Err(refusal_of(error)),
     };
-    let mut board = match Board::new(alloc, arguments.harts, ram, RAM_BASE) {
-        Ok(board) => board,
-        Err((BoardError::BadSize, _)) => return Err(Refusal::BadSize),
-        Err((BoardError::OutOfMemory, _)) => return Err(Refusal::OutOfMemory),
-    };
-    match run(&mut board, arguments.steps, input, output) {
+    let mut guest = new_guest(alloc, arguments.guest.harts, arguments.guest.pages, &program)?;
+    match run(&mut guest, arguments.steps, input, output) {
         Ok(ended) => Ok(ended),
         Err(_) => Err(Refusal::LinkFault),
     }
-}
-
-/// RAM of so many pages that begins with the bytes of an image; the rest is zeros.
-fn raw_memory(alloc: Global, pages: u32, image: &[u8]) -> Result<FlatMemory, AllocError>
-    requires pages { pages ≤ 4096 }
-    requires inside { length image.now ≤ 4096 * pages }
-    ensures { IfOk result (λ m. m.bytes ≡ ram_of pages image.now) }
-{
-    let mut ram = FlatMemory::zeroed(alloc, pages)?;
-    let placed = write_bytes(&mut ram, 0, image).is_ok();
-    prove!(placed);
-    Ok(ram)
 }

@@ -1,5 +1,5 @@
 -- The text of a word that stands at an address: a table from instructions to mnemonics and operands.
-use Rattle.std.specs.Prelude.{ℕ, List, Option, Some, None, codes}
+use Rattle.std.specs.Prelude.{ℕ, ◌++◌, List, Option, Some, None, codes}
 use Rattle.rvm_isa.specs.declared.ins.Ins.{Ins}
 use Rattle.rvm_isa.specs.declared.ins.Ins.TheVariants.{Lui, Auipc, Jal, Jalr, Beq, Bne, Blt, Bge}
 use Rattle.rvm_isa.specs.declared.ins.Ins.TheVariants.{Bltu, Bgeu, Lb, Lh, Lw, Lbu, Lhu, Sb, Sh}
@@ -13,6 +13,7 @@ use Rattle.rvm_isa.specs.declared.ins.Ins.TheVariants.{AmoswapW, AmoaddW, Amoxor
 use Rattle.rvm_isa.specs.declared.ins.Ins.TheVariants.{AmominW, AmomaxW, AmominuW, AmomaxuW}
 use Rattle.rvm_isa.specs.Table.{decoded}
 use Rattle.rvm_isa.specs.Words.{word_of}
+use Rattle.rvm_dis.specs.Pieces.{listed}
 use Rattle.rvm_dis.specs.Texts.{upper_text, jump_text, branch_text, access_text, immediate_text, shift_text, registers_text, csr_text, csr_immediate_text, load_reserved_text, atomic_text, word_text, fence_text}
 
 -- the text of an instruction; a fence has one only where it orders all accesses, and its fields are
@@ -95,3 +96,7 @@ text_of_decoded address word (Some ins) = text_of address ins
 -- the text of a word
 abbrev pub text_at : (address word : ℕ) → List ℕ
 text_at address word = text_of_decoded address word (decoded word)
+
+-- the line of a word in a listing
+abbrev pub line_at : (address word : ℕ) → List ℕ
+line_at address word = listed address word ++ text_at address word

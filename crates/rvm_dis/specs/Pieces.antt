@@ -30,3 +30,7 @@ ordered mnemonic false false = mnemonic
 ordered mnemonic true false = mnemonic ++ codes ".aq"
 ordered mnemonic false true = mnemonic ++ codes ".rl"
 ordered mnemonic true true = mnemonic ++ codes ".aqrl"
+
+-- an address and a word before a text
+abbrev pub listed : (address word : ℕ) → List ℕ
+listed address word = hex_digits 8 address ++ codes ": " ++ hex_digits 8 word ++ codes "  "

@@ -3,14 +3,16 @@
 //! Stands on the instruction table and the names of registers, and knows neither boards nor runs.
 //! Its law is told in terms of what a line of assembly means, which no code here uses.
 //!
-//! To be read in this order: `shapes`, `rows`, `laws`.
+//! To be read in this order: `shapes`, `rows`, `line`, `laws`.
 #![tactic(auto)]
 
 pub mod laws;
+mod line;
 mod rows;
 mod shapes;
 #[cfg(test)]
 mod tests;
 
+pub use line::write_line;
 pub use rows::write_ins;
 pub use shapes::LinkFault;

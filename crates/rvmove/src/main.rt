@@ -1,10 +1,15 @@
-//! `rvmove`: runs guests of a small RISC-V board. Reads the command line and the files, and calls
-//! the command.
+//! `rvmove`: assembles, disassembles and runs guests of a small RISC-V board. Reads the command
+//! line and the files, and calls the command.
 #![tactic(auto)]
 
-use rvm_command::arguments::{Arguments, RunArguments, parse_args};
+use rvm_command::arguments::{
+    Arguments, AsmArguments, DisArguments, RunArguments, parse_args,
+};
+use rvm_command::asm_command::asm_command;
+use rvm_command::dis_command::dis_command;
 use rvm_command::run_command::run_command;
 use rvm_refusal::Refusal;
+use std::fs::File;
 use std::process::ExitCode;
 use std::{env, fs};
 
@@ -12,6 +17,8 @@ fn main(rt: HostRuntime) -> anyhow::Result<ExitCode> {
     let words: Vec<String> = env::args(&rt)?.collect(rt.alloc())?;
     match parse_args(rt.alloc(), words.as_slice()) {
         Ok(Arguments::Run(arguments)) => run(&rt, &arguments),
+        Ok(Arguments::Asm(arguments)) => asm(&rt, &arguments),
+        Ok(Arguments::Dis(arguments)) => dis(&rt, &arguments),
         Err(error) => {
             error.print(&rt)?;
             Ok(ExitCode::from(if error.exit_code() == 0 { 0 } else { 2 }))
@@ -21,7 +28,7 @@ fn main(rt: HostRuntime) -> anyhow::Result<ExitCode> {
 
 /// Reads the files of `run`, in the order in which the command names them, and runs.
 fn run(rt: &HostRuntime, arguments: &RunArguments) -> anyhow::Result<ExitCode> {
-    let Ok(image) = fs::read(rt, arguments.image) else {
+    let Ok(image) = fs::read(rt, arguments.guest.image) else {
         return refuse(rt, Refusal::LinkFault);
     };
     let input = match arguments.input {
@@ -36,6 +43,38 @@ fn run(rt: &HostRuntime, arguments: &RunArguments) -> anyhow::Result<ExitCode> {
         arguments,
         image.as_slice(),
         input.as_slice(),
+        &mut rt.stdout(),
+        &mut rt.stderr(),
+    );
+    Ok(ExitCode::from(status))
+}
+
+/// Reads the text, opens the file that is written, and assembles.
+fn asm(rt: &HostRuntime, arguments: &AsmArguments) -> anyhow::Result<ExitCode> {
+    let Ok(source) = fs::read(rt, arguments.source) else {
+        return refuse(rt, Refusal::LinkFault);
+    };
+    let Ok(mut output) = File::create(rt, arguments.output) else {
+        return refuse(rt, Refusal::LinkFault);
+    };
+    let status = asm_command(
+        rt.alloc(),
+        source.as_slice(),
+        &mut output,
+        &mut rt.stderr(),
+    );
+    Ok(ExitCode::from(status))
+}
+
+/// Reads the image, and writes its lines.
+fn dis(rt: &HostRuntime, arguments: &DisArguments) -> anyhow::Result<ExitCode> {
+    let Ok(image) = fs::read(rt, arguments.image) else {
+        return refuse(rt, Refusal::LinkFault);
+    };
+    let status = dis_command(
+        rt.alloc(),
+        arguments,
+        image.as_slice(),
         &mut rt.stdout(),
         &mut rt.stderr(),
     );

@@ -1,14 +1,14 @@
 use Rattle.std.proofs.Common.{◌≡◌, ℕ, List, ◌++◌, length}
 use Rattle.std.specs.Io.KnownBytes.{Appends}
-use Rattle.rvm_board.specs.Board.{with_output}
+use Rattle.rvm_command.specs.Run.{with_sent}
 use Rattle.rvm_command.proofs.run.drain.Given as goal
 
 -- what was written so far, and what still waits, is what the guest sent
 abbrev pub invariant-loop-bytes : goal.invariant-loop-bytes
 invariant-loop-bytes g l =
     (bytes : List ℕ) × Appends (g.W.Write.contents l.fn.writer) (g.W.Write.contents l.writer) bytes
-    × (bytes ++ l.board.plain.reach.devices.output ≡ l.fn.board.plain.reach.devices.output)
-    × (l.board.plain ≡ with_output l.board.plain.reach.devices.output l.fn.board.plain)
+    × (bytes ++ l.guest.guest.board.reach.devices.output ≡ l.fn.guest.guest.board.reach.devices.output)
+    × (l.guest.guest ≡ with_sent l.guest.guest.board.reach.devices.output l.fn.guest.guest)
 
 abbrev pub decreases-loop-bytes : goal.decreases-loop-bytes
-decreases-loop-bytes g l = length l.board.plain.reach.devices.output
+decreases-loop-bytes g l = length l.guest.guest.board.reach.devices.output

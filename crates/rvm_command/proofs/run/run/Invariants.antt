@@ -8,8 +8,8 @@ abbrev pub invariant-loop-turn : goal.invariant-loop-turn
 invariant-loop-turn g l =
     record {
       next : l.next ≤ length l.input;
-      count : length l.board.plain.harts ≡ l.harts;
-      hart : l.hart ≡ l.turn % length l.board.plain.harts;
+      count : length l.guest.guest.board.harts ≡ l.harts;
+      hart : l.hart ≡ l.turn % length l.guest.guest.board.harts;
       whole : (bytes : List ℕ) × Appends (g.W.Write.contents l.fn.writer) (g.W.Write.contents l.writer) bytes
-          × (after_bytes bytes (ran (l.fn.steps - l.turn) l.turn (drop l.next l.input) l.board.plain) ≡ ran l.fn.steps 0 l.input l.fn.board.plain);
+          × (after_bytes bytes (ran (l.fn.steps - l.turn) l.turn (drop l.next l.input) l.guest.guest) ≡ ran l.fn.steps 0 l.input l.fn.guest.guest);
     }

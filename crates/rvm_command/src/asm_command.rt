@@ -1,0 +1,129 @@
+//! `rvmove asm`: from assembly text to an ELF file.
+
+ghost use Rattle.std.specs.Prelude.{◌≡◌, ◌⊎◌, IfOk};
+ghost use Rattle.std.specs.Io.KnownBytes.{Appends};
+ghost use Rattle.rvm_command.specs.Assembled.{IsFileOf};
+
+use rvm_asm::{AsmError, assemble};
+use rvm_elf::{WriteError, write_image};
+use rvm_line::Fault;
+use rvm_refusal::Refusal;
+use std::alloc::Global;
+use std::fmt;
+use std::io::Write;
+use std::str;
+
+/// Why a text was refused: a line of it, counted from 1, or none.
+#[derive(Clone, Copy, Debug, PartialEq, Eq)]
+struct Refused {
+    line: Option<usize>,
+    refusal: Refusal,
+}
+
+/// `line L: refused N NAME`, or `refused N NAME`.
+impl fmt::Display for Refused {
+    fn fmt<W: fmt::Write>(&self, f: &mut fmt::Formatter<W>) -> fmt::Result {
+        let refusal = self.refusal;
+        match self.line {
+            Some(line) => write!(f, "line {line}: {refusal}"),
+            None => write!(f, "{refusal}"),
+        }
+    }
+}
+
+/// Assembles `source` into an ELF file, which goes to `output`, and answers the status: 0, or 1
+/// where it was refused; then `errors` gets the refusal, with the line at which it stands. A text
+/// that is refused leaves `output` as it was; after `LinkFault`, where a write failed, a part of
+/// the file may have gone out.
+pub fn asm_command<O: Write, E: Write>(
+    alloc: Global,
+    source: &[u8],
+    output: &mut O,
+    errors: &mut E,
+) -> u8
+    ensures status { (result ≡ 0) ⊎ (result ≡ 1) }
+    ensures file { result ≡ 0 → (file : List ℕ) × IsFileOf source.now file
+        × Appends (O.contents output.old) (O.contents output.new) file }
+    ensures refused { (O.contents output.new ≡ O.contents output.old)
+        ⊎ ((file : List ℕ) × IsFileOf source.now file) }
+{
+    let told = match assembled(alloc, source) {
+        Ok(file) => {
+            if output.write_all(&file).is_ok() {
+                return 0;
+            }
+            Refused {
+                line: None,
+                refusal: Refusal::LinkFault,
+            }
+        }
+        Err(refused) => refused,
+    };
+    let _ = writeln!(errors, "{told}");
+    1
+}
+
+/// The ELF file of a text.
+fn assembled(alloc: Global, source: &[u8]) -> Result<Vec<u8>, Refused>
+    ensures { IfOk result (λ v. IsFileOf source.now v.items) }
+{
+    let text = match str::from_utf8(source) {
+        Ok(text) => text,
+        Err(error) => return Err(not_text(source, error.valid_up_to())),
+    };
+    let image = match assemble(alloc, text) {
+        Ok(image) => image,
+        Err(error) => return Err(of_text(error)),
+    };
+    match write_image(alloc, &image) {
+        Ok(file) => Ok(file),
+        Err(error) => Err(of_image(error)),
+    }
+}
+
+/// The refusal of a text that has a byte of no character at a place.
+fn not_text(source: &[u8], at: usize) -> Refused {
+    let before = source.iter().take(at).filter(|byte| **byte == b'\n').count();
+    Refused {
+        line: Some(before + 1),
+        refusal: Refusal::BadToken,
+    }
+}
+
+/// The refusal of a text that has no assembly.
+fn of_text(error: AsmError) -> Refused {
+    match error {
+        AsmError::OutOfMemory => Refused {
+            line: None,
+            refusal: Refusal::OutOfMemory,
+        },
+        AsmError::Line(line, fault) => Refused {
+            line: Some(line),
+            refusal: of_fault(fault),
+        },
+    }
+}
+
+/// The refusal of a fault of a line.
+fn of_fault(fault: Fault) -> Refusal {
+    match fault {
+        Fault::BadToken => Refusal::BadToken,
+        Fault::UnknownName => Refusal::UnknownName,
+        Fault::OutOfReach => Refusal::OutOfReach,
+        Fault::Defined => Refusal::Defined,
+        Fault::Overlap => Refusal::Overlap,
+    }
+}
+
+/// The refusal of an image that no file can hold.
+fn of_image(error: WriteError) -> Refused {
+    let refusal = match error {
+        WriteError::OutOfMemory => Refusal::OutOfMemory,
+        WriteError::TooMany => Refusal::TooMany,
+        WriteError::OutOfReach => Refusal::OutOfReach,
+    };
+    Refused {
+        line: None,
+        refusal,
+    }
+}

@@ -1,0 +1,94 @@
+//! `rvmove dis`: the lines of an image's words.
+
+ghost use Rattle.std.specs.Prelude.{◌≡◌, ◌⊎◌, ◌+◌, ◌%◌, ◌^◌, ◌++◌, codes, IfOk, IsErr, OnOk, drop};
+ghost use Rattle.std.specs.Io.KnownBytes.{Appends};
+ghost use Rattle.rvm_image.specs.Images.{pieces_of};
+ghost use Rattle.rvm_dis.specs.Disassembly.{line_at};
+ghost use Rattle.rvm_command.specs.Command.{before_word, image_of, listing, word_lines};
+
+use crate::arguments::DisArguments;
+use crate::guest::{read_file, refusal_of};
+use crate::run::LinkFault;
+use byteorder::{ByteOrder, LittleEndian};
+use rvm_dis::write_line;
+use rvm_image::Segment;
+use rvm_refusal::Refusal;
+use std::alloc::Global;
+use std::io::Write;
+
+/// Writes a line for each whole aligned word of the image's segments, one segment after the other:
+/// its address, the word, and the text of its instruction. Answers the status: 0, or 1 where it was
+/// refused; then `errors` gets the refusal: that of the file, `OutOfMemory`, or `LinkFault` where a
+/// write failed.
+pub fn dis_command<O: Write, E: Write>(
+    alloc: Global,
+    arguments: &DisArguments,
+    image: &[u8],
+    output: &mut O,
+    errors: &mut E,
+) -> u8
+    ensures status { (result ≡ 0) ⊎ (result ≡ 1) }
+    ensures lines { result ≡ 0 → IfOk (image_of arguments.now.raw image.now) (λ i.
+        Appends (O.contents output.old) (O.contents output.new) (listing i.1)) }
+    ensures fault { IsErr (image_of arguments.now.raw image.now)
+        → (result ≡ 1) × (O.contents output.new ≡ O.contents output.old) }
+{
+    let told = match read_file(alloc, arguments.raw, image) {
+        Ok(program) => match list(&program.segments, output) {
+            Ok(()) => return 0,
+            Err(_) => Refusal::LinkFault,
+        },
+        Err(error) => refusal_of(error),
+    };
+    let _ = writeln!(errors, "{told}");
+    1
+}
+
+/// Writes the lines of segments.
+fn list<O: Write>(segments: &[Segment], output: &mut O) -> Result<(), LinkFault>
+    ensures { OnOk result (Appends (O.contents output.old) (O.contents output.new)
+        (listing (pieces_of segments.now))) }
+{
+    for segment in segments {
+        list_segment(segment, output)?;
+    }
+    Ok(())
+}
+
+/// Writes the lines of a segment.
+fn list_segment<O: Write>(segment: &Segment, output: &mut O) -> Result<(), LinkFault>
+    ensures { OnOk result (Appends (O.contents output.old) (O.contents output.new)
+        (word_lines ((segment.now.address + before_word segment.now.address) % 2 ^ 32)
+            (drop (before_word segment.now.address) segment.now.bytes.items))) }
+{
+    let skipped = (4 - segment.address % 4) % 4;
+    let Some(words) = segment.bytes.get(skipped as usize..) else {
+        return Ok(());
+    };
+    list_words(segment.address.wrapping_add(skipped), words, output)
+}
+
+/// Writes the lines of the words of bytes that stand from an address on.
+fn list_words<O: Write>(address: u32, bytes: &[u8], output: &mut O) -> Result<(), LinkFault>
+    ensures { OnOk result (Appends (O.contents output.old) (O.contents output.new)
+        (word_lines address bytes.now)) }
+{
+    let mut address = address;
+    let mut bytes = bytes;
+    while bytes.len() >= 4 {
+        let (word, rest) = bytes.split_at(4);
+        list_word(address, LittleEndian::read_u32(word), output)?;
+        address = address.wrapping_add(4);
+        bytes = rest;
+    }
+    Ok(())
+}
+
+/// Writes the line of a word.
+fn list_word<O: Write>(address: u32, word: u32, output: &mut O) -> Result<(), LinkFault>
+    ensures { OnOk result (Appends (O.contents output.old) (O.contents output.new)
+        (line_at address word ++ codes "\n")) }
+{
+    let listed = write_line(address, word, output).is_ok() && writeln!(output).is_ok();
+    if listed { Ok(()) } else { Err(LinkFault) }
+}
