@@ -24,8 +24,10 @@ pub enum PagedError {
 /// A memory whose bytes are one block, with the set of its pages that were written.
 #[derive(Drop)]
 pub struct PagedRam {
-    bytes: Vec<u8>,
+    // The log stands first. Laid out as `FlatMemory` is, runs over the two memories are one function
+    // to the compiler, and a benchmark that compares them compares nothing.
     dirty: PageSet,
+    bytes: Vec<u8>,
 }
 
 impl Model for PagedRam {
@@ -106,7 +108,7 @@ impl PagedMemory for PagedRam {
     fn zeroed(alloc: Global, pages: u32) -> Result<PagedRam, AllocError> {
         let bytes = vec![in alloc; 0u8; pages as usize * PAGE_SIZE as usize]?;
         let dirty = PageSet::new(alloc, pages)?;
-        Ok(PagedRam { bytes, dirty })
+        Ok(PagedRam { dirty, bytes })
     }
 
     fn pages(&self) -> u32 {
