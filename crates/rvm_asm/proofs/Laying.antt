@@ -14,7 +14,7 @@ use Rattle.rvm_asm.specs.Views.{IsLaying}
 use Rattle.rvm_asm.specs.Refusals.{IsTwice, IsUnplaced, IsErrorOf, error_at}
 use Rattle.rvm_line.specs.declared.faults.LineError.{LineError}
 use Rattle.rvm_line.specs.declared.faults.LineError.TheVariants.{OutOfMemory, Faulty}
-use Rattle.rvm_line.specs.Views.{names_of}
+use Rattle.rvm_line.specs.Views.{names_of, definition_of}
 use Rattle.rvm_line.specs.declared.symbols.Symbol.{Symbol}
 use Rattle.rvm_asm.proofs.Names.{Kept, kept_by, next_kept}
 
@@ -114,14 +114,6 @@ laid_none lines ss places e p = record {
   each = λ i h. absurd (omega (arith, h));
   all = refl;
 }
-
-some_is : (o : Option ℕ) (x : ℕ) → o ≡ Some x → IsSome o
-some_is None x e = cc
-some_is (Some y) x e = search rules
-
--- a name that has a value is given again
-pub twice : (old : Names) (d : Option Definition) (n : List ℕ) (v w : ℕ) → d ≡ Some (n, v) → old n ≡ Some w → IsTwice old d
-twice old d n v w e f = ((n, v), e, some_is (old n) w f)
 
 -- a line that can't be placed behind those that are
 pub placing_error : (lines : List (List Lexeme)) (i : ℕ) (names new : Names) (places : List ℕ) (place : ℕ) (line : List Lexeme) (e : LineError) → i < length lines → IsLaidTo lines i names places → place ≡ get_or places i 0 → line ≡ line_at lines i → IsLaying names new place line (Err e) → IsErrorOf lines (error_at (i + 1) e)

@@ -17,7 +17,8 @@ use Rattle.rvm_asm.specs.Images.{IsTaken}
 
 -- a definition's name has a value already
 abbrev pub IsTwice : Names → Option Definition → Type 0
-IsTwice names d = (e : Definition) × (d ≡ Some e) × IsSome (names e.0)
+IsTwice names None = ⊥
+IsTwice names (Some d) = IsSome (names d.0)
 
 -- a line at a place has a fault under the names of earlier lines: in the place behind it, in what
 -- it defines, or since a name has a value; its own label counts for its `.equ`
