@@ -1,20 +1,18 @@
 -- What one line adds to the layout.
-use Rattle.std.proofs.Common.{◌≡◌, ℕ, zero, suc, ◌+◌, ◌<◌, ◌≤◌, List, [], ◌∷◌, ◌++◌, length, get_or, refl, ap, sym, ◌∙◌, Option, Some, None, Ok, Err, Bool, true, false, cond, arith, subst, rules, inl, inr, ⊎_elim, length-append}
-use Rattle.std.specs.Prelude.{◌⊎◌, ◌-◌, IsSome, nat_le, if◌then◌else◌}
+use Rattle.std.proofs.Common.{◌≡◌, ℕ, zero, suc, ◌+◌, ◌<◌, ◌≤◌, List, [], ◌∷◌, ◌++◌, length, get_or, refl, ap, sym, ◌∙◌, Option, None, Ok, Err, Bool, true, false, arith, subst, inl, inr, ⊎_elim, length-append}
+use Rattle.std.specs.Prelude.{◌⊎◌, ◌-◌, nat_le, if◌then◌else◌}
 use Rattle.std.proofs.lemmas.Bool.Decides.{nat_tests}
-use Rattle.std.specs.Str.{bytes_eq}
 use Rattle.std.proofs.lemmas.List.{get_or_append_left, get_or_at}
-use Rattle.std.proofs.lemmas.Slice.Eq.{bytes_eq-Decides}
 use Rattle.std.proofs.str.Laws.{order}
 use Rattle.rvm_text.specs.Lexemes.{Lexeme}
 use Rattle.rvm_line.specs.Values.{Names}
 use Rattle.rvm_line.specs.Statements.{Definition, label_of, next_place, equ_at}
 use Rattle.rvm_asm.specs.Assembly.{Takes, Lays, IsLaidTo, line_at}
-use Rattle.rvm_asm.specs.Views.{IsLaying}
-use Rattle.rvm_asm.specs.Refusals.{IsTwice, IsUnplaced, IsErrorOf, error_at}
+use Rattle.rvm_asm.specs.Views.{IsDefining, IsLaying}
+use Rattle.rvm_asm.specs.Refusals.{IsUnplaced, IsErrorOf, error_at}
 use Rattle.rvm_line.specs.declared.faults.LineError.{LineError}
 use Rattle.rvm_line.specs.declared.faults.LineError.TheVariants.{OutOfMemory, Faulty}
-use Rattle.rvm_line.specs.Views.{names_of, definition_of}
+use Rattle.rvm_line.specs.Views.{names_of}
 use Rattle.rvm_line.specs.declared.symbols.Symbol.{Symbol}
 use Rattle.rvm_asm.proofs.Names.{Kept, kept_by, next_kept}
 
@@ -114,6 +112,12 @@ laid_none lines ss places e p = record {
   each = λ i h. absurd (omega (arith, h));
   all = refl;
 }
+
+-- what a line's statement defines had a value
+pub twice : (old mid new : Names) (place : ℕ) (line : List Lexeme) (d : Option Definition) (q : Option Definition × List Lexeme) (e : LineError) → q ≡ label_of place line → Ok d ≡ equ_at old q.1 → Takes old mid q.0 → IsDefining mid new d (Err e) → IsLaying old new place line (Err e)
+twice old mid new place line d q OutOfMemory p equ first h = tt
+twice old mid new place line d q (Faulty f) p equ first h =
+    inr (inr (inr (h.0, (mid, d, subst (λ (x : Option Definition × List Lexeme). Takes old mid x.0) p first, ap (λ (x : Option Definition × List Lexeme). equ_at old x.1) (sym p) ∙ sym equ, h.1))))
 
 -- a line that can't be placed behind those that are
 pub placing_error : (lines : List (List Lexeme)) (i : ℕ) (names new : Names) (places : List ℕ) (place : ℕ) (line : List Lexeme) (e : LineError) → i < length lines → IsLaidTo lines i names places → place ≡ get_or places i 0 → line ≡ line_at lines i → IsLaying names new place line (Err e) → IsErrorOf lines (error_at (i + 1) e)

@@ -1,6 +1,6 @@
 -- When an image is the assembly of a text: each line is laid out under the names of the lines
 -- before it, and its bytes under the names of all lines stand at its place, and no others.
-use Rattle.std.specs.Prelude.{◌≡◌, ℕ, ◌+◌, ◌^◌, ◌<◌, ◌≤◌, List, [], Option, Some, None, Ok}
+use Rattle.std.specs.Prelude.{◌≡◌, ℕ, ◌+◌, ◌^◌, ◌<◌, List, [], Option, Some, None, Ok}
 use Rattle.std.specs.Prelude.{length, map, slice_index, slice_index_or, IsSome, if◌then◌else◌, codes}
 use Rattle.std.specs.Str.{bytes_eq}
 use Rattle.std.specs.Str.Lines.{lines}
