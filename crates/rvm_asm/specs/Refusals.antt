@@ -1,5 +1,6 @@
 -- At which line a fault stands.
-use Rattle.std.specs.Prelude.{◌≡◌, ℕ, ◌+◌, ◌<◌, List, Option, Some, None, Ok, Err, length, slice_index, slice_index_or, IsSome, [], ◌⊎◌}
+use Rattle.std.specs.Prelude.{◌≡◌, ℕ, ◌+◌, ◌<◌, List, Option, Some, None, Ok, Err, length}
+use Rattle.std.specs.Prelude.{slice_index, slice_index_or, IsSome, [], ◌⊎◌}
 use Rattle.std.specs.Str.Lines.{lines}
 use Rattle.rvm_text.specs.Lexemes.{Lexeme, lexemes}
 use Rattle.rvm_line.specs.declared.faults.Fault.{Fault}
@@ -11,7 +12,8 @@ use Rattle.rvm_line.specs.Statements.{Definition, label_of, next_place, equ_at}
 use Rattle.rvm_line.specs.Values.{Names}
 use Rattle.rvm_asm.specs.declared.error.AsmError.{AsmError}
 use Rattle.rvm_asm.specs.declared.error.AsmError.TheVariants.{OutOfMemory, Line}
-use Rattle.rvm_asm.specs.Assembly.{statement_of, line_at, IsLaidTo, IsLaid, IsImageTo, BytesOf, AreRead, Takes}
+use Rattle.rvm_asm.specs.Assembly.{statement_of, line_at, IsLaidTo, IsLaid, IsImageTo, BytesOf}
+use Rattle.rvm_asm.specs.Assembly.{AreRead, Takes}
 use Rattle.rvm_image.specs.Images.{Piece}
 use Rattle.rvm_asm.specs.Images.{IsTaken}
 
@@ -27,7 +29,8 @@ IsUnplaced names place line fault =
     (next_place names place (statement_of place line) ≡ Err fault)
     ⊎ ((equ_at names (statement_of place line) ≡ Err fault)
     ⊎ (((fault ≡ Defined) × IsTwice names (label_of place line).0)
-    ⊎ ((fault ≡ Defined) × ((mid : Names) × (e : Option Definition) × Takes names mid (label_of place line).0
+    ⊎ ((fault ≡ Defined) × ((mid : Names) × (e : Option Definition)
+    × Takes names mid (label_of place line).0
     × (equ_at names (statement_of place line) ≡ Ok e) × IsTwice mid e))))
 
 -- a line has a fault under names and places that fit all lines before it
@@ -41,8 +44,10 @@ HasPlacingFault all i fault =
 abbrev pub HasBytesFault : List (List Lexeme) → ℕ → Fault → Type 0
 HasBytesFault all i fault =
     (names : Names) × (places : List ℕ) × IsLaid all names places
-    × ((bytes_at names (slice_index places i) (statement_of (slice_index places i) (line_at all i)) ≡ Err fault)
-    ⊎ ((fault ≡ Overlap) × ((image : List Piece) × (bs : List ℕ) × IsImageTo all i names places image
+    × ((bytes_at names (slice_index places i) (statement_of (slice_index places i) (line_at all i))
+    ≡ Err fault)
+    ⊎ ((fault ≡ Overlap) × ((image : List Piece) × (bs : List ℕ)
+    × IsImageTo all i names places image
     × BytesOf all names places i bs × IsTaken image (slice_index places i) (length bs))))
 
 -- a fault of the lines stands at the line with an index
@@ -72,4 +77,5 @@ IsReadError texts (Line number fault) = (i : ℕ) × (number ≡ i + 1) × IsUnr
 -- an error of a text: memory ran out, or the fault stands at the line with that number
 abbrev pub IsError : List ℕ → AsmError → Type 0
 IsError text e =
-    IsReadError (lines text) e ⊎ ((all : List (List Lexeme)) × AreRead (lines text) all × IsErrorOf all e)
+    IsReadError (lines text) e
+    ⊎ ((all : List (List Lexeme)) × AreRead (lines text) all × IsErrorOf all e)

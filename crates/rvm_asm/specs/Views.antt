@@ -1,5 +1,6 @@
 -- What the code's values stand for.
-use Rattle.std.specs.Prelude.{◌≡◌, ℕ, ◌+◌, ◌^◌, ◌≤◌, List, [], Option, map, Result, Ok, Err, ◌⊎◌, Vec, length}
+use Rattle.std.specs.Prelude.{◌≡◌, ℕ, ◌+◌, ◌^◌, ◌≤◌, List, [], Option, map, Result, Ok, Err, ◌⊎◌}
+use Rattle.std.specs.Prelude.{Vec, length}
 use denote.Ref.{Bor}
 use Rattle.std.specs.declared.alloc.Global.{Global}
 use Rattle.rvm_text.specs.Lexemes.{Lexeme}
@@ -43,7 +44,8 @@ Fits names place line =
     → (bs ≡ []) ⊎ (place + length bs ≤ 2 ^ 32)
 
 -- a line's bytes join an image where none stood
-pub record Puts (old new : List Piece) (names : Names) (place : ℕ) (line : List Lexeme) : Type 0 where
+pub record Puts (old new : List Piece) (names : Names) (place : ℕ) (line : List Lexeme)
+    : Type 0 where
   pub bytes : List ℕ
   pub of_line : bytes_at names place (statement_of place line) ≡ Ok bytes
   pub free : IsFree old place (length bytes)
@@ -53,10 +55,12 @@ pub record Puts (old new : List Piece) (names : Names) (place : ℕ) (line : Lis
 abbrev pub IsUnput : List Piece → Names → (place : ℕ) → List Lexeme → Fault → Type 0
 IsUnput image names place line fault =
     (bytes_at names place (statement_of place line) ≡ Err fault)
-    ⊎ ((fault ≡ Overlap) × ((bs : List ℕ) × (bytes_at names place (statement_of place line) ≡ Ok bs) × IsTaken image place (length bs)))
+    ⊎ ((fault ≡ Overlap) × ((bs : List ℕ)
+    × (bytes_at names place (statement_of place line) ≡ Ok bs) × IsTaken image place (length bs)))
 
 -- a line's bytes join an image, or it has a fault
-abbrev pub IsPutting : List Piece → List Piece → Names → ℕ → List Lexeme → Result (Unit {0}) LineError → Type 0
+abbrev pub IsPutting : List Piece → List Piece → Names → ℕ → List Lexeme
+    → Result (Unit {0}) LineError → Type 0
 IsPutting old new names place line (Ok done) = Puts old new names place line
 IsPutting old new names place line (Err line_error.OutOfMemory) = Unit {0}
 IsPutting old new names place line (Err (line_error.Faulty f)) = IsUnput old names place line f
