@@ -12,7 +12,7 @@ use Rattle.rvm_line.specs.Statements.{Definition, label_of, next_place, equ_at}
 use Rattle.rvm_line.specs.Values.{Names}
 use Rattle.rvm_asm.specs.declared.error.AsmError.{AsmError}
 use Rattle.rvm_asm.specs.declared.error.AsmError.TheVariants.{OutOfMemory, Line}
-use Rattle.rvm_asm.specs.Assembly.{statement_of, line_at, IsLaidTo, IsLaid, IsImageTo, BytesOf}
+use Rattle.rvm_asm.specs.Assembly.{statement_of, line_at, IsLaidTo, IsLaid, IsImageTo}
 use Rattle.rvm_asm.specs.Assembly.{AreRead, Takes}
 use Rattle.rvm_image.specs.Images.{Piece}
 use Rattle.rvm_asm.specs.Images.{IsTaken}
@@ -39,25 +39,29 @@ HasPlacingFault all i fault =
     (names : Names) × (places : List ℕ) × IsLaidTo all i names places
     × IsUnplaced names (slice_index places i) (line_at all i) fault
 
--- a line has a fault in its bytes, or a byte of an earlier line stands at its place, under names
--- and places that fit all lines
+-- a line's bytes can't join an image: it has a fault, or a byte stands there
+abbrev pub IsUnput : List Piece → Names → (place : ℕ) → List Lexeme → Fault → Type 0
+IsUnput image names place line fault =
+    (bytes_at names place (statement_of place line) ≡ Err fault)
+    ⊎ ((fault ≡ Overlap) × ((bs : List ℕ)
+    × (bytes_at names place (statement_of place line) ≡ Ok bs) × IsTaken image place (length bs)))
+
+-- a line's bytes can't join those of all lines before it, under names and places that fit all lines
 abbrev pub HasBytesFault : List (List Lexeme) → ℕ → Fault → Type 0
 HasBytesFault all i fault =
-    (names : Names) × (places : List ℕ) × IsLaid all names places
-    × ((bytes_at names (slice_index places i) (statement_of (slice_index places i) (line_at all i))
-    ≡ Err fault)
-    ⊎ ((fault ≡ Overlap) × ((image : List Piece) × (bs : List ℕ)
+    (names : Names) × (places : List ℕ) × (image : List Piece) × IsLaid all names places
     × IsImageTo all i names places image
-    × BytesOf all names places i bs × IsTaken image (slice_index places i) (length bs))))
+    × IsUnput image names (slice_index places i) (line_at all i) fault
 
 -- a fault of the lines stands at the line with an index
 abbrev pub HasFault : List (List Lexeme) → ℕ → Fault → Type 0
 HasFault all i fault = (i < length all) × (HasPlacingFault all i fault ⊎ HasBytesFault all i fault)
 
--- a line is not in the grammar
+-- a line is the first that is not in the grammar
 abbrev pub IsUnread : List (List ℕ) → ℕ → Fault → Type 0
 IsUnread texts i fault =
     (i < length texts) × (fault ≡ BadToken) × (lexemes (slice_index_or texts i []) ≡ None)
+    × ((j : ℕ) → j < i → IsSome (lexemes (slice_index_or texts j [])))
 
 -- the error of a line as one of the text
 abbrev pub error_at : ℕ → LineError → AsmError
