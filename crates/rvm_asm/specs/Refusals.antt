@@ -1,5 +1,5 @@
 -- At which line a fault stands.
-use Rattle.std.specs.Prelude.{◌≡◌, ℕ, ◌+◌, ◌<◌, List, Option, Some, None, Ok, Err, length}
+use Rattle.std.specs.Prelude.{◌≡◌, ℕ, ◌+◌, ◌<◌, List, Option, Some, None, Result, Ok, Err, length}
 use Rattle.std.specs.Prelude.{slice_index, slice_index_or, IsSome, [], ◌⊎◌}
 use Rattle.std.specs.Str.Lines.{lines}
 use Rattle.rvm_text.specs.Lexemes.{Lexeme, lexemes}
@@ -8,6 +8,7 @@ use Rattle.rvm_line.specs.declared.faults.Fault.TheVariants.{BadToken, Defined, 
 use Rattle.rvm_line.specs.declared.faults.LineError.{LineError}
 use Rattle.rvm_line.specs.declared.faults.LineError.TheVariants as line_error
 use Rattle.rvm_line.specs.Contents.{bytes_at}
+use Rattle.rvm_line.specs.Reading.{◌>>=◌}
 use Rattle.rvm_line.specs.Statements.{Definition, label_of, next_place, equ_at}
 use Rattle.rvm_line.specs.Values.{Names}
 use Rattle.rvm_asm.specs.declared.error.AsmError.{AsmError}
@@ -22,16 +23,19 @@ abbrev pub IsTwice : Names → Option Definition → Type 0
 IsTwice names None = ⊥
 IsTwice names (Some d) = IsSome (names d.0)
 
--- a line at a place has a fault under the names of earlier lines: in the place behind it, in what
--- it defines, or since a name has a value; its own label counts for its `.equ`
+-- what a statement defines, if the place behind it is in reach
+abbrev pub defined_at : Names → (place : ℕ) → List Lexeme → Result (Option Definition) Fault
+defined_at names place ts = next_place names place ts >>= λ after. equ_at names ts
+
+-- a line at a place has a fault under the names of earlier lines: in its statement, or else since
+-- its label or what the statement defines beside it has a value
 abbrev pub IsUnplaced : Names → (place : ℕ) → List Lexeme → Fault → Type 0
 IsUnplaced names place line fault =
-    (next_place names place (statement_of place line) ≡ Err fault)
-    ⊎ ((equ_at names (statement_of place line) ≡ Err fault)
-    ⊎ (((fault ≡ Defined) × IsTwice names (label_of place line).0)
-    ⊎ ((fault ≡ Defined) × ((mid : Names) × (e : Option Definition)
-    × Takes names mid (label_of place line).0
-    × (equ_at names (statement_of place line) ≡ Ok e) × IsTwice mid e))))
+    (defined_at names place (statement_of place line) ≡ Err fault)
+    ⊎ ((fault ≡ Defined) × ((d : Option Definition)
+    × (defined_at names place (statement_of place line) ≡ Ok d)
+    × (IsTwice names (label_of place line).0
+    ⊎ ((mid : Names) × Takes names mid (label_of place line).0 × IsTwice mid d))))
 
 -- a line has a fault under names and places that fit all lines before it
 abbrev pub HasPlacingFault : List (List Lexeme) → ℕ → Fault → Type 0

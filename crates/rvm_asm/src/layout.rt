@@ -44,7 +44,7 @@ pub fn lay_out<'a>(alloc: Global, lines: &[Vec<Token<'a>>]) -> Result<Layout<'a>
 }
 
 /// Adds what a line at a place defines, and answers the place behind it.
-#[tactic(auto, using(crate::proofs::Laying::lays_from, crate::proofs::Laying::twice))]
+#[tactic(auto, using(crate::proofs::Laying::layings))]
 fn lay_line<'a>(
     symbols: &mut Vec<Symbol<'a>>,
     place: u64,
