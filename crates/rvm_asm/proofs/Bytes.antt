@@ -14,8 +14,8 @@ use Rattle.rvm_image.specs.declared.image.Segment.{Segment}
 use Rattle.rvm_image.specs.Images.{Piece, piece, size, in_piece, byte_at, or_else, piece_of, pieces_of}
 use Rattle.rvm_asm.specs.Assembly.{BytesOf, IsImageTo, IsImage, IsLaid, line_at}
 use Rattle.rvm_asm.specs.Images.{HasAt, IsWithin, IsFree, IsTaken, Joins, HasSameBytes}
-use Rattle.rvm_asm.specs.Views.{Fits, Puts, IsUnput, IsPutting}
-use Rattle.rvm_asm.specs.Refusals.{IsErrorOf, error_at}
+use Rattle.rvm_asm.specs.Views.{Fits, Puts, IsPutting}
+use Rattle.rvm_asm.specs.Refusals.{IsUnput, IsErrorOf, error_at}
 use Rattle.rvm_line.specs.declared.faults.LineError.{LineError}
 use Rattle.rvm_line.specs.declared.faults.LineError.TheVariants.{OutOfMemory, Faulty}
 use Rattle.rvm_asm.proofs.Laying.{below_or_at, next_known}
@@ -278,7 +278,7 @@ pub bytes_error : (lines : List (List Lexeme)) (i : ℕ) (names : Names) (places
 bytes_error lines i names places image new place line OutOfMemory inside laid images at is h = tt
 bytes_error lines i names places image new place line (Faulty f) inside laid images at is h =
     let there : IsUnput image names (get_or places i 0) (line_at lines i) f = subst (λ p. IsUnput image names p (line_at lines i) f) at (subst (λ l. IsUnput image names place l f) is h) in
-    (i, refl, (inside, inr (names, places, laid, ⊎_elim inl (λ o. inr (o.0, (image, o.1.0, images, o.1.1, o.1.2))) there)))
+    (i, refl, (inside, inr (names, places, image, laid, images, there)))
 
 -- bytes behind the last of the segments
 pub append_last : (old rest new : List Segment) (last longest : Segment) (address : ℕ) (bs : List ℕ) → old ≡ rest ++ last ∷ [] → new ≡ rest ++ longest ∷ [] → piece_of longest ≡ piece last.address (last.bytes.items ++ bs) → last.zeros ≡ 0 → address ≡ last.address + length last.bytes.items → Joins (pieces_of old) (pieces_of new) (piece address bs)

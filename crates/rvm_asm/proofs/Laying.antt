@@ -1,17 +1,17 @@
 -- What one line adds to the layout.
-use Rattle.std.proofs.Common.{◌≡◌, ℕ, zero, suc, ◌+◌, ◌<◌, ◌≤◌, List, [], ◌∷◌, ◌++◌, length, get_or, refl, ap, sym, ◌∙◌, Option, Some, None, Ok, Err, Bool, true, false, cond, arith, subst, rules, inl, inr, ⊎_elim, length-append}
-use Rattle.std.specs.Prelude.{◌⊎◌, ◌-◌, IsSome, nat_le, if◌then◌else◌}
+use Rattle.std.proofs.Common.{◌≡◌, ℕ, zero, suc, ◌+◌, ◌<◌, ◌≤◌, List, [], ◌∷◌, ◌++◌, length, get_or, refl, ap, sym, ◌∙◌, Option, None, Result, Ok, Err, Bool, true, false, arith, subst, inl, inr, ⊎_elim, length-append}
+use Rattle.std.specs.Prelude.{◌⊎◌, ◌-◌, nat_le, if◌then◌else◌}
 use Rattle.std.proofs.lemmas.Bool.Decides.{nat_tests}
-use Rattle.std.specs.Str.{bytes_eq}
 use Rattle.std.proofs.lemmas.List.{get_or_append_left, get_or_at}
-use Rattle.std.proofs.lemmas.Slice.Eq.{bytes_eq-Decides}
 use Rattle.std.proofs.str.Laws.{order}
 use Rattle.rvm_text.specs.Lexemes.{Lexeme}
+use Rattle.rvm_line.specs.declared.faults.Fault.{Fault}
+use Rattle.rvm_line.specs.Reading.{◌>>=◌}
 use Rattle.rvm_line.specs.Values.{Names}
 use Rattle.rvm_line.specs.Statements.{Definition, label_of, next_place, equ_at}
 use Rattle.rvm_asm.specs.Assembly.{Takes, Lays, IsLaidTo, line_at}
-use Rattle.rvm_asm.specs.Views.{IsLaying}
-use Rattle.rvm_asm.specs.Refusals.{IsTwice, IsUnplaced, IsErrorOf, error_at}
+use Rattle.rvm_asm.specs.Views.{IsDefining, IsLaying}
+use Rattle.rvm_asm.specs.Refusals.{IsTwice, IsUnplaced, IsErrorOf, error_at, defined_at}
 use Rattle.rvm_line.specs.declared.faults.LineError.{LineError}
 use Rattle.rvm_line.specs.declared.faults.LineError.TheVariants.{OutOfMemory, Faulty}
 use Rattle.rvm_line.specs.Views.{names_of}
@@ -115,13 +115,35 @@ laid_none lines ss places e p = record {
   all = refl;
 }
 
-some_is : (o : Option ℕ) (x : ℕ) → o ≡ Some x → IsSome o
-some_is None x e = cc
-some_is (Some y) x e = search rules
+-- what a line defines, from what `label` answers
+defined : {r : Result (Option Definition) Fault} (old : Names) (place after : ℕ) (line : List Lexeme) (q : Option Definition × List Lexeme) → q ≡ label_of place line → Ok after ≡ next_place old place q.1 → r ≡ equ_at old q.1 → defined_at old place (label_of place line).1 ≡ r
+defined old place after line q p next equ =
+    ap (λ (x : Option Definition × List Lexeme). next_place old place x.1 >>= λ y. equ_at old x.1) (sym p)
+    ∙ ap (λ x. x >>= λ y. equ_at old q.1) (sym next) ∙ sym equ
 
--- a name that has a value is given again
-pub twice : (old : Names) (d : Option Definition) (n : List ℕ) (v w : ℕ) → d ≡ Some (n, v) → old n ≡ Some w → IsTwice old d
-twice old d n v w e f = ((n, v), e, some_is (old n) w f)
+-- the place behind a line has a fault
+pub next_fault : (old new : Names) (place : ℕ) (line : List Lexeme) (q : Option Definition × List Lexeme) (f : Fault) → q ≡ label_of place line → Err f ≡ next_place old place q.1 → IsLaying old new place line (Err (Faulty f))
+next_fault old new place line q f p next =
+    inl (ap (λ (x : Option Definition × List Lexeme). next_place old place x.1 >>= λ y. equ_at old x.1) (sym p)
+    ∙ ap (λ x. x >>= λ y. equ_at old q.1) (sym next))
+
+-- what a line's statement defines has a fault
+pub equ_fault : (old new : Names) (place after : ℕ) (line : List Lexeme) (q : Option Definition × List Lexeme) (f : Fault) → q ≡ label_of place line → Ok after ≡ next_place old place q.1 → Err f ≡ equ_at old q.1 → IsLaying old new place line (Err (Faulty f))
+equ_fault old new place after line q f p next equ = inl (defined old place after line q p next equ)
+
+-- a line's label had a value
+pub label_twice : (old mid new : Names) (place after : ℕ) (line : List Lexeme) (d : Option Definition) (q : Option Definition × List Lexeme) (e : LineError) → q ≡ label_of place line → Ok after ≡ next_place old place q.1 → Ok d ≡ equ_at old q.1 → IsDefining old mid q.0 (Err e) → IsLaying old new place line (Err e)
+label_twice old mid new place after line d q OutOfMemory p next equ h = tt
+label_twice old mid new place after line d q (Faulty f) p next equ h =
+    inr (h.0, (d, defined old place after line q p next equ, inl (subst (λ (x : Option Definition × List Lexeme). IsTwice old x.0) p h.1)))
+
+-- what a line's statement defines had a value
+pub twice : (old mid new : Names) (place after : ℕ) (line : List Lexeme) (d : Option Definition) (q : Option Definition × List Lexeme) (e : LineError) → q ≡ label_of place line → Ok after ≡ next_place old place q.1 → Ok d ≡ equ_at old q.1 → Takes old mid q.0 → IsDefining mid new d (Err e) → IsLaying old new place line (Err e)
+twice old mid new place after line d q OutOfMemory p next equ first h = tt
+twice old mid new place after line d q (Faulty f) p next equ first h =
+    inr (h.0, (d, defined old place after line q p next equ, inr (mid, subst (λ (x : Option Definition × List Lexeme). Takes old mid x.0) p first, h.1)))
+
+pub ruleset layings = (lays_from, next_fault, equ_fault, label_twice, twice)
 
 -- a line that can't be placed behind those that are
 pub placing_error : (lines : List (List Lexeme)) (i : ℕ) (names new : Names) (places : List ℕ) (place : ℕ) (line : List Lexeme) (e : LineError) → i < length lines → IsLaidTo lines i names places → place ≡ get_or places i 0 → line ≡ line_at lines i → IsLaying names new place line (Err e) → IsErrorOf lines (error_at (i + 1) e)

@@ -2,3 +2,4 @@ pub mod Bytes
 pub mod Laying
 pub mod Names
 pub mod Order
+pub mod Reading

@@ -13,10 +13,10 @@ use Rattle.rvm_line.specs.declared.statements.Keyword.TheVariants as k
 use Rattle.rvm_line.specs.declared.statements.Code.{Code}
 use Rattle.rvm_line.specs.declared.statements.Code.TheVariants as c
 use Rattle.rvm_line.specs.declared.values.Half.{Half}
-use Rattle.rvm_line.specs.Reading.{◌>>=◌, known, only_if, ended, mark_at, name_at, register_comma}
+use Rattle.rvm_line.specs.Reading.{◌>>=◌, known, only_if, ended, register_comma}
 use Rattle.rvm_line.specs.Values.{Names, value_at, simple_at, sum_at, number_at, last_value, half_at, chosen, closed}
 use Rattle.rvm_line.specs.Instructions.{li_at, li_size}
-use Rattle.rvm_line.specs.Statements.{Definition, space_at, balign_at, is_alignment, padding, advanced, size_of, place_after, next_place, equ_of, equ_at, keyword_at}
+use Rattle.rvm_line.specs.Statements.{Definition, space_at, balign_at, is_alignment, padding, advanced, size_of, place_after, next_place, keyword_at}
 use Rattle.rvm_line.specs.Views.{names_of}
 use Rattle.rvm_asm.specs.Assembly.{Takes}
 

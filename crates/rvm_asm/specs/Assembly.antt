@@ -1,7 +1,8 @@
 -- When an image is the assembly of a text: each line is laid out under the names of the lines
 -- before it, and its bytes under the names of all lines stand at its place, and no others.
-use Rattle.std.specs.Prelude.{◌≡◌, ℕ, ◌+◌, ◌^◌, ◌<◌, ◌≤◌, List, [], Option, Some, None, Ok}
-use Rattle.std.specs.Prelude.{length, map, slice_index, slice_index_or, IsSome, if◌then◌else◌, codes}
+use Rattle.std.specs.Prelude.{◌≡◌, ℕ, ◌+◌, ◌^◌, ◌<◌, List, [], Option, Some, None, Ok}
+use Rattle.std.specs.Prelude.{length, map, slice_index, slice_index_or, IsSome, if◌then◌else◌}
+use Rattle.std.specs.Prelude.{codes}
 use Rattle.std.specs.Str.{bytes_eq}
 use Rattle.std.specs.Str.Lines.{lines}
 use Rattle.rvm_text.specs.Lexemes.{Lexeme, lexemes}
@@ -44,7 +45,8 @@ pub record IsLaidTo (lines : List (List Lexeme)) (count : ℕ) (names : Names) (
   pub known : ℕ → Names
   pub none : (n : List ℕ) → known 0 n ≡ None
   pub each : (i : ℕ) → i < count
-      → Lays (known i) (known (i + 1)) (slice_index places i) (slice_index places (i + 1)) (line_at lines i)
+      → Lays (known i) (known (i + 1)) (slice_index places i) (slice_index places (i + 1))
+      (line_at lines i)
   pub all : known count ≡ names
 
 -- the same for all lines
@@ -54,7 +56,8 @@ IsLaid lines names places = IsLaidTo lines (length lines) names places
 -- the bytes of the line with an index at its place
 abbrev pub BytesOf : List (List Lexeme) → Names → List ℕ → ℕ → List ℕ → Type 0
 BytesOf lines names places i bs =
-    bytes_at names (slice_index places i) (statement_of (slice_index places i) (line_at lines i)) ≡ Ok bs
+    bytes_at names (slice_index places i) (statement_of (slice_index places i) (line_at lines i))
+    ≡ Ok bs
 
 -- the bytes of each of the first lines stand at its place, each byte is one of them, and no two
 -- lines have a byte at one address

@@ -1,5 +1,6 @@
 -- What the assembler says of the pieces of an image.
-use Rattle.std.specs.Prelude.{◌≡◌, ℕ, ◌+◌, ◌<◌, ◌≤◌, List, [], ◌∷◌, Some, None, length, slice_index, IsSome}
+use Rattle.std.specs.Prelude.{◌≡◌, ℕ, ◌+◌, ◌<◌, ◌≤◌, List, [], ◌∷◌, Some, None, length, slice_index}
+use Rattle.std.specs.Prelude.{IsSome}
 use Rattle.rvm_image.specs.Images.{Piece, in_piece, or_else, byte_at}
 
 -- so many bytes from a place on are these

@@ -1,5 +1,6 @@
 -- At which line a fault stands.
-use Rattle.std.specs.Prelude.{◌≡◌, ℕ, ◌+◌, ◌<◌, List, Option, Some, None, Ok, Err, length, slice_index, slice_index_or, IsSome, [], ◌⊎◌}
+use Rattle.std.specs.Prelude.{◌≡◌, ℕ, ◌+◌, ◌<◌, List, Option, Some, None, Result, Ok, Err, length}
+use Rattle.std.specs.Prelude.{slice_index, slice_index_or, IsSome, [], ◌⊎◌}
 use Rattle.std.specs.Str.Lines.{lines}
 use Rattle.rvm_text.specs.Lexemes.{Lexeme, lexemes}
 use Rattle.rvm_line.specs.declared.faults.Fault.{Fault}
@@ -7,27 +8,34 @@ use Rattle.rvm_line.specs.declared.faults.Fault.TheVariants.{BadToken, Defined, 
 use Rattle.rvm_line.specs.declared.faults.LineError.{LineError}
 use Rattle.rvm_line.specs.declared.faults.LineError.TheVariants as line_error
 use Rattle.rvm_line.specs.Contents.{bytes_at}
+use Rattle.rvm_line.specs.Reading.{◌>>=◌}
 use Rattle.rvm_line.specs.Statements.{Definition, label_of, next_place, equ_at}
 use Rattle.rvm_line.specs.Values.{Names}
 use Rattle.rvm_asm.specs.declared.error.AsmError.{AsmError}
 use Rattle.rvm_asm.specs.declared.error.AsmError.TheVariants.{OutOfMemory, Line}
-use Rattle.rvm_asm.specs.Assembly.{statement_of, line_at, IsLaidTo, IsLaid, IsImageTo, BytesOf, AreRead, Takes}
+use Rattle.rvm_asm.specs.Assembly.{statement_of, line_at, IsLaidTo, IsLaid, IsImageTo}
+use Rattle.rvm_asm.specs.Assembly.{AreRead, Takes}
 use Rattle.rvm_image.specs.Images.{Piece}
 use Rattle.rvm_asm.specs.Images.{IsTaken}
 
 -- a definition's name has a value already
 abbrev pub IsTwice : Names → Option Definition → Type 0
-IsTwice names d = (e : Definition) × (d ≡ Some e) × IsSome (names e.0)
+IsTwice names None = ⊥
+IsTwice names (Some d) = IsSome (names d.0)
 
--- a line at a place has a fault under the names of earlier lines: in the place behind it, in what
--- it defines, or since a name has a value; its own label counts for its `.equ`
+-- what a statement defines, if the place behind it is in reach
+abbrev pub defined_at : Names → (place : ℕ) → List Lexeme → Result (Option Definition) Fault
+defined_at names place ts = next_place names place ts >>= λ after. equ_at names ts
+
+-- a line at a place has a fault under the names of earlier lines: in its statement, or else since
+-- its label or what the statement defines beside it has a value
 abbrev pub IsUnplaced : Names → (place : ℕ) → List Lexeme → Fault → Type 0
 IsUnplaced names place line fault =
-    (next_place names place (statement_of place line) ≡ Err fault)
-    ⊎ ((equ_at names (statement_of place line) ≡ Err fault)
-    ⊎ (((fault ≡ Defined) × IsTwice names (label_of place line).0)
-    ⊎ ((fault ≡ Defined) × ((mid : Names) × (e : Option Definition) × Takes names mid (label_of place line).0
-    × (equ_at names (statement_of place line) ≡ Ok e) × IsTwice mid e))))
+    (defined_at names place (statement_of place line) ≡ Err fault)
+    ⊎ ((fault ≡ Defined) × ((d : Option Definition)
+    × (defined_at names place (statement_of place line) ≡ Ok d)
+    × (IsTwice names (label_of place line).0
+    ⊎ ((mid : Names) × Takes names mid (label_of place line).0 × IsTwice mid d))))
 
 -- a line has a fault under names and places that fit all lines before it
 abbrev pub HasPlacingFault : List (List Lexeme) → ℕ → Fault → Type 0
@@ -35,23 +43,29 @@ HasPlacingFault all i fault =
     (names : Names) × (places : List ℕ) × IsLaidTo all i names places
     × IsUnplaced names (slice_index places i) (line_at all i) fault
 
--- a line has a fault in its bytes, or a byte of an earlier line stands at its place, under names
--- and places that fit all lines
+-- a line's bytes can't join an image: it has a fault, or a byte stands there
+abbrev pub IsUnput : List Piece → Names → (place : ℕ) → List Lexeme → Fault → Type 0
+IsUnput image names place line fault =
+    (bytes_at names place (statement_of place line) ≡ Err fault)
+    ⊎ ((fault ≡ Overlap) × ((bs : List ℕ)
+    × (bytes_at names place (statement_of place line) ≡ Ok bs) × IsTaken image place (length bs)))
+
+-- a line's bytes can't join those of all lines before it, under names and places that fit all lines
 abbrev pub HasBytesFault : List (List Lexeme) → ℕ → Fault → Type 0
 HasBytesFault all i fault =
-    (names : Names) × (places : List ℕ) × IsLaid all names places
-    × ((bytes_at names (slice_index places i) (statement_of (slice_index places i) (line_at all i)) ≡ Err fault)
-    ⊎ ((fault ≡ Overlap) × ((image : List Piece) × (bs : List ℕ) × IsImageTo all i names places image
-    × BytesOf all names places i bs × IsTaken image (slice_index places i) (length bs))))
+    (names : Names) × (places : List ℕ) × (image : List Piece) × IsLaid all names places
+    × IsImageTo all i names places image
+    × IsUnput image names (slice_index places i) (line_at all i) fault
 
 -- a fault of the lines stands at the line with an index
 abbrev pub HasFault : List (List Lexeme) → ℕ → Fault → Type 0
 HasFault all i fault = (i < length all) × (HasPlacingFault all i fault ⊎ HasBytesFault all i fault)
 
--- a line is not in the grammar
+-- a line is the first that is not in the grammar
 abbrev pub IsUnread : List (List ℕ) → ℕ → Fault → Type 0
 IsUnread texts i fault =
     (i < length texts) × (fault ≡ BadToken) × (lexemes (slice_index_or texts i []) ≡ None)
+    × ((j : ℕ) → j < i → IsSome (lexemes (slice_index_or texts j [])))
 
 -- the error of a line as one of the text
 abbrev pub error_at : ℕ → LineError → AsmError
@@ -71,4 +85,5 @@ IsReadError texts (Line number fault) = (i : ℕ) × (number ≡ i + 1) × IsUnr
 -- an error of a text: memory ran out, or the fault stands at the line with that number
 abbrev pub IsError : List ℕ → AsmError → Type 0
 IsError text e =
-    IsReadError (lines text) e ⊎ ((all : List (List Lexeme)) × AreRead (lines text) all × IsErrorOf all e)
+    IsReadError (lines text) e
+    ⊎ ((all : List (List Lexeme)) × AreRead (lines text) all × IsErrorOf all e)

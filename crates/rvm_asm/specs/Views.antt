@@ -1,22 +1,22 @@
 -- What the code's values stand for.
-use Rattle.std.specs.Prelude.{◌≡◌, ℕ, ◌+◌, ◌^◌, ◌≤◌, List, [], Option, Some, map, Result, Ok, Err, IsSome, ◌⊎◌, Vec, length}
+use Rattle.std.specs.Prelude.{◌≡◌, ℕ, ◌+◌, ◌^◌, ◌≤◌, List, [], Option, map, Result, Ok, Err, ◌⊎◌}
+use Rattle.std.specs.Prelude.{Vec, length}
 use denote.Ref.{Bor}
 use Rattle.std.specs.declared.alloc.Global.{Global}
 use Rattle.rvm_text.specs.Lexemes.{Lexeme}
 use Rattle.rvm_text.specs.Tokens.{lexemes_of}
 use Rattle.rvm_text.specs.declared.token.Token.{Token}
-use Rattle.rvm_line.specs.declared.faults.Fault.{Fault}
 use Rattle.rvm_line.specs.declared.faults.LineError.{LineError}
 use Rattle.rvm_line.specs.declared.faults.LineError.TheVariants as line_error
-use Rattle.rvm_line.specs.declared.faults.Fault.TheVariants.{Defined, Overlap}
+use Rattle.rvm_line.specs.declared.faults.Fault.TheVariants.{Defined}
 use Rattle.rvm_line.specs.Contents.{bytes_at}
 use Rattle.rvm_line.specs.Statements.{Definition}
 use Rattle.rvm_line.specs.Values.{Names}
 use Rattle.rvm_image.specs.declared.image.Segment.{Segment}
 use Rattle.rvm_image.specs.Images.{Piece, piece}
 use Rattle.rvm_asm.specs.Assembly.{Takes, Lays, statement_of}
-use Rattle.rvm_asm.specs.Images.{Joins, IsFree, IsTaken}
-use Rattle.rvm_asm.specs.Refusals.{IsUnplaced, IsTwice}
+use Rattle.rvm_asm.specs.Images.{Joins, IsFree}
+use Rattle.rvm_asm.specs.Refusals.{IsUnplaced, IsTwice, IsUnput}
 
 -- the bytes of lines of text
 abbrev pub texts_of : List (Bor (List ℕ)) → List (List ℕ)
@@ -43,20 +43,16 @@ Fits names place line =
     → (bs ≡ []) ⊎ (place + length bs ≤ 2 ^ 32)
 
 -- a line's bytes join an image where none stood
-pub record Puts (old new : List Piece) (names : Names) (place : ℕ) (line : List Lexeme) : Type 0 where
+pub record Puts (old new : List Piece) (names : Names) (place : ℕ) (line : List Lexeme)
+    : Type 0 where
   pub bytes : List ℕ
   pub of_line : bytes_at names place (statement_of place line) ≡ Ok bytes
   pub free : IsFree old place (length bytes)
   pub joined : Joins old new (piece place bytes)
 
--- a line's bytes can't join an image: it has a fault, or a byte stands there
-abbrev pub IsUnput : List Piece → Names → (place : ℕ) → List Lexeme → Fault → Type 0
-IsUnput image names place line fault =
-    (bytes_at names place (statement_of place line) ≡ Err fault)
-    ⊎ ((fault ≡ Overlap) × ((bs : List ℕ) × (bytes_at names place (statement_of place line) ≡ Ok bs) × IsTaken image place (length bs)))
-
 -- a line's bytes join an image, or it has a fault
-abbrev pub IsPutting : List Piece → List Piece → Names → ℕ → List Lexeme → Result (Unit {0}) LineError → Type 0
+abbrev pub IsPutting : List Piece → List Piece → Names → ℕ → List Lexeme
+    → Result (Unit {0}) LineError → Type 0
 IsPutting old new names place line (Ok done) = Puts old new names place line
 IsPutting old new names place line (Err line_error.OutOfMemory) = Unit {0}
 IsPutting old new names place line (Err (line_error.Faulty f)) = IsUnput old names place line f

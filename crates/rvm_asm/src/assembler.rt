@@ -59,7 +59,8 @@ fn read<'a>(alloc: Global, texts: &[&'a str]) -> Result<Vec<Vec<Token<'a>>>, Asm
 
 /// The image of lines.
 fn assemble_lines(alloc: Global, lines: &[Vec<Token>]) -> Result<Image, AsmError>
-    ensures image { IfOk result (λ v. IsAssemblyOf (lines_of lines.now) v.entry (pieces_of v.segments.items)) }
+    ensures image { IfOk result (λ v. IsAssemblyOf (lines_of lines.now) v.entry
+        (pieces_of v.segments.items)) }
     ensures rising { IfOk result (λ v. IsRising (pieces_of v.segments.items)) }
     ensures zeros { IfOk result (λ v. All HasNoZeros v.segments.items) }
     ensures refused { IfErr result (λ e. IsErrorOf (lines_of lines.now) e) }

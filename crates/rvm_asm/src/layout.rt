@@ -21,7 +21,8 @@ pub struct Layout<'a> {
 
 /// Gives each name its value and each line its place.
 pub fn lay_out<'a>(alloc: Global, lines: &[Vec<Token<'a>>]) -> Result<Layout<'a>, AsmError>
-    ensures laid { IfOk result (λ l. IsLaid (lines_of lines.now) (names_of l.symbols.items) l.places.items) }
+    ensures laid { IfOk result (λ l. IsLaid (lines_of lines.now) (names_of l.symbols.items)
+        l.places.items) }
     ensures refused { IfErr result (λ e. IsErrorOf (lines_of lines.now) e) }
 {
     let mut symbols = Vec::new(alloc);
@@ -43,14 +44,15 @@ pub fn lay_out<'a>(alloc: Global, lines: &[Vec<Token<'a>>]) -> Result<Layout<'a>
 }
 
 /// Adds what a line at a place defines, and answers the place behind it.
-#[tactic(auto, using(crate::proofs::Laying::lays_from))]
+#[tactic(auto, using(crate::proofs::Laying::layings))]
 fn lay_line<'a>(
     symbols: &mut Vec<Symbol<'a>>,
     place: u64,
     tokens: &[Token<'a>],
 ) -> Result<u64, LineError>
     requires { place ≤ 2 ^ 32 }
-    ensures laid { IsLaying (names_of symbols.old.items) (names_of symbols.new.items) place (lexemes_of tokens.now) result }
+    ensures laid { IsLaying (names_of symbols.old.items) (names_of symbols.new.items) place
+        (lexemes_of tokens.now) result }
     ensures below { IfOk result (λ after. after ≤ 2 ^ 32) }
 {
     let (label, statement) = label(place, tokens);
@@ -64,7 +66,8 @@ fn lay_line<'a>(
 /// Adds a symbol, if there is one, whose name has no value yet.
 #[tactic(auto, using(crate::proofs::Names::names_push))]
 fn define<'a>(symbols: &mut Vec<Symbol<'a>>, symbol: Option<Symbol<'a>>) -> Result<(), LineError>
-    ensures { IsDefining (names_of symbols.old.items) (names_of symbols.new.items) (definition_of symbol.entry) result }
+    ensures { IsDefining (names_of symbols.old.items) (names_of symbols.new.items)
+        (definition_of symbol.entry) result }
 {
     let Some(symbol) = symbol else {
         return Ok(());

@@ -24,7 +24,8 @@ pub fn place_lines(
     places: &[u64],
 ) -> Result<Vec<Segment>, AsmError>
     requires { IsLaid (lines_of lines.now) (names_of symbols.now) places.now }
-    ensures placed { IfOk result (λ v. IsImage (lines_of lines.now) (names_of symbols.now) places.now (pieces_of v.items)) }
+    ensures placed { IfOk result (λ v. IsImage (lines_of lines.now) (names_of symbols.now)
+        places.now (pieces_of v.items)) }
     ensures ordered { IfOk result (λ v. AreOrdered 0 0 (pieces_of v.items)) }
     ensures refused { IfErr result (λ e. IsErrorOf (lines_of lines.now) e) }
 {
@@ -47,7 +48,8 @@ fn place_line(
 ) -> Result<(), LineError>
     requires fits { Fits (names_of symbols.now) place (lexemes_of tokens.now) }
     requires ordered { AreOrdered 0 0 (pieces_of segments.old.items) }
-    ensures put { IsPutting (pieces_of segments.old.items) (pieces_of segments.new.items) (names_of symbols.now) place (lexemes_of tokens.now) result }
+    ensures put { IsPutting (pieces_of segments.old.items) (pieces_of segments.new.items)
+        (names_of symbols.now) place (lexemes_of tokens.now) result }
     ensures ordered { OnOk result (AreOrdered 0 0 (pieces_of segments.new.items)) }
 {
     let (_, statement) = label(place, tokens);

@@ -1,6 +1,7 @@
 //! Segments that rise by address.
 
-ghost use Rattle.std.specs.Prelude.{◌≡◌, ℕ, ◌+◌, ◌-◌, ◌≤◌, ◌<◌, [], ◌∷◌, ◌++◌, IfOk, All, OnOk, length, get_or, IsTrue, IsFalse};
+ghost use Rattle.std.specs.Prelude.{◌≡◌, ℕ, ◌+◌, ◌-◌, ◌≤◌, ◌<◌, [], ◌∷◌, ◌++◌, IfOk, All, OnOk};
+ghost use Rattle.std.specs.Prelude.{length, get_or, IsTrue, IsFalse};
 ghost use Rattle.rvm_image.specs.Images.{piece, piece_of, pieces_of, size, IsRising};
 ghost use Rattle.rvm_asm.specs.Images.{IsFree, IsTaken, Joins, HasSameBytes, AreOrdered, end_of};
 ghost use Rattle.rvm_asm.specs.Views.{HasNoZeros};
@@ -51,7 +52,8 @@ pub fn insert(segments: &mut Vec<Segment>, address: u32, bytes: Vec<u8>) -> Resu
     requires some { 0 < length bytes.items }
     requires free { IsFree (pieces_of segments.old.items) address (length bytes.items) }
     requires ordered { AreOrdered 0 0 (pieces_of segments.old.items) }
-    ensures joined { OnOk result (Joins (pieces_of segments.old.items) (pieces_of segments.new.items) (piece address bytes.items)) }
+    ensures joined { OnOk result (Joins (pieces_of segments.old.items)
+        (pieces_of segments.new.items) (piece address bytes.items)) }
     ensures ordered { OnOk result (AreOrdered 0 0 (pieces_of segments.new.items)) }
 {
     let at = index_behind(segments, address);
@@ -73,8 +75,10 @@ pub fn insert(segments: &mut Vec<Segment>, address: u32, bytes: Vec<u8>) -> Resu
 /// The index behind the last segment that begins at an address or below it.
 fn index_behind(segments: &[Segment], address: u32) -> usize
     ensures within { result ≤ length segments.now }
-    ensures before { 0 < result → (get_or (pieces_of segments.now) (result - 1) (piece 0 [])).address ≤ address }
-    ensures behind { result < length segments.now → address < (get_or (pieces_of segments.now) result (piece 0 [])).address }
+    ensures before { 0 < result
+        → (get_or (pieces_of segments.now) (result - 1) (piece 0 [])).address ≤ address }
+    ensures behind { result < length segments.now
+        → address < (get_or (pieces_of segments.now) result (piece 0 [])).address }
 {
     let mut index = segments.len();
     while index > 0 && segments[index - 1].address > address {
@@ -88,10 +92,13 @@ fn append(segments: &mut Vec<Segment>, address: u32, bytes: Vec<u8>) -> Result<(
     requires some { 0 < length bytes.items }
     requires ordered { AreOrdered 0 0 (pieces_of segments.old.items) }
     requires behind { end_of 0 0 (pieces_of segments.old.items) ≤ address }
-    ensures joined { OnOk result (Joins (pieces_of segments.old.items) (pieces_of segments.new.items) (piece address bytes.items)) }
-    ensures ordered { OnOk result ((gap : ℕ) → gap ≤ 1 → AreOrdered gap 0 (pieces_of segments.old.items)
+    ensures joined { OnOk result (Joins (pieces_of segments.old.items)
+        (pieces_of segments.new.items) (piece address bytes.items)) }
+    ensures ordered { OnOk result ((gap : ℕ) → gap ≤ 1
+        → AreOrdered gap 0 (pieces_of segments.old.items)
         → AreOrdered gap 0 (pieces_of segments.new.items)) }
-    ensures ends { OnOk result (end_of 0 0 (pieces_of segments.new.items) ≡ address + length bytes.items) }
+    ensures ends { OnOk result (end_of 0 0 (pieces_of segments.new.items)
+        ≡ address + length bytes.items) }
 {
     let Some(last) = segments.pop() else {
         push(segments, address, bytes)?;
@@ -119,7 +126,8 @@ fn lengthen(mut segment: Segment, bytes: &[u8]) -> Result<Segment, AllocError>
 }
 
 fn push(segments: &mut Vec<Segment>, address: u32, bytes: Vec<u8>) -> Result<(), AllocError>
-    ensures { OnOk result (segments.new.items ≡ segments.old.items ++ record { address = address; bytes = bytes; zeros = 0 } ∷ []) }
+    ensures { OnOk result (segments.new.items
+        ≡ segments.old.items ++ record { address = address; bytes = bytes; zeros = 0 } ∷ []) }
 {
     segments.push(Segment {
         address,

@@ -1,5 +1,6 @@
 -- The bytes of a line that stands at a place.
-use Rattle.std.specs.Prelude.{ℕ, ◌-◌, ◌%◌, ◌^◌, Bool, true, ◌||◌, ◌==◌, nat_le, nat_lt, if◌then◌else◌, List, [], ◌∷◌, ◌++◌, take, replicate, Result, Ok, Err}
+use Rattle.std.specs.Prelude.{ℕ, ◌-◌, ◌%◌, ◌^◌, Bool, true, ◌||◌, ◌==◌, nat_le, nat_lt}
+use Rattle.std.specs.Prelude.{if◌then◌else◌, List, [], ◌∷◌, ◌++◌, take, replicate, Result, Ok, Err}
 use Rattle.std.specs.Int.{to_le_bytes, w32}
 use Rattle.rvm_text.specs.Lexemes.{Lexeme}
 use Rattle.rvm_text.specs.Strings.{text_of}
@@ -14,7 +15,8 @@ use Rattle.rvm_line.specs.declared.statements.Keyword.{Keyword}
 use Rattle.rvm_line.specs.declared.statements.Keyword.TheVariants as keyword
 use Rattle.rvm_line.specs.declared.statements.Width.{Width}
 use Rattle.rvm_line.specs.declared.statements.Width.TheVariants as width
-use Rattle.rvm_line.specs.Instructions.{instruction_at, pseudo_at, li_at, li_words, la_at, call_at, bytes_of}
+use Rattle.rvm_line.specs.Instructions.{instruction_at, pseudo_at, li_at, li_words, la_at, call_at}
+use Rattle.rvm_line.specs.Instructions.{bytes_of}
 use Rattle.rvm_line.specs.Reading.{◌>>=◌, only_if, end_at, name_at, last_string}
 use Rattle.rvm_line.specs.Statements.{bytes_in, is_comma, keyword_at, balign_at, space_at}
 use Rattle.rvm_line.specs.Values.{Names, last_value}

@@ -1,6 +1,7 @@
 -- The instruction of a line that stands at a place, by the shape of its operands; and the words of
 -- the pseudo-instructions.
-use Rattle.std.specs.Prelude.{ℕ, ℤ, pos, negsuc, ◌%◌, ◌^◌, ◌||◌, ◌==◌, if◌then◌else◌, List, ◌++◌, None, Result, Ok}
+use Rattle.std.specs.Prelude.{ℕ, ℤ, pos, negsuc, ◌%◌, ◌^◌, ◌||◌, ◌==◌, if◌then◌else◌, List, ◌++◌}
+use Rattle.std.specs.Prelude.{None, Result, Ok}
 use Rattle.std.specs.Int.{to_le_bytes, w32}
 use Rattle.rvm_text.specs.Lexemes.{Lexeme}
 use Rattle.rvm_word.specs.Word.{signed_value}
@@ -15,15 +16,20 @@ use Rattle.rvm_line.specs.declared.pseudo.Pseudo.TheVariants as pseudo
 use Rattle.rvm_line.specs.declared.instructions.Words.{Words}
 use Rattle.rvm_line.specs.declared.instructions.Words.TheVariants as words
 use Rattle.rvm_line.specs.Csrs.{csr_comma, last_csr}
-use Rattle.rvm_line.specs.Operands.{distance, last_target, upper_at, jump_at, branch_at, address_at, immediate_at, shift_at, registers_at, two_registers_at, csr_register_at, csr_immediate_at, load_reserved_at, atomic_at}
-use Rattle.rvm_line.specs.Operations.{upper_ins, branch_ins, load_ins, store_ins, immediate_ins, shift_ins, register_ins, whole_ins, csr_ins, csr_immediate_ins, atomic_ins}
+use Rattle.rvm_line.specs.Operands.{distance, last_target, upper_at, jump_at, branch_at, address_at}
+use Rattle.rvm_line.specs.Operands.{immediate_at, shift_at, registers_at, two_registers_at}
+use Rattle.rvm_line.specs.Operands.{csr_register_at, csr_immediate_at, load_reserved_at, atomic_at}
+use Rattle.rvm_line.specs.Operations.{upper_ins, branch_ins, load_ins, store_ins, immediate_ins}
+use Rattle.rvm_line.specs.Operations.{shift_ins, register_ins, whole_ins, csr_ins}
+use Rattle.rvm_line.specs.Operations.{csr_immediate_ins, atomic_ins}
 use Rattle.rvm_line.specs.Reading.{◌>>=◌, end_at, register_comma, last_register}
 use Rattle.rvm_line.specs.Values.{Names, last_value, fits_signed, high, low}
 
 -- the instruction of a name with its operands
 abbrev pub instruction_at : Names → (place : ℕ) → Operation → List Lexeme → Result Ins Fault
 instruction_at names place operation.Jump ts = jump_at names place ts >>= λ o. Ok (ins.Jal o.0 o.1)
-instruction_at names place (operation.Upper op) ts = upper_at names ts >>= λ o. Ok (upper_ins op o.0 o.1)
+instruction_at names place (operation.Upper op) ts =
+    upper_at names ts >>= λ o. Ok (upper_ins op o.0 o.1)
 instruction_at names place (operation.Branch op) ts =
     branch_at names place ts >>= λ o. Ok (branch_ins op o.0 o.1 o.2)
 instruction_at names place (operation.Load op) ts =
@@ -59,10 +65,13 @@ pseudo_at names place pseudo.Neg ts = two_registers_at ts >>= λ o. Ok (ins.Sub 
 pseudo_at names place pseudo.Seqz ts = two_registers_at ts >>= λ o. Ok (ins.Sltiu o.0 o.1 (pos 1))
 pseudo_at names place pseudo.Snez ts = two_registers_at ts >>= λ o. Ok (ins.Sltu o.0 0 o.1)
 pseudo_at names place pseudo.Beqz ts =
-    register_comma ts >>= λ r. last_target names 13 place r.1 >>= λ offset. Ok (ins.Beq r.0 0 offset)
+    register_comma ts >>= λ r. last_target names 13 place r.1 >>= λ offset.
+    Ok (ins.Beq r.0 0 offset)
 pseudo_at names place pseudo.Bnez ts =
-    register_comma ts >>= λ r. last_target names 13 place r.1 >>= λ offset. Ok (ins.Bne r.0 0 offset)
-pseudo_at names place pseudo.J ts = last_target names 21 place ts >>= λ offset. Ok (ins.Jal 0 offset)
+    register_comma ts >>= λ r. last_target names 13 place r.1 >>= λ offset.
+    Ok (ins.Bne r.0 0 offset)
+pseudo_at names place pseudo.J ts =
+    last_target names 21 place ts >>= λ offset. Ok (ins.Jal 0 offset)
 pseudo_at names place pseudo.Jr ts = last_register ts >>= λ rs. Ok (ins.Jalr 0 rs (pos 0))
 pseudo_at names place pseudo.Ret ts = end_at ts >>= λ _. Ok (ins.Jalr 0 1 (pos 0))
 pseudo_at names place pseudo.Csrr ts =

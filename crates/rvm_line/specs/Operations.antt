@@ -1,7 +1,8 @@
 -- The instructions by the shape of their operands, and their names (Unprivileged ISA, "RV32/64G
 -- Instruction Set Listings"; for mret and wfi Privileged ISA, "RISC-V Privileged Instruction Set
 -- Listings").
-use Rattle.std.specs.Prelude.{ℕ, ℤ, pos, Bool, true, false, ◌-◌, if◌then◌else◌, List, [], ◌∷◌, length, take, Option, Some, None, option_map, codes, nat_eq}
+use Rattle.std.specs.Prelude.{ℕ, ℤ, pos, Bool, true, false, ◌-◌, if◌then◌else◌, List, [], ◌∷◌}
+use Rattle.std.specs.Prelude.{length, take, Option, Some, None, option_map, codes, nat_eq}
 use Rattle.std.specs.List.{ends_with}
 use Rattle.std.specs.Option.{option_or}
 use Rattle.std.specs.Str.{bytes_eq}

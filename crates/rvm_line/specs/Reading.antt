@@ -1,6 +1,7 @@
 -- The parts of a line that stand in any statement, each with what is behind it. What is not there
 -- is a BadToken.
-use Rattle.std.specs.Prelude.{ℕ, Bool, ◌==◌, if◌then◌else◌, List, [], ◌∷◌, Option, Some, None, Result, Ok, Err}
+use Rattle.std.specs.Prelude.{ℕ, Bool, ◌==◌, if◌then◌else◌, List, [], ◌∷◌, Option, Some, None}
+use Rattle.std.specs.Prelude.{Result, Ok, Err}
 use Rattle.rvm_text.specs.Lexemes.{Lexeme, Word, Mark, Quoted}
 use Rattle.rvm_text.specs.Registers.{register_of}
 use Rattle.rvm_text.specs.Tokens.{is_name}
@@ -67,4 +68,5 @@ last_register ts = register_at ts >>= ended
 -- a register in parentheses, and nothing behind it
 unfoldable pub last_address : List Lexeme → Result ℕ Fault
 last_address ts =
-    mark_at 40 ts >>= λ inner. register_at inner >>= λ r. mark_at 41 r.1 >>= λ rest. ended (r.0, rest)
+    mark_at 40 ts >>= λ inner. register_at inner >>= λ r. mark_at 41 r.1 >>= λ rest.
+    ended (r.0, rest)

@@ -1,6 +1,8 @@
 -- What kind a line is, what it defines, and where the next line stands. A place is an address, or
 -- 2 ^ 32 behind the last byte.
-use Rattle.std.specs.Prelude.{ℕ, ◌+◌, ◌-◌, ◌*◌, ◌%◌, ◌^◌, Bool, ◌&&◌, ◌||◌, ◌==◌, nat_le, count_by, false, if◌then◌else◌, List, [], ◌∷◌, length, Option, Some, None, option_map, Result, Ok, Err, codes}
+use Rattle.std.specs.Prelude.{ℕ, ◌+◌, ◌-◌, ◌*◌, ◌%◌, ◌^◌, Bool, ◌&&◌, ◌||◌, ◌==◌, nat_le, count_by}
+use Rattle.std.specs.Prelude.{false, if◌then◌else◌, List, [], ◌∷◌, length, Option, Some, None}
+use Rattle.std.specs.Prelude.{option_map, Result, Ok, Err, codes}
 use Rattle.std.specs.Option.{option_or}
 use Rattle.rvm_text.specs.Lexemes.{Lexeme, Word, Mark, Quoted}
 use Rattle.rvm_text.specs.Strings.{text_of}

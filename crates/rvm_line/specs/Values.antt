@@ -1,5 +1,7 @@
 -- The values of expressions, modulo 2 ^ 32.
-use Rattle.std.specs.Prelude.{ℕ, ◌+◌, ◌-◌, ◌/◌, ◌%◌, ◌^◌, Bool, ◌&&◌, ◌||◌, ◌==◌, nat_le, nat_lt, if◌then◌else◌, List, ◌∷◌, Option, Some, None, option_map, Result, Ok, Err, codes}
+use Rattle.std.specs.Prelude.{ℕ, ◌+◌, ◌-◌, ◌/◌, ◌%◌, ◌^◌, Bool, ◌&&◌, ◌||◌, ◌==◌, nat_le, nat_lt}
+use Rattle.std.specs.Prelude.{if◌then◌else◌, List, ◌∷◌, Option, Some, None, option_map, Result, Ok}
+use Rattle.std.specs.Prelude.{Err, codes}
 use Rattle.std.specs.Str.{bytes_eq}
 use Rattle.rvm_text.specs.Lexemes.{Lexeme, Word, Mark}
 use Rattle.rvm_text.specs.Numbers.{number_of}
@@ -17,7 +19,8 @@ Names = List ℕ → Option ℕ
 -- the number behind a minus, at most 2 ^ 31, from zero
 abbrev pub negative_at : List Lexeme → Result (ℕ × List Lexeme) Fault
 negative_at (Word w ∷ ts) =
-    known BadToken (number_of w) >>= λ n. only_if BadToken (nat_le n (2 ^ 31)) ((2 ^ 32 - n) % 2 ^ 32, ts)
+    known BadToken (number_of w) >>= λ n.
+    only_if BadToken (nat_le n (2 ^ 31)) ((2 ^ 32 - n) % 2 ^ 32, ts)
 negative_at ts = Err BadToken
 
 -- a number with an optional minus
@@ -37,7 +40,8 @@ sum_at v ts = Ok (v, ts)
 -- a number, or a name and what is added to it or taken from it
 abbrev pub simple_at : Names → List Lexeme → Result (ℕ × List Lexeme) Fault
 simple_at names (Word w ∷ ts) =
-    if is_name w then (known UnknownName (names w) >>= λ v. sum_at v ts) else number_at (Word w ∷ ts)
+    if is_name w then (known UnknownName (names w) >>= λ v. sum_at v ts)
+    else number_at (Word w ∷ ts)
 simple_at names ts = number_at ts
 
 -- %hi: the upper 20 bits, one more where the rest is negative

@@ -1,5 +1,6 @@
 -- What the code's values stand for.
-use Rattle.std.specs.Prelude.{◌≡◌, ℕ, ◌+◌, length, List, [], ◌∷◌, Option, Some, None, if◌then◌else◌, Result, Ok, Err}
+use Rattle.std.specs.Prelude.{◌≡◌, ℕ, ◌+◌, length, List, [], ◌∷◌, Option, Some, None, if◌then◌else◌}
+use Rattle.std.specs.Prelude.{Result, Ok, Err}
 use denote.Ref.{Bor}
 use Rattle.std.specs.Prelude.{Vec}
 use Rattle.std.specs.declared.alloc.Global.{Global}
@@ -30,12 +31,14 @@ Gives (Err OutOfMemory) meant = Unit {0}
 Gives (Err (Faulty f)) meant = meant ≡ Err f
 
 -- a first lexeme, and the tokens behind it
-abbrev pub parted : Option (Lexeme × Bor (List Token)) → Option (grammar.Lexeme × List grammar.Lexeme)
+abbrev pub parted : Option (Lexeme × Bor (List Token))
+    → Option (grammar.Lexeme × List grammar.Lexeme)
 parted None = None
 parted (Some x) = Some (lexeme_of x.0, lexemes_of x.1.now)
 
 -- a result with the tokens behind it
-abbrev pub seen : {A : Type 0} → Result (A × Bor (List Token)) Fault → Result (A × List grammar.Lexeme) Fault
+abbrev pub seen : {A : Type 0} → Result (A × Bor (List Token)) Fault
+    → Result (A × List grammar.Lexeme) Fault
 seen (Ok x) = Ok (x.0, lexemes_of x.1.now)
 seen (Err e) = Err e
 
@@ -50,7 +53,8 @@ seen_bytes (Ok x) = Ok x.now
 seen_bytes (Err e) = Err e
 
 -- a name with the tokens behind it
-abbrev pub seen_name : Result (Bor (List ℕ) × Bor (List Token)) Fault → Result (List ℕ × List grammar.Lexeme) Fault
+abbrev pub seen_name : Result (Bor (List ℕ) × Bor (List Token)) Fault
+    → Result (List ℕ × List grammar.Lexeme) Fault
 seen_name (Ok x) = Ok (x.0.now, lexemes_of x.1.now)
 seen_name (Err e) = Err e
 

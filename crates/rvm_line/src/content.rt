@@ -4,7 +4,9 @@ ghost use Rattle.std.specs.Prelude.{◌≡◌, ◌<◌, [], ◌∷◌, ◌++◌,
 ghost use Rattle.rvm_isa.specs.Words.{word_of};
 ghost use Rattle.rvm_text.specs.Strings.{text_of};
 ghost use Rattle.rvm_text.specs.Tokens.{lexemes_of};
-ghost use Rattle.rvm_line.specs.Contents.{parts, has_width, value_of_width, value_bytes, list_bytes, words_of, words_at, global_at, bytes_of_kind, bytes_at};
+ghost use Rattle.rvm_line.specs.Contents.{parts, has_width, value_of_width, value_bytes};
+ghost use Rattle.rvm_line.specs.Contents.{list_bytes, words_of, words_at, global_at, bytes_of_kind};
+ghost use Rattle.rvm_line.specs.Contents.{bytes_at};
 ghost use Rattle.rvm_line.specs.Instructions.{bytes_of};
 ghost use Rattle.rvm_line.specs.Views.{names_of, seen_parts, Gives};
 
@@ -42,7 +44,8 @@ fn contents_of_kind(
     keyword: Keyword,
     tokens: &[Token],
 ) -> Result<Vec<u8>, LineError>
-    ensures { Gives result (bytes_of_kind (names_of symbols.now) place keyword (lexemes_of tokens.now)) }
+    ensures { Gives result (bytes_of_kind (names_of symbols.now) place keyword
+        (lexemes_of tokens.now)) }
 {
     match keyword {
         Keyword::Org | Keyword::Equ => Ok(Vec::new(alloc)),
@@ -111,7 +114,8 @@ fn list(
     width: Width,
     tokens: &[Token],
 ) -> Result<Vec<u8>, LineError>
-    ensures { Gives result (list_bytes (names_of symbols.now) width (parts (lexemes_of tokens.now))) }
+    ensures { Gives result (list_bytes (names_of symbols.now) width
+        (parts (lexemes_of tokens.now))) }
 {
     let mut bytes = Vec::new(alloc);
     let mut left = Some(tokens);

@@ -2,7 +2,8 @@
 
 ghost use Rattle.std.specs.Prelude.{◌≡◌, ◌<◌, ◌^◌, IfOk};
 ghost use Rattle.rvm_text.specs.Tokens.{lexemes_of};
-ghost use Rattle.rvm_line.specs.Csrs.{csr_of, csr_number, csr_number_at, csr_at, csr_comma, last_csr};
+ghost use Rattle.rvm_line.specs.Csrs.{csr_of, csr_number, csr_number_at, csr_at, csr_comma};
+ghost use Rattle.rvm_line.specs.Csrs.{last_csr};
 ghost use Rattle.rvm_line.specs.Words.{named};
 ghost use Rattle.rvm_line.specs.Views.{seen};
 

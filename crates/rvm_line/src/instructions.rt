@@ -4,7 +4,8 @@ ghost use Rattle.std.specs.Prelude.{◌≡◌, ◌≤◌, ◌<◌, IfOk};
 ghost use Rattle.rvm_isa.specs.Words.{word_of};
 ghost use Rattle.rvm_text.specs.Tokens.{lexemes_of};
 ghost use Rattle.rvm_line.specs.Values.{high};
-ghost use Rattle.rvm_line.specs.Instructions.{instruction_at, low_field, li_at, li_words, li_size, la_at, call_at};
+ghost use Rattle.rvm_line.specs.Instructions.{instruction_at, low_field, li_at, li_words, li_size};
+ghost use Rattle.rvm_line.specs.Instructions.{la_at, call_at};
 ghost use Rattle.rvm_line.specs.Views.{names_of};
 
 use crate::faults::Fault;
@@ -30,7 +31,8 @@ pub enum Words {
 impl Operation {
     /// The instruction with the operands of a line that stands at a place.
     pub fn read(self, symbols: &[Symbol], place: u64, tokens: &[Token]) -> Result<Ins, Fault>
-        ensures { result ≡ instruction_at (names_of symbols.now) place self (lexemes_of tokens.now) }
+        ensures { result ≡ instruction_at (names_of symbols.now) place self
+            (lexemes_of tokens.now) }
     {
         match self {
             Operation::Jump => {

@@ -2,7 +2,11 @@
 
 ghost use Rattle.std.specs.Prelude.{◌≡◌, ◌<◌, ◌^◌, IfOk};
 ghost use Rattle.rvm_text.specs.Tokens.{lexemes_of};
-ghost use Rattle.rvm_line.specs.Operands.{signed_field, offset_field, last_below, distance, last_target, last_immediate, upper_at, jump_at, branch_at, address_at, immediate_at, shift_at, registers_at, two_registers_at, csr_register_at, csr_immediate_at, load_reserved_at, atomic_at};
+ghost use Rattle.rvm_line.specs.Operands.{signed_field, offset_field, last_below, distance};
+ghost use Rattle.rvm_line.specs.Operands.{last_target, last_immediate, upper_at, jump_at};
+ghost use Rattle.rvm_line.specs.Operands.{branch_at, address_at, immediate_at, shift_at};
+ghost use Rattle.rvm_line.specs.Operands.{registers_at, two_registers_at, csr_register_at};
+ghost use Rattle.rvm_line.specs.Operands.{csr_immediate_at, load_reserved_at, atomic_at};
 ghost use Rattle.rvm_line.specs.Views.{names_of};
 
 use crate::csrs::csr_comma;

@@ -2,7 +2,10 @@
 //! Listings").
 
 ghost use Rattle.std.specs.Prelude.{◌≡◌};
-ghost use Rattle.rvm_line.specs.Operations.{without, ordered, atomic_of, operation_of, upper_ins, branch_ins, load_ins, store_ins, immediate_ins, shift_ins, register_ins, whole_ins, csr_ins, csr_immediate_ins, atomic_ins};
+ghost use Rattle.rvm_line.specs.Operations.{without, ordered, atomic_of, operation_of, upper_ins};
+ghost use Rattle.rvm_line.specs.Operations.{branch_ins, load_ins, store_ins, immediate_ins};
+ghost use Rattle.rvm_line.specs.Operations.{shift_ins, register_ins, whole_ins, csr_ins};
+ghost use Rattle.rvm_line.specs.Operations.{csr_immediate_ins, atomic_ins};
 ghost use Rattle.rvm_line.specs.Views.{seen_stem, seen_ordered};
 
 use crate::words::named;

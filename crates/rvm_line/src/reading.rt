@@ -2,7 +2,8 @@
 
 ghost use Rattle.std.specs.Prelude.{◌≡◌, ◌<◌, IfOk, IfSome, length};
 ghost use Rattle.rvm_text.specs.Tokens.{lexemes_of};
-ghost use Rattle.rvm_line.specs.Reading.{uncons, mark_at, end_at, name_at, last_string, register_at, register_comma, last_register, last_address};
+ghost use Rattle.rvm_line.specs.Reading.{uncons, mark_at, end_at, name_at, last_string};
+ghost use Rattle.rvm_line.specs.Reading.{register_at, register_comma, last_register, last_address};
 ghost use Rattle.rvm_line.specs.Views.{parted, seen, seen_rest, seen_bytes, seen_name};
 
 use crate::faults::Fault;

@@ -3,7 +3,10 @@
 ghost use Rattle.std.specs.Prelude.{◌≡◌, ◌+◌, ◌≤◌, ◌<◌, ◌^◌, IfOk, option_map, count_by};
 ghost use Rattle.rvm_text.specs.Tokens.{lexeme_of, lexemes_of};
 ghost use Rattle.rvm_line.specs.Operations.{operation_of};
-ghost use Rattle.rvm_line.specs.Statements.{keyword_of, keyword_at, label_of, advanced, bytes_in, is_comma, behind_string, list_size, size_of, is_alignment, padding, balign_at, space_at, place_after, next_place, equ_of, equ_at};
+ghost use Rattle.rvm_line.specs.Statements.{keyword_of, keyword_at, label_of, advanced, bytes_in};
+ghost use Rattle.rvm_line.specs.Statements.{is_comma, behind_string, list_size, size_of};
+ghost use Rattle.rvm_line.specs.Statements.{is_alignment, padding, balign_at, space_at};
+ghost use Rattle.rvm_line.specs.Statements.{place_after, next_place, equ_of, equ_at};
 ghost use Rattle.rvm_line.specs.Views.{names_of, seen, seen_definition, definition_of};
 
 use crate::faults::Fault;
@@ -131,7 +134,8 @@ pub fn split_keyword<'t, 'a>(tokens: &'t [Token<'a>]) -> Result<(Keyword, &'t [T
 
 /// The label of a line that stands at a place, if it has one, and the statement behind it.
 pub fn label<'t, 'a>(place: u64, tokens: &'t [Token<'a>]) -> (Option<Symbol<'a>>, &'t [Token<'a>])
-    ensures { (definition_of result.0, lexemes_of result.1.now) ≡ label_of place (lexemes_of tokens.now) }
+    ensures { (definition_of result.0, lexemes_of result.1.now)
+        ≡ label_of place (lexemes_of tokens.now) }
 {
     if let Some((Lexeme::Word(name), rest)) = next(tokens)
         && is_name(name)
@@ -240,7 +244,8 @@ fn place_after(
     tokens: &[Token],
 ) -> Result<u64, Fault>
     requires { place ≤ 2 ^ 32 }
-    ensures value { result ≡ place_after (names_of symbols.now) place keyword (lexemes_of tokens.now) }
+    ensures value { result ≡ place_after (names_of symbols.now) place keyword
+        (lexemes_of tokens.now) }
     ensures below { IfOk result (λ after. after ≤ 2 ^ 32) }
 {
     match keyword {
@@ -285,7 +290,8 @@ pub fn next_place(symbols: &[Symbol], place: u64, tokens: &[Token]) -> Result<u6
 
 /// What a line of `.equ` defines.
 fn equ<'a>(symbols: &[Symbol], tokens: &[Token<'a>]) -> Result<Option<Symbol<'a>>, Fault>
-    ensures { seen_definition result ≡ equ_of (names_of symbols.now) Keyword.Equ (lexemes_of tokens.now) }
+    ensures { seen_definition result
+        ≡ equ_of (names_of symbols.now) Keyword.Equ (lexemes_of tokens.now) }
 {
     let (name, rest) = name(tokens)?;
     let rest = mark(rest, b',')?;

@@ -4,7 +4,9 @@ ghost use Rattle.std.specs.Prelude.{◌≡◌, ◌<◌, ◌^◌, IfSome, length}
 ghost use Rattle.rvm_text.specs.Numbers.{number_of};
 ghost use Rattle.rvm_text.specs.Tokens.{lexemes_of};
 ghost use Rattle.rvm_line.specs.Reading.{known};
-ghost use Rattle.rvm_line.specs.Values.{negative_at, number_at, sum_at, simple_at, high, low, half_of, half_named, half_at, value_at, last_value, value_comma, fits_signed};
+ghost use Rattle.rvm_line.specs.Values.{negative_at, number_at, sum_at, simple_at, high, low};
+ghost use Rattle.rvm_line.specs.Values.{half_of, half_named, half_at, value_at, last_value};
+ghost use Rattle.rvm_line.specs.Values.{value_comma, fits_signed};
 ghost use Rattle.rvm_line.specs.Views.{names_of, seen, seen_half};
 
 use crate::faults::Fault;
