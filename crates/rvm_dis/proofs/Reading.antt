@@ -103,8 +103,8 @@ pub mark : {text : List ℕ} {ts : List Lexeme} (m : ℕ) → open_at m ≡ Some
     Reads text ts → Reads (m ∷ text) (Mark m ∷ ts)
 mark {text} m is reads = record {
   from_between =
-  ap (λ s. followed_by s (lexemes_from text)) is
-  ∙ ap (option_map (λ (l : List Lexeme). Mark m ∷ l)) reads.from_between;
+      ap (λ s. followed_by s (lexemes_from text)) is
+      ∙ ap (option_map (λ (l : List Lexeme). Mark m ∷ l)) reads.from_between;
 }
 
 -- a comma and a blank before it

@@ -114,7 +114,7 @@ whole_row : (m : List ℕ) (op : Whole) → IsWord m → IsKnown m (operation.Wh
     ((a : ℕ) → text_of a (whole_ins op) ≡ m) → Good (shape.Whole (whole_ins op))
 whole_row m op one known text names a below aligned w fits is =
     subst (Assembles names a w) (sym (text a))
-    (whole_line names a below aligned w m op (named one known)  is)
+    (whole_line names a below aligned w m op (named one known) is)
 
 csr_row : (m : List ℕ) (op : Csr) → IsWord m → IsKnown m (operation.Csr op) →
     ((a d s c : ℕ) → text_of a (csr_ins op d s c) ≡ csr_text m d s c) → Good (shape.Csr (csr_ins op))
