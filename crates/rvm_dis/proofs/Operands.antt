@@ -117,22 +117,58 @@ record Widened (bits n wide : ℕ) : Type 0 where
 widened_12 : (n : ℕ) → n < 2 ^ 12 → Widened 12 n (wide 12 n)
 widened_12 n inside =
     elim (cases_lt n (2 ^ 11)) [
-      | inl low ↦ let e = wide_low 12 n low (omega arith) in record { fits = grind (arith, nat_tests); bits_are = omega (arith, e); parity = omega (arith, e) }
-      | inr high ↦ let e = wide_high 12 n high inside (omega arith) in record { fits = grind (arith, nat_tests); bits_are = omega (arith, e); parity = omega (arith, e) }
+      | inl low ↦
+          let e = wide_low 12 n low (omega arith) in
+          record {
+            fits = grind (arith, nat_tests);
+            bits_are = omega (arith, e);
+            parity = omega (arith, e);
+          }
+      | inr high ↦
+          let e = wide_high 12 n high inside (omega arith) in
+          record {
+            fits = grind (arith, nat_tests);
+            bits_are = omega (arith, e);
+            parity = omega (arith, e);
+          }
     ]
 
 widened_13 : (n : ℕ) → n < 2 ^ 13 → Widened 13 n (wide 13 n)
 widened_13 n inside =
     elim (cases_lt n (2 ^ 12)) [
-      | inl low ↦ let e = wide_low 13 n low (omega arith) in record { fits = grind (arith, nat_tests); bits_are = omega (arith, e); parity = omega (arith, e) }
-      | inr high ↦ let e = wide_high 13 n high inside (omega arith) in record { fits = grind (arith, nat_tests); bits_are = omega (arith, e); parity = omega (arith, e) }
+      | inl low ↦
+          let e = wide_low 13 n low (omega arith) in
+          record {
+            fits = grind (arith, nat_tests);
+            bits_are = omega (arith, e);
+            parity = omega (arith, e);
+          }
+      | inr high ↦
+          let e = wide_high 13 n high inside (omega arith) in
+          record {
+            fits = grind (arith, nat_tests);
+            bits_are = omega (arith, e);
+            parity = omega (arith, e);
+          }
     ]
 
 widened_21 : (n : ℕ) → n < 2 ^ 21 → Widened 21 n (wide 21 n)
 widened_21 n inside =
     elim (cases_lt n (2 ^ 20)) [
-      | inl low ↦ let e = wide_low 21 n low (omega arith) in record { fits = grind (arith, nat_tests); bits_are = omega (arith, e); parity = omega (arith, e) }
-      | inr high ↦ let e = wide_high 21 n high inside (omega arith) in record { fits = grind (arith, nat_tests); bits_are = omega (arith, e); parity = omega (arith, e) }
+      | inl low ↦
+          let e = wide_low 21 n low (omega arith) in
+          record {
+            fits = grind (arith, nat_tests);
+            bits_are = omega (arith, e);
+            parity = omega (arith, e);
+          }
+      | inr high ↦
+          let e = wide_high 21 n high inside (omega arith) in
+          record {
+            fits = grind (arith, nat_tests);
+            bits_are = omega (arith, e);
+            parity = omega (arith, e);
+          }
     ]
 
 -- targets
