@@ -1,8 +1,8 @@
 -- Lines of each shape of operands, and the words that they stand for.
 use Rattle.std.proofs.Common.{◌≡◌, ℕ, ◌+◌, ◌%◌, ◌^◌, ◌<◌, Bool, true, eqb, nat_le}
-use Rattle.std.proofs.Common.{List, [], ◌∷◌, ◌++◌, Option, Some, None, Ok, refl, ap, arith, append_assoc}
+use Rattle.std.proofs.Common.{List, [], ◌∷◌, ◌++◌, Some, None, Ok, refl, ap, arith, append_assoc}
 use Rattle.std.specs.Prelude.{codes}
-use Rattle.std.specs.Fmt.{decimal, signed_decimal}
+use Rattle.std.specs.Fmt.{decimal}
 use Rattle.std.specs.Int.{to_le_bytes, w32}
 use Rattle.std.proofs.lemmas.Bool.Decides.{nat_tests}
 use Rattle.rvm_word.specs.Word.{signed_value}
@@ -26,7 +26,6 @@ use Rattle.rvm_line.specs.declared.operations.CsrImmediate.{CsrImmediate}
 use Rattle.rvm_line.specs.declared.operations.Atomic.{Atomic}
 use Rattle.rvm_line.specs.declared.statements.Code.TheVariants as code
 use Rattle.rvm_line.specs.declared.statements.Keyword.TheVariants as keyword
-use Rattle.rvm_line.specs.declared.statements.Width.TheVariants as width
 use Rattle.rvm_line.specs.Contents.{words_at, parts, list_bytes, value_of_width}
 use Rattle.rvm_line.specs.Instructions.{instruction_at}
 use Rattle.rvm_line.specs.Operations.{ordering, upper_ins, branch_ins, load_ins, store_ins, immediate_ins, shift_ins, register_ins, whole_ins, csr_ins, csr_immediate_ins, atomic_ins}
@@ -36,8 +35,8 @@ use Rattle.rvm_dis.specs.Pieces.{hex, short_hex, target, ordered}
 use Rattle.rvm_dis.specs.Texts.{upper_text, jump_text, branch_text, access_text, immediate_text, shift_text, registers_text, csr_text, csr_immediate_text, load_reserved_text, atomic_text, word_text}
 use Rattle.rvm_dis.specs.Assembles.{Assembles}
 use Rattle.rvm_dis.proofs.Numbers.{decimal_word, short_hex_word, hex_word}
-use Rattle.rvm_dis.proofs.Operands.{register_word, register_first, register_last, base_last, decimal_below, short_hex_below, word_last, csr_first, branch_target, jump_target, signed_lexemes, signed_reads, last_signed_reads, wide, immediate_field, immediate_last, immediate_first}
-use Rattle.rvm_dis.proofs.Reading.{Reads, Stops, is_one_word, read_all, word, last_word, blank, mark, comma, bracketed}
+use Rattle.rvm_dis.proofs.Operands.{register_word, register_first, register_last, base_last, decimal_below, short_hex_below, word_last, csr_first, branch_target, jump_target, signed_lexemes, signed_reads, last_signed_reads, immediate_field, immediate_last, immediate_first}
+use Rattle.rvm_dis.proofs.Reading.{Reads, is_one_word, read_all, word, last_word, blank, comma, bracketed}
 
 -- a word that names an instruction
 pub record IsMnemonic (mnemonic : List ℕ) (op : Operation) : Type 0 where
@@ -95,7 +94,8 @@ module _ (names : Names) (a : ℕ) (below : a < 2 ^ 32) (aligned : a % 4 ≡ 0) 
   pub whole_line : (m : List ℕ) (op : Whole) → IsMnemonic m (operation.Whole op) →
       word_of (whole_ins op) ≡ w → Assembles names a w m
   whole_line m op named is =
-      statement m (operation.Whole op) (whole_ins op) named (last_word m named.one_word) refl refl is
+      statement m (operation.Whole op) (whole_ins op) named
+      (last_word m named.one_word) refl refl is
 
   -- a word as data
   pub data_line : w < 2 ^ 32 → Assembles names a w (word_text w)
@@ -138,7 +138,8 @@ module _ (names : Names) (a : ℕ) (below : a < 2 ^ 32) (aligned : a % 4 ≡ 0) 
       is)
 
   -- rs1, rs2, target
-  pub branch_line : (m : List ℕ) (op : Branch) (rs1 rs2 n : ℕ) → IsMnemonic m (operation.Branch op) →
+  pub branch_line : (m : List ℕ) (op : Branch) (rs1 rs2 n : ℕ) →
+      IsMnemonic m (operation.Branch op) →
       rs1 < 32 → rs2 < 32 → n < 2 ^ 13 → n % 2 ≡ 0 →
       word_of (branch_ins op rs1 rs2 (signed_value 13 n)) ≡ w →
       Assembles names a w (branch_text m a rs1 rs2 (signed_value 13 n))
@@ -150,7 +151,8 @@ module _ (names : Names) (a : ℕ) (below : a < 2 ^ 32) (aligned : a % 4 ≡ 0) 
       (line m (operation.Branch op) (branch_ins op rs1 rs2 (signed_value 13 n)) named
       (register_then rs1 s (register_then rs2 t (last_word (hex 8 to) (hex_word 8 to))))
       refl
-      (rw (register_first rs1 second s, register_first rs2 third t, branch_target names a n below i even) refl)
+      (let last = branch_target names a n below i even in
+      rw (register_first rs1 second s, register_first rs2 third t, last) refl)
       is)
 
   -- rd, immediate(rs1)
@@ -165,7 +167,8 @@ module _ (names : Names) (a : ℕ) (below : a < 2 ^ 32) (aligned : a % 4 ≡ 0) 
       (line m (operation.Load op) (load_ins op rd rs1 (signed_value 12 n)) named
       (register_then rd d (signed_reads (signed_value 12 n) (base_register rs1 s) refl))
       refl
-      (rw (register_first rd second d, immediate_first names n base i, immediate_field n i, base_last rs1 s) refl)
+      (let value = immediate_first names n base i in
+      rw (register_first rd second d, value, immediate_field n i, base_last rs1 s) refl)
       is)
 
   -- rs2, immediate(rs1)
@@ -180,11 +183,13 @@ module _ (names : Names) (a : ℕ) (below : a < 2 ^ 32) (aligned : a % 4 ≡ 0) 
       (line m (operation.Store op) (store_ins op rs1 rs2 (signed_value 12 n)) named
       (register_then rs2 t (signed_reads (signed_value 12 n) (base_register rs1 s) refl))
       refl
-      (rw (register_first rs2 second t, immediate_first names n base i, immediate_field n i, base_last rs1 s) refl)
+      (let value = immediate_first names n base i in
+      rw (register_first rs2 second t, value, immediate_field n i, base_last rs1 s) refl)
       is)
 
   -- rd, rs1, immediate
-  pub immediate_line : (m : List ℕ) (op : Immediate) (rd rs1 n : ℕ) → IsMnemonic m (operation.Immediate op) →
+  pub immediate_line : (m : List ℕ) (op : Immediate) (rd rs1 n : ℕ) →
+      IsMnemonic m (operation.Immediate op) →
       rd < 32 → rs1 < 32 → n < 2 ^ 12 →
       word_of (immediate_ins op rd rs1 (signed_value 12 n)) ≡ w →
       Assembles names a w (immediate_text m rd rs1 (signed_value 12 n))
@@ -199,7 +204,8 @@ module _ (names : Names) (a : ℕ) (below : a < 2 ^ 32) (aligned : a % 4 ≡ 0) 
       is)
 
   -- rd, rs1, amount
-  pub shift_line : (m : List ℕ) (op : Shift) (rd rs1 amount : ℕ) → IsMnemonic m (operation.Shift op) →
+  pub shift_line : (m : List ℕ) (op : Shift) (rd rs1 amount : ℕ) →
+      IsMnemonic m (operation.Shift op) →
       rd < 32 → rs1 < 32 → amount < 32 →
       word_of (shift_ins op rd rs1 amount) ≡ w →
       Assembles names a w (shift_text m rd rs1 amount)
@@ -210,11 +216,13 @@ module _ (names : Names) (a : ℕ) (below : a < 2 ^ 32) (aligned : a % 4 ≡ 0) 
       (line m (operation.Shift op) (shift_ins op rd rs1 amount) named
       (register_then rd d (register_then rs1 s (last_word (decimal amount) (decimal_word amount))))
       refl
-      (rw (register_first rd second d, register_first rs1 third s, decimal_below names 32 amount i (omega arith)) refl)
+      (let last = decimal_below names 32 amount i (omega arith) in
+      rw (register_first rd second d, register_first rs1 third s, last) refl)
       is)
 
   -- rd, rs1, rs2
-  pub registers_line : (m : List ℕ) (op : Register) (rd rs1 rs2 : ℕ) → IsMnemonic m (operation.Register op) →
+  pub registers_line : (m : List ℕ) (op : Register) (rd rs1 rs2 : ℕ) →
+      IsMnemonic m (operation.Register op) →
       rd < 32 → rs1 < 32 → rs2 < 32 →
       word_of (register_ins op rd rs1 rs2) ≡ w →
       Assembles names a w (registers_text m rd rs1 rs2)
@@ -244,7 +252,8 @@ module _ (names : Names) (a : ℕ) (below : a < 2 ^ 32) (aligned : a % 4 ≡ 0) 
       is)
 
   -- rd, CSR, immediate
-  pub csr_immediate_line : (m : List ℕ) (op : CsrImmediate) (rd imm csr : ℕ) → IsMnemonic m (operation.CsrImmediate op) →
+  pub csr_immediate_line : (m : List ℕ) (op : CsrImmediate) (rd imm csr : ℕ) →
+      IsMnemonic m (operation.CsrImmediate op) →
       rd < 32 → imm < 32 → csr < 2 ^ 12 →
       word_of (csr_immediate_ins op rd imm csr) ≡ w →
       Assembles names a w (csr_immediate_text m rd imm csr)
@@ -255,11 +264,13 @@ module _ (names : Names) (a : ℕ) (below : a < 2 ^ 32) (aligned : a % 4 ≡ 0) 
       (line m (operation.CsrImmediate op) (csr_immediate_ins op rd imm csr) named
       (register_then rd d (csr_then csr (last_word (decimal imm) (decimal_word imm))))
       refl
-      (rw (register_first rd second d, csr_first csr third i, decimal_below names 32 imm s (omega arith)) refl)
+      (let last = decimal_below names 32 imm s (omega arith) in
+      rw (register_first rd second d, csr_first csr third i, last) refl)
       is)
 
   -- rd, (rs1)
-  pub load_reserved_line : (m : List ℕ) (rd rs1 : ℕ) (aq rl : Bool) → IsMnemonic (ordered m aq rl) (operation.LoadReserved (ordering aq rl)) →
+  pub load_reserved_line : (m : List ℕ) (rd rs1 : ℕ) (aq rl : Bool) →
+      IsMnemonic (ordered m aq rl) (operation.LoadReserved (ordering aq rl)) →
       rd < 32 → rs1 < 32 →
       word_of (ins.LrW rd rs1 aq rl) ≡ w →
       Assembles names a w (load_reserved_text m rd rs1 aq rl)
@@ -273,7 +284,8 @@ module _ (names : Names) (a : ℕ) (below : a < 2 ^ 32) (aligned : a % 4 ≡ 0) 
       is)
 
   -- rd, rs2, (rs1)
-  pub atomic_line : (m : List ℕ) (op : Atomic) (rd rs1 rs2 : ℕ) (aq rl : Bool) → IsMnemonic (ordered m aq rl) (operation.Atomic op (ordering aq rl)) →
+  pub atomic_line : (m : List ℕ) (op : Atomic) (rd rs1 rs2 : ℕ) (aq rl : Bool) →
+      IsMnemonic (ordered m aq rl) (operation.Atomic op (ordering aq rl)) →
       rd < 32 → rs1 < 32 → rs2 < 32 →
       word_of (atomic_ins op (ordering aq rl) rd rs1 rs2) ≡ w →
       Assembles names a w (atomic_text m rd rs1 rs2 aq rl)
@@ -281,7 +293,8 @@ module _ (names : Names) (a : ℕ) (below : a < 2 ^ 32) (aligned : a % 4 ≡ 0) 
       let third = Mark 40 ∷ Word (name_of rs1) ∷ Mark 41 ∷ [] in
       let second = Word (name_of rs2) ∷ Mark 44 ∷ third in
       simp append_assoc
-      (line (ordered m aq rl) (operation.Atomic op (ordering aq rl)) (atomic_ins op (ordering aq rl) rd rs1 rs2) named
+      (line (ordered m aq rl) (operation.Atomic op (ordering aq rl))
+      (atomic_ins op (ordering aq rl) rd rs1 rs2) named
       (register_then rd d (register_then rs2 t (base_register rs1 s)))
       refl
       (rw (register_first rd second d, register_first rs2 third t, base_last rs1 s) refl)

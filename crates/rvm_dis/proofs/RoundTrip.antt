@@ -1,5 +1,5 @@
 -- The text of each row of the instruction table is a line that stands for the row's word.
-use Rattle.std.proofs.Common.{◌≡◌, ℕ, ◌+◌, ◌*◌, ◌/◌, ◌%◌, ◌^◌, ◌<◌, Bool, true, false, cond, eqb, eqb-true}
+use Rattle.std.proofs.Common.{◌≡◌, ℕ, ◌%◌, ◌^◌, ◌<◌, Bool, true, false, cond, eqb, eqb-true}
 use Rattle.std.proofs.Common.{ℤ, List, [], ◌∷◌, Option, Some, None, find, option_map, refl, sym, ap, ◌∙◌, arith, subst}
 use Rattle.std.specs.Prelude.{codes, IfSome}
 use Rattle.rvm_word.specs.Word.{signed_value}
@@ -170,38 +170,48 @@ fence_row m op only make means word_is text names a below aligned w fits is =
     by_test false e = data_line names a below aligned w fits
 
 -- a mnemonic with each ordering behind it
-record Orders (m : List ℕ) (op : Bool → Bool → Operation) : Type 0 where
-  pub each : (aq rl : Bool) → IsMnemonic (ordered m aq rl) (op aq rl)
-
-orders : (m : List ℕ) (op : Bool → Bool → Operation) →
+each_order : (m : List ℕ) (op : Bool → Bool → Operation) →
     Means (ordered m false false) (op false false) → Means (ordered m true false) (op true false) →
     Means (ordered m false true) (op false true) → Means (ordered m true true) (op true true) →
-    Orders m op
-orders m op p q r s = record { each = each }
-  where
-    each : (aq rl : Bool) → IsMnemonic (ordered m aq rl) (op aq rl)
-    each false false = named (ordered m false false) (op false false) p
-    each true false = named (ordered m true false) (op true false) q
-    each false true = named (ordered m false true) (op false true) r
-    each true true = named (ordered m true true) (op true true) s
+    (aq rl : Bool) → IsMnemonic (ordered m aq rl) (op aq rl)
+each_order m op p q r s false false = named (ordered m false false) (op false false) p
+each_order m op p q r s true false = named (ordered m true false) (op true false) q
+each_order m op p q r s false true = named (ordered m false true) (op false true) r
+each_order m op p q r s true true = named (ordered m true true) (op true true) s
 
-load_reserved_row : (m : List ℕ) → Orders m (λ aq rl. operation.LoadReserved (ordering aq rl)) →
+-- load-reserved and the other atomic instructions, as their mnemonics are read
+abbrev reserving : Bool → Bool → Operation
+reserving aq rl = operation.LoadReserved (ordering aq rl)
+
+abbrev atomic_as : Atomic → Bool → Bool → Operation
+atomic_as op aq rl = operation.Atomic op (ordering aq rl)
+
+load_reserved_row : (m : List ℕ) →
+    Means (ordered m false false) (reserving false false) →
+    Means (ordered m true false) (reserving true false) →
+    Means (ordered m false true) (reserving false true) →
+    Means (ordered m true true) (reserving true true) →
     ((a d s : ℕ) (aq rl : Bool) → text_of a (ins.LrW d s aq rl) ≡ load_reserved_text m d s aq rl) →
     Good (shape.Lr ins.LrW)
-load_reserved_row m mnemonics text names a below aligned w fits is =
+load_reserved_row m none acquires releases both text names a below aligned w fits is =
+    let mnemonic = each_order m reserving none acquires releases both (aq w) (rl w) in
     subst (Assembles names a w) (sym (text a (rd w) (rs1 w) (aq w) (rl w)))
-    (load_reserved_line names a below aligned w m (rd w) (rs1 w) (aq w) (rl w)
-    (mnemonics.each (aq w) (rl w)) (omega arith) (omega arith) is)
+    (load_reserved_line names a below aligned w m (rd w) (rs1 w) (aq w) (rl w) mnemonic
+    (omega arith) (omega arith) is)
 
 atomic_row : (m : List ℕ) (op : Atomic) →
-    Orders m (λ aq rl. operation.Atomic op (ordering aq rl)) →
+    Means (ordered m false false) (atomic_as op false false) →
+    Means (ordered m true false) (atomic_as op true false) →
+    Means (ordered m false true) (atomic_as op false true) →
+    Means (ordered m true true) (atomic_as op true true) →
     ((a d s t : ℕ) (aq rl : Bool) →
     text_of a (atomic_ins op (ordering aq rl) d s t) ≡ atomic_text m d s t aq rl) →
     Good (shape.Amo (λ d s t aq rl. atomic_ins op (ordering aq rl) d s t))
-atomic_row m op mnemonics text names a below aligned w fits is =
+atomic_row m op none acquires releases both text names a below aligned w fits is =
+    let mnemonic = each_order m (atomic_as op) none acquires releases both (aq w) (rl w) in
     subst (Assembles names a w) (sym (text a (rd w) (rs1 w) (rs2 w) (aq w) (rl w)))
-    (atomic_line names a below aligned w m op (rd w) (rs1 w) (rs2 w) (aq w) (rl w)
-    (mnemonics.each (aq w) (rl w)) (omega arith) (omega arith) (omega arith) is)
+    (atomic_line names a below aligned w m op (rd w) (rs1 w) (rs2 w) (aq w) (rl w) mnemonic
+    (omega arith) (omega arith) (omega arith) is)
 
 -- all rows
 
@@ -214,7 +224,7 @@ infixr 20 ◌▸◌
 x ▸ y = (x, y)
 
 good_rows : AllGood table
-unfolding table text_of keyword_of directives pseudo_instructions operation_of operations atomics word_of
+unfolding table text_of word_of keyword_of directives pseudo_instructions operation_of operations atomics
 good_rows =
     upper_row (codes "lui") upper.Lui refl (λ a d i. refl) ▸
     upper_row (codes "auipc") upper.Auipc refl (λ a d i. refl) ▸
@@ -273,25 +283,27 @@ good_rows =
     csr_immediate_row (codes "csrrwi") csr_immediate.Csrrwi refl (λ a d i c. refl) ▸
     csr_immediate_row (codes "csrrsi") csr_immediate.Csrrsi refl (λ a d i c. refl) ▸
     csr_immediate_row (codes "csrrci") csr_immediate.Csrrci refl (λ a d i c. refl) ▸
-    load_reserved_row (codes "lr.w") (orders _ _ refl refl refl refl) (λ a d s aq rl. refl) ▸
-    atomic_row (codes "sc.w") atomic.ScW (orders _ _ refl refl refl refl) (λ a d s t aq rl. refl) ▸
-    atomic_row (codes "amoswap.w") atomic.AmoswapW (orders _ _ refl refl refl refl) (λ a d s t aq rl. refl) ▸
-    atomic_row (codes "amoadd.w") atomic.AmoaddW (orders _ _ refl refl refl refl) (λ a d s t aq rl. refl) ▸
-    atomic_row (codes "amoxor.w") atomic.AmoxorW (orders _ _ refl refl refl refl) (λ a d s t aq rl. refl) ▸
-    atomic_row (codes "amoand.w") atomic.AmoandW (orders _ _ refl refl refl refl) (λ a d s t aq rl. refl) ▸
-    atomic_row (codes "amoor.w") atomic.AmoorW (orders _ _ refl refl refl refl) (λ a d s t aq rl. refl) ▸
-    atomic_row (codes "amomin.w") atomic.AmominW (orders _ _ refl refl refl refl) (λ a d s t aq rl. refl) ▸
-    atomic_row (codes "amomax.w") atomic.AmomaxW (orders _ _ refl refl refl refl) (λ a d s t aq rl. refl) ▸
-    atomic_row (codes "amominu.w") atomic.AmominuW (orders _ _ refl refl refl refl) (λ a d s t aq rl. refl) ▸
-    atomic_row (codes "amomaxu.w") atomic.AmomaxuW (orders _ _ refl refl refl refl) (λ a d s t aq rl. refl) ▸
+    load_reserved_row (codes "lr.w") refl refl refl refl (λ a d s aq rl. refl) ▸
+    atomic_row (codes "sc.w") atomic.ScW refl refl refl refl (λ a d s t aq rl. refl) ▸
+    atomic_row (codes "amoswap.w") atomic.AmoswapW refl refl refl refl (λ a d s t aq rl. refl) ▸
+    atomic_row (codes "amoadd.w") atomic.AmoaddW refl refl refl refl (λ a d s t aq rl. refl) ▸
+    atomic_row (codes "amoxor.w") atomic.AmoxorW refl refl refl refl (λ a d s t aq rl. refl) ▸
+    atomic_row (codes "amoand.w") atomic.AmoandW refl refl refl refl (λ a d s t aq rl. refl) ▸
+    atomic_row (codes "amoor.w") atomic.AmoorW refl refl refl refl (λ a d s t aq rl. refl) ▸
+    atomic_row (codes "amomin.w") atomic.AmominW refl refl refl refl (λ a d s t aq rl. refl) ▸
+    atomic_row (codes "amomax.w") atomic.AmomaxW refl refl refl refl (λ a d s t aq rl. refl) ▸
+    atomic_row (codes "amominu.w") atomic.AmominuW refl refl refl refl (λ a d s t aq rl. refl) ▸
+    atomic_row (codes "amomaxu.w") atomic.AmomaxuW refl refl refl refl (λ a d s t aq rl. refl) ▸
     tt
 
 -- a word's row is one of them
-found : (w : ℕ) (rows : List Row) → AllGood rows → IfSome (find (has_row w) rows) (λ r. Good r.shape)
+found : (w : ℕ) (rows : List Row) → AllGood rows →
+    IfSome (find (has_row w) rows) (λ r. Good r.shape)
 found w [] all = tt
 found w (r ∷ rows) all = by_test (has_row w r) (found w rows all.1)
   where
-    by_test : (b : Bool) → IfSome (find (has_row w) rows) (λ r. Good r.shape) → IfSome (cond b (Some r) (find (has_row w) rows)) (λ r. Good r.shape)
+    by_test : (b : Bool) → IfSome (find (has_row w) rows) (λ r. Good r.shape) →
+        IfSome (cond b (Some r) (find (has_row w) rows)) (λ r. Good r.shape)
     by_test true rest = all.0
     by_test false rest = rest
 
@@ -299,9 +311,11 @@ found w (r ∷ rows) all = by_test (has_row w r) (found w rows all.1)
 pub text_assembles : (names : Names) (a w : ℕ) → a < 2 ^ 32 → a % 4 ≡ 0 → w < 2 ^ 32 →
     IfSome (decoded w) (λ i. word_of i ≡ w) → Assembles names a w (text_at a w)
 unfolding decoded row_of
-text_assembles names a w below aligned fits again = by_row (find (has_row w) table) (found w table good_rows) again
+text_assembles names a w below aligned fits again =
+    by_row (find (has_row w) table) (found w table good_rows) again
   where
-    by_row : (o : Option Row) → IfSome o (λ r. Good r.shape) → IfSome (option_map (λ r. ins_of r.shape w) o) (λ i. word_of i ≡ w) →
+    by_row : (o : Option Row) → IfSome o (λ r. Good r.shape) →
+        IfSome (option_map (λ r. ins_of r.shape w) o) (λ i. word_of i ≡ w) →
         Assembles names a w (text_of_decoded a w (option_map (λ r. ins_of r.shape w) o))
     by_row None good is = data_line names a below aligned w fits
     by_row (Some r) good is = good names a below aligned w fits is

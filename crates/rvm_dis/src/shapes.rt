@@ -89,7 +89,12 @@ impl<'a> fmt::Display for Ordered<'a> {
 }
 
 /// Writes rd and the upper 20 bits.
-pub(crate) fn upper<W: Write>(writer: &mut W, mnemonic: &str, rd: Reg, imm: Imm20) -> Result<(), LinkFault>
+pub(crate) fn upper<W: Write>(
+    writer: &mut W,
+    mnemonic: &str,
+    rd: Reg,
+    imm: Imm20,
+) -> Result<(), LinkFault>
     ensures { OnOk result (Appends (W.contents writer.old) (W.contents writer.new)
         (upper_text mnemonic.now rd imm)) }
 {
