@@ -48,7 +48,7 @@ digits_more radix k n acc ne =
     let test : eqb (n / radix) 0 ≡ false = grind (arith, nat_tests) in
     simp test refl
 
--- a number below no power of a radix but the first is zero
+-- the first power, one, is above no number but zero
 pub power_left : (radix k n : ℕ) → n < radix ^ k → 0 < n → 0 < k
 power_left radix zero n below some = let one = pow-zero radix in absurd (omega (arith, one))
 power_left radix (suc k) n below some = omega arith
@@ -74,8 +74,8 @@ spread (suc count) (suc k) n acc some room small =
           let power = pow-suc 16 count in
           let below : n / 16 < 16 ^ count = omega (arith, power) in
           let left : 0 < count = power_left 16 count (n / 16) below (omega arith) in
-          let acc' = digit_glyph false (n % 16) ∷ acc in
-          let rest = spread count k (n / 16) acc' left (omega arith) below in (
+          let behind = digit_glyph false (n % 16) ∷ acc in
+          let rest = spread count k (n / 16) behind left (omega arith) below in (
             rest.0,
             ap (λ ds. some_zeros rest.0 ++ ds) (digits_more 16 k n acc ne) ∙ rest.1 ∙ sym together,
           )
