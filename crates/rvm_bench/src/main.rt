@@ -5,6 +5,7 @@
 
 use rvm_board::Board;
 use rvm_command::run::run;
+use rvm_debug::Debugged;
 use rvm_hart::RAM_BASE;
 use rvm_mem::{FlatMemory, PagedMemory, write_bytes};
 use rvm_paged::PagedRam;
@@ -38,10 +39,11 @@ fn run_over<M: PagedMemory + Drop>(
 ) -> anyhow::Result<ExitCode> {
     let mut ram = M::zeroed(rt.alloc(), PAGES)?;
     write_bytes(&mut ram, 0, image)?;
-    let mut board = match Board::new(rt.alloc(), harts, ram, RAM_BASE) {
+    let board = match Board::new(rt.alloc(), harts, ram, RAM_BASE) {
         Ok(board) => board,
         Err((error, _)) => return Err(anyhow::Error::from(error)),
     };
-    let _ = run(&mut board, MOST_STEPS, &[], &mut rt.stdout())?;
+    let mut guest = Debugged::new(board);
+    let _ = run(&mut guest, MOST_STEPS, &[], &mut rt.stdout())?;
     Ok(ExitCode::SUCCESS)
 }

@@ -44,13 +44,15 @@ in_word w [] rest all = ap (λ l. lexemes_from rest (InWord l)) (sym (append-nil
 in_word w (b ∷ v) rest all =
     let here = first_of (is_word b) (list_all is_word v) all in
     let there = second_of (is_word b) (list_all is_word v) all in
-    ap (λ t. followed_by (cond t (Some ([], InWord (w ++ b ∷ []))) (option_map (λ a. (Word w ∷ a.0, a.1)) (open_at b))) (lexemes_from (v ++ rest))) here
+    ap (λ t. followed_by (cond t (Some ([], InWord (w ++ b ∷ [])))
+    (option_map (λ a. (Word w ∷ a.0, a.1)) (open_at b))) (lexemes_from (v ++ rest))) here
     ∙ map_empty (lexemes_from (v ++ rest) (InWord (w ++ b ∷ [])))
     ∙ in_word (w ++ b ∷ []) v rest there
     ∙ ap (λ l. lexemes_from rest (InWord l)) (append_assoc w (b ∷ []) v)
 
 put_before : (w : List ℕ) (xs : List Lexeme) (o : Option (List Lexeme)) →
-    option_map (λ ts. (Word w ∷ xs) ++ ts) o ≡ option_map (λ ts. Word w ∷ ts) (option_map (λ ts. xs ++ ts) o)
+    option_map (λ ts. (Word w ∷ xs) ++ ts) o
+    ≡ option_map (λ ts. Word w ∷ ts) (option_map (λ ts. xs ++ ts) o)
 put_before w xs None = refl
 put_before w xs (Some ts) = refl
 
@@ -64,7 +66,8 @@ word_ends : (w rest : List ℕ) (ts : List Lexeme) → Stops rest → Reads rest
     lexemes_from rest (InWord w) ≡ Some (Word w ∷ ts)
 word_ends w [] ts stops reads = ap (option_map (λ (l : List Lexeme). Word w ∷ l)) reads.from_between
 word_ends w (b ∷ bs) ts stops reads =
-    ap (λ t. followed_by (cond t (Some ([], InWord (w ++ b ∷ []))) (option_map (λ a. (Word w ∷ a.0, a.1)) (open_at b))) (lexemes_from bs)) stops
+    ap (λ t. followed_by (cond t (Some ([], InWord (w ++ b ∷ [])))
+    (option_map (λ a. (Word w ∷ a.0, a.1)) (open_at b))) (lexemes_from bs)) stops
     ∙ ended w (open_at b) bs
     ∙ ap (option_map (λ (l : List Lexeme). Word w ∷ l)) reads.from_between
 
@@ -91,12 +94,14 @@ nothing = record { from_between = refl }
 -- a word alone
 pub last_word : (w : List ℕ) → is_one_word w ≡ true → Reads w (Word w ∷ [])
 last_word w one = record {
-  from_between = ap (λ l. lexemes_from l Between) (sym (append-nil w)) ∙ word_first w [] [] one tt nothing;
+  from_between = ap (λ l. lexemes_from l Between) (sym (append-nil w))
+      ∙ word_first w [] [] one tt nothing;
 }
 
 -- a blank before it
 pub blank : {text : List ℕ} {ts : List Lexeme} → Reads text ts → Reads (32 ∷ text) ts
-blank reads = record { from_between = ap (option_map (λ (l : List Lexeme). [] ++ l)) reads.from_between }
+blank reads =
+    record { from_between = ap (option_map (λ (l : List Lexeme). [] ++ l)) reads.from_between }
 
 -- a mark before it: a comma, a minus or a parenthesis
 pub mark : {text : List ℕ} {ts : List Lexeme} (m : ℕ) → open_at m ≡ Some (Mark m ∷ [], Between) →
@@ -108,7 +113,8 @@ mark {text} m is reads = record {
 }
 
 -- a comma and a blank before it
-pub comma : {text : List ℕ} {ts : List Lexeme} → Reads text ts → Reads (44 ∷ 32 ∷ text) (Mark 44 ∷ ts)
+pub comma : {text : List ℕ} {ts : List Lexeme} → Reads text ts →
+    Reads (44 ∷ 32 ∷ text) (Mark 44 ∷ ts)
 comma reads = mark 44 refl (blank reads)
 
 -- a word in parentheses

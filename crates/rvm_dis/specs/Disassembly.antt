@@ -1,4 +1,5 @@
--- The text of a word that stands at an address: a table from instructions to mnemonics and operands.
+-- The text of a word that stands at an address: a table from instructions to their mnemonics and
+-- the shapes of their operands.
 use Rattle.std.specs.Prelude.{ℕ, ◌++◌, List, Option, Some, None, codes}
 use Rattle.rvm_isa.specs.declared.ins.Ins.{Ins}
 use Rattle.rvm_isa.specs.declared.ins.Ins.TheVariants.{Lui, Auipc, Jal, Jalr, Beq, Bne, Blt, Bge}
@@ -64,8 +65,10 @@ text_of address (Div rd rs1 rs2) = registers_text (codes "div") rd rs1 rs2
 text_of address (Divu rd rs1 rs2) = registers_text (codes "divu") rd rs1 rs2
 text_of address (Rem rd rs1 rs2) = registers_text (codes "rem") rd rs1 rs2
 text_of address (Remu rd rs1 rs2) = registers_text (codes "remu") rd rs1 rs2
-text_of address (Fence rd rs1 imm) = fence_text (codes "fence") 0x0FF0000F (word_of (Fence rd rs1 imm))
-text_of address (FenceI rd rs1 imm) = fence_text (codes "fence.i") 0x0000100F (word_of (FenceI rd rs1 imm))
+text_of address (Fence rd rs1 imm) =
+    fence_text (codes "fence") 0x0FF0000F (word_of (Fence rd rs1 imm))
+text_of address (FenceI rd rs1 imm) =
+    fence_text (codes "fence.i") 0x0000100F (word_of (FenceI rd rs1 imm))
 text_of address Ecall = codes "ecall"
 text_of address Ebreak = codes "ebreak"
 text_of address Mret = codes "mret"

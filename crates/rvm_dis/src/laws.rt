@@ -10,7 +10,8 @@ use rvm_isa::decode::decode;
 /// The text of a word at an address that is a multiple of four is, as a line of assembly that
 /// stands there, the word again: without a label, four bytes long, and whatever values names have.
 pub fn the_text_of_a_word_is_the_word_again(address: u32, word: u32)
-    ensures { address % 4 ≡ 0 → (names : Names) → Assembles names address word (text_at address word) }
+    ensures { address % 4 ≡ 0 → (names : Names) →
+        Assembles names address word (text_at address word) }
 {
     let _ins = decode(word);
 }

@@ -89,7 +89,12 @@ impl<'a> fmt::Display for Ordered<'a> {
 }
 
 /// Writes rd and the upper 20 bits.
-pub fn upper<W: Write>(writer: &mut W, mnemonic: &str, rd: Reg, imm: Imm20) -> Result<(), LinkFault>
+pub(crate) fn upper<W: Write>(
+    writer: &mut W,
+    mnemonic: &str,
+    rd: Reg,
+    imm: Imm20,
+) -> Result<(), LinkFault>
     ensures { OnOk result (Appends (W.contents writer.old) (W.contents writer.new)
         (upper_text mnemonic.now rd imm)) }
 {
@@ -98,7 +103,7 @@ pub fn upper<W: Write>(writer: &mut W, mnemonic: &str, rd: Reg, imm: Imm20) -> R
 }
 
 /// Writes rd and the target of a jump at an address.
-pub fn jump<W: Write>(
+pub(crate) fn jump<W: Write>(
     writer: &mut W,
     mnemonic: &str,
     address: u32,
@@ -114,7 +119,7 @@ pub fn jump<W: Write>(
 }
 
 /// Writes rs1, rs2 and the target of a branch at an address.
-pub fn branch<W: Write>(
+pub(crate) fn branch<W: Write>(
     writer: &mut W,
     mnemonic: &str,
     address: u32,
@@ -132,7 +137,7 @@ pub fn branch<W: Write>(
 }
 
 /// Writes a register, which is loaded or stored, and an immediate before rs1 in parentheses.
-pub fn access<W: Write>(
+pub(crate) fn access<W: Write>(
     writer: &mut W,
     mnemonic: &str,
     first: Reg,
@@ -148,7 +153,7 @@ pub fn access<W: Write>(
 }
 
 /// Writes rd, rs1 and an immediate.
-pub fn immediate<W: Write>(
+pub(crate) fn immediate<W: Write>(
     writer: &mut W,
     mnemonic: &str,
     rd: Reg,
@@ -164,7 +169,7 @@ pub fn immediate<W: Write>(
 }
 
 /// Writes rd, rs1 and the amount of a shift.
-pub fn shift<W: Write>(
+pub(crate) fn shift<W: Write>(
     writer: &mut W,
     mnemonic: &str,
     rd: Reg,
@@ -180,7 +185,7 @@ pub fn shift<W: Write>(
 }
 
 /// Writes rd, rs1 and rs2.
-pub fn registers<W: Write>(
+pub(crate) fn registers<W: Write>(
     writer: &mut W,
     mnemonic: &str,
     rd: Reg,
@@ -196,7 +201,7 @@ pub fn registers<W: Write>(
 }
 
 /// Writes rd, the number of a CSR and rs1.
-pub fn csr_register<W: Write>(
+pub(crate) fn csr_register<W: Write>(
     writer: &mut W,
     mnemonic: &str,
     rd: Reg,
@@ -212,7 +217,7 @@ pub fn csr_register<W: Write>(
 }
 
 /// Writes rd, the number of a CSR and an immediate.
-pub fn csr_immediate<W: Write>(
+pub(crate) fn csr_immediate<W: Write>(
     writer: &mut W,
     mnemonic: &str,
     rd: Reg,
@@ -233,7 +238,7 @@ pub fn csr_immediate<W: Write>(
 }
 
 /// Writes rd, and rs1 in parentheses, of an instruction with an ordering.
-pub fn load_reserved<W: Write>(
+pub(crate) fn load_reserved<W: Write>(
     writer: &mut W,
     mnemonic: &str,
     rd: Reg,
@@ -251,7 +256,7 @@ pub fn load_reserved<W: Write>(
 }
 
 /// Writes rd, rs2, and rs1 in parentheses, of an instruction with an ordering.
-pub fn atomic<W: Write>(
+pub(crate) fn atomic<W: Write>(
     writer: &mut W,
     mnemonic: &str,
     rd: Reg,
@@ -270,7 +275,7 @@ pub fn atomic<W: Write>(
 }
 
 /// Writes a mnemonic alone.
-pub fn whole<W: Write>(writer: &mut W, mnemonic: &str) -> Result<(), LinkFault>
+pub(crate) fn whole<W: Write>(writer: &mut W, mnemonic: &str) -> Result<(), LinkFault>
     ensures { OnOk result (Appends (W.contents writer.old) (W.contents writer.new)
         mnemonic.now) }
 {
@@ -279,7 +284,7 @@ pub fn whole<W: Write>(writer: &mut W, mnemonic: &str) -> Result<(), LinkFault>
 }
 
 /// Writes a word as data.
-pub fn word_as_data<W: Write>(writer: &mut W, word: u32) -> Result<(), LinkFault>
+pub(crate) fn word_as_data<W: Write>(writer: &mut W, word: u32) -> Result<(), LinkFault>
     ensures { OnOk result (Appends (W.contents writer.old) (W.contents writer.new)
         (word_text word)) }
 {
@@ -288,7 +293,7 @@ pub fn word_as_data<W: Write>(writer: &mut W, word: u32) -> Result<(), LinkFault
 }
 
 /// Writes the mnemonic of a fence, which names one word alone, or any other word as data.
-pub fn fence<W: Write>(
+pub(crate) fn fence<W: Write>(
     writer: &mut W,
     mnemonic: &str,
     named: u32,

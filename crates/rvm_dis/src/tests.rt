@@ -1,1 +1,118 @@
-//! One word of each row of the table, and words without a row, with their texts.
+//! The texts are those that another assembler (`llvm-mc`) turns into these words: a check of the
+//! definitions, which the contracts stand on.
+
+use super::*;
+use std::test::Fail;
+
+/// One word of each row of the table, at 0x80000000.
+const ROWS: [(u32, &str); 68] = [
+    (0x100001B7, "lui gp, 0x10000"),
+    (0xFFFFF517, "auipc a0, 0xfffff"),
+    (0xFFDFF0EF, "jal ra, 0x7ffffffc"),
+    (0xFFFC08E7, "jalr a7, -1(s8)"),
+    (0x106F8063, "beq t6, t1, 0x80000100"),
+    (0x41469063, "bne a3, s4, 0x80000400"),
+    (0x002DC463, "blt s11, sp, 0x80000008"),
+    (0x8104D063, "bge s1, a6, 0x7ffff000"),
+    (0x7FEBEFE3, "bltu s7, t5, 0x80000ffe"),
+    (0xFEC2FFE3, "bgeu t0, a2, 0x7ffffffe"),
+    (0xFFFD0983, "lb s3, -1(s10)"),
+    (0x00541083, "lh ra, 5(s0)"),
+    (0x064B2783, "lw a5, 100(s6)"),
+    (0xFB324E83, "lbu t4, -77(tp)"),
+    (0x80095583, "lhu a1, -2048(s2)"),
+    (0x7F900FA3, "sb s9, 2047(zero)"),
+    (0x00771023, "sh t2, 0(a4)"),
+    (0xFF5E2FA3, "sw s5, -1(t3)"),
+    (0x00550193, "addi gp, a0, 5"),
+    (0x064C2893, "slti a7, s8, 100"),
+    (0xFB333F93, "sltiu t6, t1, -77"),
+    (0x800A4693, "xori a3, s4, -2048"),
+    (0x7FF16D93, "ori s11, sp, 2047"),
+    (0x00087493, "andi s1, a6, 0"),
+    (0x000F1B93, "slli s7, t5, 0"),
+    (0x01F65293, "srli t0, a2, 31"),
+    (0x407D5993, "srai s3, s10, 7"),
+    (0x00F400B3, "add ra, s0, a5"),
+    (0x404E8B33, "sub s6, t4, tp"),
+    (0x019915B3, "sll a1, s2, s9"),
+    (0x00E3A033, "slt zero, t2, a4"),
+    (0x003E3AB3, "sltu s5, t3, gp"),
+    (0x0188C533, "xor a0, a7, s8"),
+    (0x00D35FB3, "srl t6, t1, a3"),
+    (0x402DDA33, "sra s4, s11, sp"),
+    (0x017864B3, "or s1, a6, s7"),
+    (0x00C2FF33, "and t5, t0, a2"),
+    (0x021D09B3, "mul s3, s10, ra"),
+    (0x03679433, "mulh s0, a5, s6"),
+    (0x02B22EB3, "mulhsu t4, tp, a1"),
+    (0x020CB933, "mulhu s2, s9, zero"),
+    (0x035743B3, "div t2, a4, s5"),
+    (0x02A1DE33, "divu t3, gp, a0"),
+    (0x03FC68B3, "rem a7, s8, t6"),
+    (0x0346F333, "remu t1, a3, s4"),
+    (0x0FF0000F, "fence"),
+    (0x0000100F, "fence.i"),
+    (0x00000073, "ecall"),
+    (0x00100073, "ebreak"),
+    (0x30200073, "mret"),
+    (0x10500073, "wfi"),
+    (0x30511DF3, "csrrw s11, 0x305, sp"),
+    (0x001824F3, "csrrs s1, 0x001, a6"),
+    (0xF14F3BF3, "csrrc s7, 0xf14, t5"),
+    (0x300052F3, "csrrwi t0, 0x300, 0"),
+    (0x7FFFE673, "csrrsi a2, 0x7ff, 31"),
+    (0xC004F9F3, "csrrci s3, 0xc00, 9"),
+    (0x1400AD2F, "lr.w.aq s10, (ra)"),
+    (0x1AFB242F, "sc.w.rl s0, a5, (s6)"),
+    (0x0E45AEAF, "amoswap.w.aqrl t4, tp, (a1)"),
+    (0x0190292F, "amoadd.w s2, s9, (zero)"),
+    (0x24EAA3AF, "amoxor.w.aq t2, a4, (s5)"),
+    (0x62352E2F, "amoand.w.rl t3, gp, (a0)"),
+    (0x478FA8AF, "amoor.w.aqrl a7, s8, (t6)"),
+    (0x80DA232F, "amomin.w t1, a3, (s4)"),
+    (0xA424ADAF, "amomax.w.aq s11, sp, (s1)"),
+    (0xC37F282F, "amominu.w.rl a6, s7, (t5)"),
+    (0xE6C9A2AF, "amomaxu.w.aqrl t0, a2, (s3)"),
+];
+
+/// No row; a fence of writes alone, one with total store ordering, and a fence.i with an
+/// immediate; a shift by 32.
+const DATA: [(u32, &str); 6] = [
+    (0x00000000, ".word 0x00000000"),
+    (0xFFFFFFFF, ".word 0xffffffff"),
+    (0x0110000F, ".word 0x0110000f"),
+    (0x8330000F, ".word 0x8330000f"),
+    (0x0010100F, ".word 0x0010100f"),
+    (0x02051513, ".word 0x02051513"),
+];
+
+#[test]
+fn each_row_and_other_words_have_their_texts(rt: HostRuntime) -> Result<(), Fail> {
+    let mut written = Vec::new(rt.alloc());
+    for (word, text) in ROWS.iter().chain(DATA.iter()) {
+        written.clear();
+        if write_ins(0x80000000, *word, &mut written).is_err() {
+            written.clear();
+            write_ins(0x80000000, *word, &mut written)?;
+        }
+        assert!(rt; written.as_slice() == text.as_bytes(), "at {text}");
+    }
+    Ok(())
+}
+
+#[test]
+fn a_target_is_found_modulo_2_to_the_32(rt: HostRuntime) -> Result<(), Fail> {
+    let mut text = [0; 24];
+    let mut room = text.as_mut_slice();
+    write_ins(0xFFFFFFFC, 0x008000EF, &mut room)?;
+    assert!(rt; &text[..18] == b"jal ra, 0x00000004".as_slice());
+    Ok(())
+}
+
+#[test]
+fn a_failed_write_is_told(rt: HostRuntime) {
+    let mut text = [0; 4];
+    let mut room = text.as_mut_slice();
+    assert_eq!(rt; write_ins(0, 0x00000073, &mut room), Err(LinkFault));
+}

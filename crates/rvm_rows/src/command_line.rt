@@ -9,10 +9,15 @@ use std::test::Fail;
 #[test]
 fn options_have_defaults(rt: HostRuntime) -> Result<(), Fail> {
     let words = ["rvmove", "run", "--raw", "guest.bin"];
-    let Arguments::Run(run) = parse_args(rt.alloc(), &words)?;
-    assert_numbers(&rt, &run, [1, 256, 1_000_000]);
-    assert_eq!(rt; run.image, "guest.bin");
-    assert!(rt; run.input.is_none());
+    match parse_args(rt.alloc(), &words)? {
+        Arguments::Run(run) => {
+            assert_numbers(&rt, &run, [1, 256, 1_000_000]);
+            assert_eq!(rt; run.guest.image, "guest.bin");
+            assert!(rt; run.guest.raw);
+            assert!(rt; run.input.is_none());
+        }
+        other => panic!(rt; "{other:?}"),
+    }
     Ok(())
 }
 
@@ -21,8 +26,7 @@ fn options_reach_their_limits(rt: HostRuntime) -> Result<(), Fail> {
     let words = [
         "rvmove",
         "run",
-        "guest.bin",
-        "--raw",
+        "guest.elf",
         "--harts=8",
         "--pages",
         "4096",
@@ -31,14 +35,38 @@ fn options_reach_their_limits(rt: HostRuntime) -> Result<(), Fail> {
         "--input",
         "keys.txt",
     ];
-    let Arguments::Run(run) = parse_args(rt.alloc(), &words)?;
-    assert_numbers(&rt, &run, [8, 4096, 1_000_000_000]);
-    assert_eq!(rt; run.input, Some("keys.txt"));
+    match parse_args(rt.alloc(), &words)? {
+        Arguments::Run(run) => {
+            assert_numbers(&rt, &run, [8, 4096, 1_000_000_000]);
+            assert!(rt; !run.guest.raw);
+            assert_eq!(rt; run.input, Some("keys.txt"));
+        }
+        other => panic!(rt; "{other:?}"),
+    }
+    Ok(())
+}
+
+#[test]
+fn asm_and_dis_take_their_files(rt: HostRuntime) -> Result<(), Fail> {
+    match parse_args(rt.alloc(), &["rvmove", "asm", "hello.s", "hello.elf"])? {
+        Arguments::Asm(asm) => {
+            assert_eq!(rt; asm.source, "hello.s");
+            assert_eq!(rt; asm.output, "hello.elf");
+        }
+        other => panic!(rt; "{other:?}"),
+    }
+    match parse_args(rt.alloc(), &["rvmove", "dis", "--raw", "hello.bin"])? {
+        Arguments::Dis(dis) => {
+            assert_eq!(rt; dis.image, "hello.bin");
+            assert!(rt; dis.raw);
+        }
+        other => panic!(rt; "{other:?}"),
+    }
     Ok(())
 }
 
 fn assert_numbers(rt: &impl Abort, run: &RunArguments, want: [u32; 3]) {
-    assert_eq!(rt; [run.harts, run.pages, run.steps], want);
+    assert_eq!(rt; [run.guest.harts, run.guest.pages, run.steps], want);
 }
 
 #[test]
@@ -71,11 +99,13 @@ fn other_words_are_refused(rt: HostRuntime) -> Result<(), Fail> {
 fn a_command_and_its_image_are_required(rt: HostRuntime) {
     let required = ErrorKind::MissingRequiredArgument;
     let no_command = ErrorKind::DisplayHelpOnMissingArgumentOrSubcommand;
-    let faults: [(&[&str], ErrorKind, i32); 6] = [
+    let faults: [(&[&str], ErrorKind, i32); 8] = [
         (&["rvmove"], no_command, 2),
         (&["rvmove", "walk"], ErrorKind::InvalidSubcommand, 2),
         (&["rvmove", "run", "--raw"], required, 2),
-        (&["rvmove", "run", "guest.bin"], required, 2),
+        (&["rvmove", "asm", "hello.s"], required, 2),
+        (&["rvmove", "dis"], required, 2),
+        (&["rvmove", "dis", "hello.elf", "--harts", "2"], ErrorKind::UnknownArgument, 2),
         (&["rvmove", "--help"], ErrorKind::DisplayHelp, 0),
         (&["rvmove", "run", "--help"], ErrorKind::DisplayHelp, 0),
     ];

@@ -1,6 +1,6 @@
 //! `rvmove run`: what it prints, and its status.
 
-use rvm_command::arguments::RunArguments;
+use rvm_command::arguments::{GuestArguments, RunArguments};
 use rvm_command::run_command::run_command;
 use std::alloc::{AllocError, Global};
 use std::io;
@@ -10,7 +10,7 @@ use std::test::Fail;
 
 /// Sends "Hi" and a line's end, and halts with 0: lui t0, 0x10000; then three times addi t1, zero,
 /// BYTE and sw t1, 0(t0); lui t2, 0x100; sw zero, 0(t2).
-const HI: [u32; 9] = [
+pub const HI: [u32; 9] = [
     0x1000_02B7,
     0x0480_0313,
     0x0062_A023,
@@ -102,21 +102,24 @@ fn a_failed_write_is_a_refusal(rt: HostRuntime) -> Result<(), Fail> {
 }
 
 /// Arguments within their limits.
-fn arguments(rt: &impl Abort, harts: u32, pages: u32, steps: u32) -> RunArguments<'static> {
+pub fn arguments(rt: &impl Abort, harts: u32, pages: u32, steps: u32) -> RunArguments<'static> {
     assert!(rt; 1 <= harts && harts <= 8);
     assert!(rt; 1 <= pages && pages <= 4096);
     assert!(rt; 1 <= steps && steps <= 1_000_000_000);
     RunArguments {
-        image: "guest.bin",
+        guest: GuestArguments {
+            image: "guest.bin",
+            raw: true,
+            harts,
+            pages,
+        },
         input: None,
-        harts,
-        pages,
         steps,
     }
 }
 
 /// The bytes of words, as an image has them.
-fn bytes_of(alloc: Global, words: &[u32]) -> Result<Vec<u8>, AllocError> {
+pub fn bytes_of(alloc: Global, words: &[u32]) -> Result<Vec<u8>, AllocError> {
     let mut bytes = Vec::new(alloc);
     for word in words {
         bytes.extend_from_slice(&word.to_le_bytes())?;
@@ -126,8 +129,8 @@ fn bytes_of(alloc: Global, words: &[u32]) -> Result<Vec<u8>, AllocError> {
 
 /// A writer that takes so many bytes, and then fails.
 #[derive(Drop)]
-struct Narrow {
-    room: usize,
+pub struct Narrow {
+    pub room: usize,
 }
 
 impl Write for Narrow {
