@@ -5,3 +5,4 @@ pub mod Blank
 pub mod Placing
 pub mod Loaded
 pub mod Writing
+pub mod ReadBack

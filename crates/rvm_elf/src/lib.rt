@@ -3,10 +3,11 @@
 //! Stands on `rvm_image` and `rvm_board`, and knows nothing of text, runs or the operating system's
 //! files.
 //!
-//! To be read in this order: `error`, `layout`, `read`, `raw`, `write`, `loading`.
+//! To be read in this order: `error`, `layout`, `read`, `raw`, `write`, `loading`, `laws`.
 #![tactic(auto)]
 
 mod error;
+pub mod laws;
 mod layout;
 mod loading;
 mod raw;
