@@ -26,9 +26,9 @@ number_at n (suc i) (x ∷ numbers) rest below small =
     let one : n * suc i ≡ n + n * i = omega arith in
     ap (little_number n)
     (ap (λ k. drop k ((little_bytes n x ++ flat_map (little_bytes n) numbers) ++ rest)) one
-      ∙ sym (drop-drop (n * i) n ((little_bytes n x ++ flat_map (little_bytes n) numbers) ++ rest))
-      ∙ ap (λ xs. drop (n * i) (drop n xs)) (append_assoc (little_bytes n x) (flat_map (little_bytes n) numbers) rest)
-      ∙ ap (drop (n * i)) (drop_at (little_bytes n x) others n (length-bytes_low_first 0 n x)))
+    ∙ sym (drop-drop (n * i) n ((little_bytes n x ++ flat_map (little_bytes n) numbers) ++ rest))
+    ∙ ap (λ xs. drop (n * i) (drop n xs)) (append_assoc (little_bytes n x) (flat_map (little_bytes n) numbers) rest)
+    ∙ ap (drop (n * i)) (drop_at (little_bytes n x) others n (length-bytes_low_first 0 n x)))
     ∙ number_at n i numbers rest (omega arith) small
 
 -- what a program header is read as

@@ -12,6 +12,8 @@ mod layout;
 mod loading;
 mod raw;
 mod read;
+#[cfg(test)]
+mod tests;
 mod write;
 
 pub use error::{ReadError, WriteError};
