@@ -1,3 +1,4 @@
+mod Examples
 pub mod Headers
 pub mod Faults
 pub mod Ranges
