@@ -1,5 +1,5 @@
 -- A file that was written, read back.
-use Rattle.std.proofs.Common.{◌≡◌, ℕ, zero, suc, ◌+◌, ◌-◌, ◌*◌, ◌^◌, ◌<◌, ◌≤◌, Bool, true, false, not, ◌&&◌, ◌||◌, ◌==◌, nat_lt, nat_le, if◌then◌else◌, List, [], ◌∷◌, ◌++◌, Option, Some, None, Result, Ok, Err, inl, inr, length, take, drop, get_or, filter, slice_range, refl, sym, ap, ◌∙◌, arith, append_assoc, length-append}
+use Rattle.std.proofs.Common.{◌≡◌, ℕ, zero, suc, ◌+◌, ◌-◌, ◌*◌, ◌^◌, ◌<◌, ◌≤◌, Bool, true, false, not, ◌&&◌, ◌||◌, ◌==◌, nat_lt, if◌then◌else◌, List, [], ◌∷◌, ◌++◌, Some, None, Ok, Err, inl, inr, length, take, drop, get_or, slice_range, refl, sym, ap, ◌∙◌, arith, append_assoc, length-append}
 use Rattle.std.specs.List.{flat_map}
 use Rattle.std.specs.Option.{option_to_list}
 use Rattle.std.proofs.lemmas.Bool.{ltb-true, leb-true, le-ltb, cases_lt}
@@ -7,11 +7,10 @@ use Rattle.std.proofs.lemmas.List.{take_at, drop_at, drop-drop, length-drop}
 use Rattle.byteorder.specs.Endian.{little_number, little_bytes}
 use Rattle.byteorder.specs.Numbers.{little_number-reads_back, length-bytes_low_first}
 use Rattle.rvm_image.specs.Images.{Piece, size}
-use Rattle.rvm_elf.specs.declared.error.ReadError.{ReadError}
-use Rattle.rvm_elf.specs.declared.error.ReadError.TheVariants.{BadMagic, NotRiscV32, Truncated, TooMany}
+use Rattle.rvm_elf.specs.declared.error.ReadError.TheVariants.{NotRiscV32, Truncated, TooMany}
 use Rattle.rvm_elf.specs.declared.layout.ProgramHeader.{ProgramHeader}
-use Rattle.rvm_elf.specs.File.{◌>>=◌, field, header_at, is_elf, is_riscv32, lacks_headers, lacks_bytes, header_checked, headers_checked, piece_of_header, pieces_from, checked, meaning, e_entry, e_phoff, e_phnum}
-use Rattle.rvm_elf.specs.Spelling.{all_bytes, is_small, are_small, are_addressed, in_reach, IsWritable, with_size, elf_header, program_header, program_headers, file_of}
+use Rattle.rvm_elf.specs.File.{◌>>=◌, field, header_at, is_riscv32, lacks_headers, header_checked, headers_checked, piece_of_header, pieces_from, checked, meaning, e_entry, e_phoff, e_phnum}
+use Rattle.rvm_elf.specs.Spelling.{all_bytes, are_small, are_addressed, IsWritable, with_size, elf_header, program_header, program_headers, file_of}
 use Rattle.rvm_elf.proofs.Placing.{and_first, and_second}
 
 -- a number among others of n bytes each
