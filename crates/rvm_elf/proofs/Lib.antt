@@ -1,3 +1,4 @@
+mod Examples
 pub mod Headers
 pub mod Faults
 pub mod Ranges
@@ -5,3 +6,4 @@ pub mod Blank
 pub mod Placing
 pub mod Loaded
 pub mod Writing
+pub mod ReadBack

@@ -1,5 +1,5 @@
 -- RAM with pieces in it, byte by byte.
-use Rattle.std.proofs.Common.{◌≡◌, ℕ, ◌+◌, ◌-◌, ◌<◌, ◌≤◌, true, ◌⊎◌, inl, inr, List, [], ◌∷◌, ◌++◌, Option, Some, None, length, map, get_or, replicate, refl, sym, ap, ◌∙◌, arith, length-append}
+use Rattle.std.proofs.Common.{◌≡◌, ℕ, ◌+◌, ◌-◌, ◌<◌, ◌≤◌, true, ◌⊎◌, inl, inr, List, [], ◌∷◌, ◌++◌, Option, Some, None, length, get_or, replicate, refl, sym, ap, ◌∙◌, arith, length-append}
 use Rattle.std.specs.Option.{unwrap_or}
 use Rattle.std.proofs.lemmas.Bool.{le-leb, lt-ltb, lt-leb, le-ltb, cases_lt}
 use Rattle.std.proofs.lemmas.Bool.Decides.{nat_tests}
@@ -7,11 +7,9 @@ use Rattle.std.proofs.lemmas.List.{length-replicate, get_or-replicate, get_or_ap
 use Rattle.std.proofs.lemmas.List.FromFn.{get_or-map-range_with_len, length-map-range_with_len}
 use Rattle.rvm_mem.specs.Bytes.{replaced}
 use Rattle.rvm_hart.specs.Bus.{ram_base}
-use Rattle.rvm_board.specs.Board.{BoardState}
-use Rattle.rvm_board.specs.Pokes.{cleared}
 use Rattle.rvm_image.specs.Images.{Piece, size, in_piece, or_else, byte_at}
-use Rattle.rvm_elf.specs.Load.{piece_fits, pieces_fit, ram_of, at_entry, loaded}
-use Rattle.rvm_elf.specs.Placing.{with_ram, with_harts, placed, placed_all}
+use Rattle.rvm_elf.specs.Load.{piece_fits, pieces_fit, ram_of}
+use Rattle.rvm_elf.specs.Placing.{placed, placed_all}
 use Rattle.rvm_elf.proofs.Ranges.{replaced_nothing, length-replaced, before_replaced, within_replaced, behind_replaced}
 use Rattle.rvm_elf.proofs.Placing.{and_first, and_second}
 
@@ -135,14 +133,3 @@ all_placed ps count fits =
     get_or-placed_all ps (replicate count 0) k fit
     ∙ ap (unwrap_or (byte_at ps (ram_base + k))) (get_or-replicate count k 0 0 less)
     ∙ sym (get_or-map-range_with_len byte 0 count k k 0 less (omega arith)))
-
--- cleared, with all pieces in RAM, and each hart at the entry
-pub all_loaded : (entry : ℕ) (ps : List Piece) (old blank filled new : BoardState) → pieces_fit ps (length old.plain.reach.bytes) ≡ true
-    → blank ≡ cleared old → filled ≡ with_ram (placed_all ps blank.plain.reach.bytes) blank → new ≡ with_harts (map (at_entry entry) filled.plain.harts) filled
-    → new.plain ≡ loaded entry ps old.plain
-all_loaded entry ps old blank filled new fits first second third =
-    ap (λ (b : BoardState). b.plain)
-    (third
-    ∙ ap (λ (b : BoardState). with_harts (map (at_entry entry) b.plain.harts) b) second
-    ∙ ap (λ (b : BoardState). with_harts (map (at_entry entry) b.plain.harts) (with_ram (placed_all ps b.plain.reach.bytes) b)) first
-    ∙ ap (λ ram. with_harts (map (at_entry entry) old.plain.harts) (with_ram ram (cleared old))) (all_placed ps (length old.plain.reach.bytes) fits))

@@ -1,6 +1,6 @@
 -- The ELF file of an image (System V ABI, "Object Files"): its header, a program header for each piece, and the bytes
 -- of the pieces, one after the other.
-use Rattle.std.specs.Prelude.{ℕ, ◌+◌, ◌*◌, ◌^◌, Bool, true, ◌&&◌, nat_le, nat_lt, List, [], ◌∷◌, ◌++◌, length}
+use Rattle.std.specs.Prelude.{◌≡◌, ℕ, ◌+◌, ◌*◌, ◌^◌, ◌<◌, ◌≤◌, Bool, true, ◌&&◌, nat_le, nat_lt, List, [], ◌∷◌, ◌++◌, length, filter}
 use Rattle.std.specs.List.{flat_map}
 use Rattle.byteorder.specs.Endian.{little_bytes}
 use Rattle.rvm_image.specs.Images.{Piece, size}
@@ -49,3 +49,19 @@ program_headers offset (p ∷ ps) = program_header offset p ++ program_headers (
 unfoldable pub file_of : (entry : ℕ) → List Piece → List ℕ
 file_of entry ps =
     elf_header entry (length ps) ++ (program_headers (52 + 32 * length ps) ps ++ all_bytes ps)
+
+-- the address of each piece fits its field
+unfoldable pub are_addressed : List Piece → Bool
+are_addressed [] = true
+are_addressed (p ∷ ps) = nat_lt p.address (2 ^ 32) && are_addressed ps
+
+-- an image that has a file
+pub record IsWritable (entry : ℕ) (ps : List Piece) : Type 0 where
+  pub entry_fits : entry < 2 ^ 32
+  pub few : length ps ≤ 16
+  pub addressed : are_addressed ps ≡ true
+  pub reach : in_reach ps ≡ true
+
+-- the pieces that have a byte or a zero
+abbrev pub with_size : List Piece → List Piece
+with_size ps = filter (λ p. nat_lt 0 (size p)) ps

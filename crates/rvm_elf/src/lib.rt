@@ -3,14 +3,17 @@
 //! Stands on `rvm_image` and `rvm_board`, and knows nothing of text, runs or the operating system's
 //! files.
 //!
-//! To be read in this order: `error`, `layout`, `read`, `raw`, `write`, `loading`.
+//! To be read in this order: `error`, `layout`, `read`, `raw`, `write`, `loading`, `laws`.
 #![tactic(auto)]
 
 mod error;
+pub mod laws;
 mod layout;
 mod loading;
 mod raw;
 mod read;
+#[cfg(test)]
+mod tests;
 mod write;
 
 pub use error::{ReadError, WriteError};

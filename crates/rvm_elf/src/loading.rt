@@ -23,6 +23,7 @@ pub struct OutsideRam;
 /// reservation; all else stays. It takes no memory. `OutsideRam`, and nothing changes, where the
 /// entry is no multiple of four in RAM, or a segment that has a byte or a zero is not wholly in
 /// RAM.
+#[tactic(auto, using(crate::proofs::Loaded::all_placed))]
 pub fn load<M: Memory>(image: &Image, board: &mut Board<M>) -> Result<(), OutsideRam>
     ensures plain { OnOk result (board.new.plain
         ≡ loaded image.now.entry (pieces_of image.now.segments.items) board.old.plain) }

@@ -3,7 +3,7 @@
 ghost use Rattle.std.specs.Prelude.{◌≡◌, ◌+◌, ◌*◌, ◌++◌, ◌≤◌, ◌<◌, IfOk, OnOk, IfErr, length, option_map, slice_range};
 ghost use Rattle.std.specs.Option.{option_to_list};
 ghost use Rattle.rvm_image.specs.Images.{piece_of, pieces_of};
-ghost use Rattle.rvm_elf.specs.File.{is_elf, is_riscv32, lacks_headers, is_loaded, lacks_bytes, header_at, header_checked, headers_checked, piece_of_header, pieces_from, checked, meaning, Refuses, e_phnum, e_phoff};
+ghost use Rattle.rvm_elf.specs.File.{is_elf, is_riscv32, is_loaded, header_checked, headers_checked, piece_of_header, pieces_from, checked, meaning, Refuses, e_phnum, e_phoff};
 
 use crate::error::ReadError;
 use crate::layout::{

@@ -1,0 +1,41 @@
+-- The definitions computed on small cases, against values worked out by hand from the format.
+use Rattle.std.proofs.Common.{◌≡◌, List, [], ◌∷◌, Ok, Err, false, length, replicate, refl}
+use Rattle.rvm_image.specs.Images.{Piece, piece}
+use Rattle.rvm_elf.specs.declared.error.ReadError.TheVariants.{BadMagic, Truncated}
+use Rattle.rvm_elf.specs.File.{checked, headers_checked, pieces_from, meaning}
+use Rattle.rvm_elf.specs.Load.{fits, pieces_fit, ram_of}
+use Rattle.rvm_elf.specs.Spelling.{all_bytes, program_headers, file_of}
+
+-- nothing, and the magic bytes alone
+an_empty_file_is_no_elf_file : meaning [] ≡ Err BadMagic
+unfolding meaning checked
+an_empty_file_is_no_elf_file = refl
+
+the_magic_bytes_alone_are_cut_short : meaning (0x7F ∷ 0x45 ∷ 0x4C ∷ 0x46 ∷ []) ≡ Err Truncated
+unfolding meaning checked
+the_magic_bytes_alone_are_cut_short = refl
+
+-- nine words of code
+code : List Piece
+code = piece 0x80000000 (replicate 36 7) ∷ []
+
+a_file_of_nine_words_has_120_bytes : length (file_of 0x80000000 code) ≡ 120
+unfolding code file_of program_headers all_bytes
+a_file_of_nine_words_has_120_bytes = refl
+
+it_is_read_back : meaning (file_of 0x80000000 code) ≡ Ok (0x80000000, code)
+unfolding code file_of program_headers all_bytes meaning checked headers_checked pieces_from
+it_is_read_back = refl
+
+-- a byte and a zero over four bytes
+overlapping : List Piece
+overlapping = piece 0x80000000 (1 ∷ 2 ∷ 3 ∷ 4 ∷ []) ∷ record { address = 0x80000001; bytes = 9 ∷ []; zeros = 1 } ∷ []
+
+the_later_piece_decides : ram_of 6 overlapping ≡ 1 ∷ 9 ∷ 0 ∷ 4 ∷ 0 ∷ 0 ∷ []
+unfolding overlapping
+the_later_piece_decides = refl
+
+-- the address and the size of a piece do not wrap
+a_piece_past_the_last_address_does_not_fit : fits 0x80000000 (record { address = 0xFFFFFFFF; bytes = []; zeros = 0xFFFFFFFF } ∷ []) 4096 ≡ false
+unfolding pieces_fit
+a_piece_past_the_last_address_does_not_fit = refl

@@ -1,0 +1,12 @@
+//! What holds of every file that is written.
+
+ghost use Rattle.std.specs.Prelude.{◌≡◌, ℕ, List, Ok};
+ghost use Rattle.rvm_image.specs.Images.{Piece};
+ghost use Rattle.rvm_elf.specs.File.{meaning};
+ghost use Rattle.rvm_elf.specs.Spelling.{IsWritable, file_of, with_size};
+
+/// The file of an image is read as the image, without segments that have no byte and no zero.
+pub fn a_written_file_is_read_back()
+    ensures { (entry : ℕ) (ps : List Piece) → IsWritable entry ps
+        → meaning (file_of entry ps) ≡ Ok (entry, with_size ps) }
+{}
