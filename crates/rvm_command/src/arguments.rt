@@ -87,13 +87,15 @@ pub fn parse_args<'a, S: AsStr>(alloc: Global, words: &'a [S]) -> Result<Argumen
 
 /// The command line that the program takes.
 fn program<'a>(alloc: Global) -> Result<Command<'a>, Error> {
-    Ok(Command::new(alloc, "rvmove")
-        .about("Assembles, disassembles and runs guests of a small RISC-V board")
-        .subcommand_required(true)
-        .arg_required_else_help(true)
-        .subcommand(run_command(alloc)?)?
-        .subcommand(asm_command(alloc)?)?
-        .subcommand(dis_command(alloc)?)?)
+    Ok(
+        Command::new(alloc, "rvmove")
+            .about("Assembles, disassembles and runs guests of a small RISC-V board")
+            .subcommand_required(true)
+            .arg_required_else_help(true)
+            .subcommand(run_command(alloc)?)?
+            .subcommand(asm_command(alloc)?)?
+            .subcommand(dis_command(alloc)?)?,
+    )
 }
 
 /// The file of an image.
@@ -126,11 +128,13 @@ fn guest_command<'a>(command: Command<'a>, alloc: Global) -> Result<Command<'a>,
         .default_value("256")
         .value_parser(value_parser!(u32).range(1..=4096))
         .help("How many pages of 4096 bytes of RAM, 1 to 4096");
-    Ok(command
-        .arg(image_argument(alloc))?
-        .arg(raw_argument(alloc))?
-        .arg(harts)?
-        .arg(pages)?)
+    Ok(
+        command
+            .arg(image_argument(alloc))?
+            .arg(raw_argument(alloc))?
+            .arg(harts)?
+            .arg(pages)?,
+    )
 }
 
 /// The words that `run` takes.
@@ -159,18 +163,22 @@ fn asm_command<'a>(alloc: Global) -> Result<Command<'a>, Error> {
         .value_name("OUT")
         .required(true)
         .help("The ELF file that is written");
-    Ok(Command::new(alloc, "asm")
-        .about("Assembles a text into an ELF file")
-        .arg(source)?
-        .arg(output)?)
+    Ok(
+        Command::new(alloc, "asm")
+            .about("Assembles a text into an ELF file")
+            .arg(source)?
+            .arg(output)?,
+    )
 }
 
 /// The words that `dis` takes.
 fn dis_command<'a>(alloc: Global) -> Result<Command<'a>, Error> {
-    Ok(Command::new(alloc, "dis")
-        .about("Writes the instructions of an image")
-        .arg(image_argument(alloc))?
-        .arg(raw_argument(alloc))?)
+    Ok(
+        Command::new(alloc, "dis")
+            .about("Writes the instructions of an image")
+            .arg(image_argument(alloc))?
+            .arg(raw_argument(alloc))?,
+    )
 }
 
 /// The arguments of `run`, or which of them is not what it must be.

@@ -1,6 +1,6 @@
 //! `rvmove asm`: from assembly text to an ELF file.
 
-ghost use Rattle.std.specs.Prelude.{◌≡◌, ◌⊎◌, IfOk};
+ghost use Rattle.std.specs.Prelude.{◌≡◌, ◌⊎◌, List, ℕ, IfOk};
 ghost use Rattle.std.specs.Io.KnownBytes.{Appends};
 ghost use Rattle.rvm_command.specs.Assembled.{IsFileOf};
 
@@ -9,9 +9,8 @@ use rvm_elf::{WriteError, write_image};
 use rvm_line::Fault;
 use rvm_refusal::Refusal;
 use std::alloc::Global;
-use std::fmt;
 use std::io::Write;
-use std::str;
+use std::{fmt, str};
 
 /// Why a text was refused: a line of it, counted from 1, or none.
 #[derive(Clone, Copy, Debug, PartialEq, Eq)]
@@ -83,7 +82,11 @@ fn assembled(alloc: Global, source: &[u8]) -> Result<Vec<u8>, Refused>
 
 /// The refusal of a text that has a byte of no character at a place.
 fn not_text(source: &[u8], at: usize) -> Refused {
-    let before = source.iter().take(at).filter(|byte| **byte == b'\n').count();
+    let before = source
+        .iter()
+        .take(at)
+        .filter(|byte| **byte == b'\n')
+        .count();
     Refused {
         line: Some(before + 1),
         refusal: Refusal::BadToken,

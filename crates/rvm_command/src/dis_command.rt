@@ -59,12 +59,13 @@ fn list<O: Write>(segments: &[Segment], output: &mut O) -> Result<(), LinkFault>
 fn list_segment<O: Write>(segment: &Segment, output: &mut O) -> Result<(), LinkFault>
     ensures { OnOk result (Appends (O.contents output.old) (O.contents output.new)
         (word_lines ((segment.now.address + before_word segment.now.address) % 2 ^ 32)
-            (drop (before_word segment.now.address) segment.now.bytes.items))) }
+        (drop (before_word segment.now.address) segment.now.bytes.items))) }
 {
     let skipped = (4 - segment.address % 4) % 4;
-    let Some(words) = segment.bytes.get(skipped as usize..) else {
+    if segment.bytes.len() < skipped as usize {
         return Ok(());
-    };
+    }
+    let words = &segment.bytes[skipped as usize..];
     list_words(segment.address.wrapping_add(skipped), words, output)
 }
 

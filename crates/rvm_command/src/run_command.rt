@@ -44,10 +44,10 @@ pub fn run_command<O: Write, E: Write>(
     ensures status { (result ≡ 0) ⊎ (result ≡ 1) }
     ensures output { result ≡ 0 → IfOk (image_of arguments.now.guest.raw image.now) (λ i.
         Appends (O.contents output.old) (O.contents output.new)
-            (run_of arguments.now.guest.harts arguments.now.guest.pages arguments.now.steps i input.now).written) }
+        (run_of arguments.now.guest.harts arguments.now.guest.pages arguments.now.steps i input.now).written) }
     ensures errors { result ≡ 0 → IfOk (image_of arguments.now.guest.raw image.now) (λ i.
         Appends (E.contents errors.old) (E.contents errors.new)
-            (end_text (run_of arguments.now.guest.harts arguments.now.guest.pages arguments.now.steps i input.now).ended ++ codes "\n")) }
+        (end_text (run_of arguments.now.guest.harts arguments.now.guest.pages arguments.now.steps i input.now).ended ++ codes "\n")) }
     ensures fault { IsErr (image_of arguments.now.guest.raw image.now)
         → (result ≡ 1) × (O.contents output.new ≡ O.contents output.old) }
     ensures outside { IfOk (image_of arguments.now.guest.raw image.now) (λ i.
@@ -78,7 +78,7 @@ fn run_image<O: Write>(
     ensures image { OnOk result (IsOk (image_of arguments.now.guest.raw image.now)) }
     ensures written { OnOk result (IfOk (image_of arguments.now.guest.raw image.now) (λ i.
         Appends (O.contents output.old) (O.contents output.new)
-            (run_of arguments.now.guest.harts arguments.now.guest.pages arguments.now.steps i input.now).written)) }
+        (run_of arguments.now.guest.harts arguments.now.guest.pages arguments.now.steps i input.now).written)) }
     ensures ended { IfOk result (λ e. IfOk (image_of arguments.now.guest.raw image.now) (λ i.
         e ≡ (run_of arguments.now.guest.harts arguments.now.guest.pages arguments.now.steps i input.now).ended)) }
     ensures inside { OnOk result (IfOk (image_of arguments.now.guest.raw image.now) (λ i.
@@ -93,7 +93,12 @@ fn run_image<O: Write>(
         Ok(program) => program,
         Err(error) => return Err(refusal_of(error)),
     };
-    let mut guest = new_guest(alloc, arguments.guest.harts, arguments.guest.pages, &program)?;
+    let mut guest = new_guest(
+        alloc,
+        arguments.guest.harts,
+        arguments.guest.pages,
+        &program,
+    )?;
     match run(&mut guest, arguments.steps, input, output) {
         Ok(ended) => Ok(ended),
         Err(_) => Err(Refusal::LinkFault),

@@ -105,7 +105,11 @@ fn a_command_and_its_image_are_required(rt: HostRuntime) {
         (&["rvmove", "run", "--raw"], required, 2),
         (&["rvmove", "asm", "hello.s"], required, 2),
         (&["rvmove", "dis"], required, 2),
-        (&["rvmove", "dis", "hello.elf", "--harts", "2"], ErrorKind::UnknownArgument, 2),
+        (
+            &["rvmove", "dis", "hello.elf", "--harts", "2"],
+            ErrorKind::UnknownArgument,
+            2,
+        ),
         (&["rvmove", "--help"], ErrorKind::DisplayHelp, 0),
         (&["rvmove", "run", "--help"], ErrorKind::DisplayHelp, 0),
     ];

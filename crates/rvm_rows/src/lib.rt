@@ -7,9 +7,11 @@
 //!
 //! To be read in this order: `program` and `bench`, which make guests and run them; then `words`,
 //! `rows`, `memory`, `instructions`, `traps`, `registers`, `interrupts`, `atomics`, `console`,
-//! `running`, `command_line`.
+//! `running`, `assembling`, `command_line`.
 #![tactic(auto)]
 
+#[cfg(test)]
+mod assembling;
 #[cfg(test)]
 mod atomics;
 #[cfg(test)]

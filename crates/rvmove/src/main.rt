@@ -2,9 +2,7 @@
 //! line and the files, and calls the command.
 #![tactic(auto)]
 
-use rvm_command::arguments::{
-    Arguments, AsmArguments, DisArguments, RunArguments, parse_args,
-};
+use rvm_command::arguments::{Arguments, AsmArguments, DisArguments, RunArguments, parse_args};
 use rvm_command::asm_command::asm_command;
 use rvm_command::dis_command::dis_command;
 use rvm_command::run_command::run_command;
@@ -57,12 +55,7 @@ fn asm(rt: &HostRuntime, arguments: &AsmArguments) -> anyhow::Result<ExitCode> {
     let Ok(mut output) = File::create(rt, arguments.output) else {
         return refuse(rt, Refusal::LinkFault);
     };
-    let status = asm_command(
-        rt.alloc(),
-        source.as_slice(),
-        &mut output,
-        &mut rt.stderr(),
-    );
+    let status = asm_command(rt.alloc(), source.as_slice(), &mut output, &mut rt.stderr());
     Ok(ExitCode::from(status))
 }
 
