@@ -1,3 +1,4 @@
 pub mod State
 pub mod Formats
 pub mod Spelling
+pub mod Read

@@ -16,5 +16,8 @@
 //! To be read in this order: `fault`, `parts`, `fields`, `read`, `write`, `laws`.
 #![tactic(auto)]
 
+mod fault;
 mod fields;
+mod parts;
 
+pub use fault::StateFault;
