@@ -2,3 +2,4 @@ pub mod State
 pub mod Formats
 pub mod Spelling
 pub mod Read
+pub mod Restoring

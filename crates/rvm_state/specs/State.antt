@@ -1,5 +1,5 @@
 -- A guest without its RAM, as the values that its bytes spell.
-use Rattle.std.specs.Prelude.{ℕ, suc, List, [], ◌∷◌, length, map}
+use Rattle.std.specs.Prelude.{ℕ, ◌+◌, List, [], ◌∷◌, length, map}
 use Rattle.std.specs.List.{range_with_len}
 use Rattle.rvm_dev.specs.declared.fields.DeviceFields.{DeviceFields}
 use Rattle.rvm_dev.specs.Devices.{DeviceState}
@@ -37,7 +37,7 @@ state_of g =
 -- harts that keep these values, numbered from h on
 abbrev pub numbered : (h : ℕ) → List HartPart → List HartState
 numbered h [] = []
-numbered h (p ∷ ps) = with_number h p.fields ∷ numbered (suc h) ps
+numbered h (p ∷ ps) = with_number h p.fields ∷ numbered (h + 1) ps
 
 -- the devices of a guest
 abbrev pub devices_of : State → DeviceState

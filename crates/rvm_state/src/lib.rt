@@ -19,5 +19,7 @@
 mod fault;
 mod fields;
 mod parts;
+mod read;
 
 pub use fault::StateFault;
+pub use read::read_state;
