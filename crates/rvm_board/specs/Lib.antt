@@ -1,2 +1,3 @@
 pub mod Board
 pub mod Pokes
+pub mod Restored

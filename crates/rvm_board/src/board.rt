@@ -1,17 +1,19 @@
 //! The board of 1 to 8 harts.
 
 ghost use Rattle.std.specs.List.{range_with_len};
-ghost use Rattle.std.specs.Prelude.{◌≡◌, ◌%◌, ◌*◌, ◌^◌, map, ◌<◌, ◌≤◌, ◌++◌, ◌∷◌, [], ◌↔◌, true, false, ◌-◌, length, min, take, drop, IfOk, IfErr, OnOk, OnErr, IsErr, ◌≢◌};
+ghost use Rattle.std.specs.Prelude.{◌≡◌, ◌%◌, ◌*◌, ◌^◌, map, ◌<◌, ◌≤◌, ◌++◌, ◌∷◌, [], ◌↔◌, true, false, ◌-◌, length, min, take, drop, IfOk, IfErr, OnOk, OnErr, IsErr, ◌≢◌, None, get_or};
 ghost use Rattle.rvm_mem.specs.Bytes.{slice};
 ghost use Rattle.rvm_mem.specs.Pages.{mark_all};
 ghost use Rattle.rvm_hart.specs.Bus.{in_ram, ram_base, ram_load};
+ghost use Rattle.rvm_hart.specs.Fields.{CanBeHeld, fields_of, is_in_ram, with_number};
 ghost use Rattle.rvm_board.specs.declared.board.BoardError.TheVariants.{BadSize};
 ghost use Rattle.rvm_board.specs.declared.board.PokeError.TheVariants.{BadHart, OutOfRange};
 ghost use Rattle.rvm_board.specs.Pokes.{cleared, register_poked, memory_poked, is_view};
+ghost use Rattle.rvm_board.specs.Restored.{hart_restored, restored};
 ghost use Rattle.rvm_board.specs.Board.{at_reset, new_hart, hart_at, stepped, with_input, with_output, is_allowed};
 
-use rvm_dev::{Devices, InputFull};
-use rvm_hart::{Bus, Hart, PC, Stepped};
+use rvm_dev::{DeviceFields, Devices, InputFull};
+use rvm_hart::{Bus, Hart, HartFields, PC, Stepped};
 use rvm_mem::Memory;
 use rvm_res::Reservations;
 use std::alloc::{AllocError, Global};
@@ -110,6 +112,68 @@ impl<M: Memory> Board<M> {
         ensures { result ≡ self.now.plain.reach.devices.halted }
     {
         self.bus.halted()
+    }
+
+    /// The values that a hart keeps.
+    pub fn hart_fields(&self, hart: u32) -> HartFields
+        requires { hart < length self.now.plain.harts }
+        ensures fields { result ≡ fields_of (hart_at hart self.now.plain) }
+        ensures held { CanBeHeld result }
+        ensures whole { with_number hart result ≡ hart_at hart self.now.plain }
+    {
+        self.harts[hart as usize].fields()
+    }
+
+    /// The word of RAM that a hart has reserved, if any.
+    pub fn reserved(&self, hart: u32) -> Option<u32>
+        requires { hart < length self.now.plain.harts }
+        ensures word { result ≡ get_or self.now.plain.reach.reservations hart None }
+        ensures in_ram { is_in_ram (length self.now.plain.reach.bytes) result ≡ true }
+    {
+        self.bus.reserved(hart)
+    }
+
+    /// The devices.
+    pub fn devices(&self) -> &Devices
+        ensures devices { result.now ≡ self.now.plain.reach.devices }
+        ensures harts { length self.now.plain.reach.devices.msip ≡ length self.now.plain.harts }
+        ensures reservations { length self.now.plain.reach.reservations
+            ≡ length self.now.plain.harts }
+    {
+        self.bus.devices()
+    }
+
+    /// Sets what the devices keep that all harts share, and the bytes of the queues. Takes no
+    /// memory.
+    pub fn restore(&mut self, fields: DeviceFields, input: &[u8], output: &[u8])
+        requires input { length input.now ≤ 16 }
+        requires output { length output.now ≤ 4096 }
+        ensures { self.new ≡ record self.old {
+          plain = restored fields input.now output.now self.old.plain;
+        } }
+    {
+        self.bus.restore(fields, input, output);
+    }
+
+    /// Sets what the board keeps of a hart: the hart itself, whether its software interrupt is
+    /// pending, when its timer interrupt begins to be, and its reservation. Takes no memory.
+    pub fn restore_hart(
+        &mut self,
+        hart: u32,
+        fields: HartFields,
+        msip: bool,
+        mtimecmp: u64,
+        reserved: Option<u32>,
+    )
+        requires hart { hart < length self.old.plain.harts }
+        requires held { CanBeHeld fields }
+        requires in_ram { is_in_ram (length self.old.plain.reach.bytes) reserved ≡ true }
+        ensures { self.new ≡ record self.old {
+          plain = hart_restored hart fields msip mtimecmp reserved self.old.plain;
+        } }
+    {
+        self.harts[hart as usize] = Hart::restored(hart, fields);
+        self.bus.restore_hart(hart, msip, mtimecmp, reserved);
     }
 
     /// x0 to x31 of a hart.

@@ -4,3 +4,4 @@ pub mod Table
 pub mod Traps
 pub mod Counters
 pub mod File
+pub mod Fields

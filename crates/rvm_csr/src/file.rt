@@ -2,11 +2,13 @@
 
 ghost use Rattle.std.specs.Prelude.{◌≡◌, ◌%◌, is_some, unwrap_or};
 ghost use Rattle.rvm_csr.specs.Registers.{at_reset, mstatus_of};
+ghost use Rattle.rvm_csr.specs.Fields.{CanBeHeld, fields_of, with_number};
 ghost use Rattle.rvm_csr.specs.Table.{csr_read, csr_write, value_of, written};
 ghost use Rattle.rvm_csr.specs.Traps.{trap_entered, trap_target, trap_left, pending};
 ghost use Rattle.rvm_csr.specs.Counters.{ticked};
 
 use crate::cause::{Cause, Interrupt};
+use crate::fields::CsrFields;
 use crate::interrupts::Interrupts;
 use crate::register::Csr;
 use rvm_word::{bit, high_half, is_set, low_half, with_high, with_low};
@@ -66,6 +68,45 @@ impl CsrFile {
             mtval: 0,
             mcycle: 0,
             minstret: 0,
+        }
+    }
+
+    /// The registers of a hart that hold these values.
+    pub fn restored(hart: u32, fields: CsrFields) -> CsrFile
+        requires { CanBeHeld fields }
+        ensures { result ≡ with_number hart fields }
+    {
+        CsrFile {
+            hart,
+            interrupts_enabled: fields.interrupts_enabled,
+            enabled_before: fields.enabled_before,
+            mie: fields.mie,
+            mtvec: fields.mtvec,
+            mscratch: fields.mscratch,
+            mepc: fields.mepc,
+            mcause: fields.mcause,
+            mtval: fields.mtval,
+            mcycle: fields.mcycle,
+            minstret: fields.minstret,
+        }
+    }
+
+    /// The values that the registers hold.
+    pub fn fields(&self) -> CsrFields
+        ensures fields { result ≡ fields_of self.now }
+        ensures held { CanBeHeld result }
+    {
+        CsrFields {
+            interrupts_enabled: self.interrupts_enabled,
+            enabled_before: self.enabled_before,
+            mie: self.mie,
+            mtvec: self.mtvec,
+            mscratch: self.mscratch,
+            mepc: self.mepc,
+            mcause: self.mcause,
+            mtval: self.mtval,
+            mcycle: self.mcycle,
+            minstret: self.minstret,
         }
     }
 

@@ -7,7 +7,7 @@ use rvm_word::{bit, is_set};
 
 /// One bit for each machine-level interrupt (Privileged ISA, "Machine Interrupt (mip and mie)
 /// Registers").
-#[derive(Clone, Copy, Debug, PartialEq, Eq)]
+#[derive(Clone, Copy, Debug, Default, PartialEq, Eq)]
 pub struct Interrupts {
     /// Bit 3: another hart, or this one, wrote `msip`.
     pub software: bool,

@@ -4,15 +4,18 @@
 //! Stands on `rvm_word`, and knows nothing of instructions, memory or devices: which interrupts are
 //! pending at the hart is told to it as an `Interrupts`.
 //!
-//! To be read in this order: `interrupts`, `cause`, `register`, `file`.
+//! To be read in this order: `interrupts`, `cause`, `register`, `fields`,
+//! `file`.
 #![tactic(auto)]
 
 pub mod cause;
+pub mod fields;
 pub mod file;
 pub mod interrupts;
 pub mod register;
 
 pub use cause::{Cause, Exception, Interrupt};
+pub use fields::CsrFields;
 pub use file::CsrFile;
 pub use interrupts::Interrupts;
 pub use register::Csr;

@@ -1,2 +1,3 @@
 pub mod Guest
 pub mod Events
+pub mod Parts

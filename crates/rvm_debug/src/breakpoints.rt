@@ -1,7 +1,7 @@
 //! The addresses at which steps stop.
 
 ghost use Rattle.std.specs.Prelude.{◌≡◌, ◌≤◌, ◌↔◌, [], length, OnOk, OnErr, IsErr, false, count_by, nat_lt, if◌then◌else◌};
-ghost use Rattle.rvm_debug.specs.Guest.{is_in, with, without};
+ghost use Rattle.rvm_debug.specs.Guest.{AreRising, is_in, with, without};
 
 use arrayvec::ArrayVec;
 use std::marker::Model;
@@ -38,6 +38,29 @@ impl Breakpoints {
         Breakpoints {
             addresses: ArrayVec::new(),
         }
+    }
+
+    /// Those at these addresses.
+    pub(crate) fn of(addresses: &[u32]) -> Breakpoints
+        requires few { length addresses.now ≤ 64 }
+        requires rising { AreRising addresses.now }
+        ensures { result ≡ addresses.now }
+    {
+        let mut breakpoints = ArrayVec::new();
+        let fits = breakpoints.try_extend_from_slice(addresses).is_ok();
+        prove!(fits);
+        Breakpoints {
+            addresses: breakpoints,
+        }
+    }
+
+    /// The addresses, rising.
+    pub(crate) fn addresses(&self) -> &[u32]
+        ensures addresses { result.now ≡ self.now }
+        ensures few { length self.now ≤ 64 }
+        ensures rising { AreRising self.now }
+    {
+        self.addresses.as_slice()
     }
 
     /// Whether one is set at an address.

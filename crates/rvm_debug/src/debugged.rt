@@ -1,17 +1,20 @@
 //! A board with its breakpoints.
 
-ghost use Rattle.std.specs.Prelude.{◌≡◌, ◌<◌, ◌≤◌, ◌++◌, ◌∷◌, [], ◌↔◌, false, length, min, take, drop, replicate, OnOk, OnErr, IsErr};
+ghost use Rattle.std.specs.Prelude.{◌≡◌, ◌<◌, ◌≤◌, ◌++◌, ◌∷◌, [], ◌↔◌, false, length, min, take, drop, replicate, OnOk, OnErr, IsErr, true};
 ghost use Rattle.rvm_mem.specs.Pages.{mark_all};
 ghost use Rattle.rvm_board.specs.Board.{hart_at, with_input, with_output};
-ghost use Rattle.rvm_debug.specs.Guest.{fresh};
+ghost use Rattle.rvm_hart.specs.Fields.{with_number};
+ghost use Rattle.rvm_debug.specs.Guest.{AreRising, fresh};
+ghost use Rattle.rvm_debug.specs.Parts.{CanBeHeld, hart_restored, part_of, restored};
 ghost use Rattle.rvm_debug.specs.Events.{answered, clears_breakpoint, drains, pc_of, sets_breakpoint, sets_register, step_reply, steps, steps_if_there, takes_input, tells_bytes, tells_line, tells_registers, with_board, writes_bytes};
 
 use crate::breakpoints::Breakpoints;
 use crate::event::{BoardEvent, BoardRefusal, BoardReply};
+use crate::part::HartPart;
 use crate::view::View;
 use arrayvec::ArrayVec;
 use rvm_board::{Board, PokeError, VIEW_SIZE};
-use rvm_dev::InputFull;
+use rvm_dev::{DeviceFields, Devices, InputFull};
 use rvm_hart::{PC, Stepped};
 use rvm_mem::Memory;
 use std::marker::Model;
@@ -69,6 +72,74 @@ impl<M: Memory> Debugged<M> {
         ensures bound { result ≤ 8 }
     {
         self.board.harts()
+    }
+
+    /// What the guest keeps of a hart.
+    pub fn hart_part(&self, hart: u32) -> HartPart
+        requires { hart < length self.now.guest.board.harts }
+        ensures part { result ≡ part_of hart self.now.guest }
+        ensures held { CanBeHeld (length self.now.guest.board.reach.bytes) result }
+        ensures whole { with_number hart result.fields ≡ hart_at hart self.now.guest.board }
+    {
+        let devices = self.board.devices();
+        HartPart {
+            fields: self.board.hart_fields(hart),
+            msip: devices.software_is_pending(hart),
+            mtimecmp: devices.mtimecmp(hart),
+            reserved: self.board.reserved(hart),
+            stopped: self.stopped[hart as usize],
+        }
+    }
+
+    /// The devices.
+    pub fn devices(&self) -> &Devices
+        ensures { result.now ≡ self.now.guest.board.reach.devices }
+    {
+        self.board.devices()
+    }
+
+    /// The breakpoints, rising, at most 64.
+    pub fn breakpoints(&self) -> &[u32]
+        ensures breakpoints { result.now ≡ self.now.guest.breakpoints }
+        ensures few { length self.now.guest.breakpoints ≤ 64 }
+        ensures rising { AreRising self.now.guest.breakpoints }
+    {
+        self.breakpoints.addresses()
+    }
+
+    /// Sets what the devices keep that all harts share, and the bytes of the queues. Takes no
+    /// memory.
+    pub fn restore(&mut self, fields: DeviceFields, input: &[u8], output: &[u8])
+        requires input { length input.now ≤ 16 }
+        requires output { length output.now ≤ 4096 }
+        ensures { self.new ≡ record self.old {
+          guest = restored fields input.now output.now self.old.guest;
+        } }
+    {
+        self.board.restore(fields, input, output);
+    }
+
+    /// Sets what the guest keeps of a hart. Takes no memory.
+    pub fn restore_hart(&mut self, hart: u32, part: HartPart)
+        requires hart { hart < length self.old.guest.board.harts }
+        requires held { CanBeHeld (length self.old.guest.board.reach.bytes) part }
+        ensures { self.new ≡ record self.old { guest = hart_restored hart part self.old.guest } }
+    {
+        let stopped = &mut self.stopped;
+        stopped[hart as usize] = part.stopped;
+        self.board
+            .restore_hart(hart, part.fields, part.msip, part.mtimecmp, part.reserved);
+    }
+
+    /// Sets the breakpoints. Takes no memory.
+    pub fn restore_breakpoints(&mut self, addresses: &[u32])
+        requires few { length addresses.now ≤ 64 }
+        requires rising { AreRising addresses.now }
+        ensures { self.new ≡ record self.old {
+          guest = record self.old.guest { breakpoints = addresses.now };
+        } }
+    {
+        self.breakpoints = Breakpoints::of(addresses);
     }
 
     /// One step of a hart; none where it stopped at a breakpoint instead.

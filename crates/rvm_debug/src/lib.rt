@@ -2,15 +2,17 @@
 //!
 //! Stands on `rvm_board`, and knows nothing of scripts, files or hosts. No event takes memory.
 //!
-//! To be read in this order: `view`, `breakpoints`, `event`, `debugged`.
+//! To be read in this order: `view`, `breakpoints`, `event`, `part`, `debugged`.
 #![tactic(auto)]
 
 mod breakpoints;
 mod debugged;
 mod event;
+mod part;
 mod view;
 
 pub use breakpoints::MAX_BREAKPOINTS;
 pub use debugged::Debugged;
 pub use event::{BoardEvent, BoardRefusal, BoardReply};
+pub use part::HartPart;
 pub use view::View;

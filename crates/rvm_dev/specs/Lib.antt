@@ -1,3 +1,4 @@
 pub mod Map
 pub mod Devices
 pub mod Fields
+pub mod Shared

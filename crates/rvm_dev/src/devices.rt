@@ -3,7 +3,9 @@
 ghost use Rattle.std.specs.Prelude.{◌≡◌, ◌<◌, ◌≤◌, ◌%◌, ◌^◌, ◌+◌, ◌++◌, [], ◌∷◌, ◌↔◌, is_some, unwrap_or, length, min, take, drop, false, OnOk, OnErr, IfOk, IfSome, IsErr, get_or, slice_set};
 ghost use Rattle.rvm_dev.specs.Devices.{at_reset, loaded, stored, value_loaded, timer_is_pending, external_is_pending, value_of, after_load, after_store, received, register_of, sent};
 ghost use Rattle.rvm_dev.specs.Map.{IsOfHart};
+ghost use Rattle.rvm_dev.specs.Shared.{fields_of, hart_restored, restored};
 
+use crate::fields::DeviceFields;
 use crate::register::Register;
 use circular_buffer::HeapCircularBuffer;
 use rvm_word::{bit, high_half, is_set, low_half, with_high, with_low};
@@ -171,6 +173,64 @@ impl Devices {
         hart == 0 && self.interrupt_enable && !self.input.is_empty()
     }
 
+    /// The values that all harts share.
+    #[tactic(auto, using(crate::proofs::Harts::harts))]
+    pub fn fields(&self) -> DeviceFields
+        ensures fields { result ≡ fields_of self.now }
+        ensures harts { length self.now.mtimecmp ≡ length self.now.msip }
+    {
+        DeviceFields {
+            mtime: self.mtime,
+            interrupt_enable: self.interrupt_enable,
+            overrun: self.overrun,
+            halted: self.halted,
+        }
+    }
+
+    /// The bytes that wait for the guest, at most 16, oldest first: those of the first slice, then
+    /// those of the second.
+    pub fn input_bytes(&self) -> (&[u8], &[u8])
+        ensures bytes { result.0.now ++ result.1.now ≡ self.now.input }
+        ensures bound { length self.now.input ≤ 16 }
+    {
+        self.input.as_slices()
+    }
+
+    /// The bytes that wait for the console, at most 4096, oldest first: those of the first slice,
+    /// then those of the second.
+    pub fn output_bytes(&self) -> (&[u8], &[u8])
+        ensures bytes { result.0.now ++ result.1.now ≡ self.now.output }
+        ensures bound { length self.now.output ≤ 4096 }
+    {
+        self.output.as_slices()
+    }
+
+    /// Sets the values that all harts share, and the bytes of the queues.
+    pub fn restore(&mut self, fields: DeviceFields, input: &[u8], output: &[u8])
+        requires input { length input.now ≤ 16 }
+        requires output { length output.now ≤ 4096 }
+        ensures { self.new ≡ restored fields input.now output.now self.old }
+    {
+        self.mtime = fields.mtime;
+        self.interrupt_enable = fields.interrupt_enable;
+        self.overrun = fields.overrun;
+        self.halted = fields.halted;
+        self.input.clear();
+        self.input.fill_from_slice(input);
+        self.output.clear();
+        self.output.fill_from_slice(output);
+    }
+
+    /// Sets whether the software interrupt of a hart is pending, and when its timer interrupt
+    /// begins to be.
+    pub fn restore_hart(&mut self, hart: u32, msip: bool, mtimecmp: u64)
+        requires { hart < length self.old.msip }
+        ensures { self.new ≡ hart_restored hart msip mtimecmp self.old }
+    {
+        self.set_msip(hart, msip);
+        self.set_mtimecmp(hart, mtimecmp);
+    }
+
     /// The device word at an address, if there is one.
     fn register_at(&self, address: u32) -> Option<Register>
         ensures register { result ≡ register_of address self.now }
@@ -201,7 +261,7 @@ impl Devices {
     /// The time at which the timer interrupt of a hart begins to be pending.
     #[inline(always)]
     #[tactic(auto, using(crate::proofs::Harts::harts))]
-    fn mtimecmp(&self, hart: u32) -> u64
+    pub fn mtimecmp(&self, hart: u32) -> u64
         requires { hart < length self.now.msip }
         ensures { result ≡ get_or self.now.mtimecmp hart 0 }
     {

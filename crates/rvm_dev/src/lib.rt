@@ -5,11 +5,13 @@
 //! Knows nothing of RAM, harts or instructions. Addresses are those of the guest; only aligned words
 //! come here.
 //!
-//! To be read in this order: `register`, `devices`.
+//! To be read in this order: `register`, `fields`, `devices`.
 #![tactic(auto)]
 
 pub mod devices;
+pub mod fields;
 pub mod register;
 
-pub use devices::{Devices, InputFull};
+pub use devices::{Devices, INPUT_CAPACITY, InputFull, OUTPUT_CAPACITY};
+pub use fields::DeviceFields;
 pub use register::Register;

@@ -1,2 +1,4 @@
 pub mod Outcomes
 pub mod Shape
+pub mod Reserved
+pub mod Whole

@@ -5,3 +5,4 @@ pub mod Pokes
 pub mod Rooms
 pub mod Rows
 pub mod Step
+pub mod Fields

@@ -1,16 +1,18 @@
 //! What a hart reaches: RAM, devices and reservations.
 
-ghost use Rattle.std.specs.Prelude.{◌≡◌, ◌%◌, ◌<◌, ◌^◌, ◌+◌, ◌*◌, ◌-◌, ◌++◌, ◌∷◌, [], ◌↔◌, length, min, take, drop, IfNone, OnOk, OnErr, IsErr, ◌≤◌, false};
+ghost use Rattle.std.specs.Prelude.{◌≡◌, ◌%◌, ◌<◌, ◌^◌, ◌+◌, ◌*◌, ◌-◌, ◌++◌, ◌∷◌, [], ◌↔◌, length, min, take, drop, IfNone, OnOk, OnErr, IsErr, ◌≤◌, false, true, None, get_or};
 ghost use Rattle.rvm_mem.specs.Bytes.{slice};
 ghost use Rattle.rvm_res.specs.Reservations as res;
+ghost use Rattle.rvm_dev.specs.Shared.{restored};
 ghost use Rattle.rvm_hart.specs.Machine.{BusState, with_devices, with_reservations};
 ghost use Rattle.rvm_hart.specs.Pokes.{bus_cleared, bus_poked, poked_each};
+ghost use Rattle.rvm_hart.specs.Fields.{are_in_ram, hart_restored, is_in_ram, is_ram_word};
 ghost use Rattle.rvm_hart.specs.Bus.{in_ram, ram_base, ram_load, word_loaded, after_word_load, ram_stored, word_stored, device_stored, left_by, wrote_by, wrote_of, mip_of};
 
 use crate::outcome::Written;
 use rvm_csr::Interrupts;
 use rvm_dev::register::{HALT, MTIME};
-use rvm_dev::{Devices, InputFull};
+use rvm_dev::{DeviceFields, Devices, InputFull};
 use rvm_mem::{Memory, OutOfRange, clear_bytes, read_bytes, write_bytes};
 use rvm_res::Reservations;
 use std::marker::Model;
@@ -21,7 +23,7 @@ pub const RAM_BASE: u32 = 0x8000_0000;
 /// The high half of the time.
 const MTIME_HIGH: u32 = MTIME + 4;
 
-/// RAM, devices and reservations of one board.
+/// RAM, devices and reservations of one board. Each reservation is of an aligned word of RAM.
 #[derive(Drop)]
 pub struct Bus<M: Memory> {
     ram: M,
@@ -30,7 +32,9 @@ pub struct Bus<M: Memory> {
 }
 
 impl<M: Memory> Model for Bus<M> {
+    ghost use Rattle.std.specs.Prelude.{◌≡◌, true, length};
     ghost use Rattle.rvm_hart.specs.Machine.{BusState};
+    ghost use Rattle.rvm_hart.specs.Fields.{are_in_ram};
 
     ghost Value = { BusState };
 
@@ -38,11 +42,14 @@ impl<M: Memory> Model for Bus<M> {
       reach = record { bytes = M.bytes b.ram; devices = b.devices; reservations = b.reservations };
       dirty = M.dirty b.ram;
     } };
+
+    ghost invariant = { λ b. are_in_ram (length (M.bytes b.ram)) b.reservations ≡ true };
 }
 
 impl<M: Memory> Bus<M> {
     /// The bus of these parts.
     pub fn new(ram: M, devices: Devices, reservations: Reservations) -> Bus<M>
+        requires { are_in_ram (length (M.bytes ram)) reservations ≡ true }
         ensures { result ≡ record {
           reach = record { bytes = M.bytes ram; devices = devices; reservations = reservations };
           dirty = M.dirty ram;
@@ -53,6 +60,48 @@ impl<M: Memory> Bus<M> {
             devices,
             reservations,
         }
+    }
+
+    /// The devices.
+    pub fn devices(&self) -> &Devices
+        ensures { result.now ≡ self.now.reach.devices }
+    {
+        &self.devices
+    }
+
+    /// The word that a hart has reserved, if any.
+    pub fn reserved(&self, hart: u32) -> Option<u32>
+        requires { hart < length self.now.reach.reservations }
+        ensures word { result ≡ get_or self.now.reach.reservations hart None }
+        ensures in_ram { is_in_ram (length self.now.reach.bytes) result ≡ true }
+    {
+        self.reservations.reserved(hart as usize)
+    }
+
+    /// Sets what the devices keep that all harts share, and the bytes of the queues.
+    pub fn restore(&mut self, fields: DeviceFields, input: &[u8], output: &[u8])
+        requires input { length input.now ≤ 16 }
+        requires output { length output.now ≤ 4096 }
+        ensures { self.new ≡ with_devices (restored fields input.now output.now self.old.reach.devices) self.old }
+    {
+        self.devices.restore(fields, input, output);
+    }
+
+    /// Sets what the devices keep of a hart, and its reservation.
+    pub fn restore_hart(
+        &mut self,
+        hart: u32,
+        msip: bool,
+        mtimecmp: u64,
+        reserved: Option<u32>,
+    )
+        requires reservations { hart < length self.old.reach.reservations }
+        requires devices { hart < length self.old.reach.devices.msip }
+        requires in_ram { is_in_ram (length self.old.reach.bytes) reserved ≡ true }
+        ensures { self.new ≡ record self.old { reach = hart_restored hart msip mtimecmp reserved self.old.reach } }
+    {
+        self.devices.restore_hart(hart, msip, mtimecmp);
+        self.reservations.restore(hart as usize, reserved);
     }
 
     /// The status that the board was halted with, if it was.
@@ -301,10 +350,11 @@ impl<M: Memory> Bus<M> {
         Some(written_by(address, value))
     }
 
-    /// Reserves the aligned word at an address for a hart.
+    /// Reserves the aligned word of RAM at an address for a hart.
     #[inline(always)]
     pub fn hold(&mut self, hart: u32, address: u32)
-        requires { hart < length self.old.reach.reservations }
+        requires hart { hart < length self.old.reach.reservations }
+        requires word { is_ram_word (length self.old.reach.bytes) address ≡ true }
         ensures { self.new ≡ with_reservations (res.held hart address self.old.reach.reservations) self.old }
     {
         self.reservations.hold(hart as usize, address);

@@ -1,6 +1,6 @@
 //! A hart's registers.
 
-ghost use Rattle.std.specs.Prelude.{◌≡◌, ◌%◌, ◌<◌, length, replicate, slice_set, ◌≤◌};
+ghost use Rattle.std.specs.Prelude.{◌≡◌, ◌%◌, ◌<◌, length, drop, replicate, slice_set, ◌≤◌};
 ghost use Rattle.rvm_csr.specs.Registers.{at_reset};
 ghost use Rattle.rvm_csr.specs.Traps.{trap_left};
 ghost use Rattle.rvm_hart.specs.declared.outcome.Written.TheVariants.{Other};
@@ -8,7 +8,9 @@ ghost use Rattle.rvm_hart.specs.Machine.{HartState};
 ghost use Rattle.rvm_hart.specs.Outcome.{reg, given, passed};
 ghost use Rattle.rvm_hart.specs.Rooms.{sum};
 ghost use Rattle.rvm_hart.specs.Pokes.{register_poked};
+ghost use Rattle.rvm_hart.specs.Fields.{CanBeHeld, fields_of, with_number};
 
+use crate::fields::HartFields;
 use crate::outcome::{Trap, Written};
 use rvm_csr::CsrFile;
 use rvm_isa::{Imm12, Reg};
@@ -53,6 +55,33 @@ impl Hart {
             regs,
             pc: entry,
             csrs: CsrFile::new(number),
+        }
+    }
+
+    /// The hart of a number that keeps these values.
+    pub fn restored(number: u32, fields: HartFields) -> Hart
+        requires { CanBeHeld fields }
+        ensures { result ≡ with_number number fields }
+    {
+        let mut regs = [0; 32];
+        regs[1..].copy_from_slice(&fields.registers);
+        Hart {
+            regs,
+            pc: fields.pc,
+            csrs: CsrFile::restored(number, fields.csrs),
+        }
+    }
+
+    /// The values that the hart keeps.
+    pub fn fields(&self) -> HartFields
+        ensures fields { result ≡ fields_of self.now }
+        ensures held { CanBeHeld result }
+        ensures whole { with_number self.now.csrs.hart result ≡ self.now }
+    {
+        HartFields {
+            registers: behind_x0(&self.regs),
+            pc: self.pc,
+            csrs: self.csrs.fields(),
         }
     }
 
@@ -128,4 +157,14 @@ impl Hart {
             self.regs[register as usize] = value;
         }
     }
+}
+
+/// x1 to x31.
+fn behind_x0(regs: &[u32; 32]) -> [u32; 31]
+    ensures registers { result ≡ drop 1 regs.now }
+    ensures length { length regs.now ≡ 32 }
+{
+    let mut registers = [0; 31];
+    registers.copy_from_slice(&regs[1..]);
+    registers
 }

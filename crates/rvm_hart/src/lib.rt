@@ -5,7 +5,7 @@
 //! knows nothing of how many harts take turns, of files or of hosts. A step has no refusal and
 //! takes no memory.
 //!
-//! To be read in this order: `outcome`, `bus`, `hart`, then the rooms of the instructions
+//! To be read in this order: `outcome`, `bus`, `fields`, `hart`, then the rooms of the instructions
 //! (`arithmetic`, `jumps`, `loads`, `stores`, `csrs`, `atomics`), `rows`, which says of each row what it does,
 //! and `step`.
 #![tactic(auto)]
@@ -14,6 +14,7 @@ mod arithmetic;
 mod atomics;
 mod bus;
 mod csrs;
+mod fields;
 mod hart;
 mod jumps;
 pub mod laws;
@@ -27,6 +28,7 @@ pub use arithmetic::Operation;
 pub use atomics::Amo;
 pub use bus::{Bus, RAM_BASE};
 pub use csrs::CsrChange;
+pub use fields::HartFields;
 pub use hart::{Hart, PC};
 pub use jumps::Comparison;
 pub use outcome::{Stepped, Trap, Written};

@@ -1,5 +1,5 @@
 -- A store keeps the length of memory.
-use Rattle.std.proofs.Common.{◌≡◌, ℕ, ◌+◌, ◌≤◌, List, ◌++◌, length, take, drop, arith, length-append}
+use Rattle.std.proofs.Common.{◌≡◌, ℕ, ◌+◌, ◌≤◌, List, ◌++◌, length, take, drop, arith, length-append, length-take}
 use Rattle.std.proofs.lemmas.List.{length-take-le, length-drop}
 use Rattle.byteorder.specs.Endian.{little_bytes}
 use Rattle.byteorder.specs.Numbers.{length-bytes_low_first}
@@ -8,3 +8,8 @@ use Rattle.rvm_mem.specs.Bytes.{store}
 pub length-store : (n at v : ℕ) (bytes : List ℕ) → at + n ≤ length bytes → length (store n at v bytes) ≡ length bytes
 length-store n at v bytes inside =
     omega (arith, length-append (take at bytes) (little_bytes n v ++ drop (at + n) bytes), length-append (little_bytes n v) (drop (at + n) bytes), length-take-le at bytes (omega arith), length-drop (at + n) bytes, length-bytes_low_first 0 n v)
+
+-- nor does one lose bytes that goes past the end
+pub store-length : (n at v : ℕ) (bytes : List ℕ) → length bytes ≤ length (store n at v bytes)
+store-length n at v bytes =
+    omega (arith, length-append (take at bytes) (little_bytes n v ++ drop (at + n) bytes), length-append (little_bytes n v) (drop (at + n) bytes), length-take at bytes, length-drop (at + n) bytes, length-bytes_low_first 0 n v)

@@ -1,6 +1,6 @@
 //! One word or none for each hart.
 
-ghost use Rattle.std.specs.Prelude.{◌≡◌, ◌<◌, ◌≤◌, None, length, replicate, map, is_some};
+ghost use Rattle.std.specs.Prelude.{◌≡◌, ◌<◌, ◌≤◌, None, length, replicate, map, is_some, get_or, slice_set};
 ghost use Rattle.std.specs.List.{list_any};
 ghost use Rattle.rvm_res.specs.Reservations.{held, poked, stored, taken, takes, word_of, without};
 
@@ -50,6 +50,27 @@ impl Reservations {
     {
         self.words = [None; MAX_HARTS];
         self.any = false;
+    }
+
+    /// The word that hart `hart` has reserved, if any.
+    #[tactic(auto, using(crate::proofs::Words::words))]
+    pub fn reserved(&self, hart: usize) -> Option<u32>
+        requires { hart < length self.now }
+        ensures { result ≡ get_or self.now hart None }
+    {
+        let held = &self.words;
+        held[hart]
+    }
+
+    /// Gives hart `hart` this reservation, or none, in place of the one before.
+    #[tactic(auto, using(crate::proofs::Words::words))]
+    pub fn restore(&mut self, hart: usize, reserved: Option<u32>)
+        requires { hart < length self.old }
+        ensures { self.new ≡ slice_set self.old hart reserved }
+    {
+        let words = &mut self.words;
+        words[hart] = reserved;
+        self.any = any_of(&self.words[..self.harts]);
     }
 
     /// Hart `hart` reserves the aligned word at an address, in place of the one before.

@@ -1,0 +1,5 @@
+pub mod Exact
+pub mod Restoring
+pub mod Fits
+pub mod Guests
+pub mod Reading

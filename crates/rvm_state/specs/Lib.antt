@@ -1,0 +1,5 @@
+pub mod State
+pub mod Formats
+pub mod Spelling
+pub mod Read
+pub mod Restoring

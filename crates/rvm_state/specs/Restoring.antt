@@ -1,0 +1,34 @@
+-- A guest that is given the values that were read.
+use Rattle.std.specs.Prelude.{◌≡◌, ℕ, ◌+◌, ◌≤◌, List, [], ◌∷◌, length}
+use Rattle.rvm_debug.specs.declared.part.HartPart.{HartPart}
+use Rattle.rvm_debug.specs.Guest.{AreRising, Guest}
+use Rattle.rvm_debug.specs.Parts.{CanBeHeld, hart_restored}
+use Rattle.rvm_state.specs.State.{State}
+
+-- each hart from h on with its values
+unfoldable pub harts_restored : (h : ℕ) → List HartPart → Guest → Guest
+harts_restored h [] g = g
+harts_restored h (p ∷ ps) g = harts_restored (h + 1) ps (hart_restored h p g)
+
+-- a guest of so many harts
+pub record IsOf (count : ℕ) (g : Guest) : Type 0 where
+  pub harts : length g.board.harts ≡ count
+  pub msip : length g.board.reach.devices.msip ≡ count
+  pub mtimecmp : length g.board.reach.devices.mtimecmp ≡ count
+  pub reservations : length g.board.reach.reservations ≡ count
+  pub stopped : length g.stopped ≡ count
+
+-- each can be held, with a RAM of so many bytes
+abbrev pub AreHeld : (size : ℕ) → List HartPart → Type 0
+AreHeld size [] = Unit {0}
+AreHeld size (p ∷ ps) = CanBeHeld size p × AreHeld size ps
+
+-- a guest with a RAM of so many bytes can have these values
+pub record CanBeRestored (size : ℕ) (s : State) : Type 0 where
+  pub held : AreHeld size s.harts
+  pub count : length s.harts ≤ 8
+  pub some : 1 ≤ length s.harts
+  pub input : length s.input ≤ 16
+  pub output : length s.output ≤ 4096
+  pub few : length s.breakpoints ≤ 64
+  pub rising : AreRising s.breakpoints

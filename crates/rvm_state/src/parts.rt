@@ -1,0 +1,179 @@
+//! All that state bytes spell, in place.
+
+ghost use Rattle.std.specs.Prelude.{◌≡◌, ◌≤◌, true, length, option_map, IfSome};
+ghost use Rattle.arrayvec.specs.ArrayVec.{array_vec_len};
+ghost use Rattle.rvm_codec.specs.Numbers.{within};
+ghost use Rattle.rvm_codec.specs.Codec.{any, counted_bytes, read_each, times};
+ghost use Rattle.rvm_state.specs.Formats.{breakpoints, hart, head, state};
+ghost use Rattle.rvm_state.specs.Read.{state_in};
+
+use crate::fields::{aligned_at, csrs_at, reserved_at, shared_at};
+use arrayvec::ArrayVec;
+use rvm_codec::{bytes_at, flag_at, u8_within, u16_within, u32_at, u32s_rise, u64_at};
+use rvm_debug::{HartPart, MAX_BREAKPOINTS};
+use rvm_dev::DeviceFields;
+use rvm_hart::HartFields;
+
+/// The most harts that a board has.
+const MAX_HARTS: usize = 8;
+
+/// How many registers a hart has besides x0.
+const REGISTERS: usize = 31;
+
+/// What is kept of each hart, what the devices keep that all share, the queues and the breakpoints.
+#[derive(Drop)]
+pub(crate) struct Parts<'a> {
+    pub(crate) harts: ArrayVec<HartPart, MAX_HARTS>,
+    pub(crate) shared: DeviceFields,
+    pub(crate) input: &'a [u8],
+    pub(crate) output: &'a [u8],
+    pub(crate) breakpoints: ArrayVec<u32, MAX_BREAKPOINTS>,
+}
+
+/// So many numbers of four bytes.
+fn words_at<const CAP: usize>(count: usize, bytes: &[u8]) -> Option<(ArrayVec<u32, CAP>, &[u8])>
+    requires { count ≤ CAP }
+    ensures words { option_map (λ x. (x.0.items, x.1.now)) result
+        ≡ read_each (any 4).read count bytes.now }
+    ensures length { IfSome result (λ x. length x.0.items ≡ count) }
+{
+    let mut words = ArrayVec::new();
+    let mut rest = bytes;
+    for _ in 0..count {
+        match u32_at(rest) {
+            None => return None,
+            Some((word, behind)) => {
+                words.push(word);
+                rest = behind;
+            }
+        }
+    }
+    Some((words, rest))
+}
+
+/// x1 to x31.
+fn registers_at(bytes: &[u8]) -> Option<([u32; REGISTERS], &[u8])>
+    ensures { option_map (λ x. (x.0, x.1.now)) result ≡ (times 31 (any 4)).read bytes.now }
+{
+    let (words, rest) = words_at::<REGISTERS>(REGISTERS, bytes)?;
+    match words.into_inner() {
+        Ok(registers) => Some((registers, rest)),
+        Err(_) => None,
+    }
+}
+
+/// What is kept of a hart, with a RAM of so many bytes.
+#[tactic(auto, unfolding(crate::specs::Formats::hart))]
+fn hart_at(size: u32, bytes: &[u8]) -> Option<(HartPart, &[u8])>
+    ensures { option_map (λ x. (x.0, x.1.now)) result ≡ (hart size).read bytes.now }
+{
+    let (pc, rest) = aligned_at(bytes)?;
+    let (registers, rest) = registers_at(rest)?;
+    let (csrs, rest) = csrs_at(rest)?;
+    let (msip, rest) = flag_at(rest)?;
+    let (mtimecmp, rest) = u64_at(rest)?;
+    let (reserved, rest) = reserved_at(size, rest)?;
+    let (stopped, rest) = flag_at(rest)?;
+    let part = HartPart {
+        fields: HartFields {
+            registers,
+            pc,
+            csrs,
+        },
+        msip,
+        mtimecmp,
+        reserved,
+        stopped,
+    };
+    Some((part, rest))
+}
+
+/// What is kept of so many harts.
+fn harts_at(
+    size: u32,
+    count: usize,
+    bytes: &[u8],
+) -> Option<(ArrayVec<HartPart, MAX_HARTS>, &[u8])>
+    requires { count ≤ 8 }
+    ensures harts { option_map (λ x. (x.0.items, x.1.now)) result
+        ≡ read_each (hart size).read count bytes.now }
+    ensures length { IfSome result (λ x. length x.0.items ≡ count) }
+{
+    let mut harts = ArrayVec::new();
+    let mut rest = bytes;
+    for _ in 0..count {
+        match hart_at(size, rest) {
+            None => return None,
+            Some((part, behind)) => {
+                harts.push(part);
+                rest = behind;
+            }
+        }
+    }
+    Some((harts, rest))
+}
+
+/// How many harts there are, and what the devices keep that all share.
+#[tactic(auto, unfolding(crate::specs::Formats::head))]
+fn head_at(bytes: &[u8]) -> Option<((u8, DeviceFields), &[u8])>
+    ensures head { option_map (λ x. ((x.0.0, x.0.1), x.1.now)) result ≡ head.read bytes.now }
+    ensures bound { IfSome result (λ x. x.0.0 ≤ 8) }
+{
+    let (count, rest) = u8_within(1, 8, bytes)?;
+    let (shared, rest) = shared_at(rest)?;
+    Some(((count, shared), rest))
+}
+
+/// The bytes that wait for the guest.
+fn input_at(bytes: &[u8]) -> Option<(&[u8], &[u8])>
+    ensures { option_map (λ x. (x.0.now, x.1.now)) result
+        ≡ (counted_bytes 1 (within 0 16)).read bytes.now }
+{
+    let (count, rest) = u8_within(0, 16, bytes)?;
+    bytes_at(count as usize, rest)
+}
+
+/// The bytes that wait for the console.
+fn output_at(bytes: &[u8]) -> Option<(&[u8], &[u8])>
+    ensures { option_map (λ x. (x.0.now, x.1.now)) result
+        ≡ (counted_bytes 2 (within 0 4096)).read bytes.now }
+{
+    let (count, rest) = u16_within(0, 4096, bytes)?;
+    bytes_at(count as usize, rest)
+}
+
+/// The breakpoints.
+#[tactic(auto, unfolding(crate::specs::Formats::breakpoints))]
+fn breakpoints_at(bytes: &[u8]) -> Option<(ArrayVec<u32, MAX_BREAKPOINTS>, &[u8])>
+    ensures { option_map (λ x. (x.0.items, x.1.now)) result ≡ breakpoints.read bytes.now }
+{
+    let (count, rest) = u8_within(0, 64, bytes)?;
+    let (addresses, rest) = words_at::<MAX_BREAKPOINTS>(count as usize, rest)?;
+    if u32s_rise(addresses.as_slice()) {
+        Some((addresses, rest))
+    } else {
+        None
+    }
+}
+
+/// All that the bytes spell, with a RAM of so many bytes; None where they spell nothing.
+#[tactic(auto, unfolding(crate::specs::Formats::state, crate::specs::Formats::parts))]
+pub(crate) fn parts_of(size: u32, bytes: &[u8]) -> Option<Parts<'_>>
+    ensures { option_map state_in result ≡ (state size).read bytes.now }
+{
+    let ((count, shared), rest) = head_at(bytes)?;
+    let (harts, rest) = harts_at(size, count as usize, rest)?;
+    let (input, rest) = input_at(rest)?;
+    let (output, rest) = output_at(rest)?;
+    let (breakpoints, rest) = breakpoints_at(rest)?;
+    if !rest.is_empty() {
+        return None;
+    }
+    Some(Parts {
+        harts,
+        shared,
+        input,
+        output,
+        breakpoints,
+    })
+}
