@@ -257,11 +257,7 @@ fn write_four<W: Write>(
 }
 
 /// Writes two registers from one on.
-fn write_two<W: Write>(
-    writer: &mut W,
-    registers: &[u32; 33],
-    first: usize,
-) -> Result<(), LinkFault>
+fn write_two<W: Write>(writer: &mut W, registers: &[u32; 33], first: usize) -> Result<(), LinkFault>
     requires { first ≤ 30 }
     ensures { OnOk result (Appends (W.contents writer.old) (W.contents writer.new)
         (two_text registers.now first)) }

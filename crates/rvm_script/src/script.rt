@@ -53,7 +53,7 @@ pub fn run_script<M: Memory, R: Read, W: Write>(
 ) -> Result<(), ScriptError>
     ensures run { IfSome (R.remaining reader.old) (λ script.
         IsRun result (script_of (lines script) 1 board.old.guest) board.old board.new
-            (W.contents writer.old) (W.contents writer.new)) }
+        (W.contents writer.old) (W.contents writer.new)) }
     ensures long { IfSome (R.remaining reader.old) (λ script. 2 ^ 26 < length script
         → IsUnread result × (board.new ≡ board.old) × (W.contents writer.new ≡ W.contents writer.old)) }
     ensures too_long { result ≡ Err TooLong
