@@ -152,7 +152,6 @@ pub ruleset reading = (blank_dropped, none_left, words_of_none, word_grows, word
 
 -- a line of no byte has no carriage return
 pub short_line : (xs : List ℕ) → length xs < 1 → xs ≡ without_return xs
-unfolding without_return
 short_line [] short = refl
 short_line (b ∷ xs) short = absurd (omega arith)
 

@@ -53,7 +53,8 @@ is_refused (reply.Refused r) = true
 abbrev pub step_text : (hart count : ℕ) → BoardReply → List ℕ
 step_text h n r =
     if is_refused r then reply_word r ++ codes "\n"
-    else codes "step " ++ decimal h ++ codes " " ++ decimal n ++ codes ": " ++ reply_word r ++ codes "\n"
+    else codes "step " ++ decimal h ++ codes " " ++ decimal n ++ codes ": " ++ reply_word r
+    ++ codes "\n"
 
 -- `out N HEX`, without HEX where there are no bytes
 abbrev pub output_text : List ℕ → List ℕ
@@ -124,7 +125,8 @@ abbrev pub bytes_text : (address : Option ℕ) → List ℕ → List ℕ
 bytes_text None bs = output_text bs
 bytes_text (Some a) bs = memory_text a bs
 
--- the answer to an event that is no step; its bytes are those of RAM from an address on, if there is one
+-- the answer to an event that is no step; its bytes are those of RAM from an address on, if there
+-- is one
 abbrev pub reply_text : (address : Option ℕ) → BoardReply → List ℕ
 reply_text a reply.Done = reply_word reply.Done ++ codes "\n"
 reply_text a (reply.Bytes bs) = bytes_text a bs

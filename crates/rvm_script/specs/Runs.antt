@@ -8,14 +8,16 @@ use Rattle.rvm_script.specs.declared.script.ScriptError.TheVariants.{OutOfMemory
 use Rattle.rvm_script.specs.declared.line.Line.{Line}
 use Rattle.rvm_script.specs.Script.{Told, done_by}
 
--- all that was told went out, and the guest and its dirty log are as told
-pub record Leaves (told : Told) (old new : GuestState) (before after : Option (List ℕ)) : Type 0 where
+-- what was told went out, and the guest and its dirty log are as told
+pub record Leaves (told : Told) (old new : GuestState) (before after : Option (List ℕ))
+    : Type 0 where
   pub guest : new.guest ≡ told.guest
   pub dirty : new.dirty ≡ mark_all told.pages old.dirty
   pub text : Appends before after told.text
 
--- a script ran to its end, or to the line that is none; where it was refused or failed, nothing is said here
-abbrev pub IsRun : Result (Unit {0}) ScriptError → Told → (old new : GuestState) → (before after : Option (List ℕ)) → Type 0
+-- a script ran to its end, or to the line that is none; of other errors nothing is said here
+abbrev pub IsRun : Result (Unit {0}) ScriptError → Told
+    → (old new : GuestState) → (before after : Option (List ℕ)) → Type 0
 IsRun (Ok u) told old new before after = (told.end ≡ None) × Leaves told old new before after
 IsRun (Err (BadToken n)) told old new before after = (told.end ≡ Some n) × Leaves told old new before after
 IsRun (Err OutOfMemory) told old new before after = Unit {0}
@@ -45,7 +47,8 @@ IsLineError (BadToken n) = Unit {0}
 IsLineError LinkFault = Unit {0}
 
 -- a line was done, or it is none, and nothing was
-abbrev pub IsLineRun : Result (Unit {0}) ScriptError → (number : ℕ) → Option Line → (old new : GuestState) → (before after : Option (List ℕ)) → Type 0
+abbrev pub IsLineRun : Result (Unit {0}) ScriptError → (number : ℕ) → Option Line
+    → (old new : GuestState) → (before after : Option (List ℕ)) → Type 0
 IsLineRun (Ok u) n None old new before after = ⊥
 IsLineRun (Ok u) n (Some l) old new before after =
     (new.guest ≡ (done_by l old.guest).guest)

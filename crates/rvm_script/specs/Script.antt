@@ -80,8 +80,8 @@ done_by (line.Steps h n) g = replied_steps h (stepped h n g)
 done_by (line.Input bs) g = replied None (inputs bs g)
 done_by (line.Ask e) g = replied (address_of e) (answered e g)
 
--- the guest that a script leaves, the pages that it wrote, all that it answers, and the number of the line that is none, if
--- one ended it
+-- the guest that a script leaves, the pages that it wrote, all that it answers, and the number of
+-- the line that is none, if one ended it
 pub record Told : Type 0 where
   pub guest : Guest
   pub pages : List ℕ

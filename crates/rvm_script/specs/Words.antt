@@ -18,7 +18,7 @@ abbrev pub lines : List ℕ → List (List ℕ)
 lines script = lines_from script []
 
 -- a line without the carriage return at its end
-unfoldable pub without_return : List ℕ → List ℕ
+abbrev pub without_return : List ℕ → List ℕ
 without_return line =
     if slice_index line (length line - 1) == 13 then take (length line - 1) line else line
 

@@ -7,6 +7,7 @@ ghost use Rattle.rvm_text.specs.Registers.{name_of};
 ghost use Rattle.rvm_script.specs.Answers.{address_of, bytes_text, four_text, line_text, memory_text, output_text, is_refused, refusal_of, registers_text, reply_text, row_text, step_text, two_text};
 
 use hex::encode_to_slice;
+use rvm_board::VIEW_SIZE;
 use rvm_debug::{BoardEvent, BoardRefusal, BoardReply};
 use rvm_dis::{LinkFault, write_ins};
 use rvm_refusal::Refusal;
@@ -16,9 +17,6 @@ use std::io::Write;
 
 /// How many bytes of RAM a line shows.
 const ROW_SIZE: usize = 16;
-
-/// The most bytes of an answer.
-const VIEW_SIZE: usize = 256;
 
 /// A word, shown as eight hexadecimal digits.
 #[derive(Clone, Copy)]

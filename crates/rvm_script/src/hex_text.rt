@@ -1,16 +1,14 @@
 //! Bytes that are written as pairs of hexadecimal digits.
 
-ghost use Rattle.std.specs.Prelude.{◌≡◌, ◌∷◌, [], ◌<◌, ◌≤◌, ◌↔◌, length, MatchOption, IfSome, IsNone, IsTrue, option_map, Some, if◌then◌else◌, nat_le};
+ghost use Rattle.std.specs.Prelude.{◌≡◌, ◌∷◌, [], ◌<◌, MatchOption};
 ghost use Rattle.std.specs.List.{list_all};
 ghost use Rattle.rvm_text.specs.Numbers.{digit_value};
 ghost use Rattle.rvm_script.specs.HexBytes.{hex_of, is_hex_digit, small};
 
 use arrayvec::ArrayVec;
+use rvm_board::VIEW_SIZE;
 use rvm_debug::View;
 use std::marker::Model;
-
-/// The most bytes of a view.
-const VIEW_SIZE: usize = 256;
 
 /// Bytes as they are written, two digits each.
 #[derive(Drop)]

@@ -37,7 +37,7 @@ impl<'a> Line<'a> {
 }
 
 /// A line without the carriage return at its end.
-#[tactic(auto, using(crate::proofs::Reading::short_line), unfolding(crate::specs::Words::without_return))]
+#[tactic(auto, using(crate::proofs::Reading::short_line))]
 fn without_return(line: &[u8]) -> &[u8]
     ensures { result.now ≡ without_return line.now }
 {

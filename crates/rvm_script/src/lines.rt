@@ -31,7 +31,8 @@ pub fn do_line<M: Memory, W: Write>(
     ensures text { OnOk result (Appends (W.contents writer.old) (W.contents writer.new)
         (done_by line.entry board.old.guest).text) }
     ensures guest { board.new.guest ≡ (done_by line.entry board.old.guest).guest }
-    ensures dirty { board.new.dirty ≡ mark_all (done_by line.entry board.old.guest).pages board.old.dirty }
+    ensures dirty { board.new.dirty
+        ≡ mark_all (done_by line.entry board.old.guest).pages board.old.dirty }
 {
     match line {
         Line::Empty => Ok(()),
@@ -87,7 +88,8 @@ fn ends(reply: &BoardReply) -> bool
 fn input<M: Memory>(board: &mut Debugged<M>, bytes: HexText) -> BoardReply
     ensures reply { result ≡ (inputs bytes.entry board.old.guest).reply }
     ensures guest { board.new.guest ≡ (inputs bytes.entry board.old.guest).guest }
-    ensures dirty { board.new.dirty ≡ mark_all (inputs bytes.entry board.old.guest).pages board.old.dirty }
+    ensures dirty { board.new.dirty
+        ≡ mark_all (inputs bytes.entry board.old.guest).pages board.old.dirty }
 {
     let mut left = bytes;
     while let Some((byte, behind)) = left.split_first() {

@@ -1,8 +1,6 @@
 //! A script: its lines, one after the other.
 
-ghost use Rattle.std.specs.Prelude.{◌≡◌, ◌⊎◌, ◌∷◌, ◌^◌, ◌<◌, ◌≤◌, length, IfOk, IfErr, IfSome, OnOk, OnErr};
-ghost use Rattle.std.specs.Io.KnownBytes.{Appends};
-ghost use Rattle.rvm_mem.specs.Pages.{mark_all};
+ghost use Rattle.std.specs.Prelude.{◌≡◌, ◌⊎◌, ◌∷◌, ◌^◌, ◌<◌, ◌≤◌, length, IfOk, IfErr, IfSome};
 ghost use Rattle.rvm_script.specs.declared.script.ScriptError.TheVariants.{OutOfMemory, TooLong};
 ghost use Rattle.rvm_script.specs.Words.{lines};
 ghost use Rattle.rvm_script.specs.Lines.{line_of};
@@ -55,7 +53,8 @@ pub fn run_script<M: Memory, R: Read, W: Write>(
         IsRun result (script_of (lines script) 1 board.old.guest) board.old board.new
         (W.contents writer.old) (W.contents writer.new)) }
     ensures long { IfSome (R.remaining reader.old) (λ script. 2 ^ 26 < length script
-        → IsUnread result × (board.new ≡ board.old) × (W.contents writer.new ≡ W.contents writer.old)) }
+        → IsUnread result × (board.new ≡ board.old)
+        × (W.contents writer.new ≡ W.contents writer.old)) }
     ensures too_long { result ≡ Err TooLong
         → IfSome (R.remaining reader.old) (λ script. 2 ^ 26 < length script) }
     ensures unread { (result ≡ Err TooLong) ⊎ (result ≡ Err OutOfMemory)

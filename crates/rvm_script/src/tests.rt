@@ -96,8 +96,8 @@ fn registers_and_bytes_are_set_and_shown(rt: HostRuntime) -> Result<(), Fail> {
     let mut board = board(alloc, 2, &LOOP)?;
     let script =
         "reg 1 x31 0xFFFFFFFF\nreg 1 fp 7\nreg 1 zero 9\nregs 1\npoke 0x80000000 fFfFfFfF\n\
-        step 1\nreg 0 pc 2\nmem 0x80000000 257\nmem 0x80000fff 1\nmem 0x80001000 1\ndis 0x80000002\n\
-        drain 257\nregs 2\ninput 000102030405060708090a0b0c0d0e0F10\ninput 00\n";
+        step 1\nreg 0 pc 2\nmem 0x80000000 257\nmem 0x80000fff 1\nmem 0x80001000 1\n\
+        dis 0x80000002\ndrain 257\nregs 2\ninput 000102030405060708090a0b0c0d0e0F10\ninput 00\n";
     let answers = "done\ndone\ndone\n\
         zero=00000000 ra=00000000 sp=00000000 gp=00000000\n\
         tp=00000000 t0=00000000 t1=00000000 t2=00000000\n\

@@ -5,11 +5,9 @@ ghost use Rattle.rvm_text.specs.Bytes.{is_space};
 ghost use Rattle.rvm_script.specs.Words.{begins_blank, words};
 ghost use Rattle.rvm_script.specs.Lines.{numeral, register_in};
 
+use rvm_hart::PC;
 use rvm_text::{number, register};
 use std::marker::Model;
-
-/// The number of pc among the registers.
-const PC: u32 = 32;
 
 /// The words of a line that are still to be read.
 #[derive(Drop)]
@@ -45,7 +43,8 @@ impl<'a> Words<'a> {
     /// Takes the next word, if there is one.
     #[tactic(auto, using(crate::proofs::Reading::reading))]
     pub fn next(&mut self) -> Option<&'a [u8]>
-        ensures { MatchOption result (self.old ≡ []) (λ word. self.old ≡ word.now ∷ self.new) }
+        ensures { MatchOption result (self.old ≡ [])
+            (λ word. self.old ≡ word.now ∷ self.new) }
     {
         let rest = behind_blanks(self.rest);
         if rest.is_empty() {
