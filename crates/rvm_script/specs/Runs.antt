@@ -2,6 +2,8 @@
 use Rattle.std.specs.Prelude.{◌≡◌, ℕ, ◌^◌, ◌<◌, List, length, Option, Some, None, Result, Ok, Err, IfSome}
 use Rattle.std.specs.Io.KnownBytes.{Appends}
 use Rattle.rvm_mem.specs.Pages.{mark_all}
+use Rattle.rvm_refusal.specs.declared.refusal.Refusal.{Refusal}
+use Rattle.rvm_refusal.specs.declared.refusal.Refusal.TheVariants as refusal
 use Rattle.rvm_debug.specs.Guest.{GuestState}
 use Rattle.rvm_script.specs.declared.script.ScriptError.{ScriptError}
 use Rattle.rvm_script.specs.declared.script.ScriptError.TheVariants.{OutOfMemory, TooLong, BadToken, LinkFault}
@@ -59,3 +61,10 @@ IsLineRun (Err (BadToken k)) n (Some l) old new before after = ⊥
 IsLineRun (Err OutOfMemory) n l old new before after = ⊥
 IsLineRun (Err TooLong) n l old new before after = ⊥
 IsLineRun (Err LinkFault) n l old new before after = Unit {0}
+
+-- the error in the list of all refusals
+abbrev pub refusal_of_error : ScriptError → Refusal
+refusal_of_error OutOfMemory = refusal.OutOfMemory
+refusal_of_error TooLong = refusal.TooLong
+refusal_of_error (BadToken n) = refusal.BadToken
+refusal_of_error LinkFault = refusal.LinkFault

@@ -5,13 +5,14 @@ ghost use Rattle.rvm_script.specs.declared.script.ScriptError.TheVariants.{OutOf
 ghost use Rattle.rvm_script.specs.Words.{lines};
 ghost use Rattle.rvm_script.specs.Lines.{line_of};
 ghost use Rattle.rvm_script.specs.Script.{script_of};
-ghost use Rattle.rvm_script.specs.Runs.{IsRun, IsUnread, IsReadError, IsLineError, IsLineRun};
+ghost use Rattle.rvm_script.specs.Runs.{IsRun, IsUnread, IsReadError, IsLineError, IsLineRun, refusal_of_error};
 
 use crate::line::Line;
 use crate::lines::do_line;
 use rvm_debug::Debugged;
 use rvm_dis::LinkFault;
 use rvm_mem::Memory;
+use rvm_refusal::Refusal;
 use std::alloc::Global;
 use std::io::{ErrorKind, Read, Write};
 use thiserror::Error;
@@ -34,6 +35,19 @@ pub enum ScriptError {
     /// A read or a write failed; a part of what was to be written may have gone out.
     #[error("a read or a write failed")]
     LinkFault,
+}
+
+impl From<ScriptError> for Refusal {
+    ghost from_gives = { λ error refusal. refusal ≡ refusal_of_error error };
+
+    fn from(error: ScriptError) -> Refusal {
+        match error {
+            ScriptError::OutOfMemory => Refusal::OutOfMemory,
+            ScriptError::TooLong => Refusal::TooLong,
+            ScriptError::BadToken(_) => Refusal::BadToken,
+            ScriptError::LinkFault => Refusal::LinkFault,
+        }
+    }
 }
 
 /// Does what each line of a script asks for, in their order, and writes the answers. The script is
