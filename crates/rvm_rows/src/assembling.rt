@@ -61,8 +61,7 @@ fn dis(alloc: Global, raw: bool, image: &[u8]) -> Answer {
 }
 
 /// What `run` answers for an ELF file.
-fn run(rt: &HostRuntime, image: &[u8]) -> Answer {
-    let alloc = rt.alloc();
+fn run(rt: &impl Abort, alloc: Global, image: &[u8]) -> Answer {
     let mut arguments = arguments(rt, 1, 1, 1000);
     arguments.guest.raw = false;
     let (mut output, mut errors) = (Vec::new(alloc), Vec::new(alloc));
@@ -85,7 +84,7 @@ fn a_text_becomes_a_file_that_runs(rt: HostRuntime) -> Result<(), Fail> {
         made.output.get(HEADERS..),
         Some(bytes_of(alloc, &HI)?.as_slice())
     );
-    let ran = run(&rt, &made.output);
+    let ran = run(&rt, alloc, &made.output);
     assert_eq!(rt; ran.output.as_slice(), "Hi\n".as_bytes());
     assert_eq!(rt; ran.errors.as_slice(), "halted 0\n".as_bytes());
     assert_eq!(rt; ran.status, 0);
@@ -163,7 +162,7 @@ fn files_without_an_image_are_refused(rt: HostRuntime) {
         (b"#!/bin/sh\n", "refused 11 BadMagic\n"),
     ];
     for (file, refusal) in cases {
-        for answer in [run(&rt, file), dis(rt.alloc(), false, file)] {
+        for answer in [run(&rt, rt.alloc(), file), dis(rt.alloc(), false, file)] {
             assert_eq!(rt; answer.errors.as_slice(), refusal.as_bytes());
             assert_eq!(rt; answer.output.as_slice(), [].as_slice());
             assert_eq!(rt; answer.status, 1);

@@ -1,0 +1,20 @@
+//! Scripts for a debugged board: lines of text, the events that they make, and the text of the
+//! answers.
+//!
+//! Stands on `rvm_debug` for what events do, on `rvm_text` for numbers and names, and on `rvm_dis`
+//! for the text of a word. It knows nothing of files, processes or hosts.
+//!
+//! To be read in this order: `words`, `hex_text`, `command`, `line`, `answers`, `lines`, `script`.
+#![tactic(auto)]
+
+mod answers;
+mod command;
+mod hex_text;
+mod line;
+mod lines;
+mod script;
+#[cfg(test)]
+mod tests;
+mod words;
+
+pub use script::{MAX_SCRIPT_SIZE, ScriptError, run_script};

@@ -1,0 +1,103 @@
+//! What a line of a script does.
+
+ghost use Rattle.std.specs.Prelude.{◌≡◌, OnOk};
+ghost use Rattle.std.specs.Io.KnownBytes.{Appends};
+ghost use Rattle.rvm_mem.specs.Pages.{mark_all};
+ghost use Rattle.rvm_script.specs.Script.{done_by, ends, inputs, stepped};
+
+use crate::answers::{address_of, is_refused, write_reply, write_steps};
+use crate::hex_text::HexText;
+use crate::line::Line;
+use rvm_debug::{BoardEvent, BoardReply, Debugged};
+use rvm_dis::LinkFault;
+use rvm_mem::Memory;
+use std::io::Write;
+
+/// What steps of a hart answered.
+#[derive(Drop)]
+struct Steps {
+    /// How many there were.
+    count: u32,
+    /// The answer to the last.
+    last: BoardReply,
+}
+
+/// Does what a line asks for, and writes its answer.
+pub fn do_line<M: Memory, W: Write>(
+    board: &mut Debugged<M>,
+    line: Line,
+    writer: &mut W,
+) -> Result<(), LinkFault>
+    ensures text { OnOk result (Appends (W.contents writer.old) (W.contents writer.new)
+        (done_by line.entry board.old.guest).text) }
+    ensures guest { board.new.guest ≡ (done_by line.entry board.old.guest).guest }
+    ensures dirty { board.new.dirty
+        ≡ mark_all (done_by line.entry board.old.guest).pages board.old.dirty }
+{
+    match line {
+        Line::Empty => Ok(()),
+        Line::Steps { hart, count } => {
+            let steps = step(board, hart, count);
+            write_steps(writer, hart, steps.count, &steps.last)
+        }
+        Line::Input(bytes) => {
+            let reply = input(board, bytes);
+            write_reply(writer, None, &reply)
+        }
+        Line::Ask(event) => {
+            let address = address_of(&event);
+            let reply = board.apply(event);
+            write_reply(writer, address, &reply)
+        }
+    }
+}
+
+/// Makes at most so many steps of a hart; ends early at a breakpoint, where the board is halted and
+/// where a step is refused.
+fn step<M: Memory>(board: &mut Debugged<M>, hart: u32, count: u32) -> Steps
+    ensures count { result.count ≡ (stepped hart count board.old.guest).count }
+    ensures last { result.last ≡ (stepped hart count board.old.guest).reply }
+    ensures guest { board.new.guest ≡ (stepped hart count board.old.guest).guest }
+    ensures dirty { board.new.dirty
+        ≡ mark_all (stepped hart count board.old.guest).pages board.old.dirty }
+{
+    let mut last = BoardReply::Retired;
+    for made in 0..count {
+        last = board.apply(BoardEvent::Step(hart));
+        if ends(&last) {
+            return Steps {
+                count: made + 1,
+                last,
+            };
+        }
+    }
+    Steps { count, last }
+}
+
+/// Whether no step is made after this answer to one.
+fn ends(reply: &BoardReply) -> bool
+    ensures { result ≡ ends reply.now }
+{
+    matches!(
+        reply,
+        BoardReply::Halted(_) | BoardReply::Break(_) | BoardReply::Refused(_)
+    )
+}
+
+/// Bytes come to the console, up to the first that is refused.
+fn input<M: Memory>(board: &mut Debugged<M>, bytes: HexText) -> BoardReply
+    ensures reply { result ≡ (inputs bytes.entry board.old.guest).reply }
+    ensures guest { board.new.guest ≡ (inputs bytes.entry board.old.guest).guest }
+    ensures dirty { board.new.dirty
+        ≡ mark_all (inputs bytes.entry board.old.guest).pages board.old.dirty }
+{
+    let mut left = bytes;
+    while let Some((byte, behind)) = left.split_first() {
+        let reply = board.apply(BoardEvent::Input(byte));
+        if is_refused(&reply) {
+            return reply;
+        }
+        left = behind;
+    }
+    BoardReply::Done
+}
