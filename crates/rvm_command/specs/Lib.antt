@@ -1,3 +1,4 @@
 pub mod Run
 pub mod Command
 pub mod Assembled
+pub mod Debugging

@@ -22,6 +22,7 @@ pub enum Arguments<'a> {
     Run(RunArguments<'a>),
     Asm(AsmArguments<'a>),
     Dis(DisArguments<'a>),
+    Debug(GuestArguments<'a>),
 }
 
 /// A guest: the file of its image, and its board. Each number is within its limits.
@@ -77,6 +78,7 @@ pub fn parse_args<'a, S: AsStr>(alloc: Global, words: &'a [S]) -> Result<Argumen
         Some(("run", run)) => read_run(run),
         Some(("asm", asm)) => read_asm(asm),
         Some(("dis", dis)) => read_dis(dis),
+        Some(("debug", debug)) => read_debug(debug),
         _ => Err("a command is missing"),
     };
     match read {
@@ -89,7 +91,7 @@ pub fn parse_args<'a, S: AsStr>(alloc: Global, words: &'a [S]) -> Result<Argumen
 fn program<'a>(alloc: Global) -> Result<Command<'a>, Error> {
     Ok(
         Command::new(alloc, "rvmove")
-            .about("Assembles, disassembles and runs guests of a small RISC-V board")
+            .about("Assembles, disassembles, runs and debugs guests of a small RISC-V board")
             .subcommand_required(true)
             .arg_required_else_help(true)
             .subcommand(run_command(alloc)?)?
@@ -181,6 +183,13 @@ fn dis_command<'a>(alloc: Global) -> Result<Command<'a>, Error> {
     )
 }
 
+/// The words that `debug` takes.
+fn debug_command<'a>(alloc: Global) -> Result<Command<'a>, Error> {
+    let debug = Command::new(alloc, "debug")
+        .about("Answers the lines of a debugger's script from standard input");
+    guest_command(debug, alloc)
+}
+
 /// The arguments of `run`, or which of them is not what it must be.
 fn read_run<'a>(run: &ArgMatches<'a>) -> Result<Arguments<'a>, &'static str> {
     let guest = read_guest(run)?;
@@ -233,6 +242,11 @@ fn read_dis<'a>(dis: &ArgMatches<'a>) -> Result<Arguments<'a>, &'static str> {
         image,
         raw: dis.get_flag("raw"),
     }))
+}
+
+/// The arguments of `debug`, or which of them is not what it must be.
+fn read_debug<'a>(debug: &ArgMatches<'a>) -> Result<Arguments<'a>, &'static str> {
+    Ok(Arguments::Debug(read_guest(debug)?))
 }
 
 /// The number of an option, from 1 to a limit. It has no sign, also no plus sign.

@@ -4,6 +4,7 @@ ghost use Rattle.std.specs.Prelude.{◌≡◌, ◌⊎◌, List, ℕ, IfOk};
 ghost use Rattle.std.specs.Io.KnownBytes.{Appends};
 ghost use Rattle.rvm_command.specs.Assembled.{IsFileOf};
 
+use crate::refused::Refused;
 use rvm_asm::{AsmError, assemble};
 use rvm_elf::{WriteError, write_image};
 use rvm_line::Fault;
@@ -11,24 +12,6 @@ use rvm_refusal::Refusal;
 use std::alloc::Global;
 use std::io::Write;
 use std::{fmt, str};
-
-/// Why a text was refused: a line of it, counted from 1, or none.
-#[derive(Clone, Copy, Debug, PartialEq, Eq)]
-struct Refused {
-    line: Option<usize>,
-    refusal: Refusal,
-}
-
-/// `line L: refused N NAME`, or `refused N NAME`.
-impl fmt::Display for Refused {
-    fn fmt<W: fmt::Write>(&self, f: &mut fmt::Formatter<W>) -> fmt::Result {
-        let refusal = self.refusal;
-        match self.line {
-            Some(line) => write!(f, "line {line}: {refusal}"),
-            None => write!(f, "{refusal}"),
-        }
-    }
-}
 
 /// Assembles `source` into an ELF file, which goes to `output`, and answers the status: 0, or 1
 /// where it was refused; then `errors` gets the refusal, with the line at which it stands. A text
@@ -51,10 +34,7 @@ pub fn asm_command<O: Write, E: Write>(
             if output.write_all(&file).is_ok() {
                 return 0;
             }
-            Refused {
-                line: None,
-                refusal: Refusal::LinkFault,
-            }
+            Refused::of(Refusal::LinkFault)
         }
         Err(refused) => refused,
     };
@@ -96,10 +76,7 @@ fn not_text(source: &[u8], at: usize) -> Refused {
 /// The refusal of a text that has no assembly.
 fn of_text(error: AsmError) -> Refused {
     match error {
-        AsmError::OutOfMemory => Refused {
-            line: None,
-            refusal: Refusal::OutOfMemory,
-        },
+        AsmError::OutOfMemory => Refused::of(Refusal::OutOfMemory),
         AsmError::Line(line, fault) => Refused {
             line: Some(line),
             refusal: of_fault(fault),
@@ -125,8 +102,5 @@ fn of_image(error: WriteError) -> Refused {
         WriteError::TooMany => Refusal::TooMany,
         WriteError::OutOfReach => Refusal::OutOfReach,
     };
-    Refused {
-        line: None,
-        refusal,
-    }
+    Refused::of(refusal)
 }

@@ -1,6 +1,6 @@
 //! The addresses at which steps stop.
 
-ghost use Rattle.std.specs.Prelude.{◌≡◌, ◌≤◌, ◌↔◌, [], length, OnOk, OnErr, IsErr, false, count_by, nat_lt, if◌then◌else◌};
+ghost use Rattle.std.specs.Prelude.{◌≡◌, ◌≤◌, ◌↔◌, [], length, OnOk, OnErr, IsErr, IsTrue, false, count_by, nat_lt, if◌then◌else◌};
 ghost use Rattle.rvm_debug.specs.Guest.{AreRising, is_in, with, without};
 
 use arrayvec::ArrayVec;
@@ -63,12 +63,19 @@ impl Breakpoints {
         self.addresses.as_slice()
     }
 
-    /// Whether one is set at an address.
+    /// Whether none is set.
     #[inline(always)]
+    pub(crate) fn is_empty(&self) -> bool
+        ensures { IsTrue result → self.now ≡ [] }
+    {
+        self.addresses.is_empty()
+    }
+
+    /// Whether one is set at an address.
     pub(crate) fn has(&self, address: u32) -> bool
         ensures { result ≡ is_in address self.now }
     {
-        !self.addresses.is_empty() && self.addresses.contains(&address)
+        self.addresses.contains(&address)
     }
 
     /// Sets one. `Full`, and nothing changes, where 64 others are set.

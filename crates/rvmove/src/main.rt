@@ -1,9 +1,10 @@
-//! `rvmove`: assembles, disassembles and runs guests of a small RISC-V board. Reads the command
+//! `rvmove`: assembles, disassembles, runs and debugs guests of a small RISC-V board. Reads the command
 //! line and the files, and calls the command.
 #![tactic(auto)]
 
-use rvm_command::arguments::{Arguments, AsmArguments, DisArguments, RunArguments, parse_args};
+use rvm_command::arguments::{Arguments, AsmArguments, DisArguments, GuestArguments, RunArguments, parse_args};
 use rvm_command::asm_command::asm_command;
+use rvm_command::debug_command::debug_command;
 use rvm_command::dis_command::dis_command;
 use rvm_command::run_command::run_command;
 use rvm_refusal::Refusal;
@@ -17,6 +18,7 @@ fn main(rt: HostRuntime) -> anyhow::Result<ExitCode> {
         Ok(Arguments::Run(arguments)) => run(&rt, &arguments),
         Ok(Arguments::Asm(arguments)) => asm(&rt, &arguments),
         Ok(Arguments::Dis(arguments)) => dis(&rt, &arguments),
+        Ok(Arguments::Debug(arguments)) => debug(&rt, &arguments),
         Err(error) => {
             error.print(&rt)?;
             Ok(ExitCode::from(if error.exit_code() == 0 { 0 } else { 2 }))
@@ -68,6 +70,22 @@ fn dis(rt: &HostRuntime, arguments: &DisArguments) -> anyhow::Result<ExitCode> {
         rt.alloc(),
         arguments,
         image.as_slice(),
+        &mut rt.stdout(),
+        &mut rt.stderr(),
+    );
+    Ok(ExitCode::from(status))
+}
+
+/// Reads the image, and answers the script that standard input gives.
+fn debug(rt: &HostRuntime, arguments: &GuestArguments) -> anyhow::Result<ExitCode> {
+    let Ok(image) = fs::read(rt, arguments.image) else {
+        return refuse(rt, Refusal::LinkFault);
+    };
+    let status = debug_command(
+        rt.alloc(),
+        arguments,
+        image.as_slice(),
+        &mut rt.stdin(),
         &mut rt.stdout(),
         &mut rt.stderr(),
     );
