@@ -185,8 +185,9 @@ fn dis_command<'a>(alloc: Global) -> Result<Command<'a>, Error> {
 
 /// The words that `debug` takes.
 fn debug_command<'a>(alloc: Global) -> Result<Command<'a>, Error> {
-    let debug = Command::new(alloc, "debug")
-        .about("Answers the lines of a debugger's script from standard input");
+    let debug = Command::new(alloc, "debug").about(
+        "Answers the lines of a debugger's script from standard input",
+    );
     guest_command(debug, alloc)
 }
 

@@ -32,8 +32,8 @@ pub fn debug_command<R: Read, O: Write, E: Write>(
     ensures status { (result ≡ 0) ⊎ (result ≡ 1) }
     ensures answers { result ≡ 0 → IfOk (image_of arguments.now.raw image.now) (λ i.
         IfSome (R.remaining reader.old) (λ script. IsTold
-            (script_of (lines script) 1 (guest_of arguments.now.harts arguments.now.pages i.0 i.1))
-            (O.contents output.old) (O.contents output.new))) }
+        (script_of (lines script) 1 (guest_of arguments.now.harts arguments.now.pages i.0 i.1))
+        (O.contents output.old) (O.contents output.new))) }
     ensures fault { IsErr (image_of arguments.now.raw image.now)
         → (result ≡ 1) × (O.contents output.new ≡ O.contents output.old) }
     ensures outside { IfOk (image_of arguments.now.raw image.now) (λ i.
@@ -58,8 +58,8 @@ fn debug<R: Read, O: Write>(
 ) -> Result<(), Refused>
     ensures answers { OnOk result (IfOk (image_of arguments.now.raw image.now) (λ i.
         IfSome (R.remaining reader.old) (λ script. IsTold
-            (script_of (lines script) 1 (guest_of arguments.now.harts arguments.now.pages i.0 i.1))
-            (O.contents output.old) (O.contents output.new)))) }
+        (script_of (lines script) 1 (guest_of arguments.now.harts arguments.now.pages i.0 i.1))
+        (O.contents output.old) (O.contents output.new)))) }
     ensures fault { IsErr (image_of arguments.now.raw image.now)
         → IsErr result × (O.contents output.new ≡ O.contents output.old) }
     ensures outside { IfOk (image_of arguments.now.raw image.now) (λ i.

@@ -7,7 +7,7 @@
 //!
 //! To be read in this order: `program` and `bench`, which make guests and run them; then `words`,
 //! `rows`, `memory`, `instructions`, `traps`, `registers`, `interrupts`, `atomics`, `console`,
-//! `running`, `assembling`, `command_line`.
+//! `running`, `assembling`, `debugging`, `command_line`.
 #![tactic(auto)]
 
 #[cfg(test)]
@@ -20,6 +20,8 @@ mod bench;
 mod command_line;
 #[cfg(test)]
 mod console;
+#[cfg(test)]
+mod debugging;
 #[cfg(test)]
 mod instructions;
 #[cfg(test)]

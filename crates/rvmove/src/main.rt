@@ -2,7 +2,9 @@
 //! line and the files, and calls the command.
 #![tactic(auto)]
 
-use rvm_command::arguments::{Arguments, AsmArguments, DisArguments, GuestArguments, RunArguments, parse_args};
+use rvm_command::arguments::{
+    Arguments, AsmArguments, DisArguments, GuestArguments, RunArguments, parse_args,
+};
 use rvm_command::asm_command::asm_command;
 use rvm_command::debug_command::debug_command;
 use rvm_command::dis_command::dis_command;
