@@ -3,3 +3,4 @@ pub mod Restoring
 pub mod Fits
 pub mod Guests
 pub mod Reading
+pub mod Writing

@@ -19,7 +19,10 @@
 mod fault;
 mod fields;
 mod parts;
+mod put;
 mod read;
+mod write;
 
 pub use fault::StateFault;
 pub use read::read_state;
+pub use write::write_state;
