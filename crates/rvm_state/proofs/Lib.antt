@@ -4,3 +4,4 @@ pub mod Fits
 pub mod Guests
 pub mod Reading
 pub mod Writing
+pub mod Wrote

@@ -9,7 +9,7 @@ use Rattle.rvm_csr.specs.declared.interrupts.Interrupts.{Interrupts}
 use Rattle.rvm_csr.specs.Registers.{interrupt_bits, interrupts_of}
 use Rattle.rvm_hart.specs.Fields.{is_in_ram, is_ram_word}
 use Rattle.rvm_codec.specs.Numbers.{rise_from, within}
-use Rattle.rvm_codec.specs.Codec.{Codec, any, as_type, both, counted_bytes, counted_each, flag, number, only, optional, times, option_parts}
+use Rattle.rvm_codec.specs.Codec.{Codec, any, as_type, both, counted_bytes, counted_each, flag, number, only, then_each, times}
 use Rattle.rvm_codec.proofs.Steps.{and_so, same_number}
 use Rattle.rvm_debug.specs.Guest.{AreAbove, AreRising}
 use Rattle.rvm_state.specs.Formats.{aligned, breakpoints, enable_bits, enables_of, mie, mstatus, mtvec}
@@ -50,6 +50,12 @@ within_written size low high n old new le ge p = record { bytes = p.bytes; fits 
 
 pub times_written : {A : Type 0} {c : Codec A} {xs : List A} {old new : List ℕ} (n : ℕ) → length xs ≡ n → WritesEach c xs old new → Writes (times n c) xs old new
 times_written {A} {c} {xs} n e p = record { bytes = p.bytes; fits = and_so (eqb (length xs) n) (list_all c.fits xs) (same_number (length xs) n e) p.fits }
+
+pub then_written : {A B : Type 0} {c : Codec A} {d : Codec B} {a : A} {xs : List B} {old mid new : List ℕ} (count : A → ℕ) → length xs ≡ count a → Writes c a old mid → WritesEach d xs mid new → Writes (then_each c count d) (a, xs) old new
+then_written {A} {B} {c} {d} {a} {xs} {old} {mid} {new} count e p q = record {
+  bytes = q.bytes ∙ ap (λ (t : List ℕ). t ++ flat_map d.write xs) p.bytes ∙ append_assoc old (c.write a) (flat_map d.write xs);
+  fits = and_so (c.fits a) (eqb (length xs) (count a) && list_all d.fits xs) p.fits (and_so (eqb (length xs) (count a)) (list_all d.fits xs) (same_number (length xs) (count a) e) q.fits);
+}
 
 -- LISTS
 
