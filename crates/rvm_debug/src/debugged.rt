@@ -93,7 +93,12 @@ impl<M: Memory> Debugged<M> {
 
     /// The devices.
     pub fn devices(&self) -> &Devices
-        ensures { result.now ≡ self.now.guest.board.reach.devices }
+        ensures devices { result.now ≡ self.now.guest.board.reach.devices }
+        ensures msip { length self.now.guest.board.reach.devices.msip
+            ≡ length self.now.guest.board.harts }
+        ensures reservations { length self.now.guest.board.reach.reservations
+            ≡ length self.now.guest.board.harts }
+        ensures stopped { length self.now.guest.stopped ≡ length self.now.guest.board.harts }
     {
         self.board.devices()
     }

@@ -22,7 +22,7 @@ long_exact = any_exact 8
 aligned_exact : IsExact aligned
 aligned_exact = only_exact _ _ word_exact
 
-enables_back : (x : Bool × Bool) → enables_of (enable_bits x) ≡ x
+pub enables_back : (x : Bool × Bool) → enables_of (enable_bits x) ≡ x
 enables_back (true, true) = refl
 enables_back (true, false) = refl
 enables_back (false, true) = refl
@@ -34,7 +34,7 @@ mstatus_exact =
     as_exact _ enables_of enable_bits (only_exact _ _ word_exact)
     (λ n h. eqb-true _ _ (both_are ((any 4).fits n) (eqb (enable_bits (enables_of n)) n) h).1) enables_back
 
-interrupts_back : (s t e : Bool) → interrupts_of (interrupt_bits (record { software = s; timer = t; external = e })) ≡ record { software = s; timer = t; external = e }
+pub interrupts_back : (s t e : Bool) → interrupts_of (interrupt_bits (record { software = s; timer = t; external = e })) ≡ record { software = s; timer = t; external = e }
 interrupts_back true true true = refl
 interrupts_back true true false = refl
 interrupts_back true false true = refl

@@ -3,3 +3,5 @@ pub mod Restoring
 pub mod Fits
 pub mod Guests
 pub mod Reading
+pub mod Writing
+pub mod Wrote

@@ -72,7 +72,7 @@ filled_all : {X : Type 0} (h : ℕ) (xs : List X) → length xs ≡ h → xs ≡
 filled_all h xs e = sym (append-nil (take h xs) ∙ take_all h xs (omega (arith, e)))
 
 -- a guest with other harts, other words of theirs, other reservations and flags
-abbrev with_lists : List HartState → List Bool → List ℕ → List (Option ℕ) → List Bool → Guest → Guest
+abbrev pub with_lists : List HartState → List Bool → List ℕ → List (Option ℕ) → List Bool → Guest → Guest
 with_lists harts msip mtimecmp reservations stopped g =
     record {
       board = record {
@@ -87,7 +87,7 @@ with_lists harts msip mtimecmp reservations stopped g =
       stopped = stopped;
     }
 
-same_lists_of : (a b : List HartState) (c d : List Bool) (e f : List ℕ) (k l : List (Option ℕ)) (m n : List Bool) (g : Guest) → a ≡ b → c ≡ d → e ≡ f → k ≡ l → m ≡ n → with_lists a c e k m g ≡ with_lists b d f l n g
+pub same_lists_of : (a b : List HartState) (c d : List Bool) (e f : List ℕ) (k l : List (Option ℕ)) (m n : List Bool) (g : Guest) → a ≡ b → c ≡ d → e ≡ f → k ≡ l → m ≡ n → with_lists a c e k m g ≡ with_lists b d f l n g
 same_lists_of a b c d e f k l m n g p q r s t =
     ap (λ x. with_lists x c e k m g) p ∙ ap (λ x. with_lists b x e k m g) q ∙ ap (λ x. with_lists b d x k m g) r ∙ ap (λ x. with_lists b d f x m g) s ∙ ap (λ x. with_lists b d f l x g) t
 

@@ -3,3 +3,4 @@ pub mod Formats
 pub mod Spelling
 pub mod Read
 pub mod Restoring
+pub mod Writing

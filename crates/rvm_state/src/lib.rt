@@ -13,13 +13,20 @@
 //! - the input that waits, a count of one byte and the bytes, oldest first; the output, a count of
 //!   two bytes and the bytes; the breakpoints, a count of one byte and four bytes each, rising.
 //!
-//! To be read in this order: `fault`, `parts`, `fields`, `read`, `write`, `laws`.
+//! To be read in this order: `fault`, `fields`, `parts`, `read`, `put`, `write`,
+//! `laws`.
 #![tactic(auto)]
 
 mod fault;
 mod fields;
+pub mod laws;
 mod parts;
+mod put;
 mod read;
+#[cfg(test)]
+mod tests;
+mod write;
 
 pub use fault::StateFault;
 pub use read::read_state;
+pub use write::write_state;

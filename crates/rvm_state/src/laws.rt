@@ -1,0 +1,25 @@
+//! What holds of every guest.
+
+ghost use Rattle.std.specs.Prelude.{◌≡◌, ◌<◌, ℕ, List, Some, length};
+ghost use Rattle.rvm_debug.specs.Guest.{Guest};
+ghost use Rattle.rvm_state.specs.Formats.{state};
+ghost use Rattle.rvm_state.specs.State.{state_of};
+ghost use Rattle.rvm_state.specs.Spelling.{HasSpelling, Spells, spelling};
+
+/// Bytes and a RAM spell at most one guest.
+pub fn no_two_guests_have_one_spelling()
+    ensures { (bytes ram : List ℕ) (g h : Guest)
+        → Spells bytes ram g → Spells bytes ram h → g ≡ h }
+{}
+
+/// The bytes that are written of a guest spell it, with its RAM.
+pub fn what_is_written_spells_the_guest()
+    ensures { (g : Guest) → 0 < length g.board.reach.bytes → HasSpelling g
+        → Spells (spelling g) g.board.reach.bytes g }
+{}
+
+/// The values that are written are read back.
+pub fn what_is_written_is_read_back()
+    ensures { (g : Guest) → HasSpelling g
+        → (state (length g.board.reach.bytes)).read (spelling g) ≡ Some (state_of g) }
+{}
