@@ -120,7 +120,15 @@ refused 2 OutOfRange
 #[test]
 fn a_line_that_is_none_ends_the_script(rt: HostRuntime) -> Result<(), Fail> {
     let refusal = "line 3: refused 6 BadToken\n";
-    let lines = ["walk", "step", "step 0 0", "step 0 1000001", "A step 0", "begin", "input 1"];
+    let lines = [
+        "walk",
+        "step",
+        "step 0 0",
+        "step 0 1000001",
+        "A step 0",
+        "begin",
+        "input 1",
+    ];
     for line in lines {
         let mut script = String::from_str(rt.alloc(), "step 0\n# next\n")?;
         script.push_str(line)?;
@@ -143,7 +151,14 @@ fn a_17th_byte_and_a_65th_breakpoint_are_refused(rt: HostRuntime) -> Result<(), 
     }
     script.push_str("break 99\nbreak 100\n")?;
     answers.push_str("refused 16 TooManyBreaks\ndone\n")?;
-    assert_answers(&rt, rt.alloc(), &LOOP, script.as_str(), answers.as_str(), "")
+    assert_answers(
+        &rt,
+        rt.alloc(),
+        &LOOP,
+        script.as_str(),
+        answers.as_str(),
+        "",
+    )
 }
 
 #[test]

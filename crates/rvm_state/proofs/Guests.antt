@@ -45,8 +45,8 @@ parts_made ram s =
     let long : n ≡ length s.harts = length-numbered 0 s.harts in
     same_lists (map f (range_with_len 0 n)) s.harts (length-map-range_with_len f 0 n ∙ long)
     (λ k d lt.
-        let below : k < n = omega (arith, lt, length-map-range_with_len f 0 n) in
-        get_or-map-range_with_len f 0 n k k d below (omega arith) ∙ part_at ram s k d (omega (arith, below, long)))
+    let below : k < n = omega (arith, lt, length-map-range_with_len f 0 n) in
+    get_or-map-range_with_len f 0 n k k d below (omega arith) ∙ part_at ram s k d (omega (arith, below, long)))
 
 pub state_made : (ram : List ℕ) (s : State) → state_of (guest_of ram s) ≡ s
 state_made ram s = ap (λ (ps : List HartPart). record s { harts = ps }) (parts_made ram s)

@@ -59,11 +59,11 @@ column {X} q f n xs blank size each =
     let mapped : length (map q ps) ≡ length ps = length-map ps q in
     same_lists (map q ps) xs (mapped ∙ long ∙ sym size)
     (λ k d lt.
-        let below : k < n = omega (arith, lt, mapped, long) in
-        get_or-map q ps k (f 0) d (omega (arith, lt, mapped))
-        ∙ ap q (get_or-map-range_with_len f 0 n k k (f 0) below (omega arith))
-        ∙ each k
-        ∙ get_or_default xs k blank d (omega (arith, below, size)))
+    let below : k < n = omega (arith, lt, mapped, long) in
+    get_or-map q ps k (f 0) d (omega (arith, lt, mapped))
+    ∙ ap q (get_or-map-range_with_len f 0 n k k (f 0) below (omega arith))
+    ∙ each k
+    ∙ get_or_default xs k blank d (omega (arith, below, size)))
 
 harts_column : (g : Guest) → ((k : ℕ) → k < length g.board.harts → with_number k (fields_of (hart_at k g.board)) ≡ hart_at k g.board) → numbered 0 (parts_of g) ≡ g.board.harts
 harts_column g whole =
@@ -72,13 +72,13 @@ harts_column g whole =
     let long : length (numbered 0 (parts_of g)) ≡ n = length-numbered 0 (parts_of g) ∙ length-map-range_with_len f 0 n in
     same_lists (numbered 0 (parts_of g)) g.board.harts long
     (λ k d lt.
-        let below : k < n = omega (arith, lt, long) in
-        let zero_and : 0 + k ≡ k = omega arith in
-        numbered_at 0 (parts_of g) k (f 0) d (omega (arith, below, length-map-range_with_len f 0 n))
-        ∙ ap (λ i. with_number i (get_or (parts_of g) k (f 0)).fields) zero_and
-        ∙ ap (λ (p : HartPart). with_number k p.fields) (get_or-map-range_with_len f 0 n k k (f 0) below (omega arith))
-        ∙ whole k below
-        ∙ get_or_default g.board.harts k (new_hart 0 0) d below)
+    let below : k < n = omega (arith, lt, long) in
+    let zero_and : 0 + k ≡ k = omega arith in
+    numbered_at 0 (parts_of g) k (f 0) d (omega (arith, below, length-map-range_with_len f 0 n))
+    ∙ ap (λ i. with_number i (get_or (parts_of g) k (f 0)).fields) zero_and
+    ∙ ap (λ (p : HartPart). with_number k p.fields) (get_or-map-range_with_len f 0 n k k (f 0) below (omega arith))
+    ∙ whole k below
+    ∙ get_or_default g.board.harts k (new_hart 0 0) d below)
 
 pub made : (g : Guest) → IsOf (length g.board.harts) g → ((k : ℕ) → k < length g.board.harts → with_number k (fields_of (hart_at k g.board)) ≡ hart_at k g.board) → guest_of g.board.reach.bytes (state_of g) ≡ g
 made g is whole =

@@ -38,5 +38,7 @@ pub returns-in-Err-clause-memory : goal.returns-in-Err-clause-memory
 returns-in-Err-clause-memory g c =
     let there = sym (ap (option_map state_in) c.in-Some.is) ∙ c.parts_of.ensures in
     let some : 0 < c.len-size.result = omega (arith, c.if-size-eq0.false) in
-    λ _. (guest_of (g.M.Memory.bytes c.args.ram) (state_in c.in-Some.parts),
-        spells c.args.bytes.now (g.M.Memory.bytes c.args.ram) c.len-size.result (state_in c.in-Some.parts) (λ i. omega (arith, c.type_inv.bytes i)) some c.len-size.ensures.length there)
+    λ _. (
+      guest_of (g.M.Memory.bytes c.args.ram) (state_in c.in-Some.parts),
+      spells c.args.bytes.now (g.M.Memory.bytes c.args.ram) c.len-size.result (state_in c.in-Some.parts) (λ i. omega (arith, c.type_inv.bytes i)) some c.len-size.ensures.length there,
+    )
