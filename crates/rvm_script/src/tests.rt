@@ -7,6 +7,7 @@ use rvm_debug::Debugged;
 use rvm_hart::RAM_BASE;
 use rvm_mem::{FlatMemory, Memory, PagedMemory, write_bytes};
 use std::alloc::Global;
+use std::io::{self, ErrorKind, Read};
 use std::process::Abort;
 use std::test::Fail;
 
@@ -192,5 +193,57 @@ fn a_poke_has_at_most_256_bytes(rt: HostRuntime) -> Result<(), Fail> {
     let result = run_script(alloc, &mut board, &mut script.as_slice(), &mut written);
     assert_eq!(rt; result, Err(ScriptError::BadToken(1)));
     assert_eq!(rt; written.as_slice(), "done\n".as_bytes());
+    Ok(())
+}
+
+#[test]
+fn an_endless_script_is_too_long(rt: HostRuntime) -> Result<(), Fail> {
+    let alloc = rt.alloc();
+    let mut board = board(alloc, 1, &LOOP)?;
+    let mut written = Vec::new(alloc);
+    let result = run_script(alloc, &mut board, &mut io::repeat(b'\n'), &mut written);
+    assert_eq!(rt; result, Err(ScriptError::TooLong));
+    assert_eq!(rt; written.len(), 0);
+    Ok(())
+}
+
+/// Gives a line, and then fails.
+#[derive(Drop)]
+struct Failing {
+    line: &'static [u8],
+}
+
+impl Read for Failing {
+    fn read(&mut self, bytes: &mut [u8]) -> io::Result<usize> {
+        if self.line.is_empty() {
+            return Err(io::Error::from(ErrorKind::BrokenPipe));
+        }
+        self.line.read(bytes)
+    }
+}
+
+#[test]
+fn reads_and_writes_that_fail_end_a_script(rt: HostRuntime) -> Result<(), Fail> {
+    let alloc = rt.alloc();
+    let mut board = board(alloc, 1, &LOOP)?;
+    let mut written = Vec::new(alloc);
+    let mut failing = Failing {
+        line: "step 0\n".as_bytes(),
+    };
+    let result = run_script(alloc, &mut board, &mut failing, &mut written);
+    assert_eq!(rt; result, Err(ScriptError::LinkFault));
+    assert_eq!(rt; written.len(), 0);
+    let mut room = [0u8; 20];
+    let script = "step 0\nstep 0\nstep 0\n".as_bytes();
+    let result = run_script(alloc, &mut board, &mut &*script, &mut room.as_mut_slice());
+    assert_eq!(rt; result, Err(ScriptError::LinkFault));
+    expect(
+        &rt,
+        alloc,
+        &mut board,
+        "step 0 2",
+        "step 0 2: retired\n",
+        Ok(()),
+    );
     Ok(())
 }
