@@ -88,13 +88,7 @@ impl<M: Memory> Bus<M> {
     }
 
     /// Sets what the devices keep of a hart, and its reservation.
-    pub fn restore_hart(
-        &mut self,
-        hart: u32,
-        msip: bool,
-        mtimecmp: u64,
-        reserved: Option<u32>,
-    )
+    pub fn restore_hart(&mut self, hart: u32, msip: bool, mtimecmp: u64, reserved: Option<u32>)
         requires reservations { hart < length self.old.reach.reservations }
         requires devices { hart < length self.old.reach.devices.msip }
         requires in_ram { is_in_ram (length self.old.reach.bytes) reserved ≡ true }

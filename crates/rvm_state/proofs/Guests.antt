@@ -1,11 +1,11 @@
 -- The values of a guest that was made of values are these.
-use Rattle.std.proofs.Common.{◌≡◌, ℕ, zero, suc, ◌+◌, ◌<◌, Bool, false, List, [], ◌∷◌, None, Option, length, map, get_or, refl, sym, ap, ◌∙◌, arith}
+use Rattle.std.proofs.Common.{◌≡◌, ℕ, zero, suc, ◌+◌, ◌<◌, Bool, false, List, [], ◌∷◌, None, Option, length, map, get_or, refl, ap, ◌∙◌, arith}
 use Rattle.std.proofs.lemmas.List.{same_lists, get_or-map}
 use Rattle.std.proofs.lemmas.List.FromFn.{get_or-map-range_with_len, length-map-range_with_len}
 use Rattle.std.specs.List.{range_with_len}
 use Rattle.rvm_hart.specs.declared.fields.HartFields.{HartFields}
 use Rattle.rvm_hart.specs.Machine.{HartState}
-use Rattle.rvm_hart.specs.Fields.{fields_of, with_number}
+use Rattle.rvm_hart.specs.Fields.{fields_of}
 use Rattle.rvm_board.specs.Board.{new_hart}
 use Rattle.rvm_debug.specs.declared.part.HartPart.{HartPart}
 use Rattle.rvm_debug.specs.Guest.{Guest}
@@ -45,8 +45,8 @@ parts_made ram s =
     let long : n ≡ length s.harts = length-numbered 0 s.harts in
     same_lists (map f (range_with_len 0 n)) s.harts (length-map-range_with_len f 0 n ∙ long)
     (λ k d lt.
-        let below : k < n = omega (arith, lt, length-map-range_with_len f 0 n) in
-        get_or-map-range_with_len f 0 n k k d below (omega arith) ∙ part_at ram s k d (omega (arith, below, long)))
+    let below : k < n = omega (arith, lt, length-map-range_with_len f 0 n) in
+    get_or-map-range_with_len f 0 n k k d below (omega arith) ∙ part_at ram s k d (omega (arith, below, long)))
 
 pub state_made : (ram : List ℕ) (s : State) → state_of (guest_of ram s) ≡ s
 state_made ram s = ap (λ (ps : List HartPart). record s { harts = ps }) (parts_made ram s)

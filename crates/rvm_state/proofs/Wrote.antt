@@ -1,5 +1,5 @@
 -- What was written is a guest's spelling, and tells it wholly.
-use Rattle.std.proofs.Common.{◌≡◌, ℕ, zero, suc, ◌+◌, ◌<◌, Bool, true, false, List, [], ◌∷◌, ◌++◌, None, length, map, get_or, refl, sym, ap, subst, ◌∙◌, arith, below_more}
+use Rattle.std.proofs.Common.{◌≡◌, ℕ, zero, suc, ◌+◌, ◌<◌, false, List, [], ◌∷◌, None, length, map, get_or, refl, sym, ap, subst, ◌∙◌, arith, below_more}
 use Rattle.std.specs.List.{range_with_len}
 use Rattle.std.proofs.lemmas.List.{same_lists, get_or-map, get_or_default, length-map}
 use Rattle.std.proofs.lemmas.List.FromFn.{get_or-map-range_with_len, length-map-range_with_len, map-range_with_len_more}
@@ -14,13 +14,13 @@ use Rattle.rvm_codec.specs.Codec.{counted_bytes}
 use Rattle.rvm_debug.specs.declared.part.HartPart.{HartPart}
 use Rattle.rvm_debug.specs.Guest.{Guest}
 use Rattle.rvm_debug.specs.Parts.{CanBeHeld, part_of}
-use Rattle.rvm_state.specs.State.{State, guest_of, numbered, parts_of, state_of}
+use Rattle.rvm_state.specs.State.{guest_of, numbered, parts_of, state_of}
 use Rattle.rvm_state.specs.Formats.{breakpoints, hart, head, parts, state, whole_parts}
 use Rattle.rvm_state.specs.Restoring.{IsOf}
 use Rattle.rvm_state.specs.Spelling.{HasSpelling, spelling}
 use Rattle.rvm_state.specs.Writing.{Writes, WritesEach, WritesHarts}
 use Rattle.rvm_state.proofs.Guests.{length-numbered}
-use Rattle.rvm_state.proofs.Restoring.{same_lists_of, with_lists}
+use Rattle.rvm_state.proofs.Restoring.{same_lists_of}
 use Rattle.rvm_state.proofs.Writing.{behind, no_more, one_more, then_written}
 
 -- HARTS
@@ -59,11 +59,11 @@ column {X} q f n xs blank size each =
     let mapped : length (map q ps) ≡ length ps = length-map ps q in
     same_lists (map q ps) xs (mapped ∙ long ∙ sym size)
     (λ k d lt.
-        let below : k < n = omega (arith, lt, mapped, long) in
-        get_or-map q ps k (f 0) d (omega (arith, lt, mapped))
-        ∙ ap q (get_or-map-range_with_len f 0 n k k (f 0) below (omega arith))
-        ∙ each k
-        ∙ get_or_default xs k blank d (omega (arith, below, size)))
+    let below : k < n = omega (arith, lt, mapped, long) in
+    get_or-map q ps k (f 0) d (omega (arith, lt, mapped))
+    ∙ ap q (get_or-map-range_with_len f 0 n k k (f 0) below (omega arith))
+    ∙ each k
+    ∙ get_or_default xs k blank d (omega (arith, below, size)))
 
 harts_column : (g : Guest) → ((k : ℕ) → k < length g.board.harts → with_number k (fields_of (hart_at k g.board)) ≡ hart_at k g.board) → numbered 0 (parts_of g) ≡ g.board.harts
 harts_column g whole =
@@ -72,13 +72,13 @@ harts_column g whole =
     let long : length (numbered 0 (parts_of g)) ≡ n = length-numbered 0 (parts_of g) ∙ length-map-range_with_len f 0 n in
     same_lists (numbered 0 (parts_of g)) g.board.harts long
     (λ k d lt.
-        let below : k < n = omega (arith, lt, long) in
-        let zero_and : 0 + k ≡ k = omega arith in
-        numbered_at 0 (parts_of g) k (f 0) d (omega (arith, below, length-map-range_with_len f 0 n))
-        ∙ ap (λ i. with_number i (get_or (parts_of g) k (f 0)).fields) zero_and
-        ∙ ap (λ (p : HartPart). with_number k p.fields) (get_or-map-range_with_len f 0 n k k (f 0) below (omega arith))
-        ∙ whole k below
-        ∙ get_or_default g.board.harts k (new_hart 0 0) d below)
+    let below : k < n = omega (arith, lt, long) in
+    let zero_and : 0 + k ≡ k = omega arith in
+    numbered_at 0 (parts_of g) k (f 0) d (omega (arith, below, length-map-range_with_len f 0 n))
+    ∙ ap (λ i. with_number i (get_or (parts_of g) k (f 0)).fields) zero_and
+    ∙ ap (λ (p : HartPart). with_number k p.fields) (get_or-map-range_with_len f 0 n k k (f 0) below (omega arith))
+    ∙ whole k below
+    ∙ get_or_default g.board.harts k (new_hart 0 0) d below)
 
 pub made : (g : Guest) → IsOf (length g.board.harts) g → ((k : ℕ) → k < length g.board.harts → with_number k (fields_of (hart_at k g.board)) ≡ hart_at k g.board) → guest_of g.board.reach.bytes (state_of g) ≡ g
 made g is whole =

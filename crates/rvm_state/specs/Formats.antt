@@ -63,8 +63,8 @@ csr_parts c =
 unfoldable pub csrs : Codec CsrFields
 csrs =
     as_type
-        (both mstatus (both mie (both mtvec (both (any 4) (both aligned (both (any 4) (both (any 4) (both (any 8) (any 8)))))))))
-        csrs_of csr_parts
+    (both mstatus (both mie (both mtvec (both (any 4) (both aligned (both (any 4) (both (any 4) (both (any 8) (any 8)))))))))
+    csrs_of csr_parts
 
 -- HARTS
 
@@ -90,8 +90,8 @@ hart_parts p =
 unfoldable pub hart : (size : ℕ) → Codec HartPart
 hart size =
     as_type
-        (both aligned (both (times 31 (any 4)) (both csrs (both flag (both (any 8) (both (optional (any 4) (is_ram_word size)) flag))))))
-        hart_of hart_parts
+    (both aligned (both (times 31 (any 4)) (both csrs (both flag (both (any 8) (both (optional (any 4) (is_ram_word size)) flag))))))
+    hart_of hart_parts
 
 -- ALL
 
@@ -134,7 +134,7 @@ whole_parts s = (((length s.harts, s.shared), s.harts), (s.input, (s.output, s.b
 unfoldable pub parts : (size : ℕ) → Codec StateParts
 parts size =
     both (then_each head (λ h. h.0) (hart size))
-        (both (counted_bytes 1 (within 0 16)) (both (counted_bytes 2 (within 0 4096)) breakpoints))
+    (both (counted_bytes 1 (within 0 16)) (both (counted_bytes 2 (within 0 4096)) breakpoints))
 
 -- the values of a guest with a RAM of so many bytes, and nothing behind them
 unfoldable pub state : (size : ℕ) → Format State

@@ -53,7 +53,11 @@ fn mtvec_at(bytes: &[u8]) -> Option<(u32, &[u8])>
     ensures { option_map (λ x. (x.0, x.1.now)) result ≡ mtvec.read bytes.now }
 {
     let (n, rest) = u32_at(bytes)?;
-    if n / 2 % 2 == 0 { Some((n, rest)) } else { None }
+    if n / 2 % 2 == 0 {
+        Some((n, rest))
+    } else {
+        None
+    }
 }
 
 /// The control and status registers.

@@ -89,11 +89,7 @@ fn hart_at(size: u32, bytes: &[u8]) -> Option<(HartPart, &[u8])>
 }
 
 /// What is kept of so many harts.
-fn harts_at(
-    size: u32,
-    count: usize,
-    bytes: &[u8],
-) -> Option<(ArrayVec<HartPart, MAX_HARTS>, &[u8])>
+fn harts_at(size: u32, count: usize, bytes: &[u8]) -> Option<(ArrayVec<HartPart, MAX_HARTS>, &[u8])>
     requires { count ≤ 8 }
     ensures harts { option_map (λ x. (x.0.items, x.1.now)) result
         ≡ read_each (hart size).read count bytes.now }

@@ -1,4 +1,4 @@
-use Rattle.std.proofs.Common.{◌≡◌, ◌<◌, Some, None, length, option_map, refl, sym, ap, subst, ◌∙◌, arith}
+use Rattle.std.proofs.Common.{◌<◌, length, option_map, refl, sym, ap, subst, ◌∙◌, arith}
 use Rattle.rvm_board.specs.Board.{Board}
 use Rattle.rvm_debug.specs.Guest.{Guest}
 use Rattle.rvm_state.specs.State.{guest_of}
@@ -38,5 +38,7 @@ pub returns-in-Err-clause-memory : goal.returns-in-Err-clause-memory
 returns-in-Err-clause-memory g c =
     let there = sym (ap (option_map state_in) c.in-Some.is) ∙ c.parts_of.ensures in
     let some : 0 < c.len-size.result = omega (arith, c.if-size-eq0.false) in
-    λ _. (guest_of (g.M.Memory.bytes c.args.ram) (state_in c.in-Some.parts),
-        spells c.args.bytes.now (g.M.Memory.bytes c.args.ram) c.len-size.result (state_in c.in-Some.parts) (λ i. omega (arith, c.type_inv.bytes i)) some c.len-size.ensures.length there)
+    λ _. (
+      guest_of (g.M.Memory.bytes c.args.ram) (state_in c.in-Some.parts),
+      spells c.args.bytes.now (g.M.Memory.bytes c.args.ram) c.len-size.result (state_in c.in-Some.parts) (λ i. omega (arith, c.type_inv.bytes i)) some c.len-size.ensures.length there,
+    )
