@@ -1,17 +1,15 @@
 -- The format of state bytes is exact.
-use Rattle.std.proofs.Common.{◌≡◌, ℕ, ◌^◌, ◌<◌, Bool, true, false, ◌&&◌, cond, eqb, List, length, refl, ap, arith}
-use Rattle.std.specs.Prelude.{◌==◌}
+use Rattle.std.proofs.Common.{◌≡◌, ℕ, ◌^◌, Bool, true, false, ◌&&◌, eqb, length, refl, ap, arith}
 use Rattle.std.specs.List.{list_all}
 use Rattle.std.proofs.lemmas.Bool.{eqb-true}
 use Rattle.rvm_csr.specs.Registers.{interrupt_bits, interrupts_of}
-use Rattle.rvm_csr.specs.declared.interrupts.Interrupts.{Interrupts}
 use Rattle.rvm_hart.specs.Fields.{is_ram_word}
 use Rattle.rvm_codec.specs.Numbers.{rise_from, within}
-use Rattle.rvm_codec.specs.Codec.{Codec, any, as_type, both, counted_bytes, counted_each, flag, number, only, optional, then_each, times}
+use Rattle.rvm_codec.specs.Codec.{any, both, counted_bytes, then_each}
 use Rattle.rvm_codec.specs.Exact.{IsExact, IsExactFormat}
 use Rattle.rvm_codec.proofs.Steps.{both_are}
 use Rattle.rvm_codec.proofs.Exact.{any_exact, within_exact, within_below, both_exact, only_exact, as_exact, times_exact, then_each_exact, counted_each_exact, counted_bytes_exact, flag_exact, optional_exact, alone_exact}
-use Rattle.rvm_state.specs.Formats.{aligned, mstatus, enables_of, enable_bits, mie, mtvec, csrs, csrs_of, csr_parts, hart, hart_of, hart_parts, anything, shared, shared_of, shared_parts, head, breakpoints, parts, StateParts, whole_of, whole_parts, state}
+use Rattle.rvm_state.specs.Formats.{aligned, mstatus, enables_of, enable_bits, mie, csrs, csrs_of, csr_parts, hart, hart_of, hart_parts, anything, shared, shared_of, shared_parts, head, breakpoints, parts, StateParts, whole_of, whole_parts, state}
 
 word_exact : IsExact (any 4)
 word_exact = any_exact 4

@@ -1,6 +1,6 @@
 -- What fits can be restored.
-use Rattle.std.proofs.Common.{◌≡◌, ℕ, ◌+◌, ◌%◌, ◌<◌, ◌≤◌, Bool, true, false, ◌&&◌, cond, eqb, List, [], ◌∷◌, Option, None, Some, length, refl, arith}
-use Rattle.std.specs.Prelude.{◌==◌, nat_le}
+use Rattle.std.proofs.Common.{◌≡◌, ℕ, ◌+◌, ◌%◌, ◌<◌, ◌≤◌, true, eqb, List, [], ◌∷◌, Option, None, Some, length, refl, arith}
+use Rattle.std.specs.Prelude.{nat_le}
 use Rattle.std.specs.List.{list_all}
 use Rattle.std.proofs.lemmas.Bool.{eqb-true}
 use Rattle.std.proofs.lemmas.Bool.Decides.{nat_tests}
@@ -14,7 +14,7 @@ use Rattle.rvm_debug.specs.declared.part.HartPart.{HartPart}
 use Rattle.rvm_debug.specs.Guest.{AreAbove, AreRising}
 use Rattle.rvm_debug.specs.Parts.{CanBeHeld}
 use Rattle.rvm_state.specs.State.{State}
-use Rattle.rvm_state.specs.Formats.{aligned, mstatus, mie, mtvec, csrs, hart, shared, head, breakpoints, parts, whole_parts, state}
+use Rattle.rvm_state.specs.Formats.{aligned, mstatus, mie, mtvec, csrs, hart, shared, head, breakpoints, parts, state}
 use Rattle.rvm_state.specs.Restoring.{AreHeld, CanBeRestored}
 
 aligned_is : (n : ℕ) → aligned.fits n ≡ true → n % 4 ≡ 0

@@ -1,11 +1,11 @@
 -- The values of a guest that was made of values are these.
-use Rattle.std.proofs.Common.{◌≡◌, ℕ, zero, suc, ◌+◌, ◌<◌, Bool, false, List, [], ◌∷◌, None, Option, length, map, get_or, refl, sym, ap, ◌∙◌, arith}
+use Rattle.std.proofs.Common.{◌≡◌, ℕ, zero, suc, ◌+◌, ◌<◌, Bool, false, List, [], ◌∷◌, None, Option, length, map, get_or, refl, ap, ◌∙◌, arith}
 use Rattle.std.proofs.lemmas.List.{same_lists, get_or-map}
 use Rattle.std.proofs.lemmas.List.FromFn.{get_or-map-range_with_len, length-map-range_with_len}
 use Rattle.std.specs.List.{range_with_len}
 use Rattle.rvm_hart.specs.declared.fields.HartFields.{HartFields}
 use Rattle.rvm_hart.specs.Machine.{HartState}
-use Rattle.rvm_hart.specs.Fields.{fields_of, with_number}
+use Rattle.rvm_hart.specs.Fields.{fields_of}
 use Rattle.rvm_board.specs.Board.{new_hart}
 use Rattle.rvm_debug.specs.declared.part.HartPart.{HartPart}
 use Rattle.rvm_debug.specs.Guest.{Guest}

@@ -1,11 +1,11 @@
 -- What is read is a guest that the bytes spell, and the only one.
-use Rattle.std.proofs.Common.{◌≡◌, ℕ, ◌<◌, true, List, Option, None, Some, length, refl, sym, ap, ◌∙◌, arith}
+use Rattle.std.proofs.Common.{◌≡◌, ℕ, ◌<◌, List, Option, None, Some, length, refl, sym, ap, ◌∙◌, arith}
 use Rattle.rvm_codec.specs.Exact.{IsBytes}
 use Rattle.rvm_codec.proofs.Steps.{none_is, some_is}
 use Rattle.rvm_debug.specs.Guest.{Guest}
 use Rattle.rvm_state.specs.State.{State, guest_of, state_of}
 use Rattle.rvm_state.specs.Formats.{state}
-use Rattle.rvm_state.specs.Spelling.{HasSpelling, Spells, spelling}
+use Rattle.rvm_state.specs.Spelling.{Spells}
 use Rattle.rvm_state.proofs.Exact.{state_exact}
 use Rattle.rvm_state.specs.Restoring.{CanBeRestored}
 use Rattle.rvm_state.proofs.Fits.{can_be_restored}

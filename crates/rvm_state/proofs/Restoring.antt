@@ -1,5 +1,5 @@
 -- What a guest is after each of its harts was given its values.
-use Rattle.std.proofs.Common.{◌≡◌, ℕ, zero, suc, ◌+◌, ◌<◌, ◌≤◌, Bool, List, [], ◌∷◌, ◌++◌, Option, None, length, take, drop, map, set, get_or, refl, sym, ap, subst, ◌∙◌, append-nil, arith, length-take, false}
+use Rattle.std.proofs.Common.{◌≡◌, ℕ, zero, suc, ◌+◌, ◌<◌, ◌≤◌, Bool, List, [], ◌∷◌, ◌++◌, Option, length, take, drop, map, set, get_or, refl, sym, ap, subst, ◌∙◌, append-nil, arith}
 use Rattle.std.proofs.lemmas.List.{take_all, drop_all, drop_more, length-set}
 use Rattle.rvm_dev.specs.Devices.{DeviceState}
 use Rattle.rvm_hart.specs.Machine.{HartState}

@@ -1,15 +1,13 @@
 -- Codecs written one behind the other.
-use Rattle.std.proofs.Common.{◌≡◌, ℕ, zero, suc, ◌+◌, ◌/◌, ◌%◌, ◌<◌, ◌≤◌, Bool, true, false, ◌&&◌, cond, eqb, List, [], ◌∷◌, ◌++◌, Option, None, Some, length, map, take, get_or, refl, sym, ap, subst, ◌∙◌, append_assoc, append-nil, arith}
+use Rattle.std.proofs.Common.{◌≡◌, ℕ, ◌+◌, ◌/◌, ◌%◌, ◌<◌, ◌≤◌, Bool, true, false, ◌&&◌, eqb, List, [], ◌∷◌, ◌++◌, length, refl, sym, ap, ◌∙◌, append_assoc, append-nil, arith}
 use Rattle.std.specs.Prelude.{◌==◌, nat_le}
-use Rattle.std.specs.List.{flat_map, list_all, range_with_len}
+use Rattle.std.specs.List.{flat_map, list_all}
 use Rattle.std.proofs.lemmas.Bool.Decides.{nat_tests}
 use Rattle.byteorder.specs.Endian.{little_bytes}
-use Rattle.rvm_csr.specs.Fields as csr
 use Rattle.rvm_csr.specs.declared.interrupts.Interrupts.{Interrupts}
 use Rattle.rvm_csr.specs.Registers.{interrupt_bits, interrupts_of}
-use Rattle.rvm_hart.specs.Fields.{is_in_ram, is_ram_word}
 use Rattle.rvm_codec.specs.Numbers.{rise_from, within}
-use Rattle.rvm_codec.specs.Codec.{Codec, any, as_type, both, counted_bytes, counted_each, flag, number, only, then_each, times}
+use Rattle.rvm_codec.specs.Codec.{Codec, any, both, counted_bytes, number, only, then_each, times}
 use Rattle.rvm_codec.proofs.Steps.{and_so, same_number}
 use Rattle.rvm_debug.specs.Guest.{AreAbove, AreRising}
 use Rattle.rvm_state.specs.Formats.{aligned, breakpoints, enable_bits, enables_of, mie, mstatus, mtvec}

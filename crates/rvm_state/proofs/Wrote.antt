@@ -1,5 +1,5 @@
 -- What was written is a guest's spelling, and tells it wholly.
-use Rattle.std.proofs.Common.{◌≡◌, ℕ, zero, suc, ◌+◌, ◌<◌, Bool, true, false, List, [], ◌∷◌, ◌++◌, None, length, map, get_or, refl, sym, ap, subst, ◌∙◌, arith, below_more}
+use Rattle.std.proofs.Common.{◌≡◌, ℕ, zero, suc, ◌+◌, ◌<◌, false, List, [], ◌∷◌, None, length, map, get_or, refl, sym, ap, subst, ◌∙◌, arith, below_more}
 use Rattle.std.specs.List.{range_with_len}
 use Rattle.std.proofs.lemmas.List.{same_lists, get_or-map, get_or_default, length-map}
 use Rattle.std.proofs.lemmas.List.FromFn.{get_or-map-range_with_len, length-map-range_with_len, map-range_with_len_more}
@@ -14,13 +14,13 @@ use Rattle.rvm_codec.specs.Codec.{counted_bytes}
 use Rattle.rvm_debug.specs.declared.part.HartPart.{HartPart}
 use Rattle.rvm_debug.specs.Guest.{Guest}
 use Rattle.rvm_debug.specs.Parts.{CanBeHeld, part_of}
-use Rattle.rvm_state.specs.State.{State, guest_of, numbered, parts_of, state_of}
+use Rattle.rvm_state.specs.State.{guest_of, numbered, parts_of, state_of}
 use Rattle.rvm_state.specs.Formats.{breakpoints, hart, head, parts, state, whole_parts}
 use Rattle.rvm_state.specs.Restoring.{IsOf}
 use Rattle.rvm_state.specs.Spelling.{HasSpelling, spelling}
 use Rattle.rvm_state.specs.Writing.{Writes, WritesEach, WritesHarts}
 use Rattle.rvm_state.proofs.Guests.{length-numbered}
-use Rattle.rvm_state.proofs.Restoring.{same_lists_of, with_lists}
+use Rattle.rvm_state.proofs.Restoring.{same_lists_of}
 use Rattle.rvm_state.proofs.Writing.{behind, no_more, one_more, then_written}
 
 -- HARTS

@@ -1,4 +1,4 @@
-use Rattle.std.proofs.Common.{◌≡◌, ◌++◌, ◌∷◌, [], length, sym, ap, ◌∙◌, arith, length-append}
+use Rattle.std.proofs.Common.{◌≡◌, ◌++◌, ◌∷◌, [], length, sym, ap, arith, length-append}
 use Rattle.rvm_codec.specs.Codec.{read_each}
 use Rattle.rvm_state.specs.Formats.{hart}
 use Rattle.rvm_codec.proofs.EachLoop.{goes_on, ends, is_done}

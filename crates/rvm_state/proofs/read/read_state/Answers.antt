@@ -1,4 +1,4 @@
-use Rattle.std.proofs.Common.{◌≡◌, ◌<◌, Some, None, length, option_map, refl, sym, ap, subst, ◌∙◌, arith}
+use Rattle.std.proofs.Common.{◌<◌, length, option_map, refl, sym, ap, subst, ◌∙◌, arith}
 use Rattle.rvm_board.specs.Board.{Board}
 use Rattle.rvm_debug.specs.Guest.{Guest}
 use Rattle.rvm_state.specs.State.{guest_of}

@@ -1,9 +1,6 @@
-use Rattle.std.proofs.Common.{◌≡◌, length, ap, sym, ◌∙◌, arith}
+use Rattle.std.proofs.Common.{length, ap, sym, ◌∙◌}
 use Rattle.rvm_dev.specs.Devices.{DeviceState}
-use Rattle.rvm_state.specs.Formats.{parts, whole_parts}
-use Rattle.rvm_state.specs.State.{state_of}
 use Rattle.rvm_state.specs.Restoring.{IsOf}
-use Rattle.rvm_state.specs.Writing.{Writes}
 use Rattle.rvm_state.proofs.Wrote.{has_spelling, made, spelled, wrote}
 use Rattle.rvm_state.proofs.write.write_state.Goals as goal
 
