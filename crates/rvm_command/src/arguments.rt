@@ -96,7 +96,8 @@ fn program<'a>(alloc: Global) -> Result<Command<'a>, Error> {
             .arg_required_else_help(true)
             .subcommand(run_command(alloc)?)?
             .subcommand(asm_command(alloc)?)?
-            .subcommand(dis_command(alloc)?)?,
+            .subcommand(dis_command(alloc)?)?
+            .subcommand(debug_command(alloc)?)?,
     )
 }
 

@@ -1,6 +1,6 @@
 //! The addresses at which steps stop.
 
-ghost use Rattle.std.specs.Prelude.{◌≡◌, ◌≤◌, ◌↔◌, [], length, OnOk, OnErr, IsErr, IsTrue, false, count_by, nat_lt, if◌then◌else◌};
+ghost use Rattle.std.specs.Prelude.{◌≡◌, ◌≤◌, ◌↔◌, [], length, OnOk, OnErr, IsErr, false, count_by, nat_lt, if◌then◌else◌};
 ghost use Rattle.rvm_debug.specs.Guest.{AreRising, is_in, with, without};
 
 use arrayvec::ArrayVec;
@@ -63,16 +63,17 @@ impl Breakpoints {
         self.addresses.as_slice()
     }
 
-    /// Whether none is set.
+    /// Whether one is set at an address.
     #[inline(always)]
-    pub(crate) fn is_empty(&self) -> bool
-        ensures { IsTrue result → self.now ≡ [] }
+    pub(crate) fn has(&self, address: u32) -> bool
+        ensures { result ≡ is_in address self.now }
     {
-        self.addresses.is_empty()
+        !self.addresses.is_empty() && self.holds(address)
     }
 
-    /// Whether one is set at an address.
-    pub(crate) fn has(&self, address: u32) -> bool
+    /// The same where some are set.
+    #[inline(never)]
+    fn holds(&self, address: u32) -> bool
         ensures { result ≡ is_in address self.now }
     {
         self.addresses.contains(&address)

@@ -156,21 +156,6 @@ impl<M: Memory> Debugged<M> {
         ensures answer { step_reply (pc_of hart self.old.guest) result
             ≡ (steps hart self.old.guest).reply }
     {
-        if self.breakpoints.is_empty() && !self.stopped[hart as usize] {
-            return Some(self.board.step(hart));
-        }
-        self.step_or_stop(hart)
-    }
-
-    /// The same where breakpoints are set, or the hart stands at one.
-    #[inline(never)]
-    fn step_or_stop(&mut self, hart: u32) -> Option<Stepped>
-        requires { hart < length self.old.guest.board.harts }
-        ensures guest { self.new.guest ≡ (steps hart self.old.guest).guest }
-        ensures dirty { self.new.dirty ≡ mark_all (steps hart self.old.guest).pages self.old.dirty }
-        ensures answer { step_reply (pc_of hart self.old.guest) result
-            ≡ (steps hart self.old.guest).reply }
-    {
         if let Some(status) = self.board.halted() {
             return Some(Stepped::Halted(status));
         }

@@ -70,6 +70,22 @@ fn assert_numbers(rt: &impl Abort, run: &RunArguments, want: [u32; 3]) {
 }
 
 #[test]
+fn debug_takes_a_guest(rt: HostRuntime) -> Result<(), Fail> {
+    match parse_args(
+        rt.alloc(),
+        &["rvmove", "debug", "hello.elf", "--pages", "7"],
+    )? {
+        Arguments::Debug(guest) => {
+            assert_eq!(rt; guest.image, "hello.elf");
+            assert_eq!(rt; [guest.harts, guest.pages], [1, 7]);
+            assert!(rt; !guest.raw);
+        }
+        other => panic!(rt; "{other:?}"),
+    }
+    Ok(())
+}
+
+#[test]
 fn other_words_are_refused(rt: HostRuntime) -> Result<(), Fail> {
     let alloc = rt.alloc();
     let value = ErrorKind::ValueValidation;
