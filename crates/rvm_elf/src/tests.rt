@@ -4,7 +4,7 @@
 use super::*;
 use rvm_board::Board;
 use rvm_image::{Image, Segment};
-use rvm_mem::FlatMemory;
+use rvm_mem::{FlatMemory, PagedMemory};
 use std::alloc::{AllocError, Global};
 use std::test::Fail;
 
