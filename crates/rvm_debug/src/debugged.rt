@@ -148,7 +148,7 @@ impl<M: Memory> Debugged<M> {
     }
 
     /// One step of a hart; none where it stopped at a breakpoint instead.
-    #[inline(always)]
+    #[inline(never)]
     pub fn step(&mut self, hart: u32) -> Option<Stepped>
         requires { hart < length self.old.guest.board.harts }
         ensures guest { self.new.guest ≡ (steps hart self.old.guest).guest }
