@@ -4,17 +4,13 @@ ghost use Rattle.std.specs.Prelude.{◌≡◌, ◌≤◌, ◌↔◌, ◌&&◌, n
 
 use clap::error::ErrorKind;
 use clap::{Arg, ArgAction, ArgMatches, Command, Error, value_parser};
+use rvm_board::MAX_HARTS;
+use rvm_mem::MAX_PAGES;
 use std::alloc::Global;
 use std::convert::AsStr;
 
 /// The most turns that a run makes.
 pub const MAX_STEPS: u32 = 1_000_000_000;
-
-/// The most pages of RAM.
-pub const MAX_PAGES: u32 = 4096;
-
-/// The most harts.
-pub const MAX_HARTS: u32 = 8;
 
 /// What the command line asks for.
 #[derive(Debug, Drop)]

@@ -1,6 +1,7 @@
 -- What an event of a host does to a guest, and what is answered.
-use Rattle.std.specs.Prelude.{ℕ, ◌-◌, ◌/◌, ◌%◌, zero, suc, ◌+◌, Bool, true, false, ◌&&◌, ◌==◌, not, nat_lt, nat_le, if◌then◌else◌, List, [], ◌∷◌, ◌++◌, length, take, drop, Option, Some, None, get_or, slice_set}
+use Rattle.std.specs.Prelude.{ℕ, ◌-◌, ◌%◌, Bool, true, false, ◌&&◌, ◌==◌, not, nat_lt, nat_le, if◌then◌else◌, List, [], ◌∷◌, ◌++◌, length, take, drop, Option, Some, None, get_or, slice_set}
 use Rattle.rvm_mem.specs.Bytes.{slice}
+use Rattle.rvm_mem.specs.Pages.{byte_pages}
 use Rattle.rvm_hart.specs.declared.outcome.Stepped.{Stepped}
 use Rattle.rvm_hart.specs.declared.outcome.Stepped.TheVariants as stepped
 use Rattle.rvm_hart.specs.Bus.{ram_base, ram_load}
@@ -144,11 +145,6 @@ sets_register h r v g =
     if nat_le (length g.board.harts) h then refuses BadHart g
     else (if nat_lt 32 r then refuses OutOfRange g
     else leaves (after_poke h r (with_board (register_poked h r v g.board) g)) reply.Done)
-
--- the page of each of the n bytes from place at
-unfoldable pub byte_pages : (at n : ℕ) → List ℕ
-byte_pages at zero = []
-byte_pages at (suc n) = byte_pages at n ++ (at + n) / 4096 ∷ []
 
 -- 1 to 256 bytes of RAM are written
 abbrev pub writes_bytes : (address : ℕ) → List ℕ → Guest → Answered

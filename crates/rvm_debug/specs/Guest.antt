@@ -1,7 +1,7 @@
 -- A guest as its debugger sees it: a board, breakpoints, and which harts stand at one.
-use Rattle.std.specs.Prelude.{◌≡◌, ℕ, ◌<◌, ◌≤◌, Bool, false, not, ◌==◌, nat_lt, List, [], ◌∷◌, ◌++◌, length, filter, replicate}
+use Rattle.std.specs.Prelude.{ℕ, ◌<◌, Bool, false, not, ◌==◌, nat_lt, List, [], ◌∷◌, ◌++◌, length, filter, replicate}
 use Rattle.std.specs.List.{list_any}
-use Rattle.rvm_board.specs.Board.{Board, IsBoard}
+use Rattle.rvm_board.specs.Board.{Board}
 
 -- the board, the addresses at which steps stop, rising, and for each hart whether it stopped at pc and has not stepped
 -- since
@@ -35,13 +35,6 @@ AreAbove a (b ∷ bs) = (a < b) × AreAbove a bs
 abbrev pub AreRising : List ℕ → Type 0
 AreRising [] = Unit {0}
 AreRising (b ∷ bs) = AreAbove b bs × AreRising bs
-
--- a board with at most 64 breakpoints
-pub record IsGuest (g : Guest) : Type 0 where
-  pub board : IsBoard g.board
-  pub rising : AreRising g.breakpoints
-  pub few : length g.breakpoints ≤ 64
-  pub harts : length g.stopped ≡ length g.board.harts
 
 -- a guest whose board was not debugged yet
 abbrev pub fresh : Board → Guest

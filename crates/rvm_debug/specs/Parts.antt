@@ -1,5 +1,5 @@
 -- A guest from plain values.
-use Rattle.std.specs.Prelude.{◌≡◌, ℕ, Bool, true, false, List, None, get_or, slice_set}
+use Rattle.std.specs.Prelude.{◌≡◌, ℕ, true, false, List, None, get_or, slice_set}
 use Rattle.rvm_dev.specs.declared.fields.DeviceFields.{DeviceFields}
 use Rattle.rvm_hart.specs.Fields as hart
 use Rattle.rvm_board.specs.Board.{hart_at}

@@ -1,6 +1,6 @@
 //! The addresses at which steps stop.
 
-ghost use Rattle.std.specs.Prelude.{◌≡◌, ◌≤◌, ◌↔◌, [], length, OnOk, OnErr, IsErr, false, count_by, nat_lt, if◌then◌else◌};
+ghost use Rattle.std.specs.Prelude.{◌≡◌, ◌≤◌, ◌↔◌, [], length, OnOk, OnErr, IsErr, false, count_by, nat_lt, if◌then◌else◌, IsTrue};
 ghost use Rattle.rvm_debug.specs.Guest.{AreRising, is_in, with, without};
 
 use arrayvec::ArrayVec;
@@ -63,17 +63,16 @@ impl Breakpoints {
         self.addresses.as_slice()
     }
 
-    /// Whether one is set at an address.
+    /// Whether there is none.
     #[inline(always)]
-    pub(crate) fn has(&self, address: u32) -> bool
-        ensures { result ≡ is_in address self.now }
+    pub(crate) fn is_empty(&self) -> bool
+        ensures { IsTrue result ↔ (self.now ≡ []) }
     {
-        !self.addresses.is_empty() && self.holds(address)
+        self.addresses.is_empty()
     }
 
-    /// The same where some are set.
-    #[inline(never)]
-    fn holds(&self, address: u32) -> bool
+    /// Whether one is set at an address.
+    pub(crate) fn has(&self, address: u32) -> bool
         ensures { result ≡ is_in address self.now }
     {
         self.addresses.contains(&address)

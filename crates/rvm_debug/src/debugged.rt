@@ -1,26 +1,26 @@
 //! A board with its breakpoints.
 
-ghost use Rattle.std.specs.Prelude.{◌≡◌, ◌<◌, ◌≤◌, ◌++◌, ◌∷◌, [], ◌↔◌, false, length, min, take, drop, replicate, OnOk, OnErr, IsErr, true};
+ghost use Rattle.std.specs.Prelude.{◌≡◌, ◌<◌, ◌≤◌, ◌++◌, ◌∷◌, [], ◌↔◌, false, length, min, take, drop, replicate, OnOk, OnErr, IsErr, true, get_or, MatchOption};
 ghost use Rattle.rvm_mem.specs.Pages.{mark_all};
 ghost use Rattle.rvm_board.specs.Board.{hart_at, with_input, with_output};
 ghost use Rattle.rvm_hart.specs.Fields.{with_number};
 ghost use Rattle.rvm_debug.specs.Guest.{AreRising, fresh};
 ghost use Rattle.rvm_debug.specs.Parts.{CanBeHeld, hart_restored, part_of, restored};
-ghost use Rattle.rvm_debug.specs.Events.{answered, clears_breakpoint, drains, pc_of, sets_breakpoint, sets_register, step_reply, steps, steps_if_there, takes_input, tells_bytes, tells_line, tells_registers, with_board, writes_bytes};
+ghost use Rattle.rvm_debug.specs.Events.{answered, clears_breakpoint, drains, pc_of, sets_breakpoint, sets_register, step_reply, steps, steps_if_there, stops, takes_input, tells_bytes, tells_line, tells_registers, with_board, with_stopped, writes_bytes};
 
 use crate::breakpoints::Breakpoints;
 use crate::event::{BoardEvent, BoardRefusal, BoardReply};
 use crate::part::HartPart;
 use crate::view::View;
 use arrayvec::ArrayVec;
-use rvm_board::{Board, PokeError, VIEW_SIZE};
+use rvm_board::{Board, MAX_HARTS, PokeError, VIEW_SIZE};
 use rvm_dev::{DeviceFields, Devices, InputFull};
 use rvm_hart::{PC, Stepped};
 use rvm_mem::Memory;
 use std::marker::Model;
 
 /// The most harts that a board has.
-const MAX_HARTS: usize = 8;
+const HARTS: usize = MAX_HARTS as usize;
 
 /// A board with at most 64 breakpoints. A hart that comes to one stops there once, instead of its
 /// step, and goes on with the next.
@@ -29,7 +29,7 @@ pub struct Debugged<M: Memory> {
     board: Board<M>,
     breakpoints: Breakpoints,
     /// For each hart whether it stopped at its pc and has not stepped since.
-    stopped: ArrayVec<bool, MAX_HARTS>,
+    stopped: ArrayVec<bool, HARTS>,
 }
 
 impl<M: Memory> Model for Debugged<M> {
@@ -148,7 +148,7 @@ impl<M: Memory> Debugged<M> {
     }
 
     /// One step of a hart; none where it stopped at a breakpoint instead.
-    #[inline(never)]
+    #[inline(always)]
     pub fn step(&mut self, hart: u32) -> Option<Stepped>
         requires { hart < length self.old.guest.board.harts }
         ensures guest { self.new.guest ≡ (steps hart self.old.guest).guest }
@@ -156,16 +156,40 @@ impl<M: Memory> Debugged<M> {
         ensures answer { step_reply (pc_of hart self.old.guest) result
             ≡ (steps hart self.old.guest).reply }
     {
-        if let Some(status) = self.board.halted() {
-            return Some(Stepped::Halted(status));
-        }
-        let stopped = &mut self.stopped;
-        if self.breakpoints.has(self.board.pc(hart)) && !stopped[hart as usize] {
-            stopped[hart as usize] = true;
+        if self.may_stop(hart) && self.stop(hart) {
             return None;
         }
-        stopped[hart as usize] = false;
         Some(self.board.step(hart))
+    }
+
+    /// Whether a hart may stop instead of its next step, or stands at a breakpoint.
+    #[inline(always)]
+    fn may_stop(&self, hart: u32) -> bool
+        requires { hart < length self.now.guest.board.harts }
+        ensures { result ≡ false → (self.now.guest.breakpoints ≡ [])
+            × (get_or self.now.guest.stopped hart false ≡ false) }
+    {
+        !self.breakpoints.is_empty() || self.stopped[hart as usize]
+    }
+
+    /// Whether a hart of a board that is not halted stops instead of its next step; then it stands
+    /// at its breakpoint, and else at none.
+    #[inline(never)]
+    fn stop(&mut self, hart: u32) -> bool
+        requires { hart < length self.old.guest.board.harts }
+        ensures { MatchOption self.old.guest.board.reach.devices.halted
+            ((result ≡ stops hart self.old.guest) × (self.new ≡ record self.old {
+              guest = with_stopped hart result self.old.guest;
+            }))
+            (λ status. (result ≡ false) × (self.new ≡ self.old)) }
+    {
+        if self.board.halted().is_some() {
+            return false;
+        }
+        let stopped = &mut self.stopped;
+        let stops = self.breakpoints.has(self.board.pc(hart)) && !stopped[hart as usize];
+        stopped[hart as usize] = stops;
+        stops
     }
 
     /// A byte comes to the console; `InputFull`, and nothing changes, where 16 wait.
@@ -362,7 +386,6 @@ impl<M: Memory> Debugged<M> {
     }
 
     /// Writes bytes of RAM.
-    #[tactic(auto, using(crate::proofs::Pages::marked))]
     fn write_bytes(&mut self, address: u32, bytes: &View) -> BoardReply
         ensures guest { self.new.guest ≡ (writes_bytes address bytes.now self.old.guest).guest }
         ensures dirty { self.new.dirty
@@ -377,7 +400,7 @@ impl<M: Memory> Debugged<M> {
 }
 
 /// For each of so many harts that it did not stop.
-fn none_of(harts: u32) -> ArrayVec<bool, MAX_HARTS>
+fn none_of(harts: u32) -> ArrayVec<bool, HARTS>
     requires { harts ≤ 8 }
     ensures { result.items ≡ replicate harts false }
 {

@@ -1,5 +1,6 @@
 -- The text of a word that stands at an address: a table from instructions to their mnemonics and
--- the shapes of their operands.
+-- the shapes of their operands (Unprivileged ISA, "RV32/64G Instruction Set Listings"; Privileged
+-- ISA, "RISC-V Privileged Instruction Set Listings").
 use Rattle.std.specs.Prelude.{ℕ, ◌++◌, List, Option, Some, None, codes}
 use Rattle.rvm_isa.specs.declared.ins.Ins.{Ins}
 use Rattle.rvm_isa.specs.declared.ins.Ins.TheVariants.{Lui, Auipc, Jal, Jalr, Beq, Bne, Blt, Bge}

@@ -1,5 +1,5 @@
 -- The texts of instructions, by the shape of their operands. Registers have their names in the
--- calling convention.
+-- calling convention (Unprivileged ISA, "RISC-V Assembly Programmer's Handbook").
 use Rattle.std.specs.Prelude.{ℕ, ℤ, Bool, ◌==◌, if◌then◌else◌, List, ◌++◌, codes}
 use Rattle.std.specs.Fmt.{decimal, signed_decimal}
 use Rattle.rvm_text.specs.Registers.{name_of}

@@ -1,7 +1,7 @@
 -- A write into a board where no hart has a reservation and each page is in the dirty log changes RAM alone.
-use Rattle.std.proofs.Common.{◌≡◌, ℕ, zero, suc, ◌+◌, ◌-◌, ◌/◌, List, ◌∷◌, true, Option, None, length, map, set, replicate, refl, sym, ap, ◌∙◌}
+use Rattle.std.proofs.Common.{◌≡◌, ℕ, zero, suc, ◌+◌, ◌-◌, List, [], ◌∷◌, true, Option, None, length, map, set, replicate, refl, sym, ap, ◌∙◌}
 use Rattle.rvm_mem.specs.Bytes.{replaced}
-use Rattle.rvm_mem.specs.Pages.{mark, mark_bytes}
+use Rattle.rvm_mem.specs.Pages.{byte_pages, mark, mark_all}
 use Rattle.rvm_res.specs.Reservations.{poked, without}
 use Rattle.rvm_hart.specs.Bus.{ram_base}
 use Rattle.rvm_hart.specs.Pokes.{poked_each}
@@ -23,10 +23,9 @@ set-true i zero = refl
 set-true zero (suc m) = refl
 set-true (suc i) (suc m) = ap (λ bs. true ∷ bs) (set-true i m)
 
-marked_true : (at n m : ℕ) → mark_bytes at n (replicate m true) ≡ replicate m true
-unfolding mark_bytes
-marked_true at zero m = refl
-marked_true at (suc n) m = ap (mark ((at + n) / 4096)) (marked_true at n m) ∙ set-true ((at + n) / 4096) m
+marked_true : (pages : List ℕ) (m : ℕ) → mark_all pages (replicate m true) ≡ replicate m true
+marked_true [] m = refl
+marked_true (page ∷ pages) m = ap (mark_all pages) (set-true page m) ∙ marked_true pages m
 
 -- a list that is all of one kind, as replicate
 kept : {A : Type 0} (f : List A → List A) (x : A) (xs : List A) → xs ≡ replicate (length xs) x → ((m : ℕ) → f (replicate m x) ≡ replicate m x) → f xs ≡ xs
@@ -35,6 +34,6 @@ kept f x xs all keeps = ap f all ∙ keeps (length xs) ∙ sym all
 pub poked_blank : (a : ℕ) (bytes : List ℕ) (b : BoardState) → IsBlank b → memory_poked a bytes b ≡ with_ram (replaced (a - ram_base) bytes b.plain.reach.bytes) b
 poked_blank a bytes b blank =
     let bare : BoardState = with_ram (replaced (a - ram_base) bytes b.plain.reach.bytes) b in
-    ap (λ words. record { plain = record bare.plain { reach = record bare.plain.reach { reservations = words } }; dirty = mark_bytes (a - ram_base) (length bytes) b.dirty })
+    ap (λ words. record { plain = record bare.plain { reach = record bare.plain.reach { reservations = words } }; dirty = mark_all (byte_pages (a - ram_base) (length bytes)) b.dirty })
     (kept (poked_each a (length bytes)) None b.plain.reach.reservations blank.reservations (poked_none a (length bytes)))
-    ∙ ap (λ dirty. record bare { dirty = dirty }) (kept (mark_bytes (a - ram_base) (length bytes)) true b.dirty blank.dirty (marked_true (a - ram_base) (length bytes)))
+    ∙ ap (λ dirty. record bare { dirty = dirty }) (kept (mark_all (byte_pages (a - ram_base) (length bytes))) true b.dirty blank.dirty (marked_true (byte_pages (a - ram_base) (length bytes))))

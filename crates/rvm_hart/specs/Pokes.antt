@@ -1,7 +1,7 @@
 -- What a debugger's writes do to a hart and to what it reaches.
 use Rattle.std.specs.Prelude.{ℕ, zero, suc, ◌+◌, ◌-◌, ◌%◌, ◌==◌, if◌then◌else◌, List, Option, None, true, length, replicate}
 use Rattle.rvm_mem.specs.Bytes.{replaced}
-use Rattle.rvm_mem.specs.Pages.{mark_bytes}
+use Rattle.rvm_mem.specs.Pages.{byte_pages, mark_all}
 use Rattle.rvm_res.specs.Reservations.{poked}
 use Rattle.rvm_hart.specs.Machine.{HartState, Reach, BusState}
 use Rattle.rvm_hart.specs.Bus.{ram_base}
@@ -29,7 +29,7 @@ abbrev pub bus_poked : (address : ℕ) → List ℕ → BusState → BusState
 bus_poked a bytes b =
     record {
       reach = memory_poked a bytes b.reach;
-      dirty = mark_bytes (a - ram_base) (length bytes) b.dirty;
+      dirty = mark_all (byte_pages (a - ram_base) (length bytes)) b.dirty;
     }
 
 -- what the harts share with zeros in RAM and no reservation

@@ -37,7 +37,7 @@ pub enum Operation {
 
 impl Operation {
     /// The value of the operation; a shift takes the low five bits of `b`.
-    #[inline(always)]
+    #[inline]
     fn of(self, a: u32, b: u32) -> u32
         ensures { result ≡ value_of self a b }
     {
@@ -66,7 +66,7 @@ impl Operation {
 
 impl Hart {
     /// Puts the value of an operation on two registers into rd, and goes on.
-    #[inline(always)]
+    #[inline]
     pub(crate) fn operate(
         &mut self,
         operation: Operation,
@@ -83,7 +83,7 @@ impl Hart {
     }
 
     /// The same of a register and an immediate, which is sign-extended.
-    #[inline(always)]
+    #[inline]
     pub(crate) fn operate_immediate(
         &mut self,
         operation: Operation,
@@ -100,7 +100,7 @@ impl Hart {
     }
 
     /// The same of a register and a shift amount.
-    #[inline(always)]
+    #[inline]
     pub(crate) fn shift(
         &mut self,
         operation: Operation,

@@ -30,7 +30,7 @@ pub enum Amo {
 
 impl Amo {
     /// The new word.
-    #[inline(always)]
+    #[inline]
     fn of(self, old: u32, source: u32) -> u32
         ensures { result ≡ combined self old source }
     {
@@ -58,7 +58,7 @@ impl Amo {
 
 impl Hart {
     /// Loads a word of RAM and reserves it (LR.W).
-    #[inline(always)]
+    #[inline(never)]
     pub(crate) fn load_reserved<M: Memory>(
         &mut self,
         rd: Reg,
@@ -90,7 +90,7 @@ impl Hart {
 
     /// Stores a word of RAM where the hart's reservation is that word, and says in rd whether it
     /// did: 0, else 1. The reservation ends either way (SC.W).
-    #[inline(always)]
+    #[inline(never)]
     pub(crate) fn store_conditional<M: Memory>(
         &mut self,
         rd: Reg,
@@ -126,7 +126,7 @@ impl Hart {
     }
 
     /// Gives rd the old word of RAM and stores what the operation makes of it (AMO).
-    #[inline(always)]
+    #[inline]
     pub(crate) fn amo<M: Memory>(
         &mut self,
         operation: Amo,
@@ -144,7 +144,7 @@ impl Hart {
         self.exchange(operation, rd, address, source, bus)
     }
 
-    #[inline(always)]
+    #[inline(never)]
     fn exchange<M: Memory>(
         &mut self,
         operation: Amo,

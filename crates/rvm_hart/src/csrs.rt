@@ -49,7 +49,7 @@ fn written_by(number: u32) -> Written
 
 impl CsrChange {
     /// Whether the instruction writes: to set or clear, its source field must not be 0.
-    #[inline(always)]
+    #[inline]
     fn writes(self, field: u32) -> bool
         ensures { result ≡ writes self field }
     {
@@ -63,7 +63,7 @@ impl CsrChange {
 impl Hart {
     /// Reads a register into rd and changes it by a register's value; `word` is the instruction's
     /// own (CSRRW, CSRRS, CSRRC).
-    #[inline(always)]
+    #[inline]
     pub(crate) fn change_csr<M: Memory>(
         &mut self,
         word: u32,
@@ -82,7 +82,7 @@ impl Hart {
     }
 
     /// The same by the number in the field of rs1 (CSRRWI, CSRRSI, CSRRCI).
-    #[inline(always)]
+    #[inline]
     pub(crate) fn change_csr_immediate<M: Memory>(
         &mut self,
         word: u32,

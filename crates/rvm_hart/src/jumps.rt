@@ -24,7 +24,7 @@ pub enum Comparison {
 
 impl Comparison {
     /// Whether two words compare so.
-    #[inline(always)]
+    #[inline]
     fn holds(self, a: u32, b: u32) -> bool
         ensures { result ≡ holds self a b }
     {
@@ -41,7 +41,7 @@ impl Comparison {
 
 impl Hart {
     /// Goes to an address, with that of the next instruction in rd.
-    #[inline(always)]
+    #[inline]
     pub(crate) fn jump(&mut self, rd: Reg, target: u32) -> Result<Written, Trap>
         ensures hart { self.new ≡ jumped rd target self.old }
         ensures result { result ≡ jump_result target }
@@ -58,7 +58,7 @@ impl Hart {
     }
 
     /// Goes to an offset from pc, with the address of the next instruction in rd (JAL).
-    #[inline(always)]
+    #[inline]
     pub(crate) fn jump_to_offset(&mut self, rd: Reg, offset: Off21) -> Result<Written, Trap>
         ensures hart { self.new ≡ jumped rd (sum self.old.pc offset) self.old }
         ensures result { result ≡ jump_result (sum self.old.pc offset) }
@@ -67,7 +67,7 @@ impl Hart {
     }
 
     /// Goes to a register's address plus an immediate, with bit 0 cleared (JALR).
-    #[inline(always)]
+    #[inline]
     pub(crate) fn jump_to_register(
         &mut self,
         rd: Reg,
@@ -81,7 +81,7 @@ impl Hart {
     }
 
     /// Goes to an offset from pc where two registers compare so, else to the next instruction.
-    #[inline(always)]
+    #[inline]
     pub(crate) fn branch(
         &mut self,
         comparison: Comparison,

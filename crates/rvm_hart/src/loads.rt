@@ -17,7 +17,7 @@ use rvm_word::sext;
 
 impl Hart {
     /// A byte of RAM, sign-extended (LB).
-    #[inline(always)]
+    #[inline]
     pub(crate) fn load_signed_byte<M: Memory>(
         &mut self,
         rd: Reg,
@@ -42,7 +42,7 @@ impl Hart {
     }
 
     /// A byte of RAM, zero-extended (LBU).
-    #[inline(always)]
+    #[inline]
     pub(crate) fn load_byte<M: Memory>(
         &mut self,
         rd: Reg,
@@ -67,7 +67,7 @@ impl Hart {
     }
 
     /// Two bytes of RAM, sign-extended (LH).
-    #[inline(always)]
+    #[inline]
     pub(crate) fn load_signed_half<M: Memory>(
         &mut self,
         rd: Reg,
@@ -98,7 +98,7 @@ impl Hart {
     }
 
     /// Two bytes of RAM, zero-extended (LHU).
-    #[inline(always)]
+    #[inline]
     pub(crate) fn load_half<M: Memory>(
         &mut self,
         rd: Reg,

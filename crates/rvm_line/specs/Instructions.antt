@@ -1,5 +1,5 @@
 -- The instruction of a line that stands at a place, by the shape of its operands; and the words of
--- the pseudo-instructions.
+-- the pseudo-instructions (Unprivileged ISA, "RISC-V Assembly Programmer's Handbook").
 use Rattle.std.specs.Prelude.{ℕ, ℤ, pos, negsuc, ◌%◌, ◌^◌, ◌||◌, ◌==◌, if◌then◌else◌, List, ◌++◌}
 use Rattle.std.specs.Prelude.{None, Result, Ok}
 use Rattle.std.specs.Int.{to_le_bytes, w32}

@@ -1,4 +1,5 @@
--- The values of expressions, modulo 2 ^ 32.
+-- The values of expressions, modulo 2 ^ 32 (for %hi and %lo RISC-V Assembly Programmer's Manual,
+-- "Absolute addressing").
 use Rattle.std.specs.Prelude.{ℕ, ◌+◌, ◌-◌, ◌/◌, ◌%◌, ◌^◌, Bool, ◌&&◌, ◌||◌, ◌==◌, nat_le, nat_lt}
 use Rattle.std.specs.Prelude.{if◌then◌else◌, List, ◌∷◌, Option, Some, None, option_map, Result, Ok}
 use Rattle.std.specs.Prelude.{Err, codes}

@@ -3,7 +3,7 @@ use Rattle.std.proofs.Common.{◌≡◌, ℕ, Bool, add-one, ◌+◌, ◌-◌, �
 use Rattle.std.proofs.lemmas.List.{take_more, drop_more, take_at, drop_at, get_or-drop, set-append_right, length-take-le}
 use Rattle.std.proofs.lemmas.List.{length-drop}
 use Rattle.rvm_mem.specs.Bytes.{load, store}
-use Rattle.rvm_mem.specs.Pages.{mark, mark_bytes}
+use Rattle.rvm_mem.specs.Pages.{byte_pages, mark, mark_all}
 
 pub load_one : (mem : List ℕ) (at : ℕ) → load 1 at mem ≡ get_or mem at 0
 load_one mem at =
@@ -52,6 +52,10 @@ write_more old fresh at i inside more small =
     ∙ ap (λ xs. take at old ++ xs) (sym (append_assoc (take i fresh) (v ∷ []) (drop (at + (i + 1)) old)) ∙ ap (λ xs. xs ++ drop (at + (i + 1)) old) (sym (take_more fresh i 0 more)))
 
 -- the log with one byte's page more
-pub mark_more : (at n : ℕ) (dirty : List Bool) → mark_bytes at (n + 1) dirty ≡ mark ((at + n) / 4096) (mark_bytes at n dirty)
-unfolding mark_bytes
-mark_more at n dirty = rw add-one refl
+mark_last : (pages : List ℕ) (page : ℕ) (dirty : List Bool) → mark_all (pages ++ page ∷ []) dirty ≡ mark page (mark_all pages dirty)
+mark_last [] page dirty = refl
+mark_last (p ∷ pages) page dirty = mark_last pages page (mark p dirty)
+
+pub mark_more : (at n : ℕ) (dirty : List Bool) → mark_all (byte_pages at (n + 1)) dirty ≡ mark ((at + n) / 4096) (mark_all (byte_pages at n) dirty)
+unfolding byte_pages
+mark_more at n dirty = rw add-one (mark_last (byte_pages at n) ((at + n) / 4096) dirty)

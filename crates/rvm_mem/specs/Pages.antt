@@ -1,5 +1,5 @@
 -- The dirty log: which pages of 4096 bytes were written since it was last taken; sets of pages.
-use Rattle.std.specs.Prelude.{ℕ, zero, suc, ◌+◌, ◌*◌, ◌/◌, List, [], ◌∷◌, Bool, true, false, ◌||◌, if◌then◌else◌, Option, take, drop, slice_set, slice_index_or, count_by, position}
+use Rattle.std.specs.Prelude.{ℕ, zero, suc, ◌+◌, ◌*◌, ◌/◌, List, [], ◌∷◌, ◌++◌, Bool, true, false, ◌||◌, if◌then◌else◌, Option, take, drop, slice_set, slice_index_or, count_by, position}
 use Rattle.rvm_mem.specs.Bytes.{slice}
 
 -- what a memory is: its bytes, and for each page whether it is in the dirty log
@@ -20,10 +20,10 @@ abbrev pub mark_all : List ℕ → List Bool → List Bool
 mark_all [] dirty = dirty
 mark_all (page ∷ pages) dirty = mark_all pages (mark page dirty)
 
--- the log with the page of each of the n bytes from place at
-unfoldable pub mark_bytes : (at n : ℕ) → List Bool → List Bool
-mark_bytes at zero dirty = dirty
-mark_bytes at (suc n) dirty = mark ((at + n) / 4096) (mark_bytes at n dirty)
+-- the page of each of the n bytes from place at
+unfoldable pub byte_pages : (at n : ℕ) → List ℕ
+byte_pages at zero = []
+byte_pages at (suc n) = byte_pages at n ++ (at + n) / 4096 ∷ []
 
 -- the set with a page less
 abbrev pub unmark : ℕ → List Bool → List Bool

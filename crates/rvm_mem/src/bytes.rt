@@ -2,7 +2,7 @@
 
 ghost use Rattle.std.specs.Prelude.{◌≡◌, ◌+◌, ◌≤◌, ◌<◌, ◌↔◌, length, replicate, true, IsErr, OnOk, OnErr};
 ghost use Rattle.rvm_mem.specs.Bytes.{slice, replaced};
-ghost use Rattle.rvm_mem.specs.Pages.{mark_bytes};
+ghost use Rattle.rvm_mem.specs.Pages.{byte_pages, mark_all};
 
 use crate::memory::Memory;
 use thiserror::Error;
@@ -33,7 +33,7 @@ pub fn read_bytes<M: Memory>(memory: &M, at: u32, bytes: &mut [u8]) -> Result<()
 pub fn write_bytes<M: Memory>(memory: &mut M, at: u32, bytes: &[u8]) -> Result<(), OutOfRange>
     ensures bytes { OnOk result (M.bytes memory.new ≡ replaced at bytes.now (M.bytes memory.old)) }
     ensures dirty { OnOk result (M.dirty memory.new
-        ≡ mark_bytes at (length bytes.now) (M.dirty memory.old)) }
+        ≡ mark_all (byte_pages at (length bytes.now)) (M.dirty memory.old)) }
     ensures out { IsErr result ↔ (length (M.bytes memory.old) < at + length bytes.now) }
     ensures err { OnErr result (memory.new ≡ memory.old) }
 {

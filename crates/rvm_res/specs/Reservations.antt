@@ -1,4 +1,5 @@
--- Who holds which word, and what ends it. A reservation is the address of its aligned word.
+-- Who holds which word, and what ends it (Unprivileged ISA, "Load-Reserved/Store-Conditional
+-- Instructions"). A reservation is the address of its aligned word.
 use Rattle.std.specs.Prelude.{ℕ, ◌-◌, ◌%◌, Bool, false, ◌==◌, if◌then◌else◌, List, Option, Some, None, map, slice_set, get_or}
 
 -- the word that holds the byte at an address

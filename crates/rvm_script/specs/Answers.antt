@@ -5,7 +5,7 @@ use Rattle.hex.specs.Hex.{encode_lower}
 use Rattle.rvm_csr.specs.Cause.{exception_code, interrupt_code}
 use Rattle.rvm_text.specs.Registers.{name_of}
 use Rattle.rvm_dis.specs.Pieces.{hex_digits}
-use Rattle.rvm_dis.specs.Disassembly.{text_at}
+use Rattle.rvm_dis.specs.Disassembly.{line_at}
 use Rattle.rvm_refusal.specs.declared.refusal.Refusal.{Refusal}
 use Rattle.rvm_refusal.specs.declared.refusal.Refusal.TheVariants as refusal
 use Rattle.rvm_refusal.specs.Refusal.{text_of}
@@ -102,11 +102,6 @@ fours_text rs (suc n) = fours_text rs n ++ four_text rs (4 * n)
 abbrev pub registers_text : List ℕ → List ℕ
 registers_text rs = fours_text rs 8 ++ codes "pc=" ++ hex_digits 8 (slice_index rs 32) ++ codes "\n"
 
--- `AAAAAAAA: WWWWWWWW  TEXT`
-abbrev pub line_text : (address word : ℕ) → List ℕ
-line_text a w =
-    hex_digits 8 a ++ codes ": " ++ hex_digits 8 w ++ codes "  " ++ text_at a w ++ codes "\n"
-
 -- the address of the bytes that an event asks for, if they are of RAM
 abbrev pub address_of : BoardEvent → Option ℕ
 address_of (event.Mem a n) = Some a
@@ -131,7 +126,7 @@ abbrev pub reply_text : (address : Option ℕ) → BoardReply → List ℕ
 reply_text a reply.Done = reply_word reply.Done ++ codes "\n"
 reply_text a (reply.Bytes bs) = bytes_text a bs
 reply_text a (reply.Regs rs) = registers_text rs
-reply_text a (reply.Line at w) = line_text at w
+reply_text a (reply.Line at w) = line_at at w ++ codes "\n"
 reply_text a (reply.Refused r) = reply_word (reply.Refused r) ++ codes "\n"
 reply_text a reply.Retired = reply_word reply.Retired ++ codes "\n"
 reply_text a (reply.Trapped e) = reply_word (reply.Trapped e) ++ codes "\n"

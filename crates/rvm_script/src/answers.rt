@@ -1,15 +1,16 @@
 //! The texts of answers.
 
-ghost use Rattle.std.specs.Prelude.{◌≡◌, ◌+◌, ◌*◌, ◌<◌, ◌≤◌, length, slice_index, OnOk};
+ghost use Rattle.std.specs.Prelude.{◌≡◌, ◌+◌, ◌*◌, ◌<◌, ◌≤◌, length, slice_index, codes, ◌++◌, OnOk};
 ghost use Rattle.std.specs.Io.KnownBytes.{Appends};
 ghost use Rattle.hex.specs.Hex.{encode_lower};
 ghost use Rattle.rvm_text.specs.Registers.{name_of};
-ghost use Rattle.rvm_script.specs.Answers.{address_of, bytes_text, four_text, line_text, memory_text, output_text, is_refused, refusal_of, registers_text, reply_text, row_text, step_text, two_text};
+ghost use Rattle.rvm_dis.specs.Disassembly.{line_at};
+ghost use Rattle.rvm_script.specs.Answers.{address_of, bytes_text, four_text, memory_text, output_text, is_refused, refusal_of, registers_text, reply_text, row_text, step_text, two_text};
 
 use hex::encode_to_slice;
 use rvm_board::VIEW_SIZE;
 use rvm_debug::{BoardEvent, BoardRefusal, BoardReply};
-use rvm_dis::{LinkFault, write_ins};
+use rvm_dis::{LinkFault, write_line};
 use rvm_refusal::Refusal;
 use rvm_text::register_name;
 use std::fmt;
@@ -137,7 +138,7 @@ pub fn write_reply<W: Write>(
     match reply {
         BoardReply::Bytes(bytes) => write_bytes(writer, address, bytes.as_slice()),
         BoardReply::Regs(registers) => write_registers(writer, registers),
-        BoardReply::Line { address, word } => write_line(writer, *address, *word),
+        BoardReply::Line { address, word } => write_word(writer, *address, *word),
         _ => {
             writeln!(writer, "{}", InWords(reply))?;
             Ok(())
@@ -279,12 +280,11 @@ fn register(registers: &[u32; 33], number: usize) -> Named
 }
 
 /// Writes a word of RAM and the text of its instruction.
-fn write_line<W: Write>(writer: &mut W, address: u32, word: u32) -> Result<(), LinkFault>
+fn write_word<W: Write>(writer: &mut W, address: u32, word: u32) -> Result<(), LinkFault>
     ensures { OnOk result (Appends (W.contents writer.old) (W.contents writer.new)
-        (line_text address word)) }
+        (line_at address word ++ codes "\n")) }
 {
-    write!(writer, "{}: {}  ", Word(address), Word(word))?;
-    write_ins(address, word, writer)?;
+    write_line(address, word, writer)?;
     writeln!(writer)?;
     Ok(())
 }

@@ -2,12 +2,12 @@
 
 ghost use Rattle.std.specs.Prelude.{◌≡◌, ◌∷◌, [], ◌<◌, MatchOption};
 ghost use Rattle.std.specs.List.{list_all};
-ghost use Rattle.rvm_text.specs.Numbers.{digit_value};
 ghost use Rattle.rvm_script.specs.HexBytes.{hex_of, is_hex_digit, small};
 
 use arrayvec::ArrayVec;
 use rvm_board::VIEW_SIZE;
 use rvm_debug::View;
+use rvm_text::digit_value;
 use std::marker::Model;
 
 /// Bytes as they are written, two digits each.
@@ -76,16 +76,4 @@ fn are_hex_digits(word: &[u8]) -> bool
     ensures { result ≡ list_all is_hex_digit word.now }
 {
     word.iter().all(|b| digit_value(*b) < 16)
-}
-
-/// The value of a digit, small or capital, and 16 where the byte is none.
-fn digit_value(b: u8) -> u8
-    ensures { result ≡ digit_value b }
-{
-    match b {
-        b'0'..=b'9' => b - b'0',
-        b'a'..=b'f' => b - b'a' + 10,
-        b'A'..=b'F' => b - b'A' + 10,
-        _ => 16,
-    }
 }

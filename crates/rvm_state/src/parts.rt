@@ -9,13 +9,14 @@ ghost use Rattle.rvm_state.specs.Read.{state_in};
 
 use crate::fields::{aligned_at, csrs_at, reserved_at, shared_at};
 use arrayvec::ArrayVec;
+use rvm_board::MAX_HARTS;
 use rvm_codec::{bytes_at, flag_at, u8_within, u16_within, u32_at, u32s_rise, u64_at};
 use rvm_debug::{HartPart, MAX_BREAKPOINTS};
 use rvm_dev::DeviceFields;
 use rvm_hart::HartFields;
 
 /// The most harts that a board has.
-const MAX_HARTS: usize = 8;
+const HARTS: usize = MAX_HARTS as usize;
 
 /// How many registers a hart has besides x0.
 const REGISTERS: usize = 31;
@@ -23,7 +24,7 @@ const REGISTERS: usize = 31;
 /// What is kept of each hart, what the devices keep that all share, the queues and the breakpoints.
 #[derive(Drop)]
 pub(crate) struct Parts<'a> {
-    pub(crate) harts: ArrayVec<HartPart, MAX_HARTS>,
+    pub(crate) harts: ArrayVec<HartPart, HARTS>,
     pub(crate) shared: DeviceFields,
     pub(crate) input: &'a [u8],
     pub(crate) output: &'a [u8],
@@ -89,7 +90,7 @@ fn hart_at(size: u32, bytes: &[u8]) -> Option<(HartPart, &[u8])>
 }
 
 /// What is kept of so many harts.
-fn harts_at(size: u32, count: usize, bytes: &[u8]) -> Option<(ArrayVec<HartPart, MAX_HARTS>, &[u8])>
+fn harts_at(size: u32, count: usize, bytes: &[u8]) -> Option<(ArrayVec<HartPart, HARTS>, &[u8])>
     requires { count ≤ 8 }
     ensures harts { option_map (λ x. (x.0.items, x.1.now)) result
         ≡ read_each (hart size).read count bytes.now }

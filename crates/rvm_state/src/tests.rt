@@ -1,21 +1,58 @@
 //! What no clause says: the layout of the bytes of a guest after reset, one guest read and written
-//! again, and each kind of refusal. (`rt try --test --fail-alloc N` refuses the growth N of each
-//! test.)
+//! again, each kind of refusal, and that a call that was refused memory gives its answer when it is
+//! made again. (`rt try --test --fail-alloc N` refuses the growth N of each test.)
 
 use super::*;
-use rvm_board::Board;
+use rvm_board::{Board, BoardError};
 use rvm_debug::Debugged;
 use rvm_hart::RAM_BASE;
 use rvm_mem::{FlatMemory, Memory, PagedMemory};
 use std::alloc::{AllocError, Global};
 use std::test::Fail;
 
+/// The call's value, of a second call where the first was refused memory.
+macro_rules! again {
+    ($call:expr) => {
+        match $call {
+            Ok(value) => value,
+            Err(_) => $call?,
+        }
+    };
+}
+
+/// A page of RAM.
+fn page(alloc: Global) -> Result<FlatMemory, AllocError> {
+    Ok(again!(FlatMemory::zeroed(alloc, 1)))
+}
+
+/// A board of one hart and one page after reset.
+fn board(alloc: Global) -> Result<Board<FlatMemory>, Fail> {
+    let made = match Board::new(alloc, 1, page(alloc)?, RAM_BASE) {
+        Err((BoardError::OutOfMemory, ram)) => Board::new(alloc, 1, ram, RAM_BASE),
+        made => made,
+    };
+    match made {
+        Ok(board) => Ok(board),
+        Err((error, _)) => Err(Fail::from(error)),
+    }
+}
+
 /// The bytes of a board of one hart and one page after reset.
 fn at_reset(alloc: Global) -> Result<Vec<u8>, Fail> {
-    let ram = FlatMemory::zeroed(alloc, 1)?;
-    match Board::new(alloc, 1, ram, RAM_BASE) {
-        Ok(board) => Ok(write_state(alloc, &Debugged::new(board))?),
-        Err((error, _)) => Err(Fail::from(error)),
+    let guest = Debugged::new(board(alloc)?);
+    Ok(again!(write_state(alloc, &guest)))
+}
+
+/// What `read_state` answers, and where it was refused memory, what it answers with the RAM that it
+/// handed back.
+fn read(
+    alloc: Global,
+    bytes: &[u8],
+    ram: FlatMemory,
+) -> Result<Debugged<FlatMemory>, (StateFault, FlatMemory)> {
+    match read_state(alloc, bytes, ram) {
+        Err((StateFault::OutOfMemory, ram)) => read_state(alloc, bytes, ram),
+        answer => answer,
     }
 }
 
@@ -26,7 +63,7 @@ fn changed(
     changes: &[(usize, u8)],
     rest: &[u8],
 ) -> Result<Vec<u8>, AllocError> {
-    let mut out = Vec::new(alloc);
+    let mut out = again!(Vec::with_capacity(alloc, 200 + rest.len()));
     for (place, byte) in bytes.iter().take(200).enumerate() {
         let mut byte = *byte;
         for (changed, value) in changes {
@@ -42,8 +79,7 @@ fn changed(
 
 /// Whether the bytes spell no guest with one page of RAM, which is handed back.
 fn is_refused(alloc: Global, bytes: &[u8]) -> Result<bool, Fail> {
-    let ram = FlatMemory::zeroed(alloc, 1)?;
-    match read_state(alloc, bytes, ram) {
+    match read(alloc, bytes, page(alloc)?) {
         Err((StateFault::BadState, ram)) => Ok(ram.len() == 4096),
         _ => Ok(false),
     }
@@ -84,11 +120,10 @@ fn what_is_read_is_written_again(rt: HostRuntime) -> Result<(), Fail> {
     ];
     let rest = [2, 7, 8, 3, 0, 1, 2, 3, 2, 4, 0, 0, 0x80, 8, 0, 0, 0x80];
     let bytes = changed(alloc, at_reset(alloc)?.as_slice(), &changes, &rest)?;
-    let ram = FlatMemory::zeroed(alloc, 1)?;
-    match read_state(alloc, bytes.as_slice(), ram) {
+    match read(alloc, bytes.as_slice(), page(alloc)?) {
         Ok(guest) => {
-            let again = write_state(alloc, &guest)?;
-            assert_eq!(rt; again.as_slice(), bytes.as_slice());
+            let written = again!(write_state(alloc, &guest));
+            assert_eq!(rt; written.as_slice(), bytes.as_slice());
         }
         Err((fault, _)) => return Err(Fail::from(fault)),
     }

@@ -10,7 +10,7 @@ mod registers;
 mod strings;
 mod token;
 
-pub use numbers::number;
+pub use numbers::{digit_value, number};
 pub use registers::{register, register_name};
 pub use strings::{text_length, unescape};
 pub use token::{Lexeme, TextError, Token, is_name, tokens};

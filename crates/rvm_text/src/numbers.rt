@@ -33,7 +33,8 @@ fn number_in(radix: u32, digits: &[u8]) -> Option<u32>
     Some(number)
 }
 
-fn digit_value(b: u8) -> u8
+/// The value of a hexadecimal digit, small or capital, and 16 where the byte is none.
+pub fn digit_value(b: u8) -> u8
     ensures { result ≡ digit_value b }
 {
     match b {

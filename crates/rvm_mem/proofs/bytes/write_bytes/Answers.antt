@@ -1,12 +1,12 @@
 use Rattle.std.proofs.Common.{◌+◌, ◌/◌, ◌++◌, ap, ◌∙◌, sym, refl, take, drop, get_or, arith}
 use Rattle.std.proofs.lemmas.List.{take-append-drop}
 use Rattle.rvm_mem.specs.Bytes.{store}
-use Rattle.rvm_mem.specs.Pages.{mark, mark_bytes}
+use Rattle.rvm_mem.specs.Pages.{byte_pages, mark}
 use Rattle.rvm_mem.proofs.Ranges.{write_more, mark_more}
 use Rattle.rvm_mem.proofs.bytes.write_bytes.Goals as goal
 
 pub loop-i-init : goal.loop-i-init
-unfolding mark_bytes
+unfolding byte_pages
 loop-i-init g c =
     let old = g.M.Memory.bytes c.args.memory.now in
     record {
