@@ -74,6 +74,15 @@ impl<M: Memory> Debugged<M> {
         self.board.harts()
     }
 
+    /// The address of the next instruction of a hart.
+    #[inline(always)]
+    pub fn pc(&self, hart: u32) -> u32
+        requires { hart < length self.now.guest.board.harts }
+        ensures { result ≡ pc_of hart self.now.guest }
+    {
+        self.board.pc(hart)
+    }
+
     /// What the guest keeps of a hart.
     pub fn hart_part(&self, hart: u32) -> HartPart
         requires { hart < length self.now.guest.board.harts }
@@ -255,6 +264,7 @@ impl<M: Memory> Debugged<M> {
     }
 
     /// A step of a hart that may not be there.
+    #[inline(always)]
     fn step_if_there(&mut self, hart: u32) -> BoardReply
         ensures guest { self.new.guest ≡ (steps_if_there hart self.old.guest).guest }
         ensures dirty { self.new.dirty
@@ -264,7 +274,7 @@ impl<M: Memory> Debugged<M> {
         if hart >= self.harts() {
             return BoardReply::Refused(BoardRefusal::BadHart);
         }
-        let pc = self.board.pc(hart);
+        let pc = self.pc(hart);
         match self.step(hart) {
             None => BoardReply::Break(pc),
             Some(stepped) => BoardReply::of_step(stepped),
@@ -272,6 +282,7 @@ impl<M: Memory> Debugged<M> {
     }
 
     /// A byte comes to the console.
+    #[inline(never)]
     fn take_input(&mut self, byte: u8) -> BoardReply
         ensures guest { self.new.guest ≡ (takes_input byte self.old.guest).guest }
         ensures dirty { self.new.dirty ≡ self.old.dirty }
@@ -284,6 +295,7 @@ impl<M: Memory> Debugged<M> {
     }
 
     /// The oldest bytes that the guest sent are taken, at most so many.
+    #[inline(never)]
     fn drain_some(&mut self, count: u32) -> BoardReply
         ensures guest { self.new.guest ≡ (drains count self.old.guest).guest }
         ensures dirty { self.new.dirty ≡ self.old.dirty }
@@ -298,6 +310,7 @@ impl<M: Memory> Debugged<M> {
     }
 
     /// Sets a breakpoint.
+    #[inline(never)]
     fn set_breakpoint(&mut self, address: u32) -> BoardReply
         ensures guest { self.new.guest ≡ (sets_breakpoint address self.old.guest).guest }
         ensures dirty { self.new.dirty ≡ self.old.dirty }
@@ -310,6 +323,7 @@ impl<M: Memory> Debugged<M> {
     }
 
     /// Takes a breakpoint away.
+    #[inline(never)]
     fn clear_breakpoint(&mut self, address: u32) -> BoardReply
         ensures guest { self.new.guest ≡ (clears_breakpoint address self.old.guest).guest }
         ensures dirty { self.new.dirty ≡ self.old.dirty }
@@ -320,6 +334,7 @@ impl<M: Memory> Debugged<M> {
     }
 
     /// The registers of a hart.
+    #[inline(never)]
     fn registers(&self, hart: u32) -> BoardReply
         ensures { result ≡ (tells_registers hart self.now.guest).reply }
     {
@@ -341,6 +356,7 @@ impl<M: Memory> Debugged<M> {
     }
 
     /// Bytes of RAM.
+    #[inline(never)]
     fn bytes(&self, address: u32, length: u32) -> BoardReply
         ensures { result ≡ (tells_bytes address length self.now.guest).reply }
     {
@@ -355,6 +371,7 @@ impl<M: Memory> Debugged<M> {
     }
 
     /// The word of RAM at an address.
+    #[inline(never)]
     fn line(&self, address: u32) -> BoardReply
         ensures { result ≡ (tells_line address self.now.guest).reply }
     {
@@ -368,6 +385,7 @@ impl<M: Memory> Debugged<M> {
     }
 
     /// Sets a register of a hart; one whose pc is set stands at no breakpoint any more.
+    #[inline(never)]
     fn set_register(&mut self, hart: u32, register: u32, value: u32) -> BoardReply
         ensures guest { self.new.guest ≡ (sets_register hart register value self.old.guest).guest }
         ensures dirty { self.new.dirty ≡ self.old.dirty }
@@ -386,6 +404,7 @@ impl<M: Memory> Debugged<M> {
     }
 
     /// Writes bytes of RAM.
+    #[inline(never)]
     fn write_bytes(&mut self, address: u32, bytes: &View) -> BoardReply
         ensures guest { self.new.guest ≡ (writes_bytes address bytes.now self.old.guest).guest }
         ensures dirty { self.new.dirty

@@ -87,7 +87,7 @@ pub enum BoardRefusal {
 
 impl BoardReply {
     /// What a step did, as an answer.
-    pub(crate) fn of_step(stepped: Stepped) -> BoardReply
+    pub fn of_step(stepped: Stepped) -> BoardReply
         ensures { result ≡ reply_of stepped }
     {
         match stepped {

@@ -34,7 +34,7 @@ pub fn board(
 }
 
 /// The same over any memory.
-fn board_over<M: PagedMemory + Drop>(
+pub fn board_over<M: PagedMemory + Drop>(
     alloc: Global,
     harts: u32,
     program: &Program,

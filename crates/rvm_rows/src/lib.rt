@@ -7,7 +7,7 @@
 //!
 //! To be read in this order: `program` and `bench`, which make guests and run them; then `words`,
 //! `rows`, `memory`, `instructions`, `traps`, `registers`, `interrupts`, `atomics`, `console`,
-//! `running`, `assembling`, `debugging`, `command_line`.
+//! `running`, `assembling`, `debugging`, `command_line`; last `worked`.
 #![tactic(auto)]
 
 #[cfg(test)]
@@ -40,3 +40,5 @@ mod running;
 mod traps;
 #[cfg(test)]
 mod words;
+#[cfg(test)]
+mod worked;

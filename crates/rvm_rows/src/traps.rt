@@ -13,26 +13,6 @@ use std::test::Fail;
 type Case = (u32, Ins, u32, u32);
 
 #[test]
-fn a_trap_at_reset_leads_out_of_ram(rt: HostRuntime) -> Result<(), Fail> {
-    let alloc = rt.alloc();
-    let cases = [
-        (0, Exception::IllegalInstruction),
-        (0xFFFF_FFFF, Exception::IllegalInstruction),
-        // jal x0, 2
-        (0x0020_006F, Exception::InstructionAddressMisaligned),
-    ];
-    for (word, exception) in cases {
-        let program = Program::new(alloc).word(word)?;
-        let mut board = board(alloc, 1, &program, &Program::new(alloc))?;
-        assert_eq!(rt; step(&rt, &mut board, 0), Stepped::Trapped(exception));
-        // mtvec is 0, and there is no RAM.
-        let no_ram = Stepped::Trapped(Exception::InstructionAccessFault);
-        assert_eq!(rt; step(&rt, &mut board, 0), no_ram);
-    }
-    Ok(())
-}
-
-#[test]
 fn an_environment_call_leads_to_the_handler(rt: HostRuntime) -> Result<(), Fail> {
     let alloc = rt.alloc();
     // lui x5, 0x80001; csrrw x0, mtvec, x5; ecall

@@ -1,12 +1,14 @@
 -- Folds, one event or line at a time.
-use Rattle.std.proofs.Common.{◌≡◌, ℕ, suc, zero, ◌+◌, List, [], ◌∷◌, ◌++◌, Ok, Err, Option, Some, None, Bool, true, false, cond, refl, ap, sym, ◌∙◌, append_assoc, append-nil}
+use Rattle.std.proofs.Common.{◌≡◌, ℕ, suc, zero, ◌+◌, List, [], ◌∷◌, ◌++◌, Ok, Err, Option, Some, None, Bool, true, false, cond, ◌<◌, ◌≤◌, length, refl, ap, sym, ◌∙◌, append_assoc, append-nil}
+use Rattle.std.proofs.lemmas.Bool.{lt-ltb, le-ltb}
 use Rattle.std.specs.Io.KnownBytes.{Appends}
 use Rattle.rvm_mem.specs.Pages.{mark, mark_all}
 use Rattle.rvm_debug.specs.declared.event.BoardEvent.TheVariants as event
 use Rattle.rvm_debug.specs.declared.event.BoardReply.{BoardReply}
 use Rattle.rvm_debug.specs.declared.event.BoardReply.TheVariants as reply
 use Rattle.rvm_debug.specs.Guest.{Guest, GuestState}
-use Rattle.rvm_debug.specs.Events.{Answered, answered, leaves}
+use Rattle.rvm_debug.specs.declared.event.BoardRefusal.TheVariants.{BadHart}
+use Rattle.rvm_debug.specs.Events.{Answered, answered, leaves, refuses, steps}
 use Rattle.rvm_script.specs.declared.line.Line.{Line}
 use Rattle.rvm_script.specs.declared.script.ScriptError.{ScriptError}
 use Rattle.rvm_script.specs.declared.script.ScriptError.TheVariants.{OutOfMemory, TooLong, BadToken, LinkFault}
@@ -45,7 +47,7 @@ step_made h left made last g goes =
     let a = answered (event.Step h) g in
     ap (λ b. cond b (record { guest = g; pages = []; count = made; reply = last }) (stepping_after a.pages (stepping h left (made + 1) a.reply a.guest))) goes
 
-pub steps_more : {all : Stepping} {first dirty dirty' : List Bool} (h n left made : ℕ) (last r : BoardReply) (g g' : Guest) → Steps all (stepping h n made last g) first dirty → ends last ≡ false → n ≡ suc left → dirty' ≡ mark_all (answered (event.Step h) g).pages dirty → r ≡ (answered (event.Step h) g).reply → g' ≡ (answered (event.Step h) g).guest → Steps all (stepping h left (made + 1) r g') first dirty'
+steps_more : {all : Stepping} {first dirty dirty' : List Bool} (h n left made : ℕ) (last r : BoardReply) (g g' : Guest) → Steps all (stepping h n made last g) first dirty → ends last ≡ false → n ≡ suc left → dirty' ≡ mark_all (answered (event.Step h) g).pages dirty → r ≡ (answered (event.Step h) g).reply → g' ≡ (answered (event.Step h) g).guest → Steps all (stepping h left (made + 1) r g') first dirty'
 steps_more {all} {first} {dirty} {dirty'} h n left made last r g g' so_far goes more marked told made_guest =
     let a = answered (event.Step h) g in
     let rest = stepping h left (made + 1) a.reply a.guest in
@@ -59,6 +61,24 @@ steps_more {all} {first} {dirty} {dirty'} h n left made last r g g' so_far goes 
           ∙ ap (stepping_after so_far.pages) (sym (step_made h left made last g goes) ∙ ap (λ k. stepping h k made last g) (sym more))
           ∙ so_far.whole;
     }
+
+-- the same of a hart that is there
+pub steps_on : {all : Stepping} {first dirty dirty' : List Bool} (h n left made : ℕ) (last r : BoardReply) (g g' : Guest) → Steps all (stepping h n made last g) first dirty → ends last ≡ false → n ≡ suc left → h < length g.board.harts → dirty' ≡ mark_all (steps h g).pages dirty → r ≡ (steps h g).reply → g' ≡ (steps h g).guest → Steps all (stepping h left (made + 1) r g') first dirty'
+steps_on {all} {first} {dirty} {dirty'} h n left made last r g g' so_far goes more there marked told made_guest =
+    let same : steps h g ≡ answered (event.Step h) g = ap (λ b. cond b (steps h g) (refuses BadHart g)) (sym (lt-ltb h (length g.board.harts) there)) in
+    steps_more h n left made last r g g' so_far goes more
+    (marked ∙ ap (λ (a : Answered). mark_all a.pages dirty) same)
+    (told ∙ ap (λ (a : Answered). a.reply) same)
+    (made_guest ∙ ap (λ (a : Answered). a.guest) same)
+
+-- the same of one that is not
+pub steps_refused : {all : Stepping} {first dirty : List Bool} (h n left made : ℕ) (last : BoardReply) (g : Guest) → Steps all (stepping h n made last g) first dirty → ends last ≡ false → n ≡ suc left → length g.board.harts ≤ h → Steps all (stepping h left (made + 1) (reply.Refused BadHart) g) first dirty
+steps_refused {all} {first} {dirty} h n left made last g so_far goes more absent =
+    let same : refuses BadHart g ≡ answered (event.Step h) g = ap (λ b. cond b (steps h g) (refuses BadHart g)) (sym (le-ltb h (length g.board.harts) absent)) in
+    steps_more h n left made last (reply.Refused BadHart) g g so_far goes more
+    (ap (λ (a : Answered). mark_all a.pages dirty) same)
+    (ap (λ (a : Answered). a.reply) same)
+    (ap (λ (a : Answered). a.guest) same)
 
 -- where no step follows
 steps_stop : (h left made : ℕ) (last : BoardReply) (g : Guest) → ends last ≡ true → stepping h left made last g ≡ record { guest = g; pages = []; count = made; reply = last }
