@@ -8,7 +8,7 @@ use std::process::Abort;
 use std::test::Fail;
 
 /// Four times nop; addi ra, ra, 1; jal zero, -4.
-const LOOP: [u32; 6] = [
+pub const LOOP: [u32; 6] = [
     0x0000_0013,
     0x0000_0013,
     0x0000_0013,

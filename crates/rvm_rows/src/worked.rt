@@ -2,6 +2,7 @@
 //! what the harts hold behind it. The words are those of LLVM's assembler.
 
 use crate::bench::board_over;
+use crate::debugging::LOOP;
 use crate::program::Program;
 use crate::running::HI;
 use rvm_csr::Exception;
@@ -27,16 +28,6 @@ struct Case {
     /// A hart, a register from x1 on by its number, and what it holds in the end.
     registers: &'static [(u32, usize, u32)],
 }
-
-/// Four times nop; addi ra, ra, 1; jal zero, -4.
-const LOOP: [u32; 6] = [
-    0x0000_0013,
-    0x0000_0013,
-    0x0000_0013,
-    0x0000_0013,
-    0x0010_8093,
-    0xFFDF_F06F,
-];
 
 /// div t0, a1, a2; rem t1, a1, a2; divu t2, a3, zero; remu s0, a3, zero; mulh s1, a2, a2;
 /// mulhsu s2, a2, a2; mulhu s3, a2, a2.
