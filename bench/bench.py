@@ -1,13 +1,13 @@
 #!/usr/bin/env python3
 """Measures `rvmove run` against the plain C interpreter beside this file: million instructions a
-second of both, and the ratio, from the best of several alternating runs; and `rvm_bench`, which has
-two memories in one program, over each of them. Wants gcc and what `make bench` builds. More guests
-may be named: `bench.py NAME=IMAGE:HARTS:STEPS ..`."""
+second of processor time of both, and the ratio, from the best of several alternating runs; and
+`rvm_bench`, which has two memories in one program, over each of them. Wants gcc and what `make
+bench` builds. More guests may be named: `bench.py NAME=IMAGE:HARTS:STEPS ..`."""
 import os
+import resource
 import struct
 import subprocess
 import sys
-import time
 
 HERE = os.path.dirname(os.path.abspath(__file__))
 BUILD = os.path.join(HERE, "..", "build")
@@ -29,9 +29,10 @@ LOOP = [
 
 
 def seconds(command):
-    start = time.monotonic()
+    before = resource.getrusage(resource.RUSAGE_CHILDREN)
     subprocess.run(command, check=True, stdout=subprocess.DEVNULL, stderr=subprocess.DEVNULL)
-    return time.monotonic() - start
+    after = resource.getrusage(resource.RUSAGE_CHILDREN)
+    return after.ru_utime + after.ru_stime - before.ru_utime - before.ru_stime
 
 
 def turns(interpreter, words):
@@ -57,7 +58,7 @@ def main():
     loop = os.path.join(BUILD, "loop.bin")
     with open(loop, "wb") as file:
         file.write(b"".join(struct.pack("<I", word) for word in LOOP))
-    print("million instructions a second, best of", RUNS, "alternating runs")
+    print("million instructions a second of processor time, best of", RUNS, "alternating runs")
     compare("loop, 1 hart", interpreter, program, [loop, "--raw", "--steps", "1000000000"])
     for memory in ("flat", "paged"):
         command = [os.path.join(BUILD, "rvm_bench"), loop, "1", memory]
