@@ -92,7 +92,7 @@ apart_before p address count e a low high = outside p a (inr (omega arith))
 pub apart_behind : (p : Piece) (address count : ℕ) → address + count ≤ p.address → IsFree (p ∷ []) address count
 apart_behind p address count e a low high = outside p a (inl (omega arith))
 
-some_is : (o : Option ℕ) (x : ℕ) → o ≡ Some x → IsSome o
+pub some_is : (o : Option ℕ) (x : ℕ) → o ≡ Some x → IsSome o
 some_is None x e = cc
 some_is (Some y) x e = search rules
 

@@ -3,3 +3,4 @@ pub mod Laying
 pub mod Names
 pub mod Order
 pub mod Reading
+pub mod Unique

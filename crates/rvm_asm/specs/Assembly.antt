@@ -10,7 +10,7 @@ use Rattle.rvm_line.specs.Contents.{bytes_at}
 use Rattle.rvm_line.specs.Statements.{Definition, label_of, next_place, equ_at}
 use Rattle.rvm_line.specs.Values.{Names}
 use Rattle.rvm_image.specs.Images.{Piece, byte_at}
-use Rattle.rvm_asm.specs.Images.{HasAt, IsWithin}
+use Rattle.rvm_asm.specs.Images.{HasAt, IsWithin, HasSameBytes}
 
 -- the statement of a line behind its label
 abbrev pub statement_of : (place : ℕ) → List Lexeme → List Lexeme
@@ -97,3 +97,9 @@ IsAssemblyOf lines entry image =
 abbrev pub IsAssembly : List ℕ → (entry : ℕ) → List Piece → Type 0
 IsAssembly text entry image =
     (all : List (List Lexeme)) × AreRead (lines text) all × IsAssemblyOf all entry image
+
+-- a text has at most one assembly: one entry, and one byte or none at each address
+abbrev pub HasOneAssembly : List ℕ → Type 0
+HasOneAssembly text =
+    (entry other : ℕ) (image pieces : List Piece) → IsAssembly text entry image
+    → IsAssembly text other pieces → (entry ≡ other) × HasSameBytes image pieces

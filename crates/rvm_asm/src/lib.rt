@@ -4,12 +4,13 @@
 //!
 //! `assembler` reads the lines and runs both passes: `layout` gives each name its value and each
 //! line its place, `placing` puts the bytes of each line there, in the `segments` of an image.
-//! `error` says why a text has no image.
+//! `error` says why a text has no image, `laws` that it has at most one.
 #![tactic(auto)]
 
 mod assembler;
 mod error;
 mod layout;
+pub mod laws;
 mod placing;
 mod segments;
 

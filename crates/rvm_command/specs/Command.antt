@@ -9,6 +9,8 @@ use Rattle.rvm_elf.specs.Load.{loaded}
 use Rattle.rvm_board.specs.Board.{at_reset}
 use Rattle.rvm_debug.specs.Guest.{Guest, fresh}
 use Rattle.rvm_dis.specs.Disassembly.{line_at}
+use Rattle.rvm_refusal.specs.Refusal.{text_of}
+use Rattle.rvm_command.specs.declared.refused.Refused.{Refused}
 use Rattle.rvm_command.specs.declared.run.Ended.{Ended}
 use Rattle.rvm_command.specs.declared.run.Ended.TheVariants.{HaltedWith, StepsSpent}
 use Rattle.rvm_command.specs.Run.{Ran, ran}
@@ -35,6 +37,14 @@ run_of harts pages steps image input = ran steps 0 input (guest_of harts pages i
 abbrev pub end_text : Ended → List ℕ
 end_text (HaltedWith s) = codes "halted " ++ decimal s
 end_text StepsSpent = codes "steps spent"
+
+-- `line L: refused N NAME`, or `refused N NAME` where it stands at no line
+abbrev pub at_line : Option ℕ → List ℕ
+at_line None = []
+at_line (Some l) = codes "line " ++ decimal l ++ codes ": "
+
+abbrev pub refused_text : Refused → List ℕ
+refused_text r = at_line r.line ++ text_of r.refusal
 
 -- the lines of the words of bytes that stand from an address on, which is a multiple of four; what
 -- is left behind the last whole word has no line

@@ -5,13 +5,12 @@ ghost use Rattle.std.specs.Io.KnownBytes.{Appends};
 ghost use Rattle.rvm_command.specs.Assembled.{IsFileOf};
 
 use crate::refused::Refused;
-use rvm_asm::{AsmError, assemble};
-use rvm_elf::{WriteError, write_image};
-use rvm_line::Fault;
+use rvm_asm::assemble;
+use rvm_elf::write_image;
 use rvm_refusal::Refusal;
 use std::alloc::Global;
 use std::io::Write;
-use std::{fmt, str};
+use std::str;
 
 /// Assembles `source` into an ELF file, which goes to `output`, and answers the status: 0, or 1
 /// where it was refused; then `errors` gets the refusal, with the line at which it stands. A text
@@ -34,7 +33,7 @@ pub fn asm_command<O: Write, E: Write>(
             if output.write_all(&file).is_ok() {
                 return 0;
             }
-            Refused::of(Refusal::LinkFault)
+            Refused::from(Refusal::LinkFault)
         }
         Err(refused) => refused,
     };
@@ -50,14 +49,8 @@ fn assembled(alloc: Global, source: &[u8]) -> Result<Vec<u8>, Refused>
         Ok(text) => text,
         Err(error) => return Err(not_text(source, error.valid_up_to())),
     };
-    let image = match assemble(alloc, text) {
-        Ok(image) => image,
-        Err(error) => return Err(of_text(error)),
-    };
-    match write_image(alloc, &image) {
-        Ok(file) => Ok(file),
-        Err(error) => Err(of_image(error)),
-    }
+    let image = assemble(alloc, text)?;
+    Ok(write_image(alloc, &image)?)
 }
 
 /// The refusal of a text that has a byte of no character at a place.
@@ -71,36 +64,4 @@ fn not_text(source: &[u8], at: usize) -> Refused {
         line: Some(before + 1),
         refusal: Refusal::BadToken,
     }
-}
-
-/// The refusal of a text that has no assembly.
-fn of_text(error: AsmError) -> Refused {
-    match error {
-        AsmError::OutOfMemory => Refused::of(Refusal::OutOfMemory),
-        AsmError::Line(line, fault) => Refused {
-            line: Some(line),
-            refusal: of_fault(fault),
-        },
-    }
-}
-
-/// The refusal of a fault of a line.
-fn of_fault(fault: Fault) -> Refusal {
-    match fault {
-        Fault::BadToken => Refusal::BadToken,
-        Fault::UnknownName => Refusal::UnknownName,
-        Fault::OutOfReach => Refusal::OutOfReach,
-        Fault::Defined => Refusal::Defined,
-        Fault::Overlap => Refusal::Overlap,
-    }
-}
-
-/// The refusal of an image that no file can hold.
-fn of_image(error: WriteError) -> Refused {
-    let refusal = match error {
-        WriteError::OutOfMemory => Refusal::OutOfMemory,
-        WriteError::TooMany => Refusal::TooMany,
-        WriteError::OutOfReach => Refusal::OutOfReach,
-    };
-    Refused::of(refusal)
 }

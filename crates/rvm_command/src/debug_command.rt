@@ -8,10 +8,9 @@ ghost use Rattle.rvm_command.specs.Command.{guest_of, image_of};
 ghost use Rattle.rvm_command.specs.Debugging.{IsTold};
 
 use crate::arguments::GuestArguments;
-use crate::guest::{new_guest, read_file, refusal_of};
+use crate::guest::{new_guest, read_file};
 use crate::refused::Refused;
-use rvm_refusal::Refusal;
-use rvm_script::{ScriptError, run_script};
+use rvm_script::run_script;
 use std::alloc::Global;
 use std::io::{Read, Write};
 
@@ -66,28 +65,8 @@ fn debug<R: Read, O: Write>(
         fits i.0 i.1 (4096 * arguments.now.pages) ≡ false
         → IsErr result × (O.contents output.new ≡ O.contents output.old)) }
 {
-    let program = match read_file(alloc, arguments.raw, image) {
-        Ok(program) => program,
-        Err(error) => return Err(Refused::of(refusal_of(error))),
-    };
-    let mut guest = match new_guest(alloc, arguments.harts, arguments.pages, &program) {
-        Ok(guest) => guest,
-        Err(refusal) => return Err(Refused::of(refusal)),
-    };
-    match run_script(alloc, &mut guest, reader, output) {
-        Ok(()) => Ok(()),
-        Err(error) => Err(of_script(error)),
-    }
-}
-
-/// The refusal of a script that ended before its end.
-fn of_script(error: ScriptError) -> Refused {
-    let line = match error {
-        ScriptError::BadToken(line) => Some(line),
-        _ => None,
-    };
-    Refused {
-        line,
-        refusal: Refusal::from(error),
-    }
+    let program = read_file(alloc, arguments.raw, image)?;
+    let mut guest = new_guest(alloc, arguments.harts, arguments.pages, &program)?;
+    run_script(alloc, &mut guest, reader, output)?;
+    Ok(())
 }

@@ -7,12 +7,12 @@ ghost use Rattle.rvm_dis.specs.Disassembly.{line_at};
 ghost use Rattle.rvm_command.specs.Command.{before_word, image_of, listing, word_lines};
 
 use crate::arguments::DisArguments;
-use crate::guest::{read_file, refusal_of};
+use crate::guest::read_file;
+use crate::refused::Refused;
 use crate::run::LinkFault;
 use byteorder::{ByteOrder, LittleEndian};
 use rvm_dis::write_line;
 use rvm_image::Segment;
-use rvm_refusal::Refusal;
 use std::alloc::Global;
 use std::io::Write;
 
@@ -33,15 +33,29 @@ pub fn dis_command<O: Write, E: Write>(
     ensures fault { IsErr (image_of arguments.now.raw image.now)
         → (result ≡ 1) × (O.contents output.new ≡ O.contents output.old) }
 {
-    let told = match read_file(alloc, arguments.raw, image) {
-        Ok(program) => match list(&program.segments, output) {
-            Ok(()) => return 0,
-            Err(_) => Refusal::LinkFault,
-        },
-        Err(error) => refusal_of(error),
+    let told = match dis(alloc, arguments, image, output) {
+        Ok(()) => return 0,
+        Err(refused) => refused,
     };
     let _ = writeln!(errors, "{told}");
     1
+}
+
+/// The lines themselves.
+fn dis<O: Write>(
+    alloc: Global,
+    arguments: &DisArguments,
+    image: &[u8],
+    output: &mut O,
+) -> Result<(), Refused>
+    ensures lines { OnOk result (IfOk (image_of arguments.now.raw image.now) (λ i.
+        Appends (O.contents output.old) (O.contents output.new) (listing i.1))) }
+    ensures fault { IsErr (image_of arguments.now.raw image.now)
+        → IsErr result × (O.contents output.new ≡ O.contents output.old) }
+{
+    let program = read_file(alloc, arguments.raw, image)?;
+    list(&program.segments, output)?;
+    Ok(())
 }
 
 /// Writes the lines of segments.

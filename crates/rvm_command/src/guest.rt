@@ -71,14 +71,3 @@ fn new_board(alloc: Global, harts: u32, pages: u32) -> Result<Board<PagedRam>, R
         Err(_) => Err(Refusal::OutOfMemory),
     }
 }
-
-/// The refusal of a file that has no image.
-pub(crate) fn refusal_of(error: ReadError) -> Refusal {
-    match error {
-        ReadError::OutOfMemory => Refusal::OutOfMemory,
-        ReadError::BadMagic => Refusal::BadMagic,
-        ReadError::NotRiscV32 => Refusal::NotRiscV32,
-        ReadError::Truncated => Refusal::Truncated,
-        ReadError::TooMany => Refusal::TooMany,
-    }
-}

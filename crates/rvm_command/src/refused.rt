@@ -1,6 +1,11 @@
-//! A refusal that may stand at a line.
+//! Why a command was refused, as it is told.
 
+use crate::run::LinkFault;
+use rvm_asm::AsmError;
+use rvm_elf::{ReadError, WriteError};
+use rvm_line::Fault;
 use rvm_refusal::Refusal;
+use rvm_script::ScriptError;
 use std::fmt;
 
 /// Why a command was refused, and at which line of its text, counted from 1, if at one.
@@ -12,6 +17,11 @@ pub(crate) struct Refused {
 
 /// `line L: refused N NAME`, or `refused N NAME`.
 impl fmt::Display for Refused {
+    ghost use Rattle.std.specs.Prelude.{Some};
+    ghost use Rattle.rvm_command.specs.Command.{refused_text};
+
+    ghost output = { λ r. Some (refused_text r) };
+
     fn fmt<W: fmt::Write>(&self, f: &mut fmt::Formatter<W>) -> fmt::Result {
         let refusal = self.refusal;
         match self.line {
@@ -21,12 +31,81 @@ impl fmt::Display for Refused {
     }
 }
 
-impl Refused {
-    /// A refusal at no line.
-    pub(crate) fn of(refusal: Refusal) -> Refused {
+/// A refusal at no line.
+impl From<Refusal> for Refused {
+    fn from(refusal: Refusal) -> Refused {
         Refused {
             line: None,
             refusal,
         }
+    }
+}
+
+/// A write failed.
+impl From<LinkFault> for Refused {
+    fn from(_fault: LinkFault) -> Refused {
+        Refused::from(Refusal::LinkFault)
+    }
+}
+
+/// A file has no image.
+impl From<ReadError> for Refused {
+    fn from(error: ReadError) -> Refused {
+        Refused::from(match error {
+            ReadError::OutOfMemory => Refusal::OutOfMemory,
+            ReadError::BadMagic => Refusal::BadMagic,
+            ReadError::NotRiscV32 => Refusal::NotRiscV32,
+            ReadError::Truncated => Refusal::Truncated,
+            ReadError::TooMany => Refusal::TooMany,
+        })
+    }
+}
+
+/// No file can hold an image.
+impl From<WriteError> for Refused {
+    fn from(error: WriteError) -> Refused {
+        Refused::from(match error {
+            WriteError::OutOfMemory => Refusal::OutOfMemory,
+            WriteError::TooMany => Refusal::TooMany,
+            WriteError::OutOfReach => Refusal::OutOfReach,
+        })
+    }
+}
+
+/// A text has no assembly, mostly for a line of it.
+impl From<AsmError> for Refused {
+    fn from(error: AsmError) -> Refused {
+        match error {
+            AsmError::OutOfMemory => Refused::from(Refusal::OutOfMemory),
+            AsmError::Line(line, fault) => Refused {
+                line: Some(line),
+                refusal: of_fault(fault),
+            },
+        }
+    }
+}
+
+/// A script ended before its end, perhaps at a line of it.
+impl From<ScriptError> for Refused {
+    fn from(error: ScriptError) -> Refused {
+        let line = match error {
+            ScriptError::BadToken(line) => Some(line),
+            _ => None,
+        };
+        Refused {
+            line,
+            refusal: Refusal::from(error),
+        }
+    }
+}
+
+/// The refusal of a fault of a line.
+fn of_fault(fault: Fault) -> Refusal {
+    match fault {
+        Fault::BadToken => Refusal::BadToken,
+        Fault::UnknownName => Refusal::UnknownName,
+        Fault::OutOfReach => Refusal::OutOfReach,
+        Fault::Defined => Refusal::Defined,
+        Fault::Overlap => Refusal::Overlap,
     }
 }

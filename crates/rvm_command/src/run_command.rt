@@ -7,7 +7,8 @@ ghost use Rattle.rvm_elf.specs.Load.{fits};
 ghost use Rattle.rvm_command.specs.Command.{end_text, image_of, run_of};
 
 use crate::arguments::RunArguments;
-use crate::guest::{new_guest, read_file, refusal_of};
+use crate::guest::{new_guest, read_file};
+use crate::refused::Refused;
 use crate::run::{Ended, run};
 use rvm_refusal::Refusal;
 use std::alloc::Global;
@@ -59,9 +60,9 @@ pub fn run_command<O: Write, E: Write>(
             if writeln!(errors, "{ended}").is_ok() {
                 return 0;
             }
-            Refusal::LinkFault
+            Refused::from(Refusal::LinkFault)
         }
-        Err(refusal) => refusal,
+        Err(refused) => refused,
     };
     let _ = writeln!(errors, "{told}");
     1
@@ -74,7 +75,7 @@ fn run_image<O: Write>(
     image: &[u8],
     input: &[u8],
     output: &mut O,
-) -> Result<Ended, Refusal>
+) -> Result<Ended, Refused>
     ensures image { OnOk result (IsOk (image_of arguments.now.guest.raw image.now)) }
     ensures written { OnOk result (IfOk (image_of arguments.now.guest.raw image.now) (λ i.
         Appends (O.contents output.old) (O.contents output.new)
@@ -89,18 +90,12 @@ fn run_image<O: Write>(
         fits i.0 i.1 (4096 * arguments.now.guest.pages) ≡ false
         → O.contents output.new ≡ O.contents output.old) }
 {
-    let program = match read_file(alloc, arguments.guest.raw, image) {
-        Ok(program) => program,
-        Err(error) => return Err(refusal_of(error)),
-    };
+    let program = read_file(alloc, arguments.guest.raw, image)?;
     let mut guest = new_guest(
         alloc,
         arguments.guest.harts,
         arguments.guest.pages,
         &program,
     )?;
-    match run(&mut guest, arguments.steps, input, output) {
-        Ok(ended) => Ok(ended),
-        Err(_) => Err(Refusal::LinkFault),
-    }
+    Ok(run(&mut guest, arguments.steps, input, output)?)
 }
