@@ -1,19 +1,69 @@
-//! Boards that run programs, and what they send.
+//! Boards that run guests, which are assembly texts, and what the guests leave behind.
 
-use crate::program::{MCAUSE, MCYCLE, MEPC, MINSTRET, MSTATUS, MTIME, MTVAL, Program, a1, a2, a3};
+use rvm_asm::assemble;
 use rvm_board::Board;
+use rvm_elf::load;
 use rvm_hart::{RAM_BASE, Stepped};
-use rvm_mem::{FlatMemory, Memory, OutOfRange, PAGE_SIZE, PagedMemory, write_bytes};
+use rvm_image::Image;
+use rvm_mem::{FlatMemory, Memory, PagedMemory};
 use rvm_paged::PagedRam;
 use std::alloc::{AllocError, Global};
 use std::process::Abort;
 use std::test::Fail;
 
-/// Where the handler of traps stands: the second page of RAM.
-pub const HANDLER: u32 = 0x8000_1000;
+/// What each guest's text begins with: the names of the devices' words, the place of the handler of
+/// traps, which is the second page of RAM, and the place of data, which is the third. A fault's line
+/// is counted from its first.
+const NAMES: &str = "
+.equ halt, 0x00100000
+.equ msip, 0x02000000
+.equ mtimecmp, 0x02004000
+.equ mtime, 0x0200BFF8
+.equ console, 0x10000000
+.equ handler, 0x80001000
+.equ data, 0x80002000
+";
 
-/// Where programs keep data: the third page.
-pub const DATA: u32 = 0x8000_2000;
+/// Halts the board with status 0.
+pub const HALT: &str = "
+    li t6, halt
+    sw zero, 0(t6)
+";
+
+/// Traps lead to the handler from here on, by three instructions: `la` is always two.
+pub const HANDLED: &str = "
+    la t0, handler
+    csrw mtvec, t0
+";
+
+/// A handler that keeps minstret, mcycle and mtime as the trap left them, and then mcause, mepc,
+/// mtval and mstatus, in a1 to a7.
+pub const REPORT: &str = "
+.org handler
+    csrr a1, minstret
+    csrr a2, mcycle
+    li a3, mtime                # two instructions
+    lw a3, 0(a3)
+    addi a2, a2, -1
+    addi a3, a3, -4
+    csrr a4, mcause
+    csrr a5, mepc
+    csrr a6, mtval
+    csrr a7, mstatus
+    li t6, halt
+    sw zero, 0(t6)
+";
+
+// The numbers of registers, by their names in the calling convention.
+pub const T0: usize = 5;
+
+pub const T1: usize = 6;
+
+pub const T2: usize = 7;
+
+pub const A1: usize = 11;
+
+pub const A2: usize = 12;
 
 /// The first address past RAM.
 pub const RAM_END: u32 = 0x8000_4000;
@@ -23,40 +73,36 @@ const PAGES: u32 = 4;
 /// No guest of these tests makes more steps.
 const MOST_STEPS: u32 = 100_000;
 
-/// A board at reset, with a program at the start of RAM and a handler of traps.
-pub fn board(
-    alloc: Global,
-    harts: u32,
-    program: &Program,
-    handler: &Program,
-) -> Result<Board<FlatMemory>, Fail> {
-    board_over(alloc, harts, program, handler)
+/// A board at reset, with a guest in RAM.
+pub fn board(alloc: Global, harts: u32, text: &str) -> Result<Board<FlatMemory>, Fail> {
+    board_over(alloc, harts, text)
 }
 
 /// The same over any memory.
 pub fn board_over<M: PagedMemory + Drop>(
     alloc: Global,
     harts: u32,
-    program: &Program,
-    handler: &Program,
+    text: &str,
 ) -> Result<Board<M>, Fail> {
-    let mut ram = M::zeroed(alloc, PAGES)?;
-    place(&mut ram, 0, program)?;
-    place(&mut ram, PAGE_SIZE, handler)?;
-    match Board::new(alloc, harts, ram, RAM_BASE) {
-        Ok(board) => Ok(board),
-        Err((error, _)) => Err(Fail::from(error)),
-    }
+    let named = format!(in alloc; "{NAMES}{text}")?;
+    let image = assemble(alloc, named.as_str())?;
+    board_with(alloc, harts, &image)
 }
 
-/// Writes the words of a program into memory.
-fn place<M: Memory>(ram: &mut M, first: u32, program: &Program) -> Result<(), OutOfRange> {
-    let mut at = first;
-    for word in program.words() {
-        write_bytes(ram, at, &word.to_le_bytes())?;
-        at = at.wrapping_add(4);
+/// A board at reset over any memory, with an image in RAM.
+pub fn board_with<M: PagedMemory + Drop>(
+    alloc: Global,
+    harts: u32,
+    image: &Image,
+) -> Result<Board<M>, Fail> {
+    let ram = M::zeroed(alloc, PAGES)?;
+    match Board::new(alloc, harts, ram, RAM_BASE) {
+        Ok(mut board) => {
+            load(image, &mut board)?;
+            Ok(board)
+        }
+        Err((error, _)) => Err(Fail::from(error)),
     }
-    Ok(())
 }
 
 /// One step of a hart that the board has.
@@ -89,57 +135,39 @@ pub fn drained<M: Memory>(alloc: Global, board: &mut Board<M>) -> Result<Vec<u8>
     Ok(bytes)
 }
 
-/// Steps a hart until it halts the board, and answers the words that the guest sent.
-pub fn sent<M: Memory>(
+/// Steps a hart until it halts the board with status 0, and answers its registers.
+pub fn registers_at_halt<M: Memory>(rt: &impl Abort, board: &mut Board<M>, hart: u32) -> [u32; 32] {
+    assert_eq!(rt; halt_of(rt, board, hart), Some(0));
+    assert!(rt; hart < board.harts());
+    *board.registers(hart)
+}
+
+/// The registers with which a guest of one hart halts, over each kind of memory alike.
+pub fn registers_after(rt: &impl Abort, alloc: Global, text: &str) -> Result<[u32; 32], Fail> {
+    let registers = registers_over::<FlatMemory>(rt, alloc, text)?;
+    let paged = registers_over::<PagedRam>(rt, alloc, text)?;
+    assert_eq!(rt; paged, registers);
+    Ok(registers)
+}
+
+/// The registers with which a guest of one hart halts over one kind of memory.
+fn registers_over<M: PagedMemory + Drop>(
     rt: &impl Abort,
     alloc: Global,
+    text: &str,
+) -> Result<[u32; 32], Fail> {
+    let mut board: Board<M> = board_over(alloc, 1, text)?;
+    Ok(registers_at_halt(rt, &mut board, 0))
+}
+
+/// A hart halts the board in `REPORT`, which found minstret, mcycle, mtime, mcause, mepc, mtval and
+/// mstatus so.
+pub fn assert_reported<M: Memory>(
+    rt: &impl Abort,
     board: &mut Board<M>,
     hart: u32,
-) -> Result<Vec<u32>, AllocError> {
-    assert_eq!(rt; halt_of(rt, board, hart), Some(0));
-    let bytes = drained(alloc, board)?;
-    let mut words = Vec::new(alloc);
-    let mut word = 0;
-    for (place, byte) in bytes.iter().enumerate() {
-        word = word >> 8 | u32::from(*byte) << 24;
-        if place % 4 == 3 {
-            words.push(word)?;
-        }
-    }
-    Ok(words)
-}
-
-/// The words that a program of hart 0 sends, over each kind of memory alike.
-pub fn sent_by(rt: &impl Abort, alloc: Global, program: &Program) -> Result<Vec<u32>, Fail> {
-    let words = sent_over::<FlatMemory>(rt, alloc, program)?;
-    let paged = sent_over::<PagedRam>(rt, alloc, program)?;
-    assert_eq!(rt; paged.as_slice(), words.as_slice());
-    Ok(words)
-}
-
-/// The words that a program of hart 0 sends over one kind of memory.
-fn sent_over<M: PagedMemory + Drop>(
-    rt: &impl Abort,
-    alloc: Global,
-    program: &Program,
-) -> Result<Vec<u32>, Fail> {
-    let mut board: Board<M> = board_over(alloc, 1, program, &Program::new(alloc))?;
-    Ok(sent(rt, alloc, &mut board, 0)?)
-}
-
-/// A handler that sends minstret, mcycle and mtime as the trap left them, and then mcause, mepc,
-/// mtval and mstatus.
-pub fn report(alloc: Global) -> Result<Program, AllocError> {
-    let counters = Program::new(alloc)
-        .csrr(a1(), MINSTRET)?
-        .csrr(a2(), MCYCLE)?
-        .li(a3(), MTIME)?
-        .lw(a3(), a3(), 0)?
-        .addi(a2(), a2(), -1)?
-        .addi(a3(), a3(), -4)?;
-    let mut program = counters.send(a1())?.send(a2())?.send(a3())?;
-    for csr in [MCAUSE, MEPC, MTVAL, MSTATUS] {
-        program = program.csrr(a1(), csr)?.send(a1())?;
-    }
-    program.halt()
+    want: [u32; 7],
+) {
+    let registers = registers_at_halt(rt, board, hart);
+    assert_eq!(rt; &registers[A1..A1 + 7], want.as_slice());
 }

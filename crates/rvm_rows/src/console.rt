@@ -1,23 +1,48 @@
 //! The console: bytes in and out, in order, and what happens where there is no room. And halting.
 
-use crate::bench::{board, drained, halt_of, retire, sent, step};
-use crate::program::{CONSOLE, HALT, Program, a1, a2, t0, t1, t2, zero};
+use crate::bench::{A1, A2, T1, T2, board, drained, halt_of, registers_at_halt, retire, step};
 use rvm_dev::{Devices, InputFull};
 use rvm_hart::Stepped;
-use rvm_isa::Off13;
-use std::alloc::{AllocError, Global};
 use std::test::Fail;
 
 /// How many bytes the console keeps for the host.
 const ROOM: usize = 4096;
 
+/// Transmits 4097 bytes, 0, 1, 2 and so on; then looks at the status and clears it, and sends what
+/// it saw.
+const OVERRUN: &str = "
+    li t0, console
+    li t1, 4097                 # two instructions
+    li t2, 0
+next:
+    sw t2, 0(t0)
+    addi t2, t2, 1
+    addi t1, t1, -1
+    bnez t1, next
+
+    lw t1, 8(t0)
+    li t2, 3
+    sw t2, 8(t0)
+    lw t2, 8(t0)
+    li a1, 4
+    sw a1, 8(t0)
+    lw a1, 8(t0)
+
+    lw a2, 8(t0)                # here the host has taken the bytes
+    sw t1, 0(t0)
+    sw t2, 0(t0)
+    sw a1, 0(t0)
+    sw a2, 0(t0)
+    li t6, halt
+    sw zero, 0(t6)
+";
+
 #[test]
 fn a_byte_without_room_is_dropped(rt: HostRuntime) -> Result<(), Fail> {
     let alloc = rt.alloc();
-    let program = overrun(alloc)?;
-    let mut board = board(alloc, 1, &program, &Program::new(alloc))?;
-    // Six instructions set out, four make a turn, and seven look at the status.
-    retire(&rt, &mut board, 0, 6 + 4 * (ROOM + 1) + 7);
+    let mut board = board(alloc, 1, OVERRUN)?;
+    // Four instructions set out, four make a turn, and seven look at the status.
+    retire(&rt, &mut board, 0, 4 + 4 * (ROOM + 1) + 7);
     let mut bytes = [0; 1000];
     assert_eq!(rt; board.drain(&mut bytes), 1000);
     let rest = drained(alloc, &mut board)?;
@@ -26,41 +51,35 @@ fn a_byte_without_room_is_dropped(rt: HostRuntime) -> Result<(), Fail> {
         assert_eq!(rt; usize::from(*byte), place % 256, "byte {place}");
     }
     // Overrun, the same after a store without bit 2, nothing after one with it, and room again.
-    let told = [4, 4, 0, 2];
-    let words = sent(&rt, alloc, &mut board, 0)?;
-    assert_eq!(rt; words.as_slice(), told.as_slice());
+    let registers = registers_at_halt(&rt, &mut board, 0);
+    let told = [registers[T1], registers[T2], registers[A1], registers[A2]];
+    assert_eq!(rt; told, [4, 4, 0, 2]);
+    let bytes = drained(alloc, &mut board)?;
+    assert_eq!(rt; bytes.as_slice(), [4, 4, 0, 2].as_slice());
     Ok(())
 }
 
-/// Transmits 4097 bytes, 0, 1, 2 and so on, and then looks at the status and clears it.
-fn overrun(alloc: Global) -> Result<Program, AllocError> {
-    let begun = Program::new(alloc)
-        .li(t0(), CONSOLE)?
-        .li(t1(), 4097)?
-        .li(t2(), 0)?;
-    let turn = begun
-        .sw(t2(), t0(), 0)?
-        .addi(t2(), t2(), 1)?
-        .addi(t1(), t1(), -1)?;
-    let looped = turn.bnez(t1(), Off13::new(-12))?;
-    let kept = looped
-        .lw(t1(), t0(), 8)?
-        .addi(t2(), zero(), 3)?
-        .sw(t2(), t0(), 8)?;
-    let cleared = kept
-        .lw(t2(), t0(), 8)?
-        .addi(a1(), zero(), 4)?
-        .sw(a1(), t0(), 8)?;
-    let seen = cleared.lw(a1(), t0(), 8)?;
-    let told = seen.lw(a2(), t0(), 8)?.send(t1())?.send(t2())?.send(a1())?;
-    told.send(a2())?.halt()
-}
+/// Sends the low byte of the status, of seventeen reads of the receive word, and of the status.
+const ECHO: &str = "
+    li t0, console
+    lw t1, 8(t0)
+    sw t1, 0(t0)
+    li t2, 17
+next:
+    lw t1, 4(t0)
+    sw t1, 0(t0)
+    addi t2, t2, -1
+    bnez t2, next
+    lw t1, 8(t0)
+    sw t1, 0(t0)
+    li t6, halt
+    sw zero, 0(t6)
+";
 
 #[test]
 fn input_comes_in_order(rt: HostRuntime) -> Result<(), Fail> {
     let alloc = rt.alloc();
-    let program = echo(alloc)?;
-    let mut board = board(alloc, 1, &program, &Program::new(alloc))?;
+    let mut board = board(alloc, 1, ECHO)?;
     for byte in b"sixteen letters." {
         board.input(*byte)?;
     }
@@ -73,26 +92,19 @@ fn input_comes_in_order(rt: HostRuntime) -> Result<(), Fail> {
     Ok(())
 }
 
-/// Sends the low byte of the status, of seventeen reads of the receive word, and of the status.
-fn echo(alloc: Global) -> Result<Program, AllocError> {
-    let mut program = Program::new(alloc).li(t0(), CONSOLE)?;
-    program = program.lw(t1(), t0(), 8)?.sw(t1(), t0(), 0)?;
-    for _ in 0..17 {
-        program = program.lw(t1(), t0(), 4)?.sw(t1(), t0(), 0)?;
-    }
-    program.lw(t1(), t0(), 8)?.sw(t1(), t0(), 0)?.halt()
-}
+/// Halts in its third step, and would then send a byte.
+const HALTING: &str = "
+    li t0, halt
+    li t1, 0x1A5
+    sw t1, 0(t0)
+    li t0, console
+    sw t1, 0(t0)
+";
 
 #[test]
 fn a_halted_board_stays_halted(rt: HostRuntime) -> Result<(), Fail> {
-    let alloc = rt.alloc();
-    let halting = Program::new(alloc)
-        .li(t0(), HALT)?
-        .li(t1(), 0x1A5)?
-        .sw(t1(), t0(), 0)?;
-    let program = halting.li(t0(), CONSOLE)?.sw(t1(), t0(), 0)?;
-    let mut board = board(alloc, 2, &program, &Program::new(alloc))?;
-    retire(&rt, &mut board, 0, 4);
+    let mut board = board(rt.alloc(), 2, HALTING)?;
+    retire(&rt, &mut board, 0, 2);
     for hart in [0, 0, 0, 0, 0, 1, 1] {
         assert_eq!(rt; step(&rt, &mut board, hart), Stepped::Halted(0xA5));
     }

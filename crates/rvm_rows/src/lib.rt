@@ -2,10 +2,10 @@
 //! the RISC-V manuals, that each call can succeed, and what the program prints.
 //!
 //! Stands on the libraries. What it expects comes from the manuals, from their tests and from the
-//! GNU assembler, never from this program. Guests tell what they see as guests do: they send it to
-//! the console.
+//! GNU assembler, never from this program. Guests are assembly texts, and leave what they see in
+//! registers, or send it to the console.
 //!
-//! To be read in this order: `program` and `bench`, which make guests and run them; then `words`,
+//! To be read in this order: `bench`, which puts guests into boards and runs them; then `words`,
 //! `rows`, `memory`, `instructions`, `traps`, `registers`, `interrupts`, `atomics`, `console`,
 //! `running`, `assembling`, `debugging`, `command_line`; last `worked`.
 #![tactic(auto)]
@@ -28,8 +28,6 @@ mod instructions;
 mod interrupts;
 #[cfg(test)]
 mod memory;
-#[cfg(test)]
-mod program;
 #[cfg(test)]
 mod registers;
 #[cfg(test)]

@@ -1,21 +1,21 @@
 //! Control and status registers: what each keeps, and how the counters count.
 
-use crate::bench::{board, sent, sent_by};
-use crate::program::{MCYCLE, MHARTID, MINSTRET, MSCRATCH, MTIME, Program, t0, t1, t2};
-use rvm_isa::{CsrNo, Imm5, Ins};
+use crate::bench::{HALT, T1, T2, board, registers_after, registers_at_halt};
 use std::test::Fail;
 
 #[test]
 fn registers_keep_the_bits_of_the_profile(rt: HostRuntime) -> Result<(), Fail> {
     let alloc = rt.alloc();
     for (number, want) in kept_of_all_ones() {
-        assert!(rt; number < 4096);
-        let written = Program::new(alloc)
-            .li(t0(), 0xFFFF_FFFF)?
-            .csrw(number, t0())?;
-        let program = written.csrr(t1(), number)?.send(t1())?.halt()?;
-        let words = sent_by(&rt, alloc, &program)?;
-        assert_eq!(rt; words.as_slice(), [want].as_slice(), "register {number:#x}");
+        let text = format!(in alloc;
+            "
+            li t0, -1
+            csrw {number:#x}, t0
+            csrr t1, {number:#x}
+            {HALT}"
+        )?;
+        let registers = registers_after(&rt, alloc, text.as_str())?;
+        assert_eq!(rt; registers[T1], want, "register {number:#x}");
     }
     Ok(())
 }
@@ -48,23 +48,32 @@ fn kept_of_all_ones() -> [(u32, u32); 17] {
 #[test]
 fn identity_registers_are_zero(rt: HostRuntime) -> Result<(), Fail> {
     let alloc = rt.alloc();
-    for number in [0xF11, 0xF12, 0xF13, 0xF15] {
-        let read = Program::new(alloc).li(t1(), 1)?.csrr(t1(), number)?;
-        let words = sent_by(&rt, alloc, &read.send(t1())?.halt()?)?;
-        assert_eq!(rt; words.as_slice(), [0].as_slice(), "register {number:#x}");
+    let numbers: [u32; 4] = [0xF11, 0xF12, 0xF13, 0xF15];
+    for number in numbers {
+        let text = format!(in alloc;
+            "
+            li t1, 1
+            csrr t1, {number:#x}
+            {HALT}"
+        )?;
+        let registers = registers_after(&rt, alloc, text.as_str())?;
+        assert_eq!(rt; registers[T1], 0, "register {number:#x}");
     }
     Ok(())
 }
 
+const NUMBERED: &str = "
+    csrr t1, mhartid
+    li t6, halt
+    sw zero, 0(t6)
+";
+
 #[test]
 fn each_hart_reads_its_number(rt: HostRuntime) -> Result<(), Fail> {
-    let alloc = rt.alloc();
-    let read = Program::new(alloc).csrr(t1(), MHARTID)?;
-    let program = read.send(t1())?.halt()?;
     for hart in 0..8 {
-        let mut board = board(alloc, 8, &program, &Program::new(alloc))?;
-        let words = sent(&rt, alloc, &mut board, hart)?;
-        assert_eq!(rt; words.as_slice(), [hart].as_slice());
+        let mut board = board(rt.alloc(), 8, NUMBERED)?;
+        let registers = registers_at_halt(&rt, &mut board, hart);
+        assert_eq!(rt; registers[T1], hart);
     }
     Ok(())
 }
@@ -72,47 +81,66 @@ fn each_hart_reads_its_number(rt: HostRuntime) -> Result<(), Fail> {
 #[test]
 fn csr_instructions_give_the_old_value(rt: HostRuntime) -> Result<(), Fail> {
     let alloc = rt.alloc();
-    for (ins, want) in changes_of_mscratch() {
-        let filled = Program::new(alloc).li(t0(), 12)?.csrw(MSCRATCH, t0())?;
-        let changed = filled.li(t0(), 10)?.ins(ins)?.csrr(t1(), MSCRATCH)?;
-        let program = changed.send(t2())?.send(t1())?.halt()?;
-        let words = sent_by(&rt, alloc, &program)?;
-        assert_eq!(rt; words.as_slice(), [12, want].as_slice());
+    // A change of mscratch from 12 by 10, and what it holds then.
+    let cases = [
+        ("csrrw t2, mscratch, t0", 10),
+        ("csrrs t2, mscratch, t0", 14),
+        ("csrrc t2, mscratch, t0", 4),
+        ("csrrwi t2, mscratch, 10", 10),
+        ("csrrsi t2, mscratch, 10", 14),
+        ("csrrci t2, mscratch, 10", 4),
+    ];
+    for (ins, want) in cases {
+        let text = format!(in alloc;
+            "
+            li t0, 12
+            csrw mscratch, t0
+            li t0, 10
+            {ins}
+            csrr t1, mscratch
+            {HALT}"
+        )?;
+        let registers = registers_after(&rt, alloc, text.as_str())?;
+        assert_eq!(rt; [registers[T2], registers[T1]], [12, want], "{ins}");
     }
     Ok(())
 }
 
-/// A change of mscratch from 12 by 10, and what it holds then.
-fn changes_of_mscratch() -> [(Ins, u32); 6] {
-    let (rd, rs1, imm) = (t2(), t0(), Imm5::new(10));
-    let csr = CsrNo::new(MSCRATCH);
-    [
-        (Ins::Csrrw { rd, rs1, csr }, 10),
-        (Ins::Csrrs { rd, rs1, csr }, 14),
-        (Ins::Csrrc { rd, rs1, csr }, 4),
-        (Ins::Csrrwi { rd, imm, csr }, 10),
-        (Ins::Csrrsi { rd, imm, csr }, 14),
-        (Ins::Csrrci { rd, imm, csr }, 4),
-    ]
-}
+// Each writes all ones into the low half of a counter; t1 gets the low half, and t2 the high one.
+const CYCLES: &str = "
+    li t0, -1
+    csrw mcycle, t0
+    csrr t1, mcycle
+    csrr t2, mcycleh
+";
+
+const RETIRED: &str = "
+    li t0, -1
+    csrw minstret, t0
+    csrr t1, minstret
+    csrr t2, minstreth
+";
+
+const TIME: &str = "
+    li t0, mtime
+    li t1, -1
+    sw t1, 0(t0)
+    lw t1, 0(t0)
+    lw t2, 4(t0)
+";
 
 #[test]
 fn a_written_counter_counts_from_the_next_step(rt: HostRuntime) -> Result<(), Fail> {
     let alloc = rt.alloc();
-    // The low half as written, and then the carry in the high half.
-    let want = [0xFFFF_FFFF, 1];
-    for (low, high) in [(MCYCLE, 0xB80), (MINSTRET, 0xB82)] {
-        let written = Program::new(alloc).li(t0(), 0xFFFF_FFFF)?.csrw(low, t0())?;
-        let read = written.csrr(t1(), low)?.csrr(t2(), high)?;
-        let words = sent_by(&rt, alloc, &read.send(t1())?.send(t2())?.halt()?)?;
-        assert_eq!(rt; words.as_slice(), want.as_slice());
+    for counter in [CYCLES, RETIRED, TIME] {
+        let text = format!(in alloc; "{counter}{HALT}")?;
+        let registers = registers_after(&rt, alloc, text.as_str())?;
+        // The low half as written, and then the carry in the high half.
+        assert_eq!(rt;
+            [registers[T1], registers[T2]],
+            [0xFFFF_FFFF, 1],
+            "{counter}"
+        );
     }
-    let written = Program::new(alloc).li(t0(), MTIME)?.li(t1(), 0xFFFF_FFFF)?;
-    let read = written
-        .sw(t1(), t0(), 0)?
-        .lw(t1(), t0(), 0)?
-        .lw(t2(), t0(), 4)?;
-    let words = sent_by(&rt, alloc, &read.send(t1())?.send(t2())?.halt()?)?;
-    assert_eq!(rt; words.as_slice(), want.as_slice());
     Ok(())
 }

@@ -1,11 +1,17 @@
 //! The instruction table, against words that the GNU assembler made.
 
-use crate::program::atomic;
 use rvm_isa::decode::decode;
 use rvm_isa::encode::encode;
 use rvm_isa::{CsrNo, Imm5, Imm12, Imm20, Ins, Off13, Off21, Reg, Shamt};
 use std::alloc::{AllocError, Global};
 use std::process::Abort;
+
+/// An atomic instruction with two sources, without an order of accesses.
+macro_rules! atomic {
+    ($row:ident, $rd:expr, $rs1:expr, $rs2:expr) => {
+        Ins::$row { rd: $rd, rs1: $rs1, rs2: $rs2, aq: false, rl: false }
+    };
+}
 
 /// A word and its instruction.
 type Row = (u32, Ins);

@@ -1,12 +1,12 @@
 //! Worked cases of the board, each over both kinds of memory: what a debugger's script answers, and
 //! what the harts hold behind it. The words are those of LLVM's assembler.
 
-use crate::bench::board_over;
+use crate::bench::board_with;
 use crate::debugging::LOOP;
-use crate::program::Program;
-use crate::running::HI;
+use crate::running::{HI, bytes_of};
 use rvm_csr::Exception;
 use rvm_debug::Debugged;
+use rvm_elf::raw_image;
 use rvm_hart::Stepped;
 use rvm_mem::{FlatMemory, Memory, PagedMemory};
 use rvm_paged::PagedRam;
@@ -230,9 +230,8 @@ fn debugged<M: PagedMemory + Drop>(
     harts: u32,
     words: &[u32],
 ) -> Result<Debugged<M>, Fail> {
-    let program = Program::new(alloc).all(words)?;
-    let board = board_over(alloc, harts, &program, &Program::new(alloc))?;
-    Ok(Debugged::new(board))
+    let image = raw_image(alloc, &bytes_of(alloc, words)?)?;
+    Ok(Debugged::new(board_with(alloc, harts, &image)?))
 }
 
 /// What a hart that is there holds in a register from x1 on.
