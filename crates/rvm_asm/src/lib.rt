@@ -9,8 +9,8 @@
 
 mod assembler;
 mod error;
-mod layout;
 pub mod laws;
+mod layout;
 mod placing;
 mod segments;
 

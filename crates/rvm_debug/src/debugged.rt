@@ -183,6 +183,7 @@ impl<M: Memory> Debugged<M> {
 
     /// Whether a hart of a board that is not halted stops instead of its next step; then it stands
     /// at its breakpoint, and else at none.
+    #[cold]
     #[inline(never)]
     fn stop(&mut self, hart: u32) -> bool
         requires { hart < length self.old.guest.board.harts }

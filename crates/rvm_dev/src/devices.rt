@@ -75,6 +75,7 @@ impl Devices {
 
     /// The word at an aligned address, if a device has one there; a load of the receive word takes
     /// the oldest input byte.
+    #[cold]
     #[inline(never)]
     pub fn load(&mut self, address: u32) -> Option<u32>
         ensures value { result ≡ value_loaded address self.old }
@@ -85,6 +86,7 @@ impl Devices {
     }
 
     /// Stores a word at an aligned address; None, and nothing changes, where no device has one.
+    #[cold]
     #[inline(never)]
     pub fn store(&mut self, address: u32, value: u32) -> Option<()>
         ensures devices { self.new ≡ unwrap_or (stored address value self.old) self.old }

@@ -335,6 +335,7 @@ impl<M: Memory> Bus<M> {
     }
 
     /// Stores a word of a device.
+    #[cold]
     #[inline(never)]
     fn store_device(&mut self, address: u32, value: u32) -> Option<Written>
         ensures bus { self.new ≡ left_by (device_stored address value self.old.reach) self.old }

@@ -85,6 +85,7 @@ impl Hart {
     }
 
     /// Ends the step of an instruction that wrote a counter or the halt word.
+    #[cold]
     #[inline(never)]
     fn retire_after<M: Memory>(&mut self, written: Written, bus: &mut Bus<M>) -> Stepped
         ensures machine { machine self.new bus.new
@@ -104,6 +105,7 @@ impl Hart {
     }
 
     /// Enters a trap, and ends the step.
+    #[cold]
     #[inline(never)]
     fn enter<M: Memory>(&mut self, cause: Cause, value: u32, bus: &mut Bus<M>)
         ensures machine { machine self.new bus.new

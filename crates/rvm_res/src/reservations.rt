@@ -120,6 +120,7 @@ impl Reservations {
     }
 
     /// What a store does where a reservation is held.
+    #[cold]
     #[inline(never)]
     fn end_others(&mut self, hart: usize, address: u32)
         requires { hart < length self.old }
