@@ -1,23 +1,24 @@
 #!/usr/bin/env python3
 """Measures `rvmove run` against the plain C interpreter beside this file: million instructions a
-second of processor time of both, and the ratio, from the best of several alternating runs; and
-`rvm_bench`, which has two memories in one program, over each of them. Wants gcc and what `make
-bench` builds. More guests may be named: `bench.py NAME=IMAGE:HARTS:STEPS ..`."""
+second of processor time of both, and their ratio, by the best and by the median of many short runs
+that alternate; and `rvm_bench`, which has two memories in one program, over each of them. Wants gcc
+and what `make bench` builds. More guests may be named: `bench.py NAME=IMAGE:HARTS:STEPS ..`."""
 import os
 import resource
+import statistics
 import struct
 import subprocess
 import sys
 
 HERE = os.path.dirname(os.path.abspath(__file__))
 BUILD = os.path.join(HERE, "..", "build")
-RUNS = 5
+RUNS = 15
 
-# Counts x6 down from 20,000,000 and the word at 0x80001000 up, then halts: 100,000,005 steps.
+# Counts x6 down from 4,000,000 and the word at 0x80001000 up, then halts: 20,000,005 steps.
 LOOP = [
     0x800012B7,  # lui  t0, 0x80001
-    0x01313337,  # lui  t1, 0x1313
-    0xD0030313,  # addi t1, t1, -0x300
+    0x003D1337,  # lui  t1, 0x3D1
+    0x90030313,  # addi t1, t1, -0x700
     0x0002A383,  # lw   t2, 0(t0)
     0x00138393,  # addi t2, t2, 1
     0x0072A023,  # sw   t2, 0(t0)
@@ -47,7 +48,12 @@ def compare(name, interpreter, program, words, command=None):
         plain.append(seconds([interpreter, "run", *words]))
         proved.append(seconds(command or [program, "run", *words]))
     c, r = steps / min(plain) / 1e6, steps / min(proved) / 1e6
-    print(f"{name:13} {steps:11} steps   C {c:7.1f}   rvmove {r:7.1f}   ratio {r / c:5.2f}")
+    median = statistics.median(plain) / statistics.median(proved)
+    print(
+        f"{name:13} {steps:11} steps   C {c:7.1f}   rvmove {r:7.1f}   ratio {r / c:5.2f}"
+        f"   of medians {median:5.2f}",
+        flush=True,
+    )
 
 
 def main():
@@ -58,13 +64,13 @@ def main():
     loop = os.path.join(BUILD, "loop.bin")
     with open(loop, "wb") as file:
         file.write(b"".join(struct.pack("<I", word) for word in LOOP))
-    print("million instructions a second of processor time, best of", RUNS, "alternating runs")
+    print("million instructions a second of processor time, best of", RUNS, "runs that alternate")
     compare("loop, 1 hart", interpreter, program, [loop, "--raw", "--steps", "1000000000"])
     for memory in ("flat", "paged"):
         command = [os.path.join(BUILD, "rvm_bench"), loop, "1", memory]
         words = [loop, "--raw", "--steps", "1000000000"]
         compare(f"loop, {memory}", interpreter, program, words, command)
-    compare("loop, 4 harts", interpreter, program, [loop, "--raw", "--harts", "4", "--steps", "100000000"])
+    compare("loop, 4 harts", interpreter, program, [loop, "--raw", "--harts", "4", "--steps", "20000000"])
     for guest in sys.argv[1:]:
         name, rest = guest.split("=")
         image, harts, steps = rest.split(":")
