@@ -81,7 +81,6 @@ fn other_words_have_no_row(rt: HostRuntime) {
     }
 }
 
-/// Each word has its instruction, and the instruction has the word.
 /// The words of all rows.
 pub fn each_word(alloc: Global) -> Result<Vec<u32>, AllocError> {
     let mut words = Vec::new(alloc);
@@ -104,6 +103,7 @@ fn add_words(words: &mut Vec<u32>, rows: &[Row]) -> Result<(), AllocError> {
     Ok(())
 }
 
+/// Each word has its instruction, and the instruction has the word.
 fn assert_rows(rt: &impl Abort, rows: &[Row]) {
     for (word, ins) in rows {
         assert!(rt; decode(*word) == Some(*ins), "{word:#x}");
