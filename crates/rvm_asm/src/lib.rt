@@ -17,6 +17,3 @@ mod segments;
 pub use assembler::assemble;
 pub use error::AsmError;
 pub use rvm_image::{Image, Segment};
-
-#[cfg(test)]
-mod tests;

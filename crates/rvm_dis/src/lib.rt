@@ -10,8 +10,6 @@ pub mod laws;
 mod line;
 mod rows;
 mod shapes;
-#[cfg(test)]
-mod tests;
 
 pub use line::write_line;
 pub use rows::write_ins;

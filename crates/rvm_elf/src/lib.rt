@@ -12,8 +12,6 @@ mod layout;
 mod loading;
 mod raw;
 mod read;
-#[cfg(test)]
-mod tests;
 mod write;
 
 pub use error::{ReadError, WriteError};

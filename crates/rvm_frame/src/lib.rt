@@ -17,8 +17,6 @@ pub mod laws;
 mod page;
 mod read;
 mod reader;
-#[cfg(test)]
-mod tests;
 mod write;
 
 pub use fault::{FrameFault, ReadFault};

@@ -15,8 +15,6 @@ pub mod laws;
 mod memory;
 mod page_set;
 mod paged;
-#[cfg(test)]
-mod tests;
 
 pub use bytes::{OutOfRange, clear_bytes, read_bytes, write_bytes};
 pub use flat::FlatMemory;

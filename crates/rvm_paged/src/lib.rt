@@ -5,7 +5,5 @@
 #![tactic(auto)]
 
 mod paged_ram;
-#[cfg(test)]
-mod tests;
 
 pub use paged_ram::{PagedError, PagedRam};

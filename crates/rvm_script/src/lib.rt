@@ -13,8 +13,6 @@ mod hex_text;
 mod line;
 mod lines;
 mod script;
-#[cfg(test)]
-mod tests;
 mod words;
 
 pub use script::{MAX_SCRIPT_SIZE, ScriptError, run_script};

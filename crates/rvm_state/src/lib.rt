@@ -23,8 +23,6 @@ pub mod laws;
 mod parts;
 mod put;
 mod read;
-#[cfg(test)]
-mod tests;
 mod write;
 
 pub use fault::StateFault;

@@ -1,12 +1,11 @@
-//! What no clause says: the texts of scripts' answers, on guests whose words are those of the
-//! manual's formats, that calls succeed, and that a script that was refused memory is answered when
-//! it is run again. (`rt try --test --fail-alloc N` refuses the growth N of each test.)
+//! The texts of scripts' answers, on guests whose words are those of the manual's formats, and how a
+//! script ends.
 
-use super::*;
-use rvm_board::{Board, BoardError};
+use crate::boards::board;
+use crate::retry::again;
 use rvm_debug::Debugged;
-use rvm_hart::RAM_BASE;
-use rvm_mem::{FlatMemory, Memory, PagedMemory, write_bytes};
+use rvm_mem::Memory;
+use rvm_script::{ScriptError, run_script};
 use std::alloc::Global;
 use std::io::{self, ErrorKind, Read, Write};
 use std::process::Abort;
@@ -34,34 +33,6 @@ const LOOP: [u32; 6] = [
     0x00108093, // addi ra, ra, 1
     0xFFDFF06F, // jal zero, -4
 ];
-
-/// The call's value, of a second call where the first was refused memory.
-macro_rules! again {
-    ($call:expr) => {
-        match $call {
-            Ok(value) => value,
-            Err(_) => $call?,
-        }
-    };
-}
-
-/// A board with one page of RAM, which begins with these words.
-fn board(alloc: Global, harts: u32, words: &[u32]) -> Result<Debugged<FlatMemory>, Fail> {
-    let mut ram = again!(FlatMemory::zeroed(alloc, 1));
-    let mut at = 0u32;
-    for word in words {
-        write_bytes(&mut ram, at, &word.to_le_bytes())?;
-        at = at.wrapping_add(4);
-    }
-    let made = match Board::new(alloc, harts, ram, RAM_BASE) {
-        Err((BoardError::OutOfMemory, ram)) => Board::new(alloc, harts, ram, RAM_BASE),
-        made => made,
-    };
-    match made {
-        Ok(board) => Ok(Debugged::new(board)),
-        Err((error, _)) => Err(Fail::from(error)),
-    }
-}
 
 /// What a script over a board comes to, of a second run where the first was refused memory.
 fn run<M: Memory, W: Write>(
@@ -92,52 +63,72 @@ fn expect<M: Memory>(
     Ok(())
 }
 
-#[test]
-fn a_guest_runs_to_its_halt(rt: HostRuntime) -> Result<(), Fail> {
-    let alloc = rt.alloc();
-    let mut board = board(alloc, 1, &HI)?;
-    let script = "# The guest prints and halts.\nmem 0x80000000 16\r\ndis 0x80000000\n\
-        step 0\n\tstep 0 100\nstep 0 7\ndrain 0\ndrain 256\ndrain 0x1\n   # the end";
-    let answers = "80000000: b70200101303800423a0620013039006\n\
-        80000000: 100002b7  lui t0, 0x10000\nstep 0 1: retired\nstep 0 8: halted 0\n\
-        step 0 1: halted 0\nout 0\nout 3 48690a\nout 0\n";
-    expect(&rt, alloc, &mut board, script, answers, Ok(()))
+/// A script over a board whose RAM begins with these words, and its answers.
+struct Answered {
+    harts: u32,
+    words: &'static [u32],
+    script: &'static str,
+    answers: &'static str,
 }
 
-#[test]
-fn steps_end_at_breakpoints(rt: HostRuntime) -> Result<(), Fail> {
-    let alloc = rt.alloc();
-    let mut board = board(alloc, 1, &LOOP)?;
-    let script =
-        "break 0x80000010\nstep 0 5\nstep 0\nstep 0 2\nreg 0 pc 0x80000004\nstep 0 1000000\n\
-        clear 2147483664\nstep 0 2\nstep 1 3\nmem 0x80000000 18\n";
-    let answers = "done\nstep 0 5: break 80000010\nstep 0 1: retired\nstep 0 2: break 80000010\n\
-        done\nstep 0 4: break 80000010\ndone\nstep 0 2: retired\nrefused 5 BadHart\n\
-        80000000: 13000000130000001300000013000000\n80000010: 9380\n";
-    expect(&rt, alloc, &mut board, script, answers, Ok(()))
-}
+const ANSWERS: [Answered; 3] = [
+    // A guest runs to its halt.
+    Answered {
+        harts: 1,
+        words: &HI,
+        script: "# The guest prints and halts.\nmem 0x80000000 16\r\ndis 0x80000000\n\
+            step 0\n\tstep 0 100\nstep 0 7\ndrain 0\ndrain 256\ndrain 0x1\n   # the end",
+        answers: "80000000: b70200101303800423a0620013039006\n\
+            80000000: 100002b7  lui t0, 0x10000\nstep 0 1: retired\nstep 0 8: halted 0\n\
+            step 0 1: halted 0\nout 0\nout 3 48690a\nout 0\n",
+    },
+    // Steps end at breakpoints.
+    Answered {
+        harts: 1,
+        words: &LOOP,
+        script: "break 0x80000010\nstep 0 5\nstep 0\nstep 0 2\nreg 0 pc 0x80000004\nstep 0 1000000\n\
+            clear 2147483664\nstep 0 2\nstep 1 3\nmem 0x80000000 18\n",
+        answers: "done\nstep 0 5: break 80000010\nstep 0 1: retired\nstep 0 2: break 80000010\n\
+            done\nstep 0 4: break 80000010\ndone\nstep 0 2: retired\nrefused 5 BadHart\n\
+            80000000: 13000000130000001300000013000000\n80000010: 9380\n",
+    },
+    // Registers and bytes are set and shown.
+    Answered {
+        harts: 2,
+        words: &LOOP,
+        script: "reg 1 x31 0xFFFFFFFF\nreg 1 fp 7\nreg 1 zero 9\nregs 1\npoke 0x80000000 fFfFfFfF\n\
+            step 1\nreg 0 pc 2\nmem 0x80000000 257\nmem 0x80000fff 1\nmem 0x80001000 1\n\
+            dis 0x80000002\ndrain 257\nregs 2\ninput 000102030405060708090a0b0c0d0e0F10\ninput 00\n",
+        answers: "done\ndone\ndone\n\
+            zero=00000000 ra=00000000 sp=00000000 gp=00000000\n\
+            tp=00000000 t0=00000000 t1=00000000 t2=00000000\n\
+            s0=00000007 s1=00000000 a0=00000001 a1=00000000\n\
+            a2=00000000 a3=00000000 a4=00000000 a5=00000000\n\
+            a6=00000000 a7=00000000 s2=00000000 s3=00000000\n\
+            s4=00000000 s5=00000000 s6=00000000 s7=00000000\n\
+            s8=00000000 s9=00000000 s10=00000000 s11=00000000\n\
+            t3=00000000 t4=00000000 t5=00000000 t6=ffffffff\n\
+            pc=80000000\ndone\nstep 1 1: trapped 2\ndone\nrefused 2 OutOfRange\n80000fff: 00\n\
+            refused 2 OutOfRange\nrefused 2 OutOfRange\nrefused 2 OutOfRange\nrefused 5 BadHart\n\
+            refused 4 InputFull\nrefused 4 InputFull\n",
+    },
+];
 
 #[test]
-fn registers_and_bytes_are_set_and_shown(rt: HostRuntime) -> Result<(), Fail> {
+fn scripts_have_these_answers(rt: HostRuntime) -> Result<(), Fail> {
     let alloc = rt.alloc();
-    let mut board = board(alloc, 2, &LOOP)?;
-    let script =
-        "reg 1 x31 0xFFFFFFFF\nreg 1 fp 7\nreg 1 zero 9\nregs 1\npoke 0x80000000 fFfFfFfF\n\
-        step 1\nreg 0 pc 2\nmem 0x80000000 257\nmem 0x80000fff 1\nmem 0x80001000 1\n\
-        dis 0x80000002\ndrain 257\nregs 2\ninput 000102030405060708090a0b0c0d0e0F10\ninput 00\n";
-    let answers = "done\ndone\ndone\n\
-        zero=00000000 ra=00000000 sp=00000000 gp=00000000\n\
-        tp=00000000 t0=00000000 t1=00000000 t2=00000000\n\
-        s0=00000007 s1=00000000 a0=00000001 a1=00000000\n\
-        a2=00000000 a3=00000000 a4=00000000 a5=00000000\n\
-        a6=00000000 a7=00000000 s2=00000000 s3=00000000\n\
-        s4=00000000 s5=00000000 s6=00000000 s7=00000000\n\
-        s8=00000000 s9=00000000 s10=00000000 s11=00000000\n\
-        t3=00000000 t4=00000000 t5=00000000 t6=ffffffff\n\
-        pc=80000000\ndone\nstep 1 1: trapped 2\ndone\nrefused 2 OutOfRange\n80000fff: 00\n\
-        refused 2 OutOfRange\nrefused 2 OutOfRange\nrefused 2 OutOfRange\nrefused 5 BadHart\n\
-        refused 4 InputFull\nrefused 4 InputFull\n";
-    expect(&rt, alloc, &mut board, script, answers, Ok(()))
+    for wanted in ANSWERS.iter() {
+        let mut board = board(alloc, wanted.harts, wanted.words)?;
+        expect(
+            &rt,
+            alloc,
+            &mut board,
+            wanted.script,
+            wanted.answers,
+            Ok(()),
+        )?;
+    }
+    Ok(())
 }
 
 #[test]

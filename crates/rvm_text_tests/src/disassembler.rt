@@ -1,7 +1,7 @@
 //! The texts are those that another assembler (`llvm-mc`) turns into these words: a check of the
 //! definitions, which the contracts stand on.
 
-use super::*;
+use rvm_dis::{LinkFault, write_ins};
 use std::test::Fail;
 
 /// One word of each row of the table, at 0x80000000.
@@ -101,18 +101,15 @@ fn each_row_and_other_words_have_their_texts(rt: HostRuntime) -> Result<(), Fail
     Ok(())
 }
 
+/// The first text also shows that a target is found modulo 2^32.
 #[test]
-fn a_target_is_found_modulo_2_to_the_32(rt: HostRuntime) -> Result<(), Fail> {
+fn a_slice_is_written_as_far_as_it_has_room(rt: HostRuntime) -> Result<(), Fail> {
     let mut text = [0; 24];
     let mut room = text.as_mut_slice();
     write_ins(0xFFFFFFFC, 0x008000EF, &mut room)?;
     assert!(rt; &text[..18] == b"jal ra, 0x00000004".as_slice());
-    Ok(())
-}
-
-#[test]
-fn a_failed_write_is_told(rt: HostRuntime) {
-    let mut text = [0; 4];
-    let mut room = text.as_mut_slice();
+    let mut little = [0; 4];
+    let mut room = little.as_mut_slice();
     assert_eq!(rt; write_ins(0, 0x00000073, &mut room), Err(LinkFault));
+    Ok(())
 }

@@ -1,22 +1,13 @@
-//! What no clause says: a linker's file is read as its tools print it, and each call that takes
-//! memory succeeds.
+//! A linker's file is read as its tools print it, refusals come in their order, and what is loaded
+//! runs.
 
-use super::*;
+use crate::retry::again;
 use rvm_board::Board;
+use rvm_elf::{OutsideRam, ReadError, WriteError, load, raw_image, read_image, write_image};
 use rvm_image::{Image, Segment};
 use rvm_mem::{FlatMemory, PagedMemory};
 use std::alloc::{AllocError, Global};
 use std::test::Fail;
-
-/// The call's value, of a second call where the first was refused memory.
-macro_rules! again {
-    ($call:expr) => {
-        match $call {
-            Ok(value) => value,
-            Err(_) => $call?,
-        }
-    };
-}
 
 /// The first 168 bytes of a file of LLD 14. `llvm-readelf` prints: entry 0x80000000; a note without
 /// bytes; a part of 16 bytes from place 148 at 0x80000000; one of 4 bytes from place 164 and 8
@@ -66,46 +57,29 @@ fn fault(alloc: Global, file: &[u8]) -> Option<ReadError> {
     }
 }
 
+/// A file that is cut short, and one with bytes changed, where the first of its faults is told.
 #[test]
-fn a_linkers_file_is_read(rt: HostRuntime) -> Result<(), Fail> {
-    let image = again!(read_image(rt.alloc(), &LINKED));
-    assert_eq!(rt; image.entry, 0x8000_0000);
-    let [text, data] = image.segments.as_slice() else {
-        return Err(Fail::new("there are not two segments"));
-    };
-    assert_eq!(rt; (text.address, text.zeros), (0x8000_0000, 0));
-    assert_eq!(rt; text.bytes.as_slice(), &LINKED[148..164]);
-    assert_eq!(rt; (data.address, data.zeros), (0x8000_0010, 8));
-    assert_eq!(rt; data.bytes.as_slice(), [0x44, 0x33, 0x22, 0x11].as_slice());
-    Ok(())
-}
-
-#[test]
-fn a_file_that_is_cut_short_is_refused(rt: HostRuntime) {
-    let cases = [
-        (0, Some(ReadError::BadMagic)),
-        (3, Some(ReadError::BadMagic)),
-        (4, Some(ReadError::Truncated)),
-        (51, Some(ReadError::Truncated)),
-        (52, Some(ReadError::Truncated)),
-        (147, Some(ReadError::Truncated)),
-        (148, Some(ReadError::Truncated)),
-        (167, Some(ReadError::Truncated)),
-        (168, None),
-    ];
-    for (count, want) in cases {
-        assert!(rt; count <= LINKED.len());
-        assert_eq!(rt; fault(rt.alloc(), &LINKED[..count]), want, "{count} bytes");
-    }
-}
-
-#[test]
-fn the_first_fault_is_told(rt: HostRuntime) {
+fn files_with_faults_are_refused(rt: HostRuntime) {
     let bad = Some(ReadError::BadMagic);
     let other = Some(ReadError::NotRiscV32);
     let cut = Some(ReadError::Truncated);
     let many = Some(ReadError::TooMany);
-    let cases: [(&[(usize, u8)], Option<ReadError>); 24] = [
+    let cut_short = [
+        (0, bad),
+        (3, bad),
+        (4, cut),
+        (51, cut),
+        (52, cut),
+        (147, cut),
+        (148, cut),
+        (167, cut),
+        (168, None),
+    ];
+    for (count, want) in cut_short {
+        assert!(rt; count <= LINKED.len());
+        assert_eq!(rt; fault(rt.alloc(), &LINKED[..count]), want, "{count} bytes");
+    }
+    let changes: [(&[(usize, u8)], Option<ReadError>); 24] = [
         (&[(4, 2)], other),
         (&[(5, 2)], other),
         (&[(6, 0)], other),
@@ -136,7 +110,7 @@ fn the_first_fault_is_told(rt: HostRuntime) {
         (&[(SECOND + BYTES, 0), (SECOND + OFFSET + 3, 0xFF)], None),
         (&[(SECOND + BYTES, 5), (SECOND + SIZE, 0)], None),
     ];
-    for (changes, want) in cases {
+    for (changes, want) in changes {
         assert_eq!(rt; fault(rt.alloc(), &changed(changes)), want);
     }
 }
@@ -158,18 +132,27 @@ fn image_of(alloc: Global, segments: &[(u32, &[u8], u32)]) -> Result<Image, Allo
 }
 
 #[test]
-fn a_written_file_is_read(rt: HostRuntime) -> Result<(), Fail> {
+fn files_of_a_linker_and_of_this_program_are_read(rt: HostRuntime) -> Result<(), Fail> {
     let alloc = rt.alloc();
     let raw = again!(raw_image(alloc, &[7; 36]));
-    let file = again!(write_image(alloc, &raw));
-    assert_eq!(rt; file.len(), 120);
-    let read = again!(read_image(alloc, &file));
-    assert_eq!(rt; read.entry, 0x8000_0000);
-    let [segment] = read.segments.as_slice() else {
-        return Err(Fail::new("there is not one segment"));
-    };
-    assert_eq!(rt; (segment.address, segment.zeros), (0x8000_0000, 0));
-    assert_eq!(rt; segment.bytes.as_slice(), [7; 36].as_slice());
+    let written = again!(write_image(alloc, &raw));
+    assert_eq!(rt; written.len(), 120);
+    let segments: [&[(u32, &[u8], u32)]; 2] = [
+        &[
+            (0x8000_0000, &LINKED[148..164], 0),
+            (0x8000_0010, &[0x44, 0x33, 0x22, 0x11], 8),
+        ],
+        &[(0x8000_0000, &[7; 36], 0)],
+    ];
+    for (file, segments) in [&LINKED, written.as_slice()].iter().zip(segments) {
+        let image = again!(read_image(alloc, file));
+        assert_eq!(rt; image.entry, 0x8000_0000);
+        assert_eq!(rt; image.segments.len(), segments.len());
+        for (segment, (address, bytes, zeros)) in image.segments.iter().zip(segments.iter()) {
+            assert_eq!(rt; (segment.address, segment.zeros), (*address, *zeros));
+            assert_eq!(rt; segment.bytes.as_slice(), *bytes);
+        }
+    }
     Ok(())
 }
 

@@ -1,12 +1,12 @@
-//! What no clause says: each call that takes memory succeeds; and what the definitions say, on an
-//! example.
+//! Sets of pages and a memory over a flat vector, on an example.
 
-use super::*;
+use crate::retry::again;
+use rvm_mem::{FlatMemory, Memory, PAGE_SIZE, PageSet, PagedMemory};
 use std::test::Fail;
 
 #[test]
 fn a_set_of_pages_is_made(rt: HostRuntime) -> Result<(), Fail> {
-    let mut set = PageSet::new(rt.alloc(), 70)?;
+    let mut set = again!(PageSet::new(rt.alloc(), 70));
     assert_eq!(rt; (set.pages(), set.count(), set.first()), (70, 0, None));
     assert!(rt; set.pages() == 70);
     set.insert(66);
@@ -22,8 +22,8 @@ fn a_set_of_pages_is_made(rt: HostRuntime) -> Result<(), Fail> {
 
 #[test]
 fn a_memory_is_made_and_its_dirty_log_is_taken(rt: HostRuntime) -> Result<(), Fail> {
-    let mut ram = FlatMemory::zeroed(rt.alloc(), 2)?;
-    let mut taken = PageSet::new(rt.alloc(), 2)?;
+    let mut ram = again!(FlatMemory::zeroed(rt.alloc(), 2));
+    let mut taken = again!(PageSet::new(rt.alloc(), 2));
     assert_eq!(rt; (ram.pages(), ram.dirty_count()), (2, 0));
     assert!(rt; ram.len() == 8192 && ram.pages() == 2 && taken.pages() == 2);
     ram.store8(4097, 5);

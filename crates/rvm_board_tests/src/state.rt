@@ -1,45 +1,17 @@
-//! What no clause says: the layout of the bytes of a guest after reset, one guest read and written
-//! again, each kind of refusal, and that a call that was refused memory gives its answer when it is
-//! made again. (`rt try --test --fail-alloc N` refuses the growth N of each test.)
+//! The layout of the bytes of a guest after reset, one guest read and written again, and each kind of
+//! refusal.
 
-use super::*;
-use rvm_board::{Board, BoardError};
+use crate::boards::{board, page};
+use crate::retry::again;
 use rvm_debug::Debugged;
-use rvm_hart::RAM_BASE;
-use rvm_mem::{FlatMemory, Memory, PagedMemory};
+use rvm_mem::{FlatMemory, Memory};
+use rvm_state::{StateFault, read_state, write_state};
 use std::alloc::{AllocError, Global};
 use std::test::Fail;
 
-/// The call's value, of a second call where the first was refused memory.
-macro_rules! again {
-    ($call:expr) => {
-        match $call {
-            Ok(value) => value,
-            Err(_) => $call?,
-        }
-    };
-}
-
-/// A page of RAM.
-fn page(alloc: Global) -> Result<FlatMemory, AllocError> {
-    Ok(again!(FlatMemory::zeroed(alloc, 1)))
-}
-
-/// A board of one hart and one page after reset.
-fn board(alloc: Global) -> Result<Board<FlatMemory>, Fail> {
-    let made = match Board::new(alloc, 1, page(alloc)?, RAM_BASE) {
-        Err((BoardError::OutOfMemory, ram)) => Board::new(alloc, 1, ram, RAM_BASE),
-        made => made,
-    };
-    match made {
-        Ok(board) => Ok(board),
-        Err((error, _)) => Err(Fail::from(error)),
-    }
-}
-
 /// The bytes of a board of one hart and one page after reset.
 fn at_reset(alloc: Global) -> Result<Vec<u8>, Fail> {
-    let guest = Debugged::new(board(alloc)?);
+    let guest = board(alloc, 1, &[])?;
     Ok(again!(write_state(alloc, &guest)))
 }
 
@@ -86,17 +58,13 @@ fn is_refused(alloc: Global, bytes: &[u8]) -> Result<bool, Fail> {
 }
 
 #[test]
-fn one_hart_after_reset_is_204_bytes(rt: HostRuntime) -> Result<(), Fail> {
-    let bytes = at_reset(rt.alloc())?;
-    assert_eq!(rt; bytes.len(), 204);
-    let front = [1, 0, 0, 0, 0, 0, 0, 0, 0, 0, 0, 0, 0, 0, 0, 0, 0x80];
-    assert!(rt; bytes.as_slice().starts_with(&front));
-    Ok(())
-}
-
-#[test]
 fn what_is_read_is_written_again(rt: HostRuntime) -> Result<(), Fail> {
     let alloc = rt.alloc();
+    // One hart after reset is 204 bytes.
+    let reset = at_reset(alloc)?;
+    assert_eq!(rt; reset.len(), 204);
+    let front = [1, 0, 0, 0, 0, 0, 0, 0, 0, 0, 0, 0, 0, 0, 0, 0, 0x80];
+    assert!(rt; reset.as_slice().starts_with(&front));
     // Halted with 9, overrun, mtime, pc, x1, x31, mstatus, mie, mtvec, mepc, minstret, msip, a
     // reservation, stopped.
     let changes = [
@@ -119,7 +87,7 @@ fn what_is_read_is_written_again(rt: HostRuntime) -> Result<(), Fail> {
         (199, 1),
     ];
     let rest = [2, 7, 8, 3, 0, 1, 2, 3, 2, 4, 0, 0, 0x80, 8, 0, 0, 0x80];
-    let bytes = changed(alloc, at_reset(alloc)?.as_slice(), &changes, &rest)?;
+    let bytes = changed(alloc, reset.as_slice(), &changes, &rest)?;
     match read(alloc, bytes.as_slice(), page(alloc)?) {
         Ok(guest) => {
             let written = again!(write_state(alloc, &guest));

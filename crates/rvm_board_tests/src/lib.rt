@@ -1,0 +1,26 @@
+//! Tests of memories, frames, the bytes of a guest and a debugger's scripts, of what no clause
+//! says: layouts and printed texts, that each call that takes memory succeeds, also after one that
+//! was refused it (`rt try --test --fail-alloc N` refuses the growth N of each test), and what a
+//! read or a write that fails leads to.
+//!
+//! Stands on the libraries, which have no tests of their own. What it expects comes from the
+//! definitions' worked cases and from the manual's formats, never from this program.
+//!
+//! `memory`, `paged`, `frames`, `state` and `scripts` each test one crate; `boards` makes the boards
+//! of the last two, `retry` makes a call again.
+#![tactic(auto)]
+
+#[cfg(test)]
+mod boards;
+#[cfg(test)]
+mod frames;
+#[cfg(test)]
+mod memory;
+#[cfg(test)]
+mod paged;
+#[cfg(test)]
+mod retry;
+#[cfg(test)]
+mod scripts;
+#[cfg(test)]
+mod state;

@@ -1,0 +1,137 @@
+//! Texts and the images that they stand for. Words of instructions are those of the manual's
+//! formats.
+
+use rvm_asm::{AsmError, Image, Segment, assemble};
+use rvm_line::Fault;
+use std::alloc::Global;
+use std::test::Fail;
+
+/// The image of a text, at the second call where memory ran out at the first.
+fn image(alloc: Global, text: &str) -> Result<Image, AsmError> {
+    match assemble(alloc, text) {
+        Err(AsmError::OutOfMemory) => assemble(alloc, text),
+        result => result,
+    }
+}
+
+fn is_at(segment: &Segment, address: u32, bytes: &[u8]) -> bool {
+    segment.address == address && segment.bytes.as_slice() == bytes && segment.zeros == 0
+}
+
+/// A text, the entry of its image, and the address and bytes of each of its segments.
+struct Assembled {
+    text: &'static str,
+    entry: u32,
+    segments: &'static [(u32, &'static [u8])],
+}
+
+const IMAGES: [Assembled; 8] = [
+    // Labels of later lines have values.
+    Assembled {
+        text: "j end\n.word end, end - 4\n\nend:\nret",
+        entry: 0x8000_0000,
+        segments: &[(
+            0x8000_0000,
+            &[
+                0x6F, 0x00, 0xC0, 0x00, // jal zero, 12
+                0x0C, 0x00, 0x00, 0x80, 0x08, 0x00, 0x00, 0x80, //
+                0x67, 0x80, 0x00, 0x00, // jalr zero, 0(ra)
+            ],
+        )],
+    },
+    // Bytes that touch are one segment.
+    Assembled {
+        text: ".word 1\n.org 0x80000010\n.byte 4\n.org 0x80000008\n.byte 3\n.org 0x80000004\n.word 2",
+        entry: 0x8000_0000,
+        segments: &[
+            (0x8000_0000, &[1, 0, 0, 0, 2, 0, 0, 0, 3]),
+            (0x8000_0010, &[4]),
+        ],
+    },
+    // A program begins at _start, and without it at the first byte of RAM.
+    Assembled {
+        text: "nop\nstart: nop",
+        entry: 0x8000_0000,
+        segments: &[(0x8000_0000, &[0x13, 0, 0, 0, 0x13, 0, 0, 0])],
+    },
+    Assembled {
+        text: "nop\n_start: nop",
+        entry: 0x8000_0004,
+        segments: &[(0x8000_0000, &[0x13, 0, 0, 0, 0x13, 0, 0, 0])],
+    },
+    Assembled {
+        text: "",
+        entry: 0x8000_0000,
+        segments: &[],
+    },
+    // Each kind of line has its bytes.
+    Assembled {
+        text: ".globl _start\r\n.equ size, 3 # bytes\n_start: la a0, text\ncall _start\n\
+            text: .asciz \"hi\"\n.balign 4\n.half -1, size\n.space 1\n.ascii \"a\\n\"",
+        entry: 0x8000_0000,
+        segments: &[(
+            0x8000_0000,
+            &[
+                0x17, 0x05, 0x00, 0x00, 0x13, 0x05, 0x05, 0x01, // auipc a0, 0; addi a0, a0, 16
+                0x97, 0x00, 0x00, 0x00, 0xE7, 0x80, 0x80, 0xFF, // auipc ra, 0; jalr ra, -8(ra)
+                0x68, 0x69, 0x00, 0x00, 0xFF, 0xFF, 0x03, 0x00, 0x00, 0x61, 0x0A,
+            ],
+        )],
+    },
+    // A value is loaded by two words, or by one.
+    Assembled {
+        text: "li a0, 0x800",
+        entry: 0x8000_0000,
+        segments: &[(
+            0x8000_0000,
+            &[0x37, 0x15, 0x00, 0x00, 0x13, 0x05, 0x05, 0x80],
+        )],
+    },
+    Assembled {
+        text: "li a0, 2047",
+        entry: 0x8000_0000,
+        segments: &[(0x8000_0000, &[0x13, 0x05, 0xF0, 0x7F])],
+    },
+];
+
+#[test]
+fn texts_have_these_images(rt: HostRuntime) -> Result<(), Fail> {
+    for wanted in IMAGES.iter() {
+        let image = image(rt.alloc(), wanted.text)?;
+        assert_eq!(rt; image.entry, wanted.entry, "{}", wanted.text);
+        assert_eq!(rt;
+            image.segments.len(),
+            wanted.segments.len(),
+            "{}",
+            wanted.text
+        );
+        for (segment, (address, bytes)) in image.segments.iter().zip(wanted.segments.iter()) {
+            assert!(rt; is_at(segment, *address, bytes), "{}", wanted.text);
+        }
+    }
+    Ok(())
+}
+
+#[test]
+fn faults_stand_at_their_line(rt: HostRuntime) {
+    let cases = [
+        ("here: nop\n\n.byte 256", Fault::OutOfReach),
+        ("here: nop\n\nj nowhere", Fault::UnknownName),
+        ("here: nop\n\nhere: nop", Fault::Defined),
+        (".word 1\n.org 0x80000000\n.byte 0", Fault::Overlap),
+        ("here: nop\n\naddi a0, a0", Fault::BadToken),
+        ("here: nop\n\n.ascii \"a", Fault::BadToken),
+        ("here: nop\n.org 0xFFFFFFFF\n.half 0", Fault::OutOfReach),
+        (
+            "here: nop\n\n.equ late, later\n.equ later, 1",
+            Fault::UnknownName,
+        ),
+    ];
+    for (text, fault) in cases {
+        assert_eq!(rt;
+            image(rt.alloc(), text).err(),
+            Some(AsmError::Line(3, fault)),
+            "{text}"
+        );
+    }
+}
