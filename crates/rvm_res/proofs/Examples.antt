@@ -1,6 +1,6 @@
 -- Known values.
-use Rattle.std.proofs.Common.{◌≡◌, ℕ, List, [], ◌∷◌, Option, None, true, false, refl}
-use Rattle.rvm_res.specs.Reservations.{held, stored, takes}
+use Rattle.std.proofs.Common.{◌≡◌, ℕ, List, [], ◌∷◌, Option, Some, None, true, false, refl}
+use Rattle.rvm_res.specs.Reservations.{held, poked, stored, taken, takes}
 
 abbrev two_harts : List (Option ℕ)
 two_harts = held 0 0x8000_0100 (None ∷ None ∷ [])
@@ -20,3 +20,19 @@ succeeds = refl
 -- but not at another word
 fails : takes 0 0x8000_0104 two_harts ≡ false
 fails = refl
+
+-- a store into the word behind it leaves the reservation
+another_word : stored 1 0x8000_0104 two_harts ≡ two_harts
+another_word = refl
+
+-- a debugger's write of one of its bytes ends it
+is_poked : poked 0x8000_0103 two_harts ≡ None ∷ None ∷ []
+is_poked = refl
+
+-- so does the hart's store-conditional
+is_taken : taken 0 two_harts ≡ None ∷ None ∷ []
+is_taken = refl
+
+-- a hart has one reservation, the newest
+newest : held 0 0x8000_0200 two_harts ≡ Some 0x8000_0200 ∷ None ∷ []
+newest = refl

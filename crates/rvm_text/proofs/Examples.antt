@@ -1,10 +1,11 @@
 -- Lines and words, computed.
-use Rattle.std.proofs.Common.{◌≡◌, [], ◌∷◌, Some, None, refl}
+use Rattle.std.proofs.Common.{◌≡◌, [], ◌∷◌, Some, None, true, false, refl}
 use Rattle.std.specs.Prelude.{codes}
 use Rattle.rvm_text.specs.Lexemes.{Word, Mark, Quoted, lexemes}
 use Rattle.rvm_text.specs.Numbers.{number_of}
 use Rattle.rvm_text.specs.Registers.{abi_names, numbered_names, register_of, name_of}
 use Rattle.rvm_text.specs.Strings.{text_of}
+use Rattle.rvm_text.specs.Tokens.{is_name}
 
 a_line : lexemes (codes "loop: lw a0, -4(sp) # again, and \"again\"")
     ≡ Some (
@@ -64,3 +65,16 @@ name_of_8 = refl
 escapes : text_of (codes "a\\n\\0\\\\\\\"") ≡ 97 ∷ 10 ∷ 0 ∷ 92 ∷ 34 ∷ []
 unfolding text_of
 escapes = refl
+
+tab : text_of (codes "\\t") ≡ 9 ∷ []
+unfolding text_of
+tab = refl
+
+no_binary_digit : number_of (codes "0b12") ≡ None
+no_binary_digit = refl
+
+name : is_name (codes "_a1") ≡ true
+name = refl
+
+no_name : is_name (codes "1a") ≡ false
+no_name = refl

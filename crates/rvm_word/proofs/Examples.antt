@@ -1,5 +1,7 @@
 -- Values that the standard states, computed by the definitions.
-use Rattle.std.proofs.Common.{◌≡◌, ◌*◌, ◌/◌, ◌^◌, ◌*ℤ◌, pos, negsuc, refl}
+use Rattle.std.proofs.Common.{◌≡◌, ◌*◌, ◌/◌, ◌^◌, ◌*ℤ◌, ◌+ℤ◌, pos, negsuc, true, false, refl}
+use Rattle.std.specs.Prelude.{int_lt}
+use Rattle.rvm_word.specs.Bits.{bit, is_set, low_half, high_half, with_low, with_high}
 use Rattle.rvm_word.specs.Word.{signed_value, signed, modulo, high, floor_shift, quotient, remainder, unsigned_quotient, unsigned_remainder}
 
 -- the one signed division that overflows: -2 ^ 31 by -1
@@ -54,3 +56,39 @@ shift_rounds_down = refl
 byte_is_negative : signed_value 8 0x80 ≡ negsuc 127
 unfolding signed_value
 byte_is_negative = refl
+
+half_is_extended : modulo 32 (signed_value 16 0x8000) ≡ 0xFFFF8000
+unfolding signed_value
+half_is_extended = refl
+
+-- 4 before 0
+sum_wraps : modulo 32 (pos 0 +ℤ negsuc 3) ≡ 0xFFFFFFFC
+sum_wraps = refl
+
+-- -1 is below 0
+minus_one_is_below : int_lt (signed 0xFFFFFFFF) (signed 0) ≡ true
+unfolding signed_value
+minus_one_is_below = refl
+
+-- bits count from the least
+bit_3 : is_set 3 0x00000008 ≡ true
+bit_3 = refl
+
+all_but_bit_3 : is_set 3 0xFFFFFFF7 ≡ false
+all_but_bit_3 = refl
+
+weight_of_a_bit : bit 8 true ≡ 8
+weight_of_a_bit = refl
+
+-- halves of 2 ^ 32 + 2
+halves : low_half 0x1_0000_0002 ≡ 2
+halves = refl
+
+upper_half : high_half 0x1_0000_0002 ≡ 1
+upper_half = refl
+
+low_half_is_written : with_low 5 0x1_0000_0002 ≡ 0x1_0000_0005
+low_half_is_written = refl
+
+high_half_is_written : with_high 5 0x1_0000_0002 ≡ 0x5_0000_0002
+high_half_is_written = refl
