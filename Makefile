@@ -1,7 +1,9 @@
 # make hi: proves, builds and runs the program on examples/hi.bin. make test: the merge gate.
+# make wrong: all wrong bodies, or those of one crate, as in make wrong CRATE=rvm_hart.
+# make times: the merge gate, and the processor seconds of each crate.
 PREFIX ?= /usr/local
 
-.PHONY: build hi test bench install clean
+.PHONY: build hi test wrong times bench install clean
 
 # The program lies in build/rvmove afterwards.
 build:
@@ -14,6 +16,12 @@ hi: build
 
 test:
 	rt ci
+
+wrong:
+	tools/try-wrong $(CRATE)
+
+times:
+	tools/gate-times
 
 bench: build
 	cd crates/rvm_bench && rt run -- ../../examples/hi.bin 1 flat > /dev/null
