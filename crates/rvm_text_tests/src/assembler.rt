@@ -18,7 +18,21 @@ fn is_at(segment: &Segment, address: u32, bytes: &[u8]) -> bool {
     segment.address == address && segment.bytes.as_slice() == bytes && segment.zeros == 0
 }
 
+/// Whether there are just these segments: their addresses and bytes.
+fn are_at(segments: &[Segment], wanted: &[(u32, &[u8])]) -> bool {
+    if segments.len() != wanted.len() {
+        return false;
+    }
+    for (segment, (address, bytes)) in segments.iter().zip(wanted.iter()) {
+        if !is_at(segment, *address, bytes) {
+            return false;
+        }
+    }
+    true
+}
+
 /// A text, the entry of its image, and the address and bytes of each of its segments.
+#[derive(Clone, Copy)]
 struct Assembled {
     text: &'static str,
     entry: u32,
@@ -96,18 +110,14 @@ const IMAGES: [Assembled; 8] = [
 
 #[test]
 fn texts_have_these_images(rt: HostRuntime) -> Result<(), Fail> {
-    for wanted in IMAGES.iter() {
-        let image = image(rt.alloc(), wanted.text)?;
-        assert_eq!(rt; image.entry, wanted.entry, "{}", wanted.text);
-        assert_eq!(rt;
-            image.segments.len(),
-            wanted.segments.len(),
-            "{}",
-            wanted.text
-        );
-        for (segment, (address, bytes)) in image.segments.iter().zip(wanted.segments.iter()) {
-            assert!(rt; is_at(segment, *address, bytes), "{}", wanted.text);
-        }
+    for Assembled {
+        text,
+        entry,
+        segments,
+    } in IMAGES {
+        let image = image(rt.alloc(), text)?;
+        assert_eq!(rt; image.entry, entry, "{text}");
+        assert!(rt; are_at(&image.segments, segments), "{text}");
     }
     Ok(())
 }
