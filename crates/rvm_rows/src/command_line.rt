@@ -1,8 +1,6 @@
-//! The command line. The kinds of faults are those of Rust's `clap`.
+//! The command line: the values that its words have.
 
-use clap::error::ErrorKind;
 use rvm_command::arguments::{Arguments, RunArguments, parse_args};
-use std::alloc::Global;
 use std::process::Abort;
 use std::test::Fail;
 
@@ -83,64 +81,4 @@ fn debug_takes_a_guest(rt: HostRuntime) -> Result<(), Fail> {
         other => panic!(rt; "{other:?}"),
     }
     Ok(())
-}
-
-#[test]
-fn other_words_are_refused(rt: HostRuntime) -> Result<(), Fail> {
-    let alloc = rt.alloc();
-    let value = ErrorKind::ValueValidation;
-    let faults: [(&[&str], ErrorKind); 9] = [
-        (&["--steps", "0"], value),
-        (&["--steps", "1000000001"], value),
-        (&["--pages", "4097"], value),
-        (&["--harts", "9"], value),
-        (&["--harts", "0x2"], value),
-        (&["--harts", "+2"], value),
-        (
-            &["--harts", "2", "--harts", "2"],
-            ErrorKind::ArgumentConflict,
-        ),
-        (&["--rounds", "3"], ErrorKind::UnknownArgument),
-        (&["other.bin"], ErrorKind::UnknownArgument),
-    ];
-    for (options, kind) in faults {
-        let mut words = ["rvmove", "run", "--raw", "guest.bin"].to_vec(alloc)?;
-        words.extend_from_slice(options)?;
-        assert_refuses(&rt, alloc, words.as_slice(), kind, 2);
-    }
-    Ok(())
-}
-
-#[test]
-fn a_command_and_its_image_are_required(rt: HostRuntime) {
-    let required = ErrorKind::MissingRequiredArgument;
-    let no_command = ErrorKind::DisplayHelpOnMissingArgumentOrSubcommand;
-    let faults: [(&[&str], ErrorKind, i32); 8] = [
-        (&["rvmove"], no_command, 2),
-        (&["rvmove", "walk"], ErrorKind::InvalidSubcommand, 2),
-        (&["rvmove", "run", "--raw"], required, 2),
-        (&["rvmove", "asm", "hello.s"], required, 2),
-        (&["rvmove", "dis"], required, 2),
-        (
-            &["rvmove", "dis", "hello.elf", "--harts", "2"],
-            ErrorKind::UnknownArgument,
-            2,
-        ),
-        (&["rvmove", "--help"], ErrorKind::DisplayHelp, 0),
-        (&["rvmove", "run", "--help"], ErrorKind::DisplayHelp, 0),
-    ];
-    for (words, kind, status) in faults {
-        assert_refuses(&rt, rt.alloc(), words, kind, status);
-    }
-}
-
-/// The words are refused with a fault of that kind, and the program ends with that status.
-fn assert_refuses(rt: &impl Abort, alloc: Global, words: &[&str], kind: ErrorKind, status: i32) {
-    match parse_args(alloc, words) {
-        Ok(_) => panic!(rt; "{words:?} are taken"),
-        Err(fault) => {
-            assert_eq!(rt; fault.kind(), kind, "{words:?}");
-            assert_eq!(rt; fault.exit_code(), status, "{words:?}");
-        }
-    }
 }

@@ -3,7 +3,6 @@
 use rvm_isa::decode::decode;
 use rvm_isa::encode::encode;
 use rvm_isa::{CsrNo, Imm5, Imm12, Imm20, Ins, Off13, Off21, Reg, Shamt};
-use std::alloc::{AllocError, Global};
 use std::process::Abort;
 
 /// An atomic instruction with two sources, without an order of accesses.
@@ -79,28 +78,6 @@ fn other_words_have_no_row(rt: HostRuntime) {
     for word in words {
         assert!(rt; decode(word).is_none(), "{word:#x}");
     }
-}
-
-/// The words of all rows.
-pub fn each_word(alloc: Global) -> Result<Vec<u32>, AllocError> {
-    let mut words = Vec::new(alloc);
-    add_words(&mut words, &upper_immediates_and_jumps())?;
-    add_words(&mut words, &branches())?;
-    add_words(&mut words, &loads_and_stores())?;
-    add_words(&mut words, &immediate_computation())?;
-    add_words(&mut words, &register_computation())?;
-    add_words(&mut words, &products_and_quotients())?;
-    add_words(&mut words, &fences_and_the_environment())?;
-    add_words(&mut words, &csr_accesses())?;
-    add_words(&mut words, &atomic_accesses())?;
-    Ok(words)
-}
-
-fn add_words(words: &mut Vec<u32>, rows: &[Row]) -> Result<(), AllocError> {
-    for (word, _) in rows {
-        words.push(*word)?;
-    }
-    Ok(())
 }
 
 /// Each word has its instruction, and the instruction has the word.

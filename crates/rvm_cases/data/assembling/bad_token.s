@@ -1,0 +1,3 @@
+here: nop
+nop
+addi a0, a0

@@ -1,0 +1,3 @@
+here: nop
+nop
+here: nop

@@ -1,0 +1,3 @@
+here: nop
+nop
+.byte 256
