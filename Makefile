@@ -1,7 +1,7 @@
 # make hi: proves, builds and runs the program on examples/hi.bin. make test: the merge gate.
 PREFIX ?= /usr/local
 
-.PHONY: build hi test bench install clean
+.PHONY: build hi test bench bench-programs count install clean
 
 # The program lies in build/rvmove afterwards.
 build:
@@ -15,10 +15,16 @@ hi: build
 test:
 	rt ci
 
-bench: build
-	cd crates/rvm_bench && rt run -- ../../examples/hi.bin 1 flat > /dev/null
-	cp crates/rvm_bench/out/rvm_bench build/rvm_bench
+bench: bench-programs
 	python3 bench/bench.py
+
+# Host instructions a guest step; wants valgrind.
+count: bench-programs
+	python3 bench/count.py
+
+bench-programs: build
+	cd crates/rvm_bench && rt run -- ../../examples/hi.bin 1 flat 1000 > /dev/null
+	cp crates/rvm_bench/out/rvm_bench build/rvm_bench
 
 install: build
 	install -D build/rvmove $(PREFIX)/bin/rvmove
