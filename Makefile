@@ -3,7 +3,7 @@
 # make times: the merge gate, and the processor seconds of each crate.
 PREFIX ?= /usr/local
 
-.PHONY: build hi test wrong times bench install clean
+.PHONY: build hi test wrong times bench bench-programs count install clean
 
 # The program lies in build/rvmove afterwards.
 build:
@@ -23,10 +23,16 @@ wrong:
 times:
 	tools/gate-times
 
-bench: build
-	cd crates/rvm_bench && rt run -- ../../examples/hi.bin 1 flat > /dev/null
-	cp crates/rvm_bench/out/rvm_bench build/rvm_bench
+bench: bench-programs
 	python3 bench/bench.py
+
+# Host instructions a guest step; wants valgrind.
+count: bench-programs
+	python3 bench/count.py
+
+bench-programs: build
+	cd crates/rvm_bench && rt run -- ../../examples/hi.bin 1 flat 1000 > /dev/null
+	cp crates/rvm_bench/out/rvm_bench build/rvm_bench
 
 install: build
 	install -D build/rvmove $(PREFIX)/bin/rvmove

@@ -1,4 +1,4 @@
-//! `rvm_bench IMAGE HARTS flat|paged`: runs an image as `rvmove run` does, over one of two
+//! `rvm_bench IMAGE HARTS flat|paged STEPS`: runs an image as `rvmove run` does, over one of two
 //! memories, so that the benchmark sees what a second instantiation of a step costs. What the guest
 //! sends goes to standard output.
 #![tactic(auto)]
@@ -14,27 +14,27 @@ use std::{env, fs};
 
 const PAGES: u32 = 256;
 
-const MOST_STEPS: u32 = 1_000_000_000;
-
 fn main(rt: HostRuntime) -> anyhow::Result<ExitCode> {
     let words: Vec<String> = env::args(&rt)?.collect(rt.alloc())?;
-    let (Some(file), Some(harts), Some(memory)) = (words.get(1), words.get(2), words.get(3)) else {
-        eprintln!(&rt; "usage: rvm_bench IMAGE HARTS flat|paged")?;
+    let [_, file, harts, memory, steps] = words.as_slice() else {
+        eprintln!(&rt; "usage: rvm_bench IMAGE HARTS flat|paged STEPS")?;
         return Ok(ExitCode::from(2));
     };
     let harts: u32 = harts.as_str().parse()?;
+    let steps: u32 = steps.as_str().parse()?;
     let image = fs::read(&rt, file.as_str())?;
     if memory.as_str() == "paged" {
-        run_over::<PagedRam>(&rt, harts, image.as_slice())
+        run_over::<PagedRam>(&rt, harts, steps, image.as_slice())
     } else {
-        run_over::<FlatMemory>(&rt, harts, image.as_slice())
+        run_over::<FlatMemory>(&rt, harts, steps, image.as_slice())
     }
 }
 
-/// Runs a board whose RAM begins with an image until it is halted.
+/// Makes so many turns of a board whose RAM begins with an image.
 fn run_over<M: PagedMemory + Drop>(
     rt: &HostRuntime,
     harts: u32,
+    steps: u32,
     image: &[u8],
 ) -> anyhow::Result<ExitCode> {
     let mut ram = M::zeroed(rt.alloc(), PAGES)?;
@@ -44,6 +44,6 @@ fn run_over<M: PagedMemory + Drop>(
         Err((error, _)) => return Err(anyhow::Error::from(error)),
     };
     let mut guest = Debugged::new(board);
-    let _ = run(&mut guest, MOST_STEPS, &[], &mut rt.stdout())?;
+    let _ = run(&mut guest, steps, &[], &mut rt.stdout())?;
     Ok(ExitCode::SUCCESS)
 }

@@ -1,10 +1,10 @@
 -- A run: the schedule of turns, what it writes and how it ends.
 use Rattle.std.specs.Prelude.{ℕ, zero, suc, ◌+◌, ◌%◌, ◌==◌, if◌then◌else◌, List, [], ◌∷◌, ◌++◌, length, Option, Some, None}
-use Rattle.rvm_hart.specs.declared.outcome.Stepped.{Stepped}
-use Rattle.rvm_hart.specs.declared.outcome.Stepped.TheVariants as stepped
 use Rattle.rvm_board.specs.Board.{with_input, with_output}
 use Rattle.rvm_debug.specs.declared.event.BoardReply.{BoardReply}
 use Rattle.rvm_debug.specs.declared.event.BoardReply.TheVariants.{Halted}
+use Rattle.rvm_debug.specs.declared.turns.Stop.{Stop}
+use Rattle.rvm_debug.specs.declared.turns.Stop.TheVariants as stop
 use Rattle.rvm_debug.specs.Guest.{Guest}
 use Rattle.rvm_debug.specs.Events.{Answered, steps, with_board}
 use Rattle.rvm_command.specs.declared.run.Ended.{Ended}
@@ -39,11 +39,6 @@ fed (byte ∷ rest) g =
 abbrev pub turn : (t : ℕ) → Fed → Answered
 turn t f = steps (t % length f.guest.board.harts) f.guest
 
--- the status in what a step did
-abbrev pub status_in : Option Stepped → Option ℕ
-status_in (Some (stepped.Halted status)) = Some status
-status_in other = None
-
 -- the guest, with these bytes that it sent
 abbrev pub with_sent : List ℕ → Guest → Guest
 with_sent bytes g = with_board (with_output bytes g.board) g
@@ -76,3 +71,15 @@ ran (suc n) t input g =
     (if t % 64 == 63
     then after_bytes (output_of s.guest) (ran n (t + 1) f.input (drained s.guest))
     else ran n (t + 1) f.input s.guest)
+
+-- the status of a board that turns left halted
+abbrev pub status_of : Option Stop → Option ℕ
+status_of (Some (stop.Halted s)) = Some s
+status_of (Some (stop.Break a)) = None
+status_of None = None
+
+-- the rest of a run, n turns from turn t on, behind turns that left this guest: its end, if the board is halted
+abbrev pub rest_of_run : (halted : Option ℕ) → (n t : ℕ) → (input : List ℕ) → Guest → Ran
+rest_of_run (Some s) n t input g = ends (ended.HaltedWith s) g
+rest_of_run None n t input g =
+    if t % 64 == 0 then after_bytes (output_of g) (ran n t input (drained g)) else ran n t input g

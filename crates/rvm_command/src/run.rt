@@ -1,11 +1,10 @@
 //! The loop of `rvmove run`: turns of the harts, input to the guest, and what it sends.
 
-ghost use Rattle.std.specs.Prelude.{◌≡◌, ◌<◌, ◌≤◌, ◌+◌, ◌%◌, OnOk, OnErr, IfOk, drop, length};
+ghost use Rattle.std.specs.Prelude.{◌≡◌, ◌<◌, ◌≤◌, ◌+◌, ◌-◌, ◌%◌, OnOk, OnErr, IfOk, drop, length, true};
 ghost use Rattle.std.specs.Io.KnownBytes.{Appends};
-ghost use Rattle.rvm_command.specs.Run.{drained, fed, output_of, ran, status_in};
+ghost use Rattle.rvm_command.specs.Run.{drained, fed, output_of, ran, rest_of_run, status_of};
 
-use rvm_debug::Debugged;
-use rvm_hart::Stepped;
+use rvm_debug::{Debugged, Order, Stop};
 use rvm_mem::Memory;
 use std::io::Write;
 use thiserror::Error;
@@ -47,22 +46,87 @@ pub fn run<M: Memory, W: Write>(
     ensures ended { IfOk result (λ e. e ≡ (ran steps 0 input.now guest.old.guest).ended) }
     ensures err { OnErr result (0 < length (ran steps 0 input.now guest.old.guest).written) }
 {
-    let harts = guest.harts();
     let mut next = 0;
-    let mut hart = 0;
-    for turn in 0..steps {
-        next = feed(guest, input, next);
-        if let Some(status) = halted(guest.step(hart)) {
+    let mut turn = 0;
+    while turn < steps {
+        let slice = make_turns(guest, turn, steps, input, next);
+        turn += slice.made;
+        next = slice.next;
+        if let Some(status) = slice.status {
             drain(guest, writer)?;
             return Ok(Ended::HaltedWith(status));
         }
-        if turn % DRAIN_EVERY == DRAIN_EVERY - 1 {
+        if turn % DRAIN_EVERY == 0 {
             drain(guest, writer)?;
         }
-        hart = next_hart(hart, harts);
     }
     drain(guest, writer)?;
     Ok(Ended::StepsSpent)
+}
+
+/// Turns after which the run looks after its guest.
+#[derive(Clone, Copy)]
+struct Slice {
+    /// How many were made.
+    made: u32,
+    /// The place of the byte of input that is offered next.
+    next: usize,
+    /// The status of the board, if it is halted.
+    status: Option<u8>,
+}
+
+/// Offers a byte of input and makes turns, from turn `turn` on, up to the next drain at most.
+fn make_turns<M: Memory>(
+    guest: &mut Debugged<M>,
+    turn: u32,
+    steps: u32,
+    input: &[u8],
+    next: usize,
+) -> Slice
+    requires turn { turn < steps }
+    requires next { next ≤ length input.now }
+    ensures run { ran (steps - turn) turn (drop next input.now) guest.old.guest
+        ≡ rest_of_run result.status (steps - turn - result.made) (turn + result.made)
+        (drop result.next input.now) guest.new.guest }
+    ensures some { 0 < result.made }
+    ensures within { turn + result.made ≤ steps }
+    ensures next { result.next ≤ length input.now }
+{
+    let next = feed(guest, input, next);
+    let count = turns_at_once(turn, steps, next < input.len());
+    let first = turn % guest.harts();
+    let turns = guest.turns(Order::RoundRobin, first, count);
+    Slice {
+        made: turns.made,
+        next,
+        status: status_of(turns.stop),
+    }
+}
+
+/// The status of a board that turns left halted.
+fn status_of(stop: Option<Stop>) -> Option<u8>
+    ensures { result ≡ status_of stop }
+{
+    match stop {
+        Some(Stop::Halted(status)) => Some(status),
+        _ => None,
+    }
+}
+
+/// How many turns are made from turn `turn` on before the guest is looked after again: one where
+/// there is more input, else those up to the next drain.
+fn turns_at_once(turn: u32, steps: u32, is_more: bool) -> u32
+    requires { turn < steps }
+    ensures some { 0 < result }
+    ensures within { turn + result ≤ steps }
+    ensures slice { turn % 64 + result ≤ 64 }
+    ensures one { is_more ≡ true → result ≡ 1 }
+{
+    if is_more {
+        1
+    } else {
+        (DRAIN_EVERY - turn % DRAIN_EVERY).min(steps - turn)
+    }
 }
 
 /// Offers the guest the byte of `input` at `next`, if there is one, and answers the place of the
@@ -79,27 +143,6 @@ fn feed<M: Memory>(guest: &mut Debugged<M>, input: &[u8], next: usize) -> usize
     } else {
         next
     }
-}
-
-/// The status of a board that a step found halted, or halted.
-#[inline(always)]
-fn halted(step: Option<Stepped>) -> Option<u8>
-    ensures { result ≡ status_in step }
-{
-    match step {
-        Some(Stepped::Halted(status)) => Some(status),
-        _ => None,
-    }
-}
-
-/// The hart whose turn comes after that of a hart.
-#[inline(always)]
-fn next_hart(hart: u32, harts: u32) -> u32
-    requires within { hart < harts }
-    requires bound { harts ≤ 8 }
-    ensures { result ≡ (hart + 1) % harts }
-{
-    if hart + 1 == harts { 0 } else { hart + 1 }
 }
 
 /// Writes all that the guest sent, and forgets it.

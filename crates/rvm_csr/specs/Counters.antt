@@ -2,6 +2,11 @@
 use Rattle.std.specs.Prelude.{ℕ, ◌+◌, ◌%◌, ◌^◌, Bool, if◌then◌else◌}
 use Rattle.rvm_csr.specs.Registers.{CsrState}
 
+-- the counters of a hart
+pub record Counts : Type 0 where
+  pub mcycle : ℕ
+  pub minstret : ℕ
+
 -- a counter of 64 bits after a step that it counts, or does not
 abbrev pub counted : Bool → ℕ → ℕ
 counted counts n = if counts then (n + 1) % 2 ^ 64 else n

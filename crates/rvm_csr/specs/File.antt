@@ -2,7 +2,7 @@
 use Rattle.rvm_csr.specs.declared.file.CsrFile.TheInside.{Inside}
 use Rattle.rvm_csr.specs.Registers.{CsrState}
 
--- each register is kept in the field of its name
+-- each register is kept in the field of its name, but the two counters together
 abbrev pub state_of : Inside → CsrState
 state_of file =
     record {
@@ -15,6 +15,6 @@ state_of file =
       mepc = file.mepc;
       mcause = file.mcause;
       mtval = file.mtval;
-      mcycle = file.mcycle;
-      minstret = file.minstret;
+      mcycle = file.counters.mcycle;
+      minstret = file.counters.minstret;
     }

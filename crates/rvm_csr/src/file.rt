@@ -8,6 +8,7 @@ ghost use Rattle.rvm_csr.specs.Traps.{trap_entered, trap_target, trap_left, pend
 ghost use Rattle.rvm_csr.specs.Counters.{ticked};
 
 use crate::cause::{Cause, Interrupt};
+use crate::counters::Counters;
 use crate::fields::CsrFields;
 use crate::interrupts::Interrupts;
 use crate::register::Csr;
@@ -31,8 +32,7 @@ pub struct CsrFile {
     mepc: u32,
     mcause: u32,
     mtval: u32,
-    mcycle: u64,
-    minstret: u64,
+    counters: Counters,
 }
 
 impl Model for CsrFile {
@@ -66,8 +66,7 @@ impl CsrFile {
             mepc: 0,
             mcause: 0,
             mtval: 0,
-            mcycle: 0,
-            minstret: 0,
+            counters: Counters::new(0, 0),
         }
     }
 
@@ -86,8 +85,7 @@ impl CsrFile {
             mepc: fields.mepc,
             mcause: fields.mcause,
             mtval: fields.mtval,
-            mcycle: fields.mcycle,
-            minstret: fields.minstret,
+            counters: Counters::new(fields.mcycle, fields.minstret),
         }
     }
 
@@ -105,8 +103,8 @@ impl CsrFile {
             mepc: self.mepc,
             mcause: self.mcause,
             mtval: self.mtval,
-            mcycle: self.mcycle,
-            minstret: self.minstret,
+            mcycle: self.counters.mcycle(),
+            minstret: self.counters.minstret(),
         }
     }
 
@@ -120,7 +118,7 @@ impl CsrFile {
 
     /// The value that an instruction reads from the register of a number; `mip` is what is pending
     /// at the hart now. None where the profile has no such register.
-    #[inline(never)]
+    #[inline]
     pub fn read(&self, number: u32, mip: Interrupts) -> Option<u32>
         ensures { result ≡ csr_read number mip self.now }
     {
@@ -130,7 +128,7 @@ impl CsrFile {
 
     /// Writes the register of a number. None, and nothing changes, where the profile has no such
     /// register or its number says that it is read-only.
-    #[inline(never)]
+    #[inline]
     pub fn write(&mut self, number: u32, value: u32) -> Option<()>
         ensures file { self.new ≡ unwrap_or (csr_write number value self.old) self.old }
         ensures written { is_some result ≡ is_some (csr_write number value self.old) }
@@ -207,15 +205,11 @@ impl CsrFile {
     pub fn tick(&mut self, cycle: bool, instret: bool)
         ensures { self.new ≡ ticked cycle instret self.old }
     {
-        if cycle {
-            self.mcycle = self.mcycle.wrapping_add(1);
-        }
-        if instret {
-            self.minstret = self.minstret.wrapping_add(1);
-        }
+        self.counters.tick(cycle, instret);
     }
 
     /// The value that is read from a register.
+    #[inline]
     fn value_of(&self, csr: Csr, mip: Interrupts) -> u32
         ensures { result ≡ value_of csr mip self.now }
     {
@@ -229,10 +223,10 @@ impl CsrFile {
             Csr::Mcause => self.mcause,
             Csr::Mtval => self.mtval,
             Csr::Mip => mip.bits(),
-            Csr::Mcycle => low_half(self.mcycle),
-            Csr::Minstret => low_half(self.minstret),
-            Csr::Mcycleh => high_half(self.mcycle),
-            Csr::Minstreth => high_half(self.minstret),
+            Csr::Mcycle => low_half(self.counters.mcycle()),
+            Csr::Minstret => low_half(self.counters.minstret()),
+            Csr::Mcycleh => high_half(self.counters.mcycle()),
+            Csr::Minstreth => high_half(self.counters.minstret()),
             Csr::Mhartid => self.hart,
             _ => 0,
         }
@@ -261,12 +255,38 @@ impl CsrFile {
             Csr::Mepc => self.mepc = value & !3,
             Csr::Mcause => self.mcause = value,
             Csr::Mtval => self.mtval = value,
-            Csr::Mcycle => self.mcycle = with_low(self.mcycle, value),
-            Csr::Minstret => self.minstret = with_low(self.minstret, value),
-            Csr::Mcycleh => self.mcycle = with_high(self.mcycle, value),
-            Csr::Minstreth => self.minstret = with_high(self.minstret, value),
+            Csr::Mcycle => {
+                let counter = with_low(self.counters.mcycle(), value);
+                self.set_mcycle(counter);
+            }
+            Csr::Minstret => {
+                let counter = with_low(self.counters.minstret(), value);
+                self.set_minstret(counter);
+            }
+            Csr::Mcycleh => {
+                let counter = with_high(self.counters.mcycle(), value);
+                self.set_mcycle(counter);
+            }
+            Csr::Minstreth => {
+                let counter = with_high(self.counters.minstret(), value);
+                self.set_minstret(counter);
+            }
             _ => {}
         }
+    }
+
+    /// Writes `mcycle`.
+    fn set_mcycle(&mut self, value: u64)
+        ensures { self.new ≡ record self.old { mcycle = value } }
+    {
+        self.counters = Counters::new(value, self.counters.minstret());
+    }
+
+    /// Writes `minstret`.
+    fn set_minstret(&mut self, value: u64)
+        ensures { self.new ≡ record self.old { minstret = value } }
+    {
+        self.counters = Counters::new(self.counters.mcycle(), value);
     }
 
     /// The handler's address: past the base of `mtvec` by four bytes times its number for an

@@ -9,6 +9,7 @@
 #![tactic(auto)]
 
 pub mod cause;
+mod counters;
 pub mod fields;
 pub mod file;
 pub mod interrupts;

@@ -1,3 +1,4 @@
 pub mod Guest
 pub mod Events
 pub mod Parts
+pub mod Turns

@@ -26,10 +26,10 @@ const HARTS: usize = MAX_HARTS as usize;
 /// step, and goes on with the next.
 #[derive(Drop)]
 pub struct Debugged<M: Memory> {
-    board: Board<M>,
-    breakpoints: Breakpoints,
+    pub(crate) board: Board<M>,
+    pub(crate) breakpoints: Breakpoints,
     /// For each hart whether it stopped at its pc and has not stepped since.
-    stopped: ArrayVec<bool, HARTS>,
+    pub(crate) stopped: ArrayVec<bool, HARTS>,
 }
 
 impl<M: Memory> Model for Debugged<M> {

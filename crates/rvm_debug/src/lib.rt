@@ -2,17 +2,19 @@
 //!
 //! Stands on `rvm_board`, and knows nothing of scripts, files or hosts. No event takes memory.
 //!
-//! To be read in this order: `view`, `breakpoints`, `event`, `part`, `debugged`.
+//! To be read in this order: `view`, `breakpoints`, `event`, `part`, `debugged`, `turns`.
 #![tactic(auto)]
 
 mod breakpoints;
 mod debugged;
 mod event;
 mod part;
+mod turns;
 mod view;
 
 pub use breakpoints::MAX_BREAKPOINTS;
 pub use debugged::Debugged;
 pub use event::{BoardEvent, BoardRefusal, BoardReply};
 pub use part::HartPart;
+pub use turns::{Order, Stop, Turns};
 pub use view::View;

@@ -1,4 +1,3 @@
-pub mod Outcomes
 pub mod Shape
 pub mod Reserved
 pub mod Whole

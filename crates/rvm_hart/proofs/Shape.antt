@@ -259,13 +259,21 @@ csr_written_keeps : (w rd n old : ℕ) (o : Option CsrState) (m : Machine) → C
 csr_written_keeps w rd n old None m keeps = refl
 csr_written_keeps w rd n old (Some s) m keeps = ap (λ k. k ∷ reach_shape m.reach) keeps
 
-csr_accessed_keeps : (b : Bool) (w rd n : ℕ) (c : CsrChange) (source : ℕ) (o : Option ℕ) (m : Machine) → Keeps (room.csr_accessed w rd n b c source o m) m
-csr_accessed_keeps b w rd n c source None m = refl
-csr_accessed_keeps true w rd n c source (Some old) m = csr_written_keeps w rd n old (csr_write n (room.changed c old source) m.hart.csrs) m (csr_write_keeps n (room.changed c old source) m.hart.csrs)
-csr_accessed_keeps false w rd n c source (Some old) m = refl
+csr_loaded_keeps : (w rd : ℕ) (o : Option ℕ) (m : Machine) → Keeps (room.csr_loaded w rd o m) m
+csr_loaded_keeps w rd None m = refl
+csr_loaded_keeps w rd (Some value) m = refl
+
+csr_changed_keeps : (w rd n : ℕ) (c : CsrChange) (source : ℕ) (o : Option ℕ) (m : Machine) → Keeps (room.csr_changed w rd n c source o m) m
+csr_changed_keeps w rd n c source None m = refl
+csr_changed_keeps w rd n c source (Some old) m = csr_written_keeps w rd n old (csr_write n (room.changed c old source) m.hart.csrs) m (csr_write_keeps n (room.changed c old source) m.hart.csrs)
+
+either_keeps : (b : Bool) (o p : Outcome) (m : Machine) → Keeps o m → Keeps p m → Keeps (if b then o else p) m
+either_keeps true o p m first second = first
+either_keeps false o p m first second = second
 
 accesses_keeps : (w rd n : ℕ) (c : CsrChange) (field source : ℕ) (m : Machine) → Keeps (room.accesses w rd n c field source m) m
-accesses_keeps w rd n c field source m = csr_accessed_keeps (room.writes c field) w rd n c source (csr_read n (mip_of (number_of m) m.reach.devices) m.hart.csrs) m
+accesses_keeps w rd n c field source m =
+    either_keeps (room.writes c field) _ _ m (csr_changed_keeps w rd n c source (room.csr_value n m) m) (csr_loaded_keeps w rd (room.csr_value n m) m)
 
 -- ROWS
 

@@ -1,11 +1,9 @@
 -- What an instruction comes to: it retires and leaves a machine, or it traps.
-use Rattle.std.specs.Prelude.{ℕ, ◌≡◌, ◌+◌, ◌%◌, ◌^◌, ◌==◌, if◌then◌else◌, List, [], Result, Ok, Err, slice_index, slice_set}
+use Rattle.std.specs.Prelude.{ℕ, ◌+◌, ◌%◌, ◌^◌, ◌==◌, if◌then◌else◌, List, [], slice_index, slice_set}
 use Rattle.rvm_csr.specs.declared.cause.Exception.{Exception}
-use Rattle.rvm_hart.specs.declared.outcome.Trap.{Trap}
 use Rattle.rvm_hart.specs.declared.outcome.Written.{Written}
 use Rattle.rvm_hart.specs.declared.outcome.Written.TheVariants.{Other}
-use Rattle.rvm_mem.specs.Pages.{mark_all}
-use Rattle.rvm_hart.specs.Machine.{HartState, BusState, Machine, machine}
+use Rattle.rvm_hart.specs.Machine.{HartState, Machine}
 
 -- the machine that a retired instruction leaves, the pages that it wrote, and what the end of the step looks at; or
 -- the exception, with its value for mtval
@@ -13,26 +11,10 @@ pub data Outcome : Type 0 where
   Done : (after : Machine) → (pages : List ℕ) → (wrote : Written) → Outcome
   Traps : (exception : Exception) → (value : ℕ) → Outcome
 
--- the parts of an outcome; a trap leaves the machine as it was
+-- the machine of an outcome; a trap leaves it as it was
 abbrev pub machine_after : Outcome → Machine → Machine
 machine_after (Done after pages wrote) m = after
 machine_after (Traps exception value) m = m
-
-abbrev pub pages_of : Outcome → List ℕ
-pages_of (Done after pages wrote) = pages
-pages_of (Traps exception value) = []
-
-abbrev pub result_of : Outcome → Result Written Trap
-result_of (Done after pages wrote) = Ok wrote
-result_of (Traps exception value) = Err (record { exception = exception; value = value })
-
--- a hart and its bus did what a function of the machine says: the machine that is left, the pages in the dirty log,
--- the result
-pub record Does (f : Machine → Outcome) (old : HartState) (old_bus : BusState) (new : HartState) (new_bus : BusState)
-    (answer : Result Written Trap) : Type 0 where
-  pub left : machine new new_bus ≡ machine_after (f (machine old old_bus)) (machine old old_bus)
-  pub dirty : new_bus.dirty ≡ mark_all (pages_of (f (machine old old_bus))) old_bus.dirty
-  pub result : answer ≡ result_of (f (machine old old_bus))
 
 -- the value of a register
 abbrev pub reg : ℕ → HartState → ℕ

@@ -1,5 +1,5 @@
 -- What the instructions of each kind do, given their operands.
-use Rattle.std.specs.Prelude.{ℕ, ℤ, pos, ◌+◌, ◌-◌, ◌*◌, ◌/◌, ◌%◌, ◌^◌, ◌+ℤ◌, ◌*ℤ◌, Bool, true, not, ◌==◌, nat_lt, int_lt, if◌then◌else◌, List, [], ◌∷◌, Option, Some, None, option_map, Result, Ok, Err, bit_and, bit_or, bit_xor}
+use Rattle.std.specs.Prelude.{ℕ, ℤ, pos, ◌+◌, ◌-◌, ◌*◌, ◌/◌, ◌%◌, ◌^◌, ◌+ℤ◌, ◌*ℤ◌, Bool, true, not, ◌==◌, nat_lt, int_lt, if◌then◌else◌, List, [], ◌∷◌, Option, Some, None, option_map, bit_and, bit_or, bit_xor}
 use Rattle.rvm_word.specs.Word.{signed, modulo, high, floor_shift, quotient, remainder, unsigned_quotient, unsigned_remainder}
 use Rattle.rvm_csr.specs.declared.cause.Exception.TheVariants.{InstructionAddressMisaligned, IllegalInstruction, LoadAddressMisaligned, LoadAccessFault, StoreAddressMisaligned, StoreAccessFault}
 use Rattle.rvm_csr.specs.Registers.{CsrState}
@@ -13,7 +13,6 @@ use Rattle.rvm_hart.specs.declared.atomics.Amo.{Amo}
 use Rattle.rvm_hart.specs.declared.atomics.Amo.TheVariants as amo
 use Rattle.rvm_hart.specs.declared.csrs.CsrChange.{CsrChange}
 use Rattle.rvm_hart.specs.declared.csrs.CsrChange.TheVariants as change
-use Rattle.rvm_hart.specs.declared.outcome.Trap.{Trap}
 use Rattle.rvm_hart.specs.declared.outcome.Written.{Written}
 use Rattle.rvm_hart.specs.declared.outcome.Written.TheVariants.{Other, Mcycle, Minstret}
 use Rattle.rvm_hart.specs.Machine.{Machine, HartState, number_of}
@@ -57,14 +56,7 @@ computes o rd a b m = gives rd (value_of o a b) m
 -- JUMPS AND BRANCHES (Unprivileged ISA, "Control Transfer Instructions")
 
 -- to a target, with the next instruction's address in rd; a target that is no multiple of four traps, and rd is not
--- written: the hart, the result, and both as an outcome
-abbrev pub jumped : (rd target : ℕ) → HartState → HartState
-jumped rd target h = if target % 4 == 0 then record h { regs = put rd (next_pc h) h.regs; pc = target } else h
-
-abbrev pub jump_result : (target : ℕ) → Result Written Trap
-jump_result target =
-    if target % 4 == 0 then Ok Other else Err (record { exception = InstructionAddressMisaligned; value = target })
-
+-- written
 abbrev pub jumps : (rd target : ℕ) → Machine → Outcome
 jumps rd target m =
     if target % 4 == 0
@@ -205,19 +197,31 @@ csr_written word rd n old (Some s) m =
     Done (record m { hart = record (given rd old m.hart) { csrs = s } }) [] (wrote_csr n)
 csr_written word rd n old None m = Traps IllegalInstruction word
 
-abbrev pub csr_accessed : (word rd number : ℕ) → (writes : Bool) → CsrChange → (source : ℕ) → Option ℕ → Machine
-    → Outcome
-csr_accessed word rd n writes c s (Some old) m =
-    if writes then csr_written word rd n old (csr_write n (changed c old s) m.hart.csrs) m else gives rd old m
-csr_accessed word rd n writes c s None m = Traps IllegalInstruction word
+-- the value of a register, if there is one of this number
+abbrev pub csr_value : (number : ℕ) → Machine → Option ℕ
+csr_value n m = csr_read n (mip_of (number_of m) m.reach.devices) m.hart.csrs
 
--- the s and c forms whose source field is 0 do not write
+-- rd gets the value; an absent register is illegal
+abbrev pub csr_loaded : (word rd : ℕ) → Option ℕ → Machine → Outcome
+csr_loaded word rd (Some value) m = gives rd value m
+csr_loaded word rd None m = Traps IllegalInstruction word
+
+abbrev pub reads_csr : (word rd number : ℕ) → Machine → Outcome
+reads_csr word rd n m = csr_loaded word rd (csr_value n m) m
+
+-- rd gets the old value, and the register the new one; an absent register, and one that is read-only, are illegal
+abbrev pub csr_changed : (word rd number : ℕ) → CsrChange → (source : ℕ) → Option ℕ → Machine → Outcome
+csr_changed word rd n c s (Some old) m = csr_written word rd n old (csr_write n (changed c old s) m.hart.csrs) m
+csr_changed word rd n c s None m = Traps IllegalInstruction word
+
+abbrev pub changes_csr : (word rd number : ℕ) → CsrChange → (source : ℕ) → Machine → Outcome
+changes_csr word rd n c s m = csr_changed word rd n c s (csr_value n m) m
+
+-- whether an instruction writes: the s and c forms whose source field is 0 do not
 abbrev pub writes : CsrChange → (field : ℕ) → Bool
 writes change.Write f = true
 writes change.Set f = not (f == 0)
 writes change.Clear f = not (f == 0)
 
--- rd gets the old value; an absent register, and a write to a read-only one, are illegal
 abbrev pub accesses : (word rd number : ℕ) → CsrChange → (field source : ℕ) → Machine → Outcome
-accesses word rd n c field source m =
-    csr_accessed word rd n (writes c field) c source (csr_read n (mip_of (number_of m) m.reach.devices) m.hart.csrs) m
+accesses word rd n c field source m = if writes c field then changes_csr word rd n c source m else reads_csr word rd n m

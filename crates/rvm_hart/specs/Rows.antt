@@ -26,6 +26,10 @@ signed_half v = modulo 32 (signed_value 16 v)
 abbrev pub as_it_is : ℕ → ℕ
 as_it_is v = v
 
+-- the trap's handler ends
+abbrev pub returns : Machine → Outcome
+returns m = Done (record m { hart = record m.hart { pc = m.hart.csrs.mepc; csrs = trap_left m.hart.csrs } }) [] Other
+
 -- the outcome of an instruction; word is the one that it was decoded from
 unfoldable pub effect : (word : ℕ) → Ins → Machine → Outcome
 effect w (Lui rd i) m = gives rd (i * 2 ^ 12) m
@@ -77,8 +81,7 @@ effect w (Fence rd rs1 i) m = passes m
 effect w (FenceI rd rs1 i) m = passes m
 effect w Ecall m = Traps EnvironmentCall 0
 effect w Ebreak m = Traps Breakpoint 0
-effect w Mret m =
-    Done (record m { hart = record m.hart { pc = m.hart.csrs.mepc; csrs = trap_left m.hart.csrs } }) [] Other
+effect w Mret m = returns m
 effect w Wfi m = passes m
 effect w (Csrrw rd rs1 n) m = room.accesses w rd n change.Write rs1 (reg rs1 m.hart) m
 effect w (Csrrs rd rs1 n) m = room.accesses w rd n change.Set rs1 (reg rs1 m.hart) m

@@ -1,5 +1,5 @@
 -- One step of a hart.
-use Rattle.std.specs.Prelude.{ℕ, ◌+◌, ◌%◌, ◌^◌, Bool, true, false, if◌then◌else◌, List, [], Option, Some, None}
+use Rattle.std.specs.Prelude.{ℕ, ◌≡◌, ◌+◌, ◌%◌, ◌^◌, Bool, true, false, if◌then◌else◌, List, [], Option, Some, None}
 use Rattle.rvm_isa.specs.declared.ins.Ins.{Ins}
 use Rattle.rvm_isa.specs.Table.{decoded}
 use Rattle.rvm_csr.specs.declared.cause.Exception.TheVariants.{InstructionAccessFault, IllegalInstruction}
@@ -12,7 +12,8 @@ use Rattle.rvm_hart.specs.declared.outcome.Written.{Written}
 use Rattle.rvm_hart.specs.declared.outcome.Written.TheVariants.{Other, Mcycle, Minstret, Mtime, Halt}
 use Rattle.rvm_hart.specs.declared.outcome.Stepped.{Stepped}
 use Rattle.rvm_hart.specs.declared.outcome.Stepped.TheVariants.{Retired, Trapped, Interrupted, Halted}
-use Rattle.rvm_hart.specs.Machine.{Machine, number_of}
+use Rattle.rvm_mem.specs.Pages.{mark_all}
+use Rattle.rvm_hart.specs.Machine.{Machine, HartState, BusState, machine, number_of}
 use Rattle.rvm_hart.specs.Bus.{ram_load, mip_of}
 use Rattle.rvm_hart.specs.Outcome.{Outcome, Done, Traps}
 use Rattle.rvm_hart.specs.Rows.{effect}
@@ -73,6 +74,15 @@ abbrev pub settled : Outcome → Machine → After
 settled (Done after pages wrote) m =
     record { machine = counts_retired wrote after; pages = pages; answer = answer_of wrote }
 settled (Traps e v) m = in_handler (cause.Exception e) v (Trapped e) m
+
+-- a hart and its bus took the step that ends an instruction whose outcome is a function of the machine: the machine
+-- that is left, the pages in the dirty log, the answer
+pub record Executes (instruction : Machine → Outcome) (old : HartState) (old_bus : BusState) (new : HartState)
+    (new_bus : BusState) (said : Stepped) : Type 0 where
+  pub left : machine new new_bus ≡ (settled (instruction (machine old old_bus)) (machine old old_bus)).machine
+  pub dirty : new_bus.dirty
+      ≡ mark_all (settled (instruction (machine old old_bus)) (machine old old_bus)).pages old_bus.dirty
+  pub answer : said ≡ (settled (instruction (machine old old_bus)) (machine old old_bus)).answer
 
 -- an interrupt that is pending is taken before an instruction runs
 abbrev pub unless_pending : Option Interrupt → Machine → After

@@ -3,13 +3,15 @@
 
 ghost use Rattle.std.specs.Prelude.{◌≡◌};
 ghost use Rattle.rvm_word.specs.Word.{modulo};
-ghost use Rattle.rvm_hart.specs.declared.outcome.Written.TheVariants.{Other};
-ghost use Rattle.rvm_hart.specs.Outcome.{reg, given};
-ghost use Rattle.rvm_hart.specs.Rooms.{value_of};
+ghost use Rattle.rvm_hart.specs.Outcome.{reg};
+ghost use Rattle.rvm_hart.specs.Rooms.{computes, value_of};
+ghost use Rattle.rvm_hart.specs.Step.{Executes};
 
+use crate::bus::Bus;
 use crate::hart::Hart;
-use crate::outcome::{Trap, Written};
+use crate::outcome::Stepped;
 use rvm_isa::{Imm12, Reg, Shamt};
+use rvm_mem::Memory;
 use rvm_word::{div, divu, less_signed, mulh, mulhsu, mulhu, rem, remu, sra};
 
 /// An operation, by the name of its instruction.
@@ -67,51 +69,52 @@ impl Operation {
 impl Hart {
     /// Puts the value of an operation on two registers into rd, and goes on.
     #[inline]
-    pub(crate) fn operate(
+    pub(crate) fn operate<M: Memory>(
         &mut self,
         operation: Operation,
         rd: Reg,
         rs1: Reg,
         rs2: Reg,
-    ) -> Result<Written, Trap>
-        ensures hart { self.new
-            ≡ given rd (value_of operation (reg rs1 self.old) (reg rs2 self.old)) self.old }
-        ensures result { result ≡ Ok Other }
+        bus: &mut Bus<M>,
+    ) -> Stepped
+        ensures { Executes (computes operation rd (reg rs1 self.old) (reg rs2 self.old))
+            self.old bus.old self.new bus.new result }
     {
         self.give(rd, operation.of(self.get(rs1), self.get(rs2)));
-        Ok(Written::Other)
+        self.retire(bus)
     }
 
     /// The same of a register and an immediate, which is sign-extended.
     #[inline]
-    pub(crate) fn operate_immediate(
+    pub(crate) fn operate_immediate<M: Memory>(
         &mut self,
         operation: Operation,
         rd: Reg,
         rs1: Reg,
         imm: Imm12,
-    ) -> Result<Written, Trap>
-        ensures hart { self.new
-            ≡ given rd (value_of operation (reg rs1 self.old) (modulo 32 imm)) self.old }
-        ensures result { result ≡ Ok Other }
+        bus: &mut Bus<M>,
+    ) -> Stepped
+        ensures { Executes (computes operation rd (reg rs1 self.old) (modulo 32 imm))
+            self.old bus.old self.new bus.new result }
     {
         self.give(rd, operation.of(self.get(rs1), imm.word()));
-        Ok(Written::Other)
+        self.retire(bus)
     }
 
     /// The same of a register and a shift amount.
     #[inline]
-    pub(crate) fn shift(
+    pub(crate) fn shift<M: Memory>(
         &mut self,
         operation: Operation,
         rd: Reg,
         rs1: Reg,
         amount: Shamt,
-    ) -> Result<Written, Trap>
-        ensures hart { self.new ≡ given rd (value_of operation (reg rs1 self.old) amount) self.old }
-        ensures result { result ≡ Ok Other }
+        bus: &mut Bus<M>,
+    ) -> Stepped
+        ensures { Executes (computes operation rd (reg rs1 self.old) amount)
+            self.old bus.old self.new bus.new result }
     {
         self.give(rd, operation.of(self.get(rs1), amount.bits()));
-        Ok(Written::Other)
+        self.retire(bus)
     }
 }

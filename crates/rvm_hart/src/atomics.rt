@@ -3,12 +3,13 @@
 
 ghost use Rattle.std.specs.Prelude.{◌≡◌, ◌<◌, length};
 ghost use Rattle.rvm_hart.specs.Machine.{machine};
-ghost use Rattle.rvm_hart.specs.Outcome.{Does, reg};
+ghost use Rattle.rvm_hart.specs.Outcome.{reg};
 ghost use Rattle.rvm_hart.specs.Rooms.{combined, operates, reserves, stores_conditionally};
+ghost use Rattle.rvm_hart.specs.Step.{Executes};
 
 use crate::bus::Bus;
 use crate::hart::Hart;
-use crate::outcome::{Trap, Written};
+use crate::outcome::Stepped;
 use rvm_csr::Exception;
 use rvm_isa::Reg;
 use rvm_mem::Memory;
@@ -64,27 +65,21 @@ impl Hart {
         rd: Reg,
         rs1: Reg,
         bus: &mut Bus<M>,
-    ) -> Result<Written, Trap>
+    ) -> Stepped
         requires { self.old.csrs.hart < length bus.old.reach.reservations }
-        ensures { Does (reserves rd (reg rs1 self.old)) self.old bus.old self.new bus.new result }
+        ensures { Executes (reserves rd (reg rs1 self.old)) self.old bus.old self.new bus.new result }
     {
         let address = self.get(rs1);
         if address % 4 != 0 {
-            return Err(Trap {
-                exception: Exception::LoadAddressMisaligned,
-                value: address,
-            });
+            return self.trap(Exception::LoadAddressMisaligned, address, bus);
         }
         match bus.ram_load32(address) {
             Some(value) => {
                 bus.hold(self.csrs.hart(), address);
                 self.give(rd, value);
-                Ok(Written::Other)
+                self.retire(bus)
             }
-            None => Err(Trap {
-                exception: Exception::LoadAccessFault,
-                value: address,
-            }),
+            None => self.trap(Exception::LoadAccessFault, address, bus),
         }
     }
 
@@ -97,23 +92,17 @@ impl Hart {
         rs1: Reg,
         rs2: Reg,
         bus: &mut Bus<M>,
-    ) -> Result<Written, Trap>
+    ) -> Stepped
         requires { self.old.csrs.hart < length bus.old.reach.reservations }
-        ensures { Does (stores_conditionally rd (reg rs1 self.old) (reg rs2 self.old))
+        ensures { Executes (stores_conditionally rd (reg rs1 self.old) (reg rs2 self.old))
             self.old bus.old self.new bus.new result }
     {
         let address = self.get(rs1);
         if address % 4 != 0 {
-            return Err(Trap {
-                exception: Exception::StoreAddressMisaligned,
-                value: address,
-            });
+            return self.trap(Exception::StoreAddressMisaligned, address, bus);
         }
         if bus.ram_load32(address).is_none() {
-            return Err(Trap {
-                exception: Exception::StoreAccessFault,
-                value: address,
-            });
+            return self.trap(Exception::StoreAccessFault, address, bus);
         }
         let hart = self.csrs.hart();
         if bus.take(hart, address) {
@@ -122,7 +111,7 @@ impl Hart {
         } else {
             self.give(rd, 1);
         }
-        Ok(Written::Other)
+        self.retire(bus)
     }
 
     /// Gives rd the old word of RAM and stores what the operation makes of it (AMO).
@@ -134,9 +123,9 @@ impl Hart {
         rs1: Reg,
         rs2: Reg,
         bus: &mut Bus<M>,
-    ) -> Result<Written, Trap>
+    ) -> Stepped
         requires { self.old.csrs.hart < length bus.old.reach.reservations }
-        ensures { Does (operates operation rd (reg rs1 self.old) (reg rs2 self.old))
+        ensures { Executes (operates operation rd (reg rs1 self.old) (reg rs2 self.old))
             self.old bus.old self.new bus.new result }
     {
         let address = self.get(rs1);
@@ -152,27 +141,21 @@ impl Hart {
         address: u32,
         source: u32,
         bus: &mut Bus<M>,
-    ) -> Result<Written, Trap>
+    ) -> Stepped
         requires { self.old.csrs.hart < length bus.old.reach.reservations }
-        ensures { Does (operates operation rd address source)
+        ensures { Executes (operates operation rd address source)
             self.old bus.old self.new bus.new result }
     {
         if address % 4 != 0 {
-            return Err(Trap {
-                exception: Exception::StoreAddressMisaligned,
-                value: address,
-            });
+            return self.trap(Exception::StoreAddressMisaligned, address, bus);
         }
         match bus.ram_load32(address) {
             Some(old) => {
                 let _ = bus.ram_store32(self.csrs.hart(), address, operation.of(old, source));
                 self.give(rd, old);
-                Ok(Written::Other)
+                self.retire(bus)
             }
-            None => Err(Trap {
-                exception: Exception::StoreAccessFault,
-                value: address,
-            }),
+            None => self.trap(Exception::StoreAccessFault, address, bus),
         }
     }
 }

@@ -1,6 +1,6 @@
 //! What a hart reaches: RAM, devices and reservations.
 
-ghost use Rattle.std.specs.Prelude.{◌≡◌, ◌%◌, ◌<◌, ◌^◌, ◌+◌, ◌*◌, ◌-◌, ◌++◌, ◌∷◌, [], ◌↔◌, length, min, take, drop, IfNone, OnOk, OnErr, IsErr, ◌≤◌, false, true, None, get_or};
+ghost use Rattle.std.specs.Prelude.{◌≡◌, ◌%◌, ◌<◌, ◌^◌, ◌+◌, ◌*◌, ◌-◌, ◌++◌, ◌∷◌, [], ◌↔◌, length, min, take, drop, IfNone, OnOk, OnErr, IsErr, ◌≤◌, false, true, None, get_or, is_some};
 ghost use Rattle.rvm_mem.specs.Bytes.{slice};
 ghost use Rattle.rvm_res.specs.Reservations as res;
 ghost use Rattle.rvm_dev.specs.Shared.{restored};
@@ -216,54 +216,54 @@ impl<M: Memory> Bus<M> {
 
     /// Hart `hart` stores a byte of RAM. None, and nothing changes, where there is no RAM.
     #[inline(always)]
-    pub fn ram_store8(&mut self, hart: u32, address: u32, value: u8) -> Option<Written>
+    pub fn ram_store8(&mut self, hart: u32, address: u32, value: u8) -> bool
         requires { hart < length self.old.reach.reservations }
         ensures bus { self.new ≡ left_by (ram_stored 1 hart address value self.old.reach) self.old }
-        ensures wrote { result ≡ wrote_by (ram_stored 1 hart address value self.old.reach) }
+        ensures stored { result ≡ is_some (ram_stored 1 hart address value self.old.reach) }
     {
         let at = address.wrapping_sub(RAM_BASE);
         if at < self.ram.len() {
             self.ram.store8(at, value);
             self.reservations.stored(hart as usize, address);
-            Some(Written::Other)
+            true
         } else {
-            None
+            false
         }
     }
 
     /// Hart `hart` stores two bytes of RAM at an aligned address.
     #[inline(always)]
-    pub fn ram_store16(&mut self, hart: u32, address: u32, value: u16) -> Option<Written>
+    pub fn ram_store16(&mut self, hart: u32, address: u32, value: u16) -> bool
         requires aligned { address % 2 ≡ 0 }
         requires hart { hart < length self.old.reach.reservations }
         ensures bus { self.new ≡ left_by (ram_stored 2 hart address value self.old.reach) self.old }
-        ensures wrote { result ≡ wrote_by (ram_stored 2 hart address value self.old.reach) }
+        ensures stored { result ≡ is_some (ram_stored 2 hart address value self.old.reach) }
     {
         let at = address.wrapping_sub(RAM_BASE);
         if at < self.ram.len() {
             self.ram.store16(at, value);
             self.reservations.stored(hart as usize, address);
-            Some(Written::Other)
+            true
         } else {
-            None
+            false
         }
     }
 
     /// Hart `hart` stores a word of RAM at an aligned address.
     #[inline(always)]
-    pub fn ram_store32(&mut self, hart: u32, address: u32, value: u32) -> Option<Written>
+    pub fn ram_store32(&mut self, hart: u32, address: u32, value: u32) -> bool
         requires aligned { address % 4 ≡ 0 }
         requires hart { hart < length self.old.reach.reservations }
         ensures bus { self.new ≡ left_by (ram_stored 4 hart address value self.old.reach) self.old }
-        ensures wrote { result ≡ wrote_by (ram_stored 4 hart address value self.old.reach) }
+        ensures stored { result ≡ is_some (ram_stored 4 hart address value self.old.reach) }
     {
         let at = address.wrapping_sub(RAM_BASE);
         if at < self.ram.len() {
             self.ram.store32(at, value);
             self.reservations.stored(hart as usize, address);
-            Some(Written::Other)
+            true
         } else {
-            None
+            false
         }
     }
 
@@ -355,7 +355,7 @@ impl<M: Memory> Bus<M> {
         self.reservations.hold(hart as usize, address);
     }
 
-    /// Ends a hart's reservation, and answers whether it was of the word at an address.
+    /// Executes a hart's reservation, and answers whether it was of the word at an address.
     #[inline(always)]
     pub fn take(&mut self, hart: u32, address: u32) -> bool
         requires { hart < length self.old.reach.reservations }
@@ -377,7 +377,7 @@ fn written_by(address: u32, value: u32) -> Written
     }
 }
 
-/// Ends the reservations of the words of so many bytes from an address on.
+/// Executes the reservations of the words of so many bytes from an address on.
 fn poke_each(reservations: &mut Reservations, address: u32, count: usize)
     requires { address + count ≤ 2 ^ 32 }
     ensures { reservations.new ≡ poked_each address count reservations.old }

@@ -2,12 +2,13 @@
 
 ghost use Rattle.std.specs.Prelude.{◌≡◌, ◌<◌, length};
 ghost use Rattle.rvm_hart.specs.Machine.{machine};
-ghost use Rattle.rvm_hart.specs.Outcome.{Does, reg};
-ghost use Rattle.rvm_hart.specs.Rooms.{accesses, changed, writes, wrote_csr};
+ghost use Rattle.rvm_hart.specs.Outcome.{reg};
+ghost use Rattle.rvm_hart.specs.Rooms.{accesses, changed, changes_csr, reads_csr, writes, wrote_csr};
+ghost use Rattle.rvm_hart.specs.Step.{Executes};
 
 use crate::bus::Bus;
 use crate::hart::Hart;
-use crate::outcome::{Trap, Written};
+use crate::outcome::{Stepped, Written};
 use rvm_csr::Exception;
 use rvm_isa::{CsrNo, Imm5, Reg};
 use rvm_mem::Memory;
@@ -25,6 +26,7 @@ pub enum CsrChange {
 
 impl CsrChange {
     /// The new value.
+    #[inline]
     fn of(self, old: u32, source: u32) -> u32
         ensures { result ≡ changed self old source }
     {
@@ -37,6 +39,7 @@ impl CsrChange {
 }
 
 /// A write to a half of a counter, which is then not counted in that step.
+#[inline]
 fn written_by(number: u32) -> Written
     ensures { result ≡ wrote_csr number }
 {
@@ -72,9 +75,9 @@ impl Hart {
         rs1: Reg,
         csr: CsrNo,
         bus: &mut Bus<M>,
-    ) -> Result<Written, Trap>
+    ) -> Stepped
         requires { self.old.csrs.hart < length bus.old.reach.devices.msip }
-        ensures { Does (accesses word rd csr change rs1 (reg rs1 self.old))
+        ensures { Executes (accesses word rd csr change rs1 (reg rs1 self.old))
             self.old bus.old self.new bus.new result }
     {
         let source = self.get(rs1);
@@ -91,15 +94,16 @@ impl Hart {
         imm: Imm5,
         csr: CsrNo,
         bus: &mut Bus<M>,
-    ) -> Result<Written, Trap>
+    ) -> Stepped
         requires { self.old.csrs.hart < length bus.old.reach.devices.msip }
-        ensures { Does (accesses word rd csr change imm imm)
+        ensures { Executes (accesses word rd csr change imm imm)
             self.old bus.old self.new bus.new result }
     {
         self.access_csr(word, change, rd, imm.bits(), imm.bits(), csr, bus)
     }
 
-    #[inline(never)]
+    /// Reads a register, and changes it by a source unless the instruction's field says not to.
+    #[inline]
     fn access_csr<M: Memory>(
         &mut self,
         word: u32,
@@ -109,30 +113,61 @@ impl Hart {
         source: u32,
         csr: CsrNo,
         bus: &mut Bus<M>,
-    ) -> Result<Written, Trap>
+    ) -> Stepped
         requires { self.old.csrs.hart < length bus.old.reach.devices.msip }
-        ensures { Does (accesses word rd csr change field source)
+        ensures { Executes (accesses word rd csr change field source)
+            self.old bus.old self.new bus.new result }
+    {
+        if change.writes(field) {
+            self.write_csr(word, change, rd, source, csr, bus)
+        } else {
+            self.read_csr(word, rd, csr, bus)
+        }
+    }
+
+    /// Only reads a register into rd.
+    #[inline(never)]
+    fn read_csr<M: Memory>(&mut self, word: u32, rd: Reg, csr: CsrNo, bus: &mut Bus<M>) -> Stepped
+        requires { self.old.csrs.hart < length bus.old.reach.devices.msip }
+        ensures { Executes (reads_csr word rd csr) self.old bus.old self.new bus.new result }
+    {
+        let pending = bus.interrupts(self.csrs.hart());
+        match self.csrs.read(csr.bits(), pending) {
+            Some(value) => {
+                self.give(rd, value);
+                self.retire(bus)
+            }
+            None => self.trap(Exception::IllegalInstruction, word, bus),
+        }
+    }
+
+    /// Reads a register into rd and writes it.
+    #[inline(never)]
+    fn write_csr<M: Memory>(
+        &mut self,
+        word: u32,
+        change: CsrChange,
+        rd: Reg,
+        source: u32,
+        csr: CsrNo,
+        bus: &mut Bus<M>,
+    ) -> Stepped
+        requires { self.old.csrs.hart < length bus.old.reach.devices.msip }
+        ensures { Executes (changes_csr word rd csr change source)
             self.old bus.old self.new bus.new result }
     {
         let number = csr.bits();
-        let illegal = Trap {
-            exception: Exception::IllegalInstruction,
-            value: word,
-        };
         let pending = bus.interrupts(self.csrs.hart());
         let Some(old) = self.csrs.read(number, pending) else {
-            return Err(illegal);
+            return self.trap(Exception::IllegalInstruction, word, bus);
         };
-        if !change.writes(field) {
-            self.give(rd, old);
-            return Ok(Written::Other);
-        }
-        match self.csrs.write(number, change.of(old, source)) {
-            Some(()) => {
-                self.give(rd, old);
-                Ok(written_by(number))
-            }
-            None => Err(illegal),
+        let Some(()) = self.csrs.write(number, change.of(old, source)) else {
+            return self.trap(Exception::IllegalInstruction, word, bus);
+        };
+        self.give(rd, old);
+        match written_by(number) {
+            Written::Other => self.retire(bus),
+            counter => self.retire_after(counter, bus),
         }
     }
 }

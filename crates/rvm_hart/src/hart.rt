@@ -3,7 +3,6 @@
 ghost use Rattle.std.specs.Prelude.{◌≡◌, ◌%◌, ◌<◌, length, drop, replicate, slice_set, ◌≤◌};
 ghost use Rattle.rvm_csr.specs.Registers.{at_reset};
 ghost use Rattle.rvm_csr.specs.Traps.{trap_left};
-ghost use Rattle.rvm_hart.specs.declared.outcome.Written.TheVariants.{Other};
 ghost use Rattle.rvm_hart.specs.Machine.{HartState};
 ghost use Rattle.rvm_hart.specs.Outcome.{reg, given, passed};
 ghost use Rattle.rvm_hart.specs.Rooms.{sum};
@@ -11,7 +10,6 @@ ghost use Rattle.rvm_hart.specs.Pokes.{register_poked};
 ghost use Rattle.rvm_hart.specs.Fields.{CanBeHeld, fields_of, with_number};
 
 use crate::fields::HartFields;
-use crate::outcome::{Trap, Written};
 use rvm_csr::CsrFile;
 use rvm_isa::{Imm12, Reg};
 use rvm_word::add_signed;
@@ -136,13 +134,11 @@ impl Hart {
 
     /// Returns from a trap (MRET).
     #[inline(never)]
-    pub(crate) fn mret(&mut self) -> Result<Written, Trap>
-        ensures hart { self.new
+    pub(crate) fn mret(&mut self)
+        ensures { self.new
             ≡ record self.old { pc = self.old.csrs.mepc; csrs = trap_left self.old.csrs } }
-        ensures result { result ≡ Ok Other }
     {
         self.pc = self.csrs.mret();
-        Ok(Written::Other)
     }
 
     /// Sets a register from outside: x0 to x31 by its number, or pc by 32, of which bits 1:0 are

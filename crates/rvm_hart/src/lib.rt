@@ -31,4 +31,4 @@ pub use csrs::CsrChange;
 pub use fields::HartFields;
 pub use hart::{Hart, PC};
 pub use jumps::Comparison;
-pub use outcome::{Stepped, Trap, Written};
+pub use outcome::{Stepped, Written};

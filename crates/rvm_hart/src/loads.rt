@@ -1,15 +1,16 @@
 //! Loads (Unprivileged ISA, "Load and Store Instructions"): alignment is looked at first, then
 //! whether something is there.
 
-ghost use Rattle.std.specs.Prelude.{◌≡◌};
+ghost use Rattle.std.specs.Prelude.{◌≡◌, ◌%◌};
 ghost use Rattle.rvm_hart.specs.Machine.{machine};
-ghost use Rattle.rvm_hart.specs.Outcome.{Does, reg};
+ghost use Rattle.rvm_hart.specs.Outcome.{reg};
 ghost use Rattle.rvm_hart.specs.Rooms.{sum, loads_byte, loads_half, loads_word};
+ghost use Rattle.rvm_hart.specs.Step.{Executes};
 ghost use Rattle.rvm_hart.specs.Rows.{signed_byte, signed_half, as_it_is};
 
 use crate::bus::Bus;
 use crate::hart::Hart;
-use crate::outcome::{Trap, Written};
+use crate::outcome::Stepped;
 use rvm_csr::Exception;
 use rvm_isa::{Imm12, Reg};
 use rvm_mem::Memory;
@@ -24,20 +25,17 @@ impl Hart {
         rs1: Reg,
         imm: Imm12,
         bus: &mut Bus<M>,
-    ) -> Result<Written, Trap>
-        ensures { Does (loads_byte signed_byte rd (sum (reg rs1 self.old) imm))
+    ) -> Stepped
+        ensures { Executes (loads_byte signed_byte rd (sum (reg rs1 self.old) imm))
             self.old bus.old self.new bus.new result }
     {
         let address = self.plus(rs1, imm);
         match bus.ram_load8(address) {
             Some(value) => {
                 self.give(rd, sext(u32::from(value), 8));
-                Ok(Written::Other)
+                self.retire(bus)
             }
-            None => Err(Trap {
-                exception: Exception::LoadAccessFault,
-                value: address,
-            }),
+            None => self.trap(Exception::LoadAccessFault, address, bus),
         }
     }
 
@@ -49,20 +47,17 @@ impl Hart {
         rs1: Reg,
         imm: Imm12,
         bus: &mut Bus<M>,
-    ) -> Result<Written, Trap>
-        ensures { Does (loads_byte as_it_is rd (sum (reg rs1 self.old) imm))
+    ) -> Stepped
+        ensures { Executes (loads_byte as_it_is rd (sum (reg rs1 self.old) imm))
             self.old bus.old self.new bus.new result }
     {
         let address = self.plus(rs1, imm);
         match bus.ram_load8(address) {
             Some(value) => {
                 self.give(rd, u32::from(value));
-                Ok(Written::Other)
+                self.retire(bus)
             }
-            None => Err(Trap {
-                exception: Exception::LoadAccessFault,
-                value: address,
-            }),
+            None => self.trap(Exception::LoadAccessFault, address, bus),
         }
     }
 
@@ -74,26 +69,20 @@ impl Hart {
         rs1: Reg,
         imm: Imm12,
         bus: &mut Bus<M>,
-    ) -> Result<Written, Trap>
-        ensures { Does (loads_half signed_half rd (sum (reg rs1 self.old) imm))
+    ) -> Stepped
+        ensures { Executes (loads_half signed_half rd (sum (reg rs1 self.old) imm))
             self.old bus.old self.new bus.new result }
     {
         let address = self.plus(rs1, imm);
         if address % 2 != 0 {
-            return Err(Trap {
-                exception: Exception::LoadAddressMisaligned,
-                value: address,
-            });
+            return self.trap(Exception::LoadAddressMisaligned, address, bus);
         }
         match bus.ram_load16(address) {
             Some(value) => {
                 self.give(rd, sext(u32::from(value), 16));
-                Ok(Written::Other)
+                self.retire(bus)
             }
-            None => Err(Trap {
-                exception: Exception::LoadAccessFault,
-                value: address,
-            }),
+            None => self.trap(Exception::LoadAccessFault, address, bus),
         }
     }
 
@@ -105,57 +94,61 @@ impl Hart {
         rs1: Reg,
         imm: Imm12,
         bus: &mut Bus<M>,
-    ) -> Result<Written, Trap>
-        ensures { Does (loads_half as_it_is rd (sum (reg rs1 self.old) imm))
+    ) -> Stepped
+        ensures { Executes (loads_half as_it_is rd (sum (reg rs1 self.old) imm))
             self.old bus.old self.new bus.new result }
     {
         let address = self.plus(rs1, imm);
         if address % 2 != 0 {
-            return Err(Trap {
-                exception: Exception::LoadAddressMisaligned,
-                value: address,
-            });
+            return self.trap(Exception::LoadAddressMisaligned, address, bus);
         }
         match bus.ram_load16(address) {
             Some(value) => {
                 self.give(rd, u32::from(value));
-                Ok(Written::Other)
+                self.retire(bus)
             }
-            None => Err(Trap {
-                exception: Exception::LoadAccessFault,
-                value: address,
-            }),
+            None => self.trap(Exception::LoadAccessFault, address, bus),
         }
     }
 
     /// A word of RAM or a device (LW).
-    #[inline(always)]
+    #[inline]
     pub(crate) fn load_word<M: Memory>(
         &mut self,
         rd: Reg,
         rs1: Reg,
         imm: Imm12,
         bus: &mut Bus<M>,
-    ) -> Result<Written, Trap>
-        ensures { Does (loads_word rd (sum (reg rs1 self.old) imm))
+    ) -> Stepped
+        ensures { Executes (loads_word rd (sum (reg rs1 self.old) imm))
             self.old bus.old self.new bus.new result }
     {
         let address = self.plus(rs1, imm);
         if address % 4 != 0 {
-            return Err(Trap {
-                exception: Exception::LoadAddressMisaligned,
-                value: address,
-            });
+            return self.trap(Exception::LoadAddressMisaligned, address, bus);
         }
+        match bus.ram_load32(address) {
+            Some(value) => {
+                self.give(rd, value);
+                self.retire(bus)
+            }
+            None => self.load_elsewhere(rd, address, bus),
+        }
+    }
+
+    /// The same of an aligned address, wherever it is.
+    #[cold]
+    #[inline(never)]
+    fn load_elsewhere<M: Memory>(&mut self, rd: Reg, address: u32, bus: &mut Bus<M>) -> Stepped
+        requires { address % 4 ≡ 0 }
+        ensures { Executes (loads_word rd address) self.old bus.old self.new bus.new result }
+    {
         match bus.load32(address) {
             Some(value) => {
                 self.give(rd, value);
-                Ok(Written::Other)
+                self.retire(bus)
             }
-            None => Err(Trap {
-                exception: Exception::LoadAccessFault,
-                value: address,
-            }),
+            None => self.trap(Exception::LoadAccessFault, address, bus),
         }
     }
 }

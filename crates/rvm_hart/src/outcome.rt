@@ -15,13 +15,6 @@ pub enum Stepped {
     Halted(u8),
 }
 
-/// A synchronous exception of an instruction, with the value for `mtval`.
-#[derive(Clone, Copy, Debug, PartialEq, Eq)]
-pub struct Trap {
-    pub exception: Exception,
-    pub value: u32,
-}
-
 /// What a retired instruction wrote that the end of its step looks at: a counter of which it wrote
 /// a half is not counted in that step.
 #[derive(Clone, Copy, Debug, PartialEq, Eq)]

@@ -2,10 +2,9 @@
 
 ghost use Rattle.std.specs.Prelude.{◌≡◌, ◌<◌, length};
 ghost use Rattle.rvm_hart.specs.Machine.{machine};
-ghost use Rattle.rvm_hart.specs.Outcome.{Does};
-ghost use Rattle.rvm_hart.specs.Rows.{effect};
-ghost use Rattle.rvm_hart.specs.Outcome.{given, passed};
-ghost use Rattle.rvm_hart.specs.declared.outcome.Written.TheVariants.{Other};
+ghost use Rattle.rvm_hart.specs.Outcome.{gives, passes};
+ghost use Rattle.rvm_hart.specs.Rows.{effect, returns};
+ghost use Rattle.rvm_hart.specs.Step.{Executes};
 
 use crate::arithmetic::Operation;
 use crate::atomics::Amo;
@@ -13,7 +12,7 @@ use crate::bus::Bus;
 use crate::csrs::CsrChange;
 use crate::hart::Hart;
 use crate::jumps::Comparison;
-use crate::outcome::{Trap, Written};
+use crate::outcome::Stepped;
 use rvm_csr::Exception;
 use rvm_isa::{Ins, Reg};
 use rvm_mem::Memory;
@@ -21,62 +20,53 @@ use rvm_word::{
     add_signed, div, divu, less_signed, less_signed_than, mulh, mulhsu, mulhu, rem, remu, sra,
 };
 
-/// An exception of the instruction itself, with 0 for `mtval`.
-#[inline(always)]
-fn trap(exception: Exception) -> Result<Written, Trap>
-    ensures { result ≡ Err (record { exception = exception; value = 0 }) }
-{
-    Err(Trap {
-        exception,
-        value: 0,
-    })
-}
-
 impl Hart {
     /// Puts a value into rd, and goes on.
-    #[inline(always)]
-    fn retire(&mut self, rd: Reg, value: u32) -> Result<Written, Trap>
-        ensures hart { self.new ≡ given rd value self.old }
-        ensures result { result ≡ Ok Other }
+    #[inline]
+    fn put<M: Memory>(&mut self, rd: Reg, value: u32, bus: &mut Bus<M>) -> Stepped
+        ensures { Executes (gives rd value) self.old bus.old self.new bus.new result }
     {
         self.give(rd, value);
-        Ok(Written::Other)
+        self.retire(bus)
     }
 
     /// Only goes on.
-    #[inline(always)]
-    fn skip(&mut self) -> Result<Written, Trap>
-        ensures hart { self.new ≡ passed self.old }
-        ensures result { result ≡ Ok Other }
+    #[inline]
+    fn skip<M: Memory>(&mut self, bus: &mut Bus<M>) -> Stepped
+        ensures { Executes passes self.old bus.old self.new bus.new result }
     {
         self.pass();
-        Ok(Written::Other)
+        self.retire(bus)
+    }
+
+    /// Returns from a trap (MRET).
+    #[inline(never)]
+    fn leave<M: Memory>(&mut self, bus: &mut Bus<M>) -> Stepped
+        ensures { Executes returns self.old bus.old self.new bus.new result }
+    {
+        self.mret();
+        self.retire(bus)
     }
 
     /// Applies an instruction, which was decoded from `word`.
     #[inline(always)]
     #[tactic(auto, unfolding(crate::specs::Rows::effect))]
-    pub(crate) fn apply<M: Memory>(
-        &mut self,
-        word: u32,
-        ins: Ins,
-        bus: &mut Bus<M>,
-    ) -> Result<Written, Trap>
+    pub(crate) fn apply<M: Memory>(&mut self, word: u32, ins: Ins, bus: &mut Bus<M>) -> Stepped
         requires reservation { self.old.csrs.hart < length bus.old.reach.reservations }
         requires devices { self.old.csrs.hart < length bus.old.reach.devices.msip }
-        ensures { Does (effect word ins) self.old bus.old self.new bus.new result }
+        ensures { Executes (effect word ins) self.old bus.old self.new bus.new result }
     {
         match ins {
-            Ins::Lui { rd, imm } => self.retire(rd, imm.bits() << 12),
-            Ins::Auipc { rd, imm } => self.retire(rd, self.pc.wrapping_add(imm.bits() << 12)),
-            Ins::Jal { rd, offset } => self.jump_to_offset(rd, offset),
-            Ins::Jalr { rd, rs1, imm } => self.jump_to_register(rd, rs1, imm),
-            Ins::Beq { rs1, rs2, offset } => self.branch(Comparison::Eq, rs1, rs2, offset),
-            Ins::Bne { rs1, rs2, offset } => self.branch(Comparison::Ne, rs1, rs2, offset),
-            Ins::Blt { rs1, rs2, offset } => self.branch(Comparison::Lt, rs1, rs2, offset),
-            Ins::Bge { rs1, rs2, offset } => self.branch(Comparison::Ge, rs1, rs2, offset),
-            Ins::Bltu { rs1, rs2, offset } => self.branch(Comparison::Ltu, rs1, rs2, offset),
-            Ins::Bgeu { rs1, rs2, offset } => self.branch(Comparison::Geu, rs1, rs2, offset),
+            Ins::Lui { rd, imm } => self.put(rd, imm.bits() << 12, bus),
+            Ins::Auipc { rd, imm } => self.put(rd, self.pc.wrapping_add(imm.bits() << 12), bus),
+            Ins::Jal { rd, offset } => self.jump_to_offset(rd, offset, bus),
+            Ins::Jalr { rd, rs1, imm } => self.jump_to_register(rd, rs1, imm, bus),
+            Ins::Beq { rs1, rs2, offset } => self.branch(Comparison::Eq, rs1, rs2, offset, bus),
+            Ins::Bne { rs1, rs2, offset } => self.branch(Comparison::Ne, rs1, rs2, offset, bus),
+            Ins::Blt { rs1, rs2, offset } => self.branch(Comparison::Lt, rs1, rs2, offset, bus),
+            Ins::Bge { rs1, rs2, offset } => self.branch(Comparison::Ge, rs1, rs2, offset, bus),
+            Ins::Bltu { rs1, rs2, offset } => self.branch(Comparison::Ltu, rs1, rs2, offset, bus),
+            Ins::Bgeu { rs1, rs2, offset } => self.branch(Comparison::Geu, rs1, rs2, offset, bus),
             Ins::Lb { rd, rs1, imm } => self.load_signed_byte(rd, rs1, imm, bus),
             Ins::Lh { rd, rs1, imm } => self.load_signed_half(rd, rs1, imm, bus),
             Ins::Lw { rd, rs1, imm } => self.load_word(rd, rs1, imm, bus),
@@ -85,37 +75,43 @@ impl Hart {
             Ins::Sb { rs1, rs2, imm } => self.store_byte(rs1, rs2, imm, bus),
             Ins::Sh { rs1, rs2, imm } => self.store_half(rs1, rs2, imm, bus),
             Ins::Sw { rs1, rs2, imm } => self.store_word(rs1, rs2, imm, bus),
-            Ins::Addi { rd, rs1, imm } => self.operate_immediate(Operation::Add, rd, rs1, imm),
-            Ins::Slti { rd, rs1, imm } => self.operate_immediate(Operation::Slt, rd, rs1, imm),
-            Ins::Sltiu { rd, rs1, imm } => self.operate_immediate(Operation::Sltu, rd, rs1, imm),
-            Ins::Xori { rd, rs1, imm } => self.operate_immediate(Operation::Xor, rd, rs1, imm),
-            Ins::Ori { rd, rs1, imm } => self.operate_immediate(Operation::Or, rd, rs1, imm),
-            Ins::Andi { rd, rs1, imm } => self.operate_immediate(Operation::And, rd, rs1, imm),
-            Ins::Slli { rd, rs1, amount } => self.shift(Operation::Sll, rd, rs1, amount),
-            Ins::Srli { rd, rs1, amount } => self.shift(Operation::Srl, rd, rs1, amount),
-            Ins::Srai { rd, rs1, amount } => self.shift(Operation::Sra, rd, rs1, amount),
-            Ins::Add { rd, rs1, rs2 } => self.operate(Operation::Add, rd, rs1, rs2),
-            Ins::Sub { rd, rs1, rs2 } => self.operate(Operation::Sub, rd, rs1, rs2),
-            Ins::Sll { rd, rs1, rs2 } => self.operate(Operation::Sll, rd, rs1, rs2),
-            Ins::Slt { rd, rs1, rs2 } => self.operate(Operation::Slt, rd, rs1, rs2),
-            Ins::Sltu { rd, rs1, rs2 } => self.operate(Operation::Sltu, rd, rs1, rs2),
-            Ins::Xor { rd, rs1, rs2 } => self.operate(Operation::Xor, rd, rs1, rs2),
-            Ins::Srl { rd, rs1, rs2 } => self.operate(Operation::Srl, rd, rs1, rs2),
-            Ins::Sra { rd, rs1, rs2 } => self.operate(Operation::Sra, rd, rs1, rs2),
-            Ins::Or { rd, rs1, rs2 } => self.operate(Operation::Or, rd, rs1, rs2),
-            Ins::And { rd, rs1, rs2 } => self.operate(Operation::And, rd, rs1, rs2),
-            Ins::Mul { rd, rs1, rs2 } => self.operate(Operation::Mul, rd, rs1, rs2),
-            Ins::Mulh { rd, rs1, rs2 } => self.operate(Operation::Mulh, rd, rs1, rs2),
-            Ins::Mulhsu { rd, rs1, rs2 } => self.operate(Operation::Mulhsu, rd, rs1, rs2),
-            Ins::Mulhu { rd, rs1, rs2 } => self.operate(Operation::Mulhu, rd, rs1, rs2),
-            Ins::Div { rd, rs1, rs2 } => self.operate(Operation::Div, rd, rs1, rs2),
-            Ins::Divu { rd, rs1, rs2 } => self.operate(Operation::Divu, rd, rs1, rs2),
-            Ins::Rem { rd, rs1, rs2 } => self.operate(Operation::Rem, rd, rs1, rs2),
-            Ins::Remu { rd, rs1, rs2 } => self.operate(Operation::Remu, rd, rs1, rs2),
-            Ins::Fence { .. } | Ins::FenceI { .. } | Ins::Wfi => self.skip(),
-            Ins::Ecall => trap(Exception::EnvironmentCall),
-            Ins::Ebreak => trap(Exception::Breakpoint),
-            Ins::Mret => self.mret(),
+            Ins::Addi { rd, rs1, imm } => self.operate_immediate(Operation::Add, rd, rs1, imm, bus),
+            Ins::Slti { rd, rs1, imm } => self.operate_immediate(Operation::Slt, rd, rs1, imm, bus),
+            Ins::Sltiu { rd, rs1, imm } => self.operate_immediate(
+                Operation::Sltu,
+                rd,
+                rs1,
+                imm,
+                bus,
+            ),
+            Ins::Xori { rd, rs1, imm } => self.operate_immediate(Operation::Xor, rd, rs1, imm, bus),
+            Ins::Ori { rd, rs1, imm } => self.operate_immediate(Operation::Or, rd, rs1, imm, bus),
+            Ins::Andi { rd, rs1, imm } => self.operate_immediate(Operation::And, rd, rs1, imm, bus),
+            Ins::Slli { rd, rs1, amount } => self.shift(Operation::Sll, rd, rs1, amount, bus),
+            Ins::Srli { rd, rs1, amount } => self.shift(Operation::Srl, rd, rs1, amount, bus),
+            Ins::Srai { rd, rs1, amount } => self.shift(Operation::Sra, rd, rs1, amount, bus),
+            Ins::Add { rd, rs1, rs2 } => self.operate(Operation::Add, rd, rs1, rs2, bus),
+            Ins::Sub { rd, rs1, rs2 } => self.operate(Operation::Sub, rd, rs1, rs2, bus),
+            Ins::Sll { rd, rs1, rs2 } => self.operate(Operation::Sll, rd, rs1, rs2, bus),
+            Ins::Slt { rd, rs1, rs2 } => self.operate(Operation::Slt, rd, rs1, rs2, bus),
+            Ins::Sltu { rd, rs1, rs2 } => self.operate(Operation::Sltu, rd, rs1, rs2, bus),
+            Ins::Xor { rd, rs1, rs2 } => self.operate(Operation::Xor, rd, rs1, rs2, bus),
+            Ins::Srl { rd, rs1, rs2 } => self.operate(Operation::Srl, rd, rs1, rs2, bus),
+            Ins::Sra { rd, rs1, rs2 } => self.operate(Operation::Sra, rd, rs1, rs2, bus),
+            Ins::Or { rd, rs1, rs2 } => self.operate(Operation::Or, rd, rs1, rs2, bus),
+            Ins::And { rd, rs1, rs2 } => self.operate(Operation::And, rd, rs1, rs2, bus),
+            Ins::Mul { rd, rs1, rs2 } => self.operate(Operation::Mul, rd, rs1, rs2, bus),
+            Ins::Mulh { rd, rs1, rs2 } => self.operate(Operation::Mulh, rd, rs1, rs2, bus),
+            Ins::Mulhsu { rd, rs1, rs2 } => self.operate(Operation::Mulhsu, rd, rs1, rs2, bus),
+            Ins::Mulhu { rd, rs1, rs2 } => self.operate(Operation::Mulhu, rd, rs1, rs2, bus),
+            Ins::Div { rd, rs1, rs2 } => self.operate(Operation::Div, rd, rs1, rs2, bus),
+            Ins::Divu { rd, rs1, rs2 } => self.operate(Operation::Divu, rd, rs1, rs2, bus),
+            Ins::Rem { rd, rs1, rs2 } => self.operate(Operation::Rem, rd, rs1, rs2, bus),
+            Ins::Remu { rd, rs1, rs2 } => self.operate(Operation::Remu, rd, rs1, rs2, bus),
+            Ins::Fence { .. } | Ins::FenceI { .. } | Ins::Wfi => self.skip(bus),
+            Ins::Ecall => self.trap(Exception::EnvironmentCall, 0, bus),
+            Ins::Ebreak => self.trap(Exception::Breakpoint, 0, bus),
+            Ins::Mret => self.leave(bus),
             Ins::Csrrw { rd, rs1, csr } => self.change_csr(
                 word,
                 CsrChange::Write,

@@ -6,12 +6,12 @@ ghost use Rattle.rvm_csr.specs.declared.cause.Cause.TheVariants as cause;
 ghost use Rattle.rvm_csr.specs.Traps.{pending};
 ghost use Rattle.rvm_hart.specs.Machine.{machine};
 ghost use Rattle.rvm_hart.specs.Bus.{mip_of};
-ghost use Rattle.rvm_hart.specs.Outcome.{Does};
-ghost use Rattle.rvm_hart.specs.Step.{execute, counts, counts_retired, answer_of, trapped, step};
+ghost use Rattle.rvm_hart.specs.declared.outcome.Stepped.TheVariants.{Retired, Trapped};
+ghost use Rattle.rvm_hart.specs.Step.{Executes, execute, counts, counts_retired, answer_of, trapped, step};
 
 use crate::bus::Bus;
 use crate::hart::Hart;
-use crate::outcome::{Stepped, Trap, Written};
+use crate::outcome::{Stepped, Written};
 use rvm_csr::{Cause, Exception, Interrupt};
 use rvm_isa::decode::decode;
 use rvm_mem::Memory;
@@ -36,18 +36,7 @@ impl Hart {
             self.enter(Cause::Interrupt(interrupt), 0, bus);
             return Stepped::Interrupted(interrupt);
         }
-        match self.execute(bus) {
-            Ok(Written::Other) => {
-                self.csrs.tick(true, true);
-                bus.tick();
-                Stepped::Retired
-            }
-            Ok(written) => self.retire_after(written, bus),
-            Err(trap) => {
-                self.enter(Cause::Exception(trap.exception), trap.value, bus);
-                Stepped::Trapped(trap.exception)
-            }
-        }
+        self.execute(bus)
     }
 
     /// The interrupt that is taken before the next instruction, if any.
@@ -64,30 +53,55 @@ impl Hart {
 
     /// Runs the instruction at pc.
     #[inline(always)]
-    fn execute<M: Memory>(&mut self, bus: &mut Bus<M>) -> Result<Written, Trap>
+    fn execute<M: Memory>(&mut self, bus: &mut Bus<M>) -> Stepped
         requires reservation { self.old.csrs.hart < length bus.old.reach.reservations }
         requires devices { self.old.csrs.hart < length bus.old.reach.devices.msip }
-        ensures { Does execute self.old bus.old self.new bus.new result }
+        ensures { Executes execute self.old bus.old self.new bus.new result }
     {
         let Some(word) = bus.ram_load32(self.pc) else {
-            return Err(Trap {
-                exception: Exception::InstructionAccessFault,
-                value: self.pc,
-            });
+            return self.trap(Exception::InstructionAccessFault, self.pc, bus);
         };
         match decode(word) {
             Some(ins) => self.apply(word, ins, bus),
-            None => Err(Trap {
-                exception: Exception::IllegalInstruction,
-                value: word,
-            }),
+            None => self.trap(Exception::IllegalInstruction, word, bus),
         }
     }
 
-    /// Ends the step of an instruction that wrote a counter or the halt word.
+    /// Executes the step of an instruction that wrote no counter and did not halt.
+    #[inline(always)]
+    pub(crate) fn retire<M: Memory>(&mut self, bus: &mut Bus<M>) -> Stepped
+        ensures machine { machine self.new bus.new
+            ≡ counts true true true (machine self.old bus.old) }
+        ensures dirty { bus.new.dirty ≡ bus.old.dirty }
+        ensures answer { result ≡ Retired }
+    {
+        self.csrs.tick(true, true);
+        bus.tick();
+        Stepped::Retired
+    }
+
+    /// Executes the step of an instruction that traps.
     #[cold]
     #[inline(never)]
-    fn retire_after<M: Memory>(&mut self, written: Written, bus: &mut Bus<M>) -> Stepped
+    pub(crate) fn trap<M: Memory>(
+        &mut self,
+        exception: Exception,
+        value: u32,
+        bus: &mut Bus<M>,
+    ) -> Stepped
+        ensures machine { machine self.new bus.new
+            ≡ counts true false true (trapped (cause.Exception exception) value (machine self.old bus.old)) }
+        ensures dirty { bus.new.dirty ≡ bus.old.dirty }
+        ensures answer { result ≡ Trapped exception }
+    {
+        self.enter(Cause::Exception(exception), value, bus);
+        Stepped::Trapped(exception)
+    }
+
+    /// Executes the step of an instruction that wrote a counter or the halt word.
+    #[cold]
+    #[inline(never)]
+    pub(crate) fn retire_after<M: Memory>(&mut self, written: Written, bus: &mut Bus<M>) -> Stepped
         ensures machine { machine self.new bus.new
             ≡ counts_retired written (machine self.old bus.old) }
         ensures dirty { bus.new.dirty ≡ bus.old.dirty }

@@ -1,109 +1,106 @@
 //! Stores (Unprivileged ISA, "Load and Store Instructions"): alignment is looked at first, then
 //! whether something is there.
 
-ghost use Rattle.std.specs.Prelude.{◌≡◌, ◌<◌, length};
+ghost use Rattle.std.specs.Prelude.{◌≡◌, ◌%◌, ◌<◌, length};
 ghost use Rattle.rvm_hart.specs.Machine.{machine};
-ghost use Rattle.rvm_hart.specs.Outcome.{Does, reg};
+ghost use Rattle.rvm_hart.specs.Outcome.{reg};
 ghost use Rattle.rvm_hart.specs.Rooms.{sum, stores_byte, stores_half, stores_word};
+ghost use Rattle.rvm_hart.specs.Step.{Executes};
 
 use crate::bus::Bus;
 use crate::hart::Hart;
-use crate::outcome::{Trap, Written};
+use crate::outcome::Stepped;
 use rvm_csr::Exception;
 use rvm_isa::{Imm12, Reg};
 use rvm_mem::Memory;
 
 impl Hart {
     /// The low byte of a value, to RAM (SB).
-    #[inline(always)]
+    #[inline]
     pub(crate) fn store_byte<M: Memory>(
         &mut self,
         rs1: Reg,
         rs2: Reg,
         imm: Imm12,
         bus: &mut Bus<M>,
-    ) -> Result<Written, Trap>
+    ) -> Stepped
         requires { self.old.csrs.hart < length bus.old.reach.reservations }
-        ensures { Does (stores_byte (sum (reg rs1 self.old) imm) (reg rs2 self.old))
+        ensures { Executes (stores_byte (sum (reg rs1 self.old) imm) (reg rs2 self.old))
             self.old bus.old self.new bus.new result }
     {
         let address = self.plus(rs1, imm);
         let value = self.get(rs2);
-        match bus.ram_store8(self.csrs.hart(), address, (value & 0xFF) as u8) {
-            Some(written) => {
-                self.pass();
-                Ok(written)
-            }
-            None => Err(Trap {
-                exception: Exception::StoreAccessFault,
-                value: address,
-            }),
+        if !bus.ram_store8(self.csrs.hart(), address, (value & 0xFF) as u8) {
+            return self.trap(Exception::StoreAccessFault, address, bus);
         }
+        self.pass();
+        self.retire(bus)
     }
 
     /// The low two bytes of a value, to RAM (SH).
-    #[inline(always)]
+    #[inline]
     pub(crate) fn store_half<M: Memory>(
         &mut self,
         rs1: Reg,
         rs2: Reg,
         imm: Imm12,
         bus: &mut Bus<M>,
-    ) -> Result<Written, Trap>
+    ) -> Stepped
         requires { self.old.csrs.hart < length bus.old.reach.reservations }
-        ensures { Does (stores_half (sum (reg rs1 self.old) imm) (reg rs2 self.old))
+        ensures { Executes (stores_half (sum (reg rs1 self.old) imm) (reg rs2 self.old))
             self.old bus.old self.new bus.new result }
     {
         let address = self.plus(rs1, imm);
         let value = self.get(rs2);
         if address % 2 != 0 {
-            return Err(Trap {
-                exception: Exception::StoreAddressMisaligned,
-                value: address,
-            });
+            return self.trap(Exception::StoreAddressMisaligned, address, bus);
         }
-        match bus.ram_store16(self.csrs.hart(), address, (value & 0xFFFF) as u16) {
-            Some(written) => {
-                self.pass();
-                Ok(written)
-            }
-            None => Err(Trap {
-                exception: Exception::StoreAccessFault,
-                value: address,
-            }),
+        if !bus.ram_store16(self.csrs.hart(), address, (value & 0xFFFF) as u16) {
+            return self.trap(Exception::StoreAccessFault, address, bus);
         }
+        self.pass();
+        self.retire(bus)
     }
 
     /// A word, to RAM or a device (SW).
-    #[inline(always)]
+    #[inline]
     pub(crate) fn store_word<M: Memory>(
         &mut self,
         rs1: Reg,
         rs2: Reg,
         imm: Imm12,
         bus: &mut Bus<M>,
-    ) -> Result<Written, Trap>
+    ) -> Stepped
         requires { self.old.csrs.hart < length bus.old.reach.reservations }
-        ensures { Does (stores_word (sum (reg rs1 self.old) imm) (reg rs2 self.old))
+        ensures { Executes (stores_word (sum (reg rs1 self.old) imm) (reg rs2 self.old))
             self.old bus.old self.new bus.new result }
     {
         let address = self.plus(rs1, imm);
         let value = self.get(rs2);
         if address % 4 != 0 {
-            return Err(Trap {
-                exception: Exception::StoreAddressMisaligned,
-                value: address,
-            });
+            return self.trap(Exception::StoreAddressMisaligned, address, bus);
         }
+        if !bus.ram_store32(self.csrs.hart(), address, value) {
+            return self.store_elsewhere(address, value, bus);
+        }
+        self.pass();
+        self.retire(bus)
+    }
+
+    /// The same of an aligned address, wherever it is.
+    #[cold]
+    #[inline(never)]
+    fn store_elsewhere<M: Memory>(&mut self, address: u32, value: u32, bus: &mut Bus<M>) -> Stepped
+        requires hart { self.old.csrs.hart < length bus.old.reach.reservations }
+        requires aligned { address % 4 ≡ 0 }
+        ensures { Executes (stores_word address value) self.old bus.old self.new bus.new result }
+    {
         match bus.store32(self.csrs.hart(), address, value) {
             Some(written) => {
                 self.pass();
-                Ok(written)
+                self.retire_after(written, bus)
             }
-            None => Err(Trap {
-                exception: Exception::StoreAccessFault,
-                value: address,
-            }),
+            None => self.trap(Exception::StoreAccessFault, address, bus),
         }
     }
 }

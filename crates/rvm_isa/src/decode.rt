@@ -108,17 +108,53 @@ fn decode_op_imm(word: u32) -> Option<Ins>
     ensures row { result ≡ with_opcode 0x13 word }
     ensures word { IfSome result (λ i. word_of i ≡ word) }
 {
-    let (rd, rs1, imm, amount) = (rd(word), rs1(word), i_imm(word), shamt(word));
-    match (funct3(word), funct7(word)) {
-        (0, _) => Some(Ins::Addi { rd, rs1, imm }),
-        (2, _) => Some(Ins::Slti { rd, rs1, imm }),
-        (3, _) => Some(Ins::Sltiu { rd, rs1, imm }),
-        (4, _) => Some(Ins::Xori { rd, rs1, imm }),
-        (6, _) => Some(Ins::Ori { rd, rs1, imm }),
-        (7, _) => Some(Ins::Andi { rd, rs1, imm }),
-        (1, 0x00) => Some(Ins::Slli { rd, rs1, amount }),
-        (5, 0x00) => Some(Ins::Srli { rd, rs1, amount }),
-        (5, 0x20) => Some(Ins::Srai { rd, rs1, amount }),
+    let (rd, rs1) = (rd(word), rs1(word));
+    match funct3(word) {
+        0 => Some(Ins::Addi {
+            rd,
+            rs1,
+            imm: i_imm(word),
+        }),
+        1 if funct7(word) == 0x00 => Some(Ins::Slli {
+            rd,
+            rs1,
+            amount: shamt(word),
+        }),
+        2 => Some(Ins::Slti {
+            rd,
+            rs1,
+            imm: i_imm(word),
+        }),
+        3 => Some(Ins::Sltiu {
+            rd,
+            rs1,
+            imm: i_imm(word),
+        }),
+        4 => Some(Ins::Xori {
+            rd,
+            rs1,
+            imm: i_imm(word),
+        }),
+        5 if funct7(word) == 0x00 => Some(Ins::Srli {
+            rd,
+            rs1,
+            amount: shamt(word),
+        }),
+        5 if funct7(word) == 0x20 => Some(Ins::Srai {
+            rd,
+            rs1,
+            amount: shamt(word),
+        }),
+        6 => Some(Ins::Ori {
+            rd,
+            rs1,
+            imm: i_imm(word),
+        }),
+        7 => Some(Ins::Andi {
+            rd,
+            rs1,
+            imm: i_imm(word),
+        }),
         _ => None,
     }
 }

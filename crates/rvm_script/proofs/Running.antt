@@ -1,5 +1,5 @@
 -- Folds, one event or line at a time.
-use Rattle.std.proofs.Common.{◌≡◌, ℕ, suc, zero, ◌+◌, List, [], ◌∷◌, ◌++◌, Ok, Err, Option, Some, None, Bool, true, false, cond, ◌<◌, ◌≤◌, length, refl, ap, sym, ◌∙◌, append_assoc, append-nil}
+use Rattle.std.proofs.Common.{◌≡◌, ℕ, suc, zero, ◌+◌, List, [], ◌∷◌, ◌++◌, Ok, Err, Option, Some, None, Bool, true, false, cond, ◌<◌, ◌≤◌, length, refl, ap, sym, ◌∙◌, append_assoc, append-nil, arith, is_some}
 use Rattle.std.proofs.lemmas.Bool.{lt-ltb, le-ltb}
 use Rattle.std.specs.Io.KnownBytes.{Appends}
 use Rattle.rvm_mem.specs.Pages.{mark, mark_all}
@@ -8,14 +8,23 @@ use Rattle.rvm_debug.specs.declared.event.BoardReply.{BoardReply}
 use Rattle.rvm_debug.specs.declared.event.BoardReply.TheVariants as reply
 use Rattle.rvm_debug.specs.Guest.{Guest, GuestState}
 use Rattle.rvm_debug.specs.declared.event.BoardRefusal.TheVariants.{BadHart}
-use Rattle.rvm_debug.specs.Events.{Answered, answered, leaves, refuses, steps}
+use Rattle.rvm_debug.specs.Events.{Answered, answered, leaves, pc_of, refuses, reply_of, steps, stops, takes_step, with_stopped}
+use Rattle.rvm_debug.specs.Events as events
+use Rattle.rvm_debug.specs.declared.turns.Order.TheVariants.{Alone}
+use Rattle.rvm_debug.specs.declared.turns.Stop.{Stop}
+use Rattle.rvm_debug.specs.declared.turns.Turns.{Turns}
+use Rattle.rvm_debug.specs.Turns.{AfterTurns, TakesTurns, after_turns, behind, reply_of_stop, stop_in, unless_stopped}
+use Rattle.rvm_debug.proofs.Turning.{mark_more, steps_count, turns_count}
+use Rattle.rvm_hart.specs.declared.outcome.Stepped.{Stepped}
+use Rattle.rvm_hart.specs.declared.outcome.Stepped.TheVariants as outcome
+use Rattle.rvm_board.specs.Board as board
 use Rattle.rvm_script.specs.declared.line.Line.{Line}
 use Rattle.rvm_script.specs.declared.script.ScriptError.{ScriptError}
 use Rattle.rvm_script.specs.declared.script.ScriptError.TheVariants.{OutOfMemory, TooLong, BadToken, LinkFault}
 use Rattle.rvm_script.specs.Lines.{line_of}
 use Rattle.rvm_script.specs.Runs.{IsRun, IsLineRun, Leaves}
 use Rattle.rvm_script.specs.Answers.{is_refused}
-use Rattle.rvm_script.specs.Script.{Stepping, stepping, stepping_after, ends, inputs, answered_after, Told, told_after, told_by, ended, done_by, script_of}
+use Rattle.rvm_script.specs.Script.{Stepping, stepping, stepping_after, ends, inputs, answered_after, Told, told_after, told_by, ended, done_by, script_of, stepped}
 
 pub appends_none : (a : Option (List ℕ)) → Appends a a []
 appends_none None = tt
@@ -27,58 +36,11 @@ appends_more (Some xs0) None c xs ys p q = absurd p
 appends_more (Some xs0) (Some ys0) None xs ys p q = absurd q
 appends_more (Some xs0) (Some ys0) (Some zs0) xs ys p q = q ∙ ap (λ (l : List ℕ). l ++ ys) p ∙ append_assoc xs0 xs ys
 
--- pages after others
-pub mark_more : (ps qs : List ℕ) (dirty : List Bool) → mark_all (ps ++ qs) dirty ≡ mark_all qs (mark_all ps dirty)
-mark_more [] qs dirty = refl
-mark_more (p ∷ ps) qs dirty = mark_more ps qs (mark p dirty)
-
--- steps that were made, and those that are left, are all
-pub record Steps (all now : Stepping) (first dirty : List Bool) : Type 0 where
-  pub pages : List ℕ
-  pub log : dirty ≡ mark_all pages first
-  pub whole : stepping_after pages now ≡ all
-
-pub steps_none : (h n left made : ℕ) (last : BoardReply) (g : Guest) (dirty : List Bool) → left ≡ n → Steps (stepping h n made last g) (stepping h left made last g) dirty dirty
-steps_none h n left made last g dirty e = record { pages = []; log = refl; whole = ap (λ k. stepping h k made last g) e }
-
 step_made : (h left made : ℕ) (last : BoardReply) (g : Guest) → ends last ≡ false → stepping h (suc left) made last g ≡ stepping_after (answered (event.Step h) g).pages (stepping h left (made + 1) (answered (event.Step h) g).reply (answered (event.Step h) g).guest)
 unfolding stepping
 step_made h left made last g goes =
     let a = answered (event.Step h) g in
     ap (λ b. cond b (record { guest = g; pages = []; count = made; reply = last }) (stepping_after a.pages (stepping h left (made + 1) a.reply a.guest))) goes
-
-steps_more : {all : Stepping} {first dirty dirty' : List Bool} (h n left made : ℕ) (last r : BoardReply) (g g' : Guest) → Steps all (stepping h n made last g) first dirty → ends last ≡ false → n ≡ suc left → dirty' ≡ mark_all (answered (event.Step h) g).pages dirty → r ≡ (answered (event.Step h) g).reply → g' ≡ (answered (event.Step h) g).guest → Steps all (stepping h left (made + 1) r g') first dirty'
-steps_more {all} {first} {dirty} {dirty'} h n left made last r g g' so_far goes more marked told made_guest =
-    let a = answered (event.Step h) g in
-    let rest = stepping h left (made + 1) a.reply a.guest in
-    let same : stepping h left (made + 1) r g' ≡ rest =
-    ap (λ x. stepping h left (made + 1) x g') told ∙ ap (λ x. stepping h left (made + 1) a.reply x) made_guest in
-    record {
-      pages = so_far.pages ++ a.pages;
-      log = marked ∙ ap (mark_all a.pages) so_far.log ∙ sym (mark_more so_far.pages a.pages first);
-      whole = ap (stepping_after (so_far.pages ++ a.pages)) same
-          ∙ ap (λ ps. record rest { pages = ps }) (append_assoc so_far.pages a.pages rest.pages)
-          ∙ ap (stepping_after so_far.pages) (sym (step_made h left made last g goes) ∙ ap (λ k. stepping h k made last g) (sym more))
-          ∙ so_far.whole;
-    }
-
--- the same of a hart that is there
-pub steps_on : {all : Stepping} {first dirty dirty' : List Bool} (h n left made : ℕ) (last r : BoardReply) (g g' : Guest) → Steps all (stepping h n made last g) first dirty → ends last ≡ false → n ≡ suc left → h < length g.board.harts → dirty' ≡ mark_all (steps h g).pages dirty → r ≡ (steps h g).reply → g' ≡ (steps h g).guest → Steps all (stepping h left (made + 1) r g') first dirty'
-steps_on {all} {first} {dirty} {dirty'} h n left made last r g g' so_far goes more there marked told made_guest =
-    let same : steps h g ≡ answered (event.Step h) g = ap (λ b. cond b (steps h g) (refuses BadHart g)) (sym (lt-ltb h (length g.board.harts) there)) in
-    steps_more h n left made last r g g' so_far goes more
-    (marked ∙ ap (λ (a : Answered). mark_all a.pages dirty) same)
-    (told ∙ ap (λ (a : Answered). a.reply) same)
-    (made_guest ∙ ap (λ (a : Answered). a.guest) same)
-
--- the same of one that is not
-pub steps_refused : {all : Stepping} {first dirty : List Bool} (h n left made : ℕ) (last : BoardReply) (g : Guest) → Steps all (stepping h n made last g) first dirty → ends last ≡ false → n ≡ suc left → length g.board.harts ≤ h → Steps all (stepping h left (made + 1) (reply.Refused BadHart) g) first dirty
-steps_refused {all} {first} {dirty} h n left made last g so_far goes more absent =
-    let same : refuses BadHart g ≡ answered (event.Step h) g = ap (λ b. cond b (steps h g) (refuses BadHart g)) (sym (le-ltb h (length g.board.harts) absent)) in
-    steps_more h n left made last (reply.Refused BadHart) g g so_far goes more
-    (ap (λ (a : Answered). mark_all a.pages dirty) same)
-    (ap (λ (a : Answered). a.reply) same)
-    (ap (λ (a : Answered). a.guest) same)
 
 -- where no step follows
 steps_stop : (h left made : ℕ) (last : BoardReply) (g : Guest) → ends last ≡ true → stepping h left made last g ≡ record { guest = g; pages = []; count = made; reply = last }
@@ -92,6 +54,94 @@ steps_spent : (h made : ℕ) (last : BoardReply) (g : Guest) → stepping h 0 ma
 unfolding stepping
 steps_spent h made last g = refl
 
+-- the answers that end steps are those that end turns
+alike_reply : (x : Stepped) → ends (reply_of x) ≡ is_some (stop_in (reply_of x))
+alike_reply outcome.Retired = refl
+alike_reply (outcome.Trapped e) = refl
+alike_reply (outcome.Interrupted i) = refl
+alike_reply (outcome.Halted s) = refl
+
+alike_on : (b : Bool) (h : ℕ) (g : Guest) → ends (cond b (leaves (with_stopped h true g) (reply.Break (pc_of h g))) (takes_step h g)).reply ≡ is_some (stop_in (cond b (leaves (with_stopped h true g) (reply.Break (pc_of h g))) (takes_step h g)).reply)
+alike_on true h g = refl
+alike_on false h g = alike_reply (board.stepped h g.board).answer
+
+alike_halted : (o : Option ℕ) (h : ℕ) (g : Guest) → ends (events.unless_halted o h g).reply ≡ is_some (stop_in (events.unless_halted o h g).reply)
+alike_halted None h g = alike_on (stops h g) h g
+alike_halted (Some status) h g = refl
+
+alike : (h : ℕ) (g : Guest) → ends (steps h g).reply ≡ is_some (stop_in (steps h g).reply)
+alike h g = alike_halted g.board.reach.devices.halted h g
+
+-- what ended turns is the answer
+abbrev told_or : Option Stop → BoardReply → BoardReply
+told_or (Some s) r = reply_of_stop s
+told_or None r = r
+
+told_same : (r : BoardReply) → told_or (stop_in r) r ≡ r
+told_same reply.Retired = refl
+told_same (reply.Trapped e) = refl
+told_same (reply.Interrupted i) = refl
+told_same (reply.Halted s) = refl
+told_same (reply.Break a) = refl
+told_same reply.Done = refl
+told_same (reply.Bytes bytes) = refl
+told_same (reply.Regs values) = refl
+told_same (reply.Line a word) = refl
+told_same (reply.Refused why) = refl
+
+stop_told : (r : BoardReply) (s : Stop) → stop_in r ≡ Some s → r ≡ reply_of_stop s
+stop_told r s e = sym (told_same r) ∙ ap (λ o. told_or o r) e
+
+-- the steps that turns of one hart, and one step behind them unless they ended early, come to
+abbrev last_step : Option Stop → (h m made : ℕ) → AfterTurns → Stepping
+last_step (Some s) h m made t = record { guest = t.guest; pages = t.pages; count = made + t.made; reply = reply_of_stop s }
+last_step None h m made t =
+    let a = steps h t.guest in
+    record { guest = a.guest; pages = t.pages ++ a.pages; count = made + suc m; reply = a.reply }
+
+last_behind : (o : Option Stop) (ps : List ℕ) (h m made : ℕ) (t : AfterTurns) → stepping_after ps (last_step o h m (made + 1) t) ≡ last_step o h (suc m) made (behind ps 1 t)
+last_behind (Some s) ps h m made t = ap (λ (k : ℕ). record { guest = t.guest; pages = ps ++ t.pages; count = k; reply = reply_of_stop s }) (omega arith)
+last_behind None ps h m made t =
+    let a : Answered = steps h t.guest in
+    ap (λ (k : ℕ). record { guest = a.guest; pages = ps ++ (t.pages ++ a.pages); count = k; reply = a.reply }) (omega arith)
+    ∙ ap (λ (l : List ℕ). record { guest = a.guest; pages = l; count = made + suc (suc m); reply = a.reply }) (sym (append_assoc ps t.pages a.pages))
+
+-- so many steps of a hart, one more than so many turns
+abbrev ByTurns : ℕ → Type 0
+ByTurns m =
+    (h made : ℕ) (last : BoardReply) (g : Guest) → ends last ≡ false → h < length g.board.harts
+    → stepping h (suc m) made last g ≡ last_step (after_turns Alone m h g).stop h m made (after_turns Alone m h g)
+
+there_steps : (h : ℕ) (g : Guest) → h < length g.board.harts → answered (event.Step h) g ≡ steps h g
+there_steps h g there = ap (λ b. cond b (steps h g) (refuses BadHart g)) (lt-ltb h (length g.board.harts) there)
+
+turn_made : (m : ℕ) → ByTurns m → (o : Option Stop) (h made : ℕ) (g : Guest) → stop_in (steps h g).reply ≡ o → h < length g.board.harts
+    → stepping_after (steps h g).pages (stepping h (suc m) (made + 1) (steps h g).reply (steps h g).guest)
+    ≡ last_step (unless_stopped o (steps h g) (after_turns Alone m h (steps h g).guest)).stop h (suc m) made (unless_stopped o (steps h g) (after_turns Alone m h (steps h g).guest))
+turn_made m others (Some s) h made g e there =
+    let a : Answered = steps h g in
+    ap (stepping_after a.pages) (steps_stop h (suc m) (made + 1) a.reply a.guest (alike h g ∙ ap is_some e))
+    ∙ ap (λ (l : List ℕ). record { guest = a.guest; pages = l; count = made + 1; reply = a.reply }) (append-nil a.pages)
+    ∙ ap (λ (r : BoardReply). record { guest = a.guest; pages = a.pages; count = made + 1; reply = r }) (stop_told a.reply s e)
+turn_made m others None h made g e there =
+    let a : Answered = steps h g in
+    let rest : AfterTurns = after_turns Alone m h a.guest in
+    ap (stepping_after a.pages) (others h (made + 1) a.reply a.guest (alike h g ∙ ap is_some e) (omega (arith, there, steps_count h g)))
+    ∙ last_behind rest.stop a.pages h m made rest
+
+by_turns : (m : ℕ) → ByTurns m
+unfolding after_turns
+by_turns zero h made last g goes there =
+    let a : Answered = steps h g in
+    step_made h 0 made last g goes
+    ∙ ap (λ (x : Answered). stepping_after x.pages (stepping h 0 (made + 1) x.reply x.guest)) (there_steps h g there)
+    ∙ ap (stepping_after a.pages) (steps_spent h (made + 1) a.reply a.guest)
+    ∙ ap (λ (l : List ℕ). record { guest = a.guest; pages = l; count = made + 1; reply = a.reply }) (append-nil a.pages)
+by_turns (suc m) h made last g goes there =
+    step_made h (suc m) made last g goes
+    ∙ ap (λ (x : Answered). stepping_after x.pages (stepping h (suc m) (made + 1) x.reply x.guest)) (there_steps h g there)
+    ∙ turn_made m (by_turns m) (stop_in (steps h g).reply) h made g refl there
+
 -- what all steps left
 pub record AllSteps (all : Stepping) (g : Guest) (made : ℕ) (last : BoardReply) (first dirty : List Bool) : Type 0 where
   pub guest : g ≡ all.guest
@@ -99,23 +149,66 @@ pub record AllSteps (all : Stepping) (g : Guest) (made : ℕ) (last : BoardReply
   pub reply : last ≡ all.reply
   pub log : dirty ≡ mark_all all.pages first
 
-all_steps : (all now : Stepping) (g : Guest) (made : ℕ) (last : BoardReply) (first dirty : List Bool) → now ≡ record { guest = g; pages = []; count = made; reply = last } → Steps all now first dirty → AllSteps all g made last first dirty
-all_steps all now g made last first dirty e so_far =
-    let whole = ap (stepping_after so_far.pages) (sym e) ∙ so_far.whole in
+-- no step is asked for
+pub no_steps : (h n : ℕ) (g : Guest) (dirty : List Bool) → n ≡ 0 → AllSteps (stepped h n g) g 0 reply.Retired dirty dirty
+no_steps h n g dirty none =
+    let whole = ap (λ k. stepped h k g) none ∙ steps_spent h 0 reply.Retired g in
     record {
-      guest = ap (λ (s : Stepping). s.guest) whole;
-      count = ap (λ (s : Stepping). s.count) whole;
-      reply = ap (λ (s : Stepping). s.reply) whole;
-      log = so_far.log ∙ ap (λ ps. mark_all ps first) (sym (append-nil so_far.pages) ∙ ap (λ (s : Stepping). s.pages) whole);
+      guest = sym (ap (λ (s : Stepping). s.guest) whole);
+      count = sym (ap (λ (s : Stepping). s.count) whole);
+      reply = sym (ap (λ (s : Stepping). s.reply) whole);
+      log = ap (λ ps. mark_all ps dirty) (sym (ap (λ (s : Stepping). s.pages) whole));
     }
 
-pub steps_ended : {all : Stepping} {first dirty : List Bool} (h left made : ℕ) (last : BoardReply) (g : Guest) → ends last ≡ true → Steps all (stepping h left made last g) first dirty → AllSteps all g made last first dirty
-steps_ended {all} {first} {dirty} h left made last g stops so_far =
-    all_steps all (stepping h left made last g) g made last first dirty (steps_stop h left made last g stops) so_far
+-- there is no such hart
+pub steps_refused : (h n m : ℕ) (g : Guest) (dirty : List Bool) → n ≡ suc m → length g.board.harts ≤ h → AllSteps (stepped h n g) g 1 (reply.Refused BadHart) dirty dirty
+steps_refused h n m g dirty more absent =
+    let refused : answered (event.Step h) g ≡ refuses BadHart g = ap (λ b. cond b (steps h g) (refuses BadHart g)) (le-ltb h (length g.board.harts) absent) in
+    let whole = ap (λ k. stepped h k g) more ∙ step_made h m 0 reply.Retired g refl
+    ∙ ap (λ (x : Answered). stepping_after x.pages (stepping h m 1 x.reply x.guest)) refused
+    ∙ ap (stepping_after []) (steps_stop h m 1 (reply.Refused BadHart) g refl) in
+    record {
+      guest = sym (ap (λ (s : Stepping). s.guest) whole);
+      count = sym (ap (λ (s : Stepping). s.count) whole);
+      reply = sym (ap (λ (s : Stepping). s.reply) whole);
+      log = ap (λ ps. mark_all ps dirty) (sym (ap (λ (s : Stepping). s.pages) whole));
+    }
 
-pub steps_over : {all : Stepping} {first dirty : List Bool} (h n made : ℕ) (last : BoardReply) (g : Guest) → n ≡ 0 → Steps all (stepping h n made last g) first dirty → AllSteps all g made last first dirty
-steps_over {all} {first} {dirty} h n made last g none so_far =
-    all_steps all (stepping h n made last g) g made last first dirty (ap (λ k. stepping h k made last g) none ∙ steps_spent h made last g) so_far
+all_by_turns : (h n m : ℕ) (g : Guest) (o : Option Stop) → n ≡ suc m → h < length g.board.harts → o ≡ (after_turns Alone m h g).stop → stepped h n g ≡ last_step o h m 0 (after_turns Alone m h g)
+all_by_turns h n m g o more there said =
+    ap (λ k. stepped h k g) more ∙ by_turns m h 0 reply.Retired g refl there ∙ ap (λ (x : Option Stop). last_step x h m 0 (after_turns Alone m h g)) (sym said)
+
+none_before : (k : ℕ) → k ≡ 0 + k
+none_before k = omega arith
+
+-- turns that ended early
+pub steps_stopped : (h n m : ℕ) (s : Stop) (old new : GuestState) (told : Turns) → n ≡ suc m → h < length old.guest.board.harts → TakesTurns (after_turns Alone m h old.guest) old new told → told.stop ≡ Some s
+    → AllSteps (stepped h n old.guest) new.guest told.made (reply_of_stop s) old.dirty new.dirty
+steps_stopped h n m s old new told more there turns stopped =
+    let whole = all_by_turns h n m old.guest (Some s) more there (sym stopped ∙ turns.stop) in
+    record {
+      guest = turns.guest ∙ sym (ap (λ (x : Stepping). x.guest) whole);
+      count = turns.made ∙ none_before (after_turns Alone m h old.guest).made ∙ sym (ap (λ (x : Stepping). x.count) whole);
+      reply = sym (ap (λ (x : Stepping). x.reply) whole);
+      log = turns.dirty ∙ ap (λ ps. mark_all ps old.dirty) (sym (ap (λ (x : Stepping). x.pages) whole));
+    }
+
+-- turns, and one step more
+pub steps_made : (h n m : ℕ) (old mid new : GuestState) (told : Turns) (last : BoardReply) → n ≡ suc m → h < length old.guest.board.harts → TakesTurns (after_turns Alone m h old.guest) old mid told → told.stop ≡ None
+    → new.guest ≡ (answered (event.Step h) mid.guest).guest → new.dirty ≡ mark_all (answered (event.Step h) mid.guest).pages mid.dirty → last ≡ (answered (event.Step h) mid.guest).reply
+    → AllSteps (stepped h n old.guest) new.guest n last old.dirty new.dirty
+steps_made h n m old mid new told last more there turns on left marked said =
+    let t : AfterTurns = after_turns Alone m h old.guest in
+    let whole = all_by_turns h n m old.guest None more there (sym on ∙ turns.stop) in
+    let same : answered (event.Step h) mid.guest ≡ steps h t.guest =
+    ap (λ x. answered (event.Step h) x) turns.guest ∙ there_steps h t.guest (omega (arith, there, turns_count Alone m h old.guest)) in
+    record {
+      guest = left ∙ ap (λ (x : Answered). x.guest) same ∙ sym (ap (λ (x : Stepping). x.guest) whole);
+      count = more ∙ none_before (suc m) ∙ sym (ap (λ (x : Stepping). x.count) whole);
+      reply = said ∙ ap (λ (x : Answered). x.reply) same ∙ sym (ap (λ (x : Stepping). x.reply) whole);
+      log = marked ∙ ap (λ (x : Answered). mark_all x.pages mid.dirty) same ∙ ap (mark_all (steps h t.guest).pages) turns.dirty
+          ∙ sym (mark_more t.pages (steps h t.guest).pages old.dirty) ∙ ap (λ ps. mark_all ps old.dirty) (sym (ap (λ (x : Stepping). x.pages) whole));
+    }
 
 -- bytes that came, and those that are left, are all
 pub record Inputs (all now : Answered) (first dirty : List Bool) : Type 0 where

@@ -3,15 +3,13 @@
 ghost use Rattle.std.specs.Prelude.{◌≡◌, OnOk};
 ghost use Rattle.std.specs.Io.KnownBytes.{Appends};
 ghost use Rattle.rvm_mem.specs.Pages.{mark_all};
-ghost use Rattle.rvm_debug.specs.Events.{reply_of};
-ghost use Rattle.rvm_script.specs.Script.{done_by, ends, inputs, stepped};
+ghost use Rattle.rvm_script.specs.Script.{done_by, inputs, stepped};
 
 use crate::answers::{address_of, is_refused, write_reply, write_steps};
 use crate::hex_text::HexText;
 use crate::line::Line;
-use rvm_debug::{BoardEvent, BoardRefusal, BoardReply, Debugged};
+use rvm_debug::{BoardEvent, BoardRefusal, BoardReply, Debugged, Order};
 use rvm_dis::LinkFault;
-use rvm_hart::Stepped;
 use rvm_mem::Memory;
 use std::io::Write;
 
@@ -55,7 +53,7 @@ pub fn do_line<M: Memory, W: Write>(
 }
 
 /// Makes at most so many steps of a hart; ends early at a breakpoint, where the board is halted and
-/// where there is no such hart. An answer is made of the last step alone.
+/// where there is no such hart.
 fn step<M: Memory>(board: &mut Debugged<M>, hart: u32, count: u32) -> Steps
     ensures count { result.count ≡ (stepped hart count board.old.guest).count }
     ensures last { result.last ≡ (stepped hart count board.old.guest).reply }
@@ -63,40 +61,29 @@ fn step<M: Memory>(board: &mut Debugged<M>, hart: u32, count: u32) -> Steps
     ensures dirty { board.new.dirty
         ≡ mark_all (stepped hart count board.old.guest).pages board.old.dirty }
 {
-    let mut last = Stepped::Retired;
-    for made in 0..count {
-        if hart >= board.harts() {
-            return Steps {
-                count: made + 1,
-                last: BoardReply::Refused(BoardRefusal::BadHart),
-            };
-        }
-        let pc = board.pc(hart);
-        let Some(stepped) = board.step(hart) else {
-            return Steps {
-                count: made + 1,
-                last: BoardReply::Break(pc),
-            };
+    let Some(before_last) = count.checked_sub(1) else {
+        return Steps {
+            count: 0,
+            last: BoardReply::Retired,
         };
-        last = stepped;
-        if is_halted(last) {
-            return Steps {
-                count: made + 1,
-                last: BoardReply::of_step(last),
-            };
-        }
+    };
+    if hart >= board.harts() {
+        return Steps {
+            count: 1,
+            last: BoardReply::Refused(BoardRefusal::BadHart),
+        };
     }
-    Steps {
-        count,
-        last: BoardReply::of_step(last),
+    let turns = board.turns(Order::Alone, hart, before_last);
+    match turns.stop {
+        Some(stop) => Steps {
+            count: turns.made,
+            last: stop.reply(),
+        },
+        None => Steps {
+            count,
+            last: board.apply(BoardEvent::Step(hart)),
+        },
     }
-}
-
-/// Whether the board is halted after a step.
-fn is_halted(step: Stepped) -> bool
-    ensures { result ≡ ends (reply_of step) }
-{
-    matches!(step, Stepped::Halted(_))
 }
 
 /// Bytes come to the console, up to the first that is refused.

@@ -1,0 +1,166 @@
+-- Turns, one by one.
+use Rattle.std.proofs.Common.{◌≡◌, ℕ, zero, suc, ◌+◌, ◌%◌, ◌<◌, ◌≤◌, List, [], ◌∷◌, ◌++◌, length, Bool, true, false, get_or, Option, Some, None, refl, sym, ap, ◌∙◌, cond, arith, append_assoc, append-nil}
+use Rattle.std.specs.List.{list_any}
+use Rattle.std.proofs.lemmas.List.{length-set}
+use Rattle.rvm_mem.specs.Pages.{mark, mark_all}
+use Rattle.rvm_debug.specs.declared.event.BoardReply.TheVariants.{Break}
+use Rattle.rvm_debug.specs.declared.turns.Order.{Order}
+use Rattle.rvm_debug.specs.declared.turns.Order.TheVariants.{Alone, RoundRobin}
+use Rattle.rvm_debug.specs.declared.turns.Stop.{Stop}
+use Rattle.rvm_debug.specs.declared.turns.Turns.{Turns}
+use Rattle.rvm_debug.specs.Guest.{Guest, GuestState}
+use Rattle.rvm_debug.specs.Events.{Answered, leaves, pc_of, steps, stops, takes_step, with_stopped}
+use Rattle.rvm_debug.specs.Events as events
+use Rattle.rvm_debug.specs.Turns.{AfterTurns, TakesTurns, after_turns, behind, next_hart, stop_in, unless_stopped}
+
+-- a step changes no number of harts
+steps_on_count : (h : ℕ) (g : Guest) (stop : Bool) → length (cond stop (leaves (with_stopped h true g) (Break (pc_of h g))) (takes_step h g)).guest.board.harts ≡ length g.board.harts
+steps_on_count h g true = refl
+steps_on_count h g false = length-set g.board.harts h _
+
+halted_count : (h : ℕ) (g : Guest) (halted : Option ℕ) → length (events.unless_halted halted h g).guest.board.harts ≡ length g.board.harts
+halted_count h g None = steps_on_count h g (stops h g)
+halted_count h g (Some status) = refl
+
+pub steps_count : (h : ℕ) (g : Guest) → length (steps h g).guest.board.harts ≡ length g.board.harts
+steps_count h g = halted_count h g g.board.reach.devices.halted
+
+-- where none is true, none is
+pub none_is : (flags : List Bool) (i : ℕ) → list_any (λ flag. flag) flags ≡ false → get_or flags i false ≡ false
+none_is [] i none = refl
+none_is (true ∷ flags) i none = absurd cc
+none_is (false ∷ flags) zero none = refl
+none_is (false ∷ flags) (suc i) none = none_is flags i none
+
+-- pages after others
+pub mark_more : (ps qs : List ℕ) (dirty : List Bool) → mark_all (ps ++ qs) dirty ≡ mark_all qs (mark_all ps dirty)
+mark_more [] qs dirty = refl
+mark_more (p ∷ ps) qs dirty = mark_more ps qs (mark p dirty)
+
+-- the only hart follows itself
+same_hart : (h : ℕ) → h < 1 → (h + 1) % 1 ≡ h
+same_hart zero below = refl
+same_hart (suc h) below = absurd (omega (arith, below))
+
+-- of one hart, each order is the same
+pub one_hart : (order : Order) (n h : ℕ) (g : Guest) → length g.board.harts ≡ 1 → h < 1 → after_turns order n h g ≡ after_turns Alone n h g
+unfolding after_turns
+one_hart Alone n h g one first = refl
+one_hart RoundRobin zero h g one first = refl
+one_hart RoundRobin (suc n) h g one first =
+    let s : Answered = steps h g in
+    let count : length s.guest.board.harts ≡ 1 = steps_count h g ∙ one in
+    let same : next_hart RoundRobin (length g.board.harts) h ≡ h = rw one (same_hart h first) in
+    ap (λ k. unless_stopped (stop_in s.reply) s (after_turns RoundRobin n k s.guest)) same
+    ∙ ap (unless_stopped (stop_in s.reply) s) (one_hart RoundRobin n h s.guest count first)
+
+-- the turns that were made, and those that are left, are all
+pub record Turning (all left : AfterTurns) (made : ℕ) (first dirty : List Bool) : Type 0 where
+  pub pages : List ℕ
+  pub log : dirty ≡ mark_all pages first
+  pub whole : behind pages made left ≡ all
+
+behind_none : (t : AfterTurns) → behind [] 0 t ≡ t
+behind_none t = ap (λ (k : ℕ). record t { made = k }) (omega arith)
+
+pub begins : (order : Order) (n left h : ℕ) (g : Guest) (dirty : List Bool) → left ≡ n → Turning (after_turns order n h g) (after_turns order left h g) 0 dirty dirty
+begins order n left h g dirty e = record { pages = []; log = refl; whole = behind_none (after_turns order left h g) ∙ ap (λ k. after_turns order k h g) e }
+
+one_more : (order : Order) (n m h : ℕ) (g : Guest) → n ≡ suc m → after_turns order n h g ≡ unless_stopped (stop_in (steps h g).reply) (steps h g) (after_turns order m (next_hart order (length g.board.harts) h) (steps h g).guest)
+unfolding after_turns
+one_more order n m h g e = rw e refl
+
+-- behind turns that are behind others
+behind_both : (ps qs : List ℕ) (made : ℕ) (t : AfterTurns) → behind ps made (behind qs 1 t) ≡ behind (ps ++ qs) (made + 1) t
+behind_both ps qs made t =
+    ap (λ l. record t { pages = l; made = made + (1 + t.made) }) (sym (append_assoc ps qs t.pages))
+    ∙ ap (λ (k : ℕ). record t { pages = (ps ++ qs) ++ t.pages; made = k }) (omega arith)
+
+-- a turn that does not end them
+pub goes_on : {all : AfterTurns} {first dirty : List Bool} (order : Order) (n m h h' made : ℕ) (g g' : Guest) (dirty' : List Bool) → Turning all (after_turns order n h g) made first dirty → n ≡ suc m
+    → stop_in (steps h g).reply ≡ None → h' ≡ next_hart order (length g.board.harts) h → g' ≡ (steps h g).guest → dirty' ≡ mark_all (steps h g).pages dirty
+    → Turning all (after_turns order m h' g') (made + 1) first dirty'
+goes_on {all} {first} {dirty} order n m h h' made g g' dirty' so_far more goes next left marked =
+    let s : Answered = steps h g in
+    let rest : AfterTurns = after_turns order m (next_hart order (length g.board.harts) h) s.guest in
+    let same : after_turns order m h' g' ≡ rest = ap (λ k. after_turns order m k g') next ∙ ap (λ x. after_turns order m (next_hart order (length g.board.harts) h) x) left in
+    let turned : after_turns order n h g ≡ behind s.pages 1 rest = one_more order n m h g more ∙ ap (λ (x : Option Stop). unless_stopped x s rest) goes in
+    record {
+      pages = so_far.pages ++ s.pages;
+      log = marked ∙ ap (mark_all s.pages) so_far.log ∙ sym (mark_more so_far.pages s.pages first);
+      whole = ap (behind (so_far.pages ++ s.pages) (made + 1)) same
+          ∙ sym (behind_both so_far.pages s.pages made rest)
+          ∙ ap (behind so_far.pages made) (sym turned)
+          ∙ so_far.whole;
+    }
+
+-- turns of which this is the last
+ended : (all last : AfterTurns) (pages : List ℕ) (made : ℕ) (first dirty dirty' : List Bool) (g' : Guest) (old new : GuestState) (told : Turns) → behind pages made last ≡ all → dirty ≡ mark_all pages first → dirty' ≡ mark_all last.pages dirty → old.dirty ≡ first → new.guest ≡ last.guest → new.dirty ≡ dirty' → told.made ≡ made + last.made → told.stop ≡ last.stop → TakesTurns all old new told
+ended all last pages made first dirty dirty' g' old new told whole log marked from guest log' count stop =
+    record {
+      guest = guest ∙ ap (λ (t : AfterTurns). t.guest) whole;
+      dirty = log' ∙ marked ∙ ap (mark_all last.pages) log ∙ sym (mark_more pages last.pages first) ∙ ap (λ d. mark_all (pages ++ last.pages) d) (sym from) ∙ ap (λ (t : AfterTurns). mark_all t.pages old.dirty) whole;
+      made = count ∙ ap (λ (t : AfterTurns). t.made) whole;
+      stop = stop ∙ ap (λ (t : AfterTurns). t.stop) whole;
+    }
+
+-- the turn that ends them
+pub stops_at : {all : AfterTurns} {dirty : List Bool} (order : Order) (n m h made : ℕ) (g : Guest) (s : Stop) (old new : GuestState) (told : Turns) → Turning all (after_turns order n h g) made old.dirty dirty → n ≡ suc m
+    → stop_in (steps h g).reply ≡ Some s → new.guest ≡ (steps h g).guest → new.dirty ≡ mark_all (steps h g).pages dirty → told ≡ record { made = made + 1; stop = Some s }
+    → TakesTurns all old new told
+stops_at {all} {dirty} order n m h made g s old new told so_far more stop left marked said =
+    let turn : Answered = steps h g in
+    let last : AfterTurns = record { guest = turn.guest; pages = turn.pages; made = 1; stop = Some s } in
+    let turned : after_turns order n h g ≡ last = one_more order n m h g more ∙ ap (λ (x : Option Stop). unless_stopped x turn (after_turns order m (next_hart order (length g.board.harts) h) turn.guest)) stop in
+    ended all last so_far.pages made old.dirty dirty new.dirty new.guest old new told (ap (behind so_far.pages made) (sym turned) ∙ so_far.whole) so_far.log marked refl left refl
+    (ap (λ (t : Turns). t.made) said) (ap (λ (t : Turns). t.stop) said)
+
+no_more : (made : ℕ) → made ≡ made + 0
+no_more made = omega arith
+
+none_left : (order : Order) (n h : ℕ) (g : Guest) → n ≡ 0 → after_turns order n h g ≡ record { guest = g; pages = []; made = 0; stop = None }
+unfolding after_turns
+none_left order n h g e = rw e refl
+
+-- all turns that were asked for
+pub all_made : {all : AfterTurns} (order : Order) (n h made count : ℕ) (old new : GuestState) (told : Turns) → Turning all (after_turns order n h new.guest) made old.dirty new.dirty → n ≡ 0 → count ≡ made → told ≡ record { made = count; stop = None } → TakesTurns all old new told
+all_made {all} order n h made count old new told so_far none counted said =
+    let last : AfterTurns = record { guest = new.guest; pages = []; made = 0; stop = None } in
+    ended all last so_far.pages made old.dirty new.dirty new.dirty new.guest old new told (ap (behind so_far.pages made) (sym (none_left order n h new.guest none)) ∙ so_far.whole) so_far.log refl refl refl refl
+    (ap (λ (t : Turns). t.made) said ∙ counted ∙ no_more made) (ap (λ (t : Turns). t.stop) said)
+
+-- of some turns at least one is made, and never more than were asked for
+some_of_cases : (x : Option Stop) (turn : Answered) (others : AfterTurns) → 0 < (unless_stopped x turn others).made
+some_of_cases None turn others = omega arith
+some_of_cases (Some s) turn others = omega arith
+
+pub made_some : (order : Order) (n h : ℕ) (g : Guest) → 0 < (after_turns order (suc n) h g).made
+unfolding after_turns
+made_some order n h g = some_of_cases (stop_in (steps h g).reply) (steps h g) (after_turns order n (next_hart order (length g.board.harts) h) (steps h g).guest)
+
+within_cases : (x : Option Stop) (turn : Answered) (others : AfterTurns) (n : ℕ) → others.made ≤ n → (unless_stopped x turn others).made ≤ suc n
+within_cases None turn others n within = omega (arith, within)
+within_cases (Some s) turn others n within = omega arith
+
+pub made_within : (order : Order) (n h : ℕ) (g : Guest) → (after_turns order n h g).made ≤ n
+unfolding after_turns
+made_within order zero h g = omega arith
+made_within order (suc n) h g =
+    within_cases (stop_in (steps h g).reply) (steps h g) (after_turns order n (next_hart order (length g.board.harts) h) (steps h g).guest) n
+    (made_within order n (next_hart order (length g.board.harts) h) (steps h g).guest)
+
+pub made_some_of : (order : Order) (n h : ℕ) (g : Guest) → 0 < n → 0 < (after_turns order n h g).made
+made_some_of order zero h g some = absurd (omega (arith, some))
+made_some_of order (suc n) h g some = made_some order n h g
+
+-- turns change no number of harts
+count_cases : (x : Option Stop) (turn : Answered) (others : AfterTurns) (n : ℕ) → length turn.guest.board.harts ≡ n → length others.guest.board.harts ≡ n → length (unless_stopped x turn others).guest.board.harts ≡ n
+count_cases None turn others n of_turn of_others = of_others
+count_cases (Some s) turn others n of_turn of_others = of_turn
+
+pub turns_count : (order : Order) (n h : ℕ) (g : Guest) → length (after_turns order n h g).guest.board.harts ≡ length g.board.harts
+unfolding after_turns
+turns_count order zero h g = refl
+turns_count order (suc n) h g =
+    count_cases (stop_in (steps h g).reply) (steps h g) (after_turns order n (next_hart order (length g.board.harts) h) (steps h g).guest) (length g.board.harts) (steps_count h g)
+    (turns_count order n (next_hart order (length g.board.harts) h) (steps h g).guest ∙ steps_count h g)

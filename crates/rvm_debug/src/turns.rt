@@ -1,0 +1,194 @@
+//! Turns of harts, one after another: the loop of a run, and of a script's steps.
+
+ghost use Rattle.std.specs.Prelude.{◌≡◌, ◌<◌, ◌≤◌, ◌+◌, ◌%◌, [], false, length, get_or};
+ghost use Rattle.std.specs.List.{list_any};
+ghost use Rattle.rvm_mem.specs.Pages.{mark_all};
+ghost use Rattle.rvm_debug.specs.Events.{reply_of, step_reply, steps};
+ghost use Rattle.rvm_debug.specs.Turns.{TakesTurns, after_turns, next_hart, reply_of_stop, stop_in};
+ghost use Rattle.rvm_debug.specs.declared.turns.Order.TheVariants.{Alone, RoundRobin};
+
+use crate::debugged::Debugged;
+use crate::event::BoardReply;
+use rvm_hart::Stepped;
+use rvm_mem::Memory;
+
+/// Which hart has the turn after that of another.
+#[derive(Clone, Copy, Debug, PartialEq, Eq)]
+pub enum Order {
+    /// The same hart.
+    Alone,
+    /// The next hart, and after the last the first.
+    RoundRobin,
+}
+
+/// What ends turns before all are made.
+#[derive(Clone, Copy, Debug, PartialEq, Eq)]
+pub enum Stop {
+    /// A hart stopped at the breakpoint at this address instead of its step.
+    Break(u32),
+    /// The board is halted with this status.
+    Halted(u8),
+}
+
+/// What turns came to.
+#[derive(Clone, Copy, Debug, PartialEq, Eq)]
+pub struct Turns {
+    /// How many were made, with the one that ended them.
+    pub made: u32,
+    /// What ended them, if not all were made or the last one stopped.
+    pub stop: Option<Stop>,
+}
+
+impl<M: Memory> Debugged<M> {
+    /// Makes turns, at most `count`, from that of hart `first` on: in its turn a hart takes a step,
+    /// or stops at a breakpoint instead. They end with the turn in which a hart stopped, or which
+    /// halted the board or found it halted. Takes no memory.
+    #[tactic(auto, using(crate::proofs::Turning::one_hart))]
+    pub fn turns(&mut self, order: Order, first: u32, count: u32) -> Turns
+        requires { first < length self.old.guest.board.harts }
+        ensures { TakesTurns (after_turns order count first self.old.guest) self.old self.new result }
+    {
+        if !self.breakpoints.is_empty() || any(&self.stopped) {
+            return self.turns_or_stops(order, first, count);
+        }
+        match order {
+            Order::RoundRobin if self.harts() > 1 => self.turns_in_order(first, count),
+            _ => self.turns_alone(first, count),
+        }
+    }
+
+    /// Turns of one hart, where none can stop: its place is found once.
+    #[inline(never)]
+    fn turns_alone(&mut self, hart: u32, count: u32) -> Turns
+        requires hart { hart < length self.old.guest.board.harts }
+        requires breakpoints { self.old.guest.breakpoints ≡ [] }
+        requires stopped { list_any (λ s. s) self.old.guest.stopped ≡ false }
+        ensures { TakesTurns (after_turns Alone count hart self.old.guest) self.old self.new result }
+    {
+        for made in 0..count {
+            if let Some(stop) = stop_of(0, Some(self.step_on(hart))) {
+                return Turns {
+                    made: made + 1,
+                    stop: Some(stop),
+                };
+            }
+        }
+        Turns {
+            made: count,
+            stop: None,
+        }
+    }
+
+    /// Turns of each hart, where none can stop.
+    #[inline(never)]
+    fn turns_in_order(&mut self, first: u32, count: u32) -> Turns
+        requires first { first < length self.old.guest.board.harts }
+        requires breakpoints { self.old.guest.breakpoints ≡ [] }
+        requires stopped { list_any (λ s. s) self.old.guest.stopped ≡ false }
+        ensures { TakesTurns (after_turns RoundRobin count first self.old.guest) self.old self.new result }
+    {
+        let harts = self.harts();
+        let mut hart = first;
+        for made in 0..count {
+            if let Some(stop) = stop_of(0, Some(self.step_on(hart))) {
+                return Turns {
+                    made: made + 1,
+                    stop: Some(stop),
+                };
+            }
+            hart = Order::RoundRobin.next(hart, harts);
+        }
+        Turns {
+            made: count,
+            stop: None,
+        }
+    }
+
+    /// Turns where a hart may stop.
+    #[cold]
+    #[inline(never)]
+    fn turns_or_stops(&mut self, order: Order, first: u32, count: u32) -> Turns
+        requires { first < length self.old.guest.board.harts }
+        ensures { TakesTurns (after_turns order count first self.old.guest) self.old self.new result }
+    {
+        let harts = self.harts();
+        let mut hart = first;
+        for made in 0..count {
+            let pc = self.pc(hart);
+            if let Some(stop) = stop_of(pc, self.step(hart)) {
+                return Turns {
+                    made: made + 1,
+                    stop: Some(stop),
+                };
+            }
+            hart = order.next(hart, harts);
+        }
+        Turns {
+            made: count,
+            stop: None,
+        }
+    }
+
+    /// One step of a hart that cannot stop instead.
+    #[inline(always)]
+    fn step_on(&mut self, hart: u32) -> Stepped
+        requires hart { hart < length self.old.guest.board.harts }
+        requires breakpoints { self.old.guest.breakpoints ≡ [] }
+        requires stopped { get_or self.old.guest.stopped hart false ≡ false }
+        ensures guest { self.new.guest ≡ (steps hart self.old.guest).guest }
+        ensures dirty { self.new.dirty ≡ mark_all (steps hart self.old.guest).pages self.old.dirty }
+        ensures answer { reply_of result ≡ (steps hart self.old.guest).reply }
+        ensures breakpoints { self.new.guest.breakpoints ≡ self.old.guest.breakpoints }
+        ensures stopped { self.new.guest.stopped ≡ self.old.guest.stopped }
+    {
+        self.board.step(hart)
+    }
+}
+
+impl Stop {
+    /// What ended turns, as an answer.
+    pub fn reply(self) -> BoardReply
+        ensures { result ≡ reply_of_stop self }
+    {
+        match self {
+            Stop::Break(address) => BoardReply::Break(address),
+            Stop::Halted(status) => BoardReply::Halted(status),
+        }
+    }
+}
+
+impl Order {
+    /// The hart that has the turn after that of a hart, of so many.
+    #[inline(always)]
+    fn next(self, hart: u32, harts: u32) -> u32
+        requires within { hart < harts }
+        requires bound { harts ≤ 8 }
+        ensures next { result ≡ next_hart self harts hart }
+        ensures below { result < harts }
+    {
+        match self {
+            Order::Alone => hart,
+            Order::RoundRobin if hart + 1 == harts => 0,
+            Order::RoundRobin => hart + 1,
+        }
+    }
+}
+
+/// What a turn of a hart at `pc` stopped for, if it did: none is no step.
+#[inline(always)]
+fn stop_of(pc: u32, step: Option<Stepped>) -> Option<Stop>
+    ensures { result ≡ stop_in (step_reply pc step) }
+{
+    match step {
+        None => Some(Stop::Break(pc)),
+        Some(Stepped::Halted(status)) => Some(Stop::Halted(status)),
+        Some(_) => None,
+    }
+}
+
+/// Whether any of these is true.
+fn any(flags: &[bool]) -> bool
+    ensures { result ≡ list_any (λ flag. flag) flags.now }
+{
+    flags.iter().any(|flag| *flag)
+}
