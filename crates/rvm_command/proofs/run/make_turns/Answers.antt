@@ -1,5 +1,6 @@
-use Rattle.std.proofs.Common.{◌-◌, ◌+◌, ◌%◌, ◌≤◌, ◌<◌, drop, arith}
+use Rattle.std.proofs.Common.{ℕ, Option, ap, sym, ◌∙◌, ◌-◌, ◌+◌, ◌%◌, ◌≤◌, ◌<◌, drop, arith}
 use Rattle.rvm_debug.specs.declared.turns.Order.TheVariants.{RoundRobin}
+use Rattle.rvm_command.specs.Run.{rest_of_run}
 use Rattle.rvm_command.proofs.Runs.{no_more, slice_left, turn_of}
 use Rattle.rvm_debug.proofs.Turning.{made_some_of, made_within}
 use Rattle.rvm_command.proofs.run.make_turns.Goals as goal
@@ -11,6 +12,7 @@ returns-clause-run g c =
     c.turns_at_once-count.ensures.some (omega (arith, c.turns_at_once-count.ensures.within)) made
     (no_more c.feed-next.result c.turns_at_once-count.result c.args.input.now c.turns_at_once-count.ensures.one) c.turns_at_once-count.ensures.slice
     c.turns-turns.ensures.guest c.turns-turns.ensures.made c.turns-turns.ensures.stop
+    ∙ ap (λ (o : Option ℕ). rest_of_run o (c.args.steps - c.args.turn - c.turns-turns.result.made) (c.args.turn + c.turns-turns.result.made) (drop c.feed-next.result c.args.input.now) c.turns-turns.new.self.guest) (sym c.status_of.ensures)
 
 pub returns-clause-some : goal.returns-clause-some
 returns-clause-some g c =
