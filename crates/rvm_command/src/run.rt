@@ -76,6 +76,7 @@ struct Slice {
 }
 
 /// Offers a byte of input and makes turns, from turn `turn` on, up to the next drain at most.
+#[inline]
 fn make_turns<M: Memory>(
     guest: &mut Debugged<M>,
     turn: u32,
@@ -104,6 +105,7 @@ fn make_turns<M: Memory>(
 }
 
 /// The status of a board that turns left halted.
+#[inline]
 fn status_of(stop: Option<Stop>) -> Option<u8>
     ensures { result ≡ status_of stop }
 {
@@ -145,9 +147,24 @@ fn feed<M: Memory>(guest: &mut Debugged<M>, input: &[u8], next: usize) -> usize
     }
 }
 
-/// Writes all that the guest sent, and forgets it.
-#[inline(never)]
+/// Writes all that the guest sent, if there is any, and forgets it.
+#[inline]
 fn drain<M: Memory, W: Write>(guest: &mut Debugged<M>, writer: &mut W) -> Result<(), LinkFault>
+    ensures written { OnOk result (Appends (W.contents writer.old) (W.contents writer.new)
+        (output_of guest.old.guest)) }
+    ensures guest { OnOk result (guest.new.guest ≡ drained guest.old.guest) }
+    ensures err { OnErr result (0 < length (output_of guest.old.guest)) }
+{
+    if guest.waiting() == 0 {
+        return Ok(());
+    }
+    drain_all(guest, writer)
+}
+
+/// Writes all that the guest sent, and forgets it.
+#[cold]
+#[inline(never)]
+fn drain_all<M: Memory, W: Write>(guest: &mut Debugged<M>, writer: &mut W) -> Result<(), LinkFault>
     ensures written { OnOk result (Appends (W.contents writer.old) (W.contents writer.new)
         (output_of guest.old.guest)) }
     ensures guest { OnOk result (guest.new.guest ≡ drained guest.old.guest) }

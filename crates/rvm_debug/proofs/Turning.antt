@@ -37,22 +37,15 @@ pub mark_more : (ps qs : List ℕ) (dirty : List Bool) → mark_all (ps ++ qs) d
 mark_more [] qs dirty = refl
 mark_more (p ∷ ps) qs dirty = mark_more ps qs (mark p dirty)
 
--- the only hart follows itself
-same_hart : (h : ℕ) → h < 1 → (h + 1) % 1 ≡ h
-same_hart zero below = refl
-same_hart (suc h) below = absurd (omega (arith, below))
-
 -- of one hart, each order is the same
-pub one_hart : (order : Order) (n h : ℕ) (g : Guest) → length g.board.harts ≡ 1 → h < 1 → after_turns order n h g ≡ after_turns Alone n h g
+pub one_hart : (order : Order) (n : ℕ) (g : Guest) → length g.board.harts ≡ 1 → after_turns order n 0 g ≡ after_turns Alone n 0 g
 unfolding after_turns
-one_hart Alone n h g one first = refl
-one_hart RoundRobin zero h g one first = refl
-one_hart RoundRobin (suc n) h g one first =
-    let s : Answered = steps h g in
-    let count : length s.guest.board.harts ≡ 1 = steps_count h g ∙ one in
-    let same : next_hart RoundRobin (length g.board.harts) h ≡ h = rw one (same_hart h first) in
-    ap (λ k. unless_stopped (stop_in s.reply) s (after_turns RoundRobin n k s.guest)) same
-    ∙ ap (unless_stopped (stop_in s.reply) s) (one_hart RoundRobin n h s.guest count first)
+one_hart Alone n g one = refl
+one_hart RoundRobin zero g one = refl
+one_hart RoundRobin (suc n) g one =
+    let s : Answered = steps 0 g in
+    ap (λ k. unless_stopped (stop_in s.reply) s (after_turns RoundRobin n (1 % k) s.guest)) one
+    ∙ ap (unless_stopped (stop_in s.reply) s) (one_hart RoundRobin n s.guest (steps_count 0 g ∙ one))
 
 -- the turns that were made, and those that are left, are all
 pub record Turning (all left : AfterTurns) (made : ℕ) (first dirty : List Bool) : Type 0 where
@@ -63,8 +56,8 @@ pub record Turning (all left : AfterTurns) (made : ℕ) (first dirty : List Bool
 behind_none : (t : AfterTurns) → behind [] 0 t ≡ t
 behind_none t = ap (λ (k : ℕ). record t { made = k }) (omega arith)
 
-pub begins : (order : Order) (n left h : ℕ) (g : Guest) (dirty : List Bool) → left ≡ n → Turning (after_turns order n h g) (after_turns order left h g) 0 dirty dirty
-begins order n left h g dirty e = record { pages = []; log = refl; whole = behind_none (after_turns order left h g) ∙ ap (λ k. after_turns order k h g) e }
+pub begins : (order : Order) (n made h : ℕ) (g : Guest) (dirty : List Bool) → made ≡ 0 → Turning (after_turns order n h g) (after_turns order n h g) made dirty dirty
+begins order n made h g dirty e = record { pages = []; log = refl; whole = ap (λ k. behind [] k (after_turns order n h g)) e ∙ behind_none (after_turns order n h g) }
 
 one_more : (order : Order) (n m h : ℕ) (g : Guest) → n ≡ suc m → after_turns order n h g ≡ unless_stopped (stop_in (steps h g).reply) (steps h g) (after_turns order m (next_hart order (length g.board.harts) h) (steps h g).guest)
 unfolding after_turns
@@ -77,10 +70,10 @@ behind_both ps qs made t =
     ∙ ap (λ (k : ℕ). record t { pages = (ps ++ qs) ++ t.pages; made = k }) (omega arith)
 
 -- a turn that does not end them
-pub goes_on : {all : AfterTurns} {first dirty : List Bool} (order : Order) (n m h h' made : ℕ) (g g' : Guest) (dirty' : List Bool) → Turning all (after_turns order n h g) made first dirty → n ≡ suc m
+pub goes_on : {all : AfterTurns} {first dirty : List Bool} (order : Order) (n m h h' made made' : ℕ) (g g' : Guest) (dirty' : List Bool) → Turning all (after_turns order n h g) made first dirty → n ≡ suc m → made' ≡ made + 1
     → stop_in (steps h g).reply ≡ None → h' ≡ next_hart order (length g.board.harts) h → g' ≡ (steps h g).guest → dirty' ≡ mark_all (steps h g).pages dirty
-    → Turning all (after_turns order m h' g') (made + 1) first dirty'
-goes_on {all} {first} {dirty} order n m h h' made g g' dirty' so_far more goes next left marked =
+    → Turning all (after_turns order m h' g') made' first dirty'
+goes_on {all} {first} {dirty} order n m h h' made made' g g' dirty' so_far more counted goes next left marked =
     let s : Answered = steps h g in
     let rest : AfterTurns = after_turns order m (next_hart order (length g.board.harts) h) s.guest in
     let same : after_turns order m h' g' ≡ rest = ap (λ k. after_turns order m k g') next ∙ ap (λ x. after_turns order m (next_hart order (length g.board.harts) h) x) left in
@@ -88,7 +81,8 @@ goes_on {all} {first} {dirty} order n m h h' made g g' dirty' so_far more goes n
     record {
       pages = so_far.pages ++ s.pages;
       log = marked ∙ ap (mark_all s.pages) so_far.log ∙ sym (mark_more so_far.pages s.pages first);
-      whole = ap (behind (so_far.pages ++ s.pages) (made + 1)) same
+      whole = ap (λ k. behind (so_far.pages ++ s.pages) k (after_turns order m h' g')) counted
+          ∙ ap (behind (so_far.pages ++ s.pages) (made + 1)) same
           ∙ sym (behind_both so_far.pages s.pages made rest)
           ∙ ap (behind so_far.pages made) (sym turned)
           ∙ so_far.whole;
@@ -105,15 +99,15 @@ ended all last pages made first dirty dirty' g' old new told whole log marked fr
     }
 
 -- the turn that ends them
-pub stops_at : {all : AfterTurns} {dirty : List Bool} (order : Order) (n m h made : ℕ) (g : Guest) (s : Stop) (old new : GuestState) (told : Turns) → Turning all (after_turns order n h g) made old.dirty dirty → n ≡ suc m
-    → stop_in (steps h g).reply ≡ Some s → new.guest ≡ (steps h g).guest → new.dirty ≡ mark_all (steps h g).pages dirty → told ≡ record { made = made + 1; stop = Some s }
+pub stops_at : {all : AfterTurns} {dirty : List Bool} (order : Order) (n m h made made' : ℕ) (g : Guest) (s : Stop) (old new : GuestState) (told : Turns) → Turning all (after_turns order n h g) made old.dirty dirty → n ≡ suc m → made' ≡ made + 1
+    → stop_in (steps h g).reply ≡ Some s → new.guest ≡ (steps h g).guest → new.dirty ≡ mark_all (steps h g).pages dirty → told ≡ record { made = made'; stop = Some s }
     → TakesTurns all old new told
-stops_at {all} {dirty} order n m h made g s old new told so_far more stop left marked said =
+stops_at {all} {dirty} order n m h made made' g s old new told so_far more counted stop left marked said =
     let turn : Answered = steps h g in
     let last : AfterTurns = record { guest = turn.guest; pages = turn.pages; made = 1; stop = Some s } in
     let turned : after_turns order n h g ≡ last = one_more order n m h g more ∙ ap (λ (x : Option Stop). unless_stopped x turn (after_turns order m (next_hart order (length g.board.harts) h) turn.guest)) stop in
     ended all last so_far.pages made old.dirty dirty new.dirty new.guest old new told (ap (behind so_far.pages made) (sym turned) ∙ so_far.whole) so_far.log marked refl left refl
-    (ap (λ (t : Turns). t.made) said) (ap (λ (t : Turns). t.stop) said)
+    (ap (λ (t : Turns). t.made) said ∙ counted) (ap (λ (t : Turns). t.stop) said)
 
 no_more : (made : ℕ) → made ≡ made + 0
 no_more made = omega arith

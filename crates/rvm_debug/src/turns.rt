@@ -1,6 +1,6 @@
 //! Turns of harts, one after another: the loop of a run, and of a script's steps.
 
-ghost use Rattle.std.specs.Prelude.{◌≡◌, ◌<◌, ◌≤◌, ◌+◌, ◌%◌, [], false, length, get_or};
+ghost use Rattle.std.specs.Prelude.{◌≡◌, ◌<◌, ◌≤◌, ◌-◌, [], false, length, get_or};
 ghost use Rattle.std.specs.List.{list_any};
 ghost use Rattle.rvm_mem.specs.Pages.{mark_all};
 ghost use Rattle.rvm_debug.specs.Events.{reply_of, step_reply, steps};
@@ -39,67 +39,99 @@ pub struct Turns {
     pub stop: Option<Stop>,
 }
 
+/// What a loop of turns came to. It counts those that are left, since a loop with a second number in
+/// it costs each turn four host instructions more.
+#[derive(Clone, Copy)]
+struct Ended {
+    left: u32,
+    stop: Option<Stop>,
+}
+
 impl<M: Memory> Debugged<M> {
     /// Makes turns, at most `count`, from that of hart `first` on: in its turn a hart takes a step,
     /// or stops at a breakpoint instead. They end with the turn in which a hart stopped, or which
     /// halted the board or found it halted. Takes no memory.
-    #[tactic(auto, using(crate::proofs::Turning::one_hart))]
     pub fn turns(&mut self, order: Order, first: u32, count: u32) -> Turns
         requires { first < length self.old.guest.board.harts }
         ensures { TakesTurns (after_turns order count first self.old.guest) self.old self.new result }
+    {
+        let ended = self.turns_in_a_loop(order, first, count);
+        Turns {
+            made: count - ended.left,
+            stop: ended.stop,
+        }
+    }
+
+    /// The same, by the loop that has the fewest tests in it.
+    #[inline]
+    #[tactic(auto, using(crate::proofs::Turning::one_hart))]
+    fn turns_in_a_loop(&mut self, order: Order, first: u32, count: u32) -> Ended
+        requires { first < length self.old.guest.board.harts }
+        ensures turns { TakesTurns (after_turns order count first self.old.guest) self.old self.new
+            (record { made = count - result.left; stop = result.stop }) }
+        ensures left { result.left ≤ count }
     {
         if !self.breakpoints.is_empty() || any(&self.stopped) {
             return self.turns_or_stops(order, first, count);
         }
         match order {
-            Order::RoundRobin if self.harts() > 1 => self.turns_in_order(first, count),
-            _ => self.turns_alone(first, count),
+            Order::RoundRobin if self.harts() > 1 => self.turns_on(order, first, count),
+            _ if first == 0 => self.turns_of_hart_0(count),
+            _ => self.turns_on(order, first, count),
         }
     }
 
-    /// Turns of one hart, where none can stop: its place is found once.
+    /// Turns of hart 0 alone, where none can stop: its place is found once.
     #[inline(never)]
-    fn turns_alone(&mut self, hart: u32, count: u32) -> Turns
-        requires hart { hart < length self.old.guest.board.harts }
+    fn turns_of_hart_0(&mut self, count: u32) -> Ended
+        requires hart { 0 < length self.old.guest.board.harts }
         requires breakpoints { self.old.guest.breakpoints ≡ [] }
         requires stopped { list_any (λ s. s) self.old.guest.stopped ≡ false }
-        ensures { TakesTurns (after_turns Alone count hart self.old.guest) self.old self.new result }
+        ensures turns { TakesTurns (after_turns Alone count 0 self.old.guest) self.old self.new
+            (record { made = count - result.left; stop = result.stop }) }
+        ensures left { result.left ≤ count }
     {
-        for made in 0..count {
-            if let Some(stop) = stop_of(0, Some(self.step_on(hart))) {
-                return Turns {
-                    made: made + 1,
+        let mut left = count;
+        while left > 0 {
+            left -= 1;
+            if let Some(stop) = stop_of(0, Some(self.step_on(0))) {
+                return Ended {
+                    left,
                     stop: Some(stop),
                 };
             }
         }
-        Turns {
-            made: count,
+        Ended {
+            left: 0,
             stop: None,
         }
     }
 
-    /// Turns of each hart, where none can stop.
+    /// Turns where no hart can stop.
     #[inline(never)]
-    fn turns_in_order(&mut self, first: u32, count: u32) -> Turns
+    fn turns_on(&mut self, order: Order, first: u32, count: u32) -> Ended
         requires first { first < length self.old.guest.board.harts }
         requires breakpoints { self.old.guest.breakpoints ≡ [] }
         requires stopped { list_any (λ s. s) self.old.guest.stopped ≡ false }
-        ensures { TakesTurns (after_turns RoundRobin count first self.old.guest) self.old self.new result }
+        ensures turns { TakesTurns (after_turns order count first self.old.guest) self.old self.new
+            (record { made = count - result.left; stop = result.stop }) }
+        ensures left { result.left ≤ count }
     {
         let harts = self.harts();
         let mut hart = first;
-        for made in 0..count {
+        let mut left = count;
+        while left > 0 {
+            left -= 1;
             if let Some(stop) = stop_of(0, Some(self.step_on(hart))) {
-                return Turns {
-                    made: made + 1,
+                return Ended {
+                    left,
                     stop: Some(stop),
                 };
             }
-            hart = Order::RoundRobin.next(hart, harts);
+            hart = order.next(hart, harts);
         }
-        Turns {
-            made: count,
+        Ended {
+            left: 0,
             stop: None,
         }
     }
@@ -107,24 +139,28 @@ impl<M: Memory> Debugged<M> {
     /// Turns where a hart may stop.
     #[cold]
     #[inline(never)]
-    fn turns_or_stops(&mut self, order: Order, first: u32, count: u32) -> Turns
+    fn turns_or_stops(&mut self, order: Order, first: u32, count: u32) -> Ended
         requires { first < length self.old.guest.board.harts }
-        ensures { TakesTurns (after_turns order count first self.old.guest) self.old self.new result }
+        ensures turns { TakesTurns (after_turns order count first self.old.guest) self.old self.new
+            (record { made = count - result.left; stop = result.stop }) }
+        ensures left { result.left ≤ count }
     {
         let harts = self.harts();
         let mut hart = first;
-        for made in 0..count {
+        let mut left = count;
+        while left > 0 {
+            left -= 1;
             let pc = self.pc(hart);
             if let Some(stop) = stop_of(pc, self.step(hart)) {
-                return Turns {
-                    made: made + 1,
+                return Ended {
+                    left,
                     stop: Some(stop),
                 };
             }
             hart = order.next(hart, harts);
         }
-        Turns {
-            made: count,
+        Ended {
+            left: 0,
             stop: None,
         }
     }

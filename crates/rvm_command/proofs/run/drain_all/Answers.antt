@@ -3,7 +3,7 @@ use Rattle.std.specs.Io.KnownBytes.{Appends}
 use Rattle.rvm_debug.specs.Guest.{Guest, GuestState}
 use Rattle.rvm_command.specs.Run.{with_sent}
 use Rattle.rvm_command.proofs.Runs.{appends_more, drained_piece, piece_more}
-use Rattle.rvm_command.proofs.run.drain.Goals as goal
+use Rattle.rvm_command.proofs.run.drain_all.Goals as goal
 
 pub loop-bytes-preserved : goal.loop-bytes-preserved
 loop-bytes-preserved g c =

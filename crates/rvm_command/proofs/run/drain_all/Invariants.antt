@@ -1,7 +1,7 @@
 use Rattle.std.proofs.Common.{◌≡◌, ℕ, List, ◌++◌, length}
 use Rattle.std.specs.Io.KnownBytes.{Appends}
 use Rattle.rvm_command.specs.Run.{with_sent}
-use Rattle.rvm_command.proofs.run.drain.Given as goal
+use Rattle.rvm_command.proofs.run.drain_all.Given as goal
 
 -- what was written so far, and what still waits, is what the guest sent
 abbrev pub invariant-loop-bytes : goal.invariant-loop-bytes

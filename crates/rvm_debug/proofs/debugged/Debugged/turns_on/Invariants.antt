@@ -1,0 +1,20 @@
+use Rattle.std.proofs.Common.{◌≡◌, ◌-◌, ◌<◌, ◌≤◌, [], false, length}
+use Rattle.std.specs.List.{list_any}
+use Rattle.rvm_debug.specs.Turns.{after_turns}
+use Rattle.rvm_debug.proofs.Turning.{Turning}
+use Rattle.rvm_debug.proofs.debugged.Debugged.turns_on.Given as goal
+
+-- no hart can stop
+abbrev pub invariant-loop-left : goal.invariant-loop-left
+invariant-loop-left g l =
+    record {
+      left : l.left ≤ l.count;
+      harts : length l.self.guest.board.harts ≡ l.harts;
+      hart : l.hart < l.harts;
+      breakpoints : l.self.guest.breakpoints ≡ [];
+      stopped : list_any (λ s. s) l.self.guest.stopped ≡ false;
+      turns : Turning (after_turns l.order l.count l.first l.fn.self.guest) (after_turns l.order l.left l.hart l.self.guest) (l.count - l.left) l.fn.self.dirty l.self.dirty;
+    }
+
+abbrev pub decreases-loop-left : goal.decreases-loop-left
+decreases-loop-left g l = l.left
