@@ -1,6 +1,7 @@
 -- What a write of one word, or of each, leaves of the harts' words.
-use Rattle.std.proofs.Common.{◌≡◌, ℕ, zero, suc, ◌<◌, ◌≤◌, true, false, List, [], ◌∷◌, length, take, set, map, replicate, Option, None, Some, is_some, refl, ap, sym, arith, length-take, add-one, add-zero}
-use Rattle.std.specs.List.{list_any}
+use Rattle.std.proofs.Common.{◌≡◌, ℕ, zero, suc, ◌<◌, ◌≤◌, true, false, List, [], ◌∷◌, length, take, set, map, replicate, Option, None, Some, is_some, refl, ap, sym, ◌∙◌, ◌+◌, cond, arith, get_or, length-take, add-one, add-zero}
+use Rattle.std.specs.List.{list_any, count_by}
+use Rattle.std.proofs.lemmas.List.Sums.{count_by-le-length, sum_by-cons, sum_by-set}
 use Rattle.std.proofs.lemmas.List.{take-replicate, take-map, set-get_or, get_or-take}
 use Rattle.rvm_res.specs.Reservations.{without, stored, word_of}
 
@@ -12,13 +13,19 @@ take-set (suc n) i [] held = refl
 take-set (suc n) zero (w ∷ words) held = refl
 take-set (suc n) (suc i) (w ∷ words) held = ap (λ ws. w ∷ ws) (take-set n i words held)
 
--- a word is reserved once one was
-pub any-set : (words : List (Option ℕ)) (i address : ℕ) → i < length words →
-    list_any is_some (set words i (Some address)) ≡ true
-any-set [] i address within = absurd (omega arith)
-any-set (w ∷ words) zero address within = refl
-any-set (None ∷ words) (suc i) address within = any-set words i address (omega arith)
-any-set (Some a ∷ words) (suc i) address within = refl
+-- how many words are reserved after a write of one
+abbrev one : Option ℕ → ℕ
+one held = cond (is_some held) 1 0
+
+pub count-set : (words : List (Option ℕ)) (i : ℕ) (held : Option ℕ) → i < length words →
+    count_by is_some (set words i held) + one (get_or words i None) ≡ count_by is_some words + one held
+count-set words i held within = sum_by-set one words i held None within
+
+-- no word is reserved where none is counted
+pub none-counted : (words : List (Option ℕ)) → count_by is_some words ≡ 0 → list_any is_some words ≡ false
+none-counted [] none = refl
+none-counted (None ∷ words) none = none-counted words (omega (arith, none, sum_by-cons one None words))
+none-counted (Some a ∷ words) none = absurd (omega (arith, none, sum_by-cons one (Some a) words))
 
 -- where no word is reserved, none ends
 pub map-without-none : (word : ℕ) (words : List (Option ℕ)) → list_any is_some words ≡ false →
@@ -28,18 +35,22 @@ map-without-none word (None ∷ words) none = ap (λ ws. None ∷ ws) (map-witho
 map-without-none word (Some a ∷ words) none = cc
 
 -- at reset no word is reserved
-pub any-replicate : (n : ℕ) → list_any is_some (replicate {A = Option ℕ} n None) ≡ false
-any-replicate zero = refl
-any-replicate (suc n) = any-replicate n
+pub count-replicate : (n : ℕ) → count_by is_some (replicate {A = Option ℕ} n None) ≡ 0
+count-replicate zero = refl
+count-replicate (suc n) = omega (arith, sum_by-cons one None (replicate {A = Option ℕ} n None), count-replicate n)
 
 pub take-none : (n : ℕ) → n ≤ 8 →
     take n (None ∷ None ∷ None ∷ None ∷ None ∷ None ∷ None ∷ None ∷ []) ≡
     replicate {A = Option ℕ} n None
 take-none n within = take-replicate n 8 None within
 
+-- a hart without a reservation loses none
+pub set-none : (words : List (Option ℕ)) (hart : ℕ) → get_or words hart None ≡ None → set words hart None ≡ words
+set-none words hart none = ap (set words hart) (sym none) ∙ set-get_or words hart None
+
 -- what `grind` needs of them
 pub ruleset words =
-    (take-set, any-set, map-without-none, any-replicate, take-none, length-take, take-map)
+    (take-set, set-none, count-set, map-without-none, none-counted, count-replicate, take-none, length-take, take-map, count_by-le-length)
 
 -- a store where no word is reserved
 pub stored-none : (hart address : ℕ) (words : List (Option ℕ)) → list_any is_some words ≡ false →

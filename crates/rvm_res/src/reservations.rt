@@ -1,7 +1,6 @@
 //! One word or none for each hart.
 
-ghost use Rattle.std.specs.Prelude.{◌≡◌, ◌<◌, ◌≤◌, None, length, replicate, map, is_some, get_or, slice_set};
-ghost use Rattle.std.specs.List.{list_any};
+ghost use Rattle.std.specs.Prelude.{◌≡◌, ◌<◌, ◌≤◌, None, length, replicate, map, is_some, count_by, get_or, slice_set};
 ghost use Rattle.rvm_res.specs.Reservations.{held, poked, stored, taken, takes, word_of, without};
 
 use std::marker::Model;
@@ -14,19 +13,18 @@ pub const MAX_HARTS: usize = 8;
 pub struct Reservations {
     words: [Option<u32>; MAX_HARTS],
     harts: usize,
-    /// Whether any hart has reserved a word, so that a store need not look at each.
-    any: bool,
+    /// How many harts have reserved a word, so that a store need not look at each.
+    reserved: usize,
 }
 
 impl Model for Reservations {
-    ghost use Rattle.std.specs.Prelude.{◌≡◌, ◌≤◌, List, ℕ, Option, take, is_some};
-    ghost use Rattle.std.specs.List.{list_any};
+    ghost use Rattle.std.specs.Prelude.{◌≡◌, ◌≤◌, List, ℕ, Option, take, is_some, count_by};
 
     ghost Value = { List (Option ℕ) };
 
     ghost view = { λ r. take r.harts r.words };
 
-    ghost invariant = { λ r. (r.harts ≤ 8) × (r.any ≡ list_any is_some (take r.harts r.words)) };
+    ghost invariant = { λ r. (r.harts ≤ 8) × (r.reserved ≡ count_by is_some (take r.harts r.words)) };
 }
 
 impl Reservations {
@@ -39,7 +37,7 @@ impl Reservations {
         Reservations {
             words: [None; MAX_HARTS],
             harts,
-            any: false,
+            reserved: 0,
         }
     }
 
@@ -49,10 +47,11 @@ impl Reservations {
         ensures { self.new ≡ replicate (length self.old) None }
     {
         self.words = [None; MAX_HARTS];
-        self.any = false;
+        self.reserved = 0;
     }
 
     /// The word that hart `hart` has reserved, if any.
+    #[inline]
     #[tactic(auto, using(crate::proofs::Words::words))]
     pub fn reserved(&self, hart: usize) -> Option<u32>
         requires { hart < length self.now }
@@ -70,16 +69,19 @@ impl Reservations {
     {
         let words = &mut self.words;
         words[hart] = reserved;
-        self.any = any_of(&self.words[..self.harts]);
+        self.reserved = count(&self.words[..self.harts]);
     }
 
     /// Hart `hart` reserves the aligned word at an address, in place of the one before.
+    #[inline]
     #[tactic(auto, using(crate::proofs::Words::words))]
     pub fn hold(&mut self, hart: usize, address: u32)
         requires { hart < length self.old }
         ensures { self.new ≡ held hart address self.old }
     {
-        self.any = true;
+        if self.reserved(hart).is_none() {
+            self.reserved += 1;
+        }
         self.words[hart] = Some(address);
     }
 
@@ -90,7 +92,7 @@ impl Reservations {
         requires { hart < length self.old }
         ensures { self.new ≡ stored hart address self.old }
     {
-        if self.any {
+        if self.reserved > 0 {
             self.end_others(hart, address);
         }
     }
@@ -102,20 +104,23 @@ impl Reservations {
         ensures { self.new ≡ poked address self.old }
     {
         end_word(&mut self.words, word_of(address));
-        self.any = any_of(&self.words[..self.harts]);
+        self.reserved = count(&self.words[..self.harts]);
     }
 
     /// Ends the reservation of hart `hart`, and answers whether it was of the word at an address.
+    #[inline]
     #[tactic(auto, using(crate::proofs::Words::words))]
     pub fn take(&mut self, hart: usize, address: u32) -> bool
         requires { hart < length self.old }
         ensures words { self.new ≡ taken hart self.old }
         ensures takes { result ≡ takes hart address self.old }
     {
-        let words = &mut self.words;
-        let own = words[hart];
-        words[hart] = None;
-        self.any = any_of(&self.words[..self.harts]);
+        let own = self.reserved(hart);
+        if own.is_none() {
+            return false;
+        }
+        self.words[hart] = None;
+        self.reserved -= 1;
         own == Some(address)
     }
 
@@ -130,7 +135,7 @@ impl Reservations {
         let own = words[hart];
         end_word(words, word_of(address));
         words[hart] = own;
-        self.any = any_of(&self.words[..self.harts]);
+        self.reserved = count(&self.words[..self.harts]);
     }
 }
 
@@ -157,9 +162,9 @@ fn rest_of(held: Option<u32>, word: u32) -> Option<u32>
     held.filter(|held| *held != word)
 }
 
-/// Whether any word is reserved.
-fn any_of(words: &[Option<u32>]) -> bool
-    ensures { result ≡ list_any is_some words.now }
+/// How many words are reserved.
+fn count(words: &[Option<u32>]) -> usize
+    ensures { result ≡ count_by is_some words.now }
 {
-    words.iter().any(|word| word.is_some())
+    words.iter().filter(|word| word.is_some()).count()
 }
