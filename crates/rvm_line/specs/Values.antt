@@ -1,8 +1,8 @@
 -- The values of expressions, modulo 2 ^ 32 (for %hi and %lo RISC-V Assembly Programmer's Manual,
 -- "Absolute addressing").
-use Rattle.std.specs.Prelude.{ℕ, ◌+◌, ◌-◌, ◌/◌, ◌%◌, ◌^◌, Bool, ◌&&◌, ◌||◌, ◌==◌, nat_le, nat_lt}
-use Rattle.std.specs.Prelude.{if◌then◌else◌, List, ◌∷◌, Option, Some, None, option_map, Result, Ok}
-use Rattle.std.specs.Prelude.{Err, codes}
+use Rattle.std.specs.Prelude.{ℕ, zero, suc, ◌+◌, ◌*◌, ◌-◌, ◌/◌, ◌%◌, ◌^◌, Bool, ◌&&◌, ◌||◌, ◌==◌}
+use Rattle.std.specs.Prelude.{nat_le, nat_lt, if◌then◌else◌, List, ◌∷◌, drop, Option, Some, None}
+use Rattle.std.specs.Prelude.{option_map, Result, Ok, Err, codes}
 use Rattle.std.specs.Str.{bytes_eq}
 use Rattle.rvm_text.specs.Lexemes.{Lexeme, Word, Mark}
 use Rattle.rvm_text.specs.Numbers.{number_of}
@@ -84,6 +84,16 @@ value_at names (Mark m ∷ Word w ∷ Mark p ∷ ts) =
     chosen (half_at (Mark m ∷ Word w ∷ Mark p ∷ ts)) (λ h. value_at names ts >>= closed h.0)
     (simple_at names (Mark m ∷ Word w ∷ Mark p ∷ ts))
 value_at names ts = simple_at names ts
+
+-- a value in the half that begins these, closed by ')'
+abbrev pub in_half : List Lexeme → ℕ × List Lexeme → Result (ℕ × List Lexeme) Fault
+in_half ts v = chosen (half_at ts) (λ h. closed h.0 v) (Ok v)
+
+-- a value in the first so many halves of those that begin one in another, the last of them first
+unfoldable pub in_halves : List Lexeme → ℕ → Result (ℕ × List Lexeme) Fault
+    → Result (ℕ × List Lexeme) Fault
+in_halves ts zero v = v
+in_halves ts (suc n) v = in_halves ts n (v >>= in_half (drop (3 * n) ts))
 
 -- an expression, and nothing behind it
 unfoldable pub last_value : Names → List Lexeme → Result ℕ Fault

@@ -1,11 +1,12 @@
 //! The values of expressions.
 
-ghost use Rattle.std.specs.Prelude.{◌≡◌, ◌<◌, ◌^◌, IfSome, length};
+ghost use Rattle.std.specs.Prelude.{◌≡◌, ◌<◌, ◌≤◌, ◌*◌, ◌^◌, IfSome, Ok, length};
 ghost use Rattle.rvm_text.specs.Numbers.{number_of};
 ghost use Rattle.rvm_text.specs.Tokens.{lexemes_of};
 ghost use Rattle.rvm_line.specs.Reading.{known};
 ghost use Rattle.rvm_line.specs.Values.{negative_at, number_at, sum_at, simple_at, high, low};
-ghost use Rattle.rvm_line.specs.Values.{half_of, half_named, half_at, value_at, last_value};
+ghost use Rattle.rvm_line.specs.Values.{Names, half_of, half_named, half_at, in_half, in_halves};
+ghost use Rattle.rvm_line.specs.Values.{value_at, last_value};
 ghost use Rattle.rvm_line.specs.Values.{value_comma, fits_signed};
 ghost use Rattle.rvm_line.specs.Views.{names_of, seen, seen_half};
 
@@ -65,20 +66,66 @@ pub fn fits_signed(bits: u32, value: u32) -> bool
 }
 
 /// An expression.
-#[tactic(auto, using(crate::proofs::Expressions::value_by))]
+#[tactic(auto, using(crate::proofs::Expressions::fault_in_halves))]
 pub fn value<'t, 'a>(
     symbols: &[Symbol],
     tokens: &'t [Token<'a>],
 ) -> Result<(u32, &'t [Token<'a>]), Fault>
     ensures { seen result ≡ value_at (names_of symbols.now) (lexemes_of tokens.now) }
 {
+    let (depth, inner) = opened(tokens);
+    let (whole, rest) = simple(symbols, inner)?;
+    closed(tokens, depth, whole, rest)
+}
+
+/// How many halves begin one in another, and the tokens behind their beginnings.
+#[tactic(auto, using(crate::proofs::Expressions::openings))]
+fn opened<'t, 'a>(tokens: &'t [Token<'a>]) -> (usize, &'t [Token<'a>])
+    ensures value { (names : Names) → value_at names (lexemes_of tokens.now)
+        ≡ in_halves (lexemes_of tokens.now) result.0
+        (simple_at names (lexemes_of result.1.now)) }
+    ensures within { 3 * result.0 ≤ length tokens.now }
+{
+    let mut so_far = (0, tokens);
+    while let Some((_, inner)) = half_begun(so_far.1) {
+        so_far = (so_far.0 + 1, inner);
+    }
+    so_far
+}
+
+/// A value in so many halves that begin one in another, the last of them first.
+#[tactic(auto, using(crate::proofs::Expressions::closings))]
+fn closed<'t, 'a>(
+    tokens: &[Token],
+    depth: usize,
+    value: u32,
+    rest: &'t [Token<'a>],
+) -> Result<(u32, &'t [Token<'a>]), Fault>
+    requires { 3 * depth ≤ length tokens.now }
+    ensures { seen result
+        ≡ in_halves (lexemes_of tokens.now) depth (Ok (value, lexemes_of rest.now)) }
+{
+    let mut so_far = (value, rest);
+    for index in (0..depth).rev() {
+        so_far = close(&tokens[3 * index..], so_far.0, so_far.1)?;
+    }
+    Ok(so_far)
+}
+
+/// A value in the half that begins here, closed by ')'.
+fn close<'t, 'a>(
+    tokens: &[Token],
+    value: u32,
+    rest: &'t [Token<'a>],
+) -> Result<(u32, &'t [Token<'a>]), Fault>
+    ensures { seen result ≡ in_half (lexemes_of tokens.now) (value, lexemes_of rest.now) }
+{
     match half_begun(tokens) {
-        Some((half, inner)) => {
-            let (whole, rest) = value(symbols, inner)?;
+        Some((half, _)) => {
             let rest = mark(rest, b')')?;
-            Ok((half.of(whole), rest))
+            Ok((half.of(value), rest))
         }
-        None => simple(symbols, tokens),
+        None => Ok((value, rest)),
     }
 }
 

@@ -1,6 +1,7 @@
 //! Texts and the images that they stand for. Words of instructions are those of the manual's
 //! formats.
 
+use crate::retry::again;
 use rvm_asm::{AsmError, Image, Segment, assemble};
 use rvm_line::Fault;
 use std::alloc::Global;
@@ -144,4 +145,15 @@ fn faults_stand_at_their_line(rt: HostRuntime) {
             "{text}"
         );
     }
+}
+
+/// However deep values are nested, no stack grows with them.
+#[test]
+fn a_million_halves_stand_one_in_another(rt: HostRuntime) -> Result<(), Fail> {
+    let begun = again!("%lo(".repeat(rt.alloc(), 1_000_000));
+    let closed = again!(")".repeat(rt.alloc(), 1_000_000));
+    let text = again!(format!(in rt.alloc(); ".word {begun}%hi(0x12345FFF){closed}"));
+    let image = image(rt.alloc(), &text)?;
+    assert!(rt; are_at(&image.segments, &[(0x8000_0000, &[0x46, 0x03, 0, 0])]));
+    Ok(())
 }
