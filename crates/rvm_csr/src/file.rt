@@ -11,7 +11,7 @@ use crate::cause::{Cause, Interrupt};
 use crate::counters::Counters;
 use crate::fields::CsrFields;
 use crate::interrupts::Interrupts;
-use crate::register::Csr;
+use crate::register::{Csr, is_read_only};
 use rvm_word::{bit, high_half, is_set, low_half, with_high, with_low};
 use std::marker::Model;
 
@@ -133,7 +133,7 @@ impl CsrFile {
         ensures file { self.new ≡ unwrap_or (csr_write number value self.old) self.old }
         ensures written { is_some result ≡ is_some (csr_write number value self.old) }
     {
-        if number >> 10 & 3 == 3 {
+        if is_read_only(number) {
             return None;
         }
         let csr = Csr::at(number)?;
@@ -208,9 +208,9 @@ impl CsrFile {
         self.counters.tick(cycle, instret);
     }
 
-    /// The value that is read from a register.
+    /// The value that is read from a register; `mip` is what is pending at the hart now.
     #[inline]
-    fn value_of(&self, csr: Csr, mip: Interrupts) -> u32
+    pub fn value_of(&self, csr: Csr, mip: Interrupts) -> u32
         ensures { result ≡ value_of csr mip self.now }
     {
         match csr {
@@ -239,9 +239,10 @@ impl CsrFile {
         bit(1 << 3, self.interrupts_enabled) + bit(1 << 7, self.enabled_before) + (3 << 11)
     }
 
-    /// Writes a register; one that cannot be written ignores it.
+    /// Writes a register; one that has no writable bits ignores it.
+    #[inline]
     #[tactic(auto, using(crate::proofs::Masks::and_not_2))]
-    fn set(&mut self, csr: Csr, value: u32)
+    pub fn set(&mut self, csr: Csr, value: u32)
         ensures { self.new ≡ written csr value self.old }
     {
         match csr {

@@ -19,4 +19,4 @@ pub use cause::{Cause, Exception, Interrupt};
 pub use fields::CsrFields;
 pub use file::CsrFile;
 pub use interrupts::Interrupts;
-pub use register::Csr;
+pub use register::{Csr, is_read_only};

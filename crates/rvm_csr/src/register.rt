@@ -1,7 +1,7 @@
 //! Which registers there are.
 
 ghost use Rattle.std.specs.Prelude.{◌≡◌};
-ghost use Rattle.rvm_csr.specs.Table.{csr_at};
+ghost use Rattle.rvm_csr.specs.Table.{csr_at, is_read_only};
 
 /// A register of the profile, by its name in the manual. Where the manual has a row of registers
 /// of one kind (`mhpmcounter3` to `mhpmcounter31`), one name stands for the row.
@@ -66,4 +66,13 @@ impl Csr {
             _ => None,
         }
     }
+}
+
+/// Whether a register's number says that it is read-only: its top two bits are set (Privileged ISA,
+/// "CSR Address Mapping Conventions").
+#[inline]
+pub fn is_read_only(number: u32) -> bool
+    ensures { result ≡ is_read_only number }
+{
+    number >> 10 & 3 == 3
 }

@@ -1,6 +1,8 @@
 //! The instructions that read and write control and status registers (Unprivileged ISA, "Zicsr").
 
 ghost use Rattle.std.specs.Prelude.{◌≡◌, ◌<◌, length};
+ghost use Rattle.rvm_csr.specs.Table.{value_of};
+ghost use Rattle.rvm_hart.specs.Bus.{mip_of};
 ghost use Rattle.rvm_hart.specs.Machine.{machine};
 ghost use Rattle.rvm_hart.specs.Outcome.{reg};
 ghost use Rattle.rvm_hart.specs.Rooms.{accesses, changed, changes_csr, reads_csr, writes, wrote_csr};
@@ -9,7 +11,7 @@ ghost use Rattle.rvm_hart.specs.Step.{Executes};
 use crate::bus::Bus;
 use crate::hart::Hart;
 use crate::outcome::{Stepped, Written};
-use rvm_csr::Exception;
+use rvm_csr::{Csr, Exception, is_read_only};
 use rvm_isa::{CsrNo, Imm5, Reg};
 use rvm_mem::Memory;
 
@@ -131,14 +133,22 @@ impl Hart {
         requires { self.old.csrs.hart < length bus.old.reach.devices.msip }
         ensures { Executes (reads_csr word rd csr) self.old bus.old self.new bus.new result }
     {
+        let Some(register) = Csr::at(csr.bits()) else {
+            return self.trap(Exception::IllegalInstruction, word, bus);
+        };
+        let value = self.csr_value(register, bus);
+        self.give(rd, value);
+        self.retire(bus)
+    }
+
+    /// The value of a register.
+    #[inline]
+    fn csr_value<M: Memory>(&self, register: Csr, bus: &Bus<M>) -> u32
+        requires { self.now.csrs.hart < length bus.now.reach.devices.msip }
+        ensures { result ≡ value_of register (mip_of self.now.csrs.hart bus.now.reach.devices) self.now.csrs }
+    {
         let pending = bus.interrupts(self.csrs.hart());
-        match self.csrs.read(csr.bits(), pending) {
-            Some(value) => {
-                self.give(rd, value);
-                self.retire(bus)
-            }
-            None => self.trap(Exception::IllegalInstruction, word, bus),
-        }
+        self.csrs.value_of(register, pending)
     }
 
     /// Reads a register into rd and writes it.
@@ -157,13 +167,14 @@ impl Hart {
             self.old bus.old self.new bus.new result }
     {
         let number = csr.bits();
-        let pending = bus.interrupts(self.csrs.hart());
-        let Some(old) = self.csrs.read(number, pending) else {
+        let Some(register) = Csr::at(number) else {
             return self.trap(Exception::IllegalInstruction, word, bus);
         };
-        let Some(()) = self.csrs.write(number, change.of(old, source)) else {
+        if is_read_only(number) {
             return self.trap(Exception::IllegalInstruction, word, bus);
-        };
+        }
+        let old = self.csr_value(register, bus);
+        self.csrs.set(register, change.of(old, source));
         self.give(rd, old);
         match written_by(number) {
             Written::Other => self.retire(bus),
