@@ -7,10 +7,10 @@ use Rattle.rvm_command.proofs.run.make_turns.Goals as goal
 pub returns-clause-run : goal.returns-clause-run
 returns-clause-run g c =
     let made = turn_of c.args.turn c.harts.result (drop c.args.next c.args.input.now) (drop c.feed-next.result c.args.input.now) c.args.guest.now.guest c.feed-next.new.guest.guest c.feed-next.ensures.fed c.harts.ensures.count in
-    slice_left c.turns_at_once-count.result (c.args.steps - c.args.turn) c.args.turn (c.args.turn % c.harts.result) c.turns-turns.result.made _ _ c.args.guest.now.guest c.feed-next.new.guest.guest c.turns-turns.new.self.guest c.turns-turns.result.stop
+    rw c.status_of.ensures (slice_left c.turns_at_once-count.result (c.args.steps - c.args.turn) c.args.turn (c.args.turn % c.harts.result) c.turns-turns.result.made _ _ c.args.guest.now.guest c.feed-next.new.guest.guest c.turns-turns.new.self.guest c.turns-turns.result.stop
     c.turns_at_once-count.ensures.some (omega (arith, c.turns_at_once-count.ensures.within)) made
     (no_more c.feed-next.result c.turns_at_once-count.result c.args.input.now c.turns_at_once-count.ensures.one) c.turns_at_once-count.ensures.slice
-    c.turns-turns.ensures.guest c.turns-turns.ensures.made c.turns-turns.ensures.stop
+    c.turns-turns.ensures.guest c.turns-turns.ensures.made c.turns-turns.ensures.stop)
 
 pub returns-clause-some : goal.returns-clause-some
 returns-clause-some g c =
