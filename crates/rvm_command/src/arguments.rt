@@ -113,60 +113,88 @@ fn raw_argument<'a>(alloc: Global) -> Arg<'a> {
         .help("IMAGE is plain bytes, to be placed at 0x80000000")
 }
 
-/// A command over a guest, with the words that describe it.
-fn guest_command<'a>(command: Command<'a>, alloc: Global) -> Result<Command<'a>, Error> {
-    let harts = Arg::new(alloc, "harts")
+/// How many harts the board has.
+fn harts_argument<'a>(alloc: Global) -> Arg<'a> {
+    Arg::new(alloc, "harts")
         .long("harts")
         .value_name("N")
         .default_value("1")
         .value_parser(value_parser!(u32).range(1..=8))
-        .help("How many harts, 1 to 8");
-    let pages = Arg::new(alloc, "pages")
+        .help("How many harts, 1 to 8")
+}
+
+/// How many pages its RAM has.
+fn pages_argument<'a>(alloc: Global) -> Arg<'a> {
+    Arg::new(alloc, "pages")
         .long("pages")
         .value_name("N")
         .default_value("256")
         .value_parser(value_parser!(u32).range(1..=4096))
-        .help("How many pages of 4096 bytes of RAM, 1 to 4096");
+        .help("How many pages of 4096 bytes of RAM, 1 to 4096")
+}
+
+/// How many turns a run makes at most.
+fn steps_argument<'a>(alloc: Global) -> Arg<'a> {
+    Arg::new(alloc, "steps")
+        .long("steps")
+        .value_name("N")
+        .default_value("1000000")
+        .value_parser(value_parser!(u32).range(1..=1_000_000_000))
+        .help("How many turns at most, 1 to 1000000000")
+}
+
+/// The file whose bytes come to the console.
+fn input_argument<'a>(alloc: Global) -> Arg<'a> {
+    Arg::new(alloc, "input")
+        .long("input")
+        .value_name("FILE")
+        .help("The file whose bytes come to the guest's console")
+}
+
+/// The file of the assembly text.
+fn source_argument<'a>(alloc: Global) -> Arg<'a> {
+    Arg::new(alloc, "source")
+        .value_name("SRC")
+        .required(true)
+        .help("The file of the assembly text")
+}
+
+/// The file that is written.
+fn output_argument<'a>(alloc: Global) -> Arg<'a> {
+    Arg::new(alloc, "output")
+        .value_name("OUT")
+        .required(true)
+        .help("The ELF file that is written")
+}
+
+/// A command over a guest, with the words that describe it.
+fn guest_command<'a>(command: Command<'a>, alloc: Global) -> Result<Command<'a>, Error> {
     Ok(
         command
             .arg(image_argument(alloc))?
             .arg(raw_argument(alloc))?
-            .arg(harts)?
-            .arg(pages)?,
+            .arg(harts_argument(alloc))?
+            .arg(pages_argument(alloc))?,
     )
 }
 
 /// The words that `run` takes.
 fn run_command<'a>(alloc: Global) -> Result<Command<'a>, Error> {
-    let steps = Arg::new(alloc, "steps")
-        .long("steps")
-        .value_name("N")
-        .default_value("1000000")
-        .value_parser(value_parser!(u32).range(1..=1_000_000_000))
-        .help("How many turns at most, 1 to 1000000000");
-    let input = Arg::new(alloc, "input")
-        .long("input")
-        .value_name("FILE")
-        .help("The file whose bytes come to the guest's console");
     let run = Command::new(alloc, "run").about("Runs a guest, and writes what it sends");
-    Ok(guest_command(run, alloc)?.arg(steps)?.arg(input)?)
+    Ok(
+        guest_command(run, alloc)?
+            .arg(steps_argument(alloc))?
+            .arg(input_argument(alloc))?,
+    )
 }
 
 /// The words that `asm` takes.
 fn asm_command<'a>(alloc: Global) -> Result<Command<'a>, Error> {
-    let source = Arg::new(alloc, "source")
-        .value_name("SRC")
-        .required(true)
-        .help("The file of the assembly text");
-    let output = Arg::new(alloc, "output")
-        .value_name("OUT")
-        .required(true)
-        .help("The ELF file that is written");
     Ok(
         Command::new(alloc, "asm")
             .about("Assembles a text into an ELF file")
-            .arg(source)?
-            .arg(output)?,
+            .arg(source_argument(alloc))?
+            .arg(output_argument(alloc))?,
     )
 }
 

@@ -105,18 +105,21 @@ goes_on line at old new before m inside moves =
 pub stops : (line : List ℕ) (at : ℕ) (old : List Token) (before : g.Mode) → at < length line → g.after before (get_or line at 0) ≡ None → option_map (λ ts. lexemes_of old ++ ts) (g.lexemes_from (drop at line) before) ≡ None
 stops line at old before inside none = ap (λ bs. option_map (λ ts. lexemes_of old ++ ts) (g.lexemes_from bs before)) (drop_more line at 0 inside) ∙ ap (λ s. option_map (λ ts. lexemes_of old ++ ts) (g.followed_by s (g.lexemes_from (drop (at + 1) line)))) none
 
--- an option that maps to nothing is nothing
-pub map_none : {X Y : Type 0} (f : X → Y) (o : Option X) → option_map f o ≡ None → o ≡ None
-map_none f None h = refl
-map_none f (Some x) h = cc
-
 -- in front of nothing
 pub map_empty : (o : Option (List g.Lexeme)) → option_map (λ ts. [] ++ ts) o ≡ o
 map_empty None = refl
 map_empty (Some x) = refl
 
--- at the end of the line
-pub closes : (line : List ℕ) (at : ℕ) (ts : List Token) (m : g.Mode) → length line ≤ at → option_map (λ us. lexemes_of ts ++ us) (g.lexemes_from (drop at line) m) ≡ option_map (λ us. lexemes_of ts ++ us) (g.at_end m)
-closes line at ts m past = ap (λ bs. option_map (λ us. lexemes_of ts ++ us) (g.lexemes_from bs m)) (drop_all at line past)
+-- so the line can't be read
+pub stops_at : (line : List ℕ) (at : ℕ) (old : List Token) (before : g.Mode) (whole : Option (List g.Lexeme)) → option_map (λ ts. lexemes_of old ++ ts) (g.lexemes_from (drop at line) before) ≡ whole → at < length line → g.after before (get_or line at 0) ≡ None → whole ≡ None
+stops_at line at old before whole so_far inside none = sym so_far ∙ stops line at old before inside none
 
-pub ruleset turns = (goes_on, stops, map_none, map_empty, closes)
+-- at the end of the line
+pub ends_with : (line : List ℕ) (at : ℕ) (old : List Token) (m : Mode) (whole : Option (List g.Lexeme)) → option_map (λ ts. lexemes_of old ++ ts) (g.lexemes_from (drop at line) (mode_of line at m)) ≡ whole → at ≡ length line → whole ≡ option_map (λ ts. lexemes_of old ++ ts) (g.at_end (mode_of line (length line) m))
+ends_with line at old m whole so_far past =
+    sym so_far
+    ∙ ap (λ bs. option_map (λ ts. lexemes_of old ++ ts) (g.lexemes_from bs (mode_of line at m))) (drop_all at line (omega (arith, past)))
+    ∙ ap (λ n. option_map (λ ts. lexemes_of old ++ ts) (g.at_end (mode_of line n m))) past
+
+pub ends_with_none : (line : List ℕ) (at : ℕ) (old : List Token) (m : Mode) (whole : Option (List g.Lexeme)) → option_map (λ ts. lexemes_of old ++ ts) (g.lexemes_from (drop at line) (mode_of line at m)) ≡ whole → at ≡ length line → g.at_end (mode_of line (length line) m) ≡ None → whole ≡ None
+ends_with_none line at old m whole so_far past none = ends_with line at old m whole so_far past ∙ ap (option_map (λ ts. lexemes_of old ++ ts)) none

@@ -1,7 +1,8 @@
 -- The names of the registers (Unprivileged ISA, "RISC-V Assembly Programmer's Handbook").
-use Rattle.std.specs.Prelude.{ℕ, ◌+◌, if◌then◌else◌, List, [], ◌∷◌, Option, Some, None, codes, slice_index_or}
+use Rattle.std.specs.Prelude.{ℕ, ◌+◌, if◌then◌else◌, List, [], ◌∷◌, map, Option, Some, None, codes, slice_index_or}
 use Rattle.std.specs.Option.{option_or}
 use Rattle.std.specs.Str.{bytes_eq}
+use denote.Ref.{Bor}
 
 -- x0 to x31 by their names in the calling convention
 unfoldable pub abi_names : List (List ℕ)
@@ -32,6 +33,10 @@ abbrev pub place_from : (n : ℕ) → List (List ℕ) → List ℕ → Option �
 place_from n [] word = None
 place_from n (name ∷ names) word =
     if bytes_eq word name then Some n else place_from (n + 1) names word
+
+-- the code's list of names
+abbrev pub texts_of : List (Bor (List ℕ)) → List (List ℕ)
+texts_of names = map (λ name. name.now) names
 
 -- the number of the register that a word names, in either list or as fp, which is x8
 unfoldable pub register_of : List ℕ → Option ℕ

@@ -1,7 +1,21 @@
 //! The names of the registers (Unprivileged ISA, "RISC-V Assembly Programmer's Handbook").
 
 ghost use Rattle.std.specs.Prelude.{◌≡◌, ◌<◌, IfSome};
-ghost use Rattle.rvm_text.specs.Registers.{register_of, name_of, place_from, abi_names, numbered_names};
+ghost use Rattle.rvm_text.specs.Registers.{register_of, name_of, place_from, texts_of, abi_names, numbered_names};
+
+/// x0 to x31 by their names in the calling convention.
+const ABI_NAMES: [&str; 32] = [
+    "zero", "ra", "sp", "gp", "tp", "t0", "t1", "t2", "s0", "s1", "a0", "a1", "a2", "a3", "a4",
+    "a5", "a6", "a7", "s2", "s3", "s4", "s5", "s6", "s7", "s8", "s9", "s10", "s11", "t3", "t4",
+    "t5", "t6",
+];
+
+/// x0 to x31 by their numbers.
+const NUMBERED_NAMES: [&str; 32] = [
+    "x0", "x1", "x2", "x3", "x4", "x5", "x6", "x7", "x8", "x9", "x10", "x11", "x12", "x13", "x14",
+    "x15", "x16", "x17", "x18", "x19", "x20", "x21", "x22", "x23", "x24", "x25", "x26", "x27",
+    "x28", "x29", "x30", "x31",
+];
 
 /// The number of the register that a word names: by its name in the calling convention, as `fp`
 /// for `s0`, or as `x0` to `x31`.
@@ -21,41 +35,7 @@ fn abi_register(word: &[u8]) -> Option<u32>
     ensures value { result ≡ place_from 0 abi_names word.now }
     ensures below { IfSome result (λ number. number < 32) }
 {
-    match word {
-        b"zero" => Some(0),
-        b"ra" => Some(1),
-        b"sp" => Some(2),
-        b"gp" => Some(3),
-        b"tp" => Some(4),
-        b"t0" => Some(5),
-        b"t1" => Some(6),
-        b"t2" => Some(7),
-        b"s0" => Some(8),
-        b"s1" => Some(9),
-        b"a0" => Some(10),
-        b"a1" => Some(11),
-        b"a2" => Some(12),
-        b"a3" => Some(13),
-        b"a4" => Some(14),
-        b"a5" => Some(15),
-        b"a6" => Some(16),
-        b"a7" => Some(17),
-        b"s2" => Some(18),
-        b"s3" => Some(19),
-        b"s4" => Some(20),
-        b"s5" => Some(21),
-        b"s6" => Some(22),
-        b"s7" => Some(23),
-        b"s8" => Some(24),
-        b"s9" => Some(25),
-        b"s10" => Some(26),
-        b"s11" => Some(27),
-        b"t3" => Some(28),
-        b"t4" => Some(29),
-        b"t5" => Some(30),
-        b"t6" => Some(31),
-        _ => None,
-    }
+    place(&ABI_NAMES, word)
 }
 
 #[tactic(auto, unfolding(crate::specs::Registers::numbered_names))]
@@ -63,41 +43,22 @@ fn numbered_register(word: &[u8]) -> Option<u32>
     ensures value { result ≡ place_from 0 numbered_names word.now }
     ensures below { IfSome result (λ number. number < 32) }
 {
-    match word {
-        b"x0" => Some(0),
-        b"x1" => Some(1),
-        b"x2" => Some(2),
-        b"x3" => Some(3),
-        b"x4" => Some(4),
-        b"x5" => Some(5),
-        b"x6" => Some(6),
-        b"x7" => Some(7),
-        b"x8" => Some(8),
-        b"x9" => Some(9),
-        b"x10" => Some(10),
-        b"x11" => Some(11),
-        b"x12" => Some(12),
-        b"x13" => Some(13),
-        b"x14" => Some(14),
-        b"x15" => Some(15),
-        b"x16" => Some(16),
-        b"x17" => Some(17),
-        b"x18" => Some(18),
-        b"x19" => Some(19),
-        b"x20" => Some(20),
-        b"x21" => Some(21),
-        b"x22" => Some(22),
-        b"x23" => Some(23),
-        b"x24" => Some(24),
-        b"x25" => Some(25),
-        b"x26" => Some(26),
-        b"x27" => Some(27),
-        b"x28" => Some(28),
-        b"x29" => Some(29),
-        b"x30" => Some(30),
-        b"x31" => Some(31),
-        _ => None,
+    place(&NUMBERED_NAMES, word)
+}
+
+/// The place of a word in a list of names.
+fn place(names: &[&str; 32], word: &[u8]) -> Option<u32>
+    ensures value { result ≡ place_from 0 (texts_of names.now) word.now }
+    ensures below { IfSome result (λ number. number < 32) }
+{
+    let mut number = 0;
+    for name in names {
+        if word == name.as_bytes() {
+            return Some(number);
+        }
+        number += 1;
     }
+    None
 }
 
 /// The name in the calling convention of the register with this number, below 32: `s0` for 8.

@@ -90,7 +90,7 @@ pub fn tokens<'a>(alloc: Global, number: usize, line: &'a [u8]) -> Result<Vec<To
 }
 
 /// The tokens of a line.
-#[tactic(auto, using(crate::proofs::Lexing::turns), unfolding(crate::specs::Lexemes::lexemes))]
+#[tactic(auto, unfolding(crate::specs::Lexemes::lexemes))]
 fn read<'a>(alloc: Global, line: &'a [u8]) -> Result<Vec<Token<'a>>, Refused>
     ensures found { IfOk result (λ v. lexemes line.now ≡ Some (lexemes_of v.items)) }
     ensures slices { IfOk result (λ v. All (IsSlice line.now) v.items) }

@@ -1,6 +1,6 @@
-use Rattle.std.proofs.Common.{arith, ◌∙◌}
-use Rattle.rvm_text.specs.Tokens.{mode_of}
-use Rattle.rvm_text.proofs.Lexing.{goes_on}
+use Rattle.std.proofs.Common.{◌≡◌, arith, length, subst, ◌∙◌}
+use Rattle.rvm_text.specs.Tokens.{mode_of, IsBegun}
+use Rattle.rvm_text.proofs.Lexing.{goes_on, stops_at, ends_with, ends_with_none}
 use Rattle.rvm_text.proofs.token.read.Goals as goal
 
 pub loop-at-preserved : goal.loop-at-preserved
@@ -11,3 +11,20 @@ loop-at-preserved c =
       slices = moves.slices c.loop-at.invariant.slices;
       begun = moves.begun;
     }
+
+pub returns-in_err-mode-clause-bad : goal.returns-in_err-mode-clause-bad
+returns-in_err-mode-clause-bad c =
+    λ bad. stops_at c.args.line.now c.loop-at.at c.loop-at.out.items (mode_of c.args.line.now c.loop-at.at c.loop-at.mode) _ c.loop-at.invariant.lexemes (omega arith) (grind arith)
+
+pub close-requires : goal.close-requires
+close-requires c =
+    let past : c.loop-at.at ≡ length c.args.line.now = omega arith in
+    subst (λ n. IsBegun n c.loop-at.mode) past c.loop-at.invariant.begun
+
+pub returns-in_err-close-clause-bad : goal.returns-in_err-close-clause-bad
+returns-in_err-close-clause-bad c =
+    λ bad. ends_with_none c.args.line.now c.loop-at.at c.loop-at.out.items c.loop-at.mode _ c.loop-at.invariant.lexemes (omega arith) (grind arith)
+
+pub returns-clause-found : goal.returns-clause-found
+returns-clause-found c =
+    ends_with c.args.line.now c.loop-at.at c.loop-at.out.items c.loop-at.mode _ c.loop-at.invariant.lexemes (omega arith) ∙ c.in_ok-close.ensures.ok
