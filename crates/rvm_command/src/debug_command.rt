@@ -7,9 +7,9 @@ ghost use Rattle.rvm_script.specs.Words.{lines};
 ghost use Rattle.rvm_command.specs.Command.{guest_of, image_of};
 ghost use Rattle.rvm_command.specs.Debugging.{IsTold};
 
-use crate::arguments::GuestArguments;
 use crate::guest::{new_guest, read_file};
 use crate::refused::Refused;
+use rvm_arguments::GuestArguments;
 use rvm_script::run_script;
 use std::alloc::Global;
 use std::io::{Read, Write};

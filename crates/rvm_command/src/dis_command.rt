@@ -6,11 +6,11 @@ ghost use Rattle.rvm_image.specs.Images.{pieces_of};
 ghost use Rattle.rvm_dis.specs.Disassembly.{line_at};
 ghost use Rattle.rvm_command.specs.Command.{before_word, image_of, listing, word_lines};
 
-use crate::arguments::DisArguments;
 use crate::guest::read_file;
 use crate::refused::Refused;
 use crate::run::LinkFault;
 use byteorder::{ByteOrder, LittleEndian};
+use rvm_arguments::DisArguments;
 use rvm_dis::write_line;
 use rvm_image::Segment;
 use std::alloc::Global;

@@ -1,15 +1,13 @@
-//! The programs as functions over values: the command line, what each command does, and the loop of
-//! a run. A command is given parsed arguments, the bytes of its files and two writers; it answers
-//! the status.
+//! The programs as functions over values: what each command does, and the loop of a run. A command is
+//! given parsed arguments, the bytes of its files and two writers; it answers the status.
 //!
-//! Stands on the debugged board, images, the assembler, the disassembler, scripts and `clap`, and
-//! knows nothing of files, processes or the terminal.
+//! Stands on the debugged board, images, the assembler, the disassembler, scripts and the arguments,
+//! and knows nothing of files, processes or the terminal.
 //!
-//! To be read in this order: `arguments`, `guest`, `refused`, `run`, `run_command`, `asm_command`,
+//! To be read in this order: `guest`, `refused`, `run`, `run_command`, `asm_command`,
 //! `dis_command`, `debug_command`.
 #![tactic(auto)]
 
-pub mod arguments;
 pub mod asm_command;
 pub mod debug_command;
 pub mod dis_command;

@@ -6,10 +6,10 @@ ghost use Rattle.rvm_refusal.specs.declared.refusal.Refusal.TheVariants.{LinkFau
 ghost use Rattle.rvm_elf.specs.Load.{fits};
 ghost use Rattle.rvm_command.specs.Command.{end_text, image_of, run_of};
 
-use crate::arguments::RunArguments;
 use crate::guest::{new_guest, read_file};
 use crate::refused::Refused;
 use crate::run::{Ended, run};
+use rvm_arguments::RunArguments;
 use rvm_refusal::Refusal;
 use std::alloc::Global;
 use std::fmt;

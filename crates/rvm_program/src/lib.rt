@@ -8,7 +8,7 @@
 ghost use Rattle.std.specs.Prelude.{◌≡◌, ◌⊎◌};
 
 use clap::Error;
-use rvm_command::arguments::{
+use rvm_arguments::{
     Arguments, AsmArguments, DisArguments, GuestArguments, RunArguments, parse_args,
 };
 use rvm_command::asm_command::asm_command;

@@ -1,6 +1,6 @@
 //! The command line: the values that its words have.
 
-use rvm_command::arguments::{Arguments, RunArguments, parse_args};
+use rvm_arguments::{Arguments, RunArguments, parse_args};
 use std::process::Abort;
 use std::test::Fail;
 

@@ -1,6 +1,6 @@
 //! The commands, where a write fails.
 
-use rvm_command::arguments::{GuestArguments, RunArguments};
+use rvm_arguments::{GuestArguments, RunArguments};
 use rvm_command::asm_command::asm_command;
 use rvm_command::debug_command::debug_command;
 use rvm_command::run_command::run_command;

@@ -1,13 +1,19 @@
-//! The command line.
+//! The command line: what its words ask for, within the limits of a board.
+//!
+//! Stands on `clap` and on the limits of reservations and memories, beside the chain of crates that
+//! lead to a board, and knows nothing of what a command does.
+#![tactic(auto)]
 
 ghost use Rattle.std.specs.Prelude.{◌≡◌, ◌≤◌, ◌↔◌, ◌&&◌, nat_le, if◌then◌else◌, IfOk, IfSome};
 
 use clap::error::ErrorKind;
 use clap::{Arg, ArgAction, ArgMatches, Command, Error, value_parser};
-use rvm_board::MAX_HARTS;
 use rvm_mem::MAX_PAGES;
 use std::alloc::Global;
 use std::convert::AsStr;
+
+/// The most harts that a board has.
+const MAX_HARTS: u32 = rvm_res::MAX_HARTS as u32;
 
 /// The most turns that a run makes.
 pub const MAX_STEPS: u32 = 1_000_000_000;
