@@ -1,9 +1,9 @@
 -- What a write of one word, or of each, leaves of the harts' words.
-use Rattle.std.proofs.Common.{◌≡◌, ℕ, zero, suc, ◌<◌, ◌≤◌, true, false, List, [], ◌∷◌, length, take, set, map, replicate, Option, None, Some, is_some, refl, ap, sym, ◌∙◌, ◌+◌, cond, arith, get_or, length-take, add-one, add-zero}
+use Rattle.std.proofs.Common.{◌≡◌, ℕ, zero, suc, ◌<◌, ◌≤◌, Bool, true, false, ◌||◌, List, [], ◌∷◌, length, take, set, map, replicate, Option, None, Some, is_some, refl, ap, sym, ◌∙◌, ◌+◌, cond, arith, get_or, length-take, add-one, add-zero}
 use Rattle.std.specs.List.{list_any, count_by}
 use Rattle.std.proofs.lemmas.List.Sums.{count_by-le-length, sum_by-cons, sum_by-set}
 use Rattle.std.proofs.lemmas.List.{take-replicate, take-map, set-get_or, get_or-take}
-use Rattle.rvm_res.specs.Reservations.{without, stored, word_of}
+use Rattle.rvm_res.specs.Reservations.{is_of, without, stored, word_of}
 
 -- the first words after a write of one
 pub take-set : (n i : ℕ) (words : List (Option ℕ)) (held : Option ℕ) →
@@ -26,6 +26,14 @@ pub none-counted : (words : List (Option ℕ)) → count_by is_some words ≡ 0 
 none-counted [] none = refl
 none-counted (None ∷ words) none = none-counted words (omega (arith, none, sum_by-cons one None words))
 none-counted (Some a ∷ words) none = absurd (omega (arith, none, sum_by-cons one (Some a) words))
+
+or_first : (a b : Bool) → (a || b) ≡ false → a ≡ false
+or_first true b none = none
+or_first false b none = refl
+
+or_second : (a b : Bool) → (a || b) ≡ false → b ≡ false
+or_second true b none = absurd cc
+or_second false b none = none
 
 -- where no word is reserved, none ends
 pub map-without-none : (word : ℕ) (words : List (Option ℕ)) → list_any is_some words ≡ false →
@@ -57,6 +65,22 @@ pub stored-none : (hart address : ℕ) (words : List (Option ℕ)) → list_any 
     stored hart address words ≡ words
 stored-none hart address words none =
     rw (map-without-none (word_of address) words none, set-get_or words hart None)
+
+-- a store into a word that no hart has reserved
+kept : (word : ℕ) (held : Option ℕ) → is_of word held ≡ false → without word held ≡ held
+kept word None other = refl
+kept word (Some w) other = ap (λ b. cond b None (Some w)) other
+
+map-without-other : (word : ℕ) (words : List (Option ℕ)) → list_any (is_of word) words ≡ false → map (without word) words ≡ words
+map-without-other word [] none = refl
+map-without-other word (held ∷ words) none =
+    ap (λ w. w ∷ map (without word) words) (kept word held (or_first (is_of word held) (list_any (is_of word) words) none))
+    ∙ ap (λ ws. held ∷ ws) (map-without-other word words (or_second (is_of word held) (list_any (is_of word) words) none))
+
+pub stored-other : (hart address : ℕ) (words : List (Option ℕ)) → list_any (is_of (word_of address)) words ≡ false →
+    stored hart address words ≡ words
+stored-other hart address words none =
+    rw (map-without-other (word_of address) words none, set-get_or words hart None)
 
 -- a store ends the same words, seen with and without those past the last hart
 pub take-stored : (n hart address : ℕ) (words : List (Option ℕ)) → hart < length (take n words) →

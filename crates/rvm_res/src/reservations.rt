@@ -1,7 +1,8 @@
 //! One word or none for each hart.
 
 ghost use Rattle.std.specs.Prelude.{◌≡◌, ◌<◌, ◌≤◌, None, length, replicate, map, is_some, count_by, get_or, slice_set};
-ghost use Rattle.rvm_res.specs.Reservations.{held, poked, stored, taken, takes, word_of, without};
+ghost use Rattle.std.specs.List.{list_any};
+ghost use Rattle.rvm_res.specs.Reservations.{held, is_of, poked, stored, taken, takes, word_of, without};
 
 use std::marker::Model;
 
@@ -131,12 +132,23 @@ impl Reservations {
         requires { hart < length self.old }
         ensures { self.new ≡ stored hart address self.old }
     {
+        let word = word_of(address);
+        if !is_reserved(&self.words[..self.harts], word) {
+            return;
+        }
         let words = &mut self.words;
         let own = words[hart];
-        end_word(words, word_of(address));
+        end_word(words, word);
         words[hart] = own;
         self.reserved = count(&self.words[..self.harts]);
     }
+}
+
+/// Whether any of these reservations is of a word.
+fn is_reserved(words: &[Option<u32>], word: u32) -> bool
+    ensures { result ≡ list_any (is_of word) words.now }
+{
+    words.iter().any(|held| *held == Some(word))
 }
 
 /// The aligned word that holds the byte at an address.
