@@ -24,7 +24,10 @@ def instructions(command, stdin=None):
     """How many host instructions a command takes."""
     words = ["valgrind", "--tool=cachegrind", "--cache-sim=no", "--cachegrind-out-file=/dev/null", *command]
     done = subprocess.run(words, capture_output=True, text=True, input=stdin)
-    return int(re.search(r"I\s+refs:\s+([\d,]+)", done.stderr)[1].replace(",", ""))
+    counted = re.search(r"I\s+refs:\s+([\d,]+)", done.stderr)
+    if done.returncode != 0 or counted is None:
+        sys.exit(f"{' '.join(command)}: status {done.returncode}\n{done.stderr}")
+    return int(counted[1].replace(",", ""))
 
 
 def a_step(command, fewer=FEWER, more=MORE):

@@ -1,4 +1,4 @@
-use Rattle.std.proofs.Common.{◌≡◌, ◌<◌, Bool, false, length, take, sym, ◌∙◌}
+use Rattle.std.proofs.Common.{◌≡◌, ◌<◌, false, length, take, sym, ◌∙◌}
 use Rattle.std.specs.List.{list_any}
 use Rattle.rvm_res.specs.Reservations.{is_of, word_of}
 use Rattle.rvm_res.proofs.Words.{stored-other, take-stored}

@@ -1,4 +1,4 @@
-use Rattle.std.proofs.Common.{◌≡◌, ◌<◌, is_some, sym, ◌∙◌, arith, count_by}
+use Rattle.std.proofs.Common.{◌≡◌, is_some, sym, arith, count_by}
 use Rattle.rvm_res.proofs.Words.{none-counted, stored-none}
 use Rattle.rvm_res.proofs.reservations.Reservations.stored.Goals as goal
 
