@@ -1,7 +1,7 @@
 -- Frames carry the guest.
-use Rattle.std.proofs.Common.{◌≡◌, inl, inr, ℕ, ◌==◌, ◌^◌, ◌-◌, nat_lt, nat_le, not, ◌&&◌, length, Option, Some, None, ap, ◌∙◌, subst, get_or, sym, [], ◌<◌}
+use Rattle.std.proofs.Common.{◌≡◌, ◌⊎◌, inl, inr, ℕ, ◌+◌, ◌==◌, ◌^◌, ◌-◌, Bool, true, false, nat_lt, nat_le, not, ◌&&◌, ◌||◌, List, length, Option, Some, None, refl, ap, ◌∙◌, subst, get_or, sym, [], ◌<◌, arith}
 use Rattle.rvm_protocol.specs.Commands.{Command, Board, Begin, Copy, Resend, AbortMove, HostEvent, Do, Came, is_allowed}
-use Rattle.rvm_protocol.specs.FrameContents.{Carries, FramesCarryTheGuest}
+use Rattle.rvm_protocol.specs.FrameContents.{IsStateOf, Carries, FramesCarryTheGuest}
 use Rattle.rvm_protocol.specs.Frames.{Frame, Offer, Accept, Refuse, Page, RoundEnd, Lost, State, Ready, Go, Started, Abort, Addressed, posted, plain, written, made_as, Part, is_compact, Zero, read}
 use Rattle.rvm_protocol.specs.Guest.{Guest}
 use Rattle.rvm_protocol.specs.Host.{Host, obey_at, is_there, is_heard, outcome, partner_then, addressee}
@@ -10,22 +10,29 @@ use Rattle.rvm_protocol.specs.Obeying.{begin, begin_allowed, begun, copy_page, s
 use Rattle.rvm_protocol.specs.Pages.{least}
 use Rattle.rvm_protocol.specs.Receiving.{came, of_this_move, offered, offer_above}
 use Rattle.rvm_protocol.specs.Replies.{Accepted, Declined, BadSize, BadHost, EpochsSpent, SeqSpent, Stopping, Reply}
-use Rattle.rvm_protocol.specs.Rounds.{Rounds, Last, is_skipped, to_copy, stopped, page_of, newest_numbers, pieces_of}
+use Rattle.rvm_protocol.specs.Rounds.{Rounds, Last, is_skipped, to_copy, stopped, page_count, page_of, newest_numbers, pieces_of}
 use Rattle.rvm_protocol.specs.Told.{told, at_start}
 use Rattle.rvm_protocol.specs.World.{mode_at, run, history, new_world}
 use Rattle.rvm_protocol.proofs.PairInvariant.{New, HoldsNone, Content}
 use Rattle.rvm_protocol.proofs.CurrentModes.{either}
-use Rattle.rvm_protocol.proofs.Basics.{some_is, same_or, and_both}
+use Rattle.rvm_protocol.proofs.Basics.{some_is, same_or, and_both, both_false, least_none, listed_length, listed_at}
 use Rattle.rvm_protocol.proofs.Runs.{run_sound, new_sound}
 use Rattle.rvm_protocol.proofs.OtherHosts.{none_at}
 use Rattle.rvm_protocol.proofs.OneGuestHolds.{told_guest}
 use Rattle.rvm_protocol.proofs.StateCases.{state_cases, part_cases}
 
 module _ {S P E A B : Type 0} (m : Guest S P E A B) (g : S) where
+  -- the paused guest is g, and each of its pages was copied, or is still to be
+  pub record StoppedIs (l : Last S) : Type 0 where
+    pub guest : l.guest ≡ g
+    pub turn : l.turn < length (pieces_of m l)
+    pub copied : (p : ℕ) → p < page_count m l.guest
+        → ((l.to_send p || l.to_fix p) ≡ true) ⊎ (0 < l.newest p)
+
   -- a source's guest is g
   abbrev pub SourceIs : Mode S P → Type 0
   SourceIs (Copying n r) = r.guest ≡ g
-  SourceIs (Stopped n l) = (l.guest ≡ g) × (l.turn < length (pieces_of m l))
+  SourceIs (Stopped n l) = StoppedIs l
   SourceIs mode = Unit {0}
 
   abbrev pub Carried : Outcome S P A B → Type 0
@@ -81,29 +88,52 @@ module _ {S P E A B : Type 0} (m : Guest S P E A B) (g : S) where
       (sends_page m n r p) (λ _. tt) (λ _. ap (λ x. page_of m x p) same)
   carry_copy n r None same = tt
 
-  carry_state : (v : ℕ) (a b : Reply A) (n : ℕ) (l : Last S) → SourceIs (Stopped n l)
-      → Carried (sends_state m v a b n l)
-  carry_state v a b n l same =
+  -- where nothing is left to copy, the newest copies are those of the state of g
+  all_copied : (l : Last S) → StoppedIs l → to_copy m l ≡ None
+      → IsStateOf m g (newest_numbers m l) (m.body l.guest)
+  all_copied l same nothing =
+      subst (λ x. IsStateOf m x (newest_numbers m l) (m.body l.guest)) same.guest (record {
+        body = refl;
+        each = listed_length l.newest 0 (page_count m l.guest);
+        named = λ p lt. subst (λ k. 0 < k) (sym (listed_at l.newest 0 0 (page_count m l.guest) p lt))
+            (subst (λ q. 0 < l.newest q) (let e : p ≡ 0 + p = omega arith in e) (copied_already p lt));
+      })
+    where
+      copied_already : (p : ℕ) → p < page_count m l.guest → 0 < l.newest p
+      copied_already p lt =
+          elim (same.copied p lt) [
+            | inl left ↦
+                absurd (both_false (l.to_send p || l.to_fix p) left
+                (least_none (λ q. l.to_send q || l.to_fix q) 0 (page_count m l.guest) nothing p
+                (omega arith) (omega (arith, lt))))
+            | inr newest ↦ newest
+          ]
+
+  carry_state : (v : ℕ) (a b : Reply A) (n : ℕ) (l : Last S) → StoppedIs l
+      → to_copy m l ≡ None → Carried (sends_state m v a b n l)
+  carry_state v a b n l same nothing =
+      let state = all_copied l same nothing in
       either Carried (is_compact v) _ _
       (λ _. record {
         numbers = newest_numbers m l;
-        count = ap (λ x. length (m.cut (newest_numbers m l) (m.body x))) same.0;
-        inside = same.1;
-        piece = ap (λ x. get_or (m.cut (newest_numbers m l) (m.body x)) l.turn []) same.0;
+        state = record { body = refl; each = state.each; named = state.named; };
+        count = ap (λ x. length (m.cut (newest_numbers m l) (m.body x))) same.guest;
+        inside = same.turn;
+        piece = ap (λ x. get_or (m.cut (newest_numbers m l) (m.body x)) l.turn []) same.guest;
       })
-      (λ _. ap m.body same.0)
+      (λ _. state)
 
-  carry_last : (v : ℕ) → (n : ℕ) (l : Last S) (q : Option ℕ) → SourceIs (Stopped n l)
+  carry_last : (v : ℕ) → (n : ℕ) (l : Last S) (q : Option ℕ) → StoppedIs l → to_copy m l ≡ q
       → Carried (copy_last m v n l q)
-  carry_last v n l (Some p) same =
+  carry_last v n l (Some p) same found =
       either Carried (nat_le (2 ^ 32 - 1) l.copies) (refuses SeqSpent (Stopped n l))
-      (sends_last m n l p) (λ _. tt) (λ _. ap (λ x. page_of m x p) same.0)
-  carry_last v n l None same = carry_state v _ _ n l same
+      (sends_last m n l p) (λ _. tt) (λ _. ap (λ x. page_of m x p) same.guest)
+  carry_last v n l None same found = carry_state v _ _ n l same found
 
-  carry_resend : (v : ℕ) → (n : ℕ) (l : Last S) (q : Option ℕ) → SourceIs (Stopped n l)
+  carry_resend : (v : ℕ) → (n : ℕ) (l : Last S) (q : Option ℕ) → StoppedIs l → to_copy m l ≡ q
       → Carried (resend_last m v n l q)
-  carry_resend v n l (Some p) same = tt
-  carry_resend v n l None same = carry_state v _ _ n l same
+  carry_resend v n l (Some p) same found = tt
+  carry_resend v n l None same found = carry_state v _ _ n l same found
 
   carry_begin : (v : ℕ) → (to : ℕ) (x count : ℕ) (p : _) (X : Mode S P)
       → Carried (obey_at m v x count (Begin to p) X)
@@ -140,11 +170,11 @@ module _ {S P E A B : Type 0} (m : Guest S P E A B) (g : S) where
       (copy_page m n r
       (least (λ x. r.to_send x && not (is_skipped r x)) r.scan
       (length (m.pages r.guest) - r.scan))) (λ _. tt) (λ _. carry_copy n r _ same)
-  carry_obey v x count Copy (Stopped n l) same = carry_last v n l (to_copy m l) same
+  carry_obey v x count Copy (Stopped n l) same = carry_last v n l (to_copy m l) same refl
   carry_obey v x count Copy (Given n) same = tt
   carry_obey v x count Copy (Staging n s) same = tt
   carry_obey v x count Copy (Held n q) same = tt
-  carry_obey v x count Resend (Stopped n l) same = carry_resend v n l (to_copy m l) same
+  carry_obey v x count Resend (Stopped n l) same = carry_resend v n l (to_copy m l) same refl
   carry_obey v x count Resend (Empty n) same = tt
   carry_obey v x count Resend (Run n q) same = tt
   carry_obey v x count Resend (Offering n q p) same = tt
@@ -161,10 +191,25 @@ module _ {S P E A B : Type 0} (m : Guest S P E A B) (g : S) where
   carry_obey v x count AbortMove (Staging n s) same = tt
   carry_obey v x count AbortMove (Held n q) same = tt
 
+  or_true : (b : Bool) → (b || true) ≡ true
+  or_true true = refl
+  or_true false = refl
+
   source_here : (O T : Mode S P) (F : Frame P B → Type 0) → Content m O T F → guest_in O ≡ Some g
       → SourceIs O
   source_here (Copying n r) T F ok h = some_is r.guest g h
-  source_here (Stopped n l) T F ok h = (some_is l.guest g h, ok.turn)
+  source_here (Stopped n l) T F ok h =
+      record {
+        guest = some_is l.guest g h;
+        turn = ok.turn;
+        copied = λ p lt. elim (ok.stale p lt) [
+              | inl send ↦ inl (ap (λ b. b || l.to_fix p) send)
+              | inr other ↦ elim other [
+                | inl fix ↦ inl (ap (λ b. l.to_send p || b) fix ∙ or_true (l.to_send p))
+                | inr fresh ↦ inr fresh.0
+              ]
+            ];
+      }
   source_here (Empty n) T F ok h = tt
   source_here (Run n q) T F ok h = tt
   source_here (Offering n q p) T F ok h = tt

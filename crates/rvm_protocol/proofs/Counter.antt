@@ -1,8 +1,9 @@
 -- A small guest for the worked examples: it counts its events, and its pages are one number each.
 -- An event writes a page or only counts.
-use Rattle.std.proofs.Common.{◌≡◌, ℕ, ◌+◌, Bool, true, false, ◌==◌, List, [], ◌∷◌, length, get_or, set, Option, Some, None, refl, arith, ◌/◌, ◌%◌, ◌*◌, ◌<◌, ap}
+use Rattle.std.proofs.Common.{◌≡◌, ℕ, ◌+◌, Bool, true, false, ◌==◌, List, [], ◌∷◌, length, get_or, set, replicate, Option, Some, None, refl, arith, ◌/◌, ◌%◌, ◌*◌, ◌<◌, ap}
 use Rattle.std.proofs.lemmas.Bool.{eqb-true, eqb-false}
 use Rattle.std.proofs.lemmas.List.{length-set, get_or-set_other}
+use Rattle.rvm_protocol.specs.Commands.{Policy}
 use Rattle.rvm_protocol.specs.Guest.{Guest}
 
 pub record Counter : Type 0 where
@@ -12,6 +13,14 @@ pub record Counter : Type 0 where
 pub data CounterEvent : Type 0 where
   Tick : CounterEvent
   Write : (page value : ℕ) → CounterEvent
+
+-- a guest of n pages of zeros
+abbrev pub fresh : ℕ → Counter
+fresh n = record { count = 0; pages = replicate n 0 }
+
+-- a policy: the most rounds, the fewest pages left, the most copies of each page
+abbrev pub policy : (rounds left copies : ℕ) → Policy
+policy rounds left copies = record { max_rounds = rounds; min_left = left; factor = copies }
 
 abbrev pub counts : Counter → CounterEvent → Counter
 counts t Tick = record { count = t.count + 1; pages = t.pages }

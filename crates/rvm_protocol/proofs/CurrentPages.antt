@@ -1,6 +1,6 @@
 -- The third part of the invariant is kept by each event at the current host.
 use Rattle.std.proofs.Common.{◌≡◌, ◌≢◌, ◌⊎◌, inl, inr, ⊎_elim, ℕ, suc, ◌+◌, ◌-◌, ◌/◌, ◌%◌, ◌^◌, ◌<◌, ◌≤◌, ◌==◌, true, false, not, ◌||◌, ◌&&◌, if◌then◌else◌, nat_lt, nat_le, List, length, get_or, Option, Some, None, refl, sym, ap, ◌∙◌, subst, arith, leb-false, [], Bool}
-use Rattle.std.proofs.lemmas.Bool.{ltb-true, ltb-false}
+use Rattle.std.proofs.lemmas.Bool.{ltb-true, ltb-false, lt-ltb}
 use Rattle.rvm_protocol.specs.Commands.{Policy, Command, Board, Begin, Copy, Resend, is_allowed}
 use Rattle.rvm_protocol.specs.Frames.{Frame, Offer, Page, RoundEnd, State, Part, is_compact}
 use Rattle.rvm_protocol.specs.Guest.{Guest}
@@ -180,6 +180,10 @@ module _ {S P E A B : Type 0} (m : Guest S P E A B) where
                 (let z : p ≤ q = ltb-false q p b in omega (arith, n))
           ]
 
+  second : (a b : Bool) → (a && b) ≡ true → b ≡ true
+  second true b h = h
+  second false b h = absurd (both_false false h refl)
+
   pub copied_ok : (e : ℕ) (r : Rounds S) (p : ℕ) (T : Mode S P) (F : Frame P B → Type 0)
       → CopyingOk m e r T F → r.stop ≡ false → nat_le (2 ^ 32 - 1) r.copies ≡ false
       → IsLeast (λ x. r.to_send x && not (is_skipped r x)) r.scan p
@@ -197,7 +201,7 @@ module _ {S P E A B : Type 0} (m : Guest S P E A B) where
                   (fresh_now e F r.newest r.copies p r.guest ok.copies)))
               | inr n ↦ later_copied e r p q T F ok l n lt
             ];
-        skip = λ q h. skipped_logged r q ok.skip h;
+        skip = λ q h. skipped_logged r q ok.skip (second (q / 64 == p / 64) (is_skipped r q) h);
         over = λ h. absurd (both_false r.stop h runs);
       }
 
@@ -537,7 +541,7 @@ module _ {S P E A B : Type 0} (m : Guest S P E A B) where
 
   pub fixing : (e : ℕ) (l : Last S) (ps : List ℕ) (T : Mode S P) (F : Frame P B → Type 0)
       → StoppedOk m e l T F
-      → StoppedOk m e (record l { to_fix = λ p. l.to_fix p || is_in ps p }) T F
+      → StoppedOk m e (record l { to_fix = λ p. l.to_fix p || (is_in ps p && nat_lt p (length (m.pages l.guest))) }) T F
   fixing e l ps T F ok =
       record {
         beside = ok.beside;
@@ -583,7 +587,7 @@ module _ {S P E A B : Type 0} (m : Guest S P E A B) where
           given = λ q. omega arith;
           fits = omega arith;
         };
-        stale = λ q lt. inl (omega arith, refl);
+        stale = λ q lt. inl (omega arith, lt-ltb q (length (m.pages g)) lt);
         skip = λ q h. absurd (both_false false h refl);
         over = λ h. absurd (both_false false h refl);
       }

@@ -196,7 +196,7 @@ module _ {S P E A B : Type 0} (m : Guest S P E A B) (version count : ℕ) (limit
   record Scanned (p : ℕ) (r : Rounds S) : Type 0 where
     guest : r.guest ≡ g
     policy_is : r.policy ≡ policy
-    to_send : (q : ℕ) → r.to_send q ≡ true
+    to_send : (q : ℕ) → q < n → r.to_send q ≡ true
     log : (q : ℕ) → r.log q ≡ false
     skip : (q : ℕ) → r.to_skip q ≡ false
     scan : r.scan ≡ p
@@ -211,6 +211,10 @@ module _ {S P E A B : Type 0} (m : Guest S P E A B) (version count : ℕ) (limit
       elim (not (r.scan % 64 == 0) && (q / 64 == r.scan / 64)) as
       (λ t. (if t then r.to_skip q else r.log q) ≡ false) [ true ↦ s.skip q | false ↦ s.log q ]
 
+  and_false : (a b : Bool) → b ≡ false → (a && b) ≡ false
+  and_false true b h = h
+  and_false false b h = refl
+
   scanned_more : (p : ℕ) (r : Rounds S) → Scanned p r → Scanned (suc p) (page_copied m r p)
   scanned_more p r s =
       record {
@@ -218,7 +222,7 @@ module _ {S P E A B : Type 0} (m : Guest S P E A B) (version count : ℕ) (limit
         policy_is = s.policy_is;
         to_send = s.to_send;
         log = s.log;
-        skip = not_skipped p r s;
+        skip = λ q. and_false (q / 64 == p / 64) (is_skipped r q) (not_skipped p r s q);
         scan = refl;
         copies = ap suc s.copies;
         round = s.round;
@@ -238,7 +242,7 @@ module _ {S P E A B : Type 0} (m : Guest S P E A B) (version count : ℕ) (limit
       record {
         guest = refl;
         policy_is = refl;
-        to_send = λ q. refl;
+        to_send = λ q lt. lt-ltb q n lt;
         log = λ q. refl;
         skip = λ q. refl;
         scan = refl;
@@ -293,7 +297,7 @@ module _ {S P E A B : Type 0} (m : Guest S P E A B) (version count : ℕ) (limit
       ap (λ z. least (λ q. r.to_send q && not (is_skipped r q)) z (page_count m r.guest - z)) s.scan
       ∙ ap (λ z. least (λ q. r.to_send q && not (is_skipped r q)) p (page_count m z - p)) s.guest
       ∙ least_here (λ q. r.to_send q && not (is_skipped r q)) p (n - p) (omega arith)
-      (and_true (r.to_send p) (not (is_skipped r p)) (s.to_send p)
+      (and_true (r.to_send p) (not (is_skipped r p)) (s.to_send p lt)
       (ap not (not_skipped p r s p))) in
       let room : n < 2 ^ 32 = ok.few in
       if_false r.stop (says Stopping (Stopped M (stopped m r)))
@@ -347,7 +351,7 @@ module _ {S P E A B : Type 0} (m : Guest S P E A B) (version count : ℕ) (limit
       let next : next_page m r ≡ None = least_empty
       (λ q. r.to_send q && not (is_skipped r q)) r.scan (c - r.scan)
       (let z = s.scan in omega (arith, z, cn)) in
-      let total : size r.to_send c ≡ n = size_of_all r.to_send c s.to_send ∙ cn in
+      let total : size r.to_send c ≡ n = size_of_all r.to_send c (λ q lt. s.to_send q (omega (arith, lt, cn))) ∙ cn in
       let left : size r.log c ≡ 0 = size_of_none r.log c (λ q _. s.log q) in
       let skipped : size r.to_send c - r.sent ≡ 0 = let z = s.sent in omega (arith, total, z) in
       let few : nat_lt (size r.log c) r.policy.min_left ≡ true = lt-ltb

@@ -1,5 +1,5 @@
 -- Worked moves, computed.
-use Rattle.std.proofs.Common.{◌≡◌, ℕ, ◌+◌, ◌*◌, List, [], ◌∷◌, ◌++◌, length, replicate, refl, ◌-◌}
+use Rattle.std.proofs.Common.{◌≡◌, ℕ, ◌+◌, ◌*◌, List, [], ◌∷◌, ◌++◌, length, refl, ◌-◌}
 use Rattle.rvm_protocol.specs.Commands.{Policy, Board, Begin, Copy, Resend, AbortMove, Came}
 use Rattle.rvm_protocol.specs.DrivenMove.{drive, drive_replies, state_frames}
 use Rattle.rvm_protocol.specs.Frames.{Frame, Zero, Page, Offer, Accept, RoundEnd}
@@ -7,17 +7,13 @@ use Rattle.rvm_protocol.specs.Modes.{Run, Staging}
 use Rattle.rvm_protocol.specs.Pages.{least, size, listed, members, gathered, is_in}
 use Rattle.rvm_protocol.specs.Replies.{NotHere, Paused, Ignored, BadHost, BadSize, NoFrame, NoMove, Reply, Answered, Begun, Copied, RoundEnded, Stopping, StateSent, PartSent, Resent, Aborted, Accepted, Declined, Open, MoveDeclined, Stored, Noted, Kept, Lacking, ReadySent, Fixing, Committed, StartedHere, Finished, Dropped, Refused}
 use Rattle.rvm_protocol.specs.World.{World, Event, At, Deliver, mode_at, run, replies, new_world}
-use Rattle.rvm_protocol.proofs.Counter.{Counter, CounterEvent, Tick, Write, counter, split_counter}
+use Rattle.rvm_protocol.proofs.Counter.{Counter, CounterEvent, Tick, Write, counter, split_counter, fresh, policy}
 use Rattle.rvm_protocol.specs.Host.{Host, host_step}
 use Rattle.rvm_protocol.specs.Staging.{new_stage}
 
 -- three rounds at most, one page left, three copies of each page
 abbrev some_policy : Policy
-some_policy = record { max_rounds = 3; min_left = 1; factor = 3 }
-
--- a guest of n pages of zeros
-abbrev fresh : ℕ → Counter
-fresh n = record { count = 0; pages = replicate n 0 }
+some_policy = policy 3 1 3
 
 -- the replies of hosts of this stream version to a guest of n pages
 abbrev told : (version hosts n : ℕ) → List (Event CounterEvent) → List (Reply ℕ)
@@ -65,7 +61,7 @@ unfolding replies least size listed members is_in
 a_page_written_before_the_scan_waits_for_the_next_round = refl
 
 with_one_round_it_waits_for_the_stop : told_two
-    (At 0 (Begin 1 (record { max_rounds = 1; min_left = 1; factor = 3 })) ∷ d 0 ∷ d 1 ∷ writes_at 1
+    (At 0 (Begin 1 (policy 1 1 3)) ∷ d 0 ∷ d 1 ∷ writes_at 1
     ∷ four ++ copies ∷ copies ∷ copies ∷ [])
     ≡ Begun 1 ∷ Accepted ∷ Open ∷ Answered 0 ∷ Copied 0 1 ∷ Copied 2 2 ∷ Copied 3 3
     ∷ RoundEnded 1 3 1 1 ∷ Stopping ∷ Copied 1 4 ∷ StateSent ∷ []
@@ -162,8 +158,8 @@ unfolding replies least size listed members is_in
 an_abandoned_host_keeps_waiting_until_its_abort_comes = refl
 
 a_missing_target_is_found_before_a_bad_policy : told 1 3 4
-    (begins 0 0 ∷ begins 0 3 ∷ At 0 (Begin 3 (record { max_rounds = 0; min_left = 1; factor = 3 }))
-    ∷ At 0 (Begin 1 (record { max_rounds = 0; min_left = 1; factor = 3 })) ∷ At 3 Copy ∷ d 0
+    (begins 0 0 ∷ begins 0 3 ∷ At 0 (Begin 3 (policy 0 1 3))
+    ∷ At 0 (Begin 1 (policy 0 1 3)) ∷ At 3 Copy ∷ d 0
     ∷ begins 1 1 ∷ At 0 Copy ∷ [])
     ≡ Refused BadHost ∷ Refused BadHost ∷ Refused BadHost ∷ Refused BadSize ∷ Refused BadHost
     ∷ Refused NoFrame ∷ Refused NotHere ∷ Refused NoMove ∷ []

@@ -28,3 +28,6 @@ pub mod Bounds
 mod Counter
 mod Examples
 mod Witnesses
+mod HostsAtTheEdges
+mod HostsInEachMode
+mod LongRuns

@@ -44,11 +44,12 @@ unfolding least
 least_empty s first zero h = refl
 least_empty s first (suc count) h = absurd (omega arith)
 
-pub size_of_all : (s : Pages) (n : ℕ) → ((q : ℕ) → s q ≡ true) → size s n ≡ n
+pub size_of_all : (s : Pages) (n : ℕ) → ((q : ℕ) → q < n → s q ≡ true) → size s n ≡ n
 unfolding size
 size_of_all s zero h = refl
 size_of_all s (suc n) h =
-    let a = size_of_all s n h in let b = if_true {X = ℕ} (s n) 1 0 (h n) in omega (arith, a, b)
+    let a = size_of_all s n (λ q lt. h q (omega arith)) in let b = if_true {X = ℕ} (s n) 1 0
+    (h n (omega arith)) in omega (arith, a, b)
 
 pub size_of_none : (s : Pages) (n : ℕ) → ((q : ℕ) → q < n → s q ≡ false) → size s n ≡ 0
 unfolding size

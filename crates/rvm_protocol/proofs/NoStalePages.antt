@@ -1,6 +1,7 @@
 -- The law of stale pages follows from the invariant.
 use Rattle.std.proofs.Common.{◌≡◌, inl, inr, ℕ, true, List, [], length, sym, subst, arith, get_or}
-use Rattle.rvm_protocol.specs.Frames.{Page, State, Addressed, Part, read}
+use Rattle.rvm_protocol.specs.FrameContents.{IsStateOf}
+use Rattle.rvm_protocol.specs.Frames.{Frame, Page, State, Addressed, Part, read}
 use Rattle.rvm_protocol.specs.FreshCopies.{NewestCopy, CopiesAreFresh, NoStalePage}
 use Rattle.rvm_protocol.specs.Guest.{Guest}
 use Rattle.rvm_protocol.specs.Host.{Host}
@@ -8,7 +9,7 @@ use Rattle.rvm_protocol.specs.Modes.{Mode, Empty, Run, Offering, Copying, Stoppe
 use Rattle.rvm_protocol.specs.Rounds.{page_of}
 use Rattle.rvm_protocol.specs.Told.{Told, at_start}
 use Rattle.rvm_protocol.specs.World.{mode_at, run, new_world}
-use Rattle.rvm_protocol.proofs.PairInvariant.{Meet, CopiesOk, IsFresh}
+use Rattle.rvm_protocol.proofs.PairInvariant.{Meet, CopiesOk, IsFresh, TrueState}
 use Rattle.rvm_protocol.proofs.OtherModes.{alone}
 use Rattle.rvm_protocol.proofs.Basics.{some_is, same_or}
 use Rattle.rvm_protocol.proofs.OtherPages.{pieces_are_sent}
@@ -32,6 +33,10 @@ module _ {S P E A B : Type 0} (m : Guest S P E A B) where
             (to_d z k b h);
         only = λ z b h. f.1 b (to_d z _ b h);
       }
+
+  is_state : (e : ℕ) (g : S) (F : Frame P B → Type 0) (ns : List ℕ) (b : B)
+      → TrueState m e F g ns b → IsStateOf m g ns b
+  is_state e g F ns b t = record { body = t.body; each = t.count; named = t.named; }
 
   stale_owner : (O : Mode S P) (p : ℕ) (hd : Host S P) (H : ℕ → Host S P)
       (sent : List (Addressed P B)) (c d : ℕ) (t : Told S)
@@ -115,6 +120,15 @@ module _ {S P E A B : Type 0} (m : Guest S P E A B) where
             (subst (λ w. m.valid w ≡ true)
             (sym (some_is r.guest t.guest l.guest)) l.valid)).copies p k y lt le
             (to_d p z k y i),
+        λ to ns b h. is_state n r.guest (Made sent c d) ns b
+            (l.pages.states ns b (state_d to ns b h)),
+        λ st xs ns b some were join.
+            is_state n r.guest (Made sent c d) ns b
+            (pieces_are_sent m n r hd.mode (Made sent c d) st xs ns b l.pages some
+            (λ j inside. part_d st j (length xs) (get_or xs j []) (were j inside).to
+            (were j inside).was_sent) join
+            (subst (λ w. m.valid w ≡ true)
+            (sym (some_is r.guest t.guest l.guest)) l.valid)),
       )
   stale_owner (Empty n) q hd H sent c d t l = tt
   stale_owner (Run n g) q hd H sent c d t l = tt

@@ -5,6 +5,7 @@ use Rattle.std.specs.Prelude.{◌≡◌, ◌⊎◌, ◌<◌, ◌≤◌, ℕ, tru
 use Rattle.std.specs.declared.option.Option.TheVariants.{Some}
 use Rattle.rvm_protocol.specs.Guest.{Guest}
 use Rattle.rvm_protocol.specs.Frames.{Page, State, Part, Addressed, read}
+use Rattle.rvm_protocol.specs.FrameContents.{IsStateOf}
 use Rattle.rvm_protocol.specs.Rounds.{page_count, page_of}
 use Rattle.rvm_protocol.specs.Modes.{Mode, Copying, Stopped}
 use Rattle.rvm_protocol.specs.World.{Event, mode_at, run, new_world, Has}
@@ -49,6 +50,20 @@ module _ {S P E A B : Type 0} (m : Guest S P E A B) where
       → p < page_count m g → get_or numbers p 0 ≤ k
       → Has sent (record { from = x; to = z; frame = Page n p k y }) → y ≡ page_of m g p
 
+  -- every State frame of move n carries the state of g
+  abbrev pub StatesAreTrue : List (Addressed P B) → (x n : ℕ) → S → Type 0
+  StatesAreTrue sent x n g =
+      (to : ℕ) (numbers : List ℕ) (body : B)
+      → Has sent (record { from = x; to = to; frame = State n numbers body })
+      → IsStateOf m g numbers body
+
+  -- so do the pieces of one stamp together
+  abbrev pub PiecesAreTrue : List (Addressed P B) → (x n : ℕ) → S → Type 0
+  PiecesAreTrue sent x n g =
+      (stamp : ℕ) (pieces : List (List ℕ)) (numbers : List ℕ) (body : B) → 0 < length pieces
+      → ((i : ℕ) → i < length pieces → WasPieceSent sent x n stamp pieces i)
+      → m.join pieces ≡ Some (numbers, body) → IsStateOf m g numbers body
+
   -- while the source copies, each page is to be sent and not yet looked at, or in the dirty log, or
   -- its newest copy equals it; once stopped, it is to be sent or to be fixed, or its newest copy
   -- equals it
@@ -62,6 +77,7 @@ module _ {S P E A B : Type 0} (m : Guest S P E A B) where
       → (l.to_send p ≡ true)
       ⊎ ((l.to_fix p ≡ true) ⊎ NewestCopy sent x n p (page_of m l.guest p)))
       × NamesTrueCopies sent x n l.guest × PiecesNameTrueCopies sent x n l.guest
+      × StatesAreTrue sent x n l.guest × PiecesAreTrue sent x n l.guest
   CopiesAreFresh sent x mode = Unit {0}
 
   -- at each host after any events from a new world

@@ -14,8 +14,8 @@ pub mod Told
 pub mod Shown
 pub mod NeverMoving
 pub mod OneGuest
+pub mod FrameContents
 pub mod FreshCopies
 pub mod FrameCauses
-pub mod FrameContents
 pub mod FewCopies
 pub mod DrivenMove

@@ -75,7 +75,9 @@ module _ {S P E A B : Type 0} (m : Guest S P E A B) where
   abbrev pub lost_came : ℕ → Last S → List ℕ → Outcome S P A B
   lost_came n l ps =
       says (Fixing (size (is_in ps) (page_count m l.guest)))
-      (Stopped n (record l { to_fix = λ p. l.to_fix p || is_in ps p }))
+      (Stopped n (record l {
+        to_fix = λ p. l.to_fix p || (is_in ps p && nat_lt p (page_count m l.guest));
+      }))
 
   abbrev pub came : ℕ → Frame P B → Mode S P → Outcome S P A B
   came limit (Offer k pages processors) (Empty n) =

@@ -6,7 +6,7 @@ use Rattle.std.specs.Prelude.{ℕ, suc, ◌-◌, ◌*◌, ◌/◌, ◌%◌, Bool
 use Rattle.std.specs.declared.option.Option.{Option}
 use Rattle.rvm_protocol.specs.Guest.{Guest}
 use Rattle.rvm_protocol.specs.Commands.{Policy}
-use Rattle.rvm_protocol.specs.Pages.{Pages, none, all, put, least, size, listed}
+use Rattle.rvm_protocol.specs.Pages.{Pages, none, put, least, size, listed}
 
 -- the source while the guest runs
 pub record Rounds (S : Type 0) : Type 0 where
@@ -59,7 +59,7 @@ module _ {S P E A B : Type 0} (m : Guest S P E A B) where
       record {
         guest = g;
         policy = p;
-        to_send = all;
+        to_send = λ q. nat_lt q (page_count g);
         log = none;
         to_skip = none;
         scan = 0;
@@ -85,7 +85,7 @@ module _ {S P E A B : Type 0} (m : Guest S P E A B) where
   abbrev pub page_copied : Rounds S → ℕ → Rounds S
   page_copied r p =
       record r {
-        to_skip = is_skipped r;
+        to_skip = λ q. (q / 64 == p / 64) && is_skipped r q;
         scan = suc p;
         newest = put r.newest p (suc r.copies);
         copies = suc r.copies;
