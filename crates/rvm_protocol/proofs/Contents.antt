@@ -15,7 +15,7 @@ use Rattle.rvm_protocol.specs.Told.{told, at_start}
 use Rattle.rvm_protocol.specs.World.{mode_at, run, history, new_world}
 use Rattle.rvm_protocol.proofs.PairInvariant.{New, HoldsNone, Content}
 use Rattle.rvm_protocol.proofs.CurrentModes.{either}
-use Rattle.rvm_protocol.proofs.Basics.{some_is, same_or, and_both, both_false, least_none, listed_length, listed_at}
+use Rattle.rvm_protocol.proofs.Basics.{some_is, same_or, or_left, or_right, and_both, both_false, least_none, listed_length, listed_at}
 use Rattle.rvm_protocol.proofs.Runs.{run_sound, new_sound}
 use Rattle.rvm_protocol.proofs.OtherHosts.{none_at}
 use Rattle.rvm_protocol.proofs.OneGuestHolds.{told_guest}
@@ -116,7 +116,7 @@ module _ {S P E A B : Type 0} (m : Guest S P E A B) (g : S) where
       either Carried (is_compact v) _ _
       (λ _. record {
         numbers = newest_numbers m l;
-        state = record { body = refl; each = state.each; named = state.named; };
+        state = record { body = refl; each = state.each; named = state.named };
         count = ap (λ x. length (m.cut (newest_numbers m l) (m.body x))) same.guest;
         inside = same.turn;
         piece = ap (λ x. get_or (m.cut (newest_numbers m l) (m.body x)) l.turn []) same.guest;
@@ -191,10 +191,6 @@ module _ {S P E A B : Type 0} (m : Guest S P E A B) (g : S) where
   carry_obey v x count AbortMove (Staging n s) same = tt
   carry_obey v x count AbortMove (Held n q) same = tt
 
-  or_true : (b : Bool) → (b || true) ≡ true
-  or_true true = refl
-  or_true false = refl
-
   source_here : (O T : Mode S P) (F : Frame P B → Type 0) → Content m O T F → guest_in O ≡ Some g
       → SourceIs O
   source_here (Copying n r) T F ok h = some_is r.guest g h
@@ -203,12 +199,12 @@ module _ {S P E A B : Type 0} (m : Guest S P E A B) (g : S) where
         guest = some_is l.guest g h;
         turn = ok.turn;
         copied = λ p lt. elim (ok.stale p lt) [
-              | inl send ↦ inl (ap (λ b. b || l.to_fix p) send)
-              | inr other ↦ elim other [
-                | inl fix ↦ inl (ap (λ b. l.to_send p || b) fix ∙ or_true (l.to_send p))
-                | inr fresh ↦ inr fresh.0
-              ]
-            ];
+          | inl send ↦ inl (or_left (l.to_send p) (l.to_fix p) send)
+          | inr other ↦ elim other [
+            | inl fix ↦ inl (or_right (l.to_send p) (l.to_fix p) fix)
+            | inr fresh ↦ inr fresh.0
+          ]
+        ];
       }
   source_here (Empty n) T F ok h = tt
   source_here (Run n q) T F ok h = tt

@@ -77,12 +77,16 @@ lost_of_a_third_host = refl
 -- move numbers run out, after the target and the policy
 no_such_target_first : says_to (Run (2 ^ 64 - 1) g) (Do (Begin 3 (policy 0 1 3))) ≡ Refused BadHost
 no_such_target_first = refl
+
 bad_policy_next : says_to (Run (2 ^ 64 - 1) g) (Do (Begin 2 (policy 0 1 3))) ≡ Refused BadSize
 bad_policy_next = refl
+
 spent_last : says_to (Run (2 ^ 64 - 1) g) (Do (Begin 2 some_policy)) ≡ Refused EpochsSpent
 spent_last = refl
+
 one_left : says_to (Run (2 ^ 64 - 2) g) (Do (Begin 2 some_policy)) ≡ Begun (2 ^ 64 - 1)
 one_left = refl
+
 busy_before_the_target : says_to (Stopped 1 l) (Do (Begin 9 some_policy)) ≡ Refused Busy
 busy_before_the_target = refl
 
@@ -126,11 +130,15 @@ another_page_count = refl
 -- offers
 same_move_of_a_third_host : says_to s (Came 2 (Offer 1 1 1)) ≡ Refused Ignored
 same_move_of_a_third_host = refl
+
 same_move_of_the_partner : says_to s (Came 1 (Offer 1 4000 8)) ≡ Accepted
 same_move_of_the_partner = refl
+
 too_large_for_a_held_host : then_says (Held 1 g) (Came 2 (Offer 2 5 1)) (Do Resend) ≡ Resent
 too_large_for_a_held_host = refl
+
 from_itself : says_to (Empty 0) (Came 0 (Offer 2 1 1)) ≡ Refused Ignored
 from_itself = refl
+
 from_no_host : says_to (Empty 0) (Came 3 (Offer 2 1 1)) ≡ Refused Ignored
 from_no_host = refl

@@ -31,3 +31,4 @@ mod Witnesses
 mod HostsAtTheEdges
 mod HostsInEachMode
 mod LongRuns
+pub mod RoundCopies

@@ -36,7 +36,7 @@ module _ {S P E A B : Type 0} (m : Guest S P E A B) where
 
   is_state : (e : ℕ) (g : S) (F : Frame P B → Type 0) (ns : List ℕ) (b : B)
       → TrueState m e F g ns b → IsStateOf m g ns b
-  is_state e g F ns b t = record { body = t.body; each = t.count; named = t.named; }
+  is_state e g F ns b t = record { body = t.body; each = t.count; named = t.named }
 
   stale_owner : (O : Mode S P) (p : ℕ) (hd : Host S P) (H : ℕ → Host S P)
       (sent : List (Addressed P B)) (c d : ℕ) (t : Told S)

@@ -17,5 +17,6 @@ pub mod OneGuest
 pub mod FrameContents
 pub mod FreshCopies
 pub mod FrameCauses
+pub mod RoundCopies
 pub mod FewCopies
 pub mod DrivenMove

@@ -1,5 +1,6 @@
 //! Laws of all runs, each the contract of a function with nothing to do.
 
+ghost use Rattle.std.specs.Prelude.{ℕ};
 ghost use Rattle.rvm_protocol.specs.DrivenMove.{ADrivenMoveArrives, ATooLargeGuestIsDeclined};
 ghost use Rattle.rvm_protocol.specs.DrivenMove.{DriveCount};
 ghost use Rattle.rvm_protocol.specs.FewCopies.{CopiesAreBounded};
@@ -7,6 +8,7 @@ ghost use Rattle.rvm_protocol.specs.FrameCauses.{FramesFollowTheirCauses};
 ghost use Rattle.rvm_protocol.specs.FrameContents.{FramesCarryTheGuest};
 ghost use Rattle.rvm_protocol.specs.FreshCopies.{NoStalePage};
 ghost use Rattle.rvm_protocol.specs.Guest.{Guest};
+ghost use Rattle.rvm_protocol.specs.RoundCopies.{RoundsCopyWhatIsNotWrittenAgain};
 ghost use Rattle.rvm_protocol.specs.OneGuest.{AlwaysOneGuest, OneGuestFromAnyWorld};
 
 /// For every list of events over the hosts of a world, with frames lost, repeated and reordered:
@@ -35,6 +37,12 @@ pub fn frames_follow_their_causes<S, P, E, A, B>()
 /// of the state that the guest has when it is made.
 pub fn frames_carry_the_guest<S, P, E, A, B>()
     ensures always { (m : Guest S P E A B) → FramesCarryTheGuest m }
+{}
+
+/// Each whole round copies exactly those of its pages that were not in the dirty log when it first
+/// looked at the 64 pages that they are among.
+pub fn a_round_copies_what_is_not_written_again<S, P, E, A, B>()
+    ensures always { (m : Guest S P E A B) (version n : ℕ) → RoundsCopyWhatIsNotWrittenAgain m version n }
 {}
 
 /// Before it stops, a move makes at most as many copies of a page as it may make rounds.
