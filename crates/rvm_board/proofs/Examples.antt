@@ -1,5 +1,5 @@
 -- The step computed on small boards, against values worked out by hand from the manuals.
-use Rattle.std.proofs.Common.{◌≡◌, ℕ, List, [], ◌∷◌, ◌++◌, Some, None, get_or, set, refl}
+use Rattle.std.proofs.Common.{◌≡◌, ℕ, List, [], ◌∷◌, ◌++◌, true, false, Some, None, get_or, set, refl}
 use Rattle.std.specs.Prelude.{slice_index, flat_map, replicate}
 use Rattle.rvm_mem.specs.Endian.{little_bytes}
 use Rattle.rvm_csr.specs.declared.cause.Exception.TheVariants.{IllegalInstruction, InstructionAccessFault, InstructionAddressMisaligned, StoreAddressMisaligned, EnvironmentCall}
@@ -13,7 +13,8 @@ use Rattle.rvm_hart.specs.Machine.{HartState}
 use Rattle.rvm_hart.specs.Rows.{effect}
 use Rattle.rvm_hart.specs.declared.outcome.Stepped.{Stepped}
 use Rattle.rvm_hart.specs.declared.outcome.Stepped.TheVariants.{Retired, Trapped, Interrupted, Halted}
-use Rattle.rvm_board.specs.Board.{Board, at_reset, stepped, hart_at}
+use Rattle.rvm_board.specs.Board.{Board, at_reset, is_allowed, stepped, hart_at}
+use Rattle.rvm_board.specs.Pokes.{is_view}
 
 -- a board of so many harts whose RAM begins with these words
 abbrev board : ℕ → List ℕ → Board
@@ -119,3 +120,25 @@ the_ninth_step_halts = refl
 what_the_guest_sent : (after nine (board 1 hi_words)).reach.devices.output ≡ 0x48 ∷ 0x69 ∷ 0x0A ∷ []
 unfolding after nine hi_words effect isa.decoded isa.row_of isa.table register_at signed_value
 what_the_guest_sent = refl
+
+-- what makes a board, and what is read of it at once
+eight_harts_are_allowed : is_allowed 8 0x80000000 (0 ∷ []) ≡ true
+eight_harts_are_allowed = refl
+
+nine_harts_are_not : is_allowed 9 0x80000000 (0 ∷ []) ≡ false
+nine_harts_are_not = refl
+
+an_odd_entry_is_not : is_allowed 1 0x80000002 (0 ∷ []) ≡ false
+an_odd_entry_is_not = refl
+
+the_whole_of_a_ram_of_256_bytes_is_a_view : is_view 0x80000000 256 (board 1 (replicate 64 0)) ≡ true
+the_whole_of_a_ram_of_256_bytes_is_a_view = refl
+
+no_view_has_257_bytes : is_view 0x80000000 257 (board 1 (replicate 65 0)) ≡ false
+no_view_has_257_bytes = refl
+
+no_view_has_none : is_view 0x80000000 0 (board 1 (0 ∷ [])) ≡ false
+no_view_has_none = refl
+
+no_view_goes_past_the_end : is_view 0x80000001 4 (board 1 (0 ∷ [])) ≡ false
+no_view_goes_past_the_end = refl

@@ -1,3 +1,4 @@
 pub mod Shape
 pub mod Reserved
 pub mod Whole
+mod Examples
