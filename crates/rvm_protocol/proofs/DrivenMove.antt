@@ -749,17 +749,17 @@ module _ {S P E A B : Type 0} (m : Guest S P E A B) (version count : ℕ) (limit
       }
   kept_so (suc i) = kept_more i (kept_at i) (kept_so i)
 
-  takes : (i : ℕ) → takes_part (kept_at i) n (length pieces) ≡ true
-  takes i =
+  takes : (i : ℕ) → i < length pieces → takes_part (kept_at i) n i (length pieces) ≡ true
+  takes i lt =
       let s = kept_at i in
-      elim (kept_so i).stamp_is [
+      and_true (nat_lt i (length pieces)) _ (lt-ltb i (length pieces) lt) (elim (kept_so i).stamp_is [
         | inl z ↦
             or_left (nat_lt s.stamp n) _
             (lt-ltb s.stamp n (let y : 0 < n = ok.some in omega (arith, z, y)))
         | inr z ↦
             or_right (nat_lt s.stamp n) _
             (and_true _ _ (eq-eqb n s.stamp (sym z.0)) (eq-eqb (length pieces) s.parts (sym z.1)))
-      ]
+      ])
 
   part_taken : (i : ℕ) → suc i < length pieces
       → came m (limits to) (part_mail i).frame (Staging (suc e) (kept_at i)) ≡ says
@@ -770,9 +770,9 @@ module _ {S P E A B : Type 0} (m : Guest S P E A B) (version count : ℕ) (limit
       let t = with_part s n i (length pieces) (get_or pieces i []) in
       let k = kept_more i s (kept_so i) in
       same_move (part_came m (suc e) s n i (length pieces) (get_or pieces i [])) (Staging (suc e) s)
-      ∙ if_true (takes_part s n (length pieces))
+      ∙ if_true (takes_part s n i (length pieces))
       (part_kept m (suc e) s t i (length pieces) (gathered t.pieces 0 (length pieces)))
-      (ignores (Staging (suc e) s)) (takes i)
+      (ignores (Staging (suc e) s)) (takes i (omega (arith, lt)))
       ∙ ap (part_kept m (suc e) s t i (length pieces))
       (gathered_none t.pieces 0 (length pieces) (suc i) (omega arith) (omega (arith, lt))
       (k.missing (suc i) (omega arith)))
@@ -791,9 +791,9 @@ module _ {S P E A B : Type 0} (m : Guest S P E A B) (version count : ℕ) (limit
       let few : n < 2 ^ 32 = ok.few in
       (omega (arith, at), omega (arith, at, few, inside))) in
       same_move (part_came m (suc e) s n i (length pieces) (get_or pieces i [])) (Staging (suc e) s)
-      ∙ if_true (takes_part s n (length pieces))
+      ∙ if_true (takes_part s n i (length pieces))
       (part_kept m (suc e) s t i (length pieces) (gathered t.pieces 0 (length pieces)))
-      (ignores (Staging (suc e) s)) (takes i)
+      (ignores (Staging (suc e) s)) (takes i (omega (arith, is)))
       ∙ ap (part_kept m (suc e) s t i (length pieces))
       (gathered_all t.pieces [] 0 pieces
       (λ j lt. let z : 0 + j ≡ j = omega arith in ap t.pieces z

@@ -142,3 +142,6 @@ from_itself = refl
 
 from_no_host : says_to (Empty 0) (Came 3 (Offer 2 1 1)) ≡ Refused Ignored
 from_no_host = refl
+
+a_piece_past_their_count : says_to s (piece 5 2 2 (2 ∷ [])) ≡ Refused Ignored
+a_piece_past_their_count = refl

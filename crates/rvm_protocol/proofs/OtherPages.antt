@@ -179,7 +179,7 @@ module _ {S P E A B : Type 0} (m : Guest S P E A B) where
 
   -- a piece is kept beside those of its stamp
   stage_kept : (e c h n st p u : ℕ) (x : List ℕ) (s : Stage P) (F : Frame P B → Type 0)
-      → takes_part s st u ≡ true → (n ≡ e → F (Part e st p u x)) → BesideOk m e c h F (Staging n s)
+      → takes_part s st p u ≡ true → (n ≡ e → F (Part e st p u x)) → BesideOk m e c h F (Staging n s)
       → BesideOk m e c h F (Staging n (with_part s st p u x))
   stage_kept e c h n st p u x s F takes sent ok =
       λ same.
@@ -214,7 +214,8 @@ module _ {S P E A B : Type 0} (m : Guest S P E A B) where
                 (if b then (λ (j : ℕ). None) else s.pieces) i) (sym above) ∙ q))
             | inr equal ↦
                 let both = and_both (st == s.stamp) (u == s.parts)
-                (ap (λ b. b || (st == s.stamp && u == s.parts)) (sym equal) ∙ takes) in
+                (ap (λ b. b || (st == s.stamp && u == s.parts)) (sym equal)
+                ∙ (and_both (nat_lt p u) (nat_lt s.stamp st || (st == s.stamp && u == s.parts)) takes).1) in
                 subst (λ w. F (Part e w i u y)) (sym (eqb-true st s.stamp both.0))
                 (subst (λ w. F (Part e s.stamp i w y)) (sym (eqb-true u s.parts both.1))
                 (k.kept i y
@@ -389,7 +390,7 @@ module _ {S P E A B : Type 0} (m : Guest S P E A B) where
       let t = with_part s st p u x in
       let sent : (j : ℕ) → n ≡ j
       → F (Part j st p u x) = λ j same. subst (λ z. F (Part z st p u x)) (sym e ∙ same) h in
-      let kept : takes_part s st u ≡ true
+      let kept : takes_part s st p u ≡ true
       → Content m O (Staging n t) F =
       λ takes. move_other O (Staging n s) (Staging n t) F
       (λ e' c h'. stage_kept e' c h' n st p u x s F takes (sent e')) (λ g z. tt) ok in

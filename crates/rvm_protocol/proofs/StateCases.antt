@@ -66,20 +66,20 @@ module _ {S P E A B : Type 0} (m : Guest S P E A B) (Q : Outcome S P A B → Typ
   -- a piece is ignored, or is kept, or completes a state
   pub part_cases : (n : ℕ) (s : Stage P) (stamp part parts : ℕ) (x : List ℕ)
       → Q (ignores (Staging n s)) → Q (refuses BadState (Staging n s))
-      → (takes_part s stamp parts ≡ true
+      → (takes_part s stamp part parts ≡ true
       → Q (says (Kept part parts) (Staging n (with_part s stamp part parts x))))
-      → (takes_part s stamp parts ≡ true → (ns : List ℕ)
+      → (takes_part s stamp part parts ≡ true → (ns : List ℕ)
       → Q (sends (Lacking (size (lacks s ns) (length s.pages)))
       (Lost n (members (lacks s ns) 0 (length s.pages)))
       (Staging n (with_part s stamp part parts x))))
-      → (takes_part s stamp parts ≡ true → (xs : List (List ℕ)) (ns : List ℕ) (b : B) (g : S)
+      → (takes_part s stamp part parts ≡ true → (xs : List (List ℕ)) (ns : List ℕ) (b : B) (g : S)
       → gathered (with_part s stamp part parts x).pieces 0 parts ≡ Some xs
       → m.join xs ≡ Some (ns, b) → size (lacks s ns) (length s.pages) ≡ 0
       → m.build s.processors b s.pages ≡ Some g → Q (sends ReadySent (Ready n) (Held n g)))
       → Q (part_came m n s stamp part parts x)
   part_cases n s stamp part parts x ignored bad kept lacking ready =
       let t = with_part s stamp part parts x in
-      either Q (takes_part s stamp parts) (part_kept m n s t part parts (gathered t.pieces 0 parts))
+      either Q (takes_part s stamp part parts) (part_kept m n s t part parts (gathered t.pieces 0 parts))
       (ignores (Staging n s))
       (λ e. kept_cases n s t part parts (gathered t.pieces 0 parts) bad (kept e) (lacking e)
       (ready e))

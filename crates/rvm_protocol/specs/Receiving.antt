@@ -64,7 +64,7 @@ module _ {S P E A B : Type 0} (m : Guest S P E A B) where
 
   abbrev pub part_came : ℕ → Stage P → (stamp part parts : ℕ) → List ℕ → Outcome S P A B
   part_came n s stamp part parts bytes =
-      if takes_part s stamp parts
+      if takes_part s stamp part parts
       then (
       let t = with_part s stamp part parts bytes in
       part_kept n s t part parts (gathered t.pieces 0 parts)

@@ -36,10 +36,11 @@ with_page s p number b =
 abbrev pub lacks : {P : Type 0} → Stage P → List ℕ → Pages
 lacks s numbers p = nat_lt (s.have p) (get_or numbers p 0)
 
--- a piece counts where its stamp is above all seen in this move, or the highest with its count of
--- parts
-abbrev pub takes_part : {P : Type 0} → Stage P → (stamp parts : ℕ) → Bool
-takes_part s stamp parts = nat_lt s.stamp stamp || (stamp == s.stamp && parts == s.parts)
+-- a piece counts where it is one of its parts, and its stamp is above all seen in this move, or the
+-- highest with its count of parts
+abbrev pub takes_part : {P : Type 0} → Stage P → (stamp part parts : ℕ) → Bool
+takes_part s stamp part parts =
+    nat_lt part parts && (nat_lt s.stamp stamp || (stamp == s.stamp && parts == s.parts))
 
 -- with a piece; a higher stamp drops the pieces kept
 abbrev pub with_part : {P : Type 0} → Stage P → (stamp part parts : ℕ) → List ℕ → Stage P
