@@ -209,7 +209,7 @@ impl CsrFile {
     }
 
     /// The value that is read from a register; `mip` is what is pending at the hart now.
-    #[inline]
+    #[inline(always)]
     pub fn value_of(&self, csr: Csr, mip: Interrupts) -> u32
         ensures { result ≡ value_of csr mip self.now }
     {
@@ -240,7 +240,7 @@ impl CsrFile {
     }
 
     /// Writes a register; one that has no writable bits ignores it.
-    #[inline]
+    #[inline(always)]
     #[tactic(auto, using(crate::proofs::Masks::and_not_2))]
     pub fn set(&mut self, csr: Csr, value: u32)
         ensures { self.new ≡ written csr value self.old }

@@ -34,7 +34,7 @@ pub enum Csr {
 
 impl Csr {
     /// The register of a number, if the profile has one there.
-    #[inline]
+    #[inline(always)]
     #[tactic(auto, unfolding(crate::specs::Table::table, crate::specs::Table::csr_at))]
     pub fn at(number: u32) -> Option<Csr>
         ensures { result ≡ csr_at number }

@@ -1,7 +1,8 @@
 -- Turns, one by one.
-use Rattle.std.proofs.Common.{◌≡◌, ℕ, zero, suc, ◌+◌, ◌%◌, ◌<◌, ◌≤◌, List, [], ◌∷◌, ◌++◌, length, Bool, true, false, get_or, Option, Some, None, refl, sym, ap, ◌∙◌, cond, arith, append_assoc, append-nil}
+use Rattle.std.proofs.Common.{◌≡◌, ℕ, zero, suc, ◌+◌, ◌%◌, ◌<◌, ◌≤◌, List, [], ◌∷◌, ◌++◌, length, Bool, true, false, get_or, Option, Some, None, refl, sym, ap, ◌∙◌, cond, arith, append_assoc, is_some}
 use Rattle.std.specs.List.{list_any}
 use Rattle.std.proofs.lemmas.List.{length-set}
+use Rattle.std.proofs.Math.Nat.{mod-add-mod, mod-eq_of_lt, mod-lt, mod_self}
 use Rattle.rvm_mem.specs.Pages.{mark, mark_all}
 use Rattle.rvm_debug.specs.declared.event.BoardReply.TheVariants.{Break}
 use Rattle.rvm_debug.specs.declared.turns.Order.{Order}
@@ -64,9 +65,9 @@ unfolding after_turns
 one_more order n m h g e = rw e refl
 
 -- behind turns that are behind others
-behind_both : (ps qs : List ℕ) (made : ℕ) (t : AfterTurns) → behind ps made (behind qs 1 t) ≡ behind (ps ++ qs) (made + 1) t
-behind_both ps qs made t =
-    ap (λ l. record t { pages = l; made = made + (1 + t.made) }) (sym (append_assoc ps qs t.pages))
+behind_both : (ps qs : List ℕ) (made more : ℕ) (t : AfterTurns) → behind ps made (behind qs more t) ≡ behind (ps ++ qs) (made + more) t
+behind_both ps qs made more t =
+    ap (λ l. record t { pages = l; made = made + (more + t.made) }) (sym (append_assoc ps qs t.pages))
     ∙ ap (λ (k : ℕ). record t { pages = (ps ++ qs) ++ t.pages; made = k }) (omega arith)
 
 -- a turn that does not end them
@@ -83,7 +84,7 @@ goes_on {all} {first} {dirty} order n m h h' made made' g g' dirty' so_far more 
       log = marked ∙ ap (mark_all s.pages) so_far.log ∙ sym (mark_more so_far.pages s.pages first);
       whole = ap (λ k. behind (so_far.pages ++ s.pages) k (after_turns order m h' g')) counted
           ∙ ap (behind (so_far.pages ++ s.pages) (made + 1)) same
-          ∙ sym (behind_both so_far.pages s.pages made rest)
+          ∙ sym (behind_both so_far.pages s.pages made 1 rest)
           ∙ ap (behind so_far.pages made) (sym turned)
           ∙ so_far.whole;
     }
@@ -122,6 +123,100 @@ all_made {all} order n h made count old new told so_far none counted said =
     let last : AfterTurns = record { guest = new.guest; pages = []; made = 0; stop = None } in
     ended all last so_far.pages made old.dirty new.dirty new.dirty new.guest old new told (ap (behind so_far.pages made) (sym (none_left order n h new.guest none)) ∙ so_far.whole) so_far.log refl refl refl refl
     (ap (λ (t : Turns). t.made) said ∙ counted ∙ no_more made) (ap (λ (t : Turns). t.stop) said)
+
+-- of no turns, the first hart is any
+pub none_from : (order : Order) (n h i : ℕ) (g : Guest) → n ≡ 0 → after_turns order n h g ≡ after_turns order n i g
+none_from order n h i g none = none_left order n h g none ∙ sym (none_left order n i g none)
+
+-- up to the last hart, the next one is the one more
+next_in_a_row : (m h : ℕ) (g g' : Guest) → h + 1 + m ≤ length g.board.harts → after_turns RoundRobin m (next_hart RoundRobin (length g.board.harts) h) g' ≡ after_turns RoundRobin m (h + 1) g'
+next_in_a_row zero h g g' within = none_from RoundRobin 0 (next_hart RoundRobin (length g.board.harts) h) (h + 1) g' refl
+next_in_a_row (suc m) h g g' within = ap (λ i. after_turns RoundRobin (suc m) i g') (mod-eq_of_lt (omega (arith, within)))
+
+pub goes_on_in_a_row : {all : AfterTurns} {first dirty : List Bool} (n m h made made' : ℕ) (g g' : Guest) (dirty' : List Bool) → Turning all (after_turns RoundRobin n h g) made first dirty → n ≡ suc m → made' ≡ made + 1
+    → h + n ≤ length g.board.harts → stop_in (steps h g).reply ≡ None → g' ≡ (steps h g).guest → dirty' ≡ mark_all (steps h g).pages dirty
+    → Turning all (after_turns RoundRobin m (h + 1) g') made' first dirty'
+goes_on_in_a_row {all} {first} {dirty} n m h made made' g g' dirty' so_far more counted within goes left marked =
+    let on : Turning all (after_turns RoundRobin m (next_hart RoundRobin (length g.board.harts) h) g') made' first dirty' =
+    goes_on RoundRobin n m h (next_hart RoundRobin (length g.board.harts) h) made made' g g' dirty' so_far more counted goes refl left marked in
+    record {
+      pages = on.pages;
+      log = on.log;
+      whole = ap (behind on.pages made') (sym (next_in_a_row m h g g' (omega (arith, within, more)))) ∙ on.whole;
+    }
+
+-- turns of which the first ones were ended early are those
+stopped_cases : (x : Option Stop) (turn : Answered) (all some : AfterTurns) → (is_some some.stop ≡ true → all ≡ some) → is_some (unless_stopped x turn some).stop ≡ true → unless_stopped x turn all ≡ unless_stopped x turn some
+stopped_cases None turn all some same stopped = ap (behind turn.pages 1) (same stopped)
+stopped_cases (Some s) turn all some same stopped = refl
+
+ended_early : (n k m h : ℕ) (g : Guest) → n ≡ k + m → is_some (after_turns RoundRobin k h g).stop ≡ true → after_turns RoundRobin n h g ≡ after_turns RoundRobin k h g
+unfolding after_turns
+ended_early n zero m h g e stopped = absurd cc
+ended_early n (suc k) m h g e stopped =
+    let turn : Answered = steps h g in
+    let next : ℕ = next_hart RoundRobin (length g.board.harts) h in
+    one_more RoundRobin n (k + m) h g (omega (arith, e))
+    ∙ stopped_cases (stop_in turn.reply) turn (after_turns RoundRobin (k + m) next turn.guest) (after_turns RoundRobin k next turn.guest) (ended_early (k + m) k m next turn.guest refl) stopped
+
+-- turns of which the first ones were all made go on behind them
+made_cases : (x : Option Stop) (turn : Answered) (all some : AfterTurns) (k : ℕ) (others : Guest → AfterTurns) → (is_some some.stop ≡ false → all ≡ behind some.pages k (others some.guest)) → is_some (unless_stopped x turn some).stop ≡ false
+    → unless_stopped x turn all ≡ behind (unless_stopped x turn some).pages (suc k) (others (unless_stopped x turn some).guest)
+made_cases None turn all some k others same made =
+    ap (behind turn.pages 1) (same made)
+    ∙ behind_both turn.pages some.pages 1 k (others some.guest)
+    ∙ ap (λ (i : ℕ). behind (turn.pages ++ some.pages) i (others some.guest)) (omega arith)
+made_cases (Some s) turn all some k others same made = absurd cc
+
+all_were_made : (harts n k m h : ℕ) (g : Guest) → length g.board.harts ≡ harts → n ≡ k + m → h < harts → is_some (after_turns RoundRobin k h g).stop ≡ false
+    → after_turns RoundRobin n h g ≡ behind (after_turns RoundRobin k h g).pages k (after_turns RoundRobin m ((h + k) % harts) (after_turns RoundRobin k h g).guest)
+unfolding after_turns
+all_were_made harts n zero m h g size e below made =
+    ap (λ i. after_turns RoundRobin i h g) (e ∙ omega arith)
+    ∙ ap (λ i. after_turns RoundRobin m i g) (sym (ap (λ i. i % harts) (omega arith) ∙ mod-eq_of_lt below))
+    ∙ sym (behind_none (after_turns RoundRobin m ((h + 0) % harts) g))
+all_were_made harts n (suc k) m h g size e below made =
+    let turn : Answered = steps h g in
+    let next : ℕ = next_hart RoundRobin (length g.board.harts) h in
+    let some : AfterTurns = after_turns RoundRobin k next turn.guest in
+    let others : Guest → AfterTurns = λ x. after_turns RoundRobin m ((h + suc k) % harts) x in
+    let there : (next + k) % harts ≡ (h + suc k) % harts = ap (λ l. ((h + 1) % l + k) % harts) size ∙ mod-add-mod (h + 1) harts k ∙ ap (λ i. i % harts) (omega arith) in
+    let within : next < harts = omega (arith, mod-lt (h + 1) {m = harts} (omega (arith, below)), ap (λ l. (h + 1) % l) size) in
+    one_more RoundRobin n (k + m) h g (omega (arith, e))
+    ∙ made_cases (stop_in turn.reply) turn (after_turns RoundRobin (k + m) next turn.guest) some k others
+    (λ q. all_were_made harts (k + m) k m next turn.guest (steps_count h g ∙ size) refl within q ∙ ap (λ i. behind some.pages k (after_turns RoundRobin m i some.guest)) there) made
+
+-- behind the last hart comes hart 0
+from_first : (m i harts : ℕ) (g : Guest) → (0 < m → i ≡ harts) → after_turns RoundRobin m (i % harts) g ≡ after_turns RoundRobin m 0 g
+from_first zero i harts g last = none_from RoundRobin 0 (i % harts) 0 g refl
+from_first (suc m) i harts g last = ap (λ j. after_turns RoundRobin (suc m) (j % harts) g) (last (omega arith)) ∙ ap (λ j. after_turns RoundRobin (suc m) j g) (mod_self harts)
+
+-- turns up to the last hart, or all that are left, do not end them: hart 0 is next
+pub goes_on_behind : {all : AfterTurns} {first : List Bool} (harts n k m h made made' : ℕ) (old new : GuestState) (told : Turns) → Turning all (after_turns RoundRobin n h old.guest) made first old.dirty → length old.guest.board.harts ≡ harts → n ≡ k + m
+    → made' ≡ made + k → h < harts → (0 < m → h + k ≡ harts) → TakesTurns (after_turns RoundRobin k h old.guest) old new told → is_some told.stop ≡ false → Turning all (after_turns RoundRobin m 0 new.guest) made' first new.dirty
+goes_on_behind {all} {first} harts n k m h made made' old new told so_far size more counted below last took none =
+    let t : AfterTurns = after_turns RoundRobin k h old.guest in
+    let on : after_turns RoundRobin n h old.guest ≡ behind t.pages k (after_turns RoundRobin m ((h + k) % harts) t.guest) =
+    all_were_made harts n k m h old.guest size more below (ap (λ (x : Option Stop). is_some x) (sym took.stop) ∙ none) in
+    record {
+      pages = so_far.pages ++ t.pages;
+      log = took.dirty ∙ ap (mark_all t.pages) so_far.log ∙ sym (mark_more so_far.pages t.pages first);
+      whole = ap (λ i. behind (so_far.pages ++ t.pages) i (after_turns RoundRobin m 0 new.guest)) counted
+          ∙ ap (λ x. behind (so_far.pages ++ t.pages) (made + k) (after_turns RoundRobin m 0 x)) took.guest
+          ∙ ap (behind (so_far.pages ++ t.pages) (made + k)) (sym (from_first m (h + k) harts t.guest last))
+          ∙ sym (behind_both so_far.pages t.pages made k (after_turns RoundRobin m ((h + k) % harts) t.guest))
+          ∙ ap (behind so_far.pages made) (sym on)
+          ∙ so_far.whole;
+    }
+
+-- turns that end them
+pub stops_behind : {all : AfterTurns} (n k m h made : ℕ) (first : GuestState) (old new : GuestState) (told said : Turns) → Turning all (after_turns RoundRobin n h old.guest) made first.dirty old.dirty → n ≡ k + m → TakesTurns (after_turns RoundRobin k h old.guest) old new told
+    → is_some told.stop ≡ true → said.made ≡ made + told.made → said.stop ≡ told.stop → TakesTurns all first new said
+stops_behind {all} n k m h made first old new told said so_far more took stopped counted same =
+    let t : AfterTurns = after_turns RoundRobin k h old.guest in
+    let early : after_turns RoundRobin n h old.guest ≡ t = ended_early n k m h old.guest more (ap (λ (x : Option Stop). is_some x) (sym took.stop) ∙ stopped) in
+    ended all t so_far.pages made first.dirty old.dirty new.dirty new.guest first new said (ap (behind so_far.pages made) (sym early) ∙ so_far.whole) so_far.log took.dirty refl took.guest refl
+    (counted ∙ ap (λ (i : ℕ). made + i) took.made) (same ∙ took.stop)
 
 -- of some turns at least one is made, and never more than were asked for
 some_of_cases : (x : Option Stop) (turn : Answered) (others : AfterTurns) → 0 < (unless_stopped x turn others).made

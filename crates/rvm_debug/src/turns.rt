@@ -75,9 +75,9 @@ impl<M: Memory> Debugged<M> {
             return self.turns_or_stops(order, first, count);
         }
         match order {
-            Order::RoundRobin if self.harts() > 1 => self.turns_on(order, first, count),
+            Order::RoundRobin if self.harts() > 1 => self.turns_in_rounds(first, count),
             _ if first == 0 => self.turns_of_hart_0(count),
-            _ => self.turns_on(order, first, count),
+            _ => self.turns_or_stops(order, first, count),
         }
     }
 
@@ -107,13 +107,13 @@ impl<M: Memory> Debugged<M> {
         }
     }
 
-    /// Turns where no hart can stop.
+    /// Turns of the harts in their order, where none can stop: up to the last, and again from hart 0 on.
     #[inline(never)]
-    fn turns_on(&mut self, order: Order, first: u32, count: u32) -> Ended
+    fn turns_in_rounds(&mut self, first: u32, count: u32) -> Ended
         requires first { first < length self.old.guest.board.harts }
         requires breakpoints { self.old.guest.breakpoints ≡ [] }
         requires stopped { list_any (λ s. s) self.old.guest.stopped ≡ false }
-        ensures turns { TakesTurns (after_turns order count first self.old.guest) self.old self.new
+        ensures turns { TakesTurns (after_turns RoundRobin count first self.old.guest) self.old self.new
             (record { made = count - result.left; stop = result.stop }) }
         ensures left { result.left ≤ count }
     {
@@ -121,14 +121,46 @@ impl<M: Memory> Debugged<M> {
         let mut hart = first;
         let mut left = count;
         while left > 0 {
-            left -= 1;
-            if let Some(stop) = stop_of(0, Some(self.step_on(hart))) {
+            let turns = left.min(harts - hart);
+            left -= turns;
+            let ended = self.turns_in_a_row(hart, hart + turns);
+            if ended.stop.is_some() {
                 return Ended {
-                    left,
+                    left: left + ended.left,
+                    stop: ended.stop,
+                };
+            }
+            hart = 0;
+        }
+        Ended {
+            left: 0,
+            stop: None,
+        }
+    }
+
+    /// A turn of each hart from `first` on that comes before `end`, where none can stop.
+    #[inline(always)]
+    fn turns_in_a_row(&mut self, first: u32, end: u32) -> Ended
+        requires first { first ≤ end }
+        requires end { end ≤ length self.old.guest.board.harts }
+        requires breakpoints { self.old.guest.breakpoints ≡ [] }
+        requires stopped { list_any (λ s. s) self.old.guest.stopped ≡ false }
+        ensures turns { TakesTurns (after_turns RoundRobin (end - first) first self.old.guest) self.old self.new
+            (record { made = end - first - result.left; stop = result.stop }) }
+        ensures left { result.left ≤ end - first }
+        ensures breakpoints { self.new.guest.breakpoints ≡ self.old.guest.breakpoints }
+        ensures stopped { self.new.guest.stopped ≡ self.old.guest.stopped }
+    {
+        let mut hart = first;
+        while hart < end {
+            let stepped = self.step_on(hart);
+            hart += 1;
+            if let Some(stop) = stop_of(0, Some(stepped)) {
+                return Ended {
+                    left: end - hart,
                     stop: Some(stop),
                 };
             }
-            hart = order.next(hart, harts);
         }
         Ended {
             left: 0,

@@ -105,13 +105,15 @@ impl Hart {
             return self.trap(Exception::StoreAccessFault, address, bus);
         }
         let hart = self.csrs.hart();
-        if bus.take(hart, address) {
-            let _ = bus.ram_store32(hart, address, self.get(rs2));
-            self.give(rd, 0);
-        } else {
+        let value = self.get(rs2);
+        if !bus.take(hart, address) {
             self.give(rd, 1);
+            return self.retire(bus);
         }
-        self.retire(bus)
+        self.give(rd, 0);
+        let retired = self.retire(bus);
+        let _ = bus.ram_store32(hart, address, value);
+        retired
     }
 
     /// Gives rd the old word of RAM and stores what the operation makes of it (AMO).
@@ -133,6 +135,8 @@ impl Hart {
         self.exchange(operation, rd, address, source, bus)
     }
 
+    /// The same of an address and a source. The store comes last, so that what it does where words are
+    /// reserved, which is rare, costs other steps nothing.
     #[inline(never)]
     fn exchange<M: Memory>(
         &mut self,
@@ -151,9 +155,10 @@ impl Hart {
         }
         match bus.ram_load32(address) {
             Some(old) => {
-                let _ = bus.ram_store32(self.csrs.hart(), address, operation.of(old, source));
                 self.give(rd, old);
-                self.retire(bus)
+                let retired = self.retire(bus);
+                let _ = bus.ram_store32(self.csrs.hart(), address, operation.of(old, source));
+                retired
             }
             None => self.trap(Exception::StoreAccessFault, address, bus),
         }

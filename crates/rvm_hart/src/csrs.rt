@@ -7,6 +7,7 @@ ghost use Rattle.rvm_hart.specs.Machine.{machine};
 ghost use Rattle.rvm_hart.specs.Outcome.{reg};
 ghost use Rattle.rvm_hart.specs.Rooms.{accesses, changed, changes_csr, reads_csr, writes, wrote_csr};
 ghost use Rattle.rvm_hart.specs.Step.{Executes};
+ghost use Rattle.rvm_hart.specs.declared.csrs.CsrChange.TheVariants.{Clear, Set, Write};
 
 use crate::bus::Bus;
 use crate::hart::Hart;
@@ -120,16 +121,19 @@ impl Hart {
         ensures { Executes (accesses word rd csr change field source)
             self.old bus.old self.new bus.new result }
     {
-        if change.writes(field) {
-            self.write_csr(word, change, rd, source, csr, bus)
-        } else {
-            self.read_csr(word, rd, csr, bus)
+        if !change.writes(field) {
+            return self.read_csr(rd, csr, bus, word);
+        }
+        match change {
+            CsrChange::Write => self.write_csr(rd, source, csr, bus, word),
+            CsrChange::Set => self.set_csr(rd, source, csr, bus, word),
+            CsrChange::Clear => self.clear_csr(rd, source, csr, bus, word),
         }
     }
 
     /// Only reads a register into rd.
     #[inline(never)]
-    fn read_csr<M: Memory>(&mut self, word: u32, rd: Reg, csr: CsrNo, bus: &mut Bus<M>) -> Stepped
+    fn read_csr<M: Memory>(&mut self, rd: Reg, csr: CsrNo, bus: &mut Bus<M>, word: u32) -> Stepped
         requires { self.old.csrs.hart < length bus.old.reach.devices.msip }
         ensures { Executes (reads_csr word rd csr) self.old bus.old self.new bus.new result }
     {
@@ -142,7 +146,7 @@ impl Hart {
     }
 
     /// The value of a register.
-    #[inline]
+    #[inline(always)]
     fn csr_value<M: Memory>(&self, register: Csr, bus: &Bus<M>) -> u32
         requires { self.now.csrs.hart < length bus.now.reach.devices.msip }
         ensures { result ≡ value_of register (mip_of self.now.csrs.hart bus.now.reach.devices) self.now.csrs }
@@ -155,24 +159,76 @@ impl Hart {
     #[inline(never)]
     fn write_csr<M: Memory>(
         &mut self,
+        rd: Reg,
+        source: u32,
+        csr: CsrNo,
+        bus: &mut Bus<M>,
         word: u32,
+    ) -> Stepped
+        requires { self.old.csrs.hart < length bus.old.reach.devices.msip }
+        ensures { Executes (changes_csr word rd csr Write source)
+            self.old bus.old self.new bus.new result }
+    {
+        self.exchange_csr(CsrChange::Write, rd, source, csr, bus, word)
+    }
+
+    /// Reads a register into rd and sets bits of it.
+    #[inline(never)]
+    fn set_csr<M: Memory>(
+        &mut self,
+        rd: Reg,
+        source: u32,
+        csr: CsrNo,
+        bus: &mut Bus<M>,
+        word: u32,
+    ) -> Stepped
+        requires { self.old.csrs.hart < length bus.old.reach.devices.msip }
+        ensures { Executes (changes_csr word rd csr Set source)
+            self.old bus.old self.new bus.new result }
+    {
+        self.exchange_csr(CsrChange::Set, rd, source, csr, bus, word)
+    }
+
+    /// Reads a register into rd and clears bits of it.
+    #[inline(never)]
+    fn clear_csr<M: Memory>(
+        &mut self,
+        rd: Reg,
+        source: u32,
+        csr: CsrNo,
+        bus: &mut Bus<M>,
+        word: u32,
+    ) -> Stepped
+        requires { self.old.csrs.hart < length bus.old.reach.devices.msip }
+        ensures { Executes (changes_csr word rd csr Clear source)
+            self.old bus.old self.new bus.new result }
+    {
+        self.exchange_csr(CsrChange::Clear, rd, source, csr, bus, word)
+    }
+
+    /// Reads a register into rd and changes it. Inlined where the change is known, it has one jump by
+    /// the register's number.
+    #[inline(always)]
+    fn exchange_csr<M: Memory>(
+        &mut self,
         change: CsrChange,
         rd: Reg,
         source: u32,
         csr: CsrNo,
         bus: &mut Bus<M>,
+        word: u32,
     ) -> Stepped
         requires { self.old.csrs.hart < length bus.old.reach.devices.msip }
         ensures { Executes (changes_csr word rd csr change source)
             self.old bus.old self.new bus.new result }
     {
         let number = csr.bits();
-        let Some(register) = Csr::at(number) else {
-            return self.trap(Exception::IllegalInstruction, word, bus);
-        };
         if is_read_only(number) {
             return self.trap(Exception::IllegalInstruction, word, bus);
         }
+        let Some(register) = Csr::at(number) else {
+            return self.trap(Exception::IllegalInstruction, word, bus);
+        };
         let old = self.csr_value(register, bus);
         self.csrs.set(register, change.of(old, source));
         self.give(rd, old);

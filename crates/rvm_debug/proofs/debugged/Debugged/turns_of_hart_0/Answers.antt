@@ -1,8 +1,8 @@
-use Rattle.std.proofs.Common.{◌≡◌, ◌+◌, ◌-◌, ◌<◌, ◌≤◌, length, ap, sym, ◌∙◌, arith, refl}
+use Rattle.std.proofs.Common.{◌-◌, length, ap, sym, ◌∙◌, arith, refl}
 use Rattle.rvm_debug.specs.Guest.{Guest}
 use Rattle.rvm_debug.specs.declared.turns.Order.TheVariants.{Alone}
 use Rattle.rvm_debug.specs.Turns.{stop_in}
-use Rattle.rvm_debug.proofs.Turning.{all_made, begins, goes_on, steps_count, stops_at}
+use Rattle.rvm_debug.proofs.Turning.{all_made, goes_on, steps_count, stops_at}
 use Rattle.rvm_debug.proofs.debugged.Debugged.turns_of_hart_0.Goals as goal
 
 pub returns-in-Some-clause-turns : goal.returns-in-Some-clause-turns

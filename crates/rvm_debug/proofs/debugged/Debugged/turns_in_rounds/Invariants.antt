@@ -1,8 +1,9 @@
 use Rattle.std.proofs.Common.{◌≡◌, ◌-◌, ◌<◌, ◌≤◌, [], false, length}
 use Rattle.std.specs.List.{list_any}
+use Rattle.rvm_debug.specs.declared.turns.Order.TheVariants.{RoundRobin}
 use Rattle.rvm_debug.specs.Turns.{after_turns}
 use Rattle.rvm_debug.proofs.Turning.{Turning}
-use Rattle.rvm_debug.proofs.debugged.Debugged.turns_on.Given as goal
+use Rattle.rvm_debug.proofs.debugged.Debugged.turns_in_rounds.Given as goal
 
 -- no hart can stop
 abbrev pub invariant-loop-left : goal.invariant-loop-left
@@ -13,7 +14,7 @@ invariant-loop-left g l =
       hart : l.hart < l.harts;
       breakpoints : l.self.guest.breakpoints ≡ [];
       stopped : list_any (λ s. s) l.self.guest.stopped ≡ false;
-      turns : Turning (after_turns l.order l.count l.first l.fn.self.guest) (after_turns l.order l.left l.hart l.self.guest) (l.count - l.left) l.fn.self.dirty l.self.dirty;
+      turns : Turning (after_turns RoundRobin l.count l.first l.fn.self.guest) (after_turns RoundRobin l.left l.hart l.self.guest) (l.count - l.left) l.fn.self.dirty l.self.dirty;
     }
 
 abbrev pub decreases-loop-left : goal.decreases-loop-left
