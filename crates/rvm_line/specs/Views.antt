@@ -8,7 +8,6 @@ use Rattle.rvm_line.specs.Contents.{parts}
 use Rattle.std.specs.Str.{bytes_eq}
 use Rattle.rvm_text.specs.Lexemes as grammar
 use Rattle.rvm_text.specs.Tokens.{lexeme_of, lexemes_of}
-use Rattle.rvm_text.specs.declared.token.Lexeme.{Lexeme}
 use Rattle.rvm_text.specs.declared.token.Token.{Token}
 use Rattle.rvm_line.specs.declared.faults.Fault.{Fault}
 use Rattle.rvm_line.specs.declared.faults.LineError.{LineError}
@@ -30,8 +29,8 @@ Gives (Ok v) meant = meant ≡ Ok v.items
 Gives (Err OutOfMemory) meant = Unit {0}
 Gives (Err (Faulty f)) meant = meant ≡ Err f
 
--- a first lexeme, and the tokens behind it
-abbrev pub parted : Option (Lexeme × Bor (List Token))
+-- a first token, and those behind it, as lexemes
+abbrev pub parted : Option (Token × Bor (List Token))
     → Option (grammar.Lexeme × List grammar.Lexeme)
 parted None = None
 parted (Some x) = Some (lexeme_of x.0, lexemes_of x.1.now)

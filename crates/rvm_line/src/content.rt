@@ -135,7 +135,7 @@ fn first_part<'t, 'a>(tokens: &'t [Token<'a>]) -> (&'t [Token<'a>], Option<&'t [
     ensures shorter { IfSome result.1 (λ more. length more.now < length tokens.now) }
 {
     for at in 0..tokens.len() {
-        if is_comma(tokens[at].lexeme) {
+        if is_comma(tokens[at]) {
             return (&tokens[..at], Some(&tokens[at + 1..]));
         }
     }

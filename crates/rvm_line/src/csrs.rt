@@ -12,7 +12,7 @@ use crate::reading::{end, mark, next};
 use crate::values::signed_number;
 use crate::words::named;
 use rvm_isa::CsrNo;
-use rvm_text::{Lexeme, Token};
+use rvm_text::Token;
 
 /// The number of a control and status register: by its name, or a number below 4096.
 fn csr<'t, 'a>(tokens: &'t [Token<'a>]) -> Result<(u32, &'t [Token<'a>]), Fault>
@@ -20,7 +20,7 @@ fn csr<'t, 'a>(tokens: &'t [Token<'a>]) -> Result<(u32, &'t [Token<'a>]), Fault>
     ensures below { IfOk result (λ r. r.0 < 2 ^ 12) }
 {
     match next(tokens) {
-        Some((Lexeme::Word(word), rest)) => match csr_named(word) {
+        Some((Token::Word(word), rest)) => match csr_named(word) {
             Some(number) => Ok((number_below(number)?, rest)),
             None => csr_number(tokens),
         },

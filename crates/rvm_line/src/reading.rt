@@ -8,15 +8,15 @@ ghost use Rattle.rvm_line.specs.Views.{parted, seen, seen_rest, seen_bytes, seen
 
 use crate::faults::Fault;
 use rvm_isa::Reg;
-use rvm_text::{Lexeme, Token, is_name, register};
+use rvm_text::{Token, is_name, register};
 
-/// The first lexeme, and the tokens behind it.
-pub fn next<'t, 'a>(tokens: &'t [Token<'a>]) -> Option<(Lexeme<'a>, &'t [Token<'a>])>
+/// The first token, and those behind it.
+pub fn next<'t, 'a>(tokens: &'t [Token<'a>]) -> Option<(Token<'a>, &'t [Token<'a>])>
     ensures parts { parted result ≡ uncons (lexemes_of tokens.now) }
     ensures shorter { IfSome result (λ x. length x.1.now < length tokens.now) }
 {
     let (first, rest) = tokens.split_first()?;
-    Some((first.lexeme, rest))
+    Some((*first, rest))
 }
 
 /// The tokens behind a mark.
@@ -24,7 +24,7 @@ pub fn mark<'t, 'a>(tokens: &'t [Token<'a>], wanted: u8) -> Result<&'t [Token<'a
     ensures { seen_rest result ≡ mark_at wanted (lexemes_of tokens.now) }
 {
     match next(tokens) {
-        Some((Lexeme::Mark(mark), rest)) => {
+        Some((Token::Mark(mark), rest)) => {
             if mark == wanted {
                 Ok(rest)
             } else {
@@ -51,7 +51,7 @@ pub fn name<'t, 'a>(tokens: &'t [Token<'a>]) -> Result<(&'a [u8], &'t [Token<'a>
     ensures { seen_name result ≡ name_at (lexemes_of tokens.now) }
 {
     match next(tokens) {
-        Some((Lexeme::Word(word), rest)) => {
+        Some((Token::Word(word), rest)) => {
             if is_name(word) {
                 Ok((word, rest))
             } else {
@@ -67,7 +67,7 @@ pub fn last_string<'a>(tokens: &[Token<'a>]) -> Result<&'a [u8], Fault>
     ensures { seen_bytes result ≡ last_string (lexemes_of tokens.now) }
 {
     match next(tokens) {
-        Some((Lexeme::Quoted(written), rest)) => {
+        Some((Token::Quoted(written), rest)) => {
             end(rest)?;
             Ok(written)
         }
@@ -81,7 +81,7 @@ pub fn register_number<'t, 'a>(tokens: &'t [Token<'a>]) -> Result<(u32, &'t [Tok
     ensures below { IfOk result (λ r. r.0 < 32) }
 {
     match next(tokens) {
-        Some((Lexeme::Word(word), rest)) => match register(word) {
+        Some((Token::Word(word), rest)) => match register(word) {
             Some(number) => Ok((number, rest)),
             None => Err(Fault::BadToken),
         },

@@ -17,7 +17,7 @@ use crate::reading::{last_string, mark, name, next};
 use crate::symbols::Symbol;
 use crate::values::last_value;
 use crate::words::named;
-use rvm_text::{Lexeme, Token, is_name, text_length};
+use rvm_text::{Token, is_name, text_length};
 
 /// How many bytes each value of a list takes.
 #[derive(Clone, Copy)]
@@ -124,7 +124,7 @@ pub fn split_keyword<'t, 'a>(tokens: &'t [Token<'a>]) -> Result<(Keyword, &'t [T
     ensures { seen result ≡ keyword_at (lexemes_of tokens.now) }
 {
     match next(tokens) {
-        Some((Lexeme::Word(word), rest)) => match keyword_named(word) {
+        Some((Token::Word(word), rest)) => match keyword_named(word) {
             Some(keyword) => Ok((keyword, rest)),
             None => Err(Fault::BadToken),
         },
@@ -137,9 +137,9 @@ pub fn label<'t, 'a>(place: u64, tokens: &'t [Token<'a>]) -> (Option<Symbol<'a>>
     ensures { (definition_of result.0, lexemes_of result.1.now)
         ≡ label_of place (lexemes_of tokens.now) }
 {
-    if let Some((Lexeme::Word(name), rest)) = next(tokens)
+    if let Some((Token::Word(name), rest)) = next(tokens)
         && is_name(name)
-        && let Some((Lexeme::Mark(b':'), rest)) = next(rest)
+        && let Some((Token::Mark(b':'), rest)) = next(rest)
     {
         let value = (place % (1 << 32)) as u32;
         return (Some(Symbol { name, value }), rest);
@@ -178,14 +178,14 @@ fn advance_list(place: u64, width: Width, tokens: &[Token]) -> Result<u64, Fault
 fn commas(tokens: &[Token]) -> u64
     ensures { result ≡ count_by is_comma (lexemes_of tokens.now) }
 {
-    tokens.iter().filter(|token| is_comma(token.lexeme)).count() as u64
+    tokens.iter().filter(|token| is_comma(**token)).count() as u64
 }
 
-/// Whether a lexeme is a comma.
-pub fn is_comma(lexeme: Lexeme) -> bool
-    ensures { result ≡ is_comma (lexeme_of lexeme.entry) }
+/// Whether a token is a comma.
+pub fn is_comma(token: Token) -> bool
+    ensures { result ≡ is_comma (lexeme_of token.entry) }
 {
-    matches!(lexeme, Lexeme::Mark(b','))
+    matches!(token, Token::Mark(b','))
 }
 
 fn is_alignment(number: u32) -> bool

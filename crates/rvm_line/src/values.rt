@@ -13,7 +13,7 @@ ghost use Rattle.rvm_line.specs.Views.{names_of, seen, seen_half};
 use crate::faults::Fault;
 use crate::reading::{end, mark, next};
 use crate::symbols::{Symbol, lookup};
-use rvm_text::{Lexeme, Token, is_name, number};
+use rvm_text::{Token, is_name, number};
 
 /// A half of a value that an instruction can hold.
 #[derive(Clone, Copy)]
@@ -134,9 +134,9 @@ fn half_begun<'t, 'a>(tokens: &'t [Token<'a>]) -> Option<(Half, &'t [Token<'a>])
     ensures half { seen_half result ≡ half_at (lexemes_of tokens.now) }
     ensures shorter { IfSome result (λ x. length x.1.now < length tokens.now) }
 {
-    if let Some((Lexeme::Mark(b'%'), rest)) = next(tokens)
-        && let Some((Lexeme::Word(name), rest)) = next(rest)
-        && let Some((Lexeme::Mark(b'('), rest)) = next(rest)
+    if let Some((Token::Mark(b'%'), rest)) = next(tokens)
+        && let Some((Token::Word(name), rest)) = next(rest)
+        && let Some((Token::Mark(b'('), rest)) = next(rest)
     {
         return Some((half_named(name)?, rest));
     }
@@ -161,7 +161,7 @@ fn simple<'t, 'a>(
     ensures { seen result ≡ simple_at (names_of symbols.now) (lexemes_of tokens.now) }
 {
     match next(tokens) {
-        Some((Lexeme::Word(word), rest)) => {
+        Some((Token::Word(word), rest)) => {
             if !is_name(word) {
                 return signed_number(tokens);
             }
@@ -179,11 +179,11 @@ fn sum<'t, 'a>(value: u32, tokens: &'t [Token<'a>]) -> Result<(u32, &'t [Token<'
     ensures { seen result ≡ sum_at value (lexemes_of tokens.now) }
 {
     match next(tokens) {
-        Some((Lexeme::Mark(b'+'), rest)) => {
+        Some((Token::Mark(b'+'), rest)) => {
             let (number, rest) = signed_number(rest)?;
             Ok((value.wrapping_add(number), rest))
         }
-        Some((Lexeme::Mark(b'-'), rest)) => {
+        Some((Token::Mark(b'-'), rest)) => {
             let (number, rest) = signed_number(rest)?;
             Ok((value.wrapping_sub(number), rest))
         }
@@ -196,8 +196,8 @@ pub fn signed_number<'t, 'a>(tokens: &'t [Token<'a>]) -> Result<(u32, &'t [Token
     ensures { seen result ≡ number_at (lexemes_of tokens.now) }
 {
     match next(tokens) {
-        Some((Lexeme::Word(word), rest)) => Ok((unsigned_number(word)?, rest)),
-        Some((Lexeme::Mark(b'-'), rest)) => negative(rest),
+        Some((Token::Word(word), rest)) => Ok((unsigned_number(word)?, rest)),
+        Some((Token::Mark(b'-'), rest)) => negative(rest),
         _ => Err(Fault::BadToken),
     }
 }
@@ -207,7 +207,7 @@ fn negative<'t, 'a>(tokens: &'t [Token<'a>]) -> Result<(u32, &'t [Token<'a>]), F
     ensures { seen result ≡ negative_at (lexemes_of tokens.now) }
 {
     match next(tokens) {
-        Some((Lexeme::Word(word), rest)) => {
+        Some((Token::Word(word), rest)) => {
             let number = unsigned_number(word)?;
             if number <= 1 << 31 {
                 Ok((number.wrapping_neg(), rest))
