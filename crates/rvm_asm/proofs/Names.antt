@@ -16,7 +16,7 @@ use Rattle.rvm_line.specs.declared.values.Half.{Half}
 use Rattle.rvm_line.specs.Reading.{◌>>=◌, known, only_if, ended, register_comma}
 use Rattle.rvm_line.specs.Values.{Names, value_at, simple_at, sum_at, number_at, last_value, half_at, chosen, closed}
 use Rattle.rvm_line.specs.Instructions.{li_at, li_size}
-use Rattle.rvm_line.specs.Statements.{Definition, space_at, balign_at, is_alignment, padding, advanced, size_of, place_after, next_place, keyword_at}
+use Rattle.rvm_line.specs.Statements.{Definition, space_at, balign_at, is_alignment, padding, advanced, size_of, place_after, next_place, statement_at}
 use Rattle.rvm_line.specs.Views.{names_of}
 use Rattle.rvm_asm.specs.Assembly.{Takes}
 
@@ -130,4 +130,4 @@ module _ (old new : Names) (kept : Kept old new) where
 
   pub next_kept : (place : ℕ) (ts : List Lexeme) (y : ℕ) → next_place old place ts ≡ Ok y → next_place new place ts ≡ Ok y
   next_kept place [] y e = e
-  next_kept place (t ∷ ts) y e = bind_kept (keyword_at (t ∷ ts)) (keyword_at (t ∷ ts)) (λ x. place_after old place x.0 x.1) (λ x. place_after new place x.0 x.1) y (λ x h. h) (λ x. after_kept place x.0 x.1 y) e
+  next_kept place (t ∷ ts) y e = bind_kept (statement_at (t ∷ ts)) (statement_at (t ∷ ts)) (λ x. place_after old place x.0 x.1) (λ x. place_after new place x.0 x.1) y (λ x h. h) (λ x. after_kept place x.0 x.1 y) e

@@ -3,7 +3,7 @@ use Rattle.std.proofs.Common.{◌≡◌, ℕ, List, [], ◌∷◌, refl, cond, �
 use Rattle.std.specs.Prelude.{count_by, fold}
 use Rattle.rvm_text.specs.declared.token.Token.{Token}
 use Rattle.rvm_text.specs.Tokens.{lexeme_of, lexemes_of}
-use Rattle.rvm_line.specs.Statements.{is_comma}
+use Rattle.rvm_line.specs.Reading.{is_comma}
 
 fold_lexemes : (ts : List Token) (n : ℕ) →
     fold (λ a t. a + cond (is_comma (lexeme_of t)) 1 0) n ts ≡ fold (λ a t. a + cond (is_comma t) 1 0) n (lexemes_of ts)

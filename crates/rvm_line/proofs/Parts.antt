@@ -7,9 +7,8 @@ use Rattle.rvm_text.specs.Lexemes.{Lexeme}
 use Rattle.rvm_text.specs.Tokens.{lexeme_of, lexemes_of}
 use Rattle.rvm_line.specs.declared.faults.Fault.{Fault}
 use Rattle.rvm_line.specs.declared.statements.Width.{Width}
-use Rattle.rvm_line.specs.Contents.{parts, at_head, value_of_width, value_bytes, list_bytes}
-use Rattle.rvm_line.specs.Reading.{◌>>=◌}
-use Rattle.rvm_line.specs.Statements.{is_comma}
+use Rattle.rvm_line.specs.Contents.{value_of_width, value_bytes, list_bytes}
+use Rattle.rvm_line.specs.Reading.{◌>>=◌, is_comma, at_head, parts}
 use Rattle.rvm_line.specs.Values.{Names}
 
 -- bytes before others, unless there is a fault

@@ -4,7 +4,6 @@ use Rattle.std.specs.Prelude.{Result, Ok, Err}
 use denote.Ref.{Bor}
 use Rattle.std.specs.Prelude.{Vec}
 use Rattle.std.specs.declared.alloc.Global.{Global}
-use Rattle.rvm_line.specs.Contents.{parts}
 use Rattle.std.specs.Str.{bytes_eq}
 use Rattle.rvm_text.specs.Lexemes as grammar
 use Rattle.rvm_text.specs.Tokens.{lexeme_of, lexemes_of}
@@ -15,6 +14,7 @@ use Rattle.rvm_line.specs.declared.faults.LineError.TheVariants.{OutOfMemory, Fa
 use Rattle.rvm_line.specs.declared.symbols.Symbol.{Symbol}
 use Rattle.rvm_line.specs.declared.operations.Ordering.{Ordering}
 use Rattle.rvm_line.specs.declared.values.Half.{Half}
+use Rattle.rvm_line.specs.Reading.{parts}
 use Rattle.rvm_line.specs.Statements.{Definition}
 use Rattle.rvm_line.specs.Values.{Names}
 

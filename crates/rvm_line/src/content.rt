@@ -1,19 +1,20 @@
 //! The bytes of a line.
 
-ghost use Rattle.std.specs.Prelude.{◌≡◌, ◌<◌, [], ◌∷◌, ◌++◌, length, replicate, IfOk, IfSome, OnOk};
+ghost use Rattle.std.specs.Prelude.{◌≡◌, ◌∷◌, [], ◌++◌, replicate, IfOk, OnOk};
 ghost use Rattle.rvm_isa.specs.Words.{word_of};
 ghost use Rattle.rvm_text.specs.Strings.{text_of};
 ghost use Rattle.rvm_text.specs.Tokens.{lexemes_of};
-ghost use Rattle.rvm_line.specs.Contents.{parts, has_width, value_of_width, value_bytes};
+ghost use Rattle.rvm_line.specs.Contents.{has_width, value_of_width, value_bytes};
 ghost use Rattle.rvm_line.specs.Contents.{list_bytes, words_of, words_at, global_at, bytes_of_kind};
 ghost use Rattle.rvm_line.specs.Contents.{bytes_at};
 ghost use Rattle.rvm_line.specs.Instructions.{bytes_of};
-ghost use Rattle.rvm_line.specs.Views.{names_of, seen_parts, Gives};
+ghost use Rattle.rvm_line.specs.Reading.{parts};
+ghost use Rattle.rvm_line.specs.Views.{names_of, Gives};
 
 use crate::faults::{Fault, LineError};
 use crate::instructions::{Words, call, la, li, register_and_value};
-use crate::reading::{end, last_string, name};
-use crate::statements::{Code, Keyword, Width, balign, is_comma, space, split_keyword};
+use crate::reading::{end, first_part, last_string, name};
+use crate::statements::{Code, Keyword, Width, balign, space, statement};
 use crate::symbols::Symbol;
 use crate::values::last_value;
 use rvm_isa::encode::encode;
@@ -32,7 +33,7 @@ pub fn contents(
     if tokens.is_empty() {
         return Ok(Vec::new(alloc));
     }
-    let (keyword, operands) = split_keyword(tokens)?;
+    let (keyword, operands) = statement(tokens)?;
     contents_of_kind(alloc, symbols, place, keyword, operands)
 }
 
@@ -126,20 +127,6 @@ fn list(
         left = more;
     }
     Ok(bytes)
-}
-
-/// The tokens before the first comma, and those behind it, if there is one.
-#[tactic(auto, using(crate::proofs::Parts::steps))]
-fn first_part<'t, 'a>(tokens: &'t [Token<'a>]) -> (&'t [Token<'a>], Option<&'t [Token<'a>]>)
-    ensures parts { parts (lexemes_of tokens.now) ≡ lexemes_of result.0.now ∷ seen_parts result.1 }
-    ensures shorter { IfSome result.1 (λ more. length more.now < length tokens.now) }
-{
-    for at in 0..tokens.len() {
-        if is_comma(tokens[at]) {
-            return (&tokens[..at], Some(&tokens[at + 1..]));
-        }
-    }
-    (tokens, None)
 }
 
 /// An expression whose value has a width.

@@ -1,10 +1,12 @@
 //! Tokens taken one by one.
 
-ghost use Rattle.std.specs.Prelude.{◌≡◌, ◌<◌, IfOk, IfSome, length};
-ghost use Rattle.rvm_text.specs.Tokens.{lexemes_of};
+ghost use Rattle.std.specs.Prelude.{◌≡◌, ◌<◌, ◌∷◌, IfOk, IfSome, length};
+ghost use Rattle.rvm_text.specs.Tokens.{lexeme_of, lexemes_of};
+ghost use Rattle.rvm_line.specs.Reading.{is_comma, parts};
 ghost use Rattle.rvm_line.specs.Reading.{uncons, mark_at, end_at, name_at, last_string};
 ghost use Rattle.rvm_line.specs.Reading.{register_at, register_comma, last_register, last_address};
 ghost use Rattle.rvm_line.specs.Views.{parted, seen, seen_rest, seen_bytes, seen_name};
+ghost use Rattle.rvm_line.specs.Views.{seen_parts};
 
 use crate::faults::Fault;
 use rvm_isa::Reg;
@@ -33,6 +35,27 @@ pub fn mark<'t, 'a>(tokens: &'t [Token<'a>], wanted: u8) -> Result<&'t [Token<'a
         }
         _ => Err(Fault::BadToken),
     }
+}
+
+/// Whether a token is a comma.
+pub fn is_comma(token: Token) -> bool
+    ensures { result ≡ is_comma (lexeme_of token.entry) }
+{
+    matches!(token, Token::Mark(b','))
+}
+
+/// The tokens before the first comma, and those behind it, if there is one.
+#[tactic(auto, using(crate::proofs::Parts::steps))]
+pub fn first_part<'t, 'a>(tokens: &'t [Token<'a>]) -> (&'t [Token<'a>], Option<&'t [Token<'a>]>)
+    ensures parts { parts (lexemes_of tokens.now) ≡ lexemes_of result.0.now ∷ seen_parts result.1 }
+    ensures shorter { IfSome result.1 (λ more. length more.now < length tokens.now) }
+{
+    for at in 0..tokens.len() {
+        if is_comma(tokens[at]) {
+            return (&tokens[..at], Some(&tokens[at + 1..]));
+        }
+    }
+    (tokens, None)
 }
 
 /// Nothing is left.

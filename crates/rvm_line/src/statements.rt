@@ -1,19 +1,21 @@
 //! What kind a line is, what it defines, and where the next line stands.
 
 ghost use Rattle.std.specs.Prelude.{◌≡◌, ◌+◌, ◌≤◌, ◌<◌, ◌^◌, IfOk, option_map, count_by};
-ghost use Rattle.rvm_text.specs.Tokens.{lexeme_of, lexemes_of};
+ghost use Rattle.rvm_text.specs.Tokens.{lexemes_of};
 ghost use Rattle.rvm_line.specs.Operations.{operation_of};
-ghost use Rattle.rvm_line.specs.Statements.{keyword_of, keyword_at, label_of, advanced, bytes_in};
-ghost use Rattle.rvm_line.specs.Statements.{is_comma, behind_string, list_size, size_of};
+ghost use Rattle.rvm_line.specs.Reading.{is_comma};
+ghost use Rattle.rvm_line.specs.Statements.{keyword_of, keyword_at, statement_at, label_of};
+ghost use Rattle.rvm_line.specs.Statements.{advanced, bytes_in, behind_string, list_size, size_of};
 ghost use Rattle.rvm_line.specs.Statements.{is_alignment, padding, balign_at, space_at};
 ghost use Rattle.rvm_line.specs.Statements.{place_after, next_place, equ_of, equ_at};
 ghost use Rattle.rvm_line.specs.Views.{names_of, seen, seen_definition, definition_of};
 
 use crate::faults::Fault;
+use crate::grammar::check_grammar;
 use crate::instructions::{li_size, register_and_value};
 use crate::operations::{Operation, operation_named};
 use crate::pseudo::Pseudo;
-use crate::reading::{last_string, mark, name, next};
+use crate::reading::{is_comma, last_string, mark, name, next};
 use crate::symbols::Symbol;
 use crate::values::last_value;
 use crate::words::named;
@@ -119,8 +121,8 @@ fn instruction_named(word: &[u8]) -> Option<Keyword>
     Some(Keyword::Code(Code::Instruction(operation)))
 }
 
-/// The kind of a statement, and its operands.
-pub fn split_keyword<'t, 'a>(tokens: &'t [Token<'a>]) -> Result<(Keyword, &'t [Token<'a>]), Fault>
+/// The kind that the first word names, and the tokens behind it.
+fn split_keyword<'t, 'a>(tokens: &'t [Token<'a>]) -> Result<(Keyword, &'t [Token<'a>]), Fault>
     ensures { seen result ≡ keyword_at (lexemes_of tokens.now) }
 {
     match next(tokens) {
@@ -130,6 +132,15 @@ pub fn split_keyword<'t, 'a>(tokens: &'t [Token<'a>]) -> Result<(Keyword, &'t [T
         },
         _ => Err(Fault::BadToken),
     }
+}
+
+/// The kind of a statement, and its operands, if it is in the grammar.
+pub fn statement<'t, 'a>(tokens: &'t [Token<'a>]) -> Result<(Keyword, &'t [Token<'a>]), Fault>
+    ensures { seen result ≡ statement_at (lexemes_of tokens.now) }
+{
+    let (keyword, operands) = split_keyword(tokens)?;
+    check_grammar(keyword, operands)?;
+    Ok((keyword, operands))
 }
 
 /// The label of a line that stands at a place, if it has one, and the statement behind it.
@@ -179,13 +190,6 @@ fn commas(tokens: &[Token]) -> u64
     ensures { result ≡ count_by is_comma (lexemes_of tokens.now) }
 {
     tokens.iter().filter(|token| is_comma(**token)).count() as u64
-}
-
-/// Whether a token is a comma.
-pub fn is_comma(token: Token) -> bool
-    ensures { result ≡ is_comma (lexeme_of token.entry) }
-{
-    matches!(token, Token::Mark(b','))
 }
 
 fn is_alignment(number: u32) -> bool
@@ -284,7 +288,7 @@ pub fn next_place(symbols: &[Symbol], place: u64, tokens: &[Token]) -> Result<u6
     if tokens.is_empty() {
         return Ok(place);
     }
-    let (keyword, operands) = split_keyword(tokens)?;
+    let (keyword, operands) = statement(tokens)?;
     place_after(symbols, place, keyword, operands)
 }
 
@@ -307,7 +311,7 @@ pub fn definition<'a>(symbols: &[Symbol], tokens: &[Token<'a>]) -> Result<Option
     if tokens.is_empty() {
         return Ok(None);
     }
-    let (keyword, operands) = split_keyword(tokens)?;
+    let (keyword, operands) = statement(tokens)?;
     match keyword {
         Keyword::Equ => equ(symbols, operands),
         _ => Ok(None),

@@ -3,12 +3,13 @@
 ghost use Rattle.std.specs.Prelude.{◌≡◌, ◌<◌, ◌≤◌, ◌*◌, ◌^◌, IfSome, Ok, length};
 ghost use Rattle.rvm_text.specs.Numbers.{number_of};
 ghost use Rattle.rvm_text.specs.Tokens.{lexemes_of};
+ghost use Rattle.rvm_line.specs.Grammar.{any_names, behind_value};
 ghost use Rattle.rvm_line.specs.Reading.{known};
 ghost use Rattle.rvm_line.specs.Values.{negative_at, number_at, sum_at, simple_at, high, low};
 ghost use Rattle.rvm_line.specs.Values.{Names, half_of, half_named, half_at, in_half, in_halves};
 ghost use Rattle.rvm_line.specs.Values.{value_at, last_value};
 ghost use Rattle.rvm_line.specs.Values.{value_comma, fits_signed};
-ghost use Rattle.rvm_line.specs.Views.{names_of, seen, seen_half};
+ghost use Rattle.rvm_line.specs.Views.{names_of, seen, seen_half, seen_rest};
 
 use crate::faults::Fault;
 use crate::reading::{end, mark, next};
@@ -150,6 +151,33 @@ fn half_named(word: &[u8]) -> Option<Half>
         b"hi" => Some(Half::High),
         b"lo" => Some(Half::Low),
         _ => None,
+    }
+}
+
+/// The tokens behind an expression.
+#[tactic(auto, using(crate::proofs::Expressions::fault_in_halves))]
+pub fn expression<'t, 'a>(tokens: &'t [Token<'a>]) -> Result<&'t [Token<'a>], Fault>
+    ensures { seen_rest result ≡ behind_value (lexemes_of tokens.now) }
+{
+    let (depth, inner) = opened(tokens);
+    let (whole, rest) = simple_of_any_names(inner)?;
+    let (_, rest) = closed(tokens, depth, whole, rest)?;
+    Ok(rest)
+}
+
+/// The same as `simple` where each name has a value.
+fn simple_of_any_names<'t, 'a>(tokens: &'t [Token<'a>]) -> Result<(u32, &'t [Token<'a>]), Fault>
+    ensures { seen result ≡ simple_at any_names (lexemes_of tokens.now) }
+{
+    match next(tokens) {
+        Some((Token::Word(word), rest)) => {
+            if is_name(word) {
+                sum(0, rest)
+            } else {
+                signed_number(tokens)
+            }
+        }
+        _ => signed_number(tokens),
     }
 }
 
