@@ -15,7 +15,7 @@ use crate::faults::{Fault, LineError};
 use crate::instructions::{Words, call, la, li, register_and_value};
 use crate::reading::{end, first_part, last_string, name};
 use crate::statements::{Code, Keyword, Width, balign, space, statement};
-use crate::symbols::Symbol;
+use crate::symbols::Symbols;
 use crate::values::last_value;
 use rvm_isa::encode::encode;
 use rvm_text::{Token, unescape};
@@ -24,7 +24,7 @@ use std::alloc::{AllocError, Global};
 /// The bytes of a statement that stands at a place.
 pub fn contents(
     alloc: Global,
-    symbols: &[Symbol],
+    symbols: &Symbols,
     place: u64,
     tokens: &[Token],
 ) -> Result<Vec<u8>, LineError>
@@ -40,7 +40,7 @@ pub fn contents(
 /// The bytes of a statement of a kind.
 fn contents_of_kind(
     alloc: Global,
-    symbols: &[Symbol],
+    symbols: &Symbols,
     place: u64,
     keyword: Keyword,
     tokens: &[Token],
@@ -111,7 +111,7 @@ fn global(tokens: &[Token]) -> Result<(), Fault>
 #[tactic(auto, using(crate::proofs::Parts::turns))]
 fn list(
     alloc: Global,
-    symbols: &[Symbol],
+    symbols: &Symbols,
     width: Width,
     tokens: &[Token],
 ) -> Result<Vec<u8>, LineError>
@@ -131,7 +131,7 @@ fn list(
 
 /// An expression whose value has a width.
 #[tactic(auto, unfolding(crate::specs::Contents::value_of_width))]
-fn value_of_width(symbols: &[Symbol], width: Width, tokens: &[Token]) -> Result<u32, Fault>
+fn value_of_width(symbols: &Symbols, width: Width, tokens: &[Token]) -> Result<u32, Fault>
     ensures { result ≡ value_of_width (names_of symbols.now) width (lexemes_of tokens.now) }
 {
     let value = last_value(symbols, tokens)?;
@@ -165,7 +165,7 @@ fn append(bytes: &mut Vec<u8>, width: Width, value: u32) -> Result<(), AllocErro
 
 /// The words of a line.
 #[tactic(auto, unfolding(crate::specs::Contents::words_at))]
-fn words(symbols: &[Symbol], place: u64, code: Code, tokens: &[Token]) -> Result<Words, Fault>
+fn words(symbols: &Symbols, place: u64, code: Code, tokens: &[Token]) -> Result<Words, Fault>
     ensures { result ≡ words_at (names_of symbols.now) place code (lexemes_of tokens.now) }
 {
     if place % 4 == 0 {
@@ -175,7 +175,7 @@ fn words(symbols: &[Symbol], place: u64, code: Code, tokens: &[Token]) -> Result
     }
 }
 
-fn words_of(symbols: &[Symbol], place: u64, code: Code, tokens: &[Token]) -> Result<Words, Fault>
+fn words_of(symbols: &Symbols, place: u64, code: Code, tokens: &[Token]) -> Result<Words, Fault>
     ensures { result ≡ words_of (names_of symbols.now) place code (lexemes_of tokens.now) }
 {
     match code {

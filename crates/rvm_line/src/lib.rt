@@ -29,4 +29,4 @@ mod words;
 pub use content::contents;
 pub use faults::{Fault, LineError};
 pub use statements::{definition, label, next_place};
-pub use symbols::{Symbol, lookup};
+pub use symbols::{Symbol, Symbols, insert, lookup};

@@ -16,7 +16,7 @@ use crate::instructions::{li_size, register_and_value};
 use crate::operations::{Operation, operation_named};
 use crate::pseudo::Pseudo;
 use crate::reading::{is_comma, last_string, mark, name, next};
-use crate::symbols::Symbol;
+use crate::symbols::{Symbol, Symbols};
 use crate::values::last_value;
 use crate::words::named;
 use rvm_text::{Token, is_name, text_length};
@@ -203,7 +203,7 @@ fn is_alignment(number: u32) -> bool
 
 /// How many zeros a line of `.balign` places.
 #[tactic(auto, unfolding(crate::specs::Statements::balign_at))]
-pub fn balign(symbols: &[Symbol], place: u64, tokens: &[Token]) -> Result<u64, Fault>
+pub fn balign(symbols: &Symbols, place: u64, tokens: &[Token]) -> Result<u64, Fault>
     ensures value { result ≡ balign_at (names_of symbols.now) place (lexemes_of tokens.now) }
     ensures few { IfOk result (λ zeros. zeros < 2 ^ 24) }
 {
@@ -217,7 +217,7 @@ pub fn balign(symbols: &[Symbol], place: u64, tokens: &[Token]) -> Result<u64, F
 
 /// How many zeros a line of `.space` places.
 #[tactic(auto, unfolding(crate::specs::Statements::space_at))]
-pub fn space(symbols: &[Symbol], tokens: &[Token]) -> Result<u64, Fault>
+pub fn space(symbols: &Symbols, tokens: &[Token]) -> Result<u64, Fault>
     ensures value { result ≡ space_at (names_of symbols.now) (lexemes_of tokens.now) }
     ensures few { IfOk result (λ zeros. zeros ≤ 2 ^ 24) }
 {
@@ -242,7 +242,7 @@ fn advance_string(place: u64, more: u64, tokens: &[Token]) -> Result<u64, Fault>
 
 /// The place behind a statement of a kind.
 fn place_after(
-    symbols: &[Symbol],
+    symbols: &Symbols,
     place: u64,
     keyword: Keyword,
     tokens: &[Token],
@@ -265,7 +265,7 @@ fn place_after(
 }
 
 /// How many bytes the words of a line have.
-fn size(symbols: &[Symbol], code: Code, tokens: &[Token]) -> Result<u64, Fault>
+fn size(symbols: &Symbols, code: Code, tokens: &[Token]) -> Result<u64, Fault>
     ensures { result ≡ size_of (names_of symbols.now) code (lexemes_of tokens.now) }
 {
     match code {
@@ -280,7 +280,7 @@ fn size(symbols: &[Symbol], code: Code, tokens: &[Token]) -> Result<u64, Fault>
 
 /// The place of the line behind one whose statement this is. The values of symbols are those of
 /// earlier lines.
-pub fn next_place(symbols: &[Symbol], place: u64, tokens: &[Token]) -> Result<u64, Fault>
+pub fn next_place(symbols: &Symbols, place: u64, tokens: &[Token]) -> Result<u64, Fault>
     requires { place ≤ 2 ^ 32 }
     ensures value { result ≡ next_place (names_of symbols.now) place (lexemes_of tokens.now) }
     ensures below { IfOk result (λ after. after ≤ 2 ^ 32) }
@@ -293,7 +293,7 @@ pub fn next_place(symbols: &[Symbol], place: u64, tokens: &[Token]) -> Result<u6
 }
 
 /// What a line of `.equ` defines.
-fn equ<'a>(symbols: &[Symbol], tokens: &[Token<'a>]) -> Result<Option<Symbol<'a>>, Fault>
+fn equ<'a>(symbols: &Symbols, tokens: &[Token<'a>]) -> Result<Option<Symbol<'a>>, Fault>
     ensures { seen_definition result
         ≡ equ_of (names_of symbols.now) Keyword.Equ (lexemes_of tokens.now) }
 {
@@ -305,7 +305,7 @@ fn equ<'a>(symbols: &[Symbol], tokens: &[Token<'a>]) -> Result<Option<Symbol<'a>
 
 /// What a statement defines: the name of an `.equ`, with the value that its expression has by the
 /// symbols of earlier lines.
-pub fn definition<'a>(symbols: &[Symbol], tokens: &[Token<'a>]) -> Result<Option<Symbol<'a>>, Fault>
+pub fn definition<'a>(symbols: &Symbols, tokens: &[Token<'a>]) -> Result<Option<Symbol<'a>>, Fault>
     ensures { seen_definition result ≡ equ_at (names_of symbols.now) (lexemes_of tokens.now) }
 {
     if tokens.is_empty() {

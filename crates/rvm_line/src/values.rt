@@ -13,7 +13,7 @@ ghost use Rattle.rvm_line.specs.Views.{names_of, seen, seen_half, seen_rest};
 
 use crate::faults::Fault;
 use crate::reading::{end, mark, next};
-use crate::symbols::{Symbol, lookup};
+use crate::symbols::{Symbols, lookup};
 use rvm_text::{Token, is_name, number};
 
 /// A half of a value that an instruction can hold.
@@ -69,7 +69,7 @@ pub fn fits_signed(bits: u32, value: u32) -> bool
 /// An expression.
 #[tactic(auto, using(crate::proofs::Expressions::fault_in_halves))]
 pub fn value<'t, 'a>(
-    symbols: &[Symbol],
+    symbols: &Symbols,
     tokens: &'t [Token<'a>],
 ) -> Result<(u32, &'t [Token<'a>]), Fault>
     ensures { seen result ≡ value_at (names_of symbols.now) (lexemes_of tokens.now) }
@@ -183,7 +183,7 @@ fn simple_of_any_names<'t, 'a>(tokens: &'t [Token<'a>]) -> Result<(u32, &'t [Tok
 
 /// A number, or a name and what is added to it or taken from it.
 fn simple<'t, 'a>(
-    symbols: &[Symbol],
+    symbols: &Symbols,
     tokens: &'t [Token<'a>],
 ) -> Result<(u32, &'t [Token<'a>]), Fault>
     ensures { seen result ≡ simple_at (names_of symbols.now) (lexemes_of tokens.now) }
@@ -258,7 +258,7 @@ fn unsigned_number(word: &[u8]) -> Result<u32, Fault>
 
 /// An expression, and nothing behind it.
 #[tactic(auto, unfolding(crate::specs::Values::last_value))]
-pub fn last_value(symbols: &[Symbol], tokens: &[Token]) -> Result<u32, Fault>
+pub fn last_value(symbols: &Symbols, tokens: &[Token]) -> Result<u32, Fault>
     ensures { result ≡ last_value (names_of symbols.now) (lexemes_of tokens.now) }
 {
     let (value, rest) = value(symbols, tokens)?;
