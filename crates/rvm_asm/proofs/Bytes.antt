@@ -1,5 +1,5 @@
 -- Bytes in pieces, and what one line adds to the image.
-use Rattle.std.proofs.Common.{◌≡◌, ℕ, ◌+◌, ◌-◌, ◌<◌, ◌≤◌, List, [], ◌∷◌, ◌++◌, length, get_or, take, drop, refl, ap, sym, ◌∙◌, Option, Some, None, Result, Ok, Err, arith, subst, rules, inl, inr, ⊎_elim, length-append}
+use Rattle.std.proofs.Common.{◌≡◌, ℕ, ◌+◌, ◌-◌, ◌^◌, ◌<◌, ◌≤◌, add-one, List, [], ◌∷◌, ◌++◌, length, get_or, take, drop, refl, ap, sym, ◌∙◌, Option, Some, None, Result, Ok, Err, arith, subst, rules, inl, inr, ⊎_elim, length-append}
 use Rattle.std.specs.Prelude.{◌⊎◌, IsSome}
 use Rattle.std.proofs.lemmas.Bool.Decides.{nat_tests}
 use Rattle.std.proofs.lemmas.List.{append-nil, take-append-drop, take-map, drop-map, map_push, get_or_append_left, get_or-append-add}
@@ -15,7 +15,7 @@ use Rattle.rvm_image.specs.Images.{Piece, piece, size, in_piece, byte_at, or_els
 use Rattle.rvm_asm.specs.Assembly.{BytesOf, IsImageTo, IsImage, IsLaid, line_at}
 use Rattle.rvm_asm.specs.Images.{HasAt, IsWithin, IsFree, IsTaken, Joins, HasSameBytes}
 use Rattle.rvm_asm.specs.Views.{Fits, Puts, IsPutting}
-use Rattle.rvm_asm.specs.Refusals.{IsUnput, IsErrorOf, error_at}
+use Rattle.rvm_asm.specs.Refusals.{IsUnput, IsErrorOf, AreTooLarge, length_of, count_at, count_to, error_at}
 use Rattle.rvm_line.specs.declared.faults.LineError.{LineError}
 use Rattle.rvm_line.specs.declared.faults.LineError.TheVariants.{OutOfMemory, Faulty}
 use Rattle.rvm_asm.proofs.Laying.{below_or_at, next_known}
@@ -268,6 +268,22 @@ pub puts_none : (image : List Piece) (names : Names) (place : ℕ) (line : List 
 puts_none image names place line q bs p bytes e = puts_bytes image image names place line q bs p bytes
     (rw e (λ a low high. absurd (let h : a < place + 0 = high in omega arith)))
     (λ a. rw e (sym (ap (λ o. or_else o (byte_at image a)) (none_in_empty place a))))
+
+-- how many bytes a line has
+pub count_bytes : (names : Names) (place : ℕ) (line : List Lexeme) (q : Option Definition × List Lexeme) (bs : List ℕ) → q ≡ label_of place line → bytes_at names place q.1 ≡ Ok bs → count_at names place line ≡ length bs
+count_bytes names place line q bs p e = ap length_of (ap (λ (x : Option Definition × List Lexeme). bytes_at names place x.1) (sym p) ∙ e)
+
+-- how many the lines have with one line more
+pub count_more : (lines : List (List Lexeme)) (i : ℕ) (names : Names) (places : List ℕ) (place : ℕ) (line : List Lexeme) → place ≡ get_or places i 0 → line ≡ line_at lines i → count_to lines names places (i + 1) ≡ count_to lines names places i + count_at names place line
+unfolding count_to
+count_more lines i names places place line at is =
+    ap (count_to lines names places) (add-one i)
+    ∙ ap (λ n. count_to lines names places i + n) (sym (ap (λ p. count_at names p line) at ∙ ap (λ l. count_at names (get_or places i 0) l) is))
+
+-- a line has more bytes than there is room for
+pub too_large : (lines : List (List Lexeme)) (i : ℕ) (names : Names) (places : List ℕ) (old new : List Piece) (place : ℕ) (line : List Lexeme) (left count : ℕ) → i < length lines → IsLaid lines names places → IsImageTo lines i names places old → place ≡ get_or places i 0 → line ≡ line_at lines i → Puts old new names place line → left + count_to lines names places i ≡ 2 ^ 24 → count ≡ count_at names place line → left < count → AreTooLarge lines
+too_large lines i names places old new place line left count inside laid image at is puts room counted more =
+    (names, places, new, i + 1, omega (arith, inside), laid, image_more lines i names places old new place line image at is puts, omega (arith, room, counted, more, count_more lines i names places place line at is))
 
 -- a line whose bytes have a fault
 pub unput_fault : (image : List Piece) (names : Names) (place : ℕ) (line : List Lexeme) (q : Option Definition × List Lexeme) (f : Fault) → q ≡ label_of place line → bytes_at names place q.1 ≡ Err f → IsUnput image names place line f

@@ -15,7 +15,11 @@ use Rattle.rvm_asm.specs.Refusals.{IsTwice, IsUnplaced, IsErrorOf, error_at, def
 use Rattle.rvm_line.specs.declared.faults.LineError.{LineError}
 use Rattle.rvm_line.specs.declared.faults.LineError.TheVariants.{OutOfMemory, Faulty}
 use Rattle.rvm_line.specs.Views.{names_of}
-use Rattle.rvm_line.specs.declared.symbols.Symbol.{Symbol}
+use Rattle.std.specs.BTreeMap.{BTreeMap, IsEmpty, is_at}
+use Rattle.std.specs.Map.{lookup}
+use Rattle.std.specs.Cmp.Lexicographic.{slice_cmp}
+use Rattle.std.specs.Ordering.{nat_cmp}
+use denote.Ref.{Bor}
 use Rattle.rvm_asm.proofs.Names.{Kept, kept_by, next_kept}
 
 -- a line's two definitions, from what `label` answers
@@ -100,12 +104,12 @@ laid_more lines i old new places place after line laid at is lays =
     }
 
 -- no symbol, no name
-none_named : (ss : List Symbol) → ss ≡ [] → (n : List ℕ) → names_of ss n ≡ None
+none_named : (ss : BTreeMap (Bor (List ℕ)) ℕ) → IsEmpty ss → (n : List ℕ) → names_of ss n ≡ None
 unfolding names_of
-none_named ss e n = ap (λ l. names_of l n) e
+none_named ss e n = ap (lookup (is_at (λ (key : Bor (List ℕ)). slice_cmp nat_cmp n key.now))) e
 
 -- before the first line
-pub laid_none : (lines : List (List Lexeme)) (ss : List Symbol) (places : List ℕ) → ss ≡ [] → places ≡ 2147483648 ∷ [] → IsLaidTo lines 0 (names_of ss) places
+pub laid_none : (lines : List (List Lexeme)) (ss : BTreeMap (Bor (List ℕ)) ℕ) (places : List ℕ) → IsEmpty ss → places ≡ 2147483648 ∷ [] → IsLaidTo lines 0 (names_of ss) places
 laid_none lines ss places e p = record {
   many = ap length p;
   first = ap (λ l. get_or l 0 0) p;

@@ -1,6 +1,6 @@
 pub mod Bytes
 pub mod Laying
+pub mod Lines
 pub mod Names
 pub mod Order
-pub mod Reading
 pub mod Unique

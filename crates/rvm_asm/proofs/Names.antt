@@ -1,4 +1,4 @@
--- Symbols as a map, and what is read under a map that grows.
+-- What is read under names that grow.
 use Rattle.std.proofs.Common.{◌≡◌, ℕ, ◌^◌, List, [], ◌∷◌, ◌++◌, refl, ap, sym, ◌∙◌, Option, Some, None, Result, Ok, Err, Bool, true, false, cond}
 use Rattle.std.specs.Prelude.{if◌then◌else◌, nat_le}
 use Rattle.std.specs.Str.{bytes_eq}
@@ -7,7 +7,6 @@ use Rattle.rvm_text.specs.Lexemes.{Lexeme, Word, Mark, Quoted}
 use Rattle.rvm_text.specs.Tokens.{is_name}
 use Rattle.rvm_line.specs.declared.faults.Fault.{Fault}
 use Rattle.rvm_line.specs.declared.faults.Fault.TheVariants.{UnknownName, OutOfReach}
-use Rattle.rvm_line.specs.declared.symbols.Symbol.{Symbol}
 use Rattle.rvm_line.specs.declared.statements.Keyword.{Keyword}
 use Rattle.rvm_line.specs.declared.statements.Keyword.TheVariants as k
 use Rattle.rvm_line.specs.declared.statements.Code.{Code}
@@ -16,34 +15,11 @@ use Rattle.rvm_line.specs.declared.values.Half.{Half}
 use Rattle.rvm_line.specs.Reading.{◌>>=◌, known, only_if, ended, register_comma}
 use Rattle.rvm_line.specs.Values.{Names, value_at, simple_at, sum_at, number_at, last_value, half_at, chosen, closed}
 use Rattle.rvm_line.specs.Instructions.{li_at, li_size}
-use Rattle.rvm_line.specs.Statements.{Definition, space_at, balign_at, is_alignment, padding, advanced, size_of, place_after, next_place, keyword_at}
-use Rattle.rvm_line.specs.Views.{names_of}
+use Rattle.rvm_line.specs.Statements.{Definition, space_at, balign_at, is_alignment, padding, advanced, size_of, place_after, next_place, statement_at}
 use Rattle.rvm_asm.specs.Assembly.{Takes}
 
 same_bytes : (xs ys : List ℕ) → bytes_eq xs ys ≡ true → xs ≡ ys
 same_bytes xs ys h = (bytes_eq-Decides xs ys).0 h
-
-bytes_same : (xs : List ℕ) → bytes_eq xs xs ≡ true
-bytes_same xs = (bytes_eq-Decides xs xs).1 refl
-
--- the head is no symbol of this name
-head_other : (b : Bool) (v : ℕ) (o : Option ℕ) → cond b (Some v) o ≡ None → (b ≡ false) × (o ≡ None)
-head_other true v o h = cc
-head_other false v o h = (refl, h)
-
-push_head : (e s : Symbol) (n : List ℕ) (o : Option ℕ) → bytes_eq e.name.now s.name.now ≡ false → (a b : Bool) → bytes_eq e.name.now n ≡ a → bytes_eq s.name.now n ≡ b → cond a (Some e.value) (cond b (Some s.value) o) ≡ cond b (Some s.value) (cond a (Some e.value) o)
-push_head e s n o apart true true p q = absurd (let f : e.name.now ≡ s.name.now = same_bytes _ _ p ∙ sym (same_bytes _ _ q) in let t : true ≡ false = sym (bytes_same e.name.now) ∙ ap (λ m. bytes_eq e.name.now m) f ∙ apart in cc)
-push_head e s n o apart true false p q = refl
-push_head e s n o apart false true p q = refl
-push_head e s n o apart false false p q = refl
-
--- a symbol of a new name joins
-pub names_push : (es : List Symbol) (s : Symbol) (n : List ℕ) → names_of es s.name.now ≡ None → names_of (es ++ s ∷ []) n ≡ cond (bytes_eq s.name.now n) (Some s.value) (names_of es n)
-unfolding names_of
-names_push [] s n fresh = refl
-names_push (e ∷ es) s n fresh =
-    let h = head_other (bytes_eq e.name.now s.name.now) e.value (names_of es s.name.now) fresh in
-    ap (cond (bytes_eq e.name.now n) (Some e.value)) (names_push es s n h.1) ∙ push_head e s n (names_of es n) h.0 _ _ refl refl
 
 -- each name that had a value keeps it
 abbrev pub Kept : Names → Names → Type 0
@@ -130,4 +106,4 @@ module _ (old new : Names) (kept : Kept old new) where
 
   pub next_kept : (place : ℕ) (ts : List Lexeme) (y : ℕ) → next_place old place ts ≡ Ok y → next_place new place ts ≡ Ok y
   next_kept place [] y e = e
-  next_kept place (t ∷ ts) y e = bind_kept (keyword_at (t ∷ ts)) (keyword_at (t ∷ ts)) (λ x. place_after old place x.0 x.1) (λ x. place_after new place x.0 x.1) y (λ x h. h) (λ x. after_kept place x.0 x.1 y) e
+  next_kept place (t ∷ ts) y e = bind_kept (statement_at (t ∷ ts)) (statement_at (t ∷ ts)) (λ x. place_after old place x.0 x.1) (λ x. place_after new place x.0 x.1) y (λ x h. h) (λ x. after_kept place x.0 x.1 y) e

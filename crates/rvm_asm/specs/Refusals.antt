@@ -1,5 +1,5 @@
 -- At which line a fault stands.
-use Rattle.std.specs.Prelude.{◌≡◌, ℕ, ◌+◌, ◌<◌, List, Option, Some, None, Result, Ok, Err, length}
+use Rattle.std.specs.Prelude.{◌≡◌, ℕ, zero, suc, ◌+◌, ◌^◌, ◌<◌, ◌≤◌, List, Option, Some, None, Result, Ok, Err, length}
 use Rattle.std.specs.Prelude.{slice_index, slice_index_or, IsSome, [], ◌⊎◌}
 use Rattle.std.specs.Str.Lines.{lines}
 use Rattle.rvm_text.specs.Lexemes.{Lexeme, lexemes}
@@ -12,7 +12,7 @@ use Rattle.rvm_line.specs.Reading.{◌>>=◌}
 use Rattle.rvm_line.specs.Statements.{Definition, label_of, next_place, equ_at}
 use Rattle.rvm_line.specs.Values.{Names}
 use Rattle.rvm_asm.specs.declared.error.AsmError.{AsmError}
-use Rattle.rvm_asm.specs.declared.error.AsmError.TheVariants.{OutOfMemory, Line}
+use Rattle.rvm_asm.specs.declared.error.AsmError.TheVariants.{OutOfMemory, Line, TooLarge}
 use Rattle.rvm_asm.specs.Assembly.{statement_of, line_at, IsLaidTo, IsLaid, IsImageTo}
 use Rattle.rvm_asm.specs.Assembly.{AreRead, Takes}
 use Rattle.rvm_image.specs.Images.{Piece}
@@ -61,7 +61,29 @@ HasBytesFault all i fault =
 abbrev pub HasFault : List (List Lexeme) → ℕ → Fault → Type 0
 HasFault all i fault = (i < length all) × (HasPlacingFault all i fault ⊎ HasBytesFault all i fault)
 
--- a line is the first that is not in the grammar
+-- how many bytes a line has at a place
+abbrev pub length_of : Result (List ℕ) Fault → ℕ
+length_of (Ok bs) = length bs
+length_of (Err fault) = 0
+
+abbrev pub count_at : Names → (place : ℕ) → List Lexeme → ℕ
+count_at names place line = length_of (bytes_at names place (statement_of place line))
+
+-- how many bytes the first lines have
+unfoldable pub count_to : List (List Lexeme) → Names → List ℕ → (count : ℕ) → ℕ
+count_to all names places zero = 0
+count_to all names places (suc i) =
+    count_to all names places i + count_at names (slice_index places i) (line_at all i)
+
+-- the first lines, under names and places that fit all lines, have more than 2 ^ 24 bytes, of which
+-- no two stand at one address
+abbrev pub AreTooLarge : List (List Lexeme) → Type 0
+AreTooLarge all =
+    (names : Names) × (places : List ℕ) × (image : List Piece) × (i : ℕ) × (i ≤ length all)
+    × IsLaid all names places × IsImageTo all i names places image
+    × (2 ^ 24 < count_to all names places i)
+
+-- a line is the first that has no lexemes
 abbrev pub IsUnread : List (List ℕ) → ℕ → Fault → Type 0
 IsUnread texts i fault =
     (i < length texts) × (fault ≡ BadToken) × (lexemes (slice_index_or texts i []) ≡ None)
@@ -76,13 +98,16 @@ error_at number (line_error.Faulty fault) = Line number fault
 abbrev pub IsErrorOf : List (List Lexeme) → AsmError → Type 0
 IsErrorOf all OutOfMemory = Unit {0}
 IsErrorOf all (Line number fault) = (i : ℕ) × (number ≡ i + 1) × HasFault all i fault
+IsErrorOf all TooLarge = AreTooLarge all
 
 -- a line that can't be read
 abbrev pub IsReadError : List (List ℕ) → AsmError → Type 0
 IsReadError texts OutOfMemory = Unit {0}
 IsReadError texts (Line number fault) = (i : ℕ) × (number ≡ i + 1) × IsUnread texts i fault
+IsReadError texts TooLarge = ⊥
 
--- an error of a text: memory ran out, or the fault stands at the line with that number
+-- an error of a text: memory ran out, the fault stands at the line with that number, or the lines
+-- have too many bytes
 abbrev pub IsError : List ℕ → AsmError → Type 0
 IsError text e =
     IsReadError (lines text) e

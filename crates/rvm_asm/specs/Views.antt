@@ -1,14 +1,11 @@
 -- What the code's values stand for.
 use Rattle.std.specs.Prelude.{◌≡◌, ℕ, ◌+◌, ◌^◌, ◌≤◌, List, [], Option, map, Result, Ok, Err, ◌⊎◌}
-use Rattle.std.specs.Prelude.{Vec, length}
+use Rattle.std.specs.Prelude.{length, unwrap_or, None}
 use denote.Ref.{Bor}
-use Rattle.std.specs.declared.alloc.Global.{Global}
-use Rattle.rvm_text.specs.Lexemes.{Lexeme}
-use Rattle.rvm_text.specs.Tokens.{lexemes_of}
-use Rattle.rvm_text.specs.declared.token.Token.{Token}
+use Rattle.rvm_text.specs.Lexemes.{Lexeme, lexemes}
 use Rattle.rvm_line.specs.declared.faults.LineError.{LineError}
 use Rattle.rvm_line.specs.declared.faults.LineError.TheVariants as line_error
-use Rattle.rvm_line.specs.declared.faults.Fault.TheVariants.{Defined}
+use Rattle.rvm_line.specs.declared.faults.Fault.TheVariants.{BadToken, Defined}
 use Rattle.rvm_line.specs.Contents.{bytes_at}
 use Rattle.rvm_line.specs.Statements.{Definition}
 use Rattle.rvm_line.specs.Values.{Names}
@@ -22,9 +19,18 @@ use Rattle.rvm_asm.specs.Refusals.{IsUnplaced, IsTwice, IsUnput}
 abbrev pub texts_of : List (Bor (List ℕ)) → List (List ℕ)
 texts_of ls = map (λ l. l.now) ls
 
+-- the lexemes of a line, if it has any
+abbrev pub line_of : List ℕ → List Lexeme
+line_of text = unwrap_or (lexemes text) []
+
 -- the lexemes of lines
-abbrev pub lines_of : List (Vec Token Global) → List (List Lexeme)
-lines_of ls = map (λ l. lexemes_of l.items) ls
+abbrev pub lines_of : List (List ℕ) → List (List Lexeme)
+lines_of texts = map line_of texts
+
+-- why a line has no tokens
+abbrev pub IsUnreadable : List ℕ → LineError → Type 0
+IsUnreadable text line_error.OutOfMemory = Unit {0}
+IsUnreadable text (line_error.Faulty f) = (f ≡ BadToken) × (lexemes text ≡ None)
 
 -- no zeros stand behind a segment's bytes
 abbrev pub HasNoZeros : Segment → Type 0
@@ -52,8 +58,8 @@ pub record Puts (old new : List Piece) (names : Names) (place : ℕ) (line : Lis
 
 -- a line's bytes join an image, or it has a fault
 abbrev pub IsPutting : List Piece → List Piece → Names → ℕ → List Lexeme
-    → Result (Unit {0}) LineError → Type 0
-IsPutting old new names place line (Ok done) = Puts old new names place line
+    → Result ℕ LineError → Type 0
+IsPutting old new names place line (Ok count) = Puts old new names place line
 IsPutting old new names place line (Err line_error.OutOfMemory) = Unit {0}
 IsPutting old new names place line (Err (line_error.Faulty f)) = IsUnput old names place line f
 

@@ -4,22 +4,22 @@ ghost use Rattle.std.specs.Prelude.{◌≡◌, ◌^◌, IfOk, IfErr, All, map};
 ghost use Rattle.std.specs.Str.Lines.{lines};
 ghost use Rattle.rvm_line.specs.Views.{names_of};
 ghost use Rattle.rvm_asm.specs.Assembly.{entry_of, AreRead, IsAssemblyOf, IsAssembly};
-ghost use Rattle.rvm_asm.specs.Refusals.{IsErrorOf, IsReadError, IsError};
+ghost use Rattle.rvm_asm.specs.Refusals.{IsErrorOf, IsError};
 ghost use Rattle.rvm_asm.specs.Views.{lines_of, texts_of, HasNoZeros};
 ghost use Rattle.rvm_image.specs.Images.{IsRising, pieces_of};
 
 use crate::error::AsmError;
 use crate::layout::lay_out;
 use crate::placing::place_lines;
+use crate::reading::check_lines;
 use crate::segments::join;
 use rvm_image::Image;
-use rvm_line::{Fault, Symbol, lookup};
-use rvm_text::{TextError, Token, tokens};
+use rvm_line::{Symbols, lookup};
 use std::alloc::{AllocError, Global};
 
 /// The image of an assembly text. Lines end with a line feed, and a carriage return before it is
-/// no part of them. Fails with a line, counted from 1, at which a fault stands, or since memory
-/// ran out.
+/// no part of them. Fails with a line, counted from 1, at which a fault stands, since all lines
+/// together have more than 2^24 bytes, or since memory ran out.
 pub fn assemble(alloc: Global, text: &str) -> Result<Image, AsmError>
     ensures image { IfOk result (λ v. IsAssembly text.now v.entry (pieces_of v.segments.items)) }
     ensures rising { IfOk result (λ v. IsRising (pieces_of v.segments.items)) }
@@ -27,8 +27,8 @@ pub fn assemble(alloc: Global, text: &str) -> Result<Image, AsmError>
     ensures refused { IfErr result (λ e. IsError text.now e) }
 {
     let texts = split(alloc, text)?;
-    let lines = read(alloc, &texts)?;
-    assemble_lines(alloc, &lines)
+    check_lines(alloc, &texts)?;
+    assemble_lines(alloc, &texts)
 }
 
 /// The lines of a text.
@@ -38,42 +38,24 @@ fn split(alloc: Global, text: &str) -> Result<Vec<&str>, AllocError>
     text.lines().collect(alloc)
 }
 
-/// The tokens of lines.
-fn read<'a>(alloc: Global, texts: &[&'a str]) -> Result<Vec<Vec<Token<'a>>>, AsmError>
-    ensures read { IfOk result (λ v. AreRead (texts_of texts.now) (lines_of v.items)) }
-    ensures refused { IfErr result (λ e. IsReadError (texts_of texts.now) e) }
-{
-    let mut lines = Vec::new(alloc);
-    for (index, text) in texts.iter().enumerate() {
-        let line = match tokens(alloc, index, text.as_bytes()) {
-            Ok(line) => line,
-            Err(TextError::OutOfMemory) => return Err(AsmError::OutOfMemory),
-            Err(TextError::BadToken(_)) => return Err(AsmError::Line(index + 1, Fault::BadToken)),
-        };
-        if let Err(_) = lines.push(line) {
-            return Err(AsmError::OutOfMemory);
-        }
-    }
-    Ok(lines)
-}
-
 /// The image of lines.
-fn assemble_lines(alloc: Global, lines: &[Vec<Token>]) -> Result<Image, AsmError>
-    ensures image { IfOk result (λ v. IsAssemblyOf (lines_of lines.now) v.entry
+fn assemble_lines(alloc: Global, texts: &[&str]) -> Result<Image, AsmError>
+    requires { AreRead (texts_of texts.now) (lines_of (texts_of texts.now)) }
+    ensures image { IfOk result (λ v. IsAssemblyOf (lines_of (texts_of texts.now)) v.entry
         (pieces_of v.segments.items)) }
     ensures rising { IfOk result (λ v. IsRising (pieces_of v.segments.items)) }
     ensures zeros { IfOk result (λ v. All HasNoZeros v.segments.items) }
-    ensures refused { IfErr result (λ e. IsErrorOf (lines_of lines.now) e) }
+    ensures refused { IfErr result (λ e. IsErrorOf (lines_of (texts_of texts.now)) e) }
 {
-    let layout = lay_out(alloc, lines)?;
-    let placed = place_lines(alloc, lines, &layout.symbols, &layout.places)?;
+    let layout = lay_out(alloc, texts)?;
+    let placed = place_lines(alloc, texts, &layout.symbols, &layout.places)?;
     let segments = join(alloc, placed)?;
     let entry = entry(&layout.symbols);
     Ok(Image { entry, segments })
 }
 
 /// Where a program begins: at `_start`, if it is defined.
-fn entry(symbols: &[Symbol]) -> u32
+fn entry(symbols: &Symbols) -> u32
     ensures { result ≡ entry_of (names_of symbols.now) }
 {
     lookup(symbols, "_start".as_bytes()).unwrap_or(1 << 31)

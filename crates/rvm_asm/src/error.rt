@@ -13,6 +13,8 @@ pub enum AsmError {
     OutOfMemory,
     /// The line of this number, counted from 1, has this fault.
     Line(usize, Fault),
+    /// All lines together have more than 2^24 bytes.
+    TooLarge,
 }
 
 impl AsmError {

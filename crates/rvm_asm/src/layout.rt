@@ -1,38 +1,41 @@
-//! The first pass: each name's value and each line's place.
+//! The second pass: each name's value and each line's place.
 
-ghost use Rattle.std.specs.Prelude.{◌≡◌, ◌≤◌, ◌^◌, IfOk, IfErr};
+ghost use Rattle.std.specs.Prelude.{◌≡◌, ◌≤◌, ◌^◌, IfOk, IfErr, IsSome};
+ghost use Rattle.rvm_text.specs.Lexemes.{lexemes};
 ghost use Rattle.rvm_text.specs.Tokens.{lexemes_of};
 ghost use Rattle.rvm_line.specs.Views.{names_of, definition_of};
-ghost use Rattle.rvm_asm.specs.Assembly.{IsLaid};
+ghost use Rattle.rvm_asm.specs.Assembly.{AreRead, IsLaid};
 ghost use Rattle.rvm_asm.specs.Refusals.{IsErrorOf};
-ghost use Rattle.rvm_asm.specs.Views.{lines_of, IsDefining, IsLaying};
+ghost use Rattle.rvm_asm.specs.Views.{line_of, lines_of, texts_of, IsDefining, IsLaying};
 
 use crate::error::AsmError;
-use rvm_line::{Fault, LineError, Symbol, definition, label, lookup, next_place};
+use crate::reading::read_line;
+use rvm_line::{Fault, LineError, Symbol, Symbols, definition, insert, label, lookup, next_place};
 use rvm_text::Token;
 use std::alloc::Global;
 
 /// The names' values, and the lines' places, with the place behind the last line.
 #[derive(Drop)]
 pub struct Layout<'a> {
-    pub symbols: Vec<Symbol<'a>>,
+    pub symbols: Symbols<'a>,
     pub places: Vec<u64>,
 }
 
 /// Gives each name its value and each line its place.
-pub fn lay_out<'a>(alloc: Global, lines: &[Vec<Token<'a>>]) -> Result<Layout<'a>, AsmError>
-    ensures laid { IfOk result (λ l. IsLaid (lines_of lines.now) (names_of l.symbols.items)
+pub fn lay_out<'a>(alloc: Global, texts: &[&'a str]) -> Result<Layout<'a>, AsmError>
+    requires { AreRead (texts_of texts.now) (lines_of (texts_of texts.now)) }
+    ensures laid { IfOk result (λ l. IsLaid (lines_of (texts_of texts.now)) (names_of l.symbols)
         l.places.items) }
-    ensures refused { IfErr result (λ e. IsErrorOf (lines_of lines.now) e) }
+    ensures refused { IfErr result (λ e. IsErrorOf (lines_of (texts_of texts.now)) e) }
 {
-    let mut symbols = Vec::new(alloc);
+    let mut symbols = Symbols::new(alloc);
     let mut places = Vec::new(alloc);
     let mut place = 1u64 << 31;
     if let Err(_) = places.push(place) {
         return Err(AsmError::OutOfMemory);
     }
-    for (index, tokens) in lines.iter().enumerate() {
-        place = match lay_line(&mut symbols, place, tokens) {
+    for (index, text) in texts.iter().enumerate() {
+        place = match lay_text(alloc, &mut symbols, place, text) {
             Ok(after) => after,
             Err(error) => return Err(AsmError::at(index + 1, error)),
         };
@@ -44,14 +47,32 @@ pub fn lay_out<'a>(alloc: Global, lines: &[Vec<Token<'a>>]) -> Result<Layout<'a>
 }
 
 /// Adds what a line at a place defines, and answers the place behind it.
+#[tactic(auto, using(crate::proofs::Lines::texts_laid))]
+fn lay_text<'a>(
+    alloc: Global,
+    symbols: &mut Symbols<'a>,
+    place: u64,
+    text: &'a str,
+) -> Result<u64, LineError>
+    requires place { place ≤ 2 ^ 32 }
+    requires read { IsSome (lexemes text.now) }
+    ensures laid { IsLaying (names_of symbols.old) (names_of symbols.new) place
+        (line_of text.now) result }
+    ensures below { IfOk result (λ after. after ≤ 2 ^ 32) }
+{
+    let tokens = read_line(alloc, text)?;
+    lay_line(symbols, place, &tokens)
+}
+
+/// The same for the tokens of a line.
 #[tactic(auto, using(crate::proofs::Laying::layings))]
 fn lay_line<'a>(
-    symbols: &mut Vec<Symbol<'a>>,
+    symbols: &mut Symbols<'a>,
     place: u64,
     tokens: &[Token<'a>],
 ) -> Result<u64, LineError>
     requires { place ≤ 2 ^ 32 }
-    ensures laid { IsLaying (names_of symbols.old.items) (names_of symbols.new.items) place
+    ensures laid { IsLaying (names_of symbols.old) (names_of symbols.new) place
         (lexemes_of tokens.now) result }
     ensures below { IfOk result (λ after. after ≤ 2 ^ 32) }
 {
@@ -64,9 +85,8 @@ fn lay_line<'a>(
 }
 
 /// Adds a symbol, if there is one, whose name has no value yet.
-#[tactic(auto, using(crate::proofs::Names::names_push))]
-fn define<'a>(symbols: &mut Vec<Symbol<'a>>, symbol: Option<Symbol<'a>>) -> Result<(), LineError>
-    ensures { IsDefining (names_of symbols.old.items) (names_of symbols.new.items)
+fn define<'a>(symbols: &mut Symbols<'a>, symbol: Option<Symbol<'a>>) -> Result<(), LineError>
+    ensures { IsDefining (names_of symbols.old) (names_of symbols.new)
         (definition_of symbol.entry) result }
 {
     let Some(symbol) = symbol else {
@@ -75,6 +95,6 @@ fn define<'a>(symbols: &mut Vec<Symbol<'a>>, symbol: Option<Symbol<'a>>) -> Resu
     if let Some(_) = lookup(symbols, symbol.name) {
         return Err(LineError::Faulty(Fault::Defined));
     }
-    symbols.push(symbol)?;
+    insert(symbols, symbol)?;
     Ok(())
 }

@@ -2,8 +2,9 @@
 //! stands on `rvm_text` for the tokens of a line, on `rvm_line` for what a line means and on
 //! `rvm_image` for the image, and knows no instruction.
 //!
-//! `assembler` reads the lines and runs both passes: `layout` gives each name its value and each
-//! line its place, `placing` puts the bytes of each line there, in the `segments` of an image.
+//! `assembler` runs three passes over the lines, of which each reads a line's tokens again:
+//! `reading` looks whether each line has tokens, `layout` gives each name its value and each line
+//! its place, `placing` puts the bytes of each line there, in the `segments` of an image.
 //! `error` says why a text has no image, `laws` that it has at most one.
 #![tactic(auto)]
 
@@ -12,6 +13,7 @@ mod error;
 pub mod laws;
 mod layout;
 mod placing;
+mod reading;
 mod segments;
 
 pub use assembler::assemble;

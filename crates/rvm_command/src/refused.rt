@@ -81,6 +81,7 @@ impl From<AsmError> for Refused {
                 line: Some(line),
                 refusal: of_fault(fault),
             },
+            AsmError::TooLarge => Refused::from(Refusal::OutOfReach),
         }
     }
 }

@@ -11,8 +11,11 @@ use Rattle.rvm_text.specs.Numbers.{number_of}
 use Rattle.rvm_text.specs.Registers.{register_of, name_of, abi_names, numbered_names}
 use Rattle.rvm_text.specs.Tokens.{is_name}
 use Rattle.rvm_line.specs.Csrs.{csr_of, csr_numbers, csr_comma}
+use Rattle.rvm_line.specs.declared.grammar.Operand.{Operand}
+use Rattle.rvm_line.specs.declared.grammar.Operand.TheVariants as operand
+use Rattle.rvm_line.specs.Grammar.{any_names, behind, more_operands_at}
 use Rattle.rvm_line.specs.Operands.{signed_field, offset_field, distance, last_target, last_immediate, last_below}
-use Rattle.rvm_line.specs.Reading.{register_comma, last_register, last_address}
+use Rattle.rvm_line.specs.Reading.{◌>>=◌, register_comma, last_register, last_address}
 use Rattle.rvm_line.specs.Values.{Names, value_at, last_value, fits_signed}
 use Rattle.rvm_dis.specs.Pieces.{hex, hex_digits, short_hex, target}
 use Rattle.rvm_dis.proofs.Numbers.{all_below, each_below, decimal_number, decimal_no_name, decimal_word, short_hex_number, hex_number}
@@ -275,3 +278,85 @@ pub immediate_first : (names : Names) (n : ℕ) (ts : List Lexeme) → n < 2 ^ 1
     ≡ Ok (wide 12 n, Mark 40 ∷ ts)
 immediate_first names n ts inside =
     signed_first names (signed_value 12 n) ts (signed_value_fits 12 n (omega arith) inside)
+
+-- the shapes of operands: one that another follows, and the last one
+
+abbrev pub Follows : Operand → (ts rest : List Lexeme) → Type 0
+Follows o ts rest =
+    (p : Operand) (ps : List Operand) → (behind o ts >>= more_operands_at (p ∷ ps))
+    ≡ (behind p rest >>= more_operands_at ps)
+
+abbrev pub IsLast : Operand → List Lexeme → Type 0
+IsLast o ts = (behind o ts >>= more_operands_at []) ≡ Ok tt
+
+pub register_follows : (r : ℕ) (ts : List Lexeme) → r < 32 →
+    Follows operand.Register (Word (name_of r) ∷ Mark 44 ∷ ts) ts
+unfolding behind more_operands_at
+register_follows r ts inside p ps = rw (register_read r inside) refl
+
+pub register_is_last : (r : ℕ) → r < 32 → IsLast operand.Register (Word (name_of r) ∷ [])
+unfolding behind more_operands_at
+register_is_last r inside = rw (register_read r inside) refl
+
+pub base_is_last : (r : ℕ) → r < 32 →
+    IsLast operand.Base (Mark 40 ∷ Word (name_of r) ∷ Mark 41 ∷ [])
+unfolding behind more_operands_at
+base_is_last r inside = rw (register_read r inside) refl
+
+pub csr_follows : (n : ℕ) (ts : List Lexeme) → n < 2 ^ 12 →
+    Follows operand.Csr (Word (hex 3 n) ∷ Mark 44 ∷ ts) ts
+unfolding behind more_operands_at
+csr_follows n ts inside p ps =
+    let number = hex_number 3 n (omega arith) (omega arith) (omega arith) in
+    rw (csr_unnamed (120 ∷ hex_digits 3 n), number) refl
+
+value_is_last : (v : ℕ) (ts : List Lexeme) → value_at any_names ts ≡ Ok (v, []) →
+    IsLast operand.Value ts
+unfolding behind more_operands_at
+value_is_last v ts e = rw e refl
+
+pub decimal_is_last : (n : ℕ) → n < 2 ^ 32 → IsLast operand.Value (Word (decimal n) ∷ [])
+decimal_is_last n fits =
+    value_is_last n (Word (decimal n) ∷ [])
+    (number_first any_names (decimal n) n [] (decimal_no_name n) (decimal_number n fits))
+
+pub short_hex_is_last : (n : ℕ) → n < 2 ^ 32 → IsLast operand.Value (Word (short_hex n) ∷ [])
+short_hex_is_last n fits =
+    value_is_last n (Word (short_hex n) ∷ [])
+    (number_first any_names (short_hex n) n [] refl (short_hex_number n fits))
+
+pub word_is_last : (n : ℕ) → n < 2 ^ 32 → IsLast operand.Value (Word (hex 8 n) ∷ [])
+word_is_last n fits =
+    value_is_last n (Word (hex 8 n) ∷ [])
+    (number_first any_names (hex 8 n) n [] refl (hex_number 8 n (omega arith) (omega arith) fits))
+
+pub target_is_last : (a : ℕ) (z : ℤ) → IsLast operand.Value (Word (hex 8 (target a z)) ∷ [])
+target_is_last a z = word_is_last (target a z) (modulo_below 32 (pos a +ℤ z))
+
+signed_alone : (z : ℤ) → FitsSignedBits 12 z →
+    value_at any_names (signed_lexemes z) ≡ Ok (modulo 32 z, [])
+unfolding value_at
+signed_alone (pos n) inside =
+    let small : n < 2 ^ 32 = omega (arith, ints) in
+    let e : n ≡ n % 2 ^ 32 = omega arith in
+    number_first any_names (decimal n) n [] (decimal_no_name n) (decimal_number n small)
+    ∙ ap (λ m. Ok (m, [])) e
+signed_alone (negsuc n) inside =
+    let small : n < 2 ^ 31 = omega (arith, ints) in
+    let test : nat_le (suc n) (2 ^ 31) ≡ true = grind (arith, nat_tests) in
+    rw (decimal_number (suc n) (omega arith), test)
+    (ap (λ m. Ok (m, [])) (minus_number n small))
+
+pub immediate_is_last : (n : ℕ) → n < 2 ^ 12 →
+    IsLast operand.Value (signed_lexemes (signed_value 12 n))
+immediate_is_last n inside =
+    value_is_last (modulo 32 (signed_value 12 n)) (signed_lexemes (signed_value 12 n))
+    (signed_alone (signed_value 12 n) (signed_value_fits 12 n (omega arith) inside))
+
+pub address_is_last : (n r : ℕ) → n < 2 ^ 12 → r < 32 →
+    IsLast operand.Address
+    (signed_lexemes (signed_value 12 n) ++ Mark 40 ∷ Word (name_of r) ∷ Mark 41 ∷ [])
+unfolding behind more_operands_at
+address_is_last n r inside below =
+    rw (immediate_first any_names n (Word (name_of r) ∷ Mark 41 ∷ []) inside, register_read r below)
+    refl

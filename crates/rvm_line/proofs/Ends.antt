@@ -18,12 +18,12 @@ use Rattle.rvm_line.specs.declared.statements.Keyword.{Keyword}
 use Rattle.rvm_line.specs.declared.statements.Keyword.TheVariants as k
 use Rattle.rvm_line.specs.declared.statements.Width.{Width}
 use Rattle.rvm_line.specs.declared.statements.Width.TheVariants as sized
-use Rattle.rvm_line.specs.Contents.{at_head, parts, value_of_width, value_bytes, list_bytes, words_of, words_at, global_at, bytes_of_kind, bytes_at}
+use Rattle.rvm_line.specs.Contents.{value_of_width, value_bytes, list_bytes, words_of, words_at, global_at, bytes_of_kind, bytes_at}
 use Rattle.rvm_line.specs.Instructions.{bytes_of, li_at, li_words, li_size, low_field, instruction_at, pseudo_at}
 use Rattle.rvm_line.specs.Laws.{EndAt}
 use Rattle.rvm_line.specs.Operands.{distance}
-use Rattle.rvm_line.specs.Reading.{◌>>=◌, only_if, end_at, last_string}
-use Rattle.rvm_line.specs.Statements.{advanced, bytes_in, is_comma, list_size, keyword_at, balign_at, space_at, behind_string, size_of, place_after, next_place}
+use Rattle.rvm_line.specs.Reading.{◌>>=◌, only_if, is_comma, at_head, parts, end_at, last_string}
+use Rattle.rvm_line.specs.Statements.{advanced, bytes_in, list_size, statement_at, balign_at, space_at, behind_string, size_of, place_after, next_place}
 use Rattle.rvm_line.specs.Values.{Names, last_value, fits_signed, high, low}
 
 -- a value that is read
@@ -162,5 +162,5 @@ kind_ends names place after (k.Code kind) ts bs e h = code_ends names place afte
 pub ends : (names : Names) (place after : ℕ) (statement : List Lexeme) (bs : List ℕ) → next_place names place statement ≡ Ok after → bytes_at names place statement ≡ Ok bs → EndAt place after bs
 ends names place after [] bs e h = inl (sym (ok_is h))
 ends names place after (t ∷ ts) bs e h =
-    both (keyword_at (t ∷ ts)) (λ x. place_after names place x.0 x.1) (λ x. bytes_of_kind names place x.0 x.1) after bs (EndAt place after bs) e h
+    both (statement_at (t ∷ ts)) (λ x. place_after names place x.0 x.1) (λ x. bytes_of_kind names place x.0 x.1) after bs (EndAt place after bs) e h
     (λ x r f g. kind_ends names place after x.0 x.1 bs f g)

@@ -106,7 +106,7 @@ pub all_opened : (ts : List Lexeme) (depth : ℕ) (left : List Lexeme) → Opene
 all_opened ts depth left o e names = o.value names ∙ ap (in_halves ts depth) (no_half_first names left e)
 
 pub opened_within : (ts : List Token) (depth : ℕ) (left : List Lexeme) → Opened (lexemes_of ts) depth left → 3 * depth ≤ length ts
-opened_within ts depth left o = omega (arith, o.within, length-map ts (λ t. lexeme_of t.lexeme))
+opened_within ts depth left o = omega (arith, o.within, length-map ts lexeme_of)
 
 pub ruleset openings = (all_opened, opened_within)
 
@@ -117,7 +117,7 @@ fault_in_halves ts zero f = refl
 fault_in_halves ts (suc n) f = fault_in_halves ts n f
 
 half_of_rest : (ts : List Token) (n : ℕ) (v : ℕ × List Lexeme) → in_half (lexemes_of (take (length ts - 3 * n) (drop (3 * n) ts))) v ≡ in_half (drop (3 * n) (lexemes_of ts)) v
-half_of_rest ts n v = ap (λ l. in_half (lexemes_of l) v) (rest_is ts (3 * n)) ∙ ap (λ l. in_half l v) (sym (drop-map (λ t. lexeme_of t.lexeme) (3 * n) ts))
+half_of_rest ts n v = ap (λ l. in_half (lexemes_of l) v) (rest_is ts (3 * n)) ∙ ap (λ l. in_half l v) (sym (drop-map lexeme_of (3 * n) ts))
 
 -- one half more is closed
 pub one_closed : (ts : List Token) (n : ℕ) (v w : ℕ × List Lexeme) → 0 < n → Ok w ≡ in_half (lexemes_of (take (length ts - 3 * (n - 1)) (drop (3 * (n - 1)) ts))) v → in_halves (lexemes_of ts) (n - 1) (Ok w) ≡ in_halves (lexemes_of ts) n (Ok v)

@@ -3,3 +3,4 @@ mod Examples
 pub mod Expressions
 pub mod Lists
 pub mod Parts
+pub mod Shapes

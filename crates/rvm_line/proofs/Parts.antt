@@ -7,9 +7,8 @@ use Rattle.rvm_text.specs.Lexemes.{Lexeme}
 use Rattle.rvm_text.specs.Tokens.{lexeme_of, lexemes_of}
 use Rattle.rvm_line.specs.declared.faults.Fault.{Fault}
 use Rattle.rvm_line.specs.declared.statements.Width.{Width}
-use Rattle.rvm_line.specs.Contents.{parts, at_head, value_of_width, value_bytes, list_bytes}
-use Rattle.rvm_line.specs.Reading.{◌>>=◌}
-use Rattle.rvm_line.specs.Statements.{is_comma}
+use Rattle.rvm_line.specs.Contents.{value_of_width, value_bytes, list_bytes}
+use Rattle.rvm_line.specs.Reading.{◌>>=◌, is_comma, at_head, parts}
 use Rattle.rvm_line.specs.Values.{Names}
 
 -- bytes before others, unless there is a fault
@@ -75,29 +74,29 @@ pub no_token : (ts : List Token) → all_at_head (lexemes_of (take 0 ts)) (parts
 no_token ts = parts_some (lexemes_of ts)
 
 -- a token that is no comma
-pub token_more : (ts : List Token) (at : ℕ) (d : Token) → at < length ts → is_comma (lexeme_of (get_or ts at d).lexeme) ≡ false →
+pub token_more : (ts : List Token) (at : ℕ) (d : Token) → at < length ts → is_comma (lexeme_of (get_or ts at d)) ≡ false →
     all_at_head (lexemes_of (take (at + 1) ts)) (parts (lexemes_of (drop (at + 1) ts))) ≡ all_at_head (lexemes_of (take at ts)) (parts (lexemes_of (drop at ts)))
 unfolding parts
 token_more ts at d inside plain =
     let t = get_or ts at d in
     ap (λ l. all_at_head (lexemes_of l) (parts (lexemes_of (drop (at + 1) ts)))) (take_more ts at d inside)
-    ∙ ap (λ l. all_at_head l (parts (lexemes_of (drop (at + 1) ts)))) (map_push (λ (u : Token). lexeme_of u.lexeme) (take at ts) t)
-    ∙ at_heads (lexemes_of (take at ts)) (lexeme_of t.lexeme) (parts (lexemes_of (drop (at + 1) ts)))
+    ∙ ap (λ l. all_at_head l (parts (lexemes_of (drop (at + 1) ts)))) (map_push lexeme_of (take at ts) t)
+    ∙ at_heads (lexemes_of (take at ts)) (lexeme_of t) (parts (lexemes_of (drop (at + 1) ts)))
     ∙ sym (ap (λ l. all_at_head (lexemes_of (take at ts)) (parts (lexemes_of l))) (drop_more ts at d inside)
-    ∙ ap (λ b. all_at_head (lexemes_of (take at ts)) (if b then [] ∷ parts (lexemes_of (drop (at + 1) ts)) else at_head (lexeme_of t.lexeme) (parts (lexemes_of (drop (at + 1) ts))))) plain)
+    ∙ ap (λ b. all_at_head (lexemes_of (take at ts)) (if b then [] ∷ parts (lexemes_of (drop (at + 1) ts)) else at_head (lexeme_of t) (parts (lexemes_of (drop (at + 1) ts))))) plain)
 
 -- what is behind a place
 pub rest_is : (ts : List Token) (n : ℕ) → take (length ts - n) (drop n ts) ≡ drop n ts
 rest_is ts n = take_all (length ts - n) (drop n ts) (omega (arith, length-drop n ts))
 
 -- a comma
-pub comma_at : (ts : List Token) (at : ℕ) (d : Token) → at < length ts → is_comma (lexeme_of (get_or ts at d).lexeme) ≡ true →
+pub comma_at : (ts : List Token) (at : ℕ) (d : Token) → at < length ts → is_comma (lexeme_of (get_or ts at d)) ≡ true →
     all_at_head (lexemes_of (take at ts)) (parts (lexemes_of (drop at ts))) ≡ lexemes_of (take at ts) ∷ parts (lexemes_of (take (length ts - (at + 1)) (drop (at + 1) ts)))
 unfolding parts
 comma_at ts at d inside comma =
     let t = get_or ts at d in
     ap (λ l. all_at_head (lexemes_of (take at ts)) (parts (lexemes_of l))) (drop_more ts at d inside)
-    ∙ ap (λ b. all_at_head (lexemes_of (take at ts)) (if b then [] ∷ parts (lexemes_of (drop (at + 1) ts)) else at_head (lexeme_of t.lexeme) (parts (lexemes_of (drop (at + 1) ts))))) comma
+    ∙ ap (λ b. all_at_head (lexemes_of (take at ts)) (if b then [] ∷ parts (lexemes_of (drop (at + 1) ts)) else at_head (lexeme_of t) (parts (lexemes_of (drop (at + 1) ts))))) comma
     ∙ ap (λ l. l ∷ parts (lexemes_of (drop (at + 1) ts))) (append-nil (lexemes_of (take at ts)))
     ∙ ap (λ l. lexemes_of (take at ts) ∷ parts (lexemes_of l)) (sym (rest_is ts (at + 1)))
 

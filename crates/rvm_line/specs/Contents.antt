@@ -17,19 +17,9 @@ use Rattle.rvm_line.specs.declared.statements.Width.{Width}
 use Rattle.rvm_line.specs.declared.statements.Width.TheVariants as width
 use Rattle.rvm_line.specs.Instructions.{instruction_at, pseudo_at, li_at, li_words, la_at, call_at}
 use Rattle.rvm_line.specs.Instructions.{bytes_of}
-use Rattle.rvm_line.specs.Reading.{◌>>=◌, only_if, end_at, name_at, last_string}
-use Rattle.rvm_line.specs.Statements.{bytes_in, is_comma, keyword_at, balign_at, space_at}
+use Rattle.rvm_line.specs.Reading.{◌>>=◌, only_if, end_at, name_at, last_string, parts}
+use Rattle.rvm_line.specs.Statements.{bytes_in, statement_at, balign_at, space_at}
 use Rattle.rvm_line.specs.Values.{Names, last_value}
-
--- a lexeme at the head of the first part
-abbrev pub at_head : Lexeme → List (List Lexeme) → List (List Lexeme)
-at_head t [] = (t ∷ []) ∷ []
-at_head t (p ∷ ps) = (t ∷ p) ∷ ps
-
--- the parts between commas
-unfoldable pub parts : List Lexeme → List (List Lexeme)
-parts [] = [] ∷ []
-parts (t ∷ ts) = if is_comma t then [] ∷ parts ts else at_head t (parts ts)
 
 -- whether a value, as unsigned or as signed, has a width
 abbrev pub has_width : Width → ℕ → Bool
@@ -90,4 +80,4 @@ bytes_of_kind names place (keyword.Code kind) ts =
 abbrev pub bytes_at : Names → (place : ℕ) → List Lexeme → Result (List ℕ) Fault
 bytes_at names place [] = Ok []
 bytes_at names place (t ∷ ts) =
-    keyword_at (t ∷ ts) >>= λ k. bytes_of_kind names place k.0 k.1
+    statement_at (t ∷ ts) >>= λ k. bytes_of_kind names place k.0 k.1

@@ -127,19 +127,19 @@ csr_of word = named csr_numbers word
 abbrev pub csr_number : ℕ → Result ℕ Fault
 csr_number n = only_if OutOfReach (nat_lt n 4096) n
 
--- a number of a register, as it is written
-abbrev pub csr_number_at : List Lexeme → Result (ℕ × List Lexeme) Fault
-csr_number_at ts = number_at ts >>= λ n. csr_number n.0 >>= λ csr. Ok (csr, n.1)
-
 -- this number, or the one that is written
 abbrev pub csr_or_number : Option ℕ → Lexeme → List Lexeme → Result (ℕ × List Lexeme) Fault
-csr_or_number (Some n) t ts = csr_number n >>= λ csr. Ok (csr, ts)
-csr_or_number None t ts = csr_number_at (t ∷ ts)
+csr_or_number (Some n) t ts = Ok (n, ts)
+csr_or_number None t ts = number_at (t ∷ ts)
+
+-- a name of a control and status register, or a number
+abbrev pub csr_word_at : List Lexeme → Result (ℕ × List Lexeme) Fault
+csr_word_at (Word w ∷ ts) = csr_or_number (csr_of w) (Word w) ts
+csr_word_at ts = number_at ts
 
 -- a control and status register: a name, or a number below 2 ^ 12
 abbrev pub csr_at : List Lexeme → Result (ℕ × List Lexeme) Fault
-csr_at (Word w ∷ ts) = csr_or_number (csr_of w) (Word w) ts
-csr_at ts = csr_number_at ts
+csr_at ts = csr_word_at ts >>= λ c. csr_number c.0 >>= λ n. Ok (n, c.1)
 
 -- a control and status register and a comma
 unfoldable pub csr_comma : List Lexeme → Result (ℕ × List Lexeme) Fault

@@ -1,5 +1,6 @@
 pub mod Contents
 pub mod Csrs
+pub mod Grammar
 pub mod Instructions
 pub mod Laws
 pub mod Operands

@@ -1,6 +1,6 @@
 -- The parts of a line that stand in any statement, each with what is behind it. What is not there
 -- is a BadToken.
-use Rattle.std.specs.Prelude.{ℕ, Bool, ◌==◌, if◌then◌else◌, List, [], ◌∷◌, Option, Some, None}
+use Rattle.std.specs.Prelude.{ℕ, Bool, false, ◌==◌, if◌then◌else◌, List, [], ◌∷◌, Option, Some, None}
 use Rattle.std.specs.Prelude.{Result, Ok, Err}
 use Rattle.rvm_text.specs.Lexemes.{Lexeme, Word, Mark, Quoted}
 use Rattle.rvm_text.specs.Registers.{register_of}
@@ -32,6 +32,22 @@ uncons (t ∷ ts) = Some (t, ts)
 abbrev pub mark_at : ℕ → List Lexeme → Result (List Lexeme) Fault
 mark_at m (Mark a ∷ ts) = if a == m then Ok ts else Err BadToken
 mark_at m ts = Err BadToken
+
+-- whether a lexeme is a comma
+abbrev pub is_comma : Lexeme → Bool
+is_comma (Mark m) = m == 44
+is_comma (Word w) = false
+is_comma (Quoted s) = false
+
+-- a lexeme at the head of the first part
+abbrev pub at_head : Lexeme → List (List Lexeme) → List (List Lexeme)
+at_head t [] = (t ∷ []) ∷ []
+at_head t (p ∷ ps) = (t ∷ p) ∷ ps
+
+-- the parts between commas
+unfoldable pub parts : List Lexeme → List (List Lexeme)
+parts [] = [] ∷ []
+parts (t ∷ ts) = if is_comma t then [] ∷ parts ts else at_head t (parts ts)
 
 -- nothing is left
 abbrev pub end_at : List Lexeme → Result (Unit {0}) Fault

@@ -1,10 +1,10 @@
 -- What kind a line is, what it defines, and where the next line stands. A place is an address, or
 -- 2 ^ 32 behind the last byte.
 use Rattle.std.specs.Prelude.{ℕ, ◌+◌, ◌-◌, ◌*◌, ◌%◌, ◌^◌, Bool, ◌&&◌, ◌||◌, ◌==◌, nat_le, count_by}
-use Rattle.std.specs.Prelude.{false, if◌then◌else◌, List, [], ◌∷◌, length, Option, Some, None}
+use Rattle.std.specs.Prelude.{if◌then◌else◌, List, [], ◌∷◌, length, Option, Some, None}
 use Rattle.std.specs.Prelude.{option_map, Result, Ok, Err, codes}
 use Rattle.std.specs.Option.{option_or}
-use Rattle.rvm_text.specs.Lexemes.{Lexeme, Word, Mark, Quoted}
+use Rattle.rvm_text.specs.Lexemes.{Lexeme, Word, Mark}
 use Rattle.rvm_text.specs.Strings.{text_of}
 use Rattle.rvm_text.specs.Tokens.{is_name}
 use Rattle.rvm_line.specs.declared.faults.Fault.{Fault}
@@ -16,9 +16,11 @@ use Rattle.rvm_line.specs.declared.statements.Keyword.{Keyword}
 use Rattle.rvm_line.specs.declared.statements.Keyword.TheVariants as keyword
 use Rattle.rvm_line.specs.declared.statements.Width.{Width}
 use Rattle.rvm_line.specs.declared.statements.Width.TheVariants as width
+use Rattle.rvm_line.specs.Grammar.{grammar_at}
 use Rattle.rvm_line.specs.Instructions.{li_at, li_size}
 use Rattle.rvm_line.specs.Operations.{operation_of}
-use Rattle.rvm_line.specs.Reading.{◌>>=◌, known, only_if, mark_at, name_at, last_string}
+use Rattle.rvm_line.specs.Reading.{◌>>=◌, known, only_if, is_comma, mark_at, name_at}
+use Rattle.rvm_line.specs.Reading.{last_string}
 use Rattle.rvm_line.specs.Values.{Names, last_value}
 use Rattle.rvm_line.specs.Words.{named}
 
@@ -67,10 +69,14 @@ keyword_of word =
     (option_or (named pseudo_instructions word)
     (option_map (λ o. keyword.Code (code.Instruction o)) (operation_of word)))
 
--- a line's kind, and its operands
+-- a kind of line, and what is behind it
 abbrev pub keyword_at : List Lexeme → Result (Keyword × List Lexeme) Fault
 keyword_at (Word w ∷ ts) = known BadToken (keyword_of w) >>= λ k. Ok (k, ts)
 keyword_at ts = Err BadToken
+
+-- a line's kind, and its operands, if the line is in the grammar
+abbrev pub statement_at : List Lexeme → Result (Keyword × List Lexeme) Fault
+statement_at ts = keyword_at ts >>= λ k. grammar_at k.0 k.1 >>= λ _. Ok k
 
 -- a name and the value that a line gives it
 abbrev pub Definition : Type 0
@@ -85,12 +91,6 @@ label_of place ts = (None, ts)
 -- the place so many bytes on
 abbrev pub advanced : (place size : ℕ) → Result ℕ Fault
 advanced place size = only_if OutOfReach (nat_le (place + size) (2 ^ 32)) (place + size)
-
--- whether a lexeme is a comma
-abbrev pub is_comma : Lexeme → Bool
-is_comma (Mark m) = m == 44
-is_comma (Word w) = false
-is_comma (Quoted s) = false
 
 -- how many bytes a value of a width takes
 abbrev pub bytes_in : Width → ℕ
@@ -149,7 +149,7 @@ place_after names place (keyword.Code kind) ts = size_of names kind ts >>= advan
 -- where the next line stands
 abbrev pub next_place : Names → (place : ℕ) → List Lexeme → Result ℕ Fault
 next_place names place [] = Ok place
-next_place names place (t ∷ ts) = keyword_at (t ∷ ts) >>= λ k. place_after names place k.0 k.1
+next_place names place (t ∷ ts) = statement_at (t ∷ ts) >>= λ k. place_after names place k.0 k.1
 
 -- what an `.equ` defines, and nothing for any other kind
 abbrev pub equ_of : Names → Keyword → List Lexeme → Result (Option Definition) Fault
@@ -160,4 +160,4 @@ equ_of names k ts = Ok None
 -- what a statement defines
 abbrev pub equ_at : Names → List Lexeme → Result (Option Definition) Fault
 equ_at names [] = Ok None
-equ_at names (t ∷ ts) = keyword_at (t ∷ ts) >>= λ k. equ_of names k.0 k.1
+equ_at names (t ∷ ts) = statement_at (t ∷ ts) >>= λ k. equ_of names k.0 k.1

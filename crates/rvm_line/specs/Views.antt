@@ -1,14 +1,14 @@
 -- What the code's values stand for.
-use Rattle.std.specs.Prelude.{◌≡◌, ℕ, ◌+◌, length, List, [], ◌∷◌, Option, Some, None, if◌then◌else◌}
+use Rattle.std.specs.Prelude.{◌≡◌, ℕ, ◌+◌, length, List, [], ◌∷◌, Option, Some, None}
 use Rattle.std.specs.Prelude.{Result, Ok, Err}
 use denote.Ref.{Bor}
 use Rattle.std.specs.Prelude.{Vec}
 use Rattle.std.specs.declared.alloc.Global.{Global}
-use Rattle.rvm_line.specs.Contents.{parts}
-use Rattle.std.specs.Str.{bytes_eq}
+use Rattle.std.specs.BTreeMap.{BTreeMap, get_by}
+use Rattle.std.specs.Cmp.Lexicographic.{slice_cmp}
+use Rattle.std.specs.Ordering.{nat_cmp}
 use Rattle.rvm_text.specs.Lexemes as grammar
 use Rattle.rvm_text.specs.Tokens.{lexeme_of, lexemes_of}
-use Rattle.rvm_text.specs.declared.token.Lexeme.{Lexeme}
 use Rattle.rvm_text.specs.declared.token.Token.{Token}
 use Rattle.rvm_line.specs.declared.faults.Fault.{Fault}
 use Rattle.rvm_line.specs.declared.faults.LineError.{LineError}
@@ -16,13 +16,13 @@ use Rattle.rvm_line.specs.declared.faults.LineError.TheVariants.{OutOfMemory, Fa
 use Rattle.rvm_line.specs.declared.symbols.Symbol.{Symbol}
 use Rattle.rvm_line.specs.declared.operations.Ordering.{Ordering}
 use Rattle.rvm_line.specs.declared.values.Half.{Half}
+use Rattle.rvm_line.specs.Reading.{parts}
 use Rattle.rvm_line.specs.Statements.{Definition}
 use Rattle.rvm_line.specs.Values.{Names}
 
--- the values of names in a list of symbols
-unfoldable pub names_of : List Symbol → Names
-names_of [] name = None
-names_of (s ∷ ss) name = if bytes_eq s.name.now name then Some s.value else names_of ss name
+-- the values of names in a map of symbols
+unfoldable pub names_of : BTreeMap (Bor (List ℕ)) ℕ → Names
+names_of symbols name = get_by (λ key. slice_cmp nat_cmp name key.now) symbols
 
 -- this result, unless memory ran out
 abbrev pub Gives : Result (Vec ℕ Global) LineError → Result (List ℕ) Fault → Type 0
@@ -30,8 +30,8 @@ Gives (Ok v) meant = meant ≡ Ok v.items
 Gives (Err OutOfMemory) meant = Unit {0}
 Gives (Err (Faulty f)) meant = meant ≡ Err f
 
--- a first lexeme, and the tokens behind it
-abbrev pub parted : Option (Lexeme × Bor (List Token))
+-- a first token, and those behind it, as lexemes
+abbrev pub parted : Option (Token × Bor (List Token))
     → Option (grammar.Lexeme × List grammar.Lexeme)
 parted None = None
 parted (Some x) = Some (lexeme_of x.0, lexemes_of x.1.now)

@@ -1,20 +1,21 @@
 //! The bytes of a line.
 
-ghost use Rattle.std.specs.Prelude.{◌≡◌, ◌<◌, [], ◌∷◌, ◌++◌, length, replicate, IfOk, IfSome, OnOk};
+ghost use Rattle.std.specs.Prelude.{◌≡◌, ◌∷◌, [], ◌++◌, replicate, IfOk, OnOk};
 ghost use Rattle.rvm_isa.specs.Words.{word_of};
 ghost use Rattle.rvm_text.specs.Strings.{text_of};
 ghost use Rattle.rvm_text.specs.Tokens.{lexemes_of};
-ghost use Rattle.rvm_line.specs.Contents.{parts, has_width, value_of_width, value_bytes};
+ghost use Rattle.rvm_line.specs.Contents.{has_width, value_of_width, value_bytes};
 ghost use Rattle.rvm_line.specs.Contents.{list_bytes, words_of, words_at, global_at, bytes_of_kind};
 ghost use Rattle.rvm_line.specs.Contents.{bytes_at};
 ghost use Rattle.rvm_line.specs.Instructions.{bytes_of};
-ghost use Rattle.rvm_line.specs.Views.{names_of, seen_parts, Gives};
+ghost use Rattle.rvm_line.specs.Reading.{parts};
+ghost use Rattle.rvm_line.specs.Views.{names_of, Gives};
 
 use crate::faults::{Fault, LineError};
 use crate::instructions::{Words, call, la, li, register_and_value};
-use crate::reading::{end, last_string, name};
-use crate::statements::{Code, Keyword, Width, balign, is_comma, space, split_keyword};
-use crate::symbols::Symbol;
+use crate::reading::{end, first_part, last_string, name};
+use crate::statements::{Code, Keyword, Width, balign, space, statement};
+use crate::symbols::Symbols;
 use crate::values::last_value;
 use rvm_isa::encode::encode;
 use rvm_text::{Token, unescape};
@@ -23,7 +24,7 @@ use std::alloc::{AllocError, Global};
 /// The bytes of a statement that stands at a place.
 pub fn contents(
     alloc: Global,
-    symbols: &[Symbol],
+    symbols: &Symbols,
     place: u64,
     tokens: &[Token],
 ) -> Result<Vec<u8>, LineError>
@@ -32,14 +33,14 @@ pub fn contents(
     if tokens.is_empty() {
         return Ok(Vec::new(alloc));
     }
-    let (keyword, operands) = split_keyword(tokens)?;
+    let (keyword, operands) = statement(tokens)?;
     contents_of_kind(alloc, symbols, place, keyword, operands)
 }
 
 /// The bytes of a statement of a kind.
 fn contents_of_kind(
     alloc: Global,
-    symbols: &[Symbol],
+    symbols: &Symbols,
     place: u64,
     keyword: Keyword,
     tokens: &[Token],
@@ -110,7 +111,7 @@ fn global(tokens: &[Token]) -> Result<(), Fault>
 #[tactic(auto, using(crate::proofs::Parts::turns))]
 fn list(
     alloc: Global,
-    symbols: &[Symbol],
+    symbols: &Symbols,
     width: Width,
     tokens: &[Token],
 ) -> Result<Vec<u8>, LineError>
@@ -128,23 +129,9 @@ fn list(
     Ok(bytes)
 }
 
-/// The tokens before the first comma, and those behind it, if there is one.
-#[tactic(auto, using(crate::proofs::Parts::steps))]
-fn first_part<'t, 'a>(tokens: &'t [Token<'a>]) -> (&'t [Token<'a>], Option<&'t [Token<'a>]>)
-    ensures parts { parts (lexemes_of tokens.now) ≡ lexemes_of result.0.now ∷ seen_parts result.1 }
-    ensures shorter { IfSome result.1 (λ more. length more.now < length tokens.now) }
-{
-    for at in 0..tokens.len() {
-        if is_comma(tokens[at].lexeme) {
-            return (&tokens[..at], Some(&tokens[at + 1..]));
-        }
-    }
-    (tokens, None)
-}
-
 /// An expression whose value has a width.
 #[tactic(auto, unfolding(crate::specs::Contents::value_of_width))]
-fn value_of_width(symbols: &[Symbol], width: Width, tokens: &[Token]) -> Result<u32, Fault>
+fn value_of_width(symbols: &Symbols, width: Width, tokens: &[Token]) -> Result<u32, Fault>
     ensures { result ≡ value_of_width (names_of symbols.now) width (lexemes_of tokens.now) }
 {
     let value = last_value(symbols, tokens)?;
@@ -178,7 +165,7 @@ fn append(bytes: &mut Vec<u8>, width: Width, value: u32) -> Result<(), AllocErro
 
 /// The words of a line.
 #[tactic(auto, unfolding(crate::specs::Contents::words_at))]
-fn words(symbols: &[Symbol], place: u64, code: Code, tokens: &[Token]) -> Result<Words, Fault>
+fn words(symbols: &Symbols, place: u64, code: Code, tokens: &[Token]) -> Result<Words, Fault>
     ensures { result ≡ words_at (names_of symbols.now) place code (lexemes_of tokens.now) }
 {
     if place % 4 == 0 {
@@ -188,7 +175,7 @@ fn words(symbols: &[Symbol], place: u64, code: Code, tokens: &[Token]) -> Result
     }
 }
 
-fn words_of(symbols: &[Symbol], place: u64, code: Code, tokens: &[Token]) -> Result<Words, Fault>
+fn words_of(symbols: &Symbols, place: u64, code: Code, tokens: &[Token]) -> Result<Words, Fault>
     ensures { result ≡ words_of (names_of symbols.now) place code (lexemes_of tokens.now) }
 {
     match code {

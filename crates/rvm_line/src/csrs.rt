@@ -2,7 +2,7 @@
 
 ghost use Rattle.std.specs.Prelude.{◌≡◌, ◌<◌, ◌^◌, IfOk};
 ghost use Rattle.rvm_text.specs.Tokens.{lexemes_of};
-ghost use Rattle.rvm_line.specs.Csrs.{csr_of, csr_number, csr_number_at, csr_at, csr_comma};
+ghost use Rattle.rvm_line.specs.Csrs.{csr_of, csr_number, csr_word_at, csr_at, csr_comma};
 ghost use Rattle.rvm_line.specs.Csrs.{last_csr};
 ghost use Rattle.rvm_line.specs.Words.{named};
 ghost use Rattle.rvm_line.specs.Views.{seen};
@@ -12,27 +12,27 @@ use crate::reading::{end, mark, next};
 use crate::values::signed_number;
 use crate::words::named;
 use rvm_isa::CsrNo;
-use rvm_text::{Lexeme, Token};
+use rvm_text::Token;
+
+/// The name of a control and status register, or a number.
+pub fn csr_word<'t, 'a>(tokens: &'t [Token<'a>]) -> Result<(u32, &'t [Token<'a>]), Fault>
+    ensures { seen result ≡ csr_word_at (lexemes_of tokens.now) }
+{
+    match next(tokens) {
+        Some((Token::Word(word), rest)) => match csr_named(word) {
+            Some(number) => Ok((number, rest)),
+            None => signed_number(tokens),
+        },
+        _ => signed_number(tokens),
+    }
+}
 
 /// The number of a control and status register: by its name, or a number below 4096.
 fn csr<'t, 'a>(tokens: &'t [Token<'a>]) -> Result<(u32, &'t [Token<'a>]), Fault>
     ensures value { seen result ≡ csr_at (lexemes_of tokens.now) }
     ensures below { IfOk result (λ r. r.0 < 2 ^ 12) }
 {
-    match next(tokens) {
-        Some((Lexeme::Word(word), rest)) => match csr_named(word) {
-            Some(number) => Ok((number_below(number)?, rest)),
-            None => csr_number(tokens),
-        },
-        _ => csr_number(tokens),
-    }
-}
-
-fn csr_number<'t, 'a>(tokens: &'t [Token<'a>]) -> Result<(u32, &'t [Token<'a>]), Fault>
-    ensures value { seen result ≡ csr_number_at (lexemes_of tokens.now) }
-    ensures below { IfOk result (λ r. r.0 < 2 ^ 12) }
-{
-    let (number, rest) = signed_number(tokens)?;
+    let (number, rest) = csr_word(tokens)?;
     Ok((number_below(number)?, rest))
 }
 

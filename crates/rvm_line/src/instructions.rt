@@ -15,7 +15,7 @@ use crate::operands::{
 };
 use crate::operations::Operation;
 use crate::reading::{end, register_comma};
-use crate::symbols::Symbol;
+use crate::symbols::Symbols;
 use crate::values::{fits_signed, high, last_value, low};
 use rvm_isa::encode::encode;
 use rvm_isa::{Imm12, Imm20, Ins, Reg};
@@ -30,7 +30,7 @@ pub enum Words {
 
 impl Operation {
     /// The instruction with the operands of a line that stands at a place.
-    pub fn read(self, symbols: &[Symbol], place: u64, tokens: &[Token]) -> Result<Ins, Fault>
+    pub fn read(self, symbols: &Symbols, place: u64, tokens: &[Token]) -> Result<Ins, Fault>
         ensures { result ≡ instruction_at (names_of symbols.now) place self
             (lexemes_of tokens.now) }
     {
@@ -143,7 +143,7 @@ fn jalr(rd: Reg, rs1: Reg, value: u32) -> u32
 
 /// The register and the value of `li` or `la`.
 #[tactic(auto, unfolding(crate::specs::Instructions::li_at))]
-pub fn register_and_value(symbols: &[Symbol], tokens: &[Token]) -> Result<(Reg, u32), Fault>
+pub fn register_and_value(symbols: &Symbols, tokens: &[Token]) -> Result<(Reg, u32), Fault>
     ensures { result ≡ li_at (names_of symbols.now) (lexemes_of tokens.now) }
 {
     let (rd, rest) = register_comma(tokens)?;
@@ -177,7 +177,7 @@ pub fn li_size(value: u32) -> u64
 }
 
 /// The words of `la`.
-pub fn la(symbols: &[Symbol], place: u64, tokens: &[Token]) -> Result<Words, Fault>
+pub fn la(symbols: &Symbols, place: u64, tokens: &[Token]) -> Result<Words, Fault>
     ensures { result ≡ la_at (names_of symbols.now) place (lexemes_of tokens.now) }
 {
     let (rd, target) = register_and_value(symbols, tokens)?;
@@ -186,7 +186,7 @@ pub fn la(symbols: &[Symbol], place: u64, tokens: &[Token]) -> Result<Words, Fau
 }
 
 /// The words of `call`.
-pub fn call(symbols: &[Symbol], place: u64, tokens: &[Token]) -> Result<Words, Fault>
+pub fn call(symbols: &Symbols, place: u64, tokens: &[Token]) -> Result<Words, Fault>
     ensures { result ≡ call_at (names_of symbols.now) place (lexemes_of tokens.now) }
 {
     let target = last_value(symbols, tokens)?;

@@ -6,13 +6,15 @@
 //! takes tokens one by one, `values` expressions, `csrs` the names of control and status
 //! registers. `operations` are the instructions by the shape of their operands, `operands` read
 //! these, `instructions` makes the instruction of a line. `statements` says what kind a line is,
-//! what it defines and where the next one stands; `content` makes its bytes. `laws` says that a
+//! what it defines and where the next one stands; `content` makes its bytes. Both first ask
+//! `grammar` whether the operands have the shapes of their kind. `laws` says that a
 //! line's bytes reach to the next line.
 #![tactic(auto)]
 
 mod content;
 mod csrs;
 mod faults;
+mod grammar;
 mod instructions;
 pub mod laws;
 mod operands;
@@ -27,4 +29,4 @@ mod words;
 pub use content::contents;
 pub use faults::{Fault, LineError};
 pub use statements::{definition, label, next_place};
-pub use symbols::{Symbol, lookup};
+pub use symbols::{Symbol, Symbols, insert, lookup};

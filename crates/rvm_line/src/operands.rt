@@ -12,7 +12,7 @@ ghost use Rattle.rvm_line.specs.Views.{names_of};
 use crate::csrs::csr_comma;
 use crate::faults::Fault;
 use crate::reading::{last_address, last_register, register_comma};
-use crate::symbols::Symbol;
+use crate::symbols::Symbols;
 use crate::values::{fits_signed, last_value, value};
 use rvm_isa::{CsrNo, Imm5, Imm12, Imm20, Off13, Off21, Reg, Shamt};
 use rvm_text::Token;
@@ -57,7 +57,7 @@ fn jump_offset(distance: u32) -> Result<Off21, Fault>
 
 /// The target of a branch that stands at a place, and nothing behind it.
 #[tactic(auto, unfolding(crate::specs::Operands::last_target))]
-pub fn last_branch(symbols: &[Symbol], place: u64, tokens: &[Token]) -> Result<Off13, Fault>
+pub fn last_branch(symbols: &Symbols, place: u64, tokens: &[Token]) -> Result<Off13, Fault>
     ensures { result ≡ last_target (names_of symbols.now) 13 place (lexemes_of tokens.now) }
 {
     let target = last_value(symbols, tokens)?;
@@ -66,7 +66,7 @@ pub fn last_branch(symbols: &[Symbol], place: u64, tokens: &[Token]) -> Result<O
 
 /// The target of a jump that stands at a place, and nothing behind it.
 #[tactic(auto, unfolding(crate::specs::Operands::last_target))]
-pub fn last_jump(symbols: &[Symbol], place: u64, tokens: &[Token]) -> Result<Off21, Fault>
+pub fn last_jump(symbols: &Symbols, place: u64, tokens: &[Token]) -> Result<Off21, Fault>
     ensures { result ≡ last_target (names_of symbols.now) 21 place (lexemes_of tokens.now) }
 {
     let target = last_value(symbols, tokens)?;
@@ -75,7 +75,7 @@ pub fn last_jump(symbols: &[Symbol], place: u64, tokens: &[Token]) -> Result<Off
 
 /// An immediate, and nothing behind it.
 #[tactic(auto, unfolding(crate::specs::Operands::last_immediate))]
-fn last_immediate(symbols: &[Symbol], tokens: &[Token]) -> Result<Imm12, Fault>
+fn last_immediate(symbols: &Symbols, tokens: &[Token]) -> Result<Imm12, Fault>
     ensures { result ≡ last_immediate (names_of symbols.now) (lexemes_of tokens.now) }
 {
     let value = last_value(symbols, tokens)?;
@@ -84,7 +84,7 @@ fn last_immediate(symbols: &[Symbol], tokens: &[Token]) -> Result<Imm12, Fault>
 
 /// A number below 32, and nothing behind it.
 #[tactic(auto, unfolding(crate::specs::Operands::last_below))]
-fn last_below_32(symbols: &[Symbol], tokens: &[Token]) -> Result<u32, Fault>
+fn last_below_32(symbols: &Symbols, tokens: &[Token]) -> Result<u32, Fault>
     ensures value { result ≡ last_below (names_of symbols.now) 32 (lexemes_of tokens.now) }
     ensures below { IfOk result (λ n. n < 32) }
 {
@@ -98,7 +98,7 @@ fn last_below_32(symbols: &[Symbol], tokens: &[Token]) -> Result<u32, Fault>
 
 /// The upper bits of a word, and nothing behind them.
 #[tactic(auto, unfolding(crate::specs::Operands::last_below))]
-fn last_upper_bits(symbols: &[Symbol], tokens: &[Token]) -> Result<Imm20, Fault>
+fn last_upper_bits(symbols: &Symbols, tokens: &[Token]) -> Result<Imm20, Fault>
     ensures { result ≡ last_below (names_of symbols.now) (2 ^ 20) (lexemes_of tokens.now) }
 {
     let value = last_value(symbols, tokens)?;
@@ -110,7 +110,7 @@ fn last_upper_bits(symbols: &[Symbol], tokens: &[Token]) -> Result<Imm20, Fault>
 }
 
 /// rd and the upper bits.
-pub fn upper(symbols: &[Symbol], tokens: &[Token]) -> Result<(Reg, Imm20), Fault>
+pub fn upper(symbols: &Symbols, tokens: &[Token]) -> Result<(Reg, Imm20), Fault>
     ensures { result ≡ upper_at (names_of symbols.now) (lexemes_of tokens.now) }
 {
     let (rd, rest) = register_comma(tokens)?;
@@ -119,7 +119,7 @@ pub fn upper(symbols: &[Symbol], tokens: &[Token]) -> Result<(Reg, Imm20), Fault
 }
 
 /// rd and a target.
-pub fn jump(symbols: &[Symbol], place: u64, tokens: &[Token]) -> Result<(Reg, Off21), Fault>
+pub fn jump(symbols: &Symbols, place: u64, tokens: &[Token]) -> Result<(Reg, Off21), Fault>
     ensures { result ≡ jump_at (names_of symbols.now) place (lexemes_of tokens.now) }
 {
     let (rd, rest) = register_comma(tokens)?;
@@ -128,7 +128,7 @@ pub fn jump(symbols: &[Symbol], place: u64, tokens: &[Token]) -> Result<(Reg, Of
 }
 
 /// rs1, rs2 and a target.
-pub fn branch(symbols: &[Symbol], place: u64, tokens: &[Token]) -> Result<(Reg, Reg, Off13), Fault>
+pub fn branch(symbols: &Symbols, place: u64, tokens: &[Token]) -> Result<(Reg, Reg, Off13), Fault>
     ensures { result ≡ branch_at (names_of symbols.now) place (lexemes_of tokens.now) }
 {
     let (rs1, rest) = register_comma(tokens)?;
@@ -138,7 +138,7 @@ pub fn branch(symbols: &[Symbol], place: u64, tokens: &[Token]) -> Result<(Reg, 
 }
 
 /// A register, and an address as an immediate and rs1.
-pub fn address(symbols: &[Symbol], tokens: &[Token]) -> Result<(Reg, Reg, Imm12), Fault>
+pub fn address(symbols: &Symbols, tokens: &[Token]) -> Result<(Reg, Reg, Imm12), Fault>
     ensures { result ≡ address_at (names_of symbols.now) (lexemes_of tokens.now) }
 {
     let (register, rest) = register_comma(tokens)?;
@@ -149,7 +149,7 @@ pub fn address(symbols: &[Symbol], tokens: &[Token]) -> Result<(Reg, Reg, Imm12)
 }
 
 /// rd, rs1 and an immediate.
-pub fn with_immediate(symbols: &[Symbol], tokens: &[Token]) -> Result<(Reg, Reg, Imm12), Fault>
+pub fn with_immediate(symbols: &Symbols, tokens: &[Token]) -> Result<(Reg, Reg, Imm12), Fault>
     ensures { result ≡ immediate_at (names_of symbols.now) (lexemes_of tokens.now) }
 {
     let (rd, rest) = register_comma(tokens)?;
@@ -159,7 +159,7 @@ pub fn with_immediate(symbols: &[Symbol], tokens: &[Token]) -> Result<(Reg, Reg,
 }
 
 /// rd, rs1 and an amount.
-pub fn shift(symbols: &[Symbol], tokens: &[Token]) -> Result<(Reg, Reg, Shamt), Fault>
+pub fn shift(symbols: &Symbols, tokens: &[Token]) -> Result<(Reg, Reg, Shamt), Fault>
     ensures { result ≡ shift_at (names_of symbols.now) (lexemes_of tokens.now) }
 {
     let (rd, rest) = register_comma(tokens)?;
@@ -198,7 +198,7 @@ pub fn csr_register(tokens: &[Token]) -> Result<(Reg, CsrNo, Reg), Fault>
 }
 
 /// rd, a control and status register and an immediate.
-pub fn csr_immediate(symbols: &[Symbol], tokens: &[Token]) -> Result<(Reg, CsrNo, Imm5), Fault>
+pub fn csr_immediate(symbols: &Symbols, tokens: &[Token]) -> Result<(Reg, CsrNo, Imm5), Fault>
     ensures { result ≡ csr_immediate_at (names_of symbols.now) (lexemes_of tokens.now) }
 {
     let (rd, rest) = register_comma(tokens)?;

@@ -10,7 +10,7 @@ use crate::csrs::{csr_comma, last_csr};
 use crate::faults::Fault;
 use crate::operands::{last_branch, last_jump, two_registers};
 use crate::reading::{end, last_register, register_comma};
-use crate::symbols::Symbol;
+use crate::symbols::Symbols;
 use rvm_isa::{CsrNo, Imm12, Ins, Reg};
 use rvm_text::Token;
 
@@ -34,7 +34,7 @@ pub enum Pseudo {
 
 impl Pseudo {
     /// The instruction with the operands of a line that stands at a place.
-    pub fn read(self, symbols: &[Symbol], place: u64, tokens: &[Token]) -> Result<Ins, Fault>
+    pub fn read(self, symbols: &Symbols, place: u64, tokens: &[Token]) -> Result<Ins, Fault>
         ensures { result ≡ pseudo_at (names_of symbols.now) place self (lexemes_of tokens.now) }
     {
         match self {
@@ -134,7 +134,7 @@ fn snez(tokens: &[Token]) -> Result<Ins, Fault>
 }
 
 /// beq rs, zero, target.
-fn beqz(symbols: &[Symbol], place: u64, tokens: &[Token]) -> Result<Ins, Fault>
+fn beqz(symbols: &Symbols, place: u64, tokens: &[Token]) -> Result<Ins, Fault>
     ensures { result ≡ pseudo_at (names_of symbols.now) place Pseudo.Beqz (lexemes_of tokens.now) }
 {
     let (rs1, rest) = register_comma(tokens)?;
@@ -148,7 +148,7 @@ fn beqz(symbols: &[Symbol], place: u64, tokens: &[Token]) -> Result<Ins, Fault>
 }
 
 /// bne rs, zero, target.
-fn bnez(symbols: &[Symbol], place: u64, tokens: &[Token]) -> Result<Ins, Fault>
+fn bnez(symbols: &Symbols, place: u64, tokens: &[Token]) -> Result<Ins, Fault>
     ensures { result ≡ pseudo_at (names_of symbols.now) place Pseudo.Bnez (lexemes_of tokens.now) }
 {
     let (rs1, rest) = register_comma(tokens)?;
@@ -162,7 +162,7 @@ fn bnez(symbols: &[Symbol], place: u64, tokens: &[Token]) -> Result<Ins, Fault>
 }
 
 /// jal zero, target.
-fn j(symbols: &[Symbol], place: u64, tokens: &[Token]) -> Result<Ins, Fault>
+fn j(symbols: &Symbols, place: u64, tokens: &[Token]) -> Result<Ins, Fault>
     ensures { result ≡ pseudo_at (names_of symbols.now) place Pseudo.J (lexemes_of tokens.now) }
 {
     let offset = last_jump(symbols, place, tokens)?;

@@ -1,22 +1,24 @@
 //! Tokens taken one by one.
 
-ghost use Rattle.std.specs.Prelude.{◌≡◌, ◌<◌, IfOk, IfSome, length};
-ghost use Rattle.rvm_text.specs.Tokens.{lexemes_of};
+ghost use Rattle.std.specs.Prelude.{◌≡◌, ◌<◌, ◌∷◌, IfOk, IfSome, length};
+ghost use Rattle.rvm_text.specs.Tokens.{lexeme_of, lexemes_of};
+ghost use Rattle.rvm_line.specs.Reading.{is_comma, parts};
 ghost use Rattle.rvm_line.specs.Reading.{uncons, mark_at, end_at, name_at, last_string};
 ghost use Rattle.rvm_line.specs.Reading.{register_at, register_comma, last_register, last_address};
 ghost use Rattle.rvm_line.specs.Views.{parted, seen, seen_rest, seen_bytes, seen_name};
+ghost use Rattle.rvm_line.specs.Views.{seen_parts};
 
 use crate::faults::Fault;
 use rvm_isa::Reg;
-use rvm_text::{Lexeme, Token, is_name, register};
+use rvm_text::{Token, is_name, register};
 
-/// The first lexeme, and the tokens behind it.
-pub fn next<'t, 'a>(tokens: &'t [Token<'a>]) -> Option<(Lexeme<'a>, &'t [Token<'a>])>
+/// The first token, and those behind it.
+pub fn next<'t, 'a>(tokens: &'t [Token<'a>]) -> Option<(Token<'a>, &'t [Token<'a>])>
     ensures parts { parted result ≡ uncons (lexemes_of tokens.now) }
     ensures shorter { IfSome result (λ x. length x.1.now < length tokens.now) }
 {
     let (first, rest) = tokens.split_first()?;
-    Some((first.lexeme, rest))
+    Some((*first, rest))
 }
 
 /// The tokens behind a mark.
@@ -24,7 +26,7 @@ pub fn mark<'t, 'a>(tokens: &'t [Token<'a>], wanted: u8) -> Result<&'t [Token<'a
     ensures { seen_rest result ≡ mark_at wanted (lexemes_of tokens.now) }
 {
     match next(tokens) {
-        Some((Lexeme::Mark(mark), rest)) => {
+        Some((Token::Mark(mark), rest)) => {
             if mark == wanted {
                 Ok(rest)
             } else {
@@ -33,6 +35,27 @@ pub fn mark<'t, 'a>(tokens: &'t [Token<'a>], wanted: u8) -> Result<&'t [Token<'a
         }
         _ => Err(Fault::BadToken),
     }
+}
+
+/// Whether a token is a comma.
+pub fn is_comma(token: Token) -> bool
+    ensures { result ≡ is_comma (lexeme_of token.entry) }
+{
+    matches!(token, Token::Mark(b','))
+}
+
+/// The tokens before the first comma, and those behind it, if there is one.
+#[tactic(auto, using(crate::proofs::Parts::steps))]
+pub fn first_part<'t, 'a>(tokens: &'t [Token<'a>]) -> (&'t [Token<'a>], Option<&'t [Token<'a>]>)
+    ensures parts { parts (lexemes_of tokens.now) ≡ lexemes_of result.0.now ∷ seen_parts result.1 }
+    ensures shorter { IfSome result.1 (λ more. length more.now < length tokens.now) }
+{
+    for at in 0..tokens.len() {
+        if is_comma(tokens[at]) {
+            return (&tokens[..at], Some(&tokens[at + 1..]));
+        }
+    }
+    (tokens, None)
 }
 
 /// Nothing is left.
@@ -51,7 +74,7 @@ pub fn name<'t, 'a>(tokens: &'t [Token<'a>]) -> Result<(&'a [u8], &'t [Token<'a>
     ensures { seen_name result ≡ name_at (lexemes_of tokens.now) }
 {
     match next(tokens) {
-        Some((Lexeme::Word(word), rest)) => {
+        Some((Token::Word(word), rest)) => {
             if is_name(word) {
                 Ok((word, rest))
             } else {
@@ -67,7 +90,7 @@ pub fn last_string<'a>(tokens: &[Token<'a>]) -> Result<&'a [u8], Fault>
     ensures { seen_bytes result ≡ last_string (lexemes_of tokens.now) }
 {
     match next(tokens) {
-        Some((Lexeme::Quoted(written), rest)) => {
+        Some((Token::Quoted(written), rest)) => {
             end(rest)?;
             Ok(written)
         }
@@ -81,7 +104,7 @@ pub fn register_number<'t, 'a>(tokens: &'t [Token<'a>]) -> Result<(u32, &'t [Tok
     ensures below { IfOk result (λ r. r.0 < 32) }
 {
     match next(tokens) {
-        Some((Lexeme::Word(word), rest)) => match register(word) {
+        Some((Token::Word(word), rest)) => match register(word) {
             Some(number) => Ok((number, rest)),
             None => Err(Fault::BadToken),
         },

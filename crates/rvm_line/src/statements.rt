@@ -1,23 +1,25 @@
 //! What kind a line is, what it defines, and where the next line stands.
 
 ghost use Rattle.std.specs.Prelude.{◌≡◌, ◌+◌, ◌≤◌, ◌<◌, ◌^◌, IfOk, option_map, count_by};
-ghost use Rattle.rvm_text.specs.Tokens.{lexeme_of, lexemes_of};
+ghost use Rattle.rvm_text.specs.Tokens.{lexemes_of};
 ghost use Rattle.rvm_line.specs.Operations.{operation_of};
-ghost use Rattle.rvm_line.specs.Statements.{keyword_of, keyword_at, label_of, advanced, bytes_in};
-ghost use Rattle.rvm_line.specs.Statements.{is_comma, behind_string, list_size, size_of};
+ghost use Rattle.rvm_line.specs.Reading.{is_comma};
+ghost use Rattle.rvm_line.specs.Statements.{keyword_of, keyword_at, statement_at, label_of};
+ghost use Rattle.rvm_line.specs.Statements.{advanced, bytes_in, behind_string, list_size, size_of};
 ghost use Rattle.rvm_line.specs.Statements.{is_alignment, padding, balign_at, space_at};
 ghost use Rattle.rvm_line.specs.Statements.{place_after, next_place, equ_of, equ_at};
 ghost use Rattle.rvm_line.specs.Views.{names_of, seen, seen_definition, definition_of};
 
 use crate::faults::Fault;
+use crate::grammar::check_grammar;
 use crate::instructions::{li_size, register_and_value};
 use crate::operations::{Operation, operation_named};
 use crate::pseudo::Pseudo;
-use crate::reading::{last_string, mark, name, next};
-use crate::symbols::Symbol;
+use crate::reading::{is_comma, last_string, mark, name, next};
+use crate::symbols::{Symbol, Symbols};
 use crate::values::last_value;
 use crate::words::named;
-use rvm_text::{Lexeme, Token, is_name, text_length};
+use rvm_text::{Token, is_name, text_length};
 
 /// How many bytes each value of a list takes.
 #[derive(Clone, Copy)]
@@ -119,12 +121,12 @@ fn instruction_named(word: &[u8]) -> Option<Keyword>
     Some(Keyword::Code(Code::Instruction(operation)))
 }
 
-/// The kind of a statement, and its operands.
-pub fn split_keyword<'t, 'a>(tokens: &'t [Token<'a>]) -> Result<(Keyword, &'t [Token<'a>]), Fault>
+/// The kind that the first word names, and the tokens behind it.
+fn split_keyword<'t, 'a>(tokens: &'t [Token<'a>]) -> Result<(Keyword, &'t [Token<'a>]), Fault>
     ensures { seen result ≡ keyword_at (lexemes_of tokens.now) }
 {
     match next(tokens) {
-        Some((Lexeme::Word(word), rest)) => match keyword_named(word) {
+        Some((Token::Word(word), rest)) => match keyword_named(word) {
             Some(keyword) => Ok((keyword, rest)),
             None => Err(Fault::BadToken),
         },
@@ -132,14 +134,23 @@ pub fn split_keyword<'t, 'a>(tokens: &'t [Token<'a>]) -> Result<(Keyword, &'t [T
     }
 }
 
+/// The kind of a statement, and its operands, if it is in the grammar.
+pub fn statement<'t, 'a>(tokens: &'t [Token<'a>]) -> Result<(Keyword, &'t [Token<'a>]), Fault>
+    ensures { seen result ≡ statement_at (lexemes_of tokens.now) }
+{
+    let (keyword, operands) = split_keyword(tokens)?;
+    check_grammar(keyword, operands)?;
+    Ok((keyword, operands))
+}
+
 /// The label of a line that stands at a place, if it has one, and the statement behind it.
 pub fn label<'t, 'a>(place: u64, tokens: &'t [Token<'a>]) -> (Option<Symbol<'a>>, &'t [Token<'a>])
     ensures { (definition_of result.0, lexemes_of result.1.now)
         ≡ label_of place (lexemes_of tokens.now) }
 {
-    if let Some((Lexeme::Word(name), rest)) = next(tokens)
+    if let Some((Token::Word(name), rest)) = next(tokens)
         && is_name(name)
-        && let Some((Lexeme::Mark(b':'), rest)) = next(rest)
+        && let Some((Token::Mark(b':'), rest)) = next(rest)
     {
         let value = (place % (1 << 32)) as u32;
         return (Some(Symbol { name, value }), rest);
@@ -178,14 +189,7 @@ fn advance_list(place: u64, width: Width, tokens: &[Token]) -> Result<u64, Fault
 fn commas(tokens: &[Token]) -> u64
     ensures { result ≡ count_by is_comma (lexemes_of tokens.now) }
 {
-    tokens.iter().filter(|token| is_comma(token.lexeme)).count() as u64
-}
-
-/// Whether a lexeme is a comma.
-pub fn is_comma(lexeme: Lexeme) -> bool
-    ensures { result ≡ is_comma (lexeme_of lexeme.entry) }
-{
-    matches!(lexeme, Lexeme::Mark(b','))
+    tokens.iter().filter(|token| is_comma(**token)).count() as u64
 }
 
 fn is_alignment(number: u32) -> bool
@@ -199,7 +203,7 @@ fn is_alignment(number: u32) -> bool
 
 /// How many zeros a line of `.balign` places.
 #[tactic(auto, unfolding(crate::specs::Statements::balign_at))]
-pub fn balign(symbols: &[Symbol], place: u64, tokens: &[Token]) -> Result<u64, Fault>
+pub fn balign(symbols: &Symbols, place: u64, tokens: &[Token]) -> Result<u64, Fault>
     ensures value { result ≡ balign_at (names_of symbols.now) place (lexemes_of tokens.now) }
     ensures few { IfOk result (λ zeros. zeros < 2 ^ 24) }
 {
@@ -213,7 +217,7 @@ pub fn balign(symbols: &[Symbol], place: u64, tokens: &[Token]) -> Result<u64, F
 
 /// How many zeros a line of `.space` places.
 #[tactic(auto, unfolding(crate::specs::Statements::space_at))]
-pub fn space(symbols: &[Symbol], tokens: &[Token]) -> Result<u64, Fault>
+pub fn space(symbols: &Symbols, tokens: &[Token]) -> Result<u64, Fault>
     ensures value { result ≡ space_at (names_of symbols.now) (lexemes_of tokens.now) }
     ensures few { IfOk result (λ zeros. zeros ≤ 2 ^ 24) }
 {
@@ -238,7 +242,7 @@ fn advance_string(place: u64, more: u64, tokens: &[Token]) -> Result<u64, Fault>
 
 /// The place behind a statement of a kind.
 fn place_after(
-    symbols: &[Symbol],
+    symbols: &Symbols,
     place: u64,
     keyword: Keyword,
     tokens: &[Token],
@@ -261,7 +265,7 @@ fn place_after(
 }
 
 /// How many bytes the words of a line have.
-fn size(symbols: &[Symbol], code: Code, tokens: &[Token]) -> Result<u64, Fault>
+fn size(symbols: &Symbols, code: Code, tokens: &[Token]) -> Result<u64, Fault>
     ensures { result ≡ size_of (names_of symbols.now) code (lexemes_of tokens.now) }
 {
     match code {
@@ -276,7 +280,7 @@ fn size(symbols: &[Symbol], code: Code, tokens: &[Token]) -> Result<u64, Fault>
 
 /// The place of the line behind one whose statement this is. The values of symbols are those of
 /// earlier lines.
-pub fn next_place(symbols: &[Symbol], place: u64, tokens: &[Token]) -> Result<u64, Fault>
+pub fn next_place(symbols: &Symbols, place: u64, tokens: &[Token]) -> Result<u64, Fault>
     requires { place ≤ 2 ^ 32 }
     ensures value { result ≡ next_place (names_of symbols.now) place (lexemes_of tokens.now) }
     ensures below { IfOk result (λ after. after ≤ 2 ^ 32) }
@@ -284,12 +288,12 @@ pub fn next_place(symbols: &[Symbol], place: u64, tokens: &[Token]) -> Result<u6
     if tokens.is_empty() {
         return Ok(place);
     }
-    let (keyword, operands) = split_keyword(tokens)?;
+    let (keyword, operands) = statement(tokens)?;
     place_after(symbols, place, keyword, operands)
 }
 
 /// What a line of `.equ` defines.
-fn equ<'a>(symbols: &[Symbol], tokens: &[Token<'a>]) -> Result<Option<Symbol<'a>>, Fault>
+fn equ<'a>(symbols: &Symbols, tokens: &[Token<'a>]) -> Result<Option<Symbol<'a>>, Fault>
     ensures { seen_definition result
         ≡ equ_of (names_of symbols.now) Keyword.Equ (lexemes_of tokens.now) }
 {
@@ -301,13 +305,13 @@ fn equ<'a>(symbols: &[Symbol], tokens: &[Token<'a>]) -> Result<Option<Symbol<'a>
 
 /// What a statement defines: the name of an `.equ`, with the value that its expression has by the
 /// symbols of earlier lines.
-pub fn definition<'a>(symbols: &[Symbol], tokens: &[Token<'a>]) -> Result<Option<Symbol<'a>>, Fault>
+pub fn definition<'a>(symbols: &Symbols, tokens: &[Token<'a>]) -> Result<Option<Symbol<'a>>, Fault>
     ensures { seen_definition result ≡ equ_at (names_of symbols.now) (lexemes_of tokens.now) }
 {
     if tokens.is_empty() {
         return Ok(None);
     }
-    let (keyword, operands) = split_keyword(tokens)?;
+    let (keyword, operands) = statement(tokens)?;
     match keyword {
         Keyword::Equ => equ(symbols, operands),
         _ => Ok(None),

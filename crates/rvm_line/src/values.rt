@@ -3,17 +3,18 @@
 ghost use Rattle.std.specs.Prelude.{◌≡◌, ◌<◌, ◌≤◌, ◌*◌, ◌^◌, IfSome, Ok, length};
 ghost use Rattle.rvm_text.specs.Numbers.{number_of};
 ghost use Rattle.rvm_text.specs.Tokens.{lexemes_of};
+ghost use Rattle.rvm_line.specs.Grammar.{any_names, behind_value};
 ghost use Rattle.rvm_line.specs.Reading.{known};
 ghost use Rattle.rvm_line.specs.Values.{negative_at, number_at, sum_at, simple_at, high, low};
 ghost use Rattle.rvm_line.specs.Values.{Names, half_of, half_named, half_at, in_half, in_halves};
 ghost use Rattle.rvm_line.specs.Values.{value_at, last_value};
 ghost use Rattle.rvm_line.specs.Values.{value_comma, fits_signed};
-ghost use Rattle.rvm_line.specs.Views.{names_of, seen, seen_half};
+ghost use Rattle.rvm_line.specs.Views.{names_of, seen, seen_half, seen_rest};
 
 use crate::faults::Fault;
 use crate::reading::{end, mark, next};
-use crate::symbols::{Symbol, lookup};
-use rvm_text::{Lexeme, Token, is_name, number};
+use crate::symbols::{Symbols, lookup};
+use rvm_text::{Token, is_name, number};
 
 /// A half of a value that an instruction can hold.
 #[derive(Clone, Copy)]
@@ -68,7 +69,7 @@ pub fn fits_signed(bits: u32, value: u32) -> bool
 /// An expression.
 #[tactic(auto, using(crate::proofs::Expressions::fault_in_halves))]
 pub fn value<'t, 'a>(
-    symbols: &[Symbol],
+    symbols: &Symbols,
     tokens: &'t [Token<'a>],
 ) -> Result<(u32, &'t [Token<'a>]), Fault>
     ensures { seen result ≡ value_at (names_of symbols.now) (lexemes_of tokens.now) }
@@ -134,9 +135,9 @@ fn half_begun<'t, 'a>(tokens: &'t [Token<'a>]) -> Option<(Half, &'t [Token<'a>])
     ensures half { seen_half result ≡ half_at (lexemes_of tokens.now) }
     ensures shorter { IfSome result (λ x. length x.1.now < length tokens.now) }
 {
-    if let Some((Lexeme::Mark(b'%'), rest)) = next(tokens)
-        && let Some((Lexeme::Word(name), rest)) = next(rest)
-        && let Some((Lexeme::Mark(b'('), rest)) = next(rest)
+    if let Some((Token::Mark(b'%'), rest)) = next(tokens)
+        && let Some((Token::Word(name), rest)) = next(rest)
+        && let Some((Token::Mark(b'('), rest)) = next(rest)
     {
         return Some((half_named(name)?, rest));
     }
@@ -153,15 +154,42 @@ fn half_named(word: &[u8]) -> Option<Half>
     }
 }
 
+/// The tokens behind an expression.
+#[tactic(auto, using(crate::proofs::Expressions::fault_in_halves))]
+pub fn expression<'t, 'a>(tokens: &'t [Token<'a>]) -> Result<&'t [Token<'a>], Fault>
+    ensures { seen_rest result ≡ behind_value (lexemes_of tokens.now) }
+{
+    let (depth, inner) = opened(tokens);
+    let (whole, rest) = simple_of_any_names(inner)?;
+    let (_, rest) = closed(tokens, depth, whole, rest)?;
+    Ok(rest)
+}
+
+/// The same as `simple` where each name has a value.
+fn simple_of_any_names<'t, 'a>(tokens: &'t [Token<'a>]) -> Result<(u32, &'t [Token<'a>]), Fault>
+    ensures { seen result ≡ simple_at any_names (lexemes_of tokens.now) }
+{
+    match next(tokens) {
+        Some((Token::Word(word), rest)) => {
+            if is_name(word) {
+                sum(0, rest)
+            } else {
+                signed_number(tokens)
+            }
+        }
+        _ => signed_number(tokens),
+    }
+}
+
 /// A number, or a name and what is added to it or taken from it.
 fn simple<'t, 'a>(
-    symbols: &[Symbol],
+    symbols: &Symbols,
     tokens: &'t [Token<'a>],
 ) -> Result<(u32, &'t [Token<'a>]), Fault>
     ensures { seen result ≡ simple_at (names_of symbols.now) (lexemes_of tokens.now) }
 {
     match next(tokens) {
-        Some((Lexeme::Word(word), rest)) => {
+        Some((Token::Word(word), rest)) => {
             if !is_name(word) {
                 return signed_number(tokens);
             }
@@ -179,11 +207,11 @@ fn sum<'t, 'a>(value: u32, tokens: &'t [Token<'a>]) -> Result<(u32, &'t [Token<'
     ensures { seen result ≡ sum_at value (lexemes_of tokens.now) }
 {
     match next(tokens) {
-        Some((Lexeme::Mark(b'+'), rest)) => {
+        Some((Token::Mark(b'+'), rest)) => {
             let (number, rest) = signed_number(rest)?;
             Ok((value.wrapping_add(number), rest))
         }
-        Some((Lexeme::Mark(b'-'), rest)) => {
+        Some((Token::Mark(b'-'), rest)) => {
             let (number, rest) = signed_number(rest)?;
             Ok((value.wrapping_sub(number), rest))
         }
@@ -196,8 +224,8 @@ pub fn signed_number<'t, 'a>(tokens: &'t [Token<'a>]) -> Result<(u32, &'t [Token
     ensures { seen result ≡ number_at (lexemes_of tokens.now) }
 {
     match next(tokens) {
-        Some((Lexeme::Word(word), rest)) => Ok((unsigned_number(word)?, rest)),
-        Some((Lexeme::Mark(b'-'), rest)) => negative(rest),
+        Some((Token::Word(word), rest)) => Ok((unsigned_number(word)?, rest)),
+        Some((Token::Mark(b'-'), rest)) => negative(rest),
         _ => Err(Fault::BadToken),
     }
 }
@@ -207,7 +235,7 @@ fn negative<'t, 'a>(tokens: &'t [Token<'a>]) -> Result<(u32, &'t [Token<'a>]), F
     ensures { seen result ≡ negative_at (lexemes_of tokens.now) }
 {
     match next(tokens) {
-        Some((Lexeme::Word(word), rest)) => {
+        Some((Token::Word(word), rest)) => {
             let number = unsigned_number(word)?;
             if number <= 1 << 31 {
                 Ok((number.wrapping_neg(), rest))
@@ -230,7 +258,7 @@ fn unsigned_number(word: &[u8]) -> Result<u32, Fault>
 
 /// An expression, and nothing behind it.
 #[tactic(auto, unfolding(crate::specs::Values::last_value))]
-pub fn last_value(symbols: &[Symbol], tokens: &[Token]) -> Result<u32, Fault>
+pub fn last_value(symbols: &Symbols, tokens: &[Token]) -> Result<u32, Fault>
     ensures { result ≡ last_value (names_of symbols.now) (lexemes_of tokens.now) }
 {
     let (value, rest) = value(symbols, tokens)?;

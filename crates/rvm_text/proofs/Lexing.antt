@@ -2,13 +2,12 @@
 use Rattle.std.proofs.Common.{◌≡◌, ℕ, ◌+◌, ◌-◌, ◌<◌, ◌≤◌, List, [], ◌∷◌, ◌++◌, length, get_or, take, drop, refl, ap, sym, ◌∙◌, arith, Option, Some, None, true, false, cond, length-drop, get_or-drop, append_assoc}
 use Rattle.std.specs.Prelude.{slice_range, option_map, eqb, nat_lt}
 use Rattle.std.proofs.lemmas.List.{take_more, drop_more, drop_all, map_push, append-nil}
-use Rattle.std.proofs.lemmas.List.Elements.{All-push}
 use Rattle.rvm_text.specs.declared.token.Token.{Token}
 use Rattle.rvm_text.specs.declared.token.Mode.{Mode}
 use Rattle.rvm_text.specs.declared.token.Mode.TheVariants as mode
 use Rattle.rvm_text.specs.Lexemes as g
 use Rattle.rvm_text.specs.Bytes.{is_word, is_escape}
-use Rattle.rvm_text.specs.Tokens.{lexeme_of, lexemes_of, mode_of, IsSlice, IsBegun, Moves, behind, Adds}
+use Rattle.rvm_text.specs.Tokens.{lexeme_of, lexemes_of, mode_of, IsBegun, Moves, behind, Adds}
 
 -- one byte more
 pub range_more : (xs : List ℕ) (i j : ℕ) → i ≤ j → j < length xs → slice_range xs i (j + 1) ≡ slice_range xs i j ++ (get_or xs j 0 ∷ [])
@@ -28,28 +27,26 @@ pub range_one : (xs : List ℕ) (i : ℕ) → i < length xs → slice_range xs i
 range_one xs i inside = range_more xs i i (omega arith) inside ∙ ap (λ l. l ++ (get_or xs i 0 ∷ [])) (range_none xs i)
 
 -- a token joins
-pub lexes_push : (ts : List Token) (t : Token) → lexemes_of (ts ++ t ∷ []) ≡ lexemes_of ts ++ lexeme_of t.lexeme ∷ []
-lexes_push ts t = map_push (λ (u : Token). lexeme_of u.lexeme) ts t
+pub lexes_push : (ts : List Token) (t : Token) → lexemes_of (ts ++ t ∷ []) ≡ lexemes_of ts ++ lexeme_of t ∷ []
+lexes_push ts t = map_push lexeme_of ts t
 
 -- a step that makes no token
 pub stays : (line : List ℕ) (at : ℕ) (step : Option (List g.Lexeme × g.Mode)) (ts : List Token) (m : Mode) → step ≡ Some ([], mode_of line (at + 1) m) → IsBegun (at + 1) m → Moves line at step ts ts m
 stays line at step ts m e begun = record {
   lexemes = ap (option_map (behind ts)) e ∙ ap (λ l. Some (l, mode_of line (at + 1) m)) (append-nil (lexemes_of ts));
-  slices = λ h. h;
   begun = begun;
 }
 
 -- a step that makes one
-pub joins : (line : List ℕ) (at : ℕ) (step : Option (List g.Lexeme × g.Mode)) (old new : List Token) (t : Token) (m : Mode) → new ≡ old ++ t ∷ [] → step ≡ Some (lexeme_of t.lexeme ∷ [], mode_of line (at + 1) m) → IsSlice line t → IsBegun (at + 1) m → Moves line at step old new m
-joins line at step old new t m is e slice begun = record {
+pub joins : (line : List ℕ) (at : ℕ) (step : Option (List g.Lexeme × g.Mode)) (old new : List Token) (t : Token) (m : Mode) → new ≡ old ++ t ∷ [] → step ≡ Some (lexeme_of t ∷ [], mode_of line (at + 1) m) → IsBegun (at + 1) m → Moves line at step old new m
+joins line at step old new t m is e begun = record {
   lexemes = ap (option_map (behind old)) e ∙ ap (λ l. Some (l, mode_of line (at + 1) m)) (sym (lexes_push old t) ∙ ap lexemes_of (sym is));
-  slices = λ h. rw is (All-push (IsSlice line) old t h slice);
   begun = begun;
 }
 
 -- a token joins
-pub adds : (line : List ℕ) (old new : List Token) (t : Token) → new ≡ old ++ t ∷ [] → IsSlice line t → Adds line (lexeme_of t.lexeme) old new
-adds line old new t is slice = record { lexemes = ap lexemes_of is ∙ lexes_push old t; slices = λ h. rw is (All-push (IsSlice line) old t h slice) }
+pub adds : (old new : List Token) (t : Token) → new ≡ old ++ t ∷ [] → Adds (lexeme_of t) old new
+adds old new t is = ap lexemes_of is ∙ lexes_push old t
 
 pub ruleset steps = (range_more, range_none, range_one, lexes_push, stays, joins, adds)
 
@@ -61,10 +58,9 @@ after_ended : (w : List ℕ) (b : ℕ) → is_word b ≡ false → g.after (g.In
 after_ended w b e = ap (λ t. cond t (Some ([], g.InWord (w ++ b ∷ []))) (option_map (λ a. (g.Word w ∷ a.0, a.1)) (g.open_at b))) e
 
 -- a byte that ends a word
-pub word_ends : (line : List ℕ) (at : ℕ) (w : List ℕ) (b : ℕ) (old mid new : List Token) (m : Mode) → is_word b ≡ false → Adds line (g.Word w) old mid → Moves line at (g.open_at b) mid new m → Moves line at (g.after (g.InWord w) b) old new m
+pub word_ends : (line : List ℕ) (at : ℕ) (w : List ℕ) (b : ℕ) (old mid new : List Token) (m : Mode) → is_word b ≡ false → Adds (g.Word w) old mid → Moves line at (g.open_at b) mid new m → Moves line at (g.after (g.InWord w) b) old new m
 word_ends line at w b old mid new m ended added moves = record {
-  lexemes = ap (option_map (behind old)) (after_ended w b ended) ∙ ends_eq old mid (g.Word w) added.lexemes (g.open_at b) ∙ moves.lexemes;
-  slices = λ h. moves.slices (added.slices h);
+  lexemes = ap (option_map (behind old)) (after_ended w b ended) ∙ ends_eq old mid (g.Word w) added (g.open_at b) ∙ moves.lexemes;
   begun = moves.begun;
 }
 

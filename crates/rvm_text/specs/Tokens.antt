@@ -1,8 +1,7 @@
 -- What the code's tokens stand for.
-use Rattle.std.specs.Prelude.{◌≡◌, ℕ, ◌+◌, ◌≤◌, Bool, not, List, [], ◌∷◌, ◌++◌, slice_range, map, Option, Some, option_map, All}
-use Rattle.rvm_text.specs.declared.token.Lexeme.{Lexeme}
-use Rattle.rvm_text.specs.declared.token.Lexeme.TheVariants as lexeme
+use Rattle.std.specs.Prelude.{◌≡◌, ℕ, ◌+◌, ◌≤◌, Bool, not, List, [], ◌∷◌, ◌++◌, slice_range, map, Option, Some, option_map}
 use Rattle.rvm_text.specs.declared.token.Token.{Token}
+use Rattle.rvm_text.specs.declared.token.Token.TheVariants as token
 use Rattle.rvm_text.specs.declared.token.TextError.{TextError}
 use Rattle.rvm_text.specs.declared.token.TextError.TheVariants as error
 use Rattle.rvm_text.specs.declared.token.Mode.{Mode}
@@ -11,25 +10,15 @@ use Rattle.rvm_text.specs.Bytes.{is_digit}
 use Rattle.rvm_text.specs.Lexemes as grammar
 use Rattle.std.specs.Prelude.{None, false}
 
--- a lexeme without where it lies in memory
-abbrev pub lexeme_of : Lexeme → grammar.Lexeme
-lexeme_of (lexeme.Word bytes) = grammar.Word bytes.now
-lexeme_of (lexeme.Mark b) = grammar.Mark b
-lexeme_of (lexeme.Quoted bytes) = grammar.Quoted bytes.now
+-- the lexeme of a token, without where it lies in memory
+abbrev pub lexeme_of : Token → grammar.Lexeme
+lexeme_of (token.Word bytes) = grammar.Word bytes.now
+lexeme_of (token.Mark b) = grammar.Mark b
+lexeme_of (token.Quoted bytes) = grammar.Quoted bytes.now
 
 -- the lexemes of tokens
 abbrev pub lexemes_of : List Token → List grammar.Lexeme
-lexemes_of ts = map (λ t. lexeme_of t.lexeme) ts
-
--- the bytes of a lexeme
-abbrev pub bytes_of : Lexeme → List ℕ
-bytes_of (lexeme.Word bytes) = bytes.now
-bytes_of (lexeme.Mark b) = b ∷ []
-bytes_of (lexeme.Quoted bytes) = bytes.now
-
--- a token's bytes are those of the line in its span
-abbrev pub IsSlice : List ℕ → Token → Type 0
-IsSlice line t = bytes_of t.lexeme ≡ slice_range line t.from t.to
+lexemes_of ts = map lexeme_of ts
 
 -- why a line has no tokens: it is not in the grammar, or memory ran out
 abbrev pub IsTextError : ℕ → List ℕ → TextError → Type 0
@@ -66,10 +55,8 @@ behind ts a = (lexemes_of ts ++ a.0, a.1)
 -- the byte at a place ends these lexemes, which join the tokens, and leads to this mode
 pub record Moves (line : List ℕ) (at : ℕ) (step : Option (List grammar.Lexeme × grammar.Mode)) (old new : List Token) (m : Mode) : Type 0 where
   pub lexemes : option_map (behind old) step ≡ Some (lexemes_of new, mode_of line (at + 1) m)
-  pub slices : All (IsSlice line) old → All (IsSlice line) new
   pub begun : IsBegun (at + 1) m
 
 -- a lexeme joins the tokens
-pub record Adds (line : List ℕ) (x : grammar.Lexeme) (old new : List Token) : Type 0 where
-  pub lexemes : lexemes_of new ≡ lexemes_of old ++ x ∷ []
-  pub slices : All (IsSlice line) old → All (IsSlice line) new
+abbrev pub Adds : grammar.Lexeme → (old new : List Token) → Type 0
+Adds x old new = lexemes_of new ≡ lexemes_of old ++ x ∷ []

@@ -13,4 +13,4 @@ mod token;
 pub use numbers::{digit_value, number};
 pub use registers::{register, register_name};
 pub use strings::{text_length, unescape};
-pub use token::{Lexeme, TextError, Token, is_name, tokens};
+pub use token::{TextError, Token, is_name, tokens};

@@ -1,29 +1,21 @@
 //! From a line's bytes to its tokens, a byte at a time.
 
-ghost use Rattle.std.specs.Prelude.{◌≡◌, ◌+◌, ◌<◌, ◌≤◌, ◌++◌, length, Some, None, All, IfOk, IfErr, option_map, slice_range, slice_index, OnOk, IsErrOf};
+ghost use Rattle.std.specs.Prelude.{◌≡◌, ◌+◌, ◌<◌, ◌≤◌, ◌++◌, length, Some, None, IfOk, IfErr, option_map, slice_range, slice_index, OnOk, IsErrOf};
 ghost use Rattle.rvm_text.specs.Bytes.{is_word, is_space, is_mark, is_escape};
 ghost use Rattle.rvm_text.specs.Lexemes.{lexemes, after, open_at, at_end, Word};
-ghost use Rattle.rvm_text.specs.Tokens.{lexeme_of, lexemes_of, is_name, mode_of, IsSlice, IsTextError, IsBegun, Moves, Adds};
+ghost use Rattle.rvm_text.specs.Tokens.{lexeme_of, lexemes_of, is_name, mode_of, IsTextError, IsBegun, Moves, Adds};
 
 use std::alloc::{AllocError, AllocFailed, Global};
 
-/// What a token is, with its bytes.
+/// A part of a line, with its bytes.
 #[derive(Clone, Copy)]
-pub enum Lexeme<'a> {
+pub enum Token<'a> {
     /// A name or a number, as it is written.
     Word(&'a [u8]),
     /// One of `, : ( ) + - %`.
     Mark(u8),
     /// A string, as it is written between its quotes.
     Quoted(&'a [u8]),
-}
-
-/// A token and its span: the places of its first byte in the line and of the one behind its last.
-#[derive(Clone, Copy)]
-pub struct Token<'a> {
-    pub lexeme: Lexeme<'a>,
-    pub from: usize,
-    pub to: usize,
 }
 
 /// Why a line has no tokens.
@@ -74,12 +66,11 @@ impl<T: Drop> From<AllocFailed<T>> for Refused {
     }
 }
 
-/// The tokens of a line, which has this number among the lines: each is a part of the line, in its
-/// order, and blanks and the comment are in none. Fails with the number where the line is not in
+/// The tokens of a line, which has this number among the lines, in their order: blanks and the
+/// comment are in none. Fails with the number where the line is not in
 /// the grammar.
 pub fn tokens<'a>(alloc: Global, number: usize, line: &'a [u8]) -> Result<Vec<Token<'a>>, TextError>
     ensures found { IfOk result (λ v. lexemes line.now ≡ Some (lexemes_of v.items)) }
-    ensures slices { IfOk result (λ v. All (IsSlice line.now) v.items) }
     ensures refused { IfErr result (λ e. IsTextError number line.now e) }
 {
     match read(alloc, line) {
@@ -93,7 +84,6 @@ pub fn tokens<'a>(alloc: Global, number: usize, line: &'a [u8]) -> Result<Vec<To
 #[tactic(auto, unfolding(crate::specs::Lexemes::lexemes))]
 fn read<'a>(alloc: Global, line: &'a [u8]) -> Result<Vec<Token<'a>>, Refused>
     ensures found { IfOk result (λ v. lexemes line.now ≡ Some (lexemes_of v.items)) }
-    ensures slices { IfOk result (λ v. All (IsSlice line.now) v.items) }
     ensures bad { IsErrOf result Refused.BadToken → lexemes line.now ≡ None }
 {
     let mut out = Vec::new(alloc);
@@ -152,11 +142,7 @@ fn open<'a>(out: &mut Vec<Token<'a>>, bytes: &[u8], at: usize) -> Result<Mode, R
     } else if is_space(b) {
         Ok(Mode::Between)
     } else if is_mark(b) {
-        out.push(Token {
-            lexeme: Lexeme::Mark(b),
-            from: at,
-            to: at + 1,
-        })?;
+        out.push(Token::Mark(b))?;
         Ok(Mode::Between)
     } else if b == b'"' {
         Ok(Mode::Quoted(at + 1))
@@ -177,13 +163,9 @@ fn push_word<'a>(
 ) -> Result<(), AllocError>
     requires order { from ≤ to }
     requires inside { to ≤ length bytes.now }
-    ensures { OnOk result (Adds bytes.now (Word (slice_range bytes.now from to)) out.old.items out.new.items) }
+    ensures { OnOk result (Adds (Word (slice_range bytes.now from to)) out.old.items out.new.items) }
 {
-    out.push(Token {
-        lexeme: Lexeme::Word(&bytes[from..to]),
-        from,
-        to,
-    })?;
+    out.push(Token::Word(&bytes[from..to]))?;
     Ok(())
 }
 
@@ -212,11 +194,7 @@ fn step<'a>(
         }
         Mode::Quoted(from) => {
             if b == b'"' {
-                out.push(Token {
-                    lexeme: Lexeme::Quoted(&bytes[from..at]),
-                    from,
-                    to: at,
-                })?;
+                out.push(Token::Quoted(&bytes[from..at]))?;
                 Ok(Mode::Between)
             } else if b == b'\\' {
                 Ok(Mode::Escaped(from))
@@ -248,7 +226,6 @@ fn step<'a>(
 fn close<'a>(out: &mut Vec<Token<'a>>, line: &'a [u8], mode: Mode) -> Result<(), Refused>
     requires { IsBegun (length line.now) mode }
     ensures ok { OnOk result (option_map (λ ts. lexemes_of out.old.items ++ ts) (at_end (mode_of line.now (length line.now) mode)) ≡ Some (lexemes_of out.new.items)) }
-    ensures slices { OnOk result (All (IsSlice line.now) out.old.items → All (IsSlice line.now) out.new.items) }
     ensures bad { IsErrOf result Refused.BadToken → at_end (mode_of line.now (length line.now) mode) ≡ None }
 {
     match mode {

@@ -132,6 +132,16 @@ fn faults_stand_at_their_line(rt: HostRuntime) {
         (".word 1\n.org 0x80000000\n.byte 0", Fault::Overlap),
         ("here: nop\n\naddi a0, a0", Fault::BadToken),
         ("here: nop\n\n.ascii \"a", Fault::BadToken),
+        // A line that is not in the grammar is told so, whatever its names and values, and where
+        // it stands.
+        ("here: nop\n\njalr a0, here, 4", Fault::BadToken),
+        ("here: nop\n\njalr a0, a1, 4", Fault::BadToken),
+        ("here: nop\n\nlw a0, 5000(q1)", Fault::BadToken),
+        ("here: nop\n\n.word nosuch 5", Fault::BadToken),
+        ("here: nop\n\n.byte 300, x y", Fault::BadToken),
+        ("here: nop\n\ncsrrw a0, 5000, q1", Fault::BadToken),
+        ("here: nop\n\nhere: addi a0, a0", Fault::BadToken),
+        ("here: nop\n.byte 1\nlw a0, 4", Fault::BadToken),
         ("here: nop\n.org 0xFFFFFFFF\n.half 0", Fault::OutOfReach),
         (
             "here: nop\n\n.equ late, later\n.equ later, 1",

@@ -1,16 +1,14 @@
-use Rattle.std.proofs.Common.{◌∙◌, ap}
 use Rattle.rvm_line.specs.Views.{names_of}
-use Rattle.rvm_asm.specs.Assembly.{entry_of}
 use Rattle.rvm_image.specs.Images.{pieces_of}
-use Rattle.rvm_asm.specs.Views.{lines_of}
+use Rattle.rvm_asm.specs.Views.{lines_of, texts_of}
 use Rattle.rvm_asm.proofs.Bytes.{image_same}
 use Rattle.rvm_asm.proofs.assembler.assemble_lines.Goals as goal
 
 pub returns-clause-image : goal.returns-clause-image
 returns-clause-image c = (
-  names_of c.in_ok-layout.layout.symbols.items,
+  names_of c.in_ok-layout.layout.symbols,
   c.in_ok-layout.layout.places.items,
   c.in_ok-layout.ensures.laid,
-  image_same (lines_of c.args.lines.now) (names_of c.in_ok-layout.layout.symbols.items) c.in_ok-layout.layout.places.items (pieces_of c.in_ok-placed.placed.items) (pieces_of c.in_ok-segments.segments.items) (rw (c.deref.ensures.value, c.deref-2.ensures.value) at c.in_ok-placed.ensures.placed) c.in_ok-segments.ensures.same,
-  c.entry-entry.ensures ∙ ap (λ l. entry_of (names_of l)) c.deref-3.ensures.value,
+  image_same (lines_of (texts_of c.args.texts.now)) (names_of c.in_ok-layout.layout.symbols) c.in_ok-layout.layout.places.items (pieces_of c.in_ok-placed.placed.items) (pieces_of c.in_ok-segments.segments.items) (rw c.deref.ensures.value at c.in_ok-placed.ensures.placed) c.in_ok-segments.ensures.same,
+  c.entry-entry.ensures,
 )

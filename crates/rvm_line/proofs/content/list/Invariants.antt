@@ -1,6 +1,7 @@
 use Rattle.std.proofs.Common.{◌≡◌}
 use Rattle.rvm_text.specs.Tokens.{lexemes_of}
-use Rattle.rvm_line.specs.Contents.{parts, list_bytes}
+use Rattle.rvm_line.specs.Contents.{list_bytes}
+use Rattle.rvm_line.specs.Reading.{parts}
 use Rattle.rvm_line.specs.Views.{names_of, seen_parts, tokens_left}
 use Rattle.rvm_line.proofs.Parts.{before}
 use Rattle.rvm_line.proofs.content.list.Given as goal

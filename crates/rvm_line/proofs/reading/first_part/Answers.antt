@@ -1,6 +1,6 @@
 use Rattle.std.proofs.Common.{sym, ◌∙◌}
 use Rattle.rvm_line.proofs.Parts.{token_more, comma_at}
-use Rattle.rvm_line.proofs.content.first_part.Goals as goal
+use Rattle.rvm_line.proofs.reading.first_part.Goals as goal
 
 pub loop-at-preserved : goal.loop-at-preserved
 loop-at-preserved c =
