@@ -1,0 +1,49 @@
+-- What arguments are, by the values that `clap` found for the options of a command.
+use Rattle.std.specs.Prelude.{◌≡◌, ℕ, Bool, true, false, Option, Some, None, option_map, codes}
+use Rattle.std.specs.Str.Parse.{digits_value, without_leading_plus}
+use Rattle.clap.specs.Walk.{Row, Text, first_of, one_of}
+use Rattle.std.specs.Prelude.{List}
+use Rattle.rvm_arguments.specs.declared.arguments.Arguments.{Arguments}
+use Rattle.rvm_arguments.specs.declared.arguments.Arguments.TheVariants.{Run, Asm, Dis, Debug}
+use Rattle.rvm_arguments.specs.declared.arguments.GuestArguments.{GuestArguments}
+use Rattle.rvm_arguments.specs.declared.arguments.RunArguments.{RunArguments}
+
+-- a text was given, and it writes this number in decimal
+abbrev pub IsNumber : Option Text → ℕ → Type 0
+IsNumber None n = ⊥
+IsNumber (Some text) n = digits_value 10 (without_leading_plus text) ≡ n
+
+-- whether a flag was given
+abbrev pub IsFlag : Option Text → Bool → Type 0
+IsFlag None given = given ≡ false
+IsFlag (Some text) given =
+    (text ≡ codes "true" → given ≡ true) × (text ≡ codes "false" → given ≡ false)
+
+-- a guest's file, form, harts and pages
+pub record IsGuest (rows : List Row) (guest : GuestArguments) : Type 0 where
+  pub image : first_of (codes "image") rows ≡ Some guest.image.now
+  pub raw : IsFlag (one_of (codes "raw") rows) guest.raw
+  pub harts : IsNumber (first_of (codes "harts") rows) guest.harts
+  pub pages : IsNumber (first_of (codes "pages") rows) guest.pages
+
+-- a guest, its input and its turns
+pub record IsRun (rows : List Row) (run : RunArguments) : Type 0 where
+  pub guest : IsGuest rows run.guest
+  pub input : first_of (codes "input") rows ≡ option_map (λ s. s.now) run.input
+  pub steps : IsNumber (first_of (codes "steps") rows) run.steps
+
+-- what the words of a command with this name ask for
+abbrev pub Gives : Text → List Row → Arguments → Type 0
+Gives name rows (Run run) = (name ≡ codes "run") × IsRun rows run
+Gives name rows (Debug guest) = (name ≡ codes "debug") × IsGuest rows guest
+Gives name rows (Asm asm) =
+    (name ≡ codes "asm") × (first_of (codes "source") rows ≡ Some asm.source.now)
+    × (first_of (codes "output") rows ≡ Some asm.output.now)
+Gives name rows (Dis dis) =
+    (name ≡ codes "dis") × (first_of (codes "image") rows ≡ Some dis.image.now)
+    × IsFlag (one_of (codes "raw") rows) dis.raw
+
+-- what the command that was named asks for
+abbrev pub IsAsked : Option (Text × List Row) → Arguments → Type 0
+IsAsked None arguments = ⊥
+IsAsked (Some command) arguments = Gives command.0 command.1 arguments

@@ -1,0 +1,58 @@
+-- The words that the program takes, as `clap` reads them.
+use Rattle.std.specs.Prelude.{ℕ, true, [], ◌∷◌, Some, pos, codes}
+use Rattle.clap.specs.Simple.{App, new_app, new_rule, on_top, with_rule, with_subcommand}
+use Rattle.clap.specs.Walk.{Rule, Text}
+use Rattle.clap.specs.declared.builder.action.ArgAction.TheVariants.{SetTrue}
+use Rattle.clap.specs.declared.builder.value_parser.ValueParser.TheVariants as parser
+
+-- a word that must be there
+abbrev pub needed : Text → Rule
+needed id = record (new_rule id) { value_names = 1; required = true }
+
+-- a flag
+abbrev pub flag : Text → Rule
+flag name = record (new_rule name) { long = Some name; action = Some SetTrue }
+
+-- an option with a text
+abbrev pub option : Text → Rule
+option name = record (new_rule name) { long = Some name; value_names = 1 }
+
+-- an option with a number from 1 to a limit
+abbrev pub number : Text → (default : Text) → (most : ℕ) → Rule
+number name default most =
+    record (option name) { defaults = default ∷ []; parser = Some (parser.Signed (pos 1) (pos most)) }
+
+-- a command that takes the words of a guest
+abbrev pub with_guest : App → App
+with_guest command =
+    with_rule
+    (with_rule (with_rule (with_rule command (needed (codes "image"))) (flag (codes "raw")))
+    (number (codes "harts") (codes "1") 8))
+    (number (codes "pages") (codes "256") 4096)
+
+-- the commands
+abbrev pub run : App
+run =
+    with_rule
+    (with_rule (with_guest (new_app (codes "run"))) (number (codes "steps") (codes "1000000") 1000000000))
+    (option (codes "input"))
+
+abbrev pub asm : App
+asm = with_rule (with_rule (new_app (codes "asm")) (needed (codes "source"))) (needed (codes "output"))
+
+abbrev pub dis : App
+dis = with_guest (new_app (codes "dis"))
+
+abbrev pub debug : App
+debug = with_guest (new_app (codes "debug"))
+
+-- the program, which wants a command
+abbrev pub top : App
+top =
+    on_top (λ s. record s { has_version = true; arg_required_else_help = true; subcommand_required = true })
+    (new_app (codes "rvmove"))
+
+abbrev pub program : App
+program =
+    with_subcommand (with_subcommand (with_subcommand (with_subcommand top run.top) asm.top) dis.top)
+    debug.top

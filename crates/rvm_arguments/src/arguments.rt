@@ -1,0 +1,58 @@
+//! What a command line asks for.
+
+ghost use Rattle.std.specs.Prelude.{◌≡◌, ◌≤◌, false};
+ghost use Rattle.std.specs.Str.{bytes_eq};
+
+/// What the command line asks for.
+#[derive(Debug, Drop)]
+pub enum Arguments<'a> {
+    Run(RunArguments<'a>),
+    Asm(AsmArguments<'a>),
+    Dis(DisArguments<'a>),
+    Debug(GuestArguments<'a>),
+}
+
+/// A guest: the file of its image, and its board. Each number is within its limits.
+#[derive(Debug, Drop)]
+pub struct GuestArguments<'a> {
+    /// The file of the image.
+    pub image: &'a str,
+    /// Whether it is plain bytes, which are placed at 0x80000000, and not an ELF file.
+    pub raw: bool,
+    /// 1 to 8 harts.
+    pub harts: u32,
+    /// 1 to 4096 pages of 4096 bytes.
+    pub pages: u32,
+    ghost harts_allowed: { (1 ≤ harts) × (harts ≤ 8) },
+    ghost pages_allowed: { (1 ≤ pages) × (pages ≤ 4096) },
+}
+
+/// The arguments of `rvmove run`.
+#[derive(Debug, Drop)]
+pub struct RunArguments<'a> {
+    pub guest: GuestArguments<'a>,
+    /// The file whose bytes come to the console, if any.
+    pub input: Option<&'a str>,
+    /// 1 to 1000000000 turns.
+    pub steps: u32,
+    ghost steps_allowed: { (1 ≤ steps) × (steps ≤ 1000000000) },
+}
+
+/// The arguments of `rvmove asm`.
+#[derive(Debug, Drop)]
+pub struct AsmArguments<'a> {
+    /// The file of the text.
+    pub source: &'a str,
+    /// The file that is written, which is not that of the text.
+    pub output: &'a str,
+    ghost different: { bytes_eq source.now output.now ≡ false },
+}
+
+/// The arguments of `rvmove dis`.
+#[derive(Debug, Drop)]
+pub struct DisArguments<'a> {
+    /// The file of the image.
+    pub image: &'a str,
+    /// Whether it is plain bytes, which stand at 0x80000000, and not an ELF file.
+    pub raw: bool,
+}

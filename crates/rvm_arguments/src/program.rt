@@ -1,0 +1,225 @@
+//! The words that the program takes, as `clap` is told of them.
+
+ghost use Rattle.std.specs.Prelude.{◌≡◌, false, codes, IfOk};
+ghost use Rattle.clap.specs.Simple.{app_of};
+ghost use Rattle.clap.specs.Walk.{rule_of};
+ghost use Rattle.clap.specs.declared.builder.command.Command.TheViews.{out-Command as fields_of};
+ghost use Rattle.rvm_arguments.specs.Program.{asm, debug, dis, flag, needed, number, option, program, run, with_guest};
+
+use clap::{Arg, ArgAction, Command, Error, value_parser};
+use std::alloc::Global;
+
+/// The version of the program.
+const VERSION: &str = "0.1.0";
+
+/// What stands below the help of `run`.
+const RUN_HELP: &str = "\
+Example: rvmove run hello.elf --steps 5000 --input keys.txt
+
+Harts take turns of one instruction each. At the end standard error has `halted S` or `steps spent`.";
+
+/// What stands below the help of `asm`.
+const ASM_HELP: &str = "\
+Example: rvmove asm hello.s hello.elf
+
+README.md tells of the language, under \"Assembly\".";
+
+/// What stands below the help of `dis`.
+const DIS_HELP: &str = "\
+Example: rvmove dis hello.elf
+
+Each line has an address, the word there and its instruction. --harts and --pages change nothing.";
+
+/// What stands below the help of `debug`.
+const DEBUG_HELP: &str = "\
+Example: rvmove debug hello.elf < session.txt
+
+Lines of a script, with numbers in decimal or 0x hexadecimal:
+  step H [N]        hart H makes N steps, 1 if none is given
+  input HEX         bytes come to the console
+  drain N           takes at most N of the bytes that the guest sent
+  break ADDR        sets a breakpoint
+  clear ADDR        takes it away
+  regs H            writes the registers of hart H
+  mem ADDR LEN      writes bytes of RAM
+  dis ADDR          writes the instruction at an address
+  reg H NAME VALUE  sets a register of hart H
+  poke ADDR HEX     writes bytes into RAM
+Blank lines and lines that begin with # are passed over.";
+
+/// The command line that the program takes.
+pub(crate) fn program<'a>(alloc: Global) -> Result<Command<'a>, Error>
+    ensures { IfOk result (λ c. app_of c ≡ program) }
+{
+    Ok(
+        Command::new(alloc, "rvmove")
+            .version(VERSION)
+            .about("Assembles, disassembles, runs and debugs guests of a small RISC-V board")
+            .subcommand_required(true)
+            .arg_required_else_help(true)
+            .subcommand(run_command(alloc)?)?
+            .subcommand(asm_command(alloc)?)?
+            .subcommand(dis_command(alloc)?)?
+            .subcommand(debug_command(alloc)?)?,
+    )
+}
+
+/// The file of an image.
+fn image_argument<'a>(alloc: Global) -> Arg<'a>
+    ensures rule { rule_of result ≡ needed (codes "image") }
+    ensures local { result.global ≡ false }
+{
+    Arg::new(alloc, "image")
+        .value_name("IMAGE")
+        .required(true)
+        .help("The image: an ELF file, or plain bytes")
+}
+
+/// Whether it is plain bytes.
+fn raw_argument<'a>(alloc: Global) -> Arg<'a>
+    ensures rule { rule_of result ≡ flag (codes "raw") }
+    ensures local { result.global ≡ false }
+{
+    Arg::new(alloc, "raw")
+        .long("raw")
+        .action(ArgAction::SetTrue)
+        .help("IMAGE is plain bytes, to be placed at 0x80000000")
+}
+
+/// How many harts the board has.
+fn harts_argument<'a>(alloc: Global) -> Arg<'a>
+    ensures rule { rule_of result ≡ number (codes "harts") (codes "1") 8 }
+    ensures local { result.global ≡ false }
+{
+    Arg::new(alloc, "harts")
+        .long("harts")
+        .value_name("N")
+        .default_value("1")
+        .value_parser(value_parser!(u32).range(1..=8))
+        .help("How many harts, 1 to 8")
+}
+
+/// How many pages its RAM has.
+fn pages_argument<'a>(alloc: Global) -> Arg<'a>
+    ensures rule { rule_of result ≡ number (codes "pages") (codes "256") 4096 }
+    ensures local { result.global ≡ false }
+{
+    Arg::new(alloc, "pages")
+        .long("pages")
+        .value_name("N")
+        .default_value("256")
+        .value_parser(value_parser!(u32).range(1..=4096))
+        .help("How many pages of 4096 bytes of RAM, 1 to 4096")
+}
+
+/// How many turns a run makes at most.
+fn steps_argument<'a>(alloc: Global) -> Arg<'a>
+    ensures rule { rule_of result ≡ number (codes "steps") (codes "1000000") 1000000000 }
+    ensures local { result.global ≡ false }
+{
+    Arg::new(alloc, "steps")
+        .long("steps")
+        .value_name("N")
+        .default_value("1000000")
+        .value_parser(value_parser!(u32).range(1..=1_000_000_000))
+        .help("How many turns at most, 1 to 1000000000")
+}
+
+/// The file whose bytes come to the console.
+fn input_argument<'a>(alloc: Global) -> Arg<'a>
+    ensures rule { rule_of result ≡ option (codes "input") }
+    ensures local { result.global ≡ false }
+{
+    Arg::new(alloc, "input")
+        .long("input")
+        .value_name("FILE")
+        .help("The file whose bytes come to the guest's console")
+}
+
+/// The file of the assembly text.
+fn source_argument<'a>(alloc: Global) -> Arg<'a>
+    ensures rule { rule_of result ≡ needed (codes "source") }
+    ensures local { result.global ≡ false }
+{
+    Arg::new(alloc, "source")
+        .value_name("SRC")
+        .required(true)
+        .help("The file of the assembly text")
+}
+
+/// The file that is written.
+fn output_argument<'a>(alloc: Global) -> Arg<'a>
+    ensures rule { rule_of result ≡ needed (codes "output") }
+    ensures local { result.global ≡ false }
+{
+    Arg::new(alloc, "output")
+        .value_name("OUT")
+        .required(true)
+        .help("The ELF file that is written")
+}
+
+/// A command over a guest, with the words that describe it.
+fn guest_command<'a>(command: Command<'a>, alloc: Global) -> Result<Command<'a>, Error>
+    ensures app { IfOk result (λ c. app_of c ≡ with_guest (app_of command.entry)) }
+    ensures local { (fields_of command.entry).has_globals ≡ false
+        → IfOk result (λ c. (fields_of c).has_globals ≡ false) }
+{
+    Ok(
+        command
+            .arg(image_argument(alloc))?
+            .arg(raw_argument(alloc))?
+            .arg(harts_argument(alloc))?
+            .arg(pages_argument(alloc))?,
+    )
+}
+
+/// The words that `run` takes.
+fn run_command<'a>(alloc: Global) -> Result<Command<'a>, Error>
+    ensures app { IfOk result (λ c. app_of c ≡ run) }
+    ensures local { IfOk result (λ c. (fields_of c).has_globals ≡ false) }
+{
+    let run = Command::new(alloc, "run")
+        .about("Runs a guest, and writes what it sends")
+        .after_help(RUN_HELP);
+    Ok(
+        guest_command(run, alloc)?
+            .arg(steps_argument(alloc))?
+            .arg(input_argument(alloc))?,
+    )
+}
+
+/// The words that `asm` takes.
+fn asm_command<'a>(alloc: Global) -> Result<Command<'a>, Error>
+    ensures app { IfOk result (λ c. app_of c ≡ asm) }
+    ensures local { IfOk result (λ c. (fields_of c).has_globals ≡ false) }
+{
+    Ok(
+        Command::new(alloc, "asm")
+            .about("Assembles a text into an ELF file")
+            .after_help(ASM_HELP)
+            .arg(source_argument(alloc))?
+            .arg(output_argument(alloc))?,
+    )
+}
+
+/// The words that `dis` takes.
+fn dis_command<'a>(alloc: Global) -> Result<Command<'a>, Error>
+    ensures app { IfOk result (λ c. app_of c ≡ dis) }
+    ensures local { IfOk result (λ c. (fields_of c).has_globals ≡ false) }
+{
+    let dis = Command::new(alloc, "dis")
+        .about("Writes the instructions of an image")
+        .after_help(DIS_HELP);
+    guest_command(dis, alloc)
+}
+
+/// The words that `debug` takes.
+fn debug_command<'a>(alloc: Global) -> Result<Command<'a>, Error>
+    ensures app { IfOk result (λ c. app_of c ≡ debug) }
+    ensures local { IfOk result (λ c. (fields_of c).has_globals ≡ false) }
+{
+    let debug = Command::new(alloc, "debug")
+        .about("Answers the lines of a debugger's script from standard input")
+        .after_help(DEBUG_HELP);
+    guest_command(debug, alloc)
+}

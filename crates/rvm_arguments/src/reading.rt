@@ -1,0 +1,157 @@
+//! From words to arguments.
+
+ghost use Rattle.std.specs.Prelude.{◌≡◌, ◌≤◌, ◌&&◌, nat_le, if◌then◌else◌, Some, IfOk, IfSome, codes, map, option_map};
+ghost use Rattle.clap.specs.Matches.{found_of};
+ghost use Rattle.clap.specs.Simple.{subcommand_of, subcommand_rows_of};
+ghost use Rattle.clap.specs.Walk.{first_of, one_of, rows_of};
+ghost use Rattle.rvm_arguments.specs.Given.{Gives, IsAsked, IsFlag, IsGuest, IsNumber};
+ghost use Rattle.rvm_arguments.specs.Program.{program};
+
+use crate::arguments::{Arguments, AsmArguments, DisArguments, GuestArguments, RunArguments};
+use crate::program::program;
+use clap::error::ErrorKind;
+use clap::{ArgMatches, Error};
+use rvm_mem::MAX_PAGES;
+use std::alloc::Global;
+use std::convert::AsStr;
+
+/// The most harts that a board has.
+const MAX_HARTS: u32 = rvm_res::MAX_HARTS as u32;
+
+/// The most turns that a run makes.
+pub const MAX_STEPS: u32 = 1_000_000_000;
+
+/// Reads the command line, whose first word is the program's name. The error has `clap`'s text, and
+/// `exit_code` says what the program ends with.
+pub fn parse_args<'a, S: AsStr>(alloc: Global, words: &'a [S]) -> Result<Arguments<'a>, Error>
+    ensures { IfOk result (IsAsked (subcommand_of program (map S.text words.now))) }
+{
+    let mut command = program(alloc)?;
+    let matches = command.try_get_matches_from_mut(words)?;
+    match read_matches(&matches) {
+        Ok(arguments) => Ok(arguments),
+        Err(fault) => Err(command.error(ErrorKind::ValueValidation, fault)?),
+    }
+}
+
+/// The arguments of the command that was named, or which of them is not what it must be.
+fn read_matches<'a>(matches: &ArgMatches<'a>) -> Result<Arguments<'a>, &'static str>
+    ensures { IfOk result (IsAsked (subcommand_rows_of matches.now)) }
+{
+    match matches.subcommand() {
+        Some(("run", run)) => read_run(run),
+        Some(("asm", asm)) => read_asm(asm),
+        Some(("dis", dis)) => read_dis(dis),
+        Some(("debug", debug)) => read_debug(debug),
+        _ => Err("a command is missing"),
+    }
+}
+
+/// The arguments of `run`, or which of them is not what it must be.
+fn read_run<'a>(run: &ArgMatches<'a>) -> Result<Arguments<'a>, &'static str>
+    ensures { IfOk result (Gives (codes "run") (rows_of (found_of run.now))) }
+{
+    let guest = read_guest(run)?;
+    let Some(steps) = number(run, "steps", MAX_STEPS) else {
+        return Err("--steps takes a decimal number from 1 to 1000000000");
+    };
+    Ok(Arguments::Run(RunArguments {
+        guest,
+        input: text(run, "input"),
+        steps,
+    }))
+}
+
+/// The guest of a command, or which of its arguments is not what it must be.
+fn read_guest<'a>(command: &ArgMatches<'a>) -> Result<GuestArguments<'a>, &'static str>
+    ensures { IfOk result (IsGuest (rows_of (found_of command.now))) }
+{
+    let Some(image) = text(command, "image") else {
+        return Err("IMAGE is missing");
+    };
+    let Some(harts) = number(command, "harts", MAX_HARTS) else {
+        return Err("--harts takes a decimal number from 1 to 8");
+    };
+    let Some(pages) = number(command, "pages", MAX_PAGES) else {
+        return Err("--pages takes a decimal number from 1 to 4096");
+    };
+    Ok(GuestArguments {
+        image,
+        raw: flag(command, "raw"),
+        harts,
+        pages,
+    })
+}
+
+/// The arguments of `asm`, unless it would write over its text.
+fn read_asm<'a>(asm: &ArgMatches<'a>) -> Result<Arguments<'a>, &'static str>
+    ensures { IfOk result (Gives (codes "asm") (rows_of (found_of asm.now))) }
+{
+    let Some(source) = text(asm, "source") else {
+        return Err("SRC is missing");
+    };
+    let Some(output) = text(asm, "output") else {
+        return Err("OUT is missing");
+    };
+    if source == output {
+        return Err("SRC and OUT are the same file");
+    }
+    Ok(Arguments::Asm(AsmArguments { source, output }))
+}
+
+/// The arguments of `dis`, or which of them is not what it must be. Harts and pages are of no use.
+fn read_dis<'a>(dis: &ArgMatches<'a>) -> Result<Arguments<'a>, &'static str>
+    ensures { IfOk result (Gives (codes "dis") (rows_of (found_of dis.now))) }
+{
+    let guest = read_guest(dis)?;
+    Ok(Arguments::Dis(DisArguments {
+        image: guest.image,
+        raw: guest.raw,
+    }))
+}
+
+/// The arguments of `debug`, or which of them is not what it must be.
+fn read_debug<'a>(debug: &ArgMatches<'a>) -> Result<Arguments<'a>, &'static str>
+    ensures { IfOk result (Gives (codes "debug") (rows_of (found_of debug.now))) }
+{
+    Ok(Arguments::Debug(read_guest(debug)?))
+}
+
+/// The text of an option, which the words or its default give.
+#[tactic(auto, using(crate::proofs::Rows::first_row))]
+fn text<'a>(command: &ArgMatches<'a>, option: &str) -> Option<&'a str>
+    ensures { option_map (λ s. s.now) result ≡ first_of option.now (rows_of (found_of command.now)) }
+{
+    command.get_str(option)
+}
+
+/// Whether a flag is given.
+#[tactic(auto, using(crate::proofs::Rows::one_row))]
+fn flag(command: &ArgMatches, option: &str) -> bool
+    ensures { IsFlag (one_of option.now (rows_of (found_of command.now))) result }
+{
+    command.get_flag(option)
+}
+
+/// The number of an option, from 1 to a limit. It has no sign, also no plus sign.
+fn number(command: &ArgMatches, option: &str, most: u32) -> Option<u32>
+    ensures within { IfSome result (λ n. (1 ≤ n) × (n ≤ most)) }
+    ensures given { IfSome result (IsNumber (first_of option.now (rows_of (found_of command.now)))) }
+{
+    let text = text(command, option)?;
+    if text.starts_with('+') {
+        return None;
+    }
+    within(text.parse::<u32>().ok()?, most)
+}
+
+/// A number that is from 1 to a limit.
+fn within(number: u32, most: u32) -> Option<u32>
+    ensures { result ≡ (if nat_le 1 number && nat_le number most then Some number else None) }
+{
+    if 1 <= number && number <= most {
+        Some(number)
+    } else {
+        None
+    }
+}
