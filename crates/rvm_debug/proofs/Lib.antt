@@ -1,3 +1,4 @@
 pub mod Examples
 pub mod Rising
 pub mod Turning
+pub mod Waiting

@@ -54,7 +54,7 @@ pub record Turning (all left : AfterTurns) (made : ℕ) (first dirty : List Bool
   pub log : dirty ≡ mark_all pages first
   pub whole : behind pages made left ≡ all
 
-behind_none : (t : AfterTurns) → behind [] 0 t ≡ t
+pub behind_none : (t : AfterTurns) → behind [] 0 t ≡ t
 behind_none t = ap (λ (k : ℕ). record t { made = k }) (omega arith)
 
 pub begins : (order : Order) (n made h : ℕ) (g : Guest) (dirty : List Bool) → made ≡ 0 → Turning (after_turns order n h g) (after_turns order n h g) made dirty dirty
@@ -65,7 +65,7 @@ unfolding after_turns
 one_more order n m h g e = rw e refl
 
 -- behind turns that are behind others
-behind_both : (ps qs : List ℕ) (made more : ℕ) (t : AfterTurns) → behind ps made (behind qs more t) ≡ behind (ps ++ qs) (made + more) t
+pub behind_both : (ps qs : List ℕ) (made more : ℕ) (t : AfterTurns) → behind ps made (behind qs more t) ≡ behind (ps ++ qs) (made + more) t
 behind_both ps qs made more t =
     ap (λ l. record t { pages = l; made = made + (more + t.made) }) (sym (append_assoc ps qs t.pages))
     ∙ ap (λ (k : ℕ). record t { pages = (ps ++ qs) ++ t.pages; made = k }) (omega arith)
@@ -90,7 +90,7 @@ goes_on {all} {first} {dirty} order n m h h' made made' g g' dirty' so_far more 
     }
 
 -- turns of which this is the last
-ended : (all last : AfterTurns) (pages : List ℕ) (made : ℕ) (first dirty dirty' : List Bool) (g' : Guest) (old new : GuestState) (told : Turns) → behind pages made last ≡ all → dirty ≡ mark_all pages first → dirty' ≡ mark_all last.pages dirty → old.dirty ≡ first → new.guest ≡ last.guest → new.dirty ≡ dirty' → told.made ≡ made + last.made → told.stop ≡ last.stop → TakesTurns all old new told
+pub ended : (all last : AfterTurns) (pages : List ℕ) (made : ℕ) (first dirty dirty' : List Bool) (g' : Guest) (old new : GuestState) (told : Turns) → behind pages made last ≡ all → dirty ≡ mark_all pages first → dirty' ≡ mark_all last.pages dirty → old.dirty ≡ first → new.guest ≡ last.guest → new.dirty ≡ dirty' → told.made ≡ made + last.made → told.stop ≡ last.stop → TakesTurns all old new told
 ended all last pages made first dirty dirty' g' old new told whole log marked from guest log' count stop =
     record {
       guest = guest ∙ ap (λ (t : AfterTurns). t.guest) whole;
@@ -110,7 +110,7 @@ stops_at {all} {dirty} order n m h made made' g s old new told so_far more count
     ended all last so_far.pages made old.dirty dirty new.dirty new.guest old new told (ap (behind so_far.pages made) (sym turned) ∙ so_far.whole) so_far.log marked refl left refl
     (ap (λ (t : Turns). t.made) said ∙ counted) (ap (λ (t : Turns). t.stop) said)
 
-no_more : (made : ℕ) → made ≡ made + 0
+pub no_more : (made : ℕ) → made ≡ made + 0
 no_more made = omega arith
 
 none_left : (order : Order) (n h : ℕ) (g : Guest) → n ≡ 0 → after_turns order n h g ≡ record { guest = g; pages = []; made = 0; stop = None }

@@ -2,3 +2,4 @@ pub mod Guest
 pub mod Events
 pub mod Parts
 pub mod Turns
+pub mod WhileFull

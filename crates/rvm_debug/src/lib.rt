@@ -2,7 +2,8 @@
 //!
 //! Stands on `rvm_board`, and knows nothing of scripts, files or hosts. No event takes memory.
 //!
-//! To be read in this order: `view`, `breakpoints`, `event`, `part`, `debugged`, `turns`.
+//! To be read in this order: `view`, `breakpoints`, `event`, `part`, `debugged`, `turns`,
+//! `while_full`.
 #![tactic(auto)]
 
 mod breakpoints;
@@ -11,6 +12,7 @@ mod event;
 mod part;
 mod turns;
 mod view;
+mod while_full;
 
 pub use breakpoints::MAX_BREAKPOINTS;
 pub use debugged::Debugged;

@@ -228,7 +228,7 @@ impl Stop {
 impl Order {
     /// The hart that has the turn after that of a hart, of so many.
     #[inline(always)]
-    fn next(self, hart: u32, harts: u32) -> u32
+    pub(crate) fn next(self, hart: u32, harts: u32) -> u32
         requires within { hart < harts }
         requires bound { harts ≤ 8 }
         ensures next { result ≡ next_hart self harts hart }
@@ -244,7 +244,7 @@ impl Order {
 
 /// What a turn of a hart at `pc` stopped for, if it did: none is no step.
 #[inline(always)]
-fn stop_of(pc: u32, step: Option<Stepped>) -> Option<Stop>
+pub(crate) fn stop_of(pc: u32, step: Option<Stepped>) -> Option<Stop>
     ensures { result ≡ stop_in (step_reply pc step) }
 {
     match step {

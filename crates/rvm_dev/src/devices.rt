@@ -1,6 +1,6 @@
 //! The devices of one board.
 
-ghost use Rattle.std.specs.Prelude.{◌≡◌, ◌<◌, ◌≤◌, ◌%◌, ◌^◌, ◌+◌, ◌++◌, [], ◌∷◌, ◌↔◌, is_some, unwrap_or, length, min, take, drop, false, OnOk, OnErr, IfOk, IfSome, IsErr, get_or, slice_set};
+ghost use Rattle.std.specs.Prelude.{◌≡◌, ◌==◌, ◌<◌, ◌≤◌, ◌%◌, ◌^◌, ◌+◌, ◌++◌, [], ◌∷◌, ◌↔◌, is_some, unwrap_or, length, min, take, drop, false, OnOk, OnErr, IfOk, IfSome, IsErr, get_or, slice_set};
 ghost use Rattle.rvm_dev.specs.Devices.{at_reset, loaded, stored, value_loaded, timer_is_pending, external_is_pending, value_of, after_load, after_store, received, register_of, sent};
 ghost use Rattle.rvm_dev.specs.Map.{IsOfHart};
 ghost use Rattle.rvm_dev.specs.Shared.{fields_of, hart_restored, restored};
@@ -113,6 +113,14 @@ impl Devices {
         ensures err { OnErr result (self.new ≡ self.old) }
     {
         self.input.try_push_back(byte).map_err(|_| InputFull)
+    }
+
+    /// Whether as many bytes wait for the guest as there is room for.
+    #[inline(always)]
+    pub fn input_is_full(&self) -> bool
+        ensures { result ≡ (length self.now.input == 16) }
+    {
+        self.input.is_full()
     }
 
     /// Takes the oldest bytes that were sent, as many as there are and fit, and says how many.
