@@ -153,14 +153,13 @@ impl<M: Memory> Debugged<M> {
     {
         let mut hart = first;
         while hart < end {
-            let stepped = self.step_on(hart);
-            hart += 1;
-            if let Some(stop) = stop_of(0, Some(stepped)) {
+            if let Some(stop) = stop_of(0, Some(self.step_on(hart))) {
                 return Ended {
-                    left: end - hart,
+                    left: end - hart - 1,
                     stop: Some(stop),
                 };
             }
+            hart += 1;
         }
         Ended {
             left: 0,
