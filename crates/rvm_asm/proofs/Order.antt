@@ -1,14 +1,14 @@
 -- Pieces that rise by address.
 use Rattle.std.proofs.Common.{◌≡◌, ℕ, zero, suc, ◌+◌, ◌-◌, ◌<◌, ◌≤◌, List, [], ◌∷◌, ◌++◌, length, get_or, take, drop, refl, ap, sym, ◌∙◌, Option, Some, None, arith, subst, ⊎_elim, length-append}
 use Rattle.std.specs.Prelude.{All}
-use Rattle.std.proofs.lemmas.List.{map_push}
+use Rattle.std.proofs.lemmas.List.{map_push, get_or-map, length-map}
 use Rattle.std.proofs.lemmas.List.Elements.{All-cons}
 use Rattle.std.proofs.str.Laws.{order}
 use Rattle.rvm_image.specs.declared.image.Segment.{Segment}
 use Rattle.rvm_image.specs.Images.{Piece, piece, size, in_piece, byte_at, or_else, piece_of, pieces_of, IsRising}
-use Rattle.rvm_asm.specs.Images.{IsFree, AreOrdered, end_of}
+use Rattle.rvm_asm.specs.Images.{IsFree, IsTaken, AreOrdered, end_of}
 use Rattle.rvm_asm.specs.Views.{HasNoZeros}
-use Rattle.rvm_asm.proofs.Bytes.{inside, pieces_append, pieces_at}
+use Rattle.rvm_asm.proofs.Bytes.{inside, pieces_append, pieces_at, free_more, taken_first, taken_more, apart_before, apart_behind}
 
 -- farther apart than asked
 pub weaker : (gap lo less low : ℕ) (ps : List Piece) → less ≤ gap → low ≤ lo → AreOrdered gap lo ps → AreOrdered less low ps
@@ -183,3 +183,51 @@ before_index ps at k address h e =
 -- a segment between those before an index and those behind it
 pub inserted : (old new : List Segment) (at : ℕ) (s : Segment) → new ≡ take at old ++ s ∷ drop at old → AreOrdered 0 0 (take at (pieces_of old) ++ piece_of s ∷ drop at (pieces_of old)) → AreOrdered 0 0 (pieces_of new)
 inserted old new at s e o = subst (AreOrdered 0 0) (sym (ap pieces_of e ∙ pieces_at old at s)) o
+
+-- pieces that begin behind so many places
+all_behind : (lo : ℕ) (ps : List Piece) (place count : ℕ) → AreOrdered 0 lo ps → place + count ≤ lo → IsFree ps place count
+unfolding AreOrdered
+all_behind lo [] place count o h = λ a low high. refl
+all_behind lo (p ∷ ps) place count o h =
+    free_more p ps place count (apart_behind p place count (omega (arith, h, o.0)))
+    (all_behind (p.address + length p.bytes + 0) ps place count o.3 (omega (arith, h, o.0)))
+
+-- pieces of which those on both sides of an index leave so many places free
+pub free_between : (lo at : ℕ) (ps : List Piece) (place count : ℕ) → AreOrdered 0 lo ps → 0 < count → ((k : ℕ) → at ≡ k + 1 → k < length ps → IsFree (get_or ps k (piece 0 []) ∷ []) place count) → (at < length ps → IsFree (get_or ps at (piece 0 []) ∷ []) place count) → ((k : ℕ) → at ≡ k + 1 → (get_or ps k (piece 0 [])).address ≤ place) → (at < length ps → place < (get_or ps at (piece 0 [])).address) → at ≤ length ps → IsFree ps place count
+unfolding AreOrdered
+free_between lo at [] place count o some before behind low high within = λ a l h. refl
+free_between lo zero (q ∷ qs) place count o some before behind low high within =
+    free_more q qs place count (behind (omega arith))
+    (all_behind (q.address + length q.bytes + 0) qs place count o.3 (omega (arith, begins_behind q [] place count (behind (omega arith)) o.1 (high (omega arith)))))
+free_between lo (suc zero) (q ∷ qs) place count o some before behind low high within =
+    free_more q qs place count (before zero refl (omega arith))
+    (free_between (q.address + length q.bytes + 0) zero qs place count o.3 some (λ k e. absurd (omega (arith, e))) (λ h. behind (omega (arith, h))) (λ k e. absurd (omega (arith, e))) (λ h. high (omega (arith, h))) (omega arith))
+free_between lo (suc (suc at)) (q ∷ qs) place count o some before behind low high within =
+    let first : q.address + length q.bytes ≤ place = omega (arith, least (q.address + length q.bytes + 0) qs at o.3 (omega (arith, within)), low (suc at) (omega arith)) in
+    free_more q qs place count (apart_before q place count (omega (arith, o.2, first)))
+    (free_between (q.address + length q.bytes + 0) (suc at) qs place count o.3 some (λ k e l. before (suc k) (omega (arith, e)) (omega (arith, l))) (λ h. behind (omega (arith, h))) (λ k e. low (suc k) (omega (arith, e))) (λ h. high (omega (arith, h))) (omega (arith, within)))
+
+-- where one piece is taken, all are
+taken_at : (ps : List Piece) (i place count : ℕ) → i < length ps → IsTaken (get_or ps i (piece 0 []) ∷ []) place count → IsTaken ps place count
+taken_at [] i place count inside t = absurd (omega (arith, inside))
+taken_at (p ∷ ps) zero place count inside t = taken_first p ps place count t
+taken_at (p ∷ ps) (suc i) place count inside t = taken_more p ps place count (taken_at ps i place count (omega (arith, inside)) t)
+
+-- the same of segments
+pub free_segments : (ss : List Segment) (at before place count : ℕ) → AreOrdered 0 0 (pieces_of ss) → 0 < count → at ≤ length ss → (0 < at → (get_or (pieces_of ss) (at - 1) (piece 0 [])).address ≤ place) → (at < length ss → place < (get_or (pieces_of ss) at (piece 0 [])).address) → (0 < at → before ≡ at - 1) → (before < length ss → IsFree (get_or (pieces_of ss) before (piece 0 []) ∷ []) place count) → (at < length ss → IsFree (get_or (pieces_of ss) at (piece 0 []) ∷ []) place count) → IsFree (pieces_of ss) place count
+free_segments ss at before place count o some within low high one first second =
+    let n = length-map ss piece_of in
+    free_between 0 at (pieces_of ss) place count o some
+    (λ k e l.
+    let same : before ≡ k = omega (arith, e, one (omega (arith, e))) in
+    subst (λ j. IsFree (get_or (pieces_of ss) j (piece 0 []) ∷ []) place count) same (first (omega (arith, l, n, same))))
+    (λ l. second (omega (arith, l, n)))
+    (λ k e. before_index (pieces_of ss) at k place low e) (λ l. high (omega (arith, l, n))) (omega (arith, within, n))
+
+pub apart_segment : (ss : List Segment) (i place count : ℕ) (d : Segment) → i < length ss → IsFree (piece_of (get_or ss i d) ∷ []) place count → IsFree (get_or (pieces_of ss) i (piece 0 []) ∷ []) place count
+apart_segment ss i place count d inside free = subst (λ p. IsFree (p ∷ []) place count) (sym (get_or-map piece_of ss i d (piece 0 []) inside)) free
+
+pub taken_segments : (ss : List Segment) (i place count : ℕ) (d : Segment) → i < length ss → IsTaken (piece_of (get_or ss i d) ∷ []) place count → IsTaken (pieces_of ss) place count
+taken_segments ss i place count d inside t =
+    taken_at (pieces_of ss) i place count (omega (arith, inside, length-map ss piece_of))
+    (subst (λ p. IsTaken (p ∷ []) place count) (sym (get_or-map piece_of ss i d (piece 0 []) inside)) t)

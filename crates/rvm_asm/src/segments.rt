@@ -33,18 +33,33 @@ fn is_apart(segment: &Segment, address: u32, count: u64) -> bool
     }
 }
 
-/// Whether no byte stands in so many places from an address on.
+/// Whether no byte stands in so many places from an address on: only the segments on both sides of
+/// the address can have one there.
 pub fn is_free(segments: &[Segment], address: u32, count: u64) -> bool
-    requires { 0 < count }
+    requires some { 0 < count }
+    requires ordered { AreOrdered 0 0 (pieces_of segments.now) }
     ensures free { IsTrue result → IsFree (pieces_of segments.now) address count }
     ensures taken { IsFalse result → IsTaken (pieces_of segments.now) address count }
 {
-    for segment in segments {
-        if !is_apart(segment, address, count) {
-            return false;
-        }
+    let at = index_behind(segments, address);
+    if !is_apart_at(segments, at.wrapping_sub(1), address, count) {
+        return false;
     }
-    true
+    is_apart_at(segments, at, address, count)
+}
+
+/// The same of the segment with an index, if there is one.
+fn is_apart_at(segments: &[Segment], index: usize, address: u32, count: u64) -> bool
+    requires { 0 < count }
+    ensures apart { IsTrue result → index < length segments.now
+        → IsFree (get_or (pieces_of segments.now) index (piece 0 []) ∷ []) address count }
+    ensures taken { IsFalse result → IsTaken (pieces_of segments.now) address count }
+{
+    if index < segments.len() {
+        is_apart(&segments[index], address, count)
+    } else {
+        true
+    }
 }
 
 /// Puts bytes where none stand, before the segments with higher addresses.
@@ -72,7 +87,7 @@ pub fn insert(segments: &mut Vec<Segment>, address: u32, bytes: Vec<u8>) -> Resu
     Ok(())
 }
 
-/// The index behind the last segment that begins at an address or below it.
+/// The index behind the last segment that begins at an address or below it, by halving what is left.
 fn index_behind(segments: &[Segment], address: u32) -> usize
     ensures within { result ≤ length segments.now }
     ensures before { 0 < result
@@ -80,9 +95,15 @@ fn index_behind(segments: &[Segment], address: u32) -> usize
     ensures behind { result < length segments.now
         → address < (get_or (pieces_of segments.now) result (piece 0 [])).address }
 {
-    let mut index = segments.len();
-    while index > 0 && segments[index - 1].address > address {
-        index -= 1;
+    let mut index = 0;
+    let mut behind = segments.len();
+    while index < behind {
+        let middle = index + (behind - index) / 2;
+        if segments[middle].address <= address {
+            index = middle + 1;
+        } else {
+            behind = middle;
+        }
     }
     index
 }

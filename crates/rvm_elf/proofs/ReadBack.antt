@@ -1,15 +1,16 @@
 -- A file that was written, read back.
-use Rattle.std.proofs.Common.{◌≡◌, ℕ, zero, suc, ◌+◌, ◌-◌, ◌*◌, ◌^◌, ◌<◌, ◌≤◌, Bool, true, false, not, ◌&&◌, ◌||◌, ◌==◌, nat_lt, if◌then◌else◌, List, [], ◌∷◌, ◌++◌, Some, None, Ok, Err, inl, inr, length, take, drop, get_or, slice_range, refl, sym, ap, ◌∙◌, arith, append_assoc, length-append}
+use Rattle.std.proofs.Common.{◌≡◌, ℕ, zero, suc, ◌+◌, ◌-◌, ◌*◌, ◌^◌, ◌<◌, ◌≤◌, Bool, true, false, not, ◌&&◌, ◌||◌, ◌==◌, nat_lt, if◌then◌else◌, List, [], ◌∷◌, ◌++◌, Option, Some, None, Ok, Err, inl, inr, length, take, drop, get_or, slice_range, refl, sym, ap, ◌∙◌, arith, append_assoc, length-append}
 use Rattle.std.specs.List.{flat_map}
 use Rattle.std.specs.Option.{option_to_list}
+use Rattle.std.proofs.lemmas.Bool.Decides.{nat_tests}
 use Rattle.std.proofs.lemmas.Bool.{ltb-true, leb-true, le-ltb, cases_lt}
 use Rattle.std.proofs.lemmas.List.{take_at, drop_at, drop-drop, length-drop}
 use Rattle.byteorder.specs.Endian.{little_number, little_bytes}
 use Rattle.byteorder.specs.Numbers.{little_number-reads_back, length-bytes_low_first}
-use Rattle.rvm_image.specs.Images.{Piece, size}
+use Rattle.rvm_image.specs.Images.{Piece, size, in_piece, or_else, byte_at}
 use Rattle.rvm_elf.specs.declared.error.ReadError.TheVariants.{NotRiscV32, Truncated, TooMany}
 use Rattle.rvm_elf.specs.declared.layout.ProgramHeader.{ProgramHeader}
-use Rattle.rvm_elf.specs.File.{◌>>=◌, field, header_at, is_riscv32, lacks_headers, header_checked, headers_checked, piece_of_header, pieces_from, checked, meaning, e_entry, e_phoff, e_phnum}
+use Rattle.rvm_elf.specs.File.{◌>>=◌, field, header_at, is_riscv32, lacks_headers, header_checked, headers_checked, piece_of_header, pieces_from, checked, meaning, StandsFor, e_entry, e_phoff, e_phnum}
 use Rattle.rvm_elf.specs.Spelling.{all_bytes, are_small, are_addressed, IsWritable, with_size, elf_header, program_header, program_headers, file_of}
 use Rattle.rvm_elf.proofs.Placing.{and_first, and_second}
 
@@ -184,3 +185,24 @@ read_back entry ps is =
     ∙ ap (λ n. Ok (n, pieces_from (e_phnum file) 52 file)) (entry_read entry count rest is.entry_fits)
     ∙ ap (λ n. Ok (entry, pieces_from n 52 file)) (count_read entry count rest (omega arith))
     ∙ ap (λ qs. Ok (entry, qs)) read.pieces
+
+-- a piece without a byte or a zero
+no_byte : (p : Piece) (a : ℕ) → nat_lt 0 (size p) ≡ false → in_piece p a ≡ None
+no_byte p a e = grind (arith, nat_tests)
+
+none_behind : (o : Option ℕ) → or_else o None ≡ o
+none_behind None = refl
+none_behind (Some x) = refl
+
+byte_with : (b : Bool) (p : Piece) (ps : List Piece) (a : ℕ) → nat_lt 0 (size p) ≡ b → byte_at (if b then p ∷ ps else ps) a ≡ or_else (byte_at ps a) (in_piece p a)
+byte_with true p ps a e = refl
+byte_with false p ps a e = sym (ap (or_else (byte_at ps a)) (no_byte p a e) ∙ none_behind (byte_at ps a))
+
+-- pieces without a byte or a zero change none
+same_bytes : (ps : List Piece) (a : ℕ) → byte_at (with_size ps) a ≡ byte_at ps a
+same_bytes [] a = refl
+same_bytes (p ∷ ps) a =
+    byte_with (nat_lt 0 (size p)) p (with_size ps) a refl ∙ ap (λ o. or_else o (in_piece p a)) (same_bytes ps a)
+
+pub stands_for : (entry : ℕ) (image : List Piece) → IsWritable entry image → StandsFor (file_of entry image) entry image
+stands_for entry image is = (with_size image, read_back entry image is, same_bytes image)

@@ -2,7 +2,7 @@
 use Rattle.std.specs.Prelude.{◌≡◌, ℕ, zero, suc, ◌+◌, ◌-◌, ◌*◌, Bool, false, ◌&&◌, ◌||◌, not, ◌==◌, nat_lt, if◌then◌else◌, List, [], ◌∷◌, ◌++◌, Option, Some, None, Result, Ok, Err, IsOk, length, drop, slice_index, slice_range}
 use Rattle.std.specs.Option.{option_to_list}
 use Rattle.byteorder.specs.Endian.{little_number}
-use Rattle.rvm_image.specs.Images.{Piece}
+use Rattle.rvm_image.specs.Images.{Piece, byte_at}
 use Rattle.rvm_elf.specs.declared.error.ReadError.{ReadError}
 use Rattle.rvm_elf.specs.declared.error.ReadError.TheVariants.{OutOfMemory, BadMagic, NotRiscV32, Truncated, TooMany}
 use Rattle.rvm_elf.specs.declared.layout.ProgramHeader.{ProgramHeader}
@@ -120,3 +120,9 @@ Refuses BadMagic r = r ≡ Err BadMagic
 Refuses NotRiscV32 r = r ≡ Err NotRiscV32
 Refuses Truncated r = r ≡ Err Truncated
 Refuses TooMany r = r ≡ Err TooMany
+
+-- a file stands for an image: the program begins at its entry, and each address has its byte, or none
+abbrev pub StandsFor : List ℕ → (entry : ℕ) → List Piece → Type 0
+StandsFor file entry image =
+    (pieces : List Piece) × (meaning file ≡ Ok (entry, pieces))
+    × ((a : ℕ) → byte_at pieces a ≡ byte_at image a)

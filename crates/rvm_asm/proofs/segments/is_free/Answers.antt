@@ -1,12 +1,7 @@
-use Rattle.std.proofs.Common.{◌≡◌, ◌+◌, ◌∷◌, ◌∙◌, sym, ap, subst, drop}
-use Rattle.std.proofs.lemmas.List.{drop_more}
-use Rattle.rvm_asm.specs.Images.{IsTaken}
-use Rattle.rvm_image.specs.Images.{piece_of, pieces_of}
-use Rattle.rvm_asm.proofs.Bytes.{taken_first}
+use Rattle.std.proofs.Common.{arith, refl}
+use Rattle.rvm_asm.proofs.Order.{free_segments}
 use Rattle.rvm_asm.proofs.segments.is_free.Goals as goal
 
-pub returns-then-not-is_apart-clause-taken : goal.returns-then-not-is_apart-clause-taken
-returns-then-not-is_apart-clause-taken c = λ h.
-    let e : drop c.loop-segment.segment-index c.args.segments.now ≡ c.segment-item.result ∷ drop (c.loop-segment.segment-index + 1) c.args.segments.now =
-    drop_more c.args.segments.now c.loop-segment.segment-index c.segment-item.result c.loop-segment-test.true ∙ ap (λ s. s ∷ drop (c.loop-segment.segment-index + 1) c.args.segments.now) (sym c.segment-item.is) in
-    c.loop-segment.invariant.taken (subst (λ l. IsTaken (pieces_of l) c.args.address c.args.count) (sym e) (taken_first (piece_of c.segment-item.result) (pieces_of (drop (c.loop-segment.segment-index + 1) c.args.segments.now)) c.args.address c.args.count (c.if-not-is_apart.ensures.taken h)))
+pub returns-clause-free : goal.returns-clause-free
+returns-clause-free c = λ yes.
+    free_segments c.args.segments.now c.index_behind-at.result _ c.args.address c.args.count c.requires.ordered c.requires.some c.index_behind-at.ensures.within c.index_behind-at.ensures.before c.index_behind-at.ensures.behind (λ some. omega arith) (c.if-not-is_apart_at.ensures.apart refl) (c.is_apart_at-2.ensures.apart yes)
