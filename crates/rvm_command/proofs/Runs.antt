@@ -3,7 +3,6 @@ use Rattle.std.proofs.Common.{◌≡◌, ℕ, suc, OnErr, Result, Ok, Err, ◌+�
 use Rattle.std.proofs.lemmas.List.{take_at, take-append-drop, length-take, length-append, drop_all}
 use Rattle.std.proofs.lemmas.Bool.Decides.{nat_tests}
 use Rattle.std.proofs.Math.Nat.{mod-add-div, add-mul-mod_self_left}
-use Rattle.std.proofs.lemmas.Nat.{mod_below}
 use Rattle.std.specs.Io.KnownBytes.{Appends}
 use Rattle.rvm_debug.specs.declared.event.BoardReply.{BoardReply}
 use Rattle.rvm_debug.specs.declared.event.BoardReply.TheVariants.{Retired, Trapped, Interrupted, Halted, Break, Done, Bytes, Regs, Line, Refused}

@@ -1,67 +1,99 @@
 //! `rvmove asm`: from assembly text to an ELF file.
 
-ghost use Rattle.std.specs.Prelude.{◌≡◌, ◌⊎◌, List, ℕ, IfOk};
-ghost use Rattle.std.specs.Io.KnownBytes.{Appends};
+ghost use Rattle.std.specs.Prelude.{◌≡◌, ◌==◌, ◌≤◌, ◌⊎◌, List, ℕ, IfOk, IfErr, count_by, length};
+ghost use Rattle.rvm_image.specs.Images.{pieces_of};
+ghost use Rattle.rvm_elf.specs.Spelling.{file_of};
+ghost use Rattle.rvm_refusal.specs.declared.refusal.Refusal.TheVariants.{BadToken};
 ghost use Rattle.rvm_command.specs.Assembled.{IsFileOf};
+ghost use Rattle.rvm_command.specs.Ends.{Answers, IsAsmEnd, IsTextRefusal, IsUnwritable, line_of_byte};
+ghost use Rattle.rvm_command.specs.Refusals.{refused_at};
 
-use crate::refused::Refused;
+use crate::refused::{Refused, tell};
+use crate::run::LinkFault;
 use rvm_asm::assemble;
-use rvm_elf::write_image;
+use rvm_elf::{WriteError, write_image};
+use rvm_image::Image;
 use rvm_refusal::Refusal;
 use std::alloc::Global;
 use std::io::Write;
 use std::str;
 
 /// Assembles `source` into an ELF file, which goes to `output`, and answers the status: 0, or 1
-/// where it was refused; then `errors` gets the refusal, with the line at which it stands. A text
-/// that is refused leaves `output` as it was; after `LinkFault`, where a write failed, a part of
-/// the file may have gone out.
+/// where it was refused; then `errors` gets the refusal in one line, with the line of the text at
+/// which it stands, and else nothing. A text that is refused leaves `output` as it was; after
+/// `LinkFault`, where a write to `output` failed, a part of the file may have gone out. Whether a
+/// writer fails is not said. `LinkFault` as the answer: a write to `errors` failed.
 pub fn asm_command<O: Write, E: Write>(
     alloc: Global,
     source: &[u8],
     output: &mut O,
     errors: &mut E,
-) -> u8
-    ensures status { (result ≡ 0) ⊎ (result ≡ 1) }
-    ensures file { result ≡ 0 → (file : List ℕ) × IsFileOf source.now file
-        × Appends (O.contents output.old) (O.contents output.new) file }
+) -> Result<u8, LinkFault>
+    ensures status { IfOk result (λ status. Answers status
+        (λ end. IsAsmEnd source.now end (O.contents output.old) (O.contents output.new))
+        (E.contents errors.old) (E.contents errors.new)) }
     ensures refused { (O.contents output.new ≡ O.contents output.old)
         ⊎ ((file : List ℕ) × IsFileOf source.now file) }
 {
-    let told = match assembled(alloc, source) {
-        Ok(file) => {
-            if output.write_all(&file).is_ok() {
-                return 0;
-            }
-            Refused::from(Refusal::LinkFault)
-        }
-        Err(refused) => refused,
-    };
-    let _ = writeln!(errors, "{told}");
-    1
+    match assemble_to(alloc, source, output) {
+        Ok(()) => Ok(0),
+        Err(refused) => tell(refused, errors),
+    }
+}
+
+/// Writes the ELF file of a text.
+fn assemble_to<O: Write>(alloc: Global, source: &[u8], output: &mut O) -> Result<(), Refused>
+    ensures end { IsAsmEnd source.now result (O.contents output.old) (O.contents output.new) }
+    ensures refused { (O.contents output.new ≡ O.contents output.old)
+        ⊎ ((file : List ℕ) × IsFileOf source.now file) }
+{
+    let file = assembled(alloc, source)?;
+    match output.write_all(&file) {
+        Ok(()) => Ok(()),
+        Err(_) => Err(Refused::from(LinkFault)),
+    }
 }
 
 /// The ELF file of a text.
 fn assembled(alloc: Global, source: &[u8]) -> Result<Vec<u8>, Refused>
-    ensures { IfOk result (λ v. IsFileOf source.now v.items) }
+    ensures file { IfOk result (λ v. IsFileOf source.now v.items) }
+    ensures refused { IfErr result (IsTextRefusal source.now) }
 {
     let text = match str::from_utf8(source) {
         Ok(text) => text,
         Err(error) => return Err(not_text(source, error.valid_up_to())),
     };
     let image = assemble(alloc, text)?;
-    Ok(write_image(alloc, &image)?)
+    match written(alloc, &image) {
+        Ok(file) => Ok(file),
+        Err(error) => Err(Refused::from(error)),
+    }
+}
+
+/// The ELF file of an image.
+#[tactic(auto, using(crate::proofs::Refusals::image_unwritable))]
+fn written(alloc: Global, image: &Image) -> Result<Vec<u8>, WriteError>
+    ensures file { IfOk result (λ v. v.items ≡ file_of image.now.entry (pieces_of image.now.segments.items)) }
+    ensures refused { IfErr result (IsUnwritable (pieces_of image.now.segments.items)) }
+{
+    write_image(alloc, image)
 }
 
 /// The refusal of a text that has a byte of no character at a place.
-fn not_text(source: &[u8], at: usize) -> Refused {
-    let before = source
-        .iter()
-        .take(at)
-        .filter(|byte| **byte == b'\n')
-        .count();
+fn not_text(source: &[u8], at: usize) -> Refused
+    requires { at ≤ length source.now }
+    ensures { result ≡ refused_at (line_of_byte at source.now) BadToken }
+{
     Refused {
-        line: Some(before + 1),
+        line: Some(line_feeds(&source[..at]) + 1),
         refusal: Refusal::BadToken,
     }
+}
+
+/// How many line feeds bytes have.
+fn line_feeds(bytes: &[u8]) -> usize
+    ensures count { result ≡ count_by (λ b. b == 10) bytes.now }
+    ensures few { result ≤ length bytes.now }
+{
+    bytes.iter().filter(|byte| **byte == b'\n').count()
 }

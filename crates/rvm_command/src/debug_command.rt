@@ -1,25 +1,29 @@
 //! `rvmove debug`: the answers to a debugger's script.
 
-ghost use Rattle.std.specs.Prelude.{◌≡◌, ◌⊎◌, ◌*◌, IfOk, IfSome, IsErr, OnOk, false};
+ghost use Rattle.std.specs.Prelude.{◌≡◌, ◌*◌, IfOk, IsErr, false};
 ghost use Rattle.rvm_elf.specs.Load.{fits};
-ghost use Rattle.rvm_script.specs.Script.{script_of};
-ghost use Rattle.rvm_script.specs.Words.{lines};
-ghost use Rattle.rvm_command.specs.Command.{guest_of, image_of};
-ghost use Rattle.rvm_command.specs.Debugging.{IsTold};
+ghost use Rattle.rvm_command.specs.Command.{image_of};
+ghost use Rattle.rvm_command.specs.Ends.{Answers, IsDebugEnd, IsScriptEndOf};
 
-use crate::guest::{new_guest, read_file};
-use crate::refused::Refused;
+use crate::dis_command::flush;
+use crate::guest::load_guest;
+use crate::refused::{Refused, tell};
+use crate::run::LinkFault;
 use rvm_arguments::GuestArguments;
-use rvm_script::run_script;
+use rvm_debug::Debugged;
+use rvm_mem::Memory;
+use rvm_script::{ScriptError, run_script};
 use std::alloc::Global;
 use std::io::{Read, Write};
 
 /// Loads the guest whose file `image` is, does what each line of the script in `reader` asks for,
 /// and writes the answers to `output`. Answers the status: 0, or 1 where it was refused; then
-/// `errors` gets the refusal: that of the file, `OutsideRam` for an image that does not lie in RAM,
-/// `TooLong` for a script of more than 2^26 bytes, `BadToken` with its line where one is not in the
-/// grammar, after the answers to the lines before it, `OutOfMemory`, and `LinkFault` where a read
-/// or a write failed.
+/// `errors` gets the refusal in one line, and else nothing: that of the file, `OutsideRam` for an
+/// image that does not lie in RAM, `TooLong` for a script of more than 2^26 bytes, and
+/// `OutOfMemory`, which leave `output` as it was; `BadToken` with its line where one is not in the
+/// grammar, after the answers to the lines before it; and `LinkFault` where a read or a write to
+/// `output` failed, of which a part may have gone out. Whether a reader or a writer fails is not
+/// said. `LinkFault` as the answer: a write to `errors` failed.
 pub fn debug_command<R: Read, O: Write, E: Write>(
     alloc: Global,
     arguments: &GuestArguments,
@@ -27,24 +31,20 @@ pub fn debug_command<R: Read, O: Write, E: Write>(
     reader: &mut R,
     output: &mut O,
     errors: &mut E,
-) -> u8
-    ensures status { (result ≡ 0) ⊎ (result ≡ 1) }
-    ensures answers { result ≡ 0 → IfOk (image_of arguments.now.raw image.now) (λ i.
-        IfSome (R.remaining reader.old) (λ script. IsTold
-        (script_of (lines script) 1 (guest_of arguments.now.harts arguments.now.pages i.0 i.1))
-        (O.contents output.old) (O.contents output.new))) }
+) -> Result<u8, LinkFault>
+    ensures status { IfOk result (λ status. Answers status
+        (λ end. IsDebugEnd arguments.now image.now (R.remaining reader.old) end (O.contents output.old) (O.contents output.new))
+        (E.contents errors.old) (E.contents errors.new)) }
     ensures fault { IsErr (image_of arguments.now.raw image.now)
-        → (result ≡ 1) × (O.contents output.new ≡ O.contents output.old) }
+        → O.contents output.new ≡ O.contents output.old }
     ensures outside { IfOk (image_of arguments.now.raw image.now) (λ i.
         fits i.0 i.1 (4096 * arguments.now.pages) ≡ false
-        → (result ≡ 1) × (O.contents output.new ≡ O.contents output.old)) }
+        → O.contents output.new ≡ O.contents output.old) }
 {
-    let told = match debug(alloc, arguments, image, reader, output) {
-        Ok(()) => return 0,
-        Err(refused) => refused,
-    };
-    let _ = writeln!(errors, "{told}");
-    1
+    match debug(alloc, arguments, image, reader, output) {
+        Ok(()) => Ok(0),
+        Err(refused) => tell(refused, errors),
+    }
 }
 
 /// The script itself.
@@ -55,18 +55,33 @@ fn debug<R: Read, O: Write>(
     reader: &mut R,
     output: &mut O,
 ) -> Result<(), Refused>
-    ensures answers { OnOk result (IfOk (image_of arguments.now.raw image.now) (λ i.
-        IfSome (R.remaining reader.old) (λ script. IsTold
-        (script_of (lines script) 1 (guest_of arguments.now.harts arguments.now.pages i.0 i.1))
-        (O.contents output.old) (O.contents output.new)))) }
+    ensures end { IsDebugEnd arguments.now image.now (R.remaining reader.old) result
+        (O.contents output.old) (O.contents output.new) }
     ensures fault { IsErr (image_of arguments.now.raw image.now)
-        → IsErr result × (O.contents output.new ≡ O.contents output.old) }
+        → O.contents output.new ≡ O.contents output.old }
     ensures outside { IfOk (image_of arguments.now.raw image.now) (λ i.
         fits i.0 i.1 (4096 * arguments.now.pages) ≡ false
-        → IsErr result × (O.contents output.new ≡ O.contents output.old)) }
+        → O.contents output.new ≡ O.contents output.old) }
 {
-    let program = read_file(alloc, arguments.raw, image)?;
-    let mut guest = new_guest(alloc, arguments.harts, arguments.pages, &program)?;
-    run_script(alloc, &mut guest, reader, output)?;
+    let mut guest = load_guest(alloc, arguments, image)?;
+    answer(alloc, &mut guest, reader, output)?;
     Ok(())
+}
+
+/// Answers a script, and writes what the writer held back.
+#[tactic(auto, using(crate::proofs::Refusals::script_ended, crate::proofs::Refusals::link_failed))]
+fn answer<M: Memory, R: Read, O: Write>(
+    alloc: Global,
+    guest: &mut Debugged<M>,
+    reader: &mut R,
+    output: &mut O,
+) -> Result<(), ScriptError>
+    ensures { IsScriptEndOf (R.remaining reader.old) guest.old.guest result
+        (O.contents output.old) (O.contents output.new) }
+{
+    let answered = run_script(alloc, guest, reader, output);
+    match flush(output) {
+        Ok(()) => answered,
+        Err(LinkFault) => Err(ScriptError::LinkFault),
+    }
 }

@@ -1,13 +1,14 @@
 //! `rvmove dis`: the lines of an image's words.
 
 ghost use Rattle.std.specs.Prelude.{◌≡◌, ◌⊎◌, ◌+◌, ◌%◌, ◌^◌, ◌++◌, codes, IfOk, IsErr, OnOk, drop};
-ghost use Rattle.std.specs.Io.KnownBytes.{Appends};
+ghost use Rattle.std.specs.Io.KnownBytes.{Appends, Keeps};
 ghost use Rattle.rvm_image.specs.Images.{pieces_of};
 ghost use Rattle.rvm_dis.specs.Disassembly.{line_at};
 ghost use Rattle.rvm_command.specs.Command.{before_word, image_of, listing, word_lines};
+ghost use Rattle.rvm_command.specs.Ends.{Answers, IsListEnd};
 
 use crate::guest::read_file;
-use crate::refused::Refused;
+use crate::refused::{Refused, tell};
 use crate::run::LinkFault;
 use byteorder::{ByteOrder, LittleEndian};
 use rvm_arguments::DisArguments;
@@ -18,27 +19,27 @@ use std::io::Write;
 
 /// Writes a line for each whole aligned word of the image's segments, one segment after the other:
 /// its address, the word, and the text of its instruction. Answers the status: 0, or 1 where it was
-/// refused; then `errors` gets the refusal: that of the file, `OutOfMemory`, or `LinkFault` where a
-/// write failed.
+/// refused; then `errors` gets the refusal in one line, and else nothing: that of the file and
+/// `OutOfMemory`, which leave `output` as it was, or `LinkFault` where a write to `output` failed, of
+/// which a part may have gone out. Whether a writer fails is not said. `LinkFault` as the answer: a
+/// write to `errors` failed.
 pub fn dis_command<O: Write, E: Write>(
     alloc: Global,
     arguments: &DisArguments,
     image: &[u8],
     output: &mut O,
     errors: &mut E,
-) -> u8
-    ensures status { (result ≡ 0) ⊎ (result ≡ 1) }
-    ensures lines { result ≡ 0 → IfOk (image_of arguments.now.raw image.now) (λ i.
-        Appends (O.contents output.old) (O.contents output.new) (listing i.1)) }
+) -> Result<u8, LinkFault>
+    ensures status { IfOk result (λ status. Answers status
+        (λ end. IsListEnd (image_of arguments.now.raw image.now) end (O.contents output.old) (O.contents output.new))
+        (E.contents errors.old) (E.contents errors.new)) }
     ensures fault { IsErr (image_of arguments.now.raw image.now)
-        → (result ≡ 1) × (O.contents output.new ≡ O.contents output.old) }
+        → O.contents output.new ≡ O.contents output.old }
 {
-    let told = match dis(alloc, arguments, image, output) {
-        Ok(()) => return 0,
-        Err(refused) => refused,
-    };
-    let _ = writeln!(errors, "{told}");
-    1
+    match dis(alloc, arguments, image, output) {
+        Ok(()) => Ok(0),
+        Err(refused) => tell(refused, errors),
+    }
 }
 
 /// The lines themselves.
@@ -48,14 +49,25 @@ fn dis<O: Write>(
     image: &[u8],
     output: &mut O,
 ) -> Result<(), Refused>
-    ensures lines { OnOk result (IfOk (image_of arguments.now.raw image.now) (λ i.
-        Appends (O.contents output.old) (O.contents output.new) (listing i.1))) }
+    ensures end { IsListEnd (image_of arguments.now.raw image.now) result
+        (O.contents output.old) (O.contents output.new) }
     ensures fault { IsErr (image_of arguments.now.raw image.now)
-        → IsErr result × (O.contents output.new ≡ O.contents output.old) }
+        → O.contents output.new ≡ O.contents output.old }
 {
     let program = read_file(alloc, arguments.raw, image)?;
     list(&program.segments, output)?;
+    flush(output)?;
     Ok(())
+}
+
+/// Writes what a writer holds back.
+pub(crate) fn flush<W: Write>(writer: &mut W) -> Result<(), LinkFault>
+    ensures { Keeps (W.contents writer.old) (W.contents writer.new) }
+{
+    match writer.flush() {
+        Ok(()) => Ok(()),
+        Err(_) => Err(LinkFault),
+    }
 }
 
 /// Writes the lines of segments.

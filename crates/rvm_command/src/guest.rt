@@ -3,14 +3,17 @@
 ghost use Rattle.std.specs.Prelude.{◌≡◌, ◌⊎◌, ◌≤◌, ◌*◌, true, false, IfOk, IfErr, OnOk, replicate};
 ghost use Rattle.rvm_refusal.specs.declared.refusal.Refusal.TheVariants.{OutsideRam, OutOfMemory};
 ghost use Rattle.rvm_image.specs.Images.{pieces_of};
-ghost use Rattle.rvm_elf.specs.File.{Refuses};
 ghost use Rattle.rvm_elf.specs.Load.{fits};
 ghost use Rattle.rvm_board.specs.Board.{at_reset};
 ghost use Rattle.rvm_command.specs.Command.{guest_of, image_of};
+ghost use Rattle.rvm_command.specs.Ends.{IsFileRefusal, IsLoadable, IsLoadRefusal};
+ghost use Rattle.rvm_command.specs.Refusals.{refused};
 
+use crate::refused::Refused;
+use rvm_arguments::GuestArguments;
 use rvm_board::Board;
 use rvm_debug::Debugged;
-use rvm_elf::{ReadError, load, raw_image, read_image};
+use rvm_elf::{load, raw_image, read_image};
 use rvm_hart::RAM_BASE;
 use rvm_image::Image;
 use rvm_mem::PagedMemory;
@@ -18,40 +21,61 @@ use rvm_paged::PagedRam;
 use rvm_refusal::Refusal;
 use std::alloc::Global;
 
+/// A guest at reset whose board is loaded with the image of a file. It is refused for the fault of
+/// the file, `OutsideRam` for an image that does not lie in RAM, and `OutOfMemory`.
+#[tactic(auto, using(crate::proofs::Refusals::file_not_loaded))]
+pub(crate) fn load_guest(
+    alloc: Global,
+    arguments: &GuestArguments,
+    file: &[u8],
+) -> Result<Debugged<PagedRam>, Refused>
+    ensures loadable { OnOk result (IsLoadable (image_of arguments.now.raw file.now) arguments.now.pages) }
+    ensures guest { IfOk result (λ g. IfOk (image_of arguments.now.raw file.now) (λ i.
+        g.guest ≡ guest_of arguments.now.harts arguments.now.pages i.0 i.1)) }
+    ensures refused { IfErr result
+        (IsLoadRefusal (image_of arguments.now.raw file.now) arguments.now.pages) }
+{
+    let image = read_file(alloc, arguments.raw, file)?;
+    new_guest(alloc, arguments.harts, arguments.pages, &image)
+}
+
 /// The image of a file: an ELF file, or with `raw` plain bytes from the start of RAM on.
-pub(crate) fn read_file(alloc: Global, raw: bool, file: &[u8]) -> Result<Image, ReadError>
+#[tactic(auto, using(crate::proofs::Refusals::file_refused))]
+pub(crate) fn read_file(alloc: Global, raw: bool, file: &[u8]) -> Result<Image, Refused>
     ensures image { IfOk result
         (λ v. image_of raw file.now ≡ Ok (v.entry, pieces_of v.segments.items)) }
-    ensures refused { IfErr result (λ e. Refuses e (image_of raw file.now)) }
+    ensures refused { IfErr result (IsFileRefusal (image_of raw file.now)) }
 {
     if raw {
-        Ok(raw_image(alloc, file)?)
-    } else {
-        read_image(alloc, file)
+        return match raw_image(alloc, file) {
+            Ok(image) => Ok(image),
+            Err(_) => Err(Refused::from(Refusal::OutOfMemory)),
+        };
     }
+    Ok(read_image(alloc, file)?)
 }
 
 /// A board at reset with so many harts and pages, loaded with an image. `OutsideRam` where the
 /// image does not lie in RAM.
-pub(crate) fn new_guest(
+fn new_guest(
     alloc: Global,
     harts: u32,
     pages: u32,
     image: &Image,
-) -> Result<Debugged<PagedRam>, Refusal>
+) -> Result<Debugged<PagedRam>, Refused>
     requires harts { (1 ≤ harts) × (harts ≤ 8) }
     requires pages { (1 ≤ pages) × (pages ≤ 4096) }
     ensures guest { IfOk result (λ g. g.guest
         ≡ guest_of harts pages image.now.entry (pieces_of image.now.segments.items)) }
     ensures inside { OnOk result
         (fits image.now.entry (pieces_of image.now.segments.items) (4096 * pages) ≡ true) }
-    ensures refused { IfErr result (λ e. (e ≡ OutOfMemory) ⊎ ((e ≡ OutsideRam)
+    ensures refused { IfErr result (λ r. (r ≡ refused OutOfMemory) ⊎ ((r ≡ refused OutsideRam)
         × (fits image.now.entry (pieces_of image.now.segments.items) (4096 * pages) ≡ false))) }
 {
     let mut board = new_board(alloc, harts, pages)?;
     match load(image, &mut board) {
         Ok(()) => Ok(Debugged::new(board)),
-        Err(_) => Err(Refusal::OutsideRam),
+        Err(_) => Err(Refused::from(Refusal::OutsideRam)),
     }
 }
 

@@ -1,5 +1,6 @@
 //! The programs as functions over values: what each command does, and the loop of a run. A command is
-//! given parsed arguments, the bytes of its files and two writers; it answers the status.
+//! given parsed arguments, the bytes of its files and two writers; it answers the status, or that it
+//! could not tell of a refusal.
 //!
 //! Stands on the debugged board, images, the assembler, the disassembler, scripts and the arguments,
 //! and knows nothing of files, processes or the terminal.
@@ -12,6 +13,6 @@ pub mod asm_command;
 pub mod debug_command;
 pub mod dis_command;
 mod guest;
-mod refused;
+pub mod refused;
 pub mod run;
 pub mod run_command;

@@ -1,5 +1,9 @@
 //! Why a command was refused, as it is told.
 
+ghost use Rattle.std.specs.Prelude.{◌≡◌, IfOk};
+ghost use Rattle.rvm_refusal.specs.declared.refusal.Refusal.TheVariants as refusal;
+ghost use Rattle.rvm_command.specs.Refusals.{IsTold, refusal_of_fault, refusal_of_file, refusal_of_image, refused, refused_of_script, refused_of_text};
+
 use crate::run::LinkFault;
 use rvm_asm::AsmError;
 use rvm_elf::{ReadError, WriteError};
@@ -7,10 +11,11 @@ use rvm_line::Fault;
 use rvm_refusal::Refusal;
 use rvm_script::ScriptError;
 use std::fmt;
+use std::io::Write;
 
 /// Why a command was refused, and at which line of its text, counted from 1, if at one.
 #[derive(Clone, Copy, Debug, PartialEq, Eq)]
-pub(crate) struct Refused {
+pub struct Refused {
     pub line: Option<usize>,
     pub refusal: Refusal,
 }
@@ -33,6 +38,8 @@ impl fmt::Display for Refused {
 
 /// A refusal at no line.
 impl From<Refusal> for Refused {
+    ghost from_gives = { λ r told. told ≡ refused r };
+
     fn from(refusal: Refusal) -> Refused {
         Refused {
             line: None,
@@ -43,6 +50,8 @@ impl From<Refusal> for Refused {
 
 /// A write failed.
 impl From<LinkFault> for Refused {
+    ghost from_gives = { λ _ told. told ≡ refused refusal.LinkFault };
+
     fn from(_fault: LinkFault) -> Refused {
         Refused::from(Refusal::LinkFault)
     }
@@ -50,6 +59,8 @@ impl From<LinkFault> for Refused {
 
 /// A file has no image.
 impl From<ReadError> for Refused {
+    ghost from_gives = { λ error told. told ≡ refused (refusal_of_file error) };
+
     fn from(error: ReadError) -> Refused {
         Refused::from(match error {
             ReadError::OutOfMemory => Refusal::OutOfMemory,
@@ -63,6 +74,8 @@ impl From<ReadError> for Refused {
 
 /// No file can hold an image.
 impl From<WriteError> for Refused {
+    ghost from_gives = { λ error told. told ≡ refused (refusal_of_image error) };
+
     fn from(error: WriteError) -> Refused {
         Refused::from(match error {
             WriteError::OutOfMemory => Refusal::OutOfMemory,
@@ -74,6 +87,8 @@ impl From<WriteError> for Refused {
 
 /// A text has no assembly, mostly for a line of it.
 impl From<AsmError> for Refused {
+    ghost from_gives = { λ error told. told ≡ refused_of_text error };
+
     fn from(error: AsmError) -> Refused {
         match error {
             AsmError::OutOfMemory => Refused::from(Refusal::OutOfMemory),
@@ -88,6 +103,8 @@ impl From<AsmError> for Refused {
 
 /// A script ended before its end, perhaps at a line of it.
 impl From<ScriptError> for Refused {
+    ghost from_gives = { λ error told. told ≡ refused_of_script error };
+
     fn from(error: ScriptError) -> Refused {
         let line = match error {
             ScriptError::BadToken(line) => Some(line),
@@ -101,12 +118,25 @@ impl From<ScriptError> for Refused {
 }
 
 /// The refusal of a fault of a line.
-fn of_fault(fault: Fault) -> Refusal {
+fn of_fault(fault: Fault) -> Refusal
+    ensures { result ≡ refusal_of_fault fault }
+{
     match fault {
         Fault::BadToken => Refusal::BadToken,
         Fault::UnknownName => Refusal::UnknownName,
         Fault::OutOfReach => Refusal::OutOfReach,
         Fault::Defined => Refusal::Defined,
         Fault::Overlap => Refusal::Overlap,
+    }
+}
+
+/// Tells of a refusal, and answers the status 1. `LinkFault` where it cannot be told.
+pub(crate) fn tell<E: Write>(refused: Refused, errors: &mut E) -> Result<u8, LinkFault>
+    ensures { IfOk result (λ status. (status ≡ 1)
+        × IsTold refused (E.contents errors.old) (E.contents errors.new)) }
+{
+    match writeln!(errors, "{refused}") {
+        Ok(()) => Ok(1),
+        Err(_) => Err(LinkFault),
     }
 }

@@ -1,4 +1,4 @@
-use Rattle.std.proofs.Common.{◌≡◌, ◌∙◌, ◌++◌, ◌+◌, [], sym, ap, refl, append_assoc, append-nil, subst, drop}
+use Rattle.std.proofs.Common.{◌∙◌, ◌++◌, ◌+◌, [], sym, ap, refl, append_assoc, append-nil, subst, drop}
 use Rattle.std.specs.Io.KnownBytes.{Appends}
 use Rattle.rvm_image.specs.Images.{pieces_of}
 use Rattle.rvm_command.specs.Command.{listing}

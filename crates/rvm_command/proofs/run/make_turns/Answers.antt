@@ -1,4 +1,4 @@
-use Rattle.std.proofs.Common.{ℕ, Option, ap, sym, ◌∙◌, ◌-◌, ◌+◌, ◌%◌, ◌≤◌, ◌<◌, drop, arith}
+use Rattle.std.proofs.Common.{ℕ, Option, ap, sym, ◌∙◌, ◌-◌, ◌+◌, ◌%◌, drop, arith}
 use Rattle.rvm_debug.specs.declared.turns.Order.TheVariants.{RoundRobin}
 use Rattle.rvm_command.specs.Run.{rest_of_run}
 use Rattle.rvm_command.proofs.Runs.{no_more, slice_left, turn_of}

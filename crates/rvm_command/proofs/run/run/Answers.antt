@@ -1,5 +1,5 @@
-use Rattle.std.proofs.Common.{◌≡◌, ℕ, ◌+◌, ◌-◌, ◌%◌, ◌<◌, ◌++◌, length, drop, ap, sym, ◌∙◌, refl, arith}
-use Rattle.rvm_command.specs.Run.{drained, output_of, ran}
+use Rattle.std.proofs.Common.{◌+◌, ◌-◌, ◌<◌, ◌++◌, length, drop, sym, refl, arith}
+use Rattle.rvm_command.specs.Run.{output_of, ran}
 use Rattle.rvm_command.proofs.Runs.{appends_more, flushed_slice, halted_slice, on_err, quiet_slice, slice_behind, some_after, some_before, spent_run}
 use Rattle.rvm_command.proofs.run.run.Goals as goal
 

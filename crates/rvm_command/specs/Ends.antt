@@ -1,0 +1,136 @@
+-- How each command ends, what it wrote to its output until then, and what it answers.
+use Rattle.std.specs.Prelude.{◌≡◌, ◌⊎◌, ℕ, zero, suc, ◌+◌, ◌*◌, ◌^◌, ◌<◌, ◌≤◌, ◌==◌, true, false, List, ◌++◌, Option, Some, None, Result, Ok, Err, IfOk, IfSome, IsOk, length, take, codes, count_by}
+use Rattle.std.specs.Str.{IsUtf8, IsValidUpTo}
+use Rattle.std.specs.Io.KnownBytes.{Appends, Keeps}
+use Rattle.rvm_image.specs.Images.{Piece}
+use Rattle.rvm_elf.specs.declared.error.WriteError.{WriteError}
+use Rattle.rvm_elf.specs.declared.error.WriteError.TheVariants as image
+use Rattle.rvm_elf.specs.Load.{fits}
+use Rattle.rvm_elf.specs.Spelling.{in_reach}
+use Rattle.rvm_debug.specs.Guest.{Guest}
+use Rattle.rvm_asm.specs.declared.error.AsmError.{AsmError}
+use Rattle.rvm_asm.specs.Assembly.{IsAssembly}
+use Rattle.rvm_asm.specs.Refusals.{IsError}
+use Rattle.rvm_script.specs.declared.script.ScriptError.{ScriptError}
+use Rattle.rvm_script.specs.declared.script.ScriptError.TheVariants as script
+use Rattle.rvm_script.specs.Script.{Told, script_of}
+use Rattle.rvm_script.specs.Words.{lines}
+use Rattle.rvm_refusal.specs.declared.refusal.Refusal.TheVariants.{OutOfMemory, OutsideRam, BadToken, LinkFault}
+use Rattle.rvm_arguments.specs.declared.arguments.GuestArguments.{GuestArguments}
+use Rattle.rvm_arguments.specs.declared.arguments.RunArguments.{RunArguments}
+use Rattle.rvm_command.specs.declared.refused.Refused.{Refused}
+use Rattle.rvm_command.specs.declared.run.Ended.{Ended}
+use Rattle.rvm_command.specs.Assembled.{IsFileOf}
+use Rattle.rvm_command.specs.Command.{FileImage, end_text, guest_of, image_of, listing, run_of}
+use Rattle.rvm_command.specs.Refusals.{IsTold, refused, refused_at, refused_of_text, refused_of_script, refusal_of_file, refusal_of_image}
+
+-- a file is refused: for its fault, or it has none and memory ran out
+abbrev pub IsFileRefusal : FileImage → Refused → Type 0
+IsFileRefusal (Err fault) r = r ≡ refused (refusal_of_file fault)
+IsFileRefusal (Ok image) r = r ≡ refused OutOfMemory
+
+-- a file has an image that lies in so many pages
+abbrev pub IsLoadable : FileImage → (pages : ℕ) → Type 0
+IsLoadable image pages = IfOk image (λ i. fits i.0 i.1 (4096 * pages) ≡ true) × IsOk image
+
+-- a guest is refused: for its file, since the image does not lie in RAM, or since memory ran out
+abbrev pub IsLoadRefusal : FileImage → (pages : ℕ) → Refused → Type 0
+IsLoadRefusal (Err fault) pages r = r ≡ refused (refusal_of_file fault)
+IsLoadRefusal (Ok image) pages r =
+    (r ≡ refused OutOfMemory)
+    ⊎ ((r ≡ refused OutsideRam) × (fits image.0 image.1 (4096 * pages) ≡ false))
+
+-- a run has made its last turn, or was refused: before its first, or since a write failed
+abbrev pub IsRunEnd : RunArguments → (file input : List ℕ) → Result Ended Refused
+    → (before after : Option (List ℕ)) → Type 0
+IsRunEnd a file input (Ok ended) before after =
+    IsLoadable (image_of a.guest.raw file) a.guest.pages
+    × IfOk (image_of a.guest.raw file) (λ i.
+    (ended ≡ (run_of a.guest.harts a.guest.pages a.steps i input).ended)
+    × Appends before after (run_of a.guest.harts a.guest.pages a.steps i input).written)
+IsRunEnd a file input (Err r) before after =
+    (IsLoadRefusal (image_of a.guest.raw file) a.guest.pages r × (after ≡ before))
+    ⊎ ((r ≡ refused LinkFault) × IsLoadable (image_of a.guest.raw file) a.guest.pages
+    × IfOk (image_of a.guest.raw file) (λ i.
+    0 < length (run_of a.guest.harts a.guest.pages a.steps i input).written))
+
+-- the lines of an image are written, or it was refused: for its file, or since a write failed
+abbrev pub IsListEnd : FileImage → Result (Unit {0}) Refused
+    → (before after : Option (List ℕ)) → Type 0
+IsListEnd image (Ok done) before after = IsOk image × IfOk image (λ i. Appends before after (listing i.1))
+IsListEnd image (Err r) before after =
+    (IsFileRefusal image r × (after ≡ before)) ⊎ ((r ≡ refused LinkFault) × IsOk image)
+
+-- a script is told to its end, or to the line that is none; or memory ran out, or it is too long, or
+-- a read or a write failed
+abbrev pub IsScriptEnd : (text : List ℕ) → Told → Result (Unit {0}) ScriptError
+    → (before after : Option (List ℕ)) → Type 0
+IsScriptEnd text told (Ok done) before after = (told.end ≡ None) × Appends before after told.text
+IsScriptEnd text told (Err (script.BadToken n)) before after =
+    (told.end ≡ Some n) × Appends before after told.text
+IsScriptEnd text told (Err script.TooLong) before after =
+    (2 ^ 26 < length text) × Keeps before after
+IsScriptEnd text told (Err script.OutOfMemory) before after = Keeps before after
+IsScriptEnd text told (Err script.LinkFault) before after = Unit {0}
+
+-- the same of the script that a reader gives, where that is known
+abbrev pub IsScriptEndOf : Option (List ℕ) → Guest → Result (Unit {0}) ScriptError
+    → (before after : Option (List ℕ)) → Type 0
+IsScriptEndOf remaining guest result before after =
+    IfSome remaining (λ s. IsScriptEnd s (script_of (lines s) 1 guest) result before after)
+
+-- a debugged guest's script has ended, or was refused: before its first line, or at its end
+abbrev pub IsDebugEnd : GuestArguments → (file : List ℕ) → (script : Option (List ℕ))
+    → Result (Unit {0}) Refused → (before after : Option (List ℕ)) → Type 0
+IsDebugEnd a file script (Ok done) before after =
+    IsLoadable (image_of a.raw file) a.pages
+    × IfOk (image_of a.raw file) (λ i.
+    IsScriptEndOf script (guest_of a.harts a.pages i.0 i.1) (Ok done) before after)
+IsDebugEnd a file script (Err r) before after =
+    (IsLoadRefusal (image_of a.raw file) a.pages r × (after ≡ before))
+    ⊎ (IsLoadable (image_of a.raw file) a.pages
+    × ((e : ScriptError) × (r ≡ refused_of_script e)
+    × IfOk (image_of a.raw file) (λ i.
+    IsScriptEndOf script (guest_of a.harts a.pages i.0 i.1) (Err e) before after)))
+
+-- the line, counted from 1, at which the byte with an index stands
+abbrev pub line_of_byte : (index : ℕ) → List ℕ → ℕ
+line_of_byte i bytes = count_by (λ b. b == 10) (take i bytes) + 1
+
+-- why an image has no file, if not for want of memory
+abbrev pub IsUnwritable : List Piece → WriteError → Type 0
+IsUnwritable pieces image.OutOfMemory = Unit {0}
+IsUnwritable pieces image.TooMany = 16 < length pieces
+IsUnwritable pieces image.OutOfReach = (length pieces ≤ 16) × (in_reach pieces ≡ false)
+
+-- a text has no file: it is no UTF-8, has no assembly, or its assembly has no file
+abbrev pub IsTextRefusal : (text : List ℕ) → Refused → Type 0
+IsTextRefusal text r =
+    ((n : ℕ) × IsValidUpTo text n × (r ≡ refused_at (line_of_byte n text) BadToken))
+    ⊎ (((e : AsmError) × IsUtf8 text × IsError text e × (r ≡ refused_of_text e))
+    ⊎ ((e : WriteError) × (entry : ℕ) × (pieces : List Piece) × IsAssembly text entry pieces
+    × IsUnwritable pieces e × (r ≡ refused (refusal_of_image e))))
+
+-- the file of a text is written, or it was refused: for the text, or since the write failed
+abbrev pub IsAsmEnd : (text : List ℕ) → Result (Unit {0}) Refused
+    → (before after : Option (List ℕ)) → Type 0
+IsAsmEnd text (Ok done) before after = (file : List ℕ) × IsFileOf text file × Appends before after file
+IsAsmEnd text (Err r) before after =
+    (IsTextRefusal text r × (after ≡ before))
+    ⊎ ((r ≡ refused LinkFault) × ((file : List ℕ) × IsFileOf text file))
+
+-- what a command answers that ends so: 0 where it is done, 1 where it was refused, with the refusal
+-- told to `errors`
+abbrev pub Answers : (status : ℕ) → (End : Result (Unit {0}) Refused → Type 0)
+    → (before after : Option (List ℕ)) → Type 0
+Answers zero End before after = End (Ok tt) × (after ≡ before)
+Answers (suc zero) End before after = (r : Refused) × End (Err r) × IsTold r before after
+Answers (suc (suc n)) End before after = ⊥
+
+-- the same of a run, which tells how it ended
+abbrev pub RunAnswers : (status : ℕ) → (End : Result Ended Refused → Type 0)
+    → (before after : Option (List ℕ)) → Type 0
+RunAnswers zero End before after =
+    (e : Ended) × End (Ok e) × Appends before after (end_text e ++ codes "\n")
+RunAnswers (suc zero) End before after = (r : Refused) × End (Err r) × IsTold r before after
+RunAnswers (suc (suc n)) End before after = ⊥
