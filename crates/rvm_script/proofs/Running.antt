@@ -1,8 +1,9 @@
 -- Folds, one event or line at a time.
-use Rattle.std.proofs.Common.{◌≡◌, ℕ, suc, zero, ◌+◌, List, [], ◌∷◌, ◌++◌, Ok, Err, Option, Some, None, Bool, true, false, cond, ◌<◌, ◌≤◌, length, refl, ap, sym, ◌∙◌, append_assoc, append-nil, arith, is_some}
+use Rattle.std.proofs.Common.{◌≡◌, ℕ, suc, zero, ◌+◌, List, [], ◌∷◌, ◌++◌, Ok, Err, Option, Some, None, Bool, true, false, cond, ◌<◌, ◌≤◌, length, refl, ap, sym, ◌∙◌, append_assoc, append-nil, arith, is_some, subst, IfSome}
 use Rattle.std.proofs.lemmas.Bool.{lt-ltb, le-ltb}
+use Rattle.std.proofs.lemmas.List.{length-append}
 use Rattle.std.specs.Io.KnownBytes.{Appends}
-use Rattle.rvm_mem.specs.Pages.{mark, mark_all}
+use Rattle.rvm_mem.specs.Pages.{mark_all}
 use Rattle.rvm_debug.specs.declared.event.BoardEvent.TheVariants as event
 use Rattle.rvm_debug.specs.declared.event.BoardReply.{BoardReply}
 use Rattle.rvm_debug.specs.declared.event.BoardReply.TheVariants as reply
@@ -21,8 +22,9 @@ use Rattle.rvm_board.specs.Board as board
 use Rattle.rvm_script.specs.declared.line.Line.{Line}
 use Rattle.rvm_script.specs.declared.script.ScriptError.{ScriptError}
 use Rattle.rvm_script.specs.declared.script.ScriptError.TheVariants.{OutOfMemory, TooLong, BadToken, LinkFault}
+use Rattle.rvm_script.specs.Words.{lines}
 use Rattle.rvm_script.specs.Lines.{line_of}
-use Rattle.rvm_script.specs.Runs.{IsRun, IsLineRun, Leaves}
+use Rattle.rvm_script.specs.Runs.{IsReadError, IsRun, IsLineRun}
 use Rattle.rvm_script.specs.Answers.{is_refused}
 use Rattle.rvm_script.specs.Script.{Stepping, stepping, stepping_after, ends, inputs, answered_after, Told, told_after, told_by, ended, done_by, script_of, stepped}
 
@@ -271,17 +273,6 @@ inputs_over {all} {first} {dirty} left g so_far none =
       log = so_far.log ∙ ap (λ ps. mark_all ps first) (sym (append-nil so_far.pages) ∙ ap (λ (s : Answered). s.pages) whole);
     }
 
--- lines that were done, and those that are left, are all
-pub record Lines (all now : Told) (first dirty : List Bool) (before after : Option (List ℕ)) : Type 0 where
-  pub pages : List ℕ
-  pub text : List ℕ
-  pub log : dirty ≡ mark_all pages first
-  pub out : Appends before after text
-  pub whole : told_after pages text now ≡ all
-
-pub lines_none : (all : Told) (dirty : List Bool) (out : Option (List ℕ)) → Lines all all dirty dirty out out
-lines_none all dirty out = record { pages = []; text = []; log = refl; out = appends_none out; whole = refl }
-
 line_first : (b : List ℕ) (bs : List (List ℕ)) (n : ℕ) (g : Guest) → script_of (b ∷ bs) n g ≡ told_by (line_of b) n g (script_of bs (n + 1))
 unfolding script_of
 line_first b bs n g = refl
@@ -290,53 +281,128 @@ no_line : (n : ℕ) (g : Guest) → script_of [] n g ≡ ended None g
 unfolding script_of
 no_line n g = refl
 
-pub line_done : {all : Told} {first : List Bool} {before : Option (List ℕ)} (n m k : ℕ) (ls bs : List (List ℕ)) (b : List ℕ) (old new : GuestState) (mid after : Option (List ℕ)) (u : Unit {0}) (o : Option Line) → line_of b ≡ o → Lines all (script_of ls n old.guest) first old.dirty before mid → ls ≡ b ∷ bs → m ≡ n + 1 → IsLineRun (Ok u) k o old new mid after → Lines all (script_of bs m new.guest) first new.dirty before after
-line_done n m k ls bs b old new mid after u None is so_far more next run = absurd run
-line_done {all} {first} {before} n m k ls bs b old new mid after u (Some l) is so_far more next run =
-    let r = done_by l old.guest in
-    let rest = script_of bs (n + 1) r.guest in
-    let same : script_of bs m new.guest ≡ rest =
-    ap (λ x. script_of bs x new.guest) next ∙ ap (λ x. script_of bs (n + 1) x) run.0 in
-    let here : told_after r.pages r.text rest ≡ script_of ls n old.guest =
-    sym (ap (λ x. script_of x n old.guest) more ∙ line_first b bs n old.guest ∙ ap (λ x. told_by x n old.guest (script_of bs (n + 1))) is) in
+told_both : (ps qs ts us : List ℕ) (t : Told) → told_after ps ts (told_after qs us t) ≡ told_after (ps ++ qs) (ts ++ us) t
+told_both ps qs ts us t =
+    ap (λ l. record t { pages = l; text = ts ++ (us ++ t.text) }) (sym (append_assoc ps qs t.pages))
+    ∙ ap (λ l. record t { pages = (ps ++ qs) ++ t.pages; text = l }) (sym (append_assoc ts us t.text))
+
+-- lines behind others, none of which ended the script
+line_both : (o : Option Line) (ls more : List (List ℕ)) (n : ℕ) (g : Guest) → ((h : Guest) → (script_of ls (n + 1) h).end ≡ None → script_of (ls ++ more) (n + 1) h ≡ told_after (script_of ls (n + 1) h).pages (script_of ls (n + 1) h).text (script_of more (n + 1 + length ls) (script_of ls (n + 1) h).guest))
+    → let first = told_by o n g (script_of ls (n + 1)) in first.end ≡ None → told_by o n g (script_of (ls ++ more) (n + 1)) ≡ told_after first.pages first.text (script_of more (n + suc (length ls)) first.guest)
+line_both None ls more n g others on = absurd cc
+line_both (Some l) ls more n g others on =
+    let r = done_by l g in
+    let d : Told = script_of ls (n + 1) r.guest in
+    let count : n + 1 + length ls ≡ n + suc (length ls) = omega arith in
+    ap (told_after r.pages r.text) (others r.guest on)
+    ∙ told_both r.pages d.pages r.text d.text (script_of more (n + 1 + length ls) d.guest)
+    ∙ ap (λ k. told_after (r.pages ++ d.pages) (r.text ++ d.text) (script_of more k d.guest)) count
+
+script_both : (ls more : List (List ℕ)) (n : ℕ) (g : Guest) → (script_of ls n g).end ≡ None → script_of (ls ++ more) n g ≡ told_after (script_of ls n g).pages (script_of ls n g).text (script_of more (n + length ls) (script_of ls n g).guest)
+unfolding script_of
+script_both [] more n g on = let same : n ≡ n + 0 = omega arith in ap (λ k. script_of more k g) same
+script_both (l ∷ ls) more n g on = line_both (line_of l) ls more n g (script_both ls more (n + 1)) on
+
+-- one line more
+one_line : (ls : List (List ℕ)) (b : List ℕ) (l : Line) (g : Guest) → (script_of ls 1 g).end ≡ None → line_of b ≡ Some l
+    → let d = script_of ls 1 g in let r = done_by l d.guest in script_of (ls ++ b ∷ []) 1 g ≡ record { guest = r.guest; pages = d.pages ++ r.pages; text = d.text ++ r.text; end = None }
+one_line ls b l g on is =
+    let d : Told = script_of ls 1 g in
+    let n = 1 + length ls in
+    let r = done_by l d.guest in
+    script_both ls (b ∷ []) 1 g on
+    ∙ ap (told_after d.pages d.text) (line_first b [] n d.guest ∙ ap (λ o. told_by o n d.guest (script_of [] (n + 1))) is ∙ ap (told_after r.pages r.text) (no_line (n + 1) r.guest))
+    ∙ ap (λ ps. record { guest = r.guest; pages = d.pages ++ ps; text = d.text ++ (r.text ++ []); end = None }) (append-nil r.pages)
+    ∙ ap (λ ts. record { guest = r.guest; pages = d.pages ++ r.pages; text = d.text ++ ts; end = None }) (append-nil r.text)
+
+-- lines that were done, and those that are left, the first of which has this number, are all
+pub record Lines (all left : List (List ℕ)) (number : ℕ) (start now : GuestState) (before written : Option (List ℕ)) : Type 0 where
+  pub done : List (List ℕ)
+  pub whole : done ++ left ≡ all
+  pub counted : number ≡ 1 + length done
+  pub on : (script_of done 1 start.guest).end ≡ None
+  pub guest : now.guest ≡ (script_of done 1 start.guest).guest
+  pub dirty : now.dirty ≡ mark_all (script_of done 1 start.guest).pages start.dirty
+  pub text : Appends before written (script_of done 1 start.guest).text
+
+pub lines_none : (all : List (List ℕ)) (start : GuestState) (out : Option (List ℕ)) → Lines all all 1 start start out out
+unfolding script_of
+lines_none all start out = record { done = []; whole = refl; counted = refl; on = refl; guest = refl; dirty = refl; text = appends_none out }
+
+-- a line that was done, and its guest
+abbrev IsDone : Line → (old new : GuestState) → Type 0
+IsDone l old new = (new.guest ≡ (done_by l old.guest).guest) × (new.dirty ≡ mark_all (done_by l old.guest).pages old.dirty)
+
+line_left : {all left : List (List ℕ)} {number : ℕ} {start now : GuestState} {before written : Option (List ℕ)} (b : List ℕ) (l : Line) (new : GuestState) → (p : Lines all left number start now before written) → line_of b ≡ Some l → IsDone l now new
+    → let told = script_of (p.done ++ b ∷ []) 1 start.guest in (new.guest ≡ told.guest) × (new.dirty ≡ mark_all told.pages start.dirty)
+line_left {all} {left} {number} {start} {now} {before} {written} b l new p is made =
+    let d : Told = script_of p.done 1 start.guest in
+    let r = done_by l d.guest in
+    let told = sym (one_line p.done b l start.guest p.on is) in (
+      made.0 ∙ ap (λ g. (done_by l g).guest) p.guest ∙ ap (λ (t : Told). t.guest) told,
+      made.1 ∙ ap (λ g. mark_all (done_by l g).pages now.dirty) p.guest ∙ ap (mark_all r.pages) p.dirty ∙ sym (mark_more d.pages r.pages start.dirty) ∙ ap (λ (t : Told). mark_all t.pages start.dirty) told,
+    )
+
+line_next : (done bs : List (List ℕ)) (b : List ℕ) (left all : List (List ℕ)) → left ≡ b ∷ bs → done ++ left ≡ all → (done ++ b ∷ []) ++ bs ≡ all
+line_next done bs b left all more whole = append_assoc done (b ∷ []) bs ∙ ap (λ l. done ++ l) (sym more) ∙ whole
+
+pub line_done : {all left : List (List ℕ)} {number : ℕ} {start old : GuestState} {before mid : Option (List ℕ)} (next k : ℕ) (bs : List (List ℕ)) (b : List ℕ) (new : GuestState) (after : Option (List ℕ)) (u : Unit {0}) (o : Option Line) → line_of b ≡ o → Lines all left number start old before mid
+    → left ≡ b ∷ bs → next ≡ number + 1 → IsLineRun (Ok u) k o old new mid after → Lines all bs next start new before after
+line_done {all} {left} {number} {start} {old} {before} {mid} next k bs b new after u None is p more counted run = absurd run
+line_done {all} {left} {number} {start} {old} {before} {mid} next k bs b new after u (Some l) is p more counted run =
+    let d : Told = script_of p.done 1 start.guest in
+    let r = done_by l d.guest in
+    let told = one_line p.done b l start.guest p.on is in
+    let made = line_left b l new p is (run.0, run.1) in
+    let text : Appends mid after r.text = subst (λ (g : Guest). Appends mid after (done_by l g).text) p.guest run.2 in
     record {
-      pages = so_far.pages ++ r.pages;
-      text = so_far.text ++ r.text;
-      log = run.1 ∙ ap (mark_all r.pages) so_far.log ∙ sym (mark_more so_far.pages r.pages first);
-      out = appends_more before mid after so_far.text r.text so_far.out run.2;
-      whole = ap (told_after (so_far.pages ++ r.pages) (so_far.text ++ r.text)) same
-          ∙ ap (λ ps. record rest { pages = ps; text = (so_far.text ++ r.text) ++ rest.text }) (append_assoc so_far.pages r.pages rest.pages)
-          ∙ ap (λ ts. record rest { pages = so_far.pages ++ (r.pages ++ rest.pages); text = ts }) (append_assoc so_far.text r.text rest.text)
-          ∙ ap (told_after so_far.pages so_far.text) here
-          ∙ so_far.whole;
+      done = p.done ++ b ∷ [];
+      whole = line_next p.done bs b left all more p.whole;
+      counted = omega (arith, counted, p.counted, length-append p.done (b ∷ []));
+      on = ap (λ (t : Told). t.end) told;
+      guest = made.0;
+      dirty = made.1;
+      text = subst (Appends before after) (ap (λ (t : Told). t.text) (sym told)) (appends_more before mid after d.text r.text p.text text);
     }
 
--- what stands where no line follows
-lines_left : (all : Told) (end : Option ℕ) (now : Told) (start new : GuestState) (before after : Option (List ℕ)) → now ≡ ended end new.guest → Lines all now start.dirty new.dirty before after → (all.end ≡ end) × Leaves all start new before after
-lines_left all end now start new before after e so_far =
-    let whole = ap (told_after so_far.pages so_far.text) (sym e) ∙ so_far.whole in
-    let texts = sym (append-nil so_far.text) ∙ ap (λ (t : Told). t.text) whole in
-    let marks = sym (append-nil so_far.pages) ∙ ap (λ (t : Told). t.pages) whole in (
-      sym (ap (λ (t : Told). t.end) whole),
+pub lines_over : (all left : List (List ℕ)) (number : ℕ) (start new : GuestState) (before after : Option (List ℕ)) (u : Unit {0}) → left ≡ [] → Lines all left number start new before after → IsRun (Ok u) all start new before after
+lines_over all left number start new before after u none p =
+    let whole : p.done ≡ all = sym (append-nil p.done) ∙ ap (λ l. p.done ++ l) (sym none) ∙ p.whole in
+    rw (← whole) (p.on, record { guest = p.guest; dirty = p.dirty; text = p.text })
+
+-- a line that is none, or whose answer was not written
+pub line_refused : (all left bs : List (List ℕ)) (b : List ℕ) (number k : ℕ) (start old new : GuestState) (before mid after : Option (List ℕ)) (e : ScriptError) (o : Option Line) → line_of b ≡ o → Lines all left number start old before mid → k ≡ number → left ≡ b ∷ bs
+    → IsLineRun (Err e) k o old new mid after → IsRun (Err e) all start new before after
+line_refused all left bs b number k start old new before mid after OutOfMemory o is p same more run = absurd run
+line_refused all left bs b number k start old new before mid after TooLong o is p same more run = absurd run
+line_refused all left bs b number k start old new before mid after LinkFault None is p same more run = absurd run
+line_refused all left bs b number k start old new before mid after LinkFault (Some l) is p same more run =
+    let made = line_left b l new p is run in
+    record { done = p.done ++ b ∷ []; left = bs; whole = line_next p.done bs b left all more p.whole; guest = made.0; dirty = made.1 }
+line_refused all left bs b number k start old new before mid after (BadToken j) (Some l) is p same more run = absurd run
+line_refused all left bs b number k start old new before mid after (BadToken j) None is p same more run =
+    let d : Told = script_of p.done 1 start.guest in
+    let n = 1 + length p.done in
+    let told : script_of all 1 start.guest ≡ told_after d.pages d.text (ended (Some n) d.guest) =
+    ap (λ l. script_of l 1 start.guest) (sym p.whole ∙ ap (λ l. p.done ++ l) more)
+    ∙ script_both p.done (b ∷ bs) 1 start.guest p.on
+    ∙ ap (told_after d.pages d.text) (line_first b bs n d.guest ∙ ap (λ x. told_by x n d.guest (script_of bs (n + 1))) is) in (
+      ap (λ (t : Told). t.end) told ∙ ap (λ (i : ℕ). Some i) (sym (run.0 ∙ same ∙ p.counted)),
       record {
-        guest = ap (λ (t : Told). t.guest) whole;
-        dirty = so_far.log ∙ ap (λ ps. mark_all ps start.dirty) marks;
-        text = rw (← texts) so_far.out;
+        guest = ap (λ (s : GuestState). s.guest) run.1 ∙ p.guest ∙ ap (λ (t : Told). t.guest) (sym told);
+        dirty = ap (λ (s : GuestState). s.dirty) run.1 ∙ p.dirty ∙ ap (λ ps. mark_all ps start.dirty) (sym (append-nil d.pages)) ∙ ap (λ (t : Told). mark_all t.pages start.dirty) (sym told);
+        text = rw run.2 (subst (Appends before mid) (sym (append-nil d.text) ∙ ap (λ (t : Told). t.text) (sym told)) p.text);
       },
     )
 
-pub lines_over : (all : Told) (n : ℕ) (ls : List (List ℕ)) (start new : GuestState) (before after : Option (List ℕ)) (u : Unit {0}) → ls ≡ [] → Lines all (script_of ls n new.guest) start.dirty new.dirty before after → IsRun (Ok u) all start new before after
-lines_over all n ls start new before after u none so_far =
-    lines_left all None (script_of ls n new.guest) start new before after
-    (ap (λ l. script_of l n new.guest) none ∙ no_line n new.guest) so_far
+-- a script that can't be read
+unread : (script : Option (List ℕ)) (lines : List (List ℕ)) (s : GuestState) (out : Option (List ℕ)) (e : ScriptError) → IsReadError script e → IsRun (Err e) lines s s out out
+unfolding script_of
+unread script lines s out OutOfMemory why = (refl, refl)
+unread script lines s out TooLong why = (refl, refl)
+unread script lines s out (BadToken n) why = absurd why
+unread script lines s out LinkFault why = record { done = []; left = lines; whole = refl; guest = refl; dirty = refl }
 
-pub line_refused : (all : Told) (n : ℕ) (ls bs : List (List ℕ)) (b : List ℕ) (start old new : GuestState) (before mid after : Option (List ℕ)) (e : ScriptError) (o : Option Line) → line_of b ≡ o → Lines all (script_of ls n old.guest) start.dirty old.dirty before mid → ls ≡ b ∷ bs → IsLineRun (Err e) n o old new mid after → IsRun (Err e) all start new before after
-line_refused all n ls bs b start old new before mid after OutOfMemory o is so_far more run = tt
-line_refused all n ls bs b start old new before mid after TooLong o is so_far more run = tt
-line_refused all n ls bs b start old new before mid after LinkFault o is so_far more run = tt
-line_refused all n ls bs b start old new before mid after (BadToken k) (Some l) is so_far more run = absurd run
-line_refused all n ls bs b start old new before mid after (BadToken k) None is so_far more run =
-    let e : script_of ls n old.guest ≡ ended (Some n) old.guest =
-    ap (λ x. script_of x n old.guest) more ∙ line_first b bs n old.guest ∙ ap (λ x. told_by x n old.guest (script_of bs (n + 1))) is in
-    let left = lines_left all (Some n) (script_of ls n old.guest) start old before mid e so_far in
-    rw (run.0, run.1, run.2) left
+pub unread_script : (script : Option (List ℕ)) (s : GuestState) (out : Option (List ℕ)) (e : ScriptError) → IsReadError script e → IfSome script (λ bytes. IsRun (Err e) (lines bytes) s s out out)
+unread_script None s out e why = tt
+unread_script (Some bytes) s out e why = unread (Some bytes) (lines bytes) s out e why

@@ -1,5 +1,5 @@
 -- How a script ended, and what stands then.
-use Rattle.std.specs.Prelude.{◌≡◌, ℕ, ◌^◌, ◌<◌, List, length, Option, Some, None, Result, Ok, Err, IfSome}
+use Rattle.std.specs.Prelude.{◌≡◌, ℕ, ◌^◌, ◌<◌, List, ◌++◌, length, Option, Some, None, Result, Ok, Err, IfSome}
 use Rattle.std.specs.Io.KnownBytes.{Appends}
 use Rattle.rvm_mem.specs.Pages.{mark_all}
 use Rattle.rvm_refusal.specs.declared.refusal.Refusal.{Refusal}
@@ -8,7 +8,7 @@ use Rattle.rvm_debug.specs.Guest.{GuestState}
 use Rattle.rvm_script.specs.declared.script.ScriptError.{ScriptError}
 use Rattle.rvm_script.specs.declared.script.ScriptError.TheVariants.{OutOfMemory, TooLong, BadToken, LinkFault}
 use Rattle.rvm_script.specs.declared.line.Line.{Line}
-use Rattle.rvm_script.specs.Script.{Told, done_by}
+use Rattle.rvm_script.specs.Script.{Told, done_by, script_of}
 
 -- what was told went out, and the guest and its dirty log are as told
 pub record Leaves (told : Told) (old new : GuestState) (before after : Option (List ℕ))
@@ -17,14 +17,25 @@ pub record Leaves (told : Told) (old new : GuestState) (before after : Option (L
   pub dirty : new.dirty ≡ mark_all told.pages old.dirty
   pub text : Appends before after told.text
 
--- a script ran to its end, or to the line that is none; of other errors nothing is said here
-abbrev pub IsRun : Result (Unit {0}) ScriptError → Told
+-- some of the first lines were done, each to its end, and none of the others was begun
+pub record IsPartWay (lines : List (List ℕ)) (old new : GuestState) : Type 0 where
+  pub done : List (List ℕ)
+  pub left : List (List ℕ)
+  pub whole : done ++ left ≡ lines
+  pub guest : new.guest ≡ (script_of done 1 old.guest).guest
+  pub dirty : new.dirty ≡ mark_all (script_of done 1 old.guest).pages old.dirty
+
+-- the lines of a script were done to its end, or up to the line that is none, or up to an answer that
+-- could not be written; where it can't be read none is
+abbrev pub IsRun : Result (Unit {0}) ScriptError → (lines : List (List ℕ))
     → (old new : GuestState) → (before after : Option (List ℕ)) → Type 0
-IsRun (Ok u) told old new before after = (told.end ≡ None) × Leaves told old new before after
-IsRun (Err (BadToken n)) told old new before after = (told.end ≡ Some n) × Leaves told old new before after
-IsRun (Err OutOfMemory) told old new before after = Unit {0}
-IsRun (Err TooLong) told old new before after = Unit {0}
-IsRun (Err LinkFault) told old new before after = Unit {0}
+IsRun (Ok u) lines old new before after =
+    let told = script_of lines 1 old.guest in (told.end ≡ None) × Leaves told old new before after
+IsRun (Err (BadToken n)) lines old new before after =
+    let told = script_of lines 1 old.guest in (told.end ≡ Some n) × Leaves told old new before after
+IsRun (Err OutOfMemory) lines old new before after = (new ≡ old) × (after ≡ before)
+IsRun (Err TooLong) lines old new before after = (new ≡ old) × (after ≡ before)
+IsRun (Err LinkFault) lines old new before after = IsPartWay lines old new
 
 -- no line of a script was done
 abbrev pub IsUnread : Result (Unit {0}) ScriptError → Type 0
@@ -48,7 +59,7 @@ IsLineError OutOfMemory = ⊥
 IsLineError (BadToken n) = Unit {0}
 IsLineError LinkFault = Unit {0}
 
--- a line was done, or it is none, and nothing was
+-- a line was done, or it is none, and nothing was; it is done too where its answer could not be written
 abbrev pub IsLineRun : Result (Unit {0}) ScriptError → (number : ℕ) → Option Line
     → (old new : GuestState) → (before after : Option (List ℕ)) → Type 0
 IsLineRun (Ok u) n None old new before after = ⊥
@@ -60,7 +71,10 @@ IsLineRun (Err (BadToken k)) n None old new before after = (k ≡ n) × (new ≡
 IsLineRun (Err (BadToken k)) n (Some l) old new before after = ⊥
 IsLineRun (Err OutOfMemory) n l old new before after = ⊥
 IsLineRun (Err TooLong) n l old new before after = ⊥
-IsLineRun (Err LinkFault) n l old new before after = Unit {0}
+IsLineRun (Err LinkFault) n None old new before after = ⊥
+IsLineRun (Err LinkFault) n (Some l) old new before after =
+    (new.guest ≡ (done_by l old.guest).guest)
+    × (new.dirty ≡ mark_all (done_by l old.guest).pages old.dirty)
 
 -- the error in the list of all refusals
 abbrev pub refusal_of_error : ScriptError → Refusal

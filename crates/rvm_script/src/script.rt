@@ -4,7 +4,6 @@ ghost use Rattle.std.specs.Prelude.{◌≡◌, ◌⊎◌, ◌∷◌, ◌^◌, �
 ghost use Rattle.rvm_script.specs.declared.script.ScriptError.TheVariants.{OutOfMemory, TooLong};
 ghost use Rattle.rvm_script.specs.Words.{lines};
 ghost use Rattle.rvm_script.specs.Lines.{line_of};
-ghost use Rattle.rvm_script.specs.Script.{script_of};
 ghost use Rattle.rvm_script.specs.Runs.{IsRun, IsUnread, IsReadError, IsLineError, IsLineRun, refusal_of_error};
 
 use crate::line::Line;
@@ -56,7 +55,8 @@ impl From<ScriptError> for Refusal {
 /// `TooLong` for more than 2^26 bytes and `OutOfMemory`: then nothing was written, and the board is
 /// as it was. `BadToken` at the first line that is not in the grammar: what the lines before it
 /// answered is written, and the board is as they left it. `LinkFault` where a read or a write
-/// failed.
+/// failed: then the board is as some of the first lines left it, each of which was done to its end,
+/// the last too, whose answer was not written; none was done where a read failed.
 pub fn run_script<M: Memory, R: Read, W: Write>(
     alloc: Global,
     board: &mut Debugged<M>,
@@ -64,7 +64,7 @@ pub fn run_script<M: Memory, R: Read, W: Write>(
     writer: &mut W,
 ) -> Result<(), ScriptError>
     ensures run { IfSome (R.remaining reader.old) (λ script.
-        IsRun result (script_of (lines script) 1 board.old.guest) board.old board.new
+        IsRun result (lines script) board.old board.new
         (W.contents writer.old) (W.contents writer.new)) }
     ensures long { IfSome (R.remaining reader.old) (λ script. 2 ^ 26 < length script
         → IsUnread result × (board.new ≡ board.old)
@@ -74,8 +74,10 @@ pub fn run_script<M: Memory, R: Read, W: Write>(
     ensures unread { (result ≡ Err TooLong) ⊎ (result ≡ Err OutOfMemory)
         → (board.new ≡ board.old) × (W.contents writer.new ≡ W.contents writer.old) }
 {
-    let script = read_script(alloc, reader)?;
-    run_lines(board, &script, writer)
+    match read_script(alloc, reader) {
+        Ok(script) => run_lines(board, &script, writer),
+        Err(error) => Err(error),
+    }
 }
 
 /// All that a reader gives, if it is no more than a script has.
@@ -104,7 +106,7 @@ fn run_lines<M: Memory, W: Write>(
     script: &[u8],
     writer: &mut W,
 ) -> Result<(), ScriptError>
-    ensures run { IsRun result (script_of (lines script.now) 1 board.old.guest) board.old board.new
+    ensures run { IsRun result (lines script.now) board.old board.new
         (W.contents writer.old) (W.contents writer.new) }
     ensures refused { IfErr result IsLineError }
 {

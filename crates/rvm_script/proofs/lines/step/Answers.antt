@@ -1,4 +1,4 @@
-use Rattle.std.proofs.Common.{◌≡◌, ◌<◌, ◌≤◌, suc, ◌∙◌, arith}
+use Rattle.std.proofs.Common.{◌∙◌, arith}
 use Rattle.rvm_script.proofs.Running.{no_steps, steps_made, steps_refused, steps_stopped}
 use Rattle.rvm_script.proofs.lines.step.Goals as goal
 

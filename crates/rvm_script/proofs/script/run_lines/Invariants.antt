@@ -1,6 +1,5 @@
 use Rattle.std.proofs.Common.{◌+◌, ◌≤◌, length}
 use Rattle.rvm_script.specs.Words.{lines}
-use Rattle.rvm_script.specs.Script.{script_of}
 use Rattle.rvm_script.proofs.Running.{Lines}
 use Rattle.rvm_script.proofs.script.run_lines.Given as goal
 
@@ -8,7 +7,7 @@ use Rattle.rvm_script.proofs.script.run_lines.Given as goal
 abbrev pub invariant-loop-rest : goal.invariant-loop-rest
 invariant-loop-rest g l = record {
   count : l.number + length l.rest ≤ length l.script;
-  lines : Lines (script_of (lines l.script) 1 l.fn.board.guest) (script_of (lines l.rest) (l.number + 1) l.board.guest) l.fn.board.dirty l.board.dirty (g.W.Write.contents l.fn.writer) (g.W.Write.contents l.writer);
+  lines : Lines (lines l.script) (lines l.rest) (l.number + 1) l.fn.board l.board (g.W.Write.contents l.fn.writer) (g.W.Write.contents l.writer);
 }
 
 abbrev pub decreases-loop-rest : goal.decreases-loop-rest
