@@ -44,7 +44,7 @@ or_none : (o : Option ℕ) → or_else o None ≡ o
 or_none None = refl
 or_none (Some x) = refl
 
-or_assoc : (x y z : Option ℕ) → or_else x (or_else y z) ≡ or_else (or_else x y) z
+pub or_assoc : (x y z : Option ℕ) → or_else x (or_else y z) ≡ or_else (or_else x y) z
 or_assoc None y z = refl
 or_assoc (Some x) y z = refl
 
@@ -103,7 +103,7 @@ pub taken_into : (p : Piece) (address count : ℕ) → 0 < size p → address �
 taken_into p address count some low high = (p.address, low, high, some_is _ _ (inside p p.address (omega arith) (omega arith)))
 
 -- two of which one is none may change places
-swap : (x y : Option ℕ) → (x ≡ None) ⊎ (y ≡ None) → or_else x y ≡ or_else y x
+pub swap : (x y : Option ℕ) → (x ≡ None) ⊎ (y ≡ None) → or_else x y ≡ or_else y x
 swap None None h = refl
 swap None (Some y) h = refl
 swap (Some x) None h = refl
@@ -123,7 +123,7 @@ back : (p j : ℕ) → p + j - p ≡ j
 back p j = omega arith
 
 -- a piece has no byte where others have one, if it is free there
-apart_at : (p : Piece) (ps : List Piece) (a : ℕ) → IsFree ps p.address (size p) → (in_piece p a ≡ None) ⊎ (byte_at ps a ≡ None)
+pub apart_at : (p : Piece) (ps : List Piece) (a : ℕ) → IsFree ps p.address (size p) → (in_piece p a ≡ None) ⊎ (byte_at ps a ≡ None)
 apart_at p ps a free =
     ⊎_elim (λ h. inl (outside p a (inl h)))
     (λ low. ⊎_elim (λ high. inr (free a low high)) (λ h. inl (outside p a (inr h))) (order a (p.address + size p)))
@@ -205,8 +205,8 @@ get_or_right : (xs ys : List ℕ) (i n : ℕ) → i ≡ length xs + n → get_or
 get_or_right xs ys i n e = ap (λ k. get_or (xs ++ ys) k 0) e ∙ get_or-append-add xs ys n 0
 
 -- bytes behind those of a piece
-longer : (l : ℕ) (xs ys : List ℕ) (a : ℕ) → in_piece (piece l (xs ++ ys)) a ≡ or_else (in_piece (piece (l + length xs) ys) a) (in_piece (piece l xs) a)
-longer l xs ys a =
+pub longer_bytes : (l : ℕ) (xs ys : List ℕ) (a : ℕ) → in_piece (piece l (xs ++ ys)) a ≡ or_else (in_piece (piece (l + length xs) ys) a) (in_piece (piece l xs) a)
+longer_bytes l xs ys a =
     let n : length (xs ++ ys) ≡ length xs + length ys = length-append xs ys in
     let z = in_piece (piece l xs) a in
     ⊎_elim
@@ -234,7 +234,7 @@ joins_last : (rest : List Segment) (last longest : Segment) (address : ℕ) (bs 
 joins_last rest last longest address bs is none at a =
     let x = byte_at (pieces_of rest) a in
     let p : in_piece (piece_of longest) a ≡ or_else (in_piece (piece address bs) a) (in_piece (piece_of last) a) =
-    ap (λ q. in_piece q a) is ∙ longer last.address last.bytes.items bs a
+    ap (λ q. in_piece q a) is ∙ longer_bytes last.address last.bytes.items bs a
     ∙ ap (λ l. or_else (in_piece (piece l bs) a) (in_piece (piece last.address last.bytes.items) a)) (sym at)
     ∙ ap (λ q. or_else (in_piece (piece address bs) a) (in_piece q a)) (sym (plain last none)) in
     joins_push rest longest a ∙ ap (λ o. or_else o x) p ∙ sym (or_assoc (in_piece (piece address bs) a) (in_piece (piece_of last) a) x)

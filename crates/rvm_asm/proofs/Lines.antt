@@ -1,10 +1,9 @@
 -- Lines that are read.
-use Rattle.std.proofs.Common.{◌≡◌, ℕ, zero, suc, ◌+◌, ◌<◌, List, [], ◌∷◌, length, get_or, refl, ap, sym, subst, ◌∙◌, Option, Some, None, Result, Ok, Err, arith, rules, ⊎_elim}
+use Rattle.std.proofs.Common.{◌≡◌, ℕ, zero, suc, ◌+◌, ◌<◌, List, [], ◌∷◌, length, get_or, refl, ap, sym, subst, ◌∙◌, Option, Some, None, Result, Err, arith, rules, ⊎_elim}
 use Rattle.std.specs.Prelude.{IsSome, map, unwrap_or}
 use denote.Ref.{Bor}
 use Rattle.std.proofs.lemmas.List.{get_or-map, length-map}
 use Rattle.rvm_text.specs.Lexemes.{Lexeme, lexemes}
-use Rattle.rvm_line.specs.declared.faults.Fault.TheVariants.{BadToken}
 use Rattle.rvm_line.specs.declared.faults.LineError.{LineError}
 use Rattle.rvm_line.specs.declared.faults.LineError.TheVariants.{OutOfMemory, Faulty}
 use Rattle.rvm_line.specs.Values.{Names}

@@ -1,14 +1,15 @@
 -- Pieces that rise by address.
-use Rattle.std.proofs.Common.{◌≡◌, ℕ, zero, suc, ◌+◌, ◌-◌, ◌<◌, ◌≤◌, List, [], ◌∷◌, ◌++◌, length, get_or, take, drop, refl, ap, sym, ◌∙◌, Option, Some, None, arith, subst, ⊎_elim, length-append}
-use Rattle.std.specs.Prelude.{All}
-use Rattle.std.proofs.lemmas.List.{map_push, get_or-map, length-map}
+use Rattle.std.proofs.Common.{◌≡◌, ℕ, zero, suc, ◌+◌, ◌-◌, ◌<◌, ◌≤◌, List, [], ◌∷◌, ◌++◌, length, get_or, take, drop, refl, ap, sym, ◌∙◌, Option, Some, None, arith, subst, inl, inr, ⊎_elim, length-append}
+use Rattle.std.specs.Prelude.{All, set, ◌⊎◌}
+use Rattle.std.proofs.lemmas.List.{map_push, get_or-map, length-map, map-set}
 use Rattle.std.proofs.lemmas.List.Elements.{All-cons}
 use Rattle.std.proofs.str.Laws.{order}
 use Rattle.rvm_image.specs.declared.image.Segment.{Segment}
 use Rattle.rvm_image.specs.Images.{Piece, piece, size, in_piece, byte_at, or_else, piece_of, pieces_of, IsRising}
-use Rattle.rvm_asm.specs.Images.{IsFree, IsTaken, AreOrdered, end_of}
+use Rattle.rvm_asm.specs.Images.{IsFree, IsTaken, Joins, AreOrdered, end_of, longer}
 use Rattle.rvm_asm.specs.Views.{HasNoZeros}
-use Rattle.rvm_asm.proofs.Bytes.{inside, pieces_append, pieces_at, free_more, taken_first, taken_more, apart_before, apart_behind}
+use Rattle.rvm_asm.proofs.Bytes.{inside, pieces_append, pieces_at, free_more, taken_first, taken_more, apart_before, apart_behind, or_assoc, swap, plain_size, longer_bytes}
+use Rattle.rvm_asm.proofs.Bytes as bytes
 
 -- farther apart than asked
 pub weaker : (gap lo less low : ℕ) (ps : List Piece) → less ≤ gap → low ≤ lo → AreOrdered gap lo ps → AreOrdered less low ps
@@ -165,15 +166,6 @@ insert_ordered lo (suc at) (q ∷ qs) p o free n z low before behind within =
           (λ k e. before (suc k) (omega (arith, e))) (λ h. behind (omega (arith, h))) (omega (arith, within)),
     )
 
--- where all begin before a free place, they end there or before
-pub all_before : (lo : ℕ) (ps : List Piece) (place count : ℕ) → AreOrdered 0 lo ps → IsFree ps place count → 0 < count → lo ≤ place → ((k : ℕ) → length ps ≡ k + 1 → (get_or ps k (piece 0 [])).address ≤ place) → end_of 0 lo ps ≤ place
-unfolding AreOrdered end_of
-all_before lo [] place count o free some low last = low
-all_before lo (q ∷ qs) place count o free some low last =
-    let first : q.address ≤ place = omega (arith, head_first lo q qs (length qs) o (omega arith), last (length qs) (omega arith)) in
-    all_before (q.address + length q.bytes + 0) qs place count o.3 (free_tail q qs place count free) some
-    (omega (arith, ends_before q qs place count free some first)) (λ k e. last (suc k) (omega (arith, e)))
-
 -- what holds of the piece before an index
 pub before_index : (ps : List Piece) (at k address : ℕ) → (0 < at → (get_or ps (at - 1) (piece 0 [])).address ≤ address) → at ≡ k + 1 → (get_or ps k (piece 0 [])).address ≤ address
 before_index ps at k address h e =
@@ -231,3 +223,77 @@ pub taken_segments : (ss : List Segment) (i place count : ℕ) (d : Segment) →
 taken_segments ss i place count d inside t =
     taken_at (pieces_of ss) i place count (omega (arith, inside, length-map ss piece_of))
     (subst (λ p. IsTaken (p ∷ []) place count) (sym (get_or-map piece_of ss i d (piece 0 []) inside)) t)
+
+-- a piece that begins at a free place or behind it begins behind all that are free
+begins_from : (p : Piece) (ps : List Piece) (place count : ℕ) → IsFree (p ∷ ps) place count → 0 < length p.bytes → place ≤ p.address → place + count ≤ p.address
+begins_from p ps place count free some high =
+    ⊎_elim (λ h. absurd (some_none _ _ (none_second (byte_at ps p.address) (in_piece p p.address) (free p.address high h)) (inside p p.address (omega arith) (omega arith)))) (λ h. h) (order p.address (place + count))
+
+plain_piece : (p : Piece) → p.zeros ≡ 0 → p ≡ piece p.address p.bytes
+plain_piece p e = ap (λ z. record { address = p.address; bytes = p.bytes; zeros = z }) e
+
+same_place : (p : Piece) (place : ℕ) (bs : List ℕ) → p.zeros ≡ 0 → p.address + length p.bytes ≡ place → (a : ℕ) → in_piece (longer p bs) a ≡ or_else (in_piece (piece place bs) a) (in_piece p a)
+same_place p place bs none ends a =
+    ap (λ q. in_piece (longer q bs) a) (plain_piece p none)
+    ∙ longer_bytes p.address p.bytes bs a
+    ∙ ap (λ l. or_else (in_piece (piece l bs) a) (in_piece (piece p.address p.bytes) a)) ends
+    ∙ ap (λ q. or_else (in_piece (piece place bs) a) (in_piece q a)) (sym (plain_piece p none))
+
+-- bytes join those of the piece that ends where they begin
+joins_longer : (lo : ℕ) (ps : List Piece) (i place : ℕ) (bs : List ℕ) → AreOrdered 0 lo ps → i < length ps → (get_or ps i (piece 0 [])).address + length (get_or ps i (piece 0 [])).bytes ≡ place → IsFree ps place (length bs) → Joins ps (set ps i (longer (get_or ps i (piece 0 [])) bs)) (piece place bs)
+unfolding AreOrdered
+joins_longer lo [] i place bs o inside ends free = absurd (omega (arith, inside))
+joins_longer lo (p ∷ ps) zero place bs o inside ends free = λ a.
+    let x = byte_at ps a in
+    let n = in_piece (piece place bs) a in
+    let q = in_piece p a in
+    let one : (n ≡ None) ⊎ (byte_at (p ∷ ps) a ≡ None) = bytes.apart_at (piece place bs) (p ∷ ps) a (subst (IsFree (p ∷ ps) place) (sym (plain_size place bs)) free) in
+    ap (or_else x) (same_place p place bs o.2 ends a)
+    ∙ or_assoc x n q
+    ∙ ap (λ y. or_else y q) (swap x n (⊎_elim (λ e. inr e) (λ e. inl (none_first x q e)) one))
+    ∙ sym (or_assoc n x q)
+joins_longer lo (q ∷ ps) (suc i) place bs o inside ends free = λ a.
+    ap (λ y. or_else y (in_piece q a)) (joins_longer (q.address + length q.bytes + 0) ps i place bs o.3 (omega (arith, inside)) ends (free_tail q ps place (length bs) free) a)
+    ∙ sym (or_assoc (in_piece (piece place bs) a) (byte_at ps a) (in_piece q a))
+
+-- and the pieces still rise
+longer_rises : (lo : ℕ) (ps : List Piece) (i place : ℕ) (bs : List ℕ) → AreOrdered 0 lo ps → i < length ps → (get_or ps i (piece 0 [])).address + length (get_or ps i (piece 0 [])).bytes ≡ place → IsFree ps place (length bs) → 0 < length bs → AreOrdered 0 lo (set ps i (longer (get_or ps i (piece 0 [])) bs))
+unfolding AreOrdered
+longer_rises lo [] i place bs o inside ends free some = absurd (omega (arith, inside))
+longer_rises lo (p ∷ []) zero place bs o inside ends free some = (o.0, omega (arith, o.1, length-append p.bytes bs), o.2, tt)
+longer_rises lo (p ∷ q ∷ qs) zero place bs o inside ends free some =
+    let next : place + length bs ≤ q.address = begins_from q qs place (length bs) (free_tail p (q ∷ qs) place (length bs) free) o.3.1 (omega (arith, ends, o.3.0)) in
+    (o.0, omega (arith, o.1, length-append p.bytes bs), o.2, (omega (arith, ends, next, length-append p.bytes bs), o.3.1, o.3.2, o.3.3))
+longer_rises lo (q ∷ ps) (suc i) place bs o inside ends free some =
+    (o.0, o.1, o.2, longer_rises (q.address + length q.bytes + 0) ps i place bs o.3 (omega (arith, inside)) ends (free_tail q ps place (length bs) free) some)
+
+zeros_at : (lo : ℕ) (ps : List Piece) (i : ℕ) → AreOrdered 0 lo ps → i < length ps → (get_or ps i (piece 0 [])).zeros ≡ 0
+unfolding AreOrdered
+zeros_at lo [] i o h = absurd (omega (arith, h))
+zeros_at lo (p ∷ ps) zero o h = o.2
+zeros_at lo (p ∷ ps) (suc i) o h = zeros_at (p.address + length p.bytes + 0) ps i o.3 (omega (arith, h))
+
+-- where a segment ends
+ends_there : (ss : List Segment) (i place : ℕ) (d : Segment) → AreOrdered 0 0 (pieces_of ss) → i < length ss → (get_or ss i d).address + size (piece_of (get_or ss i d)) ≡ place → (get_or (pieces_of ss) i (piece 0 [])).address + length (get_or (pieces_of ss) i (piece 0 [])).bytes ≡ place
+ends_there ss i place d o h e =
+    let same : get_or (pieces_of ss) i (piece 0 []) ≡ piece_of (get_or ss i d) = get_or-map piece_of ss i d (piece 0 []) h in
+    let none : (get_or ss i d).zeros ≡ 0 = ap (λ (p : Piece). p.zeros) (sym same) ∙ zeros_at 0 (pieces_of ss) i o (omega (arith, h, length-map ss piece_of)) in
+    ap (λ (p : Piece). p.address + length p.bytes) same ∙ omega (arith, e, none)
+
+pub longer_joins : (ss : List Segment) (new : List Segment) (i place : ℕ) (bs : List ℕ) (d : Segment) → AreOrdered 0 0 (pieces_of ss) → i < length ss → (get_or ss i d).address + size (piece_of (get_or ss i d)) ≡ place → IsFree (pieces_of ss) place (length bs) → pieces_of new ≡ set (pieces_of ss) i (longer (get_or (pieces_of ss) i (piece 0 [])) bs) → Joins (pieces_of ss) (pieces_of new) (piece place bs)
+longer_joins ss new i place bs d o h e free is =
+    subst (λ ps. Joins (pieces_of ss) ps (piece place bs)) (sym is) (joins_longer 0 (pieces_of ss) i place bs o (omega (arith, h, length-map ss piece_of)) (ends_there ss i place d o h e) free)
+
+pub longer_are_ordered : (ss : List Segment) (new : List Segment) (i place : ℕ) (bs : List ℕ) (d : Segment) → AreOrdered 0 0 (pieces_of ss) → i < length ss → (get_or ss i d).address + size (piece_of (get_or ss i d)) ≡ place → IsFree (pieces_of ss) place (length bs) → 0 < length bs → pieces_of new ≡ set (pieces_of ss) i (longer (get_or (pieces_of ss) i (piece 0 [])) bs) → AreOrdered 0 0 (pieces_of new)
+longer_are_ordered ss new i place bs d o h e free some is =
+    subst (AreOrdered 0 0) (sym is) (longer_rises 0 (pieces_of ss) i place bs o (omega (arith, h, length-map ss piece_of)) (ends_there ss i place d o h e) free some)
+
+-- a segment with more bytes among the others
+pub lengthened : (old new : List Segment) (i : ℕ) (d longest : Segment) (bs : List ℕ) → i < length old → new ≡ set old i longest → longest.address ≡ (get_or old i d).address → longest.bytes.items ≡ (get_or old i d).bytes.items ++ bs → longest.zeros ≡ (get_or old i d).zeros → pieces_of new ≡ set (pieces_of old) i (longer (get_or (pieces_of old) i (piece 0 [])) bs)
+lengthened old new i d longest bs h is at more none =
+    ap pieces_of is ∙ map-set piece_of old i longest
+    ∙ ap (set (pieces_of old) i)
+    (ap (λ n. record { address = n; bytes = longest.bytes.items; zeros = longest.zeros }) at
+    ∙ ap (λ xs. record { address = (get_or old i d).address; bytes = xs; zeros = longest.zeros }) more
+    ∙ ap (λ n. record { address = (get_or old i d).address; bytes = (get_or old i d).bytes.items ++ bs; zeros = n }) none
+    ∙ ap (λ p. longer p bs) (sym (get_or-map piece_of old i d (piece 0 []) h)))

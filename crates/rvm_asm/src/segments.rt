@@ -1,9 +1,9 @@
 //! Segments that rise by address.
 
 ghost use Rattle.std.specs.Prelude.{◌≡◌, ℕ, ◌+◌, ◌-◌, ◌≤◌, ◌<◌, [], ◌∷◌, ◌++◌, IfOk, All, OnOk};
-ghost use Rattle.std.specs.Prelude.{length, get_or, IsTrue, IsFalse};
+ghost use Rattle.std.specs.Prelude.{length, get_or, set, IsTrue, IsFalse};
 ghost use Rattle.rvm_image.specs.Images.{piece, piece_of, pieces_of, size, IsRising};
-ghost use Rattle.rvm_asm.specs.Images.{IsFree, IsTaken, Joins, HasSameBytes, AreOrdered, end_of};
+ghost use Rattle.rvm_asm.specs.Images.{IsFree, IsTaken, Joins, HasSameBytes, AreOrdered, end_of, longer};
 ghost use Rattle.rvm_asm.specs.Views.{HasNoZeros};
 
 use rvm_image::Segment;
@@ -62,7 +62,8 @@ fn is_apart_at(segments: &[Segment], index: usize, address: u32, count: u64) -> 
     }
 }
 
-/// Puts bytes where none stand, before the segments with higher addresses.
+/// Puts bytes where none stand: into the segment that ends there, or before the segments with higher
+/// addresses.
 pub fn insert(segments: &mut Vec<Segment>, address: u32, bytes: Vec<u8>) -> Result<(), AllocError>
     requires some { 0 < length bytes.items }
     requires free { IsFree (pieces_of segments.old.items) address (length bytes.items) }
@@ -72,8 +73,8 @@ pub fn insert(segments: &mut Vec<Segment>, address: u32, bytes: Vec<u8>) -> Resu
     ensures ordered { OnOk result (AreOrdered 0 0 (pieces_of segments.new.items)) }
 {
     let at = index_behind(segments, address);
-    if at == segments.len() {
-        append(segments, address, bytes)?;
+    if at > 0 && end(&segments[at - 1]) == u64::from(address) {
+        lengthen_at(segments, at - 1, &bytes)?;
         return Ok(());
     }
     segments.insert(
@@ -84,6 +85,17 @@ pub fn insert(segments: &mut Vec<Segment>, address: u32, bytes: Vec<u8>) -> Resu
             zeros: 0,
         },
     )?;
+    Ok(())
+}
+
+/// Puts bytes behind those of the segment with an index.
+fn lengthen_at(segments: &mut Vec<Segment>, index: usize, bytes: &[u8]) -> Result<(), AllocError>
+    requires { index < length segments.old.items }
+    ensures { OnOk result (pieces_of segments.new.items ≡ set (pieces_of segments.old.items) index
+        (longer (get_or (pieces_of segments.old.items) index (piece 0 [])) bytes.now)) }
+{
+    let touched = &mut segments[index];
+    touched.bytes.extend_from_slice(bytes)?;
     Ok(())
 }
 

@@ -1,4 +1,4 @@
-use Rattle.std.proofs.Common.{◌≡◌, arith, sym, ◌∙◌, ap, get_or, length, ◌+◌, [], subst}
+use Rattle.std.proofs.Common.{◌≡◌, arith, sym, ap, get_or, length, ◌+◌, [], subst}
 use Rattle.std.proofs.lemmas.List.{get_or_at}
 use Rattle.rvm_asm.specs.Assembly.{IsLaidTo}
 use Rattle.rvm_line.specs.Views.{names_of}

@@ -1,4 +1,4 @@
-use Rattle.std.proofs.Common.{◌≡◌, arith, sym, ◌∙◌, ap, get_or, [], refl, length, subst}
+use Rattle.std.proofs.Common.{◌≡◌, arith, get_or, refl, length, subst}
 use Rattle.rvm_asm.specs.Assembly.{IsImageTo}
 use Rattle.rvm_asm.specs.Refusals.{count_to}
 use Rattle.rvm_line.specs.Views.{names_of}
