@@ -22,7 +22,7 @@ Harts take turns of one instruction each. At the end standard error has `halted 
 const ASM_HELP: &str = "\
 Example: rvmove asm hello.s hello.elf
 
-README.md tells of the language, under \"Assembly\".";
+The language is described in docs/ASSEMBLY.md.";
 
 /// What stands below the help of `dis`.
 const DIS_HELP: &str = "\

@@ -19,7 +19,7 @@ use rvm_refusal::Refusal;
 use std::convert::AsStr;
 use std::fs;
 use std::fs::File;
-use std::io::{Read, Write};
+use std::io::{BufWriter, Read, Write};
 use std::rt::Files;
 
 /// Does what the words of a command line ask for, of which the first is the program's name, and answers
@@ -64,7 +64,7 @@ fn run<Rt: Files + AllocGlobal, O: Write, E: Write>(
             Err(_) => return refuse(errors, Refusal::LinkFault),
         },
     };
-    run_command(rt.alloc(), arguments, &image, &keys, output, errors)
+    run_command(rt.alloc(), arguments, &image, &keys, output, errors).unwrap_or(1)
 }
 
 /// Reads the text, opens the file that is written, and assembles.
@@ -77,7 +77,7 @@ fn asm<Rt: Files + AllocGlobal, E: Write>(rt: &Rt, arguments: &AsmArguments, err
     let Ok(mut file) = File::create(rt, arguments.output) else {
         return refuse(errors, Refusal::LinkFault);
     };
-    asm_command(rt.alloc(), &source, &mut file, errors)
+    asm_command(rt.alloc(), &source, &mut file, errors).unwrap_or(1)
 }
 
 /// Reads the image, and writes its lines.
@@ -92,7 +92,10 @@ fn dis<Rt: Files + AllocGlobal, O: Write, E: Write>(
     let Ok(image) = fs::read(rt, arguments.image) else {
         return refuse(errors, Refusal::LinkFault);
     };
-    dis_command(rt.alloc(), arguments, &image, output, errors)
+    let Ok(mut output) = BufWriter::new(rt.alloc(), output) else {
+        return refuse(errors, Refusal::OutOfMemory);
+    };
+    dis_command(rt.alloc(), arguments, &image, &mut output, errors).unwrap_or(1)
 }
 
 /// Reads the image, and answers the script that standard input gives.
@@ -108,7 +111,10 @@ fn debug<Rt: Files + AllocGlobal, I: Read, O: Write, E: Write>(
     let Ok(image) = fs::read(rt, arguments.image) else {
         return refuse(errors, Refusal::LinkFault);
     };
-    debug_command(rt.alloc(), arguments, &image, input, output, errors)
+    let Ok(mut output) = BufWriter::new(rt.alloc(), output) else {
+        return refuse(errors, Refusal::OutOfMemory);
+    };
+    debug_command(rt.alloc(), arguments, &image, input, &mut output, errors).unwrap_or(1)
 }
 
 /// Tells of a refusal, and answers the status 1.

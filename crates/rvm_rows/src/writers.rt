@@ -3,6 +3,7 @@
 use rvm_arguments::{GuestArguments, RunArguments};
 use rvm_command::asm_command::asm_command;
 use rvm_command::debug_command::debug_command;
+use rvm_command::run::LinkFault;
 use rvm_command::run_command::run_command;
 use std::alloc::{AllocError, Global};
 use std::io;
@@ -78,14 +79,14 @@ fn a_failed_write_of_a_run_is_told(rt: HostRuntime) -> Result<(), Fail> {
         let status = run_command(alloc, &arguments, &letters, &[], &mut output, &mut errors);
         assert_eq!(rt; errors.as_slice(), REFUSAL.as_bytes());
         assert_eq!(rt; output.room, 0);
-        assert_eq!(rt; status, 1);
+        assert_eq!(rt; status, Ok(1));
     }
     // What is said of the end can fail too.
     let letter = bytes_of(alloc, &LETTER)?;
     let (mut output, mut errors) = (Vec::new(alloc), Narrow { room: 3 });
     let status = run_command(alloc, &arguments, &letter, &[], &mut output, &mut errors);
     assert_eq!(rt; output.as_slice(), "A".as_bytes());
-    assert_eq!(rt; status, 1);
+    assert_eq!(rt; status, Err(LinkFault));
     Ok(())
 }
 
@@ -104,7 +105,7 @@ fn a_failed_write_of_an_answer_is_told(rt: HostRuntime) -> Result<(), Fail> {
         &mut errors,
     );
     assert_eq!(rt; errors.as_slice(), REFUSAL.as_bytes());
-    assert_eq!(rt; status, 1);
+    assert_eq!(rt; status, Ok(1));
     Ok(())
 }
 
@@ -113,5 +114,5 @@ fn a_failed_write_of_a_file_is_told(rt: HostRuntime) {
     let (mut output, mut errors) = (Narrow { room: 10 }, Vec::new(rt.alloc()));
     let status = asm_command(rt.alloc(), b"nop\n", &mut output, &mut errors);
     assert_eq!(rt; errors.as_slice(), REFUSAL.as_bytes());
-    assert_eq!(rt; status, 1);
+    assert_eq!(rt; status, Ok(1));
 }
