@@ -1,19 +1,34 @@
--- A run, turn by turn, and writes after writes.
-use Rattle.std.proofs.Common.{◌≡◌, ℕ, suc, OnErr, Result, Ok, Err, ◌+◌, ◌-◌, ◌*◌, ◌/◌, ◌%◌, ◌<◌, List, [], ◌∷◌, ◌++◌, length, take, drop, min, Option, Some, None, Bool, true, false, refl, sym, ap, ◌∙◌, arith, append_assoc, append-nil, cond, nat_eq, nat_lt, zero, ◌≤◌}
-use Rattle.std.proofs.lemmas.List.{take_at, take-append-drop, length-take, length-append, drop_all}
+-- A run, event by event, and writes after writes.
+use Rattle.std.proofs.Common.{◌≡◌, ℕ, zero, suc, OnErr, Result, Ok, Err, ◌+◌, ◌-◌, ◌*◌, ◌/◌, ◌%◌, ◌<◌, ◌≤◌, List, [], ◌∷◌, ◌++◌, length, take, drop, min, replicate, Option, Some, None, Bool, true, false, refl, sym, ap, subst, ◌∙◌, arith, append_assoc, append-nil, cond, nat_eq, nat_lt}
+use Rattle.std.proofs.lemmas.List.{drop_min, take_at, take_min, length-take, length-append, length-drop, drop_all}
+use Rattle.std.proofs.lemmas.Bool.{eqb-true, lt-ltb}
 use Rattle.std.proofs.lemmas.Bool.Decides.{nat_tests}
 use Rattle.std.proofs.Math.Nat.{mod-add-div, add-mul-mod_self_left}
 use Rattle.std.specs.Io.KnownBytes.{Appends}
+use Rattle.rvm_mem.specs.Pages.{mark_all}
+use Rattle.rvm_hart.specs.declared.outcome.Stepped.{Stepped}
+use Rattle.rvm_hart.specs.declared.outcome.Stepped.TheVariants as outcome
+use Rattle.rvm_board.specs.Board as board
+use Rattle.rvm_board.specs.Board.{with_input, with_output}
+use Rattle.rvm_debug.specs.declared.event.BoardEvent.{BoardEvent}
+use Rattle.rvm_debug.specs.declared.event.BoardEvent.TheVariants.{Step, Input, Drain}
 use Rattle.rvm_debug.specs.declared.event.BoardReply.{BoardReply}
-use Rattle.rvm_debug.specs.declared.event.BoardReply.TheVariants.{Retired, Trapped, Interrupted, Halted, Break, Done, Bytes, Regs, Line, Refused}
-use Rattle.rvm_debug.specs.Guest.{Guest}
-use Rattle.rvm_debug.specs.Events.{Answered, steps}
+use Rattle.rvm_debug.specs.declared.event.BoardReply.TheVariants as reply
+use Rattle.rvm_debug.specs.declared.event.BoardRefusal.TheVariants.{BadHart, InputFull}
 use Rattle.rvm_debug.specs.declared.turns.Order.TheVariants.{RoundRobin}
 use Rattle.rvm_debug.specs.declared.turns.Stop.{Stop}
-use Rattle.rvm_debug.specs.Turns.{AfterTurns, after_turns, behind, stop_in, unless_stopped}
-use Rattle.rvm_debug.proofs.Turning.{made_some, made_within, steps_count}
+use Rattle.rvm_debug.specs.declared.turns.Turns.{Turns}
+use Rattle.rvm_debug.specs.Guest.{Guest, GuestState}
+use Rattle.rvm_debug.specs.Events.{Answered, answered, leaves, pc_of, refuses, reply_of, steps, stops, takes_step, with_board, with_stopped}
+use Rattle.rvm_debug.specs.Events as events
+use Rattle.rvm_debug.specs.Turns.{AfterTurns, TakesTurns, after_turns, behind, stop_in, unless_stopped}
+use Rattle.rvm_debug.specs.WhileFull.{is_full, no_turns, turns_while}
+use Rattle.rvm_debug.proofs.Turning.{mark_more, steps_count}
+use Rattle.rvm_debug.proofs.Waiting.{as_they_are, while_some, while_within}
+use Rattle.rvm_command.specs.declared.run.Ended.{Ended}
 use Rattle.rvm_command.specs.declared.run.Ended.TheVariants as ended
-use Rattle.rvm_command.specs.Run.{Ran, Fed, fed, turn, ran, output_of, drained, ends, after_bytes, rest_of_run, status_of, unless_halted}
+use Rattle.rvm_command.specs.Run.{After, IsAfter, IsPartWay, Run, after, bytes_in, drains, first, left, offers, run_from, step_of, unless_halted, unless_refused}
+use Rattle.rvm_command.specs.Slices.{GoesOn, rest_of_run, status_of, takes_none}
 
 pub appends_none : (a : Option (List ℕ)) → Appends a a []
 appends_none None = tt
@@ -30,12 +45,149 @@ pub on_err : {A E : Type 0} → (r : Result A E) → (P : Type 0) → P → OnEr
 on_err (Ok a) P p = tt
 on_err (Err e) P p = p
 
--- bytes after others are some
-pub some_after : (xs ys : List ℕ) → 0 < length ys → 0 < length (xs ++ ys)
-some_after xs ys some = omega (arith, length-append xs ys, some)
+-- ---- events after others
 
-pub some_before : (xs ys : List ℕ) → 0 < length xs → 0 < length (xs ++ ys)
-some_before xs ys some = omega (arith, length-append xs ys, some)
+-- what events come to, and others behind them
+abbrev joined : After → After → After
+joined a b = record { guest = b.guest; pages = a.pages ++ b.pages; bytes = a.bytes ++ b.bytes }
+
+abbrev of_one : Answered → After
+of_one a = record { guest = a.guest; pages = a.pages; bytes = bytes_in a.reply }
+
+abbrev nothing : Guest → After
+nothing g = record { guest = g; pages = []; bytes = [] }
+
+after_none : (g : Guest) → after [] g ≡ nothing g
+unfolding after
+after_none g = refl
+
+after_more : (e : BoardEvent) (es : List BoardEvent) (g : Guest) → after (e ∷ es) g ≡ joined (of_one (answered e g)) (after es (answered e g).guest)
+unfolding after
+after_more e es g = refl
+
+after_one : (e : BoardEvent) (g : Guest) → after (e ∷ []) g ≡ of_one (answered e g)
+after_one e g =
+    let a = answered e g in
+    after_more e [] g ∙ ap (λ (x : After). joined (of_one a) x) (after_none a.guest)
+    ∙ ap (λ (l : List ℕ). record { guest = a.guest; pages = l; bytes = bytes_in a.reply ++ [] }) (append-nil a.pages)
+    ∙ ap (λ (l : List ℕ). record { guest = a.guest; pages = a.pages; bytes = l }) (append-nil (bytes_in a.reply))
+
+joined_assoc : (a b c : After) → joined a (joined b c) ≡ joined (joined a b) c
+joined_assoc a b c =
+    ap (λ (l : List ℕ). record { guest = c.guest; pages = l; bytes = a.bytes ++ (b.bytes ++ c.bytes) }) (sym (append_assoc a.pages b.pages c.pages))
+    ∙ ap (λ (l : List ℕ). record { guest = c.guest; pages = (a.pages ++ b.pages) ++ c.pages; bytes = l }) (sym (append_assoc a.bytes b.bytes c.bytes))
+
+pub after_both : (es fs : List BoardEvent) (g : Guest) → after (es ++ fs) g ≡ joined (after es g) (after fs (after es g).guest)
+after_both [] fs g = ap (λ (x : After). joined x (after fs x.guest)) (sym (after_none g))
+after_both (e ∷ es) fs g =
+    let a = of_one (answered e g) in
+    after_more e (es ++ fs) g
+    ∙ ap (joined a) (after_both es fs a.guest)
+    ∙ joined_assoc a (after es a.guest) (after fs (after es a.guest).guest)
+    ∙ ap (λ (x : After). joined x (after fs x.guest)) (sym (after_more e es g))
+
+pub is_after_none : (s : GuestState) → IsAfter [] s s
+unfolding after
+is_after_none s = record { guest = refl; dirty = refl }
+
+pub is_after_both : (es fs : List BoardEvent) (old mid new : GuestState) → IsAfter es old mid → IsAfter fs mid new → IsAfter (es ++ fs) old new
+is_after_both es fs old mid new before behind =
+    let both = sym (after_both es fs old.guest) in
+    let pages = ap (λ (g : Guest). (after fs g).pages) before.guest in
+    record {
+      guest = behind.guest ∙ ap (λ (g : Guest). (after fs g).guest) before.guest ∙ ap (λ (x : After). x.guest) both;
+      dirty = behind.dirty ∙ ap (λ ps. mark_all ps mid.dirty) pages ∙ ap (mark_all (after fs (after es old.guest).guest).pages) before.dirty
+          ∙ sym (mark_more (after es old.guest).pages (after fs (after es old.guest).guest).pages old.dirty)
+          ∙ ap (λ (x : After). mark_all x.pages old.dirty) both;
+    }
+
+bytes_both : (es fs : List BoardEvent) (old mid : GuestState) → IsAfter es old mid → (after (es ++ fs) old.guest).bytes ≡ (after es old.guest).bytes ++ (after fs mid.guest).bytes
+bytes_both es fs old mid before =
+    ap (λ (x : After). x.bytes) (after_both es fs old.guest) ∙ ap (λ (g : Guest). (after es old.guest).bytes ++ (after fs g).bytes) (sym before.guest)
+
+-- the events that were made, and those that are left, are all; what they were answered was written
+pub record Progress (all rest : List BoardEvent) (start now : GuestState) (before written : Option (List ℕ)) : Type 0 where
+  pub made : List BoardEvent
+  pub whole : made ++ rest ≡ all
+  pub so_far : IsAfter made start now
+  pub text : Appends before written (after made start.guest).bytes
+
+pub begins : (all : List BoardEvent) (start : GuestState) (before : Option (List ℕ)) → Progress all all start start before before
+begins all start before =
+    record {
+      made = [];
+      whole = refl;
+      so_far = is_after_none start;
+      text = subst (Appends before before) (ap (λ (x : After). x.bytes) (sym (after_none start.guest))) (appends_none before);
+    }
+
+pub goes_on : {all : List BoardEvent} {start : GuestState} {before : Option (List ℕ)} (rest more es : List BoardEvent) (now new : GuestState) (mid written : Option (List ℕ)) → Progress all rest start now before mid → rest ≡ es ++ more → IsAfter es now new
+    → Appends mid written (after es now.guest).bytes → Progress all more start new before written
+goes_on {all} {start} {before} rest more es now new mid written p parts made text =
+    record {
+      made = p.made ++ es;
+      whole = append_assoc p.made es more ∙ ap (λ (l : List BoardEvent). p.made ++ l) (sym parts) ∙ p.whole;
+      so_far = is_after_both p.made es start now new p.so_far made;
+      text = subst (Appends before written) (sym (bytes_both p.made es start now p.so_far)) (appends_more before mid written (after p.made start.guest).bytes (after es now.guest).bytes p.text text);
+    }
+
+-- events that are answered no bytes, with no write
+pub goes_quietly : {all : List BoardEvent} {start : GuestState} {before : Option (List ℕ)} (rest more es : List BoardEvent) (now new : GuestState) (written : Option (List ℕ)) → Progress all rest start now before written → rest ≡ es ++ more → IsAfter es now new
+    → (after es now.guest).bytes ≡ [] → Progress all more start new before written
+goes_quietly {all} {start} {before} rest more es now new written p parts made quiet =
+    goes_on rest more es now new written written p parts made (subst (Appends written written) (sym quiet) (appends_none written))
+
+-- only some of the next events were made
+pub part_way : {all : List BoardEvent} {start : GuestState} {before : Option (List ℕ)} (rest more es : List BoardEvent) (now new : GuestState) (mid : Option (List ℕ)) → Progress all rest start now before mid → rest ≡ es ++ more → IsPartWay es now new → IsPartWay all start new
+part_way {all} {start} {before} rest more es now new mid p parts part =
+    record {
+      made = p.made ++ part.made;
+      left = part.left ++ more;
+      whole = append_assoc p.made part.made (part.left ++ more)
+          ∙ ap (λ (l : List BoardEvent). p.made ++ l) (sym (append_assoc part.made part.left more) ∙ ap (λ (l : List BoardEvent). l ++ more) part.whole ∙ sym parts)
+          ∙ p.whole;
+      so_far = is_after_both p.made part.made start now new p.so_far part.so_far;
+    }
+
+-- where the next events are answered bytes, all are
+pub some_bytes : {all : List BoardEvent} {start : GuestState} {before : Option (List ℕ)} (rest more es : List BoardEvent) (now : GuestState) (mid : Option (List ℕ)) → Progress all rest start now before mid → rest ≡ es ++ more
+    → 0 < length (after es now.guest).bytes → 0 < length (after all start.guest).bytes
+some_bytes {all} {start} {before} rest more es now mid p parts some =
+    let b1 = (after p.made start.guest).bytes in
+    let b2 = (after es now.guest).bytes in
+    let b3 = (after more (after es now.guest).guest).bytes in
+    let whole : (after all start.guest).bytes ≡ b1 ++ (b2 ++ b3) =
+    ap (λ l. (after l start.guest).bytes) (sym p.whole) ∙ bytes_both p.made rest start now p.so_far
+    ∙ ap (λ l. b1 ++ (after l now.guest).bytes) parts ∙ ap (λ (x : After). b1 ++ x.bytes) (after_both es more now.guest) in
+    rw whole (omega (arith, length-append b1 (b2 ++ b3), length-append b2 b3, some))
+
+-- all events were made
+pub record AllMade (all : List BoardEvent) (start now : GuestState) (before written : Option (List ℕ)) : Type 0 where
+  pub made : IsAfter all start now
+  pub text : Appends before written (after all start.guest).bytes
+
+pub all_made : {all : List BoardEvent} {start : GuestState} {before : Option (List ℕ)} (rest : List BoardEvent) (now : GuestState) (written : Option (List ℕ)) → Progress all rest start now before written → rest ≡ [] → AllMade all start now before written
+all_made {all} {start} {before} rest now written p none =
+    let whole : p.made ≡ all = sym (append-nil p.made) ∙ ap (λ (l : List BoardEvent). p.made ++ l) (sym none) ∙ p.whole in
+    record {
+      made = subst (λ (es : List BoardEvent). IsAfter es start now) whole p.so_far;
+      text = subst (λ (es : List BoardEvent). Appends before written (after es start.guest).bytes) whole p.text;
+    }
+
+-- ---- drains
+
+-- how many drains leave nothing
+drain_count : (n : ℕ) → 0 < n → (n + 255) / 256 ≡ suc ((n - 256 + 255) / 256)
+drain_count n some = grind arith
+
+pub drains_none : (g : Guest) → length g.board.reach.devices.output ≡ 0 → drains g ≡ []
+drains_none g none = ap (λ (n : ℕ). replicate ((n + 255) / 256) (Drain 256)) none
+
+pub drains_more : (g : Guest) → 0 < length g.board.reach.devices.output → drains g ≡ (Drain 256 ∷ []) ++ drains (answered (Drain 256) g).guest
+drains_more g some =
+    let sent = g.board.reach.devices.output in
+    ap (λ (n : ℕ). replicate n (Drain 256)) (drain_count (length sent) some)
+    ∙ ap (λ (n : ℕ). Drain 256 ∷ replicate ((n + 255) / 256) (Drain 256)) (sym (length-drop 256 sent))
 
 -- what one drain took, at the front of the buffer
 pub drained_piece : (count : ℕ) (sent old new : List ℕ) → count ≡ min (length old) (length sent) → new ≡ take count sent ++ drop count old → take count new ≡ take count sent
@@ -43,40 +195,107 @@ drained_piece count sent old new is_least made =
     let size : length (take count sent) ≡ count = omega (arith, length-take count sent, is_least) in
     ap (take count) made ∙ take_at (take count sent) (drop count old) count size
 
--- what was written so far, one piece more, and what is left
-pub piece_more : (so_far sent all : List ℕ) (count : ℕ) → so_far ++ sent ≡ all → (so_far ++ take count sent) ++ drop count sent ≡ all
-piece_more so_far sent all count whole = append_assoc so_far (take count sent) (drop count sent) ∙ ap (λ l. so_far ++ l) (take-append-drop count sent) ∙ whole
+-- one event
+is_after_one : (e : BoardEvent) (old new : GuestState) → new.guest ≡ (answered e old.guest).guest → new.dirty ≡ mark_all (answered e old.guest).pages old.dirty → IsAfter (e ∷ []) old new
+is_after_one e old new left marked =
+    let one = sym (after_one e old.guest) in
+    record { guest = left ∙ ap (λ (x : After). x.guest) one; dirty = marked ∙ ap (λ (x : After). mark_all x.pages old.dirty) one }
 
--- feeding changes no hart
-fed_count : (input : List ℕ) (b : Guest) → length (fed input b).guest.board.harts ≡ length b.board.harts
-fed_count [] b = refl
-fed_count (byte ∷ rest) b = grind arith
+-- a drain of 256 bytes, as it was made
+pub drained : (count size : ℕ) (old new : GuestState) → size ≡ 256 → count ≡ min size (length old.guest.board.reach.devices.output)
+    → new ≡ record old { guest = with_board (with_output (drop count old.guest.board.reach.devices.output) old.guest.board) old.guest } → IsAfter (Drain 256 ∷ []) old new
+drained count size old new whole is_least made =
+    let sent = old.guest.board.reach.devices.output in
+    let same : drop count sent ≡ drop 256 sent = ap (λ n. drop n sent) (is_least ∙ ap (λ k. min k (length sent)) whole) ∙ drop_min 256 sent in
+    let all = made ∙ ap (λ (l : List ℕ). record old { guest = with_board (with_output l old.guest.board) old.guest }) same in
+    is_after_one (Drain 256) old new (ap (λ (s : GuestState). s.guest) all) (ap (λ (s : GuestState). s.dirty) all)
 
--- what is left of a run after a turn that left s
-abbrev pub after_turn : (m t : ℕ) → (rest : List ℕ) → Answered → Ran
-after_turn m t rest s =
-    unless_halted s.reply s.guest
-    (cond (nat_eq (t % 64) 63) (after_bytes (output_of s.guest) (ran m (t + 1) rest (drained s.guest))) (ran m (t + 1) rest s.guest))
+pub drained_bytes : (count size : ℕ) (old : GuestState) → size ≡ 256 → count ≡ min size (length old.guest.board.reach.devices.output)
+    → take count old.guest.board.reach.devices.output ≡ (after (Drain 256 ∷ []) old.guest).bytes
+drained_bytes count size old whole is_least =
+    let sent = old.guest.board.reach.devices.output in
+    ap (λ n. take n sent) (is_least ∙ ap (λ k. min k (length sent)) whole) ∙ take_min 256 sent ∙ ap (λ (x : After). x.bytes) (sym (after_one (Drain 256) old.guest))
 
--- the turn that was made: the board was fed, and this hart stepped
-pub record IsTurn (t hart : ℕ) (input rest : List ℕ) (b mid : Guest) : Type 0 where
-  pub fed : record { guest = mid; input = rest } ≡ fed input b
-  pub turn : hart ≡ t % length b.board.harts
+pub drained_some : (g : Guest) → 0 < length g.board.reach.devices.output → 0 < length (after (Drain 256 ∷ []) g).bytes
+drained_some g some =
+    let sent = g.board.reach.devices.output in
+    rw (after_one (Drain 256) g) (omega (arith, length-take 256 sent, some))
 
-one_more : (n m t hart : ℕ) (input rest : List ℕ) (b mid : Guest) → n ≡ suc m → IsTurn t hart input rest b mid → ran n t input b ≡ after_turn m t rest (steps hart mid)
-unfolding ran
-one_more n m t hart input rest b mid e made =
-    let same : length mid.board.harts ≡ length b.board.harts = ap (λ (f : Fed). length f.guest.board.harts) made.fed ∙ fed_count input b in
-    rw e (ap (λ (f : Fed). after_turn m t f.input (turn t f)) (sym made.fed)
-    ∙ ap (λ h. after_turn m t rest (steps h mid)) (ap (λ k. t % k) same ∙ sym made.turn))
+-- a drain, and those behind it
+left_by : (old new : GuestState) → IsAfter (Drain 256 ∷ []) old new → new.guest ≡ (answered (Drain 256) old.guest).guest
+left_by old new made = made.guest ∙ ap (λ (x : After). x.guest) (after_one (Drain 256) old.guest)
 
--- the run that has no turn left
-pub spent_run : (n t : ℕ) (input : List ℕ) (b : Guest) (bytes : List ℕ) (whole : Ran) → n ≡ 0 → after_bytes bytes (ran n t input b) ≡ whole → whole ≡ after_bytes bytes (ends ended.StepsSpent b)
-unfolding ran
-spent_run n t input b bytes whole e h = sym h ∙ ap (after_bytes bytes) (rw e refl)
+pub drain_first : (old new : GuestState) → 0 < length old.guest.board.reach.devices.output → IsAfter (Drain 256 ∷ []) old new → drains old.guest ≡ (Drain 256 ∷ []) ++ drains new.guest
+drain_first old new some made = drains_more old.guest some ∙ ap (λ g. (Drain 256 ∷ []) ++ drains g) (sym (left_by old new made))
+
+pub drain_fewer : (old new : GuestState) → IsAfter (Drain 256 ∷ []) old new → length new.guest.board.reach.devices.output ≡ length old.guest.board.reach.devices.output - 256
+drain_fewer old new made = ap (λ (g : Guest). length g.board.reach.devices.output) (left_by old new made) ∙ length-drop 256 old.guest.board.reach.devices.output
+
+-- all of some events
+pub whole_part : (es : List BoardEvent) (old new : GuestState) → IsAfter es old new → IsPartWay es old new
+whole_part es old new made = record { made = es; left = []; whole = append-nil es; so_far = made }
+
+-- ---- the byte that is offered
+
+room_of : (n : ℕ) (b : Bool) → (n ≡ 16 → false ≡ true) → nat_eq n 16 ≡ b → b ≡ false
+room_of n false room e = refl
+room_of n true room e = sym (room (eqb-true n 16 e))
+
+pub byte_taken : (input rest : List ℕ) (b : ℕ) (old new : GuestState) → input ≡ b ∷ rest → (length old.guest.board.reach.devices.input ≡ 16 → false ≡ true)
+    → new ≡ record old { guest = with_board (with_input (old.guest.board.reach.devices.input ++ b ∷ []) old.guest.board) old.guest } → IsAfter (offers input) old new
+byte_taken input rest b old new some room made =
+    let waiting = old.guest.board.reach.devices.input in
+    let comes = leaves (with_board (with_input (waiting ++ b ∷ []) old.guest.board) old.guest) reply.Done in
+    let test : nat_eq (length waiting) 16 ≡ false = room_of (length waiting) (nat_eq (length waiting) 16) room refl in
+    let said : comes ≡ answered (Input b) old.guest = ap (λ t. cond t (refuses InputFull old.guest) comes) (sym test) in
+    rw some (is_after_one (Input b) old new (ap (λ (s : GuestState). s.guest) made ∙ ap (λ (a : Answered). a.guest) said) (ap (λ (s : GuestState). s.dirty) made ∙ ap (λ (a : Answered). mark_all a.pages old.dirty) said))
+
+-- what a byte that is offered to a full console comes to
+kept_back : (b : ℕ) (g : Guest) → is_full g ≡ true → answered (Input b) g ≡ refuses InputFull g
+kept_back b g full = ap (λ t. cond t (refuses InputFull g) (leaves (with_board (with_input (g.board.reach.devices.input ++ b ∷ []) g.board) g) reply.Done)) full
+
+pub byte_kept : (input rest : List ℕ) (b : ℕ) (old new : GuestState) → input ≡ b ∷ rest → length old.guest.board.reach.devices.input ≡ 16 → new ≡ old → IsAfter (offers input) old new
+byte_kept input rest b old new some full same =
+    let said = sym (kept_back b old.guest (ap (λ n. nat_eq n 16) full)) in
+    rw some (is_after_one (Input b) old new (ap (λ (s : GuestState). s.guest) same ∙ ap (λ (a : Answered). a.guest) said) (ap (λ (s : GuestState). s.dirty) same ∙ ap (λ (a : Answered). mark_all a.pages old.dirty) said))
+
+pub byte_none : (input : List ℕ) (s : GuestState) → input ≡ [] → IsAfter (offers input) s s
+byte_none input s none = rw none (is_after_none s)
+
+-- an offer is answered no bytes and changes no number of harts
+offer_cases : (b : ℕ) (g : Guest) (full : Bool) → let a = cond full (refuses InputFull g) (leaves (with_board (with_input (g.board.reach.devices.input ++ b ∷ []) g.board) g) reply.Done) in (bytes_in a.reply ≡ []) × (length a.guest.board.harts ≡ length g.board.harts)
+offer_cases b g true = (refl, refl)
+offer_cases b g false = (refl, refl)
+
+offer_quiet : (input : List ℕ) (g : Guest) → ((after (offers input) g).bytes ≡ []) × (length (after (offers input) g).guest.board.harts ≡ length g.board.harts)
+offer_quiet [] g = rw (after_none g) (refl, refl)
+offer_quiet (b ∷ rest) g = rw (after_one (Input b) g) (offer_cases b g (is_full g))
+
+-- an offer that changes nothing
+pub record IsIdle (input : List ℕ) (g : Guest) : Type 0 where
+  pub made : after (offers input) g ≡ nothing g
+  pub left : left input g ≡ input
+
+idle_none : (g : Guest) → IsIdle [] g
+idle_none g = record { made = after_none g; left = refl }
+
+idle_full : (input : List ℕ) (g : Guest) → is_full g ≡ true → IsIdle input g
+idle_full [] g full = idle_none g
+idle_full (b ∷ rest) g full =
+    let kept = kept_back b g full in
+    record {
+      made = after_one (Input b) g ∙ ap of_one kept;
+      left = ap (λ (a : Answered). unless_refused a.reply (b ∷ rest) rest) kept;
+    }
+
+pub idle : (is_more : Bool) (input : List ℕ) → (is_more ≡ false → input ≡ []) → (g : Guest) → takes_none is_more g ≡ true → IsIdle input g
+idle true input none g full = idle_full input g full
+idle false input none g full = rw (none refl) (idle_none g)
+
+-- ---- turns
 
 -- the hart of the next turn
-pub next_turn : (t hart n : ℕ) → hart ≡ t % n → (hart + 1) % n ≡ (t + 1) % n
+next_turn : (t hart n : ℕ) → hart ≡ t % n → (hart + 1) % n ≡ (t + 1) % n
 next_turn t hart n e =
     let sum : t % n + 1 + n * (t / n) ≡ t + 1 = omega (arith, mod-add-div t n) in
     ap (λ h. (h + 1) % n) e ∙ sym (add-mul-mod_self_left (t % n + 1) n (t / n)) ∙ ap (λ k. k % n) sum
@@ -85,118 +304,264 @@ next_turn t hart n e =
 ends_slice : (t : ℕ) → nat_eq (t % 64) 63 ≡ nat_eq ((t + 1) % 64) 0
 ends_slice t = grind arith
 
--- what is left of a run, p turns, after turn t, at which the board was not halted
-abbrev after_open : (p t : ℕ) → (rest : List ℕ) → Guest → Ran
-after_open p t rest g = cond (nat_eq (t % 64) 63) (after_bytes (output_of g) (ran p (t + 1) rest (drained g))) (ran p (t + 1) rest g)
+-- a step of a hart that is there is answered no bytes
+quiet_reply : (x : Stepped) → bytes_in (reply_of x) ≡ []
+quiet_reply outcome.Retired = refl
+quiet_reply (outcome.Trapped e) = refl
+quiet_reply (outcome.Interrupted i) = refl
+quiet_reply (outcome.Halted s) = refl
 
-after_one : (p m t : ℕ) (rest : List ℕ) (g : Guest) → p ≡ m → after_open p t rest g ≡ rest_of_run None m (t + 1) rest g
-after_one p m t rest g e =
-    ap (λ (f : Bool). cond f (after_bytes (output_of g) (ran p (t + 1) rest (drained g))) (ran p (t + 1) rest g)) (ends_slice t)
-    ∙ ap (λ (k : ℕ). rest_of_run None k (t + 1) rest g) e
+quiet_on : (b : Bool) (h : ℕ) (g : Guest) → bytes_in (cond b (leaves (with_stopped h true g) (reply.Break (pc_of h g))) (takes_step h g)).reply ≡ []
+quiet_on true h g = refl
+quiet_on false h g = quiet_reply (board.stepped h g.board).answer
 
--- what is left of a run after turns
-abbrev after_all : AfterTurns → (m t : ℕ) → (rest : List ℕ) → Ran
-after_all r m t rest = rest_of_run (status_of r.stop) m (t + r.made) rest r.guest
+quiet_halted : (o : Option ℕ) (h : ℕ) (g : Guest) → bytes_in (events.unless_halted o h g).reply ≡ []
+quiet_halted None h g = quiet_on (stops h g) h g
+quiet_halted (Some status) h g = refl
 
--- a turn, and the others behind it, unless it ended them
-turn_cases : (x : BoardReply) (s : Answered) (others : AfterTurns) (p m t : ℕ) (rest : List ℕ) → suc p ≡ (unless_stopped (stop_in x) s others).made + m → (p ≡ others.made + m → after_open p t rest s.guest ≡ after_all (behind s.pages 1 others) m t rest)
-    → unless_halted x s.guest (after_open p t rest s.guest) ≡ after_all (unless_stopped (stop_in x) s others) m t rest
-turn_cases (Halted v) s others p m t rest e quiet = refl
-turn_cases (Break a) s others p m t rest e quiet = after_one p m t rest s.guest (omega (arith, e))
-turn_cases Retired s others p m t rest e quiet = quiet (omega (arith, e))
-turn_cases (Trapped x) s others p m t rest e quiet = quiet (omega (arith, e))
-turn_cases (Interrupted i) s others p m t rest e quiet = quiet (omega (arith, e))
-turn_cases Done s others p m t rest e quiet = quiet (omega (arith, e))
-turn_cases (Bytes bytes) s others p m t rest e quiet = quiet (omega (arith, e))
-turn_cases (Regs values) s others p m t rest e quiet = quiet (omega (arith, e))
-turn_cases (Line a word) s others p m t rest e quiet = quiet (omega (arith, e))
-turn_cases (Refused why) s others p m t rest e quiet = quiet (omega (arith, e))
+there_steps : (h : ℕ) (g : Guest) → h < length g.board.harts → answered (Step h) g ≡ steps h g
+there_steps h g there = ap (λ b. cond b (steps h g) (refuses BadHart g)) (lt-ltb h (length g.board.harts) there)
 
--- turns of which at most the last is one after which is drained, and which bring no input but before the first
-abbrev SliceRuns : ℕ → Type 0
-SliceRuns k =
-    (p m t hart : ℕ) (input rest : List ℕ) (b mid : Guest) → suc p ≡ (after_turns RoundRobin (suc k) hart mid).made + m → IsTurn t hart input rest b mid → (0 < k → rest ≡ []) → t % 64 + suc k ≤ 64
-    → ran (suc p) t input b ≡ after_all (after_turns RoundRobin (suc k) hart mid) m t rest
+-- what turns leave, as what events leave
+abbrev of_turns : AfterTurns → After
+of_turns t = record { guest = t.guest; pages = t.pages; bytes = [] }
 
-slice_more : (k : ℕ) → SliceRuns k → (p m t hart : ℕ) (input rest : List ℕ) (b mid : Guest) → IsTurn t hart input rest b mid → (0 < suc k → rest ≡ []) → t % 64 + suc (suc k) ≤ 64
-    → p ≡ (after_turns RoundRobin (suc k) ((hart + 1) % length mid.board.harts) (steps hart mid).guest).made + m
-    → after_open p t rest (steps hart mid).guest ≡ after_all (behind (steps hart mid).pages 1 (after_turns RoundRobin (suc k) ((hart + 1) % length mid.board.harts) (steps hart mid).guest)) m t rest
-slice_more k fewer zero m t hart input rest b mid made no_input in_slice e = absurd (omega (arith, e, made_some RoundRobin k ((hart + 1) % length mid.board.harts) (steps hart mid).guest))
-slice_more k fewer (suc p) m t hart input rest b mid made no_input in_slice e =
-    let s : Answered = steps hart mid in
-    let next : ℕ = (hart + 1) % length mid.board.harts in
-    let others : AfterTurns = after_turns RoundRobin (suc k) next s.guest in
+after_step : (h : ℕ) (g : Guest) → h < length g.board.harts → after (Step h ∷ []) g ≡ record { guest = (steps h g).guest; pages = (steps h g).pages; bytes = [] }
+after_step h g there =
+    after_one (Step h) g ∙ ap of_one (there_steps h g there)
+    ∙ ap (λ (l : List ℕ). record { guest = (steps h g).guest; pages = (steps h g).pages; bytes = l }) (quiet_halted g.board.reach.devices.halted h g)
+
+-- n turns from turn t on, behind a drain or not
+abbrev behind_drain : Bool → (n t : ℕ) → (input : List ℕ) → Guest → Run
+behind_drain drain n t input g = let taken = cond drain (drains g) [] in first taken (run_from n t input (after taken g).guest)
+
+-- the run behind the offer of turn t: hart h steps, and n turns follow
+abbrev stepping : (n t h : ℕ) → (input : List ℕ) → Answered → Run
+stepping n t h input s = first (Step h ∷ []) (unless_halted s.reply s.guest (behind_drain (nat_eq (t % 64) 63) n (t + 1) input s.guest))
+
+turn_first : (n t : ℕ) (input : List ℕ) (g : Guest) → run_from (suc n) t input g ≡ first (offers input) (stepping n t (t % length g.board.harts) (left input g) (answered (step_of t g) (after (offers input) g).guest))
+unfolding run_from
+turn_first n t input g =
+    let s = answered (step_of t g) (after (offers input) g).guest in
+    let rest = unless_halted s.reply s.guest (behind_drain (nat_eq (t % 64) 63) n (t + 1) (left input g) s.guest) in
+    ap (λ (l : List BoardEvent). record rest { events = l }) (append_assoc (offers input) (step_of t g ∷ []) rest.events)
+
+-- turns are these events of a run, and the rest of the run is this
+pub record IsSlice (run rest : Run) (g : Guest) (t : AfterTurns) : Type 0 where
+  pub events : List BoardEvent
+  pub whole : run ≡ first events rest
+  pub made : after events g ≡ of_turns t
+
+-- the rest of a run behind turns
+abbrev behind_turns : AfterTurns → (m t : ℕ) → (input : List ℕ) → Run
+behind_turns r m t input = rest_of_run (status_of r.stop) m (t + r.made) input r.guest
+
+no_more : (n m t : ℕ) (input : List ℕ) (g : Guest) → n ≡ m → behind_drain (nat_eq (t % 64) 63) n (t + 1) input g ≡ rest_of_run None m (t + 1) input g
+no_more n m t input g e =
+    ap (λ (b : Bool). behind_drain b n (t + 1) input g) (ends_slice t) ∙ ap (λ (k : ℕ). behind_drain (nat_eq ((t + 1) % 64) 0) k (t + 1) input g) e
+
+no_slice : (n m t : ℕ) (input : List ℕ) (s : Answered) → n ≡ m → IsSlice (behind_drain (nat_eq (t % 64) 63) n (t + 1) input s.guest) (behind_turns (behind s.pages 1 (no_turns s.guest)) m t input) s.guest (no_turns s.guest)
+no_slice n m t input s e = record { events = []; whole = no_more n m t input s.guest e; made = after_none s.guest }
+
+-- a turn, and those behind it
+slice_more : (h n m t : ℕ) (input : List ℕ) (g : Guest) (s : Answered) (others : AfterTurns) → after (Step h ∷ []) g ≡ record { guest = s.guest; pages = s.pages; bytes = [] }
+    → IsSlice (behind_drain (nat_eq (t % 64) 63) n (t + 1) input s.guest) (behind_turns (behind s.pages 1 others) m t input) s.guest others
+    → IsSlice (first (Step h ∷ []) (behind_drain (nat_eq (t % 64) 63) n (t + 1) input s.guest)) (behind_turns (behind s.pages 1 others) m t input) g (behind s.pages 1 others)
+slice_more h n m t input g s others one rest =
+    record {
+      events = Step h ∷ rest.events;
+      whole = ap (first (Step h ∷ [])) rest.whole;
+      made = after_both (Step h ∷ []) rest.events g ∙ ap (λ (x : After). joined x (after rest.events x.guest)) one ∙ ap (joined (record { guest = s.guest; pages = s.pages; bytes = [] })) rest.made;
+    }
+
+-- the same by what the turn was answered
+slice_cases : (x : BoardReply) (h n m t : ℕ) (input : List ℕ) (g : Guest) (s : Answered) (others : AfterTurns) → after (Step h ∷ []) g ≡ record { guest = s.guest; pages = s.pages; bytes = [] }
+    → suc n ≡ (unless_stopped (stop_in x) s others).made + m
+    → (n ≡ others.made + m → IsSlice (behind_drain (nat_eq (t % 64) 63) n (t + 1) input s.guest) (behind_turns (behind s.pages 1 others) m t input) s.guest others)
+    → IsSlice (first (Step h ∷ []) (unless_halted x s.guest (behind_drain (nat_eq (t % 64) 63) n (t + 1) input s.guest))) (behind_turns (unless_stopped (stop_in x) s others) m t input) g (unless_stopped (stop_in x) s others)
+slice_cases (reply.Halted v) h n m t input g s others one e rest = record { events = Step h ∷ []; whole = refl; made = one }
+slice_cases (reply.Break a) h n m t input g s others one e rest =
+    record { events = Step h ∷ []; whole = ap (first (Step h ∷ [])) (no_more n m t input s.guest (omega (arith, e))); made = one }
+slice_cases reply.Retired h n m t input g s others one e rest = slice_more h n m t input g s others one (rest (omega (arith, e)))
+slice_cases (reply.Trapped x) h n m t input g s others one e rest = slice_more h n m t input g s others one (rest (omega (arith, e)))
+slice_cases (reply.Interrupted i) h n m t input g s others one e rest = slice_more h n m t input g s others one (rest (omega (arith, e)))
+slice_cases reply.Done h n m t input g s others one e rest = slice_more h n m t input g s others one (rest (omega (arith, e)))
+slice_cases (reply.Bytes bytes) h n m t input g s others one e rest = slice_more h n m t input g s others one (rest (omega (arith, e)))
+slice_cases (reply.Regs values) h n m t input g s others one e rest = slice_more h n m t input g s others one (rest (omega (arith, e)))
+slice_cases (reply.Line a word) h n m t input g s others one e rest = slice_more h n m t input g s others one (rest (omega (arith, e)))
+slice_cases (reply.Refused why) h n m t input g s others one e rest = slice_more h n m t input g s others one (rest (omega (arith, e)))
+
+-- the turns behind one that did not end them, of which more may be made
+abbrev SlicesOf : (Guest → Bool) → ℕ → Type 0
+SlicesOf is_so k =
+    (n m t h : ℕ) (input : List ℕ) (g : Guest) → h < length g.board.harts → h ≡ t % length g.board.harts → t % 64 + suc k ≤ 64 → suc n ≡ (turns_while is_so (suc k) h g).made + m → ((g : Guest) → is_so g ≡ true → IsIdle input g)
+    → IsSlice (stepping n t h input (answered (Step h) g)) (behind_turns (turns_while is_so (suc k) h g) m t input) g (turns_while is_so (suc k) h g)
+
+-- the next turn, whose offer changes nothing
+idle_turn : (p t : ℕ) (input : List ℕ) (g : Guest) → IsIdle input g → run_from (suc p) t input g ≡ first (offers input) (stepping p t (t % length g.board.harts) input (answered (step_of t g) g))
+idle_turn p t input g none =
+    turn_first p t input g
+    ∙ ap (λ (x : After). first (offers input) (stepping p t (t % length g.board.harts) (left input g) (answered (step_of t g) x.guest))) none.made
+    ∙ ap (λ (l : List ℕ). first (offers input) (stepping p t (t % length g.board.harts) l (answered (step_of t g) g))) none.left
+
+turns_behind : (is_so : Guest → Bool) (k : ℕ) → SlicesOf is_so k → (n m t h : ℕ) (input : List ℕ) (g : Guest) → h < length g.board.harts → h ≡ t % length g.board.harts → t % 64 + suc (suc k) ≤ 64 → ((g : Guest) → is_so g ≡ true → IsIdle input g)
+    → is_so (steps h g).guest ≡ true → let others = turns_while is_so (suc k) ((h + 1) % length g.board.harts) (steps h g).guest in n ≡ others.made + m
+    → IsSlice (behind_drain (nat_eq (t % 64) 63) n (t + 1) input (steps h g).guest) (behind_turns (behind (steps h g).pages 1 others) m t input) (steps h g).guest others
+turns_behind is_so k slices zero m t h input g there turn inside quiet so e = absurd (omega (arith, e, while_some is_so k ((h + 1) % length g.board.harts) (steps h g).guest))
+turns_behind is_so k slices (suc p) m t h input g there turn inside quiet so e =
+    let s : Answered = steps h g in
+    let next : ℕ = (h + 1) % length g.board.harts in
+    let others : AfterTurns = turns_while is_so (suc k) next s.guest in
+    let same : length s.guest.board.harts ≡ length g.board.harts = steps_count h g in
+    let following : next ≡ (t + 1) % length s.guest.board.harts = next_turn t h (length g.board.harts) turn ∙ ap (λ j. (t + 1) % j) (sym same) in
+    let none : IsIdle input s.guest = quiet s.guest so in
     let not_last : nat_eq (t % 64) 63 ≡ false = grind arith in
-    let none : rest ≡ [] = no_input (omega arith) in
-    let same : length mid.board.harts ≡ length b.board.harts = ap (λ (f : Fed). length f.guest.board.harts) made.fed ∙ fed_count input b in
-    let turns_next : next ≡ (t + 1) % length s.guest.board.harts =
-    ap (λ j. (hart + 1) % j) same ∙ next_turn t hart (length b.board.harts) made.turn ∙ ap (λ j. (t + 1) % j) (sym (steps_count hart mid ∙ same)) in
-    let rest_made : ran (suc p) (t + 1) [] s.guest ≡ after_all others m (t + 1) [] =
-    fewer p m (t + 1) next [] [] s.guest s.guest e (record { fed = refl; turn = turns_next }) (λ some. refl) (omega (arith, in_slice)) in
+    let next_there : next < length s.guest.board.harts = rw same (mod_below (h + 1) (length g.board.harts) (omega (arith, there))) in
+    let rest = slices p m (t + 1) next input s.guest next_there following (omega (arith, inside)) e quiet in
     let sum : t + 1 + others.made ≡ t + (1 + others.made) = omega arith in
-    ap (λ (f : Bool). cond f (after_bytes (output_of s.guest) (ran (suc p) (t + 1) rest (drained s.guest))) (ran (suc p) (t + 1) rest s.guest)) not_last
-    ∙ ap (λ (l : List ℕ). ran (suc p) (t + 1) l s.guest) none
-    ∙ rest_made
-    ∙ ap (λ (j : ℕ). rest_of_run (status_of others.stop) m j [] others.guest) sum
-    ∙ ap (λ (l : List ℕ). after_all (behind s.pages 1 others) m t l) (sym none)
+    record {
+      events = offers input ++ rest.events;
+      whole = ap (λ (b : Bool). behind_drain b (suc p) (t + 1) input s.guest) not_last
+          ∙ ap (λ (x : After). first [] (run_from (suc p) (t + 1) input x.guest)) (after_none s.guest)
+          ∙ idle_turn p (t + 1) input s.guest none
+          ∙ ap (λ (j : ℕ). first (offers input) (stepping p (t + 1) j input (answered (Step j) s.guest))) (sym following)
+          ∙ ap (first (offers input)) rest.whole
+          ∙ ap (λ (l : List BoardEvent). record (rest_of_run (status_of others.stop) m (t + 1 + others.made) input others.guest) { events = l }) (sym (append_assoc (offers input) rest.events (rest_of_run (status_of others.stop) m (t + 1 + others.made) input others.guest).events))
+          ∙ ap (λ (j : ℕ). first (offers input ++ rest.events) (rest_of_run (status_of others.stop) m j input others.guest)) sum;
+      made = after_both (offers input) rest.events s.guest ∙ ap (λ (x : After). joined x (after rest.events x.guest)) none.made ∙ ap (joined (nothing s.guest)) rest.made;
+    }
 
-slice_run : (k : ℕ) → SliceRuns k
-unfolding after_turns
-slice_run zero p m t hart input rest b mid e made no_input in_slice =
-    let s : Answered = steps hart mid in
-    let others : AfterTurns = record { guest = s.guest; pages = []; made = 0; stop = None } in
-    one_more (suc p) p t hart input rest b mid refl made
-    ∙ turn_cases s.reply s others p m t rest e (λ left. after_one p m t rest s.guest (omega (arith, left)))
-slice_run (suc k) p m t hart input rest b mid e made no_input in_slice =
-    let s : Answered = steps hart mid in
-    let next : ℕ = (hart + 1) % length mid.board.harts in
-    let others : AfterTurns = after_turns RoundRobin (suc k) next s.guest in
-    one_more (suc p) p t hart input rest b mid refl made
-    ∙ turn_cases s.reply s others p m t rest e (slice_more k (slice_run k) p m t hart input rest b mid made no_input in_slice)
+-- the same whether or not the guest is so
+turns_or_none : (is_so : Guest → Bool) (k : ℕ) (so : Bool) (n m t h : ℕ) (input : List ℕ) (g : Guest) → SlicesOf is_so k → h < length g.board.harts → h ≡ t % length g.board.harts → t % 64 + suc (suc k) ≤ 64 → ((g : Guest) → is_so g ≡ true → IsIdle input g)
+    → is_so (steps h g).guest ≡ so → let others = cond so (turns_while is_so (suc k) ((h + 1) % length g.board.harts) (steps h g).guest) (no_turns (steps h g).guest) in n ≡ others.made + m
+    → IsSlice (behind_drain (nat_eq (t % 64) 63) n (t + 1) input (steps h g).guest) (behind_turns (behind (steps h g).pages 1 others) m t input) (steps h g).guest others
+turns_or_none is_so k true n m t h input g slices there turn inside quiet so e = turns_behind is_so k slices n m t h input g there turn inside quiet so e
+turns_or_none is_so k false n m t h input g slices there turn inside quiet so e = no_slice n m t input (steps h g) (omega (arith, e))
 
--- the same of as many turns as were asked for
-slice_all : (count n t hart : ℕ) (input rest : List ℕ) (b mid : Guest) → 0 < count → count ≤ n → IsTurn t hart input rest b mid → (1 < count → rest ≡ []) → t % 64 + count ≤ 64
-    → ran n t input b ≡ after_all (after_turns RoundRobin count hart mid) (n - (after_turns RoundRobin count hart mid).made) t rest
-slice_all zero n t hart input rest b mid some within made no_input in_slice = absurd (omega (arith, some))
-slice_all (suc k) zero t hart input rest b mid some within made no_input in_slice = absurd (omega (arith, within))
-slice_all (suc k) (suc p) t hart input rest b mid some within made no_input in_slice =
-    let r : AfterTurns = after_turns RoundRobin (suc k) hart mid in
-    slice_run k p (suc p - r.made) t hart input rest b mid (omega (arith, within, made_within RoundRobin (suc k) hart mid)) made (λ more. no_input (omega (arith, more))) in_slice
+none_either : (so : Bool) (n m t : ℕ) (input : List ℕ) (s : Answered) → let others = cond so (no_turns s.guest) (no_turns s.guest) in n ≡ others.made + m
+    → IsSlice (behind_drain (nat_eq (t % 64) 63) n (t + 1) input s.guest) (behind_turns (behind s.pages 1 others) m t input) s.guest others
+none_either true n m t input s e = no_slice n m t input s (omega (arith, e))
+none_either false n m t input s e = no_slice n m t input s (omega (arith, e))
 
--- the same by what the turns were told to leave and to answer
-pub slice_left : (count n t hart made : ℕ) (input rest : List ℕ) (b mid after : Guest) (said : Option Stop) → 0 < count → count ≤ n → IsTurn t hart input rest b mid → (1 < count → rest ≡ []) → t % 64 + count ≤ 64
-    → after ≡ (after_turns RoundRobin count hart mid).guest → made ≡ (after_turns RoundRobin count hart mid).made → said ≡ (after_turns RoundRobin count hart mid).stop
-    → ran n t input b ≡ rest_of_run (status_of said) (n - made) (t + made) rest after
-slice_left count n t hart made input rest b mid after said some within turn no_input in_slice left counted answered =
-    slice_all count n t hart input rest b mid some within turn no_input in_slice
-    ∙ sym (ap (λ (o : Option Stop). rest_of_run (status_of o) (n - made) (t + made) rest after) answered
-    ∙ ap (λ (k : ℕ). rest_of_run (status_of (after_turns RoundRobin count hart mid).stop) (n - k) (t + k) rest after) counted
-    ∙ ap (λ (g : Guest). rest_of_run (status_of (after_turns RoundRobin count hart mid).stop) (n - (after_turns RoundRobin count hart mid).made) (t + (after_turns RoundRobin count hart mid).made) rest g) left)
+slices_of : (is_so : Guest → Bool) (k : ℕ) → SlicesOf is_so k
+unfolding turns_while
+slices_of is_so zero n m t h input g there turn inside e quiet =
+    let s : Answered = steps h g in
+    let others : AfterTurns = cond (is_so s.guest) (no_turns s.guest) (no_turns s.guest) in
+    rw (there_steps h g there) (slice_cases s.reply h n m t input g s others (after_step h g there) e (none_either (is_so s.guest) n m t input s))
+slices_of is_so (suc k) n m t h input g there turn inside e quiet =
+    let s : Answered = steps h g in
+    let others : AfterTurns = cond (is_so s.guest) (turns_while is_so (suc k) ((h + 1) % length g.board.harts) s.guest) (no_turns s.guest) in
+    rw (there_steps h g there) (slice_cases s.reply h n m t input g s others (after_step h g there) e (turns_or_none is_so k (is_so s.guest) n m t h input g (slices_of is_so k) there turn inside quiet refl))
 
--- bytes that were written so far, and what is left of the run
-pub slice_behind : (n t : ℕ) (input rest : List ℕ) (b g : Guest) (said : Option ℕ) (m u : ℕ) (bytes : List ℕ) (whole : Ran) → ran n t input b ≡ rest_of_run said m u rest g → after_bytes bytes (ran n t input b) ≡ whole → after_bytes bytes (rest_of_run said m u rest g) ≡ whole
-slice_behind n t input rest b g said m u bytes whole e all = sym (ap (after_bytes bytes) e) ∙ all
+-- a byte that is offered and turns, of which at most the last is one behind which is drained
+pub slice_from : (is_so : Guest → Bool) (count n t h made : ℕ) (input rest : List ℕ) (status : Option ℕ) (old mid new : GuestState) (told : Turns) → 0 < count → count ≤ n → t % 64 + count ≤ 64 → 0 < length mid.guest.board.harts → h ≡ t % length mid.guest.board.harts
+    → IsAfter (offers input) old mid → rest ≡ left input old.guest → ((g : Guest) → is_so g ≡ true → IsIdle rest g) → TakesTurns (turns_while is_so count h mid.guest) mid new told → made ≡ told.made → status ≡ status_of told.stop
+    → GoesOn (run_from n t input old.guest) (rest_of_run status (n - made) (t + made) rest new.guest) old new
+slice_from is_so zero n t h made input rest status old mid new told some within inside there turn offered kept quiet taken counted said = absurd (omega (arith, some))
+slice_from is_so (suc k) zero t h made input rest status old mid new told some within inside there turn offered kept quiet taken counted said = absurd (omega (arith, within))
+slice_from is_so (suc k) (suc p) t h made input rest status old mid new told some within inside there turn offered kept quiet taken counted said =
+    let r : AfterTurns = turns_while is_so (suc k) h mid.guest in
+    let m : ℕ = suc p - r.made in
+    let at : mid.guest ≡ (after (offers input) old.guest).guest = offered.guest in
+    let harts : length mid.guest.board.harts ≡ length old.guest.board.harts = ap (λ (g : Guest). length g.board.harts) at ∙ (offer_quiet input old.guest).1 in
+    let hart : t % length old.guest.board.harts ≡ h = ap (λ j. t % j) (sym harts) ∙ sym turn in
+    let all : suc p ≡ r.made + m = omega (arith, within, while_within is_so (suc k) h mid.guest) in
+    let part = slices_of is_so k p m t h rest mid.guest (rw turn (mod_below t (length mid.guest.board.harts) there)) turn inside all quiet in
+    let same_made : made ≡ r.made = counted ∙ taken.made in
+    let end : rest_of_run (status_of r.stop) m (t + r.made) rest r.guest ≡ rest_of_run status (suc p - made) (t + made) rest new.guest =
+    ap (λ (o : Option ℕ). rest_of_run o m (t + r.made) rest r.guest) (sym (said ∙ ap status_of taken.stop))
+    ∙ ap (λ (j : ℕ). rest_of_run status (suc p - j) (t + j) rest r.guest) (sym same_made)
+    ∙ ap (λ (g : Guest). rest_of_run status (suc p - made) (t + made) rest g) (sym taken.guest) in
+    let done : IsAfter part.events mid new =
+    record {
+      guest = taken.guest ∙ ap (λ (x : After). x.guest) (sym part.made);
+      dirty = taken.dirty ∙ ap (λ (x : After). mark_all x.pages mid.dirty) (sym part.made);
+    } in
+    record {
+      events = offers input ++ part.events;
+      whole = turn_first p t input old.guest
+          ∙ ap (λ (l : List ℕ). first (offers input) (stepping p t (t % length old.guest.board.harts) l (answered (step_of t old.guest) (after (offers input) old.guest).guest))) (sym kept)
+          ∙ ap (λ (g : Guest). first (offers input) (stepping p t (t % length old.guest.board.harts) rest (answered (step_of t old.guest) g))) (sym at)
+          ∙ ap (λ (j : ℕ). first (offers input) (stepping p t j rest (answered (Step j) mid.guest))) hart
+          ∙ ap (first (offers input)) (part.whole ∙ ap (first part.events) end)
+          ∙ ap (λ (l : List BoardEvent). record (rest_of_run status (suc p - made) (t + made) rest new.guest) { events = l }) (sym (append_assoc (offers input) part.events (rest_of_run status (suc p - made) (t + made) rest new.guest).events));
+      so_far = is_after_both (offers input) part.events old mid new offered done;
+      quiet = bytes_both (offers input) part.events old mid offered ∙ ap (λ (l : List ℕ). l ++ (after part.events mid.guest).bytes) (offer_quiet input old.guest).0 ∙ ap (λ (x : After). x.bytes) part.made;
+    }
 
--- it ended, it goes on with nothing to write, or what the guest sent is written first
-pub halted_slice : (m t s : ℕ) (rest : List ℕ) (g : Guest) (said : Option ℕ) (bytes : List ℕ) (whole : Ran) → said ≡ Some s → after_bytes bytes (rest_of_run said m t rest g) ≡ whole → whole ≡ after_bytes bytes (ends (ended.HaltedWith s) g)
-halted_slice m t s rest g said bytes whole e all = sym all ∙ ap (λ (o : Option ℕ). after_bytes bytes (rest_of_run o m t rest g)) e
+-- how many turns were made
+pub some_made : (is_so : Guest → Bool) (count h : ℕ) (g : Guest) → 0 < count → 0 < (turns_while is_so count h g).made
+some_made is_so zero h g some = absurd (omega (arith, some))
+some_made is_so (suc k) h g some = while_some is_so k h g
 
-pub quiet_slice : (m left t : ℕ) (rest : List ℕ) (g : Guest) (said : Option ℕ) (bytes : List ℕ) (whole : Ran) → said ≡ None → nat_eq (t % 64) 0 ≡ false → left ≡ m → after_bytes bytes (rest_of_run said m t rest g) ≡ whole → after_bytes bytes (ran left t rest g) ≡ whole
-quiet_slice m left t rest g said bytes whole e f same all =
-    let more : Ran = after_bytes (output_of g) (ran m t rest (drained g)) in
-    ap (λ (k : ℕ). after_bytes bytes (ran k t rest g)) same ∙ sym (ap (λ (o : Option ℕ). after_bytes bytes (rest_of_run o m t rest g)) e ∙ ap (λ (o : Bool). after_bytes bytes (cond o more (ran m t rest g))) f) ∙ all
+-- ---- the rest of a run
 
-pub flushed_slice : (m left t : ℕ) (rest : List ℕ) (g : Guest) (said : Option ℕ) (bytes : List ℕ) (whole : Ran) → said ≡ None → t % 64 ≡ 0 → left ≡ m → after_bytes bytes (rest_of_run said m t rest g) ≡ whole → after_bytes (bytes ++ output_of g) (ran left t rest (drained g)) ≡ whole
-flushed_slice m left t rest g said bytes whole e f same all =
-    let more : Ran = after_bytes (output_of g) (ran m t rest (drained g)) in
-    ap (λ (k : ℕ). after_bytes (bytes ++ output_of g) (ran k t rest (drained g))) same
-    ∙ rw append_assoc (sym (ap (λ (o : Option ℕ). after_bytes bytes (rest_of_run o m t rest g)) e ∙ ap (λ (k : ℕ). after_bytes bytes (cond (nat_eq k 0) more (ran m t rest g))) f) ∙ all)
+-- the run that has no turn left
+pub spent_run : (n t : ℕ) (input : List ℕ) (g : Guest) → n ≡ 0 → run_from n t input g ≡ record { events = drains g; ended = ended.StepsSpent }
+unfolding run_from
+spent_run n t input g e = rw e refl
 
--- the hart of a turn
-pub turn_of : (t n : ℕ) (input rest : List ℕ) (b mid : Guest) → record { guest = mid; input = rest } ≡ fed input b → n ≡ length mid.board.harts → IsTurn t (t % n) input rest b mid
-turn_of t n input rest b mid made count =
-    record { fed = made; turn = ap (λ k. t % k) (count ∙ ap (λ (f : Fed). length f.guest.board.harts) made ∙ fed_count input b) }
+-- it ended, it goes on, or what the guest sent is taken first
+pub halted_rest : (s n t : ℕ) (input : List ℕ) (g : Guest) (said : Option ℕ) → said ≡ Some s → rest_of_run said n t input g ≡ record { events = drains g; ended = ended.HaltedWith s }
+halted_rest s n t input g said e = ap (λ (o : Option ℕ). rest_of_run o n t input g) e
 
--- where more than one turn is made at once, no input is left
-pub no_more : (next count : ℕ) (input : List ℕ) → (nat_lt next (length input) ≡ true → count ≡ 1) → 1 < count → drop next input ≡ []
-no_more next count input one several = drop_all next input (grind (arith, nat_tests, one, several))
+pub quiet_rest : (n left t : ℕ) (input : List ℕ) (g : Guest) (said : Option ℕ) → said ≡ None → nat_eq (t % 64) 0 ≡ false → left ≡ n → rest_of_run said n t input g ≡ run_from left t input g
+quiet_rest n left t input g said e f same =
+    ap (λ (o : Option ℕ). rest_of_run o n t input g) e ∙ ap (λ (b : Bool). behind_drain b n t input g) f
+    ∙ ap (λ (x : After). run_from n t input x.guest) (after_none g) ∙ ap (λ (k : ℕ). run_from k t input g) (sym same)
+
+pub drained_rest : (n left t : ℕ) (input : List ℕ) (g new : Guest) (said : Option ℕ) → said ≡ None → t % 64 ≡ 0 → left ≡ n → new ≡ (after (drains g) g).guest → rest_of_run said n t input g ≡ first (drains g) (run_from left t input new)
+drained_rest n left t input g new said e f same taken =
+    ap (λ (o : Option ℕ). rest_of_run o n t input g) e ∙ ap (λ (k : ℕ). behind_drain (nat_eq k 0) n t input g) f
+    ∙ ap (λ (k : ℕ). first (drains g) (run_from k t input (after (drains g) g).guest)) (sym same) ∙ ap (λ (x : Guest). first (drains g) (run_from left t input x)) (sym taken)
+
+-- ---- the loop of a run
+
+-- a slice of turns was made
+pub slice_behind : {all : List BoardEvent} {run rest : Run} {start old new : GuestState} {before written : Option (List ℕ)} → GoesOn run rest old new → Progress all run.events start old before written → Progress all rest.events start new before written
+slice_behind {all} {run} {rest} {start} {old} {new} {before} {written} slice so_far =
+    goes_quietly run.events rest.events slice.events old new written so_far (ap (λ (r : Run). r.events) slice.whole) slice.so_far slice.quiet
+
+pub slice_ended : {run rest : Run} {old new : GuestState} (whole : Ended) → GoesOn run rest old new → run.ended ≡ whole → rest.ended ≡ whole
+slice_ended whole slice same = sym (ap (λ (r : Run). r.ended) slice.whole) ∙ same
+
+-- the last drains, where they were made and where they were not
+pub record Finished (all : List BoardEvent) (end whole : Ended) (start new : GuestState) (before written : Option (List ℕ)) : Type 0 where
+  pub made : IsAfter all start new
+  pub text : Appends before written (after all start.guest).bytes
+  pub ended : end ≡ whole
+
+pub finished : {all : List BoardEvent} {rest : Run} {end : Ended} {start now new : GuestState} {before mid : Option (List ℕ)} (whole : Ended) (written : Option (List ℕ)) → Progress all rest.events start now before mid → rest.ended ≡ whole → rest ≡ record { events = drains now.guest; ended = end }
+    → IsAfter (drains now.guest) now new → Appends mid written (after (drains now.guest) now.guest).bytes → Finished all end whole start new before written
+finished {all} {rest} {end} {start} {now} {new} {before} {mid} whole written so_far same last taken text =
+    let parts = ap (λ (r : Run). r.events) last ∙ sym (append-nil (drains now.guest)) in
+    let made = all_made [] new written (goes_on rest.events [] (drains now.guest) now new mid written so_far parts taken text) refl in
+    record { made = made.made; text = made.text; ended = sym (ap (λ (r : Run). r.ended) last) ∙ same }
+
+pub record BrokenOff (all : List BoardEvent) (start new : GuestState) : Type 0 where
+  pub some : 0 < length (after all start.guest).bytes
+  pub part : IsPartWay all start new
+
+pub broken_off : {all : List BoardEvent} {rest : Run} {start now new : GuestState} {before mid : Option (List ℕ)} (more : Run) → Progress all rest.events start now before mid → rest ≡ first (drains now.guest) more
+    → IsPartWay (drains now.guest) now new → 0 < length (after (drains now.guest) now.guest).bytes → BrokenOff all start new
+broken_off {all} {rest} {start} {now} {new} {before} {mid} more so_far parts part some =
+    let events = ap (λ (r : Run). r.events) parts in
+    record { some = some_bytes rest.events more.events (drains now.guest) now mid so_far events some; part = part_way rest.events more.events (drains now.guest) now new mid so_far events part }
+
+-- nothing follows the last drains
+pub last_drains : (g : Guest) (end : Ended) (rest : Run) → rest ≡ record { events = drains g; ended = end } → rest ≡ first (drains g) (record { events = []; ended = end })
+last_drains g end rest e = e ∙ ap (λ (l : List BoardEvent). record { events = l; ended = end }) (sym (append-nil (drains g)))
+
+-- nothing waits
+pub drain_nothing : (s : GuestState) (w : Option (List ℕ)) → length s.guest.board.reach.devices.output ≡ 0 → AllMade (drains s.guest) s s w w
+drain_nothing s w none = all_made (drains s.guest) s w (begins (drains s.guest) s w) (drains_none s.guest none)
+
+-- where no input is left, all turns are made
+pub any_turns : (is_more : Bool) (count h : ℕ) (old new : GuestState) (told : Turns) → is_more ≡ false → TakesTurns (after_turns RoundRobin count h old.guest) old new told → TakesTurns (turns_while (takes_none is_more) count h old.guest) old new told
+any_turns true count h old new told none taken = absurd cc
+any_turns false count h old new told none taken = subst (λ (t : AfterTurns). TakesTurns t old new told) (as_they_are count h old.guest) taken
+
+-- no byte is left
+pub none_left : (next : ℕ) (input : List ℕ) → nat_lt next (length input) ≡ false → drop next input ≡ []
+none_left next input e = drop_all next input (grind (arith, nat_tests, e))

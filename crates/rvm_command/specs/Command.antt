@@ -31,7 +31,7 @@ guest_of harts pages entry pieces =
 
 -- its run
 abbrev pub run_of : (harts pages steps : ℕ) → (image : ℕ × List Piece) → (input : List ℕ) → Ran
-run_of harts pages steps image input = ran steps 0 input (guest_of harts pages image.0 image.1)
+run_of harts pages steps image input = ran steps input (guest_of harts pages image.0 image.1)
 
 -- `halted S`, or `steps spent`
 abbrev pub end_text : Ended → List ℕ

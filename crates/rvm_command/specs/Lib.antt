@@ -1,4 +1,5 @@
 pub mod Run
+pub mod Slices
 pub mod Command
 pub mod Assembled
 pub mod Refusals

@@ -1,10 +1,15 @@
 //! The loop of `rvmove run`: turns of the harts, input to the guest, and what it sends.
 
-ghost use Rattle.std.specs.Prelude.{◌≡◌, ◌<◌, ◌≤◌, ◌+◌, ◌-◌, ◌%◌, OnOk, OnErr, IfOk, drop, length, true};
+ghost use Rattle.std.specs.Prelude.{◌≡◌, ◌<◌, ◌≤◌, ◌+◌, ◌-◌, ◌%◌, ◌∷◌, [], OnOk, OnErr, IfOk, drop, length, true};
 ghost use Rattle.std.specs.Io.KnownBytes.{Appends};
-ghost use Rattle.rvm_command.specs.Run.{drained, fed, output_of, ran, rest_of_run, status_of};
+ghost use Rattle.rvm_mem.specs.Pages.{mark_all};
+ghost use Rattle.rvm_debug.specs.declared.event.BoardEvent.TheVariants.{Drain};
+ghost use Rattle.rvm_debug.specs.Turns.{TakesTurns};
+ghost use Rattle.rvm_debug.specs.WhileFull.{turns_while};
+ghost use Rattle.rvm_command.specs.Run.{IsAfter, IsPartWay, after, drains, left, offers, ran, run_from};
+ghost use Rattle.rvm_command.specs.Slices.{GoesOn, rest_of_run, status_of, takes_none};
 
-use rvm_debug::{Debugged, Order, Stop};
+use rvm_debug::{Debugged, Order, Stop, Turns};
 use rvm_mem::Memory;
 use std::io::Write;
 use thiserror::Error;
@@ -30,10 +35,13 @@ pub enum Ended {
 pub struct LinkFault;
 
 /// Makes `steps` turns, or turns until the guest halts the board. In turn t the next byte of
-/// `input`, if one is left and there is room, comes to the console, and then hart t modulo the
-/// number of harts takes a step. What the guest sends is written after each 64 turns, when the
-/// board is halted and at the end. A hart that stops at a breakpoint has had its turn. `LinkFault`
-/// where the writer failed, which needs something to write.
+/// `input`, if one is left, is offered to the console, which keeps it for later where 16 bytes wait,
+/// and then hart t modulo the number of harts takes a step. What the guest sent is written after
+/// each 64 turns, when the board is halted and at the end. A hart that stops at a breakpoint has had
+/// its turn.
+///
+/// `LinkFault` where the writer failed, which needs something to write: then the guest is that which
+/// some of the first events of the run left, and the bytes of the last of them may not have gone out.
 pub fn run<M: Memory, W: Write>(
     guest: &mut Debugged<M>,
     steps: u32,
@@ -41,10 +49,14 @@ pub fn run<M: Memory, W: Write>(
     writer: &mut W,
 ) -> Result<Ended, LinkFault>
     ensures written { OnOk result (Appends (W.contents writer.old) (W.contents writer.new)
-        (ran steps 0 input.now guest.old.guest).written) }
-    ensures guest { OnOk result (guest.new.guest ≡ (ran steps 0 input.now guest.old.guest).guest) }
-    ensures ended { IfOk result (λ e. e ≡ (ran steps 0 input.now guest.old.guest).ended) }
-    ensures err { OnErr result (0 < length (ran steps 0 input.now guest.old.guest).written) }
+        (ran steps input.now guest.old.guest).written) }
+    ensures guest { OnOk result (guest.new.guest ≡ (ran steps input.now guest.old.guest).guest) }
+    ensures dirty { OnOk result (guest.new.dirty
+        ≡ mark_all (ran steps input.now guest.old.guest).pages guest.old.dirty) }
+    ensures ended { IfOk result (λ e. e ≡ (ran steps input.now guest.old.guest).ended) }
+    ensures err { OnErr result (0 < length (ran steps input.now guest.old.guest).written) }
+    ensures part { OnErr result
+        (IsPartWay (run_from steps 0 input.now guest.old.guest).events guest.old guest.new) }
 {
     let mut next = 0;
     let mut turn = 0;
@@ -86,17 +98,17 @@ fn make_turns<M: Memory>(
 ) -> Slice
     requires turn { turn < steps }
     requires next { next ≤ length input.now }
-    ensures run { ran (steps - turn) turn (drop next input.now) guest.old.guest
-        ≡ rest_of_run result.status (steps - turn - result.made) (turn + result.made)
-        (drop result.next input.now) guest.new.guest }
+    ensures run { GoesOn (run_from (steps - turn) turn (drop next input.now) guest.old.guest)
+        (rest_of_run result.status (steps - turn - result.made) (turn + result.made)
+        (drop result.next input.now) guest.new.guest) guest.old guest.new }
     ensures some { 0 < result.made }
     ensures within { turn + result.made ≤ steps }
     ensures next { result.next ≤ length input.now }
 {
     let next = feed(guest, input, next);
-    let count = turns_at_once(turn, steps, next < input.len());
+    let count = (DRAIN_EVERY - turn % DRAIN_EVERY).min(steps - turn);
     let first = turn % guest.harts();
-    let turns = guest.turns(Order::RoundRobin, first, count);
+    let turns = take_turns(guest, next < input.len(), first, count);
     Slice {
         made: turns.made,
         next,
@@ -115,19 +127,17 @@ fn status_of(stop: Option<Stop>) -> Option<u8>
     }
 }
 
-/// How many turns are made from turn `turn` on before the guest is looked after again: one where
-/// there is more input, else those up to the next drain.
-fn turns_at_once(turn: u32, steps: u32, is_more: bool) -> u32
-    requires { turn < steps }
-    ensures some { 0 < result }
-    ensures within { turn + result ≤ steps }
-    ensures slice { turn % 64 + result ≤ 64 }
-    ensures one { is_more ≡ true → result ≡ 1 }
+/// Makes turns. Where there is more input they end once a byte of it can come.
+#[inline]
+fn take_turns<M: Memory>(guest: &mut Debugged<M>, is_more: bool, first: u32, count: u32) -> Turns
+    requires { first < length guest.old.guest.board.harts }
+    ensures { TakesTurns (turns_while (takes_none is_more) count first guest.old.guest)
+        guest.old guest.new result }
 {
     if is_more {
-        1
+        guest.turns_while_full(first, count)
     } else {
-        (DRAIN_EVERY - turn % DRAIN_EVERY).min(steps - turn)
+        guest.turns(Order::RoundRobin, first, count)
     }
 }
 
@@ -136,14 +146,16 @@ fn turns_at_once(turn: u32, steps: u32, is_more: bool) -> u32
 #[inline(always)]
 fn feed<M: Memory>(guest: &mut Debugged<M>, input: &[u8], next: usize) -> usize
     requires { next ≤ length input.now }
-    ensures fed { record { guest = guest.new.guest; input = drop result input.now }
-        ≡ fed (drop next input.now) guest.old.guest }
+    ensures fed { IsAfter (offers (drop next input.now)) guest.old guest.new }
+    ensures left { drop result input.now ≡ left (drop next input.now) guest.old.guest }
     ensures within { result ≤ length input.now }
 {
-    if next < input.len() && guest.input(input[next]).is_ok() {
-        next + 1
-    } else {
-        next
+    if next >= input.len() {
+        return next;
+    }
+    match guest.input(input[next]) {
+        Ok(()) => next + 1,
+        Err(_) => next,
     }
 }
 
@@ -151,9 +163,10 @@ fn feed<M: Memory>(guest: &mut Debugged<M>, input: &[u8], next: usize) -> usize
 #[inline]
 fn drain<M: Memory, W: Write>(guest: &mut Debugged<M>, writer: &mut W) -> Result<(), LinkFault>
     ensures written { OnOk result (Appends (W.contents writer.old) (W.contents writer.new)
-        (output_of guest.old.guest)) }
-    ensures guest { OnOk result (guest.new.guest ≡ drained guest.old.guest) }
-    ensures err { OnErr result (0 < length (output_of guest.old.guest)) }
+        (after (drains guest.old.guest) guest.old.guest).bytes) }
+    ensures guest { OnOk result (IsAfter (drains guest.old.guest) guest.old guest.new) }
+    ensures err { OnErr result (0 < length (after (drains guest.old.guest) guest.old.guest).bytes) }
+    ensures part { OnErr result (IsPartWay (drains guest.old.guest) guest.old guest.new) }
 {
     if guest.waiting() == 0 {
         return Ok(());
@@ -166,17 +179,27 @@ fn drain<M: Memory, W: Write>(guest: &mut Debugged<M>, writer: &mut W) -> Result
 #[inline(never)]
 fn drain_all<M: Memory, W: Write>(guest: &mut Debugged<M>, writer: &mut W) -> Result<(), LinkFault>
     ensures written { OnOk result (Appends (W.contents writer.old) (W.contents writer.new)
-        (output_of guest.old.guest)) }
-    ensures guest { OnOk result (guest.new.guest ≡ drained guest.old.guest) }
-    ensures err { OnErr result (0 < length (output_of guest.old.guest)) }
+        (after (drains guest.old.guest) guest.old.guest).bytes) }
+    ensures guest { OnOk result (IsAfter (drains guest.old.guest) guest.old guest.new) }
+    ensures err { OnErr result (0 < length (after (drains guest.old.guest) guest.old.guest).bytes) }
+    ensures part { OnErr result (IsPartWay (drains guest.old.guest) guest.old guest.new) }
 {
-    let mut bytes = [0; DRAIN_SIZE];
     while guest.waiting() > 0 {
-        let count = guest.drain(&mut bytes);
-        match writer.write_all(&bytes[..count]) {
-            Ok(()) => {}
-            Err(_) => return Err(LinkFault),
-        }
+        drain_once(guest, writer)?;
     }
     Ok(())
+}
+
+/// Takes the oldest bytes that the guest sent, at most 256, and writes them.
+fn drain_once<M: Memory, W: Write>(guest: &mut Debugged<M>, writer: &mut W) -> Result<(), LinkFault>
+    ensures written { OnOk result (Appends (W.contents writer.old) (W.contents writer.new)
+        (after (Drain 256 ∷ []) guest.old.guest).bytes) }
+    ensures guest { IsAfter (Drain 256 ∷ []) guest.old guest.new }
+{
+    let mut bytes = [0; DRAIN_SIZE];
+    let count = guest.drain(&mut bytes);
+    match writer.write_all(&bytes[..count]) {
+        Ok(()) => Ok(()),
+        Err(_) => Err(LinkFault),
+    }
 }

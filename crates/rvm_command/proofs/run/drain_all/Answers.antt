@@ -1,20 +1,43 @@
-use Rattle.std.proofs.Common.{◌++◌, ap, sym, ◌∙◌, take, drop, subst}
-use Rattle.std.specs.Io.KnownBytes.{Appends}
-use Rattle.rvm_debug.specs.Guest.{Guest, GuestState}
-use Rattle.rvm_command.specs.Run.{with_sent}
-use Rattle.rvm_command.proofs.Runs.{appends_more, drained_piece, piece_more}
+use Rattle.std.proofs.Common.{◌≡◌, ◌<◌, ◌++◌, ◌∷◌, [], length, refl, arith}
+use Rattle.rvm_debug.specs.declared.event.BoardEvent.TheVariants.{Drain}
+use Rattle.rvm_command.specs.Run.{IsPartWay, after, drains}
+use Rattle.rvm_command.proofs.Runs.{all_made, begins, drain_fewer, drain_first, drained_some, drains_none, goes_on, on_err, part_way, some_bytes, whole_part}
 use Rattle.rvm_command.proofs.run.drain_all.Goals as goal
 
-pub loop-bytes-preserved : goal.loop-bytes-preserved
-loop-bytes-preserved g c =
-    let sent = c.loop-bytes.guest.guest.board.reach.devices.output in
-    let count = c.drain-count.result in
-    let so_far = c.loop-bytes.invariant in
-    let piece = drained_piece count sent c.loop-bytes.bytes c.drain-count.new.bytes c.drain-count.ensures.count c.drain-count.ensures.bytes in
-    let after = ap (λ (s : GuestState). s.guest) c.drain-count.ensures.guest in
-    let left = ap (λ (b : Guest). b.board.reach.devices.output) after in (
-      so_far.0 ++ take count sent,
-      appends_more _ _ _ so_far.0 (take count sent) so_far.1 (subst (Appends (g.W.Write.contents c.loop-bytes.writer) (g.W.Write.contents c.write_all.new.self)) piece c.in-Ok.ensures.bytes),
-      ap (λ l. (so_far.0 ++ take count sent) ++ l) left ∙ piece_more so_far.0 sent c.args.guest.now.guest.board.reach.devices.output count so_far.2,
-      after ∙ ap (with_sent (drop count sent)) so_far.3 ∙ ap (λ l. with_sent l c.args.guest.now.guest) (sym left),
-    )
+pub loop-guest-init : goal.loop-guest-init
+loop-guest-init g c = begins (drains c.args.guest.now.guest) c.args.guest.now (g.W.Write.contents c.args.writer.now)
+
+pub loop-guest-preserved : goal.loop-guest-preserved
+loop-guest-preserved g c =
+    let now = c.loop-guest.guest in
+    let new = c.drain_once.new.guest in
+    let some : 0 < length now.guest.board.reach.devices.output = omega arith in
+    goes_on (drains now.guest) (drains new.guest) (Drain 256 ∷ []) now new (g.W.Write.contents c.loop-guest.writer) (g.W.Write.contents c.drain_once.new.writer) c.loop-guest.invariant
+    (drain_first now new some c.drain_once.ensures.guest) c.drain_once.ensures.guest c.in_ok-drain_once.ensures.written
+
+pub returns-in_err-drain_once-clause-err : goal.returns-in_err-drain_once-clause-err
+returns-in_err-drain_once-clause-err g c =
+    let now = c.loop-guest.guest in
+    let new = c.drain_once.new.guest in
+    let some : 0 < length now.guest.board.reach.devices.output = omega arith in
+    on_err c.from_residual.result (0 < length (after (drains c.args.guest.now.guest) c.args.guest.now.guest).bytes)
+    (some_bytes (drains now.guest) (drains new.guest) (Drain 256 ∷ []) now (g.W.Write.contents c.loop-guest.writer) c.loop-guest.invariant (drain_first now new some c.drain_once.ensures.guest) (drained_some now.guest some))
+
+pub returns-in_err-drain_once-clause-part : goal.returns-in_err-drain_once-clause-part
+returns-in_err-drain_once-clause-part g c =
+    let now = c.loop-guest.guest in
+    let new = c.drain_once.new.guest in
+    let some : 0 < length now.guest.board.reach.devices.output = omega arith in
+    on_err c.from_residual.result (IsPartWay (drains c.args.guest.now.guest) c.args.guest.now new)
+    (part_way (drains now.guest) (drains new.guest) (Drain 256 ∷ []) now new (g.W.Write.contents c.loop-guest.writer) c.loop-guest.invariant (drain_first now new some c.drain_once.ensures.guest) (whole_part (Drain 256 ∷ []) now new c.drain_once.ensures.guest))
+
+pub returns-clause-written : goal.returns-clause-written
+returns-clause-written g c =
+    (all_made (drains c.loop-guest.guest.guest) c.loop-guest.guest (g.W.Write.contents c.loop-guest.writer) c.loop-guest.invariant (drains_none c.loop-guest.guest.guest (omega arith))).text
+
+pub returns-clause-guest : goal.returns-clause-guest
+returns-clause-guest g c =
+    (all_made (drains c.loop-guest.guest.guest) c.loop-guest.guest (g.W.Write.contents c.loop-guest.writer) c.loop-guest.invariant (drains_none c.loop-guest.guest.guest (omega arith))).made
+
+pub loop-guest-smaller : goal.loop-guest-smaller
+loop-guest-smaller g c = omega (arith, drain_fewer c.loop-guest.guest c.drain_once.new.guest c.drain_once.ensures.guest)

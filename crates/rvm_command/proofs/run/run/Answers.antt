@@ -1,78 +1,132 @@
-use Rattle.std.proofs.Common.{◌+◌, ◌-◌, ◌<◌, ◌++◌, length, drop, sym, refl, arith}
-use Rattle.rvm_command.specs.Run.{output_of, ran}
-use Rattle.rvm_command.proofs.Runs.{appends_more, flushed_slice, halted_slice, on_err, quiet_slice, slice_behind, some_after, some_before, spent_run}
+use Rattle.std.proofs.Common.{[], ◌≡◌, ℕ, ◌+◌, ◌-◌, ◌%◌, ◌<◌, ◌≤◌, List, length, drop, ap, sym, ◌∙◌, refl, arith}
+use Rattle.rvm_command.specs.declared.run.Ended.TheVariants as ended
+use Rattle.rvm_command.specs.Run.{IsPartWay, Run, after, drains, first, run_from}
+use Rattle.rvm_command.specs.Slices.{rest_of_run}
+use Rattle.rvm_command.proofs.Runs.{begins, broken_off, drained_rest, finished, goes_on, halted_rest, last_drains, on_err, quiet_rest, slice_behind, slice_ended, spent_run}
 use Rattle.rvm_command.proofs.run.run.Goals as goal
+
+pub loop-turn-init : goal.loop-turn-init
+loop-turn-init g c =
+    let same : c.args.steps - 0 ≡ c.args.steps = omega arith in
+    record {
+      next = omega arith;
+      turn = omega arith;
+      ended = ap (λ (n : ℕ). (run_from n 0 c.args.input.now c.args.guest.now.guest).ended) same;
+      events = rw same (begins (run_from c.args.steps 0 c.args.input.now c.args.guest.now.guest).events c.args.guest.now (g.W.Write.contents c.args.writer.now));
+    }
 
 pub returns-in_err-drain-clause-err : goal.returns-in_err-drain-clause-err
 returns-in_err-drain-clause-err g c =
-    let made = slice_behind (c.args.steps - c.loop-turn.turn) c.loop-turn.turn (drop c.loop-turn.next c.args.input.now) (drop c.make_turns-slice.result.next c.args.input.now) c.loop-turn.guest.guest c.make_turns-slice.new.guest.guest c.make_turns-slice.result.status (c.args.steps - c.loop-turn.turn - c.make_turns-slice.result.made) (c.loop-turn.turn + c.make_turns-slice.result.made) c.loop-turn.invariant.whole.0 _ c.make_turns-slice.ensures.run c.loop-turn.invariant.whole.2 in
-    let whole = halted_slice (c.args.steps - c.loop-turn.turn - c.make_turns-slice.result.made) (c.loop-turn.turn + c.make_turns-slice.result.made) c.in-Some.status (drop c.make_turns-slice.result.next c.args.input.now) c.make_turns-slice.new.guest.guest c.make_turns-slice.result.status c.loop-turn.invariant.whole.0 _ c.in-Some.is made in
-    on_err c.from_residual.result (0 < length (ran c.args.steps 0 c.args.input.now c.args.guest.now.guest).written) (rw whole (some_after c.loop-turn.invariant.whole.0 _ c.in_err-drain.ensures.err))
+    let so_far = slice_behind c.make_turns-slice.ensures.run c.loop-turn.invariant.events in
+    let last = halted_rest c.in-Some.status (c.args.steps - c.loop-turn.turn - c.make_turns-slice.result.made) (c.loop-turn.turn + c.make_turns-slice.result.made) (drop c.make_turns-slice.result.next c.args.input.now) c.make_turns-slice.new.guest.guest c.make_turns-slice.result.status c.in-Some.is in
+    on_err c.from_residual.result (0 < length (after (run_from c.args.steps 0 c.args.input.now c.args.guest.now.guest).events c.args.guest.now.guest).bytes) (broken_off (record { events = []; ended = ended.HaltedWith c.in-Some.status }) so_far (last_drains c.make_turns-slice.new.guest.guest (ended.HaltedWith c.in-Some.status) _ last) c.in_err-drain.ensures.part c.in_err-drain.ensures.err).some
+
+pub returns-in_err-drain-clause-part : goal.returns-in_err-drain-clause-part
+returns-in_err-drain-clause-part g c =
+    let so_far = slice_behind c.make_turns-slice.ensures.run c.loop-turn.invariant.events in
+    let last = halted_rest c.in-Some.status (c.args.steps - c.loop-turn.turn - c.make_turns-slice.result.made) (c.loop-turn.turn + c.make_turns-slice.result.made) (drop c.make_turns-slice.result.next c.args.input.now) c.make_turns-slice.new.guest.guest c.make_turns-slice.result.status c.in-Some.is in
+    on_err c.from_residual.result (IsPartWay (run_from c.args.steps 0 c.args.input.now c.args.guest.now.guest).events c.args.guest.now c.drain.new.guest) (broken_off (record { events = []; ended = ended.HaltedWith c.in-Some.status }) so_far (last_drains c.make_turns-slice.new.guest.guest (ended.HaltedWith c.in-Some.status) _ last) c.in_err-drain.ensures.part c.in_err-drain.ensures.err).part
 
 pub returns-in-Some-clause-written : goal.returns-in-Some-clause-written
 returns-in-Some-clause-written g c =
-    let made = slice_behind (c.args.steps - c.loop-turn.turn) c.loop-turn.turn (drop c.loop-turn.next c.args.input.now) (drop c.make_turns-slice.result.next c.args.input.now) c.loop-turn.guest.guest c.make_turns-slice.new.guest.guest c.make_turns-slice.result.status (c.args.steps - c.loop-turn.turn - c.make_turns-slice.result.made) (c.loop-turn.turn + c.make_turns-slice.result.made) c.loop-turn.invariant.whole.0 _ c.make_turns-slice.ensures.run c.loop-turn.invariant.whole.2 in
-    let whole = halted_slice (c.args.steps - c.loop-turn.turn - c.make_turns-slice.result.made) (c.loop-turn.turn + c.make_turns-slice.result.made) c.in-Some.status (drop c.make_turns-slice.result.next c.args.input.now) c.make_turns-slice.new.guest.guest c.make_turns-slice.result.status c.loop-turn.invariant.whole.0 _ c.in-Some.is made in
-    rw whole (appends_more _ _ _ _ _ c.loop-turn.invariant.whole.1 c.in_ok-drain.ensures.written)
+    let so_far = slice_behind c.make_turns-slice.ensures.run c.loop-turn.invariant.events in
+    let ended = slice_ended (run_from c.args.steps 0 c.args.input.now c.args.guest.now.guest).ended c.make_turns-slice.ensures.run c.loop-turn.invariant.ended in
+    let last = halted_rest c.in-Some.status (c.args.steps - c.loop-turn.turn - c.make_turns-slice.result.made) (c.loop-turn.turn + c.make_turns-slice.result.made) (drop c.make_turns-slice.result.next c.args.input.now) c.make_turns-slice.new.guest.guest c.make_turns-slice.result.status c.in-Some.is in
+    (finished (run_from c.args.steps 0 c.args.input.now c.args.guest.now.guest).ended (g.W.Write.contents c.drain.new.writer) so_far ended last c.in_ok-drain.ensures.guest c.in_ok-drain.ensures.written).text
 
 pub returns-in-Some-clause-guest : goal.returns-in-Some-clause-guest
 returns-in-Some-clause-guest g c =
-    let made = slice_behind (c.args.steps - c.loop-turn.turn) c.loop-turn.turn (drop c.loop-turn.next c.args.input.now) (drop c.make_turns-slice.result.next c.args.input.now) c.loop-turn.guest.guest c.make_turns-slice.new.guest.guest c.make_turns-slice.result.status (c.args.steps - c.loop-turn.turn - c.make_turns-slice.result.made) (c.loop-turn.turn + c.make_turns-slice.result.made) c.loop-turn.invariant.whole.0 _ c.make_turns-slice.ensures.run c.loop-turn.invariant.whole.2 in
-    let whole = halted_slice (c.args.steps - c.loop-turn.turn - c.make_turns-slice.result.made) (c.loop-turn.turn + c.make_turns-slice.result.made) c.in-Some.status (drop c.make_turns-slice.result.next c.args.input.now) c.make_turns-slice.new.guest.guest c.make_turns-slice.result.status c.loop-turn.invariant.whole.0 _ c.in-Some.is made in
-    rw whole c.in_ok-drain.ensures.guest
+    let so_far = slice_behind c.make_turns-slice.ensures.run c.loop-turn.invariant.events in
+    let ended = slice_ended (run_from c.args.steps 0 c.args.input.now c.args.guest.now.guest).ended c.make_turns-slice.ensures.run c.loop-turn.invariant.ended in
+    let last = halted_rest c.in-Some.status (c.args.steps - c.loop-turn.turn - c.make_turns-slice.result.made) (c.loop-turn.turn + c.make_turns-slice.result.made) (drop c.make_turns-slice.result.next c.args.input.now) c.make_turns-slice.new.guest.guest c.make_turns-slice.result.status c.in-Some.is in
+    (finished (run_from c.args.steps 0 c.args.input.now c.args.guest.now.guest).ended (g.W.Write.contents c.drain.new.writer) so_far ended last c.in_ok-drain.ensures.guest c.in_ok-drain.ensures.written).made.guest
+
+pub returns-in-Some-clause-dirty : goal.returns-in-Some-clause-dirty
+returns-in-Some-clause-dirty g c =
+    let so_far = slice_behind c.make_turns-slice.ensures.run c.loop-turn.invariant.events in
+    let ended = slice_ended (run_from c.args.steps 0 c.args.input.now c.args.guest.now.guest).ended c.make_turns-slice.ensures.run c.loop-turn.invariant.ended in
+    let last = halted_rest c.in-Some.status (c.args.steps - c.loop-turn.turn - c.make_turns-slice.result.made) (c.loop-turn.turn + c.make_turns-slice.result.made) (drop c.make_turns-slice.result.next c.args.input.now) c.make_turns-slice.new.guest.guest c.make_turns-slice.result.status c.in-Some.is in
+    (finished (run_from c.args.steps 0 c.args.input.now c.args.guest.now.guest).ended (g.W.Write.contents c.drain.new.writer) so_far ended last c.in_ok-drain.ensures.guest c.in_ok-drain.ensures.written).made.dirty
 
 pub returns-in-Some-clause-ended : goal.returns-in-Some-clause-ended
 returns-in-Some-clause-ended g c =
-    let made = slice_behind (c.args.steps - c.loop-turn.turn) c.loop-turn.turn (drop c.loop-turn.next c.args.input.now) (drop c.make_turns-slice.result.next c.args.input.now) c.loop-turn.guest.guest c.make_turns-slice.new.guest.guest c.make_turns-slice.result.status (c.args.steps - c.loop-turn.turn - c.make_turns-slice.result.made) (c.loop-turn.turn + c.make_turns-slice.result.made) c.loop-turn.invariant.whole.0 _ c.make_turns-slice.ensures.run c.loop-turn.invariant.whole.2 in
-    let whole = halted_slice (c.args.steps - c.loop-turn.turn - c.make_turns-slice.result.made) (c.loop-turn.turn + c.make_turns-slice.result.made) c.in-Some.status (drop c.make_turns-slice.result.next c.args.input.now) c.make_turns-slice.new.guest.guest c.make_turns-slice.result.status c.loop-turn.invariant.whole.0 _ c.in-Some.is made in
-    rw whole refl
+    let so_far = slice_behind c.make_turns-slice.ensures.run c.loop-turn.invariant.events in
+    let ended = slice_ended (run_from c.args.steps 0 c.args.input.now c.args.guest.now.guest).ended c.make_turns-slice.ensures.run c.loop-turn.invariant.ended in
+    let last = halted_rest c.in-Some.status (c.args.steps - c.loop-turn.turn - c.make_turns-slice.result.made) (c.loop-turn.turn + c.make_turns-slice.result.made) (drop c.make_turns-slice.result.next c.args.input.now) c.make_turns-slice.new.guest.guest c.make_turns-slice.result.status c.in-Some.is in
+    (finished (run_from c.args.steps 0 c.args.input.now c.args.guest.now.guest).ended (g.W.Write.contents c.drain.new.writer) so_far ended last c.in_ok-drain.ensures.guest c.in_ok-drain.ensures.written).ended
 
 pub loop-turn-preserved-in-Continue-branch-2 : goal.loop-turn-preserved-in-Continue-branch-2
 loop-turn-preserved-in-Continue-branch-2 g c =
-    let made = slice_behind (c.args.steps - c.loop-turn.turn) c.loop-turn.turn (drop c.loop-turn.next c.args.input.now) (drop c.make_turns-slice.result.next c.args.input.now) c.loop-turn.guest.guest c.make_turns-slice.new.guest.guest c.make_turns-slice.result.status (c.args.steps - c.loop-turn.turn - c.make_turns-slice.result.made) (c.loop-turn.turn + c.make_turns-slice.result.made) c.loop-turn.invariant.whole.0 _ c.make_turns-slice.ensures.run c.loop-turn.invariant.whole.2 in
-    let whole = flushed_slice (c.args.steps - c.loop-turn.turn - c.make_turns-slice.result.made) (c.args.steps - (c.loop-turn.turn + c.make_turns-slice.result.made)) (c.loop-turn.turn + c.make_turns-slice.result.made) (drop c.make_turns-slice.result.next c.args.input.now) c.make_turns-slice.new.guest.guest c.make_turns-slice.result.status c.loop-turn.invariant.whole.0 _ c.in_default.is (omega arith) (omega arith) made in
+    let so_far = slice_behind c.make_turns-slice.ensures.run c.loop-turn.invariant.events in
+    let ended = slice_ended (run_from c.args.steps 0 c.args.input.now c.args.guest.now.guest).ended c.make_turns-slice.ensures.run c.loop-turn.invariant.ended in
+    let next = drained_rest (c.args.steps - c.loop-turn.turn - c.make_turns-slice.result.made) (c.args.steps - (c.loop-turn.turn + c.make_turns-slice.result.made)) (c.loop-turn.turn + c.make_turns-slice.result.made) (drop c.make_turns-slice.result.next c.args.input.now) c.make_turns-slice.new.guest.guest c.drain-then-turn-eq0.new.guest.guest c.make_turns-slice.result.status c.in_default.is (omega arith) (omega arith) c.in_ok-drain-2.ensures.guest.guest in
     record {
       next = c.make_turns-slice.ensures.next;
       turn = c.make_turns-slice.ensures.within;
-      whole = (
-        c.loop-turn.invariant.whole.0 ++ output_of c.make_turns-slice.new.guest.guest,
-        appends_more _ _ _ _ _ c.loop-turn.invariant.whole.1 c.in_ok-drain-2.ensures.written,
-        rw c.in_ok-drain-2.ensures.guest whole,
-      );
+      ended = sym (ap (λ (r : Run). r.ended) next) ∙ ended;
+      events = goes_on (rest_of_run c.make_turns-slice.result.status (c.args.steps - c.loop-turn.turn - c.make_turns-slice.result.made) (c.loop-turn.turn + c.make_turns-slice.result.made) (drop c.make_turns-slice.result.next c.args.input.now) c.make_turns-slice.new.guest.guest).events (run_from (c.args.steps - (c.loop-turn.turn + c.make_turns-slice.result.made)) (c.loop-turn.turn + c.make_turns-slice.result.made) (drop c.make_turns-slice.result.next c.args.input.now) c.drain-then-turn-eq0.new.guest.guest).events (drains c.make_turns-slice.new.guest.guest) c.make_turns-slice.new.guest c.drain-then-turn-eq0.new.guest (g.W.Write.contents c.loop-turn.writer) (g.W.Write.contents c.drain-then-turn-eq0.new.writer) so_far (ap (λ (r : Run). r.events) next) c.in_ok-drain-2.ensures.guest c.in_ok-drain-2.ensures.written;
     }
 
 pub returns-in_err-drain-2-clause-err : goal.returns-in_err-drain-2-clause-err
 returns-in_err-drain-2-clause-err g c =
-    let made = slice_behind (c.args.steps - c.loop-turn.turn) c.loop-turn.turn (drop c.loop-turn.next c.args.input.now) (drop c.make_turns-slice.result.next c.args.input.now) c.loop-turn.guest.guest c.make_turns-slice.new.guest.guest c.make_turns-slice.result.status (c.args.steps - c.loop-turn.turn - c.make_turns-slice.result.made) (c.loop-turn.turn + c.make_turns-slice.result.made) c.loop-turn.invariant.whole.0 _ c.make_turns-slice.ensures.run c.loop-turn.invariant.whole.2 in
-    let whole = flushed_slice (c.args.steps - c.loop-turn.turn - c.make_turns-slice.result.made) (c.args.steps - (c.loop-turn.turn + c.make_turns-slice.result.made)) (c.loop-turn.turn + c.make_turns-slice.result.made) (drop c.make_turns-slice.result.next c.args.input.now) c.make_turns-slice.new.guest.guest c.make_turns-slice.result.status c.loop-turn.invariant.whole.0 _ c.in_default.is (omega arith) (omega arith) made in
-    on_err c.from_residual-in_err-drain-2.result (0 < length (ran c.args.steps 0 c.args.input.now c.args.guest.now.guest).written) (rw (sym whole) (some_before _ _ (some_after c.loop-turn.invariant.whole.0 _ c.in_err-drain-2.ensures.err)))
+    let so_far = slice_behind c.make_turns-slice.ensures.run c.loop-turn.invariant.events in
+    let next = drained_rest (c.args.steps - c.loop-turn.turn - c.make_turns-slice.result.made) (c.args.steps - (c.loop-turn.turn + c.make_turns-slice.result.made)) (c.loop-turn.turn + c.make_turns-slice.result.made) (drop c.make_turns-slice.result.next c.args.input.now) c.make_turns-slice.new.guest.guest (after (drains c.make_turns-slice.new.guest.guest) c.make_turns-slice.new.guest.guest).guest c.make_turns-slice.result.status c.in_default.is (omega arith) (omega arith) refl in
+    on_err c.from_residual-in_err-drain-2.result (0 < length (after (run_from c.args.steps 0 c.args.input.now c.args.guest.now.guest).events c.args.guest.now.guest).bytes) (broken_off (run_from (c.args.steps - (c.loop-turn.turn + c.make_turns-slice.result.made)) (c.loop-turn.turn + c.make_turns-slice.result.made) (drop c.make_turns-slice.result.next c.args.input.now) (after (drains c.make_turns-slice.new.guest.guest) c.make_turns-slice.new.guest.guest).guest) so_far next c.in_err-drain-2.ensures.part c.in_err-drain-2.ensures.err).some
+
+pub returns-in_err-drain-2-clause-part : goal.returns-in_err-drain-2-clause-part
+returns-in_err-drain-2-clause-part g c =
+    let so_far = slice_behind c.make_turns-slice.ensures.run c.loop-turn.invariant.events in
+    let next = drained_rest (c.args.steps - c.loop-turn.turn - c.make_turns-slice.result.made) (c.args.steps - (c.loop-turn.turn + c.make_turns-slice.result.made)) (c.loop-turn.turn + c.make_turns-slice.result.made) (drop c.make_turns-slice.result.next c.args.input.now) c.make_turns-slice.new.guest.guest (after (drains c.make_turns-slice.new.guest.guest) c.make_turns-slice.new.guest.guest).guest c.make_turns-slice.result.status c.in_default.is (omega arith) (omega arith) refl in
+    on_err c.from_residual-in_err-drain-2.result (IsPartWay (run_from c.args.steps 0 c.args.input.now c.args.guest.now.guest).events c.args.guest.now c.drain-then-turn-eq0.new.guest) (broken_off (run_from (c.args.steps - (c.loop-turn.turn + c.make_turns-slice.result.made)) (c.loop-turn.turn + c.make_turns-slice.result.made) (drop c.make_turns-slice.result.next c.args.input.now) (after (drains c.make_turns-slice.new.guest.guest) c.make_turns-slice.new.guest.guest).guest) so_far next c.in_err-drain-2.ensures.part c.in_err-drain-2.ensures.err).part
 
 pub loop-turn-preserved : goal.loop-turn-preserved
 loop-turn-preserved g c =
-    let made = slice_behind (c.args.steps - c.loop-turn.turn) c.loop-turn.turn (drop c.loop-turn.next c.args.input.now) (drop c.make_turns-slice.result.next c.args.input.now) c.loop-turn.guest.guest c.make_turns-slice.new.guest.guest c.make_turns-slice.result.status (c.args.steps - c.loop-turn.turn - c.make_turns-slice.result.made) (c.loop-turn.turn + c.make_turns-slice.result.made) c.loop-turn.invariant.whole.0 _ c.make_turns-slice.ensures.run c.loop-turn.invariant.whole.2 in
-    let whole = quiet_slice (c.args.steps - c.loop-turn.turn - c.make_turns-slice.result.made) (c.args.steps - (c.loop-turn.turn + c.make_turns-slice.result.made)) (c.loop-turn.turn + c.make_turns-slice.result.made) (drop c.make_turns-slice.result.next c.args.input.now) c.make_turns-slice.new.guest.guest c.make_turns-slice.result.status c.loop-turn.invariant.whole.0 _ c.in_default.is (grind arith) (omega arith) made in
+    let so_far = slice_behind c.make_turns-slice.ensures.run c.loop-turn.invariant.events in
+    let ended = slice_ended (run_from c.args.steps 0 c.args.input.now c.args.guest.now.guest).ended c.make_turns-slice.ensures.run c.loop-turn.invariant.ended in
+    let next = quiet_rest (c.args.steps - c.loop-turn.turn - c.make_turns-slice.result.made) (c.args.steps - (c.loop-turn.turn + c.make_turns-slice.result.made)) (c.loop-turn.turn + c.make_turns-slice.result.made) (drop c.make_turns-slice.result.next c.args.input.now) c.make_turns-slice.new.guest.guest c.make_turns-slice.result.status c.in_default.is (grind arith) (omega arith) in
     record {
       next = c.make_turns-slice.ensures.next;
       turn = c.make_turns-slice.ensures.within;
-      whole = (c.loop-turn.invariant.whole.0, c.loop-turn.invariant.whole.1, whole);
+      ended = sym (ap (λ (r : Run). r.ended) next) ∙ ended;
+      events = rw (← next) so_far;
     }
 
 pub returns-in_err-drain-3-clause-err : goal.returns-in_err-drain-3-clause-err
 returns-in_err-drain-3-clause-err g c =
-    let whole = spent_run (c.args.steps - c.loop-turn.turn) c.loop-turn.turn _ _ _ _ (omega arith) c.loop-turn.invariant.whole.2 in
-    on_err c.from_residual-in_err-drain-3.result (0 < length (ran c.args.steps 0 c.args.input.now c.args.guest.now.guest).written) (rw whole (some_after c.loop-turn.invariant.whole.0 _ c.in_err-drain-3.ensures.err))
+    let last = spent_run (c.args.steps - c.loop-turn.turn) c.loop-turn.turn (drop c.loop-turn.next c.args.input.now) c.loop-turn.guest.guest (omega arith) in
+    let so_far = c.loop-turn.invariant.events in
+    on_err c.from_residual-in_err-drain-3.result (0 < length (after (run_from c.args.steps 0 c.args.input.now c.args.guest.now.guest).events c.args.guest.now.guest).bytes) (broken_off (record { events = []; ended = ended.StepsSpent }) so_far (last_drains c.loop-turn.guest.guest ended.StepsSpent _ last) c.in_err-drain-3.ensures.part c.in_err-drain-3.ensures.err).some
+
+pub returns-in_err-drain-3-clause-part : goal.returns-in_err-drain-3-clause-part
+returns-in_err-drain-3-clause-part g c =
+    let last = spent_run (c.args.steps - c.loop-turn.turn) c.loop-turn.turn (drop c.loop-turn.next c.args.input.now) c.loop-turn.guest.guest (omega arith) in
+    let so_far = c.loop-turn.invariant.events in
+    on_err c.from_residual-in_err-drain-3.result (IsPartWay (run_from c.args.steps 0 c.args.input.now c.args.guest.now.guest).events c.args.guest.now c.drain-2.new.guest) (broken_off (record { events = []; ended = ended.StepsSpent }) so_far (last_drains c.loop-turn.guest.guest ended.StepsSpent _ last) c.in_err-drain-3.ensures.part c.in_err-drain-3.ensures.err).part
 
 pub returns-clause-written : goal.returns-clause-written
 returns-clause-written g c =
-    let whole = spent_run (c.args.steps - c.loop-turn.turn) c.loop-turn.turn _ _ _ _ (omega arith) c.loop-turn.invariant.whole.2 in
-    rw whole (appends_more _ _ _ _ _ c.loop-turn.invariant.whole.1 c.in_ok-drain-3.ensures.written)
+    let last = spent_run (c.args.steps - c.loop-turn.turn) c.loop-turn.turn (drop c.loop-turn.next c.args.input.now) c.loop-turn.guest.guest (omega arith) in
+    let so_far = c.loop-turn.invariant.events in
+    let ended = c.loop-turn.invariant.ended in
+    (finished (run_from c.args.steps 0 c.args.input.now c.args.guest.now.guest).ended (g.W.Write.contents c.drain-2.new.writer) so_far ended last c.in_ok-drain-3.ensures.guest c.in_ok-drain-3.ensures.written).text
 
 pub returns-clause-guest : goal.returns-clause-guest
 returns-clause-guest g c =
-    let whole = spent_run (c.args.steps - c.loop-turn.turn) c.loop-turn.turn _ _ _ _ (omega arith) c.loop-turn.invariant.whole.2 in
-    rw whole c.in_ok-drain-3.ensures.guest
+    let last = spent_run (c.args.steps - c.loop-turn.turn) c.loop-turn.turn (drop c.loop-turn.next c.args.input.now) c.loop-turn.guest.guest (omega arith) in
+    let so_far = c.loop-turn.invariant.events in
+    let ended = c.loop-turn.invariant.ended in
+    (finished (run_from c.args.steps 0 c.args.input.now c.args.guest.now.guest).ended (g.W.Write.contents c.drain-2.new.writer) so_far ended last c.in_ok-drain-3.ensures.guest c.in_ok-drain-3.ensures.written).made.guest
+
+pub returns-clause-dirty : goal.returns-clause-dirty
+returns-clause-dirty g c =
+    let last = spent_run (c.args.steps - c.loop-turn.turn) c.loop-turn.turn (drop c.loop-turn.next c.args.input.now) c.loop-turn.guest.guest (omega arith) in
+    let so_far = c.loop-turn.invariant.events in
+    let ended = c.loop-turn.invariant.ended in
+    (finished (run_from c.args.steps 0 c.args.input.now c.args.guest.now.guest).ended (g.W.Write.contents c.drain-2.new.writer) so_far ended last c.in_ok-drain-3.ensures.guest c.in_ok-drain-3.ensures.written).made.dirty
 
 pub returns-clause-ended : goal.returns-clause-ended
 returns-clause-ended g c =
-    let whole = spent_run (c.args.steps - c.loop-turn.turn) c.loop-turn.turn _ _ _ _ (omega arith) c.loop-turn.invariant.whole.2 in
-    rw whole refl
+    let last = spent_run (c.args.steps - c.loop-turn.turn) c.loop-turn.turn (drop c.loop-turn.next c.args.input.now) c.loop-turn.guest.guest (omega arith) in
+    let so_far = c.loop-turn.invariant.events in
+    let ended = c.loop-turn.invariant.ended in
+    (finished (run_from c.args.steps 0 c.args.input.now c.args.guest.now.guest).ended (g.W.Write.contents c.drain-2.new.writer) so_far ended last c.in_ok-drain-3.ensures.guest c.in_ok-drain-3.ensures.written).ended

@@ -1,16 +1,16 @@
-use Rattle.std.proofs.Common.{◌≡◌, ℕ, List, ◌-◌, ◌≤◌, length, drop}
-use Rattle.std.specs.Io.KnownBytes.{Appends}
-use Rattle.rvm_command.specs.Run.{ran, after_bytes}
+use Rattle.std.proofs.Common.{◌≡◌, ◌-◌, ◌≤◌, length, drop}
+use Rattle.rvm_command.specs.Run.{run_from}
+use Rattle.rvm_command.proofs.Runs.{Progress}
 use Rattle.rvm_command.proofs.run.run.Given as goal
 
--- what was written so far, and what the rest of the run writes, is what the whole run writes
+-- the events so far and those of the rest of the run are all
 abbrev pub invariant-loop-turn : goal.invariant-loop-turn
 invariant-loop-turn g l =
     record {
       next : l.next ≤ length l.input;
       turn : l.turn ≤ l.steps;
-      whole : (bytes : List ℕ) × Appends (g.W.Write.contents l.fn.writer) (g.W.Write.contents l.writer) bytes
-          × (after_bytes bytes (ran (l.fn.steps - l.turn) l.turn (drop l.next l.input) l.guest.guest) ≡ ran l.fn.steps 0 l.input l.fn.guest.guest);
+      ended : (run_from (l.steps - l.turn) l.turn (drop l.next l.input) l.guest.guest).ended ≡ (run_from l.steps 0 l.input l.fn.guest.guest).ended;
+      events : Progress (run_from l.steps 0 l.input l.fn.guest.guest).events (run_from (l.steps - l.turn) l.turn (drop l.next l.input) l.guest.guest).events l.fn.guest l.guest (g.W.Write.contents l.fn.writer) (g.W.Write.contents l.writer);
     }
 
 abbrev pub decreases-loop-turn : goal.decreases-loop-turn
