@@ -155,6 +155,9 @@ fn faults_stand_at_their_line(rt: HostRuntime) {
             "{text}"
         );
     }
+    // More than 2^24 bytes stand at no line.
+    let text = ".space 0xFFFFFF\n.byte 1\n.byte 2\nj nowhere";
+    assert_eq!(rt; image(rt.alloc(), text).err(), Some(AsmError::TooLarge));
 }
 
 /// However deep values are nested, no stack grows with them.
