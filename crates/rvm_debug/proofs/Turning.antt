@@ -53,7 +53,7 @@ pub record Turning (all left : AfterTurns) (made : ℕ) (first dirty : List Bool
   pub log : dirty ≡ mark_all pages first
   pub whole : behind pages made left ≡ all
 
-pub behind_none : (t : AfterTurns) → behind [] 0 t ≡ t
+behind_none : (t : AfterTurns) → behind [] 0 t ≡ t
 behind_none t = ap (λ (k : ℕ). record t { made = k }) (omega arith)
 
 pub begins : (order : Order) (n made h : ℕ) (g : Guest) (dirty : List Bool) → made ≡ 0 → Turning (after_turns order n h g) (after_turns order n h g) made dirty dirty
@@ -64,7 +64,7 @@ unfolding after_turns
 one_more order n m h g e = rw e refl
 
 -- behind turns that are behind others
-pub behind_both : (ps qs : List ℕ) (made : ℕ) (t : AfterTurns) → behind ps made (behind qs 1 t) ≡ behind (ps ++ qs) (made + 1) t
+behind_both : (ps qs : List ℕ) (made : ℕ) (t : AfterTurns) → behind ps made (behind qs 1 t) ≡ behind (ps ++ qs) (made + 1) t
 behind_both ps qs made t =
     ap (λ l. record t { pages = l; made = made + (1 + t.made) }) (sym (append_assoc ps qs t.pages))
     ∙ ap (λ (k : ℕ). record t { pages = (ps ++ qs) ++ t.pages; made = k }) (omega arith)
