@@ -54,7 +54,7 @@ pub record Turning (all left : AfterTurns) (made : ℕ) (first dirty : List Bool
   pub log : dirty ≡ mark_all pages first
   pub whole : behind pages made left ≡ all
 
-pub behind_none : (t : AfterTurns) → behind [] 0 t ≡ t
+behind_none : (t : AfterTurns) → behind [] 0 t ≡ t
 behind_none t = ap (λ (k : ℕ). record t { made = k }) (omega arith)
 
 pub begins : (order : Order) (n made h : ℕ) (g : Guest) (dirty : List Bool) → made ≡ 0 → Turning (after_turns order n h g) (after_turns order n h g) made dirty dirty
