@@ -1,5 +1,5 @@
 -- Turns while the guest passes a test, one turn at a time.
-use Rattle.std.proofs.Common.{◌≡◌, ℕ, zero, suc, ◌+◌, ◌%◌, ◌<◌, ◌≤◌, List, [], ◌++◌, length, Option, Some, None, Bool, true, false, cond, refl, sym, ap, append_assoc, append-nil, arith, ◌∙◌}
+use Rattle.std.proofs.Common.{◌≡◌, ℕ, zero, suc, ◌+◌, ◌%◌, ◌<◌, ◌≤◌, List, [], ◌++◌, length, Option, Some, None, Bool, true, false, cond, refl, sym, ap, append-nil, arith, ◌∙◌}
 use Rattle.rvm_mem.specs.Pages.{mark_all}
 use Rattle.rvm_debug.specs.declared.turns.Order.TheVariants.{RoundRobin}
 use Rattle.rvm_debug.specs.declared.turns.Stop.{Stop}
@@ -8,15 +8,10 @@ use Rattle.rvm_debug.specs.Guest.{Guest, GuestState}
 use Rattle.rvm_debug.specs.Events.{Answered, steps}
 use Rattle.rvm_debug.specs.Turns.{AfterTurns, TakesTurns, after_turns, behind, stop_in, unless_stopped}
 use Rattle.rvm_debug.specs.WhileFull.{no_turns, turns_while}
-use Rattle.rvm_debug.proofs.Turning.{Turning, ended, mark_more, no_more}
+use Rattle.rvm_debug.proofs.Turning.{Turning, behind_both, ended, mark_more, no_more}
 
 behind_none : (t : AfterTurns) → behind [] 0 t ≡ t
 behind_none t = ap (λ (k : ℕ). record t { made = k }) (omega arith)
-
-behind_both : (ps qs : List ℕ) (made : ℕ) (t : AfterTurns) → behind ps made (behind qs 1 t) ≡ behind (ps ++ qs) (made + 1) t
-behind_both ps qs made t =
-    ap (λ l. record t { pages = l; made = made + (1 + t.made) }) (sym (append_assoc ps qs t.pages))
-    ∙ ap (λ (k : ℕ). record t { pages = (ps ++ qs) ++ t.pages; made = k }) (omega arith)
 
 -- the hart that has the turn after that of hart h
 abbrev next : ℕ → Guest → ℕ
