@@ -1,4 +1,5 @@
-//! Fields put behind the bytes of a vector, in room that the caller made: no call takes memory.
+//! Fields put behind the bytes of a vector, in room that the caller made: no call takes memory, and
+//! the capacity stays as it is.
 
 ghost use Rattle.std.specs.Prelude.{◌≡◌, ◌+◌, ◌*◌, ◌≤◌, ◌++◌, ◌∷◌, [], length, vec_len, vec_capacity};
 ghost use Rattle.std.specs.List.{flat_map};
@@ -12,11 +13,11 @@ pub fn append_bytes(out: &mut Vec<u8>, bytes: &[u8])
     requires { vec_len out.old + length bytes.now ≤ vec_capacity out.old }
     ensures items { out.new.items ≡ out.old.items ++ bytes.now }
     ensures len { vec_len out.new ≡ vec_len out.old + length bytes.now }
-    ensures capacity { vec_capacity out.old ≤ vec_capacity out.new }
+    ensures capacity { vec_capacity out.new ≡ vec_capacity out.old }
 {
-    let done = out.extend_from_slice(bytes);
-    let is_done = done.is_ok();
-    prove!(is_done);
+    for byte in bytes {
+        out.push_reserved(*byte);
+    }
 }
 
 /// Puts a byte behind those that are there.
@@ -24,7 +25,7 @@ pub fn append_u8(out: &mut Vec<u8>, n: u8)
     requires { vec_len out.old + 1 ≤ vec_capacity out.old }
     ensures items { out.new.items ≡ out.old.items ++ little_bytes 1 n }
     ensures len { vec_len out.new ≡ vec_len out.old + 1 }
-    ensures capacity { vec_capacity out.old ≤ vec_capacity out.new }
+    ensures capacity { vec_capacity out.new ≡ vec_capacity out.old }
 {
     append_bytes(out, &[n]);
 }
@@ -34,7 +35,7 @@ pub fn append_flag(out: &mut Vec<u8>, is_set: bool)
     requires { vec_len out.old + 1 ≤ vec_capacity out.old }
     ensures items { out.new.items ≡ out.old.items ++ flag.write is_set }
     ensures len { vec_len out.new ≡ vec_len out.old + 1 }
-    ensures capacity { vec_capacity out.old ≤ vec_capacity out.new }
+    ensures capacity { vec_capacity out.new ≡ vec_capacity out.old }
 {
     if is_set {
         append_u8(out, 1);
@@ -48,7 +49,7 @@ pub fn append_u16(out: &mut Vec<u8>, n: u16)
     requires { vec_len out.old + 2 ≤ vec_capacity out.old }
     ensures items { out.new.items ≡ out.old.items ++ little_bytes 2 n }
     ensures len { vec_len out.new ≡ vec_len out.old + 2 }
-    ensures capacity { vec_capacity out.old ≤ vec_capacity out.new }
+    ensures capacity { vec_capacity out.new ≡ vec_capacity out.old }
 {
     let mut bytes = [0u8; 2];
     LittleEndian::write_u16(&mut bytes, n);
@@ -60,7 +61,7 @@ pub fn append_u32(out: &mut Vec<u8>, n: u32)
     requires { vec_len out.old + 4 ≤ vec_capacity out.old }
     ensures items { out.new.items ≡ out.old.items ++ little_bytes 4 n }
     ensures len { vec_len out.new ≡ vec_len out.old + 4 }
-    ensures capacity { vec_capacity out.old ≤ vec_capacity out.new }
+    ensures capacity { vec_capacity out.new ≡ vec_capacity out.old }
 {
     let mut bytes = [0u8; 4];
     LittleEndian::write_u32(&mut bytes, n);
@@ -72,7 +73,7 @@ pub fn append_u64(out: &mut Vec<u8>, n: u64)
     requires { vec_len out.old + 8 ≤ vec_capacity out.old }
     ensures items { out.new.items ≡ out.old.items ++ little_bytes 8 n }
     ensures len { vec_len out.new ≡ vec_len out.old + 8 }
-    ensures capacity { vec_capacity out.old ≤ vec_capacity out.new }
+    ensures capacity { vec_capacity out.new ≡ vec_capacity out.old }
 {
     let mut bytes = [0u8; 8];
     LittleEndian::write_u64(&mut bytes, n);
@@ -84,7 +85,7 @@ pub fn append_u16s(out: &mut Vec<u8>, numbers: &[u16])
     requires { vec_len out.old + 2 * length numbers.now ≤ vec_capacity out.old }
     ensures items { out.new.items ≡ out.old.items ++ flat_map (little_bytes 2) numbers.now }
     ensures len { vec_len out.new ≡ vec_len out.old + 2 * length numbers.now }
-    ensures capacity { vec_capacity out.old ≤ vec_capacity out.new }
+    ensures capacity { vec_capacity out.new ≡ vec_capacity out.old }
 {
     for n in numbers {
         append_u16(out, *n);
@@ -96,7 +97,7 @@ pub fn append_u32s(out: &mut Vec<u8>, numbers: &[u32])
     requires { vec_len out.old + 4 * length numbers.now ≤ vec_capacity out.old }
     ensures items { out.new.items ≡ out.old.items ++ flat_map (little_bytes 4) numbers.now }
     ensures len { vec_len out.new ≡ vec_len out.old + 4 * length numbers.now }
-    ensures capacity { vec_capacity out.old ≤ vec_capacity out.new }
+    ensures capacity { vec_capacity out.new ≡ vec_capacity out.old }
 {
     for n in numbers {
         append_u32(out, *n);

@@ -1,62 +1,62 @@
 //! Lists of numbers at the front of bytes.
 
-ghost use Rattle.std.specs.Prelude.{◌≡◌, IfOk, option_map};
+ghost use Rattle.std.specs.Prelude.{◌≡◌, ◌≤◌, option_map};
 ghost use Rattle.rvm_codec.specs.Codec.{number, read_each};
 ghost use Rattle.rvm_codec.specs.Numbers.{rise_from, within};
 
 use crate::fields::{u16_within, u32_within};
-use std::alloc::{AllocError, Global};
+use arrayvec::ArrayVec;
 
 /// So many numbers of two bytes, each from `low` to `high`, and the bytes behind them; None where
 /// there are too few bytes or a number is another one.
-pub fn u16s_within(
-    alloc: Global,
+pub fn u16s_within<const CAP: usize>(
     count: usize,
     low: u16,
     high: u16,
     bytes: &[u8],
-) -> Result<Option<(Vec<u16>, &[u8])>, AllocError>
-    ensures { IfOk result (λ read. option_map (λ x. (x.0.items, x.1.now)) read
-        ≡ read_each (number 2 (within low high)).read count bytes.now) }
+) -> Option<(ArrayVec<u16, CAP>, &[u8])>
+    requires { count ≤ CAP }
+    ensures { option_map (λ x. (x.0.items, x.1.now)) result
+        ≡ read_each (number 2 (within low high)).read count bytes.now }
 {
-    let mut numbers = Vec::new(alloc);
+    let mut numbers = ArrayVec::new();
     let mut rest = bytes;
     for _ in 0..count {
         match u16_within(low, high, rest) {
-            None => return Ok(None),
+            None => return None,
             Some((n, behind)) => {
-                numbers.push(n)?;
+                numbers.push(n);
                 rest = behind;
             }
         }
     }
-    Ok(Some((numbers, rest)))
+    Some((numbers, rest))
 }
 
 /// So many numbers of four bytes, each from `low` to `high`, and the bytes behind them; None where
 /// there are too few bytes or a number is another one.
-pub fn u32s_within(
-    alloc: Global,
+pub fn u32s_within<const CAP: usize>(
     count: usize,
     low: u32,
     high: u32,
     bytes: &[u8],
-) -> Result<Option<(Vec<u32>, &[u8])>, AllocError>
-    ensures { IfOk result (λ read. option_map (λ x. (x.0.items, x.1.now)) read
-        ≡ read_each (number 4 (within low high)).read count bytes.now) }
+) -> Option<(ArrayVec<u32, CAP>, &[u8])>
+    requires { count ≤ CAP }
+    ensures { option_map (λ x. (x.0.items, x.1.now)) result
+        ≡ read_each (number 4 (within low high)).read count bytes.now }
 {
-    let mut numbers = Vec::new(alloc);
+    let mut numbers = ArrayVec::new();
     let mut rest = bytes;
     for _ in 0..count {
         match u32_within(low, high, rest) {
-            None => return Ok(None),
+            None => return None,
             Some((n, behind)) => {
-                numbers.push(n)?;
+                numbers.push(n);
                 rest = behind;
             }
         }
     }
-    Ok(Some((numbers, rest)))
+    Some((numbers, rest))
 }
 
 /// Whether the numbers rise strictly.

@@ -3,6 +3,7 @@ pub mod Bodies
 pub mod Headers
 pub mod Verdicts
 pub mod OneFrame
-pub mod Gather
+pub mod Parts
 pub mod Streams
+pub mod Gather
 pub mod Examples

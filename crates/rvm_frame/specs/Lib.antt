@@ -1,7 +1,9 @@
 pub mod Kinds
-pub mod Grammar
+pub mod Layout
 pub mod Bodies
+pub mod Grammar
 pub mod Faults
 pub mod Verdict
+pub mod Unfinished
 pub mod Reader
 pub mod Stream

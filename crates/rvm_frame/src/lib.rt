@@ -4,21 +4,27 @@
 //! Stands on `rvm_codec` and the numbered refusals, and knows nothing of guests, moves or hosts:
 //! what a frame means is told above.
 //!
-//! To be read in this order: `items`, `page`, `frame`, `kind`, `fault`, `body`, `read`, `write`,
-//! `reader`, `laws`.
+//! To be read in this order: `items`, `page`, `frame`, `addressed`, `kind`, `fault`, `body`, `read`,
+//! `fields`, `layout`, `write`, `part`, `unfinished`, `reader`, `laws`.
 #![tactic(auto)]
 
+mod addressed;
 mod body;
 mod fault;
+mod fields;
 mod frame;
 mod items;
 mod kind;
 pub mod laws;
+mod layout;
 mod page;
+mod part;
 mod read;
 mod reader;
+mod unfinished;
 mod write;
 
+pub use addressed::{Addressed, Received};
 pub use fault::{FrameFault, ReadFault};
 pub use frame::Frame;
 pub use items::{Bytes, CopyNumbers, Items, PageNumbers};

@@ -1,113 +1,144 @@
 //! What bytes are, where a frame begins, and reading one whole frame.
 
-ghost use Rattle.std.specs.Prelude.{◌≡◌, true, IfOk, IfSome, option_map};
-ghost use Rattle.rvm_frame.specs.declared.frame.Frame.{Frame};
-ghost use Rattle.rvm_frame.specs.Grammar.{Spells};
-ghost use Rattle.rvm_frame.specs.Faults.{Gives};
-ghost use Rattle.rvm_frame.specs.Verdict.{after_header, header_at, one_frame_of, verdict};
+ghost use Rattle.std.specs.Prelude.{◌≡◌, true, Option, Some, IfOk, option_map};
+ghost use Rattle.rvm_frame.specs.Grammar.{Received, Spells};
+ghost use Rattle.rvm_frame.specs.Faults.{Finds, Gives};
+ghost use Rattle.rvm_frame.specs.Verdict.{after_header, header_at, hosts_at, numbers_at, one_frame_of, verdict};
 
+use crate::addressed::Received;
 use crate::body::read_body;
 use crate::fault::ReadFault;
-use crate::frame::Frame;
-use crate::kind::Kind;
-use rvm_codec::{u32_at, u64_at};
+use crate::kind::{Kind, hosts_fit, limit_of, names_hosts};
+use rvm_codec::{u8_at, u32_at, u64_at};
 use std::alloc::Global;
 
-/// The greatest length of a body.
-const MAX_BODY: u32 = 32768;
+/// A header behind its kind: from and to where it names them, the move number, and the length of
+/// the body.
+#[derive(Clone, Copy)]
+pub struct Header {
+    pub(crate) hosts: Option<(u8, u8)>,
+    pub(crate) move_number: u64,
+    pub(crate) len: u32,
+}
+
+/// From and to, where headers name them, and the bytes behind them.
+fn hosts_of(named: bool, bytes: &[u8]) -> Option<(Option<(u8, u8)>, &[u8])>
+    ensures { option_map (λ x. (x.0, x.1.now)) result ≡ hosts_at named bytes.now }
+{
+    if !named {
+        return Some((None, bytes));
+    }
+    let (from, rest) = u8_at(bytes)?;
+    let (to, rest) = u8_at(rest)?;
+    Some((Some((from, to)), rest))
+}
 
 /// The move number, the length of the body, and the bytes behind them.
-pub(crate) fn header_of(bytes: &[u8]) -> Option<(u64, u32, &[u8])>
-    ensures { option_map (λ x. (x.0, x.1, x.2.now)) result ≡ header_at bytes.now }
+fn numbers_of(bytes: &[u8]) -> Option<(u64, u32, &[u8])>
+    ensures { option_map (λ x. (x.0, x.1, x.2.now)) result ≡ numbers_at bytes.now }
 {
     let (move_number, rest) = u64_at(bytes)?;
     let (len, rest) = u32_at(rest)?;
     Some((move_number, len, rest))
 }
 
+/// The header in front of bytes, and those behind it.
+pub(crate) fn header_of(named: bool, bytes: &[u8]) -> Option<(Header, &[u8])>
+    ensures { option_map (λ x. (x.0.hosts, x.0.move_number, x.0.len, x.1.now)) result
+        ≡ header_at named bytes.now }
+{
+    let (hosts, rest) = hosts_of(named, bytes)?;
+    let (move_number, len, rest) = numbers_of(rest)?;
+    let header = Header {
+        hosts,
+        move_number,
+        len,
+    };
+    Some((header, rest))
+}
+
 /// What the bytes behind a header are: None as long as the body is not whole.
 #[tactic(auto, unfolding(crate::specs::Verdict::after_header))]
 fn judge_body(
     alloc: Global,
+    version: Option<u32>,
     kind: Kind,
-    move_number: u64,
-    len: u32,
+    header: Header,
     body: &[u8],
-) -> Result<Option<Frame>, ReadFault>
-    ensures { Gives result (after_header kind move_number len body.now) }
+) -> Result<Option<Received>, ReadFault>
+    ensures { Finds result (after_header version kind header.hosts header.move_number header.len
+        body.now) }
 {
-    if MAX_BODY < len {
+    if limit_of(version) < header.len {
         return Err(ReadFault::TooLong);
     }
-    if !kind.may_have_length(len) {
+    if !kind.may_have_length(header.len) {
         return Err(ReadFault::BadFrame);
     }
-    if !kind.may_have_move(move_number) {
+    if !kind.may_have_move(header.move_number) {
         return Err(ReadFault::BadFrame);
     }
-    if body.len() < len as usize {
+    if !hosts_fit(header.hosts) {
+        return Err(ReadFault::BadFrame);
+    }
+    if body.len() < header.len as usize {
         return Ok(None);
     }
-    if (len as usize) < body.len() {
+    if (header.len as usize) < body.len() {
         return Err(ReadFault::BadFrame);
     }
-    match read_body(alloc, kind, move_number, body)? {
+    match read_body(alloc, kind, header.move_number, body)? {
         None => Err(ReadFault::BadFrame),
-        Some(frame) => Ok(Some(frame)),
+        Some(frame) => Ok(Some((header.hosts, frame))),
     }
 }
 
 /// What the bytes are, where a frame begins: a whole frame, or None for a beginning of one.
-fn decide(alloc: Global, greeted: bool, bytes: &[u8]) -> Result<Option<Frame>, ReadFault>
-    ensures { Gives result (verdict greeted bytes.now) }
+pub(crate) fn judge(
+    alloc: Global,
+    version: Option<u32>,
+    bytes: &[u8],
+) -> Result<Option<Received>, ReadFault>
+    ensures { Finds result (verdict version bytes.now) }
 {
     match bytes {
         [] => Ok(None),
         [byte, rest @ ..] => match Kind::of_byte(*byte) {
             None => Err(ReadFault::BadFrame),
             Some(kind) => {
-                if !kind.may_stand(greeted) {
+                if !kind.may_stand(version) {
                     return Err(ReadFault::BadFrame);
                 }
-                match header_of(rest) {
+                match header_of(names_hosts(version), rest) {
                     None => Ok(None),
-                    Some((move_number, len, body)) => {
-                        judge_body(alloc, kind, move_number, len, body)
-                    }
+                    Some((header, body)) => judge_body(alloc, version, kind, header, body),
                 }
             }
         },
     }
 }
 
-/// What the bytes are, where a frame begins; a whole frame is spelled so.
-pub(crate) fn judge(alloc: Global, greeted: bool, bytes: &[u8]) -> Result<Option<Frame>, ReadFault>
-    ensures value { Gives result (verdict greeted bytes.now) }
-    ensures whole { IfOk result (λ o. IfSome o (λ f. Spells greeted bytes.now f)) }
+/// The frame that all of the bytes spell, in a stream of this version.
+fn one_frame(alloc: Global, version: u32, bytes: &[u8]) -> Result<Received, ReadFault>
+    ensures { Gives result (one_frame_of (verdict (Some version) bytes.now)) }
 {
-    decide(alloc, greeted, bytes)
-}
-
-/// The frame that all of the bytes spell, where Hello came before.
-fn one_frame(alloc: Global, bytes: &[u8]) -> Result<Frame, ReadFault>
-    ensures { Gives result (one_frame_of (verdict true bytes.now)) }
-{
-    match decide(alloc, true, bytes) {
-        Ok(Some(frame)) => Ok(frame),
+    match judge(alloc, Some(version), bytes) {
+        Ok(Some(received)) => Ok(received),
         Ok(None) => Err(ReadFault::BadFrame),
         Err(fault) => Err(fault),
     }
 }
 
-/// The one frame that the bytes spell, any but Hello. TooLong where the header's length is above
-/// 32768, BadFrame where the bytes are no such frame, end inside it or go on after it.
-pub fn read_frame(alloc: Global, bytes: &[u8]) -> Result<Frame, ReadFault>
+/// The one frame that the bytes spell in a stream of this version, any but Hello, with from and to
+/// in version 3. TooLong where the header's length is above the version's limit, BadFrame where the
+/// bytes are no such frame, end inside it or go on after it, and OutOfMemory only where they are one.
+pub fn read_frame(alloc: Global, version: u32, bytes: &[u8]) -> Result<Received, ReadFault>
     // What is read is spelled so.
-    ensures found { IfOk result (λ f. Spells true bytes.now f) }
+    ensures found { IfOk result (λ x. Spells (Some version) bytes.now x) }
     // What is spelled so is read, unless memory runs out.
-    ensures only { (f : Frame) → Spells true bytes.now f → Gives result (Ok f) }
+    ensures only { (x : Received) → Spells (Some version) bytes.now x → Gives result (Ok x) }
     // Which fault it is.
-    ensures exact { Gives result (one_frame_of (verdict true bytes.now)) }
+    ensures exact { Gives result (one_frame_of (verdict (Some version) bytes.now)) }
 {
-    one_frame(alloc, bytes)
+    one_frame(alloc, version, bytes)
 }

@@ -1,75 +1,52 @@
 //! A reader of a stream that comes in pieces.
 
-ghost use Rattle.std.specs.Prelude.{◌≡◌, ◌+◌, ◌≤◌, ◌++◌, false, true, length, min, take, drop, IfOk, IfErr, IfSome, OnErr, OnOk};
+ghost use Rattle.std.specs.Prelude.{◌≡◌, ◌+◌, ◌≤◌, ◌++◌, Ok, Some, None, false, true, length, take, drop, IfOk, IfErr, IfSome, OnErr};
 ghost use Rattle.rvm_frame.specs.Grammar.{Spells};
-ghost use Rattle.rvm_frame.specs.Verdict.{Decides, verdict, wanted};
+ghost use Rattle.rvm_frame.specs.Kinds.{version_after};
 ghost use Rattle.rvm_frame.specs.Reader.{Faults, Refuses, at_start, faulted_of, next_of};
+ghost use Rattle.rvm_frame.specs.Unfinished.{kept_of};
+ghost use Rattle.rvm_frame.specs.Verdict.{Decides, verdict};
 
+use crate::addressed::Received;
 use crate::fault::{FrameFault, ReadFault};
 use crate::frame::Frame;
-use crate::read::{header_of, judge};
-use std::alloc::{AllocError, Global};
+use crate::unfinished::Unfinished;
+use std::alloc::Global;
 use std::marker::Model;
 
-/// How many bytes the next check needs.
-fn next_check(bytes: &[u8]) -> usize
-    ensures { result ≡ wanted bytes.now }
+/// The version of a stream behind a frame.
+fn version_behind(version: Option<u32>, frame: &Frame) -> Option<u32>
+    ensures { result ≡ version_after version frame.now }
 {
-    match bytes {
-        [] => 1,
-        [_, rest @ ..] => match header_of(rest) {
-            None => 13,
-            Some((_, len, _)) => 13 + len as usize,
-        },
+    match frame {
+        Frame::Hello { version } => Some(*version),
+        _ => version,
     }
-}
-
-/// Puts `count` bytes of a piece behind those that are there.
-fn extend(bytes: &mut Vec<u8>, piece: &[u8], from: usize, count: usize) -> Result<(), AllocError>
-    requires { from + count ≤ length piece.now }
-    ensures ok { OnOk result
-        (bytes.new.items ≡ bytes.old.items ++ take count (drop from piece.now)) }
-    ensures err { OnErr result (bytes.new.items ≡ bytes.old.items) }
-{
-    bytes.extend_from_slice(&piece[from..from + count])
-}
-
-/// The lesser of two numbers.
-fn lesser(a: usize, b: usize) -> usize
-    ensures { result ≡ min a b }
-{
-    if a < b { a } else { b }
 }
 
 /// Takes bytes of a piece up to the end of the first whole frame.
 fn gather(
     alloc: Global,
-    greeted: bool,
-    bytes: &mut Vec<u8>,
+    bytes: &mut Unfinished,
     piece: &[u8],
-) -> Result<(usize, Option<Frame>), ReadFault>
-    requires { verdict greeted bytes.old.items ≡ Ok None }
-    ensures decides { IfOk result (λ r. Decides greeted bytes.old.items piece.now r.0 (Ok r.1)) }
-    ensures whole { IfOk result
-        (λ r. IfSome r.1 (λ f. Spells greeted (bytes.old.items ++ take r.0 piece.now) f)) }
-    ensures items { IfOk result (λ r. bytes.new.items ≡ bytes.old.items ++ take r.0 piece.now) }
-    ensures refused { IfErr result (λ fault. Refuses greeted bytes.old.items piece.now fault) }
-    ensures err { OnErr result (bytes.new.items ≡ bytes.old.items) }
+) -> Result<(usize, Option<Received>), ReadFault>
+    requires { verdict bytes.old.version bytes.old.bytes ≡ Ok None }
+    ensures decides { IfOk result
+        (λ r. Decides bytes.old.version bytes.old.bytes piece.now r.0 (Ok r.1)) }
+    ensures next { IfOk result (λ r. bytes.new ≡ record {
+      version = bytes.old.version;
+      bytes = kept_of (bytes.old.bytes ++ piece.now) r.1;
+    }) }
+    ensures refused { IfErr result
+        (λ fault. Refuses bytes.old.version bytes.old.bytes piece.now fault) }
+    ensures err { OnErr result (bytes.new ≡ bytes.old) }
 {
     let before = bytes.len();
     let mut used = 0;
     while used < piece.len() {
-        let want = next_check(bytes.as_slice()) - bytes.len();
-        let left = piece.len() - used;
-        let count = lesser(want, left);
-        if extend(bytes, piece, used, count).is_err() {
-            bytes.truncate(before);
-            return Err(ReadFault::OutOfMemory);
-        }
-        used += count;
-        match judge(alloc, greeted, bytes.as_slice()) {
-            Ok(None) => {}
-            Ok(Some(frame)) => return Ok((used, Some(frame))),
+        match bytes.step(alloc, &piece[used..]) {
+            Ok((count, None)) => used += count,
+            Ok((count, Some(received))) => return Ok((used + count, Some(received))),
             Err(fault) => {
                 bytes.truncate(before);
                 return Err(fault);
@@ -82,53 +59,66 @@ fn gather(
 /// A reader of one direction's stream: one Hello, and then frames without Hello.
 #[derive(Debug, Drop)]
 pub struct FrameReader {
-    greeted: bool,
     failed: bool,
-    bytes: Vec<u8>,
+    unfinished: Unfinished,
 }
 
 impl Model for FrameReader {
     ghost use Rattle.std.specs.Prelude.{◌≡◌, Ok, None};
+    ghost use Rattle.rvm_codec.specs.Exact.{IsBytes};
     ghost use Rattle.rvm_frame.specs.Reader.{Gathered};
     ghost use Rattle.rvm_frame.specs.Verdict.{verdict};
 
     ghost Value = { Gathered };
 
-    ghost view = { λ r. record { greeted = r.greeted; failed = r.failed; bytes = r.bytes.items } };
+    ghost view = { λ r. record {
+      version = r.unfinished.version;
+      failed = r.failed;
+      bytes = r.unfinished.bytes;
+    } };
 
-    ghost invariant = { λ r. verdict r.greeted r.bytes.items ≡ Ok None };
+    ghost invariant = { λ r. (verdict r.unfinished.version r.unfinished.bytes ≡ Ok None)
+        × IsBytes r.unfinished.bytes };
 }
 
 impl FrameReader {
     /// A reader before the first byte of a stream.
-    pub fn new(alloc: Global) -> FrameReader
+    pub fn new(_alloc: Global) -> FrameReader
         ensures { result ≡ at_start }
     {
         FrameReader {
-            greeted: false,
             failed: false,
-            bytes: Vec::new(alloc),
+            unfinished: Unfinished::new(None),
         }
     }
 
+    /// The stream's version, once Hello came.
+    pub fn version(&self) -> Option<u32>
+        ensures { result ≡ self.now.version }
+    {
+        self.unfinished.version()
+    }
+
     /// Takes bytes of a piece up to the end of the first whole frame, and says how many, with the
-    /// frame; without one it takes all of them. OutOfMemory leaves the reader as before; BadFrame
-    /// and TooLong come at the byte at which the stream is refused, and Failed from then on.
+    /// frame, and with its from and to in version 3; without one it takes all of them. BadFrame and
+    /// TooLong come at the byte at which the stream is refused, and Failed from then on. OutOfMemory
+    /// comes only where the piece is not refused, and leaves the reader as before.
     pub fn feed(
         &mut self,
         alloc: Global,
         piece: &[u8],
-    ) -> Result<(usize, Option<Frame>), FrameFault>
+    ) -> Result<(usize, Option<Received>), FrameFault>
         // The first frame that is whole, at its last byte, in whatever pieces the stream comes.
         ensures decides { IfOk result
-            (λ r. Decides self.old.greeted self.old.bytes piece.now r.0 (Ok r.1)) }
+            (λ r. Decides self.old.version self.old.bytes piece.now r.0 (Ok r.1)) }
         ensures whole { IfOk result
             (λ r. IfSome r.1
-            (λ f. Spells self.old.greeted (self.old.bytes ++ take r.0 piece.now) f)) }
+            (λ x. Spells self.old.version (self.old.bytes ++ take r.0 piece.now) x)) }
         ensures next { IfOk result (λ r. self.new ≡ next_of self.old piece.now r.1) }
         ensures open { IfOk result (λ r. self.old.failed ≡ false) }
 
-        // A refusal comes at the first byte at which what came is refused.
+        // A refusal comes at the first byte at which what came is refused; memory runs out only where
+        // none comes.
         ensures refused { IfErr result (λ fault. Faults self.old piece.now fault) }
         ensures after { IfErr result (λ fault. self.new ≡ faulted_of self.old fault) }
         ensures failed { self.old.failed ≡ true → result ≡ Err FrameFault.Failed }
@@ -136,11 +126,11 @@ impl FrameReader {
         if self.failed {
             return Err(FrameFault::Failed);
         }
-        match gather(alloc, self.greeted, &mut self.bytes, piece) {
-            Ok((used, Some(frame))) => {
-                self.bytes.clear();
-                self.greeted = true;
-                Ok((used, Some(frame)))
+        match gather(alloc, &mut self.unfinished, piece) {
+            Ok((used, Some(received))) => {
+                let version = version_behind(self.unfinished.version(), &received.1);
+                self.unfinished = Unfinished::new(version);
+                Ok((used, Some(received)))
             }
             Ok((used, None)) => Ok((used, None)),
             Err(ReadFault::OutOfMemory) => Err(FrameFault::OutOfMemory),
