@@ -35,10 +35,9 @@ pub enum Ended {
 pub struct LinkFault;
 
 /// Makes `steps` turns, or turns until the guest halts the board. In turn t the next byte of
-/// `input`, if one is left, is offered to the console, which keeps it for later where 16 bytes wait,
-/// and then hart t modulo the number of harts takes a step. What the guest sent is written after
-/// each 64 turns, when the board is halted and at the end. A hart that stops at a breakpoint has had
-/// its turn.
+/// `input`, if one is left, comes to the console, or is kept for later where 16 bytes wait; then hart
+/// t modulo the number of harts takes a step. What the guest sent is written after each 64 turns,
+/// when the board is halted and at the end. A hart that stops at a breakpoint has had its turn.
 ///
 /// `LinkFault` where the writer failed, which needs something to write: then the guest is that which
 /// some of the first events of the run left, and the bytes of the last of them may not have gone out.
