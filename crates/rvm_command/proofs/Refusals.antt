@@ -47,26 +47,25 @@ still_kept : (a b c : Option (List ℕ)) → b ≡ a → Keeps b c → Keeps a c
 still_kept a b c e k = subst (λ (o : Option (List ℕ)). Keeps o c) e k
 
 -- a script that was told, behind what the writer held back
-ended_told : (s : List ℕ) (told : Told) (answered : Result (Unit {0}) ScriptError) (old new : GuestState) (before mid after : Option (List ℕ))
-    → IsRun answered told old new before mid
+ended_told : (s : List ℕ) (answered : Result (Unit {0}) ScriptError) (old new : GuestState) (before mid after : Option (List ℕ))
+    → IsRun answered (lines s) old new before mid
     → (answered ≡ Err script.TooLong → 2 ^ 26 < length s)
-    → ((answered ≡ Err script.TooLong) ⊎ (answered ≡ Err script.OutOfMemory) → mid ≡ before)
-    → Keeps mid after → IsScriptEnd s told answered before after
-ended_told s told (Ok u) old new before mid after run long unread kept = (run.0, appends_kept before mid after told.text run.1.text kept)
-ended_told s told (Err (script.BadToken n)) old new before mid after run long unread kept = (run.0, appends_kept before mid after told.text run.1.text kept)
-ended_told s told (Err script.TooLong) old new before mid after run long unread kept = (long refl, still_kept before mid after (unread (inl refl)) kept)
-ended_told s told (Err script.OutOfMemory) old new before mid after run long unread kept = still_kept before mid after (unread (inr refl)) kept
-ended_told s told (Err script.LinkFault) old new before mid after run long unread kept = tt
+    → Keeps mid after → IsScriptEnd s (script_of (lines s) 1 old.guest) answered before after
+ended_told s (Ok u) old new before mid after run long kept =
+    (run.0, appends_kept before mid after (script_of (lines s) 1 old.guest).text run.1.text kept)
+ended_told s (Err (script.BadToken n)) old new before mid after run long kept =
+    (run.0, appends_kept before mid after (script_of (lines s) 1 old.guest).text run.1.text kept)
+ended_told s (Err script.TooLong) old new before mid after run long kept = (long refl, still_kept before mid after run.1 kept)
+ended_told s (Err script.OutOfMemory) old new before mid after run long kept = still_kept before mid after run.1 kept
+ended_told s (Err script.LinkFault) old new before mid after run long kept = tt
 
 -- the same of a reader's script, where that is known
-pub script_ended : (remaining : Option (List ℕ)) (guest : Guest) (answered : Result (Unit {0}) ScriptError) (old new : GuestState) (before mid after : Option (List ℕ))
-    → IfSome remaining (λ s. IsRun answered (script_of (lines s) 1 guest) old new before mid)
+pub script_ended : (remaining : Option (List ℕ)) (answered : Result (Unit {0}) ScriptError) (old new : GuestState) (before mid after : Option (List ℕ))
+    → IfSome remaining (λ s. IsRun answered (lines s) old new before mid)
     → (answered ≡ Err script.TooLong → IfSome remaining (λ s. 2 ^ 26 < length s))
-    → ((answered ≡ Err script.TooLong) ⊎ (answered ≡ Err script.OutOfMemory) → (new ≡ old) × (mid ≡ before))
-    → Keeps mid after → IsScriptEndOf remaining guest answered before after
-script_ended None guest answered old new before mid after run long unread kept = tt
-script_ended (Some s) guest answered old new before mid after run long unread kept =
-    ended_told s (script_of (lines s) 1 guest) answered old new before mid after run long (λ h. (unread h).1) kept
+    → Keeps mid after → IsScriptEndOf remaining old.guest answered before after
+script_ended None answered old new before mid after run long kept = tt
+script_ended (Some s) answered old new before mid after run long kept = ended_told s answered old new before mid after run long kept
 
 -- of a script whose reader or writer failed nothing is said
 pub link_failed : (remaining : Option (List ℕ)) (guest : Guest) (before after : Option (List ℕ)) → IsScriptEndOf remaining guest (Err script.LinkFault) before after

@@ -49,6 +49,7 @@ refusal_of_fault line.Overlap = Overlap
 abbrev pub refused_of_text : AsmError → Refused
 refused_of_text text.OutOfMemory = refused OutOfMemory
 refused_of_text (text.Line n fault) = refused_at n (refusal_of_fault fault)
+refused_of_text text.TooLarge = refused OutOfReach
 
 -- of a script, at the line that is none
 abbrev pub refused_of_script : ScriptError → Refused
