@@ -14,9 +14,9 @@ use Rattle.rvm_board.specs.Board.{Board, IsBoard, machine_at, new_hart, stepped}
 -- the parts of a shape that is kept
 record Kept (m n : Machine) : Type 0 where
   hart : m.hart.csrs.hart ≡ n.hart.csrs.hart
-  bytes : length m.reach.bytes ≡ length n.reach.bytes
-  reservations : length m.reach.reservations ≡ length n.reach.reservations
-  msip : length m.reach.devices.msip ≡ length n.reach.devices.msip
+  bytes : length m.shared.bytes ≡ length n.shared.bytes
+  reservations : length m.shared.reservations ≡ length n.shared.reservations
+  msip : length m.shared.devices.msip ≡ length n.shared.devices.msip
 
 kept : (m n : Machine) → shape m ≡ shape n → Kept m n
 kept m n e = record { hart = cc; bytes = cc; reservations = cc; msip = cc }
@@ -45,7 +45,7 @@ step_is_board b h board inside =
 -- the parts that a board is made of
 pub made_is_board : (n entry : ℕ) (harts : List HartState) (bus : BusState) (bytes : List ℕ) (d : dev.DeviceState) (words : List (Option ℕ)) (dirty : List Bool) → 0 < n → n ≤ 8
     → harts ≡ map (new_hart entry) (range_with_len 0 n) → d ≡ dev.at_reset n → words ≡ replicate n None
-    → bus ≡ record { reach = record { bytes = bytes; devices = d; reservations = words }; dirty = dirty } → IsBoard (record { harts = harts; reach = bus.reach })
+    → bus ≡ record { shared = record { bytes = bytes; devices = d; reservations = words }; dirty = dirty } → IsBoard (record { harts = harts; shared = bus.shared })
 made_is_board n entry harts bus bytes d words dirty some bound of_harts of_devices of_words of_bus =
     let count : length harts ≡ n = ap (λ hs. length hs) of_harts ∙ length-map-range_with_len (new_hart entry) 0 n in
     record {
@@ -54,28 +54,28 @@ made_is_board n entry harts bus bytes d words dirty some bound of_harts of_devic
       numbers = λ k below.
           ap (λ (hs : List HartState). (get_or hs k (new_hart 0 0)).csrs.hart) of_harts
           ∙ ap (λ (h : HartState). h.csrs.hart) (get_or-map-range_with_len (new_hart entry) 0 n k k (new_hart 0 0) (omega (arith, below, count)) (omega arith));
-      reservations = ap (λ (b : BusState). length b.reach.reservations) of_bus ∙ ap (λ ws. length ws) of_words ∙ length-replicate n None ∙ sym count;
-      msip = ap (λ (b : BusState). length b.reach.devices.msip) of_bus ∙ ap (λ (x : dev.DeviceState). length x.msip) of_devices ∙ length-replicate n false ∙ sym count;
+      reservations = ap (λ (b : BusState). length b.shared.reservations) of_bus ∙ ap (λ ws. length ws) of_words ∙ length-replicate n None ∙ sym count;
+      msip = ap (λ (b : BusState). length b.shared.devices.msip) of_bus ∙ ap (λ (x : dev.DeviceState). length x.msip) of_devices ∙ length-replicate n false ∙ sym count;
     }
 
 -- other reservations, for as many harts, and other bytes
-pub poke_is_board : (harts : List HartState) (a : ℕ) (bytes : List ℕ) (old new : BusState) → IsBoard (record { harts = harts; reach = old.reach }) → new ≡ bus_poked a bytes old → IsBoard (record { harts = harts; reach = new.reach })
+pub poke_is_board : (harts : List HartState) (a : ℕ) (bytes : List ℕ) (old new : BusState) → IsBoard (record { harts = harts; shared = old.shared }) → new ≡ bus_poked a bytes old → IsBoard (record { harts = harts; shared = new.shared })
 poke_is_board harts a bytes old new board e =
     record {
       some = board.some;
       bound = board.bound;
       numbers = λ k below. board.numbers k below;
-      reservations = ap (λ (b : BusState). length b.reach.reservations) e ∙ length-poked_each a (length bytes) old.reach.reservations ∙ board.reservations;
-      msip = ap (λ (b : BusState). length b.reach.devices.msip) e ∙ board.msip;
+      reservations = ap (λ (b : BusState). length b.shared.reservations) e ∙ length-poked_each a (length bytes) old.shared.reservations ∙ board.reservations;
+      msip = ap (λ (b : BusState). length b.shared.devices.msip) e ∙ board.msip;
     }
 
 -- no reservation, and other bytes
-pub clear_is_board : (harts : List HartState) (old new : BusState) → IsBoard (record { harts = harts; reach = old.reach }) → new ≡ bus_cleared old → IsBoard (record { harts = harts; reach = new.reach })
+pub clear_is_board : (harts : List HartState) (old new : BusState) → IsBoard (record { harts = harts; shared = old.shared }) → new ≡ bus_cleared old → IsBoard (record { harts = harts; shared = new.shared })
 clear_is_board harts old new board e =
     record {
       some = board.some;
       bound = board.bound;
       numbers = λ k below. board.numbers k below;
-      reservations = ap (λ (b : BusState). length b.reach.reservations) e ∙ length-replicate (length old.reach.reservations) None ∙ board.reservations;
-      msip = ap (λ (b : BusState). length b.reach.devices.msip) e ∙ board.msip;
+      reservations = ap (λ (b : BusState). length b.shared.reservations) e ∙ length-replicate (length old.shared.reservations) None ∙ board.reservations;
+      msip = ap (λ (b : BusState). length b.shared.devices.msip) e ∙ board.msip;
     }

@@ -79,7 +79,7 @@ the_timer_interrupts : answers seven (board 1 timer_words) ≡ Retired ∷ Retir
 unfolding answers seven timer_words effect isa.decoded isa.row_of isa.table csr.csr_at csr.table register_at signed_value
 the_timer_interrupts = refl
 
-what_the_interrupt_leaves : let b = after seven (board 1 timer_words) in ((hart_at 0 b).csrs.mepc ∷ (hart_at 0 b).csrs.mcause ∷ mstatus_of (hart_at 0 b).csrs ∷ (hart_at 0 b).pc ∷ b.reach.devices.mtime ∷ (hart_at 0 b).csrs.minstret ∷ []) ≡ 0x80000018 ∷ 0x80000007 ∷ 0x1880 ∷ 0 ∷ 7 ∷ 6 ∷ []
+what_the_interrupt_leaves : let b = after seven (board 1 timer_words) in ((hart_at 0 b).csrs.mepc ∷ (hart_at 0 b).csrs.mcause ∷ mstatus_of (hart_at 0 b).csrs ∷ (hart_at 0 b).pc ∷ b.shared.devices.mtime ∷ (hart_at 0 b).csrs.minstret ∷ []) ≡ 0x80000018 ∷ 0x80000007 ∷ 0x1880 ∷ 0 ∷ 7 ∷ 6 ∷ []
 unfolding after seven timer_words effect isa.decoded isa.row_of isa.table csr.csr_at csr.table register_at signed_value
 what_the_interrupt_leaves = refl
 
@@ -93,16 +93,16 @@ reserving =
     let b = with_register 1 7 9 (with_register 1 10 0x8000000C (with_register 0 7 5 (with_register 0 10 0x8000000C (board 2 reservation_words)))) in
     record b { harts = set b.harts 1 (record (hart_at 1 b) { pc = 0x80000008 }) }
 
-a_store_of_another_hart_ends_the_reservation : let b = after (0 ∷ 1 ∷ 0 ∷ []) reserving in (slice_index (hart_at 0 b).regs 6 ∷ slice_index b.reach.bytes 12 ∷ []) ≡ 1 ∷ 9 ∷ []
+a_store_of_another_hart_ends_the_reservation : let b = after (0 ∷ 1 ∷ 0 ∷ []) reserving in (slice_index (hart_at 0 b).regs 6 ∷ slice_index b.shared.bytes 12 ∷ []) ≡ 1 ∷ 9 ∷ []
 unfolding after reserving reservation_words effect isa.decoded isa.row_of isa.table signed_value
 a_store_of_another_hart_ends_the_reservation = refl
 
-without_it_the_word_is_stored : let b = after (0 ∷ 0 ∷ []) reserving in (slice_index (hart_at 0 b).regs 6 ∷ slice_index b.reach.bytes 12 ∷ []) ≡ 0 ∷ 5 ∷ []
+without_it_the_word_is_stored : let b = after (0 ∷ 0 ∷ []) reserving in (slice_index (hart_at 0 b).regs 6 ∷ slice_index b.shared.bytes 12 ∷ []) ≡ 0 ∷ 5 ∷ []
 unfolding after reserving reservation_words effect isa.decoded isa.row_of isa.table signed_value
 without_it_the_word_is_stored = refl
 
 -- amoadd.w x5, x6, (x10) at 0x80000002
-a_misaligned_atomic_stores_nothing : let b = after (0 ∷ []) (with_register 0 10 0x80000002 (board 1 (0x006522AF ∷ []))) in ((hart_at 0 b).csrs.mcause ∷ (hart_at 0 b).csrs.mtval ∷ b.reach.bytes) ≡ 6 ∷ 0x80000002 ∷ little_bytes 4 0x006522AF
+a_misaligned_atomic_stores_nothing : let b = after (0 ∷ []) (with_register 0 10 0x80000002 (board 1 (0x006522AF ∷ []))) in ((hart_at 0 b).csrs.mcause ∷ (hart_at 0 b).csrs.mtval ∷ b.shared.bytes) ≡ 6 ∷ 0x80000002 ∷ little_bytes 4 0x006522AF
 unfolding after effect isa.decoded isa.row_of isa.table signed_value
 a_misaligned_atomic_stores_nothing = refl
 
@@ -117,7 +117,7 @@ the_ninth_step_halts : answers nine (board 1 hi_words) ≡ Retired ∷ Retired �
 unfolding answers nine hi_words effect isa.decoded isa.row_of isa.table register_at signed_value
 the_ninth_step_halts = refl
 
-what_the_guest_sent : (after nine (board 1 hi_words)).reach.devices.output ≡ 0x48 ∷ 0x69 ∷ 0x0A ∷ []
+what_the_guest_sent : (after nine (board 1 hi_words)).shared.devices.output ≡ 0x48 ∷ 0x69 ∷ 0x0A ∷ []
 unfolding after nine hi_words effect isa.decoded isa.row_of isa.table register_at signed_value
 what_the_guest_sent = refl
 

@@ -11,20 +11,20 @@ register_poked h r v b = record b { harts = slice_set b.harts h (hart.register_p
 
 -- 1 to 256 bytes from an address on are wholly in RAM
 abbrev pub is_view : (address count : ℕ) → Board → Bool
-is_view a n b = nat_lt 0 n && nat_le n 256 && in_ram n a b.reach.bytes
+is_view a n b = nat_lt 0 n && nat_le n 256 && in_ram n a b.shared.bytes
 
 abbrev pub bus_of : BoardState → BusState
-bus_of b = record { reach = b.plain.reach; dirty = b.dirty }
+bus_of b = record { shared = b.plain.shared; dirty = b.dirty }
 
 -- the board with these bytes from an address of RAM on: their pages are in the dirty log, and reservations of their
 -- words end
 abbrev pub memory_poked : (address : ℕ) → List ℕ → BoardState → BoardState
 memory_poked a bytes b =
     let after = hart.bus_poked a bytes (bus_of b) in
-    record { plain = record { harts = b.plain.harts; reach = after.reach }; dirty = after.dirty }
+    record { plain = record { harts = b.plain.harts; shared = after.shared }; dirty = after.dirty }
 
 -- the board with zeros in RAM, each page in the dirty log, and no reservation
 abbrev pub cleared : BoardState → BoardState
 cleared b =
     let after = hart.bus_cleared (bus_of b) in
-    record { plain = record { harts = b.plain.harts; reach = after.reach }; dirty = after.dirty }
+    record { plain = record { harts = b.plain.harts; shared = after.shared }; dirty = after.dirty }

@@ -9,12 +9,12 @@ use Rattle.rvm_board.specs.Board.{Board}
 -- the board with other values that all harts share, and other bytes in the queues
 abbrev pub restored : DeviceFields → (input output : List ℕ) → Board → Board
 restored f input output b =
-    record b { reach = record b.reach { devices = dev.restored f input output b.reach.devices } }
+    record b { shared = record b.shared { devices = dev.restored f input output b.shared.devices } }
 
 -- the board with another hart of a number, other words of its devices, and another reservation
 abbrev pub hart_restored : (h : ℕ) → HartFields → (msip : Bool) → (mtimecmp : ℕ) → Option ℕ → Board → Board
 hart_restored h f msip mtimecmp reserved b =
     record {
       harts = slice_set b.harts h (hart.with_number h f);
-      reach = hart.hart_restored h msip mtimecmp reserved b.reach;
+      shared = hart.hart_restored h msip mtimecmp reserved b.shared;
     }

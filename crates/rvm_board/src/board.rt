@@ -61,11 +61,11 @@ impl<M: Memory> Model for Board<M> {
     ghost Value = { BoardState };
 
     ghost view = { λ b. record {
-      plain = record { harts = b.harts.items; reach = b.bus.reach };
+      plain = record { harts = b.harts.items; shared = b.bus.shared };
       dirty = b.bus.dirty;
     } };
 
-    ghost invariant = { λ b. IsBoard (record { harts = b.harts.items; reach = b.bus.reach }) };
+    ghost invariant = { λ b. IsBoard (record { harts = b.harts.items; shared = b.bus.shared }) };
 }
 
 impl<M: Memory> Board<M> {
@@ -109,7 +109,7 @@ impl<M: Memory> Board<M> {
     /// The status that the board was halted with, if it was.
     #[inline(always)]
     pub fn halted(&self) -> Option<u8>
-        ensures { result ≡ self.now.plain.reach.devices.halted }
+        ensures { result ≡ self.now.plain.shared.devices.halted }
     {
         self.bus.halted()
     }
@@ -127,17 +127,17 @@ impl<M: Memory> Board<M> {
     /// The word of RAM that a hart has reserved, if any.
     pub fn reserved(&self, hart: u32) -> Option<u32>
         requires { hart < length self.now.plain.harts }
-        ensures word { result ≡ get_or self.now.plain.reach.reservations hart None }
-        ensures in_ram { is_in_ram (length self.now.plain.reach.bytes) result ≡ true }
+        ensures word { result ≡ get_or self.now.plain.shared.reservations hart None }
+        ensures in_ram { is_in_ram (length self.now.plain.shared.bytes) result ≡ true }
     {
         self.bus.reserved(hart)
     }
 
     /// The devices.
     pub fn devices(&self) -> &Devices
-        ensures devices { result.now ≡ self.now.plain.reach.devices }
-        ensures harts { length self.now.plain.reach.devices.msip ≡ length self.now.plain.harts }
-        ensures reservations { length self.now.plain.reach.reservations
+        ensures devices { result.now ≡ self.now.plain.shared.devices }
+        ensures harts { length self.now.plain.shared.devices.msip ≡ length self.now.plain.harts }
+        ensures reservations { length self.now.plain.shared.reservations
             ≡ length self.now.plain.harts }
     {
         self.bus.devices()
@@ -167,7 +167,7 @@ impl<M: Memory> Board<M> {
     )
         requires hart { hart < length self.old.plain.harts }
         requires held { CanBeHeld fields }
-        requires in_ram { is_in_ram (length self.old.plain.reach.bytes) reserved ≡ true }
+        requires in_ram { is_in_ram (length self.old.plain.shared.bytes) reserved ≡ true }
         ensures { self.new ≡ record self.old {
           plain = hart_restored hart fields msip mtimecmp reserved self.old.plain;
         } }
@@ -195,7 +195,7 @@ impl<M: Memory> Board<M> {
 
     /// How many bytes RAM has: whole pages, at most 4096 of them.
     pub fn ram_size(&self) -> u32
-        ensures bytes { result ≡ length self.now.plain.reach.bytes }
+        ensures bytes { result ≡ length self.now.plain.shared.bytes }
         ensures pages { result ≡ 4096 * length self.now.dirty }
         ensures bound { result ≤ 2 ^ 24 }
     {
@@ -218,9 +218,9 @@ impl<M: Memory> Board<M> {
     /// A byte comes to the console; `InputFull`, and nothing changes, where 16 wait.
     pub fn input(&mut self, byte: u8) -> Result<(), InputFull>
         ensures taken { OnOk result (self.new ≡ record self.old {
-          plain = with_input (self.old.plain.reach.devices.input ++ byte ∷ []) self.old.plain;
+          plain = with_input (self.old.plain.shared.devices.input ++ byte ∷ []) self.old.plain;
         }) }
-        ensures full { IsErr result ↔ (length self.old.plain.reach.devices.input ≡ 16) }
+        ensures full { IsErr result ↔ (length self.old.plain.shared.devices.input ≡ 16) }
         ensures err { OnErr result (self.new ≡ self.old) }
     {
         self.bus.input(byte)
@@ -229,7 +229,7 @@ impl<M: Memory> Board<M> {
     /// How many bytes that the guest sent wait to be taken.
     #[inline(always)]
     pub fn waiting(&self) -> usize
-        ensures { result ≡ length self.now.plain.reach.devices.output }
+        ensures { result ≡ length self.now.plain.shared.devices.output }
     {
         self.bus.waiting()
     }
@@ -237,11 +237,11 @@ impl<M: Memory> Board<M> {
     /// Takes the oldest bytes that the guest sent, as many as there are and fit, and says how many.
     pub fn drain(&mut self, bytes: &mut [u8]) -> usize
         ensures count { result
-            ≡ min (length bytes.old) (length self.old.plain.reach.devices.output) }
+            ≡ min (length bytes.old) (length self.old.plain.shared.devices.output) }
         ensures bytes { bytes.new
-            ≡ take result self.old.plain.reach.devices.output ++ drop result bytes.old }
+            ≡ take result self.old.plain.shared.devices.output ++ drop result bytes.old }
         ensures board { self.new ≡ record self.old {
-          plain = with_output (drop result self.old.plain.reach.devices.output) self.old.plain;
+          plain = with_output (drop result self.old.plain.shared.devices.output) self.old.plain;
         } }
     {
         self.bus.drain(bytes)
@@ -272,7 +272,7 @@ impl<M: Memory> Board<M> {
     /// The word of RAM at an aligned address, if there is RAM.
     pub fn word(&self, address: u32) -> Option<u32>
         requires { address % 4 ≡ 0 }
-        ensures { result ≡ ram_load 4 address self.now.plain.reach.bytes }
+        ensures { result ≡ ram_load 4 address self.now.plain.shared.bytes }
     {
         self.bus.ram_load32(address)
     }
@@ -281,9 +281,9 @@ impl<M: Memory> Board<M> {
     /// wholly in RAM.
     pub fn read(&self, address: u32, bytes: &mut [u8]) -> Result<(), rvm_mem::OutOfRange>
         ensures read { OnOk result (bytes.new
-            ≡ slice (length bytes.old) (address - ram_base) self.now.plain.reach.bytes) }
+            ≡ slice (length bytes.old) (address - ram_base) self.now.plain.shared.bytes) }
         ensures out { IsErr result
-            ↔ (in_ram (length bytes.old) address self.now.plain.reach.bytes ≡ false) }
+            ↔ (in_ram (length bytes.old) address self.now.plain.shared.bytes ≡ false) }
         ensures err { OnErr result (bytes.new ≡ bytes.old) }
     {
         self.bus.read(address, bytes)

@@ -81,9 +81,9 @@ pub image_unwritable : {T : Type 0} (ss : List Segment) (result : Result T Write
     → ((result ≡ Err image.TooMany) ↔ (16 < length ss))
     → ((result ≡ Err image.OutOfReach) ↔ ((length ss ≤ 16) × (in_reach (pieces_of ss) ≡ false)))
     → IfErr result (IsUnwritable (pieces_of ss))
-image_unwritable ss (Ok v) many reach = tt
-image_unwritable ss (Err image.OutOfMemory) many reach = tt
-image_unwritable ss (Err image.TooMany) many reach = subst (λ n. 16 < n) (sym (count_pieces ss)) (many.0 refl)
+image_unwritable ss (Ok v) many shared = tt
+image_unwritable ss (Err image.OutOfMemory) many shared = tt
+image_unwritable ss (Err image.TooMany) many shared = subst (λ n. 16 < n) (sym (count_pieces ss)) (many.0 refl)
 image_unwritable ss (Err image.OutOfReach) many reach =
     let h = reach.0 refl in (subst (λ n. n ≤ 16) (sym (count_pieces ss)) h.0, h.1)
 

@@ -181,12 +181,12 @@ all_made {all} {start} {before} rest now written p none =
 drain_count : (n : ℕ) → 0 < n → (n + 255) / 256 ≡ suc ((n - 256 + 255) / 256)
 drain_count n some = grind arith
 
-pub drains_none : (g : Guest) → length g.board.reach.devices.output ≡ 0 → drains g ≡ []
+pub drains_none : (g : Guest) → length g.board.shared.devices.output ≡ 0 → drains g ≡ []
 drains_none g none = ap (λ (n : ℕ). replicate ((n + 255) / 256) (Drain 256)) none
 
-pub drains_more : (g : Guest) → 0 < length g.board.reach.devices.output → drains g ≡ (Drain 256 ∷ []) ++ drains (answered (Drain 256) g).guest
+pub drains_more : (g : Guest) → 0 < length g.board.shared.devices.output → drains g ≡ (Drain 256 ∷ []) ++ drains (answered (Drain 256) g).guest
 drains_more g some =
-    let sent = g.board.reach.devices.output in
+    let sent = g.board.shared.devices.output in
     ap (λ (n : ℕ). replicate n (Drain 256)) (drain_count (length sent) some)
     ∙ ap (λ (n : ℕ). Drain 256 ∷ replicate ((n + 255) / 256) (Drain 256)) (sym (length-drop 256 sent))
 
@@ -203,34 +203,34 @@ is_after_one e old new left marked =
     record { guest = left ∙ ap (λ (x : After). x.guest) one; dirty = marked ∙ ap (λ (x : After). mark_all x.pages old.dirty) one }
 
 -- a drain of 256 bytes, as it was made
-pub drained : (count size : ℕ) (old new : GuestState) → size ≡ 256 → count ≡ min size (length old.guest.board.reach.devices.output)
-    → new ≡ record old { guest = with_board (with_output (drop count old.guest.board.reach.devices.output) old.guest.board) old.guest } → IsAfter (Drain 256 ∷ []) old new
+pub drained : (count size : ℕ) (old new : GuestState) → size ≡ 256 → count ≡ min size (length old.guest.board.shared.devices.output)
+    → new ≡ record old { guest = with_board (with_output (drop count old.guest.board.shared.devices.output) old.guest.board) old.guest } → IsAfter (Drain 256 ∷ []) old new
 drained count size old new whole is_least made =
-    let sent = old.guest.board.reach.devices.output in
+    let sent = old.guest.board.shared.devices.output in
     let same : drop count sent ≡ drop 256 sent = ap (λ n. drop n sent) (is_least ∙ ap (λ k. min k (length sent)) whole) ∙ drop_min 256 sent in
     let all = made ∙ ap (λ (l : List ℕ). record old { guest = with_board (with_output l old.guest.board) old.guest }) same in
     is_after_one (Drain 256) old new (ap (λ (s : GuestState). s.guest) all) (ap (λ (s : GuestState). s.dirty) all)
 
-pub drained_bytes : (count size : ℕ) (old : GuestState) → size ≡ 256 → count ≡ min size (length old.guest.board.reach.devices.output)
-    → take count old.guest.board.reach.devices.output ≡ (after (Drain 256 ∷ []) old.guest).bytes
+pub drained_bytes : (count size : ℕ) (old : GuestState) → size ≡ 256 → count ≡ min size (length old.guest.board.shared.devices.output)
+    → take count old.guest.board.shared.devices.output ≡ (after (Drain 256 ∷ []) old.guest).bytes
 drained_bytes count size old whole is_least =
-    let sent = old.guest.board.reach.devices.output in
+    let sent = old.guest.board.shared.devices.output in
     ap (λ n. take n sent) (is_least ∙ ap (λ k. min k (length sent)) whole) ∙ take_min 256 sent ∙ ap (λ (x : After). x.bytes) (sym (after_one (Drain 256) old.guest))
 
-pub drained_some : (g : Guest) → 0 < length g.board.reach.devices.output → 0 < length (after (Drain 256 ∷ []) g).bytes
+pub drained_some : (g : Guest) → 0 < length g.board.shared.devices.output → 0 < length (after (Drain 256 ∷ []) g).bytes
 drained_some g some =
-    let sent = g.board.reach.devices.output in
+    let sent = g.board.shared.devices.output in
     rw (after_one (Drain 256) g) (omega (arith, length-take 256 sent, some))
 
 -- a drain, and those behind it
 left_by : (old new : GuestState) → IsAfter (Drain 256 ∷ []) old new → new.guest ≡ (answered (Drain 256) old.guest).guest
 left_by old new made = made.guest ∙ ap (λ (x : After). x.guest) (after_one (Drain 256) old.guest)
 
-pub drain_first : (old new : GuestState) → 0 < length old.guest.board.reach.devices.output → IsAfter (Drain 256 ∷ []) old new → drains old.guest ≡ (Drain 256 ∷ []) ++ drains new.guest
+pub drain_first : (old new : GuestState) → 0 < length old.guest.board.shared.devices.output → IsAfter (Drain 256 ∷ []) old new → drains old.guest ≡ (Drain 256 ∷ []) ++ drains new.guest
 drain_first old new some made = drains_more old.guest some ∙ ap (λ g. (Drain 256 ∷ []) ++ drains g) (sym (left_by old new made))
 
-pub drain_fewer : (old new : GuestState) → IsAfter (Drain 256 ∷ []) old new → length new.guest.board.reach.devices.output ≡ length old.guest.board.reach.devices.output - 256
-drain_fewer old new made = ap (λ (g : Guest). length g.board.reach.devices.output) (left_by old new made) ∙ length-drop 256 old.guest.board.reach.devices.output
+pub drain_fewer : (old new : GuestState) → IsAfter (Drain 256 ∷ []) old new → length new.guest.board.shared.devices.output ≡ length old.guest.board.shared.devices.output - 256
+drain_fewer old new made = ap (λ (g : Guest). length g.board.shared.devices.output) (left_by old new made) ∙ length-drop 256 old.guest.board.shared.devices.output
 
 -- all of some events
 pub whole_part : (es : List BoardEvent) (old new : GuestState) → IsAfter es old new → IsPartWay es old new
@@ -242,10 +242,10 @@ room_of : (n : ℕ) (b : Bool) → (n ≡ 16 → false ≡ true) → nat_eq n 16
 room_of n false room e = refl
 room_of n true room e = sym (room (eqb-true n 16 e))
 
-pub byte_taken : (input rest : List ℕ) (b : ℕ) (old new : GuestState) → input ≡ b ∷ rest → (length old.guest.board.reach.devices.input ≡ 16 → false ≡ true)
-    → new ≡ record old { guest = with_board (with_input (old.guest.board.reach.devices.input ++ b ∷ []) old.guest.board) old.guest } → IsAfter (offers input) old new
+pub byte_taken : (input rest : List ℕ) (b : ℕ) (old new : GuestState) → input ≡ b ∷ rest → (length old.guest.board.shared.devices.input ≡ 16 → false ≡ true)
+    → new ≡ record old { guest = with_board (with_input (old.guest.board.shared.devices.input ++ b ∷ []) old.guest.board) old.guest } → IsAfter (offers input) old new
 byte_taken input rest b old new some room made =
-    let waiting = old.guest.board.reach.devices.input in
+    let waiting = old.guest.board.shared.devices.input in
     let comes = leaves (with_board (with_input (waiting ++ b ∷ []) old.guest.board) old.guest) reply.Done in
     let test : nat_eq (length waiting) 16 ≡ false = room_of (length waiting) (nat_eq (length waiting) 16) room refl in
     let said : comes ≡ answered (Input b) old.guest = ap (λ t. cond t (refuses InputFull old.guest) comes) (sym test) in
@@ -253,9 +253,9 @@ byte_taken input rest b old new some room made =
 
 -- what a byte that is offered to a full console comes to
 kept_back : (b : ℕ) (g : Guest) → is_full g ≡ true → answered (Input b) g ≡ refuses InputFull g
-kept_back b g full = ap (λ t. cond t (refuses InputFull g) (leaves (with_board (with_input (g.board.reach.devices.input ++ b ∷ []) g.board) g) reply.Done)) full
+kept_back b g full = ap (λ t. cond t (refuses InputFull g) (leaves (with_board (with_input (g.board.shared.devices.input ++ b ∷ []) g.board) g) reply.Done)) full
 
-pub byte_kept : (input rest : List ℕ) (b : ℕ) (old new : GuestState) → input ≡ b ∷ rest → length old.guest.board.reach.devices.input ≡ 16 → new ≡ old → IsAfter (offers input) old new
+pub byte_kept : (input rest : List ℕ) (b : ℕ) (old new : GuestState) → input ≡ b ∷ rest → length old.guest.board.shared.devices.input ≡ 16 → new ≡ old → IsAfter (offers input) old new
 byte_kept input rest b old new some full same =
     let said = sym (kept_back b old.guest (ap (λ n. nat_eq n 16) full)) in
     rw some (is_after_one (Input b) old new (ap (λ (s : GuestState). s.guest) same ∙ ap (λ (a : Answered). a.guest) said) (ap (λ (s : GuestState). s.dirty) same ∙ ap (λ (a : Answered). mark_all a.pages old.dirty) said))
@@ -264,7 +264,7 @@ pub byte_none : (input : List ℕ) (s : GuestState) → input ≡ [] → IsAfter
 byte_none input s none = rw none (is_after_none s)
 
 -- an offer is answered no bytes and changes no number of harts
-offer_cases : (b : ℕ) (g : Guest) (full : Bool) → let a = cond full (refuses InputFull g) (leaves (with_board (with_input (g.board.reach.devices.input ++ b ∷ []) g.board) g) reply.Done) in (bytes_in a.reply ≡ []) × (length a.guest.board.harts ≡ length g.board.harts)
+offer_cases : (b : ℕ) (g : Guest) (full : Bool) → let a = cond full (refuses InputFull g) (leaves (with_board (with_input (g.board.shared.devices.input ++ b ∷ []) g.board) g) reply.Done) in (bytes_in a.reply ≡ []) × (length a.guest.board.harts ≡ length g.board.harts)
 offer_cases b g true = (refl, refl)
 offer_cases b g false = (refl, refl)
 
@@ -330,7 +330,7 @@ of_turns t = record { guest = t.guest; pages = t.pages; bytes = [] }
 after_step : (h : ℕ) (g : Guest) → h < length g.board.harts → after (Step h ∷ []) g ≡ record { guest = (steps h g).guest; pages = (steps h g).pages; bytes = [] }
 after_step h g there =
     after_one (Step h) g ∙ ap of_one (there_steps h g there)
-    ∙ ap (λ (l : List ℕ). record { guest = (steps h g).guest; pages = (steps h g).pages; bytes = l }) (quiet_halted g.board.reach.devices.halted h g)
+    ∙ ap (λ (l : List ℕ). record { guest = (steps h g).guest; pages = (steps h g).pages; bytes = l }) (quiet_halted g.board.shared.devices.halted h g)
 
 -- n turns from turn t on, behind a drain or not
 abbrev behind_drain : Bool → (n t : ℕ) → (input : List ℕ) → Guest → Run
@@ -555,7 +555,7 @@ pub last_drains : (g : Guest) (end : Ended) (rest : Run) → rest ≡ record { e
 last_drains g end rest e = e ∙ ap (λ (l : List BoardEvent). record { events = l; ended = end }) (sym (append-nil (drains g)))
 
 -- nothing waits
-pub drain_nothing : (s : GuestState) (w : Option (List ℕ)) → length s.guest.board.reach.devices.output ≡ 0 → AllMade (drains s.guest) s s w w
+pub drain_nothing : (s : GuestState) (w : Option (List ℕ)) → length s.guest.board.shared.devices.output ≡ 0 → AllMade (drains s.guest) s s w w
 drain_nothing s w none = all_made (drains s.guest) s w (begins (drains s.guest) s w) (drains_none s.guest none)
 
 -- where no input is left, all turns are made

@@ -44,7 +44,7 @@ first events rest = record rest { events = events ++ rest.events }
 
 -- what the guest sent is taken, 256 bytes at a time, until nothing waits
 abbrev pub drains : Guest → List BoardEvent
-drains g = replicate ((length g.board.reach.devices.output + 255) / 256) (Drain 256)
+drains g = replicate ((length g.board.shared.devices.output + 255) / 256) (Drain 256)
 
 -- the next byte is offered, if any is left
 abbrev pub offers : List ℕ → List BoardEvent

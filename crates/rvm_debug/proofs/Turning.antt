@@ -24,7 +24,7 @@ halted_count h g None = steps_on_count h g (stops h g)
 halted_count h g (Some status) = refl
 
 pub steps_count : (h : ℕ) (g : Guest) → length (steps h g).guest.board.harts ≡ length g.board.harts
-steps_count h g = halted_count h g g.board.reach.devices.halted
+steps_count h g = halted_count h g g.board.shared.devices.halted
 
 -- where none is true, none is
 pub none_is : (flags : List Bool) (i : ℕ) → list_any (λ flag. flag) flags ≡ false → get_or flags i false ≡ false

@@ -81,7 +81,7 @@ unless_halted None h g = steps_on h g
 
 -- a step of a hart
 abbrev pub steps : ℕ → Guest → Answered
-steps h g = unless_halted g.board.reach.devices.halted h g
+steps h g = unless_halted g.board.shared.devices.halted h g
 
 -- a step of a hart that may not be there
 abbrev pub steps_if_there : ℕ → Guest → Answered
@@ -90,14 +90,14 @@ steps_if_there h g = if nat_lt h (length g.board.harts) then steps h g else refu
 -- a byte comes to the console, if fewer than 16 wait
 abbrev pub takes_input : ℕ → Guest → Answered
 takes_input byte g =
-    let waiting = g.board.reach.devices.input in
+    let waiting = g.board.shared.devices.input in
     if length waiting == 16 then refuses InputFull g
     else leaves (with_board (with_input (waiting ++ byte ∷ []) g.board) g) reply.Done
 
 -- the oldest bytes that the guest sent, at most so many
 abbrev pub drains : ℕ → Guest → Answered
 drains n g =
-    let sent = g.board.reach.devices.output in
+    let sent = g.board.shared.devices.output in
     if nat_lt 256 n then refuses OutOfRange g
     else leaves (with_board (with_output (drop n sent) g.board) g) (reply.Bytes (take n sent))
 
@@ -122,7 +122,7 @@ tells_registers h g =
 -- 1 to 256 bytes of RAM
 abbrev pub tells_bytes : (address count : ℕ) → Guest → Answered
 tells_bytes a n g =
-    if is_view a n g.board then leaves g (reply.Bytes (slice n (a - ram_base) g.board.reach.bytes))
+    if is_view a n g.board then leaves g (reply.Bytes (slice n (a - ram_base) g.board.shared.bytes))
     else refuses OutOfRange g
 
 -- the word, if there is one, at an address
@@ -133,7 +133,7 @@ tells_word a None g = refuses OutOfRange g
 -- the word of RAM at a multiple of four
 abbrev pub tells_line : ℕ → Guest → Answered
 tells_line a g =
-    if a % 4 == 0 then tells_word a (ram_load 4 a g.board.reach.bytes) g else refuses OutOfRange g
+    if a % 4 == 0 then tells_word a (ram_load 4 a g.board.shared.bytes) g else refuses OutOfRange g
 
 -- a hart whose pc is set from outside stands at no breakpoint any more
 abbrev pub after_poke : (h register : ℕ) → Guest → Guest
@@ -151,7 +151,7 @@ abbrev pub writes_bytes : (address : ℕ) → List ℕ → Guest → Answered
 writes_bytes a bytes g =
     if is_view a (length bytes) g.board
     then record {
-      guest = with_board (record g.board { reach = memory_poked a bytes g.board.reach }) g;
+      guest = with_board (record g.board { shared = memory_poked a bytes g.board.shared }) g;
       pages = byte_pages (a - ram_base) (length bytes);
       reply = reply.Done;
     }

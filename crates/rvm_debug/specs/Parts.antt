@@ -12,9 +12,9 @@ abbrev pub part_of : (h : ℕ) → Guest → HartPart
 part_of h g =
     record {
       fields = hart.fields_of (hart_at h g.board);
-      msip = get_or g.board.reach.devices.msip h false;
-      mtimecmp = get_or g.board.reach.devices.mtimecmp h 0;
-      reserved = get_or g.board.reach.reservations h None;
+      msip = get_or g.board.shared.devices.msip h false;
+      mtimecmp = get_or g.board.shared.devices.mtimecmp h 0;
+      reserved = get_or g.board.shared.reservations h None;
       stopped = get_or g.stopped h false;
     }
 

@@ -6,7 +6,7 @@ use Rattle.rvm_debug.specs.Turns.{AfterTurns, stop_in, unless_stopped}
 
 -- no byte more can come to the console
 abbrev pub is_full : Guest → Bool
-is_full g = length g.board.reach.devices.input == 16
+is_full g = length g.board.shared.devices.input == 16
 
 -- no turn is made
 abbrev pub no_turns : Guest → AfterTurns

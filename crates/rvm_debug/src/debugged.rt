@@ -87,7 +87,7 @@ impl<M: Memory> Debugged<M> {
     pub fn hart_part(&self, hart: u32) -> HartPart
         requires { hart < length self.now.guest.board.harts }
         ensures part { result ≡ part_of hart self.now.guest }
-        ensures held { CanBeHeld (length self.now.guest.board.reach.bytes) result }
+        ensures held { CanBeHeld (length self.now.guest.board.shared.bytes) result }
         ensures whole { with_number hart result.fields ≡ hart_at hart self.now.guest.board }
     {
         let devices = self.board.devices();
@@ -102,10 +102,10 @@ impl<M: Memory> Debugged<M> {
 
     /// The devices.
     pub fn devices(&self) -> &Devices
-        ensures devices { result.now ≡ self.now.guest.board.reach.devices }
-        ensures msip { length self.now.guest.board.reach.devices.msip
+        ensures devices { result.now ≡ self.now.guest.board.shared.devices }
+        ensures msip { length self.now.guest.board.shared.devices.msip
             ≡ length self.now.guest.board.harts }
-        ensures reservations { length self.now.guest.board.reach.reservations
+        ensures reservations { length self.now.guest.board.shared.reservations
             ≡ length self.now.guest.board.harts }
         ensures stopped { length self.now.guest.stopped ≡ length self.now.guest.board.harts }
     {
@@ -136,7 +136,7 @@ impl<M: Memory> Debugged<M> {
     /// Sets what the guest keeps of a hart. Takes no memory.
     pub fn restore_hart(&mut self, hart: u32, part: HartPart)
         requires hart { hart < length self.old.guest.board.harts }
-        requires held { CanBeHeld (length self.old.guest.board.reach.bytes) part }
+        requires held { CanBeHeld (length self.old.guest.board.shared.bytes) part }
         ensures { self.new ≡ record self.old { guest = hart_restored hart part self.old.guest } }
     {
         let stopped = &mut self.stopped;
@@ -187,7 +187,7 @@ impl<M: Memory> Debugged<M> {
     #[inline(never)]
     fn stop(&mut self, hart: u32) -> bool
         requires { hart < length self.old.guest.board.harts }
-        ensures { MatchOption self.old.guest.board.reach.devices.halted
+        ensures { MatchOption self.old.guest.board.shared.devices.halted
             ((result ≡ stops hart self.old.guest) × (self.new ≡ record self.old {
               guest = with_stopped hart result self.old.guest;
             }))
@@ -206,10 +206,10 @@ impl<M: Memory> Debugged<M> {
     pub fn input(&mut self, byte: u8) -> Result<(), InputFull>
         ensures taken { OnOk result (self.new ≡ record self.old {
           guest = with_board
-              (with_input (self.old.guest.board.reach.devices.input ++ byte ∷ []) self.old.guest.board)
+              (with_input (self.old.guest.board.shared.devices.input ++ byte ∷ []) self.old.guest.board)
               self.old.guest;
         }) }
-        ensures full { IsErr result ↔ (length self.old.guest.board.reach.devices.input ≡ 16) }
+        ensures full { IsErr result ↔ (length self.old.guest.board.shared.devices.input ≡ 16) }
         ensures err { OnErr result (self.new ≡ self.old) }
     {
         self.board.input(byte)
@@ -218,7 +218,7 @@ impl<M: Memory> Debugged<M> {
     /// How many bytes that the guest sent wait to be taken.
     #[inline(always)]
     pub fn waiting(&self) -> usize
-        ensures { result ≡ length self.now.guest.board.reach.devices.output }
+        ensures { result ≡ length self.now.guest.board.shared.devices.output }
     {
         self.board.waiting()
     }
@@ -226,12 +226,12 @@ impl<M: Memory> Debugged<M> {
     /// Takes the oldest bytes that the guest sent, as many as there are and fit, and says how many.
     pub fn drain(&mut self, bytes: &mut [u8]) -> usize
         ensures count { result
-            ≡ min (length bytes.old) (length self.old.guest.board.reach.devices.output) }
+            ≡ min (length bytes.old) (length self.old.guest.board.shared.devices.output) }
         ensures bytes { bytes.new
-            ≡ take result self.old.guest.board.reach.devices.output ++ drop result bytes.old }
+            ≡ take result self.old.guest.board.shared.devices.output ++ drop result bytes.old }
         ensures guest { self.new ≡ record self.old {
           guest = with_board
-              (with_output (drop result self.old.guest.board.reach.devices.output)
+              (with_output (drop result self.old.guest.board.shared.devices.output)
               self.old.guest.board)
               self.old.guest;
         } }

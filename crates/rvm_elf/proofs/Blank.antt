@@ -31,9 +31,9 @@ marked_true (page ∷ pages) m = ap (mark_all pages) (set-true page m) ∙ marke
 kept : {A : Type 0} (f : List A → List A) (x : A) (xs : List A) → xs ≡ replicate (length xs) x → ((m : ℕ) → f (replicate m x) ≡ replicate m x) → f xs ≡ xs
 kept f x xs all keeps = ap f all ∙ keeps (length xs) ∙ sym all
 
-pub poked_blank : (a : ℕ) (bytes : List ℕ) (b : BoardState) → IsBlank b → memory_poked a bytes b ≡ with_ram (replaced (a - ram_base) bytes b.plain.reach.bytes) b
+pub poked_blank : (a : ℕ) (bytes : List ℕ) (b : BoardState) → IsBlank b → memory_poked a bytes b ≡ with_ram (replaced (a - ram_base) bytes b.plain.shared.bytes) b
 poked_blank a bytes b blank =
-    let bare : BoardState = with_ram (replaced (a - ram_base) bytes b.plain.reach.bytes) b in
-    ap (λ words. record { plain = record bare.plain { reach = record bare.plain.reach { reservations = words } }; dirty = mark_all (byte_pages (a - ram_base) (length bytes)) b.dirty })
-    (kept (poked_each a (length bytes)) None b.plain.reach.reservations blank.reservations (poked_none a (length bytes)))
+    let bare : BoardState = with_ram (replaced (a - ram_base) bytes b.plain.shared.bytes) b in
+    ap (λ words. record { plain = record bare.plain { shared = record bare.plain.shared { reservations = words } }; dirty = mark_all (byte_pages (a - ram_base) (length bytes)) b.dirty })
+    (kept (poked_each a (length bytes)) None b.plain.shared.reservations blank.reservations (poked_none a (length bytes)))
     ∙ ap (λ dirty. record bare { dirty = dirty }) (kept (mark_all (byte_pages (a - ram_base) (length bytes))) true b.dirty blank.dirty (marked_true (byte_pages (a - ram_base) (length bytes))))

@@ -13,14 +13,14 @@ use Rattle.rvm_elf.specs.Placing.{with_ram, placed, placed_all}
 use Rattle.rvm_elf.proofs.Ranges.{replaced_more}
 
 -- a write behind another
-pub then_written : (a here : ℕ) (front next both : List ℕ) (old mid new : BoardState) → ram_base ≤ a → here ≡ a + length front → here + length next ≤ ram_base + length old.plain.reach.bytes → both ≡ front ++ next
-    → mid ≡ with_ram (replaced (a - ram_base) front old.plain.reach.bytes) old → new ≡ with_ram (replaced (here - ram_base) next mid.plain.reach.bytes) mid
-    → new ≡ with_ram (replaced (a - ram_base) both old.plain.reach.bytes) old
+pub then_written : (a here : ℕ) (front next both : List ℕ) (old mid new : BoardState) → ram_base ≤ a → here ≡ a + length front → here + length next ≤ ram_base + length old.plain.shared.bytes → both ≡ front ++ next
+    → mid ≡ with_ram (replaced (a - ram_base) front old.plain.shared.bytes) old → new ≡ with_ram (replaced (here - ram_base) next mid.plain.shared.bytes) mid
+    → new ≡ with_ram (replaced (a - ram_base) both old.plain.shared.bytes) old
 then_written a here front next both old mid new low is inside whole first second =
     second
-    ∙ ap (λ b. with_ram (replaced (here - ram_base) next b.plain.reach.bytes) b) first
-    ∙ ap (λ ram. with_ram ram old) (replaced_more (a - ram_base) (here - ram_base) front next old.plain.reach.bytes (omega arith) (omega arith))
-    ∙ ap (λ bytes. with_ram (replaced (a - ram_base) bytes old.plain.reach.bytes) old) (sym whole)
+    ∙ ap (λ b. with_ram (replaced (here - ram_base) next b.plain.shared.bytes) b) first
+    ∙ ap (λ ram. with_ram ram old) (replaced_more (a - ram_base) (here - ram_base) front next old.plain.shared.bytes (omega arith) (omega arith))
+    ∙ ap (λ bytes. with_ram (replaced (a - ram_base) bytes old.plain.shared.bytes) old) (sym whole)
 
 -- what is left of a list whose item at an index was read
 pub first_left : {X : Type 0} (xs : List X) (i : ℕ) (x : X) → i < length xs → x ≡ get_or xs i x → drop i xs ≡ x ∷ drop (i + 1) xs
@@ -55,9 +55,9 @@ unfolding placed_all
 place_none segments i ram done = ap (λ xs. placed_all (pieces_of xs) ram) (drop_all i segments done)
 
 -- only RAM has changed, also after one write more
-pub ram_alone : (old mid new : BoardState) (ram : List ℕ) → mid ≡ with_ram mid.plain.reach.bytes old → new ≡ with_ram ram mid → new ≡ with_ram new.plain.reach.bytes old
+pub ram_alone : (old mid new : BoardState) (ram : List ℕ) → mid ≡ with_ram mid.plain.shared.bytes old → new ≡ with_ram ram mid → new ≡ with_ram new.plain.shared.bytes old
 ram_alone old mid new ram first second =
-    second ∙ ap (with_ram ram) first ∙ ap (λ r. with_ram r old) (sym (ap (λ (b : BoardState). b.plain.reach.bytes) second))
+    second ∙ ap (with_ram ram) first ∙ ap (λ r. with_ram r old) (sym (ap (λ (b : BoardState). b.plain.shared.bytes) second))
 
 -- one hart more goes on at the entry
 pub entries_more : (f : HartState → HartState) (harts : List HartState) (h : ℕ) (blank : HartState) → h < length harts

@@ -36,8 +36,8 @@ abbrev pub loaded : (entry : ℕ) → List Piece → Board → Board
 loaded entry pieces b =
     record {
       harts = map (at_entry entry) b.harts;
-      reach = record b.reach {
-        bytes = ram_of (length b.reach.bytes) pieces;
-        reservations = replicate (length b.reach.reservations) None;
+      shared = record b.shared {
+        bytes = ram_of (length b.shared.bytes) pieces;
+        reservations = replicate (length b.shared.reservations) None;
       };
     }

@@ -8,16 +8,16 @@ use Rattle.rvm_image.specs.Images.{Piece}
 
 -- the board with other bytes in RAM, and with other harts
 abbrev pub with_ram : List ℕ → BoardState → BoardState
-with_ram bytes b = record b { plain = record b.plain { reach = record b.plain.reach { bytes = bytes } } }
+with_ram bytes b = record b { plain = record b.plain { shared = record b.plain.shared { bytes = bytes } } }
 
 abbrev pub with_harts : List HartState → BoardState → BoardState
 with_harts harts b = record b { plain = record b.plain { harts = harts } }
 
 -- no hart has a reservation, and each page is in the dirty log, of a RAM that the address space has room for
 pub record IsBlank (b : BoardState) : Type 0 where
-  pub reservations : b.plain.reach.reservations ≡ replicate (length b.plain.reach.reservations) None
+  pub reservations : b.plain.shared.reservations ≡ replicate (length b.plain.shared.reservations) None
   pub dirty : b.dirty ≡ replicate (length b.dirty) true
-  pub size : length b.plain.reach.bytes ≤ 2 ^ 24
+  pub size : length b.plain.shared.bytes ≤ 2 ^ 24
 
 -- RAM with a piece and its zeros in it
 abbrev pub placed : Piece → List ℕ → List ℕ

@@ -29,7 +29,7 @@ pub fn load<M: Memory>(image: &Image, board: &mut Board<M>) -> Result<(), Outsid
         ≡ loaded image.now.entry (pieces_of image.now.segments.items) board.old.plain) }
     ensures dirty { OnOk result (board.new.dirty ≡ replicate (length board.old.dirty) true) }
     ensures outside { IsErr result
-        ↔ (fits image.now.entry (pieces_of image.now.segments.items) (length board.old.plain.reach.bytes) ≡ false) }
+        ↔ (fits image.now.entry (pieces_of image.now.segments.items) (length board.old.plain.shared.bytes) ≡ false) }
     ensures err { OnErr result (board.new ≡ board.old) }
 {
     if !fits(image, board.ram_size()) {
@@ -83,9 +83,9 @@ fn segment_fits(segment: &Segment, ram_size: u32) -> bool
 /// Writes segments, one after the other.
 fn write_segments<M: Memory>(board: &mut Board<M>, segments: &[Segment])
     requires blank { IsBlank board.old }
-    requires inside { pieces_fit (pieces_of segments.now) (length board.old.plain.reach.bytes) ≡ true }
+    requires inside { pieces_fit (pieces_of segments.now) (length board.old.plain.shared.bytes) ≡ true }
     ensures { board.new
-        ≡ with_ram (placed_all (pieces_of segments.now) board.old.plain.reach.bytes) board.old }
+        ≡ with_ram (placed_all (pieces_of segments.now) board.old.plain.shared.bytes) board.old }
 {
     for segment in segments {
         write_segment(board, segment);
@@ -95,9 +95,9 @@ fn write_segments<M: Memory>(board: &mut Board<M>, segments: &[Segment])
 /// Writes a segment's bytes, and its zeros behind them.
 fn write_segment<M: Memory>(board: &mut Board<M>, segment: &Segment)
     requires blank { IsBlank board.old }
-    requires inside { piece_fits (piece_of segment.now) (length board.old.plain.reach.bytes) ≡ true }
+    requires inside { piece_fits (piece_of segment.now) (length board.old.plain.shared.bytes) ≡ true }
     ensures { board.new
-        ≡ with_ram (placed (piece_of segment.now) board.old.plain.reach.bytes) board.old }
+        ≡ with_ram (placed (piece_of segment.now) board.old.plain.shared.bytes) board.old }
 {
     if segment.bytes.is_empty() && segment.zeros == 0 {
         return;
@@ -113,9 +113,9 @@ fn write_segment<M: Memory>(board: &mut Board<M>, segment: &Segment)
 /// Writes bytes from an address on, at most `VIEW_SIZE` at once.
 fn write_bytes<M: Memory>(board: &mut Board<M>, address: u32, bytes: &[u8])
     requires blank { IsBlank board.old }
-    requires inside { in_ram (length bytes.now) address board.old.plain.reach.bytes ≡ true }
+    requires inside { in_ram (length bytes.now) address board.old.plain.shared.bytes ≡ true }
     ensures { board.new
-        ≡ with_ram (replaced (address - ram_base) bytes.now board.old.plain.reach.bytes) board.old }
+        ≡ with_ram (replaced (address - ram_base) bytes.now board.old.plain.shared.bytes) board.old }
 {
     let mut done = 0;
     while done < bytes.len() {
@@ -128,9 +128,9 @@ fn write_bytes<M: Memory>(board: &mut Board<M>, address: u32, bytes: &[u8])
 /// Writes so many zeros from an address on, at most `VIEW_SIZE` at once.
 fn write_zeros<M: Memory>(board: &mut Board<M>, address: u32, count: usize)
     requires blank { IsBlank board.old }
-    requires inside { in_ram count address board.old.plain.reach.bytes ≡ true }
+    requires inside { in_ram count address board.old.plain.shared.bytes ≡ true }
     ensures { board.new
-        ≡ with_ram (replaced (address - ram_base) (replicate count 0) board.old.plain.reach.bytes) board.old }
+        ≡ with_ram (replaced (address - ram_base) (replicate count 0) board.old.plain.shared.bytes) board.old }
 {
     let mut done = 0;
     while done < count {
@@ -145,9 +145,9 @@ fn poke_zeros<M: Memory>(board: &mut Board<M>, address: u32, count: usize)
     requires blank { IsBlank board.old }
     requires some { 0 < count }
     requires few { count ≤ 256 }
-    requires inside { in_ram count address board.old.plain.reach.bytes ≡ true }
+    requires inside { in_ram count address board.old.plain.shared.bytes ≡ true }
     ensures { board.new
-        ≡ with_ram (replaced (address - ram_base) (replicate count 0) board.old.plain.reach.bytes) board.old }
+        ≡ with_ram (replaced (address - ram_base) (replicate count 0) board.old.plain.shared.bytes) board.old }
 {
     let zeros = [0; VIEW_SIZE];
     poke(board, address, &zeros[..count]);
@@ -159,9 +159,9 @@ fn poke<M: Memory>(board: &mut Board<M>, address: u32, bytes: &[u8])
     requires blank { IsBlank board.old }
     requires some { 0 < length bytes.now }
     requires few { length bytes.now ≤ 256 }
-    requires inside { in_ram (length bytes.now) address board.old.plain.reach.bytes ≡ true }
+    requires inside { in_ram (length bytes.now) address board.old.plain.shared.bytes ≡ true }
     ensures { board.new
-        ≡ with_ram (replaced (address - ram_base) bytes.now board.old.plain.reach.bytes) board.old }
+        ≡ with_ram (replaced (address - ram_base) bytes.now board.old.plain.shared.bytes) board.old }
 {
     let is_written = board.poke_mem(address, bytes).is_ok();
     prove!(is_written);

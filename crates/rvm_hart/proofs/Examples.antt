@@ -7,8 +7,8 @@ use Rattle.rvm_hart.specs.declared.csrs.CsrChange.TheVariants as change
 use Rattle.rvm_hart.specs.declared.outcome.Written.TheVariants.{Halt, Mtime, Other}
 use Rattle.rvm_hart.specs.Bus.{in_ram, wrote_of}
 use Rattle.rvm_hart.specs.Fields.{is_in_ram, is_ram_word}
-use Rattle.rvm_hart.specs.Rooms.{even, holds, sum, value_of, writes}
-use Rattle.rvm_hart.specs.Rows.{signed_byte, signed_half}
+use Rattle.rvm_hart.specs.Kinds.{even, holds, sum, value_of, writes}
+use Rattle.rvm_hart.specs.Rows.{sign_extended_byte, sign_extended_half}
 
 -- a sum with a signed number goes past 0 and 2 ^ 32
 below_zero : sum 1 (negsuc 1) ≡ 0xFFFFFFFF
@@ -44,15 +44,15 @@ unfolding signed_value
 a_sign_is_kept = refl
 
 -- loads extend by the sign
-byte_80_is_negative : signed_byte 0x80 ≡ 0xFFFFFF80
+byte_80_is_negative : sign_extended_byte 0x80 ≡ 0xFFFFFF80
 unfolding signed_value
 byte_80_is_negative = refl
 
-byte_7f_is_positive : signed_byte 0x7F ≡ 0x7F
+byte_7f_is_positive : sign_extended_byte 0x7F ≡ 0x7F
 unfolding signed_value
 byte_7f_is_positive = refl
 
-half_8000_is_negative : signed_half 0x8000 ≡ 0xFFFF8000
+half_8000_is_negative : sign_extended_half 0x8000 ≡ 0xFFFF8000
 unfolding signed_value
 half_8000_is_negative = refl
 

@@ -5,7 +5,7 @@ use Rattle.rvm_mem.specs.Pages.{mark_all}
 use Rattle.rvm_csr.specs.declared.interrupts.Interrupts.{Interrupts}
 use Rattle.rvm_dev.specs.Devices as dev
 use Rattle.rvm_res.specs.Reservations as res
-use Rattle.rvm_hart.specs.Machine.{Reach, BusState}
+use Rattle.rvm_hart.specs.Machine.{Shared, BusState}
 use Rattle.rvm_hart.specs.declared.outcome.Written.{Written}
 use Rattle.rvm_hart.specs.declared.outcome.Written.TheVariants.{Other, Mtime, Halt}
 
@@ -23,46 +23,46 @@ ram_load n a bytes = if in_ram n a bytes then Some (load n (a - ram_base) bytes)
 
 -- the word at an address, of RAM or a device; and what the harts share after it is loaded, since a device may
 -- consume it
-abbrev pub word_loaded : ℕ → Reach → Option ℕ
+abbrev pub word_loaded : ℕ → Shared → Option ℕ
 word_loaded a r = if in_ram 4 a r.bytes then Some (load 4 (a - ram_base) r.bytes) else dev.value_loaded a r.devices
 
-abbrev pub after_word_load : ℕ → Reach → Reach
+abbrev pub after_word_load : ℕ → Shared → Shared
 after_word_load a r = if in_ram 4 a r.bytes then r else record r { devices = dev.loaded a r.devices }
 
 -- what a store leaves, the pages that it wrote, and what the end of the step looks at
 pub record Stored : Type 0 where
-  pub reach : Reach
+  pub shared : Shared
   pub pages : List ℕ
   pub wrote : Written
 
 -- a store of a hart into the n bytes of RAM from an address: its page is written, and other harts' reservations of
 -- the word end
-abbrev pub in_ram_stored : (n hart address value : ℕ) → Reach → Stored
+abbrev pub in_ram_stored : (n hart address value : ℕ) → Shared → Stored
 in_ram_stored n hart a v r =
     record {
-      reach = record r { bytes = store n (a - ram_base) v r.bytes; reservations = res.stored hart a r.reservations };
+      shared = record r { bytes = store n (a - ram_base) v r.bytes; reservations = res.stored hart a r.reservations };
       pages = (a - ram_base) / 4096 ∷ [];
       wrote = Other;
     }
 
-abbrev pub ram_stored : (n hart address value : ℕ) → Reach → Option Stored
+abbrev pub ram_stored : (n hart address value : ℕ) → Shared → Option Stored
 ram_stored n hart a v r = if in_ram n a r.bytes then Some (in_ram_stored n hart a v r) else None
 
 -- what a store to a device's word wrote
 abbrev pub wrote_of : (address value : ℕ) → Written
 wrote_of a v = if a == 0x100000 then Halt (v % 2 ^ 8) else if a == 0x200BFF8 || a == 0x200BFFC then Mtime else Other
 
-abbrev pub device_stored : (address value : ℕ) → Reach → Option Stored
+abbrev pub device_stored : (address value : ℕ) → Shared → Option Stored
 device_stored a v r =
-    option_map (λ d. record { reach = record r { devices = d }; pages = []; wrote = wrote_of a v }) (dev.stored a v r.devices)
+    option_map (λ d. record { shared = record r { devices = d }; pages = []; wrote = wrote_of a v }) (dev.stored a v r.devices)
 
 -- a store of a word, to RAM or a device
-abbrev pub word_stored : (hart address value : ℕ) → Reach → Option Stored
+abbrev pub word_stored : (hart address value : ℕ) → Shared → Option Stored
 word_stored hart a v r = if in_ram 4 a r.bytes then Some (in_ram_stored 4 hart a v r) else device_stored a v r
 
 -- the bus after a store, if it went
 abbrev pub left_by : Option Stored → BusState → BusState
-left_by (Some s) b = record { reach = s.reach; dirty = mark_all s.pages b.dirty }
+left_by (Some s) b = record { shared = s.shared; dirty = mark_all s.pages b.dirty }
 left_by None b = b
 
 -- what the end of the step looks at after a store, if it went

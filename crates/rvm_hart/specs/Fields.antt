@@ -4,7 +4,7 @@ use Rattle.std.specs.List.{list_all}
 use Rattle.rvm_csr.specs.Fields as csr
 use Rattle.rvm_dev.specs.Shared as dev
 use Rattle.rvm_hart.specs.declared.fields.HartFields.{HartFields}
-use Rattle.rvm_hart.specs.Machine.{HartState, Reach}
+use Rattle.rvm_hart.specs.Machine.{HartState, Shared}
 use Rattle.rvm_hart.specs.Bus.{ram_base}
 
 -- the hart of a number that keeps these values
@@ -35,7 +35,7 @@ abbrev pub are_in_ram : (size : ℕ) → List (Option ℕ) → Bool
 are_in_ram size words = list_all (is_in_ram size) words
 
 -- what the harts share, with other words of a hart, and another reservation
-abbrev pub hart_restored : (hart : ℕ) → (msip : Bool) → (mtimecmp : ℕ) → Option ℕ → Reach → Reach
+abbrev pub hart_restored : (hart : ℕ) → (msip : Bool) → (mtimecmp : ℕ) → Option ℕ → Shared → Shared
 hart_restored h msip mtimecmp reserved r =
     record r {
       devices = dev.hart_restored h msip mtimecmp r.devices;

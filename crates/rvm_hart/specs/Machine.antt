@@ -10,38 +10,38 @@ pub record HartState : Type 0 where
   pub csrs : CsrState
 
 -- what the harts share: the bytes of RAM, the devices, and the word that each hart reserved
-pub record Reach : Type 0 where
+pub record Shared : Type 0 where
   pub bytes : List ℕ
   pub devices : DeviceState
   pub reservations : List (Option ℕ)
 
--- one hart and what it reaches
+-- one hart and what it shares with the others
 pub record Machine : Type 0 where
   pub hart : HartState
-  pub reach : Reach
+  pub shared : Shared
 
--- what a bus is: what it reaches, and for each page of RAM whether it is in the dirty log
+-- what a bus is: what the harts share, and for each page of RAM whether it is in the dirty log
 pub record BusState : Type 0 where
-  pub reach : Reach
+  pub shared : Shared
   pub dirty : List Bool
 
 -- a bus with other devices, and with other reservations
 abbrev pub with_devices : DeviceState → BusState → BusState
-with_devices d b = record b { reach = record b.reach { devices = d } }
+with_devices d b = record b { shared = record b.shared { devices = d } }
 
 abbrev pub with_reservations : List (Option ℕ) → BusState → BusState
-with_reservations words b = record b { reach = record b.reach { reservations = words } }
+with_reservations words b = record b { shared = record b.shared { reservations = words } }
 
 abbrev pub machine : HartState → BusState → Machine
-machine h b = record { hart = h; reach = b.reach }
+machine h b = record { hart = h; shared = b.shared }
 
 -- the number of the hart that steps
 abbrev pub number_of : Machine → ℕ
 number_of m = m.hart.csrs.hart
 
 -- what no step changes: the hart's number, the size of RAM, and for how many harts reservations and devices are
-abbrev pub reach_shape : Reach → List ℕ
-reach_shape r = length r.bytes ∷ length r.reservations ∷ length r.devices.msip ∷ length r.devices.mtimecmp ∷ []
+abbrev pub shared_shape : Shared → List ℕ
+shared_shape r = length r.bytes ∷ length r.reservations ∷ length r.devices.msip ∷ length r.devices.mtimecmp ∷ []
 
 abbrev pub shape : Machine → List ℕ
-shape m = number_of m ∷ reach_shape m.reach
+shape m = number_of m ∷ shared_shape m.shared

@@ -21,25 +21,25 @@ abbrev pub reg : ℕ → HartState → ℕ
 reg r h = slice_index h.regs r
 
 -- the registers after a write: one to x0 is dropped (Unprivileged ISA, "Programmers' Model for Base Integer ISA")
-abbrev pub put : (rd value : ℕ) → List ℕ → List ℕ
-put rd v regs = if rd == 0 then regs else slice_set regs rd v
+abbrev pub with_register : (rd value : ℕ) → List ℕ → List ℕ
+with_register rd v regs = if rd == 0 then regs else slice_set regs rd v
 
 -- the address of the instruction after this one
 abbrev pub next_pc : HartState → ℕ
 next_pc h = (h.pc + 4) % 2 ^ 32
 
 -- the hart goes on, with a value in rd
-abbrev pub given : (rd value : ℕ) → HartState → HartState
-given rd v h = record h { regs = put rd v h.regs; pc = next_pc h }
+abbrev pub with_result : (rd value : ℕ) → HartState → HartState
+with_result rd v h = record h { regs = with_register rd v h.regs; pc = next_pc h }
 
 -- the hart goes on, all else as it was
-abbrev pub passed : HartState → HartState
-passed h = record h { pc = next_pc h }
+abbrev pub at_next : HartState → HartState
+at_next h = record h { pc = next_pc h }
 
 -- the instruction retires, with a value in rd
-abbrev pub gives : (rd value : ℕ) → Machine → Outcome
-gives rd v m = Done (record m { hart = given rd v m.hart }) [] Other
+abbrev pub done_with : (rd value : ℕ) → Machine → Outcome
+done_with rd v m = Done (record m { hart = with_result rd v m.hart }) [] Other
 
 -- the instruction retires, and does nothing else
-abbrev pub passes : Machine → Outcome
-passes m = Done (record m { hart = passed m.hart }) [] Other
+abbrev pub done : Machine → Outcome
+done m = Done (record m { hart = at_next m.hart }) [] Other

@@ -28,37 +28,51 @@ fetched_outcome (Some w) m = decoded_outcome w (decoded w) m
 fetched_outcome None m = Traps InstructionAccessFault m.hart.pc
 
 abbrev pub execute : Machine → Outcome
-execute m = fetched_outcome (ram_load 4 m.hart.pc m.reach.bytes) m
+execute m = fetched_outcome (ram_load 4 m.hart.pc m.shared.bytes) m
 
 -- the machine in the handler of a trap (Privileged ISA, "Machine Trap-Vector Base-Address (mtvec) Register")
-abbrev pub trapped : Cause → (value : ℕ) → Machine → Machine
-trapped c v m =
+abbrev pub in_handler : Cause → (value : ℕ) → Machine → Machine
+in_handler c v m =
     record m {
       hart = record m.hart { pc = trap_target c m.hart.csrs; csrs = trap_entered c v m.hart.pc m.hart.csrs };
     }
 
--- the counters after a step: which of mcycle, minstret and mtime rise
-abbrev pub counts : (cycle instret time : Bool) → Machine → Machine
-counts cycle instret time m =
-    record {
-      hart = record m.hart { csrs = ticked cycle instret m.hart.csrs };
-      reach = record m.reach { devices = record m.reach.devices { mtime = counted time m.reach.devices.mtime } };
-    }
+-- which counters rise with a step
+pub record Ticks : Type 0 where
+  pub mcycle : Bool
+  pub minstret : Bool
+  pub mtime : Bool
+
+-- where an instruction retired, all of them
+abbrev pub all_tick : Ticks
+all_tick = record { mcycle = true; minstret = true; mtime = true }
+
+-- where none retired
+abbrev pub none_retired : Ticks
+none_retired = record all_tick { minstret = false }
 
 -- a counter of which the instruction wrote a half does not rise
-abbrev pub counts_retired : Written → Machine → Machine
-counts_retired Other m = counts true true true m
-counts_retired (Halt s) m = counts true true true m
-counts_retired Mcycle m = counts false true true m
-counts_retired Minstret m = counts true false true m
-counts_retired Mtime m = counts true true false m
+abbrev pub ticks_of : Written → Ticks
+ticks_of Other = all_tick
+ticks_of (Halt s) = all_tick
+ticks_of Mcycle = record all_tick { mcycle = false }
+ticks_of Minstret = none_retired
+ticks_of Mtime = record all_tick { mtime = false }
 
-abbrev pub answer_of : Written → Stepped
-answer_of Other = Retired
-answer_of Mcycle = Retired
-answer_of Minstret = Retired
-answer_of Mtime = Retired
-answer_of (Halt s) = Halted s
+-- the machine with these counters risen
+abbrev pub after_ticks : Ticks → Machine → Machine
+after_ticks t m =
+    record {
+      hart = record m.hart { csrs = ticked t.mcycle t.minstret m.hart.csrs };
+      shared = record m.shared { devices = record m.shared.devices { mtime = counted t.mtime m.shared.devices.mtime } };
+    }
+
+abbrev pub step_answer : Written → Stepped
+step_answer Other = Retired
+step_answer Mcycle = Retired
+step_answer Minstret = Retired
+step_answer Mtime = Retired
+step_answer (Halt s) = Halted s
 
 -- what a step leaves, the pages that it wrote, and its answer
 pub record After : Type 0 where
@@ -66,33 +80,33 @@ pub record After : Type 0 where
   pub pages : List ℕ
   pub answer : Stepped
 
--- a trap was entered: mcycle and mtime rise
-abbrev pub in_handler : Cause → (value : ℕ) → Stepped → Machine → After
-in_handler c v answer m = record { machine = counts true false true (trapped c v m); pages = []; answer = answer }
+-- a trap was entered
+abbrev pub after_trap : Cause → (value : ℕ) → Stepped → Machine → After
+after_trap c v answer m = record { machine = after_ticks none_retired (in_handler c v m); pages = []; answer = answer }
 
-abbrev pub settled : Outcome → Machine → After
-settled (Done after pages wrote) m =
-    record { machine = counts_retired wrote after; pages = pages; answer = answer_of wrote }
-settled (Traps e v) m = in_handler (cause.Exception e) v (Trapped e) m
+abbrev pub after_outcome : Outcome → Machine → After
+after_outcome (Done after pages wrote) m =
+    record { machine = after_ticks (ticks_of wrote) after; pages = pages; answer = step_answer wrote }
+after_outcome (Traps e v) m = after_trap (cause.Exception e) v (Trapped e) m
 
 -- a hart and its bus took the step that ends an instruction whose outcome is a function of the machine: the machine
 -- that is left, the pages in the dirty log, the answer
 pub record Executes (instruction : Machine → Outcome) (old : HartState) (old_bus : BusState) (new : HartState)
     (new_bus : BusState) (said : Stepped) : Type 0 where
-  pub left : machine new new_bus ≡ (settled (instruction (machine old old_bus)) (machine old old_bus)).machine
+  pub left : machine new new_bus ≡ (after_outcome (instruction (machine old old_bus)) (machine old old_bus)).machine
   pub dirty : new_bus.dirty
-      ≡ mark_all (settled (instruction (machine old old_bus)) (machine old old_bus)).pages old_bus.dirty
-  pub answer : said ≡ (settled (instruction (machine old old_bus)) (machine old old_bus)).answer
+      ≡ mark_all (after_outcome (instruction (machine old old_bus)) (machine old old_bus)).pages old_bus.dirty
+  pub answer : said ≡ (after_outcome (instruction (machine old old_bus)) (machine old old_bus)).answer
 
 -- an interrupt that is pending is taken before an instruction runs
 abbrev pub unless_pending : Option Interrupt → Machine → After
-unless_pending (Some i) m = in_handler (cause.Interrupt i) 0 (Interrupted i) m
-unless_pending None m = settled (execute m) m
+unless_pending (Some i) m = after_trap (cause.Interrupt i) 0 (Interrupted i) m
+unless_pending None m = after_outcome (execute m) m
 
 -- a halted board stays as it is
 abbrev pub unless_halted : Option ℕ → Machine → After
 unless_halted (Some s) m = record { machine = m; pages = []; answer = Halted s }
-unless_halted None m = unless_pending (pending (mip_of (number_of m) m.reach.devices) m.hart.csrs) m
+unless_halted None m = unless_pending (pending (mip_of (number_of m) m.shared.devices) m.hart.csrs) m
 
 abbrev pub step : Machine → After
-step m = unless_halted m.reach.devices.halted m
+step m = unless_halted m.shared.devices.halted m

@@ -4,7 +4,7 @@
 ghost use Rattle.std.specs.Prelude.{◌≡◌};
 ghost use Rattle.rvm_word.specs.Word.{modulo};
 ghost use Rattle.rvm_hart.specs.Outcome.{reg};
-ghost use Rattle.rvm_hart.specs.Rooms.{computes, value_of};
+ghost use Rattle.rvm_hart.specs.Kinds.{arithmetic, value_of};
 ghost use Rattle.rvm_hart.specs.Step.{Executes};
 
 use crate::bus::Bus;
@@ -77,10 +77,10 @@ impl Hart {
         rs2: Reg,
         bus: &mut Bus<M>,
     ) -> Stepped
-        ensures { Executes (computes operation rd (reg rs1 self.old) (reg rs2 self.old))
+        ensures { Executes (arithmetic operation rd (reg rs1 self.old) (reg rs2 self.old))
             self.old bus.old self.new bus.new result }
     {
-        self.give(rd, operation.of(self.get(rs1), self.get(rs2)));
+        self.set_result(rd, operation.of(self.get(rs1), self.get(rs2)));
         self.retire(bus)
     }
 
@@ -94,10 +94,10 @@ impl Hart {
         imm: Imm12,
         bus: &mut Bus<M>,
     ) -> Stepped
-        ensures { Executes (computes operation rd (reg rs1 self.old) (modulo 32 imm))
+        ensures { Executes (arithmetic operation rd (reg rs1 self.old) (modulo 32 imm))
             self.old bus.old self.new bus.new result }
     {
-        self.give(rd, operation.of(self.get(rs1), imm.word()));
+        self.set_result(rd, operation.of(self.get(rs1), imm.word()));
         self.retire(bus)
     }
 
@@ -111,10 +111,10 @@ impl Hart {
         amount: Shamt,
         bus: &mut Bus<M>,
     ) -> Stepped
-        ensures { Executes (computes operation rd (reg rs1 self.old) amount)
+        ensures { Executes (arithmetic operation rd (reg rs1 self.old) amount)
             self.old bus.old self.new bus.new result }
     {
-        self.give(rd, operation.of(self.get(rs1), amount.bits()));
+        self.set_result(rd, operation.of(self.get(rs1), amount.bits()));
         self.retire(bus)
     }
 }

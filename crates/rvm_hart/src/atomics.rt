@@ -4,7 +4,7 @@
 ghost use Rattle.std.specs.Prelude.{◌≡◌, ◌<◌, length};
 ghost use Rattle.rvm_hart.specs.Machine.{machine};
 ghost use Rattle.rvm_hart.specs.Outcome.{reg};
-ghost use Rattle.rvm_hart.specs.Rooms.{combined, operates, reserves, stores_conditionally};
+ghost use Rattle.rvm_hart.specs.Kinds.{atomic_value, atomic, load_reserved, store_conditional};
 ghost use Rattle.rvm_hart.specs.Step.{Executes};
 
 use crate::bus::Bus;
@@ -33,7 +33,7 @@ impl Amo {
     /// The new word.
     #[inline]
     fn of(self, old: u32, source: u32) -> u32
-        ensures { result ≡ combined self old source }
+        ensures { result ≡ atomic_value self old source }
     {
         match self {
             Amo::Swap => source,
@@ -66,8 +66,8 @@ impl Hart {
         rs1: Reg,
         bus: &mut Bus<M>,
     ) -> Stepped
-        requires { self.old.csrs.hart < length bus.old.reach.reservations }
-        ensures { Executes (reserves rd (reg rs1 self.old)) self.old bus.old self.new bus.new result }
+        requires { self.old.csrs.hart < length bus.old.shared.reservations }
+        ensures { Executes (load_reserved rd (reg rs1 self.old)) self.old bus.old self.new bus.new result }
     {
         let address = self.get(rs1);
         if address % 4 != 0 {
@@ -76,7 +76,7 @@ impl Hart {
         match bus.ram_load32(address) {
             Some(value) => {
                 bus.hold(self.csrs.hart(), address);
-                self.give(rd, value);
+                self.set_result(rd, value);
                 self.retire(bus)
             }
             None => self.trap(Exception::LoadAccessFault, address, bus),
@@ -93,8 +93,8 @@ impl Hart {
         rs2: Reg,
         bus: &mut Bus<M>,
     ) -> Stepped
-        requires { self.old.csrs.hart < length bus.old.reach.reservations }
-        ensures { Executes (stores_conditionally rd (reg rs1 self.old) (reg rs2 self.old))
+        requires { self.old.csrs.hart < length bus.old.shared.reservations }
+        ensures { Executes (store_conditional rd (reg rs1 self.old) (reg rs2 self.old))
             self.old bus.old self.new bus.new result }
     {
         let address = self.get(rs1);
@@ -107,10 +107,10 @@ impl Hart {
         let hart = self.csrs.hart();
         let value = self.get(rs2);
         if !bus.take(hart, address) {
-            self.give(rd, 1);
+            self.set_result(rd, 1);
             return self.retire(bus);
         }
-        self.give(rd, 0);
+        self.set_result(rd, 0);
         let retired = self.retire(bus);
         let _ = bus.ram_store32(hart, address, value);
         retired
@@ -126,8 +126,8 @@ impl Hart {
         rs2: Reg,
         bus: &mut Bus<M>,
     ) -> Stepped
-        requires { self.old.csrs.hart < length bus.old.reach.reservations }
-        ensures { Executes (operates operation rd (reg rs1 self.old) (reg rs2 self.old))
+        requires { self.old.csrs.hart < length bus.old.shared.reservations }
+        ensures { Executes (atomic operation rd (reg rs1 self.old) (reg rs2 self.old))
             self.old bus.old self.new bus.new result }
     {
         let address = self.get(rs1);
@@ -146,8 +146,8 @@ impl Hart {
         source: u32,
         bus: &mut Bus<M>,
     ) -> Stepped
-        requires { self.old.csrs.hart < length bus.old.reach.reservations }
-        ensures { Executes (operates operation rd address source)
+        requires { self.old.csrs.hart < length bus.old.shared.reservations }
+        ensures { Executes (atomic operation rd address source)
             self.old bus.old self.new bus.new result }
     {
         if address % 4 != 0 {
@@ -155,7 +155,7 @@ impl Hart {
         }
         match bus.ram_load32(address) {
             Some(old) => {
-                self.give(rd, old);
+                self.set_result(rd, old);
                 let retired = self.retire(bus);
                 let _ = bus.ram_store32(self.csrs.hart(), address, operation.of(old, source));
                 retired

@@ -39,7 +39,7 @@ impl<M: Memory> Model for Bus<M> {
     ghost Value = { BusState };
 
     ghost view = { λ b. record {
-      reach = record { bytes = M.bytes b.ram; devices = b.devices; reservations = b.reservations };
+      shared = record { bytes = M.bytes b.ram; devices = b.devices; reservations = b.reservations };
       dirty = M.dirty b.ram;
     } };
 
@@ -51,7 +51,7 @@ impl<M: Memory> Bus<M> {
     pub fn new(ram: M, devices: Devices, reservations: Reservations) -> Bus<M>
         requires { are_in_ram (length (M.bytes ram)) reservations ≡ true }
         ensures { result ≡ record {
-          reach = record { bytes = M.bytes ram; devices = devices; reservations = reservations };
+          shared = record { bytes = M.bytes ram; devices = devices; reservations = reservations };
           dirty = M.dirty ram;
         } }
     {
@@ -64,16 +64,16 @@ impl<M: Memory> Bus<M> {
 
     /// The devices.
     pub fn devices(&self) -> &Devices
-        ensures { result.now ≡ self.now.reach.devices }
+        ensures { result.now ≡ self.now.shared.devices }
     {
         &self.devices
     }
 
     /// The word that a hart has reserved, if any.
     pub fn reserved(&self, hart: u32) -> Option<u32>
-        requires { hart < length self.now.reach.reservations }
-        ensures word { result ≡ get_or self.now.reach.reservations hart None }
-        ensures in_ram { is_in_ram (length self.now.reach.bytes) result ≡ true }
+        requires { hart < length self.now.shared.reservations }
+        ensures word { result ≡ get_or self.now.shared.reservations hart None }
+        ensures in_ram { is_in_ram (length self.now.shared.bytes) result ≡ true }
     {
         self.reservations.reserved(hart as usize)
     }
@@ -82,17 +82,17 @@ impl<M: Memory> Bus<M> {
     pub fn restore(&mut self, fields: DeviceFields, input: &[u8], output: &[u8])
         requires input { length input.now ≤ 16 }
         requires output { length output.now ≤ 4096 }
-        ensures { self.new ≡ with_devices (restored fields input.now output.now self.old.reach.devices) self.old }
+        ensures { self.new ≡ with_devices (restored fields input.now output.now self.old.shared.devices) self.old }
     {
         self.devices.restore(fields, input, output);
     }
 
     /// Sets what the devices keep of a hart, and its reservation.
     pub fn restore_hart(&mut self, hart: u32, msip: bool, mtimecmp: u64, reserved: Option<u32>)
-        requires reservations { hart < length self.old.reach.reservations }
-        requires devices { hart < length self.old.reach.devices.msip }
-        requires in_ram { is_in_ram (length self.old.reach.bytes) reserved ≡ true }
-        ensures { self.new ≡ record self.old { reach = hart_restored hart msip mtimecmp reserved self.old.reach } }
+        requires reservations { hart < length self.old.shared.reservations }
+        requires devices { hart < length self.old.shared.devices.msip }
+        requires in_ram { is_in_ram (length self.old.shared.bytes) reserved ≡ true }
+        ensures { self.new ≡ record self.old { shared = hart_restored hart msip mtimecmp reserved self.old.shared } }
     {
         self.devices.restore_hart(hart, msip, mtimecmp);
         self.reservations.restore(hart as usize, reserved);
@@ -101,7 +101,7 @@ impl<M: Memory> Bus<M> {
     /// The status that the board was halted with, if it was.
     #[inline(always)]
     pub fn halted(&self) -> Option<u8>
-        ensures { result ≡ self.now.reach.devices.halted }
+        ensures { result ≡ self.now.shared.devices.halted }
     {
         self.devices.halted()
     }
@@ -109,8 +109,8 @@ impl<M: Memory> Bus<M> {
     /// The interrupts that are pending at a hart, as `mip` has them.
     #[inline(always)]
     pub fn interrupts(&self, hart: u32) -> Interrupts
-        requires { hart < length self.now.reach.devices.msip }
-        ensures { result ≡ mip_of hart self.now.reach.devices }
+        requires { hart < length self.now.shared.devices.msip }
+        ensures { result ≡ mip_of hart self.now.shared.devices }
     {
         Interrupts {
             software: self.devices.software_is_pending(hart),
@@ -122,7 +122,7 @@ impl<M: Memory> Bus<M> {
     /// The time is one step later.
     #[inline(always)]
     pub fn tick(&mut self)
-        ensures { self.new ≡ with_devices (record self.old.reach.devices { mtime = (self.old.reach.devices.mtime + 1) % 2 ^ 64 })
+        ensures { self.new ≡ with_devices (record self.old.shared.devices { mtime = (self.old.shared.devices.mtime + 1) % 2 ^ 64 })
             self.old }
     {
         self.devices.tick();
@@ -131,8 +131,8 @@ impl<M: Memory> Bus<M> {
     /// A byte comes to the console; `InputFull`, and nothing changes, where 16 wait.
     pub fn input(&mut self, byte: u8) -> Result<(), InputFull>
         ensures taken { OnOk result (self.new ≡ with_devices
-            (record self.old.reach.devices { input = self.old.reach.devices.input ++ byte ∷ [] }) self.old) }
-        ensures full { IsErr result ↔ (length self.old.reach.devices.input ≡ 16) }
+            (record self.old.shared.devices { input = self.old.shared.devices.input ++ byte ∷ [] }) self.old) }
+        ensures full { IsErr result ↔ (length self.old.shared.devices.input ≡ 16) }
         ensures err { OnErr result (self.new ≡ self.old) }
     {
         self.devices.input(byte)
@@ -140,11 +140,11 @@ impl<M: Memory> Bus<M> {
 
     /// Takes the oldest bytes that the guest sent, as many as there are and fit, and says how many.
     pub fn drain(&mut self, bytes: &mut [u8]) -> usize
-        ensures count { result ≡ min (length bytes.old) (length self.old.reach.devices.output) }
+        ensures count { result ≡ min (length bytes.old) (length self.old.shared.devices.output) }
         ensures bytes { bytes.new
-            ≡ take result self.old.reach.devices.output ++ drop result bytes.old }
+            ≡ take result self.old.shared.devices.output ++ drop result bytes.old }
         ensures bus { self.new ≡ with_devices
-            (record self.old.reach.devices { output = drop result self.old.reach.devices.output }) self.old }
+            (record self.old.shared.devices { output = drop result self.old.shared.devices.output }) self.old }
     {
         self.devices.drain(bytes)
     }
@@ -152,7 +152,7 @@ impl<M: Memory> Bus<M> {
     /// How many bytes wait for the console.
     #[inline(always)]
     pub fn waiting(&self) -> usize
-        ensures { result ≡ length self.now.reach.devices.output }
+        ensures { result ≡ length self.now.shared.devices.output }
     {
         self.devices.waiting()
     }
@@ -160,7 +160,7 @@ impl<M: Memory> Bus<M> {
     /// The byte of RAM at an address.
     #[inline(always)]
     pub fn ram_load8(&self, address: u32) -> Option<u8>
-        ensures { result ≡ ram_load 1 address self.now.reach.bytes }
+        ensures { result ≡ ram_load 1 address self.now.shared.bytes }
     {
         let at = address.wrapping_sub(RAM_BASE);
         if at < self.ram.len() {
@@ -174,7 +174,7 @@ impl<M: Memory> Bus<M> {
     #[inline(always)]
     pub fn ram_load16(&self, address: u32) -> Option<u16>
         requires { address % 2 ≡ 0 }
-        ensures { result ≡ ram_load 2 address self.now.reach.bytes }
+        ensures { result ≡ ram_load 2 address self.now.shared.bytes }
     {
         let at = address.wrapping_sub(RAM_BASE);
         if at < self.ram.len() {
@@ -188,7 +188,7 @@ impl<M: Memory> Bus<M> {
     #[inline(always)]
     pub fn ram_load32(&self, address: u32) -> Option<u32>
         requires { address % 4 ≡ 0 }
-        ensures { result ≡ ram_load 4 address self.now.reach.bytes }
+        ensures { result ≡ ram_load 4 address self.now.shared.bytes }
     {
         let at = address.wrapping_sub(RAM_BASE);
         if at < self.ram.len() {
@@ -202,8 +202,8 @@ impl<M: Memory> Bus<M> {
     #[inline(always)]
     pub fn load32(&mut self, address: u32) -> Option<u32>
         requires { address % 4 ≡ 0 }
-        ensures value { result ≡ word_loaded address self.old.reach }
-        ensures bus { self.new ≡ record self.old { reach = after_word_load address self.old.reach } }
+        ensures value { result ≡ word_loaded address self.old.shared }
+        ensures bus { self.new ≡ record self.old { shared = after_word_load address self.old.shared } }
         ensures none { IfNone result (self.new ≡ self.old) }
     {
         let at = address.wrapping_sub(RAM_BASE);
@@ -217,9 +217,9 @@ impl<M: Memory> Bus<M> {
     /// Hart `hart` stores a byte of RAM. None, and nothing changes, where there is no RAM.
     #[inline(always)]
     pub fn ram_store8(&mut self, hart: u32, address: u32, value: u8) -> bool
-        requires { hart < length self.old.reach.reservations }
-        ensures bus { self.new ≡ left_by (ram_stored 1 hart address value self.old.reach) self.old }
-        ensures stored { result ≡ is_some (ram_stored 1 hart address value self.old.reach) }
+        requires { hart < length self.old.shared.reservations }
+        ensures bus { self.new ≡ left_by (ram_stored 1 hart address value self.old.shared) self.old }
+        ensures stored { result ≡ is_some (ram_stored 1 hart address value self.old.shared) }
     {
         let at = address.wrapping_sub(RAM_BASE);
         if at < self.ram.len() {
@@ -235,9 +235,9 @@ impl<M: Memory> Bus<M> {
     #[inline(always)]
     pub fn ram_store16(&mut self, hart: u32, address: u32, value: u16) -> bool
         requires aligned { address % 2 ≡ 0 }
-        requires hart { hart < length self.old.reach.reservations }
-        ensures bus { self.new ≡ left_by (ram_stored 2 hart address value self.old.reach) self.old }
-        ensures stored { result ≡ is_some (ram_stored 2 hart address value self.old.reach) }
+        requires hart { hart < length self.old.shared.reservations }
+        ensures bus { self.new ≡ left_by (ram_stored 2 hart address value self.old.shared) self.old }
+        ensures stored { result ≡ is_some (ram_stored 2 hart address value self.old.shared) }
     {
         let at = address.wrapping_sub(RAM_BASE);
         if at < self.ram.len() {
@@ -253,9 +253,9 @@ impl<M: Memory> Bus<M> {
     #[inline(always)]
     pub fn ram_store32(&mut self, hart: u32, address: u32, value: u32) -> bool
         requires aligned { address % 4 ≡ 0 }
-        requires hart { hart < length self.old.reach.reservations }
-        ensures bus { self.new ≡ left_by (ram_stored 4 hart address value self.old.reach) self.old }
-        ensures stored { result ≡ is_some (ram_stored 4 hart address value self.old.reach) }
+        requires hart { hart < length self.old.shared.reservations }
+        ensures bus { self.new ≡ left_by (ram_stored 4 hart address value self.old.shared) self.old }
+        ensures stored { result ≡ is_some (ram_stored 4 hart address value self.old.shared) }
     {
         let at = address.wrapping_sub(RAM_BASE);
         if at < self.ram.len() {
@@ -271,9 +271,9 @@ impl<M: Memory> Bus<M> {
     #[inline(always)]
     pub fn store32(&mut self, hart: u32, address: u32, value: u32) -> Option<Written>
         requires aligned { address % 4 ≡ 0 }
-        requires hart { hart < length self.old.reach.reservations }
-        ensures bus { self.new ≡ left_by (word_stored hart address value self.old.reach) self.old }
-        ensures wrote { result ≡ wrote_by (word_stored hart address value self.old.reach) }
+        requires hart { hart < length self.old.shared.reservations }
+        ensures bus { self.new ≡ left_by (word_stored hart address value self.old.shared) self.old }
+        ensures wrote { result ≡ wrote_by (word_stored hart address value self.old.shared) }
     {
         let at = address.wrapping_sub(RAM_BASE);
         if at < self.ram.len() {
@@ -289,9 +289,9 @@ impl<M: Memory> Bus<M> {
     /// in RAM.
     pub fn read(&self, address: u32, bytes: &mut [u8]) -> Result<(), OutOfRange>
         ensures read { OnOk result (bytes.new
-            ≡ slice (length bytes.old) (address - ram_base) self.now.reach.bytes) }
+            ≡ slice (length bytes.old) (address - ram_base) self.now.shared.bytes) }
         ensures out { IsErr result
-            ↔ (in_ram (length bytes.old) address self.now.reach.bytes ≡ false) }
+            ↔ (in_ram (length bytes.old) address self.now.shared.bytes ≡ false) }
         ensures err { OnErr result (bytes.new ≡ bytes.old) }
     {
         if address < RAM_BASE || address - RAM_BASE > self.ram.len() {
@@ -306,7 +306,7 @@ impl<M: Memory> Bus<M> {
     pub fn poke(&mut self, address: u32, bytes: &[u8]) -> Result<(), OutOfRange>
         ensures poked { OnOk result (self.new ≡ bus_poked address bytes.now self.old) }
         ensures out { IsErr result
-            ↔ (in_ram (length bytes.now) address self.old.reach.bytes ≡ false) }
+            ↔ (in_ram (length bytes.now) address self.old.shared.bytes ≡ false) }
         ensures err { OnErr result (self.new ≡ self.old) }
     {
         if address < RAM_BASE || address - RAM_BASE > self.ram.len() {
@@ -319,7 +319,7 @@ impl<M: Memory> Bus<M> {
 
     /// How many bytes RAM has: whole pages, at most 4096 of them.
     pub fn ram_size(&self) -> u32
-        ensures bytes { result ≡ length self.now.reach.bytes }
+        ensures bytes { result ≡ length self.now.shared.bytes }
         ensures pages { result ≡ 4096 * length self.now.dirty }
         ensures bound { result ≤ 2 ^ 24 }
     {
@@ -338,8 +338,8 @@ impl<M: Memory> Bus<M> {
     #[cold]
     #[inline(never)]
     fn store_device(&mut self, address: u32, value: u32) -> Option<Written>
-        ensures bus { self.new ≡ left_by (device_stored address value self.old.reach) self.old }
-        ensures wrote { result ≡ wrote_by (device_stored address value self.old.reach) }
+        ensures bus { self.new ≡ left_by (device_stored address value self.old.shared) self.old }
+        ensures wrote { result ≡ wrote_by (device_stored address value self.old.shared) }
     {
         self.devices.store(address, value)?;
         Some(written_by(address, value))
@@ -348,19 +348,19 @@ impl<M: Memory> Bus<M> {
     /// Reserves the aligned word of RAM at an address for a hart.
     #[inline(always)]
     pub fn hold(&mut self, hart: u32, address: u32)
-        requires hart { hart < length self.old.reach.reservations }
-        requires word { is_ram_word (length self.old.reach.bytes) address ≡ true }
-        ensures { self.new ≡ with_reservations (res.held hart address self.old.reach.reservations) self.old }
+        requires hart { hart < length self.old.shared.reservations }
+        requires word { is_ram_word (length self.old.shared.bytes) address ≡ true }
+        ensures { self.new ≡ with_reservations (res.held hart address self.old.shared.reservations) self.old }
     {
         self.reservations.hold(hart as usize, address);
     }
 
-    /// Executes a hart's reservation, and answers whether it was of the word at an address.
+    /// Ends a hart's reservation, and answers whether it was of the word at an address.
     #[inline(always)]
     pub fn take(&mut self, hart: u32, address: u32) -> bool
-        requires { hart < length self.old.reach.reservations }
-        ensures bus { self.new ≡ with_reservations (res.taken hart self.old.reach.reservations) self.old }
-        ensures takes { result ≡ res.takes hart address self.old.reach.reservations }
+        requires { hart < length self.old.shared.reservations }
+        ensures bus { self.new ≡ with_reservations (res.released hart self.old.shared.reservations) self.old }
+        ensures takes { result ≡ res.holds hart address self.old.shared.reservations }
     {
         self.reservations.take(hart as usize, address)
     }
@@ -377,7 +377,7 @@ fn written_by(address: u32, value: u32) -> Written
     }
 }
 
-/// Executes the reservations of the words of so many bytes from an address on.
+/// Ends the reservations of the words of so many bytes from an address on.
 fn poke_each(reservations: &mut Reservations, address: u32, count: usize)
     requires { address + count ≤ 2 ^ 32 }
     ensures { reservations.new ≡ poked_each address count reservations.old }

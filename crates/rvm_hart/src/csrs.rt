@@ -5,7 +5,7 @@ ghost use Rattle.rvm_csr.specs.Table.{value_of};
 ghost use Rattle.rvm_hart.specs.Bus.{mip_of};
 ghost use Rattle.rvm_hart.specs.Machine.{machine};
 ghost use Rattle.rvm_hart.specs.Outcome.{reg};
-ghost use Rattle.rvm_hart.specs.Rooms.{accesses, changed, changes_csr, reads_csr, writes, wrote_csr};
+ghost use Rattle.rvm_hart.specs.Kinds.{access_csr, changed_value, change_csr, read_csr, writes, wrote_csr};
 ghost use Rattle.rvm_hart.specs.Step.{Executes};
 ghost use Rattle.rvm_hart.specs.declared.csrs.CsrChange.TheVariants.{Clear, Set, Write};
 
@@ -31,7 +31,7 @@ impl CsrChange {
     /// The new value.
     #[inline]
     fn of(self, old: u32, source: u32) -> u32
-        ensures { result ≡ changed self old source }
+        ensures { result ≡ changed_value self old source }
     {
         match self {
             CsrChange::Write => source,
@@ -79,8 +79,8 @@ impl Hart {
         csr: CsrNo,
         bus: &mut Bus<M>,
     ) -> Stepped
-        requires { self.old.csrs.hart < length bus.old.reach.devices.msip }
-        ensures { Executes (accesses word rd csr change rs1 (reg rs1 self.old))
+        requires { self.old.csrs.hart < length bus.old.shared.devices.msip }
+        ensures { Executes (access_csr word rd csr change rs1 (reg rs1 self.old))
             self.old bus.old self.new bus.new result }
     {
         let source = self.get(rs1);
@@ -98,8 +98,8 @@ impl Hart {
         csr: CsrNo,
         bus: &mut Bus<M>,
     ) -> Stepped
-        requires { self.old.csrs.hart < length bus.old.reach.devices.msip }
-        ensures { Executes (accesses word rd csr change imm imm)
+        requires { self.old.csrs.hart < length bus.old.shared.devices.msip }
+        ensures { Executes (access_csr word rd csr change imm imm)
             self.old bus.old self.new bus.new result }
     {
         self.access_csr(word, change, rd, imm.bits(), imm.bits(), csr, bus)
@@ -117,8 +117,8 @@ impl Hart {
         csr: CsrNo,
         bus: &mut Bus<M>,
     ) -> Stepped
-        requires { self.old.csrs.hart < length bus.old.reach.devices.msip }
-        ensures { Executes (accesses word rd csr change field source)
+        requires { self.old.csrs.hart < length bus.old.shared.devices.msip }
+        ensures { Executes (access_csr word rd csr change field source)
             self.old bus.old self.new bus.new result }
     {
         if !change.writes(field) {
@@ -134,22 +134,22 @@ impl Hart {
     /// Only reads a register into rd.
     #[inline(never)]
     fn read_csr<M: Memory>(&mut self, rd: Reg, csr: CsrNo, bus: &mut Bus<M>, word: u32) -> Stepped
-        requires { self.old.csrs.hart < length bus.old.reach.devices.msip }
-        ensures { Executes (reads_csr word rd csr) self.old bus.old self.new bus.new result }
+        requires { self.old.csrs.hart < length bus.old.shared.devices.msip }
+        ensures { Executes (read_csr word rd csr) self.old bus.old self.new bus.new result }
     {
         let Some(register) = Csr::at(csr.bits()) else {
             return self.trap(Exception::IllegalInstruction, word, bus);
         };
         let value = self.csr_value(register, bus);
-        self.give(rd, value);
+        self.set_result(rd, value);
         self.retire(bus)
     }
 
     /// The value of a register.
     #[inline(always)]
     fn csr_value<M: Memory>(&self, register: Csr, bus: &Bus<M>) -> u32
-        requires { self.now.csrs.hart < length bus.now.reach.devices.msip }
-        ensures { result ≡ value_of register (mip_of self.now.csrs.hart bus.now.reach.devices) self.now.csrs }
+        requires { self.now.csrs.hart < length bus.now.shared.devices.msip }
+        ensures { result ≡ value_of register (mip_of self.now.csrs.hart bus.now.shared.devices) self.now.csrs }
     {
         let pending = bus.interrupts(self.csrs.hart());
         self.csrs.value_of(register, pending)
@@ -165,8 +165,8 @@ impl Hart {
         bus: &mut Bus<M>,
         word: u32,
     ) -> Stepped
-        requires { self.old.csrs.hart < length bus.old.reach.devices.msip }
-        ensures { Executes (changes_csr word rd csr Write source)
+        requires { self.old.csrs.hart < length bus.old.shared.devices.msip }
+        ensures { Executes (change_csr word rd csr Write source)
             self.old bus.old self.new bus.new result }
     {
         self.exchange_csr(CsrChange::Write, rd, source, csr, bus, word)
@@ -182,8 +182,8 @@ impl Hart {
         bus: &mut Bus<M>,
         word: u32,
     ) -> Stepped
-        requires { self.old.csrs.hart < length bus.old.reach.devices.msip }
-        ensures { Executes (changes_csr word rd csr Set source)
+        requires { self.old.csrs.hart < length bus.old.shared.devices.msip }
+        ensures { Executes (change_csr word rd csr Set source)
             self.old bus.old self.new bus.new result }
     {
         self.exchange_csr(CsrChange::Set, rd, source, csr, bus, word)
@@ -199,8 +199,8 @@ impl Hart {
         bus: &mut Bus<M>,
         word: u32,
     ) -> Stepped
-        requires { self.old.csrs.hart < length bus.old.reach.devices.msip }
-        ensures { Executes (changes_csr word rd csr Clear source)
+        requires { self.old.csrs.hart < length bus.old.shared.devices.msip }
+        ensures { Executes (change_csr word rd csr Clear source)
             self.old bus.old self.new bus.new result }
     {
         self.exchange_csr(CsrChange::Clear, rd, source, csr, bus, word)
@@ -218,8 +218,8 @@ impl Hart {
         bus: &mut Bus<M>,
         word: u32,
     ) -> Stepped
-        requires { self.old.csrs.hart < length bus.old.reach.devices.msip }
-        ensures { Executes (changes_csr word rd csr change source)
+        requires { self.old.csrs.hart < length bus.old.shared.devices.msip }
+        ensures { Executes (change_csr word rd csr change source)
             self.old bus.old self.new bus.new result }
     {
         let number = csr.bits();
@@ -231,7 +231,7 @@ impl Hart {
         };
         let old = self.csr_value(register, bus);
         self.csrs.set(register, change.of(old, source));
-        self.give(rd, old);
+        self.set_result(rd, old);
         match written_by(number) {
             Written::Other => self.retire(bus),
             counter => self.retire_after(counter, bus),

@@ -4,8 +4,8 @@ ghost use Rattle.std.specs.Prelude.{◌≡◌, ◌%◌, ◌<◌, length, drop, r
 ghost use Rattle.rvm_csr.specs.Registers.{at_reset};
 ghost use Rattle.rvm_csr.specs.Traps.{trap_left};
 ghost use Rattle.rvm_hart.specs.Machine.{HartState};
-ghost use Rattle.rvm_hart.specs.Outcome.{reg, given, passed};
-ghost use Rattle.rvm_hart.specs.Rooms.{sum};
+ghost use Rattle.rvm_hart.specs.Outcome.{reg, with_result, at_next};
+ghost use Rattle.rvm_hart.specs.Kinds.{sum};
 ghost use Rattle.rvm_hart.specs.Pokes.{register_poked};
 ghost use Rattle.rvm_hart.specs.Fields.{CanBeHeld, fields_of, with_number};
 
@@ -116,8 +116,8 @@ impl Hart {
 
     /// Writes a register, and goes on to the next instruction.
     #[inline(always)]
-    pub(crate) fn give(&mut self, rd: Reg, value: u32)
-        ensures { self.new ≡ given rd value self.old }
+    pub(crate) fn set_result(&mut self, rd: Reg, value: u32)
+        ensures { self.new ≡ with_result rd value self.old }
     {
         self.regs[rd.index()] = value;
         self.regs[0] = 0;
@@ -126,8 +126,8 @@ impl Hart {
 
     /// Goes on to the next instruction.
     #[inline(always)]
-    pub(crate) fn pass(&mut self)
-        ensures { self.new ≡ passed self.old }
+    pub(crate) fn advance(&mut self)
+        ensures { self.new ≡ at_next self.old }
     {
         self.pc = self.pc.wrapping_add(4);
     }

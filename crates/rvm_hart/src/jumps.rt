@@ -2,7 +2,7 @@
 
 ghost use Rattle.std.specs.Prelude.{◌≡◌};
 ghost use Rattle.rvm_hart.specs.Outcome.{reg};
-ghost use Rattle.rvm_hart.specs.Rooms.{branches, sum, even, holds, jumps};
+ghost use Rattle.rvm_hart.specs.Kinds.{branch, sum, even, holds, jump};
 ghost use Rattle.rvm_hart.specs.Step.{Executes};
 
 use crate::bus::Bus;
@@ -45,12 +45,12 @@ impl Hart {
     /// Goes to an address, with that of the next instruction in rd.
     #[inline]
     pub(crate) fn jump<M: Memory>(&mut self, rd: Reg, target: u32, bus: &mut Bus<M>) -> Stepped
-        ensures { Executes (jumps rd target) self.old bus.old self.new bus.new result }
+        ensures { Executes (jump rd target) self.old bus.old self.new bus.new result }
     {
         if target % 4 != 0 {
             return self.trap(Exception::InstructionAddressMisaligned, target, bus);
         }
-        self.give(rd, self.pc.wrapping_add(4));
+        self.set_result(rd, self.pc.wrapping_add(4));
         self.pc = target;
         self.retire(bus)
     }
@@ -63,7 +63,7 @@ impl Hart {
         offset: Off21,
         bus: &mut Bus<M>,
     ) -> Stepped
-        ensures { Executes (jumps rd (sum self.old.pc offset)) self.old bus.old self.new bus.new result }
+        ensures { Executes (jump rd (sum self.old.pc offset)) self.old bus.old self.new bus.new result }
     {
         self.jump(rd, add_signed(self.pc, offset.value()), bus)
     }
@@ -77,7 +77,7 @@ impl Hart {
         imm: Imm12,
         bus: &mut Bus<M>,
     ) -> Stepped
-        ensures { Executes (jumps rd (even (sum (reg rs1 self.old) imm)))
+        ensures { Executes (jump rd (even (sum (reg rs1 self.old) imm)))
             self.old bus.old self.new bus.new result }
     {
         self.jump(rd, add_signed(self.get(rs1), imm.value()) & !1, bus)
@@ -93,11 +93,11 @@ impl Hart {
         offset: Off13,
         bus: &mut Bus<M>,
     ) -> Stepped
-        ensures { Executes (branches (holds comparison (reg rs1 self.old) (reg rs2 self.old)) offset)
+        ensures { Executes (branch (holds comparison (reg rs1 self.old) (reg rs2 self.old)) offset)
             self.old bus.old self.new bus.new result }
     {
         if !comparison.holds(self.get(rs1), self.get(rs2)) {
-            self.pass();
+            self.advance();
             return self.retire(bus);
         }
         let target = add_signed(self.pc, offset.value());

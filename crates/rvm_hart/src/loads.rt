@@ -4,9 +4,9 @@
 ghost use Rattle.std.specs.Prelude.{◌≡◌, ◌%◌};
 ghost use Rattle.rvm_hart.specs.Machine.{machine};
 ghost use Rattle.rvm_hart.specs.Outcome.{reg};
-ghost use Rattle.rvm_hart.specs.Rooms.{sum, loads_byte, loads_half, loads_word};
+ghost use Rattle.rvm_hart.specs.Kinds.{sum, load_byte, load_half, load_word};
 ghost use Rattle.rvm_hart.specs.Step.{Executes};
-ghost use Rattle.rvm_hart.specs.Rows.{signed_byte, signed_half, as_it_is};
+ghost use Rattle.rvm_hart.specs.Rows.{sign_extended_byte, sign_extended_half, zero_extended};
 
 use crate::bus::Bus;
 use crate::hart::Hart;
@@ -26,13 +26,13 @@ impl Hart {
         imm: Imm12,
         bus: &mut Bus<M>,
     ) -> Stepped
-        ensures { Executes (loads_byte signed_byte rd (sum (reg rs1 self.old) imm))
+        ensures { Executes (load_byte sign_extended_byte rd (sum (reg rs1 self.old) imm))
             self.old bus.old self.new bus.new result }
     {
         let address = self.plus(rs1, imm);
         match bus.ram_load8(address) {
             Some(value) => {
-                self.give(rd, sext(u32::from(value), 8));
+                self.set_result(rd, sext(u32::from(value), 8));
                 self.retire(bus)
             }
             None => self.trap(Exception::LoadAccessFault, address, bus),
@@ -48,13 +48,13 @@ impl Hart {
         imm: Imm12,
         bus: &mut Bus<M>,
     ) -> Stepped
-        ensures { Executes (loads_byte as_it_is rd (sum (reg rs1 self.old) imm))
+        ensures { Executes (load_byte zero_extended rd (sum (reg rs1 self.old) imm))
             self.old bus.old self.new bus.new result }
     {
         let address = self.plus(rs1, imm);
         match bus.ram_load8(address) {
             Some(value) => {
-                self.give(rd, u32::from(value));
+                self.set_result(rd, u32::from(value));
                 self.retire(bus)
             }
             None => self.trap(Exception::LoadAccessFault, address, bus),
@@ -70,7 +70,7 @@ impl Hart {
         imm: Imm12,
         bus: &mut Bus<M>,
     ) -> Stepped
-        ensures { Executes (loads_half signed_half rd (sum (reg rs1 self.old) imm))
+        ensures { Executes (load_half sign_extended_half rd (sum (reg rs1 self.old) imm))
             self.old bus.old self.new bus.new result }
     {
         let address = self.plus(rs1, imm);
@@ -79,7 +79,7 @@ impl Hart {
         }
         match bus.ram_load16(address) {
             Some(value) => {
-                self.give(rd, sext(u32::from(value), 16));
+                self.set_result(rd, sext(u32::from(value), 16));
                 self.retire(bus)
             }
             None => self.trap(Exception::LoadAccessFault, address, bus),
@@ -95,7 +95,7 @@ impl Hart {
         imm: Imm12,
         bus: &mut Bus<M>,
     ) -> Stepped
-        ensures { Executes (loads_half as_it_is rd (sum (reg rs1 self.old) imm))
+        ensures { Executes (load_half zero_extended rd (sum (reg rs1 self.old) imm))
             self.old bus.old self.new bus.new result }
     {
         let address = self.plus(rs1, imm);
@@ -104,7 +104,7 @@ impl Hart {
         }
         match bus.ram_load16(address) {
             Some(value) => {
-                self.give(rd, u32::from(value));
+                self.set_result(rd, u32::from(value));
                 self.retire(bus)
             }
             None => self.trap(Exception::LoadAccessFault, address, bus),
@@ -120,7 +120,7 @@ impl Hart {
         imm: Imm12,
         bus: &mut Bus<M>,
     ) -> Stepped
-        ensures { Executes (loads_word rd (sum (reg rs1 self.old) imm))
+        ensures { Executes (load_word rd (sum (reg rs1 self.old) imm))
             self.old bus.old self.new bus.new result }
     {
         let address = self.plus(rs1, imm);
@@ -129,7 +129,7 @@ impl Hart {
         }
         match bus.ram_load32(address) {
             Some(value) => {
-                self.give(rd, value);
+                self.set_result(rd, value);
                 self.retire(bus)
             }
             None => self.load_elsewhere(rd, address, bus),
@@ -141,11 +141,11 @@ impl Hart {
     #[inline(never)]
     fn load_elsewhere<M: Memory>(&mut self, rd: Reg, address: u32, bus: &mut Bus<M>) -> Stepped
         requires { address % 4 ≡ 0 }
-        ensures { Executes (loads_word rd address) self.old bus.old self.new bus.new result }
+        ensures { Executes (load_word rd address) self.old bus.old self.new bus.new result }
     {
         match bus.load32(address) {
             Some(value) => {
-                self.give(rd, value);
+                self.set_result(rd, value);
                 self.retire(bus)
             }
             None => self.trap(Exception::LoadAccessFault, address, bus),

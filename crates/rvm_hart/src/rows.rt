@@ -2,8 +2,8 @@
 
 ghost use Rattle.std.specs.Prelude.{◌≡◌, ◌<◌, length};
 ghost use Rattle.rvm_hart.specs.Machine.{machine};
-ghost use Rattle.rvm_hart.specs.Outcome.{gives, passes};
-ghost use Rattle.rvm_hart.specs.Rows.{effect, returns};
+ghost use Rattle.rvm_hart.specs.Outcome.{done_with, done};
+ghost use Rattle.rvm_hart.specs.Rows.{effect, trap_return};
 ghost use Rattle.rvm_hart.specs.Step.{Executes};
 
 use crate::arithmetic::Operation;
@@ -21,28 +21,28 @@ use rvm_word::{
 };
 
 impl Hart {
-    /// Puts a value into rd, and goes on.
+    /// Ends an instruction whose result goes to rd.
     #[inline]
-    fn put<M: Memory>(&mut self, rd: Reg, value: u32, bus: &mut Bus<M>) -> Stepped
-        ensures { Executes (gives rd value) self.old bus.old self.new bus.new result }
+    fn finish_with<M: Memory>(&mut self, rd: Reg, value: u32, bus: &mut Bus<M>) -> Stepped
+        ensures { Executes (done_with rd value) self.old bus.old self.new bus.new result }
     {
-        self.give(rd, value);
+        self.set_result(rd, value);
         self.retire(bus)
     }
 
-    /// Only goes on.
+    /// Ends an instruction that does nothing else.
     #[inline]
-    fn skip<M: Memory>(&mut self, bus: &mut Bus<M>) -> Stepped
-        ensures { Executes passes self.old bus.old self.new bus.new result }
+    fn finish<M: Memory>(&mut self, bus: &mut Bus<M>) -> Stepped
+        ensures { Executes done self.old bus.old self.new bus.new result }
     {
-        self.pass();
+        self.advance();
         self.retire(bus)
     }
 
     /// Returns from a trap (MRET).
     #[inline(never)]
-    fn leave<M: Memory>(&mut self, bus: &mut Bus<M>) -> Stepped
-        ensures { Executes returns self.old bus.old self.new bus.new result }
+    fn return_from_trap<M: Memory>(&mut self, bus: &mut Bus<M>) -> Stepped
+        ensures { Executes trap_return self.old bus.old self.new bus.new result }
     {
         self.mret();
         self.retire(bus)
@@ -52,13 +52,13 @@ impl Hart {
     #[inline(always)]
     #[tactic(auto, unfolding(crate::specs::Rows::effect))]
     pub(crate) fn apply<M: Memory>(&mut self, word: u32, ins: Ins, bus: &mut Bus<M>) -> Stepped
-        requires reservation { self.old.csrs.hart < length bus.old.reach.reservations }
-        requires devices { self.old.csrs.hart < length bus.old.reach.devices.msip }
+        requires reservation { self.old.csrs.hart < length bus.old.shared.reservations }
+        requires devices { self.old.csrs.hart < length bus.old.shared.devices.msip }
         ensures { Executes (effect word ins) self.old bus.old self.new bus.new result }
     {
         match ins {
-            Ins::Lui { rd, imm } => self.put(rd, imm.bits() << 12, bus),
-            Ins::Auipc { rd, imm } => self.put(rd, self.pc.wrapping_add(imm.bits() << 12), bus),
+            Ins::Lui { rd, imm } => self.finish_with(rd, imm.bits() << 12, bus),
+            Ins::Auipc { rd, imm } => self.finish_with(rd, self.pc.wrapping_add(imm.bits() << 12), bus),
             Ins::Jal { rd, offset } => self.jump_to_offset(rd, offset, bus),
             Ins::Jalr { rd, rs1, imm } => self.jump_to_register(rd, rs1, imm, bus),
             Ins::Beq { rs1, rs2, offset } => self.branch(Comparison::Eq, rs1, rs2, offset, bus),
@@ -108,10 +108,10 @@ impl Hart {
             Ins::Divu { rd, rs1, rs2 } => self.operate(Operation::Divu, rd, rs1, rs2, bus),
             Ins::Rem { rd, rs1, rs2 } => self.operate(Operation::Rem, rd, rs1, rs2, bus),
             Ins::Remu { rd, rs1, rs2 } => self.operate(Operation::Remu, rd, rs1, rs2, bus),
-            Ins::Fence { .. } | Ins::FenceI { .. } | Ins::Wfi => self.skip(bus),
+            Ins::Fence { .. } | Ins::FenceI { .. } | Ins::Wfi => self.finish(bus),
             Ins::Ecall => self.trap(Exception::EnvironmentCall, 0, bus),
             Ins::Ebreak => self.trap(Exception::Breakpoint, 0, bus),
-            Ins::Mret => self.leave(bus),
+            Ins::Mret => self.return_from_trap(bus),
             Ins::Csrrw { rd, rs1, csr } => self.change_csr(
                 word,
                 CsrChange::Write,

@@ -7,7 +7,7 @@ ghost use Rattle.rvm_csr.specs.Traps.{pending};
 ghost use Rattle.rvm_hart.specs.Machine.{machine};
 ghost use Rattle.rvm_hart.specs.Bus.{mip_of};
 ghost use Rattle.rvm_hart.specs.declared.outcome.Stepped.TheVariants.{Retired, Trapped};
-ghost use Rattle.rvm_hart.specs.Step.{Executes, execute, counts, counts_retired, answer_of, trapped, step};
+ghost use Rattle.rvm_hart.specs.Step.{Executes, execute, after_ticks, all_tick, none_retired, ticks_of, step_answer, in_handler, step};
 
 use crate::bus::Bus;
 use crate::hart::Hart;
@@ -22,8 +22,8 @@ impl Hart {
     /// dirty log.
     #[inline(always)]
     pub fn step<M: Memory>(&mut self, bus: &mut Bus<M>) -> Stepped
-        requires reservation { self.old.csrs.hart < length bus.old.reach.reservations }
-        requires devices { self.old.csrs.hart < length bus.old.reach.devices.msip }
+        requires reservation { self.old.csrs.hart < length bus.old.shared.reservations }
+        requires devices { self.old.csrs.hart < length bus.old.shared.devices.msip }
         ensures machine { machine self.new bus.new ≡ (step (machine self.old bus.old)).machine }
         ensures dirty { bus.new.dirty
             ≡ mark_all (step (machine self.old bus.old)).pages bus.old.dirty }
@@ -42,8 +42,8 @@ impl Hart {
     /// The interrupt that is taken before the next instruction, if any.
     #[inline(always)]
     fn pending<M: Memory>(&self, bus: &Bus<M>) -> Option<Interrupt>
-        requires { self.now.csrs.hart < length bus.now.reach.devices.msip }
-        ensures { result ≡ pending (mip_of self.now.csrs.hart bus.now.reach.devices) self.now.csrs }
+        requires { self.now.csrs.hart < length bus.now.shared.devices.msip }
+        ensures { result ≡ pending (mip_of self.now.csrs.hart bus.now.shared.devices) self.now.csrs }
     {
         if !self.csrs.interrupts_enabled() {
             return None;
@@ -54,8 +54,8 @@ impl Hart {
     /// Runs the instruction at pc.
     #[inline(always)]
     fn execute<M: Memory>(&mut self, bus: &mut Bus<M>) -> Stepped
-        requires reservation { self.old.csrs.hart < length bus.old.reach.reservations }
-        requires devices { self.old.csrs.hart < length bus.old.reach.devices.msip }
+        requires reservation { self.old.csrs.hart < length bus.old.shared.reservations }
+        requires devices { self.old.csrs.hart < length bus.old.shared.devices.msip }
         ensures { Executes execute self.old bus.old self.new bus.new result }
     {
         let Some(word) = bus.ram_load32(self.pc) else {
@@ -67,11 +67,11 @@ impl Hart {
         }
     }
 
-    /// Executes the step of an instruction that wrote no counter and did not halt.
+    /// Ends the step of an instruction that wrote no counter and did not halt.
     #[inline(always)]
     pub(crate) fn retire<M: Memory>(&mut self, bus: &mut Bus<M>) -> Stepped
         ensures machine { machine self.new bus.new
-            ≡ counts true true true (machine self.old bus.old) }
+            ≡ after_ticks all_tick (machine self.old bus.old) }
         ensures dirty { bus.new.dirty ≡ bus.old.dirty }
         ensures answer { result ≡ Retired }
     {
@@ -80,7 +80,7 @@ impl Hart {
         Stepped::Retired
     }
 
-    /// Executes the step of an instruction that traps.
+    /// Ends the step of an instruction that traps.
     #[cold]
     #[inline(never)]
     pub(crate) fn trap<M: Memory>(
@@ -90,7 +90,7 @@ impl Hart {
         bus: &mut Bus<M>,
     ) -> Stepped
         ensures machine { machine self.new bus.new
-            ≡ counts true false true (trapped (cause.Exception exception) value (machine self.old bus.old)) }
+            ≡ after_ticks none_retired (in_handler (cause.Exception exception) value (machine self.old bus.old)) }
         ensures dirty { bus.new.dirty ≡ bus.old.dirty }
         ensures answer { result ≡ Trapped exception }
     {
@@ -98,14 +98,14 @@ impl Hart {
         Stepped::Trapped(exception)
     }
 
-    /// Executes the step of an instruction that wrote a counter or the halt word.
+    /// Ends the step of an instruction that wrote a counter or the halt word.
     #[cold]
     #[inline(never)]
     pub(crate) fn retire_after<M: Memory>(&mut self, written: Written, bus: &mut Bus<M>) -> Stepped
         ensures machine { machine self.new bus.new
-            ≡ counts_retired written (machine self.old bus.old) }
+            ≡ after_ticks (ticks_of written) (machine self.old bus.old) }
         ensures dirty { bus.new.dirty ≡ bus.old.dirty }
-        ensures answer { result ≡ answer_of written }
+        ensures answer { result ≡ step_answer written }
     {
         self.csrs
             .tick(written != Written::Mcycle, written != Written::Minstret);
@@ -123,7 +123,7 @@ impl Hart {
     #[inline(never)]
     fn enter<M: Memory>(&mut self, cause: Cause, value: u32, bus: &mut Bus<M>)
         ensures machine { machine self.new bus.new
-            ≡ counts true false true (trapped cause value (machine self.old bus.old)) }
+            ≡ after_ticks none_retired (in_handler cause value (machine self.old bus.old)) }
         ensures dirty { bus.new.dirty ≡ bus.old.dirty }
     {
         self.pc = self.csrs.enter_trap(cause, value, self.pc);

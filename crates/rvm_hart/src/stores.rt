@@ -4,7 +4,7 @@
 ghost use Rattle.std.specs.Prelude.{◌≡◌, ◌%◌, ◌<◌, length};
 ghost use Rattle.rvm_hart.specs.Machine.{machine};
 ghost use Rattle.rvm_hart.specs.Outcome.{reg};
-ghost use Rattle.rvm_hart.specs.Rooms.{sum, stores_byte, stores_half, stores_word};
+ghost use Rattle.rvm_hart.specs.Kinds.{sum, store_byte, store_half, store_word};
 ghost use Rattle.rvm_hart.specs.Step.{Executes};
 
 use crate::bus::Bus;
@@ -24,8 +24,8 @@ impl Hart {
         imm: Imm12,
         bus: &mut Bus<M>,
     ) -> Stepped
-        requires { self.old.csrs.hart < length bus.old.reach.reservations }
-        ensures { Executes (stores_byte (sum (reg rs1 self.old) imm) (reg rs2 self.old))
+        requires { self.old.csrs.hart < length bus.old.shared.reservations }
+        ensures { Executes (store_byte (sum (reg rs1 self.old) imm) (reg rs2 self.old))
             self.old bus.old self.new bus.new result }
     {
         let address = self.plus(rs1, imm);
@@ -33,7 +33,7 @@ impl Hart {
         if !bus.ram_store8(self.csrs.hart(), address, (value & 0xFF) as u8) {
             return self.trap(Exception::StoreAccessFault, address, bus);
         }
-        self.pass();
+        self.advance();
         self.retire(bus)
     }
 
@@ -46,8 +46,8 @@ impl Hart {
         imm: Imm12,
         bus: &mut Bus<M>,
     ) -> Stepped
-        requires { self.old.csrs.hart < length bus.old.reach.reservations }
-        ensures { Executes (stores_half (sum (reg rs1 self.old) imm) (reg rs2 self.old))
+        requires { self.old.csrs.hart < length bus.old.shared.reservations }
+        ensures { Executes (store_half (sum (reg rs1 self.old) imm) (reg rs2 self.old))
             self.old bus.old self.new bus.new result }
     {
         let address = self.plus(rs1, imm);
@@ -58,7 +58,7 @@ impl Hart {
         if !bus.ram_store16(self.csrs.hart(), address, (value & 0xFFFF) as u16) {
             return self.trap(Exception::StoreAccessFault, address, bus);
         }
-        self.pass();
+        self.advance();
         self.retire(bus)
     }
 
@@ -71,8 +71,8 @@ impl Hart {
         imm: Imm12,
         bus: &mut Bus<M>,
     ) -> Stepped
-        requires { self.old.csrs.hart < length bus.old.reach.reservations }
-        ensures { Executes (stores_word (sum (reg rs1 self.old) imm) (reg rs2 self.old))
+        requires { self.old.csrs.hart < length bus.old.shared.reservations }
+        ensures { Executes (store_word (sum (reg rs1 self.old) imm) (reg rs2 self.old))
             self.old bus.old self.new bus.new result }
     {
         let address = self.plus(rs1, imm);
@@ -83,7 +83,7 @@ impl Hart {
         if !bus.ram_store32(self.csrs.hart(), address, value) {
             return self.store_elsewhere(address, value, bus);
         }
-        self.pass();
+        self.advance();
         self.retire(bus)
     }
 
@@ -91,13 +91,13 @@ impl Hart {
     #[cold]
     #[inline(never)]
     fn store_elsewhere<M: Memory>(&mut self, address: u32, value: u32, bus: &mut Bus<M>) -> Stepped
-        requires hart { self.old.csrs.hart < length bus.old.reach.reservations }
+        requires hart { self.old.csrs.hart < length bus.old.shared.reservations }
         requires aligned { address % 4 ≡ 0 }
-        ensures { Executes (stores_word address value) self.old bus.old self.new bus.new result }
+        ensures { Executes (store_word address value) self.old bus.old self.new bus.new result }
     {
         match bus.store32(self.csrs.hart(), address, value) {
             Some(written) => {
-                self.pass();
+                self.advance();
                 self.retire_after(written, bus)
             }
             None => self.trap(Exception::StoreAccessFault, address, bus),

@@ -1,6 +1,6 @@
 -- Known values.
 use Rattle.std.proofs.Common.{◌≡◌, ℕ, List, [], ◌∷◌, Option, Some, None, true, false, refl}
-use Rattle.rvm_res.specs.Reservations.{held, poked, stored, taken, takes}
+use Rattle.rvm_res.specs.Reservations.{held, poked, stored, released, holds}
 
 abbrev two_harts : List (Option ℕ)
 two_harts = held 0 0x8000_0100 (None ∷ None ∷ [])
@@ -14,11 +14,11 @@ keeps : stored 0 0x8000_0102 two_harts ≡ two_harts
 keeps = refl
 
 -- and its store-conditional succeeds
-succeeds : takes 0 0x8000_0100 two_harts ≡ true
+succeeds : holds 0 0x8000_0100 two_harts ≡ true
 succeeds = refl
 
 -- but not at another word
-fails : takes 0 0x8000_0104 two_harts ≡ false
+fails : holds 0 0x8000_0104 two_harts ≡ false
 fails = refl
 
 -- a store into the word behind it leaves the reservation
@@ -30,7 +30,7 @@ is_poked : poked 0x8000_0103 two_harts ≡ None ∷ None ∷ []
 is_poked = refl
 
 -- so does the hart's store-conditional
-is_taken : taken 0 two_harts ≡ None ∷ None ∷ []
+is_released : released 0 two_harts ≡ None ∷ None ∷ []
 is_taken = refl
 
 -- a hart has one reservation, the newest

@@ -24,8 +24,8 @@ abbrev pub stored : ℕ → ℕ → List (Option ℕ) → List (Option ℕ)
 stored hart address words = slice_set (poked address words) hart (get_or words hart None)
 
 -- SC ends its hart's reservation
-abbrev pub taken : ℕ → List (Option ℕ) → List (Option ℕ)
-taken hart words = slice_set words hart None
+abbrev pub released : ℕ → List (Option ℕ) → List (Option ℕ)
+released hart words = slice_set words hart None
 
 -- whether a reservation is the word at an address
 abbrev pub is_of : ℕ → Option ℕ → Bool
@@ -33,5 +33,5 @@ is_of address None = false
 is_of address (Some w) = w == address
 
 -- SC succeeds where its hart's reservation is the word at the address
-abbrev pub takes : ℕ → ℕ → List (Option ℕ) → Bool
-takes hart address words = is_of address (get_or words hart None)
+abbrev pub holds : ℕ → ℕ → List (Option ℕ) → Bool
+holds hart address words = is_of address (get_or words hart None)

@@ -2,7 +2,7 @@
 
 ghost use Rattle.std.specs.Prelude.{◌≡◌, ◌<◌, ◌≤◌, None, length, replicate, map, is_some, count_by, get_or, slice_set};
 ghost use Rattle.std.specs.List.{list_any};
-ghost use Rattle.rvm_res.specs.Reservations.{held, is_of, poked, stored, taken, takes, word_of, without};
+ghost use Rattle.rvm_res.specs.Reservations.{held, is_of, poked, stored, released, holds, word_of, without};
 
 use std::marker::Model;
 
@@ -113,8 +113,8 @@ impl Reservations {
     #[tactic(auto, using(crate::proofs::Words::words))]
     pub fn take(&mut self, hart: usize, address: u32) -> bool
         requires { hart < length self.old }
-        ensures words { self.new ≡ taken hart self.old }
-        ensures takes { result ≡ takes hart address self.old }
+        ensures words { self.new ≡ released hart self.old }
+        ensures holds { result ≡ holds hart address self.old }
     {
         let own = self.reserved(hart);
         if own.is_none() {

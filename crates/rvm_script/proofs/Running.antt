@@ -72,7 +72,7 @@ alike_halted None h g = alike_on (stops h g) h g
 alike_halted (Some status) h g = refl
 
 alike : (h : ℕ) (g : Guest) → ends (steps h g).reply ≡ is_some (stop_in (steps h g).reply)
-alike h g = alike_halted g.board.reach.devices.halted h g
+alike h g = alike_halted g.board.shared.devices.halted h g
 
 -- what ended turns is the answer
 abbrev told_or : Option Stop → BoardReply → BoardReply

@@ -26,7 +26,7 @@ found bytes ram s fits some e =
 -- the values of a guest that the bytes spell are read
 pub is_read : (bytes ram : List ℕ) (g : Guest) → Spells bytes ram g → (state (length ram)).read bytes ≡ Some (state_of g)
 is_read bytes ram g spells =
-    let own : List ℕ = g.board.reach.bytes in
+    let own : List ℕ = g.board.shared.bytes in
     ap (λ (r : List ℕ). (state (length r)).read bytes) (sym spells.has_ram)
     ∙ ap (λ t. (state (length own)).read t) spells.spelled
     ∙ (state_exact (length own)).again (state_of g) spells.has_spelling.fits
@@ -39,7 +39,7 @@ only bytes ram g h of_g of_h =
     let same : state_of g ≡ state_of h = some_is (state_of g) (state_of h) (sym (is_read bytes ram g of_g) ∙ is_read bytes ram h of_h) in
     sym of_g.has_spelling.made
     ∙ ap (λ r. guest_of r (state_of g)) (of_g.has_ram ∙ sym of_h.has_ram)
-    ∙ ap (λ s. guest_of h.board.reach.bytes s) same
+    ∙ ap (λ s. guest_of h.board.shared.bytes s) same
     ∙ of_h.has_spelling.made
 
 -- THE CALL

@@ -17,9 +17,9 @@ use Rattle.rvm_state.specs.Restoring.{AreHeld, IsOf, harts_restored}
 pub record SoFar (harts : List HartPart) (i : ℕ) (g old : GuestState) : Type 0 where
   pub all : harts_restored i (drop i harts) g.guest ≡ harts_restored 0 harts old.guest
   pub dirty : g.dirty ≡ old.dirty
-  pub bytes : g.guest.board.reach.bytes ≡ old.guest.board.reach.bytes
+  pub bytes : g.guest.board.shared.bytes ≡ old.guest.board.shared.bytes
   pub count : length g.guest.board.harts ≡ length harts
-  pub held : AreHeld (length g.guest.board.reach.bytes) (drop i harts)
+  pub held : AreHeld (length g.guest.board.shared.bytes) (drop i harts)
 
 one_more : (harts : List HartPart) (i : ℕ) (d : HartPart) (g : Guest) → i < length harts → harts_restored (i + 1) (drop (i + 1) harts) (hart_restored i (get_or harts i d) g) ≡ harts_restored i (drop i harts) g
 unfolding harts_restored
@@ -28,7 +28,7 @@ one_more harts i d g lt = sym (ap (λ ps. harts_restored i ps g) (drop_more hart
 pub goes_on : (harts : List HartPart) (i : ℕ) (d : HartPart) (g new old : GuestState) → i < length harts → new ≡ record g { guest = hart_restored i (get_or harts i d) g.guest } → SoFar harts i g old → SoFar harts (i + 1) new old
 goes_on harts i d g new old lt e so_far =
     let p : HartPart = get_or harts i d in
-    let held : AreHeld (length g.guest.board.reach.bytes) (p ∷ drop (i + 1) harts) = subst (AreHeld (length g.guest.board.reach.bytes)) (drop_more harts i d lt) so_far.held in
+    let held : AreHeld (length g.guest.board.shared.bytes) (p ∷ drop (i + 1) harts) = subst (AreHeld (length g.guest.board.shared.bytes)) (drop_more harts i d lt) so_far.held in
     subst (λ (x : GuestState). SoFar harts (i + 1) x old) (sym e) (record {
       all = one_more harts i d g.guest lt ∙ so_far.all;
       dirty = so_far.dirty;
@@ -77,9 +77,9 @@ with_lists harts msip mtimecmp reservations stopped g =
     record {
       board = record {
         harts = harts;
-        reach = record {
-          bytes = g.board.reach.bytes;
-          devices = record g.board.reach.devices { msip = msip; mtimecmp = mtimecmp };
+        shared = record {
+          bytes = g.board.shared.bytes;
+          devices = record g.board.shared.devices { msip = msip; mtimecmp = mtimecmp };
           reservations = reservations;
         };
       };
@@ -92,35 +92,35 @@ same_lists_of a b c d e f k l m n g p q r s t =
     ap (λ x. with_lists x c e k m g) p ∙ ap (λ x. with_lists b x e k m g) q ∙ ap (λ x. with_lists b d x k m g) r ∙ ap (λ x. with_lists b d f x m g) s ∙ ap (λ x. with_lists b d f l x g) t
 
 restored_from : (ps : List HartPart) (h : ℕ) (g : Guest) → IsOf (h + length ps) g → harts_restored h ps g
-    ≡ with_lists (filled h g.board.harts (numbered h ps)) (filled h g.board.reach.devices.msip (map (λ p. p.msip) ps)) (filled h g.board.reach.devices.mtimecmp (map (λ p. p.mtimecmp) ps)) (filled h g.board.reach.reservations (map (λ p. p.reserved) ps)) (filled h g.stopped (map (λ p. p.stopped) ps)) g
+    ≡ with_lists (filled h g.board.harts (numbered h ps)) (filled h g.board.shared.devices.msip (map (λ p. p.msip) ps)) (filled h g.board.shared.devices.mtimecmp (map (λ p. p.mtimecmp) ps)) (filled h g.board.shared.reservations (map (λ p. p.reserved) ps)) (filled h g.stopped (map (λ p. p.stopped) ps)) g
 unfolding harts_restored
 restored_from [] h g is =
-    same_lists_of g.board.harts (filled h g.board.harts []) g.board.reach.devices.msip (filled h g.board.reach.devices.msip []) g.board.reach.devices.mtimecmp (filled h g.board.reach.devices.mtimecmp []) g.board.reach.reservations (filled h g.board.reach.reservations []) g.stopped (filled h g.stopped []) g
+    same_lists_of g.board.harts (filled h g.board.harts []) g.board.shared.devices.msip (filled h g.board.shared.devices.msip []) g.board.shared.devices.mtimecmp (filled h g.board.shared.devices.mtimecmp []) g.board.shared.reservations (filled h g.board.shared.reservations []) g.stopped (filled h g.stopped []) g
     (filled_all h g.board.harts (omega (arith, is.harts)))
-    (filled_all h g.board.reach.devices.msip (omega (arith, is.msip)))
-    (filled_all h g.board.reach.devices.mtimecmp (omega (arith, is.mtimecmp)))
-    (filled_all h g.board.reach.reservations (omega (arith, is.reservations)))
+    (filled_all h g.board.shared.devices.msip (omega (arith, is.msip)))
+    (filled_all h g.board.shared.devices.mtimecmp (omega (arith, is.mtimecmp)))
+    (filled_all h g.board.shared.reservations (omega (arith, is.reservations)))
     (filled_all h g.stopped (omega (arith, is.stopped)))
 restored_from (p ∷ ps) h g is =
     let next : Guest = hart_restored h p g in
-    let d : DeviceState = g.board.reach.devices in
+    let d : DeviceState = g.board.shared.devices in
     let still : IsOf (h + 1 + length ps) next = record {
       harts = omega (arith, length-set g.board.harts h (with_number h p.fields), is.harts);
       msip = omega (arith, length-set d.msip h p.msip, is.msip);
       mtimecmp = omega (arith, length-set d.mtimecmp h p.mtimecmp, is.mtimecmp);
-      reservations = omega (arith, length-set g.board.reach.reservations h p.reserved, is.reservations);
+      reservations = omega (arith, length-set g.board.shared.reservations h p.reserved, is.reservations);
       stopped = omega (arith, length-set g.stopped h p.stopped, is.stopped);
     } in
     restored_from ps (h + 1) next still
     ∙ same_lists_of (filled (h + 1) next.board.harts (numbered (h + 1) ps)) (filled h g.board.harts (numbered h (p ∷ ps)))
-    (filled (h + 1) next.board.reach.devices.msip (map (λ p. p.msip) ps)) (filled h d.msip (map (λ p. p.msip) (p ∷ ps)))
-    (filled (h + 1) next.board.reach.devices.mtimecmp (map (λ p. p.mtimecmp) ps)) (filled h d.mtimecmp (map (λ p. p.mtimecmp) (p ∷ ps)))
-    (filled (h + 1) next.board.reach.reservations (map (λ p. p.reserved) ps)) (filled h g.board.reach.reservations (map (λ p. p.reserved) (p ∷ ps)))
+    (filled (h + 1) next.board.shared.devices.msip (map (λ p. p.msip) ps)) (filled h d.msip (map (λ p. p.msip) (p ∷ ps)))
+    (filled (h + 1) next.board.shared.devices.mtimecmp (map (λ p. p.mtimecmp) ps)) (filled h d.mtimecmp (map (λ p. p.mtimecmp) (p ∷ ps)))
+    (filled (h + 1) next.board.shared.reservations (map (λ p. p.reserved) ps)) (filled h g.board.shared.reservations (map (λ p. p.reserved) (p ∷ ps)))
     (filled (h + 1) next.stopped (map (λ p. p.stopped) ps)) (filled h g.stopped (map (λ p. p.stopped) (p ∷ ps))) g
     (fills_more h g.board.harts (numbered (h + 1) ps) (with_number h p.fields) (omega (arith, is.harts)))
     (fills_more h d.msip (map (λ p. p.msip) ps) p.msip (omega (arith, is.msip)))
     (fills_more h d.mtimecmp (map (λ p. p.mtimecmp) ps) p.mtimecmp (omega (arith, is.mtimecmp)))
-    (fills_more h g.board.reach.reservations (map (λ p. p.reserved) ps) p.reserved (omega (arith, is.reservations)))
+    (fills_more h g.board.shared.reservations (map (λ p. p.reserved) ps) p.reserved (omega (arith, is.reservations)))
     (fills_more h g.stopped (map (λ p. p.stopped) ps) p.stopped (omega (arith, is.stopped)))
 
 -- all is replaced but the RAM, what the devices keep for all, and the breakpoints
@@ -130,7 +130,7 @@ restored_is ps g is = restored_from ps 0 g (record { harts = omega (arith, is.ha
 
 -- the guest of a board whose values are all replaced
 pub all_restored : (b : Board) (s : State) (harts : List HartPart) (addresses : List ℕ) (g0 g1 g2 g3 : Guest) → IsOf (length s.harts) (fresh b) → harts ≡ s.harts → addresses ≡ s.breakpoints
-    → g0 ≡ fresh b → g1 ≡ harts_restored 0 harts g0 → g2 ≡ restored s.shared s.input s.output g1 → g3 ≡ record g2 { breakpoints = addresses } → g3 ≡ guest_of b.reach.bytes s
+    → g0 ≡ fresh b → g1 ≡ harts_restored 0 harts g0 → g2 ≡ restored s.shared s.input s.output g1 → g3 ≡ record g2 { breakpoints = addresses } → g3 ≡ guest_of b.shared.bytes s
 all_restored b s harts addresses g0 g1 g2 g3 is of_harts of_addresses e0 e1 e2 e3 =
     let with_all : Guest = with_lists (numbered 0 s.harts) (map (λ p. p.msip) s.harts) (map (λ p. p.mtimecmp) s.harts) (map (λ p. p.reserved) s.harts) (map (λ p. p.stopped) s.harts) (fresh b) in
     let lists : g1 ≡ with_all =

@@ -28,11 +28,11 @@ use Rattle.rvm_state.proofs.Writing.{behind, no_more, one_more, then_written}
 pub no_harts : (g : Guest) (old : List ℕ) → WritesHarts 0 g old old
 no_harts g old = record { each = no_more _ old; whole = λ k lt. absurd (omega (arith, lt)) }
 
-pub one_hart_more : (g : Guest) (i : ℕ) (p : HartPart) (old mid new : List ℕ) → p ≡ part_of i g → CanBeHeld (length g.board.reach.bytes) p → with_number i p.fields ≡ hart_at i g.board
+pub one_hart_more : (g : Guest) (i : ℕ) (p : HartPart) (old mid new : List ℕ) → p ≡ part_of i g → CanBeHeld (length g.board.shared.bytes) p → with_number i p.fields ≡ hart_at i g.board
     → ((size : ℕ) → CanBeHeld size p → Writes (hart size) p mid new) → WritesHarts i g old mid → WritesHarts (i + 1) g old new
 one_hart_more g i p old mid new is held whole put so_far =
     let f : ℕ → HartPart = λ h. part_of h g in
-    let size : ℕ = length g.board.reach.bytes in
+    let size : ℕ = length g.board.shared.bytes in
     let one : Writes (hart size) (f i) mid new = subst (λ q. Writes (hart size) q mid new) is (put size held) in
     let more = map-range_with_len_more f 0 i i (omega arith) in
     let at_i : with_number i (fields_of (hart_at i g.board)) ≡ hart_at i g.board = ap (λ (q : HartPart). with_number i q.fields) (sym is) ∙ whole in
@@ -80,27 +80,27 @@ harts_column g whole =
     ∙ whole k below
     ∙ get_or_default g.board.harts k (new_hart 0 0) d below)
 
-pub made : (g : Guest) → IsOf (length g.board.harts) g → ((k : ℕ) → k < length g.board.harts → with_number k (fields_of (hart_at k g.board)) ≡ hart_at k g.board) → guest_of g.board.reach.bytes (state_of g) ≡ g
+pub made : (g : Guest) → IsOf (length g.board.harts) g → ((k : ℕ) → k < length g.board.harts → with_number k (fields_of (hart_at k g.board)) ≡ hart_at k g.board) → guest_of g.board.shared.bytes (state_of g) ≡ g
 made g is whole =
     let f : ℕ → HartPart = λ h. part_of h g in
     let n : ℕ = length g.board.harts in
-    let d : DeviceState = g.board.reach.devices in
-    same_lists_of (numbered 0 (parts_of g)) g.board.harts (map (λ p. p.msip) (parts_of g)) d.msip (map (λ p. p.mtimecmp) (parts_of g)) d.mtimecmp (map (λ p. p.reserved) (parts_of g)) g.board.reach.reservations (map (λ p. p.stopped) (parts_of g)) g.stopped g
+    let d : DeviceState = g.board.shared.devices in
+    same_lists_of (numbered 0 (parts_of g)) g.board.harts (map (λ p. p.msip) (parts_of g)) d.msip (map (λ p. p.mtimecmp) (parts_of g)) d.mtimecmp (map (λ p. p.reserved) (parts_of g)) g.board.shared.reservations (map (λ p. p.stopped) (parts_of g)) g.stopped g
     (harts_column g whole)
     (column (λ (p : HartPart). p.msip) f n d.msip false is.msip (λ k. refl))
     (column (λ (p : HartPart). p.mtimecmp) f n d.mtimecmp 0 is.mtimecmp (λ k. refl))
-    (column (λ (p : HartPart). p.reserved) f n g.board.reach.reservations None is.reservations (λ k. refl))
+    (column (λ (p : HartPart). p.reserved) f n g.board.shared.reservations None is.reservations (λ k. refl))
     (column (λ (p : HartPart). p.stopped) f n g.stopped false is.stopped (λ k. refl))
 
 -- ALL
 
-pub wrote : (g : Guest) (count : ℕ) (shared : DeviceFields) (d : DeviceState) (addresses m0 m1 m2 m3 m4 m5 : List ℕ) → m0 ≡ [] → count ≡ length g.board.harts → d ≡ g.board.reach.devices → shared ≡ dev.fields_of d → addresses ≡ g.breakpoints
+pub wrote : (g : Guest) (count : ℕ) (shared : DeviceFields) (d : DeviceState) (addresses m0 m1 m2 m3 m4 m5 : List ℕ) → m0 ≡ [] → count ≡ length g.board.harts → d ≡ g.board.shared.devices → shared ≡ dev.fields_of d → addresses ≡ g.breakpoints
     → Writes head (count, shared) m0 m1 → WritesHarts (length g.board.harts) g m1 m2 → Writes (counted_bytes 1 (within 0 16)) d.input m2 m3 → Writes (counted_bytes 2 (within 0 4096)) d.output m3 m4 → Writes breakpoints addresses m4 m5
-    → Writes (parts (length g.board.reach.bytes)) (whole_parts (state_of g)) [] m5
+    → Writes (parts (length g.board.shared.bytes)) (whole_parts (state_of g)) [] m5
 unfolding parts
 wrote g count shared d addresses m0 m1 m2 m3 m4 m5 empty of_count of_devices of_shared of_addresses heads harts input output addressed =
     let long : length (parts_of g) ≡ length g.board.harts = length-map-range_with_len (λ h. part_of h g) 0 (length g.board.harts) in
-    let told : ℕ × DeviceFields = (length (parts_of g), dev.fields_of g.board.reach.devices) in
+    let told : ℕ × DeviceFields = (length (parts_of g), dev.fields_of g.board.shared.devices) in
     let same : (count, shared) ≡ told =
     ap (λ (n : ℕ). (n, shared)) (of_count ∙ sym long) ∙ ap (λ (f : DeviceFields). (length (parts_of g), f)) (of_shared ∙ ap dev.fields_of of_devices) in
     let first : Writes head told [] m1 = subst (λ m. Writes head told m m1) empty (subst (λ t. Writes head t m0 m1) same heads) in
@@ -109,10 +109,10 @@ wrote g count shared d addresses m0 m1 m2 m3 m4 m5 empty of_count of_devices of_
     let fourth = subst (λ xs. Writes breakpoints xs m4 m5) of_addresses addressed in
     behind (then_written (λ (h : ℕ × DeviceFields). h.0) refl first harts.each) (behind second (behind third fourth))
 
-pub spelled : (g : Guest) (bytes : List ℕ) → Writes (parts (length g.board.reach.bytes)) (whole_parts (state_of g)) [] bytes → bytes ≡ spelling g
+pub spelled : (g : Guest) (bytes : List ℕ) → Writes (parts (length g.board.shared.bytes)) (whole_parts (state_of g)) [] bytes → bytes ≡ spelling g
 unfolding state
 spelled g bytes all = all.bytes
 
-pub has_spelling : (g : Guest) (bytes : List ℕ) → Writes (parts (length g.board.reach.bytes)) (whole_parts (state_of g)) [] bytes → guest_of g.board.reach.bytes (state_of g) ≡ g → HasSpelling g
+pub has_spelling : (g : Guest) (bytes : List ℕ) → Writes (parts (length g.board.shared.bytes)) (whole_parts (state_of g)) [] bytes → guest_of g.board.shared.bytes (state_of g) ≡ g → HasSpelling g
 unfolding state
 has_spelling g bytes all is = record { fits = all.fits; made = is }

@@ -13,9 +13,9 @@ harts_restored h (p ∷ ps) g = harts_restored (h + 1) ps (hart_restored h p g)
 -- a guest of so many harts
 pub record IsOf (count : ℕ) (g : Guest) : Type 0 where
   pub harts : length g.board.harts ≡ count
-  pub msip : length g.board.reach.devices.msip ≡ count
-  pub mtimecmp : length g.board.reach.devices.mtimecmp ≡ count
-  pub reservations : length g.board.reach.reservations ≡ count
+  pub msip : length g.board.shared.devices.msip ≡ count
+  pub mtimecmp : length g.board.shared.devices.mtimecmp ≡ count
+  pub reservations : length g.board.shared.reservations ≡ count
   pub stopped : length g.stopped ≡ count
 
 -- each can be held, with a RAM of so many bytes

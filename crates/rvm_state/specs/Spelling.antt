@@ -6,16 +6,16 @@ use Rattle.rvm_state.specs.Formats.{state}
 
 -- the bytes of a guest
 abbrev pub spelling : Guest → List ℕ
-spelling g = (state (length g.board.reach.bytes)).write (state_of g)
+spelling g = (state (length g.board.shared.bytes)).write (state_of g)
 
 -- a guest that its bytes and its RAM tell wholly: its values have a spelling, and it is made of them
 pub record HasSpelling (g : Guest) : Type 0 where
-  pub fits : (state (length g.board.reach.bytes)).fits (state_of g) ≡ true
-  pub made : guest_of g.board.reach.bytes (state_of g) ≡ g
+  pub fits : (state (length g.board.shared.bytes)).fits (state_of g) ≡ true
+  pub made : guest_of g.board.shared.bytes (state_of g) ≡ g
 
 -- the bytes spell a guest with these bytes, of which there are some, in its RAM
 pub record Spells (bytes ram : List ℕ) (g : Guest) : Type 0 where
-  pub has_ram : g.board.reach.bytes ≡ ram
+  pub has_ram : g.board.shared.bytes ≡ ram
   pub some_ram : 0 < length ram
   pub has_spelling : HasSpelling g
   pub spelled : bytes ≡ spelling g

@@ -28,9 +28,9 @@ abbrev pub state_of : Guest → State
 state_of g =
     record {
       harts = parts_of g;
-      shared = fields_of g.board.reach.devices;
-      input = g.board.reach.devices.input;
-      output = g.board.reach.devices.output;
+      shared = fields_of g.board.shared.devices;
+      input = g.board.shared.devices.input;
+      output = g.board.shared.devices.output;
       breakpoints = g.breakpoints;
     }
 
@@ -59,7 +59,7 @@ guest_of ram s =
     record {
       board = record {
         harts = numbered 0 s.harts;
-        reach = record {
+        shared = record {
           bytes = ram;
           devices = devices_of s;
           reservations = map (λ p. p.reserved) s.harts;

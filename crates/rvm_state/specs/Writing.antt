@@ -20,5 +20,5 @@ pub record WritesEach {A : Type 0} (c : Codec A) (xs : List A) (old new : List �
 
 -- the first harts of a guest, each of which is told by what is kept of it
 pub record WritesHarts (count : ℕ) (g : Guest) (old new : List ℕ) : Type 0 where
-  pub each : WritesEach (hart (length g.board.reach.bytes)) (map (λ h. part_of h g) (range_with_len 0 count)) old new
+  pub each : WritesEach (hart (length g.board.shared.bytes)) (map (λ h. part_of h g) (range_with_len 0 count)) old new
   pub whole : (k : ℕ) → k < count → with_number k (fields_of (hart_at k g.board)) ≡ hart_at k g.board

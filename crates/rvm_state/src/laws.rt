@@ -14,12 +14,12 @@ pub fn no_two_guests_have_one_spelling()
 
 /// The bytes that are written of a guest spell it, with its RAM.
 pub fn what_is_written_spells_the_guest()
-    ensures { (g : Guest) → 0 < length g.board.reach.bytes → HasSpelling g
-        → Spells (spelling g) g.board.reach.bytes g }
+    ensures { (g : Guest) → 0 < length g.board.shared.bytes → HasSpelling g
+        → Spells (spelling g) g.board.shared.bytes g }
 {}
 
 /// The values that are written are read back.
 pub fn what_is_written_is_read_back()
     ensures { (g : Guest) → HasSpelling g
-        → (state (length g.board.reach.bytes)).read (spelling g) ≡ Some (state_of g) }
+        → (state (length g.board.shared.bytes)).read (spelling g) ≡ Some (state_of g) }
 {}

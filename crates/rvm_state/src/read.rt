@@ -48,7 +48,7 @@ pub fn read_state<M: Memory>(
 fn restore_harts<M: Memory>(guest: &mut Debugged<M>, harts: &[HartPart])
     requires count { length guest.old.guest.board.harts ≡ length harts.now }
     requires few { length harts.now ≤ 8 }
-    requires held { AreHeld (length guest.old.guest.board.reach.bytes) harts.now }
+    requires held { AreHeld (length guest.old.guest.board.shared.bytes) harts.now }
     ensures { guest.new
         ≡ record guest.old { guest = harts_restored 0 harts.now guest.old.guest } }
 {
@@ -60,8 +60,8 @@ fn restore_harts<M: Memory>(guest: &mut Debugged<M>, harts: &[HartPart])
 /// The guest of a board whose values are all replaced.
 fn restored<M: Memory>(board: Board<M>, parts: &Parts) -> Debugged<M>
     requires count { IsOf (length parts.now.harts.items) (fresh board.plain) }
-    requires held { CanBeRestored (length board.plain.reach.bytes) (state_in parts.now) }
-    ensures guest { result.guest ≡ guest_of board.plain.reach.bytes (state_in parts.now) }
+    requires held { CanBeRestored (length board.plain.shared.bytes) (state_in parts.now) }
+    ensures guest { result.guest ≡ guest_of board.plain.shared.bytes (state_in parts.now) }
     ensures dirty { result.dirty ≡ board.dirty }
 {
     let mut guest = Debugged::new(board);

@@ -11,7 +11,7 @@ pub loop-guest-preserved : goal.loop-guest-preserved
 loop-guest-preserved g c =
     let now = c.loop-guest.guest in
     let new = c.drain_once.new.guest in
-    let some : 0 < length now.guest.board.reach.devices.output = omega arith in
+    let some : 0 < length now.guest.board.shared.devices.output = omega arith in
     goes_on (drains now.guest) (drains new.guest) (Drain 256 ∷ []) now new (g.W.Write.contents c.loop-guest.writer) (g.W.Write.contents c.drain_once.new.writer) c.loop-guest.invariant
     (drain_first now new some c.drain_once.ensures.guest) c.drain_once.ensures.guest c.in_ok-drain_once.ensures.written
 
@@ -19,7 +19,7 @@ pub returns-in_err-drain_once-clause-err : goal.returns-in_err-drain_once-clause
 returns-in_err-drain_once-clause-err g c =
     let now = c.loop-guest.guest in
     let new = c.drain_once.new.guest in
-    let some : 0 < length now.guest.board.reach.devices.output = omega arith in
+    let some : 0 < length now.guest.board.shared.devices.output = omega arith in
     on_err c.from_residual.result (0 < length (after (drains c.args.guest.now.guest) c.args.guest.now.guest).bytes)
     (some_bytes (drains now.guest) (drains new.guest) (Drain 256 ∷ []) now (g.W.Write.contents c.loop-guest.writer) c.loop-guest.invariant (drain_first now new some c.drain_once.ensures.guest) (drained_some now.guest some))
 
@@ -27,7 +27,7 @@ pub returns-in_err-drain_once-clause-part : goal.returns-in_err-drain_once-claus
 returns-in_err-drain_once-clause-part g c =
     let now = c.loop-guest.guest in
     let new = c.drain_once.new.guest in
-    let some : 0 < length now.guest.board.reach.devices.output = omega arith in
+    let some : 0 < length now.guest.board.shared.devices.output = omega arith in
     on_err c.from_residual.result (IsPartWay (drains c.args.guest.now.guest) c.args.guest.now new)
     (part_way (drains now.guest) (drains new.guest) (Drain 256 ∷ []) now new (g.W.Write.contents c.loop-guest.writer) c.loop-guest.invariant (drain_first now new some c.drain_once.ensures.guest) (whole_part (Drain 256 ∷ []) now new c.drain_once.ensures.guest))
 

@@ -9,4 +9,4 @@ invariant-loop-guest g l =
     Progress (drains l.fn.guest.guest) (drains l.guest.guest) l.fn.guest l.guest (g.W.Write.contents l.fn.writer) (g.W.Write.contents l.writer)
 
 abbrev pub decreases-loop-guest : goal.decreases-loop-guest
-decreases-loop-guest g l = length l.guest.guest.board.reach.devices.output
+decreases-loop-guest g l = length l.guest.guest.board.shared.devices.output

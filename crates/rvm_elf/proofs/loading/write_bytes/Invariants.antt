@@ -7,7 +7,7 @@ use Rattle.rvm_elf.proofs.loading.write_bytes.Given as goal
 -- the bytes so far are written
 abbrev pub invariant-loop-done : goal.invariant-loop-done
 invariant-loop-done g l = record {
-  board : l.board ≡ with_ram (replaced (l.address - ram_base) (take l.done l.bytes) l.fn.board.plain.reach.bytes) l.fn.board;
+  board : l.board ≡ with_ram (replaced (l.address - ram_base) (take l.done l.bytes) l.fn.board.plain.shared.bytes) l.fn.board;
   most : l.done ≤ length l.bytes;
 }
 

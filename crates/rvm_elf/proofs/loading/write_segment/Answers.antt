@@ -15,9 +15,9 @@ returns g c =
     let old = c.args.board.now in
     let some : 0 < size (piece_of s) =
     elim c.else-is_empty.branch [ else-is_empty-via-then-is_empty+else-segment-eq0 w ↦ grind (arith, w) | else-is_empty-via-else-is_empty w ↦ grind (arith, w) ] in
-    let is = some_inside (piece_of s) (length old.plain.reach.bytes) c.requires.inside some in
+    let is = some_inside (piece_of s) (length old.plain.shared.bytes) c.requires.inside some in
     let zeros : length (replicate {A = ℕ} s.zeros 0) ≡ s.zeros = length-replicate {A = ℕ} s.zeros 0 in
     then_written s.address (s.address + c.len.result) s.bytes.items (replicate s.zeros 0) (s.bytes.items ++ replicate s.zeros 0) old c.write_bytes.new.board c.write_zeros.new.board
     is.low (omega arith) (omega (arith, zeros, is.high)) refl
-    (c.write_bytes.ensures ∙ ap (λ bytes. with_ram (replaced (s.address - ram_base) bytes old.plain.reach.bytes) old) c.deref.ensures.value)
+    (c.write_bytes.ensures ∙ ap (λ bytes. with_ram (replaced (s.address - ram_base) bytes old.plain.shared.bytes) old) c.deref.ensures.value)
     c.write_zeros.ensures

@@ -7,7 +7,7 @@ pub loop-done-preserved : goal.loop-done-preserved
 loop-done-preserved g c =
     let done = c.loop-done.done in
     let more = c.min-more.result in
-    let inside = lies_in_ram c.args.count c.args.address c.args.board.now.plain.reach.bytes c.requires.inside in
+    let inside = lies_in_ram c.args.count c.args.address c.args.board.now.plain.shared.bytes c.requires.inside in
     let front : length (replicate {A = ℕ} done 0) ≡ done = length-replicate {A = ℕ} done 0 in
     let next : length (replicate {A = ℕ} more 0) ≡ more = length-replicate {A = ℕ} more 0 in
     record {

@@ -7,7 +7,7 @@ use Rattle.rvm_elf.proofs.loading.write_zeros.Given as goal
 -- the zeros so far are written
 abbrev pub invariant-loop-done : goal.invariant-loop-done
 invariant-loop-done g l = record {
-  board : l.board ≡ with_ram (replaced (l.address - ram_base) (replicate l.done 0) l.fn.board.plain.reach.bytes) l.fn.board;
+  board : l.board ≡ with_ram (replaced (l.address - ram_base) (replicate l.done 0) l.fn.board.plain.shared.bytes) l.fn.board;
   most : l.done ≤ l.count;
 }
 

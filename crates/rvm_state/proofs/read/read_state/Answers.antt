@@ -16,7 +16,7 @@ returns-in_default-clause-bad g c =
 pub restored-requires-clause-held : goal.restored-requires-clause-held
 restored-requires-clause-held g c =
     let there = sym (ap (option_map state_in) c.in-Some.is) ∙ c.parts_of.ensures in
-    subst (λ n. CanBeRestored n (state_in c.in-Some.parts)) (sym (ap (λ (b : Board). length b.reach.bytes) c.in-Ok.ensures.board))
+    subst (λ n. CanBeRestored n (state_in c.in-Some.parts)) (sym (ap (λ (b : Board). length b.shared.bytes) c.in-Ok.ensures.board))
     (can_restore c.args.bytes.now (g.M.Memory.bytes c.args.ram) c.len-size.result (state_in c.in-Some.parts) (λ i. omega (arith, c.type_inv.bytes i)) c.len-size.ensures.length there)
 
 pub returns-in-Ok-clause-found : goal.returns-in-Ok-clause-found
@@ -24,7 +24,7 @@ returns-in-Ok-clause-found g c =
     let there = sym (ap (option_map state_in) c.in-Some.is) ∙ c.parts_of.ensures in
     let some : 0 < c.len-size.result = omega (arith, c.if-size-eq0.false) in
     subst (λ (x : Guest). Spells c.args.bytes.now (g.M.Memory.bytes c.args.ram) x)
-    (sym (c.restored.ensures.guest ∙ ap (λ (b : Board). guest_of b.reach.bytes (state_in c.in-Some.parts)) c.in-Ok.ensures.board))
+    (sym (c.restored.ensures.guest ∙ ap (λ (b : Board). guest_of b.shared.bytes (state_in c.in-Some.parts)) c.in-Ok.ensures.board))
     (spells c.args.bytes.now (g.M.Memory.bytes c.args.ram) c.len-size.result (state_in c.in-Some.parts) (λ i. omega (arith, c.type_inv.bytes i)) some c.len-size.ensures.length there)
 
 pub returns-in-Err-clause-bad : goal.returns-in-Err-clause-bad

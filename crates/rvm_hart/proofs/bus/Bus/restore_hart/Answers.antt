@@ -6,6 +6,6 @@ use Rattle.rvm_hart.proofs.bus.Bus.restore_hart.Goals as goal
 
 pub invariant_of-self : goal.invariant_of-self
 invariant_of-self g c =
-    let Word : BusState → Type 0 = λ b. is_in_ram (length b.reach.bytes) c.args.reserved ≡ true in
+    let Word : BusState → Type 0 = λ b. is_in_ram (length b.shared.bytes) c.args.reserved ≡ true in
     set_keeps _ c.args.hart c.args.reserved c.self.inside.reservations c.restore.new.self c.restore.ensures c.self.invariant
     (subst Word (sym c.self.view_is) c.requires.in_ram)
