@@ -31,7 +31,7 @@ is_poked = refl
 
 -- so does the hart's store-conditional
 is_released : released 0 two_harts ≡ None ∷ None ∷ []
-is_taken = refl
+is_released = refl
 
 -- a hart has one reservation, the newest
 newest : held 0 0x8000_0200 two_harts ≡ Some 0x8000_0200 ∷ None ∷ []
