@@ -11,6 +11,9 @@ use Rattle.rvm_line.specs.Contents.{bytes_at}
 use Rattle.rvm_line.specs.Reading.{◌>>=◌}
 use Rattle.rvm_line.specs.Statements.{Definition, label_of, next_place, equ_at}
 use Rattle.rvm_line.specs.Values.{Names}
+use Rattle.rvm_refusal.specs.declared.refusal.Refusal.{Refusal}
+use Rattle.rvm_refusal.specs.declared.refusal.Refusal.TheVariants as refusal
+use Rattle.rvm_line.specs.Refusals.{refusal_of_fault}
 use Rattle.rvm_asm.specs.declared.error.AsmError.{AsmError}
 use Rattle.rvm_asm.specs.declared.error.AsmError.TheVariants.{OutOfMemory, Line, TooLarge}
 use Rattle.rvm_asm.specs.Assembly.{statement_of, line_at, IsLaidTo, IsLaid, IsImageTo}
@@ -112,3 +115,9 @@ abbrev pub IsError : List ℕ → AsmError → Type 0
 IsError text e =
     IsReadError (lines text) e
     ⊎ ((all : List (List Lexeme)) × AreRead (lines text) all × IsErrorOf all e)
+
+-- an error in the list of all refusals; the number of its line is told beside it
+abbrev pub refusal_of : AsmError → Refusal
+refusal_of OutOfMemory = refusal.OutOfMemory
+refusal_of (Line n fault) = refusal_of_fault fault
+refusal_of TooLarge = refusal.OutOfReach

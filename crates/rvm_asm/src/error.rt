@@ -1,19 +1,24 @@
 //! Why a text has no image.
 
 ghost use Rattle.std.specs.Prelude.{◌≡◌};
-ghost use Rattle.rvm_asm.specs.Refusals.{error_at};
+ghost use Rattle.rvm_asm.specs.Refusals.{error_at, refusal_of};
 
 use rvm_line::{Fault, LineError};
+use rvm_refusal::Refusal;
 use std::alloc::AllocError;
+use thiserror::Error;
 
 /// Why a text has no image.
-#[derive(Debug, Drop, Clone, Copy, PartialEq, Eq)]
+#[derive(Debug, Clone, Copy, PartialEq, Eq, Error)]
 pub enum AsmError {
     /// Memory ran out.
+    #[error("out of memory")]
     OutOfMemory,
     /// The line of this number, counted from 1, has this fault.
+    #[error("line {0}: {1}")]
     Line(usize, Fault),
     /// All lines together have more than 2^24 bytes.
+    #[error("more than 2^24 bytes")]
     TooLarge,
 }
 
@@ -37,5 +42,17 @@ impl From<AllocError> for AsmError {
 
     fn from(_error: AllocError) -> AsmError {
         AsmError::OutOfMemory
+    }
+}
+
+impl From<AsmError> for Refusal {
+    ghost from_gives = { λ error told. told ≡ refusal_of error };
+
+    fn from(error: AsmError) -> Refusal {
+        match error {
+            AsmError::OutOfMemory => Refusal::OutOfMemory,
+            AsmError::Line(_, fault) => Refusal::from(fault),
+            AsmError::TooLarge => Refusal::OutOfReach,
+        }
     }
 }

@@ -1,3 +1,4 @@
 pub mod Board
 pub mod Pokes
 pub mod Restored
+pub mod Refusals

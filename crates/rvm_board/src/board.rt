@@ -6,47 +6,25 @@ ghost use Rattle.rvm_mem.specs.Bytes.{slice};
 ghost use Rattle.rvm_mem.specs.Pages.{mark_all};
 ghost use Rattle.rvm_hart.specs.Bus.{in_ram, ram_base, ram_load};
 ghost use Rattle.rvm_hart.specs.Fields.{CanBeHeld, fields_of, is_in_ram, with_number};
-ghost use Rattle.rvm_board.specs.declared.board.BoardError.TheVariants.{BadSize};
-ghost use Rattle.rvm_board.specs.declared.board.PokeError.TheVariants.{BadHart, OutOfRange};
+ghost use Rattle.rvm_board.specs.declared.error.BoardError.TheVariants.{BadSize};
+ghost use Rattle.rvm_board.specs.declared.error.PokeError.TheVariants.{BadHart, OutOfRange};
 ghost use Rattle.rvm_board.specs.Pokes.{cleared, register_poked, memory_poked, is_view};
 ghost use Rattle.rvm_board.specs.Restored.{hart_restored, restored};
 ghost use Rattle.rvm_board.specs.Board.{at_reset, new_hart, hart_at, stepped, with_input, with_output, is_allowed};
 
+use crate::error::{BoardError, PokeError};
 use rvm_dev::{DeviceFields, Devices, InputFull};
 use rvm_hart::{Bus, Hart, HartFields, PC, Stepped};
 use rvm_mem::Memory;
 use rvm_res::Reservations;
 use std::alloc::{AllocError, Global};
 use std::marker::Model;
-use thiserror::Error;
 
 /// The most bytes that are read or written from outside at once.
 pub const VIEW_SIZE: usize = 256;
 
 /// The most harts that a board has.
 pub const MAX_HARTS: u32 = 8;
-
-/// Why there is no board.
-#[derive(Clone, Copy, Debug, PartialEq, Eq, Error)]
-pub enum BoardError {
-    /// No hart or more than 8, no RAM, or an entry that is no multiple of four.
-    #[error("harts, RAM or entry are outside limits")]
-    BadSize,
-    /// A growth was refused.
-    #[error("out of memory")]
-    OutOfMemory,
-}
-
-/// Why a write from outside was refused.
-#[derive(Clone, Copy, Debug, PartialEq, Eq, Error)]
-pub enum PokeError {
-    /// There is no such hart.
-    #[error("there is no such hart")]
-    BadHart,
-    /// There is no such register, or the bytes are none, more than 256, or not wholly in RAM.
-    #[error("register, address or length are out of range")]
-    OutOfRange,
-}
 
 /// Harts, RAM and devices.
 #[derive(Drop)]

@@ -4,5 +4,7 @@
 #![tactic(auto)]
 
 mod board;
+mod error;
 
-pub use board::{Board, BoardError, MAX_HARTS, PokeError, VIEW_SIZE};
+pub use board::{Board, MAX_HARTS, VIEW_SIZE};
+pub use error::{BoardError, PokeError};

@@ -20,7 +20,8 @@ use Rattle.rvm_script.specs.Words.{lines}
 use Rattle.rvm_command.specs.declared.refused.Refused.{Refused}
 use Rattle.rvm_command.specs.Command.{FileImage}
 use Rattle.rvm_command.specs.Ends.{IsFileRefusal, IsLoadRefusal, IsTextRefusal, IsUnwritable, IsScriptEnd, IsScriptEndOf}
-use Rattle.rvm_command.specs.Refusals.{refused, refusal_of_file, refusal_of_image}
+use Rattle.rvm_command.specs.Refusals.{refused}
+use Rattle.rvm_elf.specs.Refusals.{refusal_of_file, refusal_of_image}
 
 -- an error of a file as a refusal
 pub file_refused : (e : ReadError) (i : FileImage) (r : Refused) → Refuses e i → r ≡ refused (refusal_of_file e) → IsFileRefusal i r

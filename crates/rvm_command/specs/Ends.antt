@@ -22,7 +22,8 @@ use Rattle.rvm_command.specs.declared.refused.Refused.{Refused}
 use Rattle.rvm_command.specs.declared.run.Ended.{Ended}
 use Rattle.rvm_command.specs.Assembled.{IsFileOf}
 use Rattle.rvm_command.specs.Command.{FileImage, end_text, guest_of, image_of, listing, run_of}
-use Rattle.rvm_command.specs.Refusals.{IsTold, refused, refused_at, refused_of_text, refused_of_script, refusal_of_file, refusal_of_image}
+use Rattle.rvm_command.specs.Refusals.{IsTold, refused, refused_at, refused_of_text, refused_of_script}
+use Rattle.rvm_elf.specs.Refusals.{refusal_of_file, refusal_of_image}
 
 -- a file is refused: for its fault, or it has none and memory ran out
 abbrev pub IsFileRefusal : FileImage → Refused → Type 0

@@ -1,18 +1,13 @@
 -- What is told where a command is refused.
 use Rattle.std.specs.Prelude.{ℕ, List, ◌++◌, Option, Some, None, codes}
 use Rattle.std.specs.Io.KnownBytes.{Appends}
-use Rattle.rvm_elf.specs.declared.error.ReadError.{ReadError}
-use Rattle.rvm_elf.specs.declared.error.ReadError.TheVariants as file
-use Rattle.rvm_elf.specs.declared.error.WriteError.{WriteError}
-use Rattle.rvm_elf.specs.declared.error.WriteError.TheVariants as image
-use Rattle.rvm_line.specs.declared.faults.Fault.{Fault}
-use Rattle.rvm_line.specs.declared.faults.Fault.TheVariants as line
+use Rattle.rvm_line.specs.Refusals.{refusal_of_fault}
 use Rattle.rvm_asm.specs.declared.error.AsmError.{AsmError}
 use Rattle.rvm_asm.specs.declared.error.AsmError.TheVariants as text
 use Rattle.rvm_script.specs.declared.script.ScriptError.{ScriptError}
 use Rattle.rvm_script.specs.declared.script.ScriptError.TheVariants as script
 use Rattle.rvm_refusal.specs.declared.refusal.Refusal.{Refusal}
-use Rattle.rvm_refusal.specs.declared.refusal.Refusal.TheVariants.{OutOfMemory, BadToken, UnknownName, OutOfReach, Defined, Overlap, BadMagic, NotRiscV32, Truncated, TooMany, TooLong, LinkFault}
+use Rattle.rvm_refusal.specs.declared.refusal.Refusal.TheVariants.{OutOfMemory, BadToken, OutOfReach, TooLong, LinkFault}
 use Rattle.rvm_command.specs.declared.refused.Refused.{Refused}
 use Rattle.rvm_command.specs.Command.{refused_text}
 
@@ -22,28 +17,6 @@ refused r = record { line = None; refusal = r }
 
 abbrev pub refused_at : ℕ → Refusal → Refused
 refused_at n r = record { line = Some n; refusal = r }
-
--- of a file without an image
-abbrev pub refusal_of_file : ReadError → Refusal
-refusal_of_file file.OutOfMemory = OutOfMemory
-refusal_of_file file.BadMagic = BadMagic
-refusal_of_file file.NotRiscV32 = NotRiscV32
-refusal_of_file file.Truncated = Truncated
-refusal_of_file file.TooMany = TooMany
-
--- of an image without a file
-abbrev pub refusal_of_image : WriteError → Refusal
-refusal_of_image image.OutOfMemory = OutOfMemory
-refusal_of_image image.TooMany = TooMany
-refusal_of_image image.OutOfReach = OutOfReach
-
--- of a line of assembly
-abbrev pub refusal_of_fault : Fault → Refusal
-refusal_of_fault line.BadToken = BadToken
-refusal_of_fault line.UnknownName = UnknownName
-refusal_of_fault line.OutOfReach = OutOfReach
-refusal_of_fault line.Defined = Defined
-refusal_of_fault line.Overlap = Overlap
 
 -- of an assembly text, at the line of its fault
 abbrev pub refused_of_text : AsmError → Refused

@@ -9,11 +9,10 @@ ghost use Rattle.rvm_command.specs.Ends.{Answers, IsAsmEnd, IsTextRefusal, IsUnw
 ghost use Rattle.rvm_command.specs.Refusals.{refused_at};
 
 use crate::refused::{Refused, tell};
-use crate::run::LinkFault;
 use rvm_asm::assemble;
 use rvm_elf::{WriteError, write_image};
 use rvm_image::Image;
-use rvm_refusal::Refusal;
+use rvm_refusal::{LinkFault, Refusal};
 use std::alloc::Global;
 use std::io::Write;
 use std::str;

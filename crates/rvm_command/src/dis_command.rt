@@ -9,11 +9,11 @@ ghost use Rattle.rvm_command.specs.Ends.{Answers, IsListEnd};
 
 use crate::guest::read_file;
 use crate::refused::{Refused, tell};
-use crate::run::LinkFault;
 use byteorder::{ByteOrder, LittleEndian};
 use rvm_arguments::DisArguments;
 use rvm_dis::write_line;
 use rvm_image::Segment;
+use rvm_refusal::LinkFault;
 use std::alloc::Global;
 use std::io::Write;
 

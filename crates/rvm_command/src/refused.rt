@@ -2,13 +2,12 @@
 
 ghost use Rattle.std.specs.Prelude.{◌≡◌, IfOk};
 ghost use Rattle.rvm_refusal.specs.declared.refusal.Refusal.TheVariants as refusal;
-ghost use Rattle.rvm_command.specs.Refusals.{IsTold, refusal_of_fault, refusal_of_file, refusal_of_image, refused, refused_of_script, refused_of_text};
+ghost use Rattle.rvm_command.specs.Refusals.{IsTold, refused, refused_of_script, refused_of_text};
+ghost use Rattle.rvm_elf.specs.Refusals.{refusal_of_file, refusal_of_image};
 
-use crate::run::LinkFault;
 use rvm_asm::AsmError;
 use rvm_elf::{ReadError, WriteError};
-use rvm_line::Fault;
-use rvm_refusal::Refusal;
+use rvm_refusal::{LinkFault, Refusal};
 use rvm_script::ScriptError;
 use std::fmt;
 use std::io::Write;
@@ -52,8 +51,8 @@ impl From<Refusal> for Refused {
 impl From<LinkFault> for Refused {
     ghost from_gives = { λ _ told. told ≡ refused refusal.LinkFault };
 
-    fn from(_fault: LinkFault) -> Refused {
-        Refused::from(Refusal::LinkFault)
+    fn from(fault: LinkFault) -> Refused {
+        Refused::from(Refusal::from(fault))
     }
 }
 
@@ -62,13 +61,7 @@ impl From<ReadError> for Refused {
     ghost from_gives = { λ error told. told ≡ refused (refusal_of_file error) };
 
     fn from(error: ReadError) -> Refused {
-        Refused::from(match error {
-            ReadError::OutOfMemory => Refusal::OutOfMemory,
-            ReadError::BadMagic => Refusal::BadMagic,
-            ReadError::NotRiscV32 => Refusal::NotRiscV32,
-            ReadError::Truncated => Refusal::Truncated,
-            ReadError::TooMany => Refusal::TooMany,
-        })
+        Refused::from(Refusal::from(error))
     }
 }
 
@@ -77,11 +70,7 @@ impl From<WriteError> for Refused {
     ghost from_gives = { λ error told. told ≡ refused (refusal_of_image error) };
 
     fn from(error: WriteError) -> Refused {
-        Refused::from(match error {
-            WriteError::OutOfMemory => Refusal::OutOfMemory,
-            WriteError::TooMany => Refusal::TooMany,
-            WriteError::OutOfReach => Refusal::OutOfReach,
-        })
+        Refused::from(Refusal::from(error))
     }
 }
 
@@ -90,13 +79,13 @@ impl From<AsmError> for Refused {
     ghost from_gives = { λ error told. told ≡ refused_of_text error };
 
     fn from(error: AsmError) -> Refused {
-        match error {
-            AsmError::OutOfMemory => Refused::from(Refusal::OutOfMemory),
-            AsmError::Line(line, fault) => Refused {
-                line: Some(line),
-                refusal: of_fault(fault),
-            },
-            AsmError::TooLarge => Refused::from(Refusal::OutOfReach),
+        let line = match error {
+            AsmError::Line(line, _) => Some(line),
+            _ => None,
+        };
+        Refused {
+            line,
+            refusal: Refusal::from(error),
         }
     }
 }
@@ -114,19 +103,6 @@ impl From<ScriptError> for Refused {
             line,
             refusal: Refusal::from(error),
         }
-    }
-}
-
-/// The refusal of a fault of a line.
-fn of_fault(fault: Fault) -> Refusal
-    ensures { result ≡ refusal_of_fault fault }
-{
-    match fault {
-        Fault::BadToken => Refusal::BadToken,
-        Fault::UnknownName => Refusal::UnknownName,
-        Fault::OutOfReach => Refusal::OutOfReach,
-        Fault::Defined => Refusal::Defined,
-        Fault::Overlap => Refusal::Overlap,
     }
 }
 

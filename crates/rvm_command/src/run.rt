@@ -11,8 +11,8 @@ ghost use Rattle.rvm_command.specs.Slices.{GoesOn, rest_of_run, status_of, takes
 
 use rvm_debug::{Debugged, Order, Stop, Turns};
 use rvm_mem::Memory;
+use rvm_refusal::LinkFault;
 use std::io::Write;
-use thiserror::Error;
 
 /// How many turns are made between two drains of what the guest sent.
 const DRAIN_EVERY: u32 = 64;
@@ -28,11 +28,6 @@ pub enum Ended {
     /// As many turns were made as were asked for.
     StepsSpent,
 }
-
-/// A write failed; a part of what was to be written may have gone out.
-#[derive(Clone, Copy, Debug, PartialEq, Eq, Error)]
-#[error("a write failed")]
-pub struct LinkFault;
 
 /// Makes `steps` turns, or turns until the guest halts the board. In turn t the next byte of
 /// `input`, if one is left, comes to the console, or is kept for later where 16 bytes wait; then hart

@@ -8,8 +8,9 @@ ghost use Rattle.rvm_command.specs.Ends.{IsRunEnd, RunAnswers};
 
 use crate::guest::load_guest;
 use crate::refused::{Refused, tell};
-use crate::run::{Ended, LinkFault, run};
+use crate::run::{Ended, run};
 use rvm_arguments::RunArguments;
+use rvm_refusal::LinkFault;
 use std::alloc::Global;
 use std::fmt;
 use std::io::Write;

@@ -3,3 +3,4 @@ pub mod Events
 pub mod Parts
 pub mod Turns
 pub mod WhileFull
+pub mod Refusals

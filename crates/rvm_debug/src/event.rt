@@ -2,10 +2,12 @@
 
 ghost use Rattle.std.specs.Prelude.{◌≡◌};
 ghost use Rattle.rvm_debug.specs.Events.{reply_of};
+ghost use Rattle.rvm_debug.specs.Refusals.{refusal_of};
 
 use crate::view::View;
 use rvm_csr::{Exception, Interrupt};
 use rvm_hart::Stepped;
+use rvm_refusal::Refusal;
 use thiserror::Error;
 
 /// What a host asks of its board. Harts count from 0; addresses are the guest's.
@@ -83,6 +85,19 @@ pub enum BoardRefusal {
     /// 64 breakpoints are set.
     #[error("64 breakpoints are set")]
     TooManyBreaks,
+}
+
+impl From<BoardRefusal> for Refusal {
+    ghost from_gives = { λ why told. told ≡ refusal_of why };
+
+    fn from(why: BoardRefusal) -> Refusal {
+        match why {
+            BoardRefusal::OutOfRange => Refusal::OutOfRange,
+            BoardRefusal::InputFull => Refusal::InputFull,
+            BoardRefusal::BadHart => Refusal::BadHart,
+            BoardRefusal::TooManyBreaks => Refusal::TooManyBreaks,
+        }
+    }
 }
 
 impl BoardReply {

@@ -8,6 +8,7 @@ ghost use Rattle.rvm_dev.specs.Shared.{fields_of, hart_restored, restored};
 use crate::fields::DeviceFields;
 use crate::register::Register;
 use circular_buffer::HeapCircularBuffer;
+use rvm_refusal::Refusal;
 use rvm_word::{bit, high_half, is_set, low_half, with_high, with_low};
 use std::alloc::{AllocError, Global};
 use std::marker::Model;
@@ -26,6 +27,16 @@ const MAX_HARTS: usize = 8;
 #[derive(Clone, Copy, Debug, PartialEq, Eq, Error)]
 #[error("{INPUT_CAPACITY} input bytes wait")]
 pub struct InputFull;
+
+impl From<InputFull> for Refusal {
+    ghost use Rattle.rvm_refusal.specs.declared.refusal.Refusal.TheVariants as refusal;
+
+    ghost from_gives = { λ _ told. told ≡ refusal.InputFull };
+
+    fn from(_error: InputFull) -> Refusal {
+        Refusal::InputFull
+    }
+}
 
 /// The devices of a board of 1 to 8 harts.
 #[derive(Drop)]

@@ -6,7 +6,7 @@ ghost use Rattle.rvm_dis.specs.Disassembly.{line_at};
 ghost use Rattle.rvm_dis.specs.Pieces.{listed};
 
 use crate::rows::write_ins;
-use crate::shapes::LinkFault;
+use rvm_refusal::LinkFault;
 use std::fmt;
 use std::io::Write;
 

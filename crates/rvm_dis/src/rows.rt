@@ -6,11 +6,12 @@ ghost use Rattle.rvm_isa.specs.Words.{word_of};
 ghost use Rattle.rvm_dis.specs.Disassembly.{text_at, text_of};
 
 use crate::shapes::{
-    LinkFault, access, atomic, branch, csr_immediate, csr_register, fence, immediate, jump,
+    access, atomic, branch, csr_immediate, csr_register, fence, immediate, jump,
     load_reserved, registers, shift, upper, whole, word_as_data,
 };
 use rvm_isa::Ins;
 use rvm_isa::decode::decode;
+use rvm_refusal::LinkFault;
 use std::io::Write;
 
 /// Writes the text of the instruction that `word` is at `address`, without a line feed, in lower

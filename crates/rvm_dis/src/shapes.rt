@@ -6,22 +6,11 @@ ghost use Rattle.rvm_text.specs.Registers.{name_of};
 ghost use Rattle.rvm_dis.specs.Texts.{upper_text, jump_text, branch_text, access_text, immediate_text, shift_text, registers_text, csr_text, csr_immediate_text, load_reserved_text, atomic_text, word_text, fence_text};
 
 use rvm_isa::{CsrNo, Imm5, Imm12, Imm20, Off13, Off21, Reg, Shamt};
+use rvm_refusal::LinkFault;
 use rvm_text::register_name;
 use rvm_word::add_signed;
 use std::fmt;
-use std::io::{self, Write};
-use thiserror::Error;
-
-/// A write failed; a part of what was to be written may have gone out.
-#[derive(Clone, Copy, Debug, PartialEq, Eq, Error)]
-#[error("a write failed")]
-pub struct LinkFault;
-
-impl From<io::Error> for LinkFault {
-    fn from(_error: io::Error) -> LinkFault {
-        LinkFault
-    }
-}
+use std::io::Write;
 
 /// The name of a register in the calling convention.
 fn name(reg: Reg) -> &'static str

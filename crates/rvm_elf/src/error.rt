@@ -1,9 +1,11 @@
 //! Why a file has no image, and an image no file.
 
 ghost use Rattle.std.specs.Prelude.{◌≡◌};
+ghost use Rattle.rvm_elf.specs.Refusals.{refusal_of_file, refusal_of_image};
 ghost use Rattle.rvm_elf.specs.declared.error.ReadError.TheVariants as read;
 ghost use Rattle.rvm_elf.specs.declared.error.WriteError.TheVariants as write;
 
+use rvm_refusal::Refusal;
 use std::alloc::{AllocError, AllocFailed};
 use thiserror::Error;
 
@@ -35,6 +37,20 @@ impl From<AllocError> for ReadError {
     }
 }
 
+impl From<ReadError> for Refusal {
+    ghost from_gives = { λ error told. told ≡ refusal_of_file error };
+
+    fn from(error: ReadError) -> Refusal {
+        match error {
+            ReadError::OutOfMemory => Refusal::OutOfMemory,
+            ReadError::BadMagic => Refusal::BadMagic,
+            ReadError::NotRiscV32 => Refusal::NotRiscV32,
+            ReadError::Truncated => Refusal::Truncated,
+            ReadError::TooMany => Refusal::TooMany,
+        }
+    }
+}
+
 /// Why an image has no file.
 #[derive(Clone, Copy, Debug, PartialEq, Eq, Error)]
 pub enum WriteError {
@@ -54,5 +70,17 @@ impl From<AllocError> for WriteError {
 
     fn from(_error: AllocError) -> WriteError {
         WriteError::OutOfMemory
+    }
+}
+
+impl From<WriteError> for Refusal {
+    ghost from_gives = { λ error told. told ≡ refusal_of_image error };
+
+    fn from(error: WriteError) -> Refusal {
+        match error {
+            WriteError::OutOfMemory => Refusal::OutOfMemory,
+            WriteError::TooMany => Refusal::TooMany,
+            WriteError::OutOfReach => Refusal::OutOfReach,
+        }
     }
 }

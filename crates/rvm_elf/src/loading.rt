@@ -11,12 +11,23 @@ use rvm_board::{Board, VIEW_SIZE};
 use rvm_hart::{PC, RAM_BASE};
 use rvm_image::{Image, Segment};
 use rvm_mem::Memory;
+use rvm_refusal::Refusal;
 use thiserror::Error;
 
 /// The entry is no multiple of four in RAM, or a segment does not lie in RAM.
 #[derive(Clone, Copy, Debug, PartialEq, Eq, Error)]
 #[error("the image does not lie in RAM")]
 pub struct OutsideRam;
+
+impl From<OutsideRam> for Refusal {
+    ghost use Rattle.rvm_refusal.specs.declared.refusal.Refusal.TheVariants as refusal;
+
+    ghost from_gives = { λ _ told. told ≡ refusal.OutsideRam };
+
+    fn from(_error: OutsideRam) -> Refusal {
+        Refusal::OutsideRam
+    }
+}
 
 /// Loads an image: RAM becomes its bytes, where the later of two segments decides, with zeros
 /// elsewhere; each page is in the dirty log; each hart's pc becomes the entry, and no hart has a

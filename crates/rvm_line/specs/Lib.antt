@@ -10,3 +10,4 @@ pub mod Statements
 pub mod Values
 pub mod Views
 pub mod Words
+pub mod Refusals

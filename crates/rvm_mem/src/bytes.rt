@@ -5,12 +5,23 @@ ghost use Rattle.rvm_mem.specs.Bytes.{slice, replaced};
 ghost use Rattle.rvm_mem.specs.Pages.{byte_pages, mark_all};
 
 use crate::memory::Memory;
+use rvm_refusal::Refusal;
 use thiserror::Error;
 
 /// The range does not lie within the memory.
 #[derive(Clone, Copy, Debug, PartialEq, Eq, Error)]
 #[error("the range is not in memory")]
 pub struct OutOfRange;
+
+impl From<OutOfRange> for Refusal {
+    ghost use Rattle.rvm_refusal.specs.declared.refusal.Refusal.TheVariants as refusal;
+
+    ghost from_gives = { λ _ told. told ≡ refusal.OutOfRange };
+
+    fn from(_error: OutOfRange) -> Refusal {
+        Refusal::OutOfRange
+    }
+}
 
 /// Reads the bytes from a place on, as many as `bytes` has room for. `OutOfRange` where they are
 /// not all in memory; then `bytes` stays as it was.

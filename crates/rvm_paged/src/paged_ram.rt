@@ -1,10 +1,12 @@
 //! A memory of pages with its dirty log.
 
 ghost use Rattle.std.specs.Prelude.{◌≡◌, ◌*◌, ◌<◌, ◌↔◌, ◌⊎◌, false, replicate, IfOk};
+ghost use Rattle.rvm_paged.specs.Refusals.{refusal_of};
 ghost use Rattle.rvm_paged.specs.declared.paged_ram.PagedError.TheVariants.{BadSize};
 
 use byteorder::{ByteOrder, LittleEndian};
 use rvm_mem::{MAX_PAGES, Memory, PAGE_SIZE, PageSet, PagedMemory, block};
+use rvm_refusal::Refusal;
 use std::alloc::{AllocError, Global};
 use std::marker::Model;
 use std::mem;
@@ -19,6 +21,17 @@ pub enum PagedError {
     /// A growth was refused.
     #[error("out of memory")]
     OutOfMemory,
+}
+
+impl From<PagedError> for Refusal {
+    ghost from_gives = { λ error told. told ≡ refusal_of error };
+
+    fn from(error: PagedError) -> Refusal {
+        match error {
+            PagedError::BadSize => Refusal::BadSize,
+            PagedError::OutOfMemory => Refusal::OutOfMemory,
+        }
+    }
 }
 
 /// A memory whose bytes are one block, with the set of its pages that were written.

@@ -3,8 +3,8 @@
 use rvm_arguments::{GuestArguments, RunArguments};
 use rvm_command::asm_command::asm_command;
 use rvm_command::debug_command::debug_command;
-use rvm_command::run::LinkFault;
 use rvm_command::run_command::run_command;
+use rvm_refusal::LinkFault;
 use std::alloc::{AllocError, Global};
 use std::io;
 use std::io::Write;

@@ -6,22 +6,12 @@ use Rattle.rvm_csr.specs.Cause.{exception_code, interrupt_code}
 use Rattle.rvm_text.specs.Registers.{name_of}
 use Rattle.rvm_dis.specs.Pieces.{hex_digits}
 use Rattle.rvm_dis.specs.Disassembly.{line_at}
-use Rattle.rvm_refusal.specs.declared.refusal.Refusal.{Refusal}
-use Rattle.rvm_refusal.specs.declared.refusal.Refusal.TheVariants as refusal
 use Rattle.rvm_refusal.specs.Refusal.{text_of}
-use Rattle.rvm_debug.specs.declared.event.BoardRefusal.{BoardRefusal}
-use Rattle.rvm_debug.specs.declared.event.BoardRefusal.TheVariants as why
+use Rattle.rvm_debug.specs.Refusals.{refusal_of}
 use Rattle.rvm_debug.specs.declared.event.BoardEvent.{BoardEvent}
 use Rattle.rvm_debug.specs.declared.event.BoardEvent.TheVariants as event
 use Rattle.rvm_debug.specs.declared.event.BoardReply.{BoardReply}
 use Rattle.rvm_debug.specs.declared.event.BoardReply.TheVariants as reply
-
--- a board's refusal in the list of all
-abbrev pub refusal_of : BoardRefusal → Refusal
-refusal_of why.OutOfRange = refusal.OutOfRange
-refusal_of why.InputFull = refusal.InputFull
-refusal_of why.BadHart = refusal.BadHart
-refusal_of why.TooManyBreaks = refusal.TooManyBreaks
 
 -- an answer in words, but for bytes, registers and words of RAM
 abbrev pub reply_word : BoardReply → List ℕ

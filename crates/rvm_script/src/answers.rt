@@ -5,13 +5,13 @@ ghost use Rattle.std.specs.Io.KnownBytes.{Appends};
 ghost use Rattle.hex.specs.Hex.{encode_lower};
 ghost use Rattle.rvm_text.specs.Registers.{name_of};
 ghost use Rattle.rvm_dis.specs.Disassembly.{line_at};
-ghost use Rattle.rvm_script.specs.Answers.{address_of, bytes_text, four_text, memory_text, output_text, is_refused, refusal_of, registers_text, reply_text, row_text, step_text, two_text};
+ghost use Rattle.rvm_script.specs.Answers.{address_of, bytes_text, four_text, memory_text, output_text, is_refused, registers_text, reply_text, row_text, step_text, two_text};
 
 use hex::encode_to_slice;
 use rvm_board::VIEW_SIZE;
-use rvm_debug::{BoardEvent, BoardRefusal, BoardReply};
-use rvm_dis::{LinkFault, write_line};
-use rvm_refusal::Refusal;
+use rvm_debug::{BoardEvent, BoardReply};
+use rvm_dis::write_line;
+use rvm_refusal::{LinkFault, Refusal};
 use rvm_text::register_name;
 use std::fmt;
 use std::io::Write;
@@ -72,21 +72,9 @@ impl<'a> fmt::Display for InWords<'a> {
             BoardReply::Halted(status) => write!(f, "halted {status}"),
             BoardReply::Break(address) => write!(f, "break {}", Word(*address)),
             BoardReply::Done => write!(f, "done"),
-            BoardReply::Refused(why) => write!(f, "{}", refusal_of(*why)),
+            BoardReply::Refused(why) => write!(f, "{}", Refusal::from(*why)),
             BoardReply::Bytes(_) | BoardReply::Regs(_) | BoardReply::Line { .. } => Ok(()),
         }
-    }
-}
-
-/// A board's refusal in the list of all.
-fn refusal_of(why: BoardRefusal) -> Refusal
-    ensures { result ≡ refusal_of why }
-{
-    match why {
-        BoardRefusal::OutOfRange => Refusal::OutOfRange,
-        BoardRefusal::InputFull => Refusal::InputFull,
-        BoardRefusal::BadHart => Refusal::BadHart,
-        BoardRefusal::TooManyBreaks => Refusal::TooManyBreaks,
     }
 }
 

@@ -9,8 +9,8 @@ use crate::answers::{address_of, is_refused, write_reply, write_steps};
 use crate::hex_text::HexText;
 use crate::line::Line;
 use rvm_debug::{BoardEvent, BoardRefusal, BoardReply, Debugged, Order};
-use rvm_dis::LinkFault;
 use rvm_mem::Memory;
+use rvm_refusal::LinkFault;
 use std::io::Write;
 
 /// What steps of a hart answered.

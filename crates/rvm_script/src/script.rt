@@ -9,9 +9,8 @@ ghost use Rattle.rvm_script.specs.Runs.{IsRun, IsUnread, IsReadError, IsLineErro
 use crate::line::Line;
 use crate::lines::do_line;
 use rvm_debug::Debugged;
-use rvm_dis::LinkFault;
 use rvm_mem::Memory;
-use rvm_refusal::Refusal;
+use rvm_refusal::{LinkFault, Refusal};
 use std::alloc::Global;
 use std::io::{ErrorKind, Read, Write};
 use thiserror::Error;

@@ -4,3 +4,4 @@ pub mod Spelling
 pub mod Read
 pub mod Restoring
 pub mod Writing
+pub mod Refusals

@@ -1,5 +1,9 @@
 //! Why bytes gave no guest.
 
+ghost use Rattle.std.specs.Prelude.{◌≡◌};
+ghost use Rattle.rvm_state.specs.Refusals.{refusal_of};
+
+use rvm_refusal::Refusal;
 use thiserror::Error;
 
 /// Why bytes gave no guest.
@@ -11,4 +15,15 @@ pub enum StateFault {
     /// A growth was refused.
     #[error("out of memory")]
     OutOfMemory,
+}
+
+impl From<StateFault> for Refusal {
+    ghost from_gives = { λ fault told. told ≡ refusal_of fault };
+
+    fn from(fault: StateFault) -> Refusal {
+        match fault {
+            StateFault::BadState => Refusal::BadState,
+            StateFault::OutOfMemory => Refusal::OutOfMemory,
+        }
+    }
 }

@@ -4,3 +4,4 @@ pub mod Numbers
 pub mod Registers
 pub mod Strings
 pub mod Tokens
+pub mod Refusals

@@ -3,9 +3,12 @@
 ghost use Rattle.std.specs.Prelude.{◌≡◌, ◌+◌, ◌<◌, ◌≤◌, ◌++◌, length, Some, None, IfOk, IfErr, option_map, slice_range, slice_index, OnOk, IsErrOf};
 ghost use Rattle.rvm_text.specs.Bytes.{is_word, is_space, is_mark, is_escape};
 ghost use Rattle.rvm_text.specs.Lexemes.{lexemes, after, open_at, at_end, Word};
+ghost use Rattle.rvm_text.specs.Refusals.{refusal_of};
 ghost use Rattle.rvm_text.specs.Tokens.{lexeme_of, lexemes_of, is_name, mode_of, IsTextError, IsBegun, Moves, Adds};
 
+use rvm_refusal::Refusal;
 use std::alloc::{AllocError, AllocFailed, Global};
+use thiserror::Error;
 
 /// A part of a line, with its bytes.
 #[derive(Clone, Copy)]
@@ -19,12 +22,25 @@ pub enum Token<'a> {
 }
 
 /// Why a line has no tokens.
-#[derive(Debug, Drop, Clone, Copy, PartialEq, Eq)]
+#[derive(Debug, Clone, Copy, PartialEq, Eq, Error)]
 pub enum TextError {
     /// Memory ran out.
+    #[error("out of memory")]
     OutOfMemory,
     /// The line of this number is not in the grammar.
+    #[error("line {0} is not in the grammar")]
     BadToken(usize),
+}
+
+impl From<TextError> for Refusal {
+    ghost from_gives = { λ error told. told ≡ refusal_of error };
+
+    fn from(error: TextError) -> Refusal {
+        match error {
+            TextError::OutOfMemory => Refusal::OutOfMemory,
+            TextError::BadToken(_) => Refusal::BadToken,
+        }
+    }
 }
 
 /// Where the reading of a line stands, with the place where a word or a string began.

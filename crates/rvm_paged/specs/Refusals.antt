@@ -1,0 +1,9 @@
+-- Why there is no memory, in the list of all refusals.
+use Rattle.rvm_refusal.specs.declared.refusal.Refusal.{Refusal}
+use Rattle.rvm_refusal.specs.declared.refusal.Refusal.TheVariants as refusal
+use Rattle.rvm_paged.specs.declared.paged_ram.PagedError.{PagedError}
+use Rattle.rvm_paged.specs.declared.paged_ram.PagedError.TheVariants as why
+
+abbrev pub refusal_of : PagedError → Refusal
+refusal_of why.BadSize = refusal.BadSize
+refusal_of why.OutOfMemory = refusal.OutOfMemory
