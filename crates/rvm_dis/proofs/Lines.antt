@@ -111,14 +111,14 @@ module _ (names : Names) (a : ℕ) (below : a < 2 ^ 32) (aligned : a % 4 ≡ 0) 
   data_line fits =
       let reads = word (codes ".word") refl (blank (last_word (hex 8 w) (hex_word 8 w))) refl in
       record {
-    one_line = one_line reads;
-    lexemes = Word (codes ".word") ∷ Word (hex 8 w) ∷ [];
-    read = read_all reads;
-    unlabelled = refl;
-    undefining = rw (word_is_last w fits) refl;
-    next = rw (word_is_last w fits, room) refl;
-    bytes = rw (word_is_last w fits, word_last names w fits) refl;
-  }
+        one_line = one_line reads;
+        lexemes = Word (codes ".word") ∷ Word (hex 8 w) ∷ [];
+        read = read_all reads;
+        unlabelled = refl;
+        undefining = rw (word_is_last w fits) refl;
+        next = rw (word_is_last w fits, room) refl;
+        bytes = rw (word_is_last w fits, word_last names w fits) refl;
+      }
 
   -- rd, upper bits
   pub upper_line : (m : List ℕ) (op : Upper) (rd imm : ℕ) → IsMnemonic m (operation.Upper op) →

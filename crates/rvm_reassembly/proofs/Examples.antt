@@ -1,5 +1,5 @@
 -- A word's text behind an `.org`, and the word's bytes, as the manual gives them.
-use Rattle.std.proofs.Common.{◌≡◌, List, [], ◌∷◌, refl}
+use Rattle.std.proofs.Common.{◌≡◌, [], ◌∷◌, refl}
 use Rattle.std.specs.Prelude.{codes}
 use Rattle.rvm_word.specs.Word.{signed_value}
 use Rattle.rvm_text.specs.Registers.{name_of, abi_names}
