@@ -39,7 +39,7 @@ use Rattle.rvm_dis.specs.Texts.{upper_text, jump_text, branch_text, access_text,
 use Rattle.rvm_dis.specs.Assembles.{Assembles}
 use Rattle.rvm_dis.proofs.Numbers.{decimal_word, short_hex_word, hex_word}
 use Rattle.rvm_dis.proofs.Operands.{register_word, register_first, register_last, base_last, decimal_below, short_hex_below, word_last, csr_first, branch_target, jump_target, signed_lexemes, signed_reads, last_signed_reads, immediate_field, immediate_last, immediate_first, register_follows, register_is_last, base_is_last, csr_follows, decimal_is_last, short_hex_is_last, word_is_last, target_is_last, immediate_is_last, address_is_last}
-use Rattle.rvm_dis.proofs.Reading.{Reads, is_one_word, read_all, word, last_word, blank, comma, bracketed}
+use Rattle.rvm_dis.proofs.Reading.{Reads, is_one_word, read_all, one_line, word, last_word, blank, comma, bracketed}
 
 -- a word that names an instruction
 pub record IsMnemonic (mnemonic : List ℕ) (op : Operation) : Type 0 where
@@ -81,9 +81,11 @@ module _ (names : Names) (a : ℕ) (below : a < 2 ^ 32) (aligned : a % 4 ≡ 0) 
       instruction_at names a op ts ≡ Ok i → word_of i ≡ w → Assembles names a w text
   unfolding words_at
   statement {text} {ts} m op i named reads unlabelled shaped operands is = record {
+    one_line = one_line reads;
     lexemes = Word m ∷ ts;
     read = read_all reads;
     unlabelled = unlabelled;
+    undefining = rw (named.known, shaped) refl;
     next = rw (named.known, shaped, room) refl;
     bytes = rw (named.known, shaped, multiple, operands) (ap (λ v. Ok (to_le_bytes w32 v)) is);
   }
@@ -106,13 +108,17 @@ module _ (names : Names) (a : ℕ) (below : a < 2 ^ 32) (aligned : a % 4 ≡ 0) 
   -- a word as data
   pub data_line : w < 2 ^ 32 → Assembles names a w (word_text w)
   unfolding keyword_of directives parts list_bytes value_of_width grammar_at expressions_at behind more_operands_at
-  data_line fits = record {
-    lexemes = Word (codes ".word") ∷ Word (hex 8 w) ∷ [];
-    read = read_all (word (codes ".word") refl (blank (last_word (hex 8 w) (hex_word 8 w))) refl);
-    unlabelled = refl;
-    next = rw (word_is_last w fits, room) refl;
-    bytes = rw (word_is_last w fits, word_last names w fits) refl;
-  }
+  data_line fits =
+      let reads = word (codes ".word") refl (blank (last_word (hex 8 w) (hex_word 8 w))) refl in
+      record {
+        one_line = one_line reads;
+        lexemes = Word (codes ".word") ∷ Word (hex 8 w) ∷ [];
+        read = read_all reads;
+        unlabelled = refl;
+        undefining = rw (word_is_last w fits) refl;
+        next = rw (word_is_last w fits, room) refl;
+        bytes = rw (word_is_last w fits, word_last names w fits) refl;
+      }
 
   -- rd, upper bits
   pub upper_line : (m : List ℕ) (op : Upper) (rd imm : ℕ) → IsMnemonic m (operation.Upper op) →

@@ -4,13 +4,14 @@ use Rattle.std.specs.List.{list_all}
 use Rattle.std.proofs.lemmas.Bool.{cases_eq}
 use Rattle.std.proofs.lemmas.Bool.Decides.{nat_tests}
 use Rattle.std.proofs.lemmas.List.{append-nil}
+use Rattle.std.proofs.lemmas.List.Folds.{list_all-append}
 use Rattle.std.specs.Fmt.{digits, digits_onto, digit_glyph, decimal}
 use Rattle.rvm_text.specs.Bytes.{is_word, is_digit}
 use Rattle.rvm_text.specs.Numbers.{digit_value, number_after, number_in, number_of}
 use Rattle.rvm_text.specs.Tokens.{is_name}
 use Rattle.rvm_dis.specs.Pieces.{hex_digits, hex, short_hex}
 use Rattle.rvm_dis.proofs.Hex.{length_hex, digits_end, digits_more, power_left}
-use Rattle.rvm_dis.proofs.Reading.{is_one_word, first_of, second_of}
+use Rattle.rvm_dis.proofs.Reading.{is_one_word, first_of, second_of, both}
 
 -- a test passes of each number below n
 abbrev pub all_below : (n : ℕ) → (ℕ → Bool) → Bool
@@ -85,9 +86,6 @@ digits_read radix (suc k) n acc two known some room fits =
           ∙ digit_read radix (n / radix) (n % radix) acc known last (omega arith)
           ∙ ap (λ m. number_after radix m acc) whole
     ]
-
-both : (a b : Bool) → a ≡ true → b ≡ true → (a && b) ≡ true
-both a b p q = simp (p, q) refl
 
 -- what all digits of a radix pass, all digits of a number pass
 digits_pass : (test : ℕ → Bool) (radix k n : ℕ) (acc : List ℕ) → 0 < radix →
@@ -203,19 +201,14 @@ hexes_read (suc count) n acc below fits =
     ∙ digit_read 16 (n / 16) (n % 16) acc (omega arith) (omega arith) (omega arith)
     ∙ ap (λ m. number_after 16 m acc) whole
 
-all_append : (test : ℕ → Bool) (xs ys : List ℕ) → list_all test xs ≡ true → list_all test ys ≡ true →
-    list_all test (xs ++ ys) ≡ true
-all_append test [] ys p q = q
-all_append test (x ∷ xs) ys p q =
-    both (test x) (list_all test (xs ++ ys)) (first_of (test x) (list_all test xs) p)
-    (all_append test xs ys (second_of (test x) (list_all test xs) p) q)
-
 hexes_word : (count n : ℕ) → list_all is_word (hex_digits count n) ≡ true
 unfolding hex_digits
 hexes_word zero n = refl
 hexes_word (suc count) n =
     let digit = digit_glyph false (n % 16) in
-    all_append is_word (hex_digits count (n / 16)) (digit ∷ []) (hexes_word count (n / 16))
+    list_all-append is_word (hex_digits count (n / 16)) (digit ∷ [])
+    ∙ both (list_all is_word (hex_digits count (n / 16))) (list_all is_word (digit ∷ []))
+    (hexes_word count (n / 16))
     (both (is_word digit) true (word_digit (n % 16) (omega arith)) refl)
 
 pub hex_number : (count n : ℕ) → 0 < count → n < 16 ^ count → n < 2 ^ 32 →

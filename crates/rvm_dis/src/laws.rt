@@ -7,8 +7,9 @@ ghost use Rattle.rvm_dis.specs.Disassembly.{text_at};
 
 use rvm_isa::decode::decode;
 
-/// The text of a word at an address that is a multiple of four is, as a line of assembly that
-/// stands there, the word again: without a label, four bytes long, and whatever values names have.
+/// The text of a word at an address that is a multiple of four is one line of assembly, and where it
+/// stands there, it is the word again: without a label or the definition of a name, four bytes long,
+/// and whatever values names have.
 pub fn the_text_of_a_word_is_the_word_again(address: u32, word: u32)
     ensures { address % 4 ≡ 0 → (names : Names) →
         Assembles names address word (text_at address word) }

@@ -1,0 +1,4 @@
+mod Examples
+pub mod Pieces
+pub mod Org
+pub mod Assembled
