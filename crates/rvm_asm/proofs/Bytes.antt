@@ -1,8 +1,8 @@
 -- Bytes in pieces, and what one line adds to the image.
-use Rattle.std.proofs.Common.{◌≡◌, ℕ, ◌+◌, ◌-◌, ◌^◌, ◌<◌, ◌≤◌, add-one, List, [], ◌∷◌, ◌++◌, length, get_or, take, drop, refl, ap, sym, ◌∙◌, Option, Some, None, Result, Ok, Err, arith, subst, rules, inl, inr, ⊎_elim, length-append}
+use Rattle.std.proofs.Common.{◌≡◌, ℕ, ◌+◌, ◌-◌, ◌^◌, ◌<◌, ◌≤◌, add-one, List, [], ◌∷◌, ◌++◌, length, get_or, refl, ap, sym, ◌∙◌, Option, Some, None, Result, Ok, Err, arith, subst, rules, inl, inr, ⊎_elim, length-append}
 use Rattle.std.specs.Prelude.{◌⊎◌, IsSome}
 use Rattle.std.proofs.lemmas.Bool.Decides.{nat_tests}
-use Rattle.std.proofs.lemmas.List.{append-nil, take-append-drop, take-map, drop-map, map_push, get_or_append_left, get_or-append-add}
+use Rattle.std.proofs.lemmas.List.{map_push, get_or_append_left, get_or-append-add}
 use Rattle.std.proofs.str.Laws.{order}
 use Rattle.rvm_text.specs.Lexemes.{Lexeme}
 use Rattle.rvm_line.specs.declared.faults.Fault.{Fault}
@@ -40,7 +40,7 @@ bounds p a h =
     (λ low. ⊎_elim (λ high. (low, high)) (λ past. absurd (none_some _ (outside p a (inr past)) h)) (order a (p.address + size p)))
     (order a p.address)
 
-or_none : (o : Option ℕ) → or_else o None ≡ o
+pub or_none : (o : Option ℕ) → or_else o None ≡ o
 or_none None = refl
 or_none (Some x) = refl
 
@@ -83,9 +83,6 @@ pub taken_more : (p : Piece) (ps : List Piece) (address count : ℕ) → IsTaken
 taken_more p ps address count t = (t.0, t.1, t.2, some_first (byte_at ps t.0) (in_piece p t.0) t.3)
 
 -- one piece's places
-pub apart_empty : (p : Piece) (address count : ℕ) → size p ≡ 0 → IsFree (p ∷ []) address count
-apart_empty p address count e a low high = ⊎_elim (λ h. outside p a (inl h)) (λ h. outside p a (inr (omega arith))) (order a p.address)
-
 pub apart_before : (p : Piece) (address count : ℕ) → p.address + size p ≤ address → IsFree (p ∷ []) address count
 apart_before p address count e a low high = outside p a (inr (omega arith))
 
@@ -181,22 +178,6 @@ pub pieces_append : (xs ys : List Segment) → pieces_of (xs ++ ys) ≡ pieces_o
 pieces_append [] ys = refl
 pieces_append (x ∷ xs) ys = ap (λ l. piece_of x ∷ l) (pieces_append xs ys)
 
--- a piece stands between others
-joins_between : (before behind : List Piece) (p : Piece) → IsFree (before ++ behind) p.address (size p) → Joins (before ++ behind) (before ++ p ∷ behind) p
-joins_between before behind p free a =
-    let x = byte_at before a in
-    let y = byte_at behind a in
-    let q = in_piece p a in
-    let whole : byte_at (before ++ behind) a ≡ or_else y x = byte_append before behind a in
-    byte_append before (p ∷ behind) a
-    ∙ ap (λ o. or_else o x) (swap y q (first_none y q x (subst (λ o. (q ≡ None) ⊎ (o ≡ None)) whole (apart_at p (before ++ behind) a free))))
-    ∙ sym (or_assoc q y x)
-    ∙ ap (or_else q) (sym whole)
-  where
-    first_none : (y q x : Option ℕ) → (q ≡ None) ⊎ (or_else y x ≡ None) → (y ≡ None) ⊎ (q ≡ None)
-    first_none None q x h = inl refl
-    first_none (Some y) q x h = ⊎_elim inr (λ e. absurd (let f : Some y ≡ None = e in cc)) h
-
 -- a segment behind the others
 pub joins_push : (old : List Segment) (s : Segment) → Joins (pieces_of old) (pieces_of (old ++ s ∷ [])) (piece_of s)
 joins_push old s a = ap (λ ps. byte_at ps a) (map_push piece_of old s) ∙ byte_push (pieces_of old) (piece_of s) a
@@ -241,10 +222,10 @@ joins_last rest last longest address bs is none at a =
     ∙ ap (or_else (in_piece (piece address bs) a)) (sym (joins_push rest last a))
 
 -- before the first line
-pub image_none : (lines : List (List Lexeme)) (names : Names) (places : List ℕ) (ss : List Segment) → ss ≡ [] → IsImageTo lines 0 names places (pieces_of ss)
-image_none lines names places ss e = record {
+pub image_none : (lines : List (List Lexeme)) (names : Names) (places : List ℕ) (ps : List Piece) → ps ≡ [] → IsImageTo lines 0 names places ps
+image_none lines names places ps e = record {
   bytes = λ i h. absurd (omega (arith, h));
-  others = λ a s. absurd (none_some (byte_at (pieces_of ss) a) (ap (λ l. byte_at (pieces_of l) a) e) s);
+  others = λ a s. absurd (none_some (byte_at ps a) (ap (λ l. byte_at l a) e) s);
   apart = λ i j less h. absurd (omega (arith, h));
 }
 
@@ -304,27 +285,9 @@ append_last old rest new last longest address bs e f is none at a = rw (e, f) (j
 pub append_new : (old mid new : List Segment) (s : Segment) → old ≡ mid → new ≡ mid ++ s ∷ [] → Joins (pieces_of old) (pieces_of new) (piece_of s)
 append_new old mid new s e f a = rw (e, f) (joins_push mid s a)
 
--- a segment between those before an index and those behind it
-pub pieces_at : (old : List Segment) (at : ℕ) (s : Segment) → pieces_of (take at old ++ s ∷ drop at old) ≡ take at (pieces_of old) ++ piece_of s ∷ drop at (pieces_of old)
-pieces_at old at s = pieces_append (take at old) (s ∷ drop at old) ∙ ap (λ l. l ++ piece_of s ∷ pieces_of (drop at old)) (sym (take-map piece_of at old)) ∙ ap (λ l. take at (pieces_of old) ++ piece_of s ∷ l) (sym (drop-map piece_of at old))
-
-pub insert_at : (old new : List Segment) (at : ℕ) (s : Segment) → IsFree (pieces_of old) s.address (size (piece_of s)) → new ≡ take at old ++ s ∷ drop at old → Joins (pieces_of old) (pieces_of new) (piece_of s)
-insert_at old new at s free e a =
-    let ps = pieces_of old in
-    let whole : ps ≡ take at ps ++ drop at ps = sym (take-append-drop at ps) in
-    ap (λ l. byte_at l a) (ap pieces_of e ∙ pieces_at old at s)
-    ∙ joins_between (take at ps) (drop at ps) (piece_of s) (subst (λ l. IsFree l s.address (size (piece_of s))) whole free) a
-    ∙ ap (λ l. or_else (in_piece (piece_of s) a) (byte_at l a)) (sym whole)
-
--- a segment more is joined
-pub same_more : (from to new : List Segment) (s : Segment) → HasSameBytes (pieces_of from) (pieces_of to) → Joins (pieces_of to) (pieces_of new) (piece_of s) → HasSameBytes (pieces_of (from ++ s ∷ [])) (pieces_of new)
-same_more from to new s same joins a =
-    joins_push from s a ∙ ap (or_else (in_piece (piece_of s) a)) (same a) ∙ sym (joins a)
-
--- no segment is left
-pub same_all : (from rest all to : List Segment) → from ++ rest ≡ all → rest ≡ [] → HasSameBytes (pieces_of from) (pieces_of to) → HasSameBytes (pieces_of all) (pieces_of to)
-same_all from rest all to e f same a =
-    ap (λ l. byte_at (pieces_of l) a) (sym e ∙ ap (λ l. from ++ l) f ∙ append-nil from) ∙ same a
+-- the first piece that is left is joined
+pub same_more : (rest joined new : List Piece) (p : Piece) (a : ℕ) → Joins joined new p → or_else (byte_at (p ∷ rest) a) (byte_at joined a) ≡ or_else (byte_at rest a) (byte_at new a)
+same_more rest joined new p a joins = sym (or_assoc (byte_at rest a) (in_piece p a) (byte_at joined a)) ∙ ap (or_else (byte_at rest a)) (sym (joins a))
 
 -- the same bytes are an image of the same lines
 pub image_same : (lines : List (List Lexeme)) (names : Names) (places : List ℕ) (xs ys : List Piece) → IsImage lines names places xs → HasSameBytes xs ys → IsImage lines names places ys

@@ -3,4 +3,5 @@ pub mod Laying
 pub mod Lines
 pub mod Names
 pub mod Order
+pub mod Placed
 pub mod Unique

@@ -1,7 +1,11 @@
 -- What the code's values stand for.
-use Rattle.std.specs.Prelude.{◌≡◌, ℕ, ◌+◌, ◌^◌, ◌≤◌, List, [], Option, map, Result, Ok, Err, ◌⊎◌}
-use Rattle.std.specs.Prelude.{length, unwrap_or, None}
+use Rattle.std.specs.Prelude.{◌≡◌, ℕ, ◌+◌, ◌^◌, ◌≤◌, List, [], ◌++◌, Option, map, Result, Ok, Err, ◌⊎◌}
+use Rattle.std.specs.Prelude.{length, unwrap_or, None, Some, Vec}
 use denote.Ref.{Bor}
+use Rattle.std.specs.declared.alloc.Global.{Global}
+use Rattle.std.specs.BTreeMap.{BTreeMap, get, is_at}
+use Rattle.std.specs.Map.{set_value}
+use Rattle.std.specs.Ordering.{nat_cmp}
 use Rattle.rvm_text.specs.Lexemes.{Lexeme, lexemes}
 use Rattle.rvm_line.specs.declared.faults.LineError.{LineError}
 use Rattle.rvm_line.specs.declared.faults.LineError.TheVariants as line_error
@@ -35,6 +39,31 @@ IsUnreadable text (line_error.Faulty f) = (f ≡ BadToken) × (lexemes text ≡ 
 -- no zeros stand behind a segment's bytes
 abbrev pub HasNoZeros : Segment → Type 0
 HasNoZeros s = s.zeros ≡ 0
+
+-- the segments of a map: their bytes by their addresses
+abbrev pub Segments : Type 0
+Segments = BTreeMap ℕ (Vec ℕ Global)
+
+-- what a segment stands for
+abbrev pub entry_piece : ℕ × Vec ℕ Global → Piece
+entry_piece e = piece e.0 e.1.items
+
+-- what the segments of a map stand for
+abbrev pub placed_pieces : Segments → List Piece
+placed_pieces m = map entry_piece m.entries
+
+-- a segment begins at one place and ends before another
+abbrev pub EndsAt : Segments → (start place : ℕ) → Type 0
+EndsAt m start place =
+    (bytes : Vec ℕ Global) × (get nat_cmp m start ≡ Some bytes)
+    × (start + length bytes.items ≡ place)
+
+-- the segment that begins at a place has more bytes at its end
+abbrev pub IsLonger : Segments → Segments → (start : ℕ) → List ℕ → Type 0
+IsLonger old new start more =
+    (bytes : Vec ℕ Global) → get nat_cmp old start ≡ Some bytes
+    → (longer : Vec ℕ Global) × (longer.items ≡ bytes.items ++ more)
+    × (new.entries ≡ set_value (is_at (nat_cmp start)) old.entries longer)
 
 -- a line's definitions join the names and the place behind it is given, or it has a fault
 abbrev pub IsLaying : Names → Names → ℕ → List Lexeme → Result ℕ LineError → Type 0

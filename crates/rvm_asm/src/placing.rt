@@ -4,16 +4,14 @@ ghost use Rattle.std.specs.Prelude.{◌≡◌, IfOk, IfErr, OnOk, IsSome};
 ghost use Rattle.rvm_text.specs.Lexemes.{lexemes};
 ghost use Rattle.rvm_text.specs.Tokens.{lexemes_of};
 ghost use Rattle.rvm_line.specs.Views.{names_of};
-ghost use Rattle.rvm_image.specs.Images.{pieces_of};
 ghost use Rattle.rvm_asm.specs.Assembly.{AreRead, IsLaid, IsImage};
 ghost use Rattle.rvm_asm.specs.Images.{AreOrdered};
 ghost use Rattle.rvm_asm.specs.Refusals.{count_at, IsErrorOf};
-ghost use Rattle.rvm_asm.specs.Views.{line_of, lines_of, texts_of, Fits, IsPutting};
+ghost use Rattle.rvm_asm.specs.Views.{line_of, lines_of, texts_of, placed_pieces, Fits, IsPutting};
 
 use crate::error::AsmError;
 use crate::reading::read_line;
-use crate::segments::{insert, is_free};
-use rvm_image::Segment;
+use crate::segments::{Placed, insert, is_free};
 use rvm_line::{Fault, LineError, Symbols, contents, label};
 use rvm_text::Token;
 use std::alloc::Global;
@@ -21,24 +19,24 @@ use std::alloc::Global;
 /// The most bytes that all lines may have together.
 const MAX_BYTES: usize = 1 << 24;
 
-/// The bytes of all lines, each at its place, in segments that rise by address.
+/// The bytes of all lines, each at its place.
 pub fn place_lines(
     alloc: Global,
     texts: &[&str],
     symbols: &Symbols,
     places: &[u64],
-) -> Result<Vec<Segment>, AsmError>
+) -> Result<Placed, AsmError>
     requires read { AreRead (texts_of texts.now) (lines_of (texts_of texts.now)) }
     requires laid { IsLaid (lines_of (texts_of texts.now)) (names_of symbols.now) places.now }
     ensures placed { IfOk result (λ v. IsImage (lines_of (texts_of texts.now)) (names_of symbols.now)
-        places.now (pieces_of v.items)) }
-    ensures ordered { IfOk result (λ v. AreOrdered 0 0 (pieces_of v.items)) }
+        places.now (placed_pieces v)) }
+    ensures ordered { IfOk result (λ v. AreOrdered 0 0 (placed_pieces v)) }
     ensures refused { IfErr result (λ e. IsErrorOf (lines_of (texts_of texts.now)) e) }
 {
-    let mut segments = Vec::new(alloc);
+    let mut placed = Placed::new(alloc);
     let mut left = MAX_BYTES;
     for (index, text) in texts.iter().enumerate() {
-        let count = match place_text(alloc, &mut segments, symbols, places[index], text) {
+        let count = match place_text(alloc, &mut placed, symbols, places[index], text) {
             Ok(count) => count,
             Err(error) => return Err(AsmError::at(index + 1, error)),
         };
@@ -47,44 +45,44 @@ pub fn place_lines(
         }
         left -= count;
     }
-    Ok(segments)
+    Ok(placed)
 }
 
 /// Puts the bytes of a line at its place, and answers how many they are.
 #[tactic(auto, using(crate::proofs::Lines::texts_put))]
 fn place_text(
     alloc: Global,
-    segments: &mut Vec<Segment>,
+    placed: &mut Placed,
     symbols: &Symbols,
     place: u64,
     text: &str,
 ) -> Result<usize, LineError>
     requires read { IsSome (lexemes text.now) }
     requires fits { Fits (names_of symbols.now) place (line_of text.now) }
-    requires ordered { AreOrdered 0 0 (pieces_of segments.old.items) }
-    ensures put { IsPutting (pieces_of segments.old.items) (pieces_of segments.new.items)
+    requires ordered { AreOrdered 0 0 (placed_pieces placed.old) }
+    ensures put { IsPutting (placed_pieces placed.old) (placed_pieces placed.new)
         (names_of symbols.now) place (line_of text.now) result }
-    ensures ordered { OnOk result (AreOrdered 0 0 (pieces_of segments.new.items)) }
+    ensures ordered { OnOk result (AreOrdered 0 0 (placed_pieces placed.new)) }
     ensures count { IfOk result (λ count. count
         ≡ count_at (names_of symbols.now) place (line_of text.now)) }
 {
     let tokens = read_line(alloc, text)?;
-    place_line(alloc, segments, symbols, place, &tokens)
+    place_line(alloc, placed, symbols, place, &tokens)
 }
 
 /// The same for the tokens of a line.
 fn place_line(
     alloc: Global,
-    segments: &mut Vec<Segment>,
+    placed: &mut Placed,
     symbols: &Symbols,
     place: u64,
     tokens: &[Token],
 ) -> Result<usize, LineError>
     requires fits { Fits (names_of symbols.now) place (lexemes_of tokens.now) }
-    requires ordered { AreOrdered 0 0 (pieces_of segments.old.items) }
-    ensures put { IsPutting (pieces_of segments.old.items) (pieces_of segments.new.items)
+    requires ordered { AreOrdered 0 0 (placed_pieces placed.old) }
+    ensures put { IsPutting (placed_pieces placed.old) (placed_pieces placed.new)
         (names_of symbols.now) place (lexemes_of tokens.now) result }
-    ensures ordered { OnOk result (AreOrdered 0 0 (pieces_of segments.new.items)) }
+    ensures ordered { OnOk result (AreOrdered 0 0 (placed_pieces placed.new)) }
     ensures count { IfOk result (λ count. count
         ≡ count_at (names_of symbols.now) place (lexemes_of tokens.now)) }
 {
@@ -95,9 +93,9 @@ fn place_line(
     }
     let count = bytes.len();
     let address = place as u32;
-    if !is_free(segments, address, count as u64) {
+    if !is_free(placed, address, count as u64) {
         return Err(LineError::Faulty(Fault::Overlap));
     }
-    insert(segments, address, bytes)?;
+    insert(placed, address, bytes)?;
     Ok(count)
 }

@@ -1,34 +1,29 @@
-use Rattle.std.proofs.Common.{◌≡◌, ◌+◌, ◌-◌, ◌∙◌, sym, subst, refl, arith}
-use Rattle.std.proofs.lemmas.List.{length-map}
-use Rattle.rvm_image.specs.Images.{piece, size, piece_of, pieces_of}
-use Rattle.rvm_image.specs.declared.image.Segment.{Segment}
-use Rattle.rvm_asm.specs.Images.{IsFree}
-use Rattle.rvm_asm.proofs.Bytes.{insert_at, plain_size}
-use Rattle.rvm_asm.proofs.Order.{before_index, inserted, insert_ordered, longer_joins, longer_are_ordered}
+use Rattle.std.proofs.Common.{◌∙◌, ap, sym, subst, arith}
+use Rattle.rvm_image.specs.Images.{byte_at}
+use Rattle.rvm_asm.specs.Images.{AreOrdered}
+use Rattle.rvm_asm.proofs.Placed.{pieces, inserted_joins, inserted_ordered, lengthened_joins, lengthened_ordered}
 use Rattle.rvm_asm.proofs.segments.insert.Goals as goal
 
+pub returns-in-Some-clause-joined : goal.returns-in-Some-clause-joined
+returns-in-Some-clause-joined c = λ a.
+    let there = c.in-Some.ensures in
+    let long = c.in_ok-lengthen_at.ensures there.0 there.1 in
+    ap (λ l. byte_at (pieces l) a) long.2
+    ∙ lengthened_joins 0 c.in-Some.start c.args.address c.args.placed.now.entries there.0 long.0 c.args.bytes.items c.requires.ordered there.1 there.2 (rw c.deref.ensures.value at long.1) c.requires.free a
+
+pub returns-in-Some-clause-ordered : goal.returns-in-Some-clause-ordered
+returns-in-Some-clause-ordered c =
+    let there = c.in-Some.ensures in
+    let long = c.in_ok-lengthen_at.ensures there.0 there.1 in
+    subst (λ l. AreOrdered 0 0 (pieces l)) (sym long.2)
+    (lengthened_ordered 0 c.in-Some.start c.args.address c.args.placed.now.entries there.0 long.0 c.args.bytes.items c.requires.ordered there.1 there.2 (rw c.deref.ensures.value at long.1) c.requires.free)
+
 pub returns-clause-joined : goal.returns-clause-joined
-returns-clause-joined c = insert_at c.args.segments.now.items c.insert.new.self.items c.index_behind-at.result (record { address = c.args.address; bytes = c.args.bytes; zeros = 0 }) (subst (IsFree (pieces_of c.args.segments.now.items) c.args.address) (sym (plain_size c.args.address c.args.bytes.items)) c.requires.free) c.in_ok-insert.ensures.items
+returns-clause-joined c = λ a.
+    ap (λ l. byte_at (pieces l) a) c.in_ok-insert.ensures.entries
+    ∙ inserted_joins 0 c.args.address c.args.placed.now.entries c.args.bytes c.requires.ordered c.requires.free c.requires.some a
 
 pub returns-clause-ordered : goal.returns-clause-ordered
 returns-clause-ordered c =
-    let ps = pieces_of c.args.segments.now.items in
-    inserted c.args.segments.now.items c.insert.new.self.items c.index_behind-at.result (record { address = c.args.address; bytes = c.args.bytes; zeros = 0 }) c.in_ok-insert.ensures.items
-    (insert_ordered 0 c.index_behind-at.result ps (piece c.args.address c.args.bytes.items) c.requires.ordered c.requires.free c.requires.some refl (omega arith)
-    (λ k e. before_index ps c.index_behind-at.result k c.args.address (rw c.deref.ensures.value at c.index_behind-at.ensures.before) e)
-    (λ h. (rw c.deref.ensures.value at c.index_behind-at.ensures.behind) (omega (arith, h, length-map c.args.segments.now.items piece_of)))
-    (omega (arith, (rw c.deref.ensures.value at c.index_behind-at.ensures.within), length-map c.args.segments.now.items piece_of)))
-
-pub returns-then-end-from-clause-joined : goal.returns-then-end-from-clause-joined
-returns-then-end-from-clause-joined c =
-    let within = rw c.deref.ensures.value at c.index_behind-at.ensures.within in
-    let ends = subst (λ (s : Segment). s.address + size (piece_of s) ≡ c.args.address) c.index.ensures (sym c.end.ensures ∙ c.if-end-from.true ∙ c.from.ensures) in
-    let is = rw c.deref-then-end-from.ensures.value at c.in_ok-lengthen_at.ensures in
-    longer_joins c.args.segments.now.items c.lengthen_at.new.segments.items (c.index_behind-at.result - 1) c.args.address c.args.bytes.items _ c.requires.ordered (omega (arith, within, c.if-at-gt0.true)) ends c.requires.free is
-
-pub returns-then-end-from-clause-ordered : goal.returns-then-end-from-clause-ordered
-returns-then-end-from-clause-ordered c =
-    let within = rw c.deref.ensures.value at c.index_behind-at.ensures.within in
-    let ends = subst (λ (s : Segment). s.address + size (piece_of s) ≡ c.args.address) c.index.ensures (sym c.end.ensures ∙ c.if-end-from.true ∙ c.from.ensures) in
-    let is = rw c.deref-then-end-from.ensures.value at c.in_ok-lengthen_at.ensures in
-    longer_are_ordered c.args.segments.now.items c.lengthen_at.new.segments.items (c.index_behind-at.result - 1) c.args.address c.args.bytes.items _ c.requires.ordered (omega (arith, within, c.if-at-gt0.true)) ends c.requires.free c.requires.some is
+    subst (λ l. AreOrdered 0 0 (pieces l)) (sym c.in_ok-insert.ensures.entries)
+    (inserted_ordered 0 c.args.address c.args.placed.now.entries c.args.bytes c.requires.ordered c.requires.free c.requires.some (omega arith))
