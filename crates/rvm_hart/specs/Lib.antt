@@ -6,3 +6,4 @@ pub mod Rooms
 pub mod Rows
 pub mod Step
 pub mod Fields
+pub mod Registers
