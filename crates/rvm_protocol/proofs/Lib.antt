@@ -14,6 +14,7 @@ mod CurrentHost
 mod OtherHosts
 pub mod Runs
 pub mod OneGuestHolds
+pub mod PlainFold
 pub mod NoStalePages
 pub mod Causes
 pub mod CausesOfRuns
