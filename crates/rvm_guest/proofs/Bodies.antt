@@ -1,0 +1,83 @@
+-- A guest is read back from its state and its pages.
+use Rattle.std.proofs.Common.{◌≡◌, ℕ, ◌+◌, ◌*◌, ◌/◌, ◌%◌, ◌^◌, ◌<◌, ◌≤◌, Bool, true, false, ◌&&◌, ◌==◌, eqb, if◌then◌else◌, List, [], ◌∷◌, length, map, get_or, drop, Option, Some, None, refl, sym, ap, subst, ◌∙◌, arith, inl, inr}
+use Rattle.std.specs.List.{list_all}
+use Rattle.std.proofs.lemmas.Bool.{cases_Bool, eqb-true, ne_eqb}
+use Rattle.std.proofs.lemmas.Bool.Decides.{nat_tests}
+use Rattle.std.proofs.lemmas.List.{length-drop, length-map}
+use Rattle.std.proofs.lemmas.List.FromFn.{length-map-range_with_len}
+use Rattle.byteorder.specs.Endian.{little_bytes}
+use Rattle.rvm_codec.specs.Numbers.{within}
+use Rattle.rvm_codec.specs.Codec.{any, both, then_each, times}
+use Rattle.rvm_codec.proofs.Steps.{both_are, same_number}
+use Rattle.rvm_csr.specs.Fields as csr
+use Rattle.rvm_hart.specs.Machine.{HartState}
+use Rattle.rvm_hart.specs.Fields.{fields_of, with_number}
+use Rattle.rvm_hart.proofs.Whole.{whole}
+use Rattle.rvm_board.specs.Board.{hart_at}
+use Rattle.rvm_debug.specs.Guest.{Guest}
+use Rattle.rvm_state.specs.Formats.{head, parts, shared, state}
+use Rattle.rvm_state.specs.State.{State, guest_of, parts_of, state_of}
+use Rattle.rvm_state.specs.Spelling.{HasSpelling, spelling}
+use Rattle.rvm_state.proofs.Exact.{state_exact}
+use Rattle.rvm_state.proofs.Wrote.{made}
+use Rattle.rvm_guest.specs.Pages.{count_of, joined, pages_of, size_of}
+use Rattle.rvm_guest.specs.Valid.{is_valid}
+use Rattle.rvm_guest.specs.Body.{body_of, build, guest_if, has_bytes, told}
+use Rattle.rvm_guest.specs.Values.{values}
+use Rattle.rvm_guest.proofs.Joined.{joined_pages}
+use Rattle.rvm_guest.proofs.Staying.{IsHart, IsValid, valid_is, valid_so}
+use Rattle.rvm_guest.proofs.Values.{values_back}
+
+-- THE STATE TELLS THE VALUES
+
+-- the first byte of a guest's bytes is how many harts it has
+first_byte : (g : Guest) → get_or (spelling g) 0 0 ≡ length (parts_of g) % 256
+unfolding state parts head
+first_byte g = refl
+
+not_256 : (g : Guest) → (get_or (spelling g) 0 0 == 256) ≡ false
+not_256 g = ne_eqb (get_or (spelling g) 0 0) 256 (λ e. let f = first_byte g in omega (arith, e, f))
+
+-- the state of a guest
+abbrev stated : Bool → Guest → List ℕ
+stated b g = if b then spelling g else 256 ∷ values.write (state_of g)
+
+told_back : (b : Bool) (g : Guest) → has_bytes g ≡ b → told (size_of g) (stated b g) ≡ Some (state_of g)
+told_back true g fits =
+    ap (λ (t : Bool). if t then values.read (drop 1 (spelling g)) else (state (size_of g)).read (spelling g)) (not_256 g)
+    ∙ (state_exact (size_of g)).again (state_of g) fits
+told_back false g none = values_back (state_of g)
+
+pub tells_values : (g : Guest) → told (size_of g) (body_of g) ≡ Some (state_of g)
+unfolding body_of
+tells_values g = told_back (has_bytes g) g refl
+
+-- THE VALUES MAKE THE GUEST
+
+hart_made : (k : ℕ) (h : HartState) → IsHart k h → with_number k (fields_of h) ≡ h
+hart_made k h is =
+    ap (λ n. with_number n (fields_of h)) (sym is.number)
+    ∙ whole h.regs (drop 1 h.regs) h.pc h.csrs (csr.fields_of h.csrs) is.registers.0 is.registers.1 refl refl
+
+guest_made : (g : Guest) → IsValid g → guest_of g.board.reach.bytes (state_of g) ≡ g
+guest_made g v =
+    made g
+    (record { harts = refl; msip = v.msip; mtimecmp = v.mtimecmp; reservations = v.reservations; stopped = v.stopped })
+    (λ k lt. hart_made k (hart_at k g.board) (v.harts k lt))
+
+pub read_back : (g : Guest) → is_valid g ≡ true → build (length g.board.harts) (body_of g) (pages_of g) ≡ Some g
+unfolding build
+read_back g h =
+    let v : IsValid g = valid_is g h in
+    let bytes : List ℕ = g.board.reach.bytes in
+    let size : length bytes ≡ 4096 * count_of g = let z = v.whole in omega (arith, z) in
+    let ram : joined (pages_of g) ≡ bytes = joined_pages (count_of g) bytes size in
+    let count : length (state_of g).harts ≡ length g.board.harts = length-map-range_with_len _ 0 (length g.board.harts) in
+    rw (ram, tells_values g, same_number _ _ count) (ap (λ x. Some x) (guest_made g v))
+
+-- WHAT A HOST HAS
+
+-- the state of a guest that its bytes tell is its bytes
+pub body_is : (g : Guest) → HasSpelling g → body_of g ≡ spelling g
+unfolding body_of
+body_is g has = ap (λ (b : Bool). if b then spelling g else 256 ∷ values.write (state_of g)) has.fits

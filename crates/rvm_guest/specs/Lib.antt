@@ -1,0 +1,5 @@
+pub mod Pages
+pub mod Valid
+pub mod Values
+pub mod Body
+pub mod Pieces
