@@ -14,7 +14,6 @@ mod CurrentHost
 mod OtherHosts
 pub mod Runs
 pub mod OneGuestHolds
-pub mod PlainFold
 pub mod NoStalePages
 pub mod Causes
 pub mod CausesOfRuns

@@ -103,7 +103,7 @@ module _ {S P E A B : Type 0} (m : Guest S P E A B) where
       (if t.paused then Refused Paused else Answered (m.answer t.guest e)) else
       (if t.waiting x then Refused Paused else Refused NotHere)
 
-  pub answers_at : (w : World S P B) (t : Told S) → SoundAt m w t → (x : ℕ) (e : E)
+  answers_at : (w : World S P B) (t : Told S) → SoundAt m w t → (x : ℕ) (e : E)
       → (result_at m w x (Do (Board e))).reply ≡ due_here t x e
   answers_at w t s x e =
       let l = s.good in
@@ -170,7 +170,7 @@ module _ {S P E A B : Type 0} (m : Guest S P E A B) where
             ap (λ b. b && is_answer (reply_to m w (At y (Board f)))) (no_answer_at w t s x e n)
       ]
 
-  pub board_at : (w : World S P B) (t : Told S) → SoundAt m w t
+  board_at : (w : World S P B) (t : Told S) → SoundAt m w t
       → guest_in (mode_at m w t.current) ≡ Some t.guest
   board_at w t s =
       subst (λ z. guest_in (mode_at m w z) ≡ Some t.guest) (sym s.good.current) s.good.guest

@@ -9,7 +9,6 @@ ghost use Rattle.rvm_protocol.specs.FrameContents.{FramesCarryTheGuest};
 ghost use Rattle.rvm_protocol.specs.FreshCopies.{NoStalePage};
 ghost use Rattle.rvm_protocol.specs.Guest.{Guest};
 ghost use Rattle.rvm_protocol.specs.RoundCopies.{RoundsCopyWhatIsNotWrittenAgain};
-ghost use Rattle.rvm_protocol.specs.NeverMoving.{IsToldBy};
 ghost use Rattle.rvm_protocol.specs.OneGuest.{AlwaysOneGuest, OneGuestFromAnyWorld};
 
 /// For every list of events over the hosts of a world, with frames lost, repeated and reordered:
@@ -20,12 +19,6 @@ ghost use Rattle.rvm_protocol.specs.OneGuest.{AlwaysOneGuest, OneGuestFromAnyWor
 pub fn the_guest_is_the_one_that_never_moves<S, P, E, A, B>()
     ensures always { (m : Guest S P E A B) → AlwaysOneGuest m }
     ensures from_any_world { (m : Guest S P E A B) → OneGuestFromAnyWorld m }
-{}
-
-/// Where each event that was answered led to what another function of guests says, the guest that
-/// never moves, and each of its answers, are those that the function tells.
-pub fn the_guest_is_told_by_what_agrees<S, P, E, A, B>()
-    ensures always { (m : Guest S P E A B) (after : S → E → S) → IsToldBy m after }
 {}
 
 /// While a source copies, no page is forgotten; and the copies that a state names, and all later
