@@ -1,31 +1,28 @@
 -- A guest is read back from its state and its pages.
-use Rattle.std.proofs.Common.{◌≡◌, ℕ, ◌+◌, ◌*◌, ◌/◌, ◌%◌, ◌^◌, ◌<◌, ◌≤◌, Bool, true, false, ◌&&◌, ◌==◌, eqb, if◌then◌else◌, List, [], ◌∷◌, length, map, get_or, drop, Option, Some, None, refl, sym, ap, subst, ◌∙◌, arith, inl, inr}
-use Rattle.std.specs.List.{list_all}
-use Rattle.std.proofs.lemmas.Bool.{cases_Bool, eqb-true, ne_eqb}
-use Rattle.std.proofs.lemmas.Bool.Decides.{nat_tests}
-use Rattle.std.proofs.lemmas.List.{length-drop, length-map}
+use Rattle.std.proofs.Common.{◌≡◌, ℕ, ◌*◌, ◌/◌, ◌%◌, ◌<◌, Bool, true, false, ◌==◌, if◌then◌else◌, List, ◌∷◌, length, get_or, drop, Option, Some, None, refl, sym, ap, ◌∙◌, arith}
+use Rattle.std.proofs.lemmas.Bool.{ne_eqb}
 use Rattle.std.proofs.lemmas.List.FromFn.{length-map-range_with_len}
-use Rattle.byteorder.specs.Endian.{little_bytes}
-use Rattle.rvm_codec.specs.Numbers.{within}
-use Rattle.rvm_codec.specs.Codec.{any, both, then_each, times}
-use Rattle.rvm_codec.proofs.Steps.{both_are, same_number}
+use Rattle.rvm_codec.specs.Exact.{IsBytes}
+use Rattle.rvm_codec.specs.Codec.{◌>>=◌}
+use Rattle.rvm_codec.proofs.Steps.{same_number}
 use Rattle.rvm_csr.specs.Fields as csr
 use Rattle.rvm_hart.specs.Machine.{HartState}
 use Rattle.rvm_hart.specs.Fields.{fields_of, with_number}
 use Rattle.rvm_hart.proofs.Whole.{whole}
 use Rattle.rvm_board.specs.Board.{hart_at}
 use Rattle.rvm_debug.specs.Guest.{Guest}
-use Rattle.rvm_state.specs.Formats.{head, parts, shared, state}
+use Rattle.rvm_state.specs.Formats.{head, parts, state}
 use Rattle.rvm_state.specs.State.{State, guest_of, parts_of, state_of}
-use Rattle.rvm_state.specs.Spelling.{HasSpelling, spelling}
+use Rattle.rvm_state.specs.Spelling.{HasSpelling, Spells, spelling}
 use Rattle.rvm_state.proofs.Exact.{state_exact}
+use Rattle.rvm_state.proofs.Reading.{found, is_read}
 use Rattle.rvm_state.proofs.Wrote.{made}
-use Rattle.rvm_guest.specs.Pages.{count_of, joined, pages_of, size_of}
+use Rattle.rvm_guest.specs.Pages.{count_of, joined, pages_in, pages_of, size_of}
 use Rattle.rvm_guest.specs.Valid.{is_valid}
 use Rattle.rvm_guest.specs.Body.{body_of, build, guest_if, has_bytes, told}
 use Rattle.rvm_guest.specs.Values.{values}
 use Rattle.rvm_guest.proofs.Joined.{joined_pages}
-use Rattle.rvm_guest.proofs.Staying.{IsHart, IsValid, valid_is, valid_so}
+use Rattle.rvm_guest.proofs.Staying.{IsHart, IsValid, valid_is}
 use Rattle.rvm_guest.proofs.Values.{values_back}
 
 -- THE STATE TELLS THE VALUES
@@ -81,3 +78,28 @@ read_back g h =
 pub body_is : (g : Guest) → HasSpelling g → body_of g ≡ spelling g
 unfolding body_of
 body_is g has = ap (λ (b : Bool). if b then spelling g else 256 ∷ values.write (state_of g)) has.fits
+
+joined_again : (ram : List ℕ) → length ram % 4096 ≡ 0 → joined (pages_in ram) ≡ ram
+joined_again ram whole = joined_pages (length ram / 4096) ram (omega (arith, whole))
+
+guest_if_is : (b : Bool) (ram : List ℕ) (g : Guest) → guest_of ram (state_of g) ≡ g → (if b then Some (guest_of ram (state_of g)) else None) ≡ (if b then Some g else None)
+guest_if_is true ram g is = ap (λ x. Some x) is
+guest_if_is false ram g is = refl
+
+pub built : (harts : ℕ) (bytes ram : List ℕ) (g : Guest) → length ram % 4096 ≡ 0 → Spells bytes ram g → build harts bytes (pages_in ram) ≡ (if length g.board.harts == harts then Some g else None)
+unfolding build
+built harts bytes ram g whole is =
+    let first : (get_or bytes 0 0 == 256) ≡ false = ap (λ xs. get_or xs 0 0 == 256) is.spelled ∙ not_256 g in
+    let count : length (state_of g).harts ≡ length g.board.harts = length-map-range_with_len _ 0 (length g.board.harts) in
+    rw (joined_again ram whole, first, is_read bytes ram g is, count)
+    (guest_if_is (length g.board.harts == harts) ram g (ap (λ xs. guest_of xs (state_of g)) (sym is.has_ram) ∙ is.has_spelling.made))
+
+not_read : (harts : ℕ) (bytes ram : List ℕ) (o : Option State) → (state (length ram)).read bytes ≡ o → 0 < length ram → IsBytes bytes → ((g : Guest) → Spells bytes ram g → ⊥) → (o >>= λ s. guest_if harts ram s) ≡ None
+not_read harts bytes ram None is some are no_guest = refl
+not_read harts bytes ram (Some s) is some are no_guest = absurd (no_guest (guest_of ram s) (found bytes ram s are some is))
+
+pub not_built : (harts : ℕ) (bytes ram : List ℕ) → length ram % 4096 ≡ 0 → 0 < length ram → IsBytes bytes → ((g : Guest) → Spells bytes ram g → ⊥) → build harts bytes (pages_in ram) ≡ None
+unfolding build
+not_built harts bytes ram whole some are no_guest =
+    let first : (get_or bytes 0 0 == 256) ≡ false = ne_eqb (get_or bytes 0 0) 256 (λ e. let b = are 0 in omega (arith, e, b)) in
+    rw (joined_again ram whole, first) (not_read harts bytes ram ((state (length ram)).read bytes) refl some are no_guest)

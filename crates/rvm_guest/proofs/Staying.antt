@@ -1,11 +1,14 @@
 -- Each event of a guest that can be met leaves one, of as many harts and pages, and the pages that it does not write.
-use Rattle.std.proofs.Common.{◌≡◌, ◌≢◌, ◌⊎◌, inl, inr, ℕ, zero, suc, ◌+◌, ◌/◌, ◌%◌, ◌<◌, ◌≤◌, Bool, true, false, ◌&&◌, ◌==◌, List, [], ◌∷◌, length, get_or, set, replicate, refl, sym, ap, subst, ◌∙◌, arith}
+use Rattle.std.proofs.Common.{◌≡◌, inl, inr, ℕ, zero, suc, ◌+◌, ◌*◌, ◌^◌, ◌/◌, ◌%◌, ◌<◌, ◌≤◌, Bool, true, false, ◌==◌, List, [], ◌∷◌, length, get_or, set, replicate, refl, sym, ap, subst, ◌∙◌, arith, below_more}
 use Rattle.std.proofs.lemmas.Bool.{cases_eq, cases_lt, eqb-true}
+use Rattle.std.proofs.lemmas.Bool.Decides.{nat_tests}
 use Rattle.std.proofs.lemmas.List.{length-set, length-replicate, get_or-set_same, get_or-set_other, get_or_past}
 use Rattle.rvm_mem.specs.Others.{NoneOf}
 use Rattle.rvm_mem.specs.Pages.{has, mark_all}
 use Rattle.rvm_codec.specs.Numbers.{within}
 use Rattle.rvm_codec.proofs.Steps.{and_so, both_are, same_number}
+use Rattle.rvm_hart.specs.declared.fields.HartFields.{HartFields}
+use Rattle.rvm_hart.specs.Fields.{with_number}
 use Rattle.rvm_hart.specs.Machine.{HartState}
 use Rattle.rvm_hart.specs.Registers.{AreRegisters}
 use Rattle.rvm_board.specs.Board.{hart_at, new_hart}
@@ -14,7 +17,7 @@ use Rattle.rvm_debug.specs.Guest.{Guest}
 use Rattle.rvm_debug.specs.Events.{answered}
 use Rattle.rvm_debug.specs.Kept.{Keeps}
 use Rattle.rvm_debug.proofs.Answering.{answered_keeps}
-use Rattle.rvm_guest.specs.Pages.{after, count_of, pages_at, pages_of, size_of, writes, zeros}
+use Rattle.rvm_guest.specs.Pages.{after, count_of, pages_of, size_of, writes, zeros}
 use Rattle.rvm_guest.specs.Valid.{is_hart, are_harts, is_valid}
 use Rattle.rvm_guest.proofs.Joined.{length_pages, page_at}
 
@@ -54,9 +57,13 @@ harts_so first (h ∷ hs) blank each =
     (harts_so (first + 1) hs blank
     (λ k lt. let y : first + suc k ≡ first + 1 + k = omega arith in subst (λ n. IsHart n (get_or hs k blank)) y (each (suc k) (omega (arith, lt)))))
 
+-- so are the first harts of a guest
+abbrev pub AreHarts : ℕ → Guest → Type 0
+AreHarts n g = (k : ℕ) → k < n → IsHart k (hart_at k g.board)
+
 -- a guest that can be met, part by part
 pub record IsValid (g : Guest) : Type 0 where
-  pub harts : (k : ℕ) → k < length g.board.harts → IsHart k (hart_at k g.board)
+  pub harts : AreHarts (length g.board.harts) g
   pub msip : length g.board.reach.devices.msip ≡ length g.board.harts
   pub mtimecmp : length g.board.reach.devices.mtimecmp ≡ length g.board.harts
   pub reservations : length g.board.reach.reservations ≡ length g.board.harts
@@ -95,6 +102,22 @@ valid_so g v =
     (and_so (length g.board.reach.reservations == n) _ (same_number _ _ v.reservations)
     (and_so (length g.stopped == n) _ (same_number _ _ v.stopped)
     (and_so (size_of g % 4096 == 0) _ (same_number _ _ v.whole) v.count)))))
+
+-- A GUEST THAT A HOST HAS
+
+pub no_harts : (g : Guest) → AreHarts 0 g
+no_harts g k lt = absurd (omega (arith, lt))
+
+pub one_hart_more : (g : Guest) (n : ℕ) (f : HartFields) → length f.registers ≡ 31 → with_number n f ≡ hart_at n g.board → AreHarts n g → AreHarts (n + 1) g
+one_hart_more g n f long is so_far =
+    below_more (λ k. IsHart k (hart_at k g.board)) n so_far
+    (subst (λ h. IsHart n h) is (record { number = refl; registers = (ap suc long, refl) }))
+
+pub sized : (g : Guest) (pages : ℕ) → size_of g ≡ 4096 * pages → 0 < size_of g → size_of g ≤ 2 ^ 24 → (size_of g % 4096 ≡ 0) × (within 1 4096 (count_of g) ≡ true)
+sized g pages whole some bound =
+    let low : 1 ≤ count_of g = omega (arith, whole, some) in
+    let high : count_of g ≤ 4096 = omega (arith, bound) in
+    (omega (arith, whole), grind (arith, nat_tests))
 
 -- EVENTS
 

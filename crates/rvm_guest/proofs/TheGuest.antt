@@ -1,10 +1,12 @@
 -- The debugged board is a guest of the law of migration.
-use Rattle.std.specs.Prelude.{ℕ, List, length}
+use Rattle.std.proofs.Common.{◌≡◌, ℕ, List, [], ◌∷◌, length, refl, ap}
 use Rattle.rvm_protocol.specs.Guest.{Guest}
 use Rattle.rvm_debug.specs.declared.event.BoardEvent.{BoardEvent}
 use Rattle.rvm_debug.specs.declared.event.BoardReply.{BoardReply}
 use Rattle.rvm_debug.specs.Guest as debug
 use Rattle.rvm_debug.specs.Events.{answered}
+use Rattle.rvm_protocol.specs.NeverMoving.{fold, fold_answers}
+use Rattle.rvm_guest.specs.Events.{after_all, answers}
 use Rattle.rvm_guest.specs.Body.{body_of, build}
 use Rattle.rvm_guest.specs.Pages.{after, is_zeros, pages_of, writes, zeros}
 use Rattle.rvm_guest.specs.Pieces.{cut, join}
@@ -39,3 +41,14 @@ board = record {
   some_piece = some_piece;
   joined = joined_again;
 }
+
+-- the guest that never moves, and its answers, are those of its debugger
+pub fold_is : (g : debug.Guest) (es : List BoardEvent) → fold board g es ≡ after_all g es
+unfolding board fold after_all
+fold_is g [] = refl
+fold_is g (e ∷ es) = fold_is (after g e) es
+
+pub answers_are : (g : debug.Guest) (es : List BoardEvent) → fold_answers board g es ≡ answers g es
+unfolding board fold_answers answers
+answers_are g [] = refl
+answers_are g (e ∷ es) = ap (λ rs. (answered e g).reply ∷ rs) (answers_are (after g e) es)

@@ -3,3 +3,4 @@ pub mod Valid
 pub mod Values
 pub mod Body
 pub mod Pieces
+pub mod Events
