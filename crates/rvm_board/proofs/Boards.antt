@@ -1,10 +1,12 @@
 -- A board stays a board.
-use Rattle.std.proofs.Common.{◌≡◌, ℕ, Bool, ◌<◌, ◌≤◌, List, Option, None, false, length, get_or, set, map, replicate, sym, ap, ◌∙◌, arith, inl, inr}
+use Rattle.std.proofs.Common.{◌≡◌, ℕ, ◌-◌, Bool, ◌<◌, ◌≤◌, List, Option, None, false, length, get_or, set, map, replicate, sym, ap, subst, ◌∙◌, arith, inl, inr}
 use Rattle.std.proofs.lemmas.List.{length-replicate, length-set, get_or-set_same, get_or-set_other}
 use Rattle.std.proofs.lemmas.List.FromFn.{get_or-map-range_with_len, length-map-range_with_len}
 use Rattle.std.proofs.lemmas.Bool.{cases_eq}
 use Rattle.std.specs.List.{range_with_len}
+use Rattle.rvm_mem.proofs.Lengths.{replaced-length}
 use Rattle.rvm_dev.specs.Devices as dev
+use Rattle.rvm_hart.specs.Bus.{ram_base}
 use Rattle.rvm_hart.specs.Machine.{HartState, Machine, BusState, shape}
 use Rattle.rvm_hart.specs.Step.{step}
 use Rattle.rvm_hart.proofs.Shape.{step_keeps, length-poked_each}
@@ -40,13 +42,14 @@ step_is_board b h board inside =
       numbers = λ n below. number_after b.harts h n after.hart (new_hart 0 0) inside (k.hart ∙ board.numbers h inside) (board.numbers n (omega (arith, below, count)));
       reservations = k.reservations ∙ board.reservations ∙ sym count;
       msip = k.msip ∙ board.msip ∙ sym count;
+      ram = omega (arith, k.bytes, board.ram);
     }
 
 -- the parts that a board is made of
-pub made_is_board : (n entry : ℕ) (harts : List HartState) (bus : BusState) (bytes : List ℕ) (d : dev.DeviceState) (words : List (Option ℕ)) (dirty : List Bool) → 0 < n → n ≤ 8
+pub made_is_board : (n entry : ℕ) (harts : List HartState) (bus : BusState) (bytes : List ℕ) (d : dev.DeviceState) (words : List (Option ℕ)) (dirty : List Bool) → 0 < n → n ≤ 8 → 0 < length bytes
     → harts ≡ map (new_hart entry) (range_with_len 0 n) → d ≡ dev.at_reset n → words ≡ replicate n None
     → bus ≡ record { shared = record { bytes = bytes; devices = d; reservations = words }; dirty = dirty } → IsBoard (record { harts = harts; shared = bus.shared })
-made_is_board n entry harts bus bytes d words dirty some bound of_harts of_devices of_words of_bus =
+made_is_board n entry harts bus bytes d words dirty some bound ram of_harts of_devices of_words of_bus =
     let count : length harts ≡ n = ap (λ hs. length hs) of_harts ∙ length-map-range_with_len (new_hart entry) 0 n in
     record {
       some = omega (arith, count, some);
@@ -56,6 +59,7 @@ made_is_board n entry harts bus bytes d words dirty some bound of_harts of_devic
           ∙ ap (λ (h : HartState). h.csrs.hart) (get_or-map-range_with_len (new_hart entry) 0 n k k (new_hart 0 0) (omega (arith, below, count)) (omega arith));
       reservations = ap (λ (b : BusState). length b.shared.reservations) of_bus ∙ ap (λ ws. length ws) of_words ∙ length-replicate n None ∙ sym count;
       msip = ap (λ (b : BusState). length b.shared.devices.msip) of_bus ∙ ap (λ (x : dev.DeviceState). length x.msip) of_devices ∙ length-replicate n false ∙ sym count;
+      ram = subst (λ (b : BusState). 0 < length b.shared.bytes) (sym of_bus) ram;
     }
 
 -- other reservations, for as many harts, and other bytes
@@ -67,6 +71,7 @@ poke_is_board harts a bytes old new board e =
       numbers = λ k below. board.numbers k below;
       reservations = ap (λ (b : BusState). length b.shared.reservations) e ∙ length-poked_each a (length bytes) old.shared.reservations ∙ board.reservations;
       msip = ap (λ (b : BusState). length b.shared.devices.msip) e ∙ board.msip;
+      ram = subst (λ (b : BusState). 0 < length b.shared.bytes) (sym e) (omega (arith, replaced-length (a - ram_base) bytes old.shared.bytes, board.ram));
     }
 
 -- no reservation, and other bytes
@@ -78,4 +83,5 @@ clear_is_board harts old new board e =
       numbers = λ k below. board.numbers k below;
       reservations = ap (λ (b : BusState). length b.shared.reservations) e ∙ length-replicate (length old.shared.reservations) None ∙ board.reservations;
       msip = ap (λ (b : BusState). length b.shared.devices.msip) e ∙ board.msip;
+      ram = subst (λ (b : BusState). 0 < length b.shared.bytes) (sym e) (omega (arith, length-replicate {A = ℕ} (length old.shared.bytes) 0, board.ram));
     }

@@ -25,13 +25,14 @@ new_hart entry number = record { regs = slice_set (replicate 32 0) 10 number; pc
 abbrev pub hart_at : ℕ → Board → HartState
 hart_at h b = get_or b.harts h (new_hart 0 0)
 
--- 1 to 8 harts, each with its place as its number; the devices and reservations are those of so many
+-- 1 to 8 harts, each with its place as its number, and some RAM; the devices and reservations are those of so many
 pub record IsBoard (b : Board) : Type 0 where
   pub some : 0 < length b.harts
   pub bound : length b.harts ≤ 8
   pub numbers : (k : ℕ) → k < length b.harts → (hart_at k b).csrs.hart ≡ k
   pub reservations : length b.shared.reservations ≡ length b.harts
   pub msip : length b.shared.devices.msip ≡ length b.harts
+  pub ram : 0 < length b.shared.bytes
 
 -- a board after reset, with these bytes in RAM
 abbrev pub at_reset : (harts entry : ℕ) → List ℕ → Board

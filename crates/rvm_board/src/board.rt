@@ -1,7 +1,7 @@
 //! The board of 1 to 8 harts.
 
 ghost use Rattle.std.specs.List.{range_with_len};
-ghost use Rattle.std.specs.Prelude.{◌≡◌, ◌%◌, ◌*◌, ◌^◌, map, ◌<◌, ◌≤◌, ◌++◌, ◌∷◌, [], ◌↔◌, true, false, ◌-◌, length, min, take, drop, IfOk, IfErr, OnOk, OnErr, IsErr, ◌≢◌, None, get_or};
+ghost use Rattle.std.specs.Prelude.{◌≡◌, ◌%◌, ◌*◌, ◌^◌, map, ◌<◌, ◌≤◌, ◌++◌, ◌∷◌, [], ◌↔◌, true, false, ◌-◌, length, min, take, drop, IfOk, IfErr, OnOk, OnErr, IsErr, ◌≢◌, None, get_or, replicate};
 ghost use Rattle.rvm_mem.specs.Bytes.{slice};
 ghost use Rattle.rvm_mem.specs.Pages.{mark_all};
 ghost use Rattle.rvm_hart.specs.Bus.{in_ram, ram_base, ram_load};
@@ -15,7 +15,7 @@ ghost use Rattle.rvm_board.specs.Board.{at_reset, new_hart, hart_at, stepped, wi
 use crate::error::{BoardError, PokeError};
 use rvm_dev::{DeviceFields, Devices, InputFull};
 use rvm_hart::{Bus, Hart, HartFields, PC, Stepped};
-use rvm_mem::Memory;
+use rvm_mem::{Memory, PageSet, PagedMemory};
 use rvm_res::Reservations;
 use std::alloc::{AllocError, Global};
 use std::marker::Model;
@@ -111,6 +111,15 @@ impl<M: Memory> Board<M> {
         self.bus.reserved(hart)
     }
 
+    /// The RAM, of at least one page.
+    pub fn memory(&self) -> &M
+        ensures bytes { M.bytes result.now ≡ self.now.plain.shared.bytes }
+        ensures dirty { M.dirty result.now ≡ self.now.dirty }
+        ensures some { 0 < length self.now.plain.shared.bytes }
+    {
+        self.bus.memory()
+    }
+
     /// The devices.
     pub fn devices(&self) -> &Devices
         ensures devices { result.now ≡ self.now.plain.shared.devices }
@@ -171,10 +180,11 @@ impl<M: Memory> Board<M> {
         self.harts[hart as usize].pc()
     }
 
-    /// How many bytes RAM has: whole pages, at most 4096 of them.
+    /// How many bytes RAM has: whole pages, 1 to 4096 of them.
     pub fn ram_size(&self) -> u32
         ensures bytes { result ≡ length self.now.plain.shared.bytes }
         ensures pages { result ≡ 4096 * length self.now.dirty }
+        ensures some { 0 < result }
         ensures bound { result ≤ 2 ^ 24 }
     {
         self.bus.ram_size()
@@ -292,6 +302,19 @@ impl<M: Memory> Board<M> {
         ensures { self.new ≡ cleared self.old }
     {
         self.bus.clear();
+    }
+}
+
+impl<M: PagedMemory> Board<M> {
+    /// Takes the dirty log: `into` becomes the set of its pages, whatever was in it, and the log is
+    /// empty then.
+    pub fn take_dirty(&mut self, into: &mut PageSet)
+        requires { length into.old ≡ length self.old.dirty }
+        ensures taken { into.new ≡ self.old.dirty }
+        ensures board { self.new
+            ≡ record self.old { dirty = replicate (length self.old.dirty) false } }
+    {
+        self.bus.take_dirty(into);
     }
 }
 

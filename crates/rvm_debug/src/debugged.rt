@@ -1,6 +1,6 @@
 //! A board with its breakpoints.
 
-ghost use Rattle.std.specs.Prelude.{◌≡◌, ◌<◌, ◌≤◌, ◌++◌, ◌∷◌, [], ◌↔◌, false, length, min, take, drop, replicate, OnOk, OnErr, IsErr, true, get_or, MatchOption};
+ghost use Rattle.std.specs.Prelude.{◌≡◌, ◌<◌, ◌≤◌, ◌++◌, ◌∷◌, [], ◌↔◌, false, length, min, take, drop, replicate, OnOk, OnErr, IsErr, true, get_or, MatchOption, refl};
 ghost use Rattle.rvm_mem.specs.Pages.{mark_all};
 ghost use Rattle.rvm_board.specs.Board.{hart_at, with_input, with_output};
 ghost use Rattle.rvm_hart.specs.Fields.{with_number};
@@ -16,7 +16,7 @@ use arrayvec::ArrayVec;
 use rvm_board::{Board, MAX_HARTS, PokeError, VIEW_SIZE};
 use rvm_dev::{DeviceFields, Devices, InputFull};
 use rvm_hart::{PC, Stepped};
-use rvm_mem::Memory;
+use rvm_mem::{DirtyLog, Memory, PageSet, PagedMemory};
 use std::marker::Model;
 
 /// The most harts that a board has.
@@ -98,6 +98,15 @@ impl<M: Memory> Debugged<M> {
             reserved: self.board.reserved(hart),
             stopped: self.stopped[hart as usize],
         }
+    }
+
+    /// The RAM, of at least one page.
+    pub fn memory(&self) -> &M
+        ensures bytes { M.bytes result.now ≡ self.now.guest.board.shared.bytes }
+        ensures dirty { M.dirty result.now ≡ self.now.dirty }
+        ensures some { 0 < length self.now.guest.board.shared.bytes }
+    {
+        self.board.memory()
     }
 
     /// The devices.
@@ -416,6 +425,26 @@ impl<M: Memory> Debugged<M> {
             Ok(()) => BoardReply::Done,
             Err(_) => BoardReply::Refused(BoardRefusal::OutOfRange),
         }
+    }
+}
+
+impl<M: PagedMemory> DirtyLog for Debugged<M> {
+    ghost log = { λ d. d.dirty };
+
+    ghost beside = { λ old new. new.guest ≡ old.guest };
+
+    ghost beside_same = { λ d. refl };
+
+    fn peek_dirty(&self, first: u32) -> u64 {
+        self.board.memory().peek_dirty(first)
+    }
+
+    fn dirty_count(&self) -> u32 {
+        self.board.memory().dirty_count()
+    }
+
+    fn take_dirty(&mut self, into: &mut PageSet) {
+        self.board.take_dirty(into);
     }
 }
 

@@ -3,12 +3,13 @@
 //! Stands on `rvm_board`, and knows nothing of scripts, files or hosts. No event takes memory.
 //!
 //! To be read in this order: `view`, `breakpoints`, `event`, `part`, `debugged`, `turns`,
-//! `while_full`.
+//! `while_full`, `laws`.
 #![tactic(auto)]
 
 mod breakpoints;
 mod debugged;
 mod event;
+pub mod laws;
 mod part;
 mod turns;
 mod view;

@@ -1,3 +1,5 @@
+pub mod Pages
+pub mod Registers
 pub mod Shape
 pub mod Reserved
 pub mod Whole

@@ -6,3 +6,4 @@ pub mod Kinds
 pub mod Rows
 pub mod Step
 pub mod Fields
+pub mod Registers

@@ -1,6 +1,6 @@
 //! What a hart reaches: RAM, devices and reservations.
 
-ghost use Rattle.std.specs.Prelude.{◌≡◌, ◌%◌, ◌<◌, ◌^◌, ◌+◌, ◌*◌, ◌-◌, ◌++◌, ◌∷◌, [], ◌↔◌, length, min, take, drop, IfNone, OnOk, OnErr, IsErr, ◌≤◌, false, true, None, get_or, is_some};
+ghost use Rattle.std.specs.Prelude.{◌≡◌, ◌%◌, ◌<◌, ◌^◌, ◌+◌, ◌*◌, ◌-◌, ◌++◌, ◌∷◌, [], ◌↔◌, length, min, take, drop, IfNone, OnOk, OnErr, IsErr, ◌≤◌, false, true, None, get_or, is_some, replicate};
 ghost use Rattle.rvm_mem.specs.Bytes.{slice};
 ghost use Rattle.rvm_res.specs.Reservations as res;
 ghost use Rattle.rvm_dev.specs.Shared.{restored};
@@ -13,7 +13,7 @@ use crate::outcome::Written;
 use rvm_csr::Interrupts;
 use rvm_dev::register::{HALT, MTIME};
 use rvm_dev::{DeviceFields, Devices, InputFull};
-use rvm_mem::{Memory, OutOfRange, clear_bytes, read_bytes, write_bytes};
+use rvm_mem::{Memory, OutOfRange, PageSet, PagedMemory, clear_bytes, read_bytes, write_bytes};
 use rvm_res::Reservations;
 use std::marker::Model;
 
@@ -67,6 +67,14 @@ impl<M: Memory> Bus<M> {
         ensures { result.now ≡ self.now.shared.devices }
     {
         &self.devices
+    }
+
+    /// The RAM.
+    pub fn memory(&self) -> &M
+        ensures bytes { M.bytes result.now ≡ self.now.shared.bytes }
+        ensures dirty { M.dirty result.now ≡ self.now.dirty }
+    {
+        &self.ram
     }
 
     /// The word that a hart has reserved, if any.
@@ -363,6 +371,19 @@ impl<M: Memory> Bus<M> {
         ensures takes { result ≡ res.holds hart address self.old.shared.reservations }
     {
         self.reservations.take(hart as usize, address)
+    }
+}
+
+impl<M: PagedMemory> Bus<M> {
+    /// Takes the dirty log: `into` becomes the set of its pages, whatever was in it, and the log is
+    /// empty then.
+    pub fn take_dirty(&mut self, into: &mut PageSet)
+        requires { length into.old ≡ length self.old.dirty }
+        ensures taken { into.new ≡ self.old.dirty }
+        ensures bus { self.new
+            ≡ record self.old { dirty = replicate (length self.old.dirty) false } }
+    {
+        self.ram.take_dirty(into);
     }
 }
 

@@ -1,0 +1,7 @@
+mod Tests
+mod Joined
+mod Staying
+mod Values
+pub mod Bodies
+mod Pieces
+pub mod TheGuest

@@ -1,0 +1,62 @@
+-- The values of a guest as a list of numbers of any size.
+use Rattle.std.specs.Prelude.{ℕ, Bool, true, List, [], ◌∷◌, length, Option, Some, None}
+use Rattle.rvm_csr.specs.declared.fields.CsrFields.{CsrFields}
+use Rattle.rvm_csr.specs.declared.interrupts.Interrupts.{Interrupts}
+use Rattle.rvm_dev.specs.declared.fields.DeviceFields.{DeviceFields}
+use Rattle.rvm_codec.specs.Codec.{Codec, as_type, both, flag, optional, then_each}
+use Rattle.rvm_codec.specs.Format.{Format, alone}
+use Rattle.rvm_debug.specs.declared.part.HartPart.{HartPart}
+use Rattle.rvm_state.specs.Formats.{anything, csrs_of, csr_parts, hart_of, hart_parts, shared_of, shared_parts}
+use Rattle.rvm_state.specs.State.{State}
+
+-- a number, as it is
+abbrev pub front : List ℕ → Option (ℕ × List ℕ)
+front [] = None
+front (n ∷ rest) = Some (n, rest)
+
+unfoldable pub one : Codec ℕ
+one = record { fits = λ n. true; write = λ n. n ∷ []; read = front }
+
+-- how many there are, and each
+abbrev pub many : {A : Type 0} → Codec A → Codec (List A)
+many c = as_type (then_each one (λ n. n) c) (λ t. t.1) (λ xs. (length xs, xs))
+
+-- the three interrupts
+abbrev pub interrupts_in : Bool × (Bool × Bool) → Interrupts
+interrupts_in t = record { software = t.0; timer = t.1.0; external = t.1.1 }
+
+abbrev pub flags_of : Interrupts → Bool × (Bool × Bool)
+flags_of i = (i.software, (i.timer, i.external))
+
+unfoldable pub interrupts : Codec Interrupts
+interrupts = as_type (both flag (both flag flag)) interrupts_in flags_of
+
+-- control and status registers, a hart, and what all harts share, in the order of their bytes
+unfoldable pub csrs : Codec CsrFields
+csrs =
+    as_type
+    (both (both flag flag) (both interrupts (both one (both one (both one (both one (both one (both one one))))))))
+    csrs_of csr_parts
+
+unfoldable pub hart : Codec HartPart
+hart =
+    as_type (both one (both (many one) (both csrs (both flag (both one (both (optional one anything) flag))))))
+    hart_of hart_parts
+
+unfoldable pub shared : Codec DeviceFields
+shared = as_type (both (optional one anything) (both flag (both flag one))) shared_of shared_parts
+
+-- all of a guest but its RAM
+abbrev pub ValueParts : Type 0
+ValueParts = List HartPart × (DeviceFields × (List ℕ × (List ℕ × List ℕ)))
+
+abbrev pub values_in : ValueParts → State
+values_in t =
+    record { harts = t.0; shared = t.1.0; input = t.1.1.0; output = t.1.1.1.0; breakpoints = t.1.1.1.1 }
+
+abbrev pub value_parts : State → ValueParts
+value_parts s = (s.harts, (s.shared, (s.input, (s.output, s.breakpoints))))
+
+unfoldable pub values : Format State
+values =
+    alone (as_type (both (many hart) (both shared (both (many one) (both (many one) (many one))))) values_in value_parts)

@@ -1,0 +1,44 @@
+//! What holds of the debugged board as a guest of the law of live migration.
+
+ghost use Rattle.std.specs.Prelude.{◌≡◌, ℕ, ◌*◌, ◌/◌, ◌%◌, ◌<◌, ◌==◌, true, if◌then◌else◌, List, Some, None, get_or, length, replicate, slice_set};
+ghost use Rattle.rvm_mem.specs.Bytes.{replaced};
+ghost use Rattle.rvm_mem.specs.Pages.{page_of};
+ghost use Rattle.rvm_codec.specs.Exact.{IsBytes};
+ghost use Rattle.rvm_debug.specs.declared.event.BoardEvent.{BoardEvent};
+ghost use Rattle.rvm_debug.specs.Guest.{Guest};
+ghost use Rattle.rvm_state.specs.Spelling.{HasSpelling, Spells, spelling};
+ghost use Rattle.rvm_guest.specs.Body.{body_of, build};
+ghost use Rattle.rvm_guest.specs.Pages.{after, pages_in, zeros};
+ghost use Rattle.rvm_guest.specs.Valid.{is_valid};
+
+/// Each event of a guest that can be met leaves one that can be met.
+pub fn each_event_leaves_a_valid_guest()
+    ensures { (g : Guest) (e : BoardEvent) → is_valid g ≡ true → is_valid (after g e) ≡ true }
+{}
+
+/// The state of a guest that its bytes tell, as they tell each that a host has, is these bytes.
+pub fn a_state_is_the_bytes_of_its_guest()
+    ensures { (g : Guest) → HasSpelling g → body_of g ≡ spelling g }
+{}
+
+/// Bytes and the pages of a RAM build the guest that they spell, where it has so many harts, and
+/// none where they spell none.
+pub fn bytes_build_the_guest_that_they_spell()
+    ensures spelled { (harts : ℕ) (bytes ram : List ℕ) (g : Guest) → length ram % 4096 ≡ 0
+        → Spells bytes ram g
+        → build harts bytes (pages_in ram) ≡ (if length g.board.harts == harts then Some g else None) }
+    ensures none { (harts : ℕ) (bytes ram : List ℕ) → length ram % 4096 ≡ 0 → 0 < length ram
+        → IsBytes bytes → ((g : Guest) → Spells bytes ram g → ⊥)
+        → build harts bytes (pages_in ram) ≡ None }
+{}
+
+/// The pages of a RAM: each is the bytes of its number; those of a RAM of zeros are pages of zeros;
+/// and a page that is put over one takes its place alone.
+pub fn pages_are_those_of_the_memory()
+    ensures bytes { (page : ℕ) (ram : List ℕ) → page < length ram / 4096
+        → get_or (pages_in ram) page zeros ≡ page_of page ram }
+    ensures blank { (count : ℕ) → pages_in (replicate (4096 * count) 0) ≡ replicate count zeros }
+    ensures put { (page : ℕ) (new ram : List ℕ) → length ram % 4096 ≡ 0 → length new ≡ 4096
+        → page < length ram / 4096
+        → pages_in (replaced (4096 * page) new ram) ≡ slice_set (pages_in ram) page new }
+{}

@@ -1,0 +1,26 @@
+//! Each guest that a host has can be met.
+
+ghost use Rattle.std.specs.Prelude.{◌≡◌, true, length};
+ghost use Rattle.rvm_guest.specs.Valid.{is_valid};
+
+use rvm_debug::Debugged;
+use rvm_mem::Memory;
+
+/// A guest that a host has can be met. It looks at each hart once, and takes no memory; behind an
+/// event the guest need not be looked at again.
+pub fn valid_guest<M: Memory>(guest: &Debugged<M>)
+    ensures { is_valid guest.now.guest ≡ true }
+{
+    let _fields = guest.devices().fields();
+    let _size = guest.memory().len();
+    for hart in 0..guest.harts() {
+        has_registers(&guest.hart_part(hart).fields.registers);
+    }
+}
+
+/// x1 to x31 are 31 registers.
+fn has_registers(registers: &[u32; 31])
+    ensures { length registers.now ≡ 31 }
+{
+    let _count = registers.len();
+}
