@@ -1,3 +1,4 @@
 pub use Rattle.byteorder.specs.Endian
 pub mod Bytes
 pub mod Pages
+pub mod Rows
