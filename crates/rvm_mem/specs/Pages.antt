@@ -1,5 +1,6 @@
 -- The dirty log: which pages of 4096 bytes were written since it was last taken; sets of pages.
-use Rattle.std.specs.Prelude.{ℕ, zero, suc, ◌+◌, ◌*◌, ◌/◌, List, [], ◌∷◌, ◌++◌, Bool, true, false, ◌||◌, if◌then◌else◌, Option, take, drop, slice_set, slice_index_or, count_by, position}
+use Rattle.std.specs.Prelude.{◌≡◌, ℕ, zero, suc, ◌+◌, ◌*◌, ◌/◌, ◌%◌, ◌≤◌, ◌<◌, List, [], ◌∷◌, ◌++◌, Bool, true, false, not, ◌&&◌, ◌||◌, ◌==◌, if◌then◌else◌, Option, Some, None, take, drop, slice_set, slice_index_or, count_by, position}
+use Rattle.std.specs.Int.{bit_at}
 use Rattle.rvm_mem.specs.Bytes.{slice}
 
 -- what a memory is: its bytes, and for each page whether it is in the dirty log
@@ -55,3 +56,16 @@ window page pages = take 64 (drop page pages)
 unfoldable pub bits : List Bool → ℕ
 bits [] = 0
 bits (here ∷ pages) = (if here then 1 else 0) + 2 * bits pages
+
+-- whether a bit of a number is 1
+abbrev pub bit : (place number : ℕ) → Bool
+bit place number = bit_at number place == 1
+
+-- whether a page is in the set and its bit, in a number for its 64 pages, is 0
+abbrev pub has_except : (except : ℕ) → List Bool → ℕ → Bool
+has_except except pages page = has page pages && not (bit (page % 64) except)
+
+-- an answer is the lowest page from one on and before another that passes a test, if there is one
+abbrev pub IsLowest : (test : ℕ → Bool) (from end : ℕ) → Option ℕ → Type 0
+IsLowest test from end (Some page) = (from ≤ page) × (page < end) × (test page ≡ true) × ((k : ℕ) → from ≤ k → k < page → test k ≡ false)
+IsLowest test from end None = (k : ℕ) → from ≤ k → k < end → test k ≡ false

@@ -1,25 +1,33 @@
 //! Sets of pages.
 
-ghost use Rattle.std.specs.Prelude.{◌≡◌, ◌≤◌, ◌<◌, List, Bool, true, false, length, replicate, IfOk};
-ghost use Rattle.rvm_mem.specs.Pages.{bits, count, first, has, mark, unmark, union, window};
+ghost use Rattle.std.specs.Prelude.{◌≡◌, ◌+◌, ◌-◌, ◌*◌, ◌/◌, ◌%◌, ◌^◌, ◌≤◌, ◌<◌, ℕ, min, List, Bool, true, false, length, replicate, slice_index_or, IfOk};
+ghost use Rattle.rvm_mem.specs.Pages.{IsLowest, bit, bits, count, first, has, has_except, mark, unmark, union, window};
+ghost use Rattle.rvm_mem.specs.Rows.{AreRows, flags};
 
 use std::alloc::{AllocError, Global};
 use std::marker::Model;
 
-/// A set of page numbers of a memory of so many pages, at most 4096.
+/// How many pages a row has.
+const ROW: u32 = 64;
+
+/// A set of page numbers of a memory of so many pages, at most 4096: page p is bit p % 64 of row
+/// p / 64. How many pages are in the set is kept.
 #[derive(Drop)]
 pub struct PageSet {
-    flags: Vec<bool>,
+    rows: Vec<u64>,
+    pages: u32,
+    count: u32,
 }
 
 impl Model for PageSet {
-    ghost use Rattle.std.specs.Prelude.{◌≤◌, List, Bool, length};
+    ghost use Rattle.std.specs.Prelude.{List, Bool};
+    ghost use Rattle.rvm_mem.specs.Rows.{AreCounted, flags};
 
     ghost Value = { List Bool };
 
-    ghost view = { λ s. s.flags.items };
+    ghost view = { λ s. flags s.pages s.rows.items };
 
-    ghost invariant = { λ s. length s.flags.items ≤ 4096 };
+    ghost invariant = { λ s. AreCounted s.pages s.count s.rows.items };
 }
 
 impl PageSet {
@@ -28,8 +36,12 @@ impl PageSet {
         requires { pages ≤ 4096 }
         ensures { IfOk result (λ s. s ≡ replicate pages false) }
     {
-        let flags = vec![in alloc; false; pages as usize]?;
-        Ok(PageSet { flags })
+        let rows = vec![in alloc; 0u64; pages.div_ceil(ROW) as usize]?;
+        Ok(PageSet {
+            rows,
+            pages,
+            count: 0,
+        })
     }
 
     /// How many pages the memory has.
@@ -38,7 +50,7 @@ impl PageSet {
         ensures pages { result ≡ length self.now }
         ensures bound { result ≤ 4096 }
     {
-        self.flags.len() as u32
+        self.pages
     }
 
     /// Whether a page is in the set; a page past the memory's end is not.
@@ -46,10 +58,7 @@ impl PageSet {
     pub fn contains(&self, page: u32) -> bool
         ensures { result ≡ has page self.now }
     {
-        match self.flags.get(page as usize) {
-            Some(flag) => *flag,
-            None => false,
-        }
+        has_bit(row_at(&self.rows, (page / ROW) as usize), page % ROW)
     }
 
     /// Adds a page of the memory.
@@ -58,7 +67,13 @@ impl PageSet {
         requires { page < length self.old }
         ensures { self.new ≡ mark page self.old }
     {
-        self.flags[page as usize] = true;
+        let rows = &mut self.rows;
+        let row = rows[(page / ROW) as usize];
+        if has_bit(row, page % ROW) {
+            return;
+        }
+        rows[(page / ROW) as usize] = row | 1 << (page % ROW);
+        self.count += 1;
     }
 
     /// Takes a page of the memory out.
@@ -67,7 +82,13 @@ impl PageSet {
         requires { page < length self.old }
         ensures { self.new ≡ unmark page self.old }
     {
-        self.flags[page as usize] = false;
+        let rows = &mut self.rows;
+        let row = rows[(page / ROW) as usize];
+        if !has_bit(row, page % ROW) {
+            return;
+        }
+        rows[(page / ROW) as usize] = row & !(1 << (page % ROW));
+        self.count -= 1;
     }
 
     /// How many pages are in the set.
@@ -75,65 +96,114 @@ impl PageSet {
         ensures count { result ≡ count self.now }
         ensures bound { result ≤ length self.now }
     {
-        self.flags.iter().filter(|flag| **flag).count() as u32
+        self.count
     }
 
     /// Takes every page out.
     pub fn clear(&mut self)
         ensures { self.new ≡ replicate (length self.old) false }
     {
-        self.flags.fill(false);
+        self.rows.fill(0);
+        self.count = 0;
     }
 
     /// Adds every page of the memory.
     pub fn fill(&mut self)
         ensures { self.new ≡ replicate (length self.old) true }
     {
-        self.flags.fill(true);
+        let pages = self.pages;
+        let rows = &mut self.rows;
+        for i in 0..rows.len() {
+            rows[i] = full_row(pages - ROW * i as u32);
+        }
+        self.count = pages;
     }
 
     /// The lowest page in the set.
     pub fn first(&self) -> Option<u32>
         ensures { result ≡ first self.now }
     {
-        match self.flags.iter().position(|flag| *flag) {
-            Some(page) => Some(page as u32),
-            None => None,
+        for i in 0..self.rows.len() {
+            let row = row_at(&self.rows, i);
+            if row != 0 {
+                return Some(ROW * i as u32 + row.trailing_zeros());
+            }
         }
+        None
+    }
+
+    /// The lowest page from `from` on, among the 64 from a multiple of 64 on that it is one of, that
+    /// is in the set and whose bit in `except` is 0; bit i of `except` is for the i-th of the 64.
+    pub fn next_except(&self, from: u32, except: u64) -> Option<u32>
+        requires { from < length self.now }
+        ensures { IsLowest (has_except except self.now) from (64 * (from / 64) + 64) result }
+    {
+        let row = row_at(&self.rows, (from / ROW) as usize);
+        let left = row & !except & (u64::MAX << (from % ROW));
+        if left == 0 {
+            return None;
+        }
+        Some(ROW * (from / ROW) + left.trailing_zeros())
     }
 
     /// Adds the pages of another set of the same memory.
-    #[tactic(auto, using(crate::proofs::Sets::sums))]
     pub fn add(&mut self, other: &PageSet)
         requires { length other.now ≡ length self.old }
         ensures { self.new ≡ union self.old other.now }
     {
-        for page in 0..self.pages() {
-            if other.contains(page) {
-                self.insert(page);
-            }
+        let rows = &mut self.rows;
+        for i in 0..rows.len() {
+            rows[i] |= other.rows[i];
         }
+        self.count = ones(&self.rows);
     }
 
-    /// The number whose bit i says whether page `first_page + i` is in the set, for 64 pages; a
-    /// page past the memory's end is not.
+    /// The number whose bit i says whether page `first_page + i` is in the set, for 64 pages from a
+    /// multiple of 64 on; a page past the memory's end is not.
     pub fn word(&self, first_page: u32) -> u64
+        requires { first_page % 64 ≡ 0 }
         ensures { result ≡ bits (window first_page self.now) }
     {
-        let start = (first_page as usize).min(self.flags.len());
-        let end = (start + 64).min(self.flags.len());
-        word_of(&self.flags[start..end])
+        row_at(&self.rows, (first_page / ROW) as usize)
     }
 }
 
-/// The number whose bit i is flag i.
-fn word_of(flags: &[bool]) -> u64
-    requires { length flags.now ≤ 64 }
-    ensures { result ≡ bits flags.now }
+/// The row of a number, or 0 if there is none.
+#[inline(always)]
+fn row_at(rows: &[u64], row: usize) -> u64
+    ensures { result ≡ slice_index_or rows.now row 0 }
 {
-    let mut word = 0;
-    for i in (0..flags.len()).rev() {
-        word = 2 * word + u64::from(flags[i]);
+    match rows.get(row) {
+        Some(row) => *row,
+        None => 0,
     }
-    word
+}
+
+/// Whether a bit of a row is 1.
+#[inline(always)]
+fn has_bit(row: u64, place: u32) -> bool
+    requires { place < 64 }
+    ensures { result ≡ bit place row }
+{
+    row >> place & 1 == 1
+}
+
+/// The row of the first so many pages, or of 64 if there are more.
+fn full_row(pages: u32) -> u64
+    requires { 0 < pages }
+    ensures { result ≡ 2 ^ min pages 64 - 1 }
+{
+    u64::MAX >> (ROW - pages.min(ROW))
+}
+
+/// How many pages are in a set.
+fn ones(rows: &[u64]) -> u32
+    requires { length rows.now ≤ 64 }
+    ensures { (n : ℕ) → AreRows n rows.now → result ≡ count (flags n rows.now) }
+{
+    let mut ones = 0;
+    for i in 0..rows.len() {
+        ones += rows[i].count_ones();
+    }
+    ones
 }

@@ -1,0 +1,17 @@
+use Rattle.std.proofs.Common.{◌≡◌, length, replicate, false, sym, ap, ◌∙◌, arith, subst}
+use Rattle.rvm_mem.specs.Rows.{AreCounted, flags}
+use Rattle.rvm_mem.proofs.Rows.{zeros_counted, flags_of_zeros, length-flags}
+use Rattle.rvm_mem.proofs.page_set.PageSet.clear.Goals.{After-self-1}
+use Rattle.rvm_mem.proofs.page_set.PageSet.clear.Goals as goal
+
+rows_are : (c : After-self-1) → c.fill.new.self.items ≡ replicate (length c.self.inside.rows.items) 0
+rows_are c = c.fill.ensures.items (λ y is. is) ∙ ap (λ n. replicate n 0) (omega arith)
+
+pub invariant_of-self : goal.invariant_of-self
+invariant_of-self c =
+    subst (AreCounted c.self.inside.pages 0) (sym (rows_are c)) (zeros_counted c.self.inside.pages (length c.self.inside.rows.items) c.self.invariant.are.size c.self.invariant.are.few)
+
+pub returns : goal.returns
+returns c =
+    ap (flags c.self.inside.pages) (rows_are c) ∙ flags_of_zeros c.self.inside.pages (length c.self.inside.rows.items)
+    ∙ ap (λ n. replicate n false) (sym (length-flags c.self.inside.pages c.self.inside.rows.items) ∙ ap length c.self.view_is)

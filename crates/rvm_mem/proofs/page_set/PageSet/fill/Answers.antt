@@ -1,0 +1,20 @@
+use Rattle.std.proofs.Common.{◌≡◌, length, replicate, true, sym, ap, ◌∙◌, arith, get_or, inl, inr, ◌-◌, ◌*◌, ◌^◌, min}
+use Rattle.std.proofs.lemmas.List.{length-set}
+use Rattle.std.proofs.lemmas.List.Edits.{fill_by_more}
+use Rattle.rvm_mem.proofs.Rows.{full_counted, full_flags, full_more, length-flags}
+use Rattle.rvm_mem.proofs.page_set.PageSet.fill.Goals as goal
+
+pub loop-i-preserved : goal.loop-i-preserved
+loop-i-preserved c =
+    full_more c.self.inside.pages c.self.inside.rows.items c.loop-i.rows.items c.loop-i.i c.full_row.result c.loop-i.invariant (omega arith) c.full_row.ensures
+
+pub invariant_of-self : goal.invariant_of-self
+invariant_of-self c =
+    let full = c.loop-i.invariant in
+    full_counted c.self.inside.pages c.loop-i.rows.items (omega (arith, full.size, c.self.invariant.are.size)) c.self.invariant.are.few (λ r inside. full.full r (omega (arith, full.size)))
+
+pub returns : goal.returns
+returns c =
+    let full = c.loop-i.invariant in
+    full_flags c.self.inside.pages c.loop-i.rows.items (omega (arith, full.size, c.self.invariant.are.size)) (λ r inside. full.full r (omega (arith, full.size)))
+    ∙ ap (λ n. replicate n true) (sym (length-flags c.self.inside.pages c.self.inside.rows.items) ∙ ap length c.self.view_is)
