@@ -366,7 +366,8 @@ impl<M: Memory> Bus<M> {
     /// Ends a hart's reservation, and answers whether it was of the word at an address.
     #[inline(always)]
     pub fn take(&mut self, hart: u32, address: u32) -> bool
-        requires { hart < length self.old.shared.reservations }
+        requires hart { hart < length self.old.shared.reservations }
+        requires aligned { address % 4 ≡ 0 }
         ensures bus { self.new ≡ with_reservations (res.released hart self.old.shared.reservations) self.old }
         ensures takes { result ≡ res.holds hart address self.old.shared.reservations }
     {

@@ -21,7 +21,6 @@ pub trait DirtyLog {
     /// a multiple of 64 on; bits of pages past the last are 0. The log stays as it is.
     fn peek_dirty(&self, first: u32) -> u64
         requires aligned { first % 64 ≡ 0 }
-        requires inside { first < length (log self.now) }
         ensures { result ≡ bits (window first (log self.now)) };
 
     /// How many pages are in the dirty log.

@@ -1,6 +1,6 @@
 //! One word or none for each hart.
 
-ghost use Rattle.std.specs.Prelude.{◌≡◌, ◌<◌, ◌≤◌, None, length, replicate, map, is_some, count_by, get_or, slice_set};
+ghost use Rattle.std.specs.Prelude.{◌≡◌, ◌%◌, ◌<◌, ◌≤◌, None, length, replicate, map, is_some, count_by, get_or, slice_set};
 ghost use Rattle.std.specs.List.{list_any};
 ghost use Rattle.rvm_res.specs.Reservations.{held, is_of, poked, stored, released, holds, word_of, without};
 
@@ -77,7 +77,8 @@ impl Reservations {
     #[inline]
     #[tactic(auto, using(crate::proofs::Words::words))]
     pub fn hold(&mut self, hart: usize, address: u32)
-        requires { hart < length self.old }
+        requires hart { hart < length self.old }
+        requires aligned { address % 4 ≡ 0 }
         ensures { self.new ≡ held hart address self.old }
     {
         if self.reserved(hart).is_none() {
@@ -112,7 +113,8 @@ impl Reservations {
     #[inline]
     #[tactic(auto, using(crate::proofs::Words::words))]
     pub fn take(&mut self, hart: usize, address: u32) -> bool
-        requires { hart < length self.old }
+        requires hart { hart < length self.old }
+        requires aligned { address % 4 ≡ 0 }
         ensures words { self.new ≡ released hart self.old }
         ensures holds { result ≡ holds hart address self.old }
     {
