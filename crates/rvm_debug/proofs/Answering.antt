@@ -12,11 +12,11 @@ use Rattle.rvm_hart.specs.Machine.{HartState, Machine, shape}
 use Rattle.rvm_hart.specs.Registers.{AreRegisters}
 use Rattle.rvm_hart.specs.Step.{step}
 use Rattle.rvm_hart.proofs.Pages.{step_others}
-use Rattle.rvm_hart.proofs.Registers.{put_registers, step_registers}
+use Rattle.rvm_hart.proofs.Registers.{with_register_registers, step_registers}
 use Rattle.rvm_hart.proofs.Shape.{length-poked_each, step_keeps}
 use Rattle.rvm_board.specs.Board.{hart_at, machine_at, new_hart}
 use Rattle.rvm_board.specs.Pokes.{is_view}
-use Rattle.rvm_hart.specs.Outcome.{put}
+use Rattle.rvm_hart.specs.Outcome.{with_register}
 use Rattle.rvm_hart.specs.Pokes as hart
 use Rattle.rvm_debug.specs.declared.event.BoardEvent.{BoardEvent}
 use Rattle.rvm_debug.specs.declared.event.BoardEvent.TheVariants as event
@@ -141,13 +141,13 @@ with_hart_keeps false h x g number registers =
       stopped = refl;
     }
 
-poked_number : (b : Bool) (r v : ℕ) (x : HartState) → HasNumber x (if b then record x { pc = v - v % 4 } else record x { regs = put r v x.regs })
+poked_number : (b : Bool) (r v : ℕ) (x : HartState) → HasNumber x (if b then record x { pc = v - v % 4 } else record x { regs = with_register r v x.regs })
 poked_number true r v x = refl
 poked_number false r v x = refl
 
-poked_registers : (b : Bool) (r v : ℕ) (x : HartState) → HasRegisters x (if b then record x { pc = v - v % 4 } else record x { regs = put r v x.regs })
+poked_registers : (b : Bool) (r v : ℕ) (x : HartState) → HasRegisters x (if b then record x { pc = v - v % 4 } else record x { regs = with_register r v x.regs })
 poked_registers true r v x = λ are. are
-poked_registers false r v x = put_registers r v x.regs
+poked_registers false r v x = with_register_registers r v x.regs
 
 sets_register_keeps : (h r v : ℕ) (g : Guest) → Keeps (sets_register h r v g) g
 sets_register_keeps h r v g =
