@@ -6,11 +6,13 @@ use Rattle.std.proofs.lemmas.Bool.Decides.{nat_tests}
 use Rattle.std.proofs.lemmas.List.{length-replicate, get_or-replicate, get_or_append_left, get_or-append_right, get_or_past, nil_from_length, ext_get_or}
 use Rattle.std.proofs.lemmas.List.FromFn.{get_or-map-range_with_len, length-map-range_with_len}
 use Rattle.rvm_mem.specs.Bytes.{replaced}
+use Rattle.rvm_mem.proofs.Lengths.{length-replaced}
+use Rattle.rvm_mem.proofs.Others.{replaced_nothing}
 use Rattle.rvm_hart.specs.Bus.{ram_base}
 use Rattle.rvm_image.specs.Images.{Piece, size, in_piece, or_else, byte_at}
 use Rattle.rvm_elf.specs.Load.{piece_fits, pieces_fit, ram_of}
 use Rattle.rvm_elf.specs.Placing.{placed, placed_all}
-use Rattle.rvm_elf.proofs.Ranges.{replaced_nothing, length-replaced, before_replaced, within_replaced, behind_replaced}
+use Rattle.rvm_elf.proofs.Ranges.{before_replaced, within_replaced, behind_replaced}
 use Rattle.rvm_elf.proofs.Placing.{and_first, and_second}
 
 -- a piece lies in RAM of so many bytes

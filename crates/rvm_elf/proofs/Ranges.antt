@@ -3,14 +3,6 @@ use Rattle.std.proofs.Common.{◌≡◌, ℕ, ◌+◌, ◌-◌, ◌<◌, ◌≤�
 use Rattle.std.proofs.lemmas.List.{take_at, drop_at, drop-drop, take-append-drop, length-take-le, length-drop, get_or_append_left, get_or-append_right, get_or-take, get_or-drop}
 use Rattle.rvm_mem.specs.Bytes.{replaced}
 
--- nothing replaced
-pub replaced_nothing : (at : ℕ) (ram : List ℕ) → replaced at [] ram ≡ ram
-replaced_nothing at ram = ap (λ n. take at ram ++ drop n ram) (let e : at + 0 ≡ at = omega arith in e) ∙ take-append-drop at ram
-
-pub length-replaced : (at : ℕ) (new ram : List ℕ) → at + length new ≤ length ram → length (replaced at new ram) ≡ length ram
-length-replaced at new ram inside =
-    omega (arith, length-append (take at ram) (new ++ drop (at + length new) ram), length-append new (drop (at + length new) ram), length-take-le at ram (omega arith), length-drop (at + length new) ram)
-
 -- a range, and then the one behind it
 pub replaced_more : (at here : ℕ) (front next ram : List ℕ) → here ≡ at + length front → here + length next ≤ length ram → replaced here next (replaced at front ram) ≡ replaced at (front ++ next) ram
 replaced_more at here front next ram is inside =

@@ -5,3 +5,5 @@ mod Values
 pub mod Bodies
 mod Pieces
 pub mod TheGuest
+mod Turns
+mod Examples

@@ -1,16 +1,41 @@
 -- A guest that is given events one after the other, as its debugger answers them.
-use Rattle.std.specs.Prelude.{List, [], ◌∷◌}
+use Rattle.std.specs.Prelude.{◌≡◌, ℕ, zero, suc, List, [], ◌∷◌, ◌++◌, length, Option, Some, None}
 use Rattle.rvm_debug.specs.declared.event.BoardEvent.{BoardEvent}
+use Rattle.rvm_debug.specs.declared.event.BoardEvent.TheVariants.{Step}
 use Rattle.rvm_debug.specs.declared.event.BoardReply.{BoardReply}
+use Rattle.rvm_debug.specs.declared.turns.Order.{Order}
+use Rattle.rvm_debug.specs.declared.turns.Stop.{Stop}
 use Rattle.rvm_debug.specs.Guest.{Guest}
 use Rattle.rvm_debug.specs.Events.{answered}
+use Rattle.rvm_debug.specs.Turns.{AfterTurns, next_hart, stop_in}
 
--- the guest that events leave
+-- the guest that events leave, the pages that they write, and the answers to them
 unfoldable pub after_all : Guest → List BoardEvent → Guest
 after_all g [] = g
 after_all g (e ∷ es) = after_all (answered e g).guest es
 
--- the answers to them
+unfoldable pub written : Guest → List BoardEvent → List ℕ
+written g [] = []
+written g (e ∷ es) = (answered e g).pages ++ written (answered e g).guest es
+
 unfoldable pub answers : Guest → List BoardEvent → List BoardReply
 answers g [] = []
 answers g (e ∷ es) = (answered e g).reply ∷ answers (answered e g).guest es
+
+-- no event behind the one that ends turns
+abbrev pub unless_over : Option Stop → List BoardEvent → List BoardEvent
+unless_over (Some s) rest = []
+unless_over None rest = rest
+
+-- the events that at most n turns are, the first of them that of hart h
+unfoldable pub steps_in : Order → (n h : ℕ) → Guest → List BoardEvent
+steps_in order zero h g = []
+steps_in order (suc n) h g =
+    let turn = answered (Step h) g in
+    Step h ∷ unless_over (stop_in turn.reply) (steps_in order n (next_hart order (length g.board.harts) h) turn.guest)
+
+-- turns leave what these events leave
+pub record AreTurns (events : List BoardEvent) (t : AfterTurns) (g : Guest) : Type 0 where
+  pub guest : t.guest ≡ after_all g events
+  pub pages : t.pages ≡ written g events
+  pub made : t.made ≡ length events

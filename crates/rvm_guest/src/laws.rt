@@ -5,9 +5,12 @@ ghost use Rattle.rvm_mem.specs.Bytes.{replaced};
 ghost use Rattle.rvm_mem.specs.Pages.{page_of};
 ghost use Rattle.rvm_codec.specs.Exact.{IsBytes};
 ghost use Rattle.rvm_debug.specs.declared.event.BoardEvent.{BoardEvent};
+ghost use Rattle.rvm_debug.specs.declared.turns.Order.{Order};
 ghost use Rattle.rvm_debug.specs.Guest.{Guest};
+ghost use Rattle.rvm_debug.specs.Turns.{after_turns};
 ghost use Rattle.rvm_state.specs.Spelling.{HasSpelling, Spells, spelling};
 ghost use Rattle.rvm_guest.specs.Body.{body_of, build};
+ghost use Rattle.rvm_guest.specs.Events.{AreTurns, steps_in};
 ghost use Rattle.rvm_guest.specs.Pages.{after, pages_in, zeros};
 ghost use Rattle.rvm_guest.specs.Valid.{is_valid};
 
@@ -41,4 +44,11 @@ pub fn pages_are_those_of_the_memory()
     ensures put { (page : ℕ) (new ram : List ℕ) → length ram % 4096 ≡ 0 → length new ≡ 4096
         → page < length ram / 4096
         → pages_in (replaced (4096 * page) new ram) ≡ slice_set (pages_in ram) page new }
+{}
+
+/// Turns of a hart that is there, and of those behind it, are steps: they leave the guest that so many
+/// events leave one after the other, and write their pages.
+pub fn turns_are_steps()
+    ensures { (order : Order) (n h : ℕ) (g : Guest) → h < length g.board.harts
+        → AreTurns (steps_in order n h g) (after_turns order n h g) g }
 {}
