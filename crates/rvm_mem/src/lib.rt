@@ -1,15 +1,16 @@
 //! A guest's memory: what every memory promises, what one promises whose pages are copied while a
-//! guest runs, sets of pages, and a memory over a flat vector.
+//! guest runs, what has a dirty log, sets of pages, and a memory over a flat vector.
 //!
 //! Stands on `byteorder`, and knows nothing of addresses, harts or hosts: a place is an offset from
 //! the first byte of RAM. The layers above use the laws of `Memory` and `PagedMemory`, and nothing
 //! else.
 //!
-//! To be read in this order: `memory`, `page_set`, `paged`, `block`, `flat`, `bytes`, `laws`.
+//! To be read in this order: `memory`, `page_set`, `paged`, `dirty_log`, `block`, `flat`, `bytes`, `laws`.
 #![tactic(auto)]
 
 pub mod block;
 mod bytes;
+mod dirty_log;
 mod flat;
 pub mod laws;
 mod memory;
@@ -17,6 +18,7 @@ mod page_set;
 mod paged;
 
 pub use bytes::{OutOfRange, clear_bytes, read_bytes, write_bytes};
+pub use dirty_log::DirtyLog;
 pub use flat::FlatMemory;
 pub use memory::{MAX_PAGES, Memory, PAGE_SIZE};
 pub use page_set::PageSet;
