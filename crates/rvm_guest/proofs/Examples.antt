@@ -54,7 +54,7 @@ a_state_begins_with_the_harts = refl
 abbrev late : Guest
 late =
     let g = guest 2 4096 in
-    record g { board = record g.board { reach = record g.board.reach { devices = record g.board.reach.devices { mtime = 2 ^ 64 } } } }
+    record g { board = record g.board { shared = record g.board.shared { devices = record g.board.shared.devices { mtime = 2 ^ 64 } } } }
 
 a_number_too_large_is_no_bytes : get_or (body_of late) 0 0 ≡ 256
 unfolding body_of state parts head shared

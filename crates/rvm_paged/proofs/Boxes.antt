@@ -1,6 +1,6 @@
 -- The bytes of pages in boxes, one page after the other.
 use Rattle.std.proofs.Common.{◌≡◌, ℕ, zero, suc, ◌+◌, ◌*◌, ◌/◌, ◌%◌, ◌<◌, ◌≤◌, List, [], ◌∷◌, ◌++◌, length, take, drop, get_or, set, replicate, refl, sym, ap, ◌∙◌, arith, append_assoc, length-append}
-use Rattle.std.proofs.lemmas.List.{drop-append-le, take-append-le, append-nil, drop_all, take_all, length-drop, length-take-le, replicate-append-replicate, take_at, get_or_default, length-set}
+use Rattle.std.proofs.lemmas.List.{drop-append-le, take-append-le, append-nil, drop_all, length-drop, replicate-append-replicate, take_at, get_or_default, length-set}
 use Rattle.std.proofs.Math.Seq.{drop-append-add, take-append-add}
 use Rattle.std.proofs.lemmas.List.Elements.{All-head, All-tail, All-get_or, All-set}
 use Rattle.std.specs.List.{All, concat}

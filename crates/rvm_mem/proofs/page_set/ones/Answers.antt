@@ -1,10 +1,10 @@
-use Rattle.std.proofs.Common.{◌≡◌, ◌+◌, ◌*◌, ◌≤◌, length, take, get_or, ap, sym, ◌∙◌, arith}
+use Rattle.std.proofs.Common.{◌+◌, ◌≤◌, get_or, ap, sym, ◌∙◌, arith}
 use Rattle.std.specs.Int.RustNames.{count_ones}
 use Rattle.std.specs.List.{sum_by}
 use Rattle.std.proofs.lemmas.List.{take_all}
 use Rattle.std.proofs.lemmas.List.Sums.{sum_by_more}
 use Rattle.std.proofs.lemmas.Nat.{ones-le}
-use Rattle.rvm_mem.proofs.Rows.{ones_are_count}
+use Rattle.rvm_mem.proofs.Counted.{ones_are_count}
 use Rattle.rvm_mem.proofs.page_set.ones.Goals as goal
 
 pub loop-i-preserved : goal.loop-i-preserved

@@ -1,8 +1,8 @@
-use Rattle.std.proofs.Common.{◌≡◌, ◌+◌, ◌<◌, length, get_or, set, bit_or, sym, ap, ◌∙◌, arith, subst}
+use Rattle.std.proofs.Common.{◌≡◌, get_or, sym, ap, ◌∙◌, arith, subst}
 use Rattle.std.proofs.lemmas.List.{get_or_default}
 use Rattle.rvm_mem.specs.Pages.{count, union}
 use Rattle.rvm_mem.specs.Rows.{flags, AreRows}
-use Rattle.rvm_mem.proofs.Rows.{Joined, joined_with, all_joined, joined_rows, joined_flags, same_pages, same_rows}
+use Rattle.rvm_mem.proofs.Joined.{joined_with, all_joined, joined_rows, joined_flags, same_pages, same_rows}
 use Rattle.rvm_mem.proofs.page_set.PageSet.add.Goals.{In-loop-i, After-loop-i}
 use Rattle.rvm_mem.proofs.page_set.PageSet.add.Goals as goal
 
@@ -12,7 +12,7 @@ index-requires c =
     omega arith
 
 pub loop-i-preserved : goal.loop-i-preserved
-loop-i-preserved c = 
+loop-i-preserved c =
     let others = same_rows c.self.inside.pages c.other.inside.pages c.self.inside.rows.items c.other.inside.rows.items c.args.self.now c.args.other.now c.self.view_is c.other.view_is c.requires c.self.invariant.are c.other.invariant.are in
     let size = c.loop-i.invariant.size in
     let row : c.index_mut.result.now ≡ get_or c.loop-i.rows.items c.loop-i.i 0 = c.index_mut.ensures.value ∙ get_or_default c.loop-i.rows.items c.loop-i.i c.index_mut.result.now 0 (omega arith) in
@@ -20,7 +20,7 @@ loop-i-preserved c =
     joined_with c.loop-i.i c.self.inside.rows.items c.other.inside.rows.items c.loop-i.rows.items c.index_mut.result.now c.index.result.now c.loop-i.invariant (omega arith) row other
 
 pub invariant_of-self : goal.invariant_of-self
-invariant_of-self c = 
+invariant_of-self c =
     let pages = same_pages c.self.inside.pages c.other.inside.pages c.self.inside.rows.items c.other.inside.rows.items c.args.self.now c.args.other.now c.self.view_is c.other.view_is c.requires in
     let joined = all_joined c.loop-i.i c.self.inside.rows.items c.other.inside.rows.items c.loop-i.rows.items c.loop-i.invariant (omega arith) in
     let are = joined_rows c.self.inside.pages c.self.inside.rows.items c.other.inside.rows.items c.loop-i.rows.items joined c.self.invariant.are (subst (λ n. AreRows n c.other.inside.rows.items) pages c.other.invariant.are) in

@@ -1,4 +1,4 @@
-use Rattle.rvm_mem.proofs.Rows.{Joined}
+use Rattle.rvm_mem.proofs.Joined.{Joined}
 use Rattle.rvm_mem.proofs.page_set.PageSet.add.Given as goal
 
 abbrev pub invariant-loop-i : goal.invariant-loop-i

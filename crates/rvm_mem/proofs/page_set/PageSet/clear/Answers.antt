@@ -1,6 +1,7 @@
 use Rattle.std.proofs.Common.{◌≡◌, length, replicate, false, sym, ap, ◌∙◌, arith, subst}
 use Rattle.rvm_mem.specs.Rows.{AreCounted, flags}
-use Rattle.rvm_mem.proofs.Rows.{zeros_counted, flags_of_zeros, length-flags}
+use Rattle.rvm_mem.proofs.Rows.{length-flags}
+use Rattle.rvm_mem.proofs.Filled.{zeros_counted, flags_of_zeros}
 use Rattle.rvm_mem.proofs.page_set.PageSet.clear.Goals.{After-self-1}
 use Rattle.rvm_mem.proofs.page_set.PageSet.clear.Goals as goal
 

@@ -1,4 +1,4 @@
-use Rattle.std.proofs.Common.{get_or, false, sym, ap, ◌∙◌, ◌/◌, ◌%◌}
+use Rattle.std.proofs.Common.{get_or, false, ap, ◌∙◌, ◌/◌, ◌%◌}
 use Rattle.rvm_mem.specs.Pages.{bit}
 use Rattle.rvm_mem.specs.Rows.{flag}
 use Rattle.rvm_mem.proofs.Rows.{flag_is}

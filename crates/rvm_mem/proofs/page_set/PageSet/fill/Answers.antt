@@ -1,7 +1,6 @@
-use Rattle.std.proofs.Common.{◌≡◌, length, replicate, true, sym, ap, ◌∙◌, arith, get_or, inl, inr, ◌-◌, ◌*◌, ◌^◌, min}
-use Rattle.std.proofs.lemmas.List.{length-set}
-use Rattle.std.proofs.lemmas.List.Edits.{fill_by_more}
-use Rattle.rvm_mem.proofs.Rows.{full_counted, full_flags, full_more, length-flags}
+use Rattle.std.proofs.Common.{length, replicate, true, sym, ap, ◌∙◌, arith}
+use Rattle.rvm_mem.proofs.Rows.{length-flags}
+use Rattle.rvm_mem.proofs.Filled.{full_counted, full_flags, full_more}
 use Rattle.rvm_mem.proofs.page_set.PageSet.fill.Goals as goal
 
 pub loop-i-preserved : goal.loop-i-preserved

@@ -1,4 +1,4 @@
-use Rattle.rvm_mem.proofs.Rows.{FullTo}
+use Rattle.rvm_mem.proofs.Filled.{FullTo}
 use Rattle.rvm_mem.proofs.page_set.PageSet.fill.Given as goal
 
 abbrev pub invariant-loop-i : goal.invariant-loop-i

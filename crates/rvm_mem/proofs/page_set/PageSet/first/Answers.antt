@@ -1,9 +1,8 @@
-use Rattle.std.proofs.Common.{◌≡◌, ◌+◌, ◌*◌, ◌<◌, ◌^◌, length, get_or, Some, sym, ap, ◌∙◌, arith}
+use Rattle.std.proofs.Common.{◌≡◌, ◌+◌, ◌*◌, get_or, Some, ap, ◌∙◌, arith}
 use Rattle.std.specs.Int.{trailing_zeros}
 use mir.Syntax.{w64}
 use Rattle.rvm_mem.specs.Pages.{first}
-use Rattle.rvm_mem.specs.Rows.{flags}
-use Rattle.rvm_mem.proofs.Rows.{first_in_row, first_in_none}
+use Rattle.rvm_mem.proofs.Lowest.{first_in_row, first_in_none}
 use Rattle.rvm_mem.proofs.page_set.PageSet.first.Goals.{In-loop-i, After-row_at-row}
 use Rattle.rvm_mem.proofs.page_set.PageSet.first.Goals as goal
 

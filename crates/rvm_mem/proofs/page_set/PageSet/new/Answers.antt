@@ -1,6 +1,6 @@
-use Rattle.std.proofs.Common.{◌≡◌, ℕ, ◌+◌, ◌/◌, replicate, false, refl, sym, ap, ◌∙◌, arith, subst}
+use Rattle.std.proofs.Common.{◌≡◌, replicate, sym, ap, ◌∙◌, arith, subst}
 use Rattle.rvm_mem.specs.Rows.{AreCounted, flags}
-use Rattle.rvm_mem.proofs.Rows.{zeros_counted, flags_of_zeros}
+use Rattle.rvm_mem.proofs.Filled.{zeros_counted, flags_of_zeros}
 use Rattle.rvm_mem.proofs.page_set.PageSet.new.Goals.{In_ok-rows}
 use Rattle.rvm_mem.proofs.page_set.PageSet.new.Goals as goal
 

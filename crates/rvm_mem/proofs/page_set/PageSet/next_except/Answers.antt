@@ -1,5 +1,5 @@
-use Rattle.std.proofs.Common.{◌≡◌, ◌<◌, ◌/◌, ◌%◌, ap, sym, ◌∙◌, arith, get_or}
-use Rattle.rvm_mem.proofs.Rows.{none_in_rest, rest_fits, some_in_rest}
+use Rattle.std.proofs.Common.{◌≡◌, ◌/◌, ◌%◌, ap, ◌∙◌, arith, get_or}
+use Rattle.rvm_mem.proofs.Lowest.{none_in_rest, rest_fits, some_in_rest}
 use Rattle.rvm_mem.proofs.page_set.PageSet.next_except.Goals.{After-row_at-row}
 use Rattle.rvm_mem.proofs.page_set.PageSet.next_except.Goals as goal
 

@@ -1,4 +1,4 @@
-use Rattle.std.proofs.Common.{◌≡◌, ◌+◌, ◌≤◌, length, ap, ◌∙◌, arith}
+use Rattle.std.proofs.Common.{◌+◌, ◌≤◌, length, ap, ◌∙◌, arith}
 use Rattle.std.specs.List.{concat}
 use Rattle.rvm_mem.specs.Bytes.{load}
 use Rattle.rvm_paged.proofs.Boxes.{Here, place_inside, loaded}
