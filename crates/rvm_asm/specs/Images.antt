@@ -1,5 +1,5 @@
 -- What the assembler says of the pieces of an image.
-use Rattle.std.specs.Prelude.{◌≡◌, ℕ, ◌+◌, ◌<◌, ◌≤◌, List, [], ◌∷◌, ◌++◌, Some, None, length, slice_index}
+use Rattle.std.specs.Prelude.{◌≡◌, ℕ, ◌+◌, ◌<◌, ◌≤◌, List, [], ◌∷◌, Some, None, length, slice_index}
 use Rattle.std.specs.Prelude.{IsSome}
 use Rattle.rvm_image.specs.Images.{Piece, in_piece, or_else, byte_at}
 
@@ -40,7 +40,3 @@ AreOrdered gap place (p ∷ ps) =
 unfoldable pub end_of : (gap place : ℕ) → List Piece → ℕ
 end_of gap place [] = place
 end_of gap place (p ∷ ps) = end_of gap (p.address + length p.bytes + gap) ps
-
--- a piece with more bytes behind its own
-abbrev pub longer : Piece → List ℕ → Piece
-longer p bs = record { address = p.address; bytes = p.bytes ++ bs; zeros = p.zeros }

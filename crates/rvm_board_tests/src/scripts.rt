@@ -6,7 +6,7 @@ use crate::retry::again;
 use rvm_debug::Debugged;
 use rvm_mem::Memory;
 use rvm_script::{ScriptError, run_script};
-use std::alloc::Global;
+use std::alloc::{AllocError, Global};
 use std::io::{self, ErrorKind, Read, Write};
 use std::process::Abort;
 use std::test::Fail;
@@ -190,24 +190,25 @@ fn a_line_that_is_none_ends_a_script(rt: HostRuntime) -> Result<(), Fail> {
     expect(&rt, alloc, &mut board, allowed, answers, Ok(()))
 }
 
+/// A poke of so many bytes.
+fn poke(alloc: Global, count: u32) -> Result<String, AllocError> {
+    let mut script = String::with_capacity(alloc, 600)?;
+    script.push_str("poke 0x80000000 ")?;
+    for _ in 0..count {
+        script.push_str("aB")?;
+    }
+    Ok(script)
+}
+
 #[test]
 fn a_poke_has_at_most_256_bytes(rt: HostRuntime) -> Result<(), Fail> {
     let alloc = rt.alloc();
     let mut board = board(alloc, 1, &LOOP)?;
-    let mut script = again!(Vec::with_capacity(alloc, 600));
-    script.extend_from_slice(b"poke 0x80000000 ")?;
-    for _ in 0..256 {
-        script.extend_from_slice(b"aB")?;
-    }
-    let mut written = again!(Vec::with_capacity(alloc, 64));
-    let result = run(alloc, &mut board, script.as_slice(), &mut written);
-    assert_eq!(rt; result, Ok(()));
-    assert_eq!(rt; written.as_slice(), "done\n".as_bytes());
-    script.extend_from_slice(b"00")?;
-    let result = run(alloc, &mut board, script.as_slice(), &mut written);
-    assert_eq!(rt; result, Err(ScriptError::BadToken(1)));
-    assert_eq!(rt; written.as_slice(), "done\n".as_bytes());
-    Ok(())
+    let longest = again!(poke(alloc, 256));
+    expect(&rt, alloc, &mut board, longest.as_str(), "done\n", Ok(()))?;
+    let longer = again!(poke(alloc, 257));
+    let end = Err(ScriptError::BadToken(1));
+    expect(&rt, alloc, &mut board, longer.as_str(), "", end)
 }
 
 #[test]
