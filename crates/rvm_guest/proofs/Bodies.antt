@@ -19,13 +19,13 @@ use Rattle.rvm_state.proofs.Reading.{found, is_read}
 use Rattle.rvm_state.proofs.Wrote.{made}
 use Rattle.rvm_guest.specs.Pages.{count_of, joined, pages_in, pages_of, size_of}
 use Rattle.rvm_guest.specs.Valid.{is_valid}
-use Rattle.rvm_guest.specs.Body.{body_of, build, guest_if, has_bytes, told}
+use Rattle.rvm_guest.specs.Body.{body_of, build, guest_if, has_bytes, read_body}
 use Rattle.rvm_guest.specs.Values.{values}
 use Rattle.rvm_guest.proofs.Joined.{joined_pages}
 use Rattle.rvm_guest.proofs.Staying.{IsHart, IsValid, valid_is}
 use Rattle.rvm_guest.proofs.Values.{values_back}
 
--- THE STATE TELLS THE VALUES
+-- THE VALUES ARE READ FROM THE STATE
 
 -- the first byte of a guest's bytes is how many harts it has
 first_byte : (g : Guest) → get_or (spelling g) 0 0 ≡ length (parts_of g) % 256
@@ -39,15 +39,15 @@ not_256 g = ne_eqb (get_or (spelling g) 0 0) 256 (λ e. let f = first_byte g in 
 abbrev stated : Bool → Guest → List ℕ
 stated b g = if b then spelling g else 256 ∷ values.write (state_of g)
 
-told_back : (b : Bool) (g : Guest) → has_bytes g ≡ b → told (size_of g) (stated b g) ≡ Some (state_of g)
-told_back true g fits =
+body_back : (b : Bool) (g : Guest) → has_bytes g ≡ b → read_body (size_of g) (stated b g) ≡ Some (state_of g)
+body_back true g fits =
     ap (λ (t : Bool). if t then values.read (drop 1 (spelling g)) else (state (size_of g)).read (spelling g)) (not_256 g)
     ∙ (state_exact (size_of g)).again (state_of g) fits
-told_back false g none = values_back (state_of g)
+body_back false g none = values_back (state_of g)
 
-pub tells_values : (g : Guest) → told (size_of g) (body_of g) ≡ Some (state_of g)
+pub body_is_read : (g : Guest) → read_body (size_of g) (body_of g) ≡ Some (state_of g)
 unfolding body_of
-tells_values g = told_back (has_bytes g) g refl
+body_is_read g = body_back (has_bytes g) g refl
 
 -- THE VALUES MAKE THE GUEST
 
@@ -70,7 +70,7 @@ read_back g h =
     let size : length bytes ≡ 4096 * count_of g = let z = v.whole in omega (arith, z) in
     let ram : joined (pages_of g) ≡ bytes = joined_pages (count_of g) bytes size in
     let count : length (state_of g).harts ≡ length g.board.harts = length-map-range_with_len _ 0 (length g.board.harts) in
-    rw (ram, tells_values g, same_number _ _ count) (ap (λ x. Some x) (guest_made g v))
+    rw (ram, body_is_read g, same_number _ _ count) (ap (λ x. Some x) (guest_made g v))
 
 -- WHAT A HOST HAS
 

@@ -1,9 +1,9 @@
 mod Tests
-mod Joined
-mod Staying
 mod Values
+pub mod Joined
+pub mod Staying
 pub mod Bodies
-mod Pieces
+pub mod Pieces
+pub mod Turns
 pub mod TheGuest
-mod Turns
 mod Examples
