@@ -60,7 +60,7 @@ pub record IsWritable (entry : ℕ) (ps : List Piece) : Type 0 where
   pub entry_fits : entry < 2 ^ 32
   pub few : length ps ≤ 16
   pub addressed : are_addressed ps ≡ true
-  pub shared : in_reach ps ≡ true
+  pub reach : in_reach ps ≡ true
 
 -- the pieces that have a byte or a zero
 abbrev pub with_size : List Piece → List Piece
