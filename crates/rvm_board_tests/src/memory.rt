@@ -21,6 +21,22 @@ fn a_set_of_pages_is_made(rt: HostRuntime) -> Result<(), Fail> {
 }
 
 #[test]
+fn the_last_page_of_65_stands_in_a_row_of_its_own(rt: HostRuntime) -> Result<(), Fail> {
+    let mut set = again!(PageSet::new(rt.alloc(), 65));
+    assert!(rt; set.pages() == 65);
+    set.insert(64);
+    assert_eq!(rt; (set.count(), set.first()), (1, Some(64)));
+    assert_eq!(rt; (set.word(0), set.word(64)), (0, 1));
+    assert_eq!(rt;
+        (set.next_except(0, 0), set.next_except(64, 0), set.next_except(64, 1)),
+        (None, Some(64), None)
+    );
+    set.fill();
+    assert_eq!(rt; (set.count(), set.word(0), set.word(64)), (65, u64::MAX, 1));
+    Ok(())
+}
+
+#[test]
 fn a_memory_is_made_and_its_dirty_log_is_taken(rt: HostRuntime) -> Result<(), Fail> {
     let mut ram = again!(FlatMemory::zeroed(rt.alloc(), 2));
     let mut taken = again!(PageSet::new(rt.alloc(), 2));

@@ -13,7 +13,7 @@ use std::alloc::{AllocError, Global};
 use std::marker::Model;
 use std::mem;
 
-/// A memory whose bytes are one vector, with one flag a page.
+/// A memory whose bytes are one vector, with the set of its pages that were written.
 #[derive(Drop)]
 pub struct FlatMemory {
     bytes: Vec<u8>,
