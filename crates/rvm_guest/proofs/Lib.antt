@@ -1,7 +1,7 @@
 mod Tests
-mod Joined
+pub mod Joined
 mod Staying
 mod Values
 pub mod Bodies
-mod Pieces
+pub mod Pieces
 pub mod TheGuest
