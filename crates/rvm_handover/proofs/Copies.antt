@@ -1,13 +1,12 @@
 -- A copy of a page is staged as the law of migration says.
-use Rattle.std.proofs.Common.{◌≡◌, inl, inr, ℕ, ◌*◌, ◌/◌, ◌%◌, ◌<◌, Bool, true, false, ◌&&◌, nat_lt, if◌then◌else◌, List, length, replicate, get_or, set, Option, None, refl, sym, ap, ◌∙◌, arith}
+use Rattle.std.proofs.Common.{◌≡◌, ℕ, ◌*◌, ◌/◌, ◌<◌, Bool, true, false, ◌&&◌, nat_lt, if◌then◌else◌, List, length, replicate, get_or, Option, None, refl, sym, ap, ◌∙◌, arith}
 use Rattle.std.proofs.Math.Path.{fun_ext}
-use Rattle.std.proofs.lemmas.Bool.{cases_Bool, ltb-true}
-use Rattle.rvm_mem.specs.Bytes.{replaced}
+use Rattle.std.proofs.lemmas.Bool.{ltb-true}
 use Rattle.rvm_protocol.specs.Receiving.{page_came}
 use Rattle.rvm_protocol.specs.Replies.{Stored}
 use Rattle.rvm_protocol.specs.Modes.{Staging, says, ignores}
 use Rattle.rvm_protocol.specs.Staging.{new_stage, with_page}
-use Rattle.rvm_guest.specs.Pages.{pages_in, zeros}
+use Rattle.rvm_guest.specs.Pages.{pages_in}
 use Rattle.rvm_guest.proofs.Joined.{blank_pages, length_pages, put_page}
 use Rattle.rvm_guest.proofs.TheGuest.{board}
 use Rattle.rvm_handover.specs.Stages.{PlainStage, stage_of, is_newer, with_copy}

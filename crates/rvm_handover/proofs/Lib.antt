@@ -1,2 +1,5 @@
 mod Tables
 mod Copies
+mod Lists
+mod Built
+mod States

@@ -19,6 +19,6 @@ set_is_put xs p v d lt =
 -- a list of one value, which is also what is past its end
 pub of_replicate : {V : Type 0} (n p : ℕ) (v : V) → get_or (replicate n v) p v ≡ v
 of_replicate n p v = elim (cases_lt p n) [
-      | inl lt ↦ get_or-replicate n p v v lt
-      | inr ge ↦ get_or_past (replicate n v) p v (let e = length-replicate n v in omega (arith, e, ge))
-    ]
+  | inl lt ↦ get_or-replicate n p v v lt
+  | inr ge ↦ get_or_past (replicate n v) p v (let e = length-replicate n v in omega (arith, e, ge))
+]

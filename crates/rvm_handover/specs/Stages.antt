@@ -1,6 +1,7 @@
 -- What is here of a guest that comes: as plain values, and as the law of migration has it.
 use Rattle.std.specs.Prelude.{ℕ, ◌*◌, Bool, ◌&&◌, nat_lt, List, length, get_or, slice_set, replicate, Option, None}
 use Rattle.rvm_mem.specs.Bytes.{replaced}
+use Rattle.rvm_protocol.specs.Pages.{Pages}
 use Rattle.rvm_protocol.specs.Staging as protocol
 use Rattle.rvm_guest.specs.Pages.{pages_in}
 
@@ -46,3 +47,7 @@ is_newer page number s = nat_lt page (length s.have) && nat_lt (get_or s.have pa
 abbrev pub with_copy : (page number : ℕ) → List ℕ → PlainStage → PlainStage
 with_copy page number new s =
     record s { bytes = replaced (4096 * page) new s.bytes; have = slice_set s.have page number }
+
+-- the pages whose copies here, with these numbers, are older than those that are named
+abbrev pub is_older : (have numbers : List ℕ) → Pages
+is_older have numbers page = nat_lt (get_or have page 0) (get_or numbers page 0)

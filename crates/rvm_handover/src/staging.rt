@@ -1,15 +1,20 @@
 //! The pages of a guest that comes.
 
-ghost use Rattle.std.specs.Prelude.{◌≡◌, ◌≤◌, ◌*◌, ◌/◌, ◌<◌, ℕ, length, IfOk, if◌then◌else◌};
-ghost use Rattle.rvm_protocol.specs.Receiving.{page_came};
+ghost use Rattle.std.specs.Prelude.{◌≡◌, ◌≤◌, ◌*◌, ◌<◌, ℕ, length, get_or, IfOk, IfErr, OnErr, Some, if◌then◌else◌};
+ghost use Rattle.rvm_protocol.specs.Pages.{members};
+ghost use Rattle.rvm_protocol.specs.Receiving.{page_came, state_came};
 ghost use Rattle.rvm_protocol.specs.Staging.{new_stage};
 ghost use Rattle.rvm_guest.proofs.TheGuest.{board};
-ghost use Rattle.rvm_guest.specs.Pages.{zeros};
-ghost use Rattle.rvm_handover.specs.Stages.{blank, is_newer, stage_of, with_copy};
-ghost use Rattle.rvm_handover.specs.Outcomes.{copied};
+ghost use Rattle.rvm_guest.specs.Body.{build};
+ghost use Rattle.rvm_guest.specs.Pages.{pages_in, zeros};
+ghost use Rattle.rvm_handover.specs.Stages.{blank, is_newer, is_older, stage_of, with_copy};
+ghost use Rattle.rvm_handover.specs.Outcomes.{IsFault, IsLeft, copied, ready};
 
-use rvm_frame::Bytes;
+use crate::not_ready::NotReady;
+use rvm_debug::Debugged;
+use rvm_frame::{Bytes, PageNumbers};
 use rvm_mem::{Memory, PAGE_SIZE, PagedMemory};
+use rvm_state::{StateFault, read_state};
 use std::alloc::{AllocError, Global};
 use std::marker::Model;
 
@@ -120,4 +125,105 @@ impl<M: PagedMemory> Staging<M> {
     {
         self.page(page, number, &[0; PAGE_SIZE as usize])
     }
+
+    /// The guest, where every copy that the numbers name, one for each page in order, or a newer one
+    /// is here, and the bytes of a state make a guest of the pages with as many harts as were
+    /// offered. Else why not, and the stage as it was: `BadState` where there are not as many
+    /// numbers as pages; where copies are lacking, which; `BadState` where the bytes make no such
+    /// guest; and `OutOfMemory` only of a state that none of these holds of, or to tell which
+    /// copies are lacking.
+    pub fn state(
+        self,
+        alloc: Global,
+        numbers: &[u32],
+        bytes: &[u8],
+    ) -> Result<Debugged<M>, (NotReady, Staging<M>)>
+        ensures ready { IfOk result (λ d. (move_number : ℕ)
+            → state_came board move_number (stage_of self) (stage_of self) numbers.now bytes.now
+            ≡ ready move_number d.guest) }
+        ensures left { IfErr result (λ e. (move_number : ℕ)
+            → IsLeft move_number e.0 e.1
+            (state_came board move_number (stage_of self) (stage_of self) numbers.now bytes.now)) }
+        ensures stage { IfErr result (λ e. e.1 ≡ self) }
+    {
+        if numbers.len() != self.pages() as usize {
+            return Err((NotReady::BadState, self));
+        }
+        let Ok(missing) = missing(alloc, self.have.as_slice(), numbers) else {
+            return Err((NotReady::OutOfMemory, self));
+        };
+        if !missing.as_slice().is_empty() {
+            return Err((NotReady::Lacking(PageNumbers::from_vec(missing)), self));
+        }
+        match self.make_guest(alloc, bytes) {
+            Ok(guest) => Ok(guest),
+            Err((fault, stage)) => Err((NotReady::from_fault(fault), stage)),
+        }
+    }
+
+    /// The guest that the pages and the bytes of a state make.
+    fn make_guest(
+        self,
+        alloc: Global,
+        bytes: &[u8],
+    ) -> Result<Debugged<M>, (StateFault, Staging<M>)>
+        ensures made { IfOk result (λ d. build self.harts bytes.now (pages_in self.bytes) ≡ Some d.guest) }
+        ensures fault { IfErr result
+            (λ e. IsFault e.0 (build self.harts bytes.now (pages_in self.bytes))) }
+        ensures stage { IfErr result (λ e. e.1 ≡ self) }
+    {
+        let _size = self.pages();
+        if first_of(bytes) != self.harts {
+            return Err((StateFault::BadState, self));
+        }
+        let Staging {
+            memory,
+            have,
+            harts,
+            stamp,
+            parts,
+            pieces,
+        } = self;
+        match read_state(alloc, bytes, memory) {
+            Ok(guest) => Ok(guest),
+            Err((fault, memory)) => {
+                let stage = Staging {
+                    memory,
+                    have,
+                    harts,
+                    stamp,
+                    parts,
+                    pieces,
+                };
+                Err((fault, stage))
+            }
+        }
+    }
+}
+
+/// The first byte, or 0 where there is none.
+fn first_of(bytes: &[u8]) -> u32
+    ensures { result ≡ get_or bytes.now 0 0 }
+{
+    match bytes {
+        [] => 0,
+        [first, ..] => u32::from(*first),
+    }
+}
+
+/// The pages whose copy here is older than the one that is named. Takes memory only where there is
+/// one.
+fn missing(alloc: Global, have: &[u32], numbers: &[u32]) -> Result<Vec<u16>, AllocError>
+    requires same { length numbers.now ≡ length have.now }
+    requires few { length have.now ≤ 4096 }
+    ensures pages { IfOk result (λ pages. pages.items ≡ members (is_older have.now numbers.now) 0 (length have.now)) }
+    ensures memory { OnErr result (0 < length (members (is_older have.now numbers.now) 0 (length have.now))) }
+{
+    let mut pages = Vec::new(alloc);
+    for page in 0..have.len() {
+        if have[page] < numbers[page] {
+            pages.push(page as u16)?;
+        }
+    }
+    Ok(pages)
 }
