@@ -28,7 +28,7 @@ use Rattle.rvm_guest.proofs.Values.{values_back}
 -- THE VALUES ARE READ FROM THE STATE
 
 -- the first byte of a guest's bytes is how many harts it has
-first_byte : (g : Guest) → get_or (spelling g) 0 0 ≡ length (parts_of g) % 256
+pub first_byte : (g : Guest) → get_or (spelling g) 0 0 ≡ length (parts_of g) % 256
 unfolding state parts head
 first_byte g = refl
 

@@ -1,0 +1,5 @@
+mod Tables
+mod Copies
+mod Lists
+mod Built
+mod States

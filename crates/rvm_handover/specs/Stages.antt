@@ -1,0 +1,53 @@
+-- What is here of a guest that comes: as plain values, and as the law of migration has it.
+use Rattle.std.specs.Prelude.{ℕ, ◌*◌, Bool, ◌&&◌, nat_lt, List, length, get_or, slice_set, replicate, Option, None}
+use Rattle.rvm_mem.specs.Bytes.{replaced}
+use Rattle.rvm_protocol.specs.Pages.{Pages}
+use Rattle.rvm_protocol.specs.Staging as protocol
+use Rattle.rvm_guest.specs.Pages.{pages_in}
+
+-- RAM so far; for each page the number of the copy that is here, 0 for none; how many harts the guest has; of the pieces
+-- of its state that are kept the stamp, how many there are, and each by its place
+pub record PlainStage : Type 0 where
+  pub bytes : List ℕ
+  pub have : List ℕ
+  pub harts : ℕ
+  pub stamp : ℕ
+  pub parts : ℕ
+  pub pieces : List (Option (List ℕ))
+
+-- the stage of the law
+abbrev pub stage_of : PlainStage → protocol.Stage (List ℕ)
+stage_of s =
+    record {
+      pages = pages_in s.bytes;
+      have = λ p. get_or s.have p 0;
+      processors = s.harts;
+      stamp = s.stamp;
+      parts = s.parts;
+      pieces = λ i. get_or s.pieces i None;
+    }
+
+-- pages of zeros, no copy, no piece
+abbrev pub blank : (pages harts : ℕ) → PlainStage
+blank pages harts =
+    record {
+      bytes = replicate (4096 * pages) 0;
+      have = replicate pages 0;
+      harts = harts;
+      stamp = 0;
+      parts = 0;
+      pieces = replicate 6 None;
+    }
+
+-- a copy of a page is newer than the one that is here
+abbrev pub is_newer : (page number : ℕ) → PlainStage → Bool
+is_newer page number s = nat_lt page (length s.have) && nat_lt (get_or s.have page 0) number
+
+-- with a copy of a page
+abbrev pub with_copy : (page number : ℕ) → List ℕ → PlainStage → PlainStage
+with_copy page number new s =
+    record s { bytes = replaced (4096 * page) new s.bytes; have = slice_set s.have page number }
+
+-- the pages whose copies here, with these numbers, are older than those that are named
+abbrev pub is_older : (have numbers : List ℕ) → Pages
+is_older have numbers page = nat_lt (get_or have page 0) (get_or numbers page 0)

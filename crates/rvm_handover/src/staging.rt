@@ -1,0 +1,229 @@
+//! The pages of a guest that comes.
+
+ghost use Rattle.std.specs.Prelude.{◌≡◌, ◌≤◌, ◌*◌, ◌<◌, ℕ, length, get_or, IfOk, IfErr, OnErr, Some, if◌then◌else◌};
+ghost use Rattle.rvm_protocol.specs.Pages.{members};
+ghost use Rattle.rvm_protocol.specs.Receiving.{page_came, state_came};
+ghost use Rattle.rvm_protocol.specs.Staging.{new_stage};
+ghost use Rattle.rvm_guest.proofs.TheGuest.{board};
+ghost use Rattle.rvm_guest.specs.Body.{build};
+ghost use Rattle.rvm_guest.specs.Pages.{pages_in, zeros};
+ghost use Rattle.rvm_handover.specs.Stages.{blank, is_newer, is_older, stage_of, with_copy};
+ghost use Rattle.rvm_handover.specs.Outcomes.{IsFault, IsLeft, copied, ready};
+
+use crate::not_ready::NotReady;
+use rvm_debug::Debugged;
+use rvm_frame::{Bytes, PageNumbers};
+use rvm_mem::{Memory, PAGE_SIZE, PagedMemory};
+use rvm_state::{StateFault, read_state};
+use std::alloc::{AllocError, Global};
+use std::marker::Model;
+
+/// The most pieces of a state.
+const PIECES: usize = 6;
+
+/// A RAM that fills with copies of pages, the number of each page's copy, and the pieces of a state
+/// that came.
+#[derive(Drop)]
+pub struct Staging<M: PagedMemory> {
+    memory: M,
+    have: Vec<u32>,
+    harts: u32,
+    /// The highest stamp of a piece that came, 0 for none, and the count of parts of its state.
+    stamp: u32,
+    parts: u8,
+    pieces: [Option<Bytes>; PIECES],
+}
+
+impl<M: PagedMemory> Model for Staging<M> {
+    ghost use Rattle.std.specs.Prelude.{◌≡◌, ◌<◌, ◌≤◌, length};
+    ghost use Rattle.rvm_handover.specs.Stages.{PlainStage};
+
+    ghost Value = { PlainStage };
+
+    ghost view = { λ s. record {
+      bytes = M.bytes s.memory;
+      have = s.have.items;
+      harts = s.harts;
+      stamp = s.stamp;
+      parts = s.parts;
+      pieces = s.pieces;
+    } };
+
+    ghost invariant = { λ s. (length s.have.items ≡ length (M.dirty s.memory))
+        × ((0 < length s.have.items) × (length s.have.items ≤ 4096)) };
+}
+
+impl<M: PagedMemory> Staging<M> {
+    /// A stage for a guest of so many pages, 1 to 4096, and harts: pages of zeros, no copy of one
+    /// and no piece of a state. Only here a stage takes memory for pages.
+    pub fn offer(alloc: Global, pages: u32, harts: u32) -> Result<Staging<M>, AllocError>
+        requires some { 0 < pages }
+        requires few { pages ≤ 4096 }
+        ensures stage { IfOk result (λ s. s ≡ blank pages harts) }
+        ensures new { IfOk result (λ s. stage_of s ≡ new_stage board.zeros pages harts) }
+    {
+        let have = vec![in alloc; 0u32; pages as usize]?;
+        let memory = M::zeroed(alloc, pages)?;
+        Ok(Staging {
+            memory,
+            have,
+            harts,
+            stamp: 0,
+            parts: 0,
+            pieces: [None, None, None, None, None, None],
+        })
+    }
+
+    /// How many pages the guest has.
+    pub fn pages(&self) -> u32
+        ensures pages { result ≡ length self.now.have }
+        ensures bytes { length self.now.bytes ≡ 4096 * result }
+        ensures some { 0 < result }
+        ensures few { result ≤ 4096 }
+    {
+        let _size = self.memory.len();
+        self.memory.pages()
+    }
+
+    /// Stores a copy of a page where the page is one of the guest's and the copy is newer than the
+    /// one that is here, and says whether it did; else nothing changes. Takes no memory.
+    pub fn page(&mut self, page: u32, number: u32, bytes: &[u8; PAGE_SIZE as usize]) -> bool
+        ensures stored { result ≡ is_newer page number self.old }
+        ensures stage { self.new
+            ≡ (if is_newer page number self.old then with_copy page number bytes.now self.old else self.old) }
+        ensures came { (move_number : ℕ)
+            → page_came board move_number (stage_of self.old) page number bytes.now
+            ≡ copied move_number page number result self.new }
+    {
+        let _size = self.pages();
+        self.store(page, number, bytes)
+    }
+
+    /// Stores a copy of a page where it is newer than the one that is here.
+    fn store(&mut self, page: u32, number: u32, bytes: &[u8; PAGE_SIZE as usize]) -> bool
+        ensures stored { result ≡ is_newer page number self.old }
+        ensures stage { self.new
+            ≡ (if is_newer page number self.old then with_copy page number bytes.now self.old else self.old) }
+    {
+        if page < self.memory.pages() && self.have[page as usize] < number {
+            self.memory.put_page(page, bytes);
+            let have = &mut self.have;
+            have[page as usize] = number;
+            return true;
+        }
+        false
+    }
+
+    /// Stores a copy of a page that is all zeros, as `page` does.
+    pub fn zero(&mut self, page: u32, number: u32) -> bool
+        ensures stored { result ≡ is_newer page number self.old }
+        ensures stage { self.new
+            ≡ (if is_newer page number self.old then with_copy page number zeros self.old else self.old) }
+        ensures came { (move_number : ℕ)
+            → page_came board move_number (stage_of self.old) page number board.zeros
+            ≡ copied move_number page number result self.new }
+    {
+        self.page(page, number, &[0; PAGE_SIZE as usize])
+    }
+
+    /// The guest, where every copy that the numbers name, one for each page in order, or a newer one
+    /// is here, and the bytes of a state make a guest of the pages with as many harts as were
+    /// offered. Else why not, and the stage as it was: `BadState` where there are not as many
+    /// numbers as pages; where copies are lacking, which; `BadState` where the bytes make no such
+    /// guest; and `OutOfMemory` only of a state that none of these holds of, or to tell which
+    /// copies are lacking.
+    pub fn state(
+        self,
+        alloc: Global,
+        numbers: &[u32],
+        bytes: &[u8],
+    ) -> Result<Debugged<M>, (NotReady, Staging<M>)>
+        ensures ready { IfOk result (λ d. (move_number : ℕ)
+            → state_came board move_number (stage_of self) (stage_of self) numbers.now bytes.now
+            ≡ ready move_number d.guest) }
+        ensures left { IfErr result (λ e. (move_number : ℕ)
+            → IsLeft move_number e.0 e.1
+            (state_came board move_number (stage_of self) (stage_of self) numbers.now bytes.now)) }
+        ensures stage { IfErr result (λ e. e.1 ≡ self) }
+    {
+        if numbers.len() != self.pages() as usize {
+            return Err((NotReady::BadState, self));
+        }
+        let Ok(missing) = missing(alloc, self.have.as_slice(), numbers) else {
+            return Err((NotReady::OutOfMemory, self));
+        };
+        if !missing.as_slice().is_empty() {
+            return Err((NotReady::Lacking(PageNumbers::from_vec(missing)), self));
+        }
+        match self.make_guest(alloc, bytes) {
+            Ok(guest) => Ok(guest),
+            Err((fault, stage)) => Err((NotReady::from_fault(fault), stage)),
+        }
+    }
+
+    /// The guest that the pages and the bytes of a state make.
+    fn make_guest(
+        self,
+        alloc: Global,
+        bytes: &[u8],
+    ) -> Result<Debugged<M>, (StateFault, Staging<M>)>
+        ensures made { IfOk result (λ d. build self.harts bytes.now (pages_in self.bytes) ≡ Some d.guest) }
+        ensures fault { IfErr result
+            (λ e. IsFault e.0 (build self.harts bytes.now (pages_in self.bytes))) }
+        ensures stage { IfErr result (λ e. e.1 ≡ self) }
+    {
+        let _size = self.pages();
+        if first_of(bytes) != self.harts {
+            return Err((StateFault::BadState, self));
+        }
+        let Staging {
+            memory,
+            have,
+            harts,
+            stamp,
+            parts,
+            pieces,
+        } = self;
+        match read_state(alloc, bytes, memory) {
+            Ok(guest) => Ok(guest),
+            Err((fault, memory)) => {
+                let stage = Staging {
+                    memory,
+                    have,
+                    harts,
+                    stamp,
+                    parts,
+                    pieces,
+                };
+                Err((fault, stage))
+            }
+        }
+    }
+}
+
+/// The first byte, or 0 where there is none.
+fn first_of(bytes: &[u8]) -> u32
+    ensures { result ≡ get_or bytes.now 0 0 }
+{
+    match bytes {
+        [] => 0,
+        [first, ..] => u32::from(*first),
+    }
+}
+
+/// The pages whose copy here is older than the one that is named. Takes memory only where there is
+/// one.
+fn missing(alloc: Global, have: &[u32], numbers: &[u32]) -> Result<Vec<u16>, AllocError>
+    requires same { length numbers.now ≡ length have.now }
+    requires few { length have.now ≤ 4096 }
+    ensures pages { IfOk result (λ pages. pages.items ≡ members (is_older have.now numbers.now) 0 (length have.now)) }
+    ensures memory { OnErr result (0 < length (members (is_older have.now numbers.now) 0 (length have.now))) }
+{
+    let mut pages = Vec::new(alloc);
+    for page in 0..have.len() {
+        if have[page] < numbers[page] {
+            pages.push(page as u16)?;
+        }
+    }
+    Ok(pages)
+}
