@@ -1,9 +1,9 @@
 -- The scan of a round, block by block, and of the paused guest's pages.
-use Rattle.std.proofs.Common.{◌≡◌, ◌≢◌, inl, inr, ℕ, zero, suc, ◌+◌, ◌-◌, ◌*◌, ◌/◌, ◌%◌, ◌<◌, ◌≤◌, Bool, true, false, not, ◌&&◌, ◌||◌, ◌==◌, if◌then◌else◌, List, length, get_or, max, Option, Some, None, refl, sym, ap, ◌∙◌, subst, arith}
+use Rattle.std.proofs.Common.{◌≡◌, ◌≢◌, inl, inr, ℕ, zero, suc, ◌+◌, ◌-◌, ◌*◌, ◌/◌, ◌%◌, ◌<◌, ◌≤◌, Bool, true, false, not, ◌&&◌, ◌==◌, List, length, max, Some, None, refl, sym, ap, ◌∙◌, arith}
 use Rattle.std.proofs.lemmas.Bool.{cases_lt}
 use Rattle.std.proofs.lemmas.Bool.Decides.{nat_tests}
 use Rattle.std.proofs.lemmas.List.{get_or_past}
-use Rattle.rvm_mem.specs.Pages.{IsLowest, bit, bits, has, has_except, window}
+use Rattle.rvm_mem.specs.Pages.{IsLowest, bit, bits, has_except, window}
 use Rattle.rvm_mem.proofs.Sets.{length-union}
 use Rattle.rvm_protocol.specs.Pages.{least}
 use Rattle.rvm_precopy.specs.Plans.{Plan, due, found, last_found, left, peek}
@@ -32,19 +32,19 @@ least_end f p n le = let e : n - p ≡ 0 = omega arith in rw e refl
 least_skips : (f : ℕ → Bool) (p e n : ℕ) → p ≤ e → e ≤ n → ((k : ℕ) → p ≤ k → k < e → f k ≡ false) → least f p (n - p) ≡ least f e (n - e)
 least_skips f p e n up inside none =
     steps (e - p) p (omega arith) none where
-  steps : (d p : ℕ) → p + d ≡ e → ((k : ℕ) → p ≤ k → k < e → f k ≡ false) → least f p (n - p) ≡ least f e (n - e)
-  steps zero p is none = ap (λ q. least f q (n - q)) (let same : p ≡ e = omega arith in same)
-  steps (suc d) p is none =
-      least_more f p n (omega arith) (none p (omega arith) (omega arith)) ∙ steps d (p + 1) (omega arith) (λ k from below. none k (omega arith) below)
+      steps : (d p : ℕ) → p + d ≡ e → ((k : ℕ) → p ≤ k → k < e → f k ≡ false) → least f p (n - p) ≡ least f e (n - e)
+      steps zero p is none = ap (λ q. least f q (n - q)) (let same : p ≡ e = omega arith in same)
+      steps (suc d) p is none =
+          least_more f p n (omega arith) (none p (omega arith) (omega arith)) ∙ steps d (p + 1) (omega arith) (λ k from below. none k (omega arith) below)
 
 pub least_past : (f : ℕ → Bool) (p e n : ℕ) → p ≤ e → ((k : ℕ) → p ≤ k → k < e → f k ≡ false) → least f p (n - p) ≡ least f e (n - e)
 least_past f p e n up none =
     elim (cases_lt n e) [
       | inl past ↦
-        elim (cases_lt n p) [
-          | inl over ↦ least_end f p n (omega arith) ∙ sym (least_end f e n (omega arith))
-          | inr inside ↦ least_skips f p n n inside (omega arith) (λ k from below. none k from (omega arith)) ∙ least_end f n n (omega arith) ∙ sym (least_end f e n (omega arith))
-        ]
+          elim (cases_lt n p) [
+            | inl over ↦ least_end f p n (omega arith) ∙ sym (least_end f e n (omega arith))
+            | inr inside ↦ least_skips f p n n inside (omega arith) (λ k from below. none k from (omega arith)) ∙ least_end f n n (omega arith) ∙ sym (least_end f e n (omega arith))
+          ]
       | inr inside ↦ least_skips f p e n up inside none
     ]
 
@@ -128,9 +128,9 @@ in_set except page pages is =
     elim (cases_lt page (length pages)) [
       | inl inside ↦ inside
       | inr past ↦
-        let out : has_except except pages page ≡ false = ap (λ b. b && not (bit (page % 64) except)) (get_or_past pages page false past) in
-        let never : true ≡ false = sym is ∙ out in
-        cc
+          let out : has_except except pages page ≡ false = ap (λ b. b && not (bit (page % 64) except)) (get_or_past pages page false past) in
+          let never : true ≡ false = sym is ∙ out in
+          cc
     ]
 
 pub scan_finds : (log : List Bool) (r : Plan) (block p peeked before page : ℕ) → Scanning log r block before → Looked log r block p peeked → IsLowest (has_except peeked r.to_send) p (64 * (p / 64) + 64) (Some page) → Finds log r page peeked

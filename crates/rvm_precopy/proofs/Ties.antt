@@ -1,6 +1,6 @@
 -- What a source keeps as lists is what the protocol has as sets and tables, and each of its turns is
 -- the protocol's.
-use Rattle.std.proofs.Common.{◌≡◌, ◌≢◌, inl, inr, ℕ, zero, suc, ◌+◌, ◌-◌, ◌*◌, ◌/◌, ◌%◌, ◌^◌, ◌<◌, ◌≤◌, Bool, true, false, not, ◌&&◌, ◌||◌, ◌==◌, if◌then◌else◌, nat_lt, nat_le, List, [], ◌∷◌, length, replicate, get_or, set, take, drop, Option, Some, None, refl, sym, ap, ◌∙◌, subst, arith, add-one}
+use Rattle.std.proofs.Common.{◌≡◌, inl, inr, ℕ, zero, suc, ◌+◌, ◌-◌, ◌*◌, ◌/◌, ◌%◌, ◌<◌, Bool, true, false, not, ◌&&◌, ◌||◌, ◌==◌, if◌then◌else◌, nat_lt, nat_le, List, [], ◌∷◌, length, replicate, get_or, set, drop, refl, sym, ap, ◌∙◌, arith, add-one}
 use Rattle.std.proofs.Math.Path.{fun_ext}
 use Rattle.std.proofs.lemmas.List.{get_or-set_same, get_or-set_other, get_or-replicate, get_or_past, get_or-take, get_or-drop, length-replicate, drop_more, drop_all}
 use Rattle.std.proofs.lemmas.Bool.{cases_Bool, cases_eq, cases_lt, le-ltb, lt-ltb, eq-eqb, ne_eqb}
@@ -103,21 +103,21 @@ size_is_count (x ∷ xs) =
 
 pub has_none : (n p : ℕ) → has p (replicate n false) ≡ false
 has_none n p = elim (cases_lt p n) [
-      | inl lt ↦ get_or-replicate n p false false lt
-      | inr ge ↦ get_or_past (replicate n false) p false (let e = length-replicate n false in omega (arith, e, ge))
-    ]
+  | inl lt ↦ get_or-replicate n p false false lt
+  | inr ge ↦ get_or_past (replicate n false) p false (let e = length-replicate n false in omega (arith, e, ge))
+]
 
 pub has_all : (n p : ℕ) → has p (replicate n true) ≡ nat_lt p n
 has_all n p = elim (cases_lt p n) [
-      | inl lt ↦ get_or-replicate n p true false lt ∙ sym (lt-ltb p n lt)
-      | inr ge ↦ get_or_past (replicate n true) p false (let e = length-replicate n true in omega (arith, e, ge)) ∙ sym (le-ltb p n ge)
-    ]
+  | inl lt ↦ get_or-replicate n p true false lt ∙ sym (lt-ltb p n lt)
+  | inr ge ↦ get_or_past (replicate n true) p false (let e = length-replicate n true in omega (arith, e, ge)) ∙ sym (le-ltb p n ge)
+]
 
 pub zero_of_zeros : (n p : ℕ) → get_or {A = ℕ} (replicate n 0) p 0 ≡ 0
 zero_of_zeros n p = elim (cases_lt p n) [
-      | inl lt ↦ get_or-replicate n p 0 0 lt
-      | inr ge ↦ get_or_past {X = ℕ} (replicate n 0) p 0 (let e = length-replicate {A = ℕ} n 0 in omega (arith, e, ge))
-    ]
+  | inl lt ↦ get_or-replicate n p 0 0 lt
+  | inr ge ↦ get_or_past {X = ℕ} (replicate n 0) p 0 (let e = length-replicate {A = ℕ} n 0 in omega (arith, e, ge))
+]
 
 -- turns
 module _ {S P E A B : Type 0} (m : Guest S P E A B) where
@@ -139,7 +139,7 @@ module _ {S P E A B : Type 0} (m : Guest S P E A B) where
   copied_is g log r p lt =
       let skip = fun_ext (λ q. block_skips g log r p q) in
       let news = set_is_put r.newest p (r.copies + 1) 0 lt
-          ∙ ap (put (λ q. get_or r.newest q 0) p) (add-one r.copies) in
+      ∙ ap (put (λ q. get_or r.newest q 0) p) (add-one r.copies) in
       λ i. record {
         guest = g;
         policy = r.policy;
@@ -160,25 +160,33 @@ module _ {S P E A B : Type 0} (m : Guest S P E A B) where
   after_is g log r true n =
       let skip = fun_ext (λ q. no_peek ((length r.to_send - 1) / 64) q) in
       λ i. record {
-        guest = g; policy = r.policy;
+        guest = g;
+        policy = r.policy;
         to_send = λ q. has q r.to_send;
         log = λ q. has q log;
         to_skip = skip i;
         scan = sym n i;
         newest = λ q. get_or r.newest q 0;
-        copies = r.copies; round = r.round; sent = r.sent; stop = true;
+        copies = r.copies;
+        round = r.round;
+        sent = r.sent;
+        stop = true;
       }
   after_is g log r false n =
       let skip = fun_ext (λ q. no_peek ((0 - 1) / 64) q) in
       let empty = fun_ext (λ q. has_none (length log) q) in
       λ i. record {
-        guest = g; policy = r.policy;
+        guest = g;
+        policy = r.policy;
         to_send = λ q. has q log;
         log = empty i;
         to_skip = skip i;
         scan = 0;
         newest = λ q. get_or r.newest q 0;
-        copies = r.copies; round = add-one r.round i; sent = 0; stop = r.stop;
+        copies = r.copies;
+        round = add-one r.round i;
+        sent = 0;
+        stop = r.stop;
       }
 
   pub stops_is : (g : S) (log : List Bool) (r : Plan) → page_count m g ≡ length r.to_send → length log ≡ length r.to_send
@@ -210,13 +218,17 @@ module _ {S P E A B : Type 0} (m : Guest S P E A B) where
       let skip = fun_ext (λ q. no_peek ((0 - 1) / 64) q) in
       let news = fun_ext (λ q. zero_of_zeros c q) in
       λ i. record {
-        guest = g; policy = r.policy;
+        guest = g;
+        policy = r.policy;
         to_send = every i;
         log = empty i;
         to_skip = skip i;
         scan = 0;
         newest = news i;
-        copies = 0; round = 1; sent = 0; stop = false;
+        copies = 0;
+        round = 1;
+        sent = 0;
+        stop = false;
       }
 
   pub last_found_is : (g : S) (turn : ℕ) (r : Plan) → page_count m g ≡ length r.to_send
@@ -229,7 +241,7 @@ module _ {S P E A B : Type 0} (m : Guest S P E A B) where
       let sized : length r.to_send ≡ length r.newest = is.send ∙ sym is.newest in
       let fixed : length r.to_send ≡ length r.to_fix = is.send ∙ sym is.fix in
       let news = set_is_put r.newest p (r.copies + 1) 0 (omega (arith, lt, sized))
-          ∙ ap (put (λ q. get_or r.newest q 0) p) (add-one r.copies) in
+      ∙ ap (put (λ q. get_or r.newest q 0) p) (add-one r.copies) in
       let send = set_is_put r.to_send p false false lt in
       let fix = set_is_put r.to_fix p false false (omega (arith, lt, fixed)) in
       λ i. record {

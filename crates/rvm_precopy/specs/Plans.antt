@@ -126,7 +126,7 @@ copied_if peeked r p =
         newest = slice_set r.newest p (r.copies + 1);
         copies = r.copies + 1;
         sent = r.sent + 1;
-      }
+      },
     )
 
 -- the stop rule, with so many pages in the dirty log
@@ -140,11 +140,10 @@ stops left r =
 -- paused, or it is the next round's pages and a new one begins
 abbrev pub after_round : (log : List Bool) → Plan → Bool → Plan × List Bool
 after_round log r true = (record r { peeked = 0; scan = length r.to_send; stop = true }, log)
-after_round log r false =
-    (
-      record r { to_send = log; peeked = 0; scan = 0; round = r.round + 1; sent = 0 },
-      replicate (length log) false
-    )
+after_round log r false = (
+  record r { to_send = log; peeked = 0; scan = 0; round = r.round + 1; sent = 0 },
+  replicate (length log) false,
+)
 
 -- no page of the round is left to be copied
 abbrev pub round_ended : (log : List Bool) → Plan → Turn

@@ -17,7 +17,10 @@ const BLOCK: u32 = 64;
 #[derive(Clone, Copy, Debug, PartialEq, Eq)]
 pub enum Next {
     /// A page is copied, with this copy number.
-    Copied { page: u32, number: u32 },
+    Copied {
+        page: u32,
+        number: u32,
+    },
     /// The round is over: its number, how many pages were copied in it and how many were not, since
     /// they were written again, and how many are in the dirty log.
     RoundEnded {

@@ -1,4 +1,4 @@
-use Rattle.std.proofs.Common.{◌≡◌, ◌+◌, ◌*◌, ◌/◌, ◌≤◌, ℕ, max, List, Bool, Option, Some, None, length, ap, sym, ◌∙◌, subst, arith}
+use Rattle.std.proofs.Common.{◌≡◌, ◌+◌, ◌*◌, ◌/◌, ◌≤◌, max, length, ap, sym, ◌∙◌, subst, arith}
 use Rattle.rvm_mem.specs.Pages.{IsLowest, has_except}
 use Rattle.rvm_precopy.specs.Plans.{Plan}
 use Rattle.rvm_precopy.proofs.Scans.{Looked, Finds, looked_fresh, looked_kept, scan_goes_on, scan_finds, scan_ends}
@@ -14,10 +14,10 @@ looked g c =
     let at : c.max-from.result ≡ max r.scan (64 * c.loop-block.block) = c.max-from.ensures ∙ ap (λ (x : Plan). max x.scan (64 * c.loop-block.block)) c.self.view_is in
     elim c.if-from-eq0.branch [
       | then-from-eq0 w ↦
-        looked_fresh log r c.loop-block.block c.max-from.result c.if-from-eq0.peeked c.loop-block.peeked
+          looked_fresh log r c.loop-block.block c.max-from.result c.if-from-eq0.peeked c.loop-block.peeked
           c.loop-block.invariant at w.if-from-eq0.true (w.peeked-is ∙ w.peek_dirty-peeked.ensures)
       | else-from-eq0 w ↦
-        subst (Looked log r c.loop-block.block c.max-from.result) (sym w.peeked-is)
+          subst (Looked log r c.loop-block.block c.max-from.result) (sym w.peeked-is)
           (looked_kept log r c.loop-block.block c.max-from.result c.loop-block.peeked c.loop-block.invariant at w.if-from-eq0.false)
     ]
 

@@ -1,5 +1,4 @@
-use Rattle.std.proofs.Common.{◌≡◌, ◌||◌, true, false, length, ap, sym, ◌∙◌, subst, arith, ℕ, List, Bool}
-use Rattle.rvm_mem.specs.Pages.{has}
+use Rattle.std.proofs.Common.{length, ap, sym, ◌∙◌, arith}
 use Rattle.rvm_precopy.specs.Plans.{Plan, left}
 use Rattle.rvm_precopy.proofs.Scans.{last_goes_on, last_finds, last_ends}
 use Rattle.rvm_precopy.proofs.rounds.Rounds.find_last.Goals as goal
