@@ -37,6 +37,7 @@ fn each_page_is_a_growth_of_its_own(rt: HostRuntime) -> Result<(), Fail> {
     assert!(rt; ram.len() == 16384 && ram.pages() == 4);
     ram.store32(4092, 0x0403_0201);
     ram.store8(12288, 5);
+    assert!(rt; ram.len() == 16384 && ram.pages() == 4);
     assert_eq!(rt;
         (ram.load8(4095), ram.load32(4096), ram.load16(12288)),
         (4, 0, 5)
