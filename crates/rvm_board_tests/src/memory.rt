@@ -28,7 +28,11 @@ fn the_last_page_of_65_stands_in_a_row_of_its_own(rt: HostRuntime) -> Result<(),
     assert_eq!(rt; (set.count(), set.first()), (1, Some(64)));
     assert_eq!(rt; (set.word(0), set.word(64)), (0, 1));
     assert_eq!(rt;
-        (set.next_except(0, 0), set.next_except(64, 0), set.next_except(64, 1)),
+        (
+            set.next_except(0, 0),
+            set.next_except(64, 0),
+            set.next_except(64, 1)
+        ),
         (None, Some(64), None)
     );
     set.fill();

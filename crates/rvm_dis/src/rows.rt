@@ -6,8 +6,8 @@ ghost use Rattle.rvm_isa.specs.Words.{word_of};
 ghost use Rattle.rvm_dis.specs.Disassembly.{text_at, text_of};
 
 use crate::shapes::{
-    access, atomic, branch, csr_immediate, csr_register, fence, immediate, jump,
-    load_reserved, registers, shift, upper, whole, word_as_data,
+    access, atomic, branch, csr_immediate, csr_register, fence, immediate, jump, load_reserved,
+    registers, shift, upper, whole, word_as_data,
 };
 use rvm_isa::Ins;
 use rvm_isa::decode::decode;

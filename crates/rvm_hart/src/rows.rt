@@ -58,7 +58,11 @@ impl Hart {
     {
         match ins {
             Ins::Lui { rd, imm } => self.finish_with(rd, imm.bits() << 12, bus),
-            Ins::Auipc { rd, imm } => self.finish_with(rd, self.pc.wrapping_add(imm.bits() << 12), bus),
+            Ins::Auipc { rd, imm } => self.finish_with(
+                rd,
+                self.pc.wrapping_add(imm.bits() << 12),
+                bus,
+            ),
             Ins::Jal { rd, offset } => self.jump_to_offset(rd, offset, bus),
             Ins::Jalr { rd, rs1, imm } => self.jump_to_register(rd, rs1, imm, bus),
             Ins::Beq { rs1, rs2, offset } => self.branch(Comparison::Eq, rs1, rs2, offset, bus),
