@@ -23,17 +23,9 @@ fn a_memory_is_made_within_its_limits(rt: HostRuntime) -> Result<(), Fail> {
     Ok(())
 }
 
-/// Refused any of its six growths (the rows of the log, the list of pages, each page), as by `rt try
-/// --test --fail-alloc 4`, the first call gives the error that it names.
 #[test]
-fn each_page_is_a_growth_of_its_own(rt: HostRuntime) -> Result<(), Fail> {
-    let mut ram = match PagedRam::new(rt.alloc(), 4) {
-        Ok(ram) => ram,
-        Err(error) => {
-            assert_eq!(rt; error, PagedError::OutOfMemory);
-            PagedRam::new(rt.alloc(), 4)?
-        }
-    };
+fn pages_are_stored_into_and_marked(rt: HostRuntime) -> Result<(), Fail> {
+    let mut ram = again!(PagedRam::new(rt.alloc(), 4));
     assert!(rt; ram.len() == 16384 && ram.pages() == 4);
     ram.store32(4092, 0x0403_0201);
     ram.store8(12288, 5);

@@ -61,9 +61,22 @@ impl PageSet {
         has_bit(row_at(&self.rows, (page / ROW) as usize), page % ROW)
     }
 
-    /// Adds a page of the memory.
+    /// Adds a page of the memory. Mostly it is in the set already, so that is looked at first.
     #[inline(always)]
     pub fn insert(&mut self, page: u32)
+        requires { page < length self.old }
+        ensures { self.new ≡ mark page self.old }
+    {
+        let row = self.rows[(page / ROW) as usize];
+        if !has_bit(row, page % ROW) {
+            self.add_page(page);
+        }
+    }
+
+    /// Adds a page of the memory.
+    #[cold]
+    #[inline(never)]
+    fn add_page(&mut self, page: u32)
         requires { page < length self.old }
         ensures { self.new ≡ mark page self.old }
     {

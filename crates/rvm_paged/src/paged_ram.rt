@@ -4,8 +4,8 @@ ghost use Rattle.std.specs.Prelude.{◌≡◌, ◌*◌, ◌<◌, ◌↔◌, ◌�
 ghost use Rattle.rvm_paged.specs.Refusals.{refusal_of};
 ghost use Rattle.rvm_paged.specs.declared.paged_ram.PagedError.TheVariants.{BadSize};
 
-use crate::page::Page;
-use rvm_mem::{MAX_PAGES, Memory, PAGE_SIZE, PageSet, PagedMemory};
+use byteorder::{ByteOrder, LittleEndian};
+use rvm_mem::{MAX_PAGES, Memory, PAGE_SIZE, PageSet, PagedMemory, block};
 use rvm_refusal::Refusal;
 use std::alloc::{AllocError, Global};
 use std::marker::Model;
@@ -34,27 +34,25 @@ impl From<PagedError> for Refusal {
     }
 }
 
-/// A memory whose pages lie in boxes of their own, with the set of those that were written. All of
-/// them are made at once, so that no later call takes memory. The count of bytes is kept, since each
-/// access is tested against it.
+/// A memory whose bytes are one block, with the set of its pages that were written.
 #[derive(Drop)]
 pub struct PagedRam {
+    // The log stands first. Laid out as `FlatMemory` is, runs over the two memories are one function
+    // to the compiler, and a benchmark that compares them compares nothing.
     dirty: PageSet,
-    len: u32,
-    pages: Vec<Page>,
+    bytes: Vec<u8>,
 }
 
 impl Model for PagedRam {
-    ghost use Rattle.std.specs.Prelude.{length};
-    ghost use Rattle.std.specs.List.{concat};
+    ghost use Rattle.std.specs.Prelude.{◌≡◌, ◌*◌, ◌≤◌, length};
     ghost use Rattle.rvm_mem.specs.Pages.{Ram};
-    ghost use Rattle.rvm_paged.specs.Boxes.{ArePages};
 
     ghost Value = { Ram };
 
-    ghost view = { λ m. record { bytes = concat m.pages.items; dirty = m.dirty } };
+    ghost view = { λ m. record { bytes = m.bytes.items; dirty = m.dirty } };
 
-    ghost invariant = { λ m. ArePages (length m.dirty) m.len m.pages.items };
+    ghost invariant = { λ m. (length m.bytes.items ≡ 4096 * length m.dirty)
+        × (length m.dirty ≤ 4096) };
 }
 
 impl PagedRam {
@@ -82,50 +80,48 @@ impl Memory for PagedRam {
 
     #[inline(always)]
     fn len(&self) -> u32 {
-        self.len
+        self.bytes.len() as u32
     }
 
     #[inline(always)]
     fn load8(&self, at: u32) -> u8 {
-        self.pages[(at / PAGE_SIZE) as usize].load8((at % PAGE_SIZE) as usize)
+        self.bytes[at as usize]
     }
 
     #[inline(always)]
     fn load16(&self, at: u32) -> u16 {
-        self.pages[(at / PAGE_SIZE) as usize].load16((at % PAGE_SIZE) as usize)
+        LittleEndian::read_u16(&self.bytes[at as usize..])
     }
 
     #[inline(always)]
     fn load32(&self, at: u32) -> u32 {
-        self.pages[(at / PAGE_SIZE) as usize].load32((at % PAGE_SIZE) as usize)
+        LittleEndian::read_u32(&self.bytes[at as usize..])
     }
 
     #[inline(always)]
     fn store8(&mut self, at: u32, value: u8) {
         self.dirty.insert(at / PAGE_SIZE);
-        self.pages[(at / PAGE_SIZE) as usize].store8((at % PAGE_SIZE) as usize, value);
+        self.bytes[at as usize] = value;
     }
 
     #[inline(always)]
     fn store16(&mut self, at: u32, value: u16) {
         self.dirty.insert(at / PAGE_SIZE);
-        self.pages[(at / PAGE_SIZE) as usize].store16((at % PAGE_SIZE) as usize, value);
+        block::put16(&mut self.bytes, at as usize, value);
     }
 
     #[inline(always)]
     fn store32(&mut self, at: u32, value: u32) {
         self.dirty.insert(at / PAGE_SIZE);
-        self.pages[(at / PAGE_SIZE) as usize].store32((at % PAGE_SIZE) as usize, value);
+        block::put32(&mut self.bytes, at as usize, value);
     }
 }
 
 impl PagedMemory for PagedRam {
     fn zeroed(alloc: Global, pages: u32) -> Result<PagedRam, AllocError> {
-        Ok(PagedRam {
-            dirty: PageSet::new(alloc, pages)?,
-            len: pages * PAGE_SIZE,
-            pages: zero_pages(alloc, pages)?,
-        })
+        let bytes = vec![in alloc; 0u8; pages as usize * PAGE_SIZE as usize]?;
+        let dirty = PageSet::new(alloc, pages)?;
+        Ok(PagedRam { dirty, bytes })
     }
 
     fn pages(&self) -> u32 {
@@ -133,11 +129,11 @@ impl PagedMemory for PagedRam {
     }
 
     fn copy_page(&self, page: u32, into: &mut [u8; PAGE_SIZE as usize]) {
-        *into = *self.pages[page as usize].as_array();
+        block::copy_page(&self.bytes, page, into);
     }
 
     fn put_page(&mut self, page: u32, from: &[u8; PAGE_SIZE as usize]) {
-        self.pages[page as usize].put(from);
+        block::put_page(&mut self.bytes, page, from);
     }
 
     fn peek_dirty(&self, first: u32) -> u64 {
@@ -152,15 +148,4 @@ impl PagedMemory for PagedRam {
         mem::swap(&mut self.dirty, into);
         self.dirty.clear();
     }
-}
-
-/// So many pages of zeros.
-fn zero_pages(alloc: Global, count: u32) -> Result<Vec<Page>, AllocError>
-    ensures { IfOk result (λ pages. pages.items ≡ replicate count (replicate 4096 0)) }
-{
-    let mut pages = Vec::with_capacity(alloc, count as usize)?;
-    for _ in 0..count {
-        pages.push(Page::zeroed(alloc)?)?;
-    }
-    Ok(pages)
 }
