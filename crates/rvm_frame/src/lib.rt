@@ -25,6 +25,7 @@ mod unfinished;
 mod write;
 
 pub use addressed::{Addressed, Received};
+pub use body::state_parts;
 pub use fault::{FrameFault, ReadFault};
 pub use frame::Frame;
 pub use items::{Bytes, CopyNumbers, Items, PageNumbers};

@@ -3,3 +3,5 @@ mod Copies
 mod Lists
 mod Built
 mod States
+mod Gathering
+mod Parts

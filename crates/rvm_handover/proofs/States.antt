@@ -29,7 +29,7 @@ with_pieces s stamp parts pieces = record (stage_of s) { stamp = stamp; parts = 
 
 -- WHAT COMES OF A STATE, BY HOW MANY PAGES THERE ARE
 
-abbrev came_if : (move : ℕ) → (old s : Stage (List ℕ)) → (numbers body : List ℕ) → (count : ℕ) → (fits lacks_some : Bool) → BoardOutcome
+abbrev pub came_if : (move : ℕ) → (old s : Stage (List ℕ)) → (numbers body : List ℕ) → (count : ℕ) → (fits lacks_some : Bool) → BoardOutcome
 came_if move old s numbers body count fits lacks_some =
     if fits
     then (if lacks_some then sends (Lacking (size (lacks s numbers) count)) (Lost move (members (lacks s numbers) 0 count)) (Staging move s)
@@ -43,7 +43,7 @@ module _ (move : ℕ) (s : PlainStage) (stamp parts : ℕ) (pieces : ℕ → Opt
   abbrev count : ℕ
   count = length s.have
 
-  by_count : state_came board move (stage_of s) next numbers body
+  pub by_count : state_came board move (stage_of s) next numbers body
       ≡ came_if move (stage_of s) next numbers body count (length numbers == count) (nat_lt 0 (size (lacks next numbers) count))
   by_count =
       ap (λ (n : ℕ). came_if move (stage_of s) next numbers body n (length numbers == n) (nat_lt 0 (size (lacks next numbers) n))) (pages_are s l)

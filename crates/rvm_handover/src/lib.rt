@@ -4,11 +4,13 @@
 //! Stands on `rvm_guest` for what the law of migration says, `rvm_mem`, `rvm_state` and `rvm_frame`,
 //! and knows nothing of hosts, rounds or streams: which frame belongs to which move is told above.
 //!
-//! To be read in this order: `not_ready`, `staging`.
+//! To be read in this order: `not_ready`, `not_joined`, `staging`.
 #![tactic(auto)]
 
+mod not_joined;
 mod not_ready;
 mod staging;
 
+pub use not_joined::NotJoined;
 pub use not_ready::NotReady;
 pub use staging::Staging;

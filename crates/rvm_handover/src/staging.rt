@@ -1,18 +1,20 @@
 //! The pages of a guest that comes.
 
-ghost use Rattle.std.specs.Prelude.{◌≡◌, ◌≤◌, ◌*◌, ◌<◌, ℕ, length, get_or, IfOk, IfErr, OnErr, Some, if◌then◌else◌};
-ghost use Rattle.rvm_protocol.specs.Pages.{members};
-ghost use Rattle.rvm_protocol.specs.Receiving.{page_came, state_came};
-ghost use Rattle.rvm_protocol.specs.Staging.{new_stage};
+ghost use Rattle.std.specs.Prelude.{◌≡◌, ◌≤◌, ◌*◌, ◌<◌, ℕ, length, get_or, IfOk, IfErr, OnErr, Some, None, option_map, if◌then◌else◌};
+ghost use Rattle.rvm_protocol.specs.Pages.{gathered, members, put};
+ghost use Rattle.rvm_protocol.specs.Receiving.{page_came, part_came, state_came};
+ghost use Rattle.rvm_protocol.specs.Staging.{new_stage, takes_part, with_part};
 ghost use Rattle.rvm_guest.proofs.TheGuest.{board};
 ghost use Rattle.rvm_guest.specs.Body.{build};
-ghost use Rattle.rvm_guest.specs.Pages.{pages_in, zeros};
+ghost use Rattle.rvm_guest.specs.Pages.{joined, pages_in, zeros};
 ghost use Rattle.rvm_handover.specs.Stages.{blank, is_newer, is_older, stage_of, with_copy};
 ghost use Rattle.rvm_handover.specs.Outcomes.{IsFault, IsLeft, copied, ready};
+ghost use Rattle.rvm_handover.specs.Pieces.{IsPartLeft, left_of, reason_joined, with_piece};
 
+use crate::not_joined::NotJoined;
 use crate::not_ready::NotReady;
 use rvm_debug::Debugged;
-use rvm_frame::{Bytes, PageNumbers};
+use rvm_frame::{Bytes, PageNumbers, state_parts};
 use rvm_mem::{Memory, PAGE_SIZE, PagedMemory};
 use rvm_state::{StateFault, read_state};
 use std::alloc::{AllocError, Global};
@@ -50,7 +52,7 @@ impl<M: PagedMemory> Model for Staging<M> {
     } };
 
     ghost invariant = { λ s. (length s.have.items ≡ length (M.dirty s.memory))
-        × ((0 < length s.have.items) × (length s.have.items ≤ 4096)) };
+        × ((0 < length s.have.items) × ((length s.have.items ≤ 4096) × (length s.pieces ≡ 6))) };
 }
 
 impl<M: PagedMemory> Staging<M> {
@@ -161,6 +163,113 @@ impl<M: PagedMemory> Staging<M> {
         }
     }
 
+    /// Takes a piece of a state of stream versions 2 and 3: its stamp, its place among so many
+    /// parts, at most 6, and its bytes. Where all pieces are there, they are answered as the state
+    /// that they join to. Else why there is no guest, and the stage, with the piece where it is kept.
+    pub fn part(
+        self,
+        alloc: Global,
+        stamp: u32,
+        part: u8,
+        parts: u8,
+        bytes: Bytes,
+    ) -> Result<Debugged<M>, (NotJoined, Staging<M>)>
+        requires { parts ≤ 6 }
+        ensures ready { IfOk result (λ d. (move_number : ℕ)
+            → part_came board move_number (stage_of self) stamp part parts bytes
+            ≡ ready move_number d.guest) }
+        ensures left { IfErr result (λ e. (move_number : ℕ)
+            → IsPartLeft move_number part parts e.0 e.1
+            (part_came board move_number (stage_of self) stamp part parts bytes)) }
+        ensures stage { IfErr result
+            (λ e. e.1 ≡ left_of e.0 (with_piece stamp part parts bytes self) self) }
+    {
+        if !self.takes(stamp, part, parts) {
+            return Err((NotJoined::Ignored, self));
+        }
+        let Ok(whole) = self.joined(alloc, stamp, part, parts, bytes.as_slice()) else {
+            return Err((NotJoined::OutOfMemory, self));
+        };
+        let Some(whole) = whole else {
+            return Err((NotJoined::Kept, self.with_piece(stamp, part, parts, bytes)));
+        };
+        let Some((numbers, state)) = state_parts(whole.as_slice()) else {
+            return Err((NotJoined::BadState, self));
+        };
+        match self.state(alloc, numbers.as_slice(), state) {
+            Ok(guest) => Ok(guest),
+            Err((reason, stage)) => Err(stage.kept_if(reason, stamp, part, parts, bytes)),
+        }
+    }
+
+    /// The reason that a state of pieces made no guest, and the stage, with the last piece where
+    /// copies are lacking.
+    fn kept_if(
+        self,
+        reason: NotReady,
+        stamp: u32,
+        part: u8,
+        parts: u8,
+        bytes: Bytes,
+    ) -> (NotJoined, Staging<M>)
+        requires { part < 6 }
+        ensures reason { result.0 ≡ reason_joined reason }
+        ensures stage { result.1 ≡ left_of result.0 (with_piece stamp part parts bytes self) self }
+    {
+        match reason {
+            NotReady::Lacking(pages) => (
+                NotJoined::Lacking(pages),
+                self.with_piece(stamp, part, parts, bytes),
+            ),
+            NotReady::BadState => (NotJoined::BadState, self),
+            NotReady::OutOfMemory => (NotJoined::OutOfMemory, self),
+        }
+    }
+
+    /// Whether a piece counts.
+    fn takes(&self, stamp: u32, part: u8, parts: u8) -> bool
+        ensures takes { result ≡ takes_part (stage_of self.now) stamp part parts }
+        ensures places { length self.now.pieces ≡ 6 }
+        ensures bytes { length self.now.bytes ≡ 4096 * length self.now.have }
+    {
+        let _size = self.pages();
+        part < parts && (self.stamp < stamp || stamp == self.stamp && parts == self.parts)
+    }
+
+    /// The stage with a piece.
+    fn with_piece(mut self, stamp: u32, part: u8, parts: u8, bytes: Bytes) -> Staging<M>
+        requires { part < 6 }
+        ensures { result ≡ with_piece stamp part parts bytes self }
+    {
+        if self.stamp < stamp {
+            self.pieces = [None, None, None, None, None, None];
+        }
+        let pieces = &mut self.pieces;
+        pieces[part as usize] = Some(bytes);
+        self.stamp = stamp;
+        self.parts = parts;
+        self
+    }
+
+    /// The bytes of all pieces of a state, where none is lacking behind this one.
+    fn joined(
+        &self,
+        alloc: Global,
+        stamp: u32,
+        part: u8,
+        parts: u8,
+        bytes: &[u8],
+    ) -> Result<Option<Vec<u8>>, AllocError>
+        ensures { IfOk result (λ whole. option_map (λ v. v.items) whole
+            ≡ option_map joined (gathered (with_part (stage_of self.now) stamp part parts bytes.now).pieces 0 parts)) }
+    {
+        if self.stamp < stamp {
+            join(alloc, &[], part, parts, bytes)
+        } else {
+            join(alloc, &self.pieces, part, parts, bytes)
+        }
+    }
+
     /// The guest that the pages and the bytes of a state make.
     fn make_guest(
         self,
@@ -226,4 +335,44 @@ fn missing(alloc: Global, have: &[u32], numbers: &[u32]) -> Result<Vec<u16>, All
         }
     }
     Ok(pages)
+}
+
+/// A piece by its place, where it is the one that came or is kept.
+fn piece_at<'a>(
+    pieces: &'a [Option<Bytes>],
+    place: u8,
+    part: u8,
+    bytes: &'a [u8],
+) -> Option<&'a [u8]>
+    ensures { option_map (λ x. x.now) result
+        ≡ put (λ i. get_or pieces.now i None) part (Some bytes.now) place }
+{
+    if place == part {
+        return Some(bytes);
+    }
+    match pieces.get(place as usize) {
+        Some(Some(piece)) => Some(piece.as_slice()),
+        _ => None,
+    }
+}
+
+/// The bytes of all pieces, one behind the other, where none is lacking.
+fn join(
+    alloc: Global,
+    pieces: &[Option<Bytes>],
+    part: u8,
+    parts: u8,
+    bytes: &[u8],
+) -> Result<Option<Vec<u8>>, AllocError>
+    ensures { IfOk result (λ whole. option_map (λ v. v.items) whole
+        ≡ option_map joined (gathered (put (λ i. get_or pieces.now i None) part (Some bytes.now)) 0 parts)) }
+{
+    let mut whole = Vec::new(alloc);
+    for place in 0..parts {
+        let Some(piece) = piece_at(pieces, place, part, bytes) else {
+            return Ok(None);
+        };
+        whole.extend_from_slice(piece)?;
+    }
+    Ok(Some(whole))
 }

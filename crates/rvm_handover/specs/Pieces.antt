@@ -1,0 +1,42 @@
+-- The pieces of a state that are kept, and what comes of one.
+use Rattle.std.specs.Prelude.{◌≡◌, ℕ, nat_lt, if◌then◌else◌, List, length, slice_set, replicate, Option, Some, None}
+use Rattle.rvm_protocol.specs.Frames.{Lost}
+use Rattle.rvm_protocol.specs.Modes.{Staging, says, sends, refuses, ignores}
+use Rattle.rvm_protocol.specs.Replies as replies
+use Rattle.rvm_handover.specs.declared.not_joined.NotJoined.{NotJoined}
+use Rattle.rvm_handover.specs.declared.not_joined.NotJoined.TheVariants as reasons
+use Rattle.rvm_handover.specs.declared.not_ready.NotReady.{NotReady}
+use Rattle.rvm_handover.specs.declared.not_ready.NotReady.TheVariants as ready
+use Rattle.rvm_handover.specs.Outcomes.{BoardOutcome}
+use Rattle.rvm_handover.specs.Stages.{PlainStage, stage_of}
+
+-- with a piece; a higher stamp drops the pieces kept
+abbrev pub pieces_before : (stamp : ℕ) → PlainStage → List (Option (List ℕ))
+pieces_before stamp s = if nat_lt s.stamp stamp then replicate 6 None else s.pieces
+
+abbrev pub with_piece : (stamp part parts : ℕ) → List ℕ → PlainStage → PlainStage
+with_piece stamp part parts bytes s =
+    record s { stamp = stamp; parts = parts; pieces = slice_set (pieces_before stamp s) part (Some bytes) }
+
+-- what is left of a stage with a piece and of the one before it
+abbrev pub left_of : NotJoined → (kept before : PlainStage) → PlainStage
+left_of reasons.Ignored kept before = before
+left_of reasons.Kept kept before = kept
+left_of (reasons.Lacking pages) kept before = kept
+left_of reasons.BadState kept before = before
+left_of reasons.OutOfMemory kept before = before
+
+-- no guest was made of a piece for this reason, and this stage is left; where memory lacks nothing is said
+abbrev pub IsPartLeft : (move part parts : ℕ) → NotJoined → PlainStage → BoardOutcome → Type 0
+IsPartLeft move part parts reasons.Ignored s o = o ≡ ignores (Staging move (stage_of s))
+IsPartLeft move part parts reasons.Kept s o = o ≡ says (replies.Kept part parts) (Staging move (stage_of s))
+IsPartLeft move part parts (reasons.Lacking pages) s o =
+    o ≡ sends (replies.Lacking (length pages)) (Lost move pages) (Staging move (stage_of s))
+IsPartLeft move part parts reasons.BadState s o = o ≡ refuses replies.BadState (Staging move (stage_of s))
+IsPartLeft move part parts reasons.OutOfMemory s o = Unit {0}
+
+-- the reason of a state as that of the last of its pieces
+abbrev pub reason_joined : NotReady → NotJoined
+reason_joined (ready.Lacking pages) = reasons.Lacking pages
+reason_joined ready.BadState = reasons.BadState
+reason_joined ready.OutOfMemory = reasons.OutOfMemory
