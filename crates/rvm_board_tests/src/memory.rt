@@ -21,7 +21,7 @@ fn a_set_of_pages_is_made(rt: HostRuntime) -> Result<(), Fail> {
 }
 
 #[test]
-fn the_last_page_of_65_stands_in_a_row_of_its_own(rt: HostRuntime) -> Result<(), Fail> {
+fn the_last_page_of_65_stands_in_a_block_of_its_own(rt: HostRuntime) -> Result<(), Fail> {
     let mut set = again!(PageSet::new(rt.alloc(), 65));
     assert!(rt; set.pages() == 65);
     set.insert(64);

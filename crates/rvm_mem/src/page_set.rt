@@ -1,33 +1,28 @@
 //! Sets of pages.
 
-ghost use Rattle.std.specs.Prelude.{◌≡◌, ◌+◌, ◌-◌, ◌*◌, ◌/◌, ◌%◌, ◌^◌, ◌≤◌, ◌<◌, ℕ, min, List, Bool, true, false, length, replicate, slice_index_or, IfOk};
+ghost use Rattle.std.specs.Prelude.{◌≡◌, ◌+◌, ◌*◌, ◌/◌, ◌%◌, ◌≤◌, ◌<◌, ℕ, List, Bool, true, false, length, replicate, IfOk};
 ghost use Rattle.rvm_mem.specs.Pages.{IsLowest, bit, bits, count, first, has, has_except, mark, unmark, union, window};
-ghost use Rattle.rvm_mem.specs.Rows.{AreRows, flags};
 
 use std::alloc::{AllocError, Global};
 use std::marker::Model;
 
-/// How many pages a row has.
-const ROW: u32 = 64;
+/// How many pages stand in one number.
+const BLOCK: u32 = 64;
 
-/// A set of page numbers of a memory of so many pages, at most 4096: page p is bit p % 64 of row
-/// p / 64. How many pages are in the set is kept.
+/// A set of page numbers of a memory of so many pages, at most 4096.
 #[derive(Drop)]
 pub struct PageSet {
-    rows: Vec<u64>,
-    pages: u32,
-    count: u32,
+    flags: Vec<bool>,
 }
 
 impl Model for PageSet {
-    ghost use Rattle.std.specs.Prelude.{List, Bool};
-    ghost use Rattle.rvm_mem.specs.Rows.{AreCounted, flags};
+    ghost use Rattle.std.specs.Prelude.{◌≤◌, List, Bool, length};
 
     ghost Value = { List Bool };
 
-    ghost view = { λ s. flags s.pages s.rows.items };
+    ghost view = { λ s. s.flags.items };
 
-    ghost invariant = { λ s. AreCounted s.pages s.count s.rows.items };
+    ghost invariant = { λ s. length s.flags.items ≤ 4096 };
 }
 
 impl PageSet {
@@ -36,12 +31,8 @@ impl PageSet {
         requires { pages ≤ 4096 }
         ensures { IfOk result (λ s. s ≡ replicate pages false) }
     {
-        let rows = vec![in alloc; 0u64; pages.div_ceil(ROW) as usize]?;
-        Ok(PageSet {
-            rows,
-            pages,
-            count: 0,
-        })
+        let flags = vec![in alloc; false; pages as usize]?;
+        Ok(PageSet { flags })
     }
 
     /// How many pages the memory has.
@@ -50,7 +41,7 @@ impl PageSet {
         ensures pages { result ≡ length self.now }
         ensures bound { result ≤ 4096 }
     {
-        self.pages
+        self.flags.len() as u32
     }
 
     /// Whether a page is in the set; a page past the memory's end is not.
@@ -58,35 +49,19 @@ impl PageSet {
     pub fn contains(&self, page: u32) -> bool
         ensures { result ≡ has page self.now }
     {
-        has_bit(row_at(&self.rows, (page / ROW) as usize), page % ROW)
+        match self.flags.get(page as usize) {
+            Some(flag) => *flag,
+            None => false,
+        }
     }
 
-    /// Adds a page of the memory. Mostly it is in the set already, so that is looked at first.
+    /// Adds a page of the memory.
     #[inline(always)]
     pub fn insert(&mut self, page: u32)
         requires { page < length self.old }
         ensures { self.new ≡ mark page self.old }
     {
-        let row = self.rows[(page / ROW) as usize];
-        if !has_bit(row, page % ROW) {
-            self.add_page(page);
-        }
-    }
-
-    /// Adds a page of the memory.
-    #[cold]
-    #[inline(never)]
-    fn add_page(&mut self, page: u32)
-        requires { page < length self.old }
-        ensures { self.new ≡ mark page self.old }
-    {
-        let rows = &mut self.rows;
-        let row = rows[(page / ROW) as usize];
-        if has_bit(row, page % ROW) {
-            return;
-        }
-        rows[(page / ROW) as usize] = row | 1 << (page % ROW);
-        self.count += 1;
+        self.flags[page as usize] = true;
     }
 
     /// Takes a page of the memory out.
@@ -95,13 +70,7 @@ impl PageSet {
         requires { page < length self.old }
         ensures { self.new ≡ unmark page self.old }
     {
-        let rows = &mut self.rows;
-        let row = rows[(page / ROW) as usize];
-        if !has_bit(row, page % ROW) {
-            return;
-        }
-        rows[(page / ROW) as usize] = row & !(1 << (page % ROW));
-        self.count -= 1;
+        self.flags[page as usize] = false;
     }
 
     /// How many pages are in the set.
@@ -109,113 +78,97 @@ impl PageSet {
         ensures count { result ≡ count self.now }
         ensures bound { result ≤ length self.now }
     {
-        self.count
+        self.flags.iter().filter(|flag| **flag).count() as u32
     }
 
     /// Takes every page out.
     pub fn clear(&mut self)
         ensures { self.new ≡ replicate (length self.old) false }
     {
-        self.rows.fill(0);
-        self.count = 0;
+        self.flags.fill(false);
     }
 
     /// Adds every page of the memory.
     pub fn fill(&mut self)
         ensures { self.new ≡ replicate (length self.old) true }
     {
-        let pages = self.pages;
-        let rows = &mut self.rows;
-        for i in 0..rows.len() {
-            rows[i] = full_row(pages - ROW * i as u32);
-        }
-        self.count = pages;
+        self.flags.fill(true);
     }
 
     /// The lowest page in the set.
     pub fn first(&self) -> Option<u32>
         ensures { result ≡ first self.now }
     {
-        for i in 0..self.rows.len() {
-            let row = row_at(&self.rows, i);
-            if row != 0 {
-                return Some(ROW * i as u32 + row.trailing_zeros());
-            }
+        match self.flags.iter().position(|flag| *flag) {
+            Some(page) => Some(page as u32),
+            None => None,
         }
-        None
     }
 
     /// The lowest page from `from` on, among the 64 from a multiple of 64 on that it is one of, that
     /// is in the set and whose bit in `except` is 0; bit i of `except` is for the i-th of the 64.
     pub fn next_except(&self, from: u32, except: u64) -> Option<u32>
+        requires { from < length self.now }
         ensures { IsLowest (has_except except self.now) from (64 * (from / 64) + 64) result }
     {
-        let row = row_at(&self.rows, (from / ROW) as usize);
-        let left = row & !except & (u64::MAX << (from % ROW));
-        if left == 0 {
-            return None;
+        let _pages = self.pages();
+        for page in from..BLOCK * (from / BLOCK) + BLOCK {
+            if self.has_except(page, except) {
+                return Some(page);
+            }
         }
-        Some(ROW * (from / ROW) + left.trailing_zeros())
+        None
+    }
+
+    /// Whether a page is in the set and its bit in `except` is 0.
+    #[inline]
+    fn has_except(&self, page: u32, except: u64) -> bool
+        ensures { result ≡ has_except except self.now page }
+    {
+        self.contains(page) && !has_bit(except, page % BLOCK)
     }
 
     /// Adds the pages of another set of the same memory.
+    #[tactic(auto, using(crate::proofs::Sets::sums))]
     pub fn add(&mut self, other: &PageSet)
         requires { length other.now ≡ length self.old }
         ensures { self.new ≡ union self.old other.now }
     {
-        let rows = &mut self.rows;
-        for i in 0..rows.len() {
-            rows[i] |= other.rows[i];
+        for page in 0..self.pages() {
+            if other.contains(page) {
+                self.insert(page);
+            }
         }
-        self.count = ones(&self.rows);
     }
 
-    /// The number whose bit i says whether page `first_page + i` is in the set, for 64 pages from a
-    /// multiple of 64 on; a page past the memory's end is not.
+    /// The number whose bit i says whether page `first_page + i` is in the set, for 64 pages; a
+    /// page past the memory's end is not.
     pub fn word(&self, first_page: u32) -> u64
-        requires { first_page % 64 ≡ 0 }
         ensures { result ≡ bits (window first_page self.now) }
     {
-        row_at(&self.rows, (first_page / ROW) as usize)
+        let start = (first_page as usize).min(self.flags.len());
+        let end = (start + 64).min(self.flags.len());
+        word_of(&self.flags[start..end])
     }
 }
 
-/// The row of a number, or 0 if there is none.
-#[inline(always)]
-fn row_at(rows: &[u64], row: usize) -> u64
-    ensures { result ≡ slice_index_or rows.now row 0 }
-{
-    match rows.get(row) {
-        Some(row) => *row,
-        None => 0,
-    }
-}
-
-/// Whether a bit of a row is 1.
-#[inline(always)]
-fn has_bit(row: u64, place: u32) -> bool
+/// Whether a bit of a number is 1.
+#[inline]
+fn has_bit(number: u64, place: u32) -> bool
     requires { place < 64 }
-    ensures { result ≡ bit place row }
+    ensures { result ≡ bit place number }
 {
-    row >> place & 1 == 1
+    number >> place & 1 == 1
 }
 
-/// The row of the first so many pages, or of 64 if there are more.
-fn full_row(pages: u32) -> u64
-    requires { 0 < pages }
-    ensures { result ≡ 2 ^ min pages 64 - 1 }
+/// The number whose bit i is flag i.
+fn word_of(flags: &[bool]) -> u64
+    requires { length flags.now ≤ 64 }
+    ensures { result ≡ bits flags.now }
 {
-    u64::MAX >> (ROW - pages.min(ROW))
-}
-
-/// How many pages are in a set.
-fn ones(rows: &[u64]) -> u32
-    requires { length rows.now ≤ 64 }
-    ensures { (n : ℕ) → AreRows n rows.now → result ≡ count (flags n rows.now) }
-{
-    let mut ones = 0;
-    for i in 0..rows.len() {
-        ones += rows[i].count_ones();
+    let mut word = 0;
+    for i in (0..flags.len()).rev() {
+        word = 2 * word + u64::from(flags[i]);
     }
-    ones
+    word
 }

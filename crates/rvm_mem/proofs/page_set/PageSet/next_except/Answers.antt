@@ -1,16 +1,28 @@
-use Rattle.std.proofs.Common.{◌≡◌, ◌/◌, ◌%◌, ap, ◌∙◌, arith, get_or}
-use Rattle.rvm_mem.proofs.Lowest.{none_in_rest, rest_fits, some_in_rest}
-use Rattle.rvm_mem.proofs.page_set.PageSet.next_except.Goals.{After-row_at-row}
+use Rattle.std.proofs.Common.{◌≡◌, ◌+◌, ◌<◌, ◌≤◌, inl, inr, ℕ, Bool, false, nat_lt, sym, ap, ◌∙◌, arith}
+use Rattle.std.proofs.lemmas.Bool.{cases_Bool, ltb-true, ltb-false}
 use Rattle.rvm_mem.proofs.page_set.PageSet.next_except.Goals as goal
 
-read : (c : After-row_at-row) → c.row_at-row.result ≡ get_or c.self.inside.rows.items (c.args.from / 64) 0
-read c = c.row_at-row.ensures ∙ ap (λ rows. get_or rows (c.args.from / 64) 0) c.deref.ensures.value
+pub overflow_add-page-end : goal.overflow_add-page-end
+overflow_add-page-end c = omega (arith, c.requires, c.pages-pages.ensures.pages, c.pages-pages.ensures.bound)
 
-pub returns-then-left-eq0 : goal.returns-then-left-eq0
-returns-then-left-eq0 c =
-    none_in_rest _ c.args.from c.row_at-row.result c.args.except _ c.args.self.now c.self.invariant.are (read (goal.at.returns-then-left-eq0 c).After-row_at-row) c.self.view_is (omega arith) c.if-left-eq0.true
+pub loop-page-init : goal.loop-page-init
+loop-page-init c = λ k from below. absurd (omega (arith, from, below))
+
+pub returns-then-has_except : goal.returns-then-has_except
+returns-then-has_except c =
+    (omega arith, omega arith, sym c.has_except.ensures ∙ c.if-has_except.true, c.loop-page.invariant)
+
+-- a page more does not pass
+more : (test : ℕ → Bool) (from page : ℕ) → ((k : ℕ) → from ≤ k → k < page → test k ≡ false) → test page ≡ false → (k : ℕ) → from ≤ k → k < page + 1 → test k ≡ false
+more test from page none here k above below =
+    elim (cases_Bool (nat_lt k page)) [
+      | inl h ↦ none k above (ltb-true k page h)
+      | inr h ↦ let last : page ≤ k = ltb-false k page h in let is : k ≡ page = omega (arith, last, below) in ap test is ∙ here
+    ]
+
+pub loop-page-preserved : goal.loop-page-preserved
+loop-page-preserved c =
+    more _ c.args.from c.loop-page.page c.loop-page.invariant (sym c.has_except.ensures ∙ c.if-has_except.false)
 
 pub returns : goal.returns
-returns c =
-    some_in_rest _ c.args.from c.row_at-row.result c.args.except _ c.args.self.now c.self.invariant.are (read (goal.at.returns c).After-row_at-row) c.self.view_is (omega arith) (omega arith)
-    (rest_fits c.row_at-row.result c.args.except (c.args.from % 64) (omega (arith, c.row_at-row.type_inv)))
+returns c = λ k above below. c.loop-page.invariant k above (omega (arith, below))

@@ -1,10 +1,11 @@
-use Rattle.std.proofs.Common.{◌≡◌, ◌<◌, ◌^◌, ◌/◌, get_or, ap, ◌∙◌, arith}
-use Rattle.rvm_mem.specs.Pages.{bits, window}
-use Rattle.rvm_mem.proofs.Rows.{row_is}
+use Rattle.std.proofs.Common.{◌≡◌, length, ap, arith}
+use Rattle.rvm_mem.proofs.Sets.{windowed}
 use Rattle.rvm_mem.proofs.page_set.PageSet.word.Goals as goal
 
 pub returns : goal.returns
 returns c =
-    let row : c.row_at.result ≡ get_or c.self.inside.rows.items (c.args.first_page / 64) 0 = c.row_at.ensures ∙ ap (λ rows. get_or rows (c.args.first_page / 64) 0) c.deref.ensures.value in
-    let small : get_or c.self.inside.rows.items (c.args.first_page / 64) 0 < 2 ^ 64 = omega (arith, c.row_at.type_inv) in
-    row ∙ row_is c.self.inside.pages c.self.inside.rows.items c.self.invariant.are c.args.first_page c.requires small ∙ ap (λ pages. bits (window c.args.first_page pages)) c.self.view_is
+    let all : c.deref.result.now ≡ c.args.self.now = cc in
+    let long : length c.args.self.now ≡ c.len.result = omega (arith, ap length all) in
+    let same : c.len-2.result ≡ c.len.result = cc in
+    let flags = windowed c.args.self.now c.args.first_page c.min-start.result c.min-end.result (omega arith) (omega arith) in
+    cc
