@@ -1,7 +1,8 @@
 //! The texts are those that another assembler (`llvm-mc`) turns into these words: a check of the
 //! definitions, which the contracts stand on.
 
-use rvm_dis::{LinkFault, write_ins};
+use rvm_dis::write_ins;
+use rvm_refusal::LinkFault;
 use std::test::Fail;
 
 /// One word of each row of the table, at 0x80000000.
