@@ -27,6 +27,12 @@ joined_all zero (here ∷ pages) others all same = absurd (omega arith)
 joined_all (suc n) (here ∷ pages) [] all same = refl
 joined_all (suc n) (here ∷ pages) (there ∷ others) all same = ap (λ rest. (here || there) ∷ rest) (joined_all n pages others (omega arith) (omega arith))
 
+pub length-union : (pages others : List Bool) → length (union pages others) ≡ length pages
+unfolding union
+length-union [] others = refl
+length-union (here ∷ pages) [] = refl
+length-union (here ∷ pages) (there ∷ others) = ap suc (length-union pages others)
+
 or-true : (here : Bool) → true ≡ (here || true)
 or-true true = refl
 or-true false = refl

@@ -108,13 +108,12 @@ impl PageSet {
     /// The lowest page from `from` on, among the 64 from a multiple of 64 on that it is one of, that
     /// is in the set and whose bit in `except` is 0; bit i of `except` is for the i-th of the 64.
     pub fn next_except(&self, from: u32, except: u64) -> Option<u32>
-        requires { from < length self.now }
         ensures { IsLowest (has_except except self.now) from (64 * (from / 64) + 64) result }
     {
-        let _pages = self.pages();
-        for page in from..BLOCK * (from / BLOCK) + BLOCK {
-            if self.has_except(page, except) {
-                return Some(page);
+        let first = BLOCK * (from / BLOCK);
+        for place in from % BLOCK..BLOCK {
+            if self.has_except(first + place, except) {
+                return Some(first + place);
             }
         }
         None

@@ -8,7 +8,7 @@ use Rattle.std.proofs.lemmas.Bool.Decides.{nat_tests}
 use Rattle.std.proofs.lemmas.List.Sums.{sum_by-cons}
 use Rattle.std.proofs.lemmas.Nat.Bits.{bit_at-zero}
 use Rattle.rvm_mem.specs.Pages.{bit, bits, count, has, window}
-use Rattle.rvm_mem.proofs.Sets.{bit_of_bits}
+use Rattle.rvm_mem.proofs.Bits.{bit_of_bits}
 use Rattle.rvm_protocol.specs.Guest.{Guest}
 use Rattle.rvm_protocol.specs.Pages.{Pages, put, least, size, listed}
 use Rattle.rvm_protocol.specs.Pages as sets
