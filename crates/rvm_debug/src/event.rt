@@ -45,6 +45,40 @@ pub enum BoardEvent {
     },
 }
 
+impl BoardEvent {
+    /// The same event again.
+    pub fn copy(&self) -> BoardEvent
+        ensures { result ≡ self.now }
+    {
+        match self {
+            BoardEvent::Step(hart) => BoardEvent::Step(*hart),
+            BoardEvent::Input(byte) => BoardEvent::Input(*byte),
+            BoardEvent::Drain(count) => BoardEvent::Drain(*count),
+            BoardEvent::Break(address) => BoardEvent::Break(*address),
+            BoardEvent::Clear(address) => BoardEvent::Clear(*address),
+            BoardEvent::Regs(hart) => BoardEvent::Regs(*hart),
+            BoardEvent::Mem { address, length } => BoardEvent::Mem {
+                address: *address,
+                length: *length,
+            },
+            BoardEvent::Dis(address) => BoardEvent::Dis(*address),
+            BoardEvent::PokeReg {
+                hart,
+                register,
+                value,
+            } => BoardEvent::PokeReg {
+                hart: *hart,
+                register: *register,
+                value: *value,
+            },
+            BoardEvent::PokeMem { address, bytes } => BoardEvent::PokeMem {
+                address: *address,
+                bytes: bytes.copy(),
+            },
+        }
+    }
+}
+
 /// What a board answers.
 #[derive(Drop)]
 pub enum BoardReply {

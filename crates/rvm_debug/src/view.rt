@@ -47,6 +47,13 @@ impl View {
         view
     }
 
+    /// The same bytes again.
+    pub fn copy(&self) -> View
+        ensures { result ≡ self.now }
+    {
+        View::of(self.as_slice())
+    }
+
     /// The bytes.
     pub fn as_slice(&self) -> &[u8]
         ensures bytes { result.now ≡ self.now }

@@ -1,5 +1,6 @@
 -- What comes of a frame at the target of a move, as the law of migration has it, for the guest `board`.
 use Rattle.std.specs.Prelude.{◌≡◌, ℕ, Bool, true, false, if◌then◌else◌, List, length, Option, None, is_some}
+use Rattle.rvm_frame.specs.Bodies.{lost}
 use Rattle.rvm_protocol.specs.Frames.{Lost, Ready}
 use Rattle.rvm_protocol.specs.Modes.{Outcome, Held, Staging, says, sends, refuses, ignores}
 use Rattle.rvm_protocol.specs.Replies as replies
@@ -40,6 +41,11 @@ IsLeft move (reasons.Lacking pages) s o =
     o ≡ sends (Lacking (length pages)) (Lost move pages) (Staging move (stage_of s))
 IsLeft move reasons.BadState s o = o ≡ refuses replies.BadState (Staging move (stage_of s))
 IsLeft move reasons.OutOfMemory s o = is_bad o.reply ≡ false
+
+-- the pages that are lacking can be told in a frame
+abbrev pub CanBeTold : NotReady → Type 0
+CanBeTold (reasons.Lacking pages) = lost.fits pages ≡ true
+CanBeTold reason = Unit {0}
 
 -- the fault of reading a state as a reason
 abbrev pub reason_of : StateFault → NotReady

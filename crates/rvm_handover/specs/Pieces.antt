@@ -1,5 +1,6 @@
 -- The pieces of a state that are kept, and what comes of one.
-use Rattle.std.specs.Prelude.{◌≡◌, ℕ, nat_lt, if◌then◌else◌, List, length, slice_set, replicate, Option, Some, None}
+use Rattle.std.specs.Prelude.{◌≡◌, ℕ, true, nat_lt, if◌then◌else◌, List, length, slice_set, replicate, Option, Some, None}
+use Rattle.rvm_frame.specs.Bodies.{lost}
 use Rattle.rvm_protocol.specs.Frames.{Lost}
 use Rattle.rvm_protocol.specs.Modes.{Staging, says, sends, refuses, ignores}
 use Rattle.rvm_protocol.specs.Replies as replies
@@ -34,6 +35,11 @@ IsPartLeft move part parts (reasons.Lacking pages) s o =
     o ≡ sends (replies.Lacking (length pages)) (Lost move pages) (Staging move (stage_of s))
 IsPartLeft move part parts reasons.BadState s o = o ≡ refuses replies.BadState (Staging move (stage_of s))
 IsPartLeft move part parts reasons.OutOfMemory s o = Unit {0}
+
+-- the pages that are lacking can be told in a frame
+abbrev pub PartCanBeTold : NotJoined → Type 0
+PartCanBeTold (reasons.Lacking pages) = lost.fits pages ≡ true
+PartCanBeTold reason = Unit {0}
 
 -- the reason of a state as that of the last of its pieces
 abbrev pub reason_joined : NotReady → NotJoined

@@ -1,6 +1,7 @@
 //! The pages of a guest that comes.
 
 ghost use Rattle.std.specs.Prelude.{◌≡◌, ◌≤◌, ◌*◌, ◌<◌, ℕ, length, get_or, IfOk, IfErr, OnErr, Some, None, option_map, if◌then◌else◌};
+ghost use Rattle.rvm_frame.specs.Bodies.{lost};
 ghost use Rattle.rvm_protocol.specs.Pages.{gathered, members, put};
 ghost use Rattle.rvm_protocol.specs.Receiving.{page_came, part_came, state_came};
 ghost use Rattle.rvm_protocol.specs.Staging.{new_stage, takes_part, with_part};
@@ -8,8 +9,8 @@ ghost use Rattle.rvm_guest.proofs.TheGuest.{board};
 ghost use Rattle.rvm_guest.specs.Body.{build};
 ghost use Rattle.rvm_guest.specs.Pages.{joined, pages_in, zeros};
 ghost use Rattle.rvm_handover.specs.Stages.{blank, is_newer, is_older, stage_of, with_copy};
-ghost use Rattle.rvm_handover.specs.Outcomes.{IsFault, IsLeft, copied, ready};
-ghost use Rattle.rvm_handover.specs.Pieces.{IsPartLeft, left_of, reason_joined, with_piece};
+ghost use Rattle.rvm_handover.specs.Outcomes.{CanBeTold, IsFault, IsLeft, copied, ready};
+ghost use Rattle.rvm_handover.specs.Pieces.{IsPartLeft, PartCanBeTold, left_of, reason_joined, with_piece};
 
 use crate::not_joined::NotJoined;
 use crate::not_ready::NotReady;
@@ -147,6 +148,7 @@ impl<M: PagedMemory> Staging<M> {
             → IsLeft move_number e.0 e.1
             (state_came board move_number (stage_of self) (stage_of self) numbers.now bytes.now)) }
         ensures stage { IfErr result (λ e. e.1 ≡ self) }
+        ensures told { IfErr result (λ e. CanBeTold e.0) }
     {
         if numbers.len() != self.pages() as usize {
             return Err((NotReady::BadState, self));
@@ -183,6 +185,7 @@ impl<M: PagedMemory> Staging<M> {
             (part_came board move_number (stage_of self) stamp part parts bytes)) }
         ensures stage { IfErr result
             (λ e. e.1 ≡ left_of e.0 (with_piece stamp part parts bytes self) self) }
+        ensures told { IfErr result (λ e. PartCanBeTold e.0) }
     {
         if !self.takes(stamp, part, parts) {
             return Err((NotJoined::Ignored, self));
@@ -327,6 +330,7 @@ fn missing(alloc: Global, have: &[u32], numbers: &[u32]) -> Result<Vec<u16>, All
     requires few { length have.now ≤ 4096 }
     ensures pages { IfOk result (λ pages. pages.items ≡ members (is_older have.now numbers.now) 0 (length have.now)) }
     ensures memory { OnErr result (0 < length (members (is_older have.now numbers.now) 0 (length have.now))) }
+    ensures told { IfOk result (λ pages. 0 < length pages.items → lost.fits pages.items ≡ true) }
 {
     let mut pages = Vec::new(alloc);
     for page in 0..have.len() {

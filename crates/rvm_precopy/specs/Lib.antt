@@ -1,3 +1,4 @@
 pub mod Policies
 pub mod Plans
 pub mod Ties
+pub mod Coverage

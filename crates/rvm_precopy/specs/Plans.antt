@@ -32,6 +32,7 @@ pub record IsPlanOf (pages : ℕ) (r : Plan) : Type 0 where
   pub scan : r.scan ≤ pages
   pub sent : r.sent ≤ r.scan
   pub few : pages ≤ 4096
+  pub rounds : r.round ≤ 1000
 
 -- before the first round
 abbrev pub begun : (pages : ℕ) → Policy → Plan

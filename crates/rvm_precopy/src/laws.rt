@@ -1,7 +1,11 @@
 //! What a source keeps as lists is what the protocol has as sets and tables, and each of its turns is
 //! the protocol's.
 
+ghost use Rattle.std.specs.Prelude.{◌≡◌, ◌<◌, ℕ, true, false, List, Bool, None, length, get_or, replicate};
+ghost use Rattle.rvm_mem.specs.Pages.{has};
 ghost use Rattle.rvm_protocol.specs.Guest.{Guest};
+ghost use Rattle.rvm_precopy.specs.Coverage.{Covers, CoversLast};
+ghost use Rattle.rvm_precopy.specs.Plans.{IsPlanOf, Plan, last_found, last_next_of, lost, next_of, opened};
 ghost use Rattle.rvm_precopy.specs.Ties.{TheFirstRoundIsTheProtocols, TheNextPageIsTheProtocols, ACopyIsTheProtocols, TheStopRuleIsTheProtocols, TheEndOfARoundIsTheProtocols, ThePauseIsTheProtocols, TheLastPageIsTheProtocols, ALastCopyIsTheProtocols, TheNumbersAreTheProtocols};
 
 /// The first round begins as the protocol's does.
@@ -47,4 +51,24 @@ pub fn a_last_copy_is_the_protocols<S, P, E, A, B>()
 /// The numbers of the newest copies are the protocol's.
 pub fn the_numbers_are_the_protocols<S, P, E, A, B>()
     ensures { (m : Guest S P E A B) → TheNumbersAreTheProtocols m }
+{}
+
+/// No page is forgotten: each has a copy, or its turn comes, or it was written since.
+pub fn no_page_is_forgotten()
+    ensures opened { (n : ℕ) (r : Plan) → Covers (replicate n false) (opened r) }
+    ensures turn { (log : List Bool) (r : Plan) → IsPlanOf (length log) r → r.stop ≡ false
+        → Covers log r → Covers (next_of log r).log (next_of log r).plan }
+    ensures written { (log more : List Bool) (r : Plan)
+        → ((p : ℕ) → has p log ≡ true → has p more ≡ true) → Covers log r → Covers more r }
+    ensures pause { (log : List Bool) (r : Plan) → IsPlanOf (length log) r → r.stop ≡ true
+        → Covers log r → CoversLast (next_of log r).plan }
+{}
+
+/// Nor is one of a paused guest: where no page is left, each has a copy.
+pub fn no_page_of_a_paused_guest_is_forgotten()
+    ensures turn { (r : Plan) → IsPlanOf (length r.to_send) r → CoversLast r
+        → CoversLast (last_next_of r).plan }
+    ensures lost { (pages : List Bool) (r : Plan) → CoversLast r → CoversLast (lost pages r) }
+    ensures all { (r : Plan) → CoversLast r → last_found r ≡ None
+        → (p : ℕ) → p < length r.to_send → 0 < get_or r.newest p 0 }
 {}

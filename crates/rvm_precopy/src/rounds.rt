@@ -1,7 +1,8 @@
 //! Rounds of copies: which page is copied next, and when the rounds end.
 
-ghost use Rattle.std.specs.Prelude.{◌≡◌, ◌≤◌, ◌<◌, length, replicate, IfOk, IfSome, Option, option_map, false, ◌||◌, Some};
+ghost use Rattle.std.specs.Prelude.{◌≡◌, ◌≤◌, ◌<◌, length, replicate, IfOk, IfSome, Option, option_map, is_some, true, false, ◌||◌, Some};
 ghost use Rattle.rvm_mem.specs.Pages.{has};
+ghost use Rattle.rvm_protocol.specs.Commands.{is_allowed};
 ghost use Rattle.rvm_precopy.specs.Plans.{IsPlanOf, begun, copied_if, found, last_found, last_next_of, lost, next_of, opened, peek, round_ended, stopping, stops, with_last};
 ghost use Rattle.rvm_precopy.specs.Policies.{policy_of};
 
@@ -88,13 +89,15 @@ impl Model for Rounds {
     ghost invariant = { λ r. (length r.to_fix ≡ length r.to_send)
         × (length r.newest.items ≡ length r.to_send)
         × (r.scan ≤ length r.to_send) × (r.sent ≤ r.scan)
-        × (length r.to_send ≤ 4096) };
+        × (length r.to_send ≤ 4096)
+        × (r.round ≤ 1000) × (r.policy.max_rounds ≤ 1000) };
 }
 
 impl Rounds {
     /// All that a move of so many pages needs. Nothing is copied before `open`.
     pub fn begin(alloc: Global, pages: u32, policy: Policy) -> Result<Rounds, AllocError>
-        requires { pages ≤ 4096 }
+        requires pages { pages ≤ 4096 }
+        requires policy { is_allowed (policy_of policy) ≡ true }
         ensures { IfOk result (λ r. r ≡ begun pages (policy_of policy)) }
     {
         let to_send = PageSet::new(alloc, pages)?;
@@ -275,6 +278,13 @@ impl Rounds {
             }
         }
         None
+    }
+
+    /// Whether a page is left to be copied once the guest is paused.
+    pub fn is_left(&self) -> bool
+        ensures { result ≡ is_some (last_found self.now) }
+    {
+        self.find_last().is_some()
     }
 
     /// Page `page` is copied, if a copy number is left.

@@ -1,0 +1,60 @@
+-- A host: as plain values, and as the law of live migration has it.
+use Rattle.std.specs.Prelude.{◌≡◌, ℕ, ◌==◌, Bool, ◌&&◌, ◌||◌, nat_lt, if◌then◌else◌, List, Option, Some, None}
+use Rattle.rvm_debug.specs.declared.event.BoardEvent.{BoardEvent}
+use Rattle.rvm_debug.specs.declared.event.BoardReply.{BoardReply}
+use Rattle.rvm_debug.specs.Guest.{Guest, GuestState}
+use Rattle.rvm_codec.specs.Numbers.{within}
+use Rattle.rvm_frame.specs.declared.addressed.Addressed.{Addressed}
+use Rattle.rvm_guest.proofs.TheGuest.{board}
+use Rattle.rvm_message.specs.declared.reply.HostReply.{HostReply}
+use Rattle.rvm_message.specs.Events.{BoardHostEvent}
+use Rattle.rvm_message.specs.Frames.{addressed_made}
+use Rattle.rvm_message.specs.Replies.{reply_of}
+use Rattle.rvm_protocol.specs.Host as protocol
+use Rattle.rvm_protocol.specs.Host.{host_step}
+use Rattle.rvm_core.specs.Modes.{PlainMode, Empty, Run, mode_of}
+
+-- its mode; the other party of the highest move that it has begun or staged; its own number among so many hosts; how many
+-- pages it takes; the version of its streams
+pub record PlainHost : Type 0 where
+  pub mode : PlainMode
+  pub partner : ℕ
+  pub id : ℕ
+  pub count : ℕ
+  pub limit : ℕ
+  pub version : ℕ
+
+-- the host of the law
+abbrev pub host_of : PlainHost → protocol.Host Guest (List ℕ)
+host_of h = record { mode = mode_of h.mode; partner = h.partner }
+
+-- what an event does at it, by the law
+abbrev pub step_of : PlainHost → BoardHostEvent → protocol.Result Guest (List ℕ) BoardReply (List ℕ)
+step_of h e = host_step board h.version h.id h.count h.limit e (host_of h)
+
+-- the reply, the frame that was made, and the host after it are those of the law
+pub record Steps (old : PlainHost) (e : BoardHostEvent) (answer : HostReply × Option Addressed) (new : PlainHost)
+    : Type 0 where
+  pub reply : reply_of answer.0 ≡ (step_of old e).reply
+  pub made : addressed_made answer.1 ≡ (step_of old e).made
+  pub next : host_of new ≡ (step_of old e).next
+  pub rest : new ≡ record old { mode = new.mode; partner = new.partner }
+
+-- 2 to 8 hosts, and its number among them; a limit of 1 to 4096 pages; streams of version 1 to 3, of more than two hosts 3
+abbrev pub is_sized : (id count limit version : ℕ) → Bool
+is_sized id count limit version =
+    within 2 8 count && (nat_lt id count && (within 1 4096 limit
+    && (version == 3 || (count == 2 && within 1 2 version))))
+
+-- the version that so many hosts speak unless another one is asked for
+abbrev pub version_of : (count : ℕ) → ℕ
+version_of count = if count == 2 then 1 else 3
+
+-- with this guest or none, before any move
+abbrev pub first_mode : Option GuestState → PlainMode
+first_mode None = Empty 0
+first_mode (Some g) = Run 0 g.guest
+
+abbrev pub new_host : Option GuestState → (id count limit version : ℕ) → PlainHost
+new_host g id count limit version =
+    record { mode = first_mode g; partner = id; id = id; count = count; limit = limit; version = version }

@@ -1,0 +1,26 @@
+-- Which events of a host may ask for memory. The others succeed or are refused, whatever memory there is.
+use Rattle.std.specs.Prelude.{ℕ, Bool, true, false, List}
+use Rattle.rvm_debug.specs.declared.event.BoardEvent.{BoardEvent}
+use Rattle.rvm_message.specs.Events.{BoardHostEvent}
+use Rattle.rvm_message.specs.Frames.{BoardFrame}
+use Rattle.rvm_protocol.specs.Commands.{Command, Board, Begin, Copy, Resend, AbortMove, Do, Came}
+use Rattle.rvm_protocol.specs.Frames.{Offer, Lost, State, Part}
+
+-- a command
+abbrev pub asks_memory : Command BoardEvent → Bool
+asks_memory (Begin to p) = true
+asks_memory Copy = true
+asks_memory Resend = true
+asks_memory command = false
+
+-- a frame that comes
+abbrev pub takes_memory : BoardFrame → Bool
+takes_memory (Offer n pages harts) = true
+takes_memory (Lost n pages) = true
+takes_memory (State n numbers state) = true
+takes_memory (Part n stamp part parts bytes) = true
+takes_memory f = false
+
+abbrev pub needs_memory : BoardHostEvent → Bool
+needs_memory (Do c) = asks_memory c
+needs_memory (Came from f) = takes_memory f

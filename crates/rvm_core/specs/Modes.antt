@@ -1,0 +1,46 @@
+-- The modes of a host: as plain values, and as the law of live migration has them.
+use Rattle.std.specs.Prelude.{ℕ, ◌==◌, Bool, true, false}
+use Rattle.rvm_debug.specs.Guest.{Guest}
+use Rattle.rvm_handover.specs.Stages.{PlainStage, stage_of}
+use Rattle.rvm_message.specs.Answers.{BoardMode}
+use Rattle.rvm_protocol.specs.Modes as protocol
+use Rattle.rvm_source.specs.Sources as source
+use Rattle.rvm_source.specs.Sources.{PlainSource}
+use Rattle.rvm_core.specs.declared.mode.Mode.{Mode}
+use Rattle.rvm_core.specs.declared.mode.Mode.TheVariants as code
+
+pub data PlainMode : Type 0 where
+  Empty : (move : ℕ) → PlainMode
+  Run : (move : ℕ) → (guest : Guest) → PlainMode
+  Leaving : (source : PlainSource) → PlainMode
+  Given : (move : ℕ) → PlainMode
+  Staging : (move : ℕ) → (stage : PlainStage) → PlainMode
+  Held : (move : ℕ) → (guest : Guest) → PlainMode
+
+-- a mode of the code as plain values
+abbrev pub plain_of : {M : Type 0} → Mode M → PlainMode
+plain_of (code.Empty n) = Empty n
+plain_of (code.Run n g) = Run n g.guest
+plain_of (code.Leaving s) = Leaving s
+plain_of (code.Given n) = Given n
+plain_of (code.Staging n s) = Staging n s
+plain_of (code.Held n g) = Held n g.guest
+
+-- the mode of the law
+abbrev pub mode_of : PlainMode → BoardMode
+mode_of (Empty n) = protocol.Empty n
+mode_of (Run n g) = protocol.Run n g
+mode_of (Leaving s) = source.mode_of s
+mode_of (Given n) = protocol.Given n
+mode_of (Staging n s) = protocol.Staging n (stage_of s)
+mode_of (Held n g) = protocol.Held n g
+
+-- the whole guest of this move waits here
+abbrev pub is_held : (move : ℕ) → PlainMode → Bool
+is_held k (Held n g) = n == k
+is_held k mode = false
+
+-- the guest runs here, and no move is going on
+abbrev pub runs : PlainMode → Bool
+runs (Run n g) = true
+runs mode = false

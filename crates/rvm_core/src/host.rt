@@ -1,0 +1,247 @@
+//! A host.
+
+ghost use Rattle.std.specs.Prelude.{◌≡◌, ◌↔◌, true, false, IfOk, IfErr, IsErr, OnErr, None};
+ghost use Rattle.rvm_message.specs.Events.{command_of, event_of};
+ghost use Rattle.rvm_message.specs.Frames.{addressed_made, frame_heard, frame_made};
+ghost use Rattle.rvm_precopy.specs.Policies.{policy_of};
+ghost use Rattle.rvm_guest.proofs.TheGuest.{board};
+ghost use Rattle.rvm_protocol.specs.Commands as commands;
+ghost use Rattle.rvm_protocol.specs.Frames.{plain, posted};
+ghost use Rattle.rvm_protocol.specs.Host.{is_heard, is_offer_above, is_there};
+ghost use Rattle.rvm_core.specs.Hosts.{Steps, host_of, is_sized, new_host, version_of};
+ghost use Rattle.rvm_core.specs.Memory.{asks_memory, needs_memory, takes_memory};
+
+use crate::mode::Mode;
+use rvm_debug::Debugged;
+use rvm_frame::{Addressed, Frame};
+use rvm_mem::PagedMemory;
+use rvm_message::{Command, HostEvent, HostRefusal, HostReply};
+use rvm_precopy::Policy;
+use std::alloc::{AllocError, Global};
+use std::marker::Model;
+
+/// A host: where a guest runs, comes or goes. Its number is one of those of its world's two to eight
+/// hosts.
+#[derive(Drop)]
+pub struct Host<M: PagedMemory> {
+    mode: Mode<M>,
+    /// The other party of the highest move that it has begun or staged; at first itself.
+    partner: u8,
+    id: u8,
+    count: u8,
+    /// The most pages of a guest that it takes.
+    limit: u16,
+    /// The version of its streams.
+    version: u32,
+}
+
+impl<M: PagedMemory> Model for Host<M> {
+    ghost use Rattle.std.specs.Prelude.{◌≤◌};
+    ghost use Rattle.rvm_core.specs.Hosts.{PlainHost};
+
+    ghost Value = { PlainHost };
+
+    // Below `Value`, since it reads a type of this crate.
+    ghost use Rattle.rvm_core.specs.Modes.{plain_of};
+
+    ghost view = { λ h. record {
+      mode = plain_of h.mode;
+      partner = h.partner;
+      id = h.id;
+      count = h.count;
+      limit = h.limit;
+      version = h.version;
+    } };
+
+    ghost invariant = { λ h. h.limit ≤ 4096 };
+}
+
+impl<M: PagedMemory> Host<M> {
+    /// A host with this number among so many, that has this guest or none, takes guests of at most so
+    /// many pages and speaks this version of the stream. The guest comes back where the number of hosts
+    /// is not 2 to 8, the host's number not below it, the limit not 1 to 4096, or the version none that
+    /// so many hosts can speak: 1, 2 or 3 of two, 3 of more.
+    pub fn with_version(
+        guest: Option<Debugged<M>>,
+        id: u8,
+        count: u8,
+        limit: u16,
+        version: u32,
+    ) -> Result<Host<M>, Option<Debugged<M>>>
+        ensures host { IfOk result (λ h. h ≡ new_host guest id count limit version) }
+        ensures size { IsErr result ↔ (is_sized id count limit version ≡ false) }
+        ensures guest { IfErr result (λ g. g ≡ guest) }
+    {
+        if !is_sized(id, count, limit, version) {
+            return Err(guest);
+        }
+        let mode = match guest {
+            Some(guest) => Mode::Run {
+                move_number: 0,
+                guest,
+            },
+            None => Mode::Empty { move_number: 0 },
+        };
+        Ok(Host {
+            mode,
+            partner: id,
+            id,
+            count,
+            limit,
+            version,
+        })
+    }
+
+    /// A host that speaks version 1 of the stream where there are two, else version 3.
+    pub fn new(
+        guest: Option<Debugged<M>>,
+        id: u8,
+        count: u8,
+        limit: u16,
+    ) -> Result<Host<M>, Option<Debugged<M>>>
+        ensures host { IfOk result (λ h. h ≡ new_host guest id count limit (version_of count)) }
+        ensures size { IsErr result ↔ (is_sized id count limit (version_of count) ≡ false) }
+        ensures guest { IfErr result (λ g. g ≡ guest) }
+    {
+        let version = if count == 2 { 1 } else { 3 };
+        Host::with_version(guest, id, count, limit, version)
+    }
+
+    /// What an event does: the reply, and the frame that was made, if one was. After a refused growth
+    /// nothing has changed; events of the guest, and frames but Offer, Lost, State and Part, take no
+    /// memory.
+    pub fn apply(
+        &mut self,
+        alloc: Global,
+        event: &HostEvent,
+    ) -> Result<(HostReply, Option<Addressed>), AllocError>
+        ensures steps { IfOk result (λ a. Steps self.old (event_of event.now) a self.new) }
+        ensures err { OnErr result (self.new ≡ self.old) }
+        ensures memory { OnErr result (needs_memory (event_of event.now) ≡ true) }
+    {
+        match event {
+            HostEvent::Do(command) => self.obey(alloc, command),
+            HostEvent::Came(from, frame) => self.came(alloc, *from, frame),
+        }
+    }
+
+    /// What a command does, as `apply` has it.
+    pub fn obey(
+        &mut self,
+        alloc: Global,
+        command: &Command,
+    ) -> Result<(HostReply, Option<Addressed>), AllocError>
+        ensures steps { IfOk result (λ a. Steps self.old (commands.Do (command_of command.now))
+            a self.new) }
+        ensures err { OnErr result (self.new ≡ self.old) }
+        ensures memory { OnErr result (asks_memory (command_of command.now) ≡ true) }
+    {
+        if let Command::Begin { to, policy } = command {
+            return self.begin(alloc, *to, *policy);
+        }
+        let (reply, frame) = self.mode.obey(alloc, self.version, command)?;
+        Ok((reply, addressed(self.id, self.partner, frame)))
+    }
+
+    /// A move to a host begins.
+    fn begin(
+        &mut self,
+        alloc: Global,
+        to: u8,
+        policy: Policy,
+    ) -> Result<(HostReply, Option<Addressed>), AllocError>
+        ensures steps { IfOk result (λ a. Steps self.old
+            (commands.Do (commands.Begin to (policy_of policy))) a self.new) }
+        ensures err { OnErr result (self.new ≡ self.old) }
+    {
+        if self.mode.runs() && !self.is_there(to) {
+            return Ok((HostReply::Refused(HostRefusal::BadHost), None));
+        }
+        let (reply, frame) = self.mode.begin(alloc, policy)?;
+        if let HostReply::Begun(_) = reply {
+            self.partner = to;
+        }
+        Ok((reply, addressed(self.id, self.partner, frame)))
+    }
+
+    /// What a frame of a host does, as `apply` has it.
+    pub fn came(
+        &mut self,
+        alloc: Global,
+        from: u8,
+        frame: &Frame,
+    ) -> Result<(HostReply, Option<Addressed>), AllocError>
+        ensures steps { IfOk result (λ a. Steps self.old
+            (commands.Came from (frame_heard frame.now)) a self.new) }
+        ensures err { OnErr result (self.new ≡ self.old) }
+        ensures memory { OnErr result (takes_memory (frame_heard frame.now) ≡ true) }
+    {
+        if !self.hears(from, frame) {
+            return Ok((HostReply::Refused(HostRefusal::Ignored), None));
+        }
+        let (reply, made) = self.mode.came(alloc, self.limit, frame)?;
+        if let HostReply::Accepted = reply {
+            self.partner = from;
+        }
+        Ok((reply, addressed(self.id, from, made)))
+    }
+
+    /// Whether a number is that of another host.
+    fn is_there(&self, host: u8) -> bool
+        ensures { result ≡ is_there self.now.id self.now.count host }
+    {
+        host < self.count && host != self.id
+    }
+
+    /// Whether the host listens to a frame: one of its partner, or another host's offer of a move above
+    /// all that it has begun or staged.
+    fn hears(&self, from: u8, frame: &Frame) -> bool
+        ensures { result ≡ is_heard self.now.id self.now.count from
+            (plain board (frame_heard frame.now)) (host_of self.now) }
+    {
+        self.is_there(from) && (from == self.partner || is_offer_above(self.mode.move_number(), frame))
+    }
+
+    /// The version of its streams.
+    pub fn version(&self) -> u32
+        ensures { result ≡ self.now.version }
+    {
+        self.version
+    }
+}
+
+/// Whether a frame offers a move above one.
+fn is_offer_above(move_number: u64, frame: &Frame) -> bool
+    ensures { result ≡ is_offer_above move_number (plain board (frame_heard frame.now)) }
+{
+    match frame {
+        Frame::Offer {
+            move_number: offered,
+            pages,
+            ..
+        } => 0 < *pages && move_number < *offered,
+        _ => false,
+    }
+}
+
+/// Whether numbers of a host are within their limits.
+fn is_sized(id: u8, count: u8, limit: u16, version: u32) -> bool
+    ensures { result ≡ is_sized id count limit version }
+{
+    2 <= count
+        && count <= 8
+        && id < count
+        && 1 <= limit
+        && limit <= 4096
+        && (version == 3 || count == 2 && 1 <= version && version <= 2)
+}
+
+/// A frame, if there is one, with its address.
+fn addressed(from: u8, to: u8, frame: Option<Frame>) -> Option<Addressed>
+    ensures { addressed_made result ≡ posted from to (frame_made frame) }
+{
+    match frame {
+        Some(frame) => Some(Addressed { from, to, frame }),
+        None => None,
+    }
+}

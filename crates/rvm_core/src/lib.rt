@@ -1,0 +1,15 @@
+//! Hosts: each reply, frame and next host is what the law of live migration says of this host and
+//! this event alone.
+//!
+//! Stands on `rvm_source`, `rvm_handover` and `rvm_message`, and knows nothing of worlds, threads or
+//! links.
+//!
+//! To be read in this order: `mode`, `source`, `target`, `host`.
+#![tactic(auto)]
+
+mod host;
+mod mode;
+mod source;
+mod target;
+
+pub use host::Host;

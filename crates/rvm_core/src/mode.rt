@@ -1,0 +1,185 @@
+//! The modes of a host.
+
+ghost use Rattle.std.specs.Prelude.{◌≡◌, ◌≤◌, ℕ, true, IfOk, OnErr, None};
+ghost use Rattle.rvm_guest.proofs.TheGuest.{board};
+ghost use Rattle.rvm_message.specs.Answers.{Answers};
+ghost use Rattle.rvm_message.specs.Events.{command_of};
+ghost use Rattle.rvm_message.specs.Frames.{frame_heard};
+ghost use Rattle.rvm_protocol.specs.Frames.{plain};
+ghost use Rattle.rvm_protocol.specs.Modes.{move_of};
+ghost use Rattle.rvm_protocol.specs.Obeying as obeying;
+ghost use Rattle.rvm_protocol.specs.Receiving as receiving;
+ghost use Rattle.rvm_core.specs.Memory.{asks_memory, takes_memory};
+ghost use Rattle.rvm_core.specs.Modes.{mode_of, plain_of, runs};
+
+use rvm_debug::Debugged;
+use rvm_frame::Frame;
+use rvm_handover::Staging;
+use rvm_mem::PagedMemory;
+use rvm_message::{Answer, Command, HostRefusal, HostReply};
+use rvm_source::Source;
+use std::alloc::{AllocError, Global};
+use std::mem;
+
+/// The number of no move. A frame that no stream has is heard as an acceptance of it, for which no host
+/// waits.
+const NO_MOVE: u64 = 0;
+
+/// What a host does, with the highest number of a move that it has begun or staged.
+#[derive(Drop)]
+pub(crate) enum Mode<M: PagedMemory> {
+    /// No guest is here.
+    Empty {
+        move_number: u64,
+    },
+    /// The guest runs, and no move is going on.
+    Run {
+        move_number: u64,
+        guest: Debugged<M>,
+    },
+    /// The guest is here, and its move to another host is going on.
+    Leaving(Source<M>),
+    /// The guest was committed to the target.
+    Given {
+        move_number: u64,
+    },
+    /// Pages of a guest come.
+    Staging {
+        move_number: u64,
+        staging: Staging<M>,
+    },
+    /// The whole guest is here, paused until the source commits.
+    Held {
+        move_number: u64,
+        guest: Debugged<M>,
+    },
+}
+
+impl<M: PagedMemory> Mode<M> {
+    /// The mode, of which nothing is left here.
+    pub(crate) fn take(&mut self) -> Mode<M>
+        ensures { result ≡ self.old }
+    {
+        mem::replace(self, Mode::Empty { move_number: 0 })
+    }
+
+    /// The highest number of a move that the host has begun or staged.
+    pub(crate) fn move_number(&self) -> u64
+        ensures { result ≡ move_of (mode_of (plain_of self.now)) }
+    {
+        match self {
+            Mode::Empty { move_number }
+            | Mode::Run { move_number, .. }
+            | Mode::Given { move_number }
+            | Mode::Staging { move_number, .. }
+            | Mode::Held { move_number, .. } => *move_number,
+            Mode::Leaving(source) => source.move_number(),
+        }
+    }
+
+    /// Whether the guest runs here, and no move is going on.
+    pub(crate) fn runs(&self) -> bool
+        ensures { result ≡ runs (plain_of self.now) }
+    {
+        matches!(self, Mode::Run { .. })
+    }
+
+    /// Nothing is done.
+    pub(crate) fn stay(&mut self, mode: Mode<M>, why: HostRefusal) -> Answer
+        ensures reply { result.0 ≡ HostReply.Refused why }
+        ensures frame { result.1 ≡ None }
+        ensures mode { self.new ≡ mode }
+    {
+        *self = mode;
+        HostReply::refused(why)
+    }
+
+    /// What a command does, but Begin where the guest runs.
+    pub(crate) fn obey(
+        &mut self,
+        alloc: Global,
+        version: u32,
+        command: &Command,
+    ) -> Result<Answer, AllocError>
+        ensures answer { IfOk result (λ a. Answers version
+            (obeying.obey board version (command_of command.now) (mode_of (plain_of self.old)))
+            a (mode_of (plain_of self.new))) }
+        ensures err { OnErr result (self.new ≡ self.old) }
+        ensures memory { OnErr result (asks_memory (command_of command.now) ≡ true) }
+    {
+        match command {
+            Command::Board(event) => Ok(self.board(event).alone()),
+            Command::Begin { policy, .. } => self.begin(alloc, *policy),
+            Command::Copy => self.copy(alloc, version),
+            Command::Resend => self.resend(alloc, version),
+            Command::Abort => Ok(self.abort()),
+        }
+    }
+
+    /// What a frame that comes does.
+    pub(crate) fn came(
+        &mut self,
+        alloc: Global,
+        limit: u16,
+        frame: &Frame,
+    ) -> Result<Answer, AllocError>
+        requires { limit ≤ 4096 }
+        ensures answer { IfOk result (λ a. (version : ℕ) → Answers version
+            (receiving.came board limit (plain board (frame_heard frame.now))
+            (mode_of (plain_of self.old))) a (mode_of (plain_of self.new))) }
+        ensures err { OnErr result (self.new ≡ self.old) }
+        ensures memory { OnErr result (takes_memory (frame_heard frame.now) ≡ true) }
+    {
+        match frame {
+            Frame::Hello { .. } => Ok(self.accepted(NO_MOVE).alone()),
+            Frame::Offer {
+                move_number,
+                pages,
+                harts,
+            } => {
+                if *pages == 0 {
+                    return Ok(self.accepted(NO_MOVE).alone());
+                }
+                self.offered(alloc, limit, *move_number, *pages, *harts)
+            }
+            Frame::Accept { move_number } => Ok(self.accepted(*move_number).alone()),
+            Frame::Refuse { move_number, limit } => Ok(self.declined(*move_number, *limit)),
+            Frame::Page {
+                move_number,
+                page,
+                copy_number,
+                bytes,
+            } => Ok(self.page(*move_number, *page, *copy_number, bytes).alone()),
+            Frame::RoundEnd { move_number, .. } => Ok(self.round_ended(*move_number).alone()),
+            Frame::Lost { move_number, pages } => Ok(
+                self.lost(alloc, *move_number, pages.as_slice())?.alone(),
+            ),
+            Frame::State {
+                move_number,
+                copy_numbers,
+                state,
+            } => self.state(alloc, *move_number, copy_numbers.as_slice(), state.as_slice()),
+            Frame::Ready { move_number } => Ok(self.ready(*move_number)),
+            Frame::Go { move_number } => Ok(self.go(*move_number)),
+            Frame::Started { move_number } => Ok(self.started(*move_number).alone()),
+            Frame::Abort { move_number } => Ok(self.dropped(*move_number).alone()),
+            Frame::Zero {
+                move_number,
+                page,
+                copy_number,
+            } => Ok(self.zero(*move_number, *page, *copy_number).alone()),
+            Frame::Part {
+                move_number,
+                stamp,
+                part,
+                parts,
+                bytes,
+            } => {
+                if *parts > 6 {
+                    return Ok(self.accepted(NO_MOVE).alone());
+                }
+                self.part(alloc, *move_number, *stamp, *part, *parts, bytes)
+            }
+        }
+    }
+}

@@ -1,0 +1,221 @@
+//! The commands of a host, and the frames that come to the source of a move.
+
+ghost use Rattle.std.specs.Prelude.{◌≡◌, ℕ, IfOk, OnErr, None};
+ghost use Rattle.rvm_guest.proofs.TheGuest.{board};
+ghost use Rattle.rvm_message.specs.Answers.{Answers};
+ghost use Rattle.rvm_precopy.specs.Policies.{policy_of};
+ghost use Rattle.rvm_protocol.specs.Frames as frames;
+ghost use Rattle.rvm_protocol.specs.Modes as protocol;
+ghost use Rattle.rvm_protocol.specs.Obeying as obeying;
+ghost use Rattle.rvm_protocol.specs.Receiving as receiving;
+ghost use Rattle.rvm_core.specs.Modes.{mode_of, plain_of};
+
+use crate::mode::Mode;
+use rvm_debug::{BoardEvent, Debugged};
+use rvm_frame::Frame;
+use rvm_guest::apply_event;
+use rvm_mem::PagedMemory;
+use rvm_message::{Answer, HostRefusal, HostReply};
+use rvm_precopy::Policy;
+use rvm_source::Source;
+use std::alloc::{AllocError, Global};
+
+impl<M: PagedMemory> Mode<M> {
+    /// An event of the guest. Takes no memory.
+    pub(crate) fn board(&mut self, event: &BoardEvent) -> HostReply
+        ensures { (version : ℕ) → Answers version
+            (obeying.board board event.now (mode_of (plain_of self.old)))
+            (result, None) (mode_of (plain_of self.new)) }
+    {
+        match self {
+            Mode::Run { guest, .. } => HostReply::Board(apply_event(guest, event)),
+            Mode::Leaving(source) => source.apply(event),
+            Mode::Held { .. } => HostReply::Refused(HostRefusal::Paused),
+            Mode::Empty { .. } | Mode::Given { .. } | Mode::Staging { .. } => HostReply::Refused(
+                HostRefusal::NotHere,
+            ),
+        }
+    }
+
+    /// A move to another host begins. After a refused growth nothing has changed.
+    pub(crate) fn begin(&mut self, alloc: Global, policy: Policy) -> Result<Answer, AllocError>
+        ensures answer { IfOk result (λ a. (version : ℕ) → Answers version
+            (obeying.begin board (policy_of policy) (mode_of (plain_of self.old)))
+            a (mode_of (plain_of self.new))) }
+        ensures err { OnErr result (self.new ≡ self.old) }
+    {
+        match self.take() {
+            Mode::Run { move_number, guest } => self.begin_run(alloc, policy, move_number, guest),
+            Mode::Leaving(source) => Ok(self.stay(Mode::Leaving(source), HostRefusal::Busy)),
+            mode => Ok(self.stay(mode, HostRefusal::NotHere)),
+        }
+    }
+
+    /// A move of a guest that runs begins.
+    fn begin_run(
+        &mut self,
+        alloc: Global,
+        policy: Policy,
+        move_number: u64,
+        guest: Debugged<M>,
+    ) -> Result<Answer, AllocError>
+        ensures answer { IfOk result (λ a. (version : ℕ) → Answers version
+            (obeying.begin board (policy_of policy) (protocol.Run move_number guest.guest))
+            a (mode_of (plain_of self.new))) }
+        ensures err { OnErr result (self.new ≡ Mode.Run move_number guest) }
+    {
+        if !policy.is_allowed() {
+            return Ok(self.stay(Mode::Run { move_number, guest }, HostRefusal::BadSize));
+        }
+        if move_number == u64::MAX {
+            return Ok(self.stay(Mode::Run { move_number, guest }, HostRefusal::EpochsSpent));
+        }
+        match Source::begin(alloc, move_number + 1, guest, policy) {
+            Ok(source) => {
+                let offer = source.offer();
+                *self = Mode::Leaving(source);
+                Ok(HostReply::Begun(move_number + 1).with(offer))
+            }
+            Err(guest) => {
+                *self = Mode::Run { move_number, guest };
+                Err(AllocError)
+            }
+        }
+    }
+
+    /// The next copy of a page is made, or the next step of the move. After a refused growth nothing
+    /// has changed.
+    pub(crate) fn copy(&mut self, alloc: Global, version: u32) -> Result<Answer, AllocError>
+        ensures answer { IfOk result (λ a. Answers version
+            (obeying.copy board version (mode_of (plain_of self.old)))
+            a (mode_of (plain_of self.new))) }
+        ensures err { OnErr result (self.new ≡ self.old) }
+    {
+        match self {
+            Mode::Leaving(source) => source.copy(alloc, version),
+            Mode::Run { .. } => Ok(HostReply::refused(HostRefusal::NoMove)),
+            _ => Ok(HostReply::refused(HostRefusal::NotHere)),
+        }
+    }
+
+    /// The last frame of this mode is sent again. After a refused growth nothing has changed.
+    pub(crate) fn resend(&mut self, alloc: Global, version: u32) -> Result<Answer, AllocError>
+        ensures answer { IfOk result (λ a. Answers version
+            (obeying.resend board version (mode_of (plain_of self.old)))
+            a (mode_of (plain_of self.new))) }
+        ensures err { OnErr result (self.new ≡ self.old) }
+    {
+        match self {
+            Mode::Leaving(source) => source.resend(alloc, version),
+            Mode::Given { move_number } => {
+                let move_number = *move_number;
+                Ok(HostReply::Resent.with(Frame::Go { move_number }))
+            }
+            Mode::Held { move_number, .. } => {
+                let move_number = *move_number;
+                Ok(HostReply::Resent.with(Frame::Ready { move_number }))
+            }
+            _ => Ok(HostReply::refused(HostRefusal::NoMove)),
+        }
+    }
+
+    /// The move is given up.
+    pub(crate) fn abort(&mut self) -> Answer
+        ensures { (version : ℕ) → Answers version
+            (obeying.abort board (mode_of (plain_of self.old)))
+            result (mode_of (plain_of self.new)) }
+    {
+        match self.take() {
+            Mode::Leaving(source) => {
+                let move_number = source.move_number();
+                let guest = source.into_guest();
+                *self = Mode::Run { move_number, guest };
+                HostReply::Aborted.with(Frame::Abort { move_number })
+            }
+            Mode::Run { move_number, guest } => {
+                self.stay(Mode::Run { move_number, guest }, HostRefusal::NoMove)
+            }
+            mode => self.stay(mode, HostRefusal::NotHere),
+        }
+    }
+
+    /// The target takes the guest.
+    pub(crate) fn accepted(&mut self, move_number: u64) -> HostReply
+        ensures { (limit version : ℕ) → Answers version
+            (receiving.came board limit (frames.Accept move_number) (mode_of (plain_of self.old)))
+            (result, None) (mode_of (plain_of self.new)) }
+    {
+        match self {
+            Mode::Leaving(source) => source.accepted(move_number),
+            _ => HostReply::Refused(HostRefusal::Ignored),
+        }
+    }
+
+    /// The target does not take the guest.
+    pub(crate) fn declined(&mut self, move_number: u64, most: u16) -> Answer
+        ensures { (limit version : ℕ) → Answers version
+            (receiving.came board limit (frames.Refuse move_number most) (mode_of (plain_of self.old)))
+            result (mode_of (plain_of self.new)) }
+    {
+        match self.take() {
+            Mode::Leaving(source) => {
+                if !source.is_offering(move_number) {
+                    return self.stay(Mode::Leaving(source), HostRefusal::Ignored);
+                }
+                let guest = source.into_guest();
+                *self = Mode::Run { move_number, guest };
+                HostReply::MoveDeclined(most).alone()
+            }
+            mode => self.stay(mode, HostRefusal::Ignored),
+        }
+    }
+
+    /// The target lacks copies of pages. After a refused growth nothing has changed.
+    pub(crate) fn lost(
+        &mut self,
+        alloc: Global,
+        move_number: u64,
+        pages: &[u16],
+    ) -> Result<HostReply, AllocError>
+        ensures answer { IfOk result (λ r. (limit version : ℕ) → Answers version
+            (receiving.came board limit (frames.Lost move_number pages.now)
+            (mode_of (plain_of self.old)))
+            (r, None) (mode_of (plain_of self.new))) }
+        ensures err { OnErr result (self.new ≡ self.old) }
+    {
+        match self {
+            Mode::Leaving(source) => source.lost(alloc, move_number, pages),
+            _ => Ok(HostReply::Refused(HostRefusal::Ignored)),
+        }
+    }
+
+    /// The target has the whole guest: it is given up here.
+    pub(crate) fn ready(&mut self, move_number: u64) -> Answer
+        ensures { (limit version : ℕ) → Answers version
+            (receiving.came board limit (frames.Ready move_number) (mode_of (plain_of self.old)))
+            result (mode_of (plain_of self.new)) }
+    {
+        match self {
+            Mode::Leaving(source) if source.is_stopped(move_number) => {
+                *self = Mode::Given { move_number };
+                HostReply::Committed(move_number).with(Frame::Go { move_number })
+            }
+            _ => HostReply::refused(HostRefusal::Ignored),
+        }
+    }
+
+    /// The target runs the guest.
+    pub(crate) fn started(&mut self, move_number: u64) -> HostReply
+        ensures { (limit version : ℕ) → Answers version
+            (receiving.came board limit (frames.Started move_number) (mode_of (plain_of self.old)))
+            (result, None) (mode_of (plain_of self.new)) }
+    {
+        match self {
+            Mode::Given { move_number: given } if *given == move_number => {
+                *self = Mode::Empty { move_number };
+                HostReply::Finished
+            }
+            _ => HostReply::Refused(HostRefusal::Ignored),
+        }
+    }
+}

@@ -1,0 +1,315 @@
+//! The frames that come to the target of a move.
+
+ghost use Rattle.std.specs.Prelude.{◌≡◌, ◌≤◌, ◌<◌, ℕ, if◌then◌else◌, IfOk, OnErr, None, Some};
+ghost use Rattle.rvm_guest.proofs.TheGuest.{board};
+ghost use Rattle.rvm_message.specs.Answers.{Answers, BoardOutcome};
+ghost use Rattle.rvm_protocol.specs.Frames as frames;
+ghost use Rattle.rvm_protocol.specs.Modes as protocol;
+ghost use Rattle.rvm_protocol.specs.Modes.{move_of};
+ghost use Rattle.rvm_protocol.specs.Receiving as receiving;
+ghost use Rattle.rvm_handover.specs.Outcomes.{CanBeTold, IsLeft};
+ghost use Rattle.rvm_handover.specs.Pieces.{IsPartLeft, PartCanBeTold};
+ghost use Rattle.rvm_handover.specs.Stages.{PlainStage, stage_of};
+ghost use Rattle.rvm_core.specs.Modes.{is_held, mode_of, plain_of};
+
+use crate::mode::Mode;
+use rvm_debug::Debugged;
+use rvm_frame::{Bytes, Frame, PageBytes};
+use rvm_handover::{NotJoined, NotReady, Staging};
+use rvm_mem::PagedMemory;
+use rvm_message::{Answer, HostRefusal, HostReply};
+use std::alloc::{AllocError, Global};
+
+impl<M: PagedMemory> Mode<M> {
+    /// A move is offered. What is staged or held here stays until there is room for the new guest.
+    /// After a refused growth nothing has changed.
+    pub(crate) fn offered(
+        &mut self,
+        alloc: Global,
+        limit: u16,
+        move_number: u64,
+        pages: u16,
+        harts: u8,
+    ) -> Result<Answer, AllocError>
+        requires limit { limit ≤ 4096 }
+        requires some { 0 < pages }
+        ensures answer { IfOk result (λ a. (version : ℕ) → Answers version
+            (receiving.came board limit (frames.Offer move_number pages harts)
+            (mode_of (plain_of self.old))) a (mode_of (plain_of self.new))) }
+        ensures err { OnErr result (self.new ≡ self.old) }
+    {
+        match self {
+            Mode::Run { .. } | Mode::Leaving(_) => Ok(HostReply::refused(HostRefusal::Ignored)),
+            Mode::Staging { move_number: staged, .. } if *staged == move_number => {
+                Ok(HostReply::Accepted.with(Frame::Accept { move_number }))
+            }
+            _ => self.offered_above(alloc, limit, move_number, pages, harts),
+        }
+    }
+
+    /// A move is offered that counts where it is above all that this host has begun or staged.
+    fn offered_above(
+        &mut self,
+        alloc: Global,
+        limit: u16,
+        move_number: u64,
+        pages: u16,
+        harts: u8,
+    ) -> Result<Answer, AllocError>
+        requires limit { limit ≤ 4096 }
+        requires some { 0 < pages }
+        ensures answer { IfOk result (λ a. (version : ℕ) → Answers version
+            (receiving.offer_above board (move_of (mode_of (plain_of self.old))) limit move_number
+            pages harts (mode_of (plain_of self.old))) a (mode_of (plain_of self.new))) }
+        ensures err { OnErr result (self.new ≡ self.old) }
+    {
+        if move_number <= self.move_number() {
+            return Ok(HostReply::refused(HostRefusal::Ignored));
+        }
+        if limit < pages {
+            return Ok(HostReply::Declined(limit).with(Frame::Refuse { move_number, limit }));
+        }
+        let staging = Staging::offer(alloc, u32::from(pages), u32::from(harts))?;
+        *self = Mode::Staging {
+            move_number,
+            staging,
+        };
+        Ok(HostReply::Accepted.with(Frame::Accept { move_number }))
+    }
+
+    /// A copy of a page. Takes no memory.
+    pub(crate) fn page(
+        &mut self,
+        move_number: u64,
+        page: u16,
+        copy_number: u32,
+        bytes: &PageBytes,
+    ) -> HostReply
+        ensures { (limit version : ℕ) → Answers version
+            (receiving.came board limit (frames.Page move_number page copy_number bytes.now)
+            (mode_of (plain_of self.old))) (result, None) (mode_of (plain_of self.new)) }
+    {
+        match self {
+            Mode::Staging { move_number: staged, staging } if *staged == move_number => {
+                stored(staging.page(u32::from(page), copy_number, bytes.as_array()), page, copy_number)
+            }
+            _ => HostReply::Refused(HostRefusal::Ignored),
+        }
+    }
+
+    /// A copy of a page of zeros. Takes no memory.
+    pub(crate) fn zero(&mut self, move_number: u64, page: u16, copy_number: u32) -> HostReply
+        ensures { (limit version : ℕ) → Answers version
+            (receiving.came board limit (frames.Page move_number page copy_number board.zeros)
+            (mode_of (plain_of self.old))) (result, None) (mode_of (plain_of self.new)) }
+    {
+        match self {
+            Mode::Staging { move_number: staged, staging } if *staged == move_number => {
+                stored(staging.zero(u32::from(page), copy_number), page, copy_number)
+            }
+            _ => HostReply::Refused(HostRefusal::Ignored),
+        }
+    }
+
+    /// A round of copies is over.
+    pub(crate) fn round_ended(&self, move_number: u64) -> HostReply
+        ensures { (limit version round sent skipped left : ℕ) → Answers version
+            (receiving.came board limit (frames.RoundEnd move_number round sent skipped left)
+            (mode_of (plain_of self.now))) (result, None) (mode_of (plain_of self.now)) }
+    {
+        match self {
+            Mode::Staging { move_number: staged, .. } if *staged == move_number => HostReply::Noted,
+            _ => HostReply::Refused(HostRefusal::Ignored),
+        }
+    }
+
+    /// The state of the guest. What is staged stays whole until the guest is made. After a refused
+    /// growth nothing has changed.
+    pub(crate) fn state(
+        &mut self,
+        alloc: Global,
+        move_number: u64,
+        numbers: &[u32],
+        bytes: &[u8],
+    ) -> Result<Answer, AllocError>
+        ensures answer { IfOk result (λ a. (limit version : ℕ) → Answers version
+            (receiving.came board limit (frames.State move_number numbers.now bytes.now)
+            (mode_of (plain_of self.old))) a (mode_of (plain_of self.new))) }
+        ensures err { OnErr result (self.new ≡ self.old) }
+    {
+        if self.is_held(move_number) {
+            return Ok(HostReply::ReadySent.with(Frame::Ready { move_number }));
+        }
+        match self.take() {
+            Mode::Staging { move_number: staged, staging } => {
+                if staged != move_number {
+                    let mode = Mode::Staging { move_number: staged, staging };
+                    return Ok(self.stay(mode, HostRefusal::Ignored));
+                }
+                match staging.state(alloc, numbers, bytes) {
+                    Ok(guest) => Ok(self.hold(move_number, guest)),
+                    Err((reason, staging)) => {
+                        *self = Mode::Staging { move_number, staging };
+                        not_ready(move_number, reason)
+                    }
+                }
+            }
+            mode => Ok(self.stay(mode, HostRefusal::Ignored)),
+        }
+    }
+
+    /// A piece of the state. After a refused growth nothing has changed.
+    pub(crate) fn part(
+        &mut self,
+        alloc: Global,
+        move_number: u64,
+        stamp: u32,
+        part: u8,
+        parts: u8,
+        bytes: &Bytes,
+    ) -> Result<Answer, AllocError>
+        requires { parts ≤ 6 }
+        ensures answer { IfOk result (λ a. (limit version : ℕ) → Answers version
+            (receiving.came board limit (frames.Part move_number stamp part parts bytes.now)
+            (mode_of (plain_of self.old))) a (mode_of (plain_of self.new))) }
+        ensures err { OnErr result (self.new ≡ self.old) }
+    {
+        if self.is_held(move_number) {
+            return Ok(HostReply::ReadySent.with(Frame::Ready { move_number }));
+        }
+        let bytes = bytes.copy(alloc)?;
+        match self.take() {
+            Mode::Staging { move_number: staged, staging } => {
+                if staged != move_number {
+                    let mode = Mode::Staging { move_number: staged, staging };
+                    return Ok(self.stay(mode, HostRefusal::Ignored));
+                }
+                match staging.part(alloc, stamp, part, parts, bytes) {
+                    Ok(guest) => Ok(self.hold(move_number, guest)),
+                    Err((reason, staging)) => {
+                        *self = Mode::Staging { move_number, staging };
+                        not_joined(move_number, part, parts, reason)
+                    }
+                }
+            }
+            mode => Ok(self.stay(mode, HostRefusal::Ignored)),
+        }
+    }
+
+    /// The whole guest is here.
+    fn hold(&mut self, move_number: u64, guest: Debugged<M>) -> Answer
+        ensures reply { result.0 ≡ HostReply.ReadySent }
+        ensures frame { result.1 ≡ Some (Frame.Ready move_number) }
+        ensures mode { self.new ≡ Mode.Held move_number guest }
+    {
+        *self = Mode::Held { move_number, guest };
+        HostReply::ReadySent.with(Frame::Ready { move_number })
+    }
+
+    /// Whether the whole guest of this move waits here.
+    fn is_held(&self, move_number: u64) -> bool
+        ensures { result ≡ is_held move_number (plain_of self.now) }
+    {
+        match self {
+            Mode::Held { move_number: held, .. } => *held == move_number,
+            _ => false,
+        }
+    }
+
+    /// The source has committed: the guest runs here. Takes no memory.
+    pub(crate) fn go(&mut self, move_number: u64) -> Answer
+        ensures { (limit version : ℕ) → Answers version
+            (receiving.came board limit (frames.Go move_number) (mode_of (plain_of self.old)))
+            result (mode_of (plain_of self.new)) }
+    {
+        match self.take() {
+            Mode::Held { move_number: held, guest } => {
+                if held != move_number {
+                    let mode = Mode::Held { move_number: held, guest };
+                    return self.stay(mode, HostRefusal::Ignored);
+                }
+                *self = Mode::Run { move_number, guest };
+                HostReply::Started.with(Frame::Started { move_number })
+            }
+            Mode::Run { move_number: runs, guest } => {
+                *self = Mode::Run { move_number: runs, guest };
+                if runs != move_number {
+                    return HostReply::refused(HostRefusal::Ignored);
+                }
+                HostReply::Resent.with(Frame::Started { move_number })
+            }
+            mode => self.stay(mode, HostRefusal::Ignored),
+        }
+    }
+
+    /// The source gives the move up.
+    pub(crate) fn dropped(&mut self, move_number: u64) -> HostReply
+        ensures { (limit version : ℕ) → Answers version
+            (receiving.came board limit (frames.Abort move_number) (mode_of (plain_of self.old)))
+            (result, None) (mode_of (plain_of self.new)) }
+    {
+        match self {
+            Mode::Staging { move_number: here, .. } | Mode::Held { move_number: here, .. }
+                if *here == move_number => {
+                *self = Mode::Empty { move_number };
+                HostReply::Dropped
+            }
+            _ => HostReply::Refused(HostRefusal::Ignored),
+        }
+    }
+}
+
+/// The reply to a copy of a page.
+fn stored(stored: bool, page: u16, copy_number: u32) -> HostReply
+    ensures { result ≡ (if stored then HostReply.Stored page copy_number
+        else HostReply.Refused HostRefusal.Ignored) }
+{
+    if stored {
+        HostReply::Stored { page, copy_number }
+    } else {
+        HostReply::Refused(HostRefusal::Ignored)
+    }
+}
+
+/// The answer to a state that made no guest.
+fn not_ready(move_number: u64, reason: NotReady) -> Result<Answer, AllocError>
+    requires { CanBeTold reason }
+    ensures answer { IfOk result (λ a. (version : ℕ) (s : PlainStage) (o : BoardOutcome)
+        → IsLeft move_number reason s o
+        → Answers version o a (protocol.Staging move_number (stage_of s))) }
+    ensures memory { OnErr result (reason ≡ NotReady.OutOfMemory) }
+{
+    match reason {
+        NotReady::Lacking(pages) => {
+            let count = pages.as_slice().len() as u16;
+            Ok(HostReply::Lacking(count).with(Frame::Lost { move_number, pages }))
+        }
+        NotReady::BadState => Ok(HostReply::refused(HostRefusal::BadState)),
+        NotReady::OutOfMemory => Err(AllocError),
+    }
+}
+
+/// The answer to a piece of a state that made no guest.
+fn not_joined(
+    move_number: u64,
+    part: u8,
+    parts: u8,
+    reason: NotJoined,
+) -> Result<Answer, AllocError>
+    requires { PartCanBeTold reason }
+    ensures answer { IfOk result (λ a. (version : ℕ) (s : PlainStage) (o : BoardOutcome)
+        → IsPartLeft move_number part parts reason s o
+        → Answers version o a (protocol.Staging move_number (stage_of s))) }
+    ensures memory { OnErr result (reason ≡ NotJoined.OutOfMemory) }
+{
+    match reason {
+        NotJoined::Ignored => Ok(HostReply::refused(HostRefusal::Ignored)),
+        NotJoined::Kept => Ok(HostReply::Kept { part, parts }.alone()),
+        NotJoined::Lacking(pages) => {
+            let count = pages.as_slice().len() as u16;
+            Ok(HostReply::Lacking(count).with(Frame::Lost { move_number, pages }))
+        }
+        NotJoined::BadState => Ok(HostReply::refused(HostRefusal::BadState)),
+        NotJoined::OutOfMemory => Err(AllocError),
+    }
+}

@@ -1,0 +1,5 @@
+pub mod Frames
+pub mod Events
+pub mod Refusals
+pub mod Replies
+pub mod Answers

@@ -1,0 +1,13 @@
+//! What hosts are told and what they answer: the events of a host, its replies and the frames that it
+//! makes, and what each of them is in the law of live migration.
+//!
+//! Stands on `rvm_guest`, `rvm_precopy` and `rvm_frame`, and knows nothing of modes or hosts.
+//!
+//! To be read in this order: `event`, `reply`.
+#![tactic(auto)]
+
+mod event;
+mod reply;
+
+pub use event::{Command, HostEvent};
+pub use reply::{Answer, HostRefusal, HostReply};

@@ -1,0 +1,158 @@
+//! What a host answers.
+
+ghost use Rattle.std.specs.Prelude.{◌≡◌, None, Some};
+ghost use Rattle.rvm_message.specs.Refusals.{numbered};
+
+use rvm_debug::BoardReply;
+use rvm_frame::Frame;
+use rvm_refusal::Refusal;
+use thiserror::Error;
+
+/// Why a host refused an event. Nothing changed.
+#[derive(Clone, Copy, Debug, PartialEq, Eq, Error)]
+pub enum HostRefusal {
+    /// The policy is out of its limits.
+    #[error("the policy is out of its limits")]
+    BadSize,
+    /// The state does not fit its offer, or no guest has it.
+    #[error("the state does not fit its offer, or no guest has it")]
+    BadState,
+    /// No copy number is left in this move.
+    #[error("no copy number is left in this move")]
+    SeqSpent,
+    /// No guest is here.
+    #[error("no guest is here")]
+    NotHere,
+    /// The guest is paused here.
+    #[error("the guest is paused here")]
+    Paused,
+    /// A move is going on.
+    #[error("a move is going on")]
+    Busy,
+    /// No move is going on that could do this.
+    #[error("no move is going on that could do this")]
+    NoMove,
+    /// No move number is left.
+    #[error("no move number is left")]
+    EpochsSpent,
+    /// This host does not wait for such a frame.
+    #[error("this host does not wait for such a frame")]
+    Ignored,
+    /// No such frame was sent.
+    #[error("no such frame was sent")]
+    NoFrame,
+    /// There is no such other host.
+    #[error("there is no such other host")]
+    BadHost,
+}
+
+impl From<HostRefusal> for Refusal {
+    ghost from_gives = { λ why told. told ≡ numbered why };
+
+    fn from(why: HostRefusal) -> Refusal {
+        match why {
+            HostRefusal::BadSize => Refusal::BadSize,
+            HostRefusal::BadState => Refusal::BadState,
+            HostRefusal::SeqSpent => Refusal::SeqSpent,
+            HostRefusal::NotHere => Refusal::NotHere,
+            HostRefusal::Paused => Refusal::Paused,
+            HostRefusal::Busy => Refusal::Busy,
+            HostRefusal::NoMove => Refusal::NoMove,
+            HostRefusal::EpochsSpent => Refusal::EpochsSpent,
+            HostRefusal::Ignored => Refusal::Ignored,
+            HostRefusal::NoFrame => Refusal::NoFrame,
+            HostRefusal::BadHost => Refusal::BadHost,
+        }
+    }
+}
+
+/// What a host answers to an event.
+#[derive(Drop)]
+pub enum HostReply {
+    /// The guest's answer to an event of its own.
+    Board(BoardReply),
+    /// A move with this number begins.
+    Begun(u64),
+    /// A page was copied, with this copy number.
+    Copied {
+        page: u16,
+        copy_number: u32,
+    },
+    /// A round is over: its number, how many pages were copied in it and how many were not, since
+    /// they were written again, and how many are in the dirty log.
+    RoundEnded {
+        round: u16,
+        sent: u16,
+        skipped: u16,
+        left: u16,
+    },
+    /// Pre-copy is over, and the guest is paused.
+    Stopping,
+    /// The state was sent.
+    StateSent,
+    /// A piece of the state was sent: its place, from 0, and how many there are.
+    PartSent { part: u8, parts: u8 },
+    /// The last frame was sent again.
+    Resent,
+    /// The move was given up, and the guest runs on here.
+    Aborted,
+    /// The target takes the guest, and the first round begins.
+    Open,
+    /// The target takes no more pages than this; the guest runs on here.
+    MoveDeclined(u16),
+    /// So many pages that the target lacks are copied again.
+    Fixing(u16),
+    /// The target has the guest, and it is given up here.
+    Committed(u64),
+    /// The guest runs at the target.
+    Finished,
+    /// The offer is accepted.
+    Accepted,
+    /// The offer is declined: no more pages than this are taken.
+    Declined(u16),
+    /// A copy of a page was stored, with this copy number.
+    Stored { page: u16, copy_number: u32 },
+    /// The end of a round was noted.
+    Noted,
+    /// A piece of a state is kept: its place, and how many there are.
+    Kept { part: u8, parts: u8 },
+    /// So many copies are lacking.
+    Lacking(u16),
+    /// The whole guest is here, and waits for the commit.
+    ReadySent,
+    /// The guest runs here.
+    Started,
+    /// What was staged or held here is dropped.
+    Dropped,
+    /// The event was refused.
+    Refused(HostRefusal),
+}
+
+/// A reply, and the frame that was made, if one was.
+pub type Answer = (HostReply, Option<Frame>);
+
+impl HostReply {
+    /// A refusal, without a frame.
+    pub fn refused(why: HostRefusal) -> Answer
+        ensures reply { result.0 ≡ HostReply.Refused why }
+        ensures frame { result.1 ≡ None }
+    {
+        (HostReply::Refused(why), None)
+    }
+
+    /// A reply without a frame.
+    pub fn alone(self) -> Answer
+        ensures reply { result.0 ≡ self }
+        ensures frame { result.1 ≡ None }
+    {
+        (self, None)
+    }
+
+    /// A reply and a frame.
+    pub fn with(self, frame: Frame) -> Answer
+        ensures reply { result.0 ≡ self }
+        ensures frame { result.1 ≡ Some frame }
+    {
+        (self, Some(frame))
+    }
+}

@@ -1,0 +1,39 @@
+-- What the source of a move keeps: as plain values, and as the law of live migration has it.
+use Rattle.std.specs.Prelude.{ℕ, ◌<◌, ◌==◌, Bool, false, length}
+use Rattle.rvm_debug.specs.Guest.{Guest, GuestState}
+use Rattle.rvm_guest.specs.Body.{body_of}
+use Rattle.rvm_guest.specs.Pieces.{cut}
+use Rattle.rvm_message.specs.Answers.{BoardMode}
+use Rattle.rvm_precopy.specs.Plans.{Plan, rounds_of, last_of}
+use Rattle.rvm_protocol.specs.Modes as protocol
+use Rattle.rvm_source.specs.declared.phase.Phase.{Phase}
+use Rattle.rvm_source.specs.declared.phase.Phase.TheVariants as phases
+
+pub record PlainSource : Type 0 where
+  pub move_number : ℕ
+  pub guest : GuestState
+  pub plan : Plan
+  pub phase : Phase
+
+-- the mode of the law
+abbrev pub mode_in : (move : ℕ) → GuestState → Plan → Phase → BoardMode
+mode_in n g r phases.Offering = protocol.Offering n g.guest r.policy
+mode_in n g r phases.Copying = protocol.Copying n (rounds_of g.guest g.dirty r)
+mode_in n g r (phases.Stopped turn) = protocol.Stopped n (last_of g.guest turn r)
+
+abbrev pub mode_of : PlainSource → BoardMode
+mode_of s = mode_in s.move_number s.guest s.plan s.phase
+
+-- the piece that is sent next of a paused guest's state is one of its pieces
+abbrev pub HasTurn : Phase → GuestState → Plan → Type 0
+HasTurn (phases.Stopped turn) g r = turn < length (cut r.newest (body_of g.guest))
+HasTurn phase g r = Unit {0}
+
+-- a guest is offered, or paused, for this move
+abbrev pub is_offering : (move : ℕ) → BoardMode → Bool
+is_offering k (protocol.Offering n g p) = k == n
+is_offering k mode = false
+
+abbrev pub is_stopped : (move : ℕ) → BoardMode → Bool
+is_stopped k (protocol.Stopped n l) = k == n
+is_stopped k mode = false

@@ -1,0 +1,15 @@
+//! The source of a move: a guest that runs while its pages are copied, and is paused for the last of
+//! them and its state.
+//!
+//! Stands on `rvm_message` and `rvm_precopy`, and knows nothing of targets, hosts or worlds.
+//!
+//! To be read in this order: `phase`, `page`, `state`, `source`.
+#![tactic(auto)]
+
+mod page;
+mod phase;
+mod source;
+mod state;
+
+pub use phase::Phase;
+pub use source::Source;

@@ -1,0 +1,52 @@
+//! The frame of a copy of a page.
+
+ghost use Rattle.std.specs.Prelude.{◌≡◌, ◌<◌, ◌≤◌, ◌&&◌, length};
+ghost use Rattle.rvm_protocol.specs.Frames as protocol;
+ghost use Rattle.rvm_protocol.specs.Rounds.{page_of};
+ghost use Rattle.rvm_guest.proofs.TheGuest.{board};
+ghost use Rattle.rvm_guest.specs.Pages.{is_zeros};
+ghost use Rattle.rvm_message.specs.Frames.{frame_of};
+
+use rvm_debug::Debugged;
+use rvm_frame::{Frame, PageBytes};
+use rvm_mem::{Memory, PAGE_SIZE, PagedMemory};
+
+/// The copy of a page with this number, as a stream of this version has it: from version 2 on a page
+/// of zeros goes without its bytes. `bytes` is where they go.
+pub(crate) fn page_frame<M: PagedMemory>(
+    version: u32,
+    mut bytes: PageBytes,
+    move_number: u64,
+    guest: &Debugged<M>,
+    page: u16,
+    copy_number: u32,
+) -> Frame
+    requires { page < length guest.now.dirty }
+    ensures { frame_of result ≡ protocol.written board version
+        (protocol.Page move_number page copy_number (page_of board guest.now.guest page)) }
+{
+    let _size = guest.memory().len();
+    let mut copy = [0; PAGE_SIZE as usize];
+    guest.memory().copy_page(u32::from(page), &mut copy);
+    if version >= 2 && is_zeros(&copy) {
+        return Frame::Zero {
+            move_number,
+            page,
+            copy_number,
+        };
+    }
+    bytes.set(&copy);
+    Frame::Page {
+        move_number,
+        page,
+        copy_number,
+        bytes,
+    }
+}
+
+/// Whether the bytes of a page are all zeros.
+fn is_zeros(bytes: &[u8; PAGE_SIZE as usize]) -> bool
+    ensures { result ≡ is_zeros bytes.now }
+{
+    bytes.iter().all(|byte| *byte == 0)
+}

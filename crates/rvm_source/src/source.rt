@@ -1,0 +1,324 @@
+//! The source of a move.
+
+ghost use Rattle.std.specs.Prelude.{◌≡◌, ◌≤◌, ◌<◌, ◌&&◌, ℕ, length, nat_lt, true, IfOk, IfErr, OnErr, None, Some};
+ghost use Rattle.rvm_mem.specs.Pages.{has};
+ghost use Rattle.rvm_protocol.specs.Commands.{is_allowed};
+ghost use Rattle.rvm_protocol.specs.Frames as frames;
+ghost use Rattle.rvm_protocol.specs.Modes as protocol;
+ghost use Rattle.rvm_protocol.specs.Obeying as obeying;
+ghost use Rattle.rvm_protocol.specs.Pages.{is_in};
+ghost use Rattle.rvm_protocol.specs.Receiving as receiving;
+ghost use Rattle.rvm_protocol.specs.Rounds.{page_of};
+ghost use Rattle.rvm_precopy.specs.Policies.{policy_of};
+ghost use Rattle.rvm_guest.proofs.TheGuest.{board};
+ghost use Rattle.rvm_message.specs.Answers.{Answers};
+ghost use Rattle.rvm_message.specs.Frames.{frame_made, frame_of};
+ghost use Rattle.rvm_source.specs.Sources.{is_offering, is_stopped, mode_of};
+
+use crate::page::page_frame;
+use crate::phase::Phase;
+use crate::state::send_state;
+use rvm_debug::{BoardEvent, Debugged};
+use rvm_frame::{Frame, PageBytes};
+use rvm_guest::apply_event;
+use rvm_mem::{Memory, PageSet, PagedMemory};
+use rvm_message::{Answer, HostRefusal, HostReply};
+use rvm_precopy::{LastNext, Next, Policy, Rounds};
+use std::alloc::{AllocError, Global};
+use std::marker::Model;
+
+/// A guest whose move to another host is going on, and what its source keeps beside it.
+#[derive(Drop)]
+pub struct Source<M: PagedMemory> {
+    move_number: u64,
+    guest: Debugged<M>,
+    rounds: Rounds,
+    phase: Phase,
+}
+
+impl<M: PagedMemory> Model for Source<M> {
+    ghost use Rattle.std.specs.Prelude.{◌≡◌, ◌<◌, length};
+    ghost use Rattle.rvm_source.specs.Sources.{HasTurn, PlainSource};
+
+    ghost Value = { PlainSource };
+
+    ghost view = { λ s. record {
+      move_number = s.move_number;
+      guest = s.guest;
+      plan = s.rounds;
+      phase = s.phase;
+    } };
+
+    ghost invariant = { λ s. (0 < s.move_number)
+        × ((length s.guest.dirty ≡ length s.rounds.to_send)
+        × HasTurn s.phase s.guest s.rounds) };
+}
+
+impl<M: PagedMemory> Source<M> {
+    /// A move with this number, at least 1, begins with an offer of the guest. Where memory lacks the
+    /// guest comes back as it was.
+    pub fn begin(
+        alloc: Global,
+        move_number: u64,
+        guest: Debugged<M>,
+        policy: Policy,
+    ) -> Result<Source<M>, Debugged<M>>
+        requires number { 0 < move_number }
+        requires policy { is_allowed (policy_of policy) ≡ true }
+        ensures source { IfOk result (λ s. mode_of s
+            ≡ protocol.Offering move_number guest.guest (policy_of policy)) }
+        ensures guest { IfErr result (λ g. g ≡ guest) }
+    {
+        let _size = guest.memory().len();
+        let Ok(rounds) = Rounds::begin(alloc, guest.memory().pages(), policy) else {
+            return Err(guest);
+        };
+        Ok(Source {
+            move_number,
+            guest,
+            rounds,
+            phase: Phase::Offering,
+        })
+    }
+
+    /// The number of the move, at least 1.
+    pub fn move_number(&self) -> u64
+        ensures number { result ≡ protocol.move_of (mode_of self.now) }
+        ensures some { 0 < result }
+    {
+        self.move_number
+    }
+
+    /// Whether this move is offered.
+    pub fn is_offering(&self, move_number: u64) -> bool
+        ensures { result ≡ is_offering move_number (mode_of self.now) }
+    {
+        move_number == self.move_number && matches!(self.phase, Phase::Offering)
+    }
+
+    /// Whether the guest is paused for this move.
+    pub fn is_stopped(&self, move_number: u64) -> bool
+        ensures { result ≡ is_stopped move_number (mode_of self.now) }
+    {
+        move_number == self.move_number && matches!(self.phase, Phase::Stopped { .. })
+    }
+
+    /// The guest alone.
+    pub fn into_guest(self) -> Debugged<M>
+        ensures { Some result.guest ≡ protocol.guest_in (mode_of self) }
+    {
+        self.guest
+    }
+
+    /// The frame that offers the guest.
+    pub fn offer(&self) -> Frame
+        ensures { frame_of result ≡ obeying.offer_frame board self.now.move_number self.now.guest.guest }
+    {
+        let _size = self.guest.memory().len();
+        Frame::Offer {
+            move_number: self.move_number,
+            pages: self.guest.memory().pages() as u16,
+            harts: self.guest.harts() as u8,
+        }
+    }
+
+    /// Gives the guest an event, unless it is paused. Takes no memory.
+    pub fn apply(&mut self, event: &BoardEvent) -> HostReply
+        ensures { (version : ℕ) → Answers version (obeying.board board event.now (mode_of self.old))
+            (result, None) (mode_of self.new) }
+    {
+        match self.phase {
+            Phase::Stopped { .. } => HostReply::Refused(HostRefusal::Paused),
+            Phase::Offering | Phase::Copying => HostReply::Board(
+                apply_event(&mut self.guest, event),
+            ),
+        }
+    }
+
+    /// A frame says that the target takes the guest of the move with this number: where that move is
+    /// offered, its first round begins.
+    pub fn accepted(&mut self, move_number: u64) -> HostReply
+        ensures { (limit version : ℕ) → Answers version
+            (receiving.came board limit (frames.Accept move_number) (mode_of self.old))
+            (result, None) (mode_of self.new) }
+    {
+        if !self.is_offering(move_number) {
+            return HostReply::Refused(HostRefusal::Ignored);
+        }
+        let _size = self.guest.memory().len();
+        self.rounds.open(&mut self.guest);
+        self.phase = Phase::Copying;
+        HostReply::Open
+    }
+
+    /// The next copy of a page is made, or the next step of the move, for a stream of this version.
+    /// After a refused growth nothing has changed.
+    pub fn copy(&mut self, alloc: Global, version: u32) -> Result<Answer, AllocError>
+        ensures answer { IfOk result (λ a. Answers version
+            (obeying.copy board version (mode_of self.old)) a (mode_of self.new)) }
+        ensures err { OnErr result (self.new ≡ self.old) }
+    {
+        match self.phase {
+            Phase::Offering => Ok(HostReply::refused(HostRefusal::Busy)),
+            Phase::Copying => self.copy_running(alloc, version),
+            Phase::Stopped { turn } => self.copy_paused(alloc, version, turn),
+        }
+    }
+
+    /// A copy of the guest while it runs.
+    fn copy_running(&mut self, alloc: Global, version: u32) -> Result<Answer, AllocError>
+        requires { self.old.phase ≡ Phase.Copying }
+        ensures answer { IfOk result (λ a. Answers version
+            (obeying.copy board version (mode_of self.old)) a (mode_of self.new)) }
+        ensures err { OnErr result (self.new ≡ self.old) }
+    {
+        let bytes = PageBytes::zeros(alloc)?;
+        let _pages = self.rounds.pages();
+        let number = self.move_number;
+        Ok(match self.rounds.next(&mut self.guest) {
+            Next::Copied { page, number: copy } => {
+                copied(version, bytes, number, &self.guest, page as u16, copy)
+            }
+            Next::RoundEnded {
+                round,
+                sent,
+                skipped,
+                left,
+            } => round_ended(number, round as u16, sent as u16, skipped as u16, left as u16),
+            Next::Stopping => {
+                self.phase = Phase::Stopped { turn: 0 };
+                HostReply::Stopping.alone()
+            }
+            Next::SeqSpent => HostReply::refused(HostRefusal::SeqSpent),
+        })
+    }
+
+    /// A copy of the guest once it is paused.
+    fn copy_paused(&mut self, alloc: Global, version: u32, turn: u8) -> Result<Answer, AllocError>
+        requires { self.old.phase ≡ Phase.Stopped turn }
+        ensures answer { IfOk result (λ a. Answers version
+            (obeying.copy board version (mode_of self.old)) a (mode_of self.new)) }
+        ensures err { OnErr result (self.new ≡ self.old) }
+    {
+        let bytes = PageBytes::zeros(alloc)?;
+        let _pages = self.rounds.pages();
+        let number = self.move_number;
+        match self.rounds.next_last() {
+            LastNext::Copied { page, number: copy } => {
+                self.phase = Phase::Stopped { turn: 0 };
+                Ok(copied(version, bytes, number, &self.guest, page as u16, copy))
+            }
+            LastNext::SeqSpent => Ok(HostReply::refused(HostRefusal::SeqSpent)),
+            LastNext::NothingLeft => {
+                let sent = send_state(alloc, version, number, &self.rounds, &self.guest, turn)?;
+                self.phase = sent.next;
+                Ok(sent.reply.with(sent.frame))
+            }
+        }
+    }
+
+    /// The last frame of this phase is sent again, for a stream of this version; in versions 2 and 3
+    /// the next piece of the state. After a refused growth nothing has changed.
+    pub fn resend(&mut self, alloc: Global, version: u32) -> Result<Answer, AllocError>
+        ensures answer { IfOk result (λ a. Answers version
+            (obeying.resend board version (mode_of self.old)) a (mode_of self.new)) }
+        ensures err { OnErr result (self.new ≡ self.old) }
+    {
+        match self.phase {
+            Phase::Offering => Ok(HostReply::Resent.with(self.offer())),
+            Phase::Copying => Ok(HostReply::refused(HostRefusal::NoMove)),
+            Phase::Stopped { turn } => self.resend_state(alloc, version, turn),
+        }
+    }
+
+    /// The state of the paused guest is sent again, where no page is left.
+    fn resend_state(&mut self, alloc: Global, version: u32, turn: u8) -> Result<Answer, AllocError>
+        requires { self.old.phase ≡ Phase.Stopped turn }
+        ensures answer { IfOk result (λ a. Answers version
+            (obeying.resend board version (mode_of self.old)) a (mode_of self.new)) }
+        ensures err { OnErr result (self.new ≡ self.old) }
+    {
+        if self.rounds.is_left() {
+            return Ok(HostReply::refused(HostRefusal::NoMove));
+        }
+        let number = self.move_number;
+        let sent = send_state(alloc, version, number, &self.rounds, &self.guest, turn)?;
+        self.phase = sent.next;
+        Ok(HostReply::Resent.with(sent.frame))
+    }
+
+    /// A frame says that the target of the move with this number lacks pages: where the guest is paused
+    /// for that move, those that it has are copied again. After a refused growth nothing has changed.
+    pub fn lost(
+        &mut self,
+        alloc: Global,
+        move_number: u64,
+        pages: &[u16],
+    ) -> Result<HostReply, AllocError>
+        ensures answer { IfOk result (λ r. (limit version : ℕ) → Answers version
+            (receiving.came board limit (frames.Lost move_number pages.now) (mode_of self.old))
+            (r, None) (mode_of self.new)) }
+        ensures err { OnErr result (self.new ≡ self.old) }
+    {
+        if !self.is_stopped(move_number) {
+            return Ok(HostReply::Refused(HostRefusal::Ignored));
+        }
+        let lost = set_of(alloc, self.rounds.pages(), pages)?;
+        self.rounds.lost(&lost);
+        Ok(HostReply::Fixing(lost.count() as u16))
+    }
+}
+
+/// A copy of a page, and its frame.
+fn copied<M: PagedMemory>(
+    version: u32,
+    bytes: PageBytes,
+    move_number: u64,
+    guest: &Debugged<M>,
+    page: u16,
+    copy_number: u32,
+) -> Answer
+    requires { page < length guest.now.dirty }
+    ensures reply { result.0 ≡ HostReply.Copied page copy_number }
+    ensures frame { frame_made result.1 ≡ Some (frames.written board version
+        (frames.Page move_number page copy_number (page_of board guest.now.guest page))) }
+{
+    let frame = page_frame(version, bytes, move_number, guest, page, copy_number);
+    let reply = HostReply::Copied { page, copy_number };
+    reply.with(frame)
+}
+
+/// The end of a round, and its frame.
+fn round_ended(move_number: u64, round: u16, sent: u16, skipped: u16, left: u16) -> Answer
+    ensures reply { result.0 ≡ HostReply.RoundEnded round sent skipped left }
+    ensures frame { result.1 ≡ Some (Frame.RoundEnd move_number round sent skipped left) }
+{
+    let reply = HostReply::RoundEnded {
+        round,
+        sent,
+        skipped,
+        left,
+    };
+    reply.with(Frame::RoundEnd {
+        move_number,
+        round,
+        sent,
+        skipped,
+        left,
+    })
+}
+
+/// The set of the numbers below a count of pages.
+fn set_of(alloc: Global, pages: u32, numbers: &[u16]) -> Result<PageSet, AllocError>
+    requires { pages ≤ 4096 }
+    ensures set { IfOk result (λ s. (p : ℕ) → has p s ≡ (is_in numbers.now p && nat_lt p pages)) }
+    ensures size { IfOk result (λ s. length s ≡ pages) }
+{
+    let mut set = PageSet::new(alloc, pages)?;
+    for number in numbers {
+        if u32::from(*number) < pages {
+            set.insert(u32::from(*number));
+        }
+    }
+    Ok(set)
+}
