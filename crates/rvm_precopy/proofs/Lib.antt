@@ -1,2 +1,3 @@
+pub mod Coverage
 pub mod Scans
 pub mod Ties

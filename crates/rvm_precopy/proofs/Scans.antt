@@ -1,6 +1,6 @@
 -- The scan of a round, block by block, and of the paused guest's pages.
-use Rattle.std.proofs.Common.{◌≡◌, ◌≢◌, inl, inr, ℕ, zero, suc, ◌+◌, ◌-◌, ◌*◌, ◌/◌, ◌%◌, ◌<◌, ◌≤◌, Bool, true, false, not, ◌&&◌, ◌==◌, List, length, max, Some, None, refl, sym, ap, ◌∙◌, arith}
-use Rattle.std.proofs.lemmas.Bool.{cases_lt}
+use Rattle.std.proofs.Common.{◌≡◌, ◌≢◌, inl, inr, ℕ, zero, suc, ◌+◌, ◌-◌, ◌*◌, ◌/◌, ◌%◌, ◌<◌, ◌≤◌, Bool, true, false, not, ◌&&◌, ◌==◌, List, length, max, Option, Some, None, refl, sym, ap, ◌∙◌, arith}
+use Rattle.std.proofs.lemmas.Bool.{cases_eq, cases_lt, cond_both}
 use Rattle.std.proofs.lemmas.Bool.Decides.{nat_tests}
 use Rattle.std.proofs.lemmas.List.{get_or_past}
 use Rattle.rvm_mem.specs.Pages.{IsLowest, bit, bits, has_except, window}
@@ -27,6 +27,25 @@ least_here f p n lt h = let e : n - p ≡ suc (n - (p + 1)) = omega arith in rw 
 pub least_end : (f : ℕ → Bool) (p n : ℕ) → n ≤ p → least f p (n - p) ≡ None
 unfolding least
 least_end f p n le = let e : n - p ≡ 0 = omega arith in rw e refl
+
+-- it is the lowest, or there is none
+pub least_is_lowest : (f : ℕ → Bool) (p n end : ℕ) → p + n ≡ end → IsLowest f p end (least f p n)
+unfolding least
+least_is_lowest f p zero end is = λ k from below. absurd (omega arith)
+least_is_lowest f p (suc n) end is =
+    cond_both (f p) (Some p) (least f (suc p) n) (IsLowest f p end)
+    (λ here. (omega arith, omega arith, here, λ k from below. absurd (omega arith)))
+    (λ not_here. further (least f (suc p) n) not_here (least_is_lowest f (suc p) n end (omega arith))) where
+      later : (k : ℕ) → p ≤ k → f p ≡ false → (suc p ≤ k → f k ≡ false) → f k ≡ false
+      later k from not_here rest = elim (cases_eq k p) [
+        | inl same ↦ ap f same ∙ not_here
+        | inr other ↦ rest (omega (arith, other))
+      ]
+
+      further : (o : Option ℕ) → f p ≡ false → IsLowest f (suc p) end o → IsLowest f p end o
+      further (Some page) not_here low =
+          (omega (arith, low.0), low.1, low.2, λ k from below. later k from not_here (λ up. low.3 k up below))
+      further None not_here low = λ k from below. later k from not_here (λ up. low k up below)
 
 -- no member from one number on and before another
 least_skips : (f : ℕ → Bool) (p e n : ℕ) → p ≤ e → e ≤ n → ((k : ℕ) → p ≤ k → k < e → f k ≡ false) → least f p (n - p) ≡ least f e (n - e)
@@ -61,7 +80,7 @@ peek_kept log r n =
     rw yes refl
 
 -- the pages of one block have one peek
-same_peek : (log : List Bool) (r : Plan) (p q : ℕ) → q / 64 ≡ p / 64 → peek log r q ≡ peek log r p
+pub same_peek : (log : List Bool) (r : Plan) (p q : ℕ) → q / 64 ≡ p / 64 → peek log r q ≡ peek log r p
 same_peek log r p q e = rw e refl
 
 -- before this block nothing was found, and the word is the peeked-at log of the block that the scan began in

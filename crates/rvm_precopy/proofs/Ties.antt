@@ -15,6 +15,7 @@ use Rattle.rvm_protocol.specs.Pages as sets
 use Rattle.rvm_protocol.specs.Rounds as protocol
 use Rattle.rvm_protocol.specs.Rounds.{is_skipped, page_count}
 use Rattle.rvm_precopy.specs.Plans.{Plan, IsPlanOf, rounds_of, last_of, opened, peek, due, found, stops, after_round, stopping, left, last_found, last_copied}
+use Rattle.rvm_precopy.proofs.Scans.{same_peek}
 
 and_false : (b : Bool) → (b && false) ≡ false
 and_false true = refl
@@ -35,7 +36,7 @@ as_bit : (b : Bool) → ((if b then 1 else 0) == 1) ≡ b
 as_bit true = refl
 as_bit false = refl
 
-no_bit : (i : ℕ) → bit i 0 ≡ false
+pub no_bit : (i : ℕ) → bit i 0 ≡ false
 no_bit i = ap (λ b. b == 1) (bit_at-zero i)
 
 bit_is_flag : (xs : List Bool) (i : ℕ) → bit i (bits xs) ≡ get_or xs i false
@@ -65,10 +66,6 @@ skipped_is g log r p =
       | inl h ↦ rw h (block_before p r.scan (bit (p % 64) r.peeked) h)
       | inr h ↦ rw h (sym (bit_of_window log p))
     ]
-
--- in the block of page p each page's peek is p's
-same_peek : (log : List Bool) (r : Plan) (p q : ℕ) → q / 64 ≡ p / 64 → peek log r q ≡ peek log r p
-same_peek log r p q e = rw e refl
 
 block_skips : {S : Type 0} (g : S) (log : List Bool) (r : Plan) (p q : ℕ)
     → ((q / 64 == (p + 1 - 1) / 64) && bit (q % 64) (peek log r p))
