@@ -7,12 +7,10 @@
 //! Its definitions lie in `specs/`; the guest is `board` in `proofs/TheGuest.antt`, which the layers
 //! above name in their contracts.
 //!
-//! To be read in this order: `event`, `valid`, `laws`.
+//! To be read in this order: `valid`, `laws`.
 #![tactic(auto)]
 
-mod event;
 pub mod laws;
 mod valid;
 
-pub use event::apply_event;
 pub use valid::valid_guest;

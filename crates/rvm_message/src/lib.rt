@@ -1,13 +1,15 @@
 //! What hosts are told and what they answer: the events of a host, its replies and the frames that it
-//! makes, and what each of them is in the law of live migration.
+//! makes, and what each of them is in the law of live migration; and the events of its guest.
 //!
 //! Stands on `rvm_guest`, `rvm_precopy` and `rvm_frame`, and knows nothing of modes or hosts.
 //!
-//! To be read in this order: `event`, `reply`.
+//! To be read in this order: `event`, `reply`, `guest`.
 #![tactic(auto)]
 
 mod event;
+mod guest;
 mod reply;
 
 pub use event::{Command, HostEvent};
+pub use guest::apply_event;
 pub use reply::{Answer, HostRefusal, HostReply};

@@ -1,4 +1,4 @@
-//! An event of a guest, as the law of live migration has it.
+//! An event of a host's guest.
 
 ghost use Rattle.std.specs.Prelude.{◌≡◌, ◌||◌, ℕ, length};
 ghost use Rattle.rvm_mem.specs.Pages.{has};
