@@ -1,9 +1,10 @@
 # make hi: proves, builds and runs the program on examples/hi.bin. make test: the merge gate.
 # make wrong: all wrong bodies, or those of one crate, as in make wrong CRATE=rvm_hart.
 # make times: the merge gate, and the processor seconds of each crate.
+# make faults: the tests, with each growth of memory refused in turn.
 PREFIX ?= /usr/local
 
-.PHONY: build hi test wrong times bench bench-programs count install clean
+.PHONY: build hi test wrong times faults bench bench-programs count install clean
 
 # The program lies in build/rvmove afterwards.
 build:
@@ -22,6 +23,9 @@ wrong:
 
 times:
 	tools/gate-times
+
+faults:
+	tools/try-faults $(CRATE)
 
 bench: bench-programs
 	python3 bench/bench.py

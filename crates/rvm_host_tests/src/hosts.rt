@@ -34,6 +34,7 @@ pub enum Event {
 }
 
 /// Hosts, and each frame that they sent, oldest first.
+#[derive(Drop)]
 pub struct Hosts {
     hosts: Vec<Host<FlatMemory>>,
     pub sent: Vec<Addressed>,

@@ -42,7 +42,7 @@ pub(crate) fn send_state<M: PagedMemory>(
     turn: u8,
 ) -> Result<Sent, AllocError>
     requires { HasTurn (Phase.Stopped turn) guest.now rounds.now }
-    ensures { IfOk result (λ s. Answers version
+    ensures answer { IfOk result (λ s. Answers version
         (sends_state_of version move_number (last_of guest.now.guest turn rounds.now))
         (s.reply, Some s.frame) (mode_in move_number guest.now rounds.now s.next)) }
     ensures turn { IfOk result (λ s. HasTurn s.next guest.now rounds.now) }
