@@ -13,10 +13,7 @@ pub enum Command {
     /// An event of the guest.
     Board(BoardEvent),
     /// A move of the guest to another host begins.
-    Begin {
-        to: u8,
-        policy: Policy,
-    },
+    Begin { to: u8, policy: Policy },
     /// The next copy of a page is made, or the next step of the move.
     Copy,
     /// The last frame of this mode is sent again.

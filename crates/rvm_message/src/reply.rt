@@ -91,7 +91,10 @@ pub enum HostReply {
     /// The state was sent.
     StateSent,
     /// A piece of the state was sent: its place, from 0, and how many there are.
-    PartSent { part: u8, parts: u8 },
+    PartSent {
+        part: u8,
+        parts: u8,
+    },
     /// The last frame was sent again.
     Resent,
     /// The move was given up, and the guest runs on here.
@@ -111,11 +114,17 @@ pub enum HostReply {
     /// The offer is declined: no more pages than this are taken.
     Declined(u16),
     /// A copy of a page was stored, with this copy number.
-    Stored { page: u16, copy_number: u32 },
+    Stored {
+        page: u16,
+        copy_number: u32,
+    },
     /// The end of a round was noted.
     Noted,
     /// A piece of a state is kept: its place, and how many there are.
-    Kept { part: u8, parts: u8 },
+    Kept {
+        part: u8,
+        parts: u8,
+    },
     /// So many copies are lacking.
     Lacking(u16),
     /// The whole guest is here, and waits for the commit.
