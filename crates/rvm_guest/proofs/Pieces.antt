@@ -1,6 +1,8 @@
--- The numbers and the state are read back from their pieces.
-use Rattle.std.proofs.Common.{◌≡◌, ℕ, zero, suc, ◌-◌, ◌^◌, ◌<◌, true, List, [], ◌∷◌, length, get_or, Some, refl, sym, ap, subst, ◌∙◌, arith}
+-- The pieces of the numbers and the state, which are read back from them.
+use Rattle.std.proofs.Common.{◌≡◌, ℕ, zero, suc, ◌+◌, ◌-◌, ◌*◌, ◌^◌, ◌<◌, ◌≤◌, true, List, [], ◌∷◌, length, take, drop, get_or, Some, refl, sym, ap, subst, ◌∙◌, arith}
 use Rattle.std.specs.List.{list_all}
+use Rattle.std.specs.Int.{div_ceil}
+use Rattle.std.proofs.lemmas.List.{length-drop, drop-drop}
 use Rattle.std.proofs.lemmas.Bool.Decides.{nat_tests}
 use Rattle.rvm_codec.specs.Numbers.{within}
 use Rattle.rvm_codec.specs.Exact.{IsExactFormat}
@@ -23,6 +25,35 @@ some (suc n) b bytes h = omega arith
 pub some_piece : (numbers b : List ℕ) → 0 < length (cut numbers b)
 unfolding cut
 some_piece numbers b = some _ _ _ (omega arith)
+
+-- as many as it takes, the last one with what is left
+pub length_pieces : (n : ℕ) (bytes : List ℕ) → length bytes ≤ n → length (pieces n bytes) ≡ div_ceil (length bytes) 4096
+unfolding pieces
+length_pieces zero [] h = refl
+length_pieces zero (b ∷ bytes) h = absurd (omega (arith, h))
+length_pieces (suc n) [] h = refl
+length_pieces (suc n) (b ∷ bytes) h =
+    let d = length-drop 4096 (b ∷ bytes) in
+    let rest = length_pieces n (drop 4096 (b ∷ bytes)) (omega (arith, d, h)) in
+    omega (arith, d, rest)
+
+pub piece_at : (n p : ℕ) (bytes : List ℕ) → p < length (pieces n bytes) → get_or (pieces n bytes) p [] ≡ take 4096 (drop (4096 * p) bytes)
+unfolding pieces
+piece_at zero p bytes lt = absurd (omega (arith, lt))
+piece_at (suc n) p [] lt = absurd (omega (arith, lt))
+piece_at (suc n) zero (b ∷ bytes) lt = refl
+piece_at (suc n) (suc p) (b ∷ bytes) lt =
+    let e : 4096 + 4096 * p ≡ 4096 * suc p = omega arith in
+    piece_at n p (drop 4096 (b ∷ bytes)) (omega (arith, lt))
+    ∙ ap (λ z. take 4096 z) (drop-drop (4096 * p) 4096 (b ∷ bytes) ∙ ap (λ k. drop k (b ∷ bytes)) e)
+
+pub count_of_cut : (numbers b : List ℕ) → length (cut numbers b) ≡ div_ceil (length (frame.state.write (numbers, b))) 4096
+unfolding cut
+count_of_cut numbers b = length_pieces _ _ (omega arith)
+
+pub cut_at : (numbers b : List ℕ) (p : ℕ) → p < length (cut numbers b) → get_or (cut numbers b) p [] ≡ take 4096 (drop (4096 * p) (frame.state.write (numbers, b)))
+unfolding cut
+cut_at numbers b p lt = piece_at _ p _ lt
 
 state_exact : IsExactFormat frame.state
 state_exact = with_rest_exact _ (counted_each_exact 2 (within 1 4096) _ (within_below (256 ^ 2) 1 4096 (omega arith)) (within_exact 4 1 (2 ^ 32 - 1) (omega arith)))

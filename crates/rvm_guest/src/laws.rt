@@ -1,9 +1,11 @@
 //! What holds of the debugged board as a guest of the law of live migration.
 
-ghost use Rattle.std.specs.Prelude.{◌≡◌, ℕ, ◌*◌, ◌/◌, ◌%◌, ◌<◌, ◌==◌, true, if◌then◌else◌, List, Some, None, get_or, length, replicate, slice_set};
+ghost use Rattle.std.specs.Prelude.{◌≡◌, ℕ, ◌*◌, ◌/◌, ◌%◌, ◌<◌, ◌==◌, true, if◌then◌else◌, List, [], Some, None, drop, get_or, length, replicate, slice_set, take};
+ghost use Rattle.std.specs.Int.{div_ceil};
 ghost use Rattle.rvm_mem.specs.Bytes.{replaced};
 ghost use Rattle.rvm_mem.specs.Pages.{page_of};
 ghost use Rattle.rvm_codec.specs.Exact.{IsBytes};
+ghost use Rattle.rvm_frame.specs.Bodies.{state};
 ghost use Rattle.rvm_debug.specs.declared.event.BoardEvent.{BoardEvent};
 ghost use Rattle.rvm_debug.specs.declared.turns.Order.{Order};
 ghost use Rattle.rvm_debug.specs.Guest.{Guest};
@@ -12,6 +14,7 @@ ghost use Rattle.rvm_state.specs.Spelling.{HasSpelling, Spells, spelling};
 ghost use Rattle.rvm_guest.specs.Body.{body_of, build};
 ghost use Rattle.rvm_guest.specs.Events.{AreTurns, steps_in};
 ghost use Rattle.rvm_guest.specs.Pages.{after, pages_in, zeros};
+ghost use Rattle.rvm_guest.specs.Pieces.{cut};
 ghost use Rattle.rvm_guest.specs.Valid.{is_valid};
 
 /// Each event of a guest that can be met leaves one that can be met.
@@ -44,6 +47,16 @@ pub fn pages_are_those_of_the_memory()
     ensures put { (page : ℕ) (new ram : List ℕ) → length ram % 4096 ≡ 0 → length new ≡ 4096
         → page < length ram / 4096
         → pages_in (replaced (4096 * page) new ram) ≡ slice_set (pages_in ram) page new }
+{}
+
+/// A state is sent in as many pieces as it takes: each is 4096 bytes of the body of its State frame,
+/// and the last one what is left.
+pub fn a_piece_is_4096_bytes_of_a_state()
+    ensures count { (numbers body : List ℕ)
+        → length (cut numbers body) ≡ div_ceil (length (state.write (numbers, body))) 4096 }
+    ensures bytes { (numbers body : List ℕ) (place : ℕ) → place < length (cut numbers body)
+        → get_or (cut numbers body) place []
+        ≡ take 4096 (drop (4096 * place) (state.write (numbers, body))) }
 {}
 
 /// Turns of a hart that is there, and of those behind it, are steps: they leave the guest that so many

@@ -1,5 +1,5 @@
 -- The one spelling of a guest.
-use Rattle.std.specs.Prelude.{◌≡◌, ◌<◌, ℕ, true, List, length}
+use Rattle.std.specs.Prelude.{◌≡◌, ◌<◌, ◌+◌, ◌*◌, ℕ, true, List, length}
 use Rattle.rvm_debug.specs.Guest.{Guest}
 use Rattle.rvm_state.specs.State.{guest_of, state_of}
 use Rattle.rvm_state.specs.Formats.{state}
@@ -7,6 +7,11 @@ use Rattle.rvm_state.specs.Formats.{state}
 -- the bytes of a guest
 abbrev pub spelling : Guest → List ℕ
 spelling g = (state (length g.board.shared.bytes)).write (state_of g)
+
+-- the most bytes of a guest: 13 for all harts and 187 for each of at most 8, then at most 16 bytes of input, 4096 of
+-- output and 64 breakpoints, each with their count
+abbrev pub longest : ℕ
+longest = 13 + 8 * 187 + (1 + 16) + (2 + 4096) + (1 + 4 * 64)
 
 -- a guest that its bytes and its RAM tell wholly: its values have a spelling, and it is made of them
 pub record HasSpelling (g : Guest) : Type 0 where

@@ -1,7 +1,7 @@
 //! The bytes of a guest.
 
-ghost use Rattle.std.specs.Prelude.{◌≡◌, length, IfOk, OnOk};
-ghost use Rattle.rvm_state.specs.Spelling.{HasSpelling, spelling};
+ghost use Rattle.std.specs.Prelude.{◌≡◌, ◌≤◌, length, IfOk, OnOk};
+ghost use Rattle.rvm_state.specs.Spelling.{HasSpelling, longest, spelling};
 ghost use Rattle.rvm_state.specs.Writing.{WritesHarts};
 
 use crate::put::{put_breakpoints, put_hart, put_head, put_input, put_output};
@@ -12,6 +12,7 @@ use std::alloc::{AllocError, Global};
 /// The bytes of a guest without its RAM, which with that RAM tell it wholly.
 pub fn write_state<M: Memory>(alloc: Global, guest: &Debugged<M>) -> Result<Vec<u8>, AllocError>
     ensures bytes { IfOk result (λ bytes. bytes.items ≡ spelling guest.now.guest) }
+    ensures size { IfOk result (λ bytes. length bytes.items ≤ longest) }
     ensures told { OnOk result (HasSpelling guest.now.guest) }
 {
     let mut out = Vec::new(alloc);

@@ -1,6 +1,8 @@
 use Rattle.std.proofs.Common.{length, ap, sym, ◌∙◌}
 use Rattle.rvm_dev.specs.Devices.{DeviceState}
 use Rattle.rvm_state.specs.Restoring.{IsOf}
+use Rattle.rvm_state.specs.State.{state_of}
+use Rattle.rvm_state.proofs.Lengths.{not_longer}
 use Rattle.rvm_state.proofs.Wrote.{has_spelling, made, spelled, wrote}
 use Rattle.rvm_state.proofs.write.write_state.Goals as goal
 
@@ -8,6 +10,13 @@ pub returns-clause-bytes : goal.returns-clause-bytes
 returns-clause-bytes g c =
     let guest = c.args.guest.now.guest in
     spelled guest c.put_breakpoints.new.out.items
+    (wrote guest c.harts.result c.fields-fields.result c.devices-devices.result.now c.breakpoints.result.now _ _ _ _ _ _ c.new-out.ensures.items c.harts.ensures.count c.devices-devices.ensures.devices c.fields-fields.ensures.fields c.breakpoints.ensures.breakpoints
+    c.in_ok-put_head.ensures c.in_ok-put_harts.ensures c.in_ok-put_input.ensures c.in_ok-put_output.ensures c.in_ok-put_breakpoints.ensures)
+
+pub returns-clause-size : goal.returns-clause-size
+returns-clause-size g c =
+    let guest = c.args.guest.now.guest in
+    not_longer (length guest.board.shared.bytes) (state_of guest) c.put_breakpoints.new.out.items
     (wrote guest c.harts.result c.fields-fields.result c.devices-devices.result.now c.breakpoints.result.now _ _ _ _ _ _ c.new-out.ensures.items c.harts.ensures.count c.devices-devices.ensures.devices c.fields-fields.ensures.fields c.breakpoints.ensures.breakpoints
     c.in_ok-put_head.ensures c.in_ok-put_harts.ensures c.in_ok-put_input.ensures c.in_ok-put_output.ensures c.in_ok-put_breakpoints.ensures)
 
