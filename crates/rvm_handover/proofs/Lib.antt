@@ -1,6 +1,7 @@
 mod Tables
 mod Copies
 mod Lists
+mod Told
 mod Built
 mod States
 mod Gathering

@@ -1,6 +1,6 @@
 //! The pages of a guest that comes.
 
-ghost use Rattle.std.specs.Prelude.{◌≡◌, ◌≤◌, ◌*◌, ◌<◌, ℕ, length, get_or, IfOk, IfErr, OnErr, Some, None, option_map, if◌then◌else◌};
+ghost use Rattle.std.specs.Prelude.{◌≡◌, ◌≤◌, ◌*◌, ◌<◌, ℕ, true, length, get_or, IfOk, IfErr, OnErr, Some, None, option_map, if◌then◌else◌};
 ghost use Rattle.rvm_frame.specs.Bodies.{lost};
 ghost use Rattle.rvm_protocol.specs.Pages.{gathered, members, put};
 ghost use Rattle.rvm_protocol.specs.Receiving.{page_came, part_came, state_came};

@@ -12,6 +12,7 @@ use Rattle.rvm_handover.specs.Stages.{PlainStage, stage_of}
 use Rattle.rvm_handover.specs.Pieces.{IsPartLeft, left_of, reason_joined, with_piece}
 use Rattle.rvm_handover.specs.Outcomes.{BoardOutcome, IsLeft}
 use Rattle.rvm_handover.proofs.Parts.{by_whole, is_place, left_kept, left_too, part_is, ready_too, stage_with_piece}
+use Rattle.rvm_handover.proofs.Told.{told_joined}
 use Rattle.rvm_handover.proofs.staging.Staging.part.Goals as goal
 
 pub returns-in_default-whole-clause-left : goal.returns-in_default-whole-clause-left
@@ -70,3 +71,6 @@ returns-in-Err-clause-left g c =
     c.kept_if.ensures.reason c.kept_if.ensures.stage c.in-Err.ensures.stage
     (subst (λ (o : BoardOutcome). IsPartLeft move c.args.part c.args.parts (reason_joined c.in-Err.reason) (left_of (reason_joined c.in-Err.reason) (with_piece c.args.stamp c.args.part c.args.parts c.args.bytes s) s) o) (sym came)
     (left_too move s c.args.stamp c.args.part c.args.parts c.args.bytes numbers body c.if-not-takes.ensures.bytes c.in-Err.reason c.if-not-takes.ensures.places lt h))
+
+pub returns-in-Err-clause-told : goal.returns-in-Err-clause-told
+returns-in-Err-clause-told g c = told_joined c.in-Err.reason c.kept_if.result.0 c.kept_if.ensures.reason c.in-Err.ensures.told

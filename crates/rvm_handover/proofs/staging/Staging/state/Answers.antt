@@ -1,5 +1,6 @@
-use Rattle.std.proofs.Common.{◌<◌, ◌*◌, length, get_or, List, ℕ, Option, None, ap, sym, subst, ◌∙◌, arith}
+use Rattle.std.proofs.Common.{◌≡◌, true, ◌<◌, ◌*◌, length, get_or, List, ℕ, Option, None, ap, sym, subst, ◌∙◌, arith}
 use Rattle.std.proofs.lemmas.Bool.{eqb-false, eqb-true}
+use Rattle.rvm_frame.specs.Bodies.{lost}
 use Rattle.rvm_protocol.specs.Pages.{members}
 use Rattle.rvm_protocol.specs.Receiving.{guest_read}
 use Rattle.rvm_debug.specs.Guest.{Guest}
@@ -8,6 +9,7 @@ use Rattle.rvm_guest.specs.Pages.{pages_in}
 use Rattle.rvm_guest.proofs.TheGuest.{board}
 use Rattle.rvm_handover.specs.Stages.{PlainStage, is_older, stage_of}
 use Rattle.rvm_handover.proofs.States.{lack_is_good, left_so, none_lack, other_count, some_lack}
+use Rattle.rvm_handover.proofs.Told.{told_fault}
 use Rattle.rvm_handover.proofs.staging.Staging.state.Goals as goal
 
 -- the pages that are lacking, by the numbers of the copies that are here
@@ -69,3 +71,12 @@ returns-clause-left g c =
     left_so move s c.in-Err.stage c.in-Err.fault c.from_fault.result (build s.harts c.args.bytes.now (pages_in s.bytes)) _ c.from_fault.ensures c.in-Err.ensures.stage
     (none_lack move s s.stamp s.parts (λ i. get_or s.pieces i None) c.args.numbers.now c.args.bytes.now sized same none)
     c.in-Err.ensures.fault
+
+pub returns-then-not-is_empty-clause-told : goal.returns-then-not-is_empty-clause-told
+returns-then-not-is_empty-clause-told g c =
+    let count = ap length c.as_slice-2.ensures.value in
+    let not_none = eqb-false (length c.as_slice-2.result.now) 0 (sym c.is_empty.ensures ∙ c.if-not-is_empty.true) in
+    subst (λ (xs : List ℕ). lost.fits xs ≡ true) (sym c.from_vec.ensures) (c.in-Ok.ensures.told (omega (arith, count, not_none)))
+
+pub returns-clause-told : goal.returns-clause-told
+returns-clause-told g c = told_fault c.in-Err.fault c.from_fault.result c.from_fault.ensures
