@@ -1,67 +1,20 @@
--- Sets of pages: a sum as far as a loop has come, and flags as a number.
-use Rattle.std.proofs.Common.{◌≡◌, ℕ, zero, suc, add-one, ◌+◌, ◌*◌, ◌^◌, ◌<◌, ◌≤◌, List, [], ◌∷◌, Bool, true, false, ◌||◌, length, get_or, set, drop, refl, sym, ap, ◌∙◌, arith, if◌then◌else◌, ◌-◌, min, take}
-use mir.Val.{bool_byte}
+-- Sets of pages: flags as a number, their count, sums and the lowest page.
+use Rattle.std.proofs.Common.{◌≡◌, ℕ, zero, suc, ◌+◌, ◌*◌, ◌^◌, ◌<◌, ◌≤◌, List, [], ◌∷◌, Bool, true, false, ◌||◌, ◌==◌, length, get_or, set, replicate, refl, sym, ap, ◌∙◌, arith, if◌then◌else◌, nat_lt, Some, None, cond}
+use Rattle.std.proofs.lemmas.Bool.{lt-ltb, le-ltb}
+use Rattle.std.proofs.lemmas.List.{map-id}
+use Rattle.std.proofs.lemmas.List.Sums.{sum_by-set, position_or_len_is}
+use Rattle.std.proofs.lemmas.List.Folds.{sum_by-replicate}
+use Rattle.std.proofs.lemmas.Simd.{bit_mask_l, ones-mask_l}
+use Rattle.std.specs.Simd.Lanes.{mask_l}
+use Rattle.std.specs.Int.{bit_at}
+use Rattle.std.specs.Int.RustNames.{count_ones}
+use Rattle.std.specs.List.{position_or_len}
+use Rattle.rvm_mem.specs.Pages.{bits, count, first, union}
 use Rattle.std.proofs.lemmas.Nat.{pow_pos}
-use Rattle.std.proofs.lemmas.List.{at_drop_more, at_drop_all, take_min, drop_min, length-drop}
-use Rattle.rvm_mem.specs.Pages.{union, bits, window}
 
--- the sum of two sets, up to page n
-unfoldable pub joined : (n : ℕ) → List Bool → List Bool → List Bool
-joined zero pages others = pages
-joined (suc n) [] others = []
-joined (suc n) (here ∷ pages) [] = here ∷ pages
-joined (suc n) (here ∷ pages) (there ∷ others) = (here || there) ∷ joined n pages others
-
-pub length-joined : (n : ℕ) (pages others : List Bool) → length (joined n pages others) ≡ length pages
-unfolding joined
-length-joined zero pages others = refl
-length-joined (suc n) [] others = refl
-length-joined (suc n) (here ∷ pages) [] = refl
-length-joined (suc n) (here ∷ pages) (there ∷ others) = ap suc (length-joined n pages others)
-
-pub joined_all : (n : ℕ) (pages others : List Bool) → length pages ≤ n → length others ≡ length pages → joined n pages others ≡ union pages others
-unfolding joined union
-joined_all zero [] others all same = refl
-joined_all (suc n) [] others all same = refl
-joined_all zero (here ∷ pages) others all same = absurd (omega arith)
-joined_all (suc n) (here ∷ pages) [] all same = refl
-joined_all (suc n) (here ∷ pages) (there ∷ others) all same = ap (λ rest. (here || there) ∷ rest) (joined_all n pages others (omega arith) (omega arith))
-
-pub length-union : (pages others : List Bool) → length (union pages others) ≡ length pages
-unfolding union
-length-union [] others = refl
-length-union (here ∷ pages) [] = refl
-length-union (here ∷ pages) (there ∷ others) = ap suc (length-union pages others)
-
-or-true : (here : Bool) → true ≡ (here || true)
-or-true true = refl
-or-true false = refl
-
-or-false : (here : Bool) → here ≡ (here || false)
-or-false true = refl
-or-false false = refl
-
-yes : (n : ℕ) (pages others : List Bool) → n < length pages → length others ≡ length pages → get_or others n false ≡ true → set (joined n pages others) n true ≡ joined (suc n) pages others
-unfolding joined
-yes n [] others inside same is = absurd (omega arith)
-yes n (here ∷ pages) [] inside same is = absurd (omega arith)
-yes zero (here ∷ pages) (there ∷ others) inside same is = ap (λ b. b ∷ pages) (or-true here ∙ ap (λ b. here || b) (sym is))
-yes (suc n) (here ∷ pages) (there ∷ others) inside same is = ap (λ rest. (here || there) ∷ rest) (yes n pages others (omega arith) (omega arith) is)
-
-not_there : (n : ℕ) (pages others : List Bool) → get_or others n false ≡ false → joined n pages others ≡ joined (suc n) pages others
-unfolding joined
-not_there zero [] others is = refl
-not_there (suc n) [] others is = refl
-not_there zero (here ∷ pages) [] is = refl
-not_there (suc n) (here ∷ pages) [] is = refl
-not_there zero (here ∷ pages) (there ∷ others) is = ap (λ b. b ∷ pages) (or-false here ∙ ap (λ b. here || b) (sym is))
-not_there (suc n) (here ∷ pages) (there ∷ others) is = ap (λ rest. (here || there) ∷ rest) (not_there n pages others is)
-
-pub joined_more_yes : (n : ℕ) (pages others : List Bool) → n < length pages → length others ≡ length pages → get_or others n false ≡ true → set (joined n pages others) n true ≡ joined (n + 1) pages others
-joined_more_yes n pages others inside same is = rw add-one (yes n pages others inside same is)
-
-pub joined_more_no : (n : ℕ) (pages others : List Bool) → get_or others n false ≡ false → joined n pages others ≡ joined (n + 1) pages others
-joined_more_no n pages others is = rw add-one (not_there n pages others is)
+-- a flag as a bit
+abbrev pub as_number : Bool → ℕ
+as_number b = if b then 1 else 0
 
 -- n flags are a number of n bits
 pub bits_fit : (flags : List Bool) (n : ℕ) → length flags ≤ n → bits flags < 2 ^ n
@@ -71,30 +24,67 @@ bits_fit (here ∷ flags) zero short = absurd (omega arith)
 bits_fit (true ∷ flags) (suc n) short = let h : bits flags < 2 ^ n = bits_fit flags n (omega arith) in omega arith
 bits_fit (false ∷ flags) (suc n) short = let h : bits flags < 2 ^ n = bits_fit flags n (omega arith) in omega arith
 
--- no flag is left above the highest
-pub bits_none : (flags : List Bool) (n : ℕ) → length flags ≤ n → 0 ≡ bits (drop n flags)
+pub bits_is_mask : (pages : List Bool) → bits pages ≡ mask_l pages
 unfolding bits
-bits_none flags n short = sym (at_drop_all bits flags n short)
+bits_is_mask [] = refl
+bits_is_mask (here ∷ pages) = ap (λ n. (if here then 1 else 0) + 2 * n) (bits_is_mask pages)
 
--- one flag lower
-low_bit : (here : Bool) (rest v : ℕ) → v ≡ bool_byte here → 2 * rest + v ≡ (if here then 1 else 0) + 2 * rest
-low_bit true rest v is = omega arith
-low_bit false rest v is = omega arith
+pub bit_of_bits : (pages : List Bool) (i : ℕ) → bit_at (bits pages) i ≡ as_number (get_or pages i false)
+bit_of_bits pages i = ap (λ n. bit_at n i) (bits_is_mask pages) ∙ bit_mask_l pages i
 
-pub bits_more : (flags : List Bool) (i v : ℕ) → i < length flags → v ≡ bool_byte (get_or flags i false) → 2 * bits (drop (i + 1) flags) + v ≡ bits (drop i flags)
-unfolding bits
-bits_more flags i v inside is =
-    low_bit (get_or flags i false) (bits (drop (i + 1) flags)) v is ∙ sym (at_drop_more bits flags i false inside)
+-- a bit is 1 or 0
+pub bit_number : (b : ℕ) → b < 2 → b ≡ as_number (b == 1)
+bit_number zero small = refl
+bit_number (suc zero) small = refl
+bit_number (suc (suc b)) small = absurd (omega arith)
 
--- 64 flags, cut at the end
-pub windowed : (flags : List Bool) (page start end : ℕ) → start ≡ min page (length flags) → end ≡ min (start + 64) (length flags) → take (end - start) (drop start flags) ≡ window page flags
-windowed flags page start end start_is end_is =
-    let few : end - start ≡ min 64 (length (drop start flags)) = omega (arith, length-drop start flags) in
-    ap (λ n. take n (drop start flags)) few ∙ take_min 64 (drop start flags) ∙ ap (λ n. take 64 (drop n flags)) start_is ∙ ap (take 64) (drop_min page flags)
+pub ones_of_bits : (pages : List Bool) → count_ones (bits pages) ≡ count pages
+ones_of_bits pages =
+    ap count_ones (bits_is_mask pages ∙ ap mask_l (sym (map-id pages))) ∙ ones-mask_l (λ (b : Bool). b) pages
 
-pub joined_none : (pages others : List Bool) → joined 0 pages others ≡ pages
-unfolding joined
-joined_none pages others = refl
+-- how many pages
+pub count_in : (pages : List Bool) (p : ℕ) → p < length pages → get_or pages p false ≡ false → count (set pages p true) ≡ count pages + 1
+count_in pages p inside out =
+    let all : count (set pages p true) + as_number (get_or pages p false) ≡ count pages + 1 = sum_by-set as_number pages p true false inside in
+    let none : as_number (get_or pages p false) ≡ 0 = ap as_number out in
+    omega arith
 
--- how a sum of two sets comes about, page by page
-pub ruleset sums = (joined_none, length-joined, joined_more_yes, joined_more_no, joined_all)
+pub count_out : (pages : List Bool) (p : ℕ) → p < length pages → get_or pages p false ≡ true → count (set pages p false) + 1 ≡ count pages
+count_out pages p inside here =
+    let all : count (set pages p false) + as_number (get_or pages p false) ≡ count pages + 0 = sum_by-set as_number pages p false false inside in
+    let one : as_number (get_or pages p false) ≡ 1 = ap as_number here in
+    omega arith
+
+pub count_none : (n : ℕ) → count (replicate n false) ≡ 0
+count_none n = sum_by-replicate as_number n false ∙ omega arith
+
+pub count_all : (n : ℕ) → count (replicate n true) ≡ n
+count_all n = sum_by-replicate as_number n true ∙ omega arith
+
+-- the pages of two sets
+pub get-union : (pages others : List Bool) (k : ℕ) → length others ≡ length pages → get_or (union pages others) k false ≡ (get_or pages k false || get_or others k false)
+unfolding union
+get-union [] [] k same = refl
+get-union [] (there ∷ others) k same = absurd (omega arith)
+get-union (here ∷ pages) [] k same = absurd (omega arith)
+get-union (here ∷ pages) (there ∷ others) zero same = refl
+get-union (here ∷ pages) (there ∷ others) (suc k) same = get-union pages others k (omega arith)
+
+pub length-union : (pages others : List Bool) → length (union pages others) ≡ length pages
+unfolding union
+length-union [] others = refl
+length-union (here ∷ pages) [] = refl
+length-union (here ∷ pages) (there ∷ others) = ap suc (length-union pages others)
+
+-- the lowest page
+pub first_is : (pages : List Bool) (p : ℕ) → p < length pages → get_or pages p false ≡ true → ((k : ℕ) → k < p → get_or pages k false ≡ false) → Some p ≡ first pages
+first_is pages p inside here none =
+    let place : position_or_len (λ (b : Bool). b) pages ≡ p = position_or_len_is (λ (b : Bool). b) pages p false (omega arith) none (λ _. here) in
+    let below : nat_lt p (length pages) ≡ true = lt-ltb p (length pages) inside in
+    sym (ap (λ q. cond (nat_lt q (length pages)) (Some q) None) place ∙ ap (λ b. cond b (Some p) None) below)
+
+pub first_none : (pages : List Bool) → ((k : ℕ) → get_or pages k false ≡ false) → None ≡ first pages
+first_none pages none =
+    let place : position_or_len (λ (b : Bool). b) pages ≡ length pages = position_or_len_is (λ (b : Bool). b) pages (length pages) false (omega arith) (λ k below. none k) (λ no. absurd (omega arith)) in
+    let past : nat_lt (length pages) (length pages) ≡ false = le-ltb (length pages) (length pages) (omega arith) in
+    sym (ap (λ q. cond (nat_lt q (length pages)) (Some q) None) place ∙ ap (λ b. cond b (Some (length pages)) None) past)

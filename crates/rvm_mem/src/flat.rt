@@ -6,18 +6,18 @@ ghost use Rattle.rvm_mem.specs.Pages.{mark};
 
 use crate::block;
 use crate::memory::{Memory, PAGE_SIZE};
+use crate::page_flags::PageFlags;
 use crate::page_set::PageSet;
 use crate::paged::PagedMemory;
 use byteorder::{ByteOrder, LittleEndian};
 use std::alloc::{AllocError, Global};
 use std::marker::Model;
-use std::mem;
 
-/// A memory whose bytes are one vector, with the set of its pages that were written.
+/// A memory whose bytes are one vector, with its dirty log.
 #[derive(Drop)]
 pub struct FlatMemory {
     bytes: Vec<u8>,
-    dirty: PageSet,
+    dirty: PageFlags,
 }
 
 impl Model for FlatMemory {
@@ -79,7 +79,7 @@ impl Memory for FlatMemory {
 impl PagedMemory for FlatMemory {
     fn zeroed(alloc: Global, pages: u32) -> Result<FlatMemory, AllocError> {
         let bytes = vec![in alloc; 0u8; pages as usize * PAGE_SIZE as usize]?;
-        let dirty = PageSet::new(alloc, pages)?;
+        let dirty = PageFlags::new(alloc, pages)?;
         Ok(FlatMemory { bytes, dirty })
     }
 
@@ -104,7 +104,6 @@ impl PagedMemory for FlatMemory {
     }
 
     fn take_dirty(&mut self, into: &mut PageSet) {
-        mem::swap(&mut self.dirty, into);
-        self.dirty.clear();
+        self.dirty.take(into);
     }
 }

@@ -1,28 +1,31 @@
 //! Sets of pages.
 
-ghost use Rattle.std.specs.Prelude.{◌≡◌, ◌+◌, ◌*◌, ◌/◌, ◌%◌, ◌≤◌, ◌<◌, ℕ, List, Bool, true, false, length, replicate, IfOk};
+ghost use Rattle.std.specs.Prelude.{◌≡◌, ◌+◌, ◌-◌, ◌*◌, ◌/◌, ◌%◌, ◌^◌, ◌≤◌, ◌<◌, ℕ, min, List, Bool, true, false, length, replicate, slice_index_or, IfOk};
 ghost use Rattle.rvm_mem.specs.Pages.{IsLowest, bit, bits, count, first, has, has_except, mark, unmark, union, window};
+ghost use Rattle.rvm_mem.specs.Rows.{AreRows, flags};
 
+use crate::word::{self, WORD_PAGES};
 use std::alloc::{AllocError, Global};
 use std::marker::Model;
 
-/// How many pages stand in one number.
-const BLOCK: u32 = 64;
-
-/// A set of page numbers of a memory of so many pages, at most 4096.
+/// A set of page numbers of a memory of so many pages, at most 4096: page p is bit p % 64 of row
+/// p / 64, so that what goes over all pages looks at 64 rows. How many are in the set is kept.
 #[derive(Drop)]
 pub struct PageSet {
-    flags: Vec<bool>,
+    rows: Vec<u64>,
+    pages: u32,
+    count: u32,
 }
 
 impl Model for PageSet {
-    ghost use Rattle.std.specs.Prelude.{◌≤◌, List, Bool, length};
+    ghost use Rattle.std.specs.Prelude.{List, Bool};
+    ghost use Rattle.rvm_mem.specs.Rows.{AreCounted, flags};
 
     ghost Value = { List Bool };
 
-    ghost view = { λ s. s.flags.items };
+    ghost view = { λ s. flags s.pages s.rows.items };
 
-    ghost invariant = { λ s. length s.flags.items ≤ 4096 };
+    ghost invariant = { λ s. AreCounted s.pages s.count s.rows.items };
 }
 
 impl PageSet {
@@ -31,8 +34,12 @@ impl PageSet {
         requires { pages ≤ 4096 }
         ensures { IfOk result (λ s. s ≡ replicate pages false) }
     {
-        let flags = vec![in alloc; false; pages as usize]?;
-        Ok(PageSet { flags })
+        let rows = vec![in alloc; 0u64; pages.div_ceil(WORD_PAGES) as usize]?;
+        Ok(PageSet {
+            rows,
+            pages,
+            count: 0,
+        })
     }
 
     /// How many pages the memory has.
@@ -41,7 +48,7 @@ impl PageSet {
         ensures pages { result ≡ length self.now }
         ensures bound { result ≤ 4096 }
     {
-        self.flags.len() as u32
+        self.pages
     }
 
     /// Whether a page is in the set; a page past the memory's end is not.
@@ -49,10 +56,8 @@ impl PageSet {
     pub fn contains(&self, page: u32) -> bool
         ensures { result ≡ has page self.now }
     {
-        match self.flags.get(page as usize) {
-            Some(flag) => *flag,
-            None => false,
-        }
+        let row = row_at(&self.rows, (page / WORD_PAGES) as usize);
+        has_bit(row, page % WORD_PAGES)
     }
 
     /// Adds a page of the memory.
@@ -61,7 +66,13 @@ impl PageSet {
         requires { page < length self.old }
         ensures { self.new ≡ mark page self.old }
     {
-        self.flags[page as usize] = true;
+        let rows = &mut self.rows;
+        let row = rows[(page / WORD_PAGES) as usize];
+        if has_bit(row, page % WORD_PAGES) {
+            return;
+        }
+        rows[(page / WORD_PAGES) as usize] = row | 1 << (page % WORD_PAGES);
+        self.count += 1;
     }
 
     /// Takes a page of the memory out.
@@ -70,7 +81,13 @@ impl PageSet {
         requires { page < length self.old }
         ensures { self.new ≡ unmark page self.old }
     {
-        self.flags[page as usize] = false;
+        let rows = &mut self.rows;
+        let row = rows[(page / WORD_PAGES) as usize];
+        if !has_bit(row, page % WORD_PAGES) {
+            return;
+        }
+        rows[(page / WORD_PAGES) as usize] = row & !(1 << (page % WORD_PAGES));
+        self.count -= 1;
     }
 
     /// How many pages are in the set.
@@ -78,31 +95,40 @@ impl PageSet {
         ensures count { result ≡ count self.now }
         ensures bound { result ≤ length self.now }
     {
-        self.flags.iter().filter(|flag| **flag).count() as u32
+        self.count
     }
 
     /// Takes every page out.
     pub fn clear(&mut self)
         ensures { self.new ≡ replicate (length self.old) false }
     {
-        self.flags.fill(false);
+        self.rows.fill(0);
+        self.count = 0;
     }
 
     /// Adds every page of the memory.
     pub fn fill(&mut self)
         ensures { self.new ≡ replicate (length self.old) true }
     {
-        self.flags.fill(true);
+        let pages = self.pages;
+        let rows = &mut self.rows;
+        for i in 0..rows.len() {
+            rows[i] = full_row(pages - WORD_PAGES * i as u32);
+        }
+        self.count = pages;
     }
 
     /// The lowest page in the set.
     pub fn first(&self) -> Option<u32>
         ensures { result ≡ first self.now }
     {
-        match self.flags.iter().position(|flag| *flag) {
-            Some(page) => Some(page as u32),
-            None => None,
+        for i in 0..self.rows.len() {
+            let row = row_at(&self.rows, i);
+            if row != 0 {
+                return Some(WORD_PAGES * i as u32 + row.trailing_zeros());
+            }
         }
+        None
     }
 
     /// The lowest page from `from` on, among the 64 from a multiple of 64 on that it is one of, that
@@ -110,34 +136,36 @@ impl PageSet {
     pub fn next_except(&self, from: u32, except: u64) -> Option<u32>
         ensures { IsLowest (has_except except self.now) from (64 * (from / 64) + 64) result }
     {
-        let first = BLOCK * (from / BLOCK);
-        for place in from % BLOCK..BLOCK {
-            if self.has_except(first + place, except) {
-                return Some(first + place);
-            }
+        let row = row_at(&self.rows, (from / WORD_PAGES) as usize);
+        let left = row & !except & (u64::MAX << (from % WORD_PAGES));
+        if left == 0 {
+            return None;
         }
-        None
-    }
-
-    /// Whether a page is in the set and its bit in `except` is 0.
-    #[inline]
-    fn has_except(&self, page: u32, except: u64) -> bool
-        ensures { result ≡ has_except except self.now page }
-    {
-        self.contains(page) && !has_bit(except, page % BLOCK)
+        Some(WORD_PAGES * (from / WORD_PAGES) + left.trailing_zeros())
     }
 
     /// Adds the pages of another set of the same memory.
-    #[tactic(auto, using(crate::proofs::Sets::sums))]
     pub fn add(&mut self, other: &PageSet)
         requires { length other.now ≡ length self.old }
         ensures { self.new ≡ union self.old other.now }
     {
-        for page in 0..self.pages() {
-            if other.contains(page) {
-                self.insert(page);
-            }
+        let rows = &mut self.rows;
+        for i in 0..rows.len() {
+            rows[i] |= other.rows[i];
         }
+        self.count = ones(&self.rows);
+    }
+
+    /// Becomes the set of the pages whose flags are true.
+    pub(crate) fn assign(&mut self, flags: &[bool])
+        requires { length flags.now ≡ length self.old }
+        ensures { self.new ≡ flags.now }
+    {
+        let rows = &mut self.rows;
+        for i in 0..rows.len() {
+            rows[i] = word::word_at(flags, WORD_PAGES * i as u32);
+        }
+        self.count = ones(&self.rows);
     }
 
     /// The number whose bit i says whether page `first_page + i` is in the set, for 64 pages; a
@@ -145,29 +173,52 @@ impl PageSet {
     pub fn word(&self, first_page: u32) -> u64
         ensures { result ≡ bits (window first_page self.now) }
     {
-        let start = (first_page as usize).min(self.flags.len());
-        let end = (start + 64).min(self.flags.len());
-        word_of(&self.flags[start..end])
+        let row = (first_page / WORD_PAGES) as usize;
+        let place = first_page % WORD_PAGES;
+        let low = row_at(&self.rows, row) >> place;
+        if place == 0 {
+            return low;
+        }
+        low | row_at(&self.rows, row + 1) << (WORD_PAGES - place)
     }
 }
 
-/// Whether a bit of a number is 1.
-#[inline]
-fn has_bit(number: u64, place: u32) -> bool
+/// The row of a number, or 0 if there is none.
+#[inline(always)]
+fn row_at(rows: &[u64], row: usize) -> u64
+    ensures { result ≡ slice_index_or rows.now row 0 }
+{
+    match rows.get(row) {
+        Some(row) => *row,
+        None => 0,
+    }
+}
+
+/// Whether a bit of a row is 1.
+#[inline(always)]
+fn has_bit(row: u64, place: u32) -> bool
     requires { place < 64 }
-    ensures { result ≡ bit place number }
+    ensures { result ≡ bit place row }
 {
-    number >> place & 1 == 1
+    row >> place & 1 == 1
 }
 
-/// The number whose bit i is flag i.
-fn word_of(flags: &[bool]) -> u64
-    requires { length flags.now ≤ 64 }
-    ensures { result ≡ bits flags.now }
+/// The row of the first so many pages, or of 64 if there are more.
+fn full_row(pages: u32) -> u64
+    requires { 0 < pages }
+    ensures { result ≡ 2 ^ min pages 64 - 1 }
 {
-    let mut word = 0;
-    for i in (0..flags.len()).rev() {
-        word = 2 * word + u64::from(flags[i]);
+    u64::MAX >> (WORD_PAGES - pages.min(WORD_PAGES))
+}
+
+/// How many pages are in a set.
+fn ones(rows: &[u64]) -> u32
+    requires { length rows.now ≤ 64 }
+    ensures { (n : ℕ) → AreRows n rows.now → result ≡ count (flags n rows.now) }
+{
+    let mut ones = 0;
+    for i in 0..rows.len() {
+        ones += rows[i].count_ones();
     }
-    word
+    ones
 }

@@ -5,11 +5,10 @@ ghost use Rattle.rvm_paged.specs.Refusals.{refusal_of};
 ghost use Rattle.rvm_paged.specs.declared.paged_ram.PagedError.TheVariants.{BadSize};
 
 use byteorder::{ByteOrder, LittleEndian};
-use rvm_mem::{MAX_PAGES, Memory, PAGE_SIZE, PageSet, PagedMemory, block};
+use rvm_mem::{MAX_PAGES, Memory, PAGE_SIZE, PageFlags, PageSet, PagedMemory, block};
 use rvm_refusal::Refusal;
 use std::alloc::{AllocError, Global};
 use std::marker::Model;
-use std::mem;
 use thiserror::Error;
 
 /// Why there is no memory.
@@ -34,12 +33,12 @@ impl From<PagedError> for Refusal {
     }
 }
 
-/// A memory whose bytes are one block, with the set of its pages that were written.
+/// A memory whose bytes are one block, with its dirty log.
 #[derive(Drop)]
 pub struct PagedRam {
     // The log stands first. Laid out as `FlatMemory` is, runs over the two memories are one function
     // to the compiler, and a benchmark that compares them compares nothing.
-    dirty: PageSet,
+    dirty: PageFlags,
     bytes: Vec<u8>,
 }
 
@@ -120,7 +119,7 @@ impl Memory for PagedRam {
 impl PagedMemory for PagedRam {
     fn zeroed(alloc: Global, pages: u32) -> Result<PagedRam, AllocError> {
         let bytes = vec![in alloc; 0u8; pages as usize * PAGE_SIZE as usize]?;
-        let dirty = PageSet::new(alloc, pages)?;
+        let dirty = PageFlags::new(alloc, pages)?;
         Ok(PagedRam { dirty, bytes })
     }
 
@@ -145,7 +144,6 @@ impl PagedMemory for PagedRam {
     }
 
     fn take_dirty(&mut self, into: &mut PageSet) {
-        mem::swap(&mut self.dirty, into);
-        self.dirty.clear();
+        self.dirty.take(into);
     }
 }

@@ -1,8 +1,9 @@
 use Rattle.std.proofs.Common.{◌≡◌, ℕ, ◌+◌, ◌-◌, ◌*◌, ◌<◌, ◌^◌, drop, length, sym, ap, ◌∙◌, arith, length-drop}
 use Rattle.rvm_mem.specs.Pages.{bits}
-use Rattle.rvm_mem.proofs.Sets.{bits_fit, bits_none, bits_more}
-use Rattle.rvm_mem.proofs.page_set.word_of.Goals.{After-from}
-use Rattle.rvm_mem.proofs.page_set.word_of.Goals as goal
+use Rattle.rvm_mem.proofs.Words.{bits_none, bits_more}
+use Rattle.rvm_mem.proofs.Sets.{bits_fit}
+use Rattle.rvm_mem.proofs.word.word_of.Goals.{After-from}
+use Rattle.rvm_mem.proofs.word.word_of.Goals as goal
 
 pub loop-i-init : goal.loop-i-init
 loop-i-init c = bits_none c.args.flags.now (length c.args.flags.now) (omega arith)

@@ -1,0 +1,82 @@
+//! A flag for each page of a memory.
+
+ghost use Rattle.std.specs.Prelude.{◌≡◌, ◌≤◌, ◌<◌, length, replicate, false, IfOk};
+ghost use Rattle.rvm_mem.specs.Pages.{bits, count, mark, window};
+
+use crate::page_set::PageSet;
+use crate::word;
+use std::alloc::{AllocError, Global};
+use std::marker::Model;
+
+/// A flag for each page of a memory of so many pages, at most 4096: the dirty log that a memory
+/// keeps, in which a store marks its page by writing one byte.
+#[derive(Drop)]
+pub struct PageFlags {
+    flags: Vec<bool>,
+}
+
+impl Model for PageFlags {
+    ghost use Rattle.std.specs.Prelude.{◌≤◌, List, Bool, length};
+
+    ghost Value = { List Bool };
+
+    ghost view = { λ s. s.flags.items };
+
+    ghost invariant = { λ s. length s.flags.items ≤ 4096 };
+}
+
+impl PageFlags {
+    /// No page is marked, of a memory of so many pages.
+    pub fn new(alloc: Global, pages: u32) -> Result<PageFlags, AllocError>
+        requires { pages ≤ 4096 }
+        ensures { IfOk result (λ s. s ≡ replicate pages false) }
+    {
+        let flags = vec![in alloc; false; pages as usize]?;
+        Ok(PageFlags { flags })
+    }
+
+    /// How many pages the memory has.
+    #[inline(always)]
+    pub fn pages(&self) -> u32
+        ensures pages { result ≡ length self.now }
+        ensures bound { result ≤ 4096 }
+    {
+        self.flags.len() as u32
+    }
+
+    /// Marks a page of the memory.
+    #[inline(always)]
+    pub fn insert(&mut self, page: u32)
+        requires { page < length self.old }
+        ensures { self.new ≡ mark page self.old }
+    {
+        self.flags[page as usize] = true;
+    }
+
+    /// How many pages are marked.
+    pub fn count(&self) -> u32
+        ensures count { result ≡ count self.now }
+        ensures bound { result ≤ length self.now }
+    {
+        self.flags.iter().filter(|flag| **flag).count() as u32
+    }
+
+    /// The number whose bit i says whether page `first_page + i` is marked, for 64 pages; a page
+    /// past the memory's end is not.
+    pub fn word(&self, first_page: u32) -> u64
+        ensures { result ≡ bits (window first_page self.now) }
+    {
+        word::word_at(&self.flags, first_page)
+    }
+
+    /// Takes the marks: `into` becomes the set of the marked pages, whatever was in it, and no page
+    /// is marked then.
+    pub fn take(&mut self, into: &mut PageSet)
+        requires { length into.old ≡ length self.old }
+        ensures taken { into.new ≡ self.old }
+        ensures flags { self.new ≡ replicate (length self.old) false }
+    {
+        into.assign(&self.flags);
+        self.flags.fill(false);
+    }
+}
