@@ -1,6 +1,7 @@
 //! The frames of a paused guest's state.
 
-ghost use Rattle.std.specs.Prelude.{◌≡◌, ◌<◌, ◌≤◌, [], get_or, length, Some, IfOk};
+ghost use Rattle.std.specs.Prelude.{◌≡◌, ◌+◌, ◌*◌, ◌<◌, ◌≤◌, [], get_or, if◌then◌else◌, length, nat_lt, Some, IfOk};
+ghost use Rattle.rvm_state.specs.Spelling.{longest};
 ghost use Rattle.rvm_guest.specs.Body.{body_of};
 ghost use Rattle.rvm_guest.specs.Pieces.{cut, pieces};
 ghost use Rattle.rvm_protocol.specs.Frames as protocol;
@@ -13,7 +14,7 @@ ghost use Rattle.rvm_source.specs.States.{sends_state_of};
 use crate::phase::Phase;
 use rvm_debug::Debugged;
 use rvm_frame::{Bytes, CopyNumbers, Frame, state_body};
-use rvm_mem::PagedMemory;
+use rvm_mem::{Memory, PagedMemory};
 use rvm_message::HostReply;
 use rvm_precopy::Rounds;
 use rvm_state::write_state;
@@ -41,13 +42,15 @@ pub(crate) fn send_state<M: PagedMemory>(
     guest: &Debugged<M>,
     turn: u8,
 ) -> Result<Sent, AllocError>
-    requires { HasTurn (Phase.Stopped turn) guest.now rounds.now }
-    ensures answer { IfOk result (λ s. Answers version
+    requires size { length guest.now.dirty ≡ length rounds.now.to_send }
+    requires turn { HasTurn (Phase.Stopped turn) guest.now rounds.now }
+    ensures sent { IfOk result (λ s. Answers version
         (sends_state_of version move_number (last_of guest.now.guest turn rounds.now))
         (s.reply, Some s.frame) (mode_in move_number guest.now rounds.now s.next)) }
     ensures turn { IfOk result (λ s. HasTurn s.next guest.now rounds.now) }
 {
     let _pages = rounds.pages();
+    let _size = guest.memory().len();
     if version < 2 {
         return Ok(Sent {
             reply: HostReply::StateSent,
@@ -55,8 +58,7 @@ pub(crate) fn send_state<M: PagedMemory>(
             next: Phase::Stopped { turn },
         });
     }
-    let piece = piece(alloc, rounds.newest(), guest, turn)?;
-    let after = turn + 1;
+    let piece = cut_piece(alloc, rounds.newest(), guest, turn)?;
     Ok(Sent {
         reply: HostReply::PartSent {
             part: turn,
@@ -70,16 +72,19 @@ pub(crate) fn send_state<M: PagedMemory>(
             bytes: piece.bytes,
         },
         next: Phase::Stopped {
-            turn: if after < piece.parts { after } else { 0 },
+            turn: turn_after(turn, piece.parts),
         },
     })
 }
 
-/// One of the pieces of a state.
-#[derive(Drop)]
-struct Piece {
-    parts: u8,
-    bytes: Bytes,
+/// The piece that is sent behind this one: the first again behind the last.
+fn turn_after(turn: u8, parts: u8) -> u8
+    requires { turn < parts }
+    ensures next { result ≡ (if nat_lt (turn + 1) parts then turn + 1 else 0) }
+    ensures there { result < parts }
+{
+    let next = turn + 1;
+    if next < parts { next } else { 0 }
 }
 
 /// The state of a guest, with the number of each page's newest copy.
@@ -92,7 +97,7 @@ fn state_frame<M: PagedMemory>(
     ensures { IfOk result (λ frame. frame_of frame
         ≡ protocol.State move_number numbers.now (body_of guest.now.guest)) }
 {
-    let state = write_state(alloc, guest)?;
+    let state = body_of(alloc, guest)?;
     Ok(Frame::State {
         move_number,
         copy_numbers: CopyNumbers::from_vec(Vec::from_slice(alloc, numbers)?),
@@ -100,8 +105,15 @@ fn state_frame<M: PagedMemory>(
     })
 }
 
+/// One of the pieces of a state.
+#[derive(Drop)]
+struct Piece {
+    parts: u8,
+    bytes: Bytes,
+}
+
 /// The piece of a state whose turn it is, and how many there are, at most 6.
-fn piece<M: PagedMemory>(
+fn cut_piece<M: PagedMemory>(
     alloc: Global,
     numbers: &[u32],
     guest: &Debugged<M>,
@@ -115,8 +127,7 @@ fn piece<M: PagedMemory>(
         ≡ get_or (cut numbers.now (body_of guest.now.guest)) turn []) }
     ensures few { IfOk result (λ piece. piece.parts ≤ 6) }
 {
-    let state = write_state(alloc, guest)?;
-    let body = state_body(alloc, numbers, state.as_slice())?;
+    let body = frame_body(alloc, numbers, guest)?;
     let bytes = piece_of(body.as_slice(), turn);
     Ok(Piece {
         parts: body.len().div_ceil(PIECE) as u8,
@@ -131,4 +142,27 @@ fn piece_of(body: &[u8], place: u8) -> &[u8]
 {
     let first = PIECE * place as usize;
     &body[first..body.len().min(first + PIECE)]
+}
+
+/// The body of a State frame, whose pieces are sent.
+fn frame_body<M: PagedMemory>(
+    alloc: Global,
+    numbers: &[u32],
+    guest: &Debugged<M>,
+) -> Result<Vec<u8>, AllocError>
+    requires { length numbers.now ≤ 4096 }
+    ensures pieces { IfOk result (λ body. pieces (length body.items) body.items
+        ≡ cut numbers.now (body_of guest.now.guest)) }
+    ensures size { IfOk result (λ body. length body.items ≤ 2 + 4 * 4096 + longest) }
+{
+    let state = body_of(alloc, guest)?;
+    state_body(alloc, numbers, state.as_slice())
+}
+
+/// The bytes of a guest, as the law of live migration has them.
+fn body_of<M: PagedMemory>(alloc: Global, guest: &Debugged<M>) -> Result<Vec<u8>, AllocError>
+    ensures bytes { IfOk result (λ bytes. bytes.items ≡ body_of guest.now.guest) }
+    ensures size { IfOk result (λ bytes. length bytes.items ≤ longest) }
+{
+    write_state(alloc, guest)
 }
