@@ -1,0 +1,4 @@
+pub mod Frames
+pub mod Sets
+pub mod Copies
+pub mod Turns

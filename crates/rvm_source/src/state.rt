@@ -42,7 +42,7 @@ pub(crate) fn send_state<M: PagedMemory>(
     turn: u8,
 ) -> Result<Sent, AllocError>
     requires { HasTurn (Phase.Stopped turn) guest.now rounds.now }
-    ensures { IfOk result (λ s. Answers version
+    ensures sent { IfOk result (λ s. Answers version
         (sends_state_of version move_number (last_of guest.now.guest turn rounds.now))
         (s.reply, Some s.frame) (mode_in move_number guest.now rounds.now s.next)) }
     ensures turn { IfOk result (λ s. HasTurn s.next guest.now rounds.now) }
@@ -55,7 +55,7 @@ pub(crate) fn send_state<M: PagedMemory>(
             next: Phase::Stopped { turn },
         });
     }
-    let piece = piece(alloc, rounds.newest(), guest, turn)?;
+    let piece = cut_piece(alloc, rounds.newest(), guest, turn)?;
     let after = turn + 1;
     Ok(Sent {
         reply: HostReply::PartSent {
@@ -101,7 +101,7 @@ fn state_frame<M: PagedMemory>(
 }
 
 /// The piece of a state whose turn it is, and how many there are, at most 6.
-fn piece<M: PagedMemory>(
+fn cut_piece<M: PagedMemory>(
     alloc: Global,
     numbers: &[u32],
     guest: &Debugged<M>,
