@@ -1,11 +1,13 @@
 -- What the source of a move keeps: as plain values, and as the law of live migration has it.
-use Rattle.std.specs.Prelude.{ℕ, ◌<◌, ◌==◌, Bool, false, length}
+use Rattle.std.specs.Prelude.{◌≡◌, ℕ, ◌^◌, ◌<◌, ◌==◌, Bool, false, length}
 use Rattle.rvm_debug.specs.Guest.{Guest, GuestState}
 use Rattle.rvm_guest.specs.Body.{body_of}
 use Rattle.rvm_guest.specs.Pieces.{cut}
+use Rattle.rvm_guest.proofs.TheGuest.{board}
 use Rattle.rvm_message.specs.Answers.{BoardMode}
-use Rattle.rvm_precopy.specs.Plans.{Plan, rounds_of, last_of}
+use Rattle.rvm_precopy.specs.Plans.{Plan, IsPlanOf, rounds_of, last_of}
 use Rattle.rvm_protocol.specs.Modes as protocol
+use Rattle.rvm_protocol.specs.Rounds.{page_count}
 use Rattle.rvm_source.specs.declared.phase.Phase.{Phase}
 use Rattle.rvm_source.specs.declared.phase.Phase.TheVariants as phases
 
@@ -14,6 +16,13 @@ pub record PlainSource : Type 0 where
   pub guest : GuestState
   pub plan : Plan
   pub phase : Phase
+
+-- its guest has so many pages, and its log and its plan are of as many
+pub record HasPages (pages : ℕ) (s : PlainSource) : Type 0 where
+  pub count : page_count board s.guest.guest ≡ pages
+  pub log : length s.guest.dirty ≡ pages
+  pub plan : IsPlanOf pages s.plan
+  pub copies : s.plan.copies < 2 ^ 32
 
 -- the mode of the law
 abbrev pub mode_in : (move : ℕ) → GuestState → Plan → Phase → BoardMode

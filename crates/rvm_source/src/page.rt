@@ -1,6 +1,7 @@
 //! The frame of a copy of a page.
 
-ghost use Rattle.std.specs.Prelude.{◌≡◌, ◌<◌, ◌≤◌, ◌&&◌, length};
+ghost use Rattle.std.specs.Prelude.{◌≡◌, ◌<◌, ◌==◌, length};
+ghost use Rattle.std.specs.List.{list_all};
 ghost use Rattle.rvm_protocol.specs.Frames as protocol;
 ghost use Rattle.rvm_protocol.specs.Rounds.{page_of};
 ghost use Rattle.rvm_guest.proofs.TheGuest.{board};
@@ -47,6 +48,13 @@ pub(crate) fn page_frame<M: PagedMemory>(
 /// Whether the bytes of a page are all zeros.
 fn is_zeros(bytes: &[u8; PAGE_SIZE as usize]) -> bool
     ensures { result ≡ is_zeros bytes.now }
+{
+    all_zeros(bytes)
+}
+
+/// Whether bytes are all zeros.
+fn all_zeros(bytes: &[u8]) -> bool
+    ensures { result ≡ list_all (λ b. b == 0) bytes.now }
 {
     bytes.iter().all(|byte| *byte == 0)
 }

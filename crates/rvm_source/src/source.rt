@@ -13,7 +13,7 @@ ghost use Rattle.rvm_precopy.specs.Policies.{policy_of};
 ghost use Rattle.rvm_guest.proofs.TheGuest.{board};
 ghost use Rattle.rvm_message.specs.Answers.{Answers};
 ghost use Rattle.rvm_message.specs.Frames.{frame_made, frame_of};
-ghost use Rattle.rvm_source.specs.Sources.{is_offering, is_stopped, mode_of};
+ghost use Rattle.rvm_source.specs.Sources.{HasPages, is_offering, is_stopped, mode_of};
 
 use crate::page::page_frame;
 use crate::phase::Phase;
@@ -109,6 +109,15 @@ impl<M: PagedMemory> Source<M> {
         self.guest
     }
 
+    /// How many pages the guest has.
+    fn pages(&self) -> u32
+        ensures { HasPages result self.now }
+    {
+        let _size = self.guest.memory().len();
+        let _copies = self.rounds.copies();
+        self.rounds.pages()
+    }
+
     /// The frame that offers the guest.
     pub fn offer(&self) -> Frame
         ensures { frame_of result ≡ obeying.offer_frame board self.now.move_number self.now.guest.guest }
@@ -144,7 +153,7 @@ impl<M: PagedMemory> Source<M> {
         if !self.is_offering(move_number) {
             return HostReply::Refused(HostRefusal::Ignored);
         }
-        let _size = self.guest.memory().len();
+        let _pages = self.pages();
         self.rounds.open(&mut self.guest);
         self.phase = Phase::Copying;
         HostReply::Open
@@ -172,7 +181,7 @@ impl<M: PagedMemory> Source<M> {
         ensures err { OnErr result (self.new ≡ self.old) }
     {
         let bytes = PageBytes::zeros(alloc)?;
-        let _pages = self.rounds.pages();
+        let _pages = self.pages();
         let number = self.move_number;
         Ok(match self.rounds.next(&mut self.guest) {
             Next::Copied { page, number: copy } => {
@@ -200,7 +209,7 @@ impl<M: PagedMemory> Source<M> {
         ensures err { OnErr result (self.new ≡ self.old) }
     {
         let bytes = PageBytes::zeros(alloc)?;
-        let _pages = self.rounds.pages();
+        let _pages = self.pages();
         let number = self.move_number;
         match self.rounds.next_last() {
             LastNext::Copied { page, number: copy } => {
@@ -237,6 +246,7 @@ impl<M: PagedMemory> Source<M> {
             (obeying.resend board version (mode_of self.old)) a (mode_of self.new)) }
         ensures err { OnErr result (self.new ≡ self.old) }
     {
+        let _pages = self.pages();
         if self.rounds.is_left() {
             return Ok(HostReply::refused(HostRefusal::NoMove));
         }
@@ -262,7 +272,7 @@ impl<M: PagedMemory> Source<M> {
         if !self.is_stopped(move_number) {
             return Ok(HostReply::Refused(HostRefusal::Ignored));
         }
-        let lost = set_of(alloc, self.rounds.pages(), pages)?;
+        let lost = set_of(alloc, self.pages(), pages)?;
         self.rounds.lost(&lost);
         Ok(HostReply::Fixing(lost.count() as u16))
     }

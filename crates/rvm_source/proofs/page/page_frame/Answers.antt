@@ -1,0 +1,31 @@
+use Rattle.std.proofs.Common.{◌≡◌, ◌∙◌, ◌*◌, ◌<◌, ◌^◌, ◌%◌, false, length, ap, sym, subst, arith}
+use Rattle.rvm_mem.specs.Pages as mem
+use Rattle.rvm_guest.specs.Pages.{is_zeros}
+use Rattle.rvm_guest.proofs.TheGuest.{board}
+use Rattle.rvm_source.proofs.Frames.{page_at_is, zero_frame, old_frame, page_frame}
+use Rattle.rvm_source.proofs.page.page_frame.Goals as goal
+use Rattle.rvm_source.proofs.page.page_frame.Goals.{else-version-ge2-via-then-version-ge2+else-is_zeros, else-version-ge2-via-else-version-ge2}
+
+pub returns-then-is_zeros : goal.returns-then-is_zeros
+returns-then-is_zeros g c =
+    let guest = c.args.guest.now in
+    let a = c.len-size.ensures.length ∙ ap length c.memory.ensures.bytes in
+    let b = c.len-size.ensures.pages ∙ ap (λ xs. 4096 * length xs) c.memory.ensures.dirty in
+    zero_frame c.args.version c.args.move_number c.args.page c.args.copy_number guest.guest c.copy_page.new.into
+    (page_at_is guest.guest c.args.page c.from.result (length guest.dirty) c.len-size.result c.copy_page.new.into _ c.copy_page.ensures c.memory-2.ensures.bytes a b c.from.ensures c.requires)
+    c.if-version-ge2.true (sym c.is_zeros.ensures ∙ c.if-is_zeros.true)
+
+pub returns : goal.returns
+returns g c =
+    let guest = c.args.guest.now in
+    let a = c.len-size.ensures.length ∙ ap length c.memory.ensures.bytes in
+    let b = c.len-size.ensures.pages ∙ ap (λ xs. 4096 * length xs) c.memory.ensures.dirty in
+    let same = c.set.ensures ∙ page_at_is guest.guest c.args.page c.from.result (length guest.dirty) c.len-size.result c.copy_page.new.into _ c.copy_page.ensures c.memory-2.ensures.bytes a b c.from.ensures c.requires in
+    elim c.else-version-ge2.branch [
+      | else-version-ge2-via-then-version-ge2+else-is_zeros w ↦
+          page_frame c.args.version c.args.move_number c.args.page c.args.copy_number guest.guest c.set.new.self same
+          w.if-version-ge2.true (ap is_zeros c.set.ensures ∙ sym w.is_zeros.ensures ∙ w.if-is_zeros.false)
+      | else-version-ge2-via-else-version-ge2 w ↦
+          old_frame c.args.version c.args.move_number c.args.page c.args.copy_number guest.guest c.set.new.self same
+          w.if-version-ge2.false
+    ]
