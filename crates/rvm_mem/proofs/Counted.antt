@@ -7,7 +7,7 @@ use Rattle.std.specs.Int.RustNames.{count_ones}
 use Rattle.std.specs.List.{sum_by}
 use Rattle.rvm_mem.specs.Pages.{bits, count, window}
 use Rattle.rvm_mem.specs.Rows.{flags, AreRows}
-use Rattle.rvm_mem.proofs.Sets.{ones_of_bits, as_number}
+use Rattle.rvm_mem.proofs.Bits.{ones_of_bits, as_number}
 use Rattle.rvm_mem.proofs.Rows.{length-flags, row_is}
 
 counted_to : (n : ℕ) (rows : List ℕ) → AreRows n rows → ((k : ℕ) → get_or rows k 0 < 2 ^ 64) → (i : ℕ) → i ≤ length rows → sum_by count_ones (take i rows) ≡ count (take (64 * i) (flags n rows))

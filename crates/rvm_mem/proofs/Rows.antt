@@ -7,7 +7,7 @@ use Rattle.std.proofs.lemmas.Nat.Bits.{bit_at-lt, same_from_bits_below}
 use Rattle.std.specs.Int.{bit_at}
 use Rattle.rvm_mem.specs.Pages.{bit, bits, window}
 use Rattle.rvm_mem.specs.Rows.{flag, flags, AreRows}
-use Rattle.rvm_mem.proofs.Sets.{bits_fit, bit_of_bits, bit_number, as_number}
+use Rattle.rvm_mem.proofs.Bits.{bits_fit, bit_of_bits, bit_number, as_number}
 
 pub length-flags : (n : ℕ) (rows : List ℕ) → length (flags n rows) ≡ n
 unfolding flags

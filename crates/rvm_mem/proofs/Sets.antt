@@ -1,46 +1,11 @@
--- Sets of pages: flags as a number, their count, sums and the lowest page.
-use Rattle.std.proofs.Common.{◌≡◌, ℕ, zero, suc, ◌+◌, ◌*◌, ◌^◌, ◌<◌, ◌≤◌, List, [], ◌∷◌, Bool, true, false, ◌||◌, ◌==◌, length, get_or, set, replicate, refl, sym, ap, ◌∙◌, arith, if◌then◌else◌, nat_lt, Some, None, cond}
+-- Sets of pages: their count, sums and the lowest page.
+use Rattle.std.proofs.Common.{◌≡◌, ℕ, zero, suc, ◌+◌, ◌<◌, List, [], ◌∷◌, Bool, true, false, ◌||◌, length, get_or, set, replicate, refl, sym, ap, ◌∙◌, arith, nat_lt, Some, None, cond}
 use Rattle.std.proofs.lemmas.Bool.{lt-ltb, le-ltb}
-use Rattle.std.proofs.lemmas.List.{map-id}
 use Rattle.std.proofs.lemmas.List.Sums.{sum_by-set, position_or_len_is}
 use Rattle.std.proofs.lemmas.List.Folds.{sum_by-replicate}
-use Rattle.std.proofs.lemmas.Simd.{bit_mask_l, ones-mask_l}
-use Rattle.std.specs.Simd.Lanes.{mask_l}
-use Rattle.std.specs.Int.{bit_at}
-use Rattle.std.specs.Int.RustNames.{count_ones}
 use Rattle.std.specs.List.{position_or_len}
-use Rattle.rvm_mem.specs.Pages.{bits, count, first, union}
-use Rattle.std.proofs.lemmas.Nat.{pow_pos}
-
--- a flag as a bit
-abbrev pub as_number : Bool → ℕ
-as_number b = if b then 1 else 0
-
--- n flags are a number of n bits
-pub bits_fit : (flags : List Bool) (n : ℕ) → length flags ≤ n → bits flags < 2 ^ n
-unfolding bits
-bits_fit [] n short = pow_pos n
-bits_fit (here ∷ flags) zero short = absurd (omega arith)
-bits_fit (true ∷ flags) (suc n) short = let h : bits flags < 2 ^ n = bits_fit flags n (omega arith) in omega arith
-bits_fit (false ∷ flags) (suc n) short = let h : bits flags < 2 ^ n = bits_fit flags n (omega arith) in omega arith
-
-pub bits_is_mask : (pages : List Bool) → bits pages ≡ mask_l pages
-unfolding bits
-bits_is_mask [] = refl
-bits_is_mask (here ∷ pages) = ap (λ n. (if here then 1 else 0) + 2 * n) (bits_is_mask pages)
-
-pub bit_of_bits : (pages : List Bool) (i : ℕ) → bit_at (bits pages) i ≡ as_number (get_or pages i false)
-bit_of_bits pages i = ap (λ n. bit_at n i) (bits_is_mask pages) ∙ bit_mask_l pages i
-
--- a bit is 1 or 0
-pub bit_number : (b : ℕ) → b < 2 → b ≡ as_number (b == 1)
-bit_number zero small = refl
-bit_number (suc zero) small = refl
-bit_number (suc (suc b)) small = absurd (omega arith)
-
-pub ones_of_bits : (pages : List Bool) → count_ones (bits pages) ≡ count pages
-ones_of_bits pages =
-    ap count_ones (bits_is_mask pages ∙ ap mask_l (sym (map-id pages))) ∙ ones-mask_l (λ (b : Bool). b) pages
+use Rattle.rvm_mem.specs.Pages.{count, first, union}
+use Rattle.rvm_mem.proofs.Bits.{as_number}
 
 -- how many pages
 pub count_in : (pages : List Bool) (p : ℕ) → p < length pages → get_or pages p false ≡ false → count (set pages p true) ≡ count pages + 1

@@ -1,10 +1,10 @@
 -- Rows that are made of flags.
-use Rattle.std.proofs.Common.{◌≡◌, ℕ, ◌+◌, ◌*◌, ◌/◌, ◌%◌, ◌<◌, ◌≤◌, List, Bool, true, false, ◌==◌, length, get_or, drop, refl, sym, ap, ◌∙◌, arith, inl, inr}
+use Rattle.std.proofs.Common.{◌≡◌, ℕ, ◌+◌, ◌*◌, ◌/◌, ◌%◌, ◌<◌, ◌≤◌, List, Bool, false, length, get_or, sym, ap, ◌∙◌, arith, inl, inr}
 use Rattle.std.proofs.lemmas.Bool.{cases_lt}
-use Rattle.std.proofs.lemmas.List.{get_or_past, get_or-take, get_or-drop}
+use Rattle.std.proofs.lemmas.List.{get_or_past}
 use Rattle.rvm_mem.specs.Pages.{bit, bits, window}
 use Rattle.rvm_mem.specs.Rows.{flag, flags, AreRows}
-use Rattle.rvm_mem.proofs.Sets.{bit_of_bits, as_number}
+use Rattle.rvm_mem.proofs.Bits.{bit_of_window}
 use Rattle.rvm_mem.proofs.Rows.{are_flags, RowsTo}
 use Rattle.rvm_mem.proofs.Lowest.{flag_of_zero}
 
@@ -12,21 +12,12 @@ use Rattle.rvm_mem.proofs.Lowest.{flag_of_zero}
 abbrev pub row_of : List Bool → ℕ → ℕ
 row_of pages r = bits (window (64 * r) pages)
 
-is_one : (b : Bool) → (as_number b == 1) ≡ b
-is_one true = refl
-is_one false = refl
-
-bit_of_row : (pages : List Bool) (p i : ℕ) → i < 64 → bit i (bits (window p pages)) ≡ get_or pages (p + i) false
-bit_of_row pages p i below =
-    ap (λ b. b == 1) (bit_of_bits (window p pages) i) ∙ is_one (get_or (window p pages) i false)
-    ∙ get_or-take 64 (drop p pages) i false below ∙ get_or-drop p pages i false
-
 taken_flag : (pages : List Bool) (rows : List ℕ) → length rows ≡ (length pages + 63) / 64 → ((r : ℕ) → r < length rows → get_or rows r 0 ≡ row_of pages r) → (k : ℕ) → flag rows k ≡ get_or pages k false
 unfolding flag
 taken_flag pages rows size taken k =
     elim (cases_lt (k / 64) (length rows)) [
       | inl inside ↦
-          ap (bit (k % 64)) (taken (k / 64) inside) ∙ bit_of_row pages (64 * (k / 64)) (k % 64) (omega arith)
+          ap (bit (k % 64)) (taken (k / 64) inside) ∙ bit_of_window pages (64 * (k / 64)) (k % 64) (omega arith)
           ∙ ap (λ j. get_or pages j false) (let e : 64 * (k / 64) + k % 64 ≡ k = omega arith in e)
       | inr past ↦ flag_of_zero rows k (get_or_past rows (k / 64) 0 past) ∙ sym (get_or_past pages k false (omega arith))
     ]

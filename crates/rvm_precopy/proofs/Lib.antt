@@ -1,3 +1,4 @@
 pub mod Coverage
+pub mod Lowest
 pub mod Scans
 pub mod Ties

@@ -6,7 +6,7 @@ use Rattle.std.proofs.lemmas.List.{get_or_past}
 use Rattle.rvm_mem.specs.Pages.{IsLowest, bit, bits, has_except, window}
 use Rattle.rvm_mem.proofs.Sets.{length-union}
 use Rattle.rvm_protocol.specs.Pages.{least}
-use Rattle.rvm_precopy.specs.Plans.{Plan, due, found, last_found, left, peek}
+use Rattle.rvm_precopy.specs.Plans.{Plan, due, found, peek}
 
 -- the length of a sum of two sets
 pub ruleset sums = (length-union)
@@ -172,24 +172,3 @@ scan_finds log r block p peeked before page s l lowest =
 pub scan_ends : (log : List Bool) (r : Plan) (block before : ℕ) → Scanning log r block before → length r.to_send ≤ 64 * block → None ≡ found log r
 scan_ends log r block before s all =
     sym (s.same ∙ least_end (due log r) (max r.scan (64 * block)) (length r.to_send) (omega arith))
-
--- the lowest page is not before page p
-pub record ScanningLast (r : Plan) (p : ℕ) : Type 0 where
-  pub same : last_found r ≡ least (left r) p (length r.to_send - p)
-
-pub last_begins : (r : Plan) → ScanningLast r 0
-last_begins r =
-    let e : length r.to_send - 0 ≡ length r.to_send = omega arith in
-    record { same = ap (least (left r) 0) (sym e) }
-
-pub last_goes_on : (r : Plan) (p : ℕ) → ScanningLast r p → p < length r.to_send → left r p ≡ false
-    → ScanningLast r (p + 1)
-last_goes_on r p s lt h = record { same = s.same ∙ least_more (left r) p (length r.to_send) lt h }
-
-pub last_finds : (r : Plan) (p : ℕ) → ScanningLast r p → p < length r.to_send → left r p ≡ true
-    → Some p ≡ last_found r
-last_finds r p s lt h = sym (s.same ∙ least_here (left r) p (length r.to_send) lt h)
-
-pub last_ends : (r : Plan) (p : ℕ) → ScanningLast r p → length r.to_send ≤ p
-    → None ≡ last_found r
-last_ends r p s le = sym (s.same ∙ least_end (left r) p (length r.to_send) le)

@@ -2,13 +2,13 @@
 -- the protocol's.
 use Rattle.std.proofs.Common.{◌≡◌, inl, inr, ℕ, zero, suc, ◌+◌, ◌-◌, ◌*◌, ◌/◌, ◌%◌, ◌<◌, Bool, true, false, not, ◌&&◌, ◌||◌, ◌==◌, if◌then◌else◌, nat_lt, nat_le, List, [], ◌∷◌, length, replicate, get_or, set, drop, refl, sym, ap, ◌∙◌, arith, add-one}
 use Rattle.std.proofs.Math.Path.{fun_ext}
-use Rattle.std.proofs.lemmas.List.{get_or-set_same, get_or-set_other, get_or-replicate, get_or_past, get_or-take, get_or-drop, length-replicate, drop_more, drop_all}
+use Rattle.std.proofs.lemmas.List.{get_or-set_same, get_or-set_other, get_or-replicate, get_or_past, length-replicate, drop_more, drop_all}
 use Rattle.std.proofs.lemmas.Bool.{cases_Bool, cases_eq, cases_lt, le-ltb, lt-ltb, eq-eqb, ne_eqb}
 use Rattle.std.proofs.lemmas.Bool.Decides.{nat_tests}
 use Rattle.std.proofs.lemmas.List.Sums.{sum_by-cons}
 use Rattle.std.proofs.lemmas.Nat.Bits.{bit_at-zero}
 use Rattle.rvm_mem.specs.Pages.{bit, bits, count, has, window}
-use Rattle.rvm_mem.proofs.Bits.{bit_of_bits}
+use Rattle.rvm_mem.proofs.Bits as flags
 use Rattle.rvm_protocol.specs.Guest.{Guest}
 use Rattle.rvm_protocol.specs.Pages.{Pages, put, least, size, listed}
 use Rattle.rvm_protocol.specs.Pages as sets
@@ -32,24 +32,15 @@ set_is_put xs p v d lt =
     ])
 
 -- bits
-as_bit : (b : Bool) → ((if b then 1 else 0) == 1) ≡ b
-as_bit true = refl
-as_bit false = refl
-
 pub no_bit : (i : ℕ) → bit i 0 ≡ false
 no_bit i = ap (λ b. b == 1) (bit_at-zero i)
-
-bit_is_flag : (xs : List Bool) (i : ℕ) → bit i (bits xs) ≡ get_or xs i false
-bit_is_flag xs i = ap (λ b. b == 1) (bit_of_bits xs i) ∙ as_bit (get_or xs i false)
 
 pub bit_of_window : (log : List Bool) (p : ℕ)
     → bit (p % 64) (bits (window (64 * (p / 64)) log)) ≡ has p log
 bit_of_window log p =
     let few : p % 64 < 64 = omega arith in
     let at : 64 * (p / 64) + p % 64 ≡ p = omega arith in
-    bit_is_flag (window (64 * (p / 64)) log) (p % 64)
-    ∙ get_or-take 64 (drop (64 * (p / 64)) log) (p % 64) false few
-    ∙ get_or-drop (64 * (p / 64)) log (p % 64) false
+    flags.bit_of_window log (64 * (p / 64)) (p % 64) few
     ∙ ap (λ z. get_or log z false) at
 
 -- the scan

@@ -7,12 +7,9 @@ ghost use Rattle.rvm_precopy.specs.Plans.{IsPlanOf, begun, copied_if, found, las
 ghost use Rattle.rvm_precopy.specs.Policies.{policy_of};
 
 use crate::policy::Policy;
-use rvm_mem::{DirtyLog, PageSet};
+use rvm_mem::{DirtyLog, PageSet, WORD_PAGES};
 use std::alloc::{AllocError, Global};
 use std::marker::Model;
-
-/// How many pages are peeked at at a time.
-const BLOCK: u32 = 64;
 
 /// What a turn of the source was while its guest runs.
 #[derive(Clone, Copy, Debug, PartialEq, Eq)]
@@ -153,9 +150,9 @@ impl Rounds {
         ensures from { IfSome result (λ found. self.now.scan ≤ found.0) }
     {
         let mut peeked = self.peeked;
-        for block in self.scan / BLOCK..self.to_send.pages().div_ceil(BLOCK) {
-            let from = self.scan.max(BLOCK * block);
-            if from % BLOCK == 0 {
+        for block in self.scan / WORD_PAGES..self.to_send.pages().div_ceil(WORD_PAGES) {
+            let from = self.scan.max(WORD_PAGES * block);
+            if from % WORD_PAGES == 0 {
                 peeked = log.peek_dirty(from);
             }
             if let Some(page) = self.to_send.next_except(from, peeked) {
@@ -272,12 +269,11 @@ impl Rounds {
         ensures page { result ≡ last_found self.now }
         ensures bound { IfSome result (λ p. p < length self.now.to_send) }
     {
-        for page in 0..self.to_send.pages() {
-            if is_left(&self.to_send, &self.to_fix, page) {
-                return Some(page);
-            }
+        match (self.to_send.first(), self.to_fix.first()) {
+            (Some(page), Some(fix)) => Some(page.min(fix)),
+            (Some(page), None) => Some(page),
+            (None, fix) => fix,
         }
-        None
     }
 
     /// Whether a page is left to be copied once the guest is paused.
@@ -329,11 +325,4 @@ impl Rounds {
     {
         self.copies
     }
-}
-
-/// Whether a page is in one of two sets.
-fn is_left(to_send: &PageSet, to_fix: &PageSet, page: u32) -> bool
-    ensures { result ≡ (has page to_send.now || has page to_fix.now) }
-{
-    to_send.contains(page) || to_fix.contains(page)
 }

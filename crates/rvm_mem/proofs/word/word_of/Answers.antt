@@ -1,7 +1,7 @@
 use Rattle.std.proofs.Common.{◌≡◌, ℕ, ◌+◌, ◌-◌, ◌*◌, ◌<◌, ◌^◌, drop, length, sym, ap, ◌∙◌, arith, length-drop}
 use Rattle.rvm_mem.specs.Pages.{bits}
 use Rattle.rvm_mem.proofs.Words.{bits_none, bits_more}
-use Rattle.rvm_mem.proofs.Sets.{bits_fit}
+use Rattle.rvm_mem.proofs.Bits.{bits_fit}
 use Rattle.rvm_mem.proofs.word.word_of.Goals.{After-from}
 use Rattle.rvm_mem.proofs.word.word_of.Goals as goal
 
