@@ -2,3 +2,4 @@ pub mod Frames
 pub mod Sets
 pub mod Copies
 pub mod Turns
+pub mod Losses
