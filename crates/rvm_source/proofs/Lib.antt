@@ -2,5 +2,6 @@ pub mod Frames
 pub mod Sets
 pub mod Copies
 pub mod Turns
+pub mod Losses
 mod Pieces
 mod Sending

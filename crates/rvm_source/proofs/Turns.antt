@@ -1,5 +1,5 @@
 -- Each turn of a source is the protocol's, by what the calls of its rounds told.
-use Rattle.std.proofs.Common.{◌≡◌, ℕ, ◌^◌, ◌<◌, ◌≤◌, List, length, Option, Some, None, refl, sym, ap, ◌∙◌, subst, arith}
+use Rattle.std.proofs.Common.{◌≡◌, ℕ, ◌^◌, ◌<◌, ◌≤◌, List, length, Option, Some, None, Result, Ok, Err, OnErr, refl, sym, ap, ◌∙◌, subst, arith}
 use Rattle.rvm_debug.specs.Guest.{Guest, GuestState}
 use Rattle.rvm_protocol.specs.Obeying.{copy}
 use Rattle.rvm_protocol.specs.Rounds.{page_count}
@@ -77,3 +77,7 @@ fits_last pages s plan h er = h.log ∙ sym (last_fits pages s.plan plan h.plan 
 pub range_last : (pages : ℕ) (s : PlainSource) (plan : Plan) (a : LastNext) → HasPages pages s → a ≡ (last_next_of s.plan).answer
     → plan ≡ (last_next_of s.plan).plan → LastInRange pages s.plan a plan
 range_last pages s plan a h ea er = last_range pages s.plan plan a h.plan ea er
+
+pub on_err : {X E : Type 0} (r : Result X E) (P : Type 0) → P → OnErr r P
+on_err (Ok x) P p = tt
+on_err (Err e) P p = p
