@@ -1,6 +1,6 @@
 //! Sets of pages.
 
-ghost use Rattle.std.specs.Prelude.{◌≡◌, ◌+◌, ◌-◌, ◌*◌, ◌/◌, ◌%◌, ◌^◌, ◌≤◌, ◌<◌, ℕ, min, List, Bool, true, false, length, replicate, slice_index_or, IfOk};
+ghost use Rattle.std.specs.Prelude.{◌≡◌, ◌+◌, ◌-◌, ◌*◌, ◌/◌, ◌^◌, ◌≤◌, ◌<◌, ℕ, min, true, false, length, replicate, slice_index_or, IfOk};
 ghost use Rattle.rvm_mem.specs.Pages.{IsLowest, bit, bits, count, first, has, has_except, mark, unmark, union, window};
 ghost use Rattle.rvm_mem.specs.Rows.{AreRows, flags};
 

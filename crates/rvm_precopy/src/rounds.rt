@@ -1,7 +1,6 @@
 //! Rounds of copies: which page is copied next, and when the rounds end.
 
-ghost use Rattle.std.specs.Prelude.{◌≡◌, ◌≤◌, ◌<◌, length, replicate, IfOk, IfSome, Option, option_map, is_some, true, false, ◌||◌, Some};
-ghost use Rattle.rvm_mem.specs.Pages.{has};
+ghost use Rattle.std.specs.Prelude.{◌≡◌, ◌≤◌, ◌<◌, length, replicate, IfOk, IfSome, Option, option_map, is_some, true, false, Some};
 ghost use Rattle.rvm_protocol.specs.Commands.{is_allowed};
 ghost use Rattle.rvm_precopy.specs.Plans.{IsPlanOf, begun, copied_if, found, last_found, last_next_of, lost, next_of, opened, peek, round_ended, stopping, stops, with_last};
 ghost use Rattle.rvm_precopy.specs.Policies.{policy_of};
