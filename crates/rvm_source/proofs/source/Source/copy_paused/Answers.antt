@@ -35,8 +35,13 @@ invariant_of-self-in-SeqSpent-1 g c =
     (c.self.invariant.0, (fits_last c.pages-pages.result _ c.next_last.new.self h c.next_last.ensures.plan,
     subst (HasTurn c.self.inside.phase c.self.inside.guest) (sym same) c.self.invariant.1.1))
 
-pub send_state-requires : goal.send_state-requires
-send_state-requires g c =
+pub send_state-requires-clause-size : goal.send_state-requires-clause-size
+send_state-requires-clause-size g c =
+    let h = subst (HasPages c.pages-pages.result) (sym c.self.view_is) c.pages-pages.ensures in
+    fits_last c.pages-pages.result _ c.next_last.new.self h c.next_last.ensures.plan
+
+pub send_state-requires-clause-turn : goal.send_state-requires-clause-turn
+send_state-requires-clause-turn g c =
     let h = subst (HasPages c.pages-pages.result) (sym c.self.view_is) c.pages-pages.ensures in
     let phase = ap (λ (s : PlainSource). s.phase) c.self.view_is ∙ c.requires in
     let same = range_last c.pages-pages.result _ c.next_last.new.self last.NothingLeft h c.in-NothingLeft.ensures.answer c.next_last.ensures.plan in
