@@ -1,5 +1,5 @@
 -- The dirty log after an event: the old one, and the pages that the event writes.
-use Rattle.std.proofs.Common.{◌≡◌, inl, inr, ℕ, ◌*◌, ◌/◌, ◌<◌, ◌≤◌, Bool, true, false, ◌||◌, List, [], ◌∷◌, length, replicate, get_or, set, refl, sym, ap, ◌∙◌, arith}
+use Rattle.std.proofs.Common.{◌≡◌, inl, inr, ℕ, ◌*◌, ◌/◌, ◌≤◌, Bool, true, false, ◌||◌, List, [], ◌∷◌, length, replicate, get_or, set, refl, sym, ap, ◌∙◌, arith}
 use Rattle.std.proofs.lemmas.Bool.{cases_eq, cases_lt}
 use Rattle.std.proofs.lemmas.List.{length-set, length-replicate, get_or-set_same, get_or-set_other, get_or_past}
 use Rattle.rvm_mem.specs.Pages.{has, mark_all}
@@ -9,11 +9,11 @@ use Rattle.rvm_debug.specs.Guest.{Guest}
 use Rattle.rvm_debug.specs.Events.{answered}
 use Rattle.rvm_guest.specs.Pages.{count_of, writes}
 
-or_true : (b : Bool) → (b || true) ≡ true
+pub or_true : (b : Bool) → (b || true) ≡ true
 or_true true = refl
 or_true false = refl
 
-or_false : (b : Bool) → (b || false) ≡ b
+pub or_false : (b : Bool) → (b || false) ≡ b
 or_false true = refl
 or_false false = refl
 

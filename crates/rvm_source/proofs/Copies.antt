@@ -1,5 +1,5 @@
 -- A turn of the source is the protocol's Copy.
-use Rattle.std.proofs.Common.{◌≡◌, ◌⊎◌, inl, inr, ℕ, suc, ◌+◌, ◌-◌, ◌*◌, ◌^◌, ◌<◌, ◌≤◌, ◌==◌, ◌||◌, Bool, true, false, nat_lt, nat_le, if◌then◌else◌, List, length, replicate, set, get_or, Option, Some, None, refl, sym, ap, ◌∙◌, subst, arith, add-one}
+use Rattle.std.proofs.Common.{◌≡◌, inl, inr, ℕ, ◌+◌, ◌-◌, ◌^◌, ◌<◌, ◌≤◌, ◌==◌, Bool, true, false, nat_le, if◌then◌else◌, List, length, Option, Some, None, refl, sym, ap, ◌∙◌, subst, arith, add-one}
 use Rattle.std.proofs.lemmas.Bool.{cases_Bool}
 use Rattle.std.proofs.lemmas.Bool.Decides.{nat_tests}
 use Rattle.std.proofs.lemmas.List.{length-replicate, length-set}
@@ -11,8 +11,8 @@ use Rattle.rvm_protocol.specs.Replies as replies
 use Rattle.rvm_protocol.specs.Pages.{least, size}
 use Rattle.rvm_protocol.specs.Rounds as protocol
 use Rattle.rvm_protocol.specs.Rounds.{Rounds, page_count, page_of}
-use Rattle.rvm_protocol.specs.Modes.{Mode, Copying, Stopped, Outcome, says, sends, refuses}
-use Rattle.rvm_protocol.specs.Obeying.{copy, copy_page, copy_last, sends_page, sends_last, sends_state}
+use Rattle.rvm_protocol.specs.Modes.{Copying, Stopped, Outcome, says, sends, refuses}
+use Rattle.rvm_protocol.specs.Obeying.{copy, copy_page, copy_last, sends_page, sends_last}
 use Rattle.rvm_precopy.specs.declared.rounds.Next.{Next}
 use Rattle.rvm_precopy.specs.declared.rounds.Next.TheVariants as next
 use Rattle.rvm_precopy.specs.declared.rounds.LastNext.{LastNext}

@@ -1,5 +1,5 @@
 -- A copy of a page as a stream's version sends it, and the frame that offers a guest.
-use Rattle.std.proofs.Common.{◌≡◌, ◌⊎◌, inl, inr, ℕ, ◌*◌, ◌/◌, ◌<◌, ◌≤◌, Bool, true, false, ◌&&◌, ◌==◌, nat_le, if◌then◌else◌, List, length, get_or, refl, sym, ap, ◌∙◌, arith}
+use Rattle.std.proofs.Common.{◌≡◌, ℕ, ◌*◌, ◌<◌, ◌≤◌, Bool, true, false, ◌&&◌, ◌==◌, if◌then◌else◌, List, length, refl, sym, ap, ◌∙◌, arith}
 use Rattle.std.specs.List.{list_all}
 use Rattle.std.proofs.lemmas.Bool.{eq-eqb}
 use Rattle.std.proofs.lemmas.Bool.Decides.{nat_tests}
@@ -8,7 +8,7 @@ use Rattle.rvm_debug.specs.Guest.{Guest}
 use Rattle.rvm_protocol.specs.Frames.{Offer, Page, Zero, written, is_compact}
 use Rattle.rvm_protocol.specs.Obeying.{offer_frame}
 use Rattle.rvm_protocol.specs.Rounds.{page_count, page_of}
-use Rattle.rvm_guest.specs.Pages.{count_of, is_zeros, pages_of, size_of, zeros}
+use Rattle.rvm_guest.specs.Pages.{count_of, is_zeros, size_of, zeros}
 use Rattle.rvm_guest.proofs.Joined.{length_pages, page_at}
 use Rattle.rvm_guest.proofs.TheGuest.{board}
 

@@ -1,11 +1,10 @@
 -- The pages that a target lacks are copied again, and a state is sent again.
-use Rattle.std.proofs.Common.{◌≡◌, ◌⊎◌, inl, inr, ℕ, zero, suc, ◌+◌, ◌<◌, ◌≤◌, ◌==◌, ◌&&◌, ◌||◌, Bool, true, false, nat_lt, if◌then◌else◌, List, [], ◌∷◌, length, get_or, Option, Some, None, refl, sym, ap, ◌∙◌, subst, arith}
+use Rattle.std.proofs.Common.{◌≡◌, ℕ, zero, suc, ◌+◌, ◌≤◌, ◌==◌, ◌&&◌, ◌||◌, Bool, true, false, nat_lt, if◌then◌else◌, List, [], ◌∷◌, length, get_or, Option, Some, None, refl, sym, ap, ◌∙◌, subst, arith}
 use Rattle.std.proofs.Math.Path.{fun_ext}
 use Rattle.std.specs.Option.{is_some}
 use Rattle.std.proofs.lemmas.Bool.{eq-eqb, eqb-true, lt-ltb}
 use Rattle.rvm_mem.specs.Pages.{count, has, union}
 use Rattle.rvm_debug.specs.Guest.{Guest, GuestState}
-use Rattle.rvm_protocol.specs.Pages as sets
 use Rattle.rvm_protocol.specs.Pages.{Pages, is_in, size}
 use Rattle.rvm_protocol.specs.Frames as frames
 use Rattle.rvm_protocol.specs.Frames.{is_compact}
@@ -13,7 +12,7 @@ use Rattle.rvm_protocol.specs.Replies as replies
 use Rattle.rvm_protocol.specs.Modes as protocol
 use Rattle.rvm_protocol.specs.Modes.{sends, refuses, says}
 use Rattle.rvm_protocol.specs.Obeying.{part_frame, resend, resend_last, sends_state, state_frame}
-use Rattle.rvm_protocol.specs.Receiving.{came, of_this_move, lost_came}
+use Rattle.rvm_protocol.specs.Receiving.{came, lost_came}
 use Rattle.rvm_protocol.specs.Rounds.{Last, next_turn, page_count, pieces_of}
 use Rattle.rvm_precopy.specs.Plans.{Plan, last_found, last_of, lost}
 use Rattle.rvm_precopy.proofs.Ties.{last_found_is, size_is_count}

@@ -1,6 +1,6 @@
 -- What the source of a move keeps: as plain values, and as the law of live migration has it.
 use Rattle.std.specs.Prelude.{◌≡◌, ℕ, ◌^◌, ◌<◌, ◌==◌, Bool, false, length}
-use Rattle.rvm_debug.specs.Guest.{Guest, GuestState}
+use Rattle.rvm_debug.specs.Guest.{GuestState}
 use Rattle.rvm_guest.specs.Body.{body_of}
 use Rattle.rvm_guest.specs.Pieces.{cut}
 use Rattle.rvm_guest.proofs.TheGuest.{board}

@@ -137,9 +137,10 @@ impl<M: PagedMemory> Source<M> {
     {
         match self.phase {
             Phase::Stopped { .. } => HostReply::Refused(HostRefusal::Paused),
-            Phase::Offering | Phase::Copying => HostReply::Board(
-                apply_event(&mut self.guest, event),
-            ),
+            Phase::Offering | Phase::Copying => HostReply::Board(apply_event(
+                &mut self.guest,
+                event,
+            )),
         }
     }
 
@@ -192,7 +193,13 @@ impl<M: PagedMemory> Source<M> {
                 sent,
                 skipped,
                 left,
-            } => round_ended(number, round as u16, sent as u16, skipped as u16, left as u16),
+            } => round_ended(
+                number,
+                round as u16,
+                sent as u16,
+                skipped as u16,
+                left as u16,
+            ),
             Next::Stopping => {
                 self.phase = Phase::Stopped { turn: 0 };
                 HostReply::Stopping.alone()

@@ -1,4 +1,4 @@
-use Rattle.std.proofs.Common.{◌≡◌, ◌*◌, ◌∙◌, ℕ, length, ap}
+use Rattle.std.proofs.Common.{◌*◌, ◌∙◌, length, ap}
 use Rattle.rvm_mem.specs.Pages.{mark_all}
 use Rattle.rvm_debug.specs.declared.event.BoardEvent.{BoardEvent}
 use Rattle.rvm_debug.specs.Events.{answered}

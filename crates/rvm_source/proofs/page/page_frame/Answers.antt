@@ -1,7 +1,5 @@
-use Rattle.std.proofs.Common.{◌≡◌, ◌∙◌, ◌*◌, ◌<◌, ◌^◌, ◌%◌, false, length, ap, sym, subst, arith}
-use Rattle.rvm_mem.specs.Pages as mem
+use Rattle.std.proofs.Common.{◌∙◌, ◌*◌, length, ap, sym}
 use Rattle.rvm_guest.specs.Pages.{is_zeros}
-use Rattle.rvm_guest.proofs.TheGuest.{board}
 use Rattle.rvm_source.proofs.Frames.{page_at_is, zero_frame, old_frame, page_frame}
 use Rattle.rvm_source.proofs.page.page_frame.Goals as goal
 use Rattle.rvm_source.proofs.page.page_frame.Goals.{else-version-ge2-via-then-version-ge2+else-is_zeros, else-version-ge2-via-else-version-ge2}

@@ -1,4 +1,4 @@
-use Rattle.std.proofs.Common.{◌≡◌, ◌<◌, ◌∙◌, ◌+◌, length, sym, ap, subst, arith}
+use Rattle.std.proofs.Common.{◌<◌, ◌∙◌, ◌+◌, sym, subst, arith}
 use Rattle.rvm_source.proofs.Sets.{Gathers, gathers_none, gathers_one, gathers_other, gathers_all}
 use Rattle.rvm_source.proofs.source.set_of.Goals as goal
 use Rattle.rvm_source.proofs.source.set_of.Goals.{then-from-pages, else-from-pages}

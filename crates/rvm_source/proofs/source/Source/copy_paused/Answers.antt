@@ -1,4 +1,4 @@
-use Rattle.std.proofs.Common.{rules, ◌≡◌, ◌∙◌, ◌<◌, ◌^◌, ap, sym, subst, refl, arith}
+use Rattle.std.proofs.Common.{rules, ◌≡◌, ◌∙◌, ◌<◌, ap, sym, subst, refl, arith}
 use Rattle.rvm_protocol.specs.Obeying.{copy}
 use Rattle.rvm_precopy.specs.declared.rounds.LastNext.TheVariants as last
 use Rattle.rvm_guest.proofs.TheGuest.{board}
@@ -24,16 +24,24 @@ copied-requires g c =
 
 pub invariant_of-self : goal.invariant_of-self
 invariant_of-self g c =
-    let h = subst (HasPages c.pages-pages.result) (sym c.self.view_is) c.pages-pages.ensures in
-    (c.self.invariant.0, (fits_last c.pages-pages.result _ c.next_last.new.self h c.next_last.ensures.plan,
-    first_turn c.self.inside.guest c.next_last.new.self))
+    let h = subst (HasPages c.pages-pages.result) (sym c.self.view_is) c.pages-pages.ensures in (
+      c.self.invariant.0,
+      (
+        fits_last c.pages-pages.result _ c.next_last.new.self h c.next_last.ensures.plan,
+        first_turn c.self.inside.guest c.next_last.new.self,
+      ),
+    )
 
 pub invariant_of-self-in-SeqSpent-1 : goal.invariant_of-self-in-SeqSpent-1
 invariant_of-self-in-SeqSpent-1 g c =
     let h = subst (HasPages c.pages-pages.result) (sym c.self.view_is) c.pages-pages.ensures in
-    let same = range_last c.pages-pages.result _ c.next_last.new.self last.SeqSpent h c.in-SeqSpent.ensures.answer c.next_last.ensures.plan in
-    (c.self.invariant.0, (fits_last c.pages-pages.result _ c.next_last.new.self h c.next_last.ensures.plan,
-    subst (HasTurn c.self.inside.phase c.self.inside.guest) (sym same) c.self.invariant.1.1))
+    let same = range_last c.pages-pages.result _ c.next_last.new.self last.SeqSpent h c.in-SeqSpent.ensures.answer c.next_last.ensures.plan in (
+      c.self.invariant.0,
+      (
+        fits_last c.pages-pages.result _ c.next_last.new.self h c.next_last.ensures.plan,
+        subst (HasTurn c.self.inside.phase c.self.inside.guest) (sym same) c.self.invariant.1.1,
+      ),
+    )
 
 pub send_state-requires-clause-size : goal.send_state-requires-clause-size
 send_state-requires-clause-size g c =
@@ -52,9 +60,13 @@ pub invariant_of-self-in_err-sent-in-NothingLeft :
     goal.invariant_of-self-in_err-sent-in-NothingLeft
 invariant_of-self-in_err-sent-in-NothingLeft g c =
     let h = subst (HasPages c.pages-pages.result) (sym c.self.view_is) c.pages-pages.ensures in
-    let same = range_last c.pages-pages.result _ c.next_last.new.self last.NothingLeft h c.in-NothingLeft.ensures.answer c.next_last.ensures.plan in
-    (c.self.invariant.0, (fits_last c.pages-pages.result _ c.next_last.new.self h c.next_last.ensures.plan,
-    subst (HasTurn c.self.inside.phase c.self.inside.guest) (sym same) c.self.invariant.1.1))
+    let same = range_last c.pages-pages.result _ c.next_last.new.self last.NothingLeft h c.in-NothingLeft.ensures.answer c.next_last.ensures.plan in (
+      c.self.invariant.0,
+      (
+        fits_last c.pages-pages.result _ c.next_last.new.self h c.next_last.ensures.plan,
+        subst (HasTurn c.self.inside.phase c.self.inside.guest) (sym same) c.self.invariant.1.1,
+      ),
+    )
 
 pub returns-in_err-sent-in-NothingLeft-clause-err :
     goal.returns-in_err-sent-in-NothingLeft-clause-err
@@ -67,9 +79,13 @@ returns-in_err-sent-in-NothingLeft-clause-err g c =
 
 pub invariant_of-self-in-NothingLeft-1 : goal.invariant_of-self-in-NothingLeft-1
 invariant_of-self-in-NothingLeft-1 g c =
-    let h = subst (HasPages c.pages-pages.result) (sym c.self.view_is) c.pages-pages.ensures in
-    (c.self.invariant.0, (fits_last c.pages-pages.result _ c.next_last.new.self h c.next_last.ensures.plan,
-    c.in_ok-sent-in-NothingLeft.ensures.turn))
+    let h = subst (HasPages c.pages-pages.result) (sym c.self.view_is) c.pages-pages.ensures in (
+      c.self.invariant.0,
+      (
+        fits_last c.pages-pages.result _ c.next_last.new.self h c.next_last.ensures.plan,
+        c.in_ok-sent-in-NothingLeft.ensures.turn,
+      ),
+    )
 
 pub returns-in-Copied-clause-answer : goal.returns-in-Copied-clause-answer
 returns-in-Copied-clause-answer g c =

@@ -1,4 +1,4 @@
-use Rattle.std.proofs.Common.{rules, ◌≡◌, ◌∙◌, ◌<◌, ◌^◌, ap, sym, subst, refl}
+use Rattle.std.proofs.Common.{rules, ◌∙◌, ap, sym, subst}
 use Rattle.rvm_protocol.specs.Obeying.{copy}
 use Rattle.rvm_guest.proofs.TheGuest.{board}
 use Rattle.rvm_message.specs.Answers.{Answers}
@@ -21,9 +21,13 @@ copied-requires g c =
 
 pub invariant_of-self : goal.invariant_of-self
 invariant_of-self g c =
-    let h = subst (HasPages c.pages-pages.result) (sym c.self.view_is) c.pages-pages.ensures in
-    (c.self.invariant.0, (fits_next c.pages-pages.result _ c.next.new.log c.next.new.self h c.next.ensures.plan c.next.ensures.log,
-    no_turn c.self.inside.phase c.next.new.log c.next.new.self (ap (λ (s : PlainSource). s.phase) c.self.view_is ∙ c.requires)))
+    let h = subst (HasPages c.pages-pages.result) (sym c.self.view_is) c.pages-pages.ensures in (
+      c.self.invariant.0,
+      (
+        fits_next c.pages-pages.result _ c.next.new.log c.next.new.self h c.next.ensures.plan c.next.ensures.log,
+        no_turn c.self.inside.phase c.next.new.log c.next.new.self (ap (λ (s : PlainSource). s.phase) c.self.view_is ∙ c.requires),
+      ),
+    )
 
 pub overflow_cast-round : goal.overflow_cast-round
 overflow_cast-round g c =
@@ -47,21 +51,33 @@ overflow_cast-left g c =
 
 pub invariant_of-self-in-RoundEnded-1 : goal.invariant_of-self-in-RoundEnded-1
 invariant_of-self-in-RoundEnded-1 g c =
-    let h = subst (HasPages c.pages-pages.result) (sym c.self.view_is) c.pages-pages.ensures in
-    (c.self.invariant.0, (fits_next c.pages-pages.result _ c.next.new.log c.next.new.self h c.next.ensures.plan c.next.ensures.log,
-    no_turn c.self.inside.phase c.next.new.log c.next.new.self (ap (λ (s : PlainSource). s.phase) c.self.view_is ∙ c.requires)))
+    let h = subst (HasPages c.pages-pages.result) (sym c.self.view_is) c.pages-pages.ensures in (
+      c.self.invariant.0,
+      (
+        fits_next c.pages-pages.result _ c.next.new.log c.next.new.self h c.next.ensures.plan c.next.ensures.log,
+        no_turn c.self.inside.phase c.next.new.log c.next.new.self (ap (λ (s : PlainSource). s.phase) c.self.view_is ∙ c.requires),
+      ),
+    )
 
 pub invariant_of-self-in-Stopping-1 : goal.invariant_of-self-in-Stopping-1
 invariant_of-self-in-Stopping-1 g c =
-    let h = subst (HasPages c.pages-pages.result) (sym c.self.view_is) c.pages-pages.ensures in
-    (c.self.invariant.0, (fits_next c.pages-pages.result _ c.next.new.log c.next.new.self h c.next.ensures.plan c.next.ensures.log,
-    first_turn c.next.new.log c.next.new.self))
+    let h = subst (HasPages c.pages-pages.result) (sym c.self.view_is) c.pages-pages.ensures in (
+      c.self.invariant.0,
+      (
+        fits_next c.pages-pages.result _ c.next.new.log c.next.new.self h c.next.ensures.plan c.next.ensures.log,
+        first_turn c.next.new.log c.next.new.self,
+      ),
+    )
 
 pub invariant_of-self-in-SeqSpent-1 : goal.invariant_of-self-in-SeqSpent-1
 invariant_of-self-in-SeqSpent-1 g c =
-    let h = subst (HasPages c.pages-pages.result) (sym c.self.view_is) c.pages-pages.ensures in
-    (c.self.invariant.0, (fits_next c.pages-pages.result _ c.next.new.log c.next.new.self h c.next.ensures.plan c.next.ensures.log,
-    no_turn c.self.inside.phase c.next.new.log c.next.new.self (ap (λ (s : PlainSource). s.phase) c.self.view_is ∙ c.requires)))
+    let h = subst (HasPages c.pages-pages.result) (sym c.self.view_is) c.pages-pages.ensures in (
+      c.self.invariant.0,
+      (
+        fits_next c.pages-pages.result _ c.next.new.log c.next.new.self h c.next.ensures.plan c.next.ensures.log,
+        no_turn c.self.inside.phase c.next.new.log c.next.new.self (ap (λ (s : PlainSource). s.phase) c.self.view_is ∙ c.requires),
+      ),
+    )
 
 pub returns-clause-answer : goal.returns-clause-answer
 returns-clause-answer g c =

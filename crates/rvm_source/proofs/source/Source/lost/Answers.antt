@@ -1,4 +1,4 @@
-use Rattle.std.proofs.Common.{◌≡◌, ◌∙◌, None, ap, sym, subst}
+use Rattle.std.proofs.Common.{◌∙◌, None, ap, sym, subst}
 use Rattle.rvm_protocol.specs.Frames as frames
 use Rattle.rvm_protocol.specs.Receiving.{came}
 use Rattle.rvm_guest.proofs.TheGuest.{board}

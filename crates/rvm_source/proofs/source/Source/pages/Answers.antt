@@ -1,4 +1,4 @@
-use Rattle.std.proofs.Common.{◌≡◌, ◌∙◌, ◌*◌, ◌^◌, ◌<◌, length, ap, sym, subst}
+use Rattle.std.proofs.Common.{◌∙◌, ◌*◌, ◌^◌, ◌<◌, length, ap, sym, subst}
 use Rattle.rvm_source.specs.Sources.{HasPages}
 use Rattle.rvm_source.proofs.Frames.{count_is}
 use Rattle.rvm_source.proofs.source.Source.pages.Goals as goal

@@ -1,4 +1,4 @@
-use Rattle.std.proofs.Common.{◌≡◌, ◌∙◌, Some, ap, sym, subst, refl}
+use Rattle.std.proofs.Common.{◌∙◌, Some, ap, sym, subst}
 use Rattle.std.specs.Option.{is_some}
 use Rattle.rvm_protocol.specs.Obeying.{resend}
 use Rattle.rvm_precopy.specs.Plans.{last_found}
