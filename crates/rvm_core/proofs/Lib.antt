@@ -1,0 +1,4 @@
+mod Sources
+mod Targets
+mod Hearing
+mod Settling

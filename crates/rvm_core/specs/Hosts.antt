@@ -11,7 +11,7 @@ use Rattle.rvm_message.specs.Events.{BoardHostEvent}
 use Rattle.rvm_message.specs.Frames.{addressed_made}
 use Rattle.rvm_message.specs.Replies.{reply_of}
 use Rattle.rvm_protocol.specs.Host as protocol
-use Rattle.rvm_protocol.specs.Host.{host_step}
+use Rattle.rvm_protocol.specs.Host.{host_step, partner_then}
 use Rattle.rvm_core.specs.Modes.{PlainMode, Empty, Run, mode_of}
 
 -- its mode; the other party of the highest move that it has begun or staged; its own number among so many hosts; how many
@@ -31,6 +31,10 @@ host_of h = record { mode = mode_of h.mode; partner = h.partner }
 -- what an event does at it, by the law
 abbrev pub step_of : PlainHost → BoardHostEvent → protocol.Result Guest (List ℕ) BoardReply (List ℕ)
 step_of h e = host_step board h.version h.id h.count h.limit e (host_of h)
+
+-- the other party after the reply to an event
+abbrev pub partner_of : BoardHostEvent → HostReply → (partner : ℕ) → ℕ
+partner_of e answer partner = partner_then e (reply_of answer) partner
 
 -- the reply, the frame that was made, and the host after it are those of the law
 pub record Steps (old : PlainHost) (e : BoardHostEvent) (answer : HostReply × Option Addressed) (new : PlainHost)

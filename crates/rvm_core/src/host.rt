@@ -2,13 +2,14 @@
 
 ghost use Rattle.std.specs.Prelude.{◌≡◌, ◌↔◌, true, false, IfOk, IfErr, IsErr, OnErr, None};
 ghost use Rattle.rvm_message.specs.Events.{command_of, event_of};
-ghost use Rattle.rvm_message.specs.Frames.{addressed_made, frame_heard, frame_made};
+ghost use Rattle.rvm_message.specs.Frames.{BoardFrame, addressed_made, frame_heard, frame_made};
 ghost use Rattle.rvm_precopy.specs.Policies.{policy_of};
 ghost use Rattle.rvm_guest.proofs.TheGuest.{board};
 ghost use Rattle.rvm_protocol.specs.Commands as commands;
+ghost use Rattle.rvm_protocol.specs.Commands.{Policy};
 ghost use Rattle.rvm_protocol.specs.Frames.{plain, posted};
 ghost use Rattle.rvm_protocol.specs.Host.{is_heard, is_offer_above, is_there};
-ghost use Rattle.rvm_core.specs.Hosts.{Steps, host_of, is_sized, new_host, version_of};
+ghost use Rattle.rvm_core.specs.Hosts.{Steps, host_of, is_sized, new_host, partner_of, version_of};
 ghost use Rattle.rvm_core.specs.Memory.{asks_memory, needs_memory, takes_memory};
 
 use crate::mode::Mode;
@@ -56,7 +57,7 @@ impl<M: PagedMemory> Model for Host<M> {
     ghost invariant = { λ h. h.limit ≤ 4096 };
 }
 
-impl<M: PagedMemory> Host<M> {
+impl<M: PagedMemory + Drop> Host<M> {
     /// A host with this number among so many, that has this guest or none, takes guests of at most so
     /// many pages and speaks this version of the stream. The guest comes back where the number of hosts
     /// is not 2 to 8, the host's number not below it, the limit not 1 to 4096, or the version none that
@@ -158,9 +159,7 @@ impl<M: PagedMemory> Host<M> {
             return Ok((HostReply::Refused(HostRefusal::BadHost), None));
         }
         let (reply, frame) = self.mode.begin(alloc, policy)?;
-        if let HostReply::Begun(_) = reply {
-            self.partner = to;
-        }
+        self.partner = partner_begun(self.partner, to, &reply);
         Ok((reply, addressed(self.id, self.partner, frame)))
     }
 
@@ -180,9 +179,7 @@ impl<M: PagedMemory> Host<M> {
             return Ok((HostReply::Refused(HostRefusal::Ignored), None));
         }
         let (reply, made) = self.mode.came(alloc, self.limit, frame)?;
-        if let HostReply::Accepted = reply {
-            self.partner = from;
-        }
+        self.partner = partner_accepted(self.partner, from, &reply);
         Ok((reply, addressed(self.id, from, made)))
     }
 
@@ -234,6 +231,27 @@ fn is_sized(id: u8, count: u8, limit: u16, version: u32) -> bool
         && 1 <= limit
         && limit <= 4096
         && (version == 3 || count == 2 && 1 <= version && version <= 2)
+}
+
+/// The other party after the reply to a command to begin a move to a host.
+fn partner_begun(partner: u8, to: u8, reply: &HostReply) -> u8
+    ensures { (policy : Policy) → result
+        ≡ partner_of (commands.Do (commands.Begin to policy)) reply.now partner }
+{
+    match reply {
+        HostReply::Begun(_) => to,
+        _ => partner,
+    }
+}
+
+/// The other party after the reply to a frame of a host.
+fn partner_accepted(partner: u8, from: u8, reply: &HostReply) -> u8
+    ensures { (frame : BoardFrame) → result ≡ partner_of (commands.Came from frame) reply.now partner }
+{
+    match reply {
+        HostReply::Accepted => from,
+        _ => partner,
+    }
 }
 
 /// A frame, if there is one, with its address.

@@ -55,7 +55,7 @@ pub(crate) enum Mode<M: PagedMemory> {
     },
 }
 
-impl<M: PagedMemory> Mode<M> {
+impl<M: PagedMemory + Drop> Mode<M> {
     /// The mode, of which nothing is left here.
     pub(crate) fn take(&mut self) -> Mode<M>
         ensures { result ≡ self.old }

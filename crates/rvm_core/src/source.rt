@@ -19,7 +19,7 @@ use rvm_precopy::Policy;
 use rvm_source::Source;
 use std::alloc::{AllocError, Global};
 
-impl<M: PagedMemory> Mode<M> {
+impl<M: PagedMemory + Drop> Mode<M> {
     /// An event of the guest. Takes no memory.
     pub(crate) fn board(&mut self, event: &BoardEvent) -> HostReply
         ensures { (version : ℕ) → Answers version

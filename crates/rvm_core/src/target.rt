@@ -20,7 +20,7 @@ use rvm_mem::PagedMemory;
 use rvm_message::{Answer, HostRefusal, HostReply};
 use std::alloc::{AllocError, Global};
 
-impl<M: PagedMemory> Mode<M> {
+impl<M: PagedMemory + Drop> Mode<M> {
     /// A move is offered. What is staged or held here stays until there is room for the new guest.
     /// After a refused growth nothing has changed.
     pub(crate) fn offered(
@@ -40,10 +40,15 @@ impl<M: PagedMemory> Mode<M> {
     {
         match self {
             Mode::Run { .. } | Mode::Leaving(_) => Ok(HostReply::refused(HostRefusal::Ignored)),
-            Mode::Staging { move_number: staged, .. } if *staged == move_number => {
-                Ok(HostReply::Accepted.with(Frame::Accept { move_number }))
+            Mode::Staging { move_number: staged, .. } => {
+                if *staged == move_number {
+                    return Ok(HostReply::Accepted.with(Frame::Accept { move_number }));
+                }
+                self.offered_above(alloc, limit, move_number, pages, harts)
             }
-            _ => self.offered_above(alloc, limit, move_number, pages, harts),
+            Mode::Empty { .. } | Mode::Given { .. } | Mode::Held { .. } => {
+                self.offered_above(alloc, limit, move_number, pages, harts)
+            }
         }
     }
 
@@ -149,7 +154,7 @@ impl<M: PagedMemory> Mode<M> {
                 match staging.state(alloc, numbers, bytes) {
                     Ok(guest) => Ok(self.hold(move_number, guest)),
                     Err((reason, staging)) => {
-                        *self = Mode::Staging { move_number, staging };
+                        self.keep(move_number, staging);
                         not_ready(move_number, reason)
                     }
                 }
@@ -187,13 +192,20 @@ impl<M: PagedMemory> Mode<M> {
                 match staging.part(alloc, stamp, part, parts, bytes) {
                     Ok(guest) => Ok(self.hold(move_number, guest)),
                     Err((reason, staging)) => {
-                        *self = Mode::Staging { move_number, staging };
+                        self.keep(move_number, staging);
                         not_joined(move_number, part, parts, reason)
                     }
                 }
             }
             mode => Ok(self.stay(mode, HostRefusal::Ignored)),
         }
+    }
+
+    /// What came of the guest stays here.
+    fn keep(&mut self, move_number: u64, staging: Staging<M>)
+        ensures { self.new ≡ Mode.Staging move_number staging }
+    {
+        *self = Mode::Staging { move_number, staging };
     }
 
     /// The whole guest is here.
@@ -249,8 +261,11 @@ impl<M: PagedMemory> Mode<M> {
             (result, None) (mode_of (plain_of self.new)) }
     {
         match self {
-            Mode::Staging { move_number: here, .. } | Mode::Held { move_number: here, .. }
-                if *here == move_number => {
+            Mode::Staging { move_number: staged, .. } if *staged == move_number => {
+                *self = Mode::Empty { move_number };
+                HostReply::Dropped
+            }
+            Mode::Held { move_number: held, .. } if *held == move_number => {
                 *self = Mode::Empty { move_number };
                 HostReply::Dropped
             }
