@@ -22,7 +22,10 @@ use Rattle.rvm_protocol.specs.Modes.{ignores, refuses}
 use Rattle.rvm_protocol.specs.Obeying as obeying
 use Rattle.rvm_protocol.specs.Receiving as receiving
 use Rattle.rvm_protocol.specs.Replies.{BadHost, Reply}
-use Rattle.rvm_source.specs.Sources.{PlainSource}
+use Rattle.rvm_debug.specs.Guest.{GuestState}
+use Rattle.rvm_precopy.specs.Plans.{Plan}
+use Rattle.rvm_source.specs.Sources.{mode_in}
+use Rattle.rvm_source.specs.declared.phase.Phase.{Phase}
 use Rattle.rvm_source.specs.declared.phase.Phase.TheVariants as phases
 use Rattle.rvm_core.specs.Hosts.{PlainHost, Steps, host_of, partner_of}
 use Rattle.rvm_core.specs.Modes.{PlainMode, Empty, Run, Leaving, Given, Staging, Held, mode_of, runs}
@@ -48,15 +51,19 @@ settle old new e answer made after p does ep em en =
 
 -- BEGIN
 
-pub no_target : (version id count to : ℕ) (p : Policy) (mode : PlainMode) → runs mode ≡ true → is_there id count to ≡ false
-    → obey_at board version id count (Begin to p) (mode_of mode) ≡ refuses BadHost (mode_of mode)
-no_target version id count to p (Run n g) here none =
-    ap (λ (b : Bool). if b then obeying.begin board p (mode_of (Run n g)) else refuses BadHost (mode_of (Run n g))) none
-no_target version id count to p (Empty n) here none = absurd cc
-no_target version id count to p (Leaving s) here none = absurd cc
-no_target version id count to p (Given n) here none = absurd cc
-no_target version id count to p (Staging n s) here none = absurd cc
-no_target version id count to p (Held n g) here none = absurd cc
+leaving_begins : (version id count to : ℕ) (p : Policy) (n : ℕ) (g : GuestState) (r : Plan) (phase : Phase)
+    → obey_at board version id count (Begin to p) (mode_in n g r phase) ≡ obeying.begin board p (mode_in n g r phase)
+leaving_begins version id count to p n g r phases.Offering = refl
+leaving_begins version id count to p n g r phases.Copying = refl
+leaving_begins version id count to p n g r (phases.Stopped turn) = refl
+
+pub not_running : (a b : Bool) → a ≡ false → (a && b) ≡ false
+not_running true b h = absurd cc
+not_running false b h = refl
+
+pub target_there : (a b : Bool) → b ≡ true → (a && not b) ≡ false
+target_there true b h = ap not h
+target_there false b h = refl
 
 there : (b : Bool) → (true && not b) ≡ false → b ≡ true
 there true h = refl
@@ -67,9 +74,7 @@ pub begins_there : (version id count to : ℕ) (p : Policy) (mode : PlainMode) �
 begins_there version id count to p (Run n g) is =
     ap (λ (b : Bool). if b then obeying.begin board p (mode_of (Run n g)) else refuses BadHost (mode_of (Run n g))) (there (is_there id count to) is)
 begins_there version id count to p (Empty n) is = refl
-begins_there version id count to p (Leaving (record { move_number = n; guest = g; plan = r; phase = phases.Offering })) is = refl
-begins_there version id count to p (Leaving (record { move_number = n; guest = g; plan = r; phase = phases.Copying })) is = refl
-begins_there version id count to p (Leaving (record { move_number = n; guest = g; plan = r; phase = phases.Stopped turn })) is = refl
+begins_there version id count to p (Leaving s) is = leaving_begins version id count to p s.move_number s.guest s.plan s.phase
 begins_there version id count to p (Given n) is = refl
 begins_there version id count to p (Staging n s) is = refl
 begins_there version id count to p (Held n g) is = refl

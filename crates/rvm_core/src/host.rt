@@ -6,7 +6,6 @@ ghost use Rattle.rvm_message.specs.Frames.{BoardFrame, addressed_made, frame_hea
 ghost use Rattle.rvm_precopy.specs.Policies.{policy_of};
 ghost use Rattle.rvm_guest.proofs.TheGuest.{board};
 ghost use Rattle.rvm_protocol.specs.Commands as commands;
-ghost use Rattle.rvm_protocol.specs.Commands.{Policy};
 ghost use Rattle.rvm_protocol.specs.Frames.{plain, posted};
 ghost use Rattle.rvm_protocol.specs.Host.{is_heard, is_offer_above, is_there};
 ghost use Rattle.rvm_core.specs.Hosts.{Steps, host_of, is_sized, new_host, partner_of, version_of};
@@ -235,7 +234,7 @@ fn is_sized(id: u8, count: u8, limit: u16, version: u32) -> bool
 
 /// The other party after the reply to a command to begin a move to a host.
 fn partner_begun(partner: u8, to: u8, reply: &HostReply) -> u8
-    ensures { (policy : Policy) → result
+    ensures { (policy : commands.Policy) → result
         ≡ partner_of (commands.Do (commands.Begin to policy)) reply.now partner }
 {
     match reply {
