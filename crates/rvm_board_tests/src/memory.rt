@@ -12,7 +12,10 @@ fn a_set_of_pages_is_made(rt: HostRuntime) -> Result<(), Fail> {
     set.insert(66);
     set.insert(64);
     assert_eq!(rt; (set.count(), set.first()), (2, Some(64)));
-    assert_eq!(rt; (set.word(0), set.word(60), set.word(64)), (0, 0b101_0000, 0b101));
+    assert_eq!(rt;
+        (set.word(0), set.word(60), set.word(64)),
+        (0, 0b101_0000, 0b101)
+    );
     assert_eq!(rt;
         (set.contains(64), set.contains(65), set.contains(70)),
         (true, false, false)
