@@ -195,7 +195,8 @@ impl<M: PagedMemory + Drop> Host<M> {
         ensures { result ≡ is_heard self.now.id self.now.count from
             (plain board (frame_heard frame.now)) (host_of self.now) }
     {
-        self.is_there(from) && (from == self.partner || is_offer_above(self.mode.move_number(), frame))
+        self.is_there(from)
+            && (from == self.partner || is_offer_above(self.mode.move_number(), frame))
     }
 
     /// The version of its streams.

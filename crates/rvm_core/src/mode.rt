@@ -158,7 +158,12 @@ impl<M: PagedMemory + Drop> Mode<M> {
                 move_number,
                 copy_numbers,
                 state,
-            } => self.state(alloc, *move_number, copy_numbers.as_slice(), state.as_slice()),
+            } => self.state(
+                alloc,
+                *move_number,
+                copy_numbers.as_slice(),
+                state.as_slice(),
+            ),
             Frame::Ready { move_number } => Ok(self.ready(*move_number)),
             Frame::Go { move_number } => Ok(self.go(*move_number)),
             Frame::Started { move_number } => Ok(self.started(*move_number).alone()),

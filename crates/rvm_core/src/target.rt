@@ -40,7 +40,10 @@ impl<M: PagedMemory + Drop> Mode<M> {
     {
         match self {
             Mode::Run { .. } | Mode::Leaving(_) => Ok(HostReply::refused(HostRefusal::Ignored)),
-            Mode::Staging { move_number: staged, .. } => {
+            Mode::Staging {
+                move_number: staged,
+                ..
+            } => {
                 if *staged == move_number {
                     return Ok(HostReply::Accepted.with(Frame::Accept { move_number }));
                 }
@@ -95,8 +98,15 @@ impl<M: PagedMemory + Drop> Mode<M> {
             (mode_of (plain_of self.old))) (result, None) (mode_of (plain_of self.new)) }
     {
         match self {
-            Mode::Staging { move_number: staged, staging } if *staged == move_number => {
-                stored(staging.page(u32::from(page), copy_number, bytes.as_array()), page, copy_number)
+            Mode::Staging {
+                move_number: staged,
+                staging,
+            } if *staged == move_number => {
+                stored(
+                    staging.page(u32::from(page), copy_number, bytes.as_array()),
+                    page,
+                    copy_number,
+                )
             }
             _ => HostReply::Refused(HostRefusal::Ignored),
         }
@@ -109,8 +119,15 @@ impl<M: PagedMemory + Drop> Mode<M> {
             (mode_of (plain_of self.old))) (result, None) (mode_of (plain_of self.new)) }
     {
         match self {
-            Mode::Staging { move_number: staged, staging } if *staged == move_number => {
-                stored(staging.zero(u32::from(page), copy_number), page, copy_number)
+            Mode::Staging {
+                move_number: staged,
+                staging,
+            } if *staged == move_number => {
+                stored(
+                    staging.zero(u32::from(page), copy_number),
+                    page,
+                    copy_number,
+                )
             }
             _ => HostReply::Refused(HostRefusal::Ignored),
         }
@@ -123,7 +140,10 @@ impl<M: PagedMemory + Drop> Mode<M> {
             (mode_of (plain_of self.now))) (result, None) (mode_of (plain_of self.now)) }
     {
         match self {
-            Mode::Staging { move_number: staged, .. } if *staged == move_number => HostReply::Noted,
+            Mode::Staging {
+                move_number: staged,
+                ..
+            } if *staged == move_number => HostReply::Noted,
             _ => HostReply::Refused(HostRefusal::Ignored),
         }
     }
@@ -146,9 +166,15 @@ impl<M: PagedMemory + Drop> Mode<M> {
             return Ok(HostReply::ReadySent.with(Frame::Ready { move_number }));
         }
         match self.take() {
-            Mode::Staging { move_number: staged, staging } => {
+            Mode::Staging {
+                move_number: staged,
+                staging,
+            } => {
                 if staged != move_number {
-                    let mode = Mode::Staging { move_number: staged, staging };
+                    let mode = Mode::Staging {
+                        move_number: staged,
+                        staging,
+                    };
                     return Ok(self.stay(mode, HostRefusal::Ignored));
                 }
                 match staging.state(alloc, numbers, bytes) {
@@ -184,9 +210,15 @@ impl<M: PagedMemory + Drop> Mode<M> {
         }
         let bytes = bytes.copy(alloc)?;
         match self.take() {
-            Mode::Staging { move_number: staged, staging } => {
+            Mode::Staging {
+                move_number: staged,
+                staging,
+            } => {
                 if staged != move_number {
-                    let mode = Mode::Staging { move_number: staged, staging };
+                    let mode = Mode::Staging {
+                        move_number: staged,
+                        staging,
+                    };
                     return Ok(self.stay(mode, HostRefusal::Ignored));
                 }
                 match staging.part(alloc, stamp, part, parts, bytes) {
@@ -205,7 +237,10 @@ impl<M: PagedMemory + Drop> Mode<M> {
     fn keep(&mut self, move_number: u64, staging: Staging<M>)
         ensures { self.new ≡ Mode.Staging move_number staging }
     {
-        *self = Mode::Staging { move_number, staging };
+        *self = Mode::Staging {
+            move_number,
+            staging,
+        };
     }
 
     /// The whole guest is here.
@@ -223,7 +258,10 @@ impl<M: PagedMemory + Drop> Mode<M> {
         ensures { result ≡ is_held move_number (plain_of self.now) }
     {
         match self {
-            Mode::Held { move_number: held, .. } => *held == move_number,
+            Mode::Held {
+                move_number: held,
+                ..
+            } => *held == move_number,
             _ => false,
         }
     }
@@ -235,16 +273,28 @@ impl<M: PagedMemory + Drop> Mode<M> {
             result (mode_of (plain_of self.new)) }
     {
         match self.take() {
-            Mode::Held { move_number: held, guest } => {
+            Mode::Held {
+                move_number: held,
+                guest,
+            } => {
                 if held != move_number {
-                    let mode = Mode::Held { move_number: held, guest };
+                    let mode = Mode::Held {
+                        move_number: held,
+                        guest,
+                    };
                     return self.stay(mode, HostRefusal::Ignored);
                 }
                 *self = Mode::Run { move_number, guest };
                 HostReply::Started.with(Frame::Started { move_number })
             }
-            Mode::Run { move_number: runs, guest } => {
-                *self = Mode::Run { move_number: runs, guest };
+            Mode::Run {
+                move_number: runs,
+                guest,
+            } => {
+                *self = Mode::Run {
+                    move_number: runs,
+                    guest,
+                };
                 if runs != move_number {
                     return HostReply::refused(HostRefusal::Ignored);
                 }
@@ -261,11 +311,17 @@ impl<M: PagedMemory + Drop> Mode<M> {
             (result, None) (mode_of (plain_of self.new)) }
     {
         match self {
-            Mode::Staging { move_number: staged, .. } if *staged == move_number => {
+            Mode::Staging {
+                move_number: staged,
+                ..
+            } if *staged == move_number => {
                 *self = Mode::Empty { move_number };
                 HostReply::Dropped
             }
-            Mode::Held { move_number: held, .. } if *held == move_number => {
+            Mode::Held {
+                move_number: held,
+                ..
+            } if *held == move_number => {
                 *self = Mode::Empty { move_number };
                 HostReply::Dropped
             }

@@ -9,6 +9,6 @@ returns-in-Err-clause-answer g c =
     let there = ap plain_of c.keep.ensures in
     if_ok c.not_joined.result _ _
     (λ a so limit version.
-      part_left limit version c.in-Staging.staged c.args.move_number (plain_of c.args.self.now) (plain_of c.keep.new.self) c.in-Staging.staging c.in-Err.staging a here there c.if-staged-move_number.false
-      c.args.stamp c.args.part c.args.parts c.args.bytes.now c.in_ok-bytes.bytes c.in-Err.reason c.in_ok-bytes.ensures (so version) (c.in-Err.ensures.left c.args.move_number))
+    part_left limit version c.in-Staging.staged c.args.move_number (plain_of c.args.self.now) (plain_of c.keep.new.self) c.in-Staging.staging c.in-Err.staging a here there c.if-staged-move_number.false
+    c.args.stamp c.args.part c.args.parts c.args.bytes.now c.in_ok-bytes.bytes c.in-Err.reason c.in_ok-bytes.ensures (so version) (c.in-Err.ensures.left c.args.move_number))
     c.not_joined.ensures.answer
