@@ -1,3 +1,4 @@
 pub mod Modes
 pub mod Hosts
 pub mod Memory
+pub mod Bounds

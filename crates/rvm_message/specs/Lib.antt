@@ -3,3 +3,4 @@ pub mod Events
 pub mod Refusals
 pub mod Replies
 pub mod Answers
+pub mod Sendable

@@ -1,2 +1,3 @@
 pub mod Sources
 pub mod States
+pub mod Bounds

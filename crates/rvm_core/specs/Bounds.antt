@@ -1,0 +1,82 @@
+-- How many bytes the frame that a host makes of an event has at most, and that it has a spelling.
+use Rattle.std.specs.Prelude.{◌≡◌, ℕ, ◌+◌, ◌<◌, ◌≤◌, true, List, Option, Some, None, length}
+use Rattle.rvm_debug.specs.declared.event.BoardEvent.{BoardEvent}
+use Rattle.rvm_frame.specs.declared.addressed.Addressed.{Addressed}
+use Rattle.rvm_frame.specs.Grammar.{HasSpelling, MayStand, sent, spelling}
+use Rattle.rvm_frame.specs.Kinds.{header_len, names_hosts}
+use Rattle.rvm_message.specs.Events.{BoardHostEvent}
+use Rattle.rvm_message.specs.Frames.{BoardFrame}
+use Rattle.rvm_protocol.specs.Commands.{Command, Board, Begin, Copy, Resend, AbortMove, Do, Came}
+use Rattle.rvm_protocol.specs.Frames.{Offer, State, Part, Ready, Go}
+use Rattle.rvm_protocol.specs.Host.{is_there}
+use Rattle.rvm_source.specs.Bounds.{body_bound}
+use Rattle.rvm_core.specs.Hosts.{PlainHost}
+use Rattle.rvm_core.specs.Modes.{PlainMode, Leaving, Given, Held, Empty, Run, Staging}
+
+-- the most bytes of the body of the frame that a copy makes; None where it makes no frame
+abbrev pub copy_body : (version : ℕ) → PlainMode → Option ℕ
+copy_body version (Leaving s) = Some (body_bound version s)
+copy_body version mode = None
+
+-- of the frame that is sent again
+abbrev pub resend_body : (version : ℕ) → PlainMode → Option ℕ
+resend_body version (Leaving s) = Some (body_bound version s)
+resend_body version (Given n) = Some 0
+resend_body version (Held n g) = Some 0
+resend_body version mode = None
+
+-- of the frame that a command makes
+abbrev pub command_body : (version : ℕ) → PlainMode → Command BoardEvent → Option ℕ
+command_body version mode (Board e) = None
+command_body version mode (Begin to p) = Some 3
+command_body version mode Copy = copy_body version mode
+command_body version mode Resend = resend_body version mode
+command_body version mode AbortMove = Some 0
+
+-- of the frame that answers one that comes
+abbrev pub came_body : BoardFrame → Option ℕ
+came_body (Offer n pages harts) = Some 2
+came_body (State n numbers state) = Some 8192
+came_body (Part n stamp part parts bytes) = Some 8192
+came_body (Ready n) = Some 0
+came_body (Go n) = Some 0
+came_body f = None
+
+abbrev pub event_body : PlainHost → BoardHostEvent → Option ℕ
+event_body h (Do c) = command_body h.version h.mode c
+event_body h (Came from f) = came_body f
+
+-- the most bytes of a frame by those of its body; 0 where no frame is made
+abbrev pub with_header : (version : ℕ) → Option ℕ → ℕ
+with_header version None = 0
+with_header version (Some n) = header_len (names_hosts (Some version)) + n
+
+-- the most bytes of the frame that an event makes
+abbrev pub frame_bound : PlainHost → BoardHostEvent → ℕ
+frame_bound h e = with_header h.version (event_body h e)
+
+-- a frame of this host goes to another one, may stand in its stream, and has a spelling of at most so many bytes
+pub record IsPosted (h : PlainHost) (most : ℕ) (a : Addressed) : Type 0 where
+  pub from : a.from ≡ h.id
+  pub to : is_there h.id h.count a.to ≡ true
+  pub spelled : HasSpelling (sent h.version a)
+  pub stands : MayStand (Some h.version) (sent h.version a)
+  pub short : length (spelling (sent h.version a)) ≤ most
+
+-- a frame that was made, if any
+abbrev pub CanBePosted : (h : PlainHost) → (most : ℕ) → Option Addressed → Type 0
+CanBePosted h most None = Unit {0}
+CanBePosted h most (Some a) = IsPosted h most a
+
+-- a move with a number, and another host for its other party
+abbrev pub IsMove : (id count partner move : ℕ) → Type 0
+IsMove id count partner n = (0 < n) × (is_there id count partner ≡ true)
+
+-- in each mode of a move
+abbrev pub KeepsMove : (id count partner : ℕ) → PlainMode → Type 0
+KeepsMove id count partner (Empty n) = Unit {0}
+KeepsMove id count partner (Run n g) = Unit {0}
+KeepsMove id count partner (Leaving s) = IsMove id count partner s.move_number
+KeepsMove id count partner (Given n) = IsMove id count partner n
+KeepsMove id count partner (Staging n s) = IsMove id count partner n
+KeepsMove id count partner (Held n g) = IsMove id count partner n

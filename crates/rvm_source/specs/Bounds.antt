@@ -1,0 +1,21 @@
+-- How many bytes the body of the next frame of a source has at most.
+use Rattle.std.specs.Prelude.{ℕ, ◌+◌, ◌*◌, Bool, true, false, ◌&&◌, if◌then◌else◌, is_some, length, nat_lt, not}
+use Rattle.rvm_precopy.specs.Plans.{Plan, last_found}
+use Rattle.rvm_state.specs.Spelling.{longest}
+use Rattle.rvm_source.specs.declared.phase.Phase.{Phase}
+use Rattle.rvm_source.specs.declared.phase.Phase.TheVariants as phases
+use Rattle.rvm_source.specs.Sources.{PlainSource}
+
+-- the guest is paused, and no page of it is left to be copied
+abbrev pub is_copied : Phase → Plan → Bool
+is_copied (phases.Stopped turn) r = not (is_some (last_found r))
+is_copied phase r = false
+
+-- the state of a guest of so many pages, whole
+abbrev pub state_bound : (pages : ℕ) → ℕ
+state_bound pages = 2 + 4 * pages + longest
+
+-- a copy of a page with its numbers, or a piece of the state with its own; in version 1 the state is sent whole
+abbrev pub body_bound : (version : ℕ) → PlainSource → ℕ
+body_bound version s =
+    if nat_lt version 2 && is_copied s.phase s.plan then state_bound (length s.plan.to_send) else 4102

@@ -1,0 +1,105 @@
+-- Worlds of hosts: as plain values, and as the law of live migration has them.
+use Rattle.std.specs.Prelude.{◌≡◌, ◌↔◌, ℕ, ◌<◌, ◌==◌, ◌&&◌, ◌||◌, Bool, true, false, List, [], ◌∷◌, ◌++◌, map, length, take, get_or, Option, Some, None, nat_lt, if◌then◌else◌, Result, Ok, Err}
+use Rattle.std.specs.List.{list_all}
+use Rattle.rvm_codec.specs.Numbers.{within}
+use Rattle.rvm_debug.specs.declared.event.BoardEvent.{BoardEvent}
+use Rattle.rvm_debug.specs.declared.event.BoardReply.{BoardReply}
+use Rattle.rvm_debug.specs.Guest.{Guest, GuestState}
+use Rattle.rvm_frame.specs.declared.addressed.Addressed.{Addressed}
+use Rattle.rvm_frame.specs.Grammar.{Received, sent, spelling}
+use Rattle.rvm_frame.specs.Verdict.{one_frame_of, verdict}
+use Rattle.rvm_guest.proofs.TheGuest.{board}
+use Rattle.rvm_guest.specs.Valid.{is_valid}
+use Rattle.rvm_message.specs.Events.{command_of}
+use Rattle.rvm_message.specs.Frames.{BoardFrame, frame_heard, no_frame}
+use Rattle.rvm_message.specs.Replies.{reply_of}
+use Rattle.rvm_protocol.specs.Commands.{Board}
+use Rattle.rvm_protocol.specs.Frames as frames
+use Rattle.rvm_protocol.specs.Replies.{Reply}
+use Rattle.rvm_protocol.specs.World as protocol
+use Rattle.rvm_core.specs.Hosts.{PlainHost, host_of, new_host}
+use Rattle.rvm_world.specs.declared.event.Event.{Event}
+use Rattle.rvm_world.specs.declared.event.Event.TheVariants as event
+use Rattle.rvm_world.specs.declared.event.WorldReply.{WorldReply}
+
+-- a frame that was sent: its bytes, and the hosts that it goes between
+pub record Kept : Type 0 where
+  pub from : ℕ
+  pub to : ℕ
+  pub bytes : List ℕ
+
+-- the version of its streams, its hosts in order, and each frame that was sent, oldest first
+pub record PlainWorld : Type 0 where
+  pub version : ℕ
+  pub hosts : List PlainHost
+  pub sent : List Kept
+
+-- the frame that bytes are in a stream of a version
+abbrev pub frame_or : {F : Type 0} → Result Received F → BoardFrame
+frame_or (Ok x) = frame_heard x.1
+frame_or (Err why) = no_frame
+
+abbrev pub frame_in : (version : ℕ) → List ℕ → BoardFrame
+frame_in version bytes = frame_or (one_frame_of (verdict (Some version) bytes))
+
+abbrev pub kept_of : (version : ℕ) → Kept → frames.Addressed (List ℕ) (List ℕ)
+kept_of version k = record { from = k.from; to = k.to; frame = frame_in version k.bytes }
+
+-- the host of a number; one past the last is empty, and nothing reaches it
+abbrev pub host_at : List PlainHost → ℕ → PlainHost
+host_at hosts x = get_or hosts x (new_host None x 0 0 0)
+
+-- the world of the law
+abbrev pub BoardWorld : Type 0
+BoardWorld = protocol.World Guest (List ℕ) (List ℕ)
+
+abbrev pub world_of : PlainWorld → BoardWorld
+world_of w =
+    record {
+      version = w.version;
+      count = length w.hosts;
+      limits = λ x. (host_at w.hosts x).limit;
+      hosts = λ x. host_of (host_at w.hosts x);
+      sent = map (kept_of w.version) w.sent;
+    }
+
+-- an event and a reply of the law
+abbrev pub meant : Event → protocol.Event BoardEvent
+meant (event.At x c) = protocol.At x (command_of c)
+meant (event.Deliver k) = protocol.Deliver k
+
+abbrev pub said : WorldReply → Reply BoardReply
+said r = reply_of r.reply
+
+-- an event of the guest takes no memory
+abbrev pub asks_memory : protocol.Event BoardEvent → Bool
+asks_memory (protocol.At x (Board e)) = false
+asks_memory e = true
+
+-- the place of the frame that was made, where one more was sent after than before
+abbrev pub place_of : (before after : ℕ) → Option ℕ
+place_of before after = if nat_lt before after then Some before else None
+
+-- 2 to 8 hosts that each take 1 to 4096 pages; streams of version 1 to 3, of more than two hosts 3
+abbrev pub is_sized : (version : ℕ) → (limits : List ℕ) → Bool
+is_sized version limits =
+    within 2 8 (length limits) && (list_all (within 1 4096) limits
+    && (version == 3 || (length limits == 2 && within 1 2 version)))
+
+-- how many pages host x takes
+abbrev pub limit_at : List ℕ → ℕ → ℕ
+limit_at limits x = get_or limits x 0
+
+-- some events made this world of a new one
+pub record IsReached (w : BoardWorld) : Type 0 where
+  pub start : Guest
+  pub limits : ℕ → ℕ
+  pub before : List (protocol.Event BoardEvent)
+  pub valid : is_valid start ≡ true
+  pub reached : w ≡ protocol.run board (protocol.new_world board w.version start w.count limits) before
+
+-- the first so many of some events made the world `new` of the world `old`
+pub record IsPartOf (events : List (protocol.Event BoardEvent)) (old new : BoardWorld) : Type 0 where
+  pub made : ℕ
+  pub there : made < length events
+  pub leaves : new ≡ protocol.run board old (take made events)

@@ -1,0 +1,46 @@
+//! Runs of a world.
+
+ghost use Rattle.std.specs.Prelude.{◌≡◌, ℕ, true, List, map, IfOk, OnOk, OnErr};
+ghost use Rattle.rvm_debug.specs.Guest.{Guest};
+ghost use Rattle.rvm_guest.proofs.TheGuest.{board};
+ghost use Rattle.rvm_guest.specs.Valid.{is_valid};
+ghost use Rattle.rvm_protocol.specs.Shown.{Shown};
+ghost use Rattle.rvm_protocol.specs.Told.{Told, at_start};
+ghost use Rattle.rvm_protocol.specs.World.{history, new_world, replies, run};
+ghost use Rattle.rvm_world.specs.NeverMoved.{FramesAreTrue, NeverMoved};
+ghost use Rattle.rvm_world.specs.Worlds.{IsPartOf, meant, said, world_of};
+
+use crate::event::{Event, WorldReply};
+use crate::world::World;
+use rvm_mem::PagedMemory;
+use std::alloc::{AllocError, Global};
+
+/// Runs a list of events. The guest at the current host, and each answer that it gave, are those of one
+/// board that never moves: from a new world, and from any other one by what its modes show. After a
+/// refused growth the world is as the events before it left it.
+pub fn run_world<M: PagedMemory + Drop>(
+    alloc: Global,
+    world: &mut World<M>,
+    events: &[Event],
+) -> Result<Vec<WorldReply>, AllocError>
+    // Each reply, and the world behind the last one, are those of the law.
+    ensures replies { IfOk result (λ rs. map said rs.items
+        ≡ replies board (world_of world.old) (map meant events.now)) }
+    ensures world { OnOk result (world_of world.new ≡ run board (world_of world.old) (map meant events.now)) }
+    // The guest never moved.
+    ensures never_moved { OnOk result ((t : Told Guest) → Shown (world_of world.old).hosts t
+        → NeverMoved t (world_of world.new) (history board (world_of world.old) (map meant events.now))) }
+    // The frames of a run from a new world.
+    ensures frames { OnOk result ((start : Guest) (count : ℕ) (limits : ℕ → ℕ) → is_valid start ≡ true
+        → world_of world.old ≡ new_world board world.old.version start count limits
+        → FramesAreTrue start (world_of world.old) (map meant events.now)) }
+    ensures err { OnErr result (IsPartOf (map meant events.now) (world_of world.old) (world_of world.new)) }
+{
+    let mut replies = Vec::new(alloc);
+    for event in events {
+        replies.reserve(1)?;
+        let reply = world.apply(alloc, event)?;
+        replies.push_reserved(reply);
+    }
+    Ok(replies)
+}
