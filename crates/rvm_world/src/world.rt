@@ -110,6 +110,11 @@ impl<M: PagedMemory + Drop> World<M> {
         todo
     }
 
+    /// Some events made it of a new world.
+    pub fn reached(&self)
+        ensures { IsReached (world_of self.now) }
+    {}
+
     /// What an event does: the reply, and the place of the frame that was made, if one was. After a
     /// refused growth nothing has changed; an event of the guest takes no memory.
     pub fn apply(&mut self, alloc: Global, event: &Event) -> Result<WorldReply, AllocError>
