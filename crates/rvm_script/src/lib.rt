@@ -15,4 +15,8 @@ mod lines;
 mod script;
 mod words;
 
-pub use script::{MAX_SCRIPT_SIZE, ScriptError, run_script};
+pub use answers::{address_of, is_refused, write_reply, write_steps};
+pub use hex_text::HexText;
+pub use line::{Line, without_return};
+pub use script::{MAX_SCRIPT_SIZE, ScriptError, read_script, run_script, split_line};
+pub use words::{Words, numeral};

@@ -1,0 +1,31 @@
+//! The commands of a move.
+
+ghost use Rattle.std.specs.Prelude.{◌≡◌};
+ghost use Rattle.rvm_world_line.specs.WorldLines.{world_command_of};
+
+/// What the first word of a line about a move names.
+#[derive(Clone, Copy)]
+pub enum WorldCommand {
+    Begin,
+    Move,
+    Copy,
+    Resend,
+    Abort,
+}
+
+impl WorldCommand {
+    /// The command that a word names.
+    #[tactic(auto, unfolding(crate::specs::WorldLines::world_command_of))]
+    pub fn named(word: &[u8]) -> Option<WorldCommand>
+        ensures { result ≡ world_command_of word.now }
+    {
+        match word {
+            b"begin" => Some(WorldCommand::Begin),
+            b"move" => Some(WorldCommand::Move),
+            b"copy" => Some(WorldCommand::Copy),
+            b"resend" => Some(WorldCommand::Resend),
+            b"abort" => Some(WorldCommand::Abort),
+            _ => None,
+        }
+    }
+}
