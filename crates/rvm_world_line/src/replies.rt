@@ -2,6 +2,7 @@
 
 ghost use Rattle.std.specs.Prelude.{◌≡◌, OnOk};
 ghost use Rattle.std.specs.Io.KnownBytes.{Appends};
+ghost use Rattle.rvm_message.specs.Replies.{reply_of};
 ghost use Rattle.rvm_world_line.specs.Replies.{ends_steps, guest_text, move_text, steps_text};
 
 use rvm_message::HostReply;
@@ -15,7 +16,7 @@ pub fn write_move_reply<W: Write>(
     place: Option<usize>,
 ) -> Result<(), LinkFault>
     ensures { OnOk result (Appends (W.contents writer.old) (W.contents writer.new)
-        (move_text reply.now place)) }
+        (move_text (reply_of reply.now) place)) }
 {
     todo
 }
@@ -28,7 +29,7 @@ pub fn write_guest_reply<W: Write>(
     reply: &HostReply,
 ) -> Result<(), LinkFault>
     ensures { OnOk result (Appends (W.contents writer.old) (W.contents writer.new)
-        (guest_text address reply.now)) }
+        (guest_text address (reply_of reply.now))) }
 {
     todo
 }
@@ -41,14 +42,14 @@ pub fn write_steps_reply<W: Write>(
     last: &HostReply,
 ) -> Result<(), LinkFault>
     ensures { OnOk result (Appends (W.contents writer.old) (W.contents writer.new)
-        (steps_text hart count last.now)) }
+        (steps_text hart count (reply_of last.now))) }
 {
     todo
 }
 
 /// Whether no step is made after this reply to one.
 pub fn ends_steps(reply: &HostReply) -> bool
-    ensures { result ≡ ends_steps reply.now }
+    ensures { result ≡ ends_steps (reply_of reply.now) }
 {
     todo
 }
