@@ -95,6 +95,14 @@ impl<M: PagedMemory + Drop> World<M> {
         self.hosts.len() as u8
     }
 
+    /// The host that has the guest, running or paused: the target of the last move that was committed, at
+    /// first host 0.
+    pub fn current(&self) -> u8
+        ensures { (t : Told Guest) → Shown (world_of self.now).hosts t → result ≡ t.current }
+    {
+        todo
+    }
+
     /// How many frames were sent.
     pub fn sent(&self) -> usize
         ensures { result ≡ length self.now.sent }
