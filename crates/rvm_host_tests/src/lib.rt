@@ -1,0 +1,19 @@
+//! Tests of hosts, of what no clause says: that each event that takes memory succeeds, also after it
+//! was refused memory (`rt try --test --fail-alloc N` refuses the growth N of each test), and worked
+//! moves from their first frame to their last.
+//!
+//! Stands on the libraries, which have no tests of their own. The answers that it expects are worked
+//! by hand from the protocol's rules.
+//!
+//! `hosts` plays events on hosts, `replies` writes a reply as a name and numbers, `moves` are worked
+//! moves, and `strangers` are frames that hosts do not wait for.
+#![tactic(auto)]
+
+#[cfg(test)]
+mod hosts;
+#[cfg(test)]
+mod moves;
+#[cfg(test)]
+mod replies;
+#[cfg(test)]
+mod strangers;
