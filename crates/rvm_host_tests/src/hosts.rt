@@ -109,10 +109,7 @@ impl Hosts {
     ) -> Result<Option<(usize, HostEvent)>, AllocError> {
         Ok(Some(match event {
             Event::Step(host) => (host, HostEvent::Do(Command::Board(BoardEvent::Step(0)))),
-            Event::Begin(host, to) => (
-                host,
-                HostEvent::Do(Command::Begin { to, policy: POLICY }),
-            ),
+            Event::Begin(host, to) => (host, HostEvent::Do(Command::Begin { to, policy: POLICY })),
             Event::Copy(host) => (host, HostEvent::Do(Command::Copy)),
             Event::Resend(host) => (host, HostEvent::Do(Command::Resend)),
             Event::Abort(host) => (host, HostEvent::Do(Command::Abort)),
@@ -120,7 +117,10 @@ impl Hosts {
                 let Some(sent) = self.sent.get(which) else {
                     return Ok(None);
                 };
-                (usize::from(sent.to), HostEvent::Came(sent.from, sent.frame.copy(alloc)?))
+                (
+                    usize::from(sent.to),
+                    HostEvent::Came(sent.from, sent.frame.copy(alloc)?),
+                )
             }
         }))
     }

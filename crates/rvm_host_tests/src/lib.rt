@@ -5,12 +5,17 @@
 //! Stands on the libraries, which have no tests of their own. The answers that it expects are worked
 //! by hand from the protocol's rules.
 //!
-//! `hosts` plays events on hosts, `replies` writes a reply as a name and numbers, `moves` are worked
-//! moves, and `strangers` are frames that hosts do not wait for.
+//! `hosts` plays events on hosts, `replies` writes a reply as a name and numbers, `frames` makes a frame
+//! of each kind, `moves` are worked moves, `modes` has each command and each kind of frame in each mode,
+//! and `strangers` are frames that hosts do not wait for.
 #![tactic(auto)]
 
 #[cfg(test)]
+mod frames;
+#[cfg(test)]
 mod hosts;
+#[cfg(test)]
+mod modes;
 #[cfg(test)]
 mod moves;
 #[cfg(test)]

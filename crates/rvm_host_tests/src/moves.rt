@@ -11,6 +11,7 @@ const LOOP: u32 = 0x0000_006F;
 const STORE: u32 = 0x0002_A023;
 
 const A: usize = 0;
+
 const B: usize = 1;
 
 /// An event, and what is answered to it.

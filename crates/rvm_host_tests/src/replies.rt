@@ -48,11 +48,20 @@ pub fn said(reply: &HostReply) -> Said {
             left,
         } => (
             "round",
-            [u64::from(*round), u64::from(*sent), u64::from(*skipped), u64::from(*left)],
+            [
+                u64::from(*round),
+                u64::from(*sent),
+                u64::from(*skipped),
+                u64::from(*left),
+            ],
         ),
         HostReply::Stopping => one("stopping", 0),
         HostReply::StateSent => one("state sent", 0),
-        HostReply::PartSent { part, parts } => two("part sent", u64::from(*part), u64::from(*parts)),
+        HostReply::PartSent { part, parts } => two(
+            "part sent",
+            u64::from(*part),
+            u64::from(*parts),
+        ),
         HostReply::Resent => one("resent", 0),
         HostReply::Aborted => one("aborted", 0),
         HostReply::Open => one("open", 0),
