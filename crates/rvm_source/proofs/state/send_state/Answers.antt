@@ -1,4 +1,5 @@
 use Rattle.std.proofs.Common.{arith, ◌≡◌, ◌*◌, ap, length, subst, sym, ◌∙◌}
+use Rattle.rvm_message.specs.Frames.{frame_of}
 use Rattle.rvm_precopy.specs.Plans.{IsPlanOf}
 use Rattle.rvm_source.proofs.Sending.{newest_is, sent_piece, sent_whole}
 use Rattle.rvm_source.proofs.state.send_state.Goals as goal

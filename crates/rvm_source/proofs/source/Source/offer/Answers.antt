@@ -5,8 +5,8 @@ use Rattle.rvm_source.specs.Sources.{PlainSource}
 use Rattle.rvm_source.proofs.Frames.{offer_is}
 use Rattle.rvm_source.proofs.source.Source.offer.Goals as goal
 
-pub returns : goal.returns
-returns g c =
+pub returns-clause-frame : goal.returns-clause-frame
+returns-clause-frame g c =
     let guest = c.self.inside.guest in
     let a = c.len-size.ensures.length ∙ ap length c.memory.ensures.bytes in
     let b = c.len-size.ensures.pages ∙ ap (λ xs. 4096 * length xs) c.memory.ensures.dirty in
