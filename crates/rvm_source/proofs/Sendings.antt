@@ -1,5 +1,5 @@
 -- Each frame that a source makes can be sent, and its body has at most so many bytes.
-use Rattle.std.proofs.Common.{◌≡◌, inl, inr, ℕ, zero, suc, ◌+◌, ◌-◌, ◌*◌, ◌^◌, ◌<◌, ◌≤◌, Bool, true, false, ◌&&◌, ◌||◌, ◌==◌, if◌then◌else◌, nat_lt, List, [], ◌∷◌, length, get_or, take, drop, min, Option, Some, None, refl, sym, ap, ◌∙◌, subst, arith}
+use Rattle.std.proofs.Common.{◌≡◌, inl, inr, ℕ, zero, suc, ◌+◌, ◌-◌, ◌*◌, ◌^◌, ◌<◌, ◌≤◌, Bool, true, false, not, ◌&&◌, ◌||◌, ◌==◌, if◌then◌else◌, nat_lt, List, [], ◌∷◌, length, get_or, take, drop, min, Option, Some, None, refl, sym, ap, ◌∙◌, subst, arith}
 use Rattle.std.specs.List.{list_all}
 use Rattle.std.specs.Option.{is_some}
 use Rattle.std.specs.Int.{div_ceil}
@@ -16,10 +16,13 @@ use Rattle.rvm_frame.proofs.Lengths.{length_state}
 use Rattle.rvm_guest.specs.Pieces.{cut}
 use Rattle.rvm_guest.proofs.Pieces.{count_of_cut, cut_at}
 use Rattle.rvm_message.specs.Sendable.{IsSendable, CanBeSent}
-use Rattle.rvm_precopy.specs.Plans.{Plan, last_found}
+use Rattle.rvm_precopy.specs.Coverage.{CoversLast}
+use Rattle.rvm_precopy.specs.Plans.{IsPlanOf, Plan, last_found}
+use Rattle.rvm_precopy.proofs.Coverage.{all_copied}
 use Rattle.rvm_state.specs.Spelling.{longest}
 use Rattle.rvm_source.specs.Bounds.{body_bound, is_copied, state_bound, state_frame_bound}
 use Rattle.rvm_source.specs.Sources.{PlainSource}
+use Rattle.rvm_source.specs.declared.phase.Phase.TheVariants as phases
 
 -- a number in its limits
 in_limits : (low high n : ℕ) → low ≤ n → n ≤ high → within low high n ≡ true
@@ -146,20 +149,77 @@ part_can_be_sent version m stamp turn parts numbers state bytes new some_move sm
       body_length = omega (arith, short);
     }
 
+-- THE STATE OF A PAUSED GUEST, WITH NO PAGE LEFT
+
+module _ (r : Plan) (c : CoversLast r) (copied : last_found r ≡ None) (some : 0 < length r.to_send) where
+  -- a copy was made
+  some_copies : 0 < r.copies
+  some_copies =
+      let first = all_copied r c copied 0 some in
+      let number = c.numbers 0 in
+      omega (arith, first, number)
+
+  each_copy : (numbers : List ℕ) → numbers ≡ r.newest → IsPlanOf (length r.to_send) r → r.copies < 2 ^ 32
+      → (p : ℕ) → p < length numbers → (0 < get_or numbers p 0) × (get_or numbers p 0 < 2 ^ 32)
+  each_copy numbers same is few p inside =
+      let size : length numbers ≡ length r.to_send = ap length same ∙ is.newest in
+      let here : get_or numbers p 0 ≡ get_or r.newest p 0 = ap (λ ns. get_or ns p 0) same in
+      let copy = all_copied r c copied p (omega (arith, inside, size)) in
+      let number = c.numbers p in
+      (omega (arith, here, copy), omega (arith, here, number, few))
+
+pub state_is_sent : (version m : ℕ) (numbers state : List ℕ) (f : Frame) (r : Plan) → version < 2 → 0 < m → m < 2 ^ 64
+    → f ≡ frame.State m numbers state → length state ≤ longest → numbers ≡ r.newest → IsPlanOf (length r.to_send) r
+    → 0 < length r.to_send → r.copies < 2 ^ 32 → CoversLast r → last_found r ≡ None
+    → CanBeSent version (Some (state_frame_bound version (length r.to_send))) (Some f)
+state_is_sent version m numbers state f r old some_move small_move is short same plan some few c copied = λ known.
+    let one : version ≡ 1 = grind (arith, nat_tests, known) in
+    let size : length numbers ≡ length r.to_send = ap length same ∙ plan.newest in
+    let least : 0 < length numbers = omega (arith, size, some) in
+    let most : length numbers ≤ 4096 = let n : length r.to_send ≤ 4096 = plan.few in omega (arith, size, n) in
+    subst (λ v. CanBeSent v (Some (state_frame_bound v (length r.to_send))) (Some f)) (sym one)
+    (subst (λ x. CanBeSent 1 (Some (state_bound (length r.to_send))) (Some x)) (sym is)
+    (subst (λ n. CanBeSent 1 (Some (state_bound n)) (Some (frame.State m numbers state))) size
+    (state_can_be_sent m numbers state some_move small_move least most (each_copy r c copied some numbers same plan few) short)))
+    known
+
+pub piece_is_sent : (version m stamp turn parts : ℕ) (numbers state bytes : List ℕ) (r : Plan) → 2 ≤ version → 0 < m → m < 2 ^ 64
+    → stamp < 2 ^ 32 → stamp ≡ r.copies → numbers ≡ r.newest → 0 < length r.to_send → CoversLast r → last_found r ≡ None
+    → turn < length (cut r.newest state) → parts ≡ length (cut numbers state) → bytes ≡ get_or (cut numbers state) turn []
+    → parts ≤ 6 → CanBeSent version (Some (state_frame_bound version (length r.to_send))) (Some (frame.Part m stamp turn parts bytes))
+piece_is_sent version m stamp turn parts numbers state bytes r new some_move small_move small_stamp copies same some c copied there count is few =
+    let least = some_copies r c copied some in
+    let whole : length (cut numbers state) ≡ length (cut r.newest state) = ap (λ ns. length (cut ns state)) same in
+    within_bound version 4102 (state_frame_bound version (length r.to_send)) (Some (frame.Part m stamp turn parts bytes))
+    (cond_both (nat_lt version 2) (state_bound (length r.to_send)) 4102 (λ n. 4102 ≤ n) (λ whole. omega arith) (λ other. omega arith))
+    (part_can_be_sent version m stamp turn parts numbers state bytes new some_move small_move (omega (arith, copies, least)) small_stamp
+    (omega (arith, there, whole, count)) few count is)
+
 -- THE BOUND OF A SOURCE
 
 and_true : (b : Bool) → (b && true) ≡ b
 and_true true = refl
 and_true false = refl
 
-pub at_least : (version : ℕ) (s : PlainSource) → 4102 ≤ body_bound version s
+at_least : (version : ℕ) (s : PlainSource) → 4102 ≤ body_bound version s
 at_least version s =
     cond_both (nat_lt version 2 && is_copied s.phase s.plan) (state_bound (length s.plan.to_send)) 4102 (λ n. 4102 ≤ n)
     (λ whole. omega arith) (λ other. omega arith)
 
-pub bound_of_state : (version : ℕ) (s : PlainSource) → is_copied s.phase s.plan ≡ true
-    → state_frame_bound version (length s.plan.to_send) ≤ body_bound version s
-bound_of_state version s copied =
-    let same : state_frame_bound version (length s.plan.to_send) ≡ body_bound version s =
-    ap (λ b. if b then state_bound (length s.plan.to_send) else 4102) (sym (ap (λ b. nat_lt version 2 && b) copied ∙ and_true (nat_lt version 2))) in
-    omega (arith, same)
+-- a frame of the state of a source's guest
+pub state_in_bound : (version turn : ℕ) (s : PlainSource) (plan : Plan) (f : Frame) (made : Option Frame) → s.phase ≡ phases.Stopped turn
+    → last_found s.plan ≡ None → plan ≡ s.plan → made ≡ Some f
+    → CanBeSent version (Some (state_frame_bound version (length plan.to_send))) (Some f)
+    → CanBeSent version (Some (body_bound version s)) made
+state_in_bound version turn s plan f made phase copied same is can =
+    let over : is_copied s.phase s.plan ≡ true = ap (λ x. is_copied x s.plan) phase ∙ ap (λ o. not (is_some o)) copied in
+    let bound : state_frame_bound version (length plan.to_send) ≡ body_bound version s =
+    ap (λ (r : Plan). state_frame_bound version (length r.to_send)) same
+    ∙ ap (λ b. if b then state_bound (length s.plan.to_send) else 4102) (sym (ap (λ b. nat_lt version 2 && b) over ∙ and_true (nat_lt version 2))) in
+    subst (λ n. CanBeSent version (Some n) made) bound
+    (subst (CanBeSent version (Some (state_frame_bound version (length plan.to_send)))) (sym is) can)
+
+-- a frame of a copy
+pub copy_in_bound : (version : ℕ) (s : PlainSource) (made : Option Frame) → CanBeSent version (Some 4102) made
+    → CanBeSent version (Some (body_bound version s)) made
+copy_in_bound version s made can = within_bound version 4102 (body_bound version s) made (at_least version s) can

@@ -145,12 +145,7 @@ impl<M: PagedMemory> Source<M> {
             ≡ obeying.offer_frame board self.now.move_number self.now.guest.guest }
         ensures sent { (version : ℕ) → CanBeSent version (Some 3) (Some result) }
     {
-        let _size = self.guest.memory().len();
-        Frame::Offer {
-            move_number: self.move_number,
-            pages: self.guest.memory().pages() as u16,
-            harts: self.guest.harts() as u8,
-        }
+        offer_frame(self.move_number, &self.guest)
     }
 
     /// Gives the guest an event, unless it is paused. Takes no memory.
@@ -315,6 +310,21 @@ impl<M: PagedMemory> Source<M> {
         let lost = set_of(alloc, self.pages(), pages)?;
         self.rounds.lost(&lost);
         Ok(HostReply::Fixing(lost.count() as u16))
+    }
+}
+
+/// The frame that offers a guest.
+fn offer_frame<M: PagedMemory>(move_number: u64, guest: &Debugged<M>) -> Frame
+    requires { 0 < move_number }
+    ensures frame { frame_of result
+        ≡ obeying.offer_frame board move_number guest.now.guest }
+    ensures sent { (version : ℕ) → CanBeSent version (Some 3) (Some result) }
+{
+    let _size = guest.memory().len();
+    Frame::Offer {
+        move_number,
+        pages: guest.memory().pages() as u16,
+        harts: guest.harts() as u8,
     }
 }
 

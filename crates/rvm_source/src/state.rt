@@ -69,6 +69,7 @@ pub(crate) fn send_state<M: PagedMemory>(
 {
     let _pages = rounds.pages();
     let _size = guest.memory().len();
+    let stamp = rounds.copies();
     if version < 2 {
         return Ok(Sent {
             reply: HostReply::StateSent,
@@ -84,7 +85,7 @@ pub(crate) fn send_state<M: PagedMemory>(
         },
         frame: Frame::Part {
             move_number,
-            stamp: rounds.copies(),
+            stamp,
             part: turn,
             parts: piece.parts,
             bytes: piece.bytes,

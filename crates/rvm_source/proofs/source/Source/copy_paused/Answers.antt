@@ -9,6 +9,7 @@ use Rattle.rvm_source.specs.declared.phase.Phase.TheVariants as phases
 use Rattle.rvm_source.specs.Sources.{HasPages, HasTurn, IsCovered, PlainSource, mode_in, mode_of}
 use Rattle.rvm_precopy.specs.Plans.{last_found}
 use Rattle.rvm_source.proofs.Covering.{last_turn_is, next_last_covered}
+use Rattle.rvm_source.proofs.Sendings.{state_in_bound}
 use Rattle.rvm_source.proofs.Turns.{on_err, paused, below, first_turn, fits_last, range_last}
 use Rattle.rvm_source.proofs.source.Source.copy_paused.Goals as goal
 
@@ -147,3 +148,13 @@ returns-in_ok-sent-in-NothingLeft-clause-answer g c =
       made = ap frame_made c.with.ensures.frame ∙ sent.made;
       mode = sent.mode;
     }))
+
+pub returns-in_ok-sent-in-NothingLeft-clause-sent :
+    goal.returns-in_ok-sent-in-NothingLeft-clause-sent
+returns-in_ok-sent-in-NothingLeft-clause-sent g c =
+    let h = subst (HasPages c.pages-pages.result) (sym c.self.view_is) c.pages-pages.ensures in
+    let plan = ap (λ (s : PlainSource). s.plan) c.self.view_is in
+    let same = range_last c.pages-pages.result _ c.next_last.new.self last.NothingLeft h c.in-NothingLeft.ensures.answer c.next_last.ensures.plan in
+    state_in_bound c.args.version c.args.turn c.args.self.now c.next_last.new.self c.in_ok-sent-in-NothingLeft.sent.frame c.with.result.1 c.requires
+    (ap last_found (sym plan) ∙ last_turn_is c.self.inside.rounds last.NothingLeft c.in-NothingLeft.ensures.answer) (same ∙ plan)
+    c.with.ensures.frame c.in_ok-sent-in-NothingLeft.ensures.spelled
