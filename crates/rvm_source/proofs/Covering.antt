@@ -1,9 +1,8 @@
 -- No page of a guest that is moved is forgotten, by what the calls of its rounds told.
-use Rattle.std.proofs.Common.{◌≡◌, inl, inr, ℕ, ◌+◌, ◌-◌, ◌%◌, ◌^◌, ◌<◌, ◌≤◌, ◌==◌, ◌||◌, Bool, true, false, List, length, get_or, replicate, Option, Some, None, refl, sym, ap, ◌∙◌, subst, arith}
+use Rattle.std.proofs.Common.{◌≡◌, inl, inr, ℕ, ◌-◌, ◌%◌, ◌^◌, ◌<◌, ◌==◌, ◌||◌, Bool, true, false, List, length, replicate, Option, Some, None, refl, sym, ap, ◌∙◌, subst, arith}
 use Rattle.std.proofs.lemmas.Bool.{cond_both, true≢false}
 use Rattle.std.proofs.lemmas.List.{get_or-replicate, length-replicate}
 use Rattle.rvm_mem.specs.Pages.{has}
-use Rattle.rvm_debug.specs.Guest.{GuestState}
 use Rattle.rvm_precopy.specs.Coverage.{Covers, CoversLast}
 use Rattle.rvm_precopy.specs.Plans.{IsPlanOf, LastTurn, Plan, Turn, copied_if, found, last_copied, last_found, last_next_of, lost, next_of, opened, peek, stopping, with_found, with_last}
 use Rattle.rvm_precopy.specs.declared.rounds.Next.{Next}

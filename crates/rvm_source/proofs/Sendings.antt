@@ -1,5 +1,5 @@
 -- Each frame that a source makes can be sent, and its body has at most so many bytes.
-use Rattle.std.proofs.Common.{◌≡◌, inl, inr, ℕ, zero, suc, ◌+◌, ◌-◌, ◌*◌, ◌^◌, ◌<◌, ◌≤◌, Bool, true, false, not, ◌&&◌, ◌||◌, ◌==◌, if◌then◌else◌, nat_lt, List, [], ◌∷◌, length, get_or, take, drop, min, Option, Some, None, refl, sym, ap, ◌∙◌, subst, arith}
+use Rattle.std.proofs.Common.{◌≡◌, ℕ, suc, ◌-◌, ◌*◌, ◌^◌, ◌<◌, ◌≤◌, Bool, true, false, not, ◌&&◌, ◌==◌, if◌then◌else◌, nat_lt, List, [], ◌∷◌, length, get_or, drop, min, Option, Some, None, refl, sym, ap, ◌∙◌, subst, arith}
 use Rattle.std.specs.List.{list_all}
 use Rattle.std.specs.Option.{is_some}
 use Rattle.std.specs.Int.{div_ceil}
@@ -15,7 +15,7 @@ use Rattle.rvm_frame.specs.declared.frame.Frame.TheVariants as frame
 use Rattle.rvm_frame.proofs.Lengths.{length_state}
 use Rattle.rvm_guest.specs.Pieces.{cut}
 use Rattle.rvm_guest.proofs.Pieces.{count_of_cut, cut_at}
-use Rattle.rvm_message.specs.Sendable.{IsSendable, CanBeSent}
+use Rattle.rvm_message.specs.Sendable.{CanBeSent}
 use Rattle.rvm_precopy.specs.Coverage.{CoversLast}
 use Rattle.rvm_precopy.specs.Plans.{IsPlanOf, Plan, last_found}
 use Rattle.rvm_precopy.proofs.Coverage.{all_copied}

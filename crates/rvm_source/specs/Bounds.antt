@@ -1,5 +1,5 @@
 -- How many bytes the body of the next frame of a source has at most.
-use Rattle.std.specs.Prelude.{ℕ, ◌+◌, ◌*◌, Bool, true, false, ◌&&◌, if◌then◌else◌, is_some, length, nat_lt, not}
+use Rattle.std.specs.Prelude.{ℕ, ◌+◌, ◌*◌, Bool, false, ◌&&◌, if◌then◌else◌, is_some, length, nat_lt, not}
 use Rattle.rvm_precopy.specs.Plans.{Plan, last_found}
 use Rattle.rvm_state.specs.Spelling.{longest}
 use Rattle.rvm_source.specs.declared.phase.Phase.{Phase}

@@ -1,4 +1,4 @@
-use Rattle.std.proofs.Common.{◌∙◌, ◌*◌, ◌<◌, ◌≤◌, ◌≡◌, length, ap, arith}
+use Rattle.std.proofs.Common.{◌∙◌, ◌*◌, ◌≡◌, length, ap, arith}
 use Rattle.rvm_source.proofs.Frames.{offer_is}
 use Rattle.rvm_source.proofs.Sendings.{offer_can_be_sent}
 use Rattle.rvm_source.proofs.source.offer_frame.Goals as goal
