@@ -69,8 +69,8 @@ invariant_of-self-in-RoundEnded-1 g c =
     let h = subst (HasPages c.pages-pages.result) (sym c.self.view_is) c.pages-pages.ensures in
     let phase = ap (λ (s : PlainSource). s.phase) c.self.view_is ∙ c.requires in
     let covers = next_covered c.pages-pages.result _ c.next.new.log.dirty c.next.new.self
-    (next.RoundEnded c.in-RoundEnded.round c.in-RoundEnded.sent c.in-RoundEnded.skipped c.in-RoundEnded.left) h phase c.self.invariant.1.1.1
-    c.in-RoundEnded.ensures.answer c.next.ensures.plan c.next.ensures.log in (
+    (next.RoundEnded c.in-RoundEnded.round c.in-RoundEnded.sent c.in-RoundEnded.skipped c.in-RoundEnded.left)
+    h phase c.self.invariant.1.1.1 c.in-RoundEnded.ensures.answer c.next.ensures.plan c.next.ensures.log in (
       c.self.invariant.0,
       (
         fits_next c.pages-pages.result _ c.next.new.log c.next.new.self h c.next.ensures.plan c.next.ensures.log,
