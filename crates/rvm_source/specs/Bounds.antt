@@ -20,6 +20,6 @@ abbrev pub body_bound : (version : ℕ) → PlainSource → ℕ
 body_bound version s =
     if nat_lt version 2 && is_copied s.phase s.plan then state_bound (length s.plan.to_send) else 4102
 
--- of a frame of the state of a guest of so many pages: whole in version 1, and a piece of it from version 2 on
+-- of a frame of the state of a guest of so many pages: whole in version 1, and from version 2 on a piece of it
 abbrev pub state_frame_bound : (version pages : ℕ) → ℕ
 state_frame_bound version pages = if nat_lt version 2 then state_bound pages else 4102

@@ -19,7 +19,8 @@ overflow_cast-page g c =
     let few = below c.pages-pages.result c.in-Copied.page _ h (range_last c.pages-pages.result _ c.next_last.new.self _ h c.in-Copied.ensures.answer c.next_last.ensures.plan) in search (rules, few)
 
 pub copied-requires-clause-copy_number : goal.copied-requires-clause-copy_number
-copied-requires-clause-copy_number g c = last_turn_is c.self.inside.rounds (last.Copied c.in-Copied.page c.in-Copied.copy) c.in-Copied.ensures.answer
+copied-requires-clause-copy_number g c =
+    last_turn_is c.self.inside.rounds (last.Copied c.in-Copied.page c.in-Copied.copy) c.in-Copied.ensures.answer
 
 pub copied-requires-clause-page : goal.copied-requires-clause-page
 copied-requires-clause-page g c =
@@ -37,7 +38,8 @@ invariant_of-self g c =
         fits_last c.pages-pages.result _ c.next_last.new.self h c.next_last.ensures.plan,
         (
           first_turn c.self.inside.guest c.next_last.new.self,
-          next_last_covered c.pages-pages.result c.args.turn _ c.next_last.new.self h phase c.self.invariant.1.1.1 c.next_last.ensures.plan,
+          next_last_covered c.pages-pages.result c.args.turn _ c.next_last.new.self h phase c.self.invariant.1.1.1
+              c.next_last.ensures.plan,
         ),
       ),
     )
@@ -65,12 +67,14 @@ pub send_state-requires-clause-covered : goal.send_state-requires-clause-covered
 send_state-requires-clause-covered g c =
     let h = subst (HasPages c.pages-pages.result) (sym c.self.view_is) c.pages-pages.ensures in
     let phase = ap (λ (s : PlainSource). s.phase) c.self.view_is ∙ c.requires in
-    next_last_covered c.pages-pages.result c.args.turn _ c.next_last.new.self h phase c.self.invariant.1.1.1 c.next_last.ensures.plan
+    next_last_covered c.pages-pages.result c.args.turn _ c.next_last.new.self h phase c.self.invariant.1.1.1
+    c.next_last.ensures.plan
 
 pub send_state-requires-clause-copied : goal.send_state-requires-clause-copied
 send_state-requires-clause-copied g c =
     let h = subst (HasPages c.pages-pages.result) (sym c.self.view_is) c.pages-pages.ensures in
-    let same = range_last c.pages-pages.result _ c.next_last.new.self last.NothingLeft h c.in-NothingLeft.ensures.answer c.next_last.ensures.plan in
+    let same = range_last c.pages-pages.result _ c.next_last.new.self last.NothingLeft h
+    c.in-NothingLeft.ensures.answer c.next_last.ensures.plan in
     ap last_found same ∙ last_turn_is c.self.inside.rounds last.NothingLeft c.in-NothingLeft.ensures.answer
 
 pub send_state-requires-clause-turn : goal.send_state-requires-clause-turn
@@ -154,7 +158,9 @@ pub returns-in_ok-sent-in-NothingLeft-clause-sent :
 returns-in_ok-sent-in-NothingLeft-clause-sent g c =
     let h = subst (HasPages c.pages-pages.result) (sym c.self.view_is) c.pages-pages.ensures in
     let plan = ap (λ (s : PlainSource). s.plan) c.self.view_is in
-    let same = range_last c.pages-pages.result _ c.next_last.new.self last.NothingLeft h c.in-NothingLeft.ensures.answer c.next_last.ensures.plan in
-    state_in_bound c.args.version c.args.turn c.args.self.now c.next_last.new.self c.in_ok-sent-in-NothingLeft.sent.frame c.with.result.1 c.requires
-    (ap last_found (sym plan) ∙ last_turn_is c.self.inside.rounds last.NothingLeft c.in-NothingLeft.ensures.answer) (same ∙ plan)
-    c.with.ensures.frame c.in_ok-sent-in-NothingLeft.ensures.spelled
+    let same = range_last c.pages-pages.result _ c.next_last.new.self last.NothingLeft h
+    c.in-NothingLeft.ensures.answer c.next_last.ensures.plan in
+    let copied = last_turn_is c.self.inside.rounds last.NothingLeft c.in-NothingLeft.ensures.answer in
+    let sent = c.in_ok-sent-in-NothingLeft in
+    state_in_bound c.args.version c.args.turn c.args.self.now c.next_last.new.self sent.sent.frame c.with.result.1
+    c.requires (ap last_found (sym plan) ∙ copied) (same ∙ plan) c.with.ensures.frame sent.ensures.spelled
