@@ -29,4 +29,4 @@ returns-clause-steps g c =
     ] in
     subst (λ (h : PlainHost). Steps h (commands.Do (commands.Begin a.to policy)) (c.in_ok-reply.reply, c.addressed.result) new) c.self.view_is
     (begin_steps old new a.to policy answer c.addressed.result (plain_of c.begin.new.self) partner clear (c.in_ok-reply.ensures.answer f.version)
-    (c.partner_begun-self-inside.ensures policy) c.addressed.ensures refl)
+    (c.partner_begun-self-inside.ensures policy) c.addressed.ensures.made refl)

@@ -23,4 +23,4 @@ returns-clause-steps g c =
     let heard = c.if-not-hears.ensures ∙ ap (λ (h : PlainHost). is_heard h.id h.count a.from (plain board frame) (host_of h)) (sym c.self.view_is) in
     subst (λ (h : PlainHost). Steps h (commands.Came a.from frame) (c.in_ok-reply.reply, c.addressed.result) new) c.self.view_is
     (came_steps old a.from frame new answer c.addressed.result (plain_of c.came.new.self) partner heard (c.in_ok-reply.ensures.answer f.version)
-    (c.partner_accepted-self-inside.ensures frame) c.addressed.ensures refl)
+    (c.partner_accepted-self-inside.ensures frame) c.addressed.ensures.made refl)

@@ -17,7 +17,7 @@ returns g c =
     let answer : HostReply × Option Frame = (c.in_ok-reply.reply, c.in_ok-reply.frame) in
     record {
       steps = subst (λ (h : PlainHost). Steps h (commands.Do (command_of a.command.now)) (c.in_ok-reply.reply, c.addressed.result) new) c.self.view_is
-          (obey_steps old new answer c.addressed.result (plain_of c.obey.new.self) c.addressed.ensures refl a.command.now c.in_default.not-Begin c.in_ok-reply.ensures.answer);
+          (obey_steps old new answer c.addressed.result (plain_of c.obey.new.self) c.addressed.ensures.made refl a.command.now c.in_default.not-Begin c.in_ok-reply.ensures.answer);
       err = tt;
       memory = tt;
     }
