@@ -1,5 +1,5 @@
 -- A host's move has a number and another host for its other party, whatever happens, and its frames go to a host that is there.
-use Rattle.std.proofs.Common.{◌≡◌, ℕ, ◌-◌, ◌^◌, ◌<◌, ◌==◌, ◌&&◌, true, nat_lt, nat_le, ◌||◌, List, length, Option, Some, None, sym, ap, subst, arith}
+use Rattle.std.proofs.Common.{◌≡◌, ℕ, ◌-◌, ◌^◌, ◌<◌, ◌==◌, ◌&&◌, Bool, true, false, if◌then◌else◌, refl, nat_lt, nat_le, ◌||◌, List, length, Option, Some, None, sym, ap, subst, arith}
 use Rattle.std.proofs.lemmas.Bool.{ltb-true}
 use Rattle.rvm_codec.proofs.Steps.{both_are}
 use Rattle.rvm_debug.specs.Guest.{Guest, GuestState}
@@ -14,14 +14,15 @@ use Rattle.rvm_precopy.specs.Plans.{Plan}
 use Rattle.rvm_protocol.specs.Commands.{Policy, Command, Board, Begin, Copy, Resend, AbortMove, Do, Came, is_allowed}
 use Rattle.rvm_protocol.specs.Frames.{Frame, Offer, Accept, Refuse, Page, RoundEnd, Lost, State, Part, Ready, Go, Started, Abort, is_compact, made_as, plain, posted}
 use Rattle.rvm_protocol.specs.Frames as protocol
+use Rattle.rvm_protocol.specs.Host as law
 use Rattle.rvm_protocol.specs.Host.{addressee, is_heard, is_offer_above, is_there, obey_at, partner_then}
 use Rattle.rvm_protocol.specs.Modes.{Empty, Run, Offering, Copying, Stopped, Given, Staging, Held, move_of, says, sends, refuses, ignores}
 use Rattle.rvm_protocol.specs.Obeying.{begin, begin_allowed, begun, copy_last, copy_page, obey, resend_last, sends_last, sends_page, sends_state}
-use Rattle.rvm_protocol.specs.Receiving.{came, of_this_move, offer_above, offered, page_came}
-use Rattle.rvm_protocol.specs.Replies.{Accepted, BadHost, BadSize, Declined, EpochsSpent, SeqSpent, Stopping, Stored}
+use Rattle.rvm_protocol.specs.Pages.{gathered, size}
+use Rattle.rvm_protocol.specs.Receiving.{came, guest_read, of_this_move, offer_above, offered, page_came, part_came, part_kept, pieces_joined, state_came, state_compared}
+use Rattle.rvm_protocol.specs.Replies.{Accepted, BadHost, BadSize, BadState, Declined, EpochsSpent, SeqSpent, Stopping, Stored}
 use Rattle.rvm_protocol.specs.Rounds.{Last, Rounds, next_page, stopped, to_copy}
-use Rattle.rvm_protocol.proofs.CurrentModes.{either}
-use Rattle.rvm_protocol.proofs.StateCases.{part_cases, state_cases}
+use Rattle.rvm_protocol.specs.Staging.{Stage, lacks, takes_part, with_part}
 use Rattle.rvm_source.specs.Sources.{mode_in}
 use Rattle.rvm_source.specs.declared.phase.Phase.{Phase}
 use Rattle.rvm_source.specs.declared.phase.Phase.TheVariants as phases
@@ -30,6 +31,13 @@ use Rattle.rvm_core.specs.Hosts.{PlainHost, Steps, host_of}
 use Rattle.rvm_core.specs.Modes as core
 use Rattle.rvm_core.specs.Modes.{PlainMode, mode_of}
 use Rattle.rvm_core.proofs.Settling.{outcome_of}
+
+abbrev BoardStage : Type 0
+BoardStage = Stage (List ℕ)
+
+either : {X : Type 0} (Q : X → Type 0) (b : Bool) (x y : X) → (b ≡ true → Q x) → (b ≡ false → Q y) → Q (if b then x else y)
+either Q true x y f g = f refl
+either Q false x y f g = g refl
 
 module _ (id count : ℕ) where
   abbrev There : ℕ → Type 0
@@ -142,6 +150,31 @@ module _ (id count : ℕ) where
         (λ _. (ok, there)) (λ _. let above : seen < k = ltb-true seen k e in ((omega (arith, above), there), there)))
         (λ _. (ok, tt))
 
+    read_stays : (n : ℕ) (old : BoardStage) (q : Option Guest) → IsMove id count x n → Hears (guest_read board n old q)
+    read_stays n old None ok = (ok, tt)
+    read_stays n old (Some g) ok = (ok, there)
+
+    state_stays : (n : ℕ) (old s : BoardStage) (numbers body : List ℕ) → IsMove id count x n → Hears (state_came board n old s numbers body)
+    state_stays n old s numbers body ok =
+        either Hears (length numbers == length s.pages) (state_compared board n old s numbers body) (refuses BadState (Staging n old))
+        (λ _. either Hears (nat_lt 0 (size (lacks s numbers) (length s.pages))) _ (guest_read board n old (board.build s.processors body s.pages))
+        (λ _. (ok, there)) (λ _. read_stays n old (board.build s.processors body s.pages) ok))
+        (λ _. (ok, tt))
+
+    joined_stays : (n : ℕ) (old s : BoardStage) (q : Option (List ℕ × List ℕ)) → IsMove id count x n → Hears (pieces_joined board n old s q)
+    joined_stays n old s None ok = (ok, tt)
+    joined_stays n old s (Some z) ok = state_stays n old s z.0 z.1 ok
+
+    kept_stays : (n : ℕ) (old s : BoardStage) (part parts : ℕ) (q : Option (List (List ℕ))) → IsMove id count x n → Hears (part_kept board n old s part parts q)
+    kept_stays n old s part parts None ok = (ok, tt)
+    kept_stays n old s part parts (Some pieces) ok = joined_stays n old s (board.join pieces) ok
+
+    part_stays : (n : ℕ) (s : BoardStage) (stamp part parts : ℕ) (bytes : List ℕ) → IsMove id count x n → Hears (part_came board n s stamp part parts bytes)
+    part_stays n s stamp part parts bytes ok =
+        let t = with_part s stamp part parts bytes in
+        either Hears (takes_part s stamp part parts) (part_kept board n s t part parts (gathered t.pieces 0 parts)) (ignores (Staging n s))
+        (λ _. kept_stays n s t part parts (gathered t.pieces 0 parts) ok) (λ _. (ok, tt))
+
     came_stays : (limit : ℕ) (f : BoardFrame) (mode : BoardMode) → Keeps x mode → Hears (came board limit f mode)
     came_stays limit (Offer k a b) (Empty n) ok = above_stays limit n k a b (Empty n) ok
     came_stays limit (Offer k a b) (Given n) ok = above_stays limit n k a b (Given n) ok
@@ -156,11 +189,9 @@ module _ (id count : ℕ) where
         (either Hears (nat_lt p (length s.pages) && nat_lt (s.have p) number) _ (ignores (Staging n s)) (λ _. (ok, tt)) (λ _. (ok, tt)))
     came_stays limit (RoundEnd k a b c d) (Staging n s) ok = equal_stays n k _ (Staging n s) ok (ok, tt)
     came_stays limit (State k numbers body) (Staging n s) ok =
-        equal_stays n k _ (Staging n s) ok (state_cases board Hears n s s numbers body (ok, tt) (ok, there) (λ _ _ _. (ok, there)))
+        equal_stays n k _ (Staging n s) ok (state_stays n s s numbers body ok)
     came_stays limit (State k numbers body) (Held n g) ok = equal_stays n k _ (Held n g) ok (ok, there)
-    came_stays limit (Part k stamp part parts bytes) (Staging n s) ok =
-        equal_stays n k _ (Staging n s) ok
-        (part_cases board Hears n s stamp part parts bytes (ok, tt) (ok, tt) (λ _. (ok, tt)) (λ _ _. (ok, there)) (λ _ _ _ _ _ _ _ _ _. (ok, there)))
+    came_stays limit (Part k stamp part parts bytes) (Staging n s) ok = equal_stays n k _ (Staging n s) ok (part_stays n s stamp part parts bytes ok)
     came_stays limit (Part k stamp part parts bytes) (Held n g) ok = equal_stays n k _ (Held n g) ok (ok, there)
     came_stays limit (Lost k ps) (Stopped n l) ok = equal_stays n k _ (Stopped n l) ok (ok, tt)
     came_stays limit (Ready k) (Stopped n l) ok = equal_stays n k _ (Stopped n l) ok (ok, there)
@@ -206,7 +237,7 @@ module _ (id count : ℕ) where
   Goes None = Unit {0}
   Goes (Some a) = is_there id count a.to ≡ true
 
-  to_or : Option (protocol.Addressed (List ℕ) (List ℕ)) → ℕ
+  abbrev to_or : Option (protocol.Addressed (List ℕ) (List ℕ)) → ℕ
   to_or None = 0
   to_or (Some a) = a.to
 
@@ -239,7 +270,7 @@ module _ (h : PlainHost) (ok : IsHost h) where
       subst IsHost (sym does.rest) (record {
         sized = ok.sized;
         moves = of_law h.id h.count new.partner new.mode
-            (subst (λ (x : protocol.Host Guest (List ℕ)). Keeps h.id h.count x.partner x.mode) (sym does.next) (stays e).0);
+            (subst (λ (x : law.Host Guest (List ℕ)). Keeps h.id h.count x.partner x.mode) (sym does.next) (stays e).0);
       })
 
   -- and a frame of it goes to one that is there
