@@ -7,7 +7,6 @@ ghost use Rattle.rvm_core.specs.Bounds.{IsShort, came_body, command_body, copy_b
 ghost use Rattle.rvm_core.specs.Modes.{plain_of};
 
 use crate::mode::Mode;
-use crate::stand_in::source_body_bound;
 use rvm_frame::Frame;
 use rvm_mem::PagedMemory;
 use rvm_message::{Command, can_come};
@@ -43,7 +42,7 @@ impl<M: PagedMemory + Drop> Mode<M> {
         ensures short { IsShort result }
     {
         match self {
-            Mode::Leaving(source) => Some(source_body_bound(source, version)),
+            Mode::Leaving(source) => Some(source.body_bound(version)),
             _ => None,
         }
     }
@@ -54,7 +53,7 @@ impl<M: PagedMemory + Drop> Mode<M> {
         ensures short { IsShort result }
     {
         match self {
-            Mode::Leaving(source) => Some(source_body_bound(source, version)),
+            Mode::Leaving(source) => Some(source.body_bound(version)),
             Mode::Given { .. } | Mode::Held { .. } => Some(0),
             _ => None,
         }

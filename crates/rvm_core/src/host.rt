@@ -228,7 +228,9 @@ impl<M: PagedMemory + Drop> Host<M> {
     /// It is one of so many hosts, and its move, if any, is with another of them.
     pub fn is_host(&self)
         ensures { IsHost self.now }
-    {}
+    {
+        let _mode = &self.mode;
+    }
 
     /// Whether a number is that of another host.
     fn is_there(&self, host: u8) -> bool

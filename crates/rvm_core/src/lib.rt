@@ -11,7 +11,6 @@ mod bound;
 mod host;
 mod mode;
 mod source;
-mod stand_in;
 mod target;
 
 pub use host::Host;

@@ -13,7 +13,6 @@ ghost use Rattle.rvm_core.specs.Bounds.{HasNumber, copy_body, resend_body};
 ghost use Rattle.rvm_core.specs.Modes.{mode_of, plain_of};
 
 use crate::mode::Mode;
-use crate::stand_in::{source_copy, source_offer, source_resend};
 use rvm_debug::{BoardEvent, Debugged};
 use rvm_frame::Frame;
 use rvm_mem::PagedMemory;
@@ -76,7 +75,7 @@ impl<M: PagedMemory + Drop> Mode<M> {
         }
         match Source::begin(alloc, move_number + 1, guest, policy) {
             Ok(source) => {
-                let offer = source_offer(&source);
+                let offer = source.offer();
                 *self = Mode::Leaving(source);
                 Ok(HostReply::Begun(move_number + 1).with(offer))
             }
@@ -97,7 +96,7 @@ impl<M: PagedMemory + Drop> Mode<M> {
         ensures sent { IfOk result (λ a. CanBeSent version (copy_body version (plain_of self.old)) a.1) }
     {
         match self {
-            Mode::Leaving(source) => source_copy(source, alloc, version),
+            Mode::Leaving(source) => source.copy(alloc, version),
             Mode::Run { .. } => Ok(HostReply::refused(HostRefusal::NoMove)),
             _ => Ok(HostReply::refused(HostRefusal::NotHere)),
         }
@@ -113,7 +112,7 @@ impl<M: PagedMemory + Drop> Mode<M> {
         ensures sent { IfOk result (λ a. CanBeSent version (resend_body version (plain_of self.old)) a.1) }
     {
         match self {
-            Mode::Leaving(source) => source_resend(source, alloc, version),
+            Mode::Leaving(source) => source.resend(alloc, version),
             Mode::Given { move_number } => {
                 let move_number = *move_number;
                 Ok(HostReply::Resent.with(Frame::Go { move_number }))

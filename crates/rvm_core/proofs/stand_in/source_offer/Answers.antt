@@ -1,4 +1,0 @@
-use Rattle.rvm_core.proofs.stand_in.source_offer.Goals as goal
-
-pub returns-clause-sent : goal.returns-clause-sent
-returns-clause-sent g c = ?
