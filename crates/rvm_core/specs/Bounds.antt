@@ -56,7 +56,7 @@ with_header version (Some n) = header_len (names_hosts (Some version)) + n
 abbrev pub frame_bound : PlainHost → BoardHostEvent → ℕ
 frame_bound h e = with_header h.version (event_body h e)
 
--- no body is longer than a stream may have it
+-- no body is longer than that of any frame
 abbrev pub IsShort : Option ℕ → Type 0
 IsShort None = Unit {0}
 IsShort (Some n) = n ≤ 32768
