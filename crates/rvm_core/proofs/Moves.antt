@@ -17,10 +17,10 @@ use Rattle.rvm_protocol.specs.Frames as protocol
 use Rattle.rvm_protocol.specs.Host as law
 use Rattle.rvm_protocol.specs.Host.{addressee, is_heard, is_offer_above, is_there, obey_at, partner_then}
 use Rattle.rvm_protocol.specs.Modes.{Empty, Run, Offering, Copying, Stopped, Given, Staging, Held, move_of, says, sends, refuses, ignores}
-use Rattle.rvm_protocol.specs.Obeying.{begin, begin_allowed, begun, copy_last, copy_page, obey, resend_last, sends_last, sends_page, sends_state}
+use Rattle.rvm_protocol.specs.Obeying.{begin, begin_allowed, begun, copy_last, copy_page, resend_last, sends_last, sends_page}
 use Rattle.rvm_protocol.specs.Pages.{gathered, size}
 use Rattle.rvm_protocol.specs.Receiving.{came, guest_read, of_this_move, offer_above, offered, page_came, part_came, part_kept, pieces_joined, state_came, state_compared}
-use Rattle.rvm_protocol.specs.Replies.{Accepted, BadHost, BadSize, BadState, Declined, EpochsSpent, SeqSpent, Stopping, Stored}
+use Rattle.rvm_protocol.specs.Replies.{Accepted, BadHost, BadSize, BadState, Declined, EpochsSpent, SeqSpent, Stopping}
 use Rattle.rvm_protocol.specs.Rounds.{Last, Rounds, next_page, stopped, to_copy}
 use Rattle.rvm_protocol.specs.Staging.{Stage, lacks, takes_part, with_part}
 use Rattle.rvm_source.specs.Sources.{mode_in}

@@ -1,5 +1,5 @@
 -- A frame that can be sent, with the address that its host gives it.
-use Rattle.std.proofs.Common.{◌≡◌, ℕ, ◌+◌, ◌<◌, ◌≤◌, ◌==◌, Bool, true, false, not, ◌&&◌, ◌||◌, nat_lt, if◌then◌else◌, List, ◌++◌, length, length-append, Option, Some, None, refl, sym, ap, subst, ◌∙◌, arith}
+use Rattle.std.proofs.Common.{◌≡◌, ℕ, ◌+◌, ◌<◌, ◌≤◌, ◌==◌, Bool, true, false, not, ◌&&◌, ◌||◌, nat_lt, if◌then◌else◌, ◌++◌, length, length-append, Option, Some, None, refl, sym, ap, subst, arith}
 use Rattle.std.specs.Prelude.{is_some}
 use Rattle.std.proofs.lemmas.Bool.Decides.{nat_tests}
 use Rattle.byteorder.specs.Endian.{little_bytes}
@@ -9,7 +9,7 @@ use Rattle.rvm_frame.specs.declared.addressed.Addressed.{Addressed}
 use Rattle.rvm_frame.specs.declared.frame.Frame.{Frame}
 use Rattle.rvm_frame.specs.declared.kind.Kind.{Kind}
 use Rattle.rvm_frame.specs.declared.kind.Kind.TheVariants as kind
-use Rattle.rvm_frame.specs.Grammar.{HasSpelling, MayStand, Received, body_of, hosts_bytes, known_at, sent, spelling}
+use Rattle.rvm_frame.specs.Grammar.{HasSpelling, MayStand, Received, body_of, hosts_bytes, sent, spelling}
 use Rattle.rvm_frame.specs.Kinds.{byte_of, header_len, hosts_fit, kind_of, move_of, names_hosts, stands}
 use Rattle.rvm_message.specs.Events.{BoardHostEvent}
 use Rattle.rvm_message.specs.Frames.{BoardFrame}
@@ -65,8 +65,15 @@ length_spelled names from to f =
     let size = little_bytes 4 (length (body_of f)) in
     let eight : length number ≡ 8 = refl in
     let four : length size ≡ 4 = refl in
-    omega (arith, eight, four, header_length names from to, length-append hosts (number ++ (size ++ body_of f)),
-      length-append number (size ++ body_of f), length-append size (body_of f))
+    omega (
+      arith,
+      eight,
+      four,
+      header_length names from to,
+      length-append hosts (number ++ (size ++ body_of f)),
+      length-append number (size ++ body_of f),
+      length-append size (body_of f),
+    )
 
 -- what the limits of a host say
 pub record Sizes (id count limit version : ℕ) : Type 0 where
