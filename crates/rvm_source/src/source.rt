@@ -123,7 +123,8 @@ impl<M: PagedMemory> Source<M> {
 
     /// The most bytes of the body of its next frame, in a stream of this version. Takes no memory.
     pub fn body_bound(&self, version: u32) -> usize
-        ensures { result ≡ body_bound version self.now }
+        ensures bound { result ≡ body_bound version self.now }
+        ensures short { result ≤ 32768 }
     {
         if version < 2 && self.is_copied() {
             state_bound(self.rounds.pages())
