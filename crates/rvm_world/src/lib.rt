@@ -7,15 +7,16 @@
 //! To be read in this order: `event`, `error`, `sent`, `world`, `run`, `drive`.
 #![tactic(auto)]
 
-mod drive;
+// mod drive;
 mod error;
 mod event;
-mod run;
+// mod run;
 mod sent;
+mod stand_in;
 mod world;
 
-pub use drive::{Driven, drive_move};
+// pub use drive::{Driven, drive_move};
 pub use error::WorldError;
 pub use event::{Event, WorldReply};
-pub use run::run_world;
+// pub use run::run_world;
 pub use world::World;

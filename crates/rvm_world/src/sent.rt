@@ -39,6 +39,13 @@ impl Sent {
         self.to
     }
 
+    /// Its bytes.
+    pub(crate) fn bytes(&self) -> &[u8]
+        ensures { result.now ≡ self.now.bytes }
+    {
+        self.bytes.as_slice()
+    }
+
     /// The frame that its bytes are in a stream of this version.
     pub(crate) fn read(&self, alloc: Global, version: u32) -> Result<Frame, AllocError>
         requires { is_frame version self.now.bytes ≡ true }

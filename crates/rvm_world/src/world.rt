@@ -17,9 +17,11 @@ ghost use Rattle.rvm_world.specs.Worlds.{IsReached, asks_memory, is_sized, limit
 use crate::error::WorldError;
 use crate::event::{Event, WorldReply};
 use crate::sent::Sent;
+use crate::stand_in::{came, came_bound, command_bound, obey};
 use rvm_core::Host;
 use rvm_debug::Debugged;
 use rvm_frame::{Addressed, append_frame};
+use rvm_guest::valid_guest;
 use rvm_mem::PagedMemory;
 use rvm_message::{Command, HostRefusal, HostReply};
 use std::alloc::{AllocError, Global};
@@ -66,7 +68,21 @@ impl<M: PagedMemory + Drop> World<M> {
         ensures size { IfErr result (λ e. (e.0 ≡ BadSize) ↔ (is_sized version limits.now ≡ false)) }
         ensures guest { IfErr result (λ e. e.1 ≡ guest) }
     {
-        todo
+        if !is_sized(version, limits) {
+            return Err((WorldError::BadSize, guest));
+        }
+        valid_guest(&guest);
+        match Vec::with_capacity(alloc, limits.len()) {
+            Ok(mut hosts) => {
+                add_hosts(&mut hosts, guest, limits, version);
+                Ok(World {
+                    version,
+                    hosts,
+                    sent: Vec::new(alloc),
+                })
+            }
+            Err(_) => Err((WorldError::OutOfMemory, guest)),
+        }
     }
 
     /// A world with streams of version 1 where there are two hosts, else of version 3.
@@ -75,7 +91,15 @@ impl<M: PagedMemory + Drop> World<M> {
         guest: Debugged<M>,
         limits: &[u16],
     ) -> Result<World<M>, (WorldError, Debugged<M>)>
-        // as with_version, with version_of (length limits.now) of rvm_core.specs.Hosts
+        ensures world { IfOk result (λ w. world_of w
+            ≡ new_world board (version_of (length limits.now)) guest.guest (length limits.now)
+            (limit_at limits.now)) }
+        ensures valid { OnOk result (is_valid guest.guest ≡ true) }
+        ensures shown { IfOk result (λ w. Shown (world_of w).hosts (at_start guest.guest)) }
+        ensures sized { OnOk result (is_sized (version_of (length limits.now)) limits.now ≡ true) }
+        ensures size { IfErr result (λ e. (e.0 ≡ BadSize)
+            ↔ (is_sized (version_of (length limits.now)) limits.now ≡ false)) }
+        ensures guest { IfErr result (λ e. e.1 ≡ guest) }
     {
         let version = if limits.len() == 2 { 1 } else { 3 };
         World::with_version(alloc, guest, limits, version)
@@ -107,7 +131,10 @@ impl<M: PagedMemory + Drop> World<M> {
         ensures some { IfSome result (λ bytes. bytes.now ≡ (get_or self.now.sent place no_kept).bytes) }
         ensures none { (result ≡ None) ↔ (length self.now.sent ≤ place) }
     {
-        todo
+        match self.sent.get(place) {
+            Some(sent) => Some(sent.bytes()),
+            None => None,
+        }
     }
 
     /// Some events made it of a new world.
@@ -130,5 +157,147 @@ impl<M: PagedMemory + Drop> World<M> {
             Event::At(host, command) => self.at(alloc, *host, command),
             Event::Deliver(place) => self.deliver(alloc, *place),
         }
+    }
+
+    /// A command at a host, as `apply` has it.
+    fn at(&mut self, alloc: Global, host: u8, command: &Command) -> Result<WorldReply, AllocError>
+        ensures reply { IfOk result (λ r. reply_of r.reply
+            ≡ reply_to board (world_of self.old) (protocol.At host (command_of command.now))) }
+        ensures next { OnOk result (world_of self.new
+            ≡ step board (world_of self.old) (protocol.At host (command_of command.now))) }
+        ensures place { IfOk result (λ r. r.frame
+            ≡ place_of (length self.old.sent) (length self.new.sent)) }
+        ensures err { OnErr result (self.new ≡ self.old) }
+        ensures memory { OnErr result (asks_memory (protocol.At host (command_of command.now)) ≡ true) }
+    {
+        if host as usize >= self.hosts.len() {
+            return Ok(refused(HostRefusal::BadHost));
+        }
+        let bound = command_bound(&self.hosts[host as usize], command);
+        let bytes = make_room(alloc, &mut self.sent, bound)?;
+        let host = &mut self.hosts[host as usize];
+        let (reply, frame) = obey(host, alloc, command)?;
+        let frame = post(self.version, &mut self.sent, frame, bytes);
+        Ok(WorldReply { reply, frame })
+    }
+
+    /// A frame that was sent comes to its host, as `apply` has it.
+    fn deliver(&mut self, alloc: Global, place: u64) -> Result<WorldReply, AllocError>
+        ensures reply { IfOk result (λ r. reply_of r.reply
+            ≡ reply_to board (world_of self.old) (protocol.Deliver place)) }
+        ensures next { OnOk result (world_of self.new
+            ≡ step board (world_of self.old) (protocol.Deliver place)) }
+        ensures place { IfOk result (λ r. r.frame
+            ≡ place_of (length self.old.sent) (length self.new.sent)) }
+        ensures err { OnErr result (self.new ≡ self.old) }
+    {
+        if place >= self.sent.len() as u64 {
+            return Ok(refused(HostRefusal::NoFrame));
+        }
+        let sent = &self.sent[place as usize];
+        let from = sent.sender();
+        let to = sent.receiver();
+        let frame = sent.read(alloc, self.version)?;
+        let bound = came_bound(&self.hosts[to as usize], &frame);
+        let bytes = make_room(alloc, &mut self.sent, bound)?;
+        let host = &mut self.hosts[to as usize];
+        let (reply, made) = came(host, alloc, from, &frame)?;
+        let frame = post(self.version, &mut self.sent, made, bytes);
+        Ok(WorldReply { reply, frame })
+    }
+}
+
+/// An event that is refused makes no frame.
+fn refused(why: HostRefusal) -> WorldReply
+    ensures reply { result.reply ≡ Refused why }
+    ensures frame { result.frame ≡ None }
+{
+    WorldReply {
+        reply: HostReply::Refused(why),
+        frame: None,
+    }
+}
+
+/// Room for a frame of at most so many bytes, and a place for it; none is made where no frame is.
+fn make_room(alloc: Global, sent: &mut Vec<Sent>, bound: usize) -> Result<Vec<u8>, AllocError>
+    ensures sent { sent.new.items ≡ sent.old.items }
+    ensures empty { IfOk result (λ bytes. bytes.items ≡ []) }
+    ensures bytes { IfOk result (λ bytes. bound ≤ vec_capacity bytes) }
+    ensures place { OnOk result (0 < bound → length sent.new.items < vec_capacity sent.new) }
+    ensures err { OnErr result (0 < bound) }
+{
+    if bound == 0 {
+        return Ok(Vec::new(alloc));
+    }
+    sent.reserve(1)?;
+    Vec::with_capacity(alloc, bound)
+}
+
+/// Keeps the bytes of a frame, if one was made, and says at which place. There is room for it.
+fn post(
+    version: u32,
+    sent: &mut Vec<Sent>,
+    frame: Option<Addressed>,
+    mut bytes: Vec<u8>,
+) -> Option<usize>
+    requires empty { bytes.items ≡ [] }
+    requires fits { CanBeKept version (vec_capacity bytes)
+        (vec_capacity sent.old - length sent.old.items) frame }
+    ensures sent { sent.new.items ≡ sent.old.items ++ posted version frame }
+    ensures place { result ≡ place_of (length sent.old.items) (length sent.new.items) }
+{
+    let frame = frame?;
+    append_frame(version, &frame, &mut bytes);
+    let place = sent.len();
+    sent.push_reserved(Sent {
+        from: frame.from,
+        to: frame.to,
+        bytes,
+    });
+    Some(place)
+}
+
+/// Whether a world may have hosts with these limits, and streams of this version.
+fn is_sized(version: u32, limits: &[u16]) -> bool
+    ensures { result ≡ is_sized version limits.now }
+{
+    2 <= limits.len()
+        && limits.len() <= 8
+        && limits.iter().all(|limit| 1 <= *limit && *limit <= 4096)
+        && (version == 3 || limits.len() == 2 && 1 <= version && version <= 2)
+}
+
+/// Adds a host for each limit. The first one has the guest.
+fn add_hosts<M: PagedMemory + Drop>(
+    hosts: &mut Vec<Host<M>>,
+    guest: Debugged<M>,
+    limits: &[u16],
+    version: u32,
+)
+    requires sized { is_sized version limits.now ≡ true }
+    requires empty { hosts.old.items ≡ [] }
+    requires room { length limits.now ≤ vec_capacity hosts.old }
+    ensures { AreNew guest version limits.now (length limits.now) hosts.new.items }
+{
+    hosts.push_reserved(new_host(Some(guest), 0, limits, version));
+    for id in 1..limits.len() as u8 {
+        hosts.push_reserved(new_host(None, id, limits, version));
+    }
+}
+
+/// The host of a number, with this guest or none.
+fn new_host<M: PagedMemory + Drop>(
+    guest: Option<Debugged<M>>,
+    id: u8,
+    limits: &[u16],
+    version: u32,
+) -> Host<M>
+    requires sized { is_sized version limits.now ≡ true }
+    requires there { id < length limits.now }
+    ensures { result ≡ new_host guest id (length limits.now) (limit_at limits.now id) version }
+{
+    match Host::with_version(guest, id, limits.len() as u8, limits[id as usize], version) {
+        Ok(host) => host,
+        Err(_) => unreachable!(),
     }
 }
