@@ -62,15 +62,16 @@ abbrev pub posted : (version : ℕ) → Option Addressed → List Kept
 posted version None = []
 posted version (Some a) = record { from = a.from; to = a.to; bytes = spelling (sent version a) } ∷ []
 
--- a frame that was made, if any, has a spelling, for which there is room, and there is a place for it
-pub record Fits (version room places : ℕ) (a : Addressed) : Type 0 where
+-- a frame has a spelling, of at most so many bytes, and so many more may be kept
+pub record Fits (version most places : ℕ) (a : Addressed) : Type 0 where
   pub spelled : HasSpelling (sent version a)
-  pub room : length (spelling (sent version a)) ≤ room
+  pub room : length (spelling (sent version a)) ≤ most
   pub place : 0 < places
 
-abbrev pub CanBeKept : (version room places : ℕ) → Option Addressed → Type 0
-CanBeKept version room places None = Unit {0}
-CanBeKept version room places (Some a) = Fits version room places a
+-- a frame that was made, if any
+abbrev pub CanBeKept : (version most places : ℕ) → Option Addressed → Type 0
+CanBeKept version most places None = Unit {0}
+CanBeKept version most places (Some a) = Fits version most places a
 
 -- the world of the law
 abbrev pub BoardWorld : Type 0
@@ -127,12 +128,11 @@ pub record IsPartOf (events : List (protocol.Event BoardEvent)) (old new : Board
   pub there : made < length events
   pub leaves : new ≡ protocol.run board old (take made events)
 
--- a host knows its place, how many hosts there are, and the version of its streams; its partner is there
+-- a host knows its place, how many hosts there are, and the version of its streams
 pub record Placed (version count x : ℕ) (h : PlainHost) : Type 0 where
   pub named : h.id ≡ x
   pub counts : h.count ≡ count
   pub writes : h.version ≡ version
-  pub partnered : h.partner < count
 
 -- a frame that was sent can be read, and is of hosts that are there
 pub record IsKept (version count : ℕ) (k : Kept) : Type 0 where

@@ -4,12 +4,13 @@
 //! Stands on `rvm_core` for hosts and on `rvm_frame` for the bytes of frames. It knows nothing of
 //! threads, links or files.
 //!
-//! To be read in this order: `event`, `error`, `sent`, `world`, `run`, `drive`.
+//! To be read in this order: `event`, `error`, `sent`, `hosts`, `world`, `run`, `drive`.
 #![tactic(auto)]
 
 // mod drive;
 mod error;
 mod event;
+mod hosts;
 // mod run;
 mod sent;
 mod stand_in;

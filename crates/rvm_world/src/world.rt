@@ -1,8 +1,7 @@
 //! A world of hosts.
 
-ghost use Rattle.std.specs.Prelude.{◌≡◌, ◌↔◌, ◌++◌, ◌+◌, ◌<◌, ◌≤◌, ◌⊎◌, ℕ, List, [], length, map, get_or, true, false, IfOk, IfErr, OnOk, OnErr, IfSome, None, Some, vec_capacity};
-ghost use Rattle.rvm_core.specs.Bounds.{CanBePosted};
-ghost use Rattle.rvm_core.specs.Hosts.{PlainHost};
+ghost use Rattle.std.specs.Prelude.{◌≡◌, ◌↔◌, ◌≤◌, length, get_or, true, false, IfOk, IfErr, OnOk, OnErr, IfSome, None};
+ghost use Rattle.rvm_core.specs.Hosts.{version_of};
 ghost use Rattle.rvm_guest.proofs.TheGuest.{board};
 ghost use Rattle.rvm_guest.specs.Valid.{is_valid};
 ghost use Rattle.rvm_message.specs.Events.{command_of};
@@ -12,15 +11,15 @@ ghost use Rattle.rvm_protocol.specs.Told.{at_start};
 ghost use Rattle.rvm_protocol.specs.World as protocol;
 ghost use Rattle.rvm_protocol.specs.World.{reply_to, step, new_world};
 ghost use Rattle.rvm_world.specs.declared.error.WorldError.TheVariants.{BadSize};
-ghost use Rattle.rvm_world.specs.Worlds.{IsReached, asks_memory, is_sized, limit_at, meant, no_kept, place_of, posted, world_of};
+ghost use Rattle.rvm_world.specs.Worlds.{IsReached, asks_memory, is_sized, limit_at, meant, no_kept, place_of, world_of};
 
 use crate::error::WorldError;
 use crate::event::{Event, WorldReply};
-use crate::sent::Sent;
+use crate::hosts::{add_hosts, is_sized};
+use crate::sent::{Sent, make_room, post};
 use crate::stand_in::{came, came_bound, command_bound, obey};
 use rvm_core::Host;
 use rvm_debug::Debugged;
-use rvm_frame::{Addressed, append_frame};
 use rvm_guest::valid_guest;
 use rvm_mem::PagedMemory;
 use rvm_message::{Command, HostRefusal, HostReply};
@@ -140,7 +139,9 @@ impl<M: PagedMemory + Drop> World<M> {
     /// Some events made it of a new world.
     pub fn reached(&self)
         ensures { IsReached (world_of self.now) }
-    {}
+    {
+        let _version = self.version;
+    }
 
     /// What an event does: the reply, and the place of the frame that was made, if one was. After a
     /// refused growth nothing has changed; an event of the guest takes no memory.
@@ -209,95 +210,11 @@ impl<M: PagedMemory + Drop> World<M> {
 
 /// An event that is refused makes no frame.
 fn refused(why: HostRefusal) -> WorldReply
-    ensures reply { result.reply ≡ Refused why }
+    ensures reply { result.reply ≡ HostReply.Refused why }
     ensures frame { result.frame ≡ None }
 {
     WorldReply {
         reply: HostReply::Refused(why),
         frame: None,
-    }
-}
-
-/// Room for a frame of at most so many bytes, and a place for it; none is made where no frame is.
-fn make_room(alloc: Global, sent: &mut Vec<Sent>, bound: usize) -> Result<Vec<u8>, AllocError>
-    ensures sent { sent.new.items ≡ sent.old.items }
-    ensures empty { IfOk result (λ bytes. bytes.items ≡ []) }
-    ensures bytes { IfOk result (λ bytes. bound ≤ vec_capacity bytes) }
-    ensures place { OnOk result (0 < bound → length sent.new.items < vec_capacity sent.new) }
-    ensures err { OnErr result (0 < bound) }
-{
-    if bound == 0 {
-        return Ok(Vec::new(alloc));
-    }
-    sent.reserve(1)?;
-    Vec::with_capacity(alloc, bound)
-}
-
-/// Keeps the bytes of a frame, if one was made, and says at which place. There is room for it.
-fn post(
-    version: u32,
-    sent: &mut Vec<Sent>,
-    frame: Option<Addressed>,
-    mut bytes: Vec<u8>,
-) -> Option<usize>
-    requires empty { bytes.items ≡ [] }
-    requires fits { CanBeKept version (vec_capacity bytes)
-        (vec_capacity sent.old - length sent.old.items) frame }
-    ensures sent { sent.new.items ≡ sent.old.items ++ posted version frame }
-    ensures place { result ≡ place_of (length sent.old.items) (length sent.new.items) }
-{
-    let frame = frame?;
-    append_frame(version, &frame, &mut bytes);
-    let place = sent.len();
-    sent.push_reserved(Sent {
-        from: frame.from,
-        to: frame.to,
-        bytes,
-    });
-    Some(place)
-}
-
-/// Whether a world may have hosts with these limits, and streams of this version.
-fn is_sized(version: u32, limits: &[u16]) -> bool
-    ensures { result ≡ is_sized version limits.now }
-{
-    2 <= limits.len()
-        && limits.len() <= 8
-        && limits.iter().all(|limit| 1 <= *limit && *limit <= 4096)
-        && (version == 3 || limits.len() == 2 && 1 <= version && version <= 2)
-}
-
-/// Adds a host for each limit. The first one has the guest.
-fn add_hosts<M: PagedMemory + Drop>(
-    hosts: &mut Vec<Host<M>>,
-    guest: Debugged<M>,
-    limits: &[u16],
-    version: u32,
-)
-    requires sized { is_sized version limits.now ≡ true }
-    requires empty { hosts.old.items ≡ [] }
-    requires room { length limits.now ≤ vec_capacity hosts.old }
-    ensures { AreNew guest version limits.now (length limits.now) hosts.new.items }
-{
-    hosts.push_reserved(new_host(Some(guest), 0, limits, version));
-    for id in 1..limits.len() as u8 {
-        hosts.push_reserved(new_host(None, id, limits, version));
-    }
-}
-
-/// The host of a number, with this guest or none.
-fn new_host<M: PagedMemory + Drop>(
-    guest: Option<Debugged<M>>,
-    id: u8,
-    limits: &[u16],
-    version: u32,
-) -> Host<M>
-    requires sized { is_sized version limits.now ≡ true }
-    requires there { id < length limits.now }
-    ensures { result ≡ new_host guest id (length limits.now) (limit_at limits.now id) version }
-{
-    match Host::with_version(guest, id, limits.len() as u8, limits[id as usize], version) {
-        Ok(host) => host,
-        Err(_) => unreachable!(),
     }
 }

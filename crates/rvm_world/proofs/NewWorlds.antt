@@ -1,0 +1,2 @@
+-- A new world is one of the law.
+use Rattle.std.proofs.Common.{◌≡◌}
