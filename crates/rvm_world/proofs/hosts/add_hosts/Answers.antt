@@ -1,0 +1,36 @@
+use Rattle.std.proofs.Common.{◌≡◌, ◌≤◌, ◌+◌, ◌∙◌, ◌++◌, ◌∷◌, [], length, vec_capacity, refl, sym, ap, subst, arith}
+use Rattle.rvm_world.specs.Worlds.{AreNew}
+use Rattle.rvm_world.proofs.NewWorlds.{another, no_host, one_more, two_limits}
+use Rattle.rvm_world.proofs.hosts.add_hosts.Goals as goal
+
+pub loop-id-init : goal.loop-id-init
+loop-id-init g c =
+    let limits = c.args.limits.now in
+    let items = c.push_reserved.ensures.items ∙ ap (λ z. z ++ c.new_host.result ∷ []) c.requires.empty in
+    (subst (AreNew c.args.guest c.args.version limits 1) (sym items)
+    (one_more c.args.guest c.args.version limits 0 [] c.new_host.result (no_host c.args.guest c.args.version limits) c.new_host.ensures),
+    subst (λ z. length limits ≤ z) (sym c.push_reserved.ensures.capacity) c.requires.room)
+
+pub push_reserved-requires-in-loop-id : goal.push_reserved-requires-in-loop-id
+push_reserved-requires-in-loop-id g c =
+    let len = c.loop-id.hosts.ok.0 in
+    let count = c.loop-id.invariant.0.count in
+    let room = c.loop-id.invariant.1 in
+    let more = c.loop-id-test.true in
+    omega (arith, len, count, room, more)
+
+pub loop-id-preserved : goal.loop-id-preserved
+loop-id-preserved g c =
+    let limits = c.args.limits.now in
+    (subst (AreNew c.args.guest c.args.version limits (c.loop-id.id + 1)) (sym c.push_reserved-in-loop-id.ensures.items)
+    (another c.args.guest c.args.version limits c.loop-id.id c.loop-id.hosts.items c.new_host-in-loop-id.result c.loop-id.invariant.0
+    c.loop-id.auto.id c.new_host-in-loop-id.ensures),
+    subst (λ z. length limits ≤ z) (sym c.push_reserved-in-loop-id.ensures.capacity) c.loop-id.invariant.1)
+
+pub returns : goal.returns
+returns g c =
+    let limits = c.args.limits.now in
+    let two = two_limits c.args.version limits c.requires.sized in
+    let past = c.loop-id-test.false in
+    let inside = c.loop-id.auto.id-end (omega (arith, two)) in
+    subst (λ z. AreNew c.args.guest c.args.version limits z c.loop-id.hosts.items) (omega (arith, past, inside)) c.loop-id.invariant.0
