@@ -23,7 +23,6 @@ use Rattle.rvm_protocol.specs.Replies.{Reply, Refused, BadHost, NoFrame}
 use Rattle.rvm_protocol.specs.World.{Event, At, Deliver, and_sent, frame_for, happened, meaning, new_world, reply_or, reply_to, result_at, run, step, world_at}
 use Rattle.rvm_core.specs.Bounds.{CanBePosted, frame_bound}
 use Rattle.rvm_core.specs.Hosts.{PlainHost, Steps, host_of, new_host, step_of}
-use Rattle.rvm_core.specs.Memory as memory
 use Rattle.rvm_world.specs.Worlds.{BoardWorld, IsKept, IsReached, IsWorld, Kept, Placed, PlainWorld, asks_memory, frame_in, host_at, is_sized, kept_of, no_kept, place_of, posted, world_of}
 use Rattle.rvm_world.proofs.Keeping.{kept_made, posted_kept}
 
@@ -326,24 +325,7 @@ deliver_becomes w sent k kept from to most frame a old h is lk same ef et reads 
       stays = stays_world w to most (Deliver k) (Came from frame) a h is lt s' p' t.turned;
     })
 
--- MEMORY
-
--- where a command may make a frame, it may ask for memory
-pub asks_room : (x : ℕ) (h : PlainHost) (c : Command BoardEvent) → 0 < frame_bound h (Do c)
-    → asks_memory (At x c) ≡ true
-asks_room x h (Board e) lt = absurd (omega (arith, lt))
-asks_room x h (Begin to p) lt = refl
-asks_room x h Copy lt = refl
-asks_room x h Resend lt = refl
-asks_room x h AbortMove lt = refl
-
--- where its host may ask for memory, it may
-pub asks_still : (x : ℕ) (c : Command BoardEvent) → memory.asks_memory c ≡ true → asks_memory (At x c) ≡ true
-asks_still x (Board e) h = absurd cc
-asks_still x (Begin to p) h = refl
-asks_still x Copy h = refl
-asks_still x Resend h = refl
-asks_still x AbortMove h = refl
+-- REFUSED GROWTHS
 
 pub on_err : {A E : Type 0} → (r : Result A E) → (P : Type 0) → P → OnErr r P
 on_err (Ok a) P p = tt

@@ -23,13 +23,14 @@ use Rattle.rvm_world.specs.Worlds.{AreNew, BoardWorld, IsKept, IsReached, IsWorl
 pub no_host : (g : GuestState) (version : ℕ) (limits : List ℕ) → AreNew g version limits 0 []
 no_host g version limits = record { count = refl; each = λ x lt. absurd (omega (arith, lt)) }
 
-pub one_more : (g : GuestState) (version : ℕ) (limits : List ℕ) (n : ℕ) (hosts : List PlainHost) (h : PlainHost)
-    → AreNew g version limits n hosts
+pub one_more : (g : GuestState) (version : ℕ) (limits : List ℕ) (n : ℕ) (hosts all : List PlainHost) (h : PlainHost)
+    → AreNew g version limits n hosts → all ≡ hosts ++ h ∷ []
     → h ≡ new_host (if n == 0 then Some g else None) n (length limits) (limit_at limits n) version
-    → AreNew g version limits (n + 1) (hosts ++ h ∷ [])
-one_more g version limits n hosts h new is =
+    → AreNew g version limits (n + 1) all
+one_more g version limits n hosts all h new more is =
     let long = new.count in
-    record {
+    subst (AreNew g version limits (n + 1)) (sym more)
+    (record {
       count = length_push hosts h ∙ ap (λ z. z + 1) long;
       each = λ x lt. elim (cases_lt x n) [
         | inl less ↦
@@ -39,15 +40,16 @@ one_more g version limits n hosts h new is =
             get_or_push hosts h (new_host None x 0 0 0) x (omega (arith, long, last)) ∙ is
             ∙ ap (λ z. new_host (if z == 0 then Some g else None) z (length limits) (limit_at limits z) version) (sym last)
       ];
-    }
+    })
 
 -- a host without a guest, behind the first one
-pub another : (g : GuestState) (version : ℕ) (limits : List ℕ) (n : ℕ) (hosts : List PlainHost) (h : PlainHost)
-    → AreNew g version limits n hosts → 1 ≤ n → h ≡ new_host None n (length limits) (limit_at limits n) version
-    → AreNew g version limits (n + 1) (hosts ++ h ∷ [])
-another g version limits n hosts h new behind is =
+pub another : (g : GuestState) (version : ℕ) (limits : List ℕ) (n : ℕ) (hosts all : List PlainHost) (h : PlainHost)
+    → AreNew g version limits n hosts → all ≡ hosts ++ h ∷ [] → 1 ≤ n
+    → h ≡ new_host None n (length limits) (limit_at limits n) version
+    → AreNew g version limits (n + 1) all
+another g version limits n hosts all h new more behind is =
     let other : (n == 0) ≡ false = ne_eqb n 0 (λ e. omega (arith, e, behind)) in
-    one_more g version limits n hosts h new
+    one_more g version limits n hosts all h new more
     (is ∙ ap (λ b. new_host (if b then Some g else None) n (length limits) (limit_at limits n) version) (sym other))
 
 -- THE WORLD

@@ -1,4 +1,4 @@
-use Rattle.std.proofs.Common.{◌≡◌, ◌≤◌, ◌+◌, ◌∙◌, ◌++◌, ◌∷◌, [], length, vec_capacity, refl, sym, ap, subst, arith}
+use Rattle.std.proofs.Common.{◌≤◌, ◌∙◌, ◌++◌, ◌∷◌, [], length, sym, ap, subst, arith}
 use Rattle.rvm_world.specs.Worlds.{AreNew}
 use Rattle.rvm_world.proofs.NewWorlds.{another, no_host, one_more, two_limits}
 use Rattle.rvm_world.proofs.hosts.add_hosts.Goals as goal
@@ -6,9 +6,9 @@ use Rattle.rvm_world.proofs.hosts.add_hosts.Goals as goal
 pub loop-id-init : goal.loop-id-init
 loop-id-init g c =
     let limits = c.args.limits.now in
-    let items = c.push_reserved.ensures.items ∙ ap (λ z. z ++ c.new_host.result ∷ []) c.requires.empty in
-    (subst (AreNew c.args.guest c.args.version limits 1) (sym items)
-    (one_more c.args.guest c.args.version limits 0 [] c.new_host.result (no_host c.args.guest c.args.version limits) c.new_host.ensures),
+    (one_more c.args.guest c.args.version limits 0 [] c.push_reserved.new.self.items c.new_host.result
+    (no_host c.args.guest c.args.version limits)
+    (c.push_reserved.ensures.items ∙ ap (λ z. z ++ c.new_host.result ∷ []) c.requires.empty) c.new_host.ensures,
     subst (λ z. length limits ≤ z) (sym c.push_reserved.ensures.capacity) c.requires.room)
 
 pub push_reserved-requires-in-loop-id : goal.push_reserved-requires-in-loop-id
@@ -22,9 +22,9 @@ push_reserved-requires-in-loop-id g c =
 pub loop-id-preserved : goal.loop-id-preserved
 loop-id-preserved g c =
     let limits = c.args.limits.now in
-    (subst (AreNew c.args.guest c.args.version limits (c.loop-id.id + 1)) (sym c.push_reserved-in-loop-id.ensures.items)
-    (another c.args.guest c.args.version limits c.loop-id.id c.loop-id.hosts.items c.new_host-in-loop-id.result c.loop-id.invariant.0
-    c.loop-id.auto.id c.new_host-in-loop-id.ensures),
+    (another c.args.guest c.args.version limits c.loop-id.id c.loop-id.hosts.items c.push_reserved-in-loop-id.new.self.items
+    c.new_host-in-loop-id.result c.loop-id.invariant.0 c.push_reserved-in-loop-id.ensures.items c.loop-id.auto.id
+    c.new_host-in-loop-id.ensures,
     subst (λ z. length limits ≤ z) (sym c.push_reserved-in-loop-id.ensures.capacity) c.loop-id.invariant.1)
 
 pub returns : goal.returns

@@ -9,7 +9,7 @@ use Rattle.rvm_protocol.specs.World.{At, reply_to, step}
 use Rattle.rvm_core.specs.Bounds.{frame_bound}
 use Rattle.rvm_core.specs.Hosts.{PlainHost}
 use Rattle.rvm_world.specs.Worlds.{PlainWorld, Kept, IsWorld, host_at, place_of, posted, world_of}
-use Rattle.rvm_world.proofs.Happenings.{Becomes, asks_room, asks_still, at_becomes, at_refused, is_host, on_err}
+use Rattle.rvm_world.proofs.Happenings.{Becomes, at_becomes, at_refused, is_host, on_err}
 use Rattle.rvm_world.proofs.Keeping.{can_be_kept}
 use Rattle.rvm_world.proofs.world.World.at.Goals as goal
 

@@ -1,9 +1,7 @@
-use Rattle.std.proofs.Common.{◌≡◌, List, length, true, sym, subst}
+use Rattle.std.proofs.Common.{◌≡◌, List, length, sym, subst}
 use Rattle.rvm_guest.proofs.TheGuest.{board}
-use Rattle.rvm_protocol.specs.Shown.{Shown}
-use Rattle.rvm_protocol.specs.Told.{at_start}
 use Rattle.rvm_protocol.specs.World.{new_world}
-use Rattle.rvm_world.specs.Worlds.{IsWorld, Kept, is_sized, limit_at, world_of}
+use Rattle.rvm_world.specs.Worlds.{IsWorld, Kept, limit_at, world_of}
 use Rattle.rvm_world.proofs.NewWorlds.{new_is_world, new_shown, world_is}
 use Rattle.rvm_world.proofs.world.World.with_version.Goals as goal
 
