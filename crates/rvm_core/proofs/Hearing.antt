@@ -1,16 +1,15 @@
 -- A frame as a host hears it.
-use Rattle.std.proofs.Common.{◌≡◌, ◌<◌, ◌≤◌, ℕ, List, Bool, true, false, nat_lt, if◌then◌else◌, Option, None, Result, refl, sym, ap, subst, ◌∙◌, arith}
-use Rattle.std.specs.Prelude.{IfOk, nat_le}
-use Rattle.std.proofs.lemmas.Bool.{le-leb, lt-leb, lt-ltb}
+use Rattle.std.proofs.Common.{◌≡◌, ℕ, true, false, if◌then◌else◌, Option, None, Result, sym, ap, subst}
+use Rattle.std.specs.Prelude.{IfOk}
 use Rattle.std.specs.declared.alloc.AllocError.{AllocError}
 use Rattle.rvm_frame.specs.declared.frame.Frame.{Frame}
-use Rattle.rvm_frame.specs.declared.frame.Frame.TheVariants as frame
 use Rattle.rvm_guest.proofs.TheGuest.{board}
 use Rattle.rvm_message.specs.Answers.{Answers, BoardMode}
-use Rattle.rvm_message.specs.Frames.{BoardFrame, frame_heard, no_frame}
+use Rattle.rvm_message.specs.Frames.{BoardFrame, can_come, frame_heard, frame_of, no_frame}
 use Rattle.rvm_message.specs.declared.reply.HostReply.{HostReply}
-use Rattle.rvm_protocol.specs.Frames.{Offer, Part, plain}
+use Rattle.rvm_protocol.specs.Frames.{plain}
 use Rattle.rvm_protocol.specs.Receiving.{came}
+use Rattle.rvm_core.proofs.Sendings.{frame_is}
 use Rattle.rvm_core.proofs.Targets.{alone, if_ok}
 
 -- what a host hears of a frame
@@ -31,21 +30,10 @@ module _ (limit : ℕ) (f : Frame) (h : BoardFrame) (mode next : BoardMode) (is 
   if_heard r = if_ok r (λ a. (version : ℕ) → Answers version (came board limit h mode) a next) (λ a. (version : ℕ) → Answers version (came board limit (heard f) mode) a next)
       (λ a so version. so_heard version a (so version))
 
--- FRAMES THAT STAND IN NO STREAM
+-- FRAMES THAT COME, AND OTHERS
 
-pub no_pages : (f : Frame) (k pages harts : ℕ) → f ≡ frame.Offer k pages harts → pages ≡ 0 → heard f ≡ no_frame
-no_pages f k pages harts is none = ap heard is ∙ ap (λ n. heard (frame.Offer k n harts)) none
+pub as_it_is : {f x : Frame} → f ≡ x → true ≡ can_come f → heard f ≡ plain board (frame_of x)
+as_it_is is come = ap (plain board) (frame_is is come)
 
-pub some_pages : (f : Frame) (k pages harts : ℕ) → f ≡ frame.Offer k pages harts → (pages ≡ 0 → ⊥) → heard f ≡ Offer k pages harts
-some_pages f k pages harts is some =
-    ap heard is ∙ ap (λ (b : Bool). plain board (if b then Offer k pages harts else no_frame)) (lt-ltb 0 pages (omega (arith, some)))
-
-module _ (f : Frame) (k stamp part parts : ℕ) (bytes : List ℕ) (is : f ≡ frame.Part k stamp part parts bytes) where
-  abbrev if_few : Bool → BoardFrame
-  if_few b = plain board (if b then Part k stamp part parts bytes else no_frame)
-
-  pub many_parts : 6 < parts → heard f ≡ no_frame
-  many_parts many = ap heard is ∙ ap if_few (lt-leb parts 6 many)
-
-  pub few_parts : parts ≤ 6 → heard f ≡ Part k stamp part parts bytes
-  few_parts few = ap heard is ∙ ap if_few (le-leb parts 6 few)
+pub as_none : (f : Frame) → false ≡ can_come f → heard f ≡ no_frame
+as_none f is = ap (λ b. plain board (if b then frame_of f else no_frame)) (sym is)

@@ -1,4 +1,7 @@
-mod Sources
 mod Targets
 mod Hearing
 mod Settling
+mod Sendings
+mod Moves
+
+mod Postings

@@ -2,6 +2,7 @@
 use Rattle.std.specs.Prelude.{◌≡◌, ℕ, ◌+◌, ◌<◌, ◌≤◌, true, List, Option, Some, None, length}
 use Rattle.rvm_debug.specs.declared.event.BoardEvent.{BoardEvent}
 use Rattle.rvm_frame.specs.declared.addressed.Addressed.{Addressed}
+use Rattle.rvm_frame.specs.declared.frame.Frame.{Frame}
 use Rattle.rvm_frame.specs.Grammar.{HasSpelling, MayStand, sent, spelling}
 use Rattle.rvm_frame.specs.Kinds.{header_len, names_hosts}
 use Rattle.rvm_message.specs.Events.{BoardHostEvent}
@@ -10,7 +11,7 @@ use Rattle.rvm_protocol.specs.Commands.{Command, Board, Begin, Copy, Resend, Abo
 use Rattle.rvm_protocol.specs.Frames.{Offer, State, Part, Ready, Go}
 use Rattle.rvm_protocol.specs.Host.{is_there}
 use Rattle.rvm_source.specs.Bounds.{body_bound}
-use Rattle.rvm_core.specs.Hosts.{PlainHost}
+use Rattle.rvm_core.specs.Hosts.{PlainHost, is_sized}
 use Rattle.rvm_core.specs.Modes.{PlainMode, Leaving, Given, Held, Empty, Run, Staging}
 
 -- the most bytes of the body of the frame that a copy makes; None where it makes no frame
@@ -36,8 +37,8 @@ command_body version mode AbortMove = Some 0
 -- of the frame that answers one that comes
 abbrev pub came_body : BoardFrame → Option ℕ
 came_body (Offer n pages harts) = Some 2
-came_body (State n numbers state) = Some 8192
-came_body (Part n stamp part parts bytes) = Some 8192
+came_body (State n numbers state) = Some 8194
+came_body (Part n stamp part parts bytes) = Some 8194
 came_body (Ready n) = Some 0
 came_body (Go n) = Some 0
 came_body f = None
@@ -54,6 +55,16 @@ with_header version (Some n) = header_len (names_hosts (Some version)) + n
 -- the most bytes of the frame that an event makes
 abbrev pub frame_bound : PlainHost → BoardHostEvent → ℕ
 frame_bound h e = with_header h.version (event_body h e)
+
+-- no body is longer than a stream may have it
+abbrev pub IsShort : Option ℕ → Type 0
+IsShort None = Unit {0}
+IsShort (Some n) = n ≤ 32768
+
+-- a frame that was made, if any, from one host to another
+abbrev pub addressed : (from to : ℕ) → Option Frame → Option Addressed
+addressed from to None = None
+addressed from to (Some f) = Some (record { from = from; to = to; frame = f })
 
 -- a frame of this host goes to another one, may stand in its stream, and has a spelling of at most so many bytes
 pub record IsPosted (h : PlainHost) (most : ℕ) (a : Addressed) : Type 0 where
@@ -80,3 +91,14 @@ KeepsMove id count partner (Leaving s) = IsMove id count partner s.move_number
 KeepsMove id count partner (Given n) = IsMove id count partner n
 KeepsMove id count partner (Staging n s) = IsMove id count partner n
 KeepsMove id count partner (Held n g) = IsMove id count partner n
+
+-- a move that can be told again has a number
+abbrev pub HasNumber : PlainMode → Type 0
+HasNumber (Given n) = 0 < n
+HasNumber (Held n g) = 0 < n
+HasNumber mode = Unit {0}
+
+-- a host among others, with its numbers within their limits and its move, if any, with another one
+pub record IsHost (h : PlainHost) : Type 0 where
+  pub sized : is_sized h.id h.count h.limit h.version ≡ true
+  pub moves : KeepsMove h.id h.count h.partner h.mode

@@ -1,6 +1,6 @@
 //! A host.
 
-ghost use Rattle.std.specs.Prelude.{◌≡◌, ◌↔◌, true, false, IfOk, IfErr, IsErr, OnErr, None};
+ghost use Rattle.std.specs.Prelude.{◌≡◌, ◌↔◌, ℕ, true, false, IfOk, IfErr, IsErr, OnErr, None};
 ghost use Rattle.rvm_message.specs.Events.{command_of, event_of};
 ghost use Rattle.rvm_message.specs.Frames.{BoardFrame, addressed_made, frame_heard, frame_made};
 ghost use Rattle.rvm_precopy.specs.Policies.{policy_of};
@@ -8,14 +8,16 @@ ghost use Rattle.rvm_guest.proofs.TheGuest.{board};
 ghost use Rattle.rvm_protocol.specs.Commands as commands;
 ghost use Rattle.rvm_protocol.specs.Frames.{plain, posted};
 ghost use Rattle.rvm_protocol.specs.Host.{is_heard, is_offer_above, is_there};
+ghost use Rattle.rvm_core.specs.Bounds.{CanBePosted, IsHost, addressed, frame_bound};
 ghost use Rattle.rvm_core.specs.Hosts.{Steps, host_of, is_sized, new_host, partner_of, version_of};
 ghost use Rattle.rvm_core.specs.Memory.{asks_memory, needs_memory, takes_memory};
 
+use crate::bound::{came_body, with_header};
 use crate::mode::Mode;
 use rvm_debug::Debugged;
 use rvm_frame::{Addressed, Frame};
 use rvm_mem::PagedMemory;
-use rvm_message::{Command, HostEvent, HostRefusal, HostReply};
+use rvm_message::{Command, HostEvent, HostRefusal, HostReply, can_come};
 use rvm_precopy::Policy;
 use std::alloc::{AllocError, Global};
 use std::marker::Model;
@@ -36,12 +38,12 @@ pub struct Host<M: PagedMemory> {
 }
 
 impl<M: PagedMemory> Model for Host<M> {
-    ghost use Rattle.std.specs.Prelude.{◌≤◌};
     ghost use Rattle.rvm_core.specs.Hosts.{PlainHost};
 
     ghost Value = { PlainHost };
 
-    // Below `Value`, since it reads a type of this crate.
+    // Below `Value`, since they read a type of this crate.
+    ghost use Rattle.rvm_core.specs.Bounds.{IsHost};
     ghost use Rattle.rvm_core.specs.Modes.{plain_of};
 
     ghost view = { λ h. record {
@@ -53,7 +55,14 @@ impl<M: PagedMemory> Model for Host<M> {
       version = h.version;
     } };
 
-    ghost invariant = { λ h. h.limit ≤ 4096 };
+    ghost invariant = { λ h. IsHost (record {
+      mode = plain_of h.mode;
+      partner = h.partner;
+      id = h.id;
+      count = h.count;
+      limit = h.limit;
+      version = h.version;
+    }) };
 }
 
 impl<M: PagedMemory + Drop> Host<M> {
@@ -118,6 +127,8 @@ impl<M: PagedMemory + Drop> Host<M> {
         ensures steps { IfOk result (λ a. Steps self.old (event_of event.now) a self.new) }
         ensures err { OnErr result (self.new ≡ self.old) }
         ensures memory { OnErr result (needs_memory (event_of event.now) ≡ true) }
+        ensures sent { IfOk result (λ a. CanBePosted self.old
+            (frame_bound self.old (event_of event.now)) a.1) }
     {
         match event {
             HostEvent::Do(command) => self.obey(alloc, command),
@@ -135,10 +146,13 @@ impl<M: PagedMemory + Drop> Host<M> {
             a self.new) }
         ensures err { OnErr result (self.new ≡ self.old) }
         ensures memory { OnErr result (asks_memory (command_of command.now) ≡ true) }
+        ensures sent { IfOk result (λ a. CanBePosted self.old
+            (frame_bound self.old (commands.Do (command_of command.now))) a.1) }
     {
         if let Command::Begin { to, policy } = command {
             return self.begin(alloc, *to, *policy);
         }
+        let _body = self.mode.command_body(self.version, command);
         let (reply, frame) = self.mode.obey(alloc, self.version, command)?;
         Ok((reply, addressed(self.id, self.partner, frame)))
     }
@@ -153,6 +167,8 @@ impl<M: PagedMemory + Drop> Host<M> {
         ensures steps { IfOk result (λ a. Steps self.old
             (commands.Do (commands.Begin to (policy_of policy))) a self.new) }
         ensures err { OnErr result (self.new ≡ self.old) }
+        ensures sent { IfOk result (λ a. CanBePosted self.old
+            (frame_bound self.old (commands.Do (commands.Begin to (policy_of policy)))) a.1) }
     {
         if self.mode.runs() && !self.is_there(to) {
             return Ok((HostReply::Refused(HostRefusal::BadHost), None));
@@ -173,6 +189,8 @@ impl<M: PagedMemory + Drop> Host<M> {
             (commands.Came from (frame_heard frame.now)) a self.new) }
         ensures err { OnErr result (self.new ≡ self.old) }
         ensures memory { OnErr result (takes_memory (frame_heard frame.now) ≡ true) }
+        ensures sent { IfOk result (λ a. CanBePosted self.old
+            (frame_bound self.old (commands.Came from (frame_heard frame.now))) a.1) }
     {
         if !self.hears(from, frame) {
             return Ok((HostReply::Refused(HostRefusal::Ignored), None));
@@ -180,6 +198,38 @@ impl<M: PagedMemory + Drop> Host<M> {
         let (reply, made) = self.mode.came(alloc, self.limit, frame)?;
         self.partner = partner_accepted(self.partner, from, &reply);
         Ok((reply, addressed(self.id, from, made)))
+    }
+
+    /// How long the frame that an event makes is at most; 0 where it makes none.
+    pub fn frame_bound(&self, event: &HostEvent) -> usize
+        ensures { result ≡ frame_bound self.now (event_of event.now) }
+    {
+        match event {
+            HostEvent::Do(command) => self.command_bound(command),
+            HostEvent::Came(_, frame) => self.came_bound(frame),
+        }
+    }
+
+    /// Of the frame that a command makes.
+    pub fn command_bound(&self, command: &Command) -> usize
+        ensures { result ≡ frame_bound self.now (commands.Do (command_of command.now)) }
+    {
+        with_header(self.version, self.mode.command_body(self.version, command))
+    }
+
+    /// Of the frame that answers one that comes.
+    pub fn came_bound(&self, frame: &Frame) -> usize
+        ensures { (from : ℕ) → result
+            ≡ frame_bound self.now (commands.Came from (frame_heard frame.now)) }
+    {
+        with_header(self.version, came_body(frame))
+    }
+
+    /// It is one of so many hosts, and its move, if any, is with another of them.
+    pub fn is_host(&self)
+        ensures { IsHost self.now }
+    {
+        let _mode = &self.mode;
     }
 
     /// Whether a number is that of another host.
@@ -214,9 +264,8 @@ fn is_offer_above(move_number: u64, frame: &Frame) -> bool
     match frame {
         Frame::Offer {
             move_number: offered,
-            pages,
             ..
-        } => 0 < *pages && move_number < *offered,
+        } => can_come(frame) && move_number < *offered,
         _ => false,
     }
 }
@@ -256,7 +305,8 @@ fn partner_accepted(partner: u8, from: u8, reply: &HostReply) -> u8
 
 /// A frame, if there is one, with its address.
 fn addressed(from: u8, to: u8, frame: Option<Frame>) -> Option<Addressed>
-    ensures { addressed_made result ≡ posted from to (frame_made frame) }
+    ensures made { addressed_made result ≡ posted from to (frame_made frame) }
+    ensures frame { result ≡ addressed from to frame }
 {
     match frame {
         Some(frame) => Some(Addressed { from, to, frame }),

@@ -4,9 +4,10 @@
 //! Stands on `rvm_source`, `rvm_handover` and `rvm_message`, and knows nothing of worlds, threads or
 //! links.
 //!
-//! To be read in this order: `mode`, `source`, `target`, `host`.
+//! To be read in this order: `mode`, `source`, `target`, `bound`, `host`.
 #![tactic(auto)]
 
+mod bound;
 mod host;
 mod mode;
 mod source;

@@ -5,10 +5,12 @@ ghost use Rattle.rvm_guest.proofs.TheGuest.{board};
 ghost use Rattle.rvm_message.specs.Answers.{Answers};
 ghost use Rattle.rvm_message.specs.Events.{command_of};
 ghost use Rattle.rvm_message.specs.Frames.{frame_heard};
+ghost use Rattle.rvm_message.specs.Sendable.{CanBeSent};
 ghost use Rattle.rvm_protocol.specs.Frames.{plain};
 ghost use Rattle.rvm_protocol.specs.Modes.{move_of};
 ghost use Rattle.rvm_protocol.specs.Obeying as obeying;
 ghost use Rattle.rvm_protocol.specs.Receiving as receiving;
+ghost use Rattle.rvm_core.specs.Bounds.{HasNumber, came_body, command_body};
 ghost use Rattle.rvm_core.specs.Memory.{asks_memory, takes_memory};
 ghost use Rattle.rvm_core.specs.Modes.{mode_of, plain_of, runs};
 
@@ -16,7 +18,7 @@ use rvm_debug::Debugged;
 use rvm_frame::Frame;
 use rvm_handover::Staging;
 use rvm_mem::PagedMemory;
-use rvm_message::{Answer, Command, HostRefusal, HostReply};
+use rvm_message::{Answer, Command, HostRefusal, HostReply, can_come};
 use rvm_source::Source;
 use std::alloc::{AllocError, Global};
 use std::mem;
@@ -101,11 +103,14 @@ impl<M: PagedMemory + Drop> Mode<M> {
         version: u32,
         command: &Command,
     ) -> Result<Answer, AllocError>
+        requires { HasNumber (plain_of self.old) }
         ensures answer { IfOk result (λ a. Answers version
             (obeying.obey board version (command_of command.now) (mode_of (plain_of self.old)))
             a (mode_of (plain_of self.new))) }
         ensures err { OnErr result (self.new ≡ self.old) }
         ensures memory { OnErr result (asks_memory (command_of command.now) ≡ true) }
+        ensures sent { IfOk result (λ a. CanBeSent version
+            (command_body version (plain_of self.old) (command_of command.now)) a.1) }
     {
         match command {
             Command::Board(event) => Ok(self.board(event).alone()),
@@ -123,25 +128,26 @@ impl<M: PagedMemory + Drop> Mode<M> {
         limit: u16,
         frame: &Frame,
     ) -> Result<Answer, AllocError>
-        requires { limit ≤ 4096 }
+        requires some { 1 ≤ limit }
+        requires limit { limit ≤ 4096 }
         ensures answer { IfOk result (λ a. (version : ℕ) → Answers version
             (receiving.came board limit (plain board (frame_heard frame.now))
             (mode_of (plain_of self.old))) a (mode_of (plain_of self.new))) }
         ensures err { OnErr result (self.new ≡ self.old) }
         ensures memory { OnErr result (takes_memory (frame_heard frame.now) ≡ true) }
+        ensures sent { IfOk result (λ a. (version : ℕ)
+            → CanBeSent version (came_body (frame_heard frame.now)) a.1) }
     {
+        if !can_come(frame) {
+            return Ok(self.accepted(NO_MOVE).alone());
+        }
         match frame {
-            Frame::Hello { .. } => Ok(self.accepted(NO_MOVE).alone()),
+            Frame::Hello { .. } => unreachable!(),
             Frame::Offer {
                 move_number,
                 pages,
                 harts,
-            } => {
-                if *pages == 0 {
-                    return Ok(self.accepted(NO_MOVE).alone());
-                }
-                self.offered(alloc, limit, *move_number, *pages, *harts)
-            }
+            } => self.offered(alloc, limit, *move_number, *pages, *harts),
             Frame::Accept { move_number } => Ok(self.accepted(*move_number).alone()),
             Frame::Refuse { move_number, limit } => Ok(self.declined(*move_number, *limit)),
             Frame::Page {
@@ -179,12 +185,7 @@ impl<M: PagedMemory + Drop> Mode<M> {
                 part,
                 parts,
                 bytes,
-            } => {
-                if *parts > 6 {
-                    return Ok(self.accepted(NO_MOVE).alone());
-                }
-                self.part(alloc, *move_number, *stamp, *part, *parts, bytes)
-            }
+            } => self.part(alloc, *move_number, *stamp, *part, *parts, bytes),
         }
     }
 }

@@ -1,13 +1,15 @@
 //! The commands of a host, and the frames that come to the source of a move.
 
-ghost use Rattle.std.specs.Prelude.{◌≡◌, ℕ, IfOk, OnErr, None};
+ghost use Rattle.std.specs.Prelude.{◌≡◌, ◌<◌, ℕ, IfOk, OnErr, None, Some};
 ghost use Rattle.rvm_guest.proofs.TheGuest.{board};
 ghost use Rattle.rvm_message.specs.Answers.{Answers};
+ghost use Rattle.rvm_message.specs.Sendable.{CanBeSent};
 ghost use Rattle.rvm_precopy.specs.Policies.{policy_of};
 ghost use Rattle.rvm_protocol.specs.Frames as frames;
 ghost use Rattle.rvm_protocol.specs.Modes as protocol;
 ghost use Rattle.rvm_protocol.specs.Obeying as obeying;
 ghost use Rattle.rvm_protocol.specs.Receiving as receiving;
+ghost use Rattle.rvm_core.specs.Bounds.{HasNumber, copy_body, resend_body};
 ghost use Rattle.rvm_core.specs.Modes.{mode_of, plain_of};
 
 use crate::mode::Mode;
@@ -42,6 +44,7 @@ impl<M: PagedMemory + Drop> Mode<M> {
             (obeying.begin board (policy_of policy) (mode_of (plain_of self.old)))
             a (mode_of (plain_of self.new))) }
         ensures err { OnErr result (self.new ≡ self.old) }
+        ensures sent { IfOk result (λ a. (version : ℕ) → CanBeSent version (Some 3) a.1) }
     {
         match self.take() {
             Mode::Run { move_number, guest } => self.begin_run(alloc, policy, move_number, guest),
@@ -62,6 +65,7 @@ impl<M: PagedMemory + Drop> Mode<M> {
             (obeying.begin board (policy_of policy) (protocol.Run move_number guest.guest))
             a (mode_of (plain_of self.new))) }
         ensures err { OnErr result (self.new ≡ Mode.Run move_number guest) }
+        ensures sent { IfOk result (λ a. (version : ℕ) → CanBeSent version (Some 3) a.1) }
     {
         if !policy.is_allowed() {
             return Ok(self.stay(Mode::Run { move_number, guest }, HostRefusal::BadSize));
@@ -89,6 +93,7 @@ impl<M: PagedMemory + Drop> Mode<M> {
             (obeying.copy board version (mode_of (plain_of self.old)))
             a (mode_of (plain_of self.new))) }
         ensures err { OnErr result (self.new ≡ self.old) }
+        ensures sent { IfOk result (λ a. CanBeSent version (copy_body version (plain_of self.old)) a.1) }
     {
         match self {
             Mode::Leaving(source) => source.copy(alloc, version),
@@ -99,10 +104,12 @@ impl<M: PagedMemory + Drop> Mode<M> {
 
     /// The last frame of this mode is sent again. After a refused growth nothing has changed.
     pub(crate) fn resend(&mut self, alloc: Global, version: u32) -> Result<Answer, AllocError>
+        requires { HasNumber (plain_of self.old) }
         ensures answer { IfOk result (λ a. Answers version
             (obeying.resend board version (mode_of (plain_of self.old)))
             a (mode_of (plain_of self.new))) }
         ensures err { OnErr result (self.new ≡ self.old) }
+        ensures sent { IfOk result (λ a. CanBeSent version (resend_body version (plain_of self.old)) a.1) }
     {
         match self {
             Mode::Leaving(source) => source.resend(alloc, version),
@@ -120,9 +127,10 @@ impl<M: PagedMemory + Drop> Mode<M> {
 
     /// The move is given up.
     pub(crate) fn abort(&mut self) -> Answer
-        ensures { (version : ℕ) → Answers version
+        ensures answer { (version : ℕ) → Answers version
             (obeying.abort board (mode_of (plain_of self.old)))
             result (mode_of (plain_of self.new)) }
+        ensures sent { (version : ℕ) → CanBeSent version (Some 0) result.1 }
     {
         match self.take() {
             Mode::Leaving(source) => {
@@ -152,9 +160,10 @@ impl<M: PagedMemory + Drop> Mode<M> {
 
     /// The target does not take the guest.
     pub(crate) fn declined(&mut self, move_number: u64, most: u16) -> Answer
-        ensures { (limit version : ℕ) → Answers version
+        ensures answer { (limit version : ℕ) → Answers version
             (receiving.came board limit (frames.Refuse move_number most) (mode_of (plain_of self.old)))
             result (mode_of (plain_of self.new)) }
+        ensures frame { result.1 ≡ None }
     {
         match self.take() {
             Mode::Leaving(source) => {
@@ -190,9 +199,11 @@ impl<M: PagedMemory + Drop> Mode<M> {
 
     /// The target has the whole guest: it is given up here.
     pub(crate) fn ready(&mut self, move_number: u64) -> Answer
-        ensures { (limit version : ℕ) → Answers version
+        requires { 0 < move_number }
+        ensures answer { (limit version : ℕ) → Answers version
             (receiving.came board limit (frames.Ready move_number) (mode_of (plain_of self.old)))
             result (mode_of (plain_of self.new)) }
+        ensures sent { (version : ℕ) → CanBeSent version (Some 0) result.1 }
     {
         match self {
             Mode::Leaving(source) if source.is_stopped(move_number) => {

@@ -3,6 +3,7 @@
 ghost use Rattle.std.specs.Prelude.{◌≡◌, ◌≤◌, ◌<◌, ℕ, if◌then◌else◌, IfOk, OnErr, None, Some};
 ghost use Rattle.rvm_guest.proofs.TheGuest.{board};
 ghost use Rattle.rvm_message.specs.Answers.{Answers, BoardOutcome};
+ghost use Rattle.rvm_message.specs.Sendable.{CanBeSent};
 ghost use Rattle.rvm_protocol.specs.Frames as frames;
 ghost use Rattle.rvm_protocol.specs.Modes as protocol;
 ghost use Rattle.rvm_protocol.specs.Modes.{move_of};
@@ -31,12 +32,15 @@ impl<M: PagedMemory + Drop> Mode<M> {
         pages: u16,
         harts: u8,
     ) -> Result<Answer, AllocError>
+        requires number { 0 < move_number }
+        requires some { 1 ≤ limit }
         requires limit { limit ≤ 4096 }
-        requires some { 0 < pages }
+        requires pages { 0 < pages }
         ensures answer { IfOk result (λ a. (version : ℕ) → Answers version
             (receiving.came board limit (frames.Offer move_number pages harts)
             (mode_of (plain_of self.old))) a (mode_of (plain_of self.new))) }
         ensures err { OnErr result (self.new ≡ self.old) }
+        ensures sent { IfOk result (λ a. (version : ℕ) → CanBeSent version (Some 2) a.1) }
     {
         match self {
             Mode::Run { .. } | Mode::Leaving(_) => Ok(HostReply::refused(HostRefusal::Ignored)),
@@ -64,12 +68,15 @@ impl<M: PagedMemory + Drop> Mode<M> {
         pages: u16,
         harts: u8,
     ) -> Result<Answer, AllocError>
+        requires number { 0 < move_number }
+        requires some { 1 ≤ limit }
         requires limit { limit ≤ 4096 }
-        requires some { 0 < pages }
+        requires pages { 0 < pages }
         ensures answer { IfOk result (λ a. (version : ℕ) → Answers version
             (receiving.offer_above board (move_of (mode_of (plain_of self.old))) limit move_number
             pages harts (mode_of (plain_of self.old))) a (mode_of (plain_of self.new))) }
         ensures err { OnErr result (self.new ≡ self.old) }
+        ensures sent { IfOk result (λ a. (version : ℕ) → CanBeSent version (Some 2) a.1) }
     {
         if move_number <= self.move_number() {
             return Ok(HostReply::refused(HostRefusal::Ignored));
@@ -157,10 +164,12 @@ impl<M: PagedMemory + Drop> Mode<M> {
         numbers: &[u32],
         bytes: &[u8],
     ) -> Result<Answer, AllocError>
+        requires { 0 < move_number }
         ensures answer { IfOk result (λ a. (limit version : ℕ) → Answers version
             (receiving.came board limit (frames.State move_number numbers.now bytes.now)
             (mode_of (plain_of self.old))) a (mode_of (plain_of self.new))) }
         ensures err { OnErr result (self.new ≡ self.old) }
+        ensures sent { IfOk result (λ a. (version : ℕ) → CanBeSent version (Some 8194) a.1) }
     {
         if self.is_held(move_number) {
             return Ok(HostReply::ReadySent.with(Frame::Ready { move_number }));
@@ -199,11 +208,13 @@ impl<M: PagedMemory + Drop> Mode<M> {
         parts: u8,
         bytes: &Bytes,
     ) -> Result<Answer, AllocError>
-        requires { parts ≤ 6 }
+        requires number { 0 < move_number }
+        requires parts { parts ≤ 6 }
         ensures answer { IfOk result (λ a. (limit version : ℕ) → Answers version
             (receiving.came board limit (frames.Part move_number stamp part parts bytes.now)
             (mode_of (plain_of self.old))) a (mode_of (plain_of self.new))) }
         ensures err { OnErr result (self.new ≡ self.old) }
+        ensures sent { IfOk result (λ a. (version : ℕ) → CanBeSent version (Some 8194) a.1) }
     {
         if self.is_held(move_number) {
             return Ok(HostReply::ReadySent.with(Frame::Ready { move_number }));
@@ -268,9 +279,11 @@ impl<M: PagedMemory + Drop> Mode<M> {
 
     /// The source has committed: the guest runs here. Takes no memory.
     pub(crate) fn go(&mut self, move_number: u64) -> Answer
-        ensures { (limit version : ℕ) → Answers version
+        requires { 0 < move_number }
+        ensures answer { (limit version : ℕ) → Answers version
             (receiving.came board limit (frames.Go move_number) (mode_of (plain_of self.old)))
             result (mode_of (plain_of self.new)) }
+        ensures sent { (version : ℕ) → CanBeSent version (Some 0) result.1 }
     {
         match self.take() {
             Mode::Held {
@@ -344,11 +357,13 @@ fn stored(stored: bool, page: u16, copy_number: u32) -> HostReply
 
 /// The answer to a state that made no guest.
 fn not_ready(move_number: u64, reason: NotReady) -> Result<Answer, AllocError>
-    requires { CanBeTold reason }
+    requires number { 0 < move_number }
+    requires pages { CanBeTold reason }
     ensures answer { IfOk result (λ a. (version : ℕ) (s : PlainStage) (o : BoardOutcome)
         → IsLeft move_number reason s o
         → Answers version o a (protocol.Staging move_number (stage_of s))) }
     ensures memory { OnErr result (reason ≡ NotReady.OutOfMemory) }
+    ensures sent { IfOk result (λ a. (version : ℕ) → CanBeSent version (Some 8194) a.1) }
 {
     match reason {
         NotReady::Lacking(pages) => {
@@ -367,11 +382,13 @@ fn not_joined(
     parts: u8,
     reason: NotJoined,
 ) -> Result<Answer, AllocError>
-    requires { PartCanBeTold reason }
+    requires number { 0 < move_number }
+    requires pages { PartCanBeTold reason }
     ensures answer { IfOk result (λ a. (version : ℕ) (s : PlainStage) (o : BoardOutcome)
         → IsPartLeft move_number part parts reason s o
         → Answers version o a (protocol.Staging move_number (stage_of s))) }
     ensures memory { OnErr result (reason ≡ NotJoined.OutOfMemory) }
+    ensures sent { IfOk result (λ a. (version : ℕ) → CanBeSent version (Some 8194) a.1) }
 {
     match reason {
         NotJoined::Ignored => Ok(HostReply::refused(HostRefusal::Ignored)),

@@ -1,9 +1,10 @@
 -- Frames as the law of live migration has them.
-use Rattle.std.specs.Prelude.{ℕ, Bool, true, false, nat_lt, nat_le, if◌then◌else◌, List, Option, Some, None}
+use Rattle.std.specs.Prelude.{ℕ, Bool, true, false, ◌&&◌, nat_lt, nat_le, if◌then◌else◌, List, Option, Some, None}
 use Rattle.rvm_protocol.specs.Frames as protocol
 use Rattle.rvm_frame.specs.declared.addressed.Addressed.{Addressed}
 use Rattle.rvm_frame.specs.declared.frame.Frame.{Frame}
 use Rattle.rvm_frame.specs.declared.frame.Frame.TheVariants as frame
+use Rattle.rvm_frame.specs.Kinds.{move_of}
 
 abbrev pub BoardFrame : Type 0
 BoardFrame = protocol.Frame (List ℕ) (List ℕ)
@@ -29,12 +30,15 @@ frame_of (frame.Abort n) = protocol.Abort n
 frame_of (frame.Zero n page number) = protocol.Zero n page number
 frame_of (frame.Part n stamp part parts bytes) = protocol.Part n stamp part parts bytes
 
--- a frame without pages to offer, or of more than six parts, stands in no stream; nor does Hello behind the first frame
+-- an offer is of some pages, and a state comes in six parts at most
+abbrev pub is_whole : Frame → Bool
+is_whole (frame.Offer n pages harts) = nat_lt 0 pages
+is_whole (frame.Part n stamp part parts bytes) = nat_le parts 6
+is_whole f = true
+
+-- a frame that stands in some stream behind Hello: it has a move number too, which Hello has not
 abbrev pub can_come : Frame → Bool
-can_come (frame.Hello version) = false
-can_come (frame.Offer n pages harts) = nat_lt 0 pages
-can_come (frame.Part n stamp part parts bytes) = nat_le parts 6
-can_come f = true
+can_come f = nat_lt 0 (move_of f) && is_whole f
 
 -- a frame that comes to a host
 abbrev pub frame_heard : Frame → BoardFrame

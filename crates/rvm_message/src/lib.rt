@@ -3,13 +3,15 @@
 //!
 //! Stands on `rvm_guest`, `rvm_precopy` and `rvm_frame`, and knows nothing of modes or hosts.
 //!
-//! To be read in this order: `event`, `reply`, `guest`.
+//! To be read in this order: `event`, `frame`, `reply`, `guest`.
 #![tactic(auto)]
 
 mod event;
+mod frame;
 mod guest;
 mod reply;
 
 pub use event::{Command, HostEvent};
+pub use frame::can_come;
 pub use guest::apply_event;
 pub use reply::{Answer, HostRefusal, HostReply};

@@ -5,3 +5,5 @@ pub mod Turns
 pub mod Losses
 mod Pieces
 mod Sending
+mod Sendings
+mod Covering

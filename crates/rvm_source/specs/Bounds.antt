@@ -1,5 +1,5 @@
 -- How many bytes the body of the next frame of a source has at most.
-use Rattle.std.specs.Prelude.{ℕ, ◌+◌, ◌*◌, Bool, true, false, ◌&&◌, if◌then◌else◌, is_some, length, nat_lt, not}
+use Rattle.std.specs.Prelude.{ℕ, ◌+◌, ◌*◌, Bool, false, ◌&&◌, if◌then◌else◌, is_some, length, nat_lt, not}
 use Rattle.rvm_precopy.specs.Plans.{Plan, last_found}
 use Rattle.rvm_state.specs.Spelling.{longest}
 use Rattle.rvm_source.specs.declared.phase.Phase.{Phase}
@@ -19,3 +19,7 @@ state_bound pages = 2 + 4 * pages + longest
 abbrev pub body_bound : (version : ℕ) → PlainSource → ℕ
 body_bound version s =
     if nat_lt version 2 && is_copied s.phase s.plan then state_bound (length s.plan.to_send) else 4102
+
+-- of a frame of the state of a guest of so many pages: whole in version 1, and from version 2 on a piece of it
+abbrev pub state_frame_bound : (version pages : ℕ) → ℕ
+state_frame_bound version pages = if nat_lt version 2 then state_bound pages else 4102

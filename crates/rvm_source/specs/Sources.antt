@@ -1,10 +1,11 @@
 -- What the source of a move keeps: as plain values, and as the law of live migration has it.
-use Rattle.std.specs.Prelude.{◌≡◌, ℕ, ◌^◌, ◌<◌, ◌==◌, Bool, false, length}
+use Rattle.std.specs.Prelude.{◌≡◌, ℕ, ◌^◌, ◌<◌, ◌==◌, Bool, false, List, length}
 use Rattle.rvm_debug.specs.Guest.{GuestState}
 use Rattle.rvm_guest.specs.Body.{body_of}
 use Rattle.rvm_guest.specs.Pieces.{cut}
 use Rattle.rvm_guest.proofs.TheGuest.{board}
 use Rattle.rvm_message.specs.Answers.{BoardMode}
+use Rattle.rvm_precopy.specs.Coverage.{Covers, CoversLast}
 use Rattle.rvm_precopy.specs.Plans.{Plan, IsPlanOf, rounds_of, last_of}
 use Rattle.rvm_protocol.specs.Modes as protocol
 use Rattle.rvm_protocol.specs.Rounds.{page_count}
@@ -37,6 +38,12 @@ mode_of s = mode_in s.move_number s.guest s.plan s.phase
 abbrev pub HasTurn : Phase → GuestState → Plan → Type 0
 HasTurn (phases.Stopped turn) g r = turn < length (cut r.newest (body_of g.guest))
 HasTurn phase g r = Unit {0}
+
+-- no page is forgotten, with this dirty log
+abbrev pub IsCovered : Phase → (log : List Bool) → Plan → Type 0
+IsCovered phases.Offering log r = Unit {0}
+IsCovered phases.Copying log r = Covers log r
+IsCovered (phases.Stopped turn) log r = CoversLast r
 
 -- a guest is offered, or paused, for this move
 abbrev pub is_offering : (move : ℕ) → BoardMode → Bool

@@ -1,16 +1,20 @@
 //! The frame of a copy of a page.
 
-ghost use Rattle.std.specs.Prelude.{◌≡◌, ◌<◌, ◌==◌, length};
+ghost use Rattle.std.specs.Prelude.{◌≡◌, ◌<◌, ◌==◌, length, Some};
 ghost use Rattle.std.specs.List.{list_all};
 ghost use Rattle.rvm_protocol.specs.Frames as protocol;
 ghost use Rattle.rvm_protocol.specs.Rounds.{page_of};
 ghost use Rattle.rvm_guest.proofs.TheGuest.{board};
 ghost use Rattle.rvm_guest.specs.Pages.{is_zeros};
 ghost use Rattle.rvm_message.specs.Frames.{frame_of};
+ghost use Rattle.rvm_message.specs.Sendable.{CanBeSent};
 
 use rvm_debug::Debugged;
 use rvm_frame::{Frame, PageBytes};
 use rvm_mem::{Memory, PAGE_SIZE, PagedMemory};
+
+/// The most bytes of the body of a copy: two numbers and those of the page.
+pub(crate) const COPY_BODY: usize = 2 + 4 + PAGE_SIZE as usize;
 
 /// The copy of a page with this number, as a stream of this version has it: from version 2 on a page
 /// of zeros goes without its bytes. `bytes` is where they go.
@@ -22,9 +26,12 @@ pub(crate) fn page_frame<M: PagedMemory>(
     page: u16,
     copy_number: u32,
 ) -> Frame
-    requires { page < length guest.now.dirty }
-    ensures { frame_of result ≡ protocol.written board version
+    requires page { page < length guest.now.dirty }
+    requires move_number { 0 < move_number }
+    requires copy_number { 0 < copy_number }
+    ensures frame { frame_of result ≡ protocol.written board version
         (protocol.Page move_number page copy_number (page_of board guest.now.guest page)) }
+    ensures sent { CanBeSent version (Some 4102) (Some result) }
 {
     let _size = guest.memory().len();
     let mut copy = [0; PAGE_SIZE as usize];

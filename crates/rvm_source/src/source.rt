@@ -13,11 +13,13 @@ ghost use Rattle.rvm_precopy.specs.Policies.{policy_of};
 ghost use Rattle.rvm_guest.proofs.TheGuest.{board};
 ghost use Rattle.rvm_message.specs.Answers.{Answers};
 ghost use Rattle.rvm_message.specs.Frames.{frame_made, frame_of};
+ghost use Rattle.rvm_message.specs.Sendable.{CanBeSent};
+ghost use Rattle.rvm_source.specs.Bounds.{body_bound, is_copied};
 ghost use Rattle.rvm_source.specs.Sources.{HasPages, is_offering, is_stopped, mode_of};
 
-use crate::page::page_frame;
+use crate::page::{COPY_BODY, page_frame};
 use crate::phase::Phase;
-use crate::state::send_state;
+use crate::state::{send_state, state_bound};
 use rvm_debug::{BoardEvent, Debugged};
 use rvm_frame::{Frame, PageBytes};
 use rvm_mem::{Memory, PageSet, PagedMemory};
@@ -37,7 +39,7 @@ pub struct Source<M: PagedMemory> {
 
 impl<M: PagedMemory> Model for Source<M> {
     ghost use Rattle.std.specs.Prelude.{◌≡◌, ◌<◌, length};
-    ghost use Rattle.rvm_source.specs.Sources.{HasTurn, PlainSource};
+    ghost use Rattle.rvm_source.specs.Sources.{HasTurn, IsCovered, PlainSource};
 
     ghost Value = { PlainSource };
 
@@ -50,7 +52,8 @@ impl<M: PagedMemory> Model for Source<M> {
 
     ghost invariant = { λ s. (0 < s.move_number)
         × ((length s.guest.dirty ≡ length s.rounds.to_send)
-        × HasTurn s.phase s.guest s.rounds) };
+        × (HasTurn s.phase s.guest s.rounds
+        × IsCovered s.phase s.guest.dirty s.rounds)) };
 }
 
 impl<M: PagedMemory> Source<M> {
@@ -118,16 +121,32 @@ impl<M: PagedMemory> Source<M> {
         self.rounds.pages()
     }
 
+    /// The most bytes of the body of its next frame, in a stream of this version. Takes no memory.
+    pub fn body_bound(&self, version: u32) -> usize
+        ensures bound { result ≡ body_bound version self.now }
+        ensures short { result ≤ 32768 }
+    {
+        if version < 2 && self.is_copied() {
+            state_bound(self.rounds.pages())
+        } else {
+            COPY_BODY
+        }
+    }
+
+    /// Whether the guest is paused, and no page of it is left to be copied.
+    fn is_copied(&self) -> bool
+        ensures { result ≡ is_copied self.now.phase self.now.plan }
+    {
+        matches!(self.phase, Phase::Stopped { .. }) && !self.rounds.is_left()
+    }
+
     /// The frame that offers the guest.
     pub fn offer(&self) -> Frame
-        ensures { frame_of result ≡ obeying.offer_frame board self.now.move_number self.now.guest.guest }
+        ensures frame { frame_of result
+            ≡ obeying.offer_frame board self.now.move_number self.now.guest.guest }
+        ensures sent { (version : ℕ) → CanBeSent version (Some 3) (Some result) }
     {
-        let _size = self.guest.memory().len();
-        Frame::Offer {
-            move_number: self.move_number,
-            pages: self.guest.memory().pages() as u16,
-            harts: self.guest.harts() as u8,
-        }
+        offer_frame(self.move_number, &self.guest)
     }
 
     /// Gives the guest an event, unless it is paused. Takes no memory.
@@ -166,6 +185,8 @@ impl<M: PagedMemory> Source<M> {
         ensures answer { IfOk result (λ a. Answers version
             (obeying.copy board version (mode_of self.old)) a (mode_of self.new)) }
         ensures err { OnErr result (self.new ≡ self.old) }
+        ensures sent { IfOk result (λ a. CanBeSent version
+            (Some (body_bound version self.old)) a.1) }
     {
         match self.phase {
             Phase::Offering => Ok(HostReply::refused(HostRefusal::Busy)),
@@ -180,6 +201,8 @@ impl<M: PagedMemory> Source<M> {
         ensures answer { IfOk result (λ a. Answers version
             (obeying.copy board version (mode_of self.old)) a (mode_of self.new)) }
         ensures err { OnErr result (self.new ≡ self.old) }
+        ensures sent { IfOk result (λ a. CanBeSent version
+            (Some (body_bound version self.old)) a.1) }
     {
         let bytes = PageBytes::zeros(alloc)?;
         let _pages = self.pages();
@@ -214,6 +237,8 @@ impl<M: PagedMemory> Source<M> {
         ensures answer { IfOk result (λ a. Answers version
             (obeying.copy board version (mode_of self.old)) a (mode_of self.new)) }
         ensures err { OnErr result (self.new ≡ self.old) }
+        ensures sent { IfOk result (λ a. CanBeSent version
+            (Some (body_bound version self.old)) a.1) }
     {
         let bytes = PageBytes::zeros(alloc)?;
         let _pages = self.pages();
@@ -238,6 +263,8 @@ impl<M: PagedMemory> Source<M> {
         ensures answer { IfOk result (λ a. Answers version
             (obeying.resend board version (mode_of self.old)) a (mode_of self.new)) }
         ensures err { OnErr result (self.new ≡ self.old) }
+        ensures sent { IfOk result (λ a. CanBeSent version
+            (Some (body_bound version self.old)) a.1) }
     {
         match self.phase {
             Phase::Offering => Ok(HostReply::Resent.with(self.offer())),
@@ -252,6 +279,8 @@ impl<M: PagedMemory> Source<M> {
         ensures answer { IfOk result (λ a. Answers version
             (obeying.resend board version (mode_of self.old)) a (mode_of self.new)) }
         ensures err { OnErr result (self.new ≡ self.old) }
+        ensures sent { IfOk result (λ a. CanBeSent version
+            (Some (body_bound version self.old)) a.1) }
     {
         let _pages = self.pages();
         if self.rounds.is_left() {
@@ -285,6 +314,21 @@ impl<M: PagedMemory> Source<M> {
     }
 }
 
+/// The frame that offers a guest.
+fn offer_frame<M: PagedMemory>(move_number: u64, guest: &Debugged<M>) -> Frame
+    requires { 0 < move_number }
+    ensures frame { frame_of result
+        ≡ obeying.offer_frame board move_number guest.now.guest }
+    ensures sent { (version : ℕ) → CanBeSent version (Some 3) (Some result) }
+{
+    let _size = guest.memory().len();
+    Frame::Offer {
+        move_number,
+        pages: guest.memory().pages() as u16,
+        harts: guest.harts() as u8,
+    }
+}
+
 /// A copy of a page, and its frame.
 fn copied<M: PagedMemory>(
     version: u32,
@@ -294,10 +338,13 @@ fn copied<M: PagedMemory>(
     page: u16,
     copy_number: u32,
 ) -> Answer
-    requires { page < length guest.now.dirty }
+    requires page { page < length guest.now.dirty }
+    requires move_number { 0 < move_number }
+    requires copy_number { 0 < copy_number }
     ensures reply { result.0 ≡ HostReply.Copied page copy_number }
     ensures frame { frame_made result.1 ≡ Some (frames.written board version
         (frames.Page move_number page copy_number (page_of board guest.now.guest page))) }
+    ensures sent { CanBeSent version (Some 4102) result.1 }
 {
     let frame = page_frame(version, bytes, move_number, guest, page, copy_number);
     let reply = HostReply::Copied { page, copy_number };
@@ -306,8 +353,10 @@ fn copied<M: PagedMemory>(
 
 /// The end of a round, and its frame.
 fn round_ended(move_number: u64, round: u16, sent: u16, skipped: u16, left: u16) -> Answer
+    requires { 0 < move_number }
     ensures reply { result.0 ≡ HostReply.RoundEnded round sent skipped left }
     ensures frame { result.1 ≡ Some (Frame.RoundEnd move_number round sent skipped left) }
+    ensures sent { (version : ℕ) → CanBeSent version (Some 4102) result.1 }
 {
     let reply = HostReply::RoundEnded {
         round,

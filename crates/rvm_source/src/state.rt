@@ -1,14 +1,15 @@
 //! The frames of a paused guest's state.
 
-ghost use Rattle.std.specs.Prelude.{◌≡◌, ◌+◌, ◌*◌, ◌<◌, ◌≤◌, [], get_or, if◌then◌else◌, length, nat_lt, Some, IfOk};
+ghost use Rattle.std.specs.Prelude.{◌≡◌, ◌+◌, ◌*◌, ◌<◌, ◌≤◌, [], get_or, if◌then◌else◌, length, nat_lt, None, Some, IfOk, OnOk};
 ghost use Rattle.rvm_state.specs.Spelling.{longest};
 ghost use Rattle.rvm_guest.specs.Body.{body_of};
 ghost use Rattle.rvm_guest.specs.Pieces.{cut, pieces};
-ghost use Rattle.rvm_protocol.specs.Frames as protocol;
-ghost use Rattle.rvm_precopy.specs.Plans.{last_of};
+ghost use Rattle.rvm_precopy.specs.Coverage.{CoversLast};
+ghost use Rattle.rvm_precopy.specs.Plans.{last_found, last_of};
 ghost use Rattle.rvm_message.specs.Answers.{Answers};
-ghost use Rattle.rvm_message.specs.Frames.{frame_of};
-ghost use Rattle.rvm_source.specs.Sources.{HasTurn, mode_in};
+ghost use Rattle.rvm_message.specs.Sendable.{CanBeSent};
+ghost use Rattle.rvm_source.specs.Bounds.{state_bound, state_frame_bound};
+ghost use Rattle.rvm_source.specs.Sources.{HasTurn, IsCovered, mode_in};
 ghost use Rattle.rvm_source.specs.States.{sends_state_of};
 
 use crate::phase::Phase;
@@ -23,6 +24,10 @@ use std::alloc::{AllocError, Global};
 /// How many bytes a piece has, the last one at most.
 const PIECE: usize = 4096;
 
+/// How many bytes a guest has without its RAM, at most: 13 for all harts and 187 for each, its input,
+/// its output and its breakpoints, each with their count.
+const LONGEST: usize = 13 + 8 * 187 + (1 + 16) + (2 + 4096) + (1 + 4 * 64);
+
 /// What is sent of a state at once: the reply to the command that asked for it, the frame, and the
 /// phase after it.
 #[derive(Drop)]
@@ -30,6 +35,13 @@ pub(crate) struct Sent {
     pub(crate) reply: HostReply,
     pub(crate) frame: Frame,
     pub(crate) next: Phase,
+}
+
+/// The most bytes of the state of a guest of so many pages, with the number of each page's copy.
+pub(crate) fn state_bound(pages: u32) -> usize
+    ensures { result ≡ state_bound pages }
+{
+    2 + 4 * pages as usize + LONGEST
 }
 
 /// The state of a paused guest as a stream of this version has it: whole, or from version 2 on the
@@ -44,13 +56,20 @@ pub(crate) fn send_state<M: PagedMemory>(
 ) -> Result<Sent, AllocError>
     requires size { length guest.now.dirty ≡ length rounds.now.to_send }
     requires turn { HasTurn (Phase.Stopped turn) guest.now rounds.now }
+    requires move_number { 0 < move_number }
+    requires covered { CoversLast rounds.now }
+    requires copied { last_found rounds.now ≡ None }
     ensures sent { IfOk result (λ s. Answers version
         (sends_state_of version move_number (last_of guest.now.guest turn rounds.now))
         (s.reply, Some s.frame) (mode_in move_number guest.now rounds.now s.next)) }
     ensures turn { IfOk result (λ s. HasTurn s.next guest.now rounds.now) }
+    ensures covered { IfOk result (λ s. IsCovered s.next guest.now.dirty rounds.now) }
+    ensures spelled { IfOk result (λ s. CanBeSent version
+        (Some (state_frame_bound version (length rounds.now.to_send))) (Some s.frame)) }
 {
     let _pages = rounds.pages();
     let _size = guest.memory().len();
+    let stamp = rounds.copies();
     if version < 2 {
         return Ok(Sent {
             reply: HostReply::StateSent,
@@ -66,7 +85,7 @@ pub(crate) fn send_state<M: PagedMemory>(
         },
         frame: Frame::Part {
             move_number,
-            stamp: rounds.copies(),
+            stamp,
             part: turn,
             parts: piece.parts,
             bytes: piece.bytes,
@@ -94,8 +113,9 @@ fn state_frame<M: PagedMemory>(
     numbers: &[u32],
     guest: &Debugged<M>,
 ) -> Result<Frame, AllocError>
-    ensures { IfOk result (λ frame. frame_of frame
-        ≡ protocol.State move_number numbers.now (body_of guest.now.guest)) }
+    ensures frame { IfOk result (λ frame. frame
+        ≡ Frame.State move_number numbers.now (body_of guest.now.guest)) }
+    ensures size { OnOk result (length (body_of guest.now.guest) ≤ longest) }
 {
     let state = body_of(alloc, guest)?;
     Ok(Frame::State {

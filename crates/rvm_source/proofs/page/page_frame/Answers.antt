@@ -4,21 +4,21 @@ use Rattle.rvm_source.proofs.Frames.{page_at_is, zero_frame, old_frame, page_fra
 use Rattle.rvm_source.proofs.page.page_frame.Goals as goal
 use Rattle.rvm_source.proofs.page.page_frame.Goals.{else-version-ge2-via-then-version-ge2+else-is_zeros, else-version-ge2-via-else-version-ge2}
 
-pub returns-then-is_zeros : goal.returns-then-is_zeros
-returns-then-is_zeros g c =
+pub returns-then-is_zeros-clause-frame : goal.returns-then-is_zeros-clause-frame
+returns-then-is_zeros-clause-frame g c =
     let guest = c.args.guest.now in
     let a = c.len-size.ensures.length ∙ ap length c.memory.ensures.bytes in
     let b = c.len-size.ensures.pages ∙ ap (λ xs. 4096 * length xs) c.memory.ensures.dirty in
     zero_frame c.args.version c.args.move_number c.args.page c.args.copy_number guest.guest c.copy_page.new.into
-    (page_at_is guest.guest c.args.page c.from.result (length guest.dirty) c.len-size.result c.copy_page.new.into _ c.copy_page.ensures c.memory-2.ensures.bytes a b c.from.ensures c.requires)
+    (page_at_is guest.guest c.args.page c.from.result (length guest.dirty) c.len-size.result c.copy_page.new.into _ c.copy_page.ensures c.memory-2.ensures.bytes a b c.from.ensures c.requires.page)
     c.if-version-ge2.true (sym c.is_zeros.ensures ∙ c.if-is_zeros.true)
 
-pub returns : goal.returns
-returns g c =
+pub returns-clause-frame : goal.returns-clause-frame
+returns-clause-frame g c =
     let guest = c.args.guest.now in
     let a = c.len-size.ensures.length ∙ ap length c.memory.ensures.bytes in
     let b = c.len-size.ensures.pages ∙ ap (λ xs. 4096 * length xs) c.memory.ensures.dirty in
-    let same = c.set.ensures ∙ page_at_is guest.guest c.args.page c.from.result (length guest.dirty) c.len-size.result c.copy_page.new.into _ c.copy_page.ensures c.memory-2.ensures.bytes a b c.from.ensures c.requires in
+    let same = c.set.ensures ∙ page_at_is guest.guest c.args.page c.from.result (length guest.dirty) c.len-size.result c.copy_page.new.into _ c.copy_page.ensures c.memory-2.ensures.bytes a b c.from.ensures c.requires.page in
     elim c.else-version-ge2.branch [
       | else-version-ge2-via-then-version-ge2+else-is_zeros w ↦
           page_frame c.args.version c.args.move_number c.args.page c.args.copy_number guest.guest c.set.new.self same

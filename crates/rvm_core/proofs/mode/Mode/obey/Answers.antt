@@ -1,11 +1,14 @@
 use Rattle.std.proofs.Common.{◌≡◌, sym, subst}
+use Rattle.std.specs.Prelude.{IfOk}
 use Rattle.rvm_guest.proofs.TheGuest.{board}
 use Rattle.rvm_message.specs.Answers.{Answers}
 use Rattle.rvm_message.specs.Events.{command_of}
 use Rattle.rvm_message.specs.declared.event.Command.{Command}
 use Rattle.rvm_protocol.specs.Obeying as obeying
 use Rattle.rvm_core.specs.Modes.{mode_of, plain_of}
-use Rattle.rvm_core.proofs.Targets.{alone}
+use Rattle.rvm_core.proofs.Targets.{alone, if_ok}
+use Rattle.rvm_core.specs.Bounds.{command_body}
+use Rattle.rvm_message.specs.Sendable.{CanBeSent}
 use Rattle.rvm_core.proofs.mode.Mode.obey.Goals as goal
 
 pub returns-in-Board-clause-answer : goal.returns-in-Board-clause-answer
@@ -22,4 +25,15 @@ returns-in-Abort-clause-answer g c =
     let before = mode_of (plain_of a.self.now) in
     let after = mode_of (plain_of c.abort.new.self) in
     subst (λ (x : Command). Answers a.version (obeying.obey board a.version (command_of x) before) c.abort.result after) (sym c.in-Abort.is)
-    (c.abort.ensures a.version)
+    (c.abort.ensures.answer a.version)
+
+pub returns-in-Begin-clause-sent : goal.returns-in-Begin-clause-sent
+returns-in-Begin-clause-sent g c =
+    let a = c.args in
+    subst (λ (x : Command). IfOk c.begin.result (λ r. CanBeSent a.version (command_body a.version (plain_of a.self.now) (command_of x)) r.1)) (sym c.in-Begin.is)
+    (if_ok c.begin.result _ _ (λ r so. so a.version) c.begin.ensures.sent)
+
+pub returns-in-Abort-clause-sent : goal.returns-in-Abort-clause-sent
+returns-in-Abort-clause-sent g c =
+    let a = c.args in
+    subst (λ (x : Command). CanBeSent a.version (command_body a.version (plain_of a.self.now) (command_of x)) c.abort.result.1) (sym c.in-Abort.is) (c.abort.ensures.sent a.version)

@@ -6,7 +6,10 @@ use Rattle.rvm_message.specs.Answers.{Answers}
 use Rattle.rvm_message.specs.Frames.{frame_made}
 use Rattle.rvm_message.specs.Replies.{reply_of}
 use Rattle.rvm_source.specs.declared.phase.Phase.TheVariants as phases
-use Rattle.rvm_source.specs.Sources.{HasPages, HasTurn, PlainSource, mode_in, mode_of}
+use Rattle.rvm_source.specs.Sources.{HasPages, HasTurn, IsCovered, PlainSource, mode_in, mode_of}
+use Rattle.rvm_precopy.specs.Plans.{last_found}
+use Rattle.rvm_source.proofs.Covering.{last_turn_is, next_last_covered}
+use Rattle.rvm_source.proofs.Sendings.{state_in_bound}
 use Rattle.rvm_source.proofs.Turns.{on_err, paused, below, first_turn, fits_last, range_last}
 use Rattle.rvm_source.proofs.source.Source.copy_paused.Goals as goal
 
@@ -15,8 +18,12 @@ overflow_cast-page g c =
     let h = subst (HasPages c.pages-pages.result) (sym c.self.view_is) c.pages-pages.ensures in
     let few = below c.pages-pages.result c.in-Copied.page _ h (range_last c.pages-pages.result _ c.next_last.new.self _ h c.in-Copied.ensures.answer c.next_last.ensures.plan) in search (rules, few)
 
-pub copied-requires : goal.copied-requires
-copied-requires g c =
+pub copied-requires-clause-copy_number : goal.copied-requires-clause-copy_number
+copied-requires-clause-copy_number g c =
+    last_turn_is c.self.inside.rounds (last.Copied c.in-Copied.page c.in-Copied.copy) c.in-Copied.ensures.answer
+
+pub copied-requires-clause-page : goal.copied-requires-clause-page
+copied-requires-clause-page g c =
     let h = subst (HasPages c.pages-pages.result) (sym c.self.view_is) c.pages-pages.ensures in
     let inside : c.in-Copied.page < c.pages-pages.result = range_last c.pages-pages.result _ c.next_last.new.self _ h c.in-Copied.ensures.answer c.next_last.ensures.plan in
     let log = h.log in
@@ -24,11 +31,16 @@ copied-requires g c =
 
 pub invariant_of-self : goal.invariant_of-self
 invariant_of-self g c =
-    let h = subst (HasPages c.pages-pages.result) (sym c.self.view_is) c.pages-pages.ensures in (
+    let h = subst (HasPages c.pages-pages.result) (sym c.self.view_is) c.pages-pages.ensures in
+    let phase = ap (λ (s : PlainSource). s.phase) c.self.view_is ∙ c.requires in (
       c.self.invariant.0,
       (
         fits_last c.pages-pages.result _ c.next_last.new.self h c.next_last.ensures.plan,
-        first_turn c.self.inside.guest c.next_last.new.self,
+        (
+          first_turn c.self.inside.guest c.next_last.new.self,
+          next_last_covered c.pages-pages.result c.args.turn _ c.next_last.new.self h phase c.self.invariant.1.1.1
+          c.next_last.ensures.plan,
+        ),
       ),
     )
 
@@ -39,7 +51,10 @@ invariant_of-self-in-SeqSpent-1 g c =
       c.self.invariant.0,
       (
         fits_last c.pages-pages.result _ c.next_last.new.self h c.next_last.ensures.plan,
-        subst (HasTurn c.self.inside.phase c.self.inside.guest) (sym same) c.self.invariant.1.1,
+        (
+          subst (HasTurn c.self.inside.phase c.self.inside.guest) (sym same) c.self.invariant.1.1.0,
+          subst (IsCovered c.self.inside.phase c.self.inside.guest.dirty) (sym same) c.self.invariant.1.1.1,
+        ),
       ),
     )
 
@@ -48,13 +63,27 @@ send_state-requires-clause-size g c =
     let h = subst (HasPages c.pages-pages.result) (sym c.self.view_is) c.pages-pages.ensures in
     fits_last c.pages-pages.result _ c.next_last.new.self h c.next_last.ensures.plan
 
+pub send_state-requires-clause-covered : goal.send_state-requires-clause-covered
+send_state-requires-clause-covered g c =
+    let h = subst (HasPages c.pages-pages.result) (sym c.self.view_is) c.pages-pages.ensures in
+    let phase = ap (λ (s : PlainSource). s.phase) c.self.view_is ∙ c.requires in
+    next_last_covered c.pages-pages.result c.args.turn _ c.next_last.new.self h phase c.self.invariant.1.1.1
+    c.next_last.ensures.plan
+
+pub send_state-requires-clause-copied : goal.send_state-requires-clause-copied
+send_state-requires-clause-copied g c =
+    let h = subst (HasPages c.pages-pages.result) (sym c.self.view_is) c.pages-pages.ensures in
+    let same = range_last c.pages-pages.result _ c.next_last.new.self last.NothingLeft h
+        c.in-NothingLeft.ensures.answer c.next_last.ensures.plan in
+    ap last_found same ∙ last_turn_is c.self.inside.rounds last.NothingLeft c.in-NothingLeft.ensures.answer
+
 pub send_state-requires-clause-turn : goal.send_state-requires-clause-turn
 send_state-requires-clause-turn g c =
     let h = subst (HasPages c.pages-pages.result) (sym c.self.view_is) c.pages-pages.ensures in
     let phase = ap (λ (s : PlainSource). s.phase) c.self.view_is ∙ c.requires in
     let same = range_last c.pages-pages.result _ c.next_last.new.self last.NothingLeft h c.in-NothingLeft.ensures.answer c.next_last.ensures.plan in
     subst (λ f. HasTurn f c.self.inside.guest c.next_last.new.self) phase
-    (subst (HasTurn c.self.inside.phase c.self.inside.guest) (sym same) c.self.invariant.1.1)
+    (subst (HasTurn c.self.inside.phase c.self.inside.guest) (sym same) c.self.invariant.1.1.0)
 
 pub invariant_of-self-in_err-sent-in-NothingLeft :
     goal.invariant_of-self-in_err-sent-in-NothingLeft
@@ -64,7 +93,10 @@ invariant_of-self-in_err-sent-in-NothingLeft g c =
       c.self.invariant.0,
       (
         fits_last c.pages-pages.result _ c.next_last.new.self h c.next_last.ensures.plan,
-        subst (HasTurn c.self.inside.phase c.self.inside.guest) (sym same) c.self.invariant.1.1,
+        (
+          subst (HasTurn c.self.inside.phase c.self.inside.guest) (sym same) c.self.invariant.1.1.0,
+          subst (IsCovered c.self.inside.phase c.self.inside.guest.dirty) (sym same) c.self.invariant.1.1.1,
+        ),
       ),
     )
 
@@ -83,7 +115,7 @@ invariant_of-self-in-NothingLeft-1 g c =
       c.self.invariant.0,
       (
         fits_last c.pages-pages.result _ c.next_last.new.self h c.next_last.ensures.plan,
-        c.in_ok-sent-in-NothingLeft.ensures.turn,
+        (c.in_ok-sent-in-NothingLeft.ensures.turn, c.in_ok-sent-in-NothingLeft.ensures.covered),
       ),
     )
 
@@ -120,3 +152,15 @@ returns-in_ok-sent-in-NothingLeft-clause-answer g c =
       made = ap frame_made c.with.ensures.frame ∙ sent.made;
       mode = sent.mode;
     }))
+
+pub returns-in_ok-sent-in-NothingLeft-clause-sent :
+    goal.returns-in_ok-sent-in-NothingLeft-clause-sent
+returns-in_ok-sent-in-NothingLeft-clause-sent g c =
+    let h = subst (HasPages c.pages-pages.result) (sym c.self.view_is) c.pages-pages.ensures in
+    let plan = ap (λ (s : PlainSource). s.plan) c.self.view_is in
+    let same = range_last c.pages-pages.result _ c.next_last.new.self last.NothingLeft h
+        c.in-NothingLeft.ensures.answer c.next_last.ensures.plan in
+    let copied = last_turn_is c.self.inside.rounds last.NothingLeft c.in-NothingLeft.ensures.answer in
+    let sent = c.in_ok-sent-in-NothingLeft in
+    state_in_bound c.args.version c.args.turn c.args.self.now c.next_last.new.self sent.sent.frame c.with.result.1
+    c.requires (ap last_found (sym plan) ∙ copied) (same ∙ plan) c.with.ensures.frame sent.ensures.spelled

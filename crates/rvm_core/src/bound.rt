@@ -1,0 +1,89 @@
+//! How long the frames of a host are at most.
+
+ghost use Rattle.std.specs.Prelude.{◌≡◌};
+ghost use Rattle.rvm_message.specs.Events.{command_of};
+ghost use Rattle.rvm_message.specs.Frames.{frame_heard};
+ghost use Rattle.rvm_core.specs.Bounds.{IsShort, came_body, command_body, copy_body, resend_body, with_header};
+ghost use Rattle.rvm_core.specs.Modes.{plain_of};
+
+use crate::mode::Mode;
+use rvm_frame::Frame;
+use rvm_mem::PagedMemory;
+use rvm_message::{Command, can_come};
+
+/// The body of an Offer.
+const OFFER: usize = 3;
+/// The body of a Refuse, and so of any answer to an offer.
+const REFUSE: usize = 2;
+/// The body of a Lost that tells 4096 pages, and so of any answer to a state.
+const LOST: usize = 2 + 2 * 4096;
+/// A header, and one that names the hosts that the frame goes between, as those of version 3 do.
+const HEADER: usize = 13;
+const HEADER_WITH_HOSTS: usize = 15;
+
+impl<M: PagedMemory + Drop> Mode<M> {
+    /// How long the body of the frame that a command makes is at most.
+    pub(crate) fn command_body(&self, version: u32, command: &Command) -> Option<usize>
+        ensures body { result ≡ command_body version (plain_of self.now) (command_of command.now) }
+        ensures short { IsShort result }
+    {
+        match command {
+            Command::Board(_) => None,
+            Command::Begin { .. } => Some(OFFER),
+            Command::Copy => self.copy_body(version),
+            Command::Resend => self.resend_body(version),
+            Command::Abort => Some(0),
+        }
+    }
+
+    /// Of the frame that a copy makes.
+    fn copy_body(&self, version: u32) -> Option<usize>
+        ensures body { result ≡ copy_body version (plain_of self.now) }
+        ensures short { IsShort result }
+    {
+        match self {
+            Mode::Leaving(source) => Some(source.body_bound(version)),
+            _ => None,
+        }
+    }
+
+    /// Of the frame that is sent again.
+    fn resend_body(&self, version: u32) -> Option<usize>
+        ensures body { result ≡ resend_body version (plain_of self.now) }
+        ensures short { IsShort result }
+    {
+        match self {
+            Mode::Leaving(source) => Some(source.body_bound(version)),
+            Mode::Given { .. } | Mode::Held { .. } => Some(0),
+            _ => None,
+        }
+    }
+}
+
+/// Of the frame that answers one that comes.
+pub(crate) fn came_body(frame: &Frame) -> Option<usize>
+    ensures body { result ≡ came_body (frame_heard frame.now) }
+    ensures short { IsShort result }
+{
+    if !can_come(frame) {
+        return None;
+    }
+    match frame {
+        Frame::Offer { .. } => Some(REFUSE),
+        Frame::State { .. } | Frame::Part { .. } => Some(LOST),
+        Frame::Ready { .. } | Frame::Go { .. } => Some(0),
+        _ => None,
+    }
+}
+
+/// How long a frame is whose body, if there is one, is so long.
+pub(crate) fn with_header(version: u32, body: Option<usize>) -> usize
+    requires { IsShort body }
+    ensures { result ≡ with_header version body }
+{
+    match body {
+        Some(body) if version == 3 => HEADER_WITH_HOSTS + body,
+        Some(body) => HEADER + body,
+        None => 0,
+    }
+}

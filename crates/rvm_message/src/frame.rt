@@ -1,0 +1,19 @@
+//! Frames that come to a host.
+
+ghost use Rattle.std.specs.Prelude.{◌≡◌};
+ghost use Rattle.rvm_message.specs.Frames.{can_come};
+
+use rvm_frame::Frame;
+
+/// Whether a frame can come to a host: it has a move number, offers some pages and has no more than six
+/// parts. No stream has any other behind its first frame.
+pub fn can_come(frame: &Frame) -> bool
+    ensures { result ≡ can_come frame.now }
+{
+    0 < frame.move_number()
+        && match frame {
+            Frame::Offer { pages, .. } => 0 < *pages,
+            Frame::Part { parts, .. } => *parts <= 6,
+            _ => true,
+        }
+}
