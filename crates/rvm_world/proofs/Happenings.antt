@@ -1,5 +1,5 @@
 -- What happens at a host of a world is what the law of live migration has there.
-use Rattle.std.proofs.Common.{◌≡◌, ◌≢◌, inl, inr, ℕ, zero, suc, ◌+◌, ◌-◌, ◌<◌, ◌≤◌, Bool, true, false, nat_lt, if◌then◌else◌, List, [], ◌∷◌, ◌++◌, map, length, get_or, set, Option, Some, None, Ok, Err, OnErr, refl, sym, ap, ◌∙◌, subst, arith}
+use Rattle.std.proofs.Common.{◌≡◌, inl, inr, ℕ, zero, suc, ◌-◌, ◌<◌, ◌≤◌, if◌then◌else◌, List, [], ◌∷◌, ◌++◌, map, length, get_or, set, Option, Some, None, Ok, Err, OnErr, refl, sym, ap, ◌∙◌, subst, arith}
 use Rattle.std.specs.Prelude.{Result, slice_get}
 use Rattle.std.proofs.lemmas.Bool.{cases_eq, cases_lt, eq-eqb, le-ltb, lt-ltb, ne_eqb}
 use Rattle.std.proofs.lemmas.List.{get_or-append_right, get_or-set_other, get_or-set_same, get_or_append_left, get_or_default, length-append, length-set}
@@ -14,16 +14,16 @@ use Rattle.rvm_message.specs.declared.reply.HostReply.{HostReply}
 use Rattle.rvm_message.specs.Events.{BoardHostEvent}
 use Rattle.rvm_message.specs.Frames.{BoardFrame, addressed_made}
 use Rattle.rvm_message.specs.Replies.{reply_of}
-use Rattle.rvm_protocol.specs.Commands.{Command, Board, Begin, Copy, Resend, AbortMove, Do, Came}
+use Rattle.rvm_protocol.specs.Commands.{Command, Do, Came}
 use Rattle.rvm_protocol.specs.Frames as frames
 use Rattle.rvm_protocol.specs.Host.{host_step}
 use Rattle.rvm_protocol.specs.Host as protocol
 use Rattle.rvm_protocol.specs.Pages.{put}
 use Rattle.rvm_protocol.specs.Replies.{Reply, Refused, BadHost, NoFrame}
 use Rattle.rvm_protocol.specs.World.{Event, At, Deliver, and_sent, frame_for, happened, meaning, new_world, reply_or, reply_to, result_at, run, step, world_at}
-use Rattle.rvm_core.specs.Bounds.{CanBePosted, frame_bound}
+use Rattle.rvm_core.specs.Bounds.{CanBePosted}
 use Rattle.rvm_core.specs.Hosts.{PlainHost, Steps, host_of, new_host, step_of}
-use Rattle.rvm_world.specs.Worlds.{BoardWorld, IsKept, IsReached, IsWorld, Kept, Placed, PlainWorld, asks_memory, frame_in, host_at, is_sized, kept_of, no_kept, place_of, posted, world_of}
+use Rattle.rvm_world.specs.Worlds.{BoardWorld, IsKept, IsReached, IsWorld, Kept, Placed, PlainWorld, frame_in, host_at, is_sized, kept_of, no_kept, posted, world_of}
 use Rattle.rvm_world.proofs.Keeping.{kept_made, posted_kept}
 
 -- HOSTS
@@ -88,9 +88,9 @@ happens w x most e a h is lt s p =
     let count = length-set w.hosts x h in
     let limits = limits_stay w.hosts x h lt stays in
     let hosts = hosts_put w.hosts x h lt
-        ∙ ap (put (λ q. host_of (host_at w.hosts q)) x) (s.next ∙ ap (λ (r : Answer). r.next) same) in
+    ∙ ap (put (λ q. host_of (host_at w.hosts q)) x) (s.next ∙ ap (λ (r : Answer). r.next) same) in
     let sent = made_here w x most a.1 is lt p
-        ∙ ap (and_sent (map (kept_of w.version) w.sent)) (s.made ∙ ap (λ (r : Answer). r.made) same) in
+    ∙ ap (and_sent (map (kept_of w.version) w.sent)) (s.made ∙ ap (λ (r : Answer). r.made) same) in
     record {
       replied = s.reply ∙ ap (λ (r : Answer). r.reply) same;
       turned = λ i. record {
@@ -165,8 +165,8 @@ deliver_turned : (w new : PlainWorld) (k : ℕ) (kept : Kept) (frame : BoardFram
 deliver_turned w new k kept frame answer lt is reads h =
     let W = world_of w in
     let there = ap (frame_for {E = BoardEvent} board) (sent_there (kept_of w.version) w.sent k kept lt
-        ∙ (λ i. Some (record { from = (sym is i).from; to = (sym is i).to; frame = frame_in w.version (sym is i).bytes }))
-        ∙ (λ i. Some (record { from = kept.from; to = kept.to; frame = sym reads i }))) in
+    ∙ (λ i. Some (record { from = (sym is i).from; to = (sym is i).to; frame = frame_in w.version (sym is i).bytes }))
+    ∙ (λ i. Some (record { from = kept.from; to = kept.to; frame = sym reads i }))) in
     record {
       replied = h.replied ∙ ap (reply_or board W (Refused NoFrame)) (sym there);
       turned = h.turned ∙ ap (happened board W) (sym there);
@@ -194,7 +194,7 @@ reached_more w new e is r =
     let count = ap (λ (z : BoardWorld). z.count) is ∙ same_count w (meaning board w e) in
     let first = new_world board w.version r.start w.count r.limits in
     let made : new ≡ run board first (r.before ++ e ∷ []) =
-        is ∙ ap (λ z. step board z e) r.reached ∙ sym (run_more first r.before e) in
+    is ∙ ap (λ z. step board z e) r.reached ∙ sym (run_more first r.before e) in
     record {
       start = r.start;
       limits = r.limits;
@@ -237,10 +237,10 @@ kept_still w x most o is lt p k lk =
     let more = posted w.version o in
     let all = length-append w.sent more in
     let news : (j : ℕ) → j < length more → IsKept w.version n (get_or more j no_kept) =
-        subst (λ v. (j : ℕ) → j < length (posted v o) → IsKept v n (get_or (posted v o) j no_kept)) place.writes
-        (subst (λ c. (j : ℕ) → j < length (posted old.version o)
-        → IsKept old.version c (get_or (posted old.version o) j no_kept)) place.counts
-        (posted_kept old most o p (omega (arith, lt, place.named, place.counts)))) in
+    subst (λ v. (j : ℕ) → j < length (posted v o) → IsKept v n (get_or (posted v o) j no_kept)) place.writes
+    (subst (λ c. (j : ℕ) → j < length (posted old.version o)
+    → IsKept old.version c (get_or (posted old.version o) j no_kept)) place.counts
+    (posted_kept old most o p (omega (arith, lt, place.named, place.counts)))) in
     elim (cases_lt k (length w.sent)) [
       | inl less ↦
           subst (λ z. IsKept w.version n z) (sym (get_or_append_left w.sent more no_kept k less)) (is.kept k less)
@@ -315,8 +315,8 @@ deliver_becomes w sent k kept from to most frame a old h is lk same ef et reads 
     let hap = happens w to most (Came from frame) a h is lt s' p' in
     let new = after w to a.1 h in
     let t = deliver_turned w new k kept frame a.0 lk same reads
-        (subst (λ z. Happens w new z (Came kept.from frame) a.0) et
-        (subst (λ z. Happens w new to (Came z frame) a.0) ef hap)) in
+    (subst (λ z. Happens w new z (Came kept.from frame) a.0) et
+    (subst (λ z. Happens w new to (Came z frame) a.0) ef hap)) in
     subst (λ (z : List Kept). Becomes w (record { version = w.version; hosts = set w.hosts to h; sent = z }) (Deliver k)
     (reply_of a.0)) (sym all)
     (record {

@@ -1,10 +1,8 @@
 -- A new world is one of the law.
-use Rattle.std.proofs.Common.{◌≡◌, ◌≢◌, ◌⊎◌, inl, inr, ℕ, zero, suc, ◌+◌, ◌<◌, ◌≤◌, ◌==◌, ◌&&◌, ◌||◌, Bool, true, false, nat_le, nat_lt, if◌then◌else◌, List, [], ◌∷◌, ◌++◌, map, length, get_or, Option, Some, None, refl, sym, ap, ◌∙◌, subst, arith}
-use Rattle.std.specs.List.{list_all}
+use Rattle.std.proofs.Common.{◌≡◌, inl, inr, ℕ, ◌+◌, ◌<◌, ◌≤◌, ◌==◌, ◌&&◌, Bool, true, false, if◌then◌else◌, List, [], ◌∷◌, ◌++◌, map, length, Some, None, refl, sym, ap, ◌∙◌, subst, arith}
 use Rattle.std.proofs.lemmas.Bool.{cases_lt, ne_eqb}
 use Rattle.std.proofs.lemmas.Bool.Decides.{nat_tests}
-use Rattle.std.proofs.lemmas.List.{ext_get_or, get_or-map, get_or_append_left, get_or_default, get_or_past, get_or_push, length-map, length_push}
-use Rattle.std.proofs.lemmas.List.Folds.{list_all_at}
+use Rattle.std.proofs.lemmas.List.{ext_get_or, get_or-map, get_or_append_left, get_or_past, get_or_push, length-map, length_push}
 use Rattle.std.proofs.Math.Path.{fun_ext}
 use Rattle.rvm_codec.specs.Numbers.{within}
 use Rattle.rvm_debug.specs.Guest.{Guest, GuestState}
@@ -16,14 +14,14 @@ use Rattle.rvm_protocol.specs.Told.{at_start}
 use Rattle.rvm_protocol.specs.World.{new_world, run}
 use Rattle.rvm_protocol.specs.World as worlds
 use Rattle.rvm_core.specs.Hosts.{PlainHost, host_of, new_host}
-use Rattle.rvm_world.specs.Worlds.{AreNew, BoardWorld, IsKept, IsReached, IsWorld, Placed, PlainWorld, host_at, is_sized, limit_at, no_kept, world_of}
+use Rattle.rvm_world.specs.Worlds.{AreNew, BoardWorld, IsWorld, Placed, PlainWorld, host_at, is_sized, limit_at, world_of}
 
 -- ONE MORE HOST
 
-pub no_host : (g : GuestState) (version : ℕ) (limits : List ℕ) → AreNew g version limits 0 []
+no_host : (g : GuestState) (version : ℕ) (limits : List ℕ) → AreNew g version limits 0 []
 no_host g version limits = record { count = refl; each = λ x lt. absurd (omega (arith, lt)) }
 
-pub one_more : (g : GuestState) (version : ℕ) (limits : List ℕ) (n : ℕ) (hosts all : List PlainHost) (h : PlainHost)
+one_more : (g : GuestState) (version : ℕ) (limits : List ℕ) (n : ℕ) (hosts all : List PlainHost) (h : PlainHost)
     → AreNew g version limits n hosts → all ≡ hosts ++ h ∷ []
     → h ≡ new_host (if n == 0 then Some g else None) n (length limits) (limit_at limits n) version
     → AreNew g version limits (n + 1) all
@@ -41,6 +39,13 @@ one_more g version limits n hosts all h new more is =
             ∙ ap (λ z. new_host (if z == 0 then Some g else None) z (length limits) (limit_at limits z) version) (sym last)
       ];
     })
+
+-- the first one, which has the guest
+pub first : (g : GuestState) (version : ℕ) (limits : List ℕ) (none all : List PlainHost) (h : PlainHost)
+    → none ≡ [] → all ≡ none ++ h ∷ [] → h ≡ new_host (Some g) 0 (length limits) (limit_at limits 0) version
+    → AreNew g version limits 1 all
+first g version limits none all h empty more is =
+    one_more g version limits 0 [] all h (no_host g version limits) (more ∙ ap (λ z. z ++ h ∷ []) empty) is
 
 -- a host without a guest, behind the first one
 pub another : (g : GuestState) (version : ℕ) (limits : List ℕ) (n : ℕ) (hosts all : List PlainHost) (h : PlainHost)

@@ -1,5 +1,5 @@
 -- Worlds of hosts: as plain values, and as the law of live migration has them.
-use Rattle.std.specs.Prelude.{◌≡◌, ◌↔◌, ℕ, ◌<◌, ◌≤◌, ◌==◌, ◌&&◌, ◌||◌, Bool, true, false, List, [], ◌∷◌, ◌++◌, map, length, take, get_or, Option, Some, None, nat_lt, if◌then◌else◌, Result, Ok, Err, is_ok}
+use Rattle.std.specs.Prelude.{◌≡◌, ℕ, ◌<◌, ◌≤◌, ◌==◌, ◌&&◌, ◌||◌, Bool, true, false, List, [], ◌∷◌, map, length, take, get_or, Option, Some, None, nat_lt, if◌then◌else◌, Result, Ok, Err, is_ok}
 use Rattle.std.specs.List.{list_all}
 use Rattle.rvm_codec.specs.Numbers.{within}
 use Rattle.rvm_debug.specs.declared.event.BoardEvent.{BoardEvent}

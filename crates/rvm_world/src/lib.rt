@@ -13,7 +13,6 @@ mod event;
 mod hosts;
 // mod run;
 mod sent;
-mod stand_in;
 mod world;
 
 // pub use drive::{Driven, drive_move};

@@ -60,7 +60,11 @@ impl Sent {
 }
 
 /// Room for a frame of at most so many bytes, and a place for it; none is made where no frame is.
-pub(crate) fn make_room(alloc: Global, sent: &mut Vec<Sent>, bound: usize) -> Result<Vec<u8>, AllocError>
+pub(crate) fn make_room(
+    alloc: Global,
+    sent: &mut Vec<Sent>,
+    bound: usize,
+) -> Result<Vec<u8>, AllocError>
     ensures sent { sent.new.items ≡ sent.old.items }
     ensures empty { IfOk result (λ bytes. bytes.items ≡ []) }
     ensures bytes { IfOk result (λ bytes. bound ≤ vec_capacity bytes) }

@@ -17,7 +17,6 @@ use crate::error::WorldError;
 use crate::event::{Event, WorldReply};
 use crate::hosts::{add_hosts, is_sized};
 use crate::sent::{Sent, make_room, post};
-use crate::stand_in::{came, came_bound, command_bound, obey};
 use rvm_core::Host;
 use rvm_debug::Debugged;
 use rvm_guest::valid_guest;
@@ -174,10 +173,10 @@ impl<M: PagedMemory + Drop> World<M> {
         if host as usize >= self.hosts.len() {
             return Ok(refused(HostRefusal::BadHost));
         }
-        let bound = command_bound(&self.hosts[host as usize], command);
+        let bound = self.hosts[host as usize].command_bound(command);
         let bytes = make_room(alloc, &mut self.sent, bound)?;
         let host = &mut self.hosts[host as usize];
-        let (reply, frame) = obey(host, alloc, command)?;
+        let (reply, frame) = host.obey(alloc, command)?;
         let frame = post(self.version, &mut self.sent, frame, bytes);
         Ok(WorldReply { reply, frame })
     }
@@ -199,10 +198,10 @@ impl<M: PagedMemory + Drop> World<M> {
         let from = sent.sender();
         let to = sent.receiver();
         let frame = sent.read(alloc, self.version)?;
-        let bound = came_bound(&self.hosts[to as usize], &frame);
+        let bound = self.hosts[to as usize].came_bound(&frame);
         let bytes = make_room(alloc, &mut self.sent, bound)?;
         let host = &mut self.hosts[to as usize];
-        let (reply, made) = came(host, alloc, from, &frame)?;
+        let (reply, made) = host.came(alloc, from, &frame)?;
         let frame = post(self.version, &mut self.sent, made, bytes);
         Ok(WorldReply { reply, frame })
     }

@@ -1,15 +1,17 @@
-use Rattle.std.proofs.Common.{◌≤◌, ◌∙◌, ◌++◌, ◌∷◌, [], length, sym, ap, subst, arith}
+use Rattle.std.proofs.Common.{◌≤◌, length, sym, subst, arith}
 use Rattle.rvm_world.specs.Worlds.{AreNew}
-use Rattle.rvm_world.proofs.NewWorlds.{another, no_host, one_more, two_limits}
+use Rattle.rvm_world.proofs.NewWorlds.{another, first, two_limits}
 use Rattle.rvm_world.proofs.hosts.add_hosts.Goals as goal
 
 pub loop-id-init : goal.loop-id-init
 loop-id-init g c =
     let limits = c.args.limits.now in
-    (one_more c.args.guest c.args.version limits 0 [] c.push_reserved.new.self.items c.new_host.result
-    (no_host c.args.guest c.args.version limits)
-    (c.push_reserved.ensures.items ∙ ap (λ z. z ++ c.new_host.result ∷ []) c.requires.empty) c.new_host.ensures,
-    subst (λ z. length limits ≤ z) (sym c.push_reserved.ensures.capacity) c.requires.room)
+    let capacity = c.push_reserved.ensures.capacity in
+    let room = c.requires.room in (
+      first c.args.guest c.args.version limits c.args.hosts.now.items c.push_reserved.new.self.items c.new_host.result
+          c.requires.empty c.push_reserved.ensures.items c.new_host.ensures,
+      omega (arith, capacity, room),
+    )
 
 pub push_reserved-requires-in-loop-id : goal.push_reserved-requires-in-loop-id
 push_reserved-requires-in-loop-id g c =
@@ -22,10 +24,13 @@ push_reserved-requires-in-loop-id g c =
 pub loop-id-preserved : goal.loop-id-preserved
 loop-id-preserved g c =
     let limits = c.args.limits.now in
-    (another c.args.guest c.args.version limits c.loop-id.id c.loop-id.hosts.items c.push_reserved-in-loop-id.new.self.items
-    c.new_host-in-loop-id.result c.loop-id.invariant.0 c.push_reserved-in-loop-id.ensures.items c.loop-id.auto.id
-    c.new_host-in-loop-id.ensures,
-    subst (λ z. length limits ≤ z) (sym c.push_reserved-in-loop-id.ensures.capacity) c.loop-id.invariant.1)
+    let capacity = c.push_reserved-in-loop-id.ensures.capacity in
+    let room = c.loop-id.invariant.1 in (
+      another c.args.guest c.args.version limits c.loop-id.id c.loop-id.hosts.items c.push_reserved-in-loop-id.new.self.items
+          c.new_host-in-loop-id.result c.loop-id.invariant.0 c.push_reserved-in-loop-id.ensures.items c.loop-id.auto.id
+          c.new_host-in-loop-id.ensures,
+      omega (arith, capacity, room),
+    )
 
 pub returns : goal.returns
 returns g c =
@@ -33,4 +38,5 @@ returns g c =
     let two = two_limits c.args.version limits c.requires.sized in
     let past = c.loop-id-test.false in
     let inside = c.loop-id.auto.id-end (omega (arith, two)) in
-    subst (λ z. AreNew c.args.guest c.args.version limits z c.loop-id.hosts.items) (omega (arith, past, inside)) c.loop-id.invariant.0
+    subst (λ z. AreNew c.args.guest c.args.version limits z c.loop-id.hosts.items) (omega (arith, past, inside))
+    c.loop-id.invariant.0

@@ -1,15 +1,15 @@
-use Rattle.std.proofs.Common.{List, ◌≤◌, vec_capacity, ◌≡◌, ◌<◌, ◌-◌, ◌∙◌, ◌++◌, ℕ, length, refl, sym, ap, subst, arith, set}
+use Rattle.std.proofs.Common.{◌≤◌, vec_capacity, ◌≡◌, ◌<◌, ◌∙◌, ◌++◌, length, sym, ap, subst, arith, set}
 use Rattle.std.proofs.lemmas.List.{set-get_or}
 use Rattle.rvm_guest.proofs.TheGuest.{board}
 use Rattle.rvm_message.specs.Frames.{frame_heard}
 use Rattle.rvm_message.specs.Replies.{reply_of}
 use Rattle.rvm_protocol.specs.Commands.{Came}
-use Rattle.rvm_protocol.specs.Replies.{Reply, Refused, NoFrame}
+use Rattle.rvm_protocol.specs.Replies.{Refused, NoFrame}
 use Rattle.rvm_protocol.specs.World.{Deliver, reply_to, step}
 use Rattle.rvm_core.specs.Bounds.{frame_bound}
 use Rattle.rvm_core.specs.Hosts.{PlainHost}
-use Rattle.rvm_world.specs.Worlds.{PlainWorld, Kept, IsWorld, host_at, place_of, posted, world_of}
-use Rattle.rvm_world.proofs.Happenings.{Becomes, deliver_becomes, deliver_refused, is_host, is_kept, on_err}
+use Rattle.rvm_world.specs.Worlds.{PlainWorld, IsWorld, posted, world_of}
+use Rattle.rvm_world.proofs.Happenings.{deliver_becomes, deliver_refused, is_host, is_kept, on_err}
 use Rattle.rvm_world.proofs.Keeping.{can_be_kept}
 use Rattle.rvm_world.proofs.world.World.deliver.Goals as goal
 
@@ -34,25 +34,25 @@ pub read-requires : goal.read-requires
 read-requires g c =
     let f = c.self.inside in
     let w : PlainWorld = record { version = f.version; hosts = f.hosts.items; sent = f.sent.items } in
-    let lt : c.args.place < length f.sent.items = subst (λ z. c.args.place < z) (c.len.ensures ∙ f.sent.ok.0) c.if-place-len.false in
+    let lt = subst (λ z. c.args.place < z) (c.len.ensures ∙ f.sent.ok.0) c.if-place-len.false in
     (is_kept w c.args.place c.index-sent.result.now c.self.invariant lt c.index-sent.ensures).readable
 
 pub index-requires : goal.index-requires
 index-requires g c =
     let f = c.self.inside in
     let w : PlainWorld = record { version = f.version; hosts = f.hosts.items; sent = f.sent.items } in
-    let lt : c.args.place < length f.sent.items = subst (λ z. c.args.place < z) (c.len.ensures ∙ f.sent.ok.0) c.if-place-len.false in
+    let lt = subst (λ z. c.args.place < z) (c.len.ensures ∙ f.sent.ok.0) c.if-place-len.false in
     let is = is_kept w c.args.place c.index-sent.result.now c.self.invariant lt c.index-sent.ensures in
-    let there : c.receiver-to.result < length f.hosts.items = subst (λ z. z < length f.hosts.items) (sym c.receiver-to.ensures) is.receiver in
+    let there = subst (λ z. z < length f.hosts.items) (sym c.receiver-to.ensures) is.receiver in
     subst (λ z. c.receiver-to.result < z) (sym f.hosts.ok.0) there
 
 pub index_mut-host-requires : goal.index_mut-host-requires
 index_mut-host-requires g c =
     let f = c.self.inside in
     let w : PlainWorld = record { version = f.version; hosts = f.hosts.items; sent = f.sent.items } in
-    let lt : c.args.place < length f.sent.items = subst (λ z. c.args.place < z) (c.len.ensures ∙ f.sent.ok.0) c.if-place-len.false in
+    let lt = subst (λ z. c.args.place < z) (c.len.ensures ∙ f.sent.ok.0) c.if-place-len.false in
     let is = is_kept w c.args.place c.index-sent.result.now c.self.invariant lt c.index-sent.ensures in
-    let there : c.receiver-to.result < length f.hosts.items = subst (λ z. z < length f.hosts.items) (sym c.receiver-to.ensures) is.receiver in
+    let there = subst (λ z. z < length f.hosts.items) (sym c.receiver-to.ensures) is.receiver in
     subst (λ z. c.receiver-to.result < z) (sym f.hosts.ok.0) there
 
 pub invariant_of-self-in_err-reply : goal.invariant_of-self-in_err-reply
@@ -60,10 +60,10 @@ invariant_of-self-in_err-reply g c =
     let f = c.self.inside in
     let to = c.receiver-to.result in
     let same = ap (set f.hosts.items to) (c.in_err-reply.ensures.err ∙ c.index_mut-host.ensures.value)
-        ∙ set-get_or f.hosts.items to c.index_mut-host.result.now in
-    let back : ◌≡◌ {A = PlainWorld} (record { version = f.version; hosts = set f.hosts.items to c.came.new.host; sent = c.make_room.new.sent.items })
-        (record { version = f.version; hosts = f.hosts.items; sent = f.sent.items }) =
-        λ i. record { version = f.version; hosts = same i; sent = c.make_room.ensures.sent i } in
+    ∙ set-get_or f.hosts.items to c.index_mut-host.result.now in
+    let back : ◌≡◌ {A = PlainWorld} (record { version = f.version; hosts = set f.hosts.items to c.came.new.self; sent = c.make_room.new.sent.items })
+    (record { version = f.version; hosts = f.hosts.items; sent = f.sent.items }) =
+    λ i. record { version = f.version; hosts = same i; sent = c.make_room.ensures.sent i } in
     subst IsWorld (sym back) c.self.invariant
 
 pub returns-in_err-reply-clause-err : goal.returns-in_err-reply-clause-err
@@ -71,10 +71,10 @@ returns-in_err-reply-clause-err g c =
     let f = c.self.inside in
     let to = c.receiver-to.result in
     let same = ap (set f.hosts.items to) (c.in_err-reply.ensures.err ∙ c.index_mut-host.ensures.value)
-        ∙ set-get_or f.hosts.items to c.index_mut-host.result.now in
-    let back : ◌≡◌ {A = PlainWorld} (record { version = f.version; hosts = set f.hosts.items to c.came.new.host; sent = c.make_room.new.sent.items })
-        (record { version = f.version; hosts = f.hosts.items; sent = f.sent.items }) =
-        λ i. record { version = f.version; hosts = same i; sent = c.make_room.ensures.sent i } in
+    ∙ set-get_or f.hosts.items to c.index_mut-host.result.now in
+    let back : ◌≡◌ {A = PlainWorld} (record { version = f.version; hosts = set f.hosts.items to c.came.new.self; sent = c.make_room.new.sent.items })
+    (record { version = f.version; hosts = f.hosts.items; sent = f.sent.items }) =
+    λ i. record { version = f.version; hosts = same i; sent = c.make_room.ensures.sent i } in
     on_err c.from_residual-in_err-reply.result _ (back ∙ c.self.view_is)
 
 pub post-frame-requires-clause-fits : goal.post-frame-requires-clause-fits
@@ -84,9 +84,9 @@ post-frame-requires-clause-fits g c =
     let e = Came c.sender-from.result (frame_heard c.in_ok-frame.frame) in
     let old = c.index_mut-host.result.now in
     let to = c.receiver-to.result in
-    let lt : c.args.place < length f.sent.items = subst (λ z. c.args.place < z) (c.len.ensures ∙ f.sent.ok.0) c.if-place-len.false in
+    let lt = subst (λ z. c.args.place < z) (c.len.ensures ∙ f.sent.ok.0) c.if-place-len.false in
     let is = is_kept w c.args.place c.index-sent.result.now c.self.invariant lt c.index-sent.ensures in
-    let there : to < length f.hosts.items = subst (λ z. z < length f.hosts.items) (sym c.receiver-to.ensures) is.receiver in
+    let there = subst (λ z. z < length f.hosts.items) (sym c.receiver-to.ensures) is.receiver in
     let one = is_host f.hosts.items to old there c.index_mut-host.ensures.value in
     let two = is_host f.hosts.items to c.index.result.now there c.index.ensures in
     let bound = c.came_bound-bound.ensures c.sender-from.result ∙ ap (λ (h : PlainHost). frame_bound h e) (two ∙ sym one) in
@@ -105,12 +105,12 @@ invariant_of-self-2 g c =
     let to = c.receiver-to.result in
     let old = c.index_mut-host.result.now in
     let kept = c.index-sent.result.now in
-    let lt : c.args.place < length f.sent.items = subst (λ z. c.args.place < z) (c.len.ensures ∙ f.sent.ok.0) c.if-place-len.false in
+    let lt = subst (λ z. c.args.place < z) (c.len.ensures ∙ f.sent.ok.0) c.if-place-len.false in
     let is = is_kept w c.args.place kept c.self.invariant lt c.index-sent.ensures in
-    let there : to < length f.hosts.items = subst (λ z. z < length f.hosts.items) (sym c.receiver-to.ensures) is.receiver in
+    let there = subst (λ z. z < length f.hosts.items) (sym c.receiver-to.ensures) is.receiver in
     let all = c.post-frame.ensures.sent ∙ ap (λ z. z ++ posted f.version c.in_ok-reply.made) c.make_room.ensures.sent in
     (deliver_becomes w c.post-frame.new.sent.items c.args.place kept from to (frame_bound old (Came from frame)) frame
-    (c.in_ok-reply.reply, c.in_ok-reply.made) old c.came.new.host c.self.invariant lt c.index-sent.ensures c.sender-from.ensures
+    (c.in_ok-reply.reply, c.in_ok-reply.made) old c.came.new.self c.self.invariant lt c.index-sent.ensures c.sender-from.ensures
     c.receiver-to.ensures c.in_ok-frame.ensures there c.index_mut-host.ensures.value c.in_ok-reply.ensures.steps
     c.in_ok-reply.ensures.sent all).stays
 
@@ -123,13 +123,13 @@ returns-clause-reply g c =
     let to = c.receiver-to.result in
     let old = c.index_mut-host.result.now in
     let kept = c.index-sent.result.now in
-    let lt : c.args.place < length f.sent.items = subst (λ z. c.args.place < z) (c.len.ensures ∙ f.sent.ok.0) c.if-place-len.false in
+    let lt = subst (λ z. c.args.place < z) (c.len.ensures ∙ f.sent.ok.0) c.if-place-len.false in
     let is = is_kept w c.args.place kept c.self.invariant lt c.index-sent.ensures in
-    let there : to < length f.hosts.items = subst (λ z. z < length f.hosts.items) (sym c.receiver-to.ensures) is.receiver in
+    let there = subst (λ z. z < length f.hosts.items) (sym c.receiver-to.ensures) is.receiver in
     let all = c.post-frame.ensures.sent ∙ ap (λ z. z ++ posted f.version c.in_ok-reply.made) c.make_room.ensures.sent in
     subst (λ z. reply_of c.in_ok-reply.reply ≡ reply_to board (world_of z) (Deliver c.args.place)) c.self.view_is
     (deliver_becomes w c.post-frame.new.sent.items c.args.place kept from to (frame_bound old (Came from frame)) frame
-    (c.in_ok-reply.reply, c.in_ok-reply.made) old c.came.new.host c.self.invariant lt c.index-sent.ensures c.sender-from.ensures
+    (c.in_ok-reply.reply, c.in_ok-reply.made) old c.came.new.self c.self.invariant lt c.index-sent.ensures c.sender-from.ensures
     c.receiver-to.ensures c.in_ok-frame.ensures there c.index_mut-host.ensures.value c.in_ok-reply.ensures.steps
     c.in_ok-reply.ensures.sent all).replied
 
@@ -142,13 +142,13 @@ returns-clause-next g c =
     let to = c.receiver-to.result in
     let old = c.index_mut-host.result.now in
     let kept = c.index-sent.result.now in
-    let lt : c.args.place < length f.sent.items = subst (λ z. c.args.place < z) (c.len.ensures ∙ f.sent.ok.0) c.if-place-len.false in
+    let lt = subst (λ z. c.args.place < z) (c.len.ensures ∙ f.sent.ok.0) c.if-place-len.false in
     let is = is_kept w c.args.place kept c.self.invariant lt c.index-sent.ensures in
-    let there : to < length f.hosts.items = subst (λ z. z < length f.hosts.items) (sym c.receiver-to.ensures) is.receiver in
+    let there = subst (λ z. z < length f.hosts.items) (sym c.receiver-to.ensures) is.receiver in
     let all = c.post-frame.ensures.sent ∙ ap (λ z. z ++ posted f.version c.in_ok-reply.made) c.make_room.ensures.sent in
-    subst (λ z. world_of (record { version = f.version; hosts = set f.hosts.items to c.came.new.host; sent = c.post-frame.new.sent.items })
+    subst (λ z. world_of (record { version = f.version; hosts = set f.hosts.items to c.came.new.self; sent = c.post-frame.new.sent.items })
     ≡ step board (world_of z) (Deliver c.args.place)) c.self.view_is
     (deliver_becomes w c.post-frame.new.sent.items c.args.place kept from to (frame_bound old (Came from frame)) frame
-    (c.in_ok-reply.reply, c.in_ok-reply.made) old c.came.new.host c.self.invariant lt c.index-sent.ensures c.sender-from.ensures
+    (c.in_ok-reply.reply, c.in_ok-reply.made) old c.came.new.self c.self.invariant lt c.index-sent.ensures c.sender-from.ensures
     c.receiver-to.ensures c.in_ok-frame.ensures there c.index_mut-host.ensures.value c.in_ok-reply.ensures.steps
     c.in_ok-reply.ensures.sent all).turned
