@@ -2,7 +2,7 @@
 use Rattle.std.proofs.Common.{◌≡◌, inl, inr, ℕ, zero, suc, ◌-◌, ◌<◌, ◌≤◌, if◌then◌else◌, List, [], ◌∷◌, ◌++◌, map, length, get_or, set, Option, Some, None, Ok, Err, OnErr, refl, sym, ap, ◌∙◌, subst, arith}
 use Rattle.std.specs.Prelude.{Result, slice_get}
 use Rattle.std.proofs.lemmas.Bool.{cases_eq, cases_lt, eq-eqb, le-ltb, lt-ltb, ne_eqb}
-use Rattle.std.proofs.lemmas.List.{get_or-append_right, get_or-set_other, get_or-set_same, get_or_append_left, get_or_default, length-append, length-set}
+use Rattle.std.proofs.lemmas.List.{get_or-append_right, get_or-set_other, get_or-set_same, get_or_append_left, get_or_default, length-append, length-set, set-get_or}
 use Rattle.std.proofs.Math.Path.{fun_ext}
 use Rattle.std.proofs.Math.Seq.{map-set_same}
 use Rattle.rvm_debug.specs.declared.event.BoardEvent.{BoardEvent}
@@ -50,6 +50,10 @@ limits_stay xs p v lt same =
     ])
 
 -- ONE EVENT
+
+-- a world with another host at a place, and these frames
+abbrev pub with_host : PlainWorld → ℕ → PlainHost → List Kept → PlainWorld
+with_host w x h sent = record { version = w.version; hosts = set w.hosts x h; sent = sent }
 
 -- a world after an event at a host of it
 abbrev pub after : PlainWorld → ℕ → Option Addressed → PlainHost → PlainWorld
@@ -280,21 +284,21 @@ is_host xs x h lt is = is ∙ get_or_default xs x h (new_host None x 0 0 0) lt
 pub is_kept : (w : PlainWorld) (k : ℕ) (kept : Kept) → IsWorld w → k < length w.sent
     → kept ≡ get_or w.sent k kept → IsKept w.version (length w.hosts) kept
 is_kept w k kept is lt same =
-    subst (λ z. IsKept w.version (length w.hosts) z) (sym (same ∙ get_or_default w.sent k kept no_kept lt)) (is.kept k lt)
+    subst (λ z. IsKept w.version (length w.hosts) z) (sym (same ∙ get_or_default w.sent k kept no_kept lt))
+    (is.kept k lt)
 
 -- a command at a host
 pub at_becomes : (w : PlainWorld) (sent : List Kept) (x most : ℕ) (c : Command BoardEvent)
     (a : HostReply × Option Addressed) (old h : PlainHost) → IsWorld w → x < length w.hosts
     → old ≡ get_or w.hosts x old → Steps old (Do c) a h → CanBePosted old most a.1
     → sent ≡ w.sent ++ posted w.version a.1
-    → Becomes w (record { version = w.version; hosts = set w.hosts x h; sent = sent }) (At x c) (reply_of a.0)
+    → Becomes w (with_host w x h sent) (At x c) (reply_of a.0)
 at_becomes w sent x most c a old h is lt here s p all =
     let one = is_host w.hosts x old lt here in
     let s' = subst (λ z. Steps z (Do c) a h) one s in
     let p' = subst (λ z. CanBePosted z most a.1) one p in
     let t = at_turned w (after w x a.1 h) x c a.0 lt (happens w x most (Do c) a h is lt s' p') in
-    subst (λ (z : List Kept). Becomes w (record { version = w.version; hosts = set w.hosts x h; sent = z }) (At x c)
-    (reply_of a.0)) (sym all)
+    subst (λ z. Becomes w (with_host w x h z) (At x c) (reply_of a.0)) (sym all)
     (record {
       replied = t.replied;
       turned = t.turned;
@@ -307,7 +311,7 @@ pub deliver_becomes : (w : PlainWorld) (sent : List Kept) (k : ℕ) (kept : Kept
     → kept ≡ get_or w.sent k kept → from ≡ kept.from → to ≡ kept.to → frame ≡ frame_in w.version kept.bytes
     → to < length w.hosts → old ≡ get_or w.hosts to old → Steps old (Came from frame) a h → CanBePosted old most a.1
     → sent ≡ w.sent ++ posted w.version a.1
-    → Becomes w (record { version = w.version; hosts = set w.hosts to h; sent = sent }) (Deliver k) (reply_of a.0)
+    → Becomes w (with_host w to h sent) (Deliver k) (reply_of a.0)
 deliver_becomes w sent k kept from to most frame a old h is lk same ef et reads lt here s p all =
     let one = is_host w.hosts to old lt here in
     let s' = subst (λ z. Steps z (Came from frame) a h) one s in
@@ -317,8 +321,7 @@ deliver_becomes w sent k kept from to most frame a old h is lk same ef et reads 
     let t = deliver_turned w new k kept frame a.0 lk same reads
     (subst (λ z. Happens w new z (Came kept.from frame) a.0) et
     (subst (λ z. Happens w new to (Came z frame) a.0) ef hap)) in
-    subst (λ (z : List Kept). Becomes w (record { version = w.version; hosts = set w.hosts to h; sent = z }) (Deliver k)
-    (reply_of a.0)) (sym all)
+    subst (λ z. Becomes w (with_host w to h z) (Deliver k) (reply_of a.0)) (sym all)
     (record {
       replied = t.replied;
       turned = t.turned;
@@ -326,6 +329,13 @@ deliver_becomes w sent k kept from to most frame a old h is lk same ef et reads 
     })
 
 -- REFUSED GROWTHS
+
+-- a host that stays as it was read, and no frame more
+pub unchanged : (w : PlainWorld) (x : ℕ) (old h : PlainHost) (sent : List Kept) → h ≡ old
+    → old ≡ get_or w.hosts x old → sent ≡ w.sent → with_host w x h sent ≡ w
+unchanged w x old h sent stays here same =
+    let hosts = ap (set w.hosts x) (stays ∙ here) ∙ set-get_or w.hosts x old in
+    λ i. record { version = w.version; hosts = hosts i; sent = same i }
 
 pub on_err : {A E : Type 0} → (r : Result A E) → (P : Type 0) → P → OnErr r P
 on_err (Ok a) P p = tt

@@ -51,7 +51,8 @@ comes version hosts (frame.Zero n page number) s m = let a = above n s.move_numb
 comes version hosts (frame.Part n stamp part parts bytes) s m =
     let a = above n s.move_number in let b = few_parts stamp part parts (length bytes) s.body in cc
 
-module _ (version : ℕ) (a : Addressed) (s : HasSpelling (sent version a)) (m : MayStand (Some version) (sent version a)) where
+module _ (version : ℕ) (a : Addressed) (s : HasSpelling (sent version a))
+    (m : MayStand (Some version) (sent version a)) where
   read_again : one_frame_of (verdict (Some version) (spelling (sent version a))) ≡ Ok (sent version a)
   read_again = ap one_frame_of (verdict_again (Some version) (sent version a) s m)
 

@@ -36,7 +36,8 @@ one_more g version limits n hosts all h new more is =
         | inr past ↦
             let last : x ≡ n = omega (arith, lt, past) in
             get_or_push hosts h (new_host None x 0 0 0) x (omega (arith, long, last)) ∙ is
-            ∙ ap (λ z. new_host (if z == 0 then Some g else None) z (length limits) (limit_at limits z) version) (sym last)
+            ∙ ap (λ z. new_host (if z == 0 then Some g else None) z (length limits) (limit_at limits z) version)
+            (sym last)
       ];
     })
 

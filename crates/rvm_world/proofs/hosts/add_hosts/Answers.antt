@@ -1,4 +1,4 @@
-use Rattle.std.proofs.Common.{◌≤◌, length, sym, subst, arith}
+use Rattle.std.proofs.Common.{subst, arith}
 use Rattle.rvm_world.specs.Worlds.{AreNew}
 use Rattle.rvm_world.proofs.NewWorlds.{another, first, two_limits}
 use Rattle.rvm_world.proofs.hosts.add_hosts.Goals as goal
@@ -26,9 +26,9 @@ loop-id-preserved g c =
     let limits = c.args.limits.now in
     let capacity = c.push_reserved-in-loop-id.ensures.capacity in
     let room = c.loop-id.invariant.1 in (
-      another c.args.guest c.args.version limits c.loop-id.id c.loop-id.hosts.items c.push_reserved-in-loop-id.new.self.items
-          c.new_host-in-loop-id.result c.loop-id.invariant.0 c.push_reserved-in-loop-id.ensures.items c.loop-id.auto.id
-          c.new_host-in-loop-id.ensures,
+      another c.args.guest c.args.version limits c.loop-id.id c.loop-id.hosts.items
+          c.push_reserved-in-loop-id.new.self.items c.new_host-in-loop-id.result c.loop-id.invariant.0
+          c.push_reserved-in-loop-id.ensures.items c.loop-id.auto.id c.new_host-in-loop-id.ensures,
       omega (arith, capacity, room),
     )
 

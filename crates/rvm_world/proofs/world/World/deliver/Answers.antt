@@ -1,5 +1,4 @@
-use Rattle.std.proofs.Common.{◌≤◌, vec_capacity, ◌≡◌, ◌<◌, ◌∙◌, ◌++◌, length, sym, ap, subst, arith, set}
-use Rattle.std.proofs.lemmas.List.{set-get_or}
+use Rattle.std.proofs.Common.{◌≤◌, vec_capacity, ◌≡◌, ◌<◌, ◌∙◌, ◌++◌, length, sym, ap, subst, arith}
 use Rattle.rvm_guest.proofs.TheGuest.{board}
 use Rattle.rvm_message.specs.Frames.{frame_heard}
 use Rattle.rvm_message.specs.Replies.{reply_of}
@@ -9,7 +8,7 @@ use Rattle.rvm_protocol.specs.World.{Deliver, reply_to, step}
 use Rattle.rvm_core.specs.Bounds.{frame_bound}
 use Rattle.rvm_core.specs.Hosts.{PlainHost}
 use Rattle.rvm_world.specs.Worlds.{PlainWorld, IsWorld, posted, world_of}
-use Rattle.rvm_world.proofs.Happenings.{deliver_becomes, deliver_refused, is_host, is_kept, on_err}
+use Rattle.rvm_world.proofs.Happenings.{deliver_becomes, deliver_refused, is_host, is_kept, on_err, unchanged, with_host}
 use Rattle.rvm_world.proofs.Keeping.{can_be_kept}
 use Rattle.rvm_world.proofs.world.World.deliver.Goals as goal
 
@@ -58,23 +57,17 @@ index_mut-host-requires g c =
 pub invariant_of-self-in_err-reply : goal.invariant_of-self-in_err-reply
 invariant_of-self-in_err-reply g c =
     let f = c.self.inside in
-    let to = c.receiver-to.result in
-    let same = ap (set f.hosts.items to) (c.in_err-reply.ensures.err ∙ c.index_mut-host.ensures.value)
-    ∙ set-get_or f.hosts.items to c.index_mut-host.result.now in
-    let back : ◌≡◌ {A = PlainWorld} (record { version = f.version; hosts = set f.hosts.items to c.came.new.self; sent = c.make_room.new.sent.items })
-    (record { version = f.version; hosts = f.hosts.items; sent = f.sent.items }) =
-    λ i. record { version = f.version; hosts = same i; sent = c.make_room.ensures.sent i } in
+    let w : PlainWorld = record { version = f.version; hosts = f.hosts.items; sent = f.sent.items } in
+    let back = unchanged w c.receiver-to.result c.index_mut-host.result.now c.came.new.self
+    c.make_room.new.sent.items c.in_err-reply.ensures.err c.index_mut-host.ensures.value c.make_room.ensures.sent in
     subst IsWorld (sym back) c.self.invariant
 
 pub returns-in_err-reply-clause-err : goal.returns-in_err-reply-clause-err
 returns-in_err-reply-clause-err g c =
     let f = c.self.inside in
-    let to = c.receiver-to.result in
-    let same = ap (set f.hosts.items to) (c.in_err-reply.ensures.err ∙ c.index_mut-host.ensures.value)
-    ∙ set-get_or f.hosts.items to c.index_mut-host.result.now in
-    let back : ◌≡◌ {A = PlainWorld} (record { version = f.version; hosts = set f.hosts.items to c.came.new.self; sent = c.make_room.new.sent.items })
-    (record { version = f.version; hosts = f.hosts.items; sent = f.sent.items }) =
-    λ i. record { version = f.version; hosts = same i; sent = c.make_room.ensures.sent i } in
+    let w : PlainWorld = record { version = f.version; hosts = f.hosts.items; sent = f.sent.items } in
+    let back = unchanged w c.receiver-to.result c.index_mut-host.result.now c.came.new.self
+    c.make_room.new.sent.items c.in_err-reply.ensures.err c.index_mut-host.ensures.value c.make_room.ensures.sent in
     on_err c.from_residual-in_err-reply.result _ (back ∙ c.self.view_is)
 
 pub post-frame-requires-clause-fits : goal.post-frame-requires-clause-fits
@@ -89,7 +82,8 @@ post-frame-requires-clause-fits g c =
     let there = subst (λ z. z < length f.hosts.items) (sym c.receiver-to.ensures) is.receiver in
     let one = is_host f.hosts.items to old there c.index_mut-host.ensures.value in
     let two = is_host f.hosts.items to c.index.result.now there c.index.ensures in
-    let bound = c.came_bound-bound.ensures c.sender-from.result ∙ ap (λ (h : PlainHost). frame_bound h e) (two ∙ sym one) in
+    let same = ap (λ (h : PlainHost). frame_bound h e) (two ∙ sym one) in
+    let bound = c.came_bound-bound.ensures c.sender-from.result ∙ same in
     can_be_kept old f.version (frame_bound old e) (vec_capacity c.in_ok-bytes.bytes) _ c.in_ok-reply.made
     (ap (λ (h : PlainHost). h.version) one ∙ (c.self.invariant.placed to there).writes)
     c.in_ok-reply.ensures.sent
@@ -103,16 +97,17 @@ invariant_of-self-2 g c =
     let frame = frame_heard c.in_ok-frame.frame in
     let from = c.sender-from.result in
     let to = c.receiver-to.result in
+    let r = c.in_ok-reply in
     let old = c.index_mut-host.result.now in
     let kept = c.index-sent.result.now in
     let lt = subst (λ z. c.args.place < z) (c.len.ensures ∙ f.sent.ok.0) c.if-place-len.false in
     let is = is_kept w c.args.place kept c.self.invariant lt c.index-sent.ensures in
     let there = subst (λ z. z < length f.hosts.items) (sym c.receiver-to.ensures) is.receiver in
-    let all = c.post-frame.ensures.sent ∙ ap (λ z. z ++ posted f.version c.in_ok-reply.made) c.make_room.ensures.sent in
+    let all = c.post-frame.ensures.sent ∙ ap (λ z. z ++ posted f.version r.made) c.make_room.ensures.sent in
     (deliver_becomes w c.post-frame.new.sent.items c.args.place kept from to (frame_bound old (Came from frame)) frame
-    (c.in_ok-reply.reply, c.in_ok-reply.made) old c.came.new.self c.self.invariant lt c.index-sent.ensures c.sender-from.ensures
-    c.receiver-to.ensures c.in_ok-frame.ensures there c.index_mut-host.ensures.value c.in_ok-reply.ensures.steps
-    c.in_ok-reply.ensures.sent all).stays
+    (r.reply, r.made) old c.came.new.self c.self.invariant lt c.index-sent.ensures c.sender-from.ensures
+    c.receiver-to.ensures c.in_ok-frame.ensures there c.index_mut-host.ensures.value r.ensures.steps r.ensures.sent
+    all).stays
 
 pub returns-clause-reply : goal.returns-clause-reply
 returns-clause-reply g c =
@@ -121,17 +116,18 @@ returns-clause-reply g c =
     let frame = frame_heard c.in_ok-frame.frame in
     let from = c.sender-from.result in
     let to = c.receiver-to.result in
+    let r = c.in_ok-reply in
     let old = c.index_mut-host.result.now in
     let kept = c.index-sent.result.now in
     let lt = subst (λ z. c.args.place < z) (c.len.ensures ∙ f.sent.ok.0) c.if-place-len.false in
     let is = is_kept w c.args.place kept c.self.invariant lt c.index-sent.ensures in
     let there = subst (λ z. z < length f.hosts.items) (sym c.receiver-to.ensures) is.receiver in
-    let all = c.post-frame.ensures.sent ∙ ap (λ z. z ++ posted f.version c.in_ok-reply.made) c.make_room.ensures.sent in
-    subst (λ z. reply_of c.in_ok-reply.reply ≡ reply_to board (world_of z) (Deliver c.args.place)) c.self.view_is
+    let all = c.post-frame.ensures.sent ∙ ap (λ z. z ++ posted f.version r.made) c.make_room.ensures.sent in
+    subst (λ z. reply_of r.reply ≡ reply_to board (world_of z) (Deliver c.args.place)) c.self.view_is
     (deliver_becomes w c.post-frame.new.sent.items c.args.place kept from to (frame_bound old (Came from frame)) frame
-    (c.in_ok-reply.reply, c.in_ok-reply.made) old c.came.new.self c.self.invariant lt c.index-sent.ensures c.sender-from.ensures
-    c.receiver-to.ensures c.in_ok-frame.ensures there c.index_mut-host.ensures.value c.in_ok-reply.ensures.steps
-    c.in_ok-reply.ensures.sent all).replied
+    (r.reply, r.made) old c.came.new.self c.self.invariant lt c.index-sent.ensures c.sender-from.ensures
+    c.receiver-to.ensures c.in_ok-frame.ensures there c.index_mut-host.ensures.value r.ensures.steps r.ensures.sent
+    all).replied
 
 pub returns-clause-next : goal.returns-clause-next
 returns-clause-next g c =
@@ -140,15 +136,16 @@ returns-clause-next g c =
     let frame = frame_heard c.in_ok-frame.frame in
     let from = c.sender-from.result in
     let to = c.receiver-to.result in
+    let r = c.in_ok-reply in
     let old = c.index_mut-host.result.now in
     let kept = c.index-sent.result.now in
     let lt = subst (λ z. c.args.place < z) (c.len.ensures ∙ f.sent.ok.0) c.if-place-len.false in
     let is = is_kept w c.args.place kept c.self.invariant lt c.index-sent.ensures in
     let there = subst (λ z. z < length f.hosts.items) (sym c.receiver-to.ensures) is.receiver in
-    let all = c.post-frame.ensures.sent ∙ ap (λ z. z ++ posted f.version c.in_ok-reply.made) c.make_room.ensures.sent in
-    subst (λ z. world_of (record { version = f.version; hosts = set f.hosts.items to c.came.new.self; sent = c.post-frame.new.sent.items })
-    ≡ step board (world_of z) (Deliver c.args.place)) c.self.view_is
+    let all = c.post-frame.ensures.sent ∙ ap (λ z. z ++ posted f.version r.made) c.make_room.ensures.sent in
+    let new = with_host w to c.came.new.self c.post-frame.new.sent.items in
+    subst (λ z. world_of new ≡ step board (world_of z) (Deliver c.args.place)) c.self.view_is
     (deliver_becomes w c.post-frame.new.sent.items c.args.place kept from to (frame_bound old (Came from frame)) frame
-    (c.in_ok-reply.reply, c.in_ok-reply.made) old c.came.new.self c.self.invariant lt c.index-sent.ensures c.sender-from.ensures
-    c.receiver-to.ensures c.in_ok-frame.ensures there c.index_mut-host.ensures.value c.in_ok-reply.ensures.steps
-    c.in_ok-reply.ensures.sent all).turned
+    (r.reply, r.made) old c.came.new.self c.self.invariant lt c.index-sent.ensures c.sender-from.ensures
+    c.receiver-to.ensures c.in_ok-frame.ensures there c.index_mut-host.ensures.value r.ensures.steps r.ensures.sent
+    all).turned

@@ -9,8 +9,10 @@ pub invariant_of-result : goal.invariant_of-result
 invariant_of-result g c =
     let a = c.args in
     let hosts = c.add_hosts.new.hosts.items in
-    subst (λ (z : List Kept). IsWorld (record { version = a.version; hosts = hosts; sent = z })) (sym c.new.ensures.items)
-    (new_is_world a.guest a.version a.limits.now hosts (sym c.if-not-is_sized.ensures) c.add_hosts.ensures c.valid_guest.ensures)
+    let sized = sym c.if-not-is_sized.ensures in
+    subst (λ (z : List Kept). IsWorld (record { version = a.version; hosts = hosts; sent = z }))
+    (sym c.new.ensures.items)
+    (new_is_world a.guest a.version a.limits.now hosts sized c.add_hosts.ensures c.valid_guest.ensures)
 
 pub returns-in-Ok-clause-world : goal.returns-in-Ok-clause-world
 returns-in-Ok-clause-world g c =
@@ -23,4 +25,5 @@ returns-in-Ok-clause-world g c =
 pub returns-in-Ok-clause-shown : goal.returns-in-Ok-clause-shown
 returns-in-Ok-clause-shown g c =
     let a = c.args in
-    new_shown a.guest a.version a.limits.now c.add_hosts.new.hosts.items (sym c.if-not-is_sized.ensures) c.add_hosts.ensures
+    let sized = sym c.if-not-is_sized.ensures in
+    new_shown a.guest a.version a.limits.now c.add_hosts.new.hosts.items sized c.add_hosts.ensures
