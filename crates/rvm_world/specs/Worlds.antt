@@ -1,12 +1,12 @@
 -- Worlds of hosts: as plain values, and as the law of live migration has them.
-use Rattle.std.specs.Prelude.{◌≡◌, ◌↔◌, ℕ, ◌<◌, ◌==◌, ◌&&◌, ◌||◌, Bool, true, false, List, [], ◌∷◌, ◌++◌, map, length, take, get_or, Option, Some, None, nat_lt, if◌then◌else◌, Result, Ok, Err}
+use Rattle.std.specs.Prelude.{◌≡◌, ℕ, ◌<◌, ◌≤◌, ◌==◌, ◌&&◌, ◌||◌, Bool, true, false, List, [], ◌∷◌, map, length, take, get_or, Option, Some, None, nat_lt, if◌then◌else◌, Result, Ok, Err, is_ok}
 use Rattle.std.specs.List.{list_all}
 use Rattle.rvm_codec.specs.Numbers.{within}
 use Rattle.rvm_debug.specs.declared.event.BoardEvent.{BoardEvent}
 use Rattle.rvm_debug.specs.declared.event.BoardReply.{BoardReply}
 use Rattle.rvm_debug.specs.Guest.{Guest, GuestState}
 use Rattle.rvm_frame.specs.declared.addressed.Addressed.{Addressed}
-use Rattle.rvm_frame.specs.Grammar.{Received, sent, spelling}
+use Rattle.rvm_frame.specs.Grammar.{HasSpelling, Received, sent, spelling}
 use Rattle.rvm_frame.specs.Verdict.{one_frame_of, verdict}
 use Rattle.rvm_guest.proofs.TheGuest.{board}
 use Rattle.rvm_guest.specs.Valid.{is_valid}
@@ -42,12 +42,36 @@ frame_or (Err why) = no_frame
 abbrev pub frame_in : (version : ℕ) → List ℕ → BoardFrame
 frame_in version bytes = frame_or (one_frame_of (verdict (Some version) bytes))
 
+-- whether they are one
+abbrev pub is_frame : (version : ℕ) → List ℕ → Bool
+is_frame version bytes = is_ok (one_frame_of (verdict (Some version) bytes))
+
 abbrev pub kept_of : (version : ℕ) → Kept → frames.Addressed (List ℕ) (List ℕ)
 kept_of version k = record { from = k.from; to = k.to; frame = frame_in version k.bytes }
 
 -- the host of a number; one past the last is empty, and nothing reaches it
 abbrev pub host_at : List PlainHost → ℕ → PlainHost
 host_at hosts x = get_or hosts x (new_host None x 0 0 0)
+
+-- nothing that was sent
+abbrev pub no_kept : Kept
+no_kept = record { from = 0; to = 0; bytes = [] }
+
+-- a frame that was made, if any, as it is kept
+abbrev pub posted : (version : ℕ) → Option Addressed → List Kept
+posted version None = []
+posted version (Some a) = record { from = a.from; to = a.to; bytes = spelling (sent version a) } ∷ []
+
+-- a frame has a spelling, of at most so many bytes, and so many more may be kept
+pub record Fits (version most places : ℕ) (a : Addressed) : Type 0 where
+  pub spelled : HasSpelling (sent version a)
+  pub room : length (spelling (sent version a)) ≤ most
+  pub place : 0 < places
+
+-- a frame that was made, if any
+abbrev pub CanBeKept : (version most places : ℕ) → Option Addressed → Type 0
+CanBeKept version most places None = Unit {0}
+CanBeKept version most places (Some a) = Fits version most places a
 
 -- the world of the law
 abbrev pub BoardWorld : Type 0
@@ -103,3 +127,28 @@ pub record IsPartOf (events : List (protocol.Event BoardEvent)) (old new : Board
   pub made : ℕ
   pub there : made < length events
   pub leaves : new ≡ protocol.run board old (take made events)
+
+-- a host knows its place, how many hosts there are, and the version of its streams
+pub record Placed (version count x : ℕ) (h : PlainHost) : Type 0 where
+  pub named : h.id ≡ x
+  pub counts : h.count ≡ count
+  pub writes : h.version ≡ version
+
+-- a frame that was sent can be read, and is of hosts that are there
+pub record IsKept (version count : ℕ) (k : Kept) : Type 0 where
+  pub sender : k.from < count
+  pub receiver : k.to < count
+  pub readable : is_frame version k.bytes ≡ true
+
+-- its numbers are within their limits, each host stands at its place, each frame can be read, and some events made it
+pub record IsWorld (w : PlainWorld) : Type 0 where
+  pub sized : is_sized w.version (map (λ h. h.limit) w.hosts) ≡ true
+  pub placed : (x : ℕ) → x < length w.hosts → Placed w.version (length w.hosts) x (host_at w.hosts x)
+  pub kept : (k : ℕ) → k < length w.sent → IsKept w.version (length w.hosts) (get_or w.sent k no_kept)
+  pub reached : IsReached (world_of w)
+
+-- the first so many hosts of a new world: the guest is at the first of them
+pub record AreNew (g : GuestState) (version : ℕ) (limits : List ℕ) (n : ℕ) (hosts : List PlainHost) : Type 0 where
+  pub count : length hosts ≡ n
+  pub each : (x : ℕ) → x < n
+      → host_at hosts x ≡ new_host (if x == 0 then Some g else None) x (length limits) (limit_at limits x) version

@@ -4,18 +4,19 @@
 //! Stands on `rvm_core` for hosts and on `rvm_frame` for the bytes of frames. It knows nothing of
 //! threads, links or files.
 //!
-//! To be read in this order: `event`, `error`, `sent`, `world`, `run`, `drive`.
+//! To be read in this order: `event`, `error`, `sent`, `hosts`, `world`, `run`, `drive`.
 #![tactic(auto)]
 
-mod drive;
+// mod drive;
 mod error;
 mod event;
-mod run;
+mod hosts;
+// mod run;
 mod sent;
 mod world;
 
-pub use drive::{Driven, drive_move};
+// pub use drive::{Driven, drive_move};
 pub use error::WorldError;
 pub use event::{Event, WorldReply};
-pub use run::run_world;
+// pub use run::run_world;
 pub use world::World;

@@ -1,10 +1,10 @@
-//! A frame that was sent.
+//! Frames that were sent.
 
-ghost use Rattle.std.specs.Prelude.{◌≡◌, true, IfOk};
+ghost use Rattle.std.specs.Prelude.{◌≡◌, ◌++◌, ◌-◌, ◌<◌, ◌≤◌, [], length, true, IfOk, OnErr, OnOk, vec_capacity};
 ghost use Rattle.rvm_message.specs.Frames.{frame_heard};
-ghost use Rattle.rvm_world.specs.Worlds.{frame_in, is_frame};
+ghost use Rattle.rvm_world.specs.Worlds.{CanBeKept, frame_in, is_frame, place_of, posted};
 
-use rvm_frame::{Frame, ReadFault, read_frame};
+use rvm_frame::{Addressed, Frame, ReadFault, append_frame, read_frame};
 use std::alloc::{AllocError, Global};
 use std::marker::Model;
 
@@ -39,6 +39,13 @@ impl Sent {
         self.to
     }
 
+    /// Its bytes.
+    pub(crate) fn bytes(&self) -> &[u8]
+        ensures { result.now ≡ self.now.bytes }
+    {
+        self.bytes.as_slice()
+    }
+
     /// The frame that its bytes are in a stream of this version.
     pub(crate) fn read(&self, alloc: Global, version: u32) -> Result<Frame, AllocError>
         requires { is_frame version self.now.bytes ≡ true }
@@ -50,4 +57,47 @@ impl Sent {
             Err(_) => unreachable!(),
         }
     }
+}
+
+/// Room for a frame of at most so many bytes, and a place for it; none is made where no frame is.
+pub(crate) fn make_room(
+    alloc: Global,
+    sent: &mut Vec<Sent>,
+    bound: usize,
+) -> Result<Vec<u8>, AllocError>
+    ensures sent { sent.new.items ≡ sent.old.items }
+    ensures empty { IfOk result (λ bytes. bytes.items ≡ []) }
+    ensures bytes { IfOk result (λ bytes. bound ≤ vec_capacity bytes) }
+    ensures place { OnOk result (0 < bound → length sent.new.items < vec_capacity sent.new) }
+    ensures err { OnErr result (0 < bound) }
+{
+    if bound == 0 {
+        return Ok(Vec::new(alloc));
+    }
+    sent.reserve(1)?;
+    Vec::with_capacity(alloc, bound)
+}
+
+/// Keeps the bytes of a frame, if one was made, and says at which place. There is room for it.
+pub(crate) fn post(
+    version: u32,
+    sent: &mut Vec<Sent>,
+    frame: Option<Addressed>,
+    mut bytes: Vec<u8>,
+) -> Option<usize>
+    requires empty { bytes.items ≡ [] }
+    requires fits { CanBeKept version (vec_capacity bytes)
+        (vec_capacity sent.old - length sent.old.items) frame }
+    ensures sent { sent.new.items ≡ sent.old.items ++ posted version frame }
+    ensures place { result ≡ place_of (length sent.old.items) (length sent.new.items) }
+{
+    let frame = frame?;
+    append_frame(version, &frame, &mut bytes);
+    let place = sent.len();
+    sent.push_reserved(Sent {
+        from: frame.from,
+        to: frame.to,
+        bytes,
+    });
+    Some(place)
 }

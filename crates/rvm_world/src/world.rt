@@ -1,8 +1,7 @@
 //! A world of hosts.
 
-ghost use Rattle.std.specs.Prelude.{◌≡◌, ◌↔◌, ◌++◌, ◌+◌, ◌<◌, ◌≤◌, ◌⊎◌, ℕ, List, [], length, map, get_or, true, false, IfOk, IfErr, OnOk, OnErr, IfSome, None, Some, vec_capacity};
-ghost use Rattle.rvm_core.specs.Bounds.{CanBePosted};
-ghost use Rattle.rvm_core.specs.Hosts.{PlainHost};
+ghost use Rattle.std.specs.Prelude.{◌≡◌, ◌↔◌, ◌≤◌, length, get_or, true, false, IfOk, IfErr, OnOk, OnErr, IfSome, None};
+ghost use Rattle.rvm_core.specs.Hosts.{version_of};
 ghost use Rattle.rvm_guest.proofs.TheGuest.{board};
 ghost use Rattle.rvm_guest.specs.Valid.{is_valid};
 ghost use Rattle.rvm_message.specs.Events.{command_of};
@@ -12,14 +11,15 @@ ghost use Rattle.rvm_protocol.specs.Told.{at_start};
 ghost use Rattle.rvm_protocol.specs.World as protocol;
 ghost use Rattle.rvm_protocol.specs.World.{reply_to, step, new_world};
 ghost use Rattle.rvm_world.specs.declared.error.WorldError.TheVariants.{BadSize};
-ghost use Rattle.rvm_world.specs.Worlds.{IsReached, asks_memory, is_sized, limit_at, meant, no_kept, place_of, posted, world_of};
+ghost use Rattle.rvm_world.specs.Worlds.{IsReached, asks_memory, is_sized, limit_at, meant, no_kept, place_of, world_of};
 
 use crate::error::WorldError;
 use crate::event::{Event, WorldReply};
-use crate::sent::Sent;
+use crate::hosts::{add_hosts, is_sized};
+use crate::sent::{Sent, make_room, post};
 use rvm_core::Host;
 use rvm_debug::Debugged;
-use rvm_frame::{Addressed, append_frame};
+use rvm_guest::valid_guest;
 use rvm_mem::PagedMemory;
 use rvm_message::{Command, HostRefusal, HostReply};
 use std::alloc::{AllocError, Global};
@@ -66,7 +66,21 @@ impl<M: PagedMemory + Drop> World<M> {
         ensures size { IfErr result (λ e. (e.0 ≡ BadSize) ↔ (is_sized version limits.now ≡ false)) }
         ensures guest { IfErr result (λ e. e.1 ≡ guest) }
     {
-        todo
+        if !is_sized(version, limits) {
+            return Err((WorldError::BadSize, guest));
+        }
+        valid_guest(&guest);
+        match Vec::with_capacity(alloc, limits.len()) {
+            Ok(mut hosts) => {
+                add_hosts(&mut hosts, guest, limits, version);
+                Ok(World {
+                    version,
+                    hosts,
+                    sent: Vec::new(alloc),
+                })
+            }
+            Err(_) => Err((WorldError::OutOfMemory, guest)),
+        }
     }
 
     /// A world with streams of version 1 where there are two hosts, else of version 3.
@@ -75,7 +89,15 @@ impl<M: PagedMemory + Drop> World<M> {
         guest: Debugged<M>,
         limits: &[u16],
     ) -> Result<World<M>, (WorldError, Debugged<M>)>
-        // as with_version, with version_of (length limits.now) of rvm_core.specs.Hosts
+        ensures world { IfOk result (λ w. world_of w
+            ≡ new_world board (version_of (length limits.now)) guest.guest (length limits.now)
+            (limit_at limits.now)) }
+        ensures valid { OnOk result (is_valid guest.guest ≡ true) }
+        ensures shown { IfOk result (λ w. Shown (world_of w).hosts (at_start guest.guest)) }
+        ensures sized { OnOk result (is_sized (version_of (length limits.now)) limits.now ≡ true) }
+        ensures size { IfErr result (λ e. (e.0 ≡ BadSize)
+            ↔ (is_sized (version_of (length limits.now)) limits.now ≡ false)) }
+        ensures guest { IfErr result (λ e. e.1 ≡ guest) }
     {
         let version = if limits.len() == 2 { 1 } else { 3 };
         World::with_version(alloc, guest, limits, version)
@@ -115,13 +137,18 @@ impl<M: PagedMemory + Drop> World<M> {
         ensures some { IfSome result (λ bytes. bytes.now ≡ (get_or self.now.sent place no_kept).bytes) }
         ensures none { (result ≡ None) ↔ (length self.now.sent ≤ place) }
     {
-        todo
+        match self.sent.get(place) {
+            Some(sent) => Some(sent.bytes()),
+            None => None,
+        }
     }
 
     /// Some events made it of a new world.
     pub fn reached(&self)
         ensures { IsReached (world_of self.now) }
-    {}
+    {
+        let _version = self.version;
+    }
 
     /// What an event does: the reply, and the place of the frame that was made, if one was. After a
     /// refused growth nothing has changed; an event of the guest takes no memory.
@@ -138,5 +165,63 @@ impl<M: PagedMemory + Drop> World<M> {
             Event::At(host, command) => self.at(alloc, *host, command),
             Event::Deliver(place) => self.deliver(alloc, *place),
         }
+    }
+
+    /// A command at a host, as `apply` has it.
+    fn at(&mut self, alloc: Global, host: u8, command: &Command) -> Result<WorldReply, AllocError>
+        ensures reply { IfOk result (λ r. reply_of r.reply
+            ≡ reply_to board (world_of self.old) (protocol.At host (command_of command.now))) }
+        ensures next { OnOk result (world_of self.new
+            ≡ step board (world_of self.old) (protocol.At host (command_of command.now))) }
+        ensures place { IfOk result (λ r. r.frame
+            ≡ place_of (length self.old.sent) (length self.new.sent)) }
+        ensures err { OnErr result (self.new ≡ self.old) }
+        ensures memory { OnErr result (asks_memory (protocol.At host (command_of command.now)) ≡ true) }
+    {
+        if host as usize >= self.hosts.len() {
+            return Ok(refused(HostRefusal::BadHost));
+        }
+        let bound = self.hosts[host as usize].command_bound(command);
+        let bytes = make_room(alloc, &mut self.sent, bound)?;
+        let host = &mut self.hosts[host as usize];
+        let (reply, frame) = host.obey(alloc, command)?;
+        let frame = post(self.version, &mut self.sent, frame, bytes);
+        Ok(WorldReply { reply, frame })
+    }
+
+    /// A frame that was sent comes to its host, as `apply` has it.
+    fn deliver(&mut self, alloc: Global, place: u64) -> Result<WorldReply, AllocError>
+        ensures reply { IfOk result (λ r. reply_of r.reply
+            ≡ reply_to board (world_of self.old) (protocol.Deliver place)) }
+        ensures next { OnOk result (world_of self.new
+            ≡ step board (world_of self.old) (protocol.Deliver place)) }
+        ensures place { IfOk result (λ r. r.frame
+            ≡ place_of (length self.old.sent) (length self.new.sent)) }
+        ensures err { OnErr result (self.new ≡ self.old) }
+    {
+        if place >= self.sent.len() as u64 {
+            return Ok(refused(HostRefusal::NoFrame));
+        }
+        let sent = &self.sent[place as usize];
+        let from = sent.sender();
+        let to = sent.receiver();
+        let frame = sent.read(alloc, self.version)?;
+        let bound = self.hosts[to as usize].came_bound(&frame);
+        let bytes = make_room(alloc, &mut self.sent, bound)?;
+        let host = &mut self.hosts[to as usize];
+        let (reply, made) = host.came(alloc, from, &frame)?;
+        let frame = post(self.version, &mut self.sent, made, bytes);
+        Ok(WorldReply { reply, frame })
+    }
+}
+
+/// An event that is refused makes no frame.
+fn refused(why: HostRefusal) -> WorldReply
+    ensures reply { result.reply ≡ HostReply.Refused why }
+    ensures frame { result.frame ≡ None }
+{
+    WorldReply {
+        reply: HostReply::Refused(why),
+        frame: None,
     }
 }

@@ -1,0 +1,3 @@
+mod Keeping
+mod Happenings
+mod NewWorlds
