@@ -23,8 +23,8 @@ impl WorldCommand {
             b"begin" => Some(WorldCommand::Begin),
             b"move" => Some(WorldCommand::Move),
             b"copy" => Some(WorldCommand::Copy),
-            b"resend" => Some(WorldCommand::Resend),
             b"abort" => Some(WorldCommand::Abort),
+            _ if word == b"resend".as_slice() => Some(WorldCommand::Resend),
             _ => None,
         }
     }
