@@ -1,5 +1,5 @@
 -- Lines of a world's script, and texts of its replies, by the grammar.
-use Rattle.std.proofs.Common.{◌≡◌, ◌++◌, [], ◌∷◌, None, Some, codes, refl}
+use Rattle.std.proofs.Common.{◌≡◌, None, Some, codes, refl}
 use Rattle.std.specs.Fmt.{digits}
 use Rattle.rvm_debug.specs.declared.event.BoardReply.TheVariants as answer
 use Rattle.rvm_protocol.specs.Replies as reply

@@ -1,9 +1,7 @@
 -- What a line of a world's script asks for.
-use Rattle.std.specs.Prelude.{ℕ, ◌-◌, ◌==◌, ◌&&◌, nat_le, nat_lt, Bool, false, if◌then◌else◌, List, [], ◌∷◌, Option, Some, None, codes, option_map}
-use Rattle.std.specs.Option.{option_and_then}
+use Rattle.std.specs.Prelude.{ℕ, ◌-◌, ◌==◌, ◌&&◌, nat_le, nat_lt, if◌then◌else◌, List, [], ◌∷◌, Option, Some, None, codes, option_map}
 use Rattle.std.specs.Str.{bytes_eq}
 use Rattle.rvm_precopy.specs.declared.policy.Policy.{Policy}
-use Rattle.rvm_script.specs.declared.line.Line.TheVariants.{Empty}
 use Rattle.rvm_script.specs.Lines.{command_of, is_comment, numeral, one_number, statement}
 use Rattle.rvm_script.specs.Words.{words, without_return}
 use Rattle.rvm_world_line.specs.declared.command.WorldCommand.{WorldCommand}
