@@ -35,7 +35,8 @@ impl<'a> Line<'a> {
         asked(Words::new(without_return(line)))
     }
 
-    /// What a command asks for, by its name and the words behind it.
+    /// What a command asks for, by its name and the words behind it; none where they are not in the
+    /// grammar.
     pub fn named(name: &[u8], words: Words<'a>) -> Option<Line<'a>>
         ensures { result ≡ statement (command_of name.now) words.entry }
     {
@@ -143,8 +144,8 @@ fn poke<'a>(words: Words<'a>) -> Option<Line<'a>>
     Some(Line::Ask(BoardEvent::PokeMem { address, bytes }))
 }
 
-/// The number of the only word.
-fn one_number(words: Words) -> Option<u32>
+/// The number of the only word; none where there is no word, or a second, or it is no number.
+pub fn one_number(words: Words) -> Option<u32>
     ensures { result ≡ one_number words.entry }
 {
     numeral(only(words)?)

@@ -80,6 +80,8 @@ pub fn run_script<M: Memory, R: Read, W: Write>(
 }
 
 /// All that a reader gives, if it is no more than a script has.
+///
+/// `TooLong` for more than 2^26 bytes, `OutOfMemory`, and `LinkFault` where a read failed.
 pub fn read_script<R: Read>(alloc: Global, reader: &mut R) -> Result<Vec<u8>, ScriptError>
     ensures bytes { IfOk result (λ v. IfSome (R.remaining reader.old) (λ script.
         (v.items ≡ script) × (length script ≤ 2 ^ 26))) }
@@ -142,7 +144,7 @@ fn run_line<M: Memory, W: Write>(
     }
 }
 
-/// The first line of bytes, without the line feed at its end, and the bytes behind it.
+/// The first line of at least one byte, without the line feed at its end, and the bytes behind it.
 #[tactic(auto, using(crate::proofs::Reading::line_reading))]
 pub fn split_line(bytes: &[u8]) -> (&[u8], &[u8])
     requires { 0 < length bytes.now }

@@ -1,9 +1,7 @@
 -- What a line of a world's script asks for.
-use Rattle.std.specs.Prelude.{ℕ, ◌-◌, ◌==◌, ◌&&◌, nat_le, nat_lt, Bool, false, if◌then◌else◌, List, [], ◌∷◌, Option, Some, None, codes, option_map}
-use Rattle.std.specs.Option.{option_and_then}
+use Rattle.std.specs.Prelude.{ℕ, ◌-◌, ◌==◌, ◌&&◌, nat_le, nat_lt, if◌then◌else◌, List, [], ◌∷◌, Option, Some, None, codes, option_map}
 use Rattle.std.specs.Str.{bytes_eq}
 use Rattle.rvm_precopy.specs.declared.policy.Policy.{Policy}
-use Rattle.rvm_script.specs.declared.line.Line.TheVariants.{Empty}
 use Rattle.rvm_script.specs.Lines.{command_of, is_comment, numeral, one_number, statement}
 use Rattle.rvm_script.specs.Words.{words, without_return}
 use Rattle.rvm_world_line.specs.declared.command.WorldCommand.{WorldCommand}
@@ -14,9 +12,9 @@ use Rattle.rvm_world_line.specs.declared.line.WorldLine.{WorldLine}
 use Rattle.rvm_world_line.specs.declared.line.WorldLine.TheVariants as line
 
 -- the host of a letter, A to H
-abbrev pub host_of : List ℕ → Option ℕ
-host_of (b ∷ []) = if nat_le 65 b && nat_le b 72 then Some (b - 65) else None
-host_of word = None
+abbrev pub letter_host : List ℕ → Option ℕ
+letter_host (b ∷ []) = if nat_le 65 b && nat_le b 72 then Some (b - 65) else None
+letter_host word = None
 
 -- the policy of three numbers
 abbrev pub policy_if : (rounds left factor : Option ℕ) → Option Policy
@@ -24,23 +22,28 @@ policy_if (Some r) (Some l) (Some f) = Some (record { max_rounds = r; min_left =
 policy_if rounds left factor = None
 
 -- `[R L F]`: 29 rounds, 50 pages and 3 times the guest's pages, if nothing is said
-abbrev pub policy_of : List (List ℕ) → Option Policy
-policy_of [] = Some (record { max_rounds = 29; min_left = 50; factor = 3 })
-policy_of (r ∷ l ∷ f ∷ []) = policy_if (numeral r) (numeral l) (numeral f)
-policy_of ws = None
+abbrev pub policy_in : List (List ℕ) → Option Policy
+policy_in [] = Some (record { max_rounds = 29; min_left = 50; factor = 3 })
+policy_in (r ∷ l ∷ f ∷ []) = policy_if (numeral r) (numeral l) (numeral f)
+policy_in ws = None
 
 -- a target and a policy
 abbrev pub Course : Type 0
 Course = Option ℕ × Policy
 
--- `[HOST] [R L F]`; of more than two hosts the target has to be named
-abbrev pub named_course : (target : Option ℕ) → (hosts : ℕ) → (first : List ℕ) → List (List ℕ) → Option Course
-named_course (Some to) n w ws = option_map (λ p. (Some to, p)) (policy_of ws)
-named_course None n w ws = if n == 2 then option_map (λ p. (None, p)) (policy_of (w ∷ ws)) else None
+-- a move to the other host, where there are two
+abbrev pub to_the_other : (hosts : ℕ) → Option Policy → Option Course
+to_the_other n policy = if n == 2 then option_map (λ p. (None, p)) policy else None
 
+-- a first word with the host that it names, if it does, and the words behind it
+abbrev pub named_course : (hosts : ℕ) → (target : Option ℕ) → (first : List ℕ) → List (List ℕ) → Option Course
+named_course n (Some to) w ws = option_map (λ p. (Some to, p)) (policy_in ws)
+named_course n None w ws = to_the_other n (policy_in (w ∷ ws))
+
+-- `[HOST] [R L F]`; of more than two hosts the target has to be named
 abbrev pub course_of : (hosts : ℕ) → List (List ℕ) → Option Course
-course_of n [] = if n == 2 then option_map (λ p. (None, p)) (policy_of []) else None
-course_of n (w ∷ ws) = named_course (host_of w) n w ws
+course_of n [] = to_the_other n (policy_in [])
+course_of n (w ∷ ws) = named_course n (letter_host w) w ws
 
 -- the command of a move that a word names
 unfoldable pub world_command_of : List ℕ → Option WorldCommand
@@ -75,16 +78,24 @@ abbrev pub asked_at : (hosts : ℕ) → (host : Option ℕ) → List (List ℕ) 
 asked_at n host [] = None
 asked_at n host (w ∷ ws) = option_map (line.Host host) (asked_by n (world_command_of w) w ws)
 
--- a letter names a host that is there
-abbrev pub lettered : (hosts : ℕ) → (host : Option ℕ) → (first : List ℕ) → List (List ℕ) → Option WorldLine
-lettered n (Some x) w ws = if nat_lt x n then asked_at n (Some x) ws else None
-lettered n None w ws =
+-- behind the letter of a host, which has to be there
+abbrev pub behind_letter : (hosts host : ℕ) → List (List ℕ) → Option WorldLine
+behind_letter n x ws = if nat_lt x n then asked_at n (Some x) ws else None
+
+-- `deliver K`, or what the host that has the guest is asked
+abbrev pub without_letter : (hosts : ℕ) → (first : List ℕ) → List (List ℕ) → Option WorldLine
+without_letter n w ws =
     if bytes_eq w (codes "deliver") then option_map line.Deliver (one_number ws) else asked_at n None (w ∷ ws)
+
+-- a first word with the host that it names, if it does, and the words behind it
+abbrev pub lettered : (hosts : ℕ) → (host : Option ℕ) → (first : List ℕ) → List (List ℕ) → Option WorldLine
+lettered n (Some x) w ws = behind_letter n x ws
+lettered n None w ws = without_letter n w ws
 
 -- what words ask for in a world of so many hosts; none, if they are no line
 abbrev pub world_asked : (hosts : ℕ) → List (List ℕ) → Option WorldLine
 world_asked n [] = Some line.Empty
-world_asked n (w ∷ ws) = if is_comment w then Some line.Empty else lettered n (host_of w) w ws
+world_asked n (w ∷ ws) = if is_comment w then Some line.Empty else lettered n (letter_host w) w ws
 
 -- what a line asks for; none, if it is not in the grammar
 unfoldable pub world_line_of : (hosts : ℕ) → List ℕ → Option WorldLine

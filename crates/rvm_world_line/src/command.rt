@@ -19,13 +19,18 @@ impl WorldCommand {
     pub fn named(word: &[u8]) -> Option<WorldCommand>
         ensures { result ≡ world_command_of word.now }
     {
-        match word {
-            b"begin" => Some(WorldCommand::Begin),
-            b"move" => Some(WorldCommand::Move),
-            b"copy" => Some(WorldCommand::Copy),
-            b"resend" => Some(WorldCommand::Resend),
-            b"abort" => Some(WorldCommand::Abort),
-            _ => None,
+        if word == b"begin".as_slice() {
+            Some(WorldCommand::Begin)
+        } else if word == b"move".as_slice() {
+            Some(WorldCommand::Move)
+        } else if word == b"copy".as_slice() {
+            Some(WorldCommand::Copy)
+        } else if word == b"resend".as_slice() {
+            Some(WorldCommand::Resend)
+        } else if word == b"abort".as_slice() {
+            Some(WorldCommand::Abort)
+        } else {
+            None
         }
     }
 }
