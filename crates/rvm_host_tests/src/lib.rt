@@ -1,4 +1,4 @@
-//! Tests of hosts, of what no clause says: that each event that takes memory succeeds, also after it
+//! Tests of hosts and worlds, of what no clause says: that each event that takes memory succeeds, also after it
 //! was refused memory (`rt try --test --fail-alloc N` refuses the growth N of each test), and worked
 //! moves from their first frame to their last.
 //!
@@ -7,7 +7,7 @@
 //!
 //! `hosts` plays events on hosts, `replies` writes a reply as a name and numbers, `frames` makes a frame
 //! of each kind, `moves` are worked moves, `modes` has each command and each kind of frame in each mode,
-//! and `strangers` are frames that hosts do not wait for.
+//! `strangers` are frames that hosts do not wait for, and `worlds` are lists of events and driven moves.
 #![tactic(auto)]
 
 #[cfg(test)]
@@ -22,3 +22,5 @@ mod moves;
 mod replies;
 #[cfg(test)]
 mod strangers;
+#[cfg(test)]
+mod worlds;

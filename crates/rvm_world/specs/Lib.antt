@@ -1,5 +1,5 @@
 pub mod Refusals
 pub mod Worlds
 pub mod NeverMoved
-
--- pub mod Driving
+pub mod Driving
+pub mod Phases

@@ -1,6 +1,6 @@
 //! A world of hosts.
 
-ghost use Rattle.std.specs.Prelude.{◌≡◌, ◌↔◌, ◌≤◌, length, get_or, true, false, IfOk, IfErr, OnOk, OnErr, IfSome, None};
+ghost use Rattle.std.specs.Prelude.{◌≡◌, ◌^◌, ◌↔◌, ◌<◌, ◌≤◌, length, get_or, true, false, IfOk, IfErr, OnOk, OnErr, IfSome, None};
 ghost use Rattle.rvm_core.specs.Hosts.{version_of};
 ghost use Rattle.rvm_guest.proofs.TheGuest.{board};
 ghost use Rattle.rvm_guest.specs.Valid.{is_valid};
@@ -117,17 +117,10 @@ impl<M: PagedMemory + Drop> World<M> {
         self.hosts.len() as u8
     }
 
-    /// The host that has the guest, running or paused: the target of the last move that was committed, at
-    /// first host 0.
-    pub fn current(&self) -> u8
-        ensures { (t : Told Guest) → Shown (world_of self.now).hosts t → result ≡ t.current }
-    {
-        todo
-    }
-
     /// How many frames were sent.
     pub fn sent(&self) -> usize
-        ensures { result ≡ length self.now.sent }
+        ensures count { result ≡ length self.now.sent }
+        ensures room { result < 2 ^ 63 }
     {
         self.sent.len()
     }
