@@ -1,5 +1,6 @@
 //! Hosts: each reply, frame and next host is what the law of live migration says of this host and
-//! this event alone.
+//! this event alone. Each frame can be sent to another host, and how long it is at most is known
+//! before the event.
 //!
 //! Stands on `rvm_source`, `rvm_handover` and `rvm_message`, and knows nothing of worlds, threads or
 //! links.
