@@ -7,16 +7,16 @@
 //! To be read in this order: `event`, `error`, `sent`, `hosts`, `world`, `run`, `drive`.
 #![tactic(auto)]
 
-// mod drive;
+mod drive;
 mod error;
 mod event;
 mod hosts;
-// mod run;
+mod run;
 mod sent;
 mod world;
 
-// pub use drive::{Driven, drive_move};
+pub use drive::{Driven, drive_move};
 pub use error::WorldError;
 pub use event::{Event, WorldReply};
-// pub use run::run_world;
+pub use run::run_world;
 pub use world::World;
