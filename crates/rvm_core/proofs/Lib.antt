@@ -3,5 +3,4 @@ mod Hearing
 mod Settling
 mod Sendings
 mod Moves
-
 mod Postings

@@ -1,5 +1,5 @@
 -- A frame that can be sent, with the address that its host gives it.
-use Rattle.std.proofs.Common.{◌≡◌, ℕ, ◌+◌, ◌<◌, ◌≤◌, ◌==◌, Bool, true, false, not, ◌&&◌, ◌||◌, nat_lt, if◌then◌else◌, List, ◌++◌, length, length-append, Option, Some, None, refl, sym, ap, subst, ◌∙◌, arith}
+use Rattle.std.proofs.Common.{◌≡◌, ℕ, ◌+◌, ◌<◌, ◌≤◌, ◌==◌, Bool, true, false, not, ◌&&◌, ◌||◌, nat_lt, if◌then◌else◌, ◌++◌, length, length-append, Option, Some, None, refl, sym, ap, subst, arith}
 use Rattle.std.specs.Prelude.{is_some}
 use Rattle.std.proofs.lemmas.Bool.Decides.{nat_tests}
 use Rattle.byteorder.specs.Endian.{little_bytes}
@@ -9,7 +9,7 @@ use Rattle.rvm_frame.specs.declared.addressed.Addressed.{Addressed}
 use Rattle.rvm_frame.specs.declared.frame.Frame.{Frame}
 use Rattle.rvm_frame.specs.declared.kind.Kind.{Kind}
 use Rattle.rvm_frame.specs.declared.kind.Kind.TheVariants as kind
-use Rattle.rvm_frame.specs.Grammar.{HasSpelling, MayStand, Received, body_of, hosts_bytes, known_at, sent, spelling}
+use Rattle.rvm_frame.specs.Grammar.{HasSpelling, MayStand, Received, body_of, hosts_bytes, sent, spelling}
 use Rattle.rvm_frame.specs.Kinds.{byte_of, header_len, hosts_fit, kind_of, move_of, names_hosts, stands}
 use Rattle.rvm_message.specs.Events.{BoardHostEvent}
 use Rattle.rvm_message.specs.Frames.{BoardFrame}
@@ -17,13 +17,13 @@ use Rattle.rvm_message.specs.Sendable.{CanBeSent, IsSendable}
 use Rattle.rvm_message.specs.declared.reply.HostReply.{HostReply}
 use Rattle.rvm_protocol.specs.Frames as frames
 use Rattle.rvm_protocol.specs.Host.{is_there}
-use Rattle.rvm_core.specs.Bounds.{CanBePosted, HasNumber, IsHost, IsPosted, IsShort, KeepsMove, addressed, came_body, event_body, frame_bound, with_header}
+use Rattle.rvm_core.specs.Bounds.{CanBePosted, IsHost, IsPosted, IsShort, addressed, came_body, event_body, frame_bound, with_header}
 use Rattle.rvm_core.specs.Hosts.{PlainHost, Steps, is_sized}
-use Rattle.rvm_core.specs.Modes.{PlainMode, Empty, Run, Leaving, Given, Staging, Held}
 use Rattle.rvm_core.proofs.Moves.{Goes, host_reaches}
 
 -- behind Hello the version is known
-known : (version : ℕ) (k : Kind) → stands (Some version) k ≡ true → (if byte_of k == 0 then None else Some version) ≡ Some version
+known : (version : ℕ) (k : Kind) → stands (Some version) k ≡ true
+    → (if byte_of k == 0 then None else Some version) ≡ Some version
 known version kind.Hello is = absurd cc
 known version kind.Offer is = refl
 known version kind.Accept is = refl
@@ -47,21 +47,33 @@ named_some : (names : Bool) (from to : ℕ) → ◌≡◌ {A = Bool} (is_some (n
 named_some true from to = refl
 named_some false from to = refl
 
-named_fit : (names : Bool) (from to : ℕ) → from < 8 → to < 8 → (to == from) ≡ false → hosts_fit (named names from to) ≡ true
+named_fit : (names : Bool) (from to : ℕ) → from < 8 → to < 8 → (to == from) ≡ false
+    → hosts_fit (named names from to) ≡ true
 named_fit false from to a b apart = refl
 named_fit true from to a b apart = grind (arith, nat_tests)
 
-header_length : (names : Bool) (from to : ℕ) → 1 + (length (hosts_bytes (named names from to)) + (8 + 4)) ≡ header_len names
+header_length : (names : Bool) (from to : ℕ)
+    → 1 + (length (hosts_bytes (named names from to)) + (8 + 4)) ≡ header_len names
 header_length true from to = refl
 header_length false from to = refl
 
-length_spelled : (names : Bool) (from to : ℕ) (f : Frame) → length (spelling (named names from to, f)) ≡ header_len names + length (body_of f)
+length_spelled : (names : Bool) (from to : ℕ) (f : Frame)
+    → length (spelling (named names from to, f)) ≡ header_len names + length (body_of f)
 length_spelled names from to f =
-    let move_bytes = little_bytes 8 (move_of f) in
-    let length_bytes = little_bytes 4 (length (body_of f)) in
-    let eight : length move_bytes ≡ 8 = refl in
-    let four : length length_bytes ≡ 4 = refl in
-    omega (arith, eight, four, header_length names from to, length-append (hosts_bytes (named names from to)) (move_bytes ++ (length_bytes ++ body_of f)), length-append move_bytes (length_bytes ++ body_of f), length-append length_bytes (body_of f))
+    let hosts = hosts_bytes (named names from to) in
+    let number = little_bytes 8 (move_of f) in
+    let size = little_bytes 4 (length (body_of f)) in
+    let eight : length number ≡ 8 = refl in
+    let four : length size ≡ 4 = refl in
+    omega (
+      arith,
+      eight,
+      four,
+      header_length names from to,
+      length-append hosts (number ++ (size ++ body_of f)),
+      length-append number (size ++ body_of f),
+      length-append size (body_of f),
+    )
 
 -- what the limits of a host say
 pub record Sizes (id count limit version : ℕ) : Type 0 where
@@ -73,9 +85,10 @@ pub record Sizes (id count limit version : ℕ) : Type 0 where
 
 pub sizes : (id count limit version : ℕ) → is_sized id count limit version ≡ true → Sizes id count limit version
 sizes id count limit version is =
-    let a = both_are (within 2 8 count) (nat_lt id count && (within 1 4096 limit && (version == 3 || (count == 2 && within 1 2 version)))) is in
-    let b = both_are (nat_lt id count) (within 1 4096 limit && (version == 3 || (count == 2 && within 1 2 version))) a.1 in
-    let c = both_are (within 1 4096 limit) (version == 3 || (count == 2 && within 1 2 version)) b.1 in
+    let versions = version == 3 || (count == 2 && within 1 2 version) in
+    let a = both_are (within 2 8 count) (nat_lt id count && (within 1 4096 limit && versions)) is in
+    let b = both_are (nat_lt id count) (within 1 4096 limit && versions) a.1 in
+    let c = both_are (within 1 4096 limit) versions b.1 in
     record {
       few = grind (arith, nat_tests, a.0);
       below = grind (arith, nat_tests, b.0);
@@ -93,7 +106,8 @@ module _ (h : PlainHost) (ok : IsHost h) where
   is_posted to n f there so short =
       let names = names_hosts (Some h.version) in
       let x : Received = (named names h.id to, f) in
-      let is : sent h.version (record { from = h.id; to = to; frame = f }) ≡ x = ap (λ (v : Option ℕ). (named (names_hosts v) h.id to, f)) (known h.version (kind_of f) so.stands) in
+      let is : sent h.version (record { from = h.id; to = to; frame = f }) ≡ x =
+      ap (λ (v : Option ℕ). (named (names_hosts v) h.id to, f)) (known h.version (kind_of f) so.stands) in
       let a = both_are (nat_lt to h.count) (not (to == h.id)) there in
       let low : to < h.count = grind (arith, nat_tests, a.0) in
       let few = sized.few in
@@ -102,32 +116,37 @@ module _ (h : PlainHost) (ok : IsHost h) where
         from = refl;
         to = there;
         spelled = subst HasSpelling (sym is) (record {
-          hosts = named_fit names h.id to (omega (arith, few, below)) (omega (arith, few, low)) (apart (to == h.id) a.1);
+          hosts = named_fit names h.id to (omega (arith, few, below)) (omega (arith, few, low))
+              (apart (to == h.id) a.1);
           move_number = so.move_number;
           body = so.body;
           body_length = omega (arith, so.body_length, short);
         });
         stands = subst (MayStand (Some h.version)) (sym is) (so.stands, named_some names h.id to);
-        short = subst (λ (y : Received). length (spelling y) ≤ header_len names + n) (sym is) (omega (arith, so.body_length, length_spelled names h.id to f));
+        short = subst (λ (y : Received). length (spelling y) ≤ header_len names + n) (sym is)
+            (omega (arith, so.body_length, length_spelled names h.id to f));
       }
     where
       apart : (b : Bool) → not b ≡ true → b ≡ false
       apart false is = refl
       apart true is = sym is
 
-  posted_if : (to : ℕ) (body : Option ℕ) (made : Option Frame) → Goes h.id h.count (addressed h.id to made) → IsShort body → CanBeSent h.version body made
+  posted_if : (to : ℕ) (body : Option ℕ) (made : Option Frame) → Goes h.id h.count (addressed h.id to made)
+      → IsShort body → CanBeSent h.version body made
       → CanBePosted h (with_header h.version body) (addressed h.id to made)
   posted_if to body None there short so = tt
   posted_if to None (Some f) there short so = absurd so
   posted_if to (Some n) (Some f) there short so = is_posted to n f there (so sized.version_fits) short
 
   -- the frame of an event
-  pub host_posts : (new : PlainHost) (e : BoardHostEvent) (answer : HostReply × Option Addressed) (to : ℕ) (made : Option Frame) → Steps h e answer new → answer.1 ≡ addressed h.id to made
-      → IsShort (event_body h e) → CanBeSent h.version (event_body h e) made → CanBePosted h (frame_bound h e) answer.1
+  pub host_posts : (new : PlainHost) (e : BoardHostEvent) (answer : HostReply × Option Addressed) (to : ℕ)
+      (made : Option Frame) → Steps h e answer new → answer.1 ≡ addressed h.id to made → IsShort (event_body h e)
+      → CanBeSent h.version (event_body h e) made → CanBePosted h (frame_bound h e) answer.1
   host_posts new e answer to made does is short so =
-      subst (CanBePosted h (frame_bound h e)) (sym is)
-      (posted_if to (event_body h e) made (subst (Goes h.id h.count) is (host_reaches h ok new e answer does)) short so)
+      let there = subst (Goes h.id h.count) is (host_reaches h ok new e answer does) in
+      subst (CanBePosted h (frame_bound h e)) (sym is) (posted_if to (event_body h e) made there short so)
 
+-- an answer to a frame is short
 pub came_short : (f : BoardFrame) → IsShort (came_body f)
 came_short (frames.Offer n pages harts) = omega arith
 came_short (frames.State n numbers state) = omega arith
@@ -135,11 +154,3 @@ came_short (frames.Part n stamp part parts bytes) = omega arith
 came_short (frames.Ready n) = omega arith
 came_short (frames.Go n) = omega arith
 came_short f = tt
-
-pub has_number : (id count partner : ℕ) (mode : PlainMode) → KeepsMove id count partner mode → HasNumber mode
-has_number id count partner (Empty n) is = tt
-has_number id count partner (Run n g) is = tt
-has_number id count partner (Leaving s) is = tt
-has_number id count partner (Given n) is = is.0
-has_number id count partner (Staging n s) is = tt
-has_number id count partner (Held n g) is = is.0

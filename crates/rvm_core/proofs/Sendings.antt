@@ -1,5 +1,5 @@
 -- Frames that can be sent.
-use Rattle.std.proofs.Common.{◌≡◌, ℕ, ◌-◌, ◌^◌, ◌<◌, ◌≤◌, true, if◌then◌else◌, List, length, Option, None, Some, Result, ap, sym, subst, ◌∙◌, arith}
+use Rattle.std.proofs.Common.{◌≡◌, ℕ, ◌-◌, ◌^◌, ◌<◌, ◌≤◌, true, if◌then◌else◌, List, length, Option, Some, Result, ap, sym, subst, ◌∙◌, arith}
 use Rattle.std.specs.Prelude.{IfOk}
 use Rattle.std.specs.declared.alloc.AllocError.{AllocError}
 use Rattle.std.proofs.lemmas.Bool.Decides.{nat_tests}
@@ -40,7 +40,8 @@ frame_is {f = f} is come = ap (λ b. if b then frame_of f else no_frame) (sym co
 
 -- an answer to a frame
 module _ {f x : Frame} (is : f ≡ x) (come : true ≡ can_come f) where
-  pub answer_sent : (version : ℕ) (a : Option Frame) → CanBeSent version (came_body (frame_of x)) a → CanBeSent version (came_body (frame_heard f)) a
+  pub answer_sent : (version : ℕ) (a : Option Frame) → CanBeSent version (came_body (frame_of x)) a
+      → CanBeSent version (came_body (frame_heard f)) a
   answer_sent version a so = subst (λ (h : BoardFrame). CanBeSent version (came_body h) a) (sym (frame_is is come)) so
 
   pub if_answer_sent : (r : Result (HostReply × Option Frame) AllocError)

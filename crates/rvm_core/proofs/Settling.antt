@@ -1,11 +1,10 @@
 -- From the answer of a mode to the step of its host.
-use Rattle.std.proofs.Common.{◌≡◌, ℕ, Bool, true, false, ◌&&◌, not, if◌then◌else◌, List, Option, None, refl, sym, ap, subst, ◌∙◌}
-use Rattle.rvm_debug.specs.declared.event.BoardEvent.{BoardEvent}
+use Rattle.std.proofs.Common.{◌≡◌, ℕ, Bool, true, false, ◌&&◌, not, if◌then◌else◌, Option, None, refl, sym, ap, subst, ◌∙◌}
 use Rattle.rvm_debug.specs.declared.event.BoardReply.{BoardReply}
 use Rattle.rvm_frame.specs.declared.addressed.Addressed.{Addressed}
 use Rattle.rvm_frame.specs.declared.frame.Frame.{Frame}
 use Rattle.rvm_guest.proofs.TheGuest.{board}
-use Rattle.rvm_message.specs.Answers.{Answers, BoardMode, BoardOutcome}
+use Rattle.rvm_message.specs.Answers.{Answers, BoardOutcome}
 use Rattle.rvm_message.specs.Events.{BoardHostEvent, command_of}
 use Rattle.rvm_message.specs.declared.event.Command.{Command}
 use Rattle.rvm_message.specs.declared.event.Command.TheVariants as command

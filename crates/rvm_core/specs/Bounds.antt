@@ -1,5 +1,5 @@
 -- How many bytes the frame that a host makes of an event has at most, and that it has a spelling.
-use Rattle.std.specs.Prelude.{◌≡◌, ℕ, ◌+◌, ◌<◌, ◌≤◌, true, List, Option, Some, None, length}
+use Rattle.std.specs.Prelude.{◌≡◌, ℕ, ◌+◌, ◌<◌, ◌≤◌, true, Option, Some, None, length}
 use Rattle.rvm_debug.specs.declared.event.BoardEvent.{BoardEvent}
 use Rattle.rvm_frame.specs.declared.addressed.Addressed.{Addressed}
 use Rattle.rvm_frame.specs.declared.frame.Frame.{Frame}
@@ -56,7 +56,7 @@ with_header version (Some n) = header_len (names_hosts (Some version)) + n
 abbrev pub frame_bound : PlainHost → BoardHostEvent → ℕ
 frame_bound h e = with_header h.version (event_body h e)
 
--- no body is longer than a stream may have it
+-- no body is longer than that of any frame
 abbrev pub IsShort : Option ℕ → Type 0
 IsShort None = Unit {0}
 IsShort (Some n) = n ≤ 32768

@@ -1,6 +1,5 @@
 -- A host: as plain values, and as the law of live migration has it.
 use Rattle.std.specs.Prelude.{◌≡◌, ℕ, ◌==◌, Bool, ◌&&◌, ◌||◌, nat_lt, if◌then◌else◌, List, Option, Some, None}
-use Rattle.rvm_debug.specs.declared.event.BoardEvent.{BoardEvent}
 use Rattle.rvm_debug.specs.declared.event.BoardReply.{BoardReply}
 use Rattle.rvm_debug.specs.Guest.{Guest, GuestState}
 use Rattle.rvm_codec.specs.Numbers.{within}

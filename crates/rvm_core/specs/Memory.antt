@@ -1,9 +1,9 @@
 -- Which events of a host may ask for memory. The others succeed or are refused, whatever memory there is.
-use Rattle.std.specs.Prelude.{ℕ, Bool, true, false, List}
+use Rattle.std.specs.Prelude.{Bool, true, false}
 use Rattle.rvm_debug.specs.declared.event.BoardEvent.{BoardEvent}
 use Rattle.rvm_message.specs.Events.{BoardHostEvent}
 use Rattle.rvm_message.specs.Frames.{BoardFrame}
-use Rattle.rvm_protocol.specs.Commands.{Command, Board, Begin, Copy, Resend, AbortMove, Do, Came}
+use Rattle.rvm_protocol.specs.Commands.{Command, Begin, Copy, Resend, Do, Came}
 use Rattle.rvm_protocol.specs.Frames.{Offer, Lost, State, Part}
 
 -- a command

@@ -17,8 +17,9 @@ const OFFER: usize = 3;
 const REFUSE: usize = 2;
 /// The body of a Lost that tells 4096 pages, and so of any answer to a state.
 const LOST: usize = 2 + 2 * 4096;
-/// A header, and one that names the hosts that the frame goes between, as those of version 3 do.
+/// A header.
 const HEADER: usize = 13;
+/// A header that names the hosts that the frame goes between, as those of version 3 do.
 const HEADER_WITH_HOSTS: usize = 15;
 
 impl<M: PagedMemory + Drop> Mode<M> {

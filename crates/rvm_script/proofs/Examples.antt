@@ -1,8 +1,7 @@
 -- Words and lines of scripts, and texts of answers, by the grammar.
-use Rattle.std.proofs.Common.{◌≡◌, ◌++◌, [], ◌∷◌, true, None, Some, codes, replicate, refl}
+use Rattle.std.proofs.Common.{◌≡◌, [], ◌∷◌, None, Some, codes, replicate, refl}
 use Rattle.hex.specs.Hex.{encode_with}
 use Rattle.rvm_dis.specs.Pieces.{hex_digits}
-use Rattle.rvm_debug.specs.declared.event.BoardEvent.TheVariants as event
 use Rattle.rvm_script.specs.declared.line.Line.TheVariants as line
 use Rattle.rvm_script.specs.Answers.{output_text, row_text}
 use Rattle.rvm_script.specs.HexBytes.{bytes_in, hex_of}

@@ -56,7 +56,7 @@ impl fmt::Display for Named {
 
 /// An answer, shown in words; nothing for bytes, registers and words of RAM.
 #[derive(Clone, Copy)]
-struct InWords<'a>(&'a BoardReply);
+pub struct InWords<'a>(pub &'a BoardReply);
 
 impl<'a> fmt::Display for InWords<'a> {
     ghost use Rattle.std.specs.Prelude.{Some};
@@ -114,7 +114,7 @@ pub fn address_of(event: &BoardEvent) -> Option<u32>
 }
 
 /// Writes the answer to an event that is no step; its bytes are those of RAM from an address on,
-/// if there is one.
+/// if there is one, which is what `address_of` says of the event.
 pub fn write_reply<W: Write>(
     writer: &mut W,
     address: Option<u32>,

@@ -29,7 +29,7 @@ impl<'a> Model for HexText<'a> {
 }
 
 impl<'a> HexText<'a> {
-    /// The bytes of a word that is an even number, at least two, of digits.
+    /// The bytes of a word that is an even number, at least two, of digits; none of another word.
     #[tactic(auto, unfolding(crate::specs::HexBytes::hex_of))]
     pub fn new(word: &'a [u8]) -> Option<HexText<'a>>
         ensures { result ≡ hex_of word.now }
@@ -55,7 +55,7 @@ impl<'a> HexText<'a> {
         }
     }
 
-    /// The bytes in place, if they are at most 256.
+    /// The bytes in place; none where they are more than 256.
     pub fn view(self) -> Option<View>
         ensures { result ≡ small self.entry }
     {

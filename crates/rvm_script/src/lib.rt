@@ -2,7 +2,8 @@
 //! answers.
 //!
 //! Stands on `rvm_debug` for what events do, on `rvm_text` for numbers and names, and on `rvm_dis`
-//! for the text of a word. It knows nothing of files, processes or hosts.
+//! for the text of a word. It knows nothing of files, processes or hosts. What reads words and lines
+//! and what writes answers is public, for scripts that have lines of more kinds.
 //!
 //! To be read in this order: `words`, `hex_text`, `command`, `line`, `answers`, `lines`, `script`.
 #![tactic(auto)]
@@ -15,4 +16,8 @@ mod lines;
 mod script;
 mod words;
 
-pub use script::{MAX_SCRIPT_SIZE, ScriptError, run_script};
+pub use answers::{InWords, address_of, is_refused, write_reply, write_steps};
+pub use hex_text::HexText;
+pub use line::{Line, one_number, without_return};
+pub use script::{MAX_SCRIPT_SIZE, ScriptError, read_script, run_script, split_line};
+pub use words::{Words, numeral};

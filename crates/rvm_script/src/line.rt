@@ -2,7 +2,7 @@
 
 ghost use Rattle.std.specs.Prelude.{◌≡◌, MatchOption, Some, None};
 ghost use Rattle.rvm_script.specs.Words.{words, without_return};
-ghost use Rattle.rvm_script.specs.Lines.{asked, commanded, count_of, line_of, mem_line, one_hex, one_number, only, poke_line, reg_line, step_line};
+ghost use Rattle.rvm_script.specs.Lines.{asked, command_of, commanded, count_of, line_of, mem_line, one_hex, one_number, only, poke_line, reg_line, statement, step_line};
 
 use crate::command::Command;
 use crate::hex_text::HexText;
@@ -34,11 +34,19 @@ impl<'a> Line<'a> {
     {
         asked(Words::new(without_return(line)))
     }
+
+    /// What a command asks for, by its name and the words behind it; none where they are not in the
+    /// grammar.
+    pub fn named(name: &[u8], words: Words<'a>) -> Option<Line<'a>>
+        ensures { result ≡ statement (command_of name.now) words.entry }
+    {
+        commanded(Command::named(name)?, words)
+    }
 }
 
 /// A line without the carriage return at its end.
 #[tactic(auto, using(crate::proofs::Reading::short_line))]
-fn without_return(line: &[u8]) -> &[u8]
+pub fn without_return(line: &[u8]) -> &[u8]
     ensures { result.now ≡ without_return line.now }
 {
     match line {
@@ -54,7 +62,7 @@ fn asked<'a>(words: Words<'a>) -> Option<Line<'a>>
     let mut words = words;
     match words.next() {
         None | Some([b'#', ..]) => Some(Line::Empty),
-        Some(name) => commanded(Command::named(name)?, words),
+        Some(name) => Line::named(name, words),
     }
 }
 
@@ -136,8 +144,8 @@ fn poke<'a>(words: Words<'a>) -> Option<Line<'a>>
     Some(Line::Ask(BoardEvent::PokeMem { address, bytes }))
 }
 
-/// The number of the only word.
-fn one_number(words: Words) -> Option<u32>
+/// The number of the only word; none where there is no word, or a second, or it is no number.
+pub fn one_number(words: Words) -> Option<u32>
     ensures { result ≡ one_number words.entry }
 {
     numeral(only(words)?)

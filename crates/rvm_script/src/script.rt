@@ -80,7 +80,9 @@ pub fn run_script<M: Memory, R: Read, W: Write>(
 }
 
 /// All that a reader gives, if it is no more than a script has.
-fn read_script<R: Read>(alloc: Global, reader: &mut R) -> Result<Vec<u8>, ScriptError>
+///
+/// `TooLong` for more than 2^26 bytes, `OutOfMemory`, and `LinkFault` where a read failed.
+pub fn read_script<R: Read>(alloc: Global, reader: &mut R) -> Result<Vec<u8>, ScriptError>
     ensures bytes { IfOk result (λ v. IfSome (R.remaining reader.old) (λ script.
         (v.items ≡ script) × (length script ≤ 2 ^ 26))) }
     ensures refused { IfErr result (λ e. IsReadError (R.remaining reader.old) e) }
@@ -142,9 +144,9 @@ fn run_line<M: Memory, W: Write>(
     }
 }
 
-/// The first line of bytes, without the line feed at its end, and the bytes behind it.
+/// The first line of at least one byte, without the line feed at its end, and the bytes behind it.
 #[tactic(auto, using(crate::proofs::Reading::line_reading))]
-fn split_line(bytes: &[u8]) -> (&[u8], &[u8])
+pub fn split_line(bytes: &[u8]) -> (&[u8], &[u8])
     requires { 0 < length bytes.now }
     ensures lines { lines bytes.now ≡ result.0.now ∷ lines result.1.now }
     ensures shorter { length result.1.now < length bytes.now }

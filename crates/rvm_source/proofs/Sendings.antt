@@ -94,8 +94,9 @@ part_can_be_sent : (version m stamp turn parts : ℕ) (bytes : List ℕ) → 2 �
     → CanBeSent version (Some 4102) (Some (frame.Part m stamp turn parts bytes))
 part_can_be_sent version m stamp turn parts bytes new some_move small_move some_stamp small_stamp there few piece =
     let short : length bytes ≤ 4096 = grind (arith, nat_tests, piece) in
-    let place = and_so (within 0 5 turn) (within 1 6 parts) (in_limits 0 5 turn (omega arith) (omega (arith, there, few)))
-        (in_limits 1 6 parts (omega (arith, there)) few) in
+    let place = and_so (within 0 5 turn) (within 1 6 parts)
+    (in_limits 0 5 turn (omega arith) (omega (arith, there, few)))
+    (in_limits 1 6 parts (omega (arith, there)) few) in
     λ known. record {
       stands = from_2 version new known;
       move_number = move_fits m some_move small_move;
@@ -138,7 +139,7 @@ state_is_sent version m numbers state f r old some_move small_move is short same
     let size : length numbers ≡ length r.to_send = ap length same ∙ plan.newest in
     let pages : length r.to_send ≤ 4096 = plan.few in
     let sent = state_can_be_sent m numbers state some_move small_move (omega (arith, size, some))
-        (omega (arith, size, pages)) (each_copy r c copied some numbers same plan few) short in
+    (omega (arith, size, pages)) (each_copy r c copied some numbers same plan few) short in
     subst (λ v. CanBeSent v (Some (state_frame_bound v (length r.to_send))) (Some f)) (sym one)
     (subst (λ x. CanBeSent 1 (Some (state_bound (length r.to_send))) (Some x)) (sym is)
     (subst (λ n. CanBeSent 1 (Some (state_bound n)) (Some (frame.State m numbers state))) size sent))
@@ -149,7 +150,8 @@ pub piece_is_sent : (version m stamp turn parts : ℕ) (numbers state bytes : Li
     → m < 2 ^ 64 → stamp < 2 ^ 32 → stamp ≡ r.copies → numbers ≡ r.newest → 0 < length r.to_send → CoversLast r
     → last_found r ≡ None → turn < length (cut r.newest state) → parts ≡ length (cut numbers state)
     → bytes ≡ get_or (cut numbers state) turn [] → parts ≤ 6
-    → CanBeSent version (Some (state_frame_bound version (length r.to_send))) (Some (frame.Part m stamp turn parts bytes))
+    → CanBeSent version (Some (state_frame_bound version (length r.to_send)))
+    (Some (frame.Part m stamp turn parts bytes))
 piece_is_sent version m stamp turn parts numbers state bytes r new some_move small_move small_stamp stamped same some c
     copied there count is few =
     let whole : length (cut numbers state) ≡ length (cut r.newest state) = ap (λ ns. length (cut ns state)) same in

@@ -317,8 +317,7 @@ impl<M: PagedMemory> Source<M> {
 /// The frame that offers a guest.
 fn offer_frame<M: PagedMemory>(move_number: u64, guest: &Debugged<M>) -> Frame
     requires { 0 < move_number }
-    ensures frame { frame_of result
-        ≡ obeying.offer_frame board move_number guest.now.guest }
+    ensures frame { frame_of result ≡ obeying.offer_frame board move_number guest.now.guest }
     ensures sent { (version : ℕ) → CanBeSent version (Some 3) (Some result) }
 {
     let _size = guest.memory().len();

@@ -1,3 +1,11 @@
 mod Keeping
 mod Happenings
 mod NewWorlds
+mod Runs
+mod Laws
+mod Drives
+mod FirstRound
+mod Sending
+mod Opening
+mod Moves
+mod Endings

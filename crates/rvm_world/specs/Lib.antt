@@ -2,3 +2,4 @@ pub mod Refusals
 pub mod Worlds
 pub mod NeverMoved
 pub mod Driving
+pub mod Phases

@@ -36,6 +36,7 @@ pub fn run_world<M: PagedMemory + Drop>(
         → FramesAreTrue start (world_of world.old) (map meant events.now)) }
     ensures err { OnErr result (IsPartOf (map meant events.now) (world_of world.old) (world_of world.new)) }
 {
+    world.reached();
     let mut replies = Vec::new(alloc);
     for event in events {
         replies.reserve(1)?;

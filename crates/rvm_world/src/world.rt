@@ -1,6 +1,6 @@
 //! A world of hosts.
 
-ghost use Rattle.std.specs.Prelude.{◌≡◌, ◌↔◌, ◌≤◌, length, get_or, true, false, IfOk, IfErr, OnOk, OnErr, IfSome, None};
+ghost use Rattle.std.specs.Prelude.{◌≡◌, ◌^◌, ◌↔◌, ◌<◌, ◌≤◌, length, get_or, true, false, IfOk, IfErr, OnOk, OnErr, IfSome, None};
 ghost use Rattle.rvm_core.specs.Hosts.{version_of};
 ghost use Rattle.rvm_guest.proofs.TheGuest.{board};
 ghost use Rattle.rvm_guest.specs.Valid.{is_valid};
@@ -119,7 +119,8 @@ impl<M: PagedMemory + Drop> World<M> {
 
     /// How many frames were sent.
     pub fn sent(&self) -> usize
-        ensures { result ≡ length self.now.sent }
+        ensures count { result ≡ length self.now.sent }
+        ensures room { result < 2 ^ 63 }
     {
         self.sent.len()
     }

@@ -1,4 +1,4 @@
-use Rattle.std.proofs.Common.{sym, subst, Option, ◌≡◌}
+use Rattle.std.proofs.Common.{subst}
 use Rattle.rvm_handover.specs.Pieces.{PartCanBeTold}
 use Rattle.rvm_core.proofs.Sendings.{lost_sent}
 use Rattle.rvm_core.proofs.target.not_joined.Goals as goal

@@ -1,4 +1,4 @@
-use Rattle.std.proofs.Common.{◌≡◌, ◌&&◌, Option, true, false, ◌∙◌, ap, sym, refl, subst, arith}
+use Rattle.std.proofs.Common.{◌≡◌, ◌&&◌, Option, false, ◌∙◌, ap, sym, refl, subst, arith}
 use Rattle.std.specs.Prelude.{not}
 use Rattle.rvm_frame.specs.declared.frame.Frame.{Frame}
 use Rattle.rvm_message.specs.Events.{BoardHostEvent}

@@ -1,4 +1,4 @@
-use Rattle.std.proofs.Common.{◌≡◌, ℕ, Option, true, ◌∙◌, ap, sym, refl, subst}
+use Rattle.std.proofs.Common.{Option, ◌∙◌, ap, sym, refl, subst}
 use Rattle.rvm_frame.specs.declared.frame.Frame.{Frame}
 use Rattle.rvm_guest.proofs.TheGuest.{board}
 use Rattle.rvm_message.specs.Events.{BoardHostEvent}

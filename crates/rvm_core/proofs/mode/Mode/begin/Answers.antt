@@ -1,4 +1,4 @@
-use Rattle.std.proofs.Common.{◌≡◌, ℕ, sym, subst, IfOk, ◌∙◌}
+use Rattle.std.proofs.Common.{ℕ, sym, subst, IfOk, ◌∙◌}
 use Rattle.rvm_guest.proofs.TheGuest.{board}
 use Rattle.rvm_message.specs.Answers.{Answers}
 use Rattle.rvm_precopy.specs.Policies.{policy_of}

@@ -1,4 +1,4 @@
-use Rattle.std.proofs.Common.{ℕ, None, sym, subst}
+use Rattle.std.proofs.Common.{None, sym, subst}
 use Rattle.rvm_guest.proofs.TheGuest.{board}
 use Rattle.rvm_message.specs.Answers.{Answers}
 use Rattle.rvm_protocol.specs.Obeying as obeying

@@ -1,4 +1,4 @@
-use Rattle.std.proofs.Common.{ℕ, None, ap, sym, ◌∙◌, subst}
+use Rattle.std.proofs.Common.{ap, sym, ◌∙◌}
 use Rattle.rvm_guest.proofs.TheGuest.{board}
 use Rattle.rvm_message.specs.Frames.{no_frame}
 use Rattle.rvm_protocol.specs.Frames as frames
@@ -68,7 +68,6 @@ pub returns-in-Zero-clause-answer : goal.returns-in-Zero-clause-answer
 returns-in-Zero-clause-answer g c = λ version.
     heard_alone c.args.limit c.args.frame.now (frames.Page c.in-Zero.move_number c.in-Zero.page c.in-Zero.copy_number board.zeros) (mode_of (plain_of c.args.self.now)) (mode_of (plain_of c.zero.new.self)) (as_it_is c.in-Zero.is c.if-not-can_come.ensures)
     version c.alone-in-Zero.result c.zero.result c.alone-in-Zero.ensures.reply c.alone-in-Zero.ensures.frame (c.zero.ensures c.args.limit version)
-
 
 pub returns-then-not-can_come-clause-answer : goal.returns-then-not-can_come-clause-answer
 returns-then-not-can_come-clause-answer g c = λ version.

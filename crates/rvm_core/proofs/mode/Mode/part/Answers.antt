@@ -1,4 +1,4 @@
-use Rattle.std.proofs.Common.{ℕ, sym, ap, ◌∙◌}
+use Rattle.std.proofs.Common.{sym, ap, ◌∙◌}
 use Rattle.rvm_core.specs.Modes.{plain_of}
 use Rattle.rvm_core.proofs.Targets.{if_ok, part_left}
 use Rattle.rvm_core.proofs.mode.Mode.part.Goals as goal

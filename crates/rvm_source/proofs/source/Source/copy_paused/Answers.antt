@@ -39,7 +39,7 @@ invariant_of-self g c =
         (
           first_turn c.self.inside.guest c.next_last.new.self,
           next_last_covered c.pages-pages.result c.args.turn _ c.next_last.new.self h phase c.self.invariant.1.1.1
-          c.next_last.ensures.plan,
+              c.next_last.ensures.plan,
         ),
       ),
     )
@@ -74,7 +74,7 @@ pub send_state-requires-clause-copied : goal.send_state-requires-clause-copied
 send_state-requires-clause-copied g c =
     let h = subst (HasPages c.pages-pages.result) (sym c.self.view_is) c.pages-pages.ensures in
     let same = range_last c.pages-pages.result _ c.next_last.new.self last.NothingLeft h
-        c.in-NothingLeft.ensures.answer c.next_last.ensures.plan in
+    c.in-NothingLeft.ensures.answer c.next_last.ensures.plan in
     ap last_found same ∙ last_turn_is c.self.inside.rounds last.NothingLeft c.in-NothingLeft.ensures.answer
 
 pub send_state-requires-clause-turn : goal.send_state-requires-clause-turn
@@ -159,7 +159,7 @@ returns-in_ok-sent-in-NothingLeft-clause-sent g c =
     let h = subst (HasPages c.pages-pages.result) (sym c.self.view_is) c.pages-pages.ensures in
     let plan = ap (λ (s : PlainSource). s.plan) c.self.view_is in
     let same = range_last c.pages-pages.result _ c.next_last.new.self last.NothingLeft h
-        c.in-NothingLeft.ensures.answer c.next_last.ensures.plan in
+    c.in-NothingLeft.ensures.answer c.next_last.ensures.plan in
     let copied = last_turn_is c.self.inside.rounds last.NothingLeft c.in-NothingLeft.ensures.answer in
     let sent = c.in_ok-sent-in-NothingLeft in
     state_in_bound c.args.version c.args.turn c.args.self.now c.next_last.new.self sent.sent.frame c.with.result.1

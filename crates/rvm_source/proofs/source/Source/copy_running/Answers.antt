@@ -6,7 +6,6 @@ use Rattle.rvm_message.specs.Frames.{frame_made}
 use Rattle.rvm_message.specs.Replies.{reply_of}
 use Rattle.rvm_source.specs.Sources.{HasPages, PlainSource, mode_in, mode_of}
 use Rattle.rvm_precopy.specs.declared.rounds.Next.TheVariants as next
-use Rattle.rvm_source.specs.declared.phase.Phase.TheVariants as phases
 use Rattle.rvm_source.proofs.Covering.{still_covered, next_covered, turn_is}
 use Rattle.rvm_source.proofs.Turns.{running, below, within, few_rounds, first_turn, no_turn, fits_next, range_next, inside_next}
 use Rattle.rvm_source.proofs.source.Source.copy_running.Goals as goal
@@ -25,7 +24,7 @@ copied-requires-clause-page g c =
 pub copied-requires-clause-copy_number : goal.copied-requires-clause-copy_number
 copied-requires-clause-copy_number g c =
     let turn = turn_is c.self.inside.guest.dirty c.self.inside.rounds
-        (next.Copied c.in-Copied.page c.in-Copied.copy) c.in-Copied.ensures.answer in
+    (next.Copied c.in-Copied.page c.in-Copied.copy) c.in-Copied.ensures.answer in
     turn.1
 
 pub invariant_of-self : goal.invariant_of-self
@@ -33,8 +32,8 @@ invariant_of-self g c =
     let h = subst (HasPages c.pages-pages.result) (sym c.self.view_is) c.pages-pages.ensures in
     let phase = ap (λ (s : PlainSource). s.phase) c.self.view_is ∙ c.requires in
     let covers = next_covered c.pages-pages.result _ c.next.new.log.dirty c.next.new.self
-        (next.Copied c.in-Copied.page c.in-Copied.copy) h phase c.self.invariant.1.1.1
-        c.in-Copied.ensures.answer c.next.ensures.plan c.next.ensures.log in (
+    (next.Copied c.in-Copied.page c.in-Copied.copy) h phase c.self.invariant.1.1.1
+    c.in-Copied.ensures.answer c.next.ensures.plan c.next.ensures.log in (
       c.self.invariant.0,
       (
         fits_next c.pages-pages.result _ c.next.new.log c.next.new.self h c.next.ensures.plan c.next.ensures.log,
@@ -70,8 +69,8 @@ invariant_of-self-in-RoundEnded-1 g c =
     let h = subst (HasPages c.pages-pages.result) (sym c.self.view_is) c.pages-pages.ensures in
     let phase = ap (λ (s : PlainSource). s.phase) c.self.view_is ∙ c.requires in
     let covers = next_covered c.pages-pages.result _ c.next.new.log.dirty c.next.new.self
-        (next.RoundEnded c.in-RoundEnded.round c.in-RoundEnded.sent c.in-RoundEnded.skipped c.in-RoundEnded.left) h phase c.self.invariant.1.1.1
-        c.in-RoundEnded.ensures.answer c.next.ensures.plan c.next.ensures.log in (
+    (next.RoundEnded c.in-RoundEnded.round c.in-RoundEnded.sent c.in-RoundEnded.skipped c.in-RoundEnded.left)
+    h phase c.self.invariant.1.1.1 c.in-RoundEnded.ensures.answer c.next.ensures.plan c.next.ensures.log in (
       c.self.invariant.0,
       (
         fits_next c.pages-pages.result _ c.next.new.log c.next.new.self h c.next.ensures.plan c.next.ensures.log,
@@ -87,8 +86,8 @@ invariant_of-self-in-Stopping-1 g c =
     let h = subst (HasPages c.pages-pages.result) (sym c.self.view_is) c.pages-pages.ensures in
     let phase = ap (λ (s : PlainSource). s.phase) c.self.view_is ∙ c.requires in
     let covers = next_covered c.pages-pages.result _ c.next.new.log.dirty c.next.new.self
-        next.Stopping h phase c.self.invariant.1.1.1
-        c.in-Stopping.ensures.answer c.next.ensures.plan c.next.ensures.log in (
+    next.Stopping h phase c.self.invariant.1.1.1
+    c.in-Stopping.ensures.answer c.next.ensures.plan c.next.ensures.log in (
       c.self.invariant.0,
       (
         fits_next c.pages-pages.result _ c.next.new.log c.next.new.self h c.next.ensures.plan c.next.ensures.log,
@@ -101,8 +100,8 @@ invariant_of-self-in-SeqSpent-1 g c =
     let h = subst (HasPages c.pages-pages.result) (sym c.self.view_is) c.pages-pages.ensures in
     let phase = ap (λ (s : PlainSource). s.phase) c.self.view_is ∙ c.requires in
     let covers = next_covered c.pages-pages.result _ c.next.new.log.dirty c.next.new.self
-        next.SeqSpent h phase c.self.invariant.1.1.1
-        c.in-SeqSpent.ensures.answer c.next.ensures.plan c.next.ensures.log in (
+    next.SeqSpent h phase c.self.invariant.1.1.1
+    c.in-SeqSpent.ensures.answer c.next.ensures.plan c.next.ensures.log in (
       c.self.invariant.0,
       (
         fits_next c.pages-pages.result _ c.next.new.log c.next.new.self h c.next.ensures.plan c.next.ensures.log,

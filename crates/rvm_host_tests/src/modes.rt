@@ -1,0 +1,210 @@
+//! Each command and each kind of frame at a host in each mode.
+
+use crate::frames::{KINDS, frame};
+use crate::hosts::{Event, Hosts, again, guest};
+use rvm_frame::Frame;
+use std::alloc::Global;
+use std::test::Fail;
+
+const A: usize = 0;
+
+const B: usize = 1;
+
+/// A move of a guest of one page from A to B.
+const MOVE: [Event; 12] = [
+    Event::Begin(A, 1),
+    Event::Deliver(0),
+    Event::Deliver(1),
+    Event::Copy(A),
+    Event::Deliver(2),
+    Event::Copy(A),
+    Event::Copy(A),
+    Event::Copy(A),
+    Event::Deliver(4),
+    Event::Deliver(5),
+    Event::Deliver(6),
+    Event::Deliver(7),
+];
+
+/// Where a host is in a mode: behind so many events of the move.
+#[derive(Clone, Copy)]
+struct Place {
+    events: usize,
+    host: usize,
+}
+
+const EMPTY: Place = Place { events: 0, host: B };
+
+const RUN: Place = Place { events: 0, host: A };
+
+const OFFERING: Place = Place { events: 1, host: A };
+
+const COPYING: Place = Place { events: 3, host: A };
+
+const STOPPED: Place = Place { events: 7, host: A };
+
+const GIVEN: Place = Place {
+    events: 10,
+    host: A,
+};
+
+const STAGING: Place = Place { events: 2, host: B };
+
+const HELD: Place = Place { events: 9, host: B };
+
+const RUN_AFTER: Place = Place {
+    events: 11,
+    host: B,
+};
+
+const EMPTY_AFTER: Place = Place {
+    events: 12,
+    host: A,
+};
+
+/// Two hosts behind the first events of the move.
+fn at(alloc: Global, place: Place) -> Result<Hosts, Fail> {
+    let guest = guest(alloc, 1, &[0x0000_006F])?;
+    let mut hosts = Hosts::new(alloc, guest, &[1, 1], 1)?;
+    for event in MOVE.iter().take(place.events) {
+        hosts.turn(alloc, *event)?;
+    }
+    Ok(hosts)
+}
+
+/// The answers to Step, Begin, Copy, Resend and Abort in each mode.
+const COMMANDS: [(Place, [&str; 5]); 10] = [
+    (
+        EMPTY,
+        ["NotHere", "NotHere", "NotHere", "NoMove", "NotHere"],
+    ),
+    (RUN, ["retired", "begun", "NoMove", "NoMove", "NoMove"]),
+    (OFFERING, ["retired", "Busy", "Busy", "resent", "aborted"]),
+    (COPYING, ["retired", "Busy", "copied", "NoMove", "aborted"]),
+    (
+        STOPPED,
+        ["Paused", "Busy", "state sent", "resent", "aborted"],
+    ),
+    (
+        GIVEN,
+        ["NotHere", "NotHere", "NotHere", "resent", "NotHere"],
+    ),
+    (
+        STAGING,
+        ["NotHere", "NotHere", "NotHere", "NoMove", "NotHere"],
+    ),
+    (HELD, ["Paused", "NotHere", "NotHere", "resent", "NotHere"]),
+    (
+        RUN_AFTER,
+        ["retired", "begun", "NoMove", "NoMove", "NoMove"],
+    ),
+    (
+        EMPTY_AFTER,
+        ["NotHere", "NotHere", "NotHere", "NoMove", "NotHere"],
+    ),
+];
+
+#[test]
+fn each_command_is_answered_by_the_mode(rt: HostRuntime) -> Result<(), Fail> {
+    for (place, answers) in COMMANDS {
+        let host = place.host;
+        let to = if host == A { 1 } else { 0 };
+        let commands = [
+            Event::Step(host),
+            Event::Begin(host, to),
+            Event::Copy(host),
+            Event::Resend(host),
+            Event::Abort(host),
+        ];
+        for (command, answer) in commands.iter().zip(answers) {
+            let mut hosts = at(rt.alloc(), place)?;
+            let (said, _) = hosts.turn(rt.alloc(), *command)?;
+            assert_eq!(rt; said.0, answer);
+        }
+    }
+    Ok(())
+}
+
+/// The kinds of frames of the move that are not ignored in each mode, by their places in `frames`, and
+/// their answers.
+const FRAMES: [(Place, &[(u32, &str)]); 10] = [
+    (EMPTY, &[]),
+    (RUN, &[]),
+    (OFFERING, &[(1, "open"), (2, "move declined")]),
+    (COPYING, &[]),
+    (STOPPED, &[(5, "fixing"), (7, "committed")]),
+    (GIVEN, &[(9, "finished")]),
+    (
+        STAGING,
+        &[
+            (3, "stored"),
+            (4, "noted"),
+            (6, "BadState"),
+            (10, "stored"),
+            (11, "BadState"),
+            (12, "dropped"),
+        ],
+    ),
+    (
+        HELD,
+        &[(6, "ready"), (8, "started"), (11, "ready"), (12, "dropped")],
+    ),
+    (RUN_AFTER, &[(8, "resent")]),
+    (EMPTY_AFTER, &[]),
+];
+
+/// What a kind of frame is answered.
+fn answer_to(kind: u32, answers: &'static [(u32, &'static str)]) -> &'static str {
+    for (heard, answer) in answers {
+        if *heard == kind {
+            return answer;
+        }
+    }
+    "Ignored"
+}
+
+#[test]
+fn each_frame_is_answered_by_the_mode(rt: HostRuntime) -> Result<(), Fail> {
+    for (place, answers) in FRAMES {
+        let from = if place.host == A { 1 } else { 0 };
+        for kind in 0..KINDS {
+            let mut hosts = at(rt.alloc(), place)?;
+            let frame = again!(frame(rt.alloc(), 1, kind));
+            let (name, _) = hosts.hear(rt.alloc(), place.host, from, frame)?;
+            assert_eq!(rt; name, answer_to(kind, answers));
+        }
+    }
+    Ok(())
+}
+
+/// The answers to an offer of move 1, of move 2 and of too large a guest, in each mode.
+const OFFERS: [(Place, [&str; 3]); 10] = [
+    (EMPTY, ["accepted", "accepted", "declined"]),
+    (RUN, ["Ignored", "Ignored", "Ignored"]),
+    (OFFERING, ["Ignored", "Ignored", "Ignored"]),
+    (COPYING, ["Ignored", "Ignored", "Ignored"]),
+    (STOPPED, ["Ignored", "Ignored", "Ignored"]),
+    (GIVEN, ["Ignored", "accepted", "declined"]),
+    (STAGING, ["accepted", "accepted", "declined"]),
+    (HELD, ["Ignored", "accepted", "declined"]),
+    (RUN_AFTER, ["Ignored", "Ignored", "Ignored"]),
+    (EMPTY_AFTER, ["Ignored", "accepted", "declined"]),
+];
+
+#[test]
+fn each_offer_is_answered_by_the_mode(rt: HostRuntime) -> Result<(), Fail> {
+    for (place, answers) in OFFERS {
+        let from = if place.host == A { 1 } else { 0 };
+        for ((move_number, pages), answer) in [(1, 1), (2, 1), (3, 2)].iter().zip(answers) {
+            let mut hosts = at(rt.alloc(), place)?;
+            let offer = Frame::Offer {
+                move_number: *move_number,
+                pages: *pages,
+                harts: 1,
+            };
+            let (name, _) = hosts.hear(rt.alloc(), place.host, from, offer)?;
+            assert_eq!(rt; name, answer);
+        }
+    }
+    Ok(())
+}

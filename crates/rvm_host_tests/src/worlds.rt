@@ -1,0 +1,167 @@
+//! Worlds: lists of events, and moves that are driven.
+
+use crate::hosts::{POLICY, again, guest};
+use crate::replies::{Said, said};
+use rvm_debug::BoardEvent;
+use rvm_mem::FlatMemory;
+use rvm_message::Command;
+use rvm_world::{Driven, Event, World, WorldError, drive_move, run_world};
+use std::alloc::Global;
+use std::test::Fail;
+
+/// `jal zero, 0`.
+const LOOP: u32 = 0x0000_006F;
+
+/// A world whose first host has a guest of so many pages that loops.
+fn world(
+    alloc: Global,
+    pages: u32,
+    limits: &[u16],
+    version: u32,
+) -> Result<World<FlatMemory>, Fail> {
+    let guest = guest(alloc, pages, &[LOOP])?;
+    let made = match World::with_version(alloc, guest, limits, version) {
+        Err((WorldError::OutOfMemory, guest)) => World::with_version(alloc, guest, limits, version),
+        made => made,
+    };
+    match made {
+        Ok(world) => Ok(world),
+        Err((error, _)) => Err(Fail::from(error)),
+    }
+}
+
+/// An event of the guest at a host.
+fn step(host: u8) -> Event {
+    Event::At(host, Command::Board(BoardEvent::Step(0)))
+}
+
+/// What an event is answered, also where it was refused memory at first.
+fn answer(alloc: Global, world: &mut World<FlatMemory>, event: &Event) -> Result<Said, Fail> {
+    let reply = again!(world.apply(alloc, event));
+    Ok(said(&reply.reply))
+}
+
+/// A world of so many hosts is made, or refused.
+fn is_made(alloc: Global, limits: &[u16], version: u32) -> Result<bool, Fail> {
+    let guest = guest(alloc, 1, &[LOOP])?;
+    Ok(!matches!(World::with_version(alloc, guest, limits, version), Err((WorldError::BadSize, _))))
+}
+
+#[test]
+fn a_world_has_two_to_eight_hosts_of_some_pages(rt: HostRuntime) -> Result<(), Fail> {
+    let worlds: [(&[u16], u32, bool); 9] = [
+        (&[4, 4], 1, true),
+        (&[4, 4], 3, true),
+        (&[4, 4], 4, false),
+        (&[4], 1, false),
+        (&[4, 4, 4], 3, true),
+        (&[4, 4, 4], 2, false),
+        (&[4, 0], 1, false),
+        (&[4, 4097], 1, false),
+        (&[4, 4, 4, 4, 4, 4, 4, 4, 4], 3, false),
+    ];
+    for (limits, version, made) in worlds {
+        assert_eq!(rt; is_made(rt.alloc(), limits, version)?, made);
+    }
+    Ok(())
+}
+
+/// The events of a move of four pages from host 0 to host 1 up to the commit, in version 1.
+fn first_events() -> [Event; 17] {
+    [
+        Event::At(0, Command::Begin { to: 1, policy: POLICY }),
+        Event::Deliver(0),
+        Event::Deliver(1),
+        Event::At(0, Command::Copy),
+        Event::At(0, Command::Copy),
+        Event::At(0, Command::Copy),
+        Event::At(0, Command::Copy),
+        Event::At(0, Command::Copy),
+        Event::Deliver(2),
+        Event::Deliver(3),
+        Event::Deliver(4),
+        Event::Deliver(5),
+        Event::Deliver(6),
+        Event::At(0, Command::Copy),
+        Event::At(0, Command::Copy),
+        Event::Deliver(7),
+        Event::Deliver(8),
+    ]
+}
+
+#[test]
+fn a_list_of_events_is_run(rt: HostRuntime) -> Result<(), Fail> {
+    let mut world = world(rt.alloc(), 4, &[4, 4], 1)?;
+    let Ok(replies) = run_world(rt.alloc(), &mut world, &first_events()) else {
+        return Ok(());
+    };
+    assert_eq!(rt; replies.last().map(|reply| said(&reply.reply)), Some(("committed", [1, 0, 0, 0])));
+    assert_eq!(rt; answer(rt.alloc(), &mut world, &step(0))?.0, "NotHere");
+    assert_eq!(rt; answer(rt.alloc(), &mut world, &step(1))?.0, "Paused");
+    assert_eq!(rt; answer(rt.alloc(), &mut world, &Event::Deliver(9))?.0, "started");
+    assert_eq!(rt; answer(rt.alloc(), &mut world, &step(1))?.0, "retired");
+    assert_eq!(rt; answer(rt.alloc(), &mut world, &Event::Deliver(10))?.0, "finished");
+    assert_eq!(rt; answer(rt.alloc(), &mut world, &Event::Deliver(11))?.0, "NoFrame");
+    assert_eq!(rt; answer(rt.alloc(), &mut world, &step(2))?.0, "BadHost");
+    let lengths = [16, 13, 4115, 4115, 4115, 4115, 21, 235, 13, 13, 13];
+    for (place, length) in lengths.iter().enumerate() {
+        assert_eq!(rt; world.frame(place).map(|bytes| bytes.len()), Some(*length));
+    }
+    Ok(())
+}
+
+/// Some host has the guest.
+fn has_guest(alloc: Global, world: &mut World<FlatMemory>) -> Result<bool, Fail> {
+    for host in 0..world.hosts() {
+        if answer(alloc, world, &step(host))?.0 != "NotHere" {
+            return Ok(true);
+        }
+    }
+    Ok(false)
+}
+
+#[test]
+fn a_move_is_driven_in_each_version(rt: HostRuntime) -> Result<(), Fail> {
+    for (pages, version, events) in [(4, 1, 19), (1, 1, 13), (4, 2, 19), (4, 3, 19), (1024, 2, 2061)] {
+        let mut world = world(rt.alloc(), pages, &[4096, 4096], version)?;
+        let Ok(driven) = drive_move(rt.alloc(), &mut world, 0, 1, POLICY) else {
+            assert!(rt; has_guest(rt.alloc(), &mut world)?);
+            return Ok(());
+        };
+        assert_eq!(rt; driven, Driven::Moved(1, events));
+        assert_eq!(rt; answer(rt.alloc(), &mut world, &step(0))?.0, "NotHere");
+        assert_eq!(rt; answer(rt.alloc(), &mut world, &step(1))?.0, "retired");
+    }
+    Ok(())
+}
+
+#[test]
+fn a_guest_goes_round_three_hosts(rt: HostRuntime) -> Result<(), Fail> {
+    let mut world = world(rt.alloc(), 4, &[4, 4, 4], 3)?;
+    for (from, to, move_number) in [(0, 1, 1), (1, 2, 2), (2, 0, 3)] {
+        let Ok(driven) = drive_move(rt.alloc(), &mut world, from, to, POLICY) else {
+            assert!(rt; has_guest(rt.alloc(), &mut world)?);
+            return Ok(());
+        };
+        assert_eq!(rt; driven, Driven::Moved(move_number, 19));
+    }
+    assert_eq!(rt; answer(rt.alloc(), &mut world, &step(0))?.0, "retired");
+    Ok(())
+}
+
+#[test]
+fn a_driven_move_is_declined_or_refused(rt: HostRuntime) -> Result<(), Fail> {
+    let mut world = world(rt.alloc(), 4, &[4, 3], 1)?;
+    let Ok(driven) = drive_move(rt.alloc(), &mut world, 0, 1, POLICY) else {
+        return Ok(());
+    };
+    assert_eq!(rt; driven, Driven::Declined(3));
+    assert_eq!(rt; answer(rt.alloc(), &mut world, &step(0))?.0, "retired");
+    for (from, to, reason) in [(1, 0, "NotHere"), (0, 0, "BadHost"), (0, 5, "BadHost"), (6, 0, "BadHost")] {
+        let Ok(Driven::Refused(why)) = drive_move(rt.alloc(), &mut world, from, to, POLICY) else {
+            return Err(Fail::from("the move is refused"));
+        };
+        assert_eq!(rt; rvm_refusal::Refusal::from(why).name(), reason);
+    }
+    Ok(())
+}

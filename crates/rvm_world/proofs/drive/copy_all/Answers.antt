@@ -1,0 +1,28 @@
+use Rattle.std.proofs.Common.{ℕ, ap}
+use Rattle.rvm_protocol.specs.Commands.{Copy}
+use Rattle.rvm_protocol.specs.World.{At}
+use Rattle.rvm_world.specs.Worlds.{world_of}
+use Rattle.rvm_world.proofs.Drives.{begins, ends, goes_on, left_unchanged}
+use Rattle.rvm_world.proofs.drive.copy_all.Goals as goal
+
+pub loop-init : goal.loop-init
+loop-init g c = begins (λ (p : ℕ). At c.args.from Copy) (world_of c.args.world.now) c.args.count
+
+pub loop-preserved : goal.loop-preserved
+loop-preserved g c =
+    goes_on (λ (p : ℕ). At c.args.from Copy) (world_of c.args.world.now) (world_of c.loop.world)
+    (world_of c.apply.new.self) c.loop.counter c.args.count c.loop.invariant c.loop-test.true
+    c.in_ok-apply.ensures.next
+
+pub returns-clause-made : goal.returns-clause-made
+returns-clause-made g c =
+    ends (λ (p : ℕ). At c.args.from Copy) (world_of c.args.world.now) (world_of c.loop.world) c.loop.counter
+    c.args.count c.loop.invariant c.loop-test.false
+
+pub returns-clause-left : goal.returns-clause-left
+returns-clause-left g c = c.loop.invariant.so_far
+
+pub returns-in_err-apply-clause-left : goal.returns-in_err-apply-clause-left
+returns-in_err-apply-clause-left g c =
+    left_unchanged (world_of c.args.world.now) (world_of c.loop.world) (world_of c.apply.new.self)
+    c.loop.invariant.so_far (ap world_of c.in_err-apply.ensures.err)

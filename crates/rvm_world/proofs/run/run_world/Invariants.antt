@@ -1,0 +1,8 @@
+use Rattle.rvm_guest.proofs.TheGuest.{board}
+use Rattle.rvm_world.specs.Worlds.{meant, said, world_of}
+use Rattle.rvm_world.proofs.Runs.{Running}
+use Rattle.rvm_world.proofs.run.run_world.Given as goal
+
+abbrev pub invariant-loop-event : goal.invariant-loop-event
+invariant-loop-event g l =
+    Running board meant said (world_of l.initial.world) (world_of l.world) l.events l.event-index l.replies.items

@@ -1,0 +1,2 @@
+pub mod WorldLines
+pub mod Replies

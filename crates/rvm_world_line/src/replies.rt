@@ -1,0 +1,150 @@
+//! The texts of a world's replies.
+
+ghost use Rattle.std.specs.Prelude.{◌≡◌, OnOk};
+ghost use Rattle.std.specs.Io.KnownBytes.{Appends};
+ghost use Rattle.rvm_script.specs.Script.{ends};
+ghost use Rattle.rvm_message.specs.Replies.{refusal_of, reply_of};
+ghost use Rattle.rvm_world_line.specs.Replies.{ends_steps, guest_text, listed, move_text, steps_text};
+
+use rvm_debug::BoardReply;
+use rvm_message::{HostRefusal, HostReply};
+use rvm_refusal::{LinkFault, Refusal};
+use rvm_script::{InWords, write_reply, write_steps};
+use std::fmt;
+use std::io::Write;
+
+/// A reply, shown in words; nothing for bytes, registers and words of RAM.
+#[derive(Clone, Copy)]
+struct ReplyInWords<'a>(&'a HostReply);
+
+impl<'a> fmt::Display for ReplyInWords<'a> {
+    ghost use Rattle.std.specs.Prelude.{Some};
+    ghost use Rattle.rvm_message.specs.Replies.{reply_of};
+    ghost use Rattle.rvm_world_line.specs.Replies.{words_of};
+
+    ghost output = { λ words. Some (words_of (reply_of words.0.now)) };
+
+    fn fmt<W: fmt::Write>(&self, f: &mut fmt::Formatter<W>) -> fmt::Result {
+        match self.0 {
+            HostReply::Board(answer) => write!(f, "{}", InWords(answer)),
+            HostReply::Begun(number) => write!(f, "begun {number}"),
+            HostReply::Copied { page, copy_number } => write!(f, "copied {page} {copy_number}"),
+            HostReply::RoundEnded {
+                round,
+                sent,
+                skipped,
+                left,
+            } => write!(f, "round {round} sent {sent} skipped {skipped} left {left}"),
+            HostReply::Stopping => write!(f, "stopping"),
+            HostReply::StateSent => write!(f, "state sent"),
+            HostReply::PartSent { part, parts } => write!(f, "part {part} of {parts} sent"),
+            HostReply::Resent => write!(f, "resent"),
+            HostReply::Aborted => write!(f, "aborted"),
+            HostReply::Open => write!(f, "open"),
+            HostReply::MoveDeclined(limit) => write!(f, "move declined {limit}"),
+            HostReply::Fixing(count) => write!(f, "fixing {count}"),
+            HostReply::Committed(number) => write!(f, "committed {number}"),
+            HostReply::Finished => write!(f, "finished"),
+            HostReply::Accepted => write!(f, "accepted"),
+            HostReply::Declined(limit) => write!(f, "declined {limit}"),
+            HostReply::Stored { page, copy_number } => write!(f, "stored {page} {copy_number}"),
+            HostReply::Noted => write!(f, "noted"),
+            HostReply::Kept { part, parts } => write!(f, "kept {part} of {parts}"),
+            HostReply::Lacking(count) => write!(f, "lacking {count}"),
+            HostReply::ReadySent => write!(f, "ready"),
+            HostReply::Started => write!(f, "started"),
+            HostReply::Dropped => write!(f, "dropped"),
+            HostReply::Refused(why) => write!(f, "{}", listed(*why)),
+        }
+    }
+}
+
+/// A refusal in the list of all refusals.
+fn listed(why: HostRefusal) -> Refusal
+    ensures { result ≡ listed (refusal_of why) }
+{
+    Refusal::from(why)
+}
+
+/// The place of a frame, shown as ` -> K`, if one was made.
+#[derive(Clone, Copy)]
+struct Place(Option<usize>);
+
+impl fmt::Display for Place {
+    ghost use Rattle.std.specs.Prelude.{Some};
+    ghost use Rattle.rvm_world_line.specs.Replies.{place_text};
+
+    ghost output = { λ p. Some (place_text p.0) };
+
+    fn fmt<W: fmt::Write>(&self, f: &mut fmt::Formatter<W>) -> fmt::Result {
+        match self.0 {
+            Some(place) => write!(f, " -> {place}"),
+            None => Ok(()),
+        }
+    }
+}
+
+/// Writes the reply to an event of a move or to a frame, and the place of the frame that was made.
+pub fn write_move_reply<W: Write>(
+    writer: &mut W,
+    reply: &HostReply,
+    place: Option<usize>,
+) -> Result<(), LinkFault>
+    ensures { OnOk result (Appends (W.contents writer.old) (W.contents writer.new)
+        (move_text (reply_of reply.now) place)) }
+{
+    writeln!(writer, "{}{}", ReplyInWords(reply), Place(place))?;
+    Ok(())
+}
+
+/// Writes the reply to an event of the guest that is no step; its bytes are those of RAM from an
+/// address on, if there is one.
+pub fn write_guest_reply<W: Write>(
+    writer: &mut W,
+    address: Option<u32>,
+    reply: &HostReply,
+) -> Result<(), LinkFault>
+    ensures { OnOk result (Appends (W.contents writer.old) (W.contents writer.new)
+        (guest_text address (reply_of reply.now))) }
+{
+    match reply {
+        HostReply::Board(answer) => write_reply(writer, address, answer),
+        _ => write_move_reply(writer, reply, None),
+    }
+}
+
+/// Writes how many steps of a hart were made and what the last did, or that it was refused.
+pub fn write_steps_reply<W: Write>(
+    writer: &mut W,
+    hart: u32,
+    count: u32,
+    last: &HostReply,
+) -> Result<(), LinkFault>
+    ensures { OnOk result (Appends (W.contents writer.old) (W.contents writer.new)
+        (steps_text hart count (reply_of last.now))) }
+{
+    match last {
+        HostReply::Board(answer) => write_steps(writer, hart, count, answer),
+        _ => write_move_reply(writer, last, None),
+    }
+}
+
+/// Whether no step is made after this reply to one.
+pub fn ends_steps(reply: &HostReply) -> bool
+    ensures { result ≡ ends_steps (reply_of reply.now) }
+{
+    match reply {
+        HostReply::Board(answer) => ends(answer),
+        _ => true,
+    }
+}
+
+/// Whether no step is made after this answer to one.
+fn ends(answer: &BoardReply) -> bool
+    ensures { result ≡ ends answer.now }
+{
+    matches!(
+        answer,
+        BoardReply::Halted(_) | BoardReply::Break(_) | BoardReply::Refused(_)
+    )
+}

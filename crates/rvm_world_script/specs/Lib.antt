@@ -1,0 +1,2 @@
+pub mod WorldScript
+pub mod Runs
