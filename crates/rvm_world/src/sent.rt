@@ -11,9 +11,9 @@ use std::marker::Model;
 /// The bytes of a frame, and the hosts that it goes between.
 #[derive(Drop)]
 pub(crate) struct Sent {
-    pub(crate) from: u8,
-    pub(crate) to: u8,
-    pub(crate) bytes: Vec<u8>,
+    from: u8,
+    to: u8,
+    bytes: Vec<u8>,
 }
 
 impl Model for Sent {
