@@ -1,7 +1,7 @@
 //! Lines of a world's script, and the texts of its replies.
 //!
-//! Stands on `rvm_script` for the lines of a guest and the texts of its answers, and on `rvm_message`
-//! for the replies of hosts. It knows nothing of worlds.
+//! Stands on `rvm_script` for the lines of a guest and the texts of its answers, on `rvm_precopy` for
+//! policies, and on `rvm_message` for the replies of hosts. It knows nothing of worlds.
 //!
 //! To be read in this order: `command`, `line`, `replies`.
 #![tactic(auto)]
