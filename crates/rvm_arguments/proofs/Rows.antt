@@ -1,12 +1,26 @@
 -- What `clap` gives for an option, by the rows of a command.
-use Rattle.std.proofs.Common.{◌≡◌, ◌∙◌, sym, Option}
+use Rattle.std.proofs.Common.{◌≡◌, ◌∙◌, sym, Option, List, true, refl, ap, subst}
 use Rattle.clap.specs.Matches.{first_value, one_text}
+use Rattle.clap.specs.Simple.{App, HasMatchesOf, is_simple, subcommand_of, subcommand_rows_of}
 use Rattle.clap.specs.Walk.{Text, first_of, one_of, rows_of}
+use Rattle.clap.specs.declared.parser.matches.ArgMatches.{ArgMatches}
 use Rattle.clap.specs.declared.parser.matches.Found.{Found}
 use Rattle.clap.proofs.WalkLemmas as walk
+use Rattle.rvm_arguments.specs.declared.arguments.Arguments.{Arguments}
+use Rattle.rvm_arguments.specs.Given.{IsAsked}
+use Rattle.rvm_arguments.specs.Program.{program}
 
 pub first_row : (f : Found) (id : Text) (text : Option Text) → text ≡ first_value f id → text ≡ first_of id (rows_of f)
 first_row f id text given = given ∙ walk.first_value-rows f id
 
 pub one_row : (f : Found) (id : Text) → one_of id (rows_of f) ≡ one_text f id
 one_row f id = sym (walk.one_text-rows f id)
+
+is_simple_program : is_simple program ≡ true
+is_simple_program = refl
+
+-- what the matches of the program ask for, its words ask for
+pub asked_of : (a : App) (words : List Text) (m : ArgMatches) (x : Arguments) → HasMatchesOf a words m → a ≡ program
+    → IsAsked (subcommand_rows_of m) x → IsAsked (subcommand_of program words) x
+asked_of a words m x matches made asked =
+    subst (λ o. IsAsked o x) ((matches (ap is_simple made ∙ is_simple_program)).1 ∙ ap (λ p. subcommand_of p words) made) asked

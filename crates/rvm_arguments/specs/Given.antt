@@ -4,14 +4,21 @@ use Rattle.std.specs.Str.Parse.{digits_value, without_leading_plus}
 use Rattle.clap.specs.Walk.{Row, Text, first_of, one_of}
 use Rattle.std.specs.Prelude.{List}
 use Rattle.rvm_arguments.specs.declared.arguments.Arguments.{Arguments}
-use Rattle.rvm_arguments.specs.declared.arguments.Arguments.TheVariants.{Run, Asm, Dis, Debug}
+use Rattle.rvm_arguments.specs.declared.arguments.Arguments.TheVariants.{Run, Asm, Dis, Debug, Script}
 use Rattle.rvm_arguments.specs.declared.arguments.GuestArguments.{GuestArguments}
 use Rattle.rvm_arguments.specs.declared.arguments.RunArguments.{RunArguments}
+use Rattle.rvm_arguments.specs.declared.arguments.ScriptArguments.{ScriptArguments}
 
 -- a text was given, and it writes this number in decimal
 abbrev pub IsNumber : Option Text → ℕ → Type 0
 IsNumber None n = ⊥
 IsNumber (Some text) n = digits_value 10 (without_leading_plus text) ≡ n
+
+-- there is a number just where a text was given, which writes it in decimal
+abbrev pub IsOptionalNumber : Option Text → Option ℕ → Type 0
+IsOptionalNumber None n = n ≡ None
+IsOptionalNumber (Some text) None = ⊥
+IsOptionalNumber (Some text) (Some n) = IsNumber (Some text) n
 
 -- whether a flag was given
 abbrev pub IsFlag : Option Text → Bool → Type 0
@@ -32,10 +39,18 @@ pub record IsRun (rows : List Row) (run : RunArguments) : Type 0 where
   pub input : first_of (codes "input") rows ≡ option_map (λ s. s.now) run.input
   pub steps : IsNumber (first_of (codes "steps") rows) run.steps
 
+-- a guest, its script, and its hosts with the version of their streams
+pub record IsScript (rows : List Row) (asked : ScriptArguments) : Type 0 where
+  pub guest : IsGuest rows asked.guest
+  pub script : first_of (codes "script") rows ≡ Some asked.script.now
+  pub hosts : IsNumber (first_of (codes "hosts") rows) asked.hosts
+  pub stream : IsOptionalNumber (first_of (codes "stream") rows) asked.stream
+
 -- what the words of a command with this name ask for
 abbrev pub Gives : Text → List Row → Arguments → Type 0
 Gives name rows (Run run) = (name ≡ codes "run") × IsRun rows run
 Gives name rows (Debug guest) = (name ≡ codes "debug") × IsGuest rows guest
+Gives name rows (Script script) = (name ≡ codes "script") × IsScript rows script
 Gives name rows (Asm asm) =
     (name ≡ codes "asm") × (first_of (codes "source") rows ≡ Some asm.source.now)
     × (first_of (codes "output") rows ≡ Some asm.output.now)

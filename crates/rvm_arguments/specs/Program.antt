@@ -17,10 +17,17 @@ flag name = record (new_rule name) { long = Some name; action = Some SetTrue }
 abbrev pub option : Text → Rule
 option name = record (new_rule name) { long = Some name; value_names = 1 }
 
+-- an option with a number within limits
+abbrev pub bounded : Text → (least most : ℕ) → Rule
+bounded name least most = record (option name) { parser = Some (parser.Signed (pos least) (pos most)) }
+
+-- an option whose text is this one where none is given
+abbrev pub with_default : (default : Text) → Rule → Rule
+with_default default rule = record rule { defaults = default ∷ [] }
+
 -- an option with a number from 1 to a limit
 abbrev pub number : Text → (default : Text) → (most : ℕ) → Rule
-number name default most =
-    record (option name) { defaults = default ∷ []; parser = Some (parser.Signed (pos 1) (pos most)) }
+number name default most = with_default default (bounded name 1 most)
 
 -- a command that takes the words of a guest
 abbrev pub with_guest : App → App
@@ -29,6 +36,12 @@ with_guest command =
     (with_rule (with_rule (with_rule command (needed (codes "image"))) (flag (codes "raw")))
     (number (codes "harts") (codes "1") 8))
     (number (codes "pages") (codes "256") 4096)
+
+-- a command that takes the words of a guest and of its hosts
+abbrev pub with_world : App → App
+with_world command =
+    with_rule (with_rule (with_guest command) (with_default (codes "2") (bounded (codes "hosts") 2 8)))
+    (bounded (codes "stream") 1 3)
 
 -- the commands
 abbrev pub run : App
@@ -46,6 +59,9 @@ dis = with_guest (new_app (codes "dis"))
 abbrev pub debug : App
 debug = with_guest (new_app (codes "debug"))
 
+abbrev pub script : App
+script = with_rule (with_world (new_app (codes "script"))) (needed (codes "script"))
+
 -- the program, which wants a command
 abbrev pub top : App
 top =
@@ -54,5 +70,6 @@ top =
 
 abbrev pub program : App
 program =
-    with_subcommand (with_subcommand (with_subcommand (with_subcommand top run.top) asm.top) dis.top)
-    debug.top
+    with_subcommand
+    (with_subcommand (with_subcommand (with_subcommand (with_subcommand top run.top) asm.top) dis.top)
+    debug.top) script.top

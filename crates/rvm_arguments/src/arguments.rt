@@ -1,6 +1,7 @@
 //! What a command line asks for.
 
 ghost use Rattle.std.specs.Prelude.{◌≡◌, ◌≤◌, false};
+ghost use Rattle.std.specs.Option.{ForSome};
 ghost use Rattle.std.specs.Str.{bytes_eq};
 
 /// What the command line asks for.
@@ -10,6 +11,7 @@ pub enum Arguments<'a> {
     Asm(AsmArguments<'a>),
     Dis(DisArguments<'a>),
     Debug(GuestArguments<'a>),
+    Script(ScriptArguments<'a>),
 }
 
 /// A guest: the file of its image, and its board. Each number is within its limits.
@@ -55,4 +57,18 @@ pub struct DisArguments<'a> {
     pub image: &'a str,
     /// Whether it is plain bytes, which stand at 0x80000000, and not an ELF file.
     pub raw: bool,
+}
+
+/// The arguments of `rvmove script`.
+#[derive(Debug, Drop)]
+pub struct ScriptArguments<'a> {
+    pub guest: GuestArguments<'a>,
+    /// The file of the script.
+    pub script: &'a str,
+    /// 2 to 8 hosts.
+    pub hosts: u32,
+    /// The version of their streams, 1 to 3, if one is given.
+    pub stream: Option<u32>,
+    ghost hosts_allowed: { (2 ≤ hosts) × (hosts ≤ 8) },
+    ghost stream_allowed: { ForSome stream (λ version. (1 ≤ version) × (version ≤ 3)) },
 }

@@ -10,5 +10,7 @@ mod arguments;
 mod program;
 mod reading;
 
-pub use arguments::{Arguments, AsmArguments, DisArguments, GuestArguments, RunArguments};
+pub use arguments::{
+    Arguments, AsmArguments, DisArguments, GuestArguments, RunArguments, ScriptArguments,
+};
 pub use reading::{MAX_STEPS, parse_args};

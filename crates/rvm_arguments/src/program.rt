@@ -4,7 +4,7 @@ ghost use Rattle.std.specs.Prelude.{◌≡◌, false, codes, IfOk};
 ghost use Rattle.clap.specs.Simple.{app_of};
 ghost use Rattle.clap.specs.Walk.{rule_of};
 ghost use Rattle.clap.specs.declared.builder.command.Command.TheViews.{out-Command as fields_of};
-ghost use Rattle.rvm_arguments.specs.Program.{asm, debug, dis, flag, needed, number, option, program, run, with_guest};
+ghost use Rattle.rvm_arguments.specs.Program.{asm, bounded, debug, dis, flag, needed, number, option, program, run, script, with_default, with_guest, with_world};
 
 use clap::{Arg, ArgAction, Command, Error, value_parser};
 use std::alloc::Global;
@@ -47,6 +47,21 @@ Lines of a script, with numbers in decimal or 0x hexadecimal:
   poke ADDR HEX     writes bytes into RAM
 Blank lines and lines that begin with # are passed over.";
 
+/// What stands below the help of `script`.
+const SCRIPT_HELP: &str = "\
+Example: rvmove script hello.elf move.txt --hosts 3
+
+Lines of a script: those of `rvmove debug`, and
+  begin [HOST] [R L F]  begins to move the guest to a host
+  move [HOST] [R L F]   moves it, from the beginning to the end
+  copy                  sends a copy of the next page, or takes the move's next step
+  resend                sends the last frame again
+  abort                 gives the move up
+  deliver K             the frame of place K, from 0, comes to its host
+A leading letter A to H names the host that is asked, else it is the one that has the guest: A at first.
+With more than two hosts `begin` and `move` name the one that gets the guest. It stops after R rounds of
+copies (29), or once fewer than L pages are left (50) or more copies made than F times its pages (3).";
+
 /// The command line that the program takes.
 pub(crate) fn program<'a>(alloc: Global) -> Result<Command<'a>, Error>
     ensures { IfOk result (λ c. app_of c ≡ program) }
@@ -60,7 +75,8 @@ pub(crate) fn program<'a>(alloc: Global) -> Result<Command<'a>, Error>
             .subcommand(run_command(alloc)?)?
             .subcommand(asm_command(alloc)?)?
             .subcommand(dis_command(alloc)?)?
-            .subcommand(debug_command(alloc)?)?,
+            .subcommand(debug_command(alloc)?)?
+            .subcommand(script_command(alloc)?)?,
     )
 }
 
@@ -158,6 +174,42 @@ fn output_argument<'a>(alloc: Global) -> Arg<'a>
         .help("The ELF file that is written")
 }
 
+/// The file of a script.
+fn script_argument<'a>(alloc: Global) -> Arg<'a>
+    ensures rule { rule_of result ≡ needed (codes "script") }
+    ensures local { result.global ≡ false }
+{
+    Arg::new(alloc, "script")
+        .value_name("FILE")
+        .required(true)
+        .help("The file of the script")
+}
+
+/// How many hosts the world has.
+fn hosts_argument<'a>(alloc: Global) -> Arg<'a>
+    ensures rule { rule_of result ≡ with_default (codes "2") (bounded (codes "hosts") 2 8) }
+    ensures local { result.global ≡ false }
+{
+    Arg::new(alloc, "hosts")
+        .long("hosts")
+        .value_name("N")
+        .default_value("2")
+        .value_parser(value_parser!(u32).range(2..=8))
+        .help("How many hosts, 2 to 8")
+}
+
+/// The version of their streams.
+fn stream_argument<'a>(alloc: Global) -> Arg<'a>
+    ensures rule { rule_of result ≡ bounded (codes "stream") 1 3 }
+    ensures local { result.global ≡ false }
+{
+    Arg::new(alloc, "stream")
+        .long("stream")
+        .value_name("V")
+        .value_parser(value_parser!(u32).range(1..=3))
+        .help("The version of their streams, 1 to 3; if not given, 1 for two hosts and 3 for more")
+}
+
 /// A command over a guest, with the words that describe it.
 fn guest_command<'a>(command: Command<'a>, alloc: Global) -> Result<Command<'a>, Error>
     ensures app { IfOk result (λ c. app_of c ≡ with_guest (app_of command.entry)) }
@@ -170,6 +222,19 @@ fn guest_command<'a>(command: Command<'a>, alloc: Global) -> Result<Command<'a>,
             .arg(raw_argument(alloc))?
             .arg(harts_argument(alloc))?
             .arg(pages_argument(alloc))?,
+    )
+}
+
+/// A command over a guest that moves between hosts, with the words that describe them.
+fn world_command<'a>(command: Command<'a>, alloc: Global) -> Result<Command<'a>, Error>
+    ensures app { IfOk result (λ c. app_of c ≡ with_world (app_of command.entry)) }
+    ensures local { (fields_of command.entry).has_globals ≡ false
+        → IfOk result (λ c. (fields_of c).has_globals ≡ false) }
+{
+    Ok(
+        guest_command(command, alloc)?
+            .arg(hosts_argument(alloc))?
+            .arg(stream_argument(alloc))?,
     )
 }
 
@@ -222,4 +287,15 @@ fn debug_command<'a>(alloc: Global) -> Result<Command<'a>, Error>
         .about("Answers the lines of a debugger's script from standard input")
         .after_help(DEBUG_HELP);
     guest_command(debug, alloc)
+}
+
+/// The words that `script` takes.
+fn script_command<'a>(alloc: Global) -> Result<Command<'a>, Error>
+    ensures app { IfOk result (λ c. app_of c ≡ script) }
+    ensures local { IfOk result (λ c. (fields_of c).has_globals ≡ false) }
+{
+    let script = Command::new(alloc, "script")
+        .about("Answers the lines of a script for hosts between which a guest moves")
+        .after_help(SCRIPT_HELP);
+    Ok(world_command(script, alloc)?.arg(script_argument(alloc))?)
 }

@@ -4,10 +4,12 @@ ghost use Rattle.std.specs.Prelude.{◌≡◌, ◌≤◌, ◌&&◌, nat_le, if�
 ghost use Rattle.clap.specs.Matches.{found_of};
 ghost use Rattle.clap.specs.Simple.{subcommand_of, subcommand_rows_of};
 ghost use Rattle.clap.specs.Walk.{first_of, one_of, rows_of};
-ghost use Rattle.rvm_arguments.specs.Given.{Gives, IsAsked, IsFlag, IsGuest, IsNumber};
+ghost use Rattle.rvm_arguments.specs.Given.{Gives, IsAsked, IsFlag, IsGuest, IsNumber, IsOptionalNumber};
 ghost use Rattle.rvm_arguments.specs.Program.{program};
 
-use crate::arguments::{Arguments, AsmArguments, DisArguments, GuestArguments, RunArguments};
+use crate::arguments::{
+    Arguments, AsmArguments, DisArguments, GuestArguments, RunArguments, ScriptArguments,
+};
 use crate::program::program;
 use clap::error::ErrorKind;
 use clap::{ArgMatches, Error};
@@ -17,6 +19,12 @@ use std::convert::AsStr;
 
 /// The most harts that a board has.
 const MAX_HARTS: u32 = rvm_res::MAX_HARTS as u32;
+
+/// The most hosts that a world has.
+const MAX_HOSTS: u32 = 8;
+
+/// The newest version of a stream.
+const MAX_STREAM: u32 = 3;
 
 /// The most turns that a run makes.
 pub const MAX_STEPS: u32 = 1_000_000_000;
@@ -43,6 +51,7 @@ fn read_matches<'a>(matches: &ArgMatches<'a>) -> Result<Arguments<'a>, &'static 
         Some(("asm", asm)) => read_asm(asm),
         Some(("dis", dis)) => read_dis(dis),
         Some(("debug", debug)) => read_debug(debug),
+        Some(("script", script)) => read_script(script),
         _ => Err("a command is missing"),
     }
 }
@@ -52,7 +61,7 @@ fn read_run<'a>(run: &ArgMatches<'a>) -> Result<Arguments<'a>, &'static str>
     ensures { IfOk result (Gives (codes "run") (rows_of (found_of run.now))) }
 {
     let guest = read_guest(run)?;
-    let Some(steps) = number(run, "steps", MAX_STEPS) else {
+    let Some(steps) = number(run, "steps", 1, MAX_STEPS) else {
         return Err("--steps takes a decimal number from 1 to 1000000000");
     };
     Ok(Arguments::Run(RunArguments {
@@ -69,10 +78,10 @@ fn read_guest<'a>(command: &ArgMatches<'a>) -> Result<GuestArguments<'a>, &'stat
     let Some(image) = text(command, "image") else {
         return Err("IMAGE is missing");
     };
-    let Some(harts) = number(command, "harts", MAX_HARTS) else {
+    let Some(harts) = number(command, "harts", 1, MAX_HARTS) else {
         return Err("--harts takes a decimal number from 1 to 8");
     };
-    let Some(pages) = number(command, "pages", MAX_PAGES) else {
+    let Some(pages) = number(command, "pages", 1, MAX_PAGES) else {
         return Err("--pages takes a decimal number from 1 to 4096");
     };
     Ok(GuestArguments {
@@ -117,6 +126,41 @@ fn read_debug<'a>(debug: &ArgMatches<'a>) -> Result<Arguments<'a>, &'static str>
     Ok(Arguments::Debug(read_guest(debug)?))
 }
 
+/// The arguments of `script`, or which of them is not what it must be.
+fn read_script<'a>(script: &ArgMatches<'a>) -> Result<Arguments<'a>, &'static str>
+    ensures { IfOk result (Gives (codes "script") (rows_of (found_of script.now))) }
+{
+    let guest = read_guest(script)?;
+    let Some(file) = text(script, "script") else {
+        return Err("FILE is missing");
+    };
+    let Some(hosts) = number(script, "hosts", 2, MAX_HOSTS) else {
+        return Err("--hosts takes a decimal number from 2 to 8");
+    };
+    let stream = read_stream(script)?;
+    Ok(Arguments::Script(ScriptArguments {
+        guest,
+        script: file,
+        hosts,
+        stream,
+    }))
+}
+
+/// The version of streams, if one is given, or that it is none.
+fn read_stream(script: &ArgMatches) -> Result<Option<u32>, &'static str>
+    ensures within { IfOk result (λ version. IfSome version (λ v. (1 ≤ v) × (v ≤ 3))) }
+    ensures given { IfOk result
+        (IsOptionalNumber (first_of (codes "stream") (rows_of (found_of script.now)))) }
+{
+    if text(script, "stream").is_none() {
+        return Ok(None);
+    }
+    match number(script, "stream", 1, MAX_STREAM) {
+        Some(version) => Ok(Some(version)),
+        None => Err("--stream takes a decimal number from 1 to 3"),
+    }
+}
+
 /// The text of an option, which the words or its default give.
 #[tactic(auto, using(crate::proofs::Rows::first_row))]
 fn text<'a>(command: &ArgMatches<'a>, option: &str) -> Option<&'a str>
@@ -133,23 +177,23 @@ fn flag(command: &ArgMatches, option: &str) -> bool
     command.get_flag(option)
 }
 
-/// The number of an option, from 1 to a limit. It has no sign, also no plus sign.
-fn number(command: &ArgMatches, option: &str, most: u32) -> Option<u32>
-    ensures within { IfSome result (λ n. (1 ≤ n) × (n ≤ most)) }
+/// The number of an option, within limits. It has no sign, also no plus sign.
+fn number(command: &ArgMatches, option: &str, least: u32, most: u32) -> Option<u32>
+    ensures within { IfSome result (λ n. (least ≤ n) × (n ≤ most)) }
     ensures given { IfSome result (IsNumber (first_of option.now (rows_of (found_of command.now)))) }
 {
     let text = text(command, option)?;
     if text.starts_with('+') {
         return None;
     }
-    within(text.parse::<u32>().ok()?, most)
+    within(text.parse::<u32>().ok()?, least, most)
 }
 
-/// A number that is from 1 to a limit.
-fn within(number: u32, most: u32) -> Option<u32>
-    ensures { result ≡ (if nat_le 1 number && nat_le number most then Some number else None) }
+/// A number that is within limits.
+fn within(number: u32, least: u32, most: u32) -> Option<u32>
+    ensures { result ≡ (if nat_le least number && nat_le number most then Some number else None) }
 {
-    if 1 <= number && number <= most {
+    if least <= number && number <= most {
         Some(number)
     } else {
         None

@@ -61,7 +61,7 @@ fn dis<O: Write>(
 }
 
 /// Writes what a writer holds back.
-pub(crate) fn flush<W: Write>(writer: &mut W) -> Result<(), LinkFault>
+pub fn flush<W: Write>(writer: &mut W) -> Result<(), LinkFault>
     ensures { Keeps (W.contents writer.old) (W.contents writer.new) }
 {
     match writer.flush() {

@@ -24,7 +24,7 @@ use std::alloc::Global;
 /// A guest at reset whose board is loaded with the image of a file. It is refused for the fault of
 /// the file, `OutsideRam` for an image that does not lie in RAM, and `OutOfMemory`.
 #[tactic(auto, using(crate::proofs::Refusals::file_not_loaded))]
-pub(crate) fn load_guest(
+pub fn load_guest(
     alloc: Global,
     arguments: &GuestArguments,
     file: &[u8],

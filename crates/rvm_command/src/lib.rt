@@ -12,7 +12,7 @@
 pub mod asm_command;
 pub mod debug_command;
 pub mod dis_command;
-mod guest;
+pub mod guest;
 pub mod refused;
 pub mod run;
 pub mod run_command;

@@ -107,7 +107,7 @@ impl From<ScriptError> for Refused {
 }
 
 /// Tells of a refusal, and answers the status 1. `LinkFault` where it cannot be told.
-pub(crate) fn tell<E: Write>(refused: Refused, errors: &mut E) -> Result<u8, LinkFault>
+pub fn tell<E: Write>(refused: Refused, errors: &mut E) -> Result<u8, LinkFault>
     ensures { IfOk result (λ status. (status ≡ 1)
         × IsTold refused (E.contents errors.old) (E.contents errors.new)) }
 {

@@ -9,13 +9,14 @@ ghost use Rattle.std.specs.Prelude.{◌≡◌, ◌⊎◌};
 
 use clap::Error;
 use rvm_arguments::{
-    Arguments, AsmArguments, DisArguments, GuestArguments, RunArguments, parse_args,
+    Arguments, AsmArguments, DisArguments, GuestArguments, RunArguments, ScriptArguments, parse_args,
 };
 use rvm_command::asm_command::asm_command;
 use rvm_command::debug_command::debug_command;
 use rvm_command::dis_command::dis_command;
 use rvm_command::run_command::run_command;
 use rvm_refusal::Refusal;
+use rvm_world_command::script_command::script_command;
 use std::convert::AsStr;
 use std::fs;
 use std::fs::File;
@@ -41,6 +42,7 @@ pub fn perform<Rt: Files + AllocGlobal, S: AsStr, I: Read, O: Write, E: Write>(
         Ok(Arguments::Asm(arguments)) => asm(rt, &arguments, errors),
         Ok(Arguments::Dis(arguments)) => dis(rt, &arguments, output, errors),
         Ok(Arguments::Debug(arguments)) => debug(rt, &arguments, input, output, errors),
+        Ok(Arguments::Script(arguments)) => script(rt, &arguments, output, errors),
         Err(error) => explain(&error, output, errors),
     }
 }
@@ -115,6 +117,28 @@ fn debug<Rt: Files + AllocGlobal, I: Read, O: Write, E: Write>(
         return refuse(errors, Refusal::OutOfMemory);
     };
     debug_command(rt.alloc(), arguments, &image, input, &mut output, errors).unwrap_or(1)
+}
+
+/// Reads the image and the script, and answers the script.
+fn script<Rt: Files + AllocGlobal, O: Write, E: Write>(
+    rt: &Rt,
+    arguments: &ScriptArguments,
+    output: &mut O,
+    errors: &mut E,
+) -> u8
+    ensures { (result ≡ 0) ⊎ (result ≡ 1) }
+{
+    let Ok(image) = fs::read(rt, arguments.guest.image) else {
+        return refuse(errors, Refusal::LinkFault);
+    };
+    let Ok(script) = fs::read(rt, arguments.script) else {
+        return refuse(errors, Refusal::LinkFault);
+    };
+    let Ok(mut output) = BufWriter::new(rt.alloc(), output) else {
+        return refuse(errors, Refusal::OutOfMemory);
+    };
+    let mut lines = script.as_slice();
+    script_command(rt.alloc(), arguments, &image, &mut lines, &mut output, errors).unwrap_or(1)
 }
 
 /// Tells of a refusal, and answers the status 1.

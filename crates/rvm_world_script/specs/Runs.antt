@@ -1,36 +1,73 @@
 -- How a world's script ended, and what stands then.
-use Rattle.std.specs.Prelude.{◌≡◌, ℕ, ◌+◌, List, ◌++◌, length, Option, Some, None, Result, Ok, Err, IfSome}
+use Rattle.std.specs.Prelude.{◌≡◌, ℕ, ◌+◌, List, ◌∷◌, ◌++◌, length, codes, Option, Some, None, Result, Ok, Err}
 use Rattle.std.specs.Io.KnownBytes.{Appends}
+use Rattle.std.specs.Fmt.{decimal}
 use Rattle.rvm_debug.specs.declared.event.BoardEvent.{BoardEvent}
+use Rattle.rvm_debug.specs.declared.event.BoardReply.{BoardReply}
+use Rattle.rvm_debug.specs.Guest.{Guest}
+use Rattle.rvm_message.specs.Replies.{refusal_of}
+use Rattle.rvm_protocol.specs.Replies.{Refused, Reply}
+use Rattle.rvm_protocol.specs.Told.{Told}
 use Rattle.rvm_protocol.specs.World.{Event}
+use Rattle.rvm_world.specs.declared.drive.Driven.{Driven}
+use Rattle.rvm_world.specs.declared.drive.Driven.TheVariants as driven
 use Rattle.rvm_world.specs.Worlds.{BoardWorld}
+use Rattle.rvm_world_line.specs.declared.line.Asked.{Asked}
+use Rattle.rvm_world_line.specs.declared.line.Asked.TheVariants as asked
+use Rattle.rvm_world_line.specs.declared.line.WorldLine.{WorldLine}
+use Rattle.rvm_world_line.specs.declared.line.WorldLine.TheVariants as lines
+use Rattle.rvm_world_line.specs.Replies.{guest_text, move_text}
+use Rattle.rvm_world_line.specs.WorldLines.{world_line_of}
+use Rattle.rvm_world_script.specs.declared.lines.LineFault.{LineFault}
+use Rattle.rvm_world_script.specs.declared.lines.LineFault.TheVariants as fault
 use Rattle.rvm_world_script.specs.declared.script.WorldScriptError.{WorldScriptError}
 use Rattle.rvm_world_script.specs.declared.script.WorldScriptError.TheVariants.{OutOfMemory, LineOutOfMemory, TooLong, BadToken, LinkFault}
-use Rattle.rvm_world_script.specs.WorldScript.{Standing, after_all, world_script_of}
+use Rattle.rvm_world_script.specs.WorldScript.{Replied, Standing, Stepping, after_all, done_by, world_script_of}
 
--- some of the first lines were done, each to its end, and then some whole events of the next one
+-- some whole events were made
+pub record IsBegun (s : Standing) (new : BoardWorld) : Type 0 where
+  pub events : List (Event BoardEvent)
+  pub world : new ≡ (after_all s events).world
+
+-- memory ran out where this was asked: of a whole move some events were made, of another command none was, and a line
+-- for the guest takes no memory
+abbrev pub IsSpentAsking : Asked → (s : Standing) → (new : BoardWorld) → Type 0
+IsSpentAsking (asked.Guest l) s new = ⊥
+IsSpentAsking (asked.Begin to p) s new = new ≡ s.world
+IsSpentAsking (asked.Move to p) s new = IsBegun s new
+IsSpentAsking asked.Copy s new = new ≡ s.world
+IsSpentAsking asked.Resend s new = new ≡ s.world
+IsSpentAsking asked.Abort s new = new ≡ s.world
+
+-- memory ran out in this line
+abbrev pub IsSpentIn : Option WorldLine → (s : Standing) → (new : BoardWorld) → Type 0
+IsSpentIn None s new = ⊥
+IsSpentIn (Some lines.Empty) s new = ⊥
+IsSpentIn (Some (lines.Host host a)) s new = IsSpentAsking a s new
+IsSpentIn (Some (lines.Deliver k)) s new = new ≡ s.world
+
+-- some of the first lines were done, each to its end, and none of the others was begun
 pub record IsPartWay (lines : List (List ℕ)) (s : Standing) (new : BoardWorld) : Type 0 where
   pub done : List (List ℕ)
   pub left : List (List ℕ)
   pub whole : done ++ left ≡ lines
-  pub events : List (Event BoardEvent)
-  pub world : new ≡ (after_all (world_script_of done 1 s).standing events).world
+  pub world : new ≡ (world_script_of done 1 s).standing.world
 
--- the same, and what the whole lines answered was written; the line behind them is this one
+-- memory ran out in the line with this number; those before it were done, and what they answered was written
 pub record IsSpent (n : ℕ) (lines : List (List ℕ)) (s : Standing) (new : BoardWorld) (before after : Option (List ℕ))
     : Type 0 where
   pub done : List (List ℕ)
+  pub line : List ℕ
   pub left : List (List ℕ)
-  pub whole : done ++ left ≡ lines
+  pub whole : done ++ line ∷ left ≡ lines
   pub number : length done + 1 ≡ n
-  pub events : List (Event BoardEvent)
-  pub world : new ≡ (after_all (world_script_of done 1 s).standing events).world
+  pub spent : let d = (world_script_of done 1 s).standing in IsSpentIn (world_line_of d.world.count line) d new
   pub text : Appends before after (world_script_of done 1 s).text
 
--- the lines of a script were done to its end, or up to the line that is none, or up to one that found no memory or whose
--- answer could not be written; where the script can't be read none was done
-abbrev pub IsWorldRun : Result (Unit {0}) WorldScriptError → (lines : List (List ℕ)) → (s : Standing) → (new : BoardWorld)
-    → (before after : Option (List ℕ)) → Type 0
+-- the lines of a script were done to its end, or up to the line that is none, or up to one that found no memory or
+-- whose answer could not be written; where the script can't be read none was done
+abbrev pub IsWorldRun : Result (Unit {0}) WorldScriptError → (lines : List (List ℕ)) → (s : Standing)
+    → (new : BoardWorld) → (before after : Option (List ℕ)) → Type 0
 IsWorldRun (Ok u) lines s new before after =
     let a = world_script_of lines 1 s in (a.end ≡ None) × (new ≡ a.standing.world) × Appends before after a.text
 IsWorldRun (Err (BadToken n)) lines s new before after =
@@ -39,3 +76,60 @@ IsWorldRun (Err (LineOutOfMemory n)) lines s new before after = IsSpent n lines 
 IsWorldRun (Err OutOfMemory) lines s new before after = (new ≡ s.world) × (after ≡ before)
 IsWorldRun (Err TooLong) lines s new before after = (new ≡ s.world) × (after ≡ before)
 IsWorldRun (Err LinkFault) lines s new before after = IsPartWay lines s new
+
+-- no line of a script was done
+abbrev pub IsUnread : Result (Unit {0}) WorldScriptError → Type 0
+IsUnread (Err OutOfMemory) = Unit {0}
+IsUnread (Err TooLong) = Unit {0}
+IsUnread (Err LinkFault) = Unit {0}
+IsUnread r = ⊥
+
+-- why lines are not done to their end
+abbrev pub IsLineError : WorldScriptError → Type 0
+IsLineError OutOfMemory = ⊥
+IsLineError TooLong = ⊥
+IsLineError e = Unit {0}
+
+-- a world, and what its replies told
+abbrev pub standing : BoardWorld → Told Guest → Standing
+standing w t = record { world = w; told = t }
+
+-- all events of a line were made, and its answer was written, or that failed; or memory ran out before its answer
+abbrev pub IsDone : Result (Unit {0}) LineFault → Replied → (spent : Type 0) → (new : BoardWorld)
+    → (before after : Option (List ℕ)) → Type 0
+IsDone (Ok u) r spent new before after = (new ≡ r.standing.world) × Appends before after r.text
+IsDone (Err fault.OutOfMemory) r spent new before after = spent × (after ≡ before)
+IsDone (Err fault.LinkFault) r spent new before after = new ≡ r.standing.world
+
+-- line n was done, or it is none, and nothing was; or memory ran out in it, or its answer was not written
+abbrev pub IsLineRun : Result (Unit {0}) WorldScriptError → (n : ℕ) → Option WorldLine → (s : Standing)
+    → (new : BoardWorld) → (before after : Option (List ℕ)) → Type 0
+IsLineRun (Ok u) n None s new before after = ⊥
+IsLineRun (Ok u) n (Some l) s new before after = IsDone (Ok u) (done_by l s) ⊥ new before after
+IsLineRun (Err (BadToken k)) n None s new before after = (k ≡ n) × (new ≡ s.world) × (after ≡ before)
+IsLineRun (Err (BadToken k)) n (Some l) s new before after = ⊥
+IsLineRun (Err (LineOutOfMemory k)) n None s new before after = ⊥
+IsLineRun (Err (LineOutOfMemory k)) n (Some l) s new before after =
+    (k ≡ n) × IsDone (Err fault.OutOfMemory) (done_by l s) (IsSpentIn (Some l) s new) new before after
+IsLineRun (Err LinkFault) n None s new before after = ⊥
+IsLineRun (Err LinkFault) n (Some l) s new before after =
+    IsDone (Err fault.LinkFault) (done_by l s) ⊥ new before after
+IsLineRun (Err OutOfMemory) n l s new before after = ⊥
+IsLineRun (Err TooLong) n l s new before after = ⊥
+
+-- the answer to a move
+abbrev pub driven_text : Driven → List ℕ
+driven_text (driven.Moved n events) = codes "moved " ++ decimal n ++ codes " events " ++ decimal events ++ codes "\n"
+driven_text (driven.Declined limit) = codes "declined " ++ decimal limit ++ codes "\n"
+driven_text (driven.Refused why) = move_text (Refused (refusal_of why)) None
+
+-- what steps leave, how many there were and the reply to the last
+pub record IsStepped (s : Stepping) (new : BoardWorld) (count : ℕ) (last : Reply BoardReply) : Type 0 where
+  pub world : new ≡ s.standing.world
+  pub made : count ≡ s.count
+  pub reply : last ≡ s.reply
+
+-- what bytes leave that came, and the text of the reply to the last
+pub record IsInput (r : Replied) (new : BoardWorld) (last : Reply BoardReply) : Type 0 where
+  pub world : new ≡ r.standing.world
+  pub text : guest_text None last ≡ r.text

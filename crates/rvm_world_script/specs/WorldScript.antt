@@ -9,10 +9,10 @@ use Rattle.rvm_debug.specs.Guest.{Guest}
 use Rattle.rvm_guest.proofs.TheGuest.{board}
 use Rattle.rvm_precopy.specs.declared.policy.Policy.{Policy}
 use Rattle.rvm_precopy.specs.Policies as policies
-use Rattle.rvm_protocol.specs.Commands.{Begin, Board, Command, Copy, Resend, AbortMove}
+use Rattle.rvm_protocol.specs.Commands.{Begin, Board, Copy, Resend, AbortMove}
 use Rattle.rvm_protocol.specs.DrivenMove.{drive_opening}
 use Rattle.rvm_protocol.specs.Modes.{guest_in}
-use Rattle.rvm_protocol.specs.Replies.{Reply, Answered, Begun, Refused}
+use Rattle.rvm_protocol.specs.Replies.{Reply, Answered, Begun}
 use Rattle.rvm_protocol.specs.Rounds.{page_count}
 use Rattle.rvm_protocol.specs.Told.{Told, told}
 use Rattle.rvm_protocol.specs.World.{At, Deliver, Event, entry_of, meaning, mode_at, reply_to, step}
@@ -110,17 +110,17 @@ abbrev pub target : (x : ℕ) → Option ℕ → ℕ
 target x (Some to) = to
 target x None = 1 - x
 
--- a whole move: each frame of it comes once, in order; to a host that takes fewer pages than the guest has it ends with that
--- host's answer
+-- a whole move: each frame of it comes once, in order; to a host that takes fewer pages than the guest has it ends
+-- with that host's answer
 abbrev pub moved_with : (x to : ℕ) → Policy → Option Guest → (n : ℕ) → Standing → Replied
 moved_with x to p None n s = record { standing = s; text = [] }
 moved_with x to p (Some g) n s =
     if nat_le (page_count board g) (s.world.limits to) then (
-      let events = drive_of s.world x to (policies.policy_of p) g in
-      record {
-        standing = after_all s events;
-        text = codes "moved " ++ decimal n ++ codes " events " ++ decimal (length events) ++ codes "\n";
-      }
+    let events = drive_of s.world x to (policies.policy_of p) g in
+    record {
+      standing = after_all s events;
+      text = codes "moved " ++ decimal n ++ codes " events " ++ decimal (length events) ++ codes "\n";
+    }
     ) else record {
       standing = after_all s (drive_opening x to (policies.policy_of p) (length s.world.sent));
       text = codes "declined " ++ decimal (s.world.limits to) ++ codes "\n";

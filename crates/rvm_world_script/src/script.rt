@@ -1,15 +1,20 @@
 //! A world's script: its lines, one after the other.
 
-ghost use Rattle.std.specs.Prelude.{◌≡◌, IfSome, None};
+ghost use Rattle.std.specs.Prelude.{◌≡◌, ◌⊎◌, ◌^◌, ◌<◌, length, Err, IfErr, IfSome};
 ghost use Rattle.rvm_debug.specs.Guest.{Guest};
 ghost use Rattle.rvm_protocol.specs.Shown.{Shown};
 ghost use Rattle.rvm_protocol.specs.Told.{Told};
 ghost use Rattle.rvm_script.specs.Words.{lines};
 ghost use Rattle.rvm_world.specs.Worlds.{world_of};
-ghost use Rattle.rvm_world_script.specs.Runs.{IsWorldRun};
+ghost use Rattle.rvm_world_line.specs.WorldLines.{world_line_of};
+ghost use Rattle.rvm_world_script.specs.declared.script.WorldScriptError.TheVariants.{OutOfMemory, TooLong};
+ghost use Rattle.rvm_world_script.specs.Runs.{IsLineError, IsLineRun, IsUnread, IsWorldRun, standing};
 
+use crate::lines::{LineFault, do_line};
 use rvm_mem::PagedMemory;
+use rvm_script::{ScriptError, read_script, split_line};
 use rvm_world::World;
+use rvm_world_line::WorldLine;
 use std::alloc::Global;
 use std::io::{Read, Write};
 use thiserror::Error;
@@ -41,7 +46,10 @@ pub enum WorldScriptError {
 /// `TooLong` for more than 2^26 bytes and `OutOfMemory`: then nothing was written, and the world is as
 /// it was. `BadToken` at the first line that is not in the grammar: what the lines before it answered is
 /// written, and the world is as they left it. `LineOutOfMemory` at a line that found no memory: the
-/// same, and some of that line's events may have been made. `LinkFault` where a read or a write failed.
+/// same, but some events of a whole move may have been made; a line for the guest takes no memory.
+/// `LinkFault` where a read or a write failed: then the world is as some of the first lines left it, each
+/// of which was done to its end, the last too, whose answer was not written; none was done where a read
+/// failed.
 pub fn run_world_script<M: PagedMemory + Drop, R: Read, W: Write>(
     alloc: Global,
     world: &mut World<M>,
@@ -52,6 +60,68 @@ pub fn run_world_script<M: PagedMemory + Drop, R: Read, W: Write>(
         (t : Told Guest) → Shown (world_of world.old).hosts t
         → IsWorldRun result (lines script) (record { world = world_of world.old; told = t }) (world_of world.new)
         (W.contents writer.old) (W.contents writer.new)) }
+    ensures long { IfSome (R.remaining reader.old) (λ script. 2 ^ 26 < length script
+        → IsUnread result × (world.new ≡ world.old)
+        × (W.contents writer.new ≡ W.contents writer.old)) }
+    ensures too_long { result ≡ Err TooLong
+        → IfSome (R.remaining reader.old) (λ script. 2 ^ 26 < length script) }
+    ensures unread { (result ≡ Err TooLong) ⊎ (result ≡ Err OutOfMemory)
+        → (world.new ≡ world.old) × (W.contents writer.new ≡ W.contents writer.old) }
 {
-    todo
+    match read_script(alloc, reader) {
+        Ok(script) => run_lines(alloc, world, &script, writer),
+        Err(ScriptError::OutOfMemory) => Err(WorldScriptError::OutOfMemory),
+        Err(ScriptError::TooLong) => Err(WorldScriptError::TooLong),
+        Err(_) => Err(WorldScriptError::LinkFault),
+    }
+}
+
+/// Does what each line of a script asks for, and writes the answers.
+fn run_lines<M: PagedMemory + Drop, W: Write>(
+    alloc: Global,
+    world: &mut World<M>,
+    script: &[u8],
+    writer: &mut W,
+) -> Result<(), WorldScriptError>
+    ensures run { (t : Told Guest) → Shown (world_of world.old).hosts t
+        → IsWorldRun result (lines script.now) (standing (world_of world.old) t) (world_of world.new)
+        (W.contents writer.old) (W.contents writer.new) }
+    ensures refused { IfErr result IsLineError }
+{
+    world.reached();
+    let mut number = 0;
+    let mut rest = script;
+    while !rest.is_empty() {
+        let (line, behind) = split_line(rest);
+        number += 1;
+        if let Err(error) = run_line(alloc, world, number, line, writer) {
+            return Err(error);
+        }
+        rest = behind;
+    }
+    Ok(())
+}
+
+/// Does what the line with this number asks for, and writes its answer.
+fn run_line<M: PagedMemory + Drop, W: Write>(
+    alloc: Global,
+    world: &mut World<M>,
+    number: usize,
+    line: &[u8],
+    writer: &mut W,
+) -> Result<(), WorldScriptError>
+    ensures run { (t : Told Guest) → Shown (world_of world.old).hosts t
+        → IsLineRun result number (world_line_of (world_of world.old).count line.now)
+        (standing (world_of world.old) t) (world_of world.new)
+        (W.contents writer.old) (W.contents writer.new) }
+    ensures refused { IfErr result IsLineError }
+{
+    let Some(line) = WorldLine::read(line, world.hosts()) else {
+        return Err(WorldScriptError::BadToken(number));
+    };
+    match do_line(alloc, world, line, writer) {
+        Ok(()) => Ok(()),
+        Err(LineFault::OutOfMemory) => Err(WorldScriptError::LineOutOfMemory(number)),
+        Err(LineFault::LinkFault) => Err(WorldScriptError::LinkFault),
+    }
 }

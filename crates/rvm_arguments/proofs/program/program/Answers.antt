@@ -1,6 +1,6 @@
 use Rattle.std.proofs.Common.{rules, ◌≡◌, ◌∙◌, ap, ap₂}
 use Rattle.clap.specs.Simple.{App, app_of, with_subcommand}
-use Rattle.rvm_arguments.specs.Program.{asm, dis, run, top}
+use Rattle.rvm_arguments.specs.Program.{asm, debug, dis, run, top}
 use Rattle.rvm_arguments.proofs.program.program.Goals as goal
 
 -- src/program.rt:51:1
@@ -13,4 +13,6 @@ returns c =
     c.in_ok-subcommand-2.ensures.shape c.in_ok-asm_command.ensures.local ∙ ap₂ with_subcommand first (ap (λ (a : App). a.top) c.in_ok-asm_command.ensures.app) in
     let third : app_of c.in_ok-subcommand-3.field-0 ≡ with_subcommand (with_subcommand (with_subcommand top run.top) asm.top) dis.top =
     c.in_ok-subcommand-3.ensures.shape c.in_ok-dis_command.ensures.local ∙ ap₂ with_subcommand second (ap (λ (a : App). a.top) c.in_ok-dis_command.ensures.app) in
-    c.in_ok-subcommand-4.ensures.shape c.in_ok-debug_command.ensures.local ∙ ap₂ with_subcommand third (ap (λ (a : App). a.top) c.in_ok-debug_command.ensures.app)
+    let fourth : app_of c.in_ok-subcommand-4.field-0 ≡ with_subcommand (with_subcommand (with_subcommand (with_subcommand top run.top) asm.top) dis.top) debug.top =
+    c.in_ok-subcommand-4.ensures.shape c.in_ok-debug_command.ensures.local ∙ ap₂ with_subcommand third (ap (λ (a : App). a.top) c.in_ok-debug_command.ensures.app) in
+    c.in_ok-subcommand-5.ensures.shape c.in_ok-script_command.ensures.local ∙ ap₂ with_subcommand fourth (ap (λ (a : App). a.top) c.in_ok-script_command.ensures.app)

@@ -1,0 +1,78 @@
+-- How `script` ends, what it wrote to its output until then, and what it answers.
+use Rattle.std.specs.Prelude.{◌≡◌, ◌⊎◌, ℕ, ◌+◌, true, false, List, ◌++◌, length, Option, Some, None, Result, Ok, Err, IfOk, IfSome}
+use Rattle.std.specs.Io.KnownBytes.{Appends, Keeps}
+use Rattle.rvm_arguments.specs.declared.arguments.ScriptArguments.{ScriptArguments}
+use Rattle.rvm_command.specs.declared.refused.Refused.{Refused}
+use Rattle.rvm_command.specs.Command.{guest_of, image_of}
+use Rattle.rvm_command.specs.Ends.{IsLoadable, IsLoadRefusal}
+use Rattle.rvm_command.specs.Refusals.{refused}
+use Rattle.rvm_refusal.specs.declared.refusal.Refusal.TheVariants.{BadSize, OutOfMemory}
+use Rattle.rvm_script.specs.Words.{lines}
+use Rattle.rvm_world.specs.Worlds.{is_sized}
+use Rattle.rvm_world_command.specs.FirstWorld.{at_first, limits_of, version_asked}
+use Rattle.rvm_world_command.specs.Refusals.{refused_of_world_script}
+use Rattle.rvm_world_script.specs.declared.script.WorldScriptError.{WorldScriptError}
+use Rattle.rvm_world_script.specs.declared.script.WorldScriptError.TheVariants as script
+use Rattle.rvm_world_script.specs.WorldScript.{Standing, world_script_of}
+
+-- there is no world: so many hosts do not speak this version, or memory ran out
+abbrev pub IsWorldRefusal : (version hosts : ℕ) → Refused → Type 0
+IsWorldRefusal version hosts r =
+    ((r ≡ refused BadSize) × (is_sized version (limits_of hosts) ≡ false))
+    ⊎ ((r ≡ refused OutOfMemory) × (is_sized version (limits_of hosts) ≡ true))
+
+-- a script is refused before its first line: the guest is, or there is no world for it
+abbrev pub IsBeginRefusal : ScriptArguments → (file : List ℕ) → Refused → Type 0
+IsBeginRefusal a file r =
+    IsLoadRefusal (image_of a.guest.raw file) a.guest.pages r
+    ⊎ (IsLoadable (image_of a.guest.raw file) a.guest.pages × IsWorldRefusal (version_asked a) a.hosts r)
+
+-- what the lines before this one answer was written
+pub record IsCutShort (n : ℕ) (lines : List (List ℕ)) (s : Standing) (before after : Option (List ℕ)) : Type 0 where
+  pub done : List (List ℕ)
+  pub left : List (List ℕ)
+  pub whole : done ++ left ≡ lines
+  pub number : length done + 1 ≡ n
+  pub text : Appends before after (world_script_of done 1 s).text
+
+-- lines are answered to their end, to the one that is none, or to the one that found no memory; or nothing is answered, or a
+-- read or a write failed
+abbrev pub IsWorldScriptEnd : (lines : List (List ℕ)) → Standing → Result (Unit {0}) WorldScriptError
+    → (before after : Option (List ℕ)) → Type 0
+IsWorldScriptEnd ls s (Ok done) before after =
+    ((world_script_of ls 1 s).end ≡ None) × Appends before after (world_script_of ls 1 s).text
+IsWorldScriptEnd ls s (Err (script.BadToken n)) before after =
+    ((world_script_of ls 1 s).end ≡ Some n) × Appends before after (world_script_of ls 1 s).text
+IsWorldScriptEnd ls s (Err (script.LineOutOfMemory n)) before after = IsCutShort n ls s before after
+IsWorldScriptEnd ls s (Err script.TooLong) before after = Keeps before after
+IsWorldScriptEnd ls s (Err script.OutOfMemory) before after = Keeps before after
+IsWorldScriptEnd ls s (Err script.LinkFault) before after = Unit {0}
+
+-- the same of the script that a reader gives, where that is known
+abbrev pub IsWorldScriptEndOf : Option (List ℕ) → Standing → Result (Unit {0}) WorldScriptError
+    → (before after : Option (List ℕ)) → Type 0
+IsWorldScriptEndOf remaining s result before after =
+    IfSome remaining (λ text. IsWorldScriptEnd (lines text) s result before after)
+
+-- the same of the guest that an image is
+abbrev pub IsAnswered : ScriptArguments → (file : List ℕ) → (script : Option (List ℕ)) → Result (Unit {0}) WorldScriptError
+    → (before after : Option (List ℕ)) → Type 0
+IsAnswered a file text result before after =
+    IfOk (image_of a.guest.raw file) (λ i.
+    IsWorldScriptEndOf text (at_first (version_asked a) a.hosts (guest_of a.guest.harts a.guest.pages i.0 i.1))
+    result before after)
+
+-- there is a guest, and a world for it
+abbrev pub IsBegun : ScriptArguments → (file : List ℕ) → Type 0
+IsBegun a file =
+    IsLoadable (image_of a.guest.raw file) a.guest.pages
+    × (is_sized (version_asked a) (limits_of a.hosts) ≡ true)
+
+-- a script over hosts has ended, or was refused: before its first line, or at its end
+abbrev pub IsScriptEnd : ScriptArguments → (file : List ℕ) → (script : Option (List ℕ)) → Result (Unit {0}) Refused
+    → (before after : Option (List ℕ)) → Type 0
+IsScriptEnd a file text (Ok done) before after = IsBegun a file × IsAnswered a file text (Ok done) before after
+IsScriptEnd a file text (Err r) before after =
+    (IsBeginRefusal a file r × (after ≡ before))
+    ⊎ (IsBegun a file × ((e : WorldScriptError) × (r ≡ refused_of_world_script e)
+    × IsAnswered a file text (Err e) before after))

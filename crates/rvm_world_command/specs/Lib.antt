@@ -1,0 +1,3 @@
+pub mod FirstWorld
+pub mod Refusals
+pub mod Ends

@@ -1,0 +1,104 @@
+//! `rvmove script`: the answers to a script for hosts between which a guest moves.
+
+ghost use Rattle.std.specs.Prelude.{◌≡◌, ◌*◌, IfOk, IsErr, false};
+ghost use Rattle.rvm_command.specs.Command.{image_of};
+ghost use Rattle.rvm_command.specs.Ends.{Answers};
+ghost use Rattle.rvm_debug.specs.Guest.{Guest};
+ghost use Rattle.rvm_elf.specs.Load.{fits};
+ghost use Rattle.rvm_protocol.specs.Shown.{Shown};
+ghost use Rattle.rvm_protocol.specs.Told.{Told};
+ghost use Rattle.rvm_world.specs.Worlds.{is_sized, world_of};
+ghost use Rattle.rvm_world_command.specs.Ends.{IsScriptEnd, IsWorldScriptEndOf};
+ghost use Rattle.rvm_world_command.specs.FirstWorld.{limits_of, standing, version_asked};
+
+use crate::first_world::load_world;
+use crate::refused::refused_of;
+use rvm_arguments::ScriptArguments;
+use rvm_command::dis_command::flush;
+use rvm_command::refused::{Refused, tell};
+use rvm_mem::PagedMemory;
+use rvm_refusal::LinkFault;
+use rvm_world::World;
+use rvm_world_script::{WorldScriptError, run_world_script};
+use std::alloc::Global;
+use std::io::{Read, Write};
+
+/// Loads the guest whose file `image` is into the first of a world's hosts, does what each line of
+/// `script` asks for, and writes the answers to `output`. Each host takes guests of up to 4096 pages.
+/// Answers the status: 0, or 1 where it was refused; then `errors` gets the refusal in one line, and
+/// else nothing. The refusals are that of the file, `OutsideRam` for an image that does not lie in RAM,
+/// `BadSize` where so many hosts do not speak the version of streams, `TooLong` for a script of more
+/// than 2^26 bytes, and `OutOfMemory`, which leave `output` as it was; `BadToken` with its line where
+/// one is not in the grammar, and `OutOfMemory` with its line where one found no memory, after the
+/// answers to the lines before it; and `LinkFault` where a read or a write to `output` failed, of which
+/// a part may have gone out. Whether a reader or a writer fails is not said. `LinkFault` as the answer:
+/// a write to `errors` failed.
+pub fn script_command<R: Read, O: Write, E: Write>(
+    alloc: Global,
+    arguments: &ScriptArguments,
+    image: &[u8],
+    script: &mut R,
+    output: &mut O,
+    errors: &mut E,
+) -> Result<u8, LinkFault>
+    ensures status { IfOk result (λ status. Answers status
+        (λ end. IsScriptEnd arguments.now image.now (R.remaining script.old) end (O.contents output.old) (O.contents output.new))
+        (E.contents errors.old) (E.contents errors.new)) }
+    ensures fault { IsErr (image_of arguments.now.guest.raw image.now)
+        → O.contents output.new ≡ O.contents output.old }
+    ensures outside { IfOk (image_of arguments.now.guest.raw image.now) (λ i.
+        fits i.0 i.1 (4096 * arguments.now.guest.pages) ≡ false
+        → O.contents output.new ≡ O.contents output.old) }
+    ensures size { is_sized (version_asked arguments.now) (limits_of arguments.now.hosts) ≡ false
+        → O.contents output.new ≡ O.contents output.old }
+{
+    match answer_image(alloc, arguments, image, script, output) {
+        Ok(()) => Ok(1),
+        Err(refused) => tell(refused, errors),
+    }
+}
+
+/// The script itself.
+#[tactic(auto, using(crate::proofs::Ended::answered_first))]
+fn answer_image<R: Read, O: Write>(
+    alloc: Global,
+    arguments: &ScriptArguments,
+    image: &[u8],
+    script: &mut R,
+    output: &mut O,
+) -> Result<(), Refused>
+    ensures end { IsScriptEnd arguments.now image.now (R.remaining script.old) result
+        (O.contents output.old) (O.contents output.new) }
+    ensures fault { IsErr (image_of arguments.now.guest.raw image.now)
+        → O.contents output.new ≡ O.contents output.old }
+    ensures outside { IfOk (image_of arguments.now.guest.raw image.now) (λ i.
+        fits i.0 i.1 (4096 * arguments.now.guest.pages) ≡ false
+        → O.contents output.new ≡ O.contents output.old) }
+    ensures size { is_sized (version_asked arguments.now) (limits_of arguments.now.hosts) ≡ false
+        → O.contents output.new ≡ O.contents output.old }
+{
+    let mut world = load_world(alloc, arguments, image)?;
+    match answer(alloc, &mut world, script, output) {
+        Ok(()) => Ok(()),
+        Err(error) => Err(refused_of(error)),
+    }
+}
+
+/// Answers a script, and writes what the writer held back.
+#[tactic(auto, using(crate::proofs::Ended::script_ended, crate::proofs::Ended::link_failed))]
+fn answer<M: PagedMemory + Drop, R: Read, O: Write>(
+    alloc: Global,
+    world: &mut World<M>,
+    script: &mut R,
+    output: &mut O,
+) -> Result<(), WorldScriptError>
+    ensures { (t : Told Guest) → Shown (world_of world.old).hosts t
+        → IsWorldScriptEndOf (R.remaining script.old) (standing (world_of world.old) t) result
+        (O.contents output.old) (O.contents output.new) }
+{
+    let answered = run_world_script(alloc, world, script, output);
+    match flush(output) {
+        Ok(()) => answered,
+        Err(LinkFault) => Err(WorldScriptError::LinkFault),
+    }
+}

@@ -1,0 +1,6 @@
+mod Making
+mod Stepping
+mod Running
+mod Numbers
+mod Moving
+mod Examples

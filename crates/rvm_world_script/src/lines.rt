@@ -1,0 +1,313 @@
+//! What a line of a world's script does.
+
+ghost use Rattle.std.specs.Prelude.{◌≡◌, Some, OnOk};
+ghost use Rattle.std.specs.Io.KnownBytes.{Appends};
+ghost use Rattle.rvm_debug.specs.Guest.{Guest};
+ghost use Rattle.rvm_debug.specs.declared.event.BoardReply.TheVariants as answer;
+ghost use Rattle.rvm_guest.proofs.TheGuest.{board};
+ghost use Rattle.rvm_message.specs.Events.{command_of};
+ghost use Rattle.rvm_message.specs.Replies.{reply_of};
+ghost use Rattle.rvm_protocol.specs.Commands as commands;
+ghost use Rattle.rvm_protocol.specs.Replies.{Answered};
+ghost use Rattle.rvm_protocol.specs.Shown.{Shown};
+ghost use Rattle.rvm_protocol.specs.Told.{Told};
+ghost use Rattle.rvm_protocol.specs.World as protocol;
+ghost use Rattle.rvm_protocol.specs.World.{reply_to, step};
+ghost use Rattle.rvm_world.specs.Worlds.{meant, world_of};
+ghost use Rattle.rvm_world_script.specs.Runs.{IsBegun, IsDone, IsInput, IsSpentAsking, IsSpentIn, IsStepped, driven_text, standing};
+ghost use Rattle.rvm_world_script.specs.WorldScript.{asked_done, done_by, guest_done, host_in, inputs, is_taken, moved, replied, stepping, target};
+
+use rvm_debug::{BoardEvent, BoardReply};
+use rvm_mem::PagedMemory;
+use rvm_message::{Command, HostReply};
+use rvm_precopy::Policy;
+use rvm_refusal::LinkFault;
+use rvm_script::{HexText, Line, address_of, is_refused};
+use rvm_world::{Driven, Event, World, drive_move};
+use rvm_world_line::{
+    Asked, WorldLine, ends_steps, write_guest_reply, write_move_reply, write_steps_reply,
+};
+use std::alloc::{AllocError, Global};
+use std::io::Write;
+
+/// Why a line was not done to its end.
+#[derive(Clone, Copy, Debug, PartialEq, Eq)]
+pub enum LineFault {
+    /// Memory ran out before it was answered.
+    OutOfMemory,
+    /// Its answer could not be written.
+    LinkFault,
+}
+
+/// What steps of a hart answered.
+#[derive(Drop)]
+struct Steps {
+    /// How many there were.
+    count: u32,
+    /// The reply to the last.
+    last: HostReply,
+}
+
+/// Does what a line asks for, and writes its answer.
+pub fn do_line<M: PagedMemory + Drop, W: Write>(
+    alloc: Global,
+    world: &mut World<M>,
+    line: WorldLine,
+    writer: &mut W,
+) -> Result<(), LineFault>
+    ensures { (t : Told Guest) → Shown (world_of world.old).hosts t
+        → IsDone result (done_by line.entry (standing (world_of world.old) t))
+        (IsSpentIn (Some line.entry) (standing (world_of world.old) t) (world_of world.new)) (world_of world.new)
+        (W.contents writer.old) (W.contents writer.new) }
+{
+    match line {
+        WorldLine::Empty => Ok(()),
+        WorldLine::Host { host, asked } => {
+            let host = host_of(world, host);
+            do_asked(alloc, world, host, asked, writer)
+        }
+        WorldLine::Deliver(place) => do_event(alloc, world, &Event::Deliver(place as u64), writer),
+    }
+}
+
+/// The host that a line names, or the one that has the guest.
+fn host_of<M: PagedMemory + Drop>(world: &World<M>, host: Option<u8>) -> u8
+    ensures { (t : Told Guest) → Shown (world_of world.now).hosts t
+        → result ≡ host_in host (standing (world_of world.now) t) }
+{
+    match host {
+        Some(host) => host,
+        None => world.current(),
+    }
+}
+
+/// The target that a move names, or the other host of two.
+fn target(from: u8, to: Option<u8>) -> u8
+    ensures { result ≡ target from to }
+{
+    match to {
+        Some(to) => to,
+        None => 1u8.saturating_sub(from),
+    }
+}
+
+/// Does what a host is asked, and writes the answer.
+fn do_asked<M: PagedMemory + Drop, W: Write>(
+    alloc: Global,
+    world: &mut World<M>,
+    host: u8,
+    asked: Asked,
+    writer: &mut W,
+) -> Result<(), LineFault>
+    ensures { (t : Told Guest) → IsDone result (asked_done host asked.entry (standing (world_of world.old) t))
+        (IsSpentAsking asked.entry (standing (world_of world.old) t) (world_of world.new)) (world_of world.new)
+        (W.contents writer.old) (W.contents writer.new) }
+{
+    match asked {
+        Asked::Guest(line) => do_guest_line(alloc, world, host, line, writer),
+        Asked::Begin { to, policy } => {
+            let to = target(host, to);
+            do_command(alloc, world, host, Command::Begin { to, policy }, writer)
+        }
+        Asked::Move { to, policy } => {
+            let to = target(host, to);
+            do_move(alloc, world, host, to, policy, writer)
+        }
+        Asked::Copy => do_command(alloc, world, host, Command::Copy, writer),
+        Asked::Resend => do_command(alloc, world, host, Command::Resend, writer),
+        Asked::Abort => do_command(alloc, world, host, Command::Abort, writer),
+    }
+}
+
+/// Gives a host a command of a move, and writes its reply.
+fn do_command<M: PagedMemory + Drop, W: Write>(
+    alloc: Global,
+    world: &mut World<M>,
+    host: u8,
+    command: Command,
+    writer: &mut W,
+) -> Result<(), LineFault>
+    ensures { (t : Told Guest) → IsDone result
+        (replied (protocol.At host (command_of command)) (standing (world_of world.old) t))
+        (world_of world.new ≡ world_of world.old) (world_of world.new)
+        (W.contents writer.old) (W.contents writer.new) }
+{
+    do_event(alloc, world, &Event::At(host, command), writer)
+}
+
+/// Makes an event of a move, or lets a frame come, and writes the reply.
+fn do_event<M: PagedMemory + Drop, W: Write>(
+    alloc: Global,
+    world: &mut World<M>,
+    event: &Event,
+    writer: &mut W,
+) -> Result<(), LineFault>
+    ensures { (t : Told Guest) → IsDone result (replied (meant event.now) (standing (world_of world.old) t))
+        (world_of world.new ≡ world_of world.old) (world_of world.new)
+        (W.contents writer.old) (W.contents writer.new) }
+{
+    match world.apply(alloc, event) {
+        Ok(made) => match write_move_reply(writer, &made.reply, made.frame) {
+            Ok(()) => Ok(()),
+            Err(LinkFault) => Err(LineFault::LinkFault),
+        },
+        Err(AllocError) => Err(LineFault::OutOfMemory),
+    }
+}
+
+/// Moves the guest of a host, and writes how that ended.
+fn do_move<M: PagedMemory + Drop, W: Write>(
+    alloc: Global,
+    world: &mut World<M>,
+    from: u8,
+    to: u8,
+    policy: Policy,
+    writer: &mut W,
+) -> Result<(), LineFault>
+    ensures { (t : Told Guest) → IsDone result (moved from to policy (standing (world_of world.old) t))
+        (IsBegun (standing (world_of world.old) t) (world_of world.new)) (world_of world.new)
+        (W.contents writer.old) (W.contents writer.new) }
+{
+    world.reached();
+    match drive_move(alloc, world, from, to, policy) {
+        Ok(driven) => match write_driven(writer, driven) {
+            Ok(()) => Ok(()),
+            Err(LinkFault) => Err(LineFault::LinkFault),
+        },
+        Err(AllocError) => Err(LineFault::OutOfMemory),
+    }
+}
+
+/// Writes how a move ended.
+fn write_driven<W: Write>(writer: &mut W, driven: Driven) -> Result<(), LinkFault>
+    ensures { OnOk result (Appends (W.contents writer.old) (W.contents writer.new) (driven_text driven)) }
+{
+    match driven {
+        Driven::Moved(number, events) => writeln!(writer, "moved {number} events {events}")?,
+        Driven::Declined(limit) => writeln!(writer, "declined {limit}")?,
+        Driven::Refused(why) => write_move_reply(writer, &HostReply::Refused(why), None)?,
+    }
+    Ok(())
+}
+
+/// Does what a line for the guest asks for, and writes the answer.
+fn do_guest_line<M: PagedMemory + Drop, W: Write>(
+    alloc: Global,
+    world: &mut World<M>,
+    host: u8,
+    line: Line,
+    writer: &mut W,
+) -> Result<(), LineFault>
+    ensures { (t : Told Guest) → IsDone result (guest_done host line.entry (standing (world_of world.old) t))
+        ⊥ (world_of world.new)
+        (W.contents writer.old) (W.contents writer.new) }
+{
+    match ask_guest(alloc, world, host, line, writer) {
+        Ok(()) => Ok(()),
+        Err(LinkFault) => Err(LineFault::LinkFault),
+    }
+}
+
+/// Does what a line for the guest asks for, and writes the answer. Takes no memory.
+fn ask_guest<M: PagedMemory + Drop, W: Write>(
+    alloc: Global,
+    world: &mut World<M>,
+    host: u8,
+    line: Line,
+    writer: &mut W,
+) -> Result<(), LinkFault>
+    ensures text { (t : Told Guest) → OnOk result (Appends (W.contents writer.old) (W.contents writer.new)
+        (guest_done host line.entry (standing (world_of world.old) t)).text) }
+    ensures world { (t : Told Guest) → world_of world.new
+        ≡ (guest_done host line.entry (standing (world_of world.old) t)).standing.world }
+{
+    match line {
+        Line::Empty => Ok(()),
+        Line::Steps { hart, count } => {
+            let steps = make_steps(alloc, world, host, hart, count);
+            write_steps_reply(writer, hart, steps.count, &steps.last)
+        }
+        Line::Input(bytes) => {
+            let reply = input(alloc, world, host, bytes);
+            write_guest_reply(writer, None, &reply)
+        }
+        Line::Ask(event) => {
+            let address = address_of(&event);
+            let reply = ask(alloc, world, host, event);
+            write_guest_reply(writer, address, &reply)
+        }
+    }
+}
+
+/// Makes at most so many steps of a hart; ends early at a breakpoint, where the board is halted and
+/// where a step is refused.
+fn make_steps<M: PagedMemory + Drop>(
+    alloc: Global,
+    world: &mut World<M>,
+    host: u8,
+    hart: u32,
+    count: u32,
+) -> Steps
+    ensures { (t : Told Guest) → IsStepped
+        (stepping host hart count 0 (Answered answer.Retired) (standing (world_of world.old) t))
+        (world_of world.new) result.count (reply_of result.last) }
+{
+    let mut last = HostReply::Board(BoardReply::Retired);
+    let mut made = 0;
+    while made < count && !ends_steps(&last) {
+        last = ask(alloc, world, host, BoardEvent::Step(hart));
+        made += 1;
+    }
+    Steps { count: made, last }
+}
+
+/// Bytes come to the console, up to the first that is not taken: the reply to the last that came.
+fn input<M: PagedMemory + Drop>(
+    alloc: Global,
+    world: &mut World<M>,
+    host: u8,
+    bytes: HexText,
+) -> HostReply
+    ensures { (t : Told Guest) → IsInput
+        (inputs host bytes.entry (Answered answer.Done) (standing (world_of world.old) t))
+        (world_of world.new) (reply_of result) }
+{
+    let mut left = bytes;
+    let mut last = HostReply::Board(BoardReply::Done);
+    while let Some((byte, behind)) = left.split_first() {
+        last = ask(alloc, world, host, BoardEvent::Input(byte));
+        if !is_taken(&last) {
+            return last;
+        }
+        left = behind;
+    }
+    last
+}
+
+/// Whether a byte was taken.
+fn is_taken(reply: &HostReply) -> bool
+    ensures { result ≡ is_taken (reply_of reply.now) }
+{
+    match reply {
+        HostReply::Board(answer) => !is_refused(answer),
+        _ => false,
+    }
+}
+
+/// Gives the guest at a host an event.
+fn ask<M: PagedMemory + Drop>(
+    alloc: Global,
+    world: &mut World<M>,
+    host: u8,
+    event: BoardEvent,
+) -> HostReply
+    ensures reply { reply_of result
+        ≡ reply_to board (world_of world.old) (protocol.At host (commands.Board event)) }
+    ensures next { world_of world.new
+        ≡ step board (world_of world.old) (protocol.At host (commands.Board event)) }
+{
+    match world.apply(alloc, &Event::At(host, Command::Board(event))) {
+        Ok(made) => made.reply,
+        Err(_) => unreachable!(),
+    }
+}
