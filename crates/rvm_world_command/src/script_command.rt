@@ -53,7 +53,7 @@ pub fn script_command<R: Read, O: Write, E: Write>(
         → O.contents output.new ≡ O.contents output.old }
 {
     match answer_image(alloc, arguments, image, script, output) {
-        Ok(()) => Ok(1),
+        Ok(()) => Ok(0),
         Err(refused) => tell(refused, errors),
     }
 }
