@@ -9,7 +9,8 @@ ghost use Rattle.std.specs.Prelude.{◌≡◌, ◌⊎◌};
 
 use clap::Error;
 use rvm_arguments::{
-    Arguments, AsmArguments, DisArguments, GuestArguments, RunArguments, ScriptArguments, parse_args,
+    Arguments, AsmArguments, DisArguments, GuestArguments, RunArguments, ScriptArguments,
+    parse_args,
 };
 use rvm_command::asm_command::asm_command;
 use rvm_command::debug_command::debug_command;
@@ -138,7 +139,15 @@ fn script<Rt: Files + AllocGlobal, O: Write, E: Write>(
         return refuse(errors, Refusal::OutOfMemory);
     };
     let mut lines = script.as_slice();
-    script_command(rt.alloc(), arguments, &image, &mut lines, &mut output, errors).unwrap_or(1)
+    script_command(
+        rt.alloc(),
+        arguments,
+        &image,
+        &mut lines,
+        &mut output,
+        errors,
+    )
+    .unwrap_or(1)
 }
 
 /// Tells of a refusal, and answers the status 1.

@@ -13,6 +13,7 @@ mod ReadFrames
 mod CurrentHost
 mod OtherHosts
 pub mod Runs
+pub mod OneCurrent
 pub mod OneGuestHolds
 pub mod NoStalePages
 pub mod Causes

@@ -23,7 +23,8 @@ use Rattle.rvm_protocol.specs.Replies.{Reply, Refused, BadHost, NoFrame}
 use Rattle.rvm_protocol.specs.World.{Event, At, Deliver, and_sent, frame_for, happened, meaning, new_world, reply_or, reply_to, result_at, run, step, world_at}
 use Rattle.rvm_core.specs.Bounds.{CanBePosted}
 use Rattle.rvm_core.specs.Hosts.{PlainHost, Steps, host_of, new_host, step_of}
-use Rattle.rvm_world.specs.Worlds.{BoardWorld, IsKept, IsReached, IsWorld, Kept, Placed, PlainWorld, frame_in, host_at, is_sized, kept_of, no_kept, posted, world_of}
+use Rattle.rvm_world.specs.Worlds.{BoardWorld, IsKept, IsReached, IsWorld, Kept, Placed, PlainWorld, current_after, frame_in, host_at, is_sized, kept_of, no_kept, posted, world_of}
+use Rattle.rvm_world.proofs.Current.{moves_on}
 use Rattle.rvm_world.proofs.Keeping.{kept_made, posted_kept}
 
 -- HOSTS
@@ -51,13 +52,14 @@ limits_stay xs p v lt same =
 
 -- ONE EVENT
 
--- a world with another host at a place, and these frames
-abbrev pub with_host : PlainWorld → ℕ → PlainHost → List Kept → PlainWorld
-with_host w x h sent = record { version = w.version; hosts = set w.hosts x h; sent = sent }
+-- a world with another host at a place, these frames, and the guest at this host
+abbrev pub with_host : PlainWorld → ℕ → PlainHost → List Kept → ℕ → PlainWorld
+with_host w x h sent current =
+    record { version = w.version; hosts = set w.hosts x h; sent = sent; current = current }
 
 -- a world after an event at a host of it
-abbrev pub after : PlainWorld → ℕ → Option Addressed → PlainHost → PlainWorld
-after w x frame h = record w { hosts = set w.hosts x h; sent = w.sent ++ posted w.version frame }
+abbrev pub after : PlainWorld → ℕ → Option Addressed → PlainHost → ℕ → PlainWorld
+after w x frame h current = with_host w x h (w.sent ++ posted w.version frame) current
 
 -- a reply and a world after it are those of the law at a host
 pub record Happens (w new : PlainWorld) (x : ℕ) (e : BoardHostEvent) (answer : HostReply) : Type 0 where
@@ -83,10 +85,10 @@ made_here w x most o is lt p =
     (is.placed x lt).writes
     (kept_made (host_at w.hosts x) most o w.sent p)
 
-happens : (w : PlainWorld) (x most : ℕ) (e : BoardHostEvent) (a : HostReply × Option Addressed) (h : PlainHost)
+happens : (w : PlainWorld) (x most now : ℕ) (e : BoardHostEvent) (a : HostReply × Option Addressed) (h : PlainHost)
     → IsWorld w → x < length w.hosts → Steps (host_at w.hosts x) e a h → CanBePosted (host_at w.hosts x) most a.1
-    → Happens w (after w x a.1 h) x e a.0
-happens w x most e a h is lt s p =
+    → Happens w (after w x a.1 h now) x e a.0
+happens w x most now e a h is lt s p =
     let same = same_step w x e (is.placed x lt) in
     let stays : h.limit ≡ (host_at w.hosts x).limit = ap (λ (z : PlainHost). z.limit) s.rest in
     let count = length-set w.hosts x h in
@@ -163,14 +165,20 @@ deliver_refused w k le =
       turned = ap (happened board W) (sym past);
     }
 
+deliver_there : (w : PlainWorld) (k : ℕ) (kept : Kept) (frame : BoardFrame) → k < length w.sent
+    → kept ≡ get_or w.sent k kept → frame ≡ frame_in w.version kept.bytes
+    → meaning board (world_of w) (Deliver k) ≡ Some (kept.to, Came kept.from frame)
+deliver_there w k kept frame lt is reads =
+    ap (frame_for {E = BoardEvent} board) (sent_there (kept_of w.version) w.sent k kept lt
+    ∙ (λ i. Some (record { from = (sym is i).from; to = (sym is i).to; frame = frame_in w.version (sym is i).bytes }))
+    ∙ (λ i. Some (record { from = kept.from; to = kept.to; frame = sym reads i })))
+
 deliver_turned : (w new : PlainWorld) (k : ℕ) (kept : Kept) (frame : BoardFrame) (answer : HostReply)
     → k < length w.sent → kept ≡ get_or w.sent k kept → frame ≡ frame_in w.version kept.bytes
     → Happens w new kept.to (Came kept.from frame) answer → Turned w new (Deliver k) (reply_of answer)
 deliver_turned w new k kept frame answer lt is reads h =
     let W = world_of w in
-    let there = ap (frame_for {E = BoardEvent} board) (sent_there (kept_of w.version) w.sent k kept lt
-    ∙ (λ i. Some (record { from = (sym is i).from; to = (sym is i).to; frame = frame_in w.version (sym is i).bytes }))
-    ∙ (λ i. Some (record { from = kept.from; to = kept.to; frame = sym reads i }))) in
+    let there = deliver_there w k kept frame lt is reads in
     record {
       replied = h.replied ∙ ap (reply_or board W (Refused NoFrame)) (sym there);
       turned = h.turned ∙ ap (happened board W) (sym there);
@@ -253,11 +261,14 @@ kept_still w x most o is lt p k lk =
           (news (k - length w.sent) (omega (arith, lk, all, past)))
     ]
 
-stays_world : (w : PlainWorld) (x most : ℕ) (ev : Event BoardEvent) (e : BoardHostEvent)
+stays_world : (w : PlainWorld) (x most now : ℕ) (ev : Event BoardEvent) (e : BoardHostEvent)
     (a : HostReply × Option Addressed) (h : PlainHost) → IsWorld w → x < length w.hosts
     → Steps (host_at w.hosts x) e a h → CanBePosted (host_at w.hosts x) most a.1
-    → world_of (after w x a.1 h) ≡ step board (world_of w) ev → IsWorld (after w x a.1 h)
-stays_world w x most ev e a h is lt s p turned =
+    → world_of (after w x a.1 h now) ≡ step board (world_of w) ev → meaning board (world_of w) ev ≡ Some (x, e)
+    → now ≡ current_after e (reply_of a.0) w.current → IsWorld (after w x a.1 h now)
+stays_world w x most now ev e a h is lt s p turned means moved =
+    let W = world_of w in
+    let reply = s.reply ∙ ap (λ (r : Answer). r.reply) (same_step w x e (is.placed x lt)) in
     let count = length-set w.hosts x h in
     let limit : h.limit ≡ (host_at w.hosts x).limit = ap (λ (z : PlainHost). z.limit) s.rest in
     record {
@@ -267,7 +278,11 @@ stays_world w x most ev e a h is lt s p turned =
       kept = λ k lk.
           subst (λ z. IsKept w.version z (get_or (w.sent ++ posted w.version a.1) k no_kept)) (sym count)
           (kept_still w x most a.1 is lt p k lk);
-      reached = reached_more (world_of w) (world_of (after w x a.1 h)) ev turned is.reached;
+      reached = reached_more W (world_of (after w x a.1 h now)) ev turned is.reached;
+      current = λ t shown.
+          moved ∙ ap (λ r. current_after e r w.current) reply
+          ∙ moves_on W (world_of (after w x a.1 h now)) ev x e w.current is.reached is.current means
+          (turned ∙ ap (happened board W) means) t shown;
     }
 
 -- a reply, and a world after it, of an event: it is one still
@@ -292,50 +307,53 @@ pub at_becomes : (w : PlainWorld) (sent : List Kept) (x most : ℕ) (c : Command
     (a : HostReply × Option Addressed) (old h : PlainHost) → IsWorld w → x < length w.hosts
     → old ≡ get_or w.hosts x old → Steps old (Do c) a h → CanBePosted old most a.1
     → sent ≡ w.sent ++ posted w.version a.1
-    → Becomes w (with_host w x h sent) (At x c) (reply_of a.0)
+    → Becomes w (with_host w x h sent w.current) (At x c) (reply_of a.0)
 at_becomes w sent x most c a old h is lt here s p all =
     let one = is_host w.hosts x old lt here in
     let s' = subst (λ z. Steps z (Do c) a h) one s in
     let p' = subst (λ z. CanBePosted z most a.1) one p in
-    let t = at_turned w (after w x a.1 h) x c a.0 lt (happens w x most (Do c) a h is lt s' p') in
-    subst (λ z. Becomes w (with_host w x h z) (At x c) (reply_of a.0)) (sym all)
+    let now = w.current in
+    let t = at_turned w (after w x a.1 h now) x c a.0 lt (happens w x most now (Do c) a h is lt s' p') in
+    subst (λ z. Becomes w (with_host w x h z now) (At x c) (reply_of a.0)) (sym all)
     (record {
       replied = t.replied;
       turned = t.turned;
-      stays = stays_world w x most (At x c) (Do c) a h is lt s' p' t.turned;
+      stays = stays_world w x most now (At x c) (Do c) a h is lt s' p' t.turned (at_there (world_of w) x c lt) refl;
     })
 
 -- a frame comes to its host
-pub deliver_becomes : (w : PlainWorld) (sent : List Kept) (k : ℕ) (kept : Kept) (from to most : ℕ) (frame : BoardFrame)
+pub deliver_becomes : (w : PlainWorld) (sent : List Kept) (k : ℕ) (kept : Kept) (from to most now : ℕ) (frame : BoardFrame)
     (a : HostReply × Option Addressed) (old h : PlainHost) → IsWorld w → k < length w.sent
     → kept ≡ get_or w.sent k kept → from ≡ kept.from → to ≡ kept.to → frame ≡ frame_in w.version kept.bytes
     → to < length w.hosts → old ≡ get_or w.hosts to old → Steps old (Came from frame) a h → CanBePosted old most a.1
     → sent ≡ w.sent ++ posted w.version a.1
-    → Becomes w (with_host w to h sent) (Deliver k) (reply_of a.0)
-deliver_becomes w sent k kept from to most frame a old h is lk same ef et reads lt here s p all =
+    → now ≡ current_after (Came from frame) (reply_of a.0) w.current
+    → Becomes w (with_host w to h sent now) (Deliver k) (reply_of a.0)
+deliver_becomes w sent k kept from to most now frame a old h is lk same ef et reads lt here s p all moved =
     let one = is_host w.hosts to old lt here in
     let s' = subst (λ z. Steps z (Came from frame) a h) one s in
     let p' = subst (λ z. CanBePosted z most a.1) one p in
-    let hap = happens w to most (Came from frame) a h is lt s' p' in
-    let new = after w to a.1 h in
+    let hap = happens w to most now (Came from frame) a h is lt s' p' in
+    let new = after w to a.1 h now in
+    let means = deliver_there w k kept frame lk same reads ∙ (λ i. Some (sym et i, Came (sym ef i) frame)) in
     let t = deliver_turned w new k kept frame a.0 lk same reads
     (subst (λ z. Happens w new z (Came kept.from frame) a.0) et
     (subst (λ z. Happens w new to (Came z frame) a.0) ef hap)) in
-    subst (λ z. Becomes w (with_host w to h z) (Deliver k) (reply_of a.0)) (sym all)
+    subst (λ z. Becomes w (with_host w to h z now) (Deliver k) (reply_of a.0)) (sym all)
     (record {
       replied = t.replied;
       turned = t.turned;
-      stays = stays_world w to most (Deliver k) (Came from frame) a h is lt s' p' t.turned;
+      stays = stays_world w to most now (Deliver k) (Came from frame) a h is lt s' p' t.turned means moved;
     })
 
 -- REFUSED GROWTHS
 
 -- a host that stays as it was read, and no frame more
 pub unchanged : (w : PlainWorld) (x : ℕ) (old h : PlainHost) (sent : List Kept) → h ≡ old
-    → old ≡ get_or w.hosts x old → sent ≡ w.sent → with_host w x h sent ≡ w
+    → old ≡ get_or w.hosts x old → sent ≡ w.sent → with_host w x h sent w.current ≡ w
 unchanged w x old h sent stays here same =
     let hosts = ap (set w.hosts x) (stays ∙ here) ∙ set-get_or w.hosts x old in
-    λ i. record { version = w.version; hosts = hosts i; sent = same i }
+    λ i. record { version = w.version; hosts = hosts i; sent = same i; current = w.current }
 
 pub on_err : {A E : Type 0} → (r : Result A E) → (P : Type 0) → P → OnErr r P
 on_err (Ok a) P p = tt

@@ -1,3 +1,4 @@
+mod Current
 mod Keeping
 mod Happenings
 mod NewWorlds

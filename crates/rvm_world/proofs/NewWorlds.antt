@@ -14,7 +14,8 @@ use Rattle.rvm_protocol.specs.Told.{at_start}
 use Rattle.rvm_protocol.specs.World.{new_world, run}
 use Rattle.rvm_protocol.specs.World as worlds
 use Rattle.rvm_core.specs.Hosts.{PlainHost, host_of, new_host}
-use Rattle.rvm_world.specs.Worlds.{AreNew, BoardWorld, IsWorld, Placed, PlainWorld, host_at, is_sized, limit_at, world_of}
+use Rattle.rvm_world.specs.Worlds.{AreNew, BoardWorld, IsReached, IsWorld, Placed, PlainWorld, host_at, is_sized, limit_at, world_of}
+use Rattle.rvm_world.proofs.Current.{same_current}
 
 -- ONE MORE HOST
 
@@ -106,7 +107,7 @@ module _ (g : GuestState) (version : ℕ) (limits : List ℕ) (hosts : List Plai
       ])
 
   abbrev world : PlainWorld
-  world = record { version = version; hosts = hosts; sent = [] }
+  world = record { version = version; hosts = hosts; sent = []; current = 0 }
 
   pub world_is : world_of world ≡ new_world board version g.guest (length limits) (limit_at limits)
   world_is =
@@ -126,6 +127,18 @@ module _ (g : GuestState) (version : ℕ) (limits : List ℕ) (hosts : List Plai
       get_or-map (λ (h : PlainHost). h.limit) hosts i (new_host None i 0 0 0) 0 inside
       ∙ ap (λ (h : PlainHost). h.limit) (new.each i (subst (λ z. i < z) new.count inside)))
 
+  new_reached : is_valid g.guest ≡ true → IsReached (world_of world)
+  new_reached valid =
+      record {
+        start = g.guest;
+        limits = limit_at limits;
+        before = [];
+        valid = valid;
+        reached = world_is
+            ∙ (λ i. new_world board version g.guest (sym new.count i) (limit_at limits))
+            ∙ sym (no_event (new_world board version g.guest (length hosts) (limit_at limits)));
+      }
+
   pub new_is_world : is_valid g.guest ≡ true → IsWorld world
   new_is_world valid =
       record {
@@ -135,13 +148,7 @@ module _ (g : GuestState) (version : ℕ) (limits : List ℕ) (hosts : List Plai
             (subst (λ h. Placed version (length limits) x h) (sym (new.each x (subst (λ z. x < z) new.count lt)))
             (record { named = refl; counts = refl; writes = refl }));
         kept = λ k lt. absurd (omega (arith, lt));
-        reached = record {
-          start = g.guest;
-          limits = limit_at limits;
-          before = [];
-          valid = valid;
-          reached = world_is
-              ∙ (λ i. new_world board version g.guest (sym new.count i) (limit_at limits))
-              ∙ sym (no_event (new_world board version g.guest (length hosts) (limit_at limits)));
-        };
+        reached = new_reached valid;
+        current = λ t shown.
+            same_current (world_of world) (new_reached valid) (at_start g.guest) t new_shown shown;
       }

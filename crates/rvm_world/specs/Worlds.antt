@@ -10,12 +10,14 @@ use Rattle.rvm_frame.specs.Grammar.{HasSpelling, Received, sent, spelling}
 use Rattle.rvm_frame.specs.Verdict.{one_frame_of, verdict}
 use Rattle.rvm_guest.proofs.TheGuest.{board}
 use Rattle.rvm_guest.specs.Valid.{is_valid}
-use Rattle.rvm_message.specs.Events.{command_of}
+use Rattle.rvm_message.specs.Events.{BoardHostEvent, command_of}
 use Rattle.rvm_message.specs.Frames.{BoardFrame, frame_heard, no_frame}
 use Rattle.rvm_message.specs.Replies.{reply_of}
-use Rattle.rvm_protocol.specs.Commands.{Board}
+use Rattle.rvm_protocol.specs.Commands.{Board, Came}
 use Rattle.rvm_protocol.specs.Frames as frames
-use Rattle.rvm_protocol.specs.Replies.{Reply}
+use Rattle.rvm_protocol.specs.Replies.{Reply, Committed}
+use Rattle.rvm_protocol.specs.Shown.{Shown}
+use Rattle.rvm_protocol.specs.Told.{Told}
 use Rattle.rvm_protocol.specs.World as protocol
 use Rattle.rvm_core.specs.Hosts.{PlainHost, host_of, new_host}
 use Rattle.rvm_world.specs.declared.event.Event.{Event}
@@ -28,11 +30,12 @@ pub record Kept : Type 0 where
   pub to : ℕ
   pub bytes : List ℕ
 
--- the version of its streams, its hosts in order, and each frame that was sent, oldest first
+-- the version of its streams, its hosts in order, each frame that was sent, oldest first, and the host of the guest
 pub record PlainWorld : Type 0 where
   pub version : ℕ
   pub hosts : List PlainHost
   pub sent : List Kept
+  pub current : ℕ
 
 -- the frame that bytes are in a stream of a version
 abbrev pub frame_or : {F : Type 0} → Result Received F → BoardFrame
@@ -95,6 +98,11 @@ meant (event.Deliver k) = protocol.Deliver k
 abbrev pub said : WorldReply → Reply BoardReply
 said r = reply_of r.reply
 
+-- the host of the guest after a reply: the sender of a frame that is answered Committed
+abbrev pub current_after : BoardHostEvent → Reply BoardReply → (current : ℕ) → ℕ
+current_after (Came from frame) (Committed n) current = from
+current_after e r current = current
+
 -- an event of the guest takes no memory
 abbrev pub asks_memory : protocol.Event BoardEvent → Bool
 asks_memory (protocol.At x (Board e)) = false
@@ -140,12 +148,14 @@ pub record IsKept (version count : ℕ) (k : Kept) : Type 0 where
   pub receiver : k.to < count
   pub readable : is_frame version k.bytes ≡ true
 
--- its numbers are within their limits, each host stands at its place, each frame can be read, and some events made it
+-- its numbers are within their limits, each host stands at its place, each frame can be read, some events made it, and
+-- the guest is where it says
 pub record IsWorld (w : PlainWorld) : Type 0 where
   pub sized : is_sized w.version (map (λ h. h.limit) w.hosts) ≡ true
   pub placed : (x : ℕ) → x < length w.hosts → Placed w.version (length w.hosts) x (host_at w.hosts x)
   pub kept : (k : ℕ) → k < length w.sent → IsKept w.version (length w.hosts) (get_or w.sent k no_kept)
   pub reached : IsReached (world_of w)
+  pub current : (t : Told Guest) → Shown (world_of w).hosts t → w.current ≡ t.current
 
 -- the first so many hosts of a new world: the guest is at the first of them
 pub record AreNew (g : GuestState) (version : ℕ) (limits : List ℕ) (n : ℕ) (hosts : List PlainHost) : Type 0 where

@@ -2,16 +2,19 @@
 
 ghost use Rattle.std.specs.Prelude.{◌≡◌, ◌^◌, ◌↔◌, ◌<◌, ◌≤◌, length, get_or, true, false, IfOk, IfErr, OnOk, OnErr, IfSome, None};
 ghost use Rattle.rvm_core.specs.Hosts.{version_of};
+ghost use Rattle.rvm_debug.specs.Guest.{Guest};
 ghost use Rattle.rvm_guest.proofs.TheGuest.{board};
 ghost use Rattle.rvm_guest.specs.Valid.{is_valid};
 ghost use Rattle.rvm_message.specs.Events.{command_of};
+ghost use Rattle.rvm_message.specs.Frames.{BoardFrame};
 ghost use Rattle.rvm_message.specs.Replies.{reply_of};
+ghost use Rattle.rvm_protocol.specs.Commands.{Came};
 ghost use Rattle.rvm_protocol.specs.Shown.{Shown};
-ghost use Rattle.rvm_protocol.specs.Told.{at_start};
+ghost use Rattle.rvm_protocol.specs.Told.{Told, at_start};
 ghost use Rattle.rvm_protocol.specs.World as protocol;
 ghost use Rattle.rvm_protocol.specs.World.{reply_to, step, new_world};
 ghost use Rattle.rvm_world.specs.declared.error.WorldError.TheVariants.{BadSize};
-ghost use Rattle.rvm_world.specs.Worlds.{IsReached, asks_memory, is_sized, limit_at, meant, no_kept, place_of, world_of};
+ghost use Rattle.rvm_world.specs.Worlds.{IsReached, asks_memory, current_after, is_sized, limit_at, meant, no_kept, place_of, world_of};
 
 use crate::error::WorldError;
 use crate::event::{Event, WorldReply};
@@ -25,12 +28,14 @@ use rvm_message::{Command, HostRefusal, HostReply};
 use std::alloc::{AllocError, Global};
 use std::marker::Model;
 
-/// Two to eight hosts, and the bytes of each frame that was sent, oldest first.
+/// Two to eight hosts, the bytes of each frame that was sent, oldest first, and the number of the host
+/// that has the guest.
 #[derive(Drop)]
 pub struct World<M: PagedMemory + Drop> {
     version: u32,
     hosts: Vec<Host<M>>,
     sent: Vec<Sent>,
+    current: u8,
 }
 
 impl<M: PagedMemory + Drop> Model for World<M> {
@@ -38,12 +43,13 @@ impl<M: PagedMemory + Drop> Model for World<M> {
 
     ghost Value = { PlainWorld };
 
-    ghost view = { λ w. record { version = w.version; hosts = w.hosts.items; sent = w.sent.items } };
+    ghost view = { λ w. record { version = w.version; hosts = w.hosts.items; sent = w.sent.items; current = w.current } };
 
     ghost invariant = { λ w. IsWorld (record {
       version = w.version;
       hosts = w.hosts.items;
       sent = w.sent.items;
+      current = w.current;
     }) };
 }
 
@@ -77,6 +83,7 @@ impl<M: PagedMemory + Drop> World<M> {
                     version,
                     hosts,
                     sent: Vec::new(alloc),
+                    current: 0,
                 })
             }
             Err(_) => Err((WorldError::OutOfMemory, guest)),
@@ -115,6 +122,14 @@ impl<M: PagedMemory + Drop> World<M> {
         ensures { result ≡ length self.now.hosts }
     {
         self.hosts.len() as u8
+    }
+
+    /// The host that has the guest, running or paused: the target of the last move that was committed,
+    /// at first host 0.
+    pub fn current(&self) -> u8
+        ensures { (t : Told Guest) → Shown (world_of self.now).hosts t → result ≡ t.current }
+    {
+        self.current
     }
 
     /// How many frames were sent.
@@ -203,8 +218,19 @@ impl<M: PagedMemory + Drop> World<M> {
         let bytes = make_room(alloc, &mut self.sent, bound)?;
         let host = &mut self.hosts[to as usize];
         let (reply, made) = host.came(alloc, from, &frame)?;
+        self.current = current_after(&reply, from, self.current);
         let frame = post(self.version, &mut self.sent, made, bytes);
         Ok(WorldReply { reply, frame })
+    }
+}
+
+/// The host of the guest after a frame from this host was answered so.
+fn current_after(reply: &HostReply, from: u8, current: u8) -> u8
+    ensures { (frame : BoardFrame) → result ≡ current_after (Came from frame) (reply_of reply.now) current }
+{
+    match reply {
+        HostReply::Committed(_) => from,
+        _ => current,
     }
 }
 

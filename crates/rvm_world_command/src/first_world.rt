@@ -57,13 +57,7 @@ fn asked_version(arguments: &ScriptArguments) -> u32
 {
     match arguments.stream {
         Some(version) => version,
-        None => {
-            if arguments.hosts == 2 {
-                1
-            } else {
-                3
-            }
-        }
+        None => { if arguments.hosts == 2 { 1 } else { 3 } }
     }
 }
 

@@ -15,7 +15,7 @@ use Rattle.rvm_world.proofs.world.World.at.Goals as goal
 pub returns-then-host-len-clause-reply : goal.returns-then-host-len-clause-reply
 returns-then-host-len-clause-reply g c =
     let f = c.self.inside in
-    let w : PlainWorld = record { version = f.version; hosts = f.hosts.items; sent = f.sent.items } in
+    let w : PlainWorld = record { version = f.version; hosts = f.hosts.items; sent = f.sent.items; current = f.current } in
     let ev = At c.args.host (command_of c.args.command.now) in
     let past = subst (λ z. z ≤ c.args.host) (c.len.ensures ∙ f.hosts.ok.0) c.if-host-len.true in
     ap reply_of c.refused.ensures.reply
@@ -25,7 +25,7 @@ returns-then-host-len-clause-reply g c =
 pub returns-then-host-len-clause-next : goal.returns-then-host-len-clause-next
 returns-then-host-len-clause-next g c =
     let f = c.self.inside in
-    let w : PlainWorld = record { version = f.version; hosts = f.hosts.items; sent = f.sent.items } in
+    let w : PlainWorld = record { version = f.version; hosts = f.hosts.items; sent = f.sent.items; current = f.current } in
     let past = subst (λ z. z ≤ c.args.host) (c.len.ensures ∙ f.hosts.ok.0) c.if-host-len.true in
     subst (λ z. world_of z ≡ step board (world_of z) (At c.args.host (command_of c.args.command.now))) c.self.view_is
     (at_refused w c.args.host (command_of c.args.command.now) past).turned
@@ -33,7 +33,7 @@ returns-then-host-len-clause-next g c =
 pub invariant_of-self-in_err-reply : goal.invariant_of-self-in_err-reply
 invariant_of-self-in_err-reply g c =
     let f = c.self.inside in
-    let w : PlainWorld = record { version = f.version; hosts = f.hosts.items; sent = f.sent.items } in
+    let w : PlainWorld = record { version = f.version; hosts = f.hosts.items; sent = f.sent.items; current = f.current } in
     let back = unchanged w c.args.host c.index_mut-host.result.now c.obey.new.self c.make_room.new.sent.items
     c.in_err-reply.ensures.err c.index_mut-host.ensures.value c.make_room.ensures.sent in
     subst IsWorld (sym back) c.self.invariant
@@ -41,7 +41,7 @@ invariant_of-self-in_err-reply g c =
 pub returns-in_err-reply-clause-err : goal.returns-in_err-reply-clause-err
 returns-in_err-reply-clause-err g c =
     let f = c.self.inside in
-    let w : PlainWorld = record { version = f.version; hosts = f.hosts.items; sent = f.sent.items } in
+    let w : PlainWorld = record { version = f.version; hosts = f.hosts.items; sent = f.sent.items; current = f.current } in
     let back = unchanged w c.args.host c.index_mut-host.result.now c.obey.new.self c.make_room.new.sent.items
     c.in_err-reply.ensures.err c.index_mut-host.ensures.value c.make_room.ensures.sent in
     on_err c.from_residual-in_err-reply.result _ (back ∙ c.self.view_is)
@@ -65,7 +65,7 @@ post-frame-requires-clause-fits g c =
 pub invariant_of-self-2 : goal.invariant_of-self-2
 invariant_of-self-2 g c =
     let f = c.self.inside in
-    let w : PlainWorld = record { version = f.version; hosts = f.hosts.items; sent = f.sent.items } in
+    let w : PlainWorld = record { version = f.version; hosts = f.hosts.items; sent = f.sent.items; current = f.current } in
     let k = command_of c.args.command.now in
     let r = c.in_ok-reply in
     let old = c.index_mut-host.result.now in
@@ -77,7 +77,7 @@ invariant_of-self-2 g c =
 pub returns-clause-reply : goal.returns-clause-reply
 returns-clause-reply g c =
     let f = c.self.inside in
-    let w : PlainWorld = record { version = f.version; hosts = f.hosts.items; sent = f.sent.items } in
+    let w : PlainWorld = record { version = f.version; hosts = f.hosts.items; sent = f.sent.items; current = f.current } in
     let k = command_of c.args.command.now in
     let r = c.in_ok-reply in
     let old = c.index_mut-host.result.now in
@@ -90,11 +90,11 @@ returns-clause-reply g c =
 pub returns-clause-next : goal.returns-clause-next
 returns-clause-next g c =
     let f = c.self.inside in
-    let w : PlainWorld = record { version = f.version; hosts = f.hosts.items; sent = f.sent.items } in
+    let w : PlainWorld = record { version = f.version; hosts = f.hosts.items; sent = f.sent.items; current = f.current } in
     let k = command_of c.args.command.now in
     let r = c.in_ok-reply in
     let old = c.index_mut-host.result.now in
-    let new = with_host w c.args.host c.obey.new.self c.post-frame.new.sent.items in
+    let new = with_host w c.args.host c.obey.new.self c.post-frame.new.sent.items f.current in
     let lt = subst (λ z. c.args.host < z) (c.len.ensures ∙ f.hosts.ok.0) c.if-host-len.false in
     let all = c.post-frame.ensures.sent ∙ ap (λ z. z ++ posted f.version r.frame) c.make_room.ensures.sent in
     subst (λ z. world_of new ≡ step board (world_of z) (At c.args.host k)) c.self.view_is

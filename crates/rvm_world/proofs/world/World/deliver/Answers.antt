@@ -15,7 +15,7 @@ use Rattle.rvm_world.proofs.world.World.deliver.Goals as goal
 pub returns-then-place-len-clause-reply : goal.returns-then-place-len-clause-reply
 returns-then-place-len-clause-reply g c =
     let f = c.self.inside in
-    let w : PlainWorld = record { version = f.version; hosts = f.hosts.items; sent = f.sent.items } in
+    let w : PlainWorld = record { version = f.version; hosts = f.hosts.items; sent = f.sent.items; current = f.current } in
     let past = subst (λ z. z ≤ c.args.place) (c.len.ensures ∙ f.sent.ok.0) c.if-place-len.true in
     ap reply_of c.refused.ensures.reply
     ∙ subst (λ z. Refused NoFrame ≡ reply_to board (world_of z) (Deliver c.args.place)) c.self.view_is
@@ -24,7 +24,7 @@ returns-then-place-len-clause-reply g c =
 pub returns-then-place-len-clause-next : goal.returns-then-place-len-clause-next
 returns-then-place-len-clause-next g c =
     let f = c.self.inside in
-    let w : PlainWorld = record { version = f.version; hosts = f.hosts.items; sent = f.sent.items } in
+    let w : PlainWorld = record { version = f.version; hosts = f.hosts.items; sent = f.sent.items; current = f.current } in
     let past = subst (λ z. z ≤ c.args.place) (c.len.ensures ∙ f.sent.ok.0) c.if-place-len.true in
     subst (λ z. world_of z ≡ step board (world_of z) (Deliver c.args.place)) c.self.view_is
     (deliver_refused w c.args.place past).turned
@@ -32,14 +32,14 @@ returns-then-place-len-clause-next g c =
 pub read-requires : goal.read-requires
 read-requires g c =
     let f = c.self.inside in
-    let w : PlainWorld = record { version = f.version; hosts = f.hosts.items; sent = f.sent.items } in
+    let w : PlainWorld = record { version = f.version; hosts = f.hosts.items; sent = f.sent.items; current = f.current } in
     let lt = subst (λ z. c.args.place < z) (c.len.ensures ∙ f.sent.ok.0) c.if-place-len.false in
     (is_kept w c.args.place c.index-sent.result.now c.self.invariant lt c.index-sent.ensures).readable
 
 pub index-requires : goal.index-requires
 index-requires g c =
     let f = c.self.inside in
-    let w : PlainWorld = record { version = f.version; hosts = f.hosts.items; sent = f.sent.items } in
+    let w : PlainWorld = record { version = f.version; hosts = f.hosts.items; sent = f.sent.items; current = f.current } in
     let lt = subst (λ z. c.args.place < z) (c.len.ensures ∙ f.sent.ok.0) c.if-place-len.false in
     let is = is_kept w c.args.place c.index-sent.result.now c.self.invariant lt c.index-sent.ensures in
     let there = subst (λ z. z < length f.hosts.items) (sym c.receiver-to.ensures) is.receiver in
@@ -48,7 +48,7 @@ index-requires g c =
 pub index_mut-host-requires : goal.index_mut-host-requires
 index_mut-host-requires g c =
     let f = c.self.inside in
-    let w : PlainWorld = record { version = f.version; hosts = f.hosts.items; sent = f.sent.items } in
+    let w : PlainWorld = record { version = f.version; hosts = f.hosts.items; sent = f.sent.items; current = f.current } in
     let lt = subst (λ z. c.args.place < z) (c.len.ensures ∙ f.sent.ok.0) c.if-place-len.false in
     let is = is_kept w c.args.place c.index-sent.result.now c.self.invariant lt c.index-sent.ensures in
     let there = subst (λ z. z < length f.hosts.items) (sym c.receiver-to.ensures) is.receiver in
@@ -57,7 +57,7 @@ index_mut-host-requires g c =
 pub invariant_of-self-in_err-reply : goal.invariant_of-self-in_err-reply
 invariant_of-self-in_err-reply g c =
     let f = c.self.inside in
-    let w : PlainWorld = record { version = f.version; hosts = f.hosts.items; sent = f.sent.items } in
+    let w : PlainWorld = record { version = f.version; hosts = f.hosts.items; sent = f.sent.items; current = f.current } in
     let back = unchanged w c.receiver-to.result c.index_mut-host.result.now c.came.new.self
     c.make_room.new.sent.items c.in_err-reply.ensures.err c.index_mut-host.ensures.value c.make_room.ensures.sent in
     subst IsWorld (sym back) c.self.invariant
@@ -65,7 +65,7 @@ invariant_of-self-in_err-reply g c =
 pub returns-in_err-reply-clause-err : goal.returns-in_err-reply-clause-err
 returns-in_err-reply-clause-err g c =
     let f = c.self.inside in
-    let w : PlainWorld = record { version = f.version; hosts = f.hosts.items; sent = f.sent.items } in
+    let w : PlainWorld = record { version = f.version; hosts = f.hosts.items; sent = f.sent.items; current = f.current } in
     let back = unchanged w c.receiver-to.result c.index_mut-host.result.now c.came.new.self
     c.make_room.new.sent.items c.in_err-reply.ensures.err c.index_mut-host.ensures.value c.make_room.ensures.sent in
     on_err c.from_residual-in_err-reply.result _ (back ∙ c.self.view_is)
@@ -73,7 +73,7 @@ returns-in_err-reply-clause-err g c =
 pub post-frame-requires-clause-fits : goal.post-frame-requires-clause-fits
 post-frame-requires-clause-fits g c =
     let f = c.self.inside in
-    let w : PlainWorld = record { version = f.version; hosts = f.hosts.items; sent = f.sent.items } in
+    let w : PlainWorld = record { version = f.version; hosts = f.hosts.items; sent = f.sent.items; current = f.current } in
     let e = Came c.sender-from.result (frame_heard c.in_ok-frame.frame) in
     let old = c.index_mut-host.result.now in
     let to = c.receiver-to.result in
@@ -93,7 +93,7 @@ post-frame-requires-clause-fits g c =
 pub invariant_of-self-2 : goal.invariant_of-self-2
 invariant_of-self-2 g c =
     let f = c.self.inside in
-    let w : PlainWorld = record { version = f.version; hosts = f.hosts.items; sent = f.sent.items } in
+    let w : PlainWorld = record { version = f.version; hosts = f.hosts.items; sent = f.sent.items; current = f.current } in
     let frame = frame_heard c.in_ok-frame.frame in
     let from = c.sender-from.result in
     let to = c.receiver-to.result in
@@ -104,15 +104,15 @@ invariant_of-self-2 g c =
     let is = is_kept w c.args.place kept c.self.invariant lt c.index-sent.ensures in
     let there = subst (λ z. z < length f.hosts.items) (sym c.receiver-to.ensures) is.receiver in
     let all = c.post-frame.ensures.sent ∙ ap (λ z. z ++ posted f.version r.made) c.make_room.ensures.sent in
-    (deliver_becomes w c.post-frame.new.sent.items c.args.place kept from to (frame_bound old (Came from frame)) frame
-    (r.reply, r.made) old c.came.new.self c.self.invariant lt c.index-sent.ensures c.sender-from.ensures
+    (deliver_becomes w c.post-frame.new.sent.items c.args.place kept from to (frame_bound old (Came from frame))
+    c.current_after-self-inside.result frame (r.reply, r.made) old c.came.new.self c.self.invariant lt c.index-sent.ensures c.sender-from.ensures
     c.receiver-to.ensures c.in_ok-frame.ensures there c.index_mut-host.ensures.value r.ensures.steps r.ensures.sent
-    all).stays
+    all (c.current_after-self-inside.ensures frame)).stays
 
 pub returns-clause-reply : goal.returns-clause-reply
 returns-clause-reply g c =
     let f = c.self.inside in
-    let w : PlainWorld = record { version = f.version; hosts = f.hosts.items; sent = f.sent.items } in
+    let w : PlainWorld = record { version = f.version; hosts = f.hosts.items; sent = f.sent.items; current = f.current } in
     let frame = frame_heard c.in_ok-frame.frame in
     let from = c.sender-from.result in
     let to = c.receiver-to.result in
@@ -124,15 +124,15 @@ returns-clause-reply g c =
     let there = subst (λ z. z < length f.hosts.items) (sym c.receiver-to.ensures) is.receiver in
     let all = c.post-frame.ensures.sent ∙ ap (λ z. z ++ posted f.version r.made) c.make_room.ensures.sent in
     subst (λ z. reply_of r.reply ≡ reply_to board (world_of z) (Deliver c.args.place)) c.self.view_is
-    (deliver_becomes w c.post-frame.new.sent.items c.args.place kept from to (frame_bound old (Came from frame)) frame
-    (r.reply, r.made) old c.came.new.self c.self.invariant lt c.index-sent.ensures c.sender-from.ensures
+    (deliver_becomes w c.post-frame.new.sent.items c.args.place kept from to (frame_bound old (Came from frame))
+    c.current_after-self-inside.result frame (r.reply, r.made) old c.came.new.self c.self.invariant lt c.index-sent.ensures c.sender-from.ensures
     c.receiver-to.ensures c.in_ok-frame.ensures there c.index_mut-host.ensures.value r.ensures.steps r.ensures.sent
-    all).replied
+    all (c.current_after-self-inside.ensures frame)).replied
 
 pub returns-clause-next : goal.returns-clause-next
 returns-clause-next g c =
     let f = c.self.inside in
-    let w : PlainWorld = record { version = f.version; hosts = f.hosts.items; sent = f.sent.items } in
+    let w : PlainWorld = record { version = f.version; hosts = f.hosts.items; sent = f.sent.items; current = f.current } in
     let frame = frame_heard c.in_ok-frame.frame in
     let from = c.sender-from.result in
     let to = c.receiver-to.result in
@@ -143,9 +143,9 @@ returns-clause-next g c =
     let is = is_kept w c.args.place kept c.self.invariant lt c.index-sent.ensures in
     let there = subst (λ z. z < length f.hosts.items) (sym c.receiver-to.ensures) is.receiver in
     let all = c.post-frame.ensures.sent ∙ ap (λ z. z ++ posted f.version r.made) c.make_room.ensures.sent in
-    let new = with_host w to c.came.new.self c.post-frame.new.sent.items in
+    let new = with_host w to c.came.new.self c.post-frame.new.sent.items c.current_after-self-inside.result in
     subst (λ z. world_of new ≡ step board (world_of z) (Deliver c.args.place)) c.self.view_is
-    (deliver_becomes w c.post-frame.new.sent.items c.args.place kept from to (frame_bound old (Came from frame)) frame
-    (r.reply, r.made) old c.came.new.self c.self.invariant lt c.index-sent.ensures c.sender-from.ensures
+    (deliver_becomes w c.post-frame.new.sent.items c.args.place kept from to (frame_bound old (Came from frame))
+    c.current_after-self-inside.result frame (r.reply, r.made) old c.came.new.self c.self.invariant lt c.index-sent.ensures c.sender-from.ensures
     c.receiver-to.ensures c.in_ok-frame.ensures there c.index_mut-host.ensures.value r.ensures.steps r.ensures.sent
-    all).turned
+    all (c.current_after-self-inside.ensures frame)).turned

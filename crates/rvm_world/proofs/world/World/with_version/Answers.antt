@@ -10,7 +10,7 @@ invariant_of-result g c =
     let a = c.args in
     let hosts = c.add_hosts.new.hosts.items in
     let sized = sym c.if-not-is_sized.ensures in
-    subst (λ (z : List Kept). IsWorld (record { version = a.version; hosts = hosts; sent = z }))
+    subst (λ (z : List Kept). IsWorld (record { version = a.version; hosts = hosts; sent = z; current = 0 }))
     (sym c.new.ensures.items)
     (new_is_world a.guest a.version a.limits.now hosts sized c.add_hosts.ensures c.valid_guest.ensures)
 
@@ -18,7 +18,7 @@ pub returns-in-Ok-clause-world : goal.returns-in-Ok-clause-world
 returns-in-Ok-clause-world g c =
     let a = c.args in
     let hosts = c.add_hosts.new.hosts.items in
-    subst (λ (z : List Kept). world_of (record { version = a.version; hosts = hosts; sent = z })
+    subst (λ (z : List Kept). world_of (record { version = a.version; hosts = hosts; sent = z; current = 0 })
     ≡ new_world board a.version a.guest.guest (length a.limits.now) (limit_at a.limits.now)) (sym c.new.ensures.items)
     (world_is a.guest a.version a.limits.now hosts (sym c.if-not-is_sized.ensures) c.add_hosts.ensures)
 
