@@ -1,5 +1,5 @@
 -- How scripts end, by cases.
-use Rattle.std.proofs.Common.{◌≡◌, ◌∙◌, ℕ, List, Option, Some, None, refl, sym, ap, subst, inl, inr, true, false, Bool, ◌≤◌, length, take, replicate}
+use Rattle.std.proofs.Common.{◌∷◌, ◌≡◌, ◌∙◌, ℕ, List, Option, Some, None, refl, sym, ap, subst, inl, inr, true, false, Bool, ◌≤◌, length, take, replicate}
 use Rattle.std.specs.Prelude.{Result, Ok, Err, IfOk, IfSome, ◌↔◌}
 use Rattle.std.specs.Io.KnownBytes.{Appends, Keeps}
 use Rattle.std.proofs.lemmas.List.{length-replicate, take-replicate}
@@ -43,7 +43,7 @@ ended_run ls s (Err (script.BadToken n)) new before mid after run kept =
 ended_run ls s (Err (script.LineOutOfMemory n)) new before mid after run kept =
     record {
       done = run.done;
-      left = run.left;
+      left = run.line ∷ run.left;
       whole = run.whole;
       number = run.number;
       text = appends_kept before mid after (world_script_of run.done 1 s).text run.text kept;
