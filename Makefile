@@ -2,9 +2,10 @@
 # make wrong: all wrong bodies, or those of one crate, as in make wrong CRATE=rvm_hart.
 # make times: the merge gate, and the processor seconds of each crate.
 # make faults: the tests, with each growth of memory refused in turn.
+# make stress: random scripts for worlds of hosts, against a board that never moves.
 PREFIX ?= /usr/local
 
-.PHONY: build hi test wrong times faults bench bench-programs count install clean
+.PHONY: build hi test wrong times faults stress bench bench-programs count install clean
 
 # The program lies in build/rvmove afterwards.
 build:
@@ -26,6 +27,9 @@ times:
 
 faults:
 	tools/try-faults $(CRATE)
+
+stress: build
+	cd bench && python3 stress.py
 
 bench: bench-programs
 	python3 bench/bench.py
