@@ -44,7 +44,10 @@ fn answer(alloc: Global, world: &mut World<FlatMemory>, event: &Event) -> Result
 /// A world of so many hosts is made, or refused.
 fn is_made(alloc: Global, limits: &[u16], version: u32) -> Result<bool, Fail> {
     let guest = guest(alloc, 1, &[LOOP])?;
-    Ok(!matches!(World::with_version(alloc, guest, limits, version), Err((WorldError::BadSize, _))))
+    Ok(!matches!(
+        World::with_version(alloc, guest, limits, version),
+        Err((WorldError::BadSize, _))
+    ))
 }
 
 #[test]
@@ -69,7 +72,13 @@ fn a_world_has_two_to_eight_hosts_of_some_pages(rt: HostRuntime) -> Result<(), F
 /// The events of a move of four pages from host 0 to host 1 up to the commit, in version 1.
 fn first_events() -> [Event; 17] {
     [
-        Event::At(0, Command::Begin { to: 1, policy: POLICY }),
+        Event::At(
+            0,
+            Command::Begin {
+                to: 1,
+                policy: POLICY,
+            },
+        ),
         Event::Deliver(0),
         Event::Deliver(1),
         Event::At(0, Command::Copy),
@@ -95,13 +104,25 @@ fn a_list_of_events_is_run(rt: HostRuntime) -> Result<(), Fail> {
     let Ok(replies) = run_world(rt.alloc(), &mut world, &first_events()) else {
         return Ok(());
     };
-    assert_eq!(rt; replies.last().map(|reply| said(&reply.reply)), Some(("committed", [1, 0, 0, 0])));
+    assert_eq!(rt;
+        replies.last().map(|reply| said(&reply.reply)),
+        Some(("committed", [1, 0, 0, 0]))
+    );
     assert_eq!(rt; answer(rt.alloc(), &mut world, &step(0))?.0, "NotHere");
     assert_eq!(rt; answer(rt.alloc(), &mut world, &step(1))?.0, "Paused");
-    assert_eq!(rt; answer(rt.alloc(), &mut world, &Event::Deliver(9))?.0, "started");
+    assert_eq!(rt;
+        answer(rt.alloc(), &mut world, &Event::Deliver(9))?.0,
+        "started"
+    );
     assert_eq!(rt; answer(rt.alloc(), &mut world, &step(1))?.0, "retired");
-    assert_eq!(rt; answer(rt.alloc(), &mut world, &Event::Deliver(10))?.0, "finished");
-    assert_eq!(rt; answer(rt.alloc(), &mut world, &Event::Deliver(11))?.0, "NoFrame");
+    assert_eq!(rt;
+        answer(rt.alloc(), &mut world, &Event::Deliver(10))?.0,
+        "finished"
+    );
+    assert_eq!(rt;
+        answer(rt.alloc(), &mut world, &Event::Deliver(11))?.0,
+        "NoFrame"
+    );
     assert_eq!(rt; answer(rt.alloc(), &mut world, &step(2))?.0, "BadHost");
     let lengths = [16, 13, 4115, 4115, 4115, 4115, 21, 235, 13, 13, 13];
     for (place, length) in lengths.iter().enumerate() {
@@ -122,7 +143,13 @@ fn has_guest(alloc: Global, world: &mut World<FlatMemory>) -> Result<bool, Fail>
 
 #[test]
 fn a_move_is_driven_in_each_version(rt: HostRuntime) -> Result<(), Fail> {
-    for (pages, version, events) in [(4, 1, 19), (1, 1, 13), (4, 2, 19), (4, 3, 19), (1024, 2, 2061)] {
+    for (pages, version, events) in [
+        (4, 1, 19),
+        (1, 1, 13),
+        (4, 2, 19),
+        (4, 3, 19),
+        (1024, 2, 2061),
+    ] {
         let mut world = world(rt.alloc(), pages, &[4096, 4096], version)?;
         let Ok(driven) = drive_move(rt.alloc(), &mut world, 0, 1, POLICY) else {
             assert!(rt; has_guest(rt.alloc(), &mut world)?);
@@ -157,7 +184,12 @@ fn a_driven_move_is_declined_or_refused(rt: HostRuntime) -> Result<(), Fail> {
     };
     assert_eq!(rt; driven, Driven::Declined(3));
     assert_eq!(rt; answer(rt.alloc(), &mut world, &step(0))?.0, "retired");
-    for (from, to, reason) in [(1, 0, "NotHere"), (0, 0, "BadHost"), (0, 5, "BadHost"), (6, 0, "BadHost")] {
+    for (from, to, reason) in [
+        (1, 0, "NotHere"),
+        (0, 0, "BadHost"),
+        (0, 5, "BadHost"),
+        (6, 0, "BadHost"),
+    ] {
         let Ok(Driven::Refused(why)) = drive_move(rt.alloc(), &mut world, from, to, POLICY) else {
             return Err(Fail::from("the move is refused"));
         };
