@@ -42,6 +42,19 @@ reply_of (stepped.Trapped e) = reply.Trapped e
 reply_of (stepped.Interrupted i) = reply.Interrupted i
 reply_of (stepped.Halted s) = reply.Halted s
 
+-- whether no step is made after this answer to one: at a breakpoint, where the board is halted, and where it was refused
+abbrev pub ends_steps : BoardReply → Bool
+ends_steps reply.Retired = false
+ends_steps (reply.Trapped e) = false
+ends_steps (reply.Interrupted i) = false
+ends_steps (reply.Halted s) = true
+ends_steps (reply.Break a) = true
+ends_steps reply.Done = false
+ends_steps (reply.Bytes bs) = false
+ends_steps (reply.Regs rs) = false
+ends_steps (reply.Line a w) = false
+ends_steps (reply.Refused r) = true
+
 -- the answer to a step: a breakpoint's address where there was none
 abbrev pub step_reply : (address : ℕ) → Option Stepped → BoardReply
 step_reply a None = reply.Break a

@@ -1,5 +1,5 @@
 -- Turns while the guest leaves its input waiting.
-use Rattle.std.specs.Prelude.{ℕ, zero, suc, ◌+◌, ◌%◌, ◌==◌, Bool, if◌then◌else◌, List, [], length, None}
+use Rattle.std.specs.Prelude.{ℕ, zero, suc, ◌+◌, ◌%◌, ◌==◌, Bool, if◌then◌else◌, [], length, None}
 use Rattle.rvm_debug.specs.Guest.{Guest}
 use Rattle.rvm_debug.specs.Events.{steps}
 use Rattle.rvm_debug.specs.Turns.{AfterTurns, stop_in, unless_stopped}

@@ -1,7 +1,7 @@
 //! What a host asks of a board, and what the board answers.
 
 ghost use Rattle.std.specs.Prelude.{◌≡◌};
-ghost use Rattle.rvm_debug.specs.Events.{reply_of};
+ghost use Rattle.rvm_debug.specs.Events.{ends_steps, reply_of};
 ghost use Rattle.rvm_debug.specs.Refusals.{refusal_of};
 
 use crate::view::View;
@@ -11,7 +11,7 @@ use rvm_refusal::Refusal;
 use thiserror::Error;
 
 /// What a host asks of its board. Harts count from 0; addresses are the guest's.
-#[derive(Drop)]
+#[derive(Drop, PartialEq, Eq)]
 pub enum BoardEvent {
     /// One step of a hart.
     Step(u32),
@@ -80,7 +80,7 @@ impl BoardEvent {
 }
 
 /// What a board answers.
-#[derive(Drop)]
+#[derive(Drop, PartialEq, Eq)]
 pub enum BoardReply {
     /// The instruction retired.
     Retired,
@@ -135,6 +135,27 @@ impl From<BoardRefusal> for Refusal {
 }
 
 impl BoardReply {
+    /// The same answer again.
+    pub fn copy(&self) -> BoardReply
+        ensures { result ≡ self.now }
+    {
+        match self {
+            BoardReply::Retired => BoardReply::Retired,
+            BoardReply::Trapped(exception) => BoardReply::Trapped(*exception),
+            BoardReply::Interrupted(interrupt) => BoardReply::Interrupted(*interrupt),
+            BoardReply::Halted(status) => BoardReply::Halted(*status),
+            BoardReply::Break(address) => BoardReply::Break(*address),
+            BoardReply::Done => BoardReply::Done,
+            BoardReply::Bytes(bytes) => BoardReply::Bytes(bytes.copy()),
+            BoardReply::Regs(registers) => BoardReply::Regs(*registers),
+            BoardReply::Line { address, word } => BoardReply::Line {
+                address: *address,
+                word: *word,
+            },
+            BoardReply::Refused(why) => BoardReply::Refused(*why),
+        }
+    }
+
     /// What a step did, as an answer.
     pub fn of_step(stepped: Stepped) -> BoardReply
         ensures { result ≡ reply_of stepped }
@@ -145,5 +166,16 @@ impl BoardReply {
             Stepped::Interrupted(interrupt) => BoardReply::Interrupted(interrupt),
             Stepped::Halted(status) => BoardReply::Halted(status),
         }
+    }
+
+    /// Whether no step is made after this answer to one: the hart stopped at a breakpoint, the board is
+    /// halted, or the step was refused.
+    pub fn ends_steps(&self) -> bool
+        ensures { result ≡ ends_steps self.now }
+    {
+        matches!(
+            self,
+            BoardReply::Halted(_) | BoardReply::Break(_) | BoardReply::Refused(_)
+        )
     }
 }

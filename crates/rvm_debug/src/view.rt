@@ -1,6 +1,8 @@
 //! Bytes of RAM or of the console, in place.
 
-ghost use Rattle.std.specs.Prelude.{◌≡◌, ◌<◌, ◌≤◌, ◌↔◌, length, IfSome, IsNone};
+ghost use Rattle.std.specs.Prelude.{◌≡◌, ◌<◌, ◌≤◌, ◌↔◌, length, nat_eq, IfSome, IsNone};
+ghost use Rattle.std.specs.Cmp.{partial_equiv_from_equiv};
+ghost use Rattle.std.specs.Cmp.Lexicographic.{nat_list_eq_equiv, pointwise};
 
 use arrayvec::ArrayVec;
 use rvm_board::VIEW_SIZE;
@@ -61,4 +63,18 @@ impl View {
     {
         self.bytes.as_slice()
     }
+}
+
+impl PartialEq for View {
+    ghost eq = { pointwise nat_eq };
+
+    ghost laws = { partial_equiv_from_equiv nat_list_eq_equiv };
+
+    fn eq(&self, other: &View) -> bool {
+        self.as_slice() == other.as_slice()
+    }
+}
+
+impl Eq for View {
+    ghost laws = { nat_list_eq_equiv };
 }

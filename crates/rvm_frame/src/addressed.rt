@@ -4,7 +4,7 @@ use crate::frame::Frame;
 
 /// A frame, and the numbers of the hosts that it goes between: each is below 8, and they differ.
 /// Streams of version 3 name them.
-#[derive(Debug, Drop)]
+#[derive(Debug, Drop, PartialEq, Eq)]
 pub struct Addressed {
     pub from: u8,
     pub to: u8,

@@ -1,1 +1,3 @@
+pub mod Derived
 pub mod Logs
+pub mod Same

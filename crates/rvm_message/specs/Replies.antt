@@ -1,5 +1,7 @@
 -- Replies of hosts as the law of live migration has them.
+use Rattle.std.specs.Prelude.{Bool, true}
 use Rattle.rvm_debug.specs.declared.event.BoardReply.{BoardReply}
+use Rattle.rvm_debug.specs.Events as events
 use Rattle.rvm_protocol.specs.Replies as protocol
 use Rattle.rvm_message.specs.declared.reply.HostRefusal.{HostRefusal}
 use Rattle.rvm_message.specs.declared.reply.HostRefusal.TheVariants as refusal
@@ -44,3 +46,8 @@ reply_of reply.ReadySent = protocol.ReadySent
 reply_of reply.Started = protocol.StartedHere
 reply_of reply.Dropped = protocol.Dropped
 reply_of (reply.Refused why) = protocol.Refused (refusal_of why)
+
+-- whether no step is made after this reply to one
+abbrev pub ends_steps : protocol.Reply BoardReply → Bool
+ends_steps (protocol.Answered answer) = events.ends_steps answer
+ends_steps r = true

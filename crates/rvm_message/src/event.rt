@@ -8,7 +8,7 @@ use rvm_precopy::Policy;
 use std::alloc::{AllocError, Global};
 
 /// What a host is told to do.
-#[derive(Drop)]
+#[derive(Drop, PartialEq, Eq)]
 pub enum Command {
     /// An event of the guest.
     Board(BoardEvent),
@@ -23,7 +23,7 @@ pub enum Command {
 }
 
 /// What happens at a host.
-#[derive(Drop)]
+#[derive(Drop, PartialEq, Eq)]
 pub enum HostEvent {
     /// It is told to do something.
     Do(Command),

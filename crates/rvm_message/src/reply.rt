@@ -2,6 +2,7 @@
 
 ghost use Rattle.std.specs.Prelude.{◌≡◌, None, Some};
 ghost use Rattle.rvm_message.specs.Refusals.{numbered};
+ghost use Rattle.rvm_message.specs.Replies.{ends_steps, reply_of};
 
 use rvm_debug::BoardReply;
 use rvm_frame::Frame;
@@ -67,7 +68,7 @@ impl From<HostRefusal> for Refusal {
 }
 
 /// What a host answers to an event.
-#[derive(Drop)]
+#[derive(Drop, PartialEq, Eq)]
 pub enum HostReply {
     /// The guest's answer to an event of its own.
     Board(BoardReply),
@@ -141,6 +142,60 @@ pub enum HostReply {
 pub type Answer = (HostReply, Option<Frame>);
 
 impl HostReply {
+    /// The same reply again.
+    pub fn copy(&self) -> HostReply
+        ensures { result ≡ self.now }
+    {
+        match self {
+            HostReply::Board(answer) => HostReply::Board(answer.copy()),
+            HostReply::Begun(move_number) => HostReply::Begun(*move_number),
+            HostReply::Copied { page, copy_number } => HostReply::Copied {
+                page: *page,
+                copy_number: *copy_number,
+            },
+            HostReply::RoundEnded {
+                round,
+                sent,
+                skipped,
+                left,
+            } => HostReply::RoundEnded {
+                round: *round,
+                sent: *sent,
+                skipped: *skipped,
+                left: *left,
+            },
+            HostReply::Stopping => HostReply::Stopping,
+            HostReply::StateSent => HostReply::StateSent,
+            HostReply::PartSent { part, parts } => HostReply::PartSent {
+                part: *part,
+                parts: *parts,
+            },
+            HostReply::Resent => HostReply::Resent,
+            HostReply::Aborted => HostReply::Aborted,
+            HostReply::Open => HostReply::Open,
+            HostReply::MoveDeclined(limit) => HostReply::MoveDeclined(*limit),
+            HostReply::Fixing(count) => HostReply::Fixing(*count),
+            HostReply::Committed(move_number) => HostReply::Committed(*move_number),
+            HostReply::Finished => HostReply::Finished,
+            HostReply::Accepted => HostReply::Accepted,
+            HostReply::Declined(limit) => HostReply::Declined(*limit),
+            HostReply::Stored { page, copy_number } => HostReply::Stored {
+                page: *page,
+                copy_number: *copy_number,
+            },
+            HostReply::Noted => HostReply::Noted,
+            HostReply::Kept { part, parts } => HostReply::Kept {
+                part: *part,
+                parts: *parts,
+            },
+            HostReply::Lacking(count) => HostReply::Lacking(*count),
+            HostReply::ReadySent => HostReply::ReadySent,
+            HostReply::Started => HostReply::Started,
+            HostReply::Dropped => HostReply::Dropped,
+            HostReply::Refused(why) => HostReply::Refused(*why),
+        }
+    }
+
     /// A refusal, without a frame.
     pub fn refused(why: HostRefusal) -> Answer
         ensures reply { result.0 ≡ HostReply.Refused why }
@@ -155,6 +210,16 @@ impl HostReply {
         ensures frame { result.1 ≡ None }
     {
         (self, None)
+    }
+
+    /// Whether no step is made after this reply to one.
+    pub fn ends_steps(&self) -> bool
+        ensures { result ≡ ends_steps (reply_of self.now) }
+    {
+        match self {
+            HostReply::Board(answer) => answer.ends_steps(),
+            _ => true,
+        }
     }
 
     /// A reply and a frame.

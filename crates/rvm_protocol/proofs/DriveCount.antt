@@ -7,17 +7,17 @@ use Rattle.rvm_protocol.specs.Pages.{listed}
 use Rattle.rvm_protocol.specs.World.{Event, At, Deliver}
 use Rattle.rvm_protocol.proofs.Basics.{listed_length}
 
-pub drive_count : DriveCount
+pub drive_count : (E : Type 0) → DriveCount E
 unfolding DriveCount
-drive_count = λ from to k n s policy.
-    let a : List (Event ℕ) = At from (Begin to policy) ∷ Deliver k ∷ Deliver (k + 1) ∷ [] in
-    let b : List (Event ℕ) = listed (λ p. At from Copy) 0 n in
-    let c : List (Event ℕ) = At from Copy ∷ [] in
-    let d : List (Event ℕ) = listed (λ p. Deliver (k + 2 + p)) 0 n in
-    let e : List (Event ℕ) = Deliver (k + 2 + n) ∷ At from Copy ∷ [] in
-    let f : List (Event ℕ) = listed (λ i. At from Copy) 0 s in
-    let g : List (Event ℕ) = listed (λ i. Deliver (k + 3 + n + i)) 0 s in
-    let h : List (Event ℕ) = Deliver (k + 3 + n + s) ∷ Deliver (k + 4 + n + s)
+drive_count E = λ from to k n s policy.
+    let a : List (Event E) = At from (Begin to policy) ∷ Deliver k ∷ Deliver (k + 1) ∷ [] in
+    let b : List (Event E) = listed (λ p. At from Copy) 0 n in
+    let c : List (Event E) = At from Copy ∷ [] in
+    let d : List (Event E) = listed (λ p. Deliver (k + 2 + p)) 0 n in
+    let e : List (Event E) = Deliver (k + 2 + n) ∷ At from Copy ∷ [] in
+    let f : List (Event E) = listed (λ i. At from Copy) 0 s in
+    let g : List (Event E) = listed (λ i. Deliver (k + 3 + n + i)) 0 s in
+    let h : List (Event E) = Deliver (k + 3 + n + s) ∷ Deliver (k + 4 + n + s)
     ∷ Deliver (k + 5 + n + s) ∷ [] in
     let lb : length b ≡ n = listed_length (λ p. At from Copy) 0 n in
     let ld : length d ≡ n = listed_length (λ p. Deliver (k + 2 + p)) 0 n in

@@ -26,6 +26,7 @@ mod DrivenMove
 mod DeclinedMove
 pub mod DrivenMoveHolds
 pub mod Bounds
+pub mod MoveNumbers
 mod Counter
 mod Examples
 mod Witnesses

@@ -4,6 +4,7 @@ use Rattle.std.proofs.lemmas.Bool.{eqb-true}
 use Rattle.rvm_protocol.proofs.Basics.{and_both, or_true, same_or}
 use Rattle.rvm_protocol.proofs.Behind.{GivenOk, is_run}
 use Rattle.rvm_protocol.proofs.CurrentModes.{either}
+use Rattle.rvm_protocol.proofs.OneGuestHolds.{no_other}
 use Rattle.rvm_protocol.proofs.OtherHosts.{NoCommit, came_ok, none_at}
 use Rattle.rvm_protocol.proofs.PairInvariant.{HoldsNone, Meet}
 use Rattle.rvm_protocol.proofs.Runs.{SoundAt}
@@ -29,58 +30,13 @@ moved r from current = current
 module _ {S P E A B : Type 0} (m : Guest S P E A B) where
   -- ONE HOST ALONE
 
-  given_not : (X : Mode S P) (n l : ℕ) → has_given n X → GivenOk l X → n < l
-  given_not (Given k) n l h lt = let z : k ≡ n = h in let y : k < l = lt in omega arith
-  given_not (Empty k) n l h lt = absurd h
-  given_not (Run k g) n l h lt = absurd h
-  given_not (Offering k g p) n l h lt = absurd h
-  given_not (Copying k r) n l h lt = absurd h
-  given_not (Stopped k q) n l h lt = absurd h
-  given_not (Staging k s) n l h lt = absurd h
-  given_not (Held k g) n l h lt = absurd h
-
-  meets_given : (O T : Mode S P) (n : ℕ) → has_given n O → Meet O T → ⊥
-  meets_given (Given k) T n h i = i
-  meets_given (Empty k) T n h i = i
-  meets_given (Run k g) T n h i = h
-  meets_given (Offering k g p) T n h i = h
-  meets_given (Copying k r) T n h i = h
-  meets_given (Stopped k q) T n h i = h
-  meets_given (Staging k s) T n h i = i
-  meets_given (Held k g) T n h i = h
-
-  no_other : (X : Mode S P) (w : World S P B) (t : Told S) (s : SoundAt m w t) (x : ℕ) → x ≢ s.c
-      → (w.hosts x).mode ≡ X → HoldsNone X → holds_current (w.hosts (w.hosts x).partner) x X → ⊥
-  no_other (Held n g) w t s x ne is h now =
-      let l = s.good in
-      let p = (w.hosts x).partner in
-      elim (same_or p s.c) [
-        | inl q ↦
-            meets_given (w.hosts s.c).mode (w.hosts s.d).mode n
-            (subst (λ z. has_given n (w.hosts z).mode) q now.0) l.modes.meet
-        | inr np ↦
-            let lt = given_not (w.hosts p).mode n
-            (reach w.hosts s.c (w.hosts s.c).mode (w.hosts p).partner) now.0 (l.given p np) in
-            let r : reach w.hosts s.c (w.hosts s.c).mode (w.hosts p).partner ≡ n = ap
-            (reach w.hosts s.c (w.hosts s.c).mode) now.1
-            ∙ reach_there w.hosts s.c (w.hosts s.c).mode x ne ∙ ap move_of is in
-            absurd (omega (arith, lt, r))
-      ]
-  no_other (Empty n) w t s x ne is h now = now
-  no_other (Given n) w t s x ne is h now = now
-  no_other (Staging n q) w t s x ne is h now = now
-  no_other (Run n g) w t s x ne is h now = h
-  no_other (Offering n g p) w t s x ne is h now = h
-  no_other (Copying n r) w t s x ne is h now = h
-  no_other (Stopped n q) w t s x ne is h now = h
-
   pub one_current : (w : World S P B) (t t' : Told S) → SoundAt m w t → Shown w.hosts t' → t'.current ≡ t.current
   one_current w t t' s h =
       let x = t'.current in
       elim (same_or x s.c) [
         | inl q ↦ q ∙ sym s.good.current
         | inr n ↦
-            absurd (no_other (w.hosts x).mode w t s x n refl
+            absurd (no_other m (w.hosts x).mode w t s x n refl
             (none_at m (w.hosts s.c) (w.hosts s.d) w.hosts (read m w.sent) s.c s.d x t s.good n) h.current)
       ]
 

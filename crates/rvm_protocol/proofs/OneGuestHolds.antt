@@ -369,7 +369,7 @@ module _ {S P E A B : Type 0} (m : Guest S P E A B) where
   meets_given (Staging k s) T n h i = i
   meets_given (Held k g) T n h i = h
 
-  no_other : (X : Mode S P) (w : World S P B) (t : Told S) (s : SoundAt m w t) (x : ℕ) → x ≢ s.c
+  pub no_other : (X : Mode S P) (w : World S P B) (t : Told S) (s : SoundAt m w t) (x : ℕ) → x ≢ s.c
       → (w.hosts x).mode ≡ X → HoldsNone X → holds_current (w.hosts (w.hosts x).partner) x X → ⊥
   no_other (Held n g) w t s x ne is h now =
       let l = s.good in

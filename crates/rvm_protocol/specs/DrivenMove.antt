@@ -100,7 +100,7 @@ module _ {S P E A B : Type 0} (m : Guest S P E A B) where
       (length (run m (new_world m version start count limits) events).sent))
 
 -- how many events that are
-unfoldable pub DriveCount : Type 0
-DriveCount =
+unfoldable pub DriveCount : (E : Type 0) → Type 0
+DriveCount E =
     (from to k n s : ℕ) (policy : Policy)
-    → length (drive {E = ℕ} from to policy k n s) ≡ 2 * n + 9 + 2 * s
+    → length (drive {E = E} from to policy k n s) ≡ 2 * n + 9 + 2 * s

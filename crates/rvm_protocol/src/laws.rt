@@ -57,5 +57,5 @@ pub fn copies_are_bounded<S, P, E, A, B>()
 pub fn a_driven_move_arrives<S, P, E, A, B>()
     ensures always { (m : Guest S P E A B) → ADrivenMoveArrives m }
     ensures declined { (m : Guest S P E A B) → ATooLargeGuestIsDeclined m }
-    ensures count { DriveCount }
+    ensures count { DriveCount E }
 {}

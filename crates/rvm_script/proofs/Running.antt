@@ -9,7 +9,7 @@ use Rattle.rvm_debug.specs.declared.event.BoardReply.{BoardReply}
 use Rattle.rvm_debug.specs.declared.event.BoardReply.TheVariants as reply
 use Rattle.rvm_debug.specs.Guest.{Guest, GuestState}
 use Rattle.rvm_debug.specs.declared.event.BoardRefusal.TheVariants.{BadHart}
-use Rattle.rvm_debug.specs.Events.{Answered, answered, leaves, pc_of, refuses, reply_of, steps, stops, takes_step, with_stopped}
+use Rattle.rvm_debug.specs.Events.{Answered, answered, ends_steps, leaves, pc_of, refuses, reply_of, steps, stops, takes_step, with_stopped}
 use Rattle.rvm_debug.specs.Events as events
 use Rattle.rvm_debug.specs.declared.turns.Order.TheVariants.{Alone}
 use Rattle.rvm_debug.specs.declared.turns.Stop.{Stop}
@@ -26,7 +26,7 @@ use Rattle.rvm_script.specs.Words.{lines}
 use Rattle.rvm_script.specs.Lines.{line_of}
 use Rattle.rvm_script.specs.Runs.{IsReadError, IsRun, IsLineRun}
 use Rattle.rvm_script.specs.Answers.{is_refused}
-use Rattle.rvm_script.specs.Script.{Stepping, stepping, stepping_after, ends, inputs, answered_after, Told, told_after, told_by, ended, done_by, script_of, stepped}
+use Rattle.rvm_script.specs.Script.{Stepping, stepping, stepping_after, inputs, answered_after, Told, told_after, told_by, ended, done_by, script_of, stepped}
 
 pub appends_none : (a : Option (List ℕ)) → Appends a a []
 appends_none None = tt
@@ -38,14 +38,14 @@ appends_more (Some xs0) None c xs ys p q = absurd p
 appends_more (Some xs0) (Some ys0) None xs ys p q = absurd q
 appends_more (Some xs0) (Some ys0) (Some zs0) xs ys p q = q ∙ ap (λ (l : List ℕ). l ++ ys) p ∙ append_assoc xs0 xs ys
 
-step_made : (h left made : ℕ) (last : BoardReply) (g : Guest) → ends last ≡ false → stepping h (suc left) made last g ≡ stepping_after (answered (event.Step h) g).pages (stepping h left (made + 1) (answered (event.Step h) g).reply (answered (event.Step h) g).guest)
+step_made : (h left made : ℕ) (last : BoardReply) (g : Guest) → ends_steps last ≡ false → stepping h (suc left) made last g ≡ stepping_after (answered (event.Step h) g).pages (stepping h left (made + 1) (answered (event.Step h) g).reply (answered (event.Step h) g).guest)
 unfolding stepping
 step_made h left made last g goes =
     let a = answered (event.Step h) g in
     ap (λ b. cond b (record { guest = g; pages = []; count = made; reply = last }) (stepping_after a.pages (stepping h left (made + 1) a.reply a.guest))) goes
 
 -- where no step follows
-steps_stop : (h left made : ℕ) (last : BoardReply) (g : Guest) → ends last ≡ true → stepping h left made last g ≡ record { guest = g; pages = []; count = made; reply = last }
+steps_stop : (h left made : ℕ) (last : BoardReply) (g : Guest) → ends_steps last ≡ true → stepping h left made last g ≡ record { guest = g; pages = []; count = made; reply = last }
 unfolding stepping
 steps_stop h zero made last g stops = refl
 steps_stop h (suc left) made last g stops =
@@ -57,21 +57,21 @@ unfolding stepping
 steps_spent h made last g = refl
 
 -- the answers that end steps are those that end turns
-alike_reply : (x : Stepped) → ends (reply_of x) ≡ is_some (stop_in (reply_of x))
+alike_reply : (x : Stepped) → ends_steps (reply_of x) ≡ is_some (stop_in (reply_of x))
 alike_reply outcome.Retired = refl
 alike_reply (outcome.Trapped e) = refl
 alike_reply (outcome.Interrupted i) = refl
 alike_reply (outcome.Halted s) = refl
 
-alike_on : (b : Bool) (h : ℕ) (g : Guest) → ends (cond b (leaves (with_stopped h true g) (reply.Break (pc_of h g))) (takes_step h g)).reply ≡ is_some (stop_in (cond b (leaves (with_stopped h true g) (reply.Break (pc_of h g))) (takes_step h g)).reply)
+alike_on : (b : Bool) (h : ℕ) (g : Guest) → ends_steps (cond b (leaves (with_stopped h true g) (reply.Break (pc_of h g))) (takes_step h g)).reply ≡ is_some (stop_in (cond b (leaves (with_stopped h true g) (reply.Break (pc_of h g))) (takes_step h g)).reply)
 alike_on true h g = refl
 alike_on false h g = alike_reply (board.stepped h g.board).answer
 
-alike_halted : (o : Option ℕ) (h : ℕ) (g : Guest) → ends (events.unless_halted o h g).reply ≡ is_some (stop_in (events.unless_halted o h g).reply)
+alike_halted : (o : Option ℕ) (h : ℕ) (g : Guest) → ends_steps (events.unless_halted o h g).reply ≡ is_some (stop_in (events.unless_halted o h g).reply)
 alike_halted None h g = alike_on (stops h g) h g
 alike_halted (Some status) h g = refl
 
-alike : (h : ℕ) (g : Guest) → ends (steps h g).reply ≡ is_some (stop_in (steps h g).reply)
+alike : (h : ℕ) (g : Guest) → ends_steps (steps h g).reply ≡ is_some (stop_in (steps h g).reply)
 alike h g = alike_halted g.board.shared.devices.halted h g
 
 -- what ended turns is the answer
@@ -111,7 +111,7 @@ last_behind None ps h m made t =
 -- so many steps of a hart, one more than so many turns
 abbrev ByTurns : ℕ → Type 0
 ByTurns m =
-    (h made : ℕ) (last : BoardReply) (g : Guest) → ends last ≡ false → h < length g.board.harts
+    (h made : ℕ) (last : BoardReply) (g : Guest) → ends_steps last ≡ false → h < length g.board.harts
     → stepping h (suc m) made last g ≡ last_step (after_turns Alone m h g).stop h m made (after_turns Alone m h g)
 
 there_steps : (h : ℕ) (g : Guest) → h < length g.board.harts → answered (event.Step h) g ≡ steps h g

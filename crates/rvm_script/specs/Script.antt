@@ -4,24 +4,11 @@ use Rattle.rvm_debug.specs.declared.event.BoardEvent.TheVariants as event
 use Rattle.rvm_debug.specs.declared.event.BoardReply.{BoardReply}
 use Rattle.rvm_debug.specs.declared.event.BoardReply.TheVariants as reply
 use Rattle.rvm_debug.specs.Guest.{Guest}
-use Rattle.rvm_debug.specs.Events.{Answered, answered, leaves}
+use Rattle.rvm_debug.specs.Events.{Answered, answered, ends_steps, leaves}
 use Rattle.rvm_script.specs.declared.line.Line.{Line}
 use Rattle.rvm_script.specs.declared.line.Line.TheVariants as line
 use Rattle.rvm_script.specs.Lines.{line_of}
 use Rattle.rvm_script.specs.Answers.{address_of, is_refused, reply_text, step_text}
-
--- whether no step is made after this answer to one
-abbrev pub ends : BoardReply → Bool
-ends reply.Retired = false
-ends (reply.Trapped e) = false
-ends (reply.Interrupted i) = false
-ends (reply.Halted s) = true
-ends (reply.Break a) = true
-ends reply.Done = false
-ends (reply.Bytes bs) = false
-ends (reply.Regs rs) = false
-ends (reply.Line a w) = false
-ends (reply.Refused r) = true
 
 -- the guest that steps leave, the pages that they wrote, how many there were and the last answer
 pub record Stepping : Type 0 where
@@ -39,7 +26,7 @@ unfoldable pub stepping : (hart left made : ℕ) → BoardReply → Guest → St
 stepping h zero made last g = record { guest = g; pages = []; count = made; reply = last }
 stepping h (suc left) made last g =
     let a = answered (event.Step h) g in
-    if ends last then record { guest = g; pages = []; count = made; reply = last }
+    if ends_steps last then record { guest = g; pages = []; count = made; reply = last }
     else stepping_after a.pages (stepping h left (made + 1) a.reply a.guest)
 
 -- at most so many steps of a hart

@@ -18,15 +18,11 @@ use rvm_frame::{Bytes, CopyNumbers, Frame, state_body};
 use rvm_mem::{Memory, PagedMemory};
 use rvm_message::HostReply;
 use rvm_precopy::Rounds;
-use rvm_state::write_state;
+use rvm_state::{MAX_STATE_LEN, write_state};
 use std::alloc::{AllocError, Global};
 
 /// How many bytes a piece has, the last one at most.
 const PIECE: usize = 4096;
-
-/// How many bytes a guest has without its RAM, at most: 13 for all harts and 187 for each, its input,
-/// its output and its breakpoints, each with their count.
-const LONGEST: usize = 13 + 8 * 187 + (1 + 16) + (2 + 4096) + (1 + 4 * 64);
 
 /// What is sent of a state at once: the reply to the command that asked for it, the frame, and the
 /// phase after it.
@@ -41,7 +37,7 @@ pub(crate) struct Sent {
 pub(crate) fn state_bound(pages: u32) -> usize
     ensures { result ≡ state_bound pages }
 {
-    2 + 4 * pages as usize + LONGEST
+    2 + 4 * pages as usize + MAX_STATE_LEN
 }
 
 /// The state of a paused guest as a stream of this version has it: whole, or from version 2 on the

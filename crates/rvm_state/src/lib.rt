@@ -27,4 +27,4 @@ mod write;
 
 pub use fault::StateFault;
 pub use read::read_state;
-pub use write::write_state;
+pub use write::{MAX_STATE_LEN, write_state};

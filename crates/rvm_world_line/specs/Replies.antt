@@ -1,5 +1,5 @@
 -- The texts of a world's replies. Each ends with a line feed.
-use Rattle.std.specs.Prelude.{ℕ, Bool, true, List, [], ◌++◌, codes, Option, Some, None}
+use Rattle.std.specs.Prelude.{ℕ, List, [], ◌++◌, codes, Option, Some, None}
 use Rattle.std.specs.Fmt.{decimal}
 use Rattle.rvm_debug.specs.declared.event.BoardReply.{BoardReply}
 use Rattle.rvm_protocol.specs.Replies as reply
@@ -8,7 +8,6 @@ use Rattle.rvm_refusal.specs.declared.refusal.Refusal.{Refusal}
 use Rattle.rvm_refusal.specs.declared.refusal.Refusal.TheVariants as all
 use Rattle.rvm_refusal.specs.Refusal.{text_of}
 use Rattle.rvm_script.specs.Answers.{reply_text, reply_word, step_text}
-use Rattle.rvm_script.specs.Script.{ends}
 
 -- a refusal in the list of all refusals
 abbrev pub listed : reply.Refusal → Refusal
@@ -71,8 +70,3 @@ guest_text address r = move_text r None
 abbrev pub steps_text : (hart count : ℕ) → Reply BoardReply → List ℕ
 steps_text h n (reply.Answered answer) = step_text h n answer
 steps_text h n r = move_text r None
-
--- no step is made after this reply to one
-abbrev pub ends_steps : Reply BoardReply → Bool
-ends_steps (reply.Answered answer) = ends answer
-ends_steps r = true

@@ -11,4 +11,4 @@ mod line;
 mod replies;
 
 pub use line::{Asked, WorldLine};
-pub use replies::{ends_steps, write_guest_reply, write_move_reply, write_steps_reply};
+pub use replies::{write_guest_reply, write_move_reply, write_steps_reply};

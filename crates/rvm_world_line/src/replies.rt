@@ -2,11 +2,9 @@
 
 ghost use Rattle.std.specs.Prelude.{◌≡◌, OnOk};
 ghost use Rattle.std.specs.Io.KnownBytes.{Appends};
-ghost use Rattle.rvm_script.specs.Script.{ends};
 ghost use Rattle.rvm_message.specs.Replies.{refusal_of, reply_of};
-ghost use Rattle.rvm_world_line.specs.Replies.{ends_steps, guest_text, listed, move_text, steps_text};
+ghost use Rattle.rvm_world_line.specs.Replies.{guest_text, listed, move_text, steps_text};
 
-use rvm_debug::BoardReply;
 use rvm_message::{HostRefusal, HostReply};
 use rvm_refusal::{LinkFault, Refusal};
 use rvm_script::{InWords, write_reply, write_steps};
@@ -127,24 +125,4 @@ pub fn write_steps_reply<W: Write>(
         HostReply::Board(answer) => write_steps(writer, hart, count, answer),
         _ => write_move_reply(writer, last, None),
     }
-}
-
-/// Whether no step is made after this reply to one.
-pub fn ends_steps(reply: &HostReply) -> bool
-    ensures { result ≡ ends_steps (reply_of reply.now) }
-{
-    match reply {
-        HostReply::Board(answer) => ends(answer),
-        _ => true,
-    }
-}
-
-/// Whether no step is made after this answer to one.
-fn ends(answer: &BoardReply) -> bool
-    ensures { result ≡ ends answer.now }
-{
-    matches!(
-        answer,
-        BoardReply::Halted(_) | BoardReply::Break(_) | BoardReply::Refused(_)
-    )
 }
