@@ -12,6 +12,10 @@ use std::alloc::Global;
 /// The version of the program.
 const VERSION: &str = "0.1.0";
 
+/// What the program does.
+const ABOUT: &str = "\
+Assembles, disassembles, runs and debugs guests of a small RISC-V board, and moves them between hosts";
+
 /// What stands below the help of `run`.
 const RUN_HELP: &str = "\
 Example: rvmove run hello.elf --steps 5000 --input keys.txt
@@ -69,7 +73,7 @@ pub(crate) fn program<'a>(alloc: Global) -> Result<Command<'a>, Error>
     Ok(
         Command::new(alloc, "rvmove")
             .version(VERSION)
-            .about("Assembles, disassembles, runs and debugs guests of a small RISC-V board")
+            .about(ABOUT)
             .subcommand_required(true)
             .arg_required_else_help(true)
             .subcommand(run_command(alloc)?)?

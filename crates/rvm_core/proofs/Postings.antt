@@ -18,7 +18,7 @@ use Rattle.rvm_message.specs.declared.reply.HostReply.{HostReply}
 use Rattle.rvm_protocol.specs.Frames as frames
 use Rattle.rvm_protocol.specs.Host.{is_there}
 use Rattle.rvm_core.specs.Bounds.{CanBePosted, IsHost, IsPosted, IsShort, addressed, came_body, event_body, frame_bound, with_header}
-use Rattle.rvm_core.specs.Hosts.{PlainHost, Steps, is_sized}
+use Rattle.rvm_core.specs.Hosts.{PlainHost, Steps, is_sized, is_spoken}
 use Rattle.rvm_core.proofs.Moves.{Goes, host_reaches}
 
 -- behind Hello the version is known
@@ -86,15 +86,15 @@ pub record Sizes (id count limit version : ℕ) : Type 0 where
 pub sizes : (id count limit version : ℕ) → is_sized id count limit version ≡ true → Sizes id count limit version
 sizes id count limit version is =
     let versions = version == 3 || (count == 2 && within 1 2 version) in
-    let a = both_are (within 2 8 count) (nat_lt id count && (within 1 4096 limit && versions)) is in
-    let b = both_are (nat_lt id count) (within 1 4096 limit && versions) a.1 in
-    let c = both_are (within 1 4096 limit) versions b.1 in
+    let a = both_are (is_spoken version count) (nat_lt id count && within 1 4096 limit) is in
+    let b = both_are (within 2 8 count) versions a.0 in
+    let c = both_are (nat_lt id count) (within 1 4096 limit) a.1 in
     record {
-      few = grind (arith, nat_tests, a.0);
-      below = grind (arith, nat_tests, b.0);
-      some = grind (arith, nat_tests, c.0);
-      limited = grind (arith, nat_tests, c.0);
-      version_fits = grind (arith, nat_tests, c.1);
+      few = grind (arith, nat_tests, b.0);
+      below = grind (arith, nat_tests, c.0);
+      some = grind (arith, nat_tests, c.1);
+      limited = grind (arith, nat_tests, c.1);
+      version_fits = grind (arith, nat_tests, b.1);
     }
 
 module _ (h : PlainHost) (ok : IsHost h) where

@@ -43,11 +43,13 @@ pub record Steps (old : PlainHost) (e : BoardHostEvent) (answer : HostReply × O
   pub next : host_of new ≡ (step_of old e).next
   pub rest : new ≡ record old { mode = new.mode; partner = new.partner }
 
--- 2 to 8 hosts, and its number among them; a limit of 1 to 4096 pages; streams of version 1 to 3, of more than two hosts 3
+-- so many hosts can speak this version of the stream: two of them 1, 2 or 3, and more, up to eight, 3
+abbrev pub is_spoken : (version count : ℕ) → Bool
+is_spoken version count = within 2 8 count && (version == 3 || (count == 2 && within 1 2 version))
+
+-- hosts and a version that they can speak, its number among them, and a limit of 1 to 4096 pages
 abbrev pub is_sized : (id count limit version : ℕ) → Bool
-is_sized id count limit version =
-    within 2 8 count && (nat_lt id count && (within 1 4096 limit
-    && (version == 3 || (count == 2 && within 1 2 version))))
+is_sized id count limit version = is_spoken version count && (nat_lt id count && within 1 4096 limit)
 
 -- the version that so many hosts speak unless another one is asked for
 abbrev pub version_of : (count : ℕ) → ℕ

@@ -2,3 +2,5 @@ pub mod Modes
 pub mod Hosts
 pub mod Memory
 pub mod Bounds
+pub mod Spelled
+pub mod Turns

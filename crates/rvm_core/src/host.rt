@@ -11,10 +11,12 @@ ghost use Rattle.rvm_protocol.specs.Host.{is_heard, is_offer_above, is_there};
 ghost use Rattle.rvm_core.specs.Bounds.{CanBePosted, IsHost, addressed, frame_bound};
 ghost use Rattle.rvm_core.specs.Hosts.{Steps, host_of, is_sized, new_host, partner_of, version_of};
 ghost use Rattle.rvm_core.specs.Memory.{asks_memory, needs_memory, takes_memory};
+ghost use Rattle.rvm_core.specs.Turns.{turned};
 
 use crate::bound::{came_body, with_header};
+use crate::limits::is_spoken;
 use crate::mode::Mode;
-use rvm_debug::Debugged;
+use rvm_debug::{Debugged, Turns};
 use rvm_frame::{Addressed, Frame};
 use rvm_mem::PagedMemory;
 use rvm_message::{Command, HostEvent, HostRefusal, HostReply, can_come};
@@ -157,6 +159,16 @@ impl<M: PagedMemory + Drop> Host<M> {
         Ok((reply, addressed(self.id, self.partner, frame)))
     }
 
+    /// Makes turns of a hart, at most `count`, as `Debugged::turns` does, where the guest runs here, no
+    /// move is going on and the hart is there; else none. Takes no memory.
+    pub fn turns(&mut self, hart: u32, count: u32) -> Turns
+        ensures host { self.new ≡ record self.old { mode = (turned hart count self.old.mode).mode } }
+        ensures made { result.made ≡ (turned hart count self.old.mode).made }
+        ensures stop { result.stop ≡ (turned hart count self.old.mode).stop }
+    {
+        self.mode.turns(hart, count)
+    }
+
     /// A move to a host begins.
     fn begin(
         &mut self,
@@ -274,12 +286,7 @@ fn is_offer_above(move_number: u64, frame: &Frame) -> bool
 fn is_sized(id: u8, count: u8, limit: u16, version: u32) -> bool
     ensures { result ≡ is_sized id count limit version }
 {
-    2 <= count
-        && count <= 8
-        && id < count
-        && 1 <= limit
-        && limit <= 4096
-        && (version == 3 || count == 2 && 1 <= version && version <= 2)
+    is_spoken(version, count as usize) && id < count && 1 <= limit && limit <= 4096
 }
 
 /// The other party after the reply to a command to begin a move to a host.

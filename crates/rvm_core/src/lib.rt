@@ -5,13 +5,15 @@
 //! Stands on `rvm_source`, `rvm_handover` and `rvm_message`, and knows nothing of worlds, threads or
 //! links.
 //!
-//! To be read in this order: `mode`, `source`, `target`, `bound`, `host`.
+//! To be read in this order: `mode`, `source`, `target`, `bound`, `limits`, `host`.
 #![tactic(auto)]
 
 mod bound;
 mod host;
+mod limits;
 mod mode;
 mod source;
 mod target;
 
 pub use host::Host;
+pub use limits::is_spoken;

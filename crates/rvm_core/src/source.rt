@@ -11,15 +11,22 @@ ghost use Rattle.rvm_protocol.specs.Obeying as obeying;
 ghost use Rattle.rvm_protocol.specs.Receiving as receiving;
 ghost use Rattle.rvm_core.specs.Bounds.{HasNumber, copy_body, resend_body};
 ghost use Rattle.rvm_core.specs.Modes.{mode_of, plain_of};
+ghost use Rattle.rvm_core.specs.Turns.{guest_turned, turned};
 
 use crate::mode::Mode;
-use rvm_debug::{BoardEvent, Debugged};
+use rvm_debug::{BoardEvent, Debugged, Order, Turns};
 use rvm_frame::Frame;
-use rvm_mem::PagedMemory;
+use rvm_mem::{Memory, PagedMemory};
 use rvm_message::{Answer, HostRefusal, HostReply, apply_event};
 use rvm_precopy::Policy;
 use rvm_source::Source;
 use std::alloc::{AllocError, Global};
+
+/// No turn was made.
+const NO_TURNS: Turns = Turns {
+    made: 0,
+    stop: None,
+};
 
 impl<M: PagedMemory + Drop> Mode<M> {
     /// An event of the guest. Takes no memory.
@@ -35,6 +42,18 @@ impl<M: PagedMemory + Drop> Mode<M> {
             Mode::Empty { .. } | Mode::Given { .. } | Mode::Staging { .. } => HostReply::Refused(
                 HostRefusal::NotHere,
             ),
+        }
+    }
+
+    /// Makes turns of a hart, at most `count`, where the guest runs and no move is going on; else none.
+    pub(crate) fn turns(&mut self, hart: u32, count: u32) -> Turns
+        ensures mode { plain_of self.new ≡ (turned hart count (plain_of self.old)).mode }
+        ensures made { result.made ≡ (turned hart count (plain_of self.old)).made }
+        ensures stop { result.stop ≡ (turned hart count (plain_of self.old)).stop }
+    {
+        match self {
+            Mode::Run { guest, .. } => turns_of(guest, hart, count),
+            _ => NO_TURNS,
         }
     }
 
@@ -228,4 +247,16 @@ impl<M: PagedMemory + Drop> Mode<M> {
             _ => HostReply::Refused(HostRefusal::Ignored),
         }
     }
+}
+
+/// Turns of a hart of a guest, at most `count`; none where it is not there.
+fn turns_of<M: Memory>(guest: &mut Debugged<M>, hart: u32, count: u32) -> Turns
+    ensures guest { guest.new.guest ≡ (guest_turned hart count guest.old.guest).guest }
+    ensures made { result.made ≡ (guest_turned hart count guest.old.guest).made }
+    ensures stop { result.stop ≡ (guest_turned hart count guest.old.guest).stop }
+{
+    if hart >= guest.harts() {
+        return NO_TURNS;
+    }
+    guest.turns(Order::Alone, hart, count)
 }

@@ -1,12 +1,14 @@
 -- Events of one kind, one after the other, and the parts of a list of events.
-use Rattle.std.proofs.Common.{◌≡◌, ℕ, zero, suc, ◌+◌, ◌-◌, ◌<◌, ◌≤◌, List, [], ◌∷◌, ◌++◌, length, refl, sym, ap, ◌∙◌, arith, OnErr, Result, Ok, Err}
+use Rattle.std.proofs.Common.{◌≡◌, ◌&&◌, Bool, true, ℕ, zero, suc, ◌+◌, ◌-◌, ◌<◌, ◌≤◌, List, [], ◌∷◌, ◌++◌, length, refl, sym, ap, ◌∙◌, arith, OnErr, Result, Ok, Err}
+use Rattle.std.specs.List.{list_all}
+use Rattle.std.proofs.lemmas.List.Folds.{list_all-append}
 use Rattle.rvm_debug.specs.declared.event.BoardEvent.{BoardEvent}
 use Rattle.rvm_debug.specs.declared.event.BoardReply.{BoardReply}
 use Rattle.rvm_guest.proofs.TheGuest.{board}
 use Rattle.rvm_protocol.specs.Pages.{listed}
 use Rattle.rvm_protocol.specs.Replies.{Reply}
 use Rattle.rvm_protocol.specs.World.{Event, replies, reply_to, run, step}
-use Rattle.rvm_world.specs.Driving.{WasLeft}
+use Rattle.rvm_world.specs.Driving.{WasLeft, is_driving}
 use Rattle.rvm_world.specs.Worlds.{BoardWorld}
 
 -- lists by a function of the place
@@ -103,21 +105,30 @@ replies_next w w' x ys r qs h =
 
 -- some whole events
 pub left_as_it_was : (w w' : BoardWorld) → w' ≡ w → WasLeft w w'
-left_as_it_was w w' is = record { events = []; made = is ∙ sym (run_none w) }
+left_as_it_was w w' is = record { events = []; only = refl; made = is ∙ sym (run_none w) }
 
-pub left_by : (w w' : BoardWorld) (es : List (Event BoardEvent)) → w' ≡ run board w es → WasLeft w w'
-left_by w w' es is = record { events = es; made = is }
+left_by : (w w' : BoardWorld) (es : List (Event BoardEvent)) → list_all is_driving es ≡ true → w' ≡ run board w es
+    → WasLeft w w'
+left_by w w' es only is = record { events = es; only = only; made = is }
+
+both : (a b : Bool) → a ≡ true → b ≡ true → (a && b) ≡ true
+both a b p q = cc
 
 pub left_further : (a b c : BoardWorld) → WasLeft a b → WasLeft b c → WasLeft a c
 left_further a b c h k =
     record {
       events = h.events ++ k.events;
+      only =
+          list_all-append is_driving h.events k.events
+          ∙ both (list_all is_driving h.events) (list_all is_driving k.events) h.only k.only;
       made = k.made ∙ ap (λ z. run board z k.events) h.made ∙ sym (run_append h.events k.events a);
     }
 
-pub left_once_more : (a b c : BoardWorld) (x : Event BoardEvent) → WasLeft a b → c ≡ step board b x → WasLeft a c
-left_once_more a b c x h is =
-    left_further a b c h (left_by b c (x ∷ []) (is ∙ sym (run_none (step board b x)) ∙ sym (run_first b x [])))
+pub left_once_more : (a b c : BoardWorld) (x : Event BoardEvent) → is_driving x ≡ true → WasLeft a b
+    → c ≡ step board b x → WasLeft a c
+left_once_more a b c x drives h is =
+    left_further a b c h
+    (left_by b c (x ∷ []) (both (is_driving x) true drives refl) (is ∙ sym (run_none (step board b x)) ∙ sym (run_first b x [])))
 
 pub left_unchanged : (a b c : BoardWorld) → WasLeft a b → c ≡ b → WasLeft a c
 left_unchanged a b c h is = left_further a b c h (left_as_it_was b c is)
@@ -135,9 +146,10 @@ pub begins : (f : ℕ → Event BoardEvent) (w : BoardWorld) (n : ℕ) → Going
 begins f w n =
     record { left = ap (λ z. run board w (listed f 0 z)) (omega arith); so_far = left_as_it_was w w refl }
 
-pub goes_on : (f : ℕ → Event BoardEvent) (w0 w w' : BoardWorld) (i n : ℕ) → Going f w0 w i n → i < n
+pub goes_on : (f : ℕ → Event BoardEvent) → ((p : ℕ) → is_driving (f p) ≡ true) → (w0 w w' : BoardWorld) (i n : ℕ)
+    → Going f w0 w i n → i < n
     → w' ≡ step board w (f i) → Going f w0 w' (i + 1) n
-goes_on f w0 w w' i n going lt next =
+goes_on f drives w0 w w' i n going lt next =
     let k = n - (i + 1) in
     let e : n - i ≡ suc k = omega (arith, lt) in
     let s : suc i ≡ i + 1 = omega arith in
@@ -148,7 +160,7 @@ goes_on f w0 w w' i n going lt next =
       left =
           ap (λ z. run board z (listed f (i + 1) k)) next ∙ sym (run_first w (f i) (listed f (i + 1) k))
           ∙ ap (run board w) (sym here) ∙ going.left;
-      so_far = left_once_more w0 w w' (f i) going.so_far next;
+      so_far = left_once_more w0 w w' (f i) (drives i) going.so_far next;
     }
 
 pub ends : (f : ℕ → Event BoardEvent) (w0 w : BoardWorld) (i n : ℕ) → Going f w0 w i n → n ≤ i

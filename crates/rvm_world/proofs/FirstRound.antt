@@ -89,7 +89,7 @@ goes_on from w0 w w' i r rounding copied reply next =
       counted = λ n most told.
           let a = rounding.counted n most told in
           copied_one from w0 w w' i n a.ahead r a.is a.told a.leads copied reply next;
-      so_far = left_once_more w0 w w' (At from Copy) rounding.so_far next;
+      so_far = left_once_more w0 w w' (At from Copy) refl rounding.so_far next;
     }
 
 -- the round is over

@@ -23,6 +23,7 @@ use Rattle.rvm_protocol.specs.Replies.{Reply, Refused, BadHost, NoFrame}
 use Rattle.rvm_protocol.specs.World.{Event, At, Deliver, and_sent, frame_for, happened, meaning, new_world, reply_or, reply_to, result_at, run, step, world_at}
 use Rattle.rvm_core.specs.Bounds.{CanBePosted}
 use Rattle.rvm_core.specs.Hosts.{PlainHost, Steps, host_of, new_host, step_of}
+use Rattle.rvm_core.specs.Spelled.{AreSpelled}
 use Rattle.rvm_world.specs.Worlds.{BoardWorld, IsKept, IsReached, IsWorld, Kept, Placed, PlainWorld, current_after, frame_in, host_at, is_sized, kept_of, no_kept, posted, world_of}
 use Rattle.rvm_world.proofs.Current.{moves_on}
 use Rattle.rvm_world.proofs.Keeping.{kept_made, posted_kept}
@@ -301,6 +302,19 @@ pub is_kept : (w : PlainWorld) (k : ℕ) (kept : Kept) → IsWorld w → k < len
 is_kept w k kept is lt same =
     subst (λ z. IsKept w.version (length w.hosts) z) (sym (same ∙ get_or_default w.sent k kept no_kept lt))
     (is.kept k lt)
+
+-- the bytes of a frame that was sent are its spelling
+pub spelled_there : (w : PlainWorld) (k : ℕ) (kept : Kept) → IsWorld w → k < length w.sent
+    → kept ≡ get_or w.sent k kept → AreSpelled w.version (slice_get (world_of w).sent k) (Some kept.bytes)
+spelled_there w k kept is lt same =
+    subst (λ z. AreSpelled w.version z (Some kept.bytes))
+    (ap (λ z. Some (kept_of w.version z)) same ∙ sym (sent_there (kept_of w.version) w.sent k kept lt))
+    (is_kept w k kept is lt same).spelled
+
+pub spelled_past : (w : PlainWorld) (k : ℕ) → length w.sent ≤ k
+    → AreSpelled w.version (slice_get (world_of w).sent k) None
+spelled_past w k past =
+    subst (λ z. AreSpelled w.version z None) (sym (sent_past (kept_of w.version) w.sent k past)) tt
 
 -- a command at a host
 pub at_becomes : (w : PlainWorld) (sent : List Kept) (x most : ℕ) (c : Command BoardEvent)

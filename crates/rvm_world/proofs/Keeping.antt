@@ -1,5 +1,5 @@
 -- A frame that was made is kept as bytes, and they are read as that frame again.
-use Rattle.std.proofs.Common.{◌≡◌, ℕ, zero, suc, ◌-◌, ◌^◌, ◌<◌, ◌≤◌, ◌&&◌, true, nat_le, nat_lt, if◌then◌else◌, List, [], ◌∷◌, ◌++◌, map, length, get_or, Option, Some, None, Ok, sym, ap, ◌∙◌, subst, arith, append-nil}
+use Rattle.std.proofs.Common.{◌≡◌, ℕ, zero, suc, ◌-◌, ◌^◌, ◌<◌, ◌≤◌, ◌&&◌, true, nat_le, nat_lt, if◌then◌else◌, List, [], ◌∷◌, ◌++◌, map, length, get_or, Option, Some, None, Ok, refl, sym, ap, ◌∙◌, subst, arith, append-nil}
 use Rattle.std.specs.Prelude.{is_ok}
 use Rattle.std.proofs.lemmas.Bool.Decides.{nat_tests}
 use Rattle.std.proofs.lemmas.List.{map-append}
@@ -12,10 +12,12 @@ use Rattle.rvm_frame.specs.Grammar.{HasSpelling, MayStand, sent, spelling}
 use Rattle.rvm_frame.specs.Verdict.{one_frame_of, verdict}
 use Rattle.rvm_frame.proofs.Verdicts.{verdict_again}
 use Rattle.rvm_message.specs.Frames.{addressed_made, can_come, frame_of, no_frame}
+use Rattle.rvm_protocol.specs.Frames as protocol
 use Rattle.rvm_protocol.specs.Host.{is_there}
 use Rattle.rvm_protocol.specs.World.{and_sent}
 use Rattle.rvm_core.specs.Bounds.{CanBePosted}
 use Rattle.rvm_core.specs.Hosts.{PlainHost}
+use Rattle.rvm_core.specs.Spelled.{IsSpelled}
 use Rattle.rvm_world.specs.Worlds.{CanBeKept, IsKept, Kept, frame_in, frame_or, is_frame, kept_of, no_kept, posted}
 
 -- THE FRAME
@@ -64,6 +66,12 @@ module _ (version : ℕ) (a : Addressed) (s : HasSpelling (sent version a))
       ap frame_or read_again
       ∙ ap (λ b. if b then frame_of a.frame else no_frame) (comes version (sent version a).0 a.frame s m)
 
+-- what is spelled can be read
+pub can_be_read : (version : ℕ) (made : protocol.Addressed (List ℕ) (List ℕ)) (bytes : List ℕ) → IsSpelled version made bytes
+    → is_frame version bytes ≡ true
+can_be_read version made bytes s =
+    ap (is_frame version) s.spells.2 ∙ is_again version s.frame s.spells.0 s.spells.1
+
 -- THE FRAMES THAT WERE SENT
 
 -- one more frame is sent
@@ -78,7 +86,7 @@ kept_made h most (Some a) xs p =
 there : (self count x : ℕ) → is_there self count x ≡ true → x < count
 there self count x h = grind (arith, nat_tests)
 
--- it can be read, and is of hosts that are there
+-- it is of hosts that are there, and spelled
 pub posted_kept : (h : PlainHost) (most : ℕ) (o : Option Addressed) → CanBePosted h most o → h.id < h.count
     → (k : ℕ) → k < length (posted h.version o) → IsKept h.version h.count (get_or (posted h.version o) k no_kept)
 posted_kept h most None p lt k lk = absurd (omega (arith, lk))
@@ -86,7 +94,11 @@ posted_kept h most (Some a) p lt zero lk =
     record {
       sender = subst (λ z. z < h.count) (sym p.from) lt;
       receiver = there h.id h.count a.to p.to;
-      readable = is_again h.version a p.spelled p.stands;
+      spelled = record {
+        frame = a;
+        is = λ i. record { from = a.from; to = a.to; frame = sym (frame_again h.version a p.spelled p.stands) i };
+        spells = (p.spelled, p.stands, refl);
+      };
     }
 posted_kept h most (Some a) p lt (suc k) lk = absurd (omega (arith, lk))
 

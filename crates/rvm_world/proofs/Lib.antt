@@ -10,3 +10,4 @@ mod Sending
 mod Opening
 mod Moves
 mod Endings
+mod Stepping

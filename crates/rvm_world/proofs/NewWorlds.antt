@@ -61,11 +61,11 @@ another g version limits n hosts all h new more behind is =
 
 -- THE WORLD
 
-two_hosts : (n : ℕ) (rest : Bool) → (within 2 8 n && rest) ≡ true → 2 ≤ n
-two_hosts n rest h = grind (arith, nat_tests)
+two_hosts : (n : ℕ) (versions rest : Bool) → ((within 2 8 n && versions) && rest) ≡ true → 2 ≤ n
+two_hosts n versions rest h = grind (arith, nat_tests)
 
 pub two_limits : (version : ℕ) (limits : List ℕ) → is_sized version limits ≡ true → 2 ≤ length limits
-two_limits version limits h = two_hosts (length limits) _ h
+two_limits version limits h = two_hosts (length limits) _ _ h
 
 first_host : (b : Bool) (g : GuestState) (x count limit version : ℕ)
     → host_of (new_host (if b then Some g else None) x count limit version)

@@ -1,17 +1,18 @@
 -- A move that is driven: each of its frames comes once, in order, and the guest has no event.
-use Rattle.std.specs.Prelude.{◌≡◌, ℕ, suc, ◌+◌, ◌*◌, ◌^◌, ◌-◌, ◌<◌, ◌≤◌, true, List, length}
+use Rattle.std.specs.Prelude.{◌≡◌, ℕ, suc, ◌+◌, ◌*◌, ◌^◌, ◌-◌, ◌<◌, ◌≤◌, Bool, true, false, List, length}
+use Rattle.std.specs.List.{list_all}
 use Rattle.rvm_debug.specs.declared.event.BoardEvent.{BoardEvent}
 use Rattle.rvm_debug.specs.Guest.{Guest}
 use Rattle.rvm_guest.proofs.TheGuest.{board}
 use Rattle.rvm_message.specs.declared.reply.HostRefusal.{HostRefusal}
 use Rattle.rvm_message.specs.Replies.{refusal_of}
-use Rattle.rvm_protocol.specs.Commands.{Policy, Begin, is_allowed}
+use Rattle.rvm_protocol.specs.Commands.{Policy, Begin, Copy, is_allowed}
 use Rattle.rvm_protocol.specs.DrivenMove.{Arrives, IsDeclined, drive, drive_opening, state_frames}
 use Rattle.rvm_protocol.specs.Host.{is_there}
 use Rattle.rvm_protocol.specs.Modes.{Run}
 use Rattle.rvm_protocol.specs.Replies.{Refused}
 use Rattle.rvm_protocol.specs.Rounds.{page_count}
-use Rattle.rvm_protocol.specs.World.{At, Event, mode_at, reply_to, run}
+use Rattle.rvm_protocol.specs.World.{At, Deliver, Event, mode_at, reply_to, run}
 use Rattle.rvm_world.specs.Worlds.{BoardWorld}
 use Rattle.rvm_world.specs.declared.drive.Driven.{Driven}
 use Rattle.rvm_world.specs.declared.drive.Driven.TheVariants as driven
@@ -56,7 +57,15 @@ pub record DrivesTo (d : Driven) (old new : BoardWorld) (from to : ℕ) (policy 
   pub refused : (why : HostRefusal)
       → reply_to board old (At from (Begin to policy)) ≡ Refused (refusal_of why) → IsRefused d old new why
 
--- some whole events made the world `new` of the world `old`
+-- an event of a move that is driven: it begins, a copy is made, or a frame comes; none of the guest, and it is not given up
+abbrev pub is_driving : Event BoardEvent → Bool
+is_driving (At x (Begin to p)) = true
+is_driving (At x Copy) = true
+is_driving (Deliver k) = true
+is_driving e = false
+
+-- some whole events of a move that is driven made the world `new` of the world `old`
 pub record WasLeft (old new : BoardWorld) : Type 0 where
   pub events : List (Event BoardEvent)
+  pub only : list_all is_driving events ≡ true
   pub made : new ≡ run board old events

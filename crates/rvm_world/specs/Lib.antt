@@ -3,3 +3,4 @@ pub mod Worlds
 pub mod NeverMoved
 pub mod Driving
 pub mod Phases
+pub mod Steps

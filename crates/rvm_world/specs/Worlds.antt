@@ -1,5 +1,5 @@
 -- Worlds of hosts: as plain values, and as the law of live migration has them.
-use Rattle.std.specs.Prelude.{◌≡◌, ℕ, ◌<◌, ◌≤◌, ◌==◌, ◌&&◌, ◌||◌, Bool, true, false, List, [], ◌∷◌, map, length, take, get_or, Option, Some, None, nat_lt, if◌then◌else◌, Result, Ok, Err, is_ok}
+use Rattle.std.specs.Prelude.{◌≡◌, ℕ, ◌<◌, ◌≤◌, ◌==◌, ◌&&◌, Bool, true, false, List, [], ◌∷◌, map, length, take, get_or, Option, Some, None, nat_lt, if◌then◌else◌, Result, Ok, Err, is_ok}
 use Rattle.std.specs.List.{list_all}
 use Rattle.rvm_codec.specs.Numbers.{within}
 use Rattle.rvm_debug.specs.declared.event.BoardEvent.{BoardEvent}
@@ -19,7 +19,8 @@ use Rattle.rvm_protocol.specs.Replies.{Reply, Committed}
 use Rattle.rvm_protocol.specs.Shown.{Shown}
 use Rattle.rvm_protocol.specs.Told.{Told}
 use Rattle.rvm_protocol.specs.World as protocol
-use Rattle.rvm_core.specs.Hosts.{PlainHost, host_of, new_host}
+use Rattle.rvm_core.specs.Hosts.{PlainHost, host_of, is_spoken, new_host}
+use Rattle.rvm_core.specs.Spelled.{IsSpelled}
 use Rattle.rvm_world.specs.declared.event.Event.{Event}
 use Rattle.rvm_world.specs.declared.event.Event.TheVariants as event
 use Rattle.rvm_world.specs.declared.event.WorldReply.{WorldReply}
@@ -112,11 +113,9 @@ asks_memory e = true
 abbrev pub place_of : (before after : ℕ) → Option ℕ
 place_of before after = if nat_lt before after then Some before else None
 
--- 2 to 8 hosts that each take 1 to 4096 pages; streams of version 1 to 3, of more than two hosts 3
+-- hosts that each take 1 to 4096 pages, and a version of the stream that they can speak
 abbrev pub is_sized : (version : ℕ) → (limits : List ℕ) → Bool
-is_sized version limits =
-    within 2 8 (length limits) && (list_all (within 1 4096) limits
-    && (version == 3 || (length limits == 2 && within 1 2 version)))
+is_sized version limits = is_spoken version (length limits) && list_all (within 1 4096) limits
 
 -- how many pages host x takes
 abbrev pub limit_at : List ℕ → ℕ → ℕ
@@ -142,13 +141,13 @@ pub record Placed (version count x : ℕ) (h : PlainHost) : Type 0 where
   pub counts : h.count ≡ count
   pub writes : h.version ≡ version
 
--- a frame that was sent can be read, and is of hosts that are there
+-- a frame that was sent is of hosts that are there, and its bytes are the spelling of the frame that they are read as
 pub record IsKept (version count : ℕ) (k : Kept) : Type 0 where
   pub sender : k.from < count
   pub receiver : k.to < count
-  pub readable : is_frame version k.bytes ≡ true
+  pub spelled : IsSpelled version (kept_of version k) k.bytes
 
--- its numbers are within their limits, each host stands at its place, each frame can be read, some events made it, and
+-- its numbers are within their limits, each host stands at its place, each frame is spelled, some events made it, and
 -- the guest is where it says
 pub record IsWorld (w : PlainWorld) : Type 0 where
   pub sized : is_sized w.version (map (λ h. h.limit) w.hosts) ≡ true

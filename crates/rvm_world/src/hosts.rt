@@ -6,7 +6,7 @@ ghost use Rattle.rvm_codec.specs.Numbers.{within};
 ghost use Rattle.rvm_core.specs.Hosts.{new_host};
 ghost use Rattle.rvm_world.specs.Worlds.{AreNew, is_sized, limit_at};
 
-use rvm_core::Host;
+use rvm_core::{Host, is_spoken};
 use rvm_debug::Debugged;
 use rvm_mem::PagedMemory;
 
@@ -14,10 +14,7 @@ use rvm_mem::PagedMemory;
 pub(crate) fn is_sized(version: u32, limits: &[u16]) -> bool
     ensures { result ≡ is_sized version limits.now }
 {
-    2 <= limits.len()
-        && limits.len() <= 8
-        && are_limits(limits)
-        && (version == 3 || limits.len() == 2 && 1 <= version && version <= 2)
+    is_spoken(version, limits.len()) && are_limits(limits)
 }
 
 /// Whether each host takes at least one page, and no more than a guest can have.

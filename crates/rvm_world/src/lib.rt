@@ -4,7 +4,7 @@
 //! Stands on `rvm_core` for hosts and on `rvm_frame` for the bytes of frames. It knows nothing of
 //! threads, links or files.
 //!
-//! To be read in this order: `event`, `error`, `sent`, `hosts`, `world`, `run`, `drive`.
+//! To be read in this order: `event`, `error`, `sent`, `hosts`, `world`, `steps`, `run`, `drive`.
 #![tactic(auto)]
 
 mod drive;
@@ -13,10 +13,12 @@ mod event;
 mod hosts;
 mod run;
 mod sent;
+mod steps;
 mod world;
 
 pub use drive::{Driven, drive_move};
 pub use error::WorldError;
 pub use event::{Event, WorldReply};
 pub use run::run_world;
+pub use steps::Steps;
 pub use world::World;

@@ -1,7 +1,8 @@
 //! A world of hosts.
 
-ghost use Rattle.std.specs.Prelude.{◌≡◌, ◌^◌, ◌↔◌, ◌<◌, ◌≤◌, length, get_or, true, false, IfOk, IfErr, OnOk, OnErr, IfSome, None};
+ghost use Rattle.std.specs.Prelude.{◌≡◌, ◌^◌, ◌↔◌, ◌<◌, ◌≤◌, length, get_or, slice_get, option_map, true, false, IfOk, IfErr, OnOk, OnErr, IfSome, None};
 ghost use Rattle.rvm_core.specs.Hosts.{version_of};
+ghost use Rattle.rvm_core.specs.Spelled.{AreSpelled};
 ghost use Rattle.rvm_debug.specs.Guest.{Guest};
 ghost use Rattle.rvm_guest.proofs.TheGuest.{board};
 ghost use Rattle.rvm_guest.specs.Valid.{is_valid};
@@ -14,6 +15,7 @@ ghost use Rattle.rvm_protocol.specs.Told.{Told, at_start};
 ghost use Rattle.rvm_protocol.specs.World as protocol;
 ghost use Rattle.rvm_protocol.specs.World.{reply_to, step, new_world};
 ghost use Rattle.rvm_world.specs.declared.error.WorldError.TheVariants.{BadSize};
+ghost use Rattle.rvm_world.specs.Steps.{AreFirst};
 ghost use Rattle.rvm_world.specs.Worlds.{IsReached, asks_memory, current_after, is_sized, limit_at, meant, no_kept, place_of, world_of};
 
 use crate::error::WorldError;
@@ -21,7 +23,7 @@ use crate::event::{Event, WorldReply};
 use crate::hosts::{add_hosts, is_sized};
 use crate::sent::{Sent, make_room, post};
 use rvm_core::Host;
-use rvm_debug::Debugged;
+use rvm_debug::{Debugged, Turns};
 use rvm_guest::valid_guest;
 use rvm_mem::PagedMemory;
 use rvm_message::{Command, HostRefusal, HostReply};
@@ -144,6 +146,9 @@ impl<M: PagedMemory + Drop> World<M> {
     pub fn frame(&self, place: usize) -> Option<&[u8]>
         ensures some { IfSome result (λ bytes. bytes.now ≡ (get_or self.now.sent place no_kept).bytes) }
         ensures none { (result ≡ None) ↔ (length self.now.sent ≤ place) }
+        // They spell the frame that the law has at that place, with the hosts that it goes between.
+        ensures spelled { AreSpelled self.now.version (slice_get (world_of self.now).sent place)
+            (option_map (λ bytes. bytes.now) result) }
     {
         match self.sent.get(place) {
             Some(sent) => Some(sent.bytes()),
@@ -173,6 +178,20 @@ impl<M: PagedMemory + Drop> World<M> {
             Event::At(host, command) => self.at(alloc, *host, command),
             Event::Deliver(place) => self.deliver(alloc, *place),
         }
+    }
+
+    /// Makes the first turns of steps of a hart, at most `count`, where the guest runs at this host and no
+    /// move is going on; else none.
+    pub(crate) fn turns(&mut self, host: u8, hart: u32, count: u32) -> Turns
+        ensures { AreFirst host hart count (world_of self.old) (world_of self.new) result.made result.stop }
+    {
+        if host as usize >= self.hosts.len() {
+            return Turns {
+                made: 0,
+                stop: None,
+            };
+        }
+        self.hosts[host as usize].turns(hart, count)
     }
 
     /// A command at a host, as `apply` has it.

@@ -1,5 +1,5 @@
 -- How scripts end, by cases.
-use Rattle.std.proofs.Common.{◌∷◌, ◌≡◌, ◌∙◌, ℕ, List, Option, Some, None, refl, sym, ap, subst, inl, inr, true, false, Bool, ◌≤◌, length, take, replicate}
+use Rattle.std.proofs.Common.{◌∷◌, ◌≡◌, ◌∙◌, ℕ, ◌^◌, ◌<◌, List, Option, Some, None, refl, sym, ap, subst, inl, inr, true, false, Bool, ◌≤◌, length, take, replicate}
 use Rattle.std.specs.Prelude.{Result, Ok, Err, IfOk, IfSome, ◌↔◌}
 use Rattle.std.specs.Io.KnownBytes.{Appends, Keeps}
 use Rattle.std.proofs.lemmas.List.{length-replicate, take-replicate}
@@ -17,10 +17,10 @@ use Rattle.rvm_world.specs.Worlds.{BoardWorld, is_sized, limit_at}
 use Rattle.rvm_world.specs.declared.error.WorldError.{WorldError}
 use Rattle.rvm_world.specs.declared.error.WorldError.TheVariants as world
 use Rattle.rvm_world_command.specs.Ends.{IsWorldRefusal, IsWorldScriptEnd, IsWorldScriptEndOf}
-use Rattle.rvm_world_command.specs.FirstWorld.{at_first, limits_of, standing}
+use Rattle.rvm_world_command.specs.FirstWorld.{at_first, limits_of}
 use Rattle.rvm_world_script.specs.declared.script.WorldScriptError.{WorldScriptError}
 use Rattle.rvm_world_script.specs.declared.script.WorldScriptError.TheVariants as script
-use Rattle.rvm_world_script.specs.Runs.{IsWorldRun}
+use Rattle.rvm_world_script.specs.Runs.{IsWorldRun, standing}
 use Rattle.rvm_world_script.specs.WorldScript.{Standing, world_script_of}
 
 -- bytes that went out and stay
@@ -34,13 +34,14 @@ still_kept : (a b c : Option (List ℕ)) → b ≡ a → Keeps b c → Keeps a c
 still_kept a b c e k = subst (λ (o : Option (List ℕ)). Keeps o c) e k
 
 -- a script that was run, behind what the writer held back
-ended_run : (ls : List (List ℕ)) (s : Standing) (answered : Result (Unit {0}) WorldScriptError) (new : BoardWorld) (before mid after : Option (List ℕ))
-    → IsWorldRun answered ls s new before mid → Keeps mid after → IsWorldScriptEnd ls s answered before after
-ended_run ls s (Ok u) new before mid after run kept =
-    (run.0, appends_kept before mid after (world_script_of ls 1 s).text run.2 kept)
-ended_run ls s (Err (script.BadToken n)) new before mid after run kept =
-    (run.0, appends_kept before mid after (world_script_of ls 1 s).text run.2 kept)
-ended_run ls s (Err (script.LineOutOfMemory n)) new before mid after run kept =
+ended_run : (text : List ℕ) (s : Standing) (answered : Result (Unit {0}) WorldScriptError) (new : BoardWorld) (before mid after : Option (List ℕ))
+    → (answered ≡ Err script.TooLong → 2 ^ 26 < length text)
+    → IsWorldRun answered (lines text) s new before mid → Keeps mid after → IsWorldScriptEnd text s answered before after
+ended_run text s (Ok u) new before mid after long run kept =
+    (run.0, appends_kept before mid after (world_script_of (lines text) 1 s).text run.2 kept)
+ended_run text s (Err (script.BadToken n)) new before mid after long run kept =
+    (run.0, appends_kept before mid after (world_script_of (lines text) 1 s).text run.2 kept)
+ended_run text s (Err (script.LineOutOfMemory n)) new before mid after long run kept =
     record {
       done = run.done;
       left = run.line ∷ run.left;
@@ -48,16 +49,19 @@ ended_run ls s (Err (script.LineOutOfMemory n)) new before mid after run kept =
       number = run.number;
       text = appends_kept before mid after (world_script_of run.done 1 s).text run.text kept;
     }
-ended_run ls s (Err script.TooLong) new before mid after run kept = still_kept before mid after run.1 kept
-ended_run ls s (Err script.OutOfMemory) new before mid after run kept = still_kept before mid after run.1 kept
-ended_run ls s (Err script.LinkFault) new before mid after run kept = tt
+ended_run text s (Err script.TooLong) new before mid after long run kept =
+    (long refl, still_kept before mid after run.1 kept)
+ended_run text s (Err script.OutOfMemory) new before mid after long run kept = still_kept before mid after run.1 kept
+ended_run text s (Err script.LinkFault) new before mid after long run kept = tt
 
 -- the same of a reader's script, where that is known
 pub script_ended : (remaining : Option (List ℕ)) (s : Standing) (answered : Result (Unit {0}) WorldScriptError) (new : BoardWorld) (before mid after : Option (List ℕ))
+    → (answered ≡ Err script.TooLong → IfSome remaining (λ text. 2 ^ 26 < length text))
     → IfSome remaining (λ text. IsWorldRun answered (lines text) s new before mid)
     → Keeps mid after → IsWorldScriptEndOf remaining s answered before after
-script_ended None s answered new before mid after run kept = tt
-script_ended (Some text) s answered new before mid after run kept = ended_run (lines text) s answered new before mid after run kept
+script_ended None s answered new before mid after long run kept = tt
+script_ended (Some text) s answered new before mid after long run kept =
+    ended_run text s answered new before mid after long run kept
 
 -- of a script whose reader or writer failed nothing is said
 pub link_failed : (remaining : Option (List ℕ)) (s : Standing) (before after : Option (List ℕ)) → IsWorldScriptEndOf remaining s (Err script.LinkFault) before after

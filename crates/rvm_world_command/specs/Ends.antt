@@ -1,5 +1,5 @@
 -- How `script` ends, what it wrote to its output until then, and what it answers.
-use Rattle.std.specs.Prelude.{◌≡◌, ◌⊎◌, ℕ, ◌+◌, true, false, List, ◌++◌, length, Option, Some, None, Result, Ok, Err, IfOk, IfSome}
+use Rattle.std.specs.Prelude.{◌≡◌, ◌⊎◌, ℕ, ◌+◌, ◌^◌, ◌<◌, true, false, List, ◌++◌, length, Option, Some, None, Result, Ok, Err, IfOk, IfSome}
 use Rattle.std.specs.Io.KnownBytes.{Appends, Keeps}
 use Rattle.rvm_arguments.specs.declared.arguments.ScriptArguments.{ScriptArguments}
 use Rattle.rvm_command.specs.declared.refused.Refused.{Refused}
@@ -35,24 +35,24 @@ pub record IsCutShort (n : ℕ) (lines : List (List ℕ)) (s : Standing) (before
   pub number : length done + 1 ≡ n
   pub text : Appends before after (world_script_of done 1 s).text
 
--- lines are answered to their end, to the one that is none, or to the one that found no memory; or nothing is answered, or a
--- read or a write failed
-abbrev pub IsWorldScriptEnd : (lines : List (List ℕ)) → Standing → Result (Unit {0}) WorldScriptError
+-- lines are answered to their end, to the one that is none, or to the one that found no memory; or nothing is answered, since
+-- there are too many bytes or no memory; or a read or a write failed
+abbrev pub IsWorldScriptEnd : (text : List ℕ) → Standing → Result (Unit {0}) WorldScriptError
     → (before after : Option (List ℕ)) → Type 0
-IsWorldScriptEnd ls s (Ok done) before after =
-    ((world_script_of ls 1 s).end ≡ None) × Appends before after (world_script_of ls 1 s).text
-IsWorldScriptEnd ls s (Err (script.BadToken n)) before after =
-    ((world_script_of ls 1 s).end ≡ Some n) × Appends before after (world_script_of ls 1 s).text
-IsWorldScriptEnd ls s (Err (script.LineOutOfMemory n)) before after = IsCutShort n ls s before after
-IsWorldScriptEnd ls s (Err script.TooLong) before after = Keeps before after
-IsWorldScriptEnd ls s (Err script.OutOfMemory) before after = Keeps before after
-IsWorldScriptEnd ls s (Err script.LinkFault) before after = Unit {0}
+IsWorldScriptEnd text s (Ok done) before after =
+    let a = world_script_of (lines text) 1 s in (a.end ≡ None) × Appends before after a.text
+IsWorldScriptEnd text s (Err (script.BadToken n)) before after =
+    let a = world_script_of (lines text) 1 s in (a.end ≡ Some n) × Appends before after a.text
+IsWorldScriptEnd text s (Err (script.LineOutOfMemory n)) before after = IsCutShort n (lines text) s before after
+IsWorldScriptEnd text s (Err script.TooLong) before after = (2 ^ 26 < length text) × Keeps before after
+IsWorldScriptEnd text s (Err script.OutOfMemory) before after = Keeps before after
+IsWorldScriptEnd text s (Err script.LinkFault) before after = Unit {0}
 
 -- the same of the script that a reader gives, where that is known
 abbrev pub IsWorldScriptEndOf : Option (List ℕ) → Standing → Result (Unit {0}) WorldScriptError
     → (before after : Option (List ℕ)) → Type 0
 IsWorldScriptEndOf remaining s result before after =
-    IfSome remaining (λ text. IsWorldScriptEnd (lines text) s result before after)
+    IfSome remaining (λ text. IsWorldScriptEnd text s result before after)
 
 -- the same of the guest that an image is
 abbrev pub IsAnswered : ScriptArguments → (file : List ℕ) → (script : Option (List ℕ)) → Result (Unit {0}) WorldScriptError

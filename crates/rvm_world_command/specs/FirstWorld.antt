@@ -4,9 +4,10 @@ use Rattle.rvm_arguments.specs.declared.arguments.ScriptArguments.{ScriptArgumen
 use Rattle.rvm_core.specs.Hosts.{version_of}
 use Rattle.rvm_debug.specs.Guest.{Guest}
 use Rattle.rvm_guest.proofs.TheGuest.{board}
-use Rattle.rvm_protocol.specs.Told.{Told, at_start}
+use Rattle.rvm_protocol.specs.Told.{at_start}
 use Rattle.rvm_protocol.specs.World.{new_world}
-use Rattle.rvm_world.specs.Worlds.{BoardWorld, limit_at}
+use Rattle.rvm_world.specs.Worlds.{limit_at}
+use Rattle.rvm_world_script.specs.Runs.{standing}
 use Rattle.rvm_world_script.specs.WorldScript.{Standing}
 
 -- each host takes a guest of any size
@@ -20,10 +21,6 @@ version_if None hosts = version_of hosts
 
 abbrev pub version_asked : ScriptArguments → ℕ
 version_asked a = version_if a.stream a.hosts
-
--- a world, and what its replies told of the guest
-abbrev pub standing : BoardWorld → Told Guest → Standing
-standing w t = record { world = w; told = t }
 
 -- where a script begins: no host but the first has a guest, and nothing was sent
 abbrev pub at_first : (version hosts : ℕ) → Guest → Standing

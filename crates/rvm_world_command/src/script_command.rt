@@ -9,7 +9,8 @@ ghost use Rattle.rvm_protocol.specs.Shown.{Shown};
 ghost use Rattle.rvm_protocol.specs.Told.{Told};
 ghost use Rattle.rvm_world.specs.Worlds.{is_sized, world_of};
 ghost use Rattle.rvm_world_command.specs.Ends.{IsScriptEnd, IsWorldScriptEndOf};
-ghost use Rattle.rvm_world_command.specs.FirstWorld.{limits_of, standing, version_asked};
+ghost use Rattle.rvm_world_command.specs.FirstWorld.{limits_of, version_asked};
+ghost use Rattle.rvm_world_script.specs.Runs.{standing};
 
 use crate::first_world::load_world;
 use crate::refused::refused_of;

@@ -1,6 +1,6 @@
+mod Faults
 mod Making
 mod Stepping
 mod Running
-mod Numbers
 mod Moving
 mod Examples

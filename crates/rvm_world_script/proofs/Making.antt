@@ -1,5 +1,6 @@
 -- A line makes whole events, and each of them keeps what the modes show.
 use Rattle.std.proofs.Common.{◌≡◌, ℕ, zero, suc, ◌+◌, Bool, true, false, cond, List, [], ◌∷◌, ◌++◌, Option, Some, None, refl, ap, sym, ◌∙◌, subst}
+use Rattle.std.specs.List.{list_all}
 use Rattle.rvm_debug.specs.declared.event.BoardEvent.{BoardEvent}
 use Rattle.rvm_debug.specs.declared.event.BoardEvent.TheVariants as event
 use Rattle.rvm_debug.specs.declared.event.BoardReply.{BoardReply}
@@ -19,6 +20,7 @@ use Rattle.rvm_protocol.specs.Told.{told}
 use Rattle.rvm_protocol.specs.World.{At, Deliver, Event, entry_of, history, meaning, run}
 use Rattle.rvm_script.specs.declared.line.Line.{Line}
 use Rattle.rvm_script.specs.declared.line.Line.TheVariants as line
+use Rattle.rvm_world.specs.Driving.{is_driving}
 use Rattle.rvm_world.specs.Worlds.{BoardWorld, IsReached}
 use Rattle.rvm_world_line.specs.declared.line.Asked.{Asked}
 use Rattle.rvm_world_line.specs.declared.line.Asked.TheVariants as asked
@@ -73,9 +75,10 @@ shown_after_all s es r shown =
     (subst (λ w. Shown w.hosts (told board s.told (history board s.world es))) (sym (after_run s es)) here)
 
 -- just these events were made
-pub events_begun : (s : Standing) (new : BoardWorld) (es : List (Event BoardEvent)) → new ≡ run board s.world es
+pub events_begun : (s : Standing) (new : BoardWorld) (es : List (Event BoardEvent)) → list_all is_driving es ≡ true
+    → new ≡ run board s.world es
     → IsBegun s new
-events_begun s new es made = record { events = es; world = made ∙ sym (after_run s es) }
+events_begun s new es only made = record { events = es; only = only; world = made ∙ sym (after_run s es) }
 
 -- some events lead from one standing to another
 pub record Made (s t : Standing) : Type 0 where

@@ -11,6 +11,7 @@ use Rattle.rvm_message.specs.declared.reply.HostRefusal.TheVariants as refusal
 use Rattle.rvm_message.specs.Replies.{refusal_of}
 use Rattle.rvm_precopy.specs.declared.policy.Policy.{Policy}
 use Rattle.rvm_precopy.specs.Policies.{policy_of}
+use Rattle.rvm_protocol.proofs.MoveNumbers.{below_if, either, moves_are_numbered}
 use Rattle.rvm_protocol.specs.Commands as protocol
 use Rattle.rvm_protocol.specs.Commands.{Begin, Do, is_allowed}
 use Rattle.rvm_protocol.specs.DrivenMove.{drive_opening, state_frames}
@@ -30,7 +31,6 @@ use Rattle.rvm_world_line.specs.Replies.{move_text, place_text, words_of}
 use Rattle.rvm_world_script.specs.Runs.{driven_text, standing}
 use Rattle.rvm_world_script.specs.WorldScript.{Replied, after_all, moved, moved_if, moved_with}
 use Rattle.rvm_world_script.proofs.Making.{after_run}
-use Rattle.rvm_world_script.proofs.Numbers.{below_if, either, moves_are_numbered}
 
 -- a move begins with this number
 record Begins (w : BoardWorld) (from to : ℕ) (p : protocol.Policy) (n : ℕ) : Type 0 where

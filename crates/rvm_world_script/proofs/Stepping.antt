@@ -1,89 +1,71 @@
 -- Steps and bytes, one event at a time.
-use Rattle.std.proofs.Common.{◌≡◌, ℕ, zero, suc, ◌+◌, ◌-◌, ◌<◌, ◌≤◌, true, false, cond, List, [], ◌∷◌, None, refl, ap, sym, ◌∙◌, arith}
+use Rattle.std.proofs.Common.{◌≡◌, ℕ, zero, suc, ◌+◌, Bool, true, false, cond, List, [], ◌∷◌, None, refl, ap, sym, ◌∙◌, subst}
 use Rattle.rvm_debug.specs.declared.event.BoardEvent.TheVariants as event
 use Rattle.rvm_debug.specs.declared.event.BoardReply.{BoardReply}
+use Rattle.rvm_debug.specs.declared.event.BoardReply.TheVariants as answer
 use Rattle.rvm_debug.specs.Guest.{Guest}
 use Rattle.rvm_guest.proofs.TheGuest.{board}
 use Rattle.rvm_protocol.specs.Commands.{Board}
-use Rattle.rvm_protocol.specs.Replies.{Reply}
+use Rattle.rvm_protocol.specs.Replies.{Answered, Reply}
 use Rattle.rvm_protocol.specs.Told.{Told}
 use Rattle.rvm_protocol.specs.World.{At, reply_to, step}
+use Rattle.rvm_world.specs.Steps as steps
 use Rattle.rvm_world.specs.Worlds.{BoardWorld}
-use Rattle.rvm_world_line.specs.Replies.{ends_steps, guest_text}
+use Rattle.rvm_message.specs.Replies.{ends_steps}
+use Rattle.rvm_script.specs.declared.line.Line.{Line}
+use Rattle.rvm_script.specs.declared.line.Line.TheVariants as line
+use Rattle.rvm_world_line.specs.Replies.{guest_text, steps_text}
 use Rattle.rvm_world_script.specs.Runs.{IsInput, IsStepped, standing}
-use Rattle.rvm_world_script.specs.WorldScript.{Replied, Standing, Stepping, after, inputs, is_taken, reply_in, stepping}
+use Rattle.rvm_world_script.specs.WorldScript.{Replied, Standing, Stepping, after, guest_done, inputs, is_taken, reply_in, stepping}
 
-step_more : (x h left made : ℕ) (last : Reply BoardReply) (s : Standing) → ends_steps last ≡ false
-    → let ev = At x (Board (event.Step h)) in
-    stepping x h (suc left) made last s ≡ stepping x h left (made + 1) (reply_in s ev) (after s ev)
-unfolding stepping
-step_more x h left made last s goes =
+-- the world, the number and the last reply are those of the world's steps
+record IsAlike (s : Stepping) (w : steps.Stepping) : Type 0 where
+  pub world : w.world ≡ s.standing.world
+  pub count : w.count ≡ s.count
+  pub reply : w.reply ≡ s.reply
+
+alike_on : (b : Bool) (s s' : Stepping) (w w' : steps.Stepping) → IsAlike s w → IsAlike s' w'
+    → IsAlike (cond b s s') (cond b w w')
+alike_on true s s' w w' here more = here
+alike_on false s s' w w' here more = more
+
+steps_alike : (x h left made : ℕ) (last : Reply BoardReply) (s : Standing)
+    → IsAlike (stepping x h left made last s) (steps.stepping x h left made last s.world)
+unfolding stepping steps.stepping
+steps_alike x h zero made last s = record { world = refl; count = refl; reply = refl }
+steps_alike x h (suc left) made last s =
     let ev = At x (Board (event.Step h)) in
-    let here : Stepping = record { standing = s; count = made; reply = last } in
-    ap (λ b. cond b here (stepping x h left (made + 1) (reply_in s ev) (after s ev))) goes
+    let now = after s ev in
+    alike_on (ends_steps last) (record { standing = s; count = made; reply = last })
+    (stepping x h left (made + 1) (reply_in s ev) now) (record { world = s.world; count = made; reply = last })
+    (steps.stepping x h left (made + 1) (reply_in s ev) now.world)
+    (record { world = refl; count = refl; reply = refl })
+    (steps_alike x h left (made + 1) (reply_in s ev) now)
 
-steps_stop : (x h left made : ℕ) (last : Reply BoardReply) (s : Standing) → ends_steps last ≡ true
-    → stepping x h left made last s ≡ record { standing = s; count = made; reply = last }
-unfolding stepping
-steps_stop x h zero made last s stops = refl
-steps_stop x h (suc left) made last s stops =
-    let ev = At x (Board (event.Step h)) in
-    let here : Stepping = record { standing = s; count = made; reply = last } in
-    ap (λ b. cond b here (stepping x h left (made + 1) (reply_in s ev) (after s ev))) stops
-
-steps_spent : (x h left made : ℕ) (last : Reply BoardReply) (s : Standing) → left ≡ 0
-    → stepping x h left made last s ≡ record { standing = s; count = made; reply = last }
-unfolding stepping
-steps_spent x h left made last s none = ap (λ n. stepping x h n made last s) none
-
--- the steps that were made, and so many more, are all
-pub record StepsLeft (all : Stepping) (x h left made : ℕ) (last : Reply BoardReply) (w : BoardWorld) : Type 0 where
-  pub told : Told Guest
-  pub same : stepping x h left made last (standing w told) ≡ all
-
-pub steps_begin : (x h left : ℕ) (last : Reply BoardReply) (w : BoardWorld) (t : Told Guest)
-    → StepsLeft (stepping x h left 0 last (standing w t)) x h (left - 0) 0 last w
-steps_begin x h left last w t =
-    let all : left - 0 ≡ left = omega arith in
-    record { told = t; same = ap (λ n. stepping x h n 0 last (standing w t)) all }
-
-pub steps_one : (all : Stepping) (x h count made : ℕ) (last next : Reply BoardReply) (w w' : BoardWorld)
-    → StepsLeft all x h (count - made) made last w → made < count → ends_steps last ≡ false
-    → next ≡ reply_to board w (At x (Board (event.Step h))) → w' ≡ step board w (At x (Board (event.Step h)))
-    → StepsLeft all x h (count - (made + 1)) (made + 1) next w'
-steps_one all x h count made last next w w' p lt goes said leaves =
-    let ev = At x (Board (event.Step h)) in
-    let s = standing w p.told in
-    let left = count - (made + 1) in
-    let one : suc left ≡ count - made = omega (arith, lt) in
+-- what steps leave, how many there were and the reply to the last, are those of a script
+pub steps_are : (x h n : ℕ) (w new : BoardWorld) (count : ℕ) (last : Reply BoardReply) (t : Told Guest)
+    → steps.AreSteps (steps.steps_of x h n w) new count last
+    → IsStepped (stepping x h n 0 (Answered answer.Retired) (standing w t)) new count last
+steps_are x h n w new count last t are =
+    let same = steps_alike x h n 0 (Answered answer.Retired) (standing w t) in
     record {
-      told = (after s ev).told;
-      same =
-          ap (λ r. stepping x h left (made + 1) r (standing w' (after s ev).told)) said
-          ∙ ap (λ v. stepping x h left (made + 1) (reply_in s ev) (standing v (after s ev).told)) leaves
-          ∙ sym (step_more x h left made last s goes)
-          ∙ ap (λ n. stepping x h n made last s) one ∙ p.same;
+      world = are.world ∙ same.world;
+      made = are.made ∙ same.count;
+      reply = are.reply ∙ same.reply;
     }
 
-stepped_as : (all : Stepping) (made : ℕ) (last : Reply BoardReply) (w : BoardWorld) (t : Told Guest)
-    → record { standing = standing w t; count = made; reply = last } ≡ all → IsStepped all w made last
-stepped_as all made last w t same =
-    record {
-      world = ap (λ (s : Stepping). s.standing.world) same;
-      made = ap (λ (s : Stepping). s.count) same;
-      reply = ap (λ (s : Stepping). s.reply) same;
-    }
+-- a line of steps
+pub record StepsDone (new : BoardWorld) (h count : ℕ) (last : Reply BoardReply) (r : Replied) : Type 0 where
+  pub world : new ≡ r.standing.world
+  pub text : steps_text h count last ≡ r.text
 
-pub steps_over : (all : Stepping) (x h count made : ℕ) (last : Reply BoardReply) (w : BoardWorld)
-    → StepsLeft all x h (count - made) made last w → count ≤ made → IsStepped all w made last
-steps_over all x h count made last w p le =
-    let none : count - made ≡ 0 = omega (arith, le) in
-    stepped_as all made last w p.told (sym (steps_spent x h (count - made) made last (standing w p.told) none) ∙ p.same)
-
-pub steps_ended : (all : Stepping) (x h left made : ℕ) (last : Reply BoardReply) (w : BoardWorld)
-    → StepsLeft all x h left made last w → ends_steps last ≡ true → IsStepped all w made last
-steps_ended all x h left made last w p stops =
-    stepped_as all made last w p.told (sym (steps_stop x h left made last (standing w p.told) stops) ∙ p.same)
+pub steps_done : (x h n : ℕ) (l : Line) (w new : BoardWorld) (count : ℕ) (last : Reply BoardReply) (t : Told Guest)
+    → l ≡ line.Steps h n → steps.AreSteps (steps.steps_of x h n w) new count last
+    → StepsDone new h count last (guest_done x l (standing w t))
+steps_done x h n l w new count last t is are =
+    let s = steps_are x h n w new count last t are in
+    subst (λ z. StepsDone new h count last (guest_done x z (standing w t))) (sym is)
+    (record { world = s.world; text = λ i. steps_text h (s.made i) (s.reply i) })
 
 byte_in : (x b : ℕ) (bs : List ℕ) (last : Reply BoardReply) (s : Standing)
     → let ev = At x (Board (event.Input b)) in

@@ -1,6 +1,7 @@
 -- How a world's script ended, and what stands then.
-use Rattle.std.specs.Prelude.{◌≡◌, ℕ, ◌+◌, List, ◌∷◌, ◌++◌, length, codes, Option, Some, None, Result, Ok, Err}
+use Rattle.std.specs.Prelude.{◌≡◌, ℕ, ◌+◌, true, List, ◌∷◌, ◌++◌, length, codes, Option, Some, None, Result, Ok, Err}
 use Rattle.std.specs.Io.KnownBytes.{Appends}
+use Rattle.std.specs.List.{list_all}
 use Rattle.std.specs.Fmt.{decimal}
 use Rattle.rvm_debug.specs.declared.event.BoardEvent.{BoardEvent}
 use Rattle.rvm_debug.specs.declared.event.BoardReply.{BoardReply}
@@ -9,6 +10,7 @@ use Rattle.rvm_message.specs.Replies.{refusal_of}
 use Rattle.rvm_protocol.specs.Replies.{Refused, Reply}
 use Rattle.rvm_protocol.specs.Told.{Told}
 use Rattle.rvm_protocol.specs.World.{Event}
+use Rattle.rvm_world.specs.Driving.{is_driving}
 use Rattle.rvm_world.specs.declared.drive.Driven.{Driven}
 use Rattle.rvm_world.specs.declared.drive.Driven.TheVariants as driven
 use Rattle.rvm_world.specs.Worlds.{BoardWorld}
@@ -24,9 +26,10 @@ use Rattle.rvm_world_script.specs.declared.script.WorldScriptError.{WorldScriptE
 use Rattle.rvm_world_script.specs.declared.script.WorldScriptError.TheVariants.{OutOfMemory, LineOutOfMemory, TooLong, BadToken, LinkFault}
 use Rattle.rvm_world_script.specs.WorldScript.{Replied, Standing, Stepping, after_all, done_by, world_script_of}
 
--- some whole events were made
+-- some whole events of a move that is driven were made
 pub record IsBegun (s : Standing) (new : BoardWorld) : Type 0 where
   pub events : List (Event BoardEvent)
+  pub only : list_all is_driving events ≡ true
   pub world : new ≡ (after_all s events).world
 
 -- memory ran out where this was asked: of a whole move some events were made, of another command none was, and a line

@@ -7,6 +7,7 @@ use Rattle.rvm_debug.specs.declared.event.BoardReply.{BoardReply}
 use Rattle.rvm_debug.specs.declared.event.BoardReply.TheVariants.{Done, Retired}
 use Rattle.rvm_debug.specs.Guest.{Guest}
 use Rattle.rvm_guest.proofs.TheGuest.{board}
+use Rattle.rvm_message.specs.Replies.{ends_steps}
 use Rattle.rvm_precopy.specs.declared.policy.Policy.{Policy}
 use Rattle.rvm_precopy.specs.Policies as policies
 use Rattle.rvm_protocol.specs.Commands.{Begin, Board, Copy, Resend, AbortMove}
@@ -25,7 +26,7 @@ use Rattle.rvm_world_line.specs.declared.line.Asked.{Asked}
 use Rattle.rvm_world_line.specs.declared.line.Asked.TheVariants as asked
 use Rattle.rvm_world_line.specs.declared.line.WorldLine.{WorldLine}
 use Rattle.rvm_world_line.specs.declared.line.WorldLine.TheVariants as lines
-use Rattle.rvm_world_line.specs.Replies.{ends_steps, guest_text, move_text, steps_text, words_of}
+use Rattle.rvm_world_line.specs.Replies.{guest_text, move_text, steps_text, words_of}
 use Rattle.rvm_world_line.specs.WorldLines.{world_line_of}
 
 -- where a script stands: the world, and what its replies told of the guest

@@ -14,8 +14,9 @@ ghost use Rattle.rvm_protocol.specs.Told.{Told};
 ghost use Rattle.rvm_protocol.specs.World as protocol;
 ghost use Rattle.rvm_protocol.specs.World.{reply_to, step};
 ghost use Rattle.rvm_world.specs.Worlds.{meant, world_of};
-ghost use Rattle.rvm_world_script.specs.Runs.{IsBegun, IsDone, IsInput, IsSpentAsking, IsSpentIn, IsStepped, driven_text, standing};
-ghost use Rattle.rvm_world_script.specs.WorldScript.{asked_done, done_by, guest_done, host_in, inputs, is_taken, moved, replied, stepping, target};
+ghost use Rattle.rvm_world_script.specs.declared.lines.LineFault.TheVariants as fault;
+ghost use Rattle.rvm_world_script.specs.Runs.{IsBegun, IsDone, IsInput, IsSpentAsking, IsSpentIn, driven_text, standing};
+ghost use Rattle.rvm_world_script.specs.WorldScript.{asked_done, done_by, guest_done, host_in, inputs, is_taken, moved, replied, target};
 
 use rvm_debug::{BoardEvent, BoardReply};
 use rvm_mem::PagedMemory;
@@ -24,9 +25,7 @@ use rvm_precopy::Policy;
 use rvm_refusal::LinkFault;
 use rvm_script::{HexText, Line, address_of, is_refused};
 use rvm_world::{Driven, Event, World, drive_move};
-use rvm_world_line::{
-    Asked, WorldLine, ends_steps, write_guest_reply, write_move_reply, write_steps_reply,
-};
+use rvm_world_line::{Asked, WorldLine, write_guest_reply, write_move_reply, write_steps_reply};
 use std::alloc::{AllocError, Global};
 use std::io::Write;
 
@@ -39,13 +38,20 @@ pub enum LineFault {
     LinkFault,
 }
 
-/// What steps of a hart answered.
-#[derive(Drop)]
-struct Steps {
-    /// How many there were.
-    count: u32,
-    /// The reply to the last.
-    last: HostReply,
+impl From<AllocError> for LineFault {
+    ghost from_gives = { λ _ told. told ≡ fault.OutOfMemory };
+
+    fn from(_error: AllocError) -> LineFault {
+        LineFault::OutOfMemory
+    }
+}
+
+impl From<LinkFault> for LineFault {
+    ghost from_gives = { λ _ told. told ≡ fault.LinkFault };
+
+    fn from(_fault: LinkFault) -> LineFault {
+        LineFault::LinkFault
+    }
 }
 
 /// Does what a line asks for, and writes its answer.
@@ -146,13 +152,8 @@ fn do_event<M: PagedMemory + Drop, W: Write>(
         (world_of world.new ≡ world_of world.old) (world_of world.new)
         (W.contents writer.old) (W.contents writer.new) }
 {
-    match world.apply(alloc, event) {
-        Ok(made) => match write_move_reply(writer, &made.reply, made.frame) {
-            Ok(()) => Ok(()),
-            Err(LinkFault) => Err(LineFault::LinkFault),
-        },
-        Err(AllocError) => Err(LineFault::OutOfMemory),
-    }
+    let made = world.apply(alloc, event)?;
+    Ok(write_move_reply(writer, &made.reply, made.frame)?)
 }
 
 /// Moves the guest of a host, and writes how that ended.
@@ -169,13 +170,8 @@ fn do_move<M: PagedMemory + Drop, W: Write>(
         (W.contents writer.old) (W.contents writer.new) }
 {
     world.reached();
-    match drive_move(alloc, world, from, to, policy) {
-        Ok(driven) => match write_driven(writer, driven) {
-            Ok(()) => Ok(()),
-            Err(LinkFault) => Err(LineFault::LinkFault),
-        },
-        Err(AllocError) => Err(LineFault::OutOfMemory),
-    }
+    let driven = drive_move(alloc, world, from, to, policy)?;
+    Ok(write_driven(writer, driven)?)
 }
 
 /// Writes how a move ended.
@@ -202,10 +198,7 @@ fn do_guest_line<M: PagedMemory + Drop, W: Write>(
         ⊥ (world_of world.new)
         (W.contents writer.old) (W.contents writer.new) }
 {
-    match ask_guest(alloc, world, host, line, writer) {
-        Ok(()) => Ok(()),
-        Err(LinkFault) => Err(LineFault::LinkFault),
-    }
+    Ok(ask_guest(alloc, world, host, line, writer)?)
 }
 
 /// Does what a line for the guest asks for, and writes the answer. Takes no memory.
@@ -224,7 +217,7 @@ fn ask_guest<M: PagedMemory + Drop, W: Write>(
     match line {
         Line::Empty => Ok(()),
         Line::Steps { hart, count } => {
-            let steps = make_steps(alloc, world, host, hart, count);
+            let steps = world.steps(alloc, host, hart, count);
             write_steps_reply(writer, hart, steps.count, &steps.last)
         }
         Line::Input(bytes) => {
@@ -237,28 +230,6 @@ fn ask_guest<M: PagedMemory + Drop, W: Write>(
             write_guest_reply(writer, address, &reply)
         }
     }
-}
-
-/// Makes at most so many steps of a hart; ends early at a breakpoint, where the board is halted and
-/// where a step is refused.
-fn make_steps<M: PagedMemory + Drop>(
-    alloc: Global,
-    world: &mut World<M>,
-    host: u8,
-    hart: u32,
-    count: u32,
-) -> Steps
-    ensures { (t : Told Guest) → IsStepped
-        (stepping host hart count 0 (Answered answer.Retired) (standing (world_of world.old) t))
-        (world_of world.new) result.count (reply_of result.last) }
-{
-    let mut last = HostReply::Board(BoardReply::Retired);
-    let mut made = 0;
-    while made < count && !ends_steps(&last) {
-        last = ask(alloc, world, host, BoardEvent::Step(hart));
-        made += 1;
-    }
-    Steps { count: made, last }
 }
 
 /// Bytes come to the console, up to the first that is not taken: the reply to the last that came.

@@ -1,5 +1,5 @@
-//! `rvmove`: assembles, disassembles, runs and debugs guests of a small RISC-V board. Hands the command
-//! line and the standard streams to `rvm_program`.
+//! `rvmove`: assembles, disassembles, runs and debugs guests of a small RISC-V board, and moves them
+//! between hosts. Hands the command line and the standard streams to `rvm_program`.
 #![tactic(auto)]
 
 use rvm_program::perform;

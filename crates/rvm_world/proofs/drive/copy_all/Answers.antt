@@ -1,4 +1,4 @@
-use Rattle.std.proofs.Common.{ℕ, ap}
+use Rattle.std.proofs.Common.{ℕ, ap, refl}
 use Rattle.rvm_protocol.specs.Commands.{Copy}
 use Rattle.rvm_protocol.specs.World.{At}
 use Rattle.rvm_world.specs.Worlds.{world_of}
@@ -10,7 +10,7 @@ loop-init g c = begins (λ (p : ℕ). At c.args.from Copy) (world_of c.args.worl
 
 pub loop-preserved : goal.loop-preserved
 loop-preserved g c =
-    goes_on (λ (p : ℕ). At c.args.from Copy) (world_of c.args.world.now) (world_of c.loop.world)
+    goes_on (λ (p : ℕ). At c.args.from Copy) (λ p. refl) (world_of c.args.world.now) (world_of c.loop.world)
     (world_of c.apply.new.self) c.loop.counter c.args.count c.loop.invariant c.loop-test.true
     c.in_ok-apply.ensures.next
 

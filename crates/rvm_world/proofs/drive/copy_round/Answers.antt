@@ -1,4 +1,4 @@
-use Rattle.std.proofs.Common.{◌∙◌, sym}
+use Rattle.std.proofs.Common.{◌∙◌, sym, refl}
 use Rattle.rvm_message.specs.Replies.{reply_of}
 use Rattle.rvm_protocol.specs.Commands.{Copy}
 use Rattle.rvm_protocol.specs.World.{At}
@@ -25,4 +25,4 @@ returns-then-not-is_copied-clause-round g c =
 pub returns-then-not-is_copied-clause-left : goal.returns-then-not-is_copied-clause-left
 returns-then-not-is_copied-clause-left g c =
     left_once_more (world_of c.args.world.now) (world_of c.loop-pages.world) (world_of c.apply.new.self)
-    (At c.args.from Copy) c.loop-pages.invariant.so_far c.in_ok-copied.ensures.next
+    (At c.args.from Copy) refl c.loop-pages.invariant.so_far c.in_ok-copied.ensures.next

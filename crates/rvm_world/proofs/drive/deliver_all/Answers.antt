@@ -1,4 +1,4 @@
-use Rattle.std.proofs.Common.{ℕ, ◌+◌, ap}
+use Rattle.std.proofs.Common.{ℕ, ◌+◌, ap, refl}
 use Rattle.rvm_protocol.specs.World.{Deliver}
 use Rattle.rvm_world.specs.Worlds.{world_of}
 use Rattle.rvm_world.proofs.Drives.{begins, ends, goes_on, left_unchanged}
@@ -9,7 +9,7 @@ loop-place-init g c = begins (λ (p : ℕ). Deliver (c.args.first + p)) (world_o
 
 pub loop-place-preserved : goal.loop-place-preserved
 loop-place-preserved g c =
-    goes_on (λ (p : ℕ). Deliver (c.args.first + p)) (world_of c.args.world.now) (world_of c.loop-place.world)
+    goes_on (λ (p : ℕ). Deliver (c.args.first + p)) (λ p. refl) (world_of c.args.world.now) (world_of c.loop-place.world)
     (world_of c.apply.new.self) c.loop-place.place c.args.count c.loop-place.invariant c.loop-place-test.true
     c.in_ok-apply.ensures.next
 

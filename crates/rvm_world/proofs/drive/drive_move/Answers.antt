@@ -69,7 +69,7 @@ returns-in_err-answer-clause-err g c =
     let w2 = world_of c.apply-2.new.self in
     left_at_an_error c.from_residual-in_err-answer.result old w2
     (left_unchanged old w1 w2
-    (left_once_more old old w1 (At c.args.from (Begin c.args.to (policy_of c.args.policy)))
+    (left_once_more old old w1 (At c.args.from (Begin c.args.to (policy_of c.args.policy))) refl
     (left_as_it_was old old refl) c.in_ok-begin.ensures.next) (ap world_of c.in_err-answer.ensures.err))
 
 pub returns-in_err-apply-clause-err : goal.returns-in_err-apply-clause-err
@@ -80,8 +80,8 @@ returns-in_err-apply-clause-err g c =
     let w3 = world_of c.apply-3.new.self in
     left_at_an_error c.from_residual-in_err-apply.result old w3
     (left_unchanged old w2 w3
-    (left_once_more old w1 w2 (Deliver c.sent-first.result)
-    (left_once_more old old w1 (At c.args.from (Begin c.args.to (policy_of c.args.policy)))
+    (left_once_more old w1 w2 (Deliver c.sent-first.result) refl
+    (left_once_more old old w1 (At c.args.from (Begin c.args.to (policy_of c.args.policy))) refl
     (left_as_it_was old old refl) c.in_ok-begin.ensures.next) c.in_ok-answer.ensures.next) (ap world_of c.in_err-apply.ensures.err))
 
 pub returns-in_err-events-clause-err : goal.returns-in_err-events-clause-err
@@ -93,7 +93,7 @@ returns-in_err-events-clause-err g c =
     let w4 = world_of c.send_guest.new.world in
     left_at_an_error c.from_residual-in_err-events.result old w4
     (left_further old w3 w4
-    (left_once_more old w2 w3 (Deliver (c.sent-first.result + 1))
-    (left_once_more old w1 w2 (Deliver c.sent-first.result)
-    (left_once_more old old w1 (At c.args.from (Begin c.args.to (policy_of c.args.policy)))
+    (left_once_more old w2 w3 (Deliver (c.sent-first.result + 1)) refl
+    (left_once_more old w1 w2 (Deliver c.sent-first.result) refl
+    (left_once_more old old w1 (At c.args.from (Begin c.args.to (policy_of c.args.policy))) refl
     (left_as_it_was old old refl) c.in_ok-begin.ensures.next) c.in_ok-answer.ensures.next) c.in_ok-apply.ensures.next) c.send_guest.ensures.left)

@@ -1,4 +1,4 @@
-use Rattle.std.proofs.Common.{ap}
+use Rattle.std.proofs.Common.{ap, refl}
 use Rattle.rvm_protocol.specs.Commands.{Copy}
 use Rattle.rvm_protocol.specs.World.{At}
 use Rattle.rvm_world.specs.Worlds.{world_of}
@@ -25,7 +25,7 @@ returns-in_err-state-clause-left g c =
     let came = world_of c.deliver_all.new.world in
     let stopped = world_of c.apply.new.self in
     left_further old stopped (world_of c.send_state.new.world)
-    (left_once_more old came stopped (At c.args.from Copy)
+    (left_once_more old came stopped (At c.args.from Copy) refl
     (left_further old (world_of c.copy_round.new.world) came c.copy_round.ensures.left c.deliver_all.ensures.left)
     c.in_ok-apply.ensures.next) c.send_state.ensures.left
 
@@ -37,7 +37,7 @@ returns-in_err-deliver_all-2-clause-left g c =
     let sent = world_of c.send_state.new.world in
     left_further old sent (world_of c.deliver_all-2.new.world)
     (left_further old stopped sent
-    (left_once_more old came stopped (At c.args.from Copy)
+    (left_once_more old came stopped (At c.args.from Copy) refl
     (left_further old (world_of c.copy_round.new.world) came c.copy_round.ensures.left c.deliver_all.ensures.left)
     c.in_ok-apply.ensures.next) c.send_state.ensures.left) c.deliver_all-2.ensures.left
 
@@ -49,7 +49,7 @@ returns-clause-left g c =
     let sent = world_of c.send_state.new.world in
     left_further old sent (world_of c.deliver_all-2.new.world)
     (left_further old stopped sent
-    (left_once_more old came stopped (At c.args.from Copy)
+    (left_once_more old came stopped (At c.args.from Copy) refl
     (left_further old (world_of c.copy_round.new.world) came c.copy_round.ensures.left c.deliver_all.ensures.left)
     c.in_ok-apply.ensures.next) c.send_state.ensures.left) c.deliver_all-2.ensures.left
 

@@ -18,7 +18,7 @@ returns-in_err-copy_all-clause-left g c =
     let old = world_of c.args.world.now in
     let once = world_of c.apply.new.self in
     left_further old once (world_of c.copy_all.new.world)
-    (left_once_more old old once (At c.args.from Copy) (left_as_it_was old old refl) c.in_ok-sent.ensures.next)
+    (left_once_more old old once (At c.args.from Copy) refl (left_as_it_was old old refl) c.in_ok-sent.ensures.next)
     c.copy_all.ensures.left
 
 pub returns-clause-state : goal.returns-clause-state
@@ -34,5 +34,5 @@ returns-clause-left g c =
     let old = world_of c.args.world.now in
     let once = world_of c.apply.new.self in
     left_further old once (world_of c.copy_all.new.world)
-    (left_once_more old old once (At c.args.from Copy) (left_as_it_was old old refl) c.in_ok-sent.ensures.next)
+    (left_once_more old old once (At c.args.from Copy) refl (left_as_it_was old old refl) c.in_ok-sent.ensures.next)
     c.copy_all.ensures.left

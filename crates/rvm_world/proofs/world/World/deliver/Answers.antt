@@ -7,9 +7,9 @@ use Rattle.rvm_protocol.specs.Replies.{Refused, NoFrame}
 use Rattle.rvm_protocol.specs.World.{Deliver, reply_to, step}
 use Rattle.rvm_core.specs.Bounds.{frame_bound}
 use Rattle.rvm_core.specs.Hosts.{PlainHost}
-use Rattle.rvm_world.specs.Worlds.{PlainWorld, IsWorld, posted, world_of}
+use Rattle.rvm_world.specs.Worlds.{PlainWorld, IsWorld, kept_of, posted, world_of}
 use Rattle.rvm_world.proofs.Happenings.{deliver_becomes, deliver_refused, is_host, is_kept, on_err, unchanged, with_host}
-use Rattle.rvm_world.proofs.Keeping.{can_be_kept}
+use Rattle.rvm_world.proofs.Keeping.{can_be_kept, can_be_read}
 use Rattle.rvm_world.proofs.world.World.deliver.Goals as goal
 
 pub returns-then-place-len-clause-reply : goal.returns-then-place-len-clause-reply
@@ -34,7 +34,9 @@ read-requires g c =
     let f = c.self.inside in
     let w : PlainWorld = record { version = f.version; hosts = f.hosts.items; sent = f.sent.items; current = f.current } in
     let lt = subst (λ z. c.args.place < z) (c.len.ensures ∙ f.sent.ok.0) c.if-place-len.false in
-    (is_kept w c.args.place c.index-sent.result.now c.self.invariant lt c.index-sent.ensures).readable
+    let kept = c.index-sent.result.now in
+    can_be_read f.version (kept_of f.version kept) kept.bytes
+    (is_kept w c.args.place kept c.self.invariant lt c.index-sent.ensures).spelled
 
 pub index-requires : goal.index-requires
 index-requires g c =
