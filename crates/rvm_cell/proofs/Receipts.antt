@@ -1,0 +1,67 @@
+-- The receipts of a slice, one more of them.
+use Rattle.std.proofs.Common.{◌≡◌, ◌∙◌, ℕ, zero, suc, ◌+◌, List, [], ◌∷◌, ◌++◌, length, Some, refl, sym, ap, subst, arith, inl, inr}
+use Rattle.std.specs.Prelude.{slice_get, ◌⊎◌}
+use Rattle.std.proofs.lemmas.List.{append_assoc, map-append}
+use Rattle.std.proofs.lemmas.Option.{same_Some}
+use Rattle.rvm_cell.specs.declared.receipt.Receipt.{Receipt}
+use Rattle.rvm_cell.specs.Calls.{AreReceipts, IsReceipt, IsSliceCalled, replies_of}
+use Rattle.rvm_cell.specs.Seats.{PlainSeat, seat_of}
+use Rattle.rvm_journal.specs.History.{Recording}
+use Rattle.rvm_journal.specs.Slices.{IsSliceRecorded, IsSteps, most_of, step_of}
+use Rattle.rvm_message.specs.declared.reply.HostReply.{HostReply}
+
+-- what stands in a list with one more behind is in the list, or is the one more
+got_or_last : {X : Type 0} (xs : List X) (a b : X) (k : ℕ) → slice_get (xs ++ a ∷ []) k ≡ Some b
+    → (slice_get xs k ≡ Some b) ⊎ ((k ≡ length xs) × (a ≡ b))
+got_or_last [] a b zero h = inr (refl, same_Some a b h)
+got_or_last [] a b (suc k) h = inl h
+got_or_last (x ∷ xs) a b zero h = inl h
+got_or_last (x ∷ xs) a b (suc k) h = elim (got_or_last xs a b k h) [
+  | inl there ↦ inl there
+  | inr last ↦ inr (ap suc last.0, last.1)
+]
+
+-- no receipts
+pub no_receipts : (seat : PlainSeat) (place turn harts : ℕ) → AreReceipts seat place turn harts []
+no_receipts seat place turn harts = record {
+  place_is = λ k r h. cc;
+  each = λ k r h. cc;
+}
+
+-- one more
+pub more_receipts : (seat : PlainSeat) (place turn harts : ℕ) (rs : List Receipt) (r : Receipt)
+    → AreReceipts seat place turn harts rs → r.place ≡ place + length rs
+    → IsReceipt (seat_of seat.id (seat.count + length rs)) (step_of (turn + length rs) harts) r
+    → AreReceipts seat place turn harts (rs ++ r ∷ [])
+more_receipts seat place turn harts rs r so at is = record {
+  place_is = λ k s h. (elim (got_or_last rs r s k h) [
+    | inl there ↦ so.place_is k s there
+    | inr last ↦ ap (λ (x : Receipt). x.place) (sym last.1) ∙ at ∙ ap (λ n. place + n) (sym last.0)
+  ]);
+  each = λ k s h. (elim (got_or_last rs r s k h) [
+    | inl there ↦ so.each k s there
+    | inr last ↦
+        subst (λ x. IsReceipt (seat_of seat.id (seat.count + k)) (step_of (turn + k) harts) x) last.1
+        (subst (λ n. IsReceipt (seat_of seat.id (seat.count + n)) (step_of (turn + n) harts) r) (sym last.0) is)
+  ]);
+}
+
+-- the replies of the receipts, and those that are left
+pub more_replies : (rs : List Receipt) (r : Receipt) (left rest all : List HostReply)
+    → replies_of rs ++ left ≡ all → left ≡ r.reply ∷ rest → replies_of (rs ++ r ∷ []) ++ rest ≡ all
+more_replies rs r left rest all so is =
+    ap (λ xs. xs ++ rest) (map-append (λ (x : Receipt). x.reply) rs (r ∷ []))
+    ∙ append_assoc (replies_of rs) (r.reply ∷ []) rest
+    ∙ sym (ap (λ xs. replies_of rs ++ xs) is) ∙ so
+
+-- a slice that was recorded, with its receipts
+pub slice_called : (old new : Recording) (seat : PlainSeat) (turn harts n place : ℕ) (rs : List Receipt)
+    (replies : List HostReply) → IsSliceRecorded old turn harts n (place, replies) new
+    → AreReceipts seat place turn harts rs → replies_of rs ≡ replies → IsSliceCalled old seat turn harts n rs new
+slice_called old new seat turn harts n place rs replies is are told = record {
+  receipts = subst (λ p. AreReceipts seat p turn harts rs) is.place are;
+  recorded = record {
+    place = refl;
+    steps = subst (λ xs. IsSteps old turn harts (most_of old n) xs new) (sym told) is.steps;
+  };
+}

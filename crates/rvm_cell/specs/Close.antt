@@ -1,0 +1,40 @@
+-- What the receipts of a shared host have to say of its journal.
+use Rattle.std.specs.Prelude.{◌≡◌, ℕ, ◌+◌, ◌<◌, ◌≤◌, List, length, slice_get, Some, None, Option, ◌⊎◌}
+use Rattle.std.specs.BTreeMap.{BTreeMap, get}
+use Rattle.std.specs.Ordering.{nat_cmp}
+use Rattle.rvm_journal.specs.declared.entry.Entry.{Entry}
+use Rattle.rvm_cell.specs.declared.receipt.Receipt.{Receipt}
+
+-- this place has one receipt, with its event and reply, made after the same seat's receipts of lower places
+pub record IsRightAt (entries : List Entry) (receipts : List Receipt) (place : ℕ) : Type 0 where
+  pub index : ℕ
+  pub receipt : Receipt
+  pub entry : Entry
+  pub stands : slice_get receipts index ≡ Some receipt
+  pub at : receipt.place ≡ place
+  pub one : (j : ℕ) (s : Receipt) → slice_get receipts j ≡ Some s → s.place ≡ place → j ≡ index
+  pub kept : slice_get entries place ≡ Some entry
+  pub event : receipt.event ≡ entry.event
+  pub reply : receipt.reply ≡ entry.reply
+  pub rises : (j : ℕ) (s : Receipt) → slice_get receipts j ≡ Some s → s.place < place → s.seat ≡ receipt.seat → s.count < receipt.count
+
+-- a receipt's place is past the end
+pub record IsPast (entries : List Entry) (receipts : List Receipt) : Type 0 where
+  pub index : ℕ
+  pub receipt : Receipt
+  pub stands : slice_get receipts index ≡ Some receipt
+  pub past : length entries ≤ receipt.place
+
+-- the first fault of the receipts
+abbrev pub IsFirstFault : List Entry → List Receipt → ℕ → Type 0
+IsFirstFault entries receipts place =
+    ((k : ℕ) → k < place → IsRightAt entries receipts k)
+    × (((place < length entries) × (IsRightAt entries receipts place → ⊥)) ⊎ ((place ≡ length entries) × IsPast entries receipts))
+
+-- in the order of their places the receipts are the journal's entries, and those of one seat rise
+pub record IsJournal (entries : List Entry) (receipts : List Receipt) : Type 0 where
+  pub len : length receipts ≡ length entries
+  pub place : (k : ℕ) (r : Receipt) → slice_get receipts k ≡ Some r → r.place ≡ k
+  pub event : (k : ℕ) (r : Receipt) (e : Entry) → slice_get receipts k ≡ Some r → slice_get entries k ≡ Some e → r.event ≡ e.event
+  pub reply : (k : ℕ) (r : Receipt) (e : Entry) → slice_get receipts k ≡ Some r → slice_get entries k ≡ Some e → r.reply ≡ e.reply
+  pub rises : (j k : ℕ) (s r : Receipt) → j < k → slice_get receipts j ≡ Some s → slice_get receipts k ≡ Some r → s.seat ≡ r.seat → s.count < r.count

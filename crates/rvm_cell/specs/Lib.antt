@@ -1,0 +1,5 @@
+pub mod Seats
+pub mod Calls
+pub mod Close
+pub mod Checking
+pub mod Closing

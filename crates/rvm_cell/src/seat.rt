@@ -1,0 +1,57 @@
+//! Seats: the right to call a host, and the number of its calls.
+
+ghost use Rattle.std.specs.Prelude.{◌≡◌, ℕ};
+
+use std::marker::{Brand, Model};
+use std::sync::ledger::{Ledger, Share};
+
+/// The ledger of one shared host: it counts the calls of all seats, of which there are so many.
+pub trait Seating: Ledger {
+    ghost seats: { ℕ };
+}
+
+impl Seating for Brand {
+    ghost seats = { 0 };
+}
+
+/// The right to call a host, and the number of its calls.
+#[derive(Drop)]
+pub struct Seat<L: Seating> {
+    pub(crate) id: u32,
+    pub(crate) count: u64,
+    pub(crate) share: Share<L>,
+}
+
+impl<L: Seating> Model for Seat<L> {
+    ghost use Rattle.std.specs.Prelude.{◌≡◌};
+    ghost use Rattle.rvm_cell.specs.Seats.{PlainSeat};
+
+    ghost Value = { PlainSeat };
+
+    ghost view = { λ s. record { id = s.id; count = s.count } };
+
+    ghost invariant = { λ s. (s.share.parts ≡ 1) × (s.share.amount ≡ s.count) };
+}
+
+impl<L: Seating> Seat<L> {
+    /// Its number among the seats of its host, from 0.
+    pub fn id(&self) -> u32
+        ensures { result ≡ self.now.id }
+    {
+        let _count = self.count;
+        self.id
+    }
+
+    /// Its part of the ledger.
+    pub(crate) fn into_share(self) -> Share<L>
+        ensures parts { result.parts ≡ 1 }
+        ensures amount { result.amount ≡ self.count }
+    {
+        let Seat {
+            id: _,
+            count: _,
+            share,
+        } = self;
+        share
+    }
+}

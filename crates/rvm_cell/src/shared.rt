@@ -1,0 +1,124 @@
+//! A recorded host under a lock.
+
+ghost use Rattle.std.specs.Prelude.{◌≡◌, ◌+◌, ◌<◌, ◌≤◌, ℕ, [], length, IfOk, IfErr, OnOk, OnErr, Some, slice_get, vec_len, vec_capacity};
+ghost use Rattle.rvm_cell.specs.Calls.{AreOfSeat, IsReceipt};
+ghost use Rattle.rvm_cell.specs.Seats.{seat_of};
+
+use crate::locked::Locked;
+use crate::receipt::Receipt;
+use crate::seat::{Seat, Seating};
+use rvm_frame::Addressed;
+use rvm_journal::{RecordError, Recorded, SliceError};
+use rvm_mem::PagedMemory;
+use rvm_message::HostEvent;
+use std::alloc::{AllocError, Global};
+use std::sync::ledger::{Blank, Share};
+use std::sync::{Mutex, Wait};
+
+/// A host that several threads call, each with a seat of its own.
+#[derive(Drop)]
+pub struct SharedHost<L: Seating, M: PagedMemory + Drop> {
+    pub(crate) lock: Mutex<Locked<L, M>>,
+}
+
+/// A shared host and its seats, each of which has made no call. Where a growth is refused, what was
+/// handed in comes back.
+pub fn share<L: Seating, M: PagedMemory + Drop>(
+    alloc: Global,
+    blank: Blank,
+    recorded: Recorded<M>,
+    seats: u32,
+) -> Result<(SharedHost<L, M>, Vec<Seat<L>>), (AllocError, Blank, Recorded<M>)>
+    requires ledger { (blank.name ≡ L.name) × (blank.parts ≡ L.parts) × (L.seats ≡ L.parts) }
+    requires seats { blank.parts ≡ seats }
+    requires empty { recorded.journal.entries ≡ [] }
+    ensures seats { IfOk result (λ r. vec_len r.1 ≡ seats) }
+    ensures fresh { IfOk result (λ r. (k : ℕ) → k < seats → slice_get r.1.items k ≡ Some (seat_of k 0)) }
+    ensures back { IfErr result (λ e. (e.1 ≡ blank) × (e.2 ≡ recorded)) }
+{
+    let Ok(list) = Vec::with_capacity(alloc, seats as usize) else {
+        return Err((AllocError, blank, recorded));
+    };
+    let (book, all) = blank.open::<L>();
+    let (list, spare) = cut(all, list, seats);
+    let locked = Locked {
+        recorded,
+        book,
+        spare,
+        seats,
+    };
+    Ok((
+        SharedHost {
+            lock: Mutex::new(locked),
+        },
+        list,
+    ))
+}
+
+/// A seat for each part of a share, and the share of no part that is left.
+fn cut<L: Seating>(all: Share<L>, list: Vec<Seat<L>>, seats: u32) -> (Vec<Seat<L>>, Share<L>)
+    requires parts { all.parts ≡ seats }
+    requires none { all.amount ≡ 0 }
+    requires room { (list.items ≡ []) × (seats ≤ vec_capacity list) }
+    ensures spare { result.1.parts ≡ 0 }
+    ensures seats { vec_len result.0 ≡ seats }
+    ensures fresh { (k : ℕ) → k < seats → slice_get result.0.items k ≡ Some (seat_of k 0) }
+{
+    let mut all = all;
+    let mut list = list;
+    for id in 0..seats {
+        let share = all.split_off(1, 0);
+        list.push_reserved(Seat {
+            id,
+            count: 0,
+            share,
+        });
+    }
+    (list, all)
+}
+
+impl<L: Seating, M: PagedMemory + Drop> SharedHost<L, M> {
+    /// Applies one event under the lock and records it: a receipt, and the frame that the host made, if
+    /// it made one. Where a growth is refused, or the journal is full, nothing is recorded and the event
+    /// comes back. It may wait for another thread.
+    pub fn call<R: Wait>(
+        &self,
+        rt: &R,
+        alloc: Global,
+        seat: &mut Seat<L>,
+        event: HostEvent,
+    ) -> Result<(Receipt, Option<Addressed>), (RecordError, HostEvent)>
+        ensures receipt { IfOk result (λ r. IsReceipt seat.old event r.0) }
+        ensures seat { OnOk result (seat.new ≡ seat_of seat.old.id (seat.old.count + 1)) }
+        ensures err { OnErr result (seat.new ≡ seat.old) }
+        ensures event { IfErr result (λ e. e.1 ≡ event) }
+    {
+        let Ok(copy) = event.copy(alloc) else {
+            return Err((RecordError::OutOfMemory, event));
+        };
+        self.lock.lock(rt).call(alloc, seat, event, copy)
+    }
+
+    /// Records a slice of at most n steps under one hold of the lock, as `Recorded::record_slice` has
+    /// it: a receipt for each step. It may wait for another thread.
+    pub fn call_slice<R: Wait>(
+        &self,
+        rt: &R,
+        alloc: Global,
+        seat: &mut Seat<L>,
+        turn: u32,
+        harts: u32,
+        n: u32,
+    ) -> Result<Vec<Receipt>, SliceError>
+        ensures receipts { IfOk result (λ v. AreOfSeat seat.old turn harts v.items) }
+        ensures seat { IfOk result (λ v. seat.new ≡ seat_of seat.old.id (seat.old.count + length v.items)) }
+        ensures err { OnErr result (seat.new ≡ seat.old) }
+    {
+        let Ok(receipts) = Vec::with_capacity(alloc, 64) else {
+            return Err(SliceError::OutOfMemory);
+        };
+        self.lock
+            .lock(rt)
+            .call_slice(alloc, seat, turn, harts, n, receipts)
+    }
+}

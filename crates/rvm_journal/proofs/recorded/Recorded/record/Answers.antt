@@ -1,0 +1,54 @@
+use Rattle.std.proofs.Common.{◌≡◌, ◌∙◌, [], ◌∷◌, ◌++◌, sym, ap, subst, arith, List, ℕ}
+use Rattle.rvm_core.specs.Bounds.{frame_bound}
+use Rattle.rvm_journal.specs.declared.entry.Entry.{Entry}
+use Rattle.rvm_journal.specs.History.{History, IsKept, IsRecorded, Recording}
+use Rattle.rvm_journal.proofs.Replays.{entry_of, is_recorded, replays, still_kept}
+use Rattle.rvm_journal.proofs.recorded.Recorded.record.Given.{Over}
+use Rattle.rvm_journal.proofs.recorded.Recorded.record.Goals as goal
+use Rattle.rvm_message.specs.Events.{event_of}
+
+module _ (g : Over) (c : goal.After-journal-2-1 g) where
+  abbrev before : History
+  before =
+      let j = c.journal.inside in
+      record { opening = j.opening.value; entries = j.entries.items; reserved = j.reserved }
+
+  kept : IsKept c.self.inside.host before c.self.inside.capacity
+  kept = subst (λ h. IsKept c.self.inside.host h c.self.inside.capacity) (sym c.journal.view_is) c.self.invariant
+
+  new_is : c.push_reserved.new.self.items
+      ≡ before.entries ++ entry_of before.opening.version c.args.event c.in-Ok-apply.reply c.in-Ok-apply.frame ∷ []
+  new_is =
+      c.push_reserved.ensures.items ∙ ap (λ (xs : List Entry). xs ++ c.keep-entry.result ∷ []) c.reserve.ensures.items
+      ∙ ap (λ (x : Entry). before.entries ++ x ∷ []) (c.keep-entry.ensures
+      ∙ ap (λ v. entry_of v c.args.event c.in-Ok-apply.reply c.in-Ok-apply.frame) c.journal.invariant.1)
+
+  abbrev most : ℕ
+  most = frame_bound c.self.inside.host (event_of c.args.event)
+
+pub invariant_of-journal-2 : goal.invariant_of-journal-2
+invariant_of-journal-2 g c =
+    let a = c.in-Ok-apply in (
+      replays c.self.inside.host c.apply.new.self (before g c) c.self.inside.capacity c.args.event a.reply a.frame (kept g c) a.ensures.steps c.push_reserved.new.self.items (new_is g c)
+          (most g c) a.ensures.sent c.journal.invariant.0,
+      c.journal.invariant.1,
+      omega arith,
+    )
+
+pub invariant_of-self-2 : goal.invariant_of-self-2
+invariant_of-self-2 g c =
+    let a = c.in-Ok-apply in
+    still_kept c.self.inside.host c.apply.new.self (before g c) c.self.inside.capacity c.args.event a.reply a.frame (kept g c) a.ensures.steps c.push_reserved.new.self.items (new_is g c)
+    c.saturating_sub-left.result (omega arith) (omega arith)
+
+pub returns-clause-recorded : goal.returns-clause-recorded
+returns-clause-recorded g c =
+    let a = c.in-Ok-apply in
+    let capacity = c.self.inside.capacity in
+    let new = c.push_reserved.new.self.items in
+    let left = c.saturating_sub-left.result in
+    subst (λ old. IsRecorded old c.args.event (c.len-place.result, a.reply, a.frame)
+    (record { journal = record { opening = c.journal.inside.opening.value; entries = new; reserved = left }; capacity = capacity }))
+    (ap (λ (j : History). record { journal = j; capacity = capacity }) c.journal.view_is ∙ c.self.view_is)
+    (is_recorded c.self.inside.host c.apply.new.self (before g c) capacity c.args.event a.reply a.frame (kept g c) a.ensures.steps new (new_is g c)
+    c.len-place.result left (omega arith) (omega arith) (omega arith))

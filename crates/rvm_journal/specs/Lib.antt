@@ -1,0 +1,5 @@
+pub mod Replay
+pub mod History
+pub mod Keeping
+pub mod Errors
+pub mod Slices

@@ -1,0 +1,47 @@
+-- A slice: steps of harts in turn, recorded one behind the other.
+use Rattle.std.specs.Prelude.{◌≡◌, ℕ, suc, ◌+◌, ◌-◌, ◌%◌, ◌<◌, ◌≤◌, min, true, false, List, length, map, slice_get, Some, None}
+use Rattle.rvm_debug.specs.declared.event.BoardEvent.TheVariants.{Step}
+use Rattle.rvm_journal.specs.declared.entry.Entry.{Entry}
+use Rattle.rvm_journal.specs.History.{Recording, count_of, with_entries}
+use Rattle.rvm_message.specs.declared.event.Command.TheVariants.{Board}
+use Rattle.rvm_message.specs.declared.event.HostEvent.{HostEvent}
+use Rattle.rvm_message.specs.declared.event.HostEvent.TheVariants.{Do}
+use Rattle.rvm_message.specs.declared.reply.HostReply.{HostReply}
+use Rattle.rvm_message.specs.Replies.{ends_steps, reply_of}
+
+-- the step of the hart whose turn it is
+abbrev pub step_of : (turn harts : ℕ) → HostEvent
+step_of turn harts = Do (Board (Step (turn % harts)))
+
+-- the entry of an event that made no frame
+abbrev pub silent : HostEvent → HostReply → Entry
+silent event reply = record { event = event; reply = reply; frame = None }
+
+-- the entries are the steps from a turn on; only the last of them may end a slice, and one that is shorter than asked for
+-- ends with such a reply
+pub record IsSlice (turn harts most : ℕ) (xs : List Entry) : Type 0 where
+  pub some : 1 ≤ length xs
+  pub bound : length xs ≤ most
+  pub events : (k : ℕ) (x : Entry) → slice_get xs k ≡ Some x → x.event ≡ step_of (turn + k) harts
+  pub silent : (k : ℕ) (x : Entry) → slice_get xs k ≡ Some x → x.frame ≡ None
+  pub goes_on : (k : ℕ) (x : Entry) → slice_get xs k ≡ Some x → suc k < length xs
+      → ends_steps (reply_of x.reply) ≡ false
+  pub ended : (k : ℕ) (x : Entry) → slice_get xs k ≡ Some x → suc k ≡ length xs → length xs < most
+      → ends_steps (reply_of x.reply) ≡ true
+
+-- the steps of a slice of at most so many were recorded, with these replies, and nothing else changed
+pub record IsSteps (old : Recording) (turn harts most : ℕ) (replies : List HostReply) (new : Recording) : Type 0 where
+  pub entries : List Entry
+  pub slice : IsSlice turn harts most entries
+  pub replies_are : replies ≡ map (λ x. x.reply) entries
+  pub next : new ≡ with_entries old entries new.journal.reserved
+
+-- as many steps as were asked for, or as there are places
+abbrev pub most_of : (r : Recording) → (n : ℕ) → ℕ
+most_of r n = min n (r.capacity - count_of r)
+
+-- a slice was recorded from this place on, with these replies, and nothing else changed
+pub record IsSliceRecorded (old : Recording) (turn harts n : ℕ) (answer : ℕ × List HostReply) (new : Recording)
+    : Type 0 where
+  pub place : answer.0 ≡ count_of old
+  pub steps : IsSteps old turn harts (most_of old n) answer.1 new

@@ -1,0 +1,19 @@
+//! What a host answered, in order: a journal keeps each event, its reply and the bytes of the frame that
+//! it made; a recorder is a host with its journal.
+//!
+//! Stands on `rvm_core`, and knows nothing of threads, locks or links.
+//!
+//! To be read in this order: `entry`, `journal`, `error`, `recorded`, `slice`.
+#![tactic(auto)]
+
+mod entry;
+mod error;
+mod journal;
+mod recorded;
+mod slice;
+
+pub use entry::Entry;
+pub use error::{RecordError, SliceError};
+pub use journal::Journal;
+pub use recorded::Recorded;
+pub use slice::step_of_turn;

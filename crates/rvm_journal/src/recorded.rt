@@ -1,0 +1,192 @@
+//! A host with its journal.
+
+ghost use Rattle.std.specs.Prelude.{◌≡◌, ◌+◌, ◌<◌, ◌≤◌, [], true, max, length, IfOk, IfErr, IsOk, OnErr, OnOk, Some, vec_capacity};
+ghost use Rattle.rvm_core.specs.Hosts.{host_of};
+ghost use Rattle.rvm_frame.specs.Grammar.{HasSpelling, sent, spelling};
+ghost use Rattle.rvm_journal.specs.Errors.{IsRecordError, IsReserveError};
+ghost use Rattle.rvm_journal.specs.History.{IsRecorded, bytes_of, count_of, host_now, is_board};
+ghost use Rattle.rvm_journal.specs.Keeping.{CanBeKept};
+
+use crate::entry::Entry;
+use crate::error::RecordError;
+use crate::journal::Journal;
+use rvm_core::Host;
+use rvm_frame::{Addressed, Bytes, append_frame};
+use rvm_mem::PagedMemory;
+use rvm_message::{HostEvent, HostReply};
+use std::alloc::Global;
+use std::marker::Model;
+
+/// A host, and the journal of what it answered, which takes at most so many entries.
+#[derive(Drop)]
+pub struct Recorded<M: PagedMemory + Drop> {
+    host: Host<M>,
+    journal: Journal<M>,
+    capacity: u32,
+}
+
+impl<M: PagedMemory + Drop> Model for Recorded<M> {
+    ghost use Rattle.rvm_journal.specs.History.{IsKept, Recording};
+
+    ghost Value = { Recording };
+
+    ghost view = { λ r. record { journal = r.journal; capacity = r.capacity } };
+
+    ghost invariant = { λ r. IsKept r.host r.journal r.capacity };
+}
+
+impl<M: PagedMemory + Drop> Recorded<M> {
+    /// A host with an empty journal that takes at most so many entries.
+    pub fn new(alloc: Global, host: Host<M>, capacity: u32) -> Recorded<M>
+        ensures { result ≡ record {
+          journal = record { opening = host; entries = []; reserved = 0 };
+          capacity = capacity;
+        } }
+    {
+        let journal = Journal::new(alloc, &host);
+        Recorded {
+            host,
+            journal,
+            capacity,
+        }
+    }
+
+    /// What it answered until now.
+    pub fn journal(&self) -> &Journal<M>
+        ensures { result.now ≡ self.now.journal }
+    {
+        &self.journal
+    }
+
+    /// How many entries its journal has.
+    pub fn count(&self) -> u32
+        ensures count { result ≡ count_of self.now }
+        ensures bound { result ≤ self.now.capacity }
+    {
+        let _capacity = self.capacity;
+        self.journal.entries.len() as u32
+    }
+
+    /// How many entries its journal takes.
+    pub fn capacity(&self) -> u32
+        ensures { result ≡ self.now.capacity }
+    {
+        self.capacity
+    }
+
+    /// The host, where its journal leads, and the journal.
+    pub fn into_parts(self) -> (Host<M>, Journal<M>)
+        ensures host { host_of result.0 ≡ host_now self }
+        ensures journal { result.1 ≡ self.journal }
+    {
+        let Recorded {
+            host,
+            journal,
+            capacity: _,
+        } = self;
+        (host, journal)
+    }
+
+    /// Applies one event, and keeps it with its reply and the bytes of its frame: its place in the
+    /// journal from 0, the reply, and the frame. Where a growth is refused, or the journal is full,
+    /// nothing is recorded and the event comes back. After `reserve(n)` the next n events of the guest
+    /// take no memory.
+    pub fn record(
+        &mut self,
+        alloc: Global,
+        event: HostEvent,
+    ) -> Result<(u32, HostReply, Option<Addressed>), (RecordError, HostEvent)>
+        ensures recorded { IfOk result (λ r. IsRecorded self.old event r self.new) }
+        ensures err { OnErr result (self.new ≡ self.old) }
+        ensures event { IfErr result (λ e. e.1 ≡ event) }
+        ensures fault { IfErr result (λ e. IsRecordError e.0 (count_of self.old) self.old.capacity) }
+        ensures board { is_board event ≡ true → 0 < self.old.journal.reserved → IsOk result }
+    {
+        let Recorded {
+            host,
+            journal,
+            capacity,
+        } = self;
+        let place = journal.entries.len();
+        let left = journal.reserved.saturating_sub(1);
+        if place >= *capacity as usize {
+            return Err((RecordError::RecorderFull(*capacity), event));
+        }
+        if journal.entries.reserve(1).is_err() {
+            return Err((RecordError::OutOfMemory, event));
+        }
+        let Ok(bytes) = Vec::with_capacity(alloc, host.frame_bound(&event)) else {
+            return Err((RecordError::OutOfMemory, event));
+        };
+        let Ok((reply, frame)) = host.apply(alloc, &event) else {
+            return Err((RecordError::OutOfMemory, event));
+        };
+        let entry = keep(journal.version, event, &reply, &frame, bytes);
+        journal.entries.push_reserved(entry);
+        journal.reserved = left;
+        Ok((place as u32, reply, frame))
+    }
+
+    /// Makes room for n more entries, so that as many events of the guest take no memory. Where fewer
+    /// than n places are free, or a growth is refused, nothing has changed.
+    pub fn reserve(&mut self, n: u32) -> Result<(), RecordError>
+        ensures room { OnOk result (self.new ≡ record self.old {
+          journal = record self.old.journal {
+            reserved = max self.old.journal.reserved n;
+          };
+        }) }
+        ensures err { OnErr result (self.new ≡ self.old) }
+        ensures free { OnOk result (count_of self.old + n ≤ self.old.capacity) }
+        ensures fault { IfErr result (λ e. IsReserveError e (count_of self.old) n self.old.capacity) }
+    {
+        let Recorded {
+            host: _,
+            journal,
+            capacity,
+        } = self;
+        let place = journal.entries.len();
+        if (*capacity as usize) - place < n as usize {
+            return Err(RecordError::RecorderFull(*capacity));
+        }
+        if journal.entries.reserve(n as usize).is_err() {
+            return Err(RecordError::OutOfMemory);
+        }
+        journal.reserved = journal.reserved.max(n);
+        Ok(())
+    }
+}
+
+/// The entry of an event, with the bytes of its frame in room that is there.
+fn keep(
+    version: u32,
+    event: HostEvent,
+    reply: &HostReply,
+    frame: &Option<Addressed>,
+    bytes: Vec<u8>,
+) -> Entry
+    requires empty { bytes.items ≡ [] }
+    requires fits { CanBeKept version (vec_capacity bytes) frame.now }
+    ensures { result ≡ record {
+      event = event;
+      reply = reply.now;
+      frame = bytes_of version frame.now;
+    } }
+{
+    Entry {
+        event,
+        reply: reply.copy(),
+        frame: spell(version, frame, bytes),
+    }
+}
+
+/// The bytes of a frame, if one was made, in room that is there.
+fn spell(version: u32, frame: &Option<Addressed>, bytes: Vec<u8>) -> Option<Bytes>
+    requires empty { bytes.items ≡ [] }
+    requires fits { CanBeKept version (vec_capacity bytes) frame.now }
+    ensures { result ≡ bytes_of version frame.now }
+{
+    let mut bytes = bytes;
+    let frame = frame.as_ref()?;
+    append_frame(version, frame, &mut bytes);
+    Some(Bytes::from_vec(bytes))
+}
