@@ -23,14 +23,29 @@ pub const POLICY: Policy = Policy {
 #[derive(Clone, Copy)]
 pub enum Event {
     /// A step of hart 0 at a host.
-    Step(usize),
+    Step(u8),
     /// A host begins a move to another one.
-    Begin(usize, u8),
-    Copy(usize),
-    Resend(usize),
-    Abort(usize),
+    Begin(u8, u8),
+    Copy(u8),
+    Resend(u8),
+    Abort(u8),
     /// A frame comes, by its place among all that were sent.
     Deliver(usize),
+}
+
+impl Event {
+    /// The event in a world of hosts.
+    pub fn in_world(self) -> rvm_world::Event {
+        let (host, command) = match self {
+            Event::Step(host) => (host, Command::Board(BoardEvent::Step(0))),
+            Event::Begin(host, to) => (host, Command::Begin { to, policy: POLICY }),
+            Event::Copy(host) => (host, Command::Copy),
+            Event::Resend(host) => (host, Command::Resend),
+            Event::Abort(host) => (host, Command::Abort),
+            Event::Deliver(place) => return rvm_world::Event::Deliver(place as u64),
+        };
+        rvm_world::Event::At(host, command)
+    }
 }
 
 /// Hosts, and each frame that they sent, oldest first.
@@ -102,27 +117,17 @@ impl Hosts {
     }
 
     /// What an event is at a host; none where no such frame was sent.
-    fn meaning(
-        &self,
-        alloc: Global,
-        event: Event,
-    ) -> Result<Option<(usize, HostEvent)>, AllocError> {
-        Ok(Some(match event {
-            Event::Step(host) => (host, HostEvent::Do(Command::Board(BoardEvent::Step(0)))),
-            Event::Begin(host, to) => (host, HostEvent::Do(Command::Begin { to, policy: POLICY })),
-            Event::Copy(host) => (host, HostEvent::Do(Command::Copy)),
-            Event::Resend(host) => (host, HostEvent::Do(Command::Resend)),
-            Event::Abort(host) => (host, HostEvent::Do(Command::Abort)),
-            Event::Deliver(which) => {
-                let Some(sent) = self.sent.get(which) else {
-                    return Ok(None);
-                };
-                (
-                    usize::from(sent.to),
-                    HostEvent::Came(sent.from, sent.frame.copy(alloc)?),
-                )
-            }
-        }))
+    fn meaning(&self, alloc: Global, event: Event) -> Result<Option<(u8, HostEvent)>, AllocError> {
+        Ok(match event.in_world() {
+            rvm_world::Event::At(host, command) => Some((host, HostEvent::Do(command))),
+            rvm_world::Event::Deliver(place) => match self.sent.get(place as usize) {
+                Some(sent) => {
+                    let frame = sent.frame.copy(alloc)?;
+                    Some((sent.to, HostEvent::Came(sent.from, frame)))
+                }
+                None => None,
+            },
+        })
     }
 
     /// What the hosts answer to an event, also where they were refused memory at first, and the place
@@ -142,13 +147,7 @@ impl Hosts {
     }
 
     /// A frame of a host comes to another one.
-    pub fn hear(
-        &mut self,
-        alloc: Global,
-        host: usize,
-        from: u8,
-        frame: Frame,
-    ) -> Result<Said, Fail> {
+    pub fn hear(&mut self, alloc: Global, host: u8, from: u8, frame: Frame) -> Result<Said, Fail> {
         let (reply, _) = answer(alloc, &mut self.hosts, host, &HostEvent::Came(from, frame))?;
         Ok(said(&reply))
     }
@@ -158,10 +157,10 @@ impl Hosts {
 fn answer(
     alloc: Global,
     hosts: &mut Vec<Host<FlatMemory>>,
-    host: usize,
+    host: u8,
     event: &HostEvent,
 ) -> Result<(HostReply, Option<Addressed>), Fail> {
-    let Some(host) = hosts.get_mut(host) else {
+    let Some(host) = hosts.get_mut(usize::from(host)) else {
         return Err(Fail::from("the host is there"));
     };
     Ok(again!(host.apply(alloc, event)))

@@ -6,9 +6,9 @@ use rvm_frame::Frame;
 use std::alloc::Global;
 use std::test::Fail;
 
-const A: usize = 0;
+const A: u8 = 0;
 
-const B: usize = 1;
+const B: u8 = 1;
 
 /// A move of a guest of one page from A to B.
 const MOVE: [Event; 12] = [
@@ -30,7 +30,7 @@ const MOVE: [Event; 12] = [
 #[derive(Clone, Copy)]
 struct Place {
     events: usize,
-    host: usize,
+    host: u8,
 }
 
 const EMPTY: Place = Place { events: 0, host: B };

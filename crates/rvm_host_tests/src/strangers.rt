@@ -6,12 +6,7 @@ use std::alloc::Global;
 use std::test::Fail;
 
 /// The first kind of frame of move 7 that a host does not ignore where another host sends it.
-fn first_heard(
-    alloc: Global,
-    hosts: &mut Hosts,
-    host: usize,
-    from: u8,
-) -> Result<Option<u32>, Fail> {
+fn first_heard(alloc: Global, hosts: &mut Hosts, host: u8, from: u8) -> Result<Option<u32>, Fail> {
     for kind in 0..KINDS {
         let frame = again!(frame(alloc, 7, kind));
         let (name, _) = hosts.hear(alloc, host, from, frame)?;

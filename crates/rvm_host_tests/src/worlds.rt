@@ -13,7 +13,7 @@ use std::test::Fail;
 const LOOP: u32 = 0x0000_006F;
 
 /// A world whose first host has a guest of so many pages that loops.
-fn world(
+pub fn world(
     alloc: Global,
     pages: u32,
     limits: &[u16],
@@ -35,10 +35,29 @@ fn step(host: u8) -> Event {
     Event::At(host, Command::Board(BoardEvent::Step(0)))
 }
 
-/// What an event is answered, also where it was refused memory at first.
+/// What an event is answered, and the place of the frame that was made, also where the world was refused
+/// memory at first: it is then as before.
+pub fn turn(
+    alloc: Global,
+    world: &mut World<FlatMemory>,
+    event: &Event,
+) -> Result<(Said, Option<usize>), Fail> {
+    let before = (world.sent(), world.current());
+    let reply = match world.apply(alloc, event) {
+        Ok(reply) => reply,
+        Err(_) => {
+            if (world.sent(), world.current()) != before {
+                return Err(Fail::from("a refused growth changed the world"));
+            }
+            world.apply(alloc, event)?
+        }
+    };
+    Ok((said(&reply.reply), reply.frame))
+}
+
+/// What an event is answered.
 fn answer(alloc: Global, world: &mut World<FlatMemory>, event: &Event) -> Result<Said, Fail> {
-    let reply = again!(world.apply(alloc, event));
-    Ok(said(&reply.reply))
+    Ok(turn(alloc, world, event)?.0)
 }
 
 /// A world of so many hosts is made, or refused.
@@ -69,8 +88,8 @@ fn a_world_has_two_to_eight_hosts_of_some_pages(rt: HostRuntime) -> Result<(), F
     Ok(())
 }
 
-/// The events of a move of four pages from host 0 to host 1 up to the commit, in version 1.
-fn first_events() -> [Event; 17] {
+/// The events of a move of four pages from host 0 to host 1 up to the commit, in versions 1 and 2.
+pub fn first_events() -> [Event; 17] {
     [
         Event::At(
             0,
