@@ -2,10 +2,11 @@
 # make wrong: all wrong bodies, or those of one crate, as in make wrong CRATE=rvm_hart.
 # make times: the merge gate, and the processor seconds of each crate.
 # make faults: the tests, with each growth of memory refused in turn.
+# make docs-check: the commands of README and docs are run, links and the table of crates looked at.
 # make stress: random scripts for worlds of hosts, against a board that never moves.
 PREFIX ?= /usr/local
 
-.PHONY: build hi test wrong times faults stress bench bench-programs count install clean
+.PHONY: build hi test wrong times faults docs-check stress bench bench-programs count install clean
 
 # The program lies in build/rvmove afterwards.
 build:
@@ -27,6 +28,10 @@ times:
 
 faults:
 	tools/try-faults $(CRATE)
+
+docs-check: build
+	tools/check-docs
+	tools/check-layers
 
 stress: build
 	cd bench && python3 stress.py
