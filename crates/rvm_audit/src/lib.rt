@@ -1,0 +1,17 @@
+//! The journals of the two hosts of one world are put in order: one list of the world's events, which
+//! gives both hosts the replies that their journals keep.
+//!
+//! Stands on `rvm_journal` and on the events of `rvm_world`, and knows nothing of threads or locks.
+//!
+//! To be read in this order: `side`, `error`, `spelled`, `places`, `merge`, `audit`.
+#![tactic(auto)]
+
+mod audit;
+mod error;
+mod merge;
+mod places;
+mod side;
+mod spelled;
+
+pub use audit::{audit, dead_ends_have_no_order};
+pub use error::AuditError;

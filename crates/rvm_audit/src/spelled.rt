@@ -1,0 +1,138 @@
+//! Whether a frame has a spelling.
+
+ghost use Rattle.std.specs.Prelude.{◌≡◌, ◌↔◌, ◌<◌, ◌≤◌, IsTrue, length, nat_le, true, Some};
+ghost use Rattle.std.specs.List.{list_all};
+ghost use Rattle.rvm_codec.specs.Numbers.{within};
+ghost use Rattle.rvm_frame.specs.Bodies.{is_piece, lost, state};
+ghost use Rattle.rvm_frame.specs.Grammar.{HasSpelling, body_fits, body_of, sent};
+ghost use Rattle.rvm_frame.specs.Kinds.{hosts_fit, kind_of, move_fits, move_of};
+
+use rvm_codec::u16s_rise;
+use rvm_frame::{Addressed, Frame};
+
+/// Whether all numbers are page numbers.
+fn are_pages(numbers: &[u16]) -> bool
+    ensures { result ≡ list_all (within 0 4095) numbers.now }
+{
+    for n in numbers {
+        if *n > 4095 {
+            return false;
+        }
+    }
+    true
+}
+
+/// Whether no number is 0.
+fn are_copies(numbers: &[u32]) -> bool
+    ensures { result ≡ list_all (within 1 4294967295) numbers.now }
+{
+    for n in numbers {
+        if *n == 0 {
+            return false;
+        }
+    }
+    true
+}
+
+/// Whether page numbers are those that a host may lack.
+fn lost_fits(pages: &[u16]) -> bool
+    ensures { result ≡ lost.fits pages.now }
+{
+    1 <= pages.len() && pages.len() <= 4096 && are_pages(pages) && u16s_rise(pages)
+}
+
+/// Whether copy numbers are those of a state.
+fn state_fits(copy_numbers: &[u32], bytes: &[u8]) -> bool
+    ensures { result ≡ state.fits (copy_numbers.now, bytes.now) }
+{
+    1 <= copy_numbers.len() && copy_numbers.len() <= 4096 && are_copies(copy_numbers)
+}
+
+/// Whether bytes are a piece of a state.
+fn is_piece(part: u8, parts: u8, len: usize) -> bool
+    ensures { result ≡ is_piece part parts len }
+{
+    part < parts && 1 <= len && len <= 4096 && (len == 4096 || part + 1 == parts)
+}
+
+/// Whether the values of a frame lie in their limits.
+fn body_fits(frame: &Frame) -> bool
+    ensures { result ≡ body_fits frame.now }
+{
+    match frame {
+        Frame::Hello { version } => 1 <= *version && *version <= 3,
+        Frame::Offer { pages, harts, .. } => {
+            1 <= *pages && *pages <= 4096 && 1 <= *harts && *harts <= 8
+        }
+        Frame::Refuse { limit, .. } => 1 <= *limit && *limit <= 4096,
+        Frame::Page {
+            page,
+            copy_number,
+            ..
+        }
+        | Frame::Zero {
+            page,
+            copy_number,
+            ..
+        } => *page <= 4095 && 1 <= *copy_number,
+        Frame::Lost { pages, .. } => lost_fits(pages.as_slice()),
+        Frame::State {
+            copy_numbers,
+            state,
+            ..
+        } => state_fits(copy_numbers.as_slice(), state.as_slice()),
+        Frame::Part {
+            stamp,
+            part,
+            parts,
+            bytes,
+            ..
+        } => {
+            1 <= *stamp
+                && *part <= 5
+                && 1 <= *parts
+                && *parts <= 6
+                && is_piece(*part, *parts, bytes.as_slice().len())
+        }
+        Frame::Accept { .. }
+        | Frame::RoundEnd { .. }
+        | Frame::Ready { .. }
+        | Frame::Go { .. }
+        | Frame::Started { .. }
+        | Frame::Abort { .. } => true,
+    }
+}
+
+/// Whether the body of a frame is short enough, where its values lie in their limits.
+fn is_short(frame: &Frame) -> bool
+    requires { body_fits frame.now ≡ true }
+    ensures { result ≡ nat_le (length (body_of frame.now)) 32768 }
+{
+    match frame {
+        Frame::State {
+            copy_numbers,
+            state,
+            ..
+        } => 2 + 4 * copy_numbers.as_slice().len() + state.as_slice().len() <= 32768,
+        _ => true,
+    }
+}
+
+/// Whether a frame has a spelling in streams of a version.
+pub(crate) fn is_spelled(version: u32, addressed: &Addressed) -> bool
+    requires { hosts_fit (Some (addressed.now.from, addressed.now.to)) ≡ true }
+    ensures { IsTrue result ↔ HasSpelling (sent version addressed.now) }
+{
+    let frame = &addressed.frame;
+    has_move(frame) && body_fits(frame) && is_short(frame)
+}
+
+/// Whether a frame has the number of a move, or is Hello.
+fn has_move(frame: &Frame) -> bool
+    ensures { result ≡ move_fits (kind_of frame.now) (move_of frame.now) }
+{
+    match frame {
+        Frame::Hello { .. } => true,
+        _ => frame.move_number() != 0,
+    }
+}
