@@ -3,15 +3,15 @@
 //!
 //! Stands on `rvm_journal` and on the events of `rvm_world`, and knows nothing of threads or locks.
 //!
-//! To be read in this order: `side`, `error`, `spelled`, `places`, `merge`, `audit`.
+//! To be read in this order: `side`, `error`, `spelled`, `places`, `merge`, `order`.
 #![tactic(auto)]
 
-mod audit;
 mod error;
 mod merge;
+mod order;
 mod places;
 mod side;
 mod spelled;
 
-pub use audit::{audit, dead_ends_have_no_order};
 pub use error::AuditError;
+pub use order::{audit, dead_ends_have_no_order};

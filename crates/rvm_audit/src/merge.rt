@@ -63,7 +63,12 @@ impl<'a> Merge<'a> {
     }
 
     /// Puts an event behind the others, and notes where its frame was made.
-    pub(crate) fn take(&mut self, side: Side, entry: &'a Entry, event: Event) -> Result<(), AllocError>
+    pub(crate) fn take(
+        &mut self,
+        side: Side,
+        entry: &'a Entry,
+        event: Event,
+    ) -> Result<(), AllocError>
         requires { self.old.made < 2 ^ 64 - 1 }
         ensures { OnOk result (IsTaken self.old self.new event entry.now.frame
             (places_at side) (places_at (other side))) }

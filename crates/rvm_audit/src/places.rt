@@ -19,7 +19,11 @@ pub(crate) fn lookup(places: &Places, bytes: &[u8]) -> Option<u64>
 
 /// Notes the place of bytes that have none yet.
 #[tactic(auto, unfolding(crate::specs::Merging::places_of))]
-pub(crate) fn note<'a>(places: &mut Places<'a>, bytes: &'a [u8], place: u64) -> Result<(), AllocError>
+pub(crate) fn note<'a>(
+    places: &mut Places<'a>,
+    bytes: &'a [u8],
+    place: u64,
+) -> Result<(), AllocError>
     ensures { OnOk result ((other : List ℕ) → places_of places.new other
         ≡ noted (Some bytes.now) place (places_of places.old) other) }
 {

@@ -1,4 +1,4 @@
-//! The audit.
+//! The order of two journals.
 
 ghost use Rattle.std.specs.Prelude.{ℕ, List, IfOk, IfErr};
 ghost use Rattle.rvm_journal.specs.History.{History};
