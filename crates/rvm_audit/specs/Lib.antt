@@ -1,3 +1,4 @@
+pub mod Spelled
 pub mod Pairs
 pub mod Orders
 pub mod Merging

@@ -87,12 +87,16 @@ pub record Merged (a b : History) (i j : ℕ) (events : List Event) (first secon
   pub count_is : length (after_all a.opening b.opening (opened a.opening b.opening) steps).made ≡ count
   pub few : count ≤ i + j
 
--- an event was put behind the others, and its frame has a place: of its host `mine`, the other one's stay
-pub record IsTaken (old new : Merge) (event : Event) (frame : Option (List ℕ)) (mine yours : Merge → Places) : Type 0 where
-  pub events : new.events.items ≡ old.events.items ++ event ∷ []
+-- a frame, if one was made, has a place: among those of its host, `mine`; the other host's stay
+pub record IsNoted (old new : Merge) (frame : Option (List ℕ)) (mine yours : Merge → Places) : Type 0 where
   pub own : (bytes : List ℕ) → mine new bytes ≡ noted frame old.made (mine old) bytes
   pub rest : (bytes : List ℕ) → yours new bytes ≡ yours old bytes
   pub count : new.made ≡ counted frame old.made
+
+-- an event was put behind the others, and its frame has a place
+pub record IsTaken (old new : Merge) (event : Event) (frame : Option (List ℕ)) (mine yours : Merge → Places) : Type 0 where
+  pub events : new.events.items ≡ old.events.items ++ event ∷ []
+  pub frames : IsNoted old new frame mine yours
 
 abbrev pub first_places : Merge → Places
 first_places m = places_of m.first

@@ -1,7 +1,7 @@
 //! What was put in order.
 
-ghost use Rattle.std.specs.Prelude.{◌≡◌, ◌<◌, ◌^◌, IfOk, OnOk, MatchOption, [], ℕ, List, None};
-ghost use Rattle.rvm_audit.specs.Merging.{Becomes, IsNext, IsPlaced, IsTaken, IsUnmade, IsUnplaced, IsWaiting, counted, noted, places_at, places_of};
+ghost use Rattle.std.specs.Prelude.{◌≡◌, ◌<◌, ◌^◌, ◌-◌, IfOk, OnOk, MatchOption, [], ℕ, List, Some, None};
+ghost use Rattle.rvm_audit.specs.Merging.{Becomes, IsNext, IsNoted, IsPlaced, IsTaken, IsUnmade, IsUnplaced, IsWaiting, places_at, places_of};
 ghost use Rattle.rvm_audit.specs.Pairs.{other};
 
 use crate::places::{Places, lookup, note};
@@ -74,15 +74,24 @@ impl<'a> Merge<'a> {
             (places_at side) (places_at (other side))) }
     {
         self.events.push(event)?;
-        let place = self.made;
-        let places = match side {
-            Side::First => &mut self.first,
-            Side::Second => &mut self.second,
-        };
         if let Some(bytes) = &entry.frame {
-            note(places, bytes.as_slice(), place)?;
-            self.made += 1;
+            self.note(side, bytes.as_slice())?;
         }
+        Ok(())
+    }
+
+    /// Notes where a frame was made.
+    fn note(&mut self, side: Side, bytes: &'a [u8]) -> Result<(), AllocError>
+        requires { self.old.made < 2 ^ 64 - 1 }
+        ensures events { OnOk result (self.new.events ≡ self.old.events) }
+        ensures noted { OnOk result (IsNoted self.old self.new (Some bytes.now)
+            (places_at side) (places_at (other side))) }
+    {
+        match side {
+            Side::First => note(&mut self.first, bytes, self.made)?,
+            Side::Second => note(&mut self.second, bytes, self.made)?,
+        }
+        self.made += 1;
         Ok(())
     }
 }
@@ -123,7 +132,7 @@ fn place_of(
         (IsUnplaced version side from frame.now (places_of others.now))
         (λ k. IsPlaced version side from frame.now (places_of others.now) k)) }
 {
-    if from != side.other().number() {
+    if from != side.other().number() || !is_spelled(frame) {
         return Ok(None);
     }
     let coming = Addressed {
@@ -131,9 +140,6 @@ fn place_of(
         to: side.number(),
         frame: frame.copy(alloc)?,
     };
-    if !is_spelled(version, &coming) {
-        return Ok(None);
-    }
     let bytes = frame_bytes(alloc, version, &coming)?;
     Ok(lookup(others, bytes.as_slice()))
 }

@@ -1,14 +1,15 @@
 //! Whether a frame has a spelling.
 
-ghost use Rattle.std.specs.Prelude.{◌≡◌, ◌↔◌, ◌<◌, ◌≤◌, IsTrue, length, nat_le, true, Some};
+ghost use Rattle.std.specs.Prelude.{◌≡◌};
 ghost use Rattle.std.specs.List.{list_all};
 ghost use Rattle.rvm_codec.specs.Numbers.{within};
 ghost use Rattle.rvm_frame.specs.Bodies.{is_piece, lost, state};
-ghost use Rattle.rvm_frame.specs.Grammar.{HasSpelling, body_fits, body_of, sent};
-ghost use Rattle.rvm_frame.specs.Kinds.{hosts_fit, kind_of, move_fits, move_of};
+ghost use Rattle.rvm_frame.specs.Grammar.{body_fits};
+ghost use Rattle.rvm_frame.specs.Kinds.{kind_of, move_fits, move_of};
+ghost use Rattle.rvm_audit.specs.Spelled.{is_short, is_spelled};
 
 use rvm_codec::u16s_rise;
-use rvm_frame::{Addressed, Frame};
+use rvm_frame::Frame;
 
 /// Whether all numbers are page numbers.
 fn are_pages(numbers: &[u16]) -> bool
@@ -68,9 +69,10 @@ fn body_fits(frame: &Frame) -> bool
         Frame::Page {
             page,
             copy_number,
+            bytes,
             ..
-        }
-        | Frame::Zero {
+        } => *page <= 4095 && 1 <= *copy_number && bytes.as_array().len() == 4096,
+        Frame::Zero {
             page,
             copy_number,
             ..
@@ -103,10 +105,9 @@ fn body_fits(frame: &Frame) -> bool
     }
 }
 
-/// Whether the body of a frame is short enough, where its values lie in their limits.
+/// Whether the body of a frame is short enough.
 fn is_short(frame: &Frame) -> bool
-    requires { body_fits frame.now ≡ true }
-    ensures { result ≡ nat_le (length (body_of frame.now)) 32768 }
+    ensures { result ≡ is_short frame.now }
 {
     match frame {
         Frame::State {
@@ -118,21 +119,19 @@ fn is_short(frame: &Frame) -> bool
     }
 }
 
-/// Whether a frame has a spelling in streams of a version.
-pub(crate) fn is_spelled(version: u32, addressed: &Addressed) -> bool
-    requires { hosts_fit (Some (addressed.now.from, addressed.now.to)) ≡ true }
-    ensures { IsTrue result ↔ HasSpelling (sent version addressed.now) }
-{
-    let frame = &addressed.frame;
-    has_move(frame) && body_fits(frame) && is_short(frame)
-}
-
-/// Whether a frame has the number of a move, or is Hello.
-fn has_move(frame: &Frame) -> bool
+/// Whether the frame has the number of a move; Hello has none.
+fn move_fits(frame: &Frame) -> bool
     ensures { result ≡ move_fits (kind_of frame.now) (move_of frame.now) }
 {
     match frame {
         Frame::Hello { .. } => true,
         _ => frame.move_number() != 0,
     }
+}
+
+/// Whether a frame that goes from one host to the other has a spelling.
+pub(crate) fn is_spelled(frame: &Frame) -> bool
+    ensures { result ≡ is_spelled frame.now }
+{
+    move_fits(frame) && body_fits(frame) && is_short(frame)
 }
