@@ -5,7 +5,13 @@ use Rattle.std.proofs.lemmas.Slice.Eq.{bytes_eq-Decides}
 use Rattle.std.proofs.lemmas.Option.{slice_get_within, same_Some, some_pair_parts}
 use Rattle.rvm_audit.specs.declared.side.Side.{Side}
 use Rattle.rvm_audit.specs.declared.side.Side.TheVariants.{First, Second}
-use Rattle.rvm_audit.specs.Merging.{IsIndex, Places, counted, noted}
+use Rattle.std.specs.BTreeMap.{BTreeMap, is_at}
+use Rattle.std.specs.Borrow.{Bor}
+use Rattle.std.specs.Cmp.Lexicographic.{slice_cmp}
+use Rattle.std.specs.Map.{lookup}
+use Rattle.std.specs.Ordering.{nat_cmp}
+use Rattle.rvm_audit.specs.declared.merge.Merge.{Merge}
+use Rattle.rvm_audit.specs.Merging.{IsIndex, Places, counted, noted, places_at, places_of}
 use Rattle.rvm_audit.specs.Pairs.{Made, made_more, other}
 use Rattle.rvm_audit.proofs.Gets.{get_end, get_front, get_last, get_nothing}
 
@@ -133,3 +139,13 @@ noted_before new place n p is bytes = by_test (bytes_eq new bytes) (p bytes) (λ
   by_test b (Some m) h = refl
   by_test true None h = absurd (let z = h refl in cc)
   by_test false None h = refl
+
+no_place : (map : BTreeMap (Bor (List ℕ)) ℕ) → map.entries ≡ [] → (bytes : List ℕ) → places_of map bytes ≡ None
+unfolding places_of
+no_place map is bytes = ap (λ es. lookup (is_at (λ (key : Bor (List ℕ)). slice_cmp nat_cmp bytes key.now)) es) is
+
+-- before the first frame
+pub no_places : (x : Side) (m : Merge) → m.first.entries ≡ [] → m.second.entries ≡ [] → (bytes : List ℕ)
+    → places_at x m bytes ≡ None
+no_places First m first second bytes = no_place m.first first bytes
+no_places Second m first second bytes = no_place m.second second bytes

@@ -1,16 +1,19 @@
 -- Which frames between two hosts have a spelling.
 use Rattle.std.proofs.Common.{◌≡◌, ◌∙◌, ℕ, ◌+◌, ◌*◌, ◌<◌, ◌≤◌, Bool, true, false, ◌&&◌, nat_le, if◌then◌else◌, Option, Some, None, List, length, length-append, refl, sym, ap, subst, arith}
+use Rattle.std.specs.Prelude.{MatchOption}
 use Rattle.std.proofs.lemmas.Bool.Decides.{nat_tests}
 use Rattle.rvm_codec.proofs.Steps.{both_are}
 use Rattle.rvm_frame.specs.declared.frame.Frame.{Frame}
 use Rattle.rvm_frame.specs.declared.frame.Frame.TheVariants as frame
-use Rattle.rvm_frame.specs.Grammar.{HasSpelling, body_fits, body_of, known_at, sent}
+use Rattle.rvm_frame.specs.declared.addressed.Addressed.{Addressed}
+use Rattle.rvm_frame.specs.Grammar.{HasSpelling, body_fits, body_of, known_at, sent, spelling}
 use Rattle.rvm_frame.specs.Kinds.{hosts_fit, kind_of, move_fits, move_of, names_hosts}
 use Rattle.rvm_frame.proofs.Bodies.{length_fits}
 use Rattle.rvm_frame.proofs.Lengths.{length_state}
 use Rattle.rvm_audit.specs.declared.side.Side.{Side}
 use Rattle.rvm_audit.specs.declared.side.Side.TheVariants.{First, Second}
-use Rattle.rvm_audit.specs.Pairs.{coming, number_of, other}
+use Rattle.rvm_audit.specs.Merging.{IsPlaced, IsUnplaced, Places}
+use Rattle.rvm_audit.specs.Pairs.{HasBytes, coming, number_of, other}
 use Rattle.rvm_audit.specs.Spelled.{is_short, is_spelled}
 
 short_is : (f : Frame) → body_fits f ≡ true → is_short f ≡ nat_le (length (body_of f)) 32768
@@ -63,3 +66,29 @@ not_spelled version x f is so =
     in
     let no = sym is ∙ all in
     cc
+
+-- a frame that is addressed so
+abbrev from_to : (from to : ℕ) → Frame → Addressed
+from_to from to f = record { from = from; to = to; frame = f }
+
+pub is_coming : (x : Side) (from to : ℕ) (f g : Frame) → from ≡ number_of (other x) → to ≡ number_of x → g ≡ f
+    → from_to from to g ≡ coming x f
+is_coming x from to f g from_is to_is is = λ j. from_to (from_is j) (to_is j) (is j)
+
+-- where its bytes have a place, and where they have none
+pub placed : (version : ℕ) (x : Side) (from : ℕ) (f : Frame) (places : Places) (a : Addressed) (bytes : List ℕ)
+    (o : Option ℕ) → from ≡ number_of (other x) → is_spelled f ≡ true → a ≡ coming x f
+    → bytes ≡ spelling (sent version a) → o ≡ places bytes
+    → MatchOption o (IsUnplaced version x from f places) (λ k. IsPlaced version x from f places k)
+placed version x from f places a bytes None sender spelled a_is is found =
+    λ other_bytes sent_by same.
+    ap places (same.bytes_are ∙ sym (ap (λ (y : Addressed). spelling (sent version y)) a_is) ∙ sym is) ∙ sym found
+placed version x from f places a bytes (Some k) sender spelled a_is is found = record {
+  bytes = bytes;
+  sender = sender;
+  same = record {
+    spelled = has_spelling version x f spelled;
+    bytes_are = is ∙ ap (λ (y : Addressed). spelling (sent version y)) a_is;
+  };
+  there = sym found;
+}

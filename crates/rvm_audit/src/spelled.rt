@@ -3,7 +3,7 @@
 ghost use Rattle.std.specs.Prelude.{◌≡◌};
 ghost use Rattle.std.specs.List.{list_all};
 ghost use Rattle.rvm_codec.specs.Numbers.{within};
-ghost use Rattle.rvm_frame.specs.Bodies.{is_piece, lost, state};
+ghost use Rattle.rvm_frame.specs.Bodies.{is_piece, lost, round_end, state};
 ghost use Rattle.rvm_frame.specs.Grammar.{body_fits};
 ghost use Rattle.rvm_frame.specs.Kinds.{kind_of, move_fits, move_of};
 ghost use Rattle.rvm_audit.specs.Spelled.{is_short, is_spelled};
@@ -56,6 +56,13 @@ fn is_piece(part: u8, parts: u8, len: usize) -> bool
     part < parts && 1 <= len && len <= 4096 && (len == 4096 || part + 1 == parts)
 }
 
+/// Whether numbers of a round are those of its end: all are.
+fn round_end_fits(round: u16, sent: u16, skipped: u16, left: u16) -> bool
+    ensures { result ≡ round_end.fits (round, (sent, (skipped, left))) }
+{
+    true
+}
+
 /// Whether the values of a frame lie in their limits.
 fn body_fits(frame: &Frame) -> bool
     ensures { result ≡ body_fits frame.now }
@@ -96,8 +103,14 @@ fn body_fits(frame: &Frame) -> bool
                 && *parts <= 6
                 && is_piece(*part, *parts, bytes.as_slice().len())
         }
+        Frame::RoundEnd {
+            round,
+            sent,
+            skipped,
+            left,
+            ..
+        } => round_end_fits(*round, *sent, *skipped, *left),
         Frame::Accept { .. }
-        | Frame::RoundEnd { .. }
         | Frame::Ready { .. }
         | Frame::Go { .. }
         | Frame::Started { .. }
