@@ -149,3 +149,7 @@ pub no_places : (x : Side) (m : Merge) → m.first.entries ≡ [] → m.second.e
     → places_at x m bytes ≡ None
 no_places First m first second bytes = no_place m.first first bytes
 no_places Second m first second bytes = no_place m.second second bytes
+
+pub none_is : (o : Option ℕ) → is_some o ≡ false → o ≡ None
+none_is None is = refl
+none_is (Some n) is = absurd cc

@@ -15,7 +15,8 @@ use Rattle.rvm_world.specs.declared.event.Event.{Event}
 use Rattle.rvm_world.specs.declared.event.Event.TheVariants.{At, Deliver}
 use Rattle.rvm_audit.specs.declared.side.Side.{Side}
 use Rattle.rvm_audit.specs.declared.side.Side.TheVariants.{First, Second}
-use Rattle.rvm_audit.specs.Merging.{Becomes, IsIndex, IsPlaced, Merged, Places, counted, noted}
+use Rattle.rvm_audit.specs.declared.merge.Merge.{Merge}
+use Rattle.rvm_audit.specs.Merging.{Becomes, IsIndex, IsPlaced, IsTaken, Merged, Places, counted, first_places, noted, second_places}
 use Rattle.rvm_audit.specs.Orders.{IsLowestOrder}
 use Rattle.rvm_audit.specs.Pairs.{AllLowest, IsLowestAt, IsRun, Made, Makes, Pair, after, after_all, entries_at, host_at, made_more, number_of, opened, opening_at, other, outcome_in, put}
 use Rattle.rvm_audit.proofs.Gets.{take_get}
@@ -175,6 +176,52 @@ take_second a b i j es p q count m all n at e can p' q' own rest =
       count_is = ap length made_is ∙ size.0;
       few = let few = m.few in let s = size.1 in omega (arith, few, s);
     }
+
+-- the same as the code has it
+abbrev pub IsMerged : (a b : History) → (i j : ℕ) → Merge → Type 0
+IsMerged a b i j m = Merged a b i j m.events.items (first_places m) (second_places m) m.made
+
+module _ (a b : History) (i j : ℕ) (old new : Merge) (so : IsMerged a b i j old) (xs : List Entry) (version : ℕ) (n k : Entry)
+    (e : Event) where
+  pub took_first : IsReplay a.opening a.entries → xs ≡ a.entries → version ≡ a.opening.version → slice_get xs i ≡ Some n
+      → slice_get xs i ≡ Some k → Becomes version First n.event (second_places old) e
+      → IsTaken old new e k.frame first_places second_places → IsMerged a b (i + 1) j new
+  took_first all xs_is version_is at again can taken =
+      let same : n ≡ k = same_Some n k (sym at ∙ again) in
+      let here = ap (λ ys. slice_get ys i) (sym xs_is) ∙ again in
+      let may : Becomes a.opening.version First k.event (second_places old) e =
+      subst (λ (y : Entry). Becomes a.opening.version First y.event (second_places old) e) same
+      (subst (λ v. Becomes v First n.event (second_places old) e) version_is can)
+      in
+      let t =
+      take_first a b i j old.events.items (first_places old) (second_places old) old.made so all k here e may
+      (first_places new) (second_places new) taken.frames.own taken.frames.rest
+      in
+      let u =
+      subst (λ es. Merged a b (i + 1) j es (first_places new) (second_places new) (counted k.frame old.made))
+      (sym taken.events) t
+      in
+      subst (λ c. Merged a b (i + 1) j new.events.items (first_places new) (second_places new) c) (sym taken.frames.count) u
+
+  pub took_second : IsReplay b.opening b.entries → xs ≡ b.entries → version ≡ b.opening.version → slice_get xs j ≡ Some n
+      → slice_get xs j ≡ Some k → Becomes version Second n.event (first_places old) e
+      → IsTaken old new e k.frame second_places first_places → IsMerged a b i (j + 1) new
+  took_second all xs_is version_is at again can taken =
+      let same : n ≡ k = same_Some n k (sym at ∙ again) in
+      let here = ap (λ ys. slice_get ys j) (sym xs_is) ∙ again in
+      let may : Becomes b.opening.version Second k.event (first_places old) e =
+      subst (λ (y : Entry). Becomes b.opening.version Second y.event (first_places old) e) same
+      (subst (λ v. Becomes v Second n.event (first_places old) e) version_is can)
+      in
+      let t =
+      take_second a b i j old.events.items (first_places old) (second_places old) old.made so all k here e may
+      (first_places new) (second_places new) taken.frames.own taken.frames.rest
+      in
+      let u =
+      subst (λ es. Merged a b i (j + 1) es (first_places new) (second_places new) (counted k.frame old.made))
+      (sym taken.events) t
+      in
+      subst (λ c. Merged a b i (j + 1) new.events.items (first_places new) (second_places new) c) (sym taken.frames.count) u
 
 take_whole : {X : Type 0} (xs : List X) (i : ℕ) → i ≡ length xs → take i xs ≡ xs
 take_whole xs i is = ap (λ k. take k xs) is ∙ take-length xs
