@@ -1,0 +1,5 @@
+pub mod Spellings
+pub mod Gets
+pub mod Indexes
+pub mod Runs
+pub mod Dead

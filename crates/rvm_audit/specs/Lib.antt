@@ -1,0 +1,4 @@
+pub mod Pairs
+pub mod Orders
+pub mod Merging
+pub mod Errors

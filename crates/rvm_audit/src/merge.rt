@@ -1,0 +1,148 @@
+//! What was put in order.
+
+ghost use Rattle.std.specs.Prelude.{◌≡◌, ◌<◌, ◌^◌, ◌-◌, IfOk, OnOk, MatchOption, [], ℕ, List, Some, None};
+ghost use Rattle.rvm_audit.specs.Merging.{Becomes, IsNext, IsNoted, IsPlaced, IsTaken, IsUnmade, IsUnplaced, IsWaiting, places_at, places_of};
+ghost use Rattle.rvm_audit.specs.Pairs.{other};
+
+use crate::places::{Places, lookup, note};
+use crate::side::Side;
+use rvm_frame::{Addressed, Bytes, Frame, frame_bytes};
+use rvm_journal::Entry;
+use rvm_message::HostEvent;
+use rvm_spelling::has_spelling;
+use rvm_world::Event;
+use std::alloc::{AllocError, Global};
+use std::collections::BTreeMap;
+
+/// The events that were put in order, and where the frames of each host were first made.
+#[derive(Drop)]
+pub(crate) struct Merge<'a> {
+    pub(crate) events: Vec<Event>,
+    pub(crate) first: Places<'a>,
+    pub(crate) second: Places<'a>,
+    /// How many frames were made.
+    pub(crate) made: u64,
+}
+
+impl<'a> Merge<'a> {
+    /// Nothing.
+    pub(crate) fn new(alloc: Global) -> Merge<'a>
+        ensures events { result.events.items ≡ [] }
+        ensures places { (x : Side) (bytes : List ℕ) → places_at x result bytes ≡ None }
+        ensures made { result.made ≡ 0 }
+    {
+        Merge {
+            events: Vec::new(alloc),
+            first: BTreeMap::new(alloc),
+            second: BTreeMap::new(alloc),
+            made: 0,
+        }
+    }
+
+    /// The event of a host's next entry, where there is one that can stand.
+    pub(crate) fn next(
+        &self,
+        alloc: Global,
+        side: Side,
+        version: u32,
+        entries: &[Entry],
+        k: usize,
+    ) -> Result<Option<Event>, AllocError>
+        ensures { IfOk result (λ o. MatchOption o
+            (IsWaiting version side entries.now k (places_at (other side) self.now))
+            (λ e. IsNext version side entries.now k (places_at (other side) self.now) e)) }
+    {
+        let others = match side {
+            Side::First => &self.second,
+            Side::Second => &self.first,
+        };
+        match entries.get(k) {
+            None => Ok(None),
+            Some(entry) => event_of(alloc, side, version, &entry.event, others),
+        }
+    }
+
+    /// Puts an event behind the others, and notes where its frame was made.
+    pub(crate) fn take(
+        &mut self,
+        side: Side,
+        entry: &'a Entry,
+        event: Event,
+    ) -> Result<(), AllocError>
+        requires { self.old.made < 2 ^ 64 - 1 }
+        ensures { OnOk result (IsTaken self.old self.new event entry.now.frame
+            (places_at side) (places_at (other side))) }
+    {
+        self.events.push(event)?;
+        if let Some(bytes) = &entry.frame {
+            self.note(side, bytes.as_slice())?;
+        }
+        Ok(())
+    }
+
+    /// Notes where a frame was made.
+    fn note(&mut self, side: Side, bytes: &'a [u8]) -> Result<(), AllocError>
+        requires { self.old.made < 2 ^ 64 - 1 }
+        ensures events { OnOk result (self.new.events ≡ self.old.events) }
+        ensures noted { OnOk result (IsNoted self.old self.new (Some bytes.now)
+            (places_at side) (places_at (other side))) }
+    {
+        match side {
+            Side::First => note(&mut self.first, bytes, self.made)?,
+            Side::Second => note(&mut self.second, bytes, self.made)?,
+        }
+        self.made += 1;
+        Ok(())
+    }
+}
+
+/// The event of the world that a host's event is, where it can stand.
+fn event_of(
+    alloc: Global,
+    side: Side,
+    version: u32,
+    event: &HostEvent,
+    others: &Places,
+) -> Result<Option<Event>, AllocError>
+    ensures { IfOk result (λ o. MatchOption o
+        (IsUnmade version side event.now (places_of others.now))
+        (λ e. Becomes version side event.now (places_of others.now) e)) }
+{
+    match event {
+        HostEvent::Do(command) => Ok(Some(Event::At(side.number(), command.copy()))),
+        HostEvent::Came(from, frame) => {
+            match place_of(alloc, side, version, *from, frame, others)? {
+                None => Ok(None),
+                Some(place) => Ok(Some(Event::Deliver(place))),
+            }
+        }
+    }
+}
+
+/// Where the other host made a frame first, if it did.
+fn place_of(
+    alloc: Global,
+    side: Side,
+    version: u32,
+    from: u8,
+    frame: &Frame,
+    others: &Places,
+) -> Result<Option<u64>, AllocError>
+    ensures { IfOk result (λ o. MatchOption o
+        (IsUnplaced version side from frame.now (places_of others.now))
+        (λ k. IsPlaced version side from frame.now (places_of others.now) k)) }
+{
+    if from != side.other().number() {
+        return Ok(None);
+    }
+    let coming = Addressed {
+        from,
+        to: side.number(),
+        frame: frame.copy(alloc)?,
+    };
+    if !has_spelling(version, &coming) {
+        return Ok(None);
+    }
+    let bytes = frame_bytes(alloc, version, &coming)?;
+    Ok(lookup(others, bytes.as_slice()))
+}

@@ -1,0 +1,55 @@
+//! The order of two journals.
+
+ghost use Rattle.std.specs.Prelude.{ℕ, List, IfOk, IfErr};
+ghost use Rattle.rvm_journal.specs.History.{History};
+ghost use Rattle.rvm_world.specs.declared.event.Event.{Event};
+ghost use Rattle.rvm_audit.specs.Errors.{IsAuditError};
+ghost use Rattle.rvm_audit.specs.Orders.{IsDeadEnd, IsLowestOrder, IsOrder};
+
+use crate::error::AuditError;
+use crate::merge::Merge;
+use crate::side::Side;
+use rvm_journal::Journal;
+use rvm_mem::PagedMemory;
+use rvm_world::Event;
+use std::alloc::Global;
+
+/// An order of the events of two hosts, by their journals: at each point the first host's next event
+/// where it can stand, else the second one's. A frame that came stands behind the event that made it, as
+/// the lowest of the frames of its bytes.
+pub fn audit<M: PagedMemory + Drop, N: PagedMemory + Drop>(
+    alloc: Global,
+    first: &Journal<M>,
+    second: &Journal<N>,
+) -> Result<Vec<Event>, AuditError>
+    ensures order { IfOk result (λ events. IsLowestOrder first.now second.now events.items) }
+    ensures none { IfErr result (λ why. IsAuditError why first.now second.now) }
+{
+    let xs = first.entries();
+    let ys = second.entries();
+    let mut merge = Merge::new(alloc);
+    let mut i = 0;
+    let mut j = 0;
+    while i < xs.len() || j < ys.len() {
+        match merge.next(alloc, Side::First, first.version(), xs, i)? {
+            Some(event) => {
+                merge.take(Side::First, &xs[i], event)?;
+                i += 1;
+            }
+            None => match merge.next(alloc, Side::Second, second.version(), ys, j)? {
+                Some(event) => {
+                    merge.take(Side::Second, &ys[j], event)?;
+                    j += 1;
+                }
+                None => return Err(AuditError::NoOrder { i, j }),
+            },
+        }
+    }
+    Ok(merge.events)
+}
+
+/// Where neither journal can go on, they have no order.
+pub fn dead_ends_have_no_order()
+    ensures { (a b : History) (i j : ℕ) (events : List Event) → IsDeadEnd a b i j
+        → IsOrder a b events → ⊥ }
+{}

@@ -1,0 +1,34 @@
+//! Where frames were made, by their bytes.
+
+ghost use Rattle.std.specs.Prelude.{◌≡◌, ℕ, List, OnOk, Some};
+ghost use Rattle.rvm_audit.specs.Merging.{noted, places_of};
+
+use std::alloc::AllocError;
+use std::collections::BTreeMap;
+
+/// The place of the first frame of some bytes, found in logarithmic time.
+pub(crate) type Places<'a> = BTreeMap<&'a [u8], u64>;
+
+/// The place of the first frame of these bytes.
+#[tactic(auto, unfolding(crate::specs::Merging::places_of))]
+pub(crate) fn lookup(places: &Places, bytes: &[u8]) -> Option<u64>
+    ensures { result ≡ places_of places.now bytes.now }
+{
+    places.get(bytes).copied()
+}
+
+/// Notes the place of bytes that have none yet.
+#[tactic(auto, unfolding(crate::specs::Merging::places_of))]
+pub(crate) fn note<'a>(
+    places: &mut Places<'a>,
+    bytes: &'a [u8],
+    place: u64,
+) -> Result<(), AllocError>
+    ensures { OnOk result ((other : List ℕ) → places_of places.new other
+        ≡ noted (Some bytes.now) place (places_of places.old) other) }
+{
+    if lookup(places, bytes).is_none() {
+        places.insert(bytes, place)?;
+    }
+    Ok(())
+}
