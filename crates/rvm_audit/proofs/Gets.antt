@@ -1,5 +1,5 @@
 -- Elements by their index.
-use Rattle.std.proofs.Common.{◌≡◌, ◌∙◌, ℕ, zero, suc, ◌+◌, ◌<◌, List, [], ◌∷◌, ◌++◌, length, take, Some, None, refl, sym, ap, arith, inl, inr}
+use Rattle.std.proofs.Common.{◌≡◌, ◌∙◌, ℕ, zero, suc, ◌+◌, ◌<◌, ◌≤◌, List, [], ◌∷◌, ◌++◌, length, take, drop, Some, None, refl, sym, ap, arith, inl, inr}
 use Rattle.std.specs.Prelude.{slice_get, ◌⊎◌}
 use Rattle.std.proofs.lemmas.Option.{same_Some}
 
@@ -42,3 +42,15 @@ get_last [] y zero s h = inr (same_Some y s h, refl)
 get_last [] y (suc k) s h = absurd cc
 get_last (x ∷ xs) y zero s h = inl h
 get_last (x ∷ xs) y (suc k) s h = elim (get_last xs y k s h) [ inl here ↦ inl here | inr last ↦ inr (last.0, ap suc last.1) ]
+
+-- what is left from an element on
+pub drop_get : {X : Type 0} (xs : List X) (i : ℕ) (n : X) → slice_get xs i ≡ Some n → drop i xs ≡ n ∷ drop (suc i) xs
+drop_get [] i n h = cc
+drop_get (x ∷ xs) zero n h = ap (λ y. y ∷ xs) (same_Some x n h)
+drop_get (x ∷ xs) (suc i) n h = drop_get xs i n h
+
+pub drop_end : {X : Type 0} (xs : List X) (i : ℕ) → length xs ≤ i → drop i xs ≡ []
+drop_end [] zero le = refl
+drop_end [] (suc i) le = refl
+drop_end (x ∷ xs) zero le = absurd (omega arith)
+drop_end (x ∷ xs) (suc i) le = drop_end xs i (omega arith)

@@ -1,6 +1,6 @@
 -- One more entry joins the order.
-use Rattle.std.proofs.Common.{◌≡◌, ◌∙◌, ℕ, zero, suc, ◌+◌, ◌<◌, ◌≤◌, List, [], ◌∷◌, ◌++◌, Option, length, length-append, take, Some, None, refl, sym, ap, subst, arith, append-nil}
-use Rattle.std.specs.Prelude.{slice_get}
+use Rattle.std.proofs.Common.{◌≡◌, ◌∙◌, ℕ, zero, suc, ◌+◌, ◌<◌, ◌≤◌, List, [], ◌∷◌, ◌++◌, Option, length, length-append, take, drop, append_assoc, inl, inr, Some, None, refl, sym, ap, subst, arith, append-nil}
+use Rattle.std.specs.Prelude.{slice_get, ◌⊎◌}
 use Rattle.std.proofs.Math.Seq.{take-length}
 use Rattle.std.proofs.lemmas.Option.{slice_get_within, same_Some}
 use Rattle.rvm_core.specs.Hosts.{PlainHost, host_of}
@@ -16,10 +16,10 @@ use Rattle.rvm_world.specs.declared.event.Event.TheVariants.{At, Deliver}
 use Rattle.rvm_audit.specs.declared.side.Side.{Side}
 use Rattle.rvm_audit.specs.declared.side.Side.TheVariants.{First, Second}
 use Rattle.rvm_audit.specs.declared.merge.Merge.{Merge}
-use Rattle.rvm_audit.specs.Merging.{Becomes, IsIndex, IsPlaced, IsTaken, Merged, Places, counted, first_places, noted, second_places}
-use Rattle.rvm_audit.specs.Orders.{IsLowestOrder}
-use Rattle.rvm_audit.specs.Pairs.{AllLowest, IsLowestAt, IsRun, Made, Makes, Pair, after, after_all, entries_at, host_at, made_more, number_of, opened, opening_at, other, outcome_in, put}
-use Rattle.rvm_audit.proofs.Gets.{take_get}
+use Rattle.rvm_audit.specs.Merging.{Becomes, IsIndex, IsPlaced, IsTaken, IsUnmade, IsWaiting, Merged, Places, counted, first_places, noted, second_places}
+use Rattle.rvm_audit.specs.Orders.{IsMerge}
+use Rattle.rvm_audit.specs.Pairs.{AllLowest, AllTurns, CannotStand, HasBytes, IsEvent, IsLowestAt, IsRun, IsTurn, Made, Makes, Pair, after, after_all, entries_at, host_at, made_more, number_of, opened, opening_at, other, outcome_in, put}
+use Rattle.rvm_audit.proofs.Gets.{drop_end, drop_get, take_get}
 use Rattle.rvm_audit.proofs.Indexes.{index_rest, index_own, more_length}
 
 module _ (a b : PlainHost) where
@@ -91,6 +91,42 @@ entries_snoc x [] y n = refl
 entries_snoc x ((z, k) ∷ ss) y n =
     ap (put x z k) (entries_snoc x ss y n) ∙ put_append x z k (entries_at x ss) (put x y n [])
 
+one_put : (x : Side) (n : Entry) (rest : List Entry) → put First x n [] ++ rest ≡ put First x n rest
+one_put First n rest = refl
+one_put Second n rest = refl
+
+behind : (ss : List (Side × Entry)) (x : Side) (n : Entry) (rest left : List Entry) → left ≡ put First x n rest
+    → entries_at First (ss ++ (x, n) ∷ []) ++ rest ≡ entries_at First ss ++ left
+behind ss x n rest left is =
+    ap (λ es. es ++ rest) (entries_snoc First ss x n) ∙ append_assoc (entries_at First ss) (put First x n []) rest
+    ∙ ap (λ es. entries_at First ss ++ es) (one_put x n rest ∙ sym is)
+
+module _ (a b : PlainHost) where
+  turns_snoc : (w : Pair) (ss : List (Side × Entry)) (x : Side) (n : Entry) (rest left : List Entry)
+      → left ≡ put First x n rest → AllTurns a b w ss left → IsTurn a b (after_all a b w ss) x left
+      → AllTurns a b w (ss ++ (x, n) ∷ []) rest
+  turns_snoc w [] x n rest left is all turn = (subst (IsTurn a b w x) (is ∙ sym (one_put x n rest)) turn, tt)
+  turns_snoc w (s ∷ ss) x n rest left is all turn = (
+    subst (IsTurn a b w s.0) (sym (behind (s ∷ ss) x n rest left is)) all.0,
+    turns_snoc (after a b w s.0 s.1) ss x n rest left is all.1 turn,
+  )
+
+  -- a frame that cannot stand is no event of the world
+  no_event : (w : Pair) (places : Places) (v : HostEvent) (e : Event) → IsIndex Second w.made places
+      → IsUnmade a.version First v places → IsEvent a b w e First v → ⊥
+  no_event w places (Do c) e index un is = un
+  no_event w places (Came from f) (At h c) index un is = let d = is.1 in cc
+  no_event w places (Came from f) (Deliver k) index un is =
+      let from_is : from ≡ number_of (other First) = let d = is.event in cc in
+      let frame_is : is.frame ≡ f = let d = is.event in cc in
+      index.all is.bytes k (un is.bytes from_is (subst (λ g. HasBytes a.version First g is.bytes) frame_is is.same)) is.there
+
+  cannot_stand : (w : Pair) (xs : List Entry) (i : ℕ) (places : Places) → IsIndex Second w.made places
+      → IsWaiting a.version First xs i places → CannotStand a b w First (drop i xs)
+  cannot_stand w xs i places index (inl le) = subst (CannotStand a b w First) (sym (drop_end xs i le)) tt
+  cannot_stand w xs i places index (inr n) =
+      subst (CannotStand a b w First) (sym (drop_get xs i n.0 n.1)) (λ e is. no_event w places n.0.event e index n.2 is)
+
 replay_at : (o : PlainHost) (h : LawHost) (xs : List Entry) → IsReplayFrom o h xs → (i : ℕ) (n : Entry)
     → slice_get xs i ≡ Some n → IsAnswered o.version (outcome_at o (replay_from o h (take i xs)) (event_of n.event)) n
 replay_at o h [] all i n at = cc
@@ -126,6 +162,8 @@ take_first a b i j es p q count m all n at e can p' q' own rest =
       steps = m.steps ++ (First, n) ∷ [];
       run = run_snoc o b.opening w es m.steps e First n m.run makes.0;
       lowest = lowest_snoc o b.opening w es m.steps e First n m.run m.lowest makes.1;
+      turns = turns_snoc o b.opening w m.steps First n (drop (i + 1) a.entries) (drop i a.entries)
+          (drop_get a.entries i n at ∙ ap (λ k. n ∷ drop k a.entries) (let e : suc i ≡ i + 1 = omega arith in e)) m.turns tt;
       at_first =
           entries_snoc First m.steps First n ∙ ap (λ xs. xs ++ n ∷ []) m.at_first ∙ sym (take_get a.entries i n at)
           ∙ ap (λ k. take k a.entries) (let e : suc i ≡ i + 1 = omega arith in e);
@@ -139,11 +177,12 @@ take_first a b i j es p q count m all n at e can p' q' own rest =
     }
 
 pub take_second : (a b : History) (i j : ℕ) (es : List Event) (p q : Places) (count : ℕ) → Merged a b i j es p q count
-    → IsReplay b.opening b.entries → (n : Entry) → slice_get b.entries j ≡ Some n → (e : Event)
+    → IsReplay b.opening b.entries → IsWaiting a.opening.version First a.entries i q
+    → (n : Entry) → slice_get b.entries j ≡ Some n → (e : Event)
     → Becomes b.opening.version Second n.event p e → (p' q' : Places)
     → ((bytes : List ℕ) → q' bytes ≡ noted n.frame count q bytes) → ((bytes : List ℕ) → p' bytes ≡ p bytes)
     → Merged a b i (j + 1) (es ++ e ∷ []) p' q' (counted n.frame count)
-take_second a b i j es p q count m all n at e can p' q' own rest =
+take_second a b i j es p q count m all waits n at e can p' q' own rest =
     let o = b.opening in
     let w = opened a.opening o in
     let v = after_all a.opening o w m.steps in
@@ -165,6 +204,8 @@ take_second a b i j es p q count m all n at e can p' q' own rest =
       steps = m.steps ++ (Second, n) ∷ [];
       run = run_snoc a.opening o w es m.steps e Second n m.run makes.0;
       lowest = lowest_snoc a.opening o w es m.steps e Second n m.run m.lowest makes.1;
+      turns = turns_snoc a.opening o w m.steps Second n (drop i a.entries) (drop i a.entries) refl m.turns
+          (cannot_stand a.opening o v a.entries i q m.second_index waits);
       at_first = entries_snoc First m.steps Second n ∙ append-nil _ ∙ m.at_first;
       at_second =
           entries_snoc Second m.steps Second n ∙ ap (λ xs. xs ++ n ∷ []) m.at_second ∙ sym (take_get b.entries j n at)
@@ -203,10 +244,10 @@ module _ (a b : History) (i j : ℕ) (old new : Merge) (so : IsMerged a b i j ol
       in
       subst (λ c. Merged a b (i + 1) j new.events.items (first_places new) (second_places new) c) (sym taken.frames.count) u
 
-  pub took_second : IsReplay b.opening b.entries → xs ≡ b.entries → version ≡ b.opening.version → slice_get xs j ≡ Some n
+  pub took_second : IsReplay b.opening b.entries → IsWaiting a.opening.version First a.entries i (second_places old) → xs ≡ b.entries → version ≡ b.opening.version → slice_get xs j ≡ Some n
       → slice_get xs j ≡ Some k → Becomes version Second n.event (first_places old) e
       → IsTaken old new e k.frame second_places first_places → IsMerged a b i (j + 1) new
-  took_second all xs_is version_is at again can taken =
+  took_second all waits xs_is version_is at again can taken =
       let same : n ≡ k = same_Some n k (sym at ∙ again) in
       let here = ap (λ ys. slice_get ys j) (sym xs_is) ∙ again in
       let may : Becomes b.opening.version Second k.event (first_places old) e =
@@ -214,7 +255,7 @@ module _ (a b : History) (i j : ℕ) (old new : Merge) (so : IsMerged a b i j ol
       (subst (λ v. Becomes v Second n.event (first_places old) e) version_is can)
       in
       let t =
-      take_second a b i j old.events.items (first_places old) (second_places old) old.made so all k here e may
+      take_second a b i j old.events.items (first_places old) (second_places old) old.made so all waits k here e may
       (first_places new) (second_places new) taken.frames.own taken.frames.rest
       in
       let u =
@@ -237,6 +278,7 @@ nothing a b es p q count es_is count_is none_first none_second =
       steps = [];
       run = subst (λ (xs : List Event). IsRun a.opening b.opening w xs []) (sym es_is) tt;
       lowest = subst (λ (xs : List Event). AllLowest a.opening b.opening w xs []) (sym es_is) tt;
+      turns = tt;
       at_first = refl;
       at_second = refl;
       first_index = record {
@@ -255,7 +297,7 @@ nothing a b es p q count es_is count_is none_first none_second =
 
 -- all is in the order
 pub whole : (a b : History) (i j : ℕ) (es : List Event) (p q : Places) (count : ℕ) → Merged a b i j es p q count
-    → i ≡ length a.entries → j ≡ length b.entries → IsLowestOrder a b es
+    → i ≡ length a.entries → j ≡ length b.entries → IsMerge a b es
 whole a b i j es p q count m is js =
     let w = opened a.opening b.opening in
     let first = m.at_first ∙ take_whole a.entries i is in
@@ -270,4 +312,5 @@ whole a b i j es p q count m is js =
         second_ends = host_after a.opening b.opening Second w m.steps ∙ ap (replay_from b.opening (host_of b.opening)) second;
       };
       lowest = m.lowest;
+      turns = subst (AllTurns a.opening b.opening w m.steps) (drop_end a.entries i (omega (arith, is))) m.turns;
     }

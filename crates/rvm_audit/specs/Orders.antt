@@ -1,5 +1,5 @@
 -- Orders of two journals.
-use Rattle.std.specs.Prelude.{◌≡◌, ◌⊎◌, ℕ, ◌<◌, ◌≤◌, List, Some, slice_get, length}
+use Rattle.std.specs.Prelude.{◌≡◌, ◌⊎◌, ℕ, ◌<◌, ◌≤◌, List, [], Some, slice_get, length}
 use Rattle.rvm_frame.specs.declared.frame.Frame.{Frame}
 use Rattle.rvm_journal.specs.declared.entry.Entry.{Entry}
 use Rattle.rvm_journal.specs.History.{History}
@@ -8,7 +8,7 @@ use Rattle.rvm_message.specs.declared.event.HostEvent.TheVariants.{Came}
 use Rattle.rvm_world.specs.declared.event.Event.{Event}
 use Rattle.rvm_audit.specs.declared.side.Side.{Side}
 use Rattle.rvm_audit.specs.declared.side.Side.TheVariants.{First, Second}
-use Rattle.rvm_audit.specs.Pairs.{AllLowest, HasBytes, IsRun, after_all, entries_at, number_of, opened, other}
+use Rattle.rvm_audit.specs.Pairs.{AllLowest, AllTurns, HasBytes, IsRun, after_all, entries_at, number_of, opened, other}
 
 -- a run from the two opening hosts, whose events at each host are the entries of its journal, with their replies and
 -- frames, and which ends where their replays end
@@ -21,10 +21,12 @@ pub record IsOrder (a b : History) (events : List Event) : Type 0 where
   pub second_ends :
       (after_all a.opening b.opening (opened a.opening b.opening) steps).second ≡ replay b.opening b.entries
 
--- an order in which each frame that comes is the lowest one of its bytes
-pub record IsLowestOrder (a b : History) (events : List Event) : Type 0 where
+-- the order of the rule: each frame that comes is the lowest one of its bytes, and at each point the first host's next
+-- entry is taken where it can stand
+pub record IsMerge (a b : History) (events : List Event) : Type 0 where
   pub order : IsOrder a b events
   pub lowest : AllLowest a.opening b.opening (opened a.opening b.opening) events order.steps
+  pub turns : AllTurns a.opening b.opening (opened a.opening b.opening) order.steps []
 
 -- one of the first j entries made a frame of these bytes
 pub record MadeBelow (entries : List Entry) (j : ℕ) (bytes : List ℕ) : Type 0 where

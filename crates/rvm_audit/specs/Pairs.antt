@@ -55,6 +55,17 @@ abbrev pub made_more : Side → Option (List ℕ) → List Made
 made_more x None = []
 made_more x (Some bytes) = (x, bytes) ∷ []
 
+abbrev pub put : Side → Side → Entry → List Entry → List Entry
+put First First e es = e ∷ es
+put First Second e es = es
+put Second First e es = es
+put Second Second e es = e ∷ es
+
+-- the entries of one host
+abbrev pub entries_at : Side → List (Side × Entry) → List Entry
+entries_at x [] = []
+entries_at x (s ∷ ss) = put x s.0 s.1 (entries_at x ss)
+
 -- from these opening hosts
 module _ (a b : PlainHost) where
   abbrev pub opened : Pair
@@ -110,13 +121,18 @@ module _ (a b : PlainHost) where
   AllLowest w (e ∷ es) [] = Unit {0}
   AllLowest w (e ∷ es) (s ∷ ss) = IsLowestAt w e × AllLowest (after w s.0 s.1) es ss
 
-abbrev pub put : Side → Side → Entry → List Entry → List Entry
-put First First e es = e ∷ es
-put First Second e es = es
-put Second First e es = es
-put Second Second e es = e ∷ es
+  -- no event of the world is a host's next entry
+  abbrev pub CannotStand : Pair → Side → List Entry → Type 0
+  CannotStand w x [] = Unit {0}
+  CannotStand w x (n ∷ ns) = (e : Event) → IsEvent w e x n.event → ⊥
 
--- the entries of one host
-abbrev pub entries_at : Side → List (Side × Entry) → List Entry
-entries_at x [] = []
-entries_at x (s ∷ ss) = put x s.0 s.1 (entries_at x ss)
+  -- the second host has its turn where the first one's next entry, of those that are left, cannot stand
+  abbrev pub IsTurn : Pair → Side → List Entry → Type 0
+  IsTurn w First left = Unit {0}
+  IsTurn w Second left = CannotStand w First left
+
+  -- at each point; behind these steps the first host has `rest`
+  abbrev pub AllTurns : Pair → List (Side × Entry) → List Entry → Type 0
+  AllTurns w [] rest = Unit {0}
+  AllTurns w (s ∷ ss) rest =
+      IsTurn w s.0 (entries_at First (s ∷ ss) ++ rest) × AllTurns (after w s.0 s.1) ss rest

@@ -4,7 +4,7 @@ ghost use Rattle.std.specs.Prelude.{ℕ, List, IfOk, IfErr};
 ghost use Rattle.rvm_journal.specs.History.{History};
 ghost use Rattle.rvm_world.specs.declared.event.Event.{Event};
 ghost use Rattle.rvm_audit.specs.Errors.{IsAuditError};
-ghost use Rattle.rvm_audit.specs.Orders.{IsDeadEnd, IsLowestOrder, IsOrder};
+ghost use Rattle.rvm_audit.specs.Orders.{IsDeadEnd, IsMerge, IsOrder};
 
 use crate::error::AuditError;
 use crate::merge::Merge;
@@ -22,7 +22,7 @@ pub fn audit<M: PagedMemory + Drop, N: PagedMemory + Drop>(
     first: &Journal<M>,
     second: &Journal<N>,
 ) -> Result<Vec<Event>, AuditError>
-    ensures order { IfOk result (λ events. IsLowestOrder first.now second.now events.items) }
+    ensures order { IfOk result (λ events. IsMerge first.now second.now events.items) }
     ensures none { IfErr result (λ why. IsAuditError why first.now second.now) }
 {
     let xs = first.entries();

@@ -81,10 +81,20 @@ loop-i-preserved g c =
     MatchOption-at_some (IsWaiting v Second ys l.j (first_places l.merge))
     (IsNext v Second ys l.j (first_places l.merge)) c.in-Some-2.event c.in-Some-2.is c.in_ok-event-in-None.ensures
     in
+    let xs = c.entries-xs.result.now in
+    let first =
+    MatchOption-at_none (IsWaiting c.version.result First xs l.i (second_places l.merge))
+    (IsNext c.version.result First xs l.i (second_places l.merge)) c.in-None.is c.in_ok-event.ensures
+    in
+    let waits =
+    subst (λ ws. IsWaiting c.args.first.now.opening.version First ws l.i (second_places l.merge))
+    c.entries-xs.ensures.entries
+    (subst (λ n. IsWaiting n First xs l.i (second_places l.merge)) c.version.ensures first)
+    in
     let lt = slice_get_within ys l.j next.0 next.1 in
     let at = slice_get_read ys (length ys) l.j c.index-ys-j.result refl lt c.index-ys-j.is in
     took_second c.args.first.now c.args.second.now l.i l.j l.merge c.take-in-Some-2.new.self l.invariant ys v next.0
-    c.index-ys-j.result c.in-Some-2.event c.entries-ys.ensures.replay c.entries-ys.ensures.entries
+    c.index-ys-j.result c.in-Some-2.event c.entries-ys.ensures.replay waits c.entries-ys.ensures.entries
     c.version-in-None.ensures next.1 at next.2 c.in_ok-take-in-Some-2.ensures
 
 pub returns-in-None-2-clause-none : goal.returns-in-None-2-clause-none
