@@ -1,10 +1,15 @@
 //! The order of two journals.
 
-ghost use Rattle.std.specs.Prelude.{ℕ, List, IfOk, IfErr};
+ghost use Rattle.std.specs.Prelude.{◌≡◌, ℕ, List, IfOk, IfErr, true};
+ghost use Rattle.rvm_debug.specs.Guest.{GuestState};
+ghost use Rattle.rvm_guest.proofs.TheGuest.{board};
+ghost use Rattle.rvm_guest.specs.Valid.{is_valid};
 ghost use Rattle.rvm_journal.specs.History.{History};
+ghost use Rattle.rvm_protocol.specs.World.{new_world};
 ghost use Rattle.rvm_world.specs.declared.event.Event.{Event};
 ghost use Rattle.rvm_audit.specs.Errors.{IsAuditError};
 ghost use Rattle.rvm_audit.specs.Orders.{IsDeadEnd, IsMerge, IsOrder};
+ghost use Rattle.rvm_audit.specs.Worlds.{AreNew, IsWorldRun};
 
 use crate::error::AuditError;
 use crate::merge::Merge;
@@ -52,4 +57,13 @@ pub fn audit<M: PagedMemory + Drop, N: PagedMemory + Drop>(
 pub fn dead_ends_have_no_order()
     ensures { (a b : History) (i j : ℕ) (events : List Event) → IsDeadEnd a b i j
         → IsOrder a b events → ⊥ }
+{}
+
+/// An order of the journals of the two hosts of a new world is a run of the law of live migration: what
+/// is seen in it are the entries of both journals, it ends where their replays end, and the guest is that
+/// of one board that never moves.
+pub fn the_guest_of_an_order_never_moves()
+    ensures { (version : ℕ) (g : GuestState) (limits : ℕ → ℕ) (a b : History) (events : List Event)
+        → is_valid g.guest ≡ true → AreNew version g limits a.opening b.opening → IsOrder a b events
+        → IsWorldRun (new_world board version g.guest 2 limits) g.guest a b events }
 {}
