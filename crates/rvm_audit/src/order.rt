@@ -19,15 +19,17 @@ use rvm_mem::PagedMemory;
 use rvm_world::Event;
 use std::alloc::Global;
 
-/// An order of the events of two hosts, by their journals: at each point the first host's next event
-/// where it can stand, else the second one's. A frame that came stands behind the event that made it, as
-/// the lowest of the frames of its bytes.
+/// An order of the events of the two hosts of a world, by their journals: a run from their opening hosts
+/// in which each host has the entries of its journal. At each point it takes the first host's next event
+/// where that can stand, else the second host's. A command stands anywhere. A frame that came stands once
+/// the other host has made one of its bytes, and names the lowest of these. Where neither host's next
+/// event can stand, and one of them has one, there is no order.
 pub fn audit<M: PagedMemory + Drop, N: PagedMemory + Drop>(
     alloc: Global,
     first: &Journal<M>,
     second: &Journal<N>,
 ) -> Result<Vec<Event>, AuditError>
-    ensures order { IfOk result (λ events. IsMerge first.now second.now events.items) }
+    ensures merge { IfOk result (λ events. IsMerge first.now second.now events.items) }
     ensures none { IfErr result (λ why. IsAuditError why first.now second.now) }
 {
     let xs = first.entries();
