@@ -1,14 +1,14 @@
 -- A frame that comes is the one that its bytes are.
-use Rattle.std.proofs.Common.{◌≡◌, ℕ, ◌-◌, ◌^◌, ◌&&◌, true, nat_le, nat_lt, if◌then◌else◌, List, [], ◌++◌, length, Option, Some, refl, sym, ap, ◌∙◌, arith}
+use Rattle.std.proofs.Common.{◌≡◌, ℕ, ◌-◌, ◌^◌, ◌&&◌, true, nat_le, nat_lt, if◌then◌else◌, List, [], ◌++◌, length, Option, Some, sym, ap, ◌∙◌, arith}
 use Rattle.std.proofs.lemmas.Bool.Decides.{nat_tests}
 use Rattle.rvm_codec.specs.Numbers.{within}
 use Rattle.rvm_core.specs.Spelled.{IsSpelled}
 use Rattle.rvm_frame.specs.Bodies.{is_piece}
 use Rattle.rvm_frame.specs.declared.frame.Frame.{Frame}
 use Rattle.rvm_frame.specs.declared.frame.Frame.TheVariants as frame
-use Rattle.rvm_frame.specs.Grammar.{HasSpelling, MayStand, Received, sent, spelling}
+use Rattle.rvm_frame.specs.Grammar.{HasSpelling, MayStand, Received, sent}
 use Rattle.rvm_frame.proofs.Verdicts.{no_prefix_sent}
-use Rattle.rvm_message.specs.Frames.{BoardFrame, can_come, frame_heard, frame_of, no_frame}
+use Rattle.rvm_message.specs.Frames.{can_come, frame_heard, frame_of, no_frame}
 use Rattle.rvm_protocol.specs.Frames as protocol
 use Rattle.rvm_audit.specs.declared.side.Side.{Side}
 use Rattle.rvm_audit.specs.Pairs.{HasBytes, coming}

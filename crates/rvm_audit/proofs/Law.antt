@@ -1,5 +1,5 @@
 -- An order is a run of the law.
-use Rattle.std.proofs.Common.{◌≡◌, ◌∙◌, ℕ, zero, suc, ◌+◌, ◌<◌, ◌==◌, ◌&&◌, Bool, true, not, nat_lt, if◌then◌else◌, List, [], ◌∷◌, ◌++◌, map, Option, Some, None, refl, sym, ap, subst, arith, append-nil}
+use Rattle.std.proofs.Common.{◌≡◌, ◌∙◌, ℕ, zero, suc, true, nat_lt, if◌then◌else◌, List, [], ◌∷◌, ◌++◌, map, Option, Some, None, refl, sym, ap, subst, arith, append-nil}
 use Rattle.std.specs.Prelude.{slice_get}
 use Rattle.std.proofs.lemmas.Bool.Decides.{nat_tests}
 use Rattle.std.proofs.lemmas.Option.{same_Some}
@@ -11,13 +11,10 @@ use Rattle.rvm_guest.proofs.TheGuest.{answers_are, board, fold_is}
 use Rattle.rvm_guest.specs.Valid.{is_valid}
 use Rattle.rvm_journal.specs.declared.entry.Entry.{Entry}
 use Rattle.rvm_journal.specs.History.{History}
-use Rattle.rvm_journal.specs.Replay.{IsAnswered, LawHost, Outcome, replay}
+use Rattle.rvm_journal.specs.Replay.{IsAnswered, LawHost, Outcome}
 use Rattle.rvm_message.specs.declared.event.Command.{Command}
 use Rattle.rvm_message.specs.declared.event.HostEvent.{HostEvent}
-use Rattle.rvm_message.specs.declared.event.HostEvent.TheVariants as event
 use Rattle.rvm_message.specs.Events.{BoardHostEvent, command_of, event_of}
-use Rattle.rvm_message.specs.Frames.{frame_heard}
-use Rattle.rvm_message.specs.Replies.{reply_of}
 use Rattle.rvm_protocol.specs.Commands as protocol
 use Rattle.rvm_protocol.specs.Frames.{Addressed}
 use Rattle.rvm_protocol.specs.Host.{host_step, is_there}
@@ -25,7 +22,7 @@ use Rattle.rvm_protocol.specs.NeverMoving.{accepted}
 use Rattle.rvm_protocol.specs.OneGuest.{AlwaysOneGuest, OneGuest}
 use Rattle.rvm_protocol.specs.Pages.{put}
 use Rattle.rvm_protocol.specs.Told.{Told, at_start}
-use Rattle.rvm_protocol.specs.World.{and_sent, entry_of, frame_for, happened, history, meaning, new_world, result_at, run, world_at}
+use Rattle.rvm_protocol.specs.World.{and_sent, entry_of, frame_for, happened, history, meaning, new_world, result_at, run}
 use Rattle.rvm_protocol.proofs.OneGuestHolds.{the_law}
 use Rattle.rvm_world.specs.declared.event.Event.{Event}
 use Rattle.rvm_world.specs.declared.event.Event.TheVariants.{At, Deliver}
@@ -34,10 +31,10 @@ use Rattle.rvm_world.specs.Worlds.{BoardWorld, meant}
 use Rattle.rvm_audit.specs.declared.side.Side.{Side}
 use Rattle.rvm_audit.specs.declared.side.Side.TheVariants.{First, Second}
 use Rattle.rvm_audit.specs.Orders.{IsOrder}
-use Rattle.rvm_audit.specs.Pairs.{Comes, HasBytes, IsEvent, IsRun, Made, Makes, Pair, after, after_all, host_at, made_more, number_of, opened, opening_at, other, outcome_in}
+use Rattle.rvm_audit.specs.Pairs.{HasBytes, IsEvent, IsRun, Made, Pair, after, after_all, host_at, made_more, number_of, opened, opening_at, other, outcome_in}
 use Rattle.rvm_audit.specs.Worlds.{AreNew, IsWorldRun, seen}
 use Rattle.rvm_audit.proofs.Heard.{heard}
-use Rattle.rvm_audit.proofs.Moves.{Goes, Keeps, goes_there, keeps_on}
+use Rattle.rvm_audit.proofs.Moves.{Keeps, goes_there, keeps_on}
 
 -- THE GUEST
 

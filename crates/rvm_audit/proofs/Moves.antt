@@ -1,5 +1,5 @@
 -- A host's move keeps a number and another host for its other party, and its frames go to a host that is there.
-use Rattle.std.proofs.Common.{◌≡◌, ℕ, ◌-◌, ◌^◌, ◌<◌, ◌==◌, ◌&&◌, Bool, true, false, if◌then◌else◌, refl, nat_lt, nat_le, ◌||◌, List, length, Option, Some, None, sym, ap, subst, arith}
+use Rattle.std.proofs.Common.{◌≡◌, ℕ, ◌-◌, ◌^◌, ◌<◌, ◌==◌, ◌&&◌, Bool, true, false, if◌then◌else◌, refl, nat_lt, nat_le, ◌||◌, List, length, Option, Some, None, arith}
 use Rattle.std.proofs.lemmas.Bool.{ltb-true}
 use Rattle.rvm_codec.proofs.Steps.{both_are}
 use Rattle.rvm_debug.specs.Guest.{Guest}

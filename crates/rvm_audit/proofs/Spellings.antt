@@ -1,5 +1,5 @@
 -- Which frames between two hosts have a spelling.
-use Rattle.std.proofs.Common.{◌≡◌, ◌∙◌, ℕ, ◌+◌, ◌*◌, ◌<◌, ◌≤◌, Bool, true, false, ◌&&◌, nat_le, if◌then◌else◌, Option, Some, None, List, length, length-append, refl, sym, ap, subst, arith}
+use Rattle.std.proofs.Common.{◌≡◌, ◌∙◌, ℕ, ◌+◌, ◌*◌, Bool, true, false, ◌&&◌, nat_le, if◌then◌else◌, Option, Some, None, List, length, refl, sym, ap, arith}
 use Rattle.std.specs.Prelude.{MatchOption}
 use Rattle.std.proofs.lemmas.Bool.Decides.{nat_tests}
 use Rattle.rvm_codec.proofs.Steps.{both_are}
@@ -13,7 +13,7 @@ use Rattle.rvm_frame.proofs.Lengths.{length_state}
 use Rattle.rvm_audit.specs.declared.side.Side.{Side}
 use Rattle.rvm_audit.specs.declared.side.Side.TheVariants.{First, Second}
 use Rattle.rvm_audit.specs.Merging.{IsPlaced, IsUnplaced, Places}
-use Rattle.rvm_audit.specs.Pairs.{HasBytes, coming, number_of, other}
+use Rattle.rvm_audit.specs.Pairs.{coming, number_of, other}
 use Rattle.rvm_audit.specs.Spelled.{is_short, is_spelled}
 
 short_is : (f : Frame) → body_fits f ≡ true → is_short f ≡ nat_le (length (body_of f)) 32768

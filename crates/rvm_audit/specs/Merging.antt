@@ -1,5 +1,5 @@
 -- Where a merge has come.
-use Rattle.std.specs.Prelude.{◌≡◌, ◌⊎◌, ℕ, ◌+◌, ◌<◌, ◌≤◌, List, [], ◌∷◌, ◌++◌, take, drop, length, Option, Some, None, slice_get, MatchOption, cond, is_some, if◌then◌else◌}
+use Rattle.std.specs.Prelude.{◌≡◌, ◌⊎◌, ℕ, ◌+◌, ◌<◌, ◌≤◌, List, [], ◌∷◌, ◌++◌, take, drop, length, Option, Some, None, slice_get, is_some, if◌then◌else◌}
 use Rattle.std.specs.BTreeMap.{BTreeMap, get_by}
 use Rattle.std.specs.Borrow.{Bor}
 use Rattle.rvm_frame.specs.declared.frame.Frame.{Frame}
@@ -15,7 +15,7 @@ use Rattle.rvm_world.specs.declared.event.Event.TheVariants.{At, Deliver}
 use Rattle.rvm_audit.specs.declared.side.Side.{Side}
 use Rattle.rvm_audit.specs.declared.side.Side.TheVariants.{First, Second}
 use Rattle.rvm_audit.specs.declared.merge.Merge.{Merge}
-use Rattle.rvm_audit.specs.Pairs.{AllLowest, AllTurns, HasBytes, IsRun, Made, after_all, entries_at, made_more, number_of, opened, other}
+use Rattle.rvm_audit.specs.Pairs.{AllLowest, AllTurns, HasBytes, IsRun, Made, after_all, entries_at, number_of, opened, other}
 
 -- the places of bytes
 abbrev pub Places : Type 0

@@ -1,5 +1,5 @@
 -- Which frames between two hosts have a spelling.
-use Rattle.std.specs.Prelude.{ℕ, ◌+◌, ◌*◌, Bool, true, ◌&&◌, nat_le, length}
+use Rattle.std.specs.Prelude.{◌+◌, ◌*◌, Bool, true, ◌&&◌, nat_le, length}
 use Rattle.rvm_frame.specs.declared.frame.Frame.{Frame}
 use Rattle.rvm_frame.specs.declared.frame.Frame.TheVariants.{State}
 use Rattle.rvm_frame.specs.Grammar.{body_fits}

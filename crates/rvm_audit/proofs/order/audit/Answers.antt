@@ -1,5 +1,5 @@
-use Rattle.std.proofs.Common.{◌≡◌, ◌∙◌, ℕ, ◌+◌, ◌<◌, ◌≤◌, length, refl, arith, Some, None, sym, ap, subst, inl, inr}
-use Rattle.std.specs.Prelude.{slice_get, MatchOption, ◌⊎◌}
+use Rattle.std.proofs.Common.{◌<◌, length, refl, arith, ap, subst, inl, inr}
+use Rattle.std.specs.Prelude.{◌⊎◌}
 use Rattle.std.proofs.lemmas.Option.{MatchOption-at_some, MatchOption-at_none, slice_get_read, slice_get_within}
 use Rattle.rvm_audit.specs.declared.side.Side.TheVariants.{First, Second}
 use Rattle.rvm_audit.specs.Merging.{IsWaiting, IsNext, first_places, second_places}
