@@ -1,7 +1,7 @@
 -- Where neither journal can go on, there is no order.
-use Rattle.std.proofs.Common.{◌≡◌, ◌∙◌, ℕ, zero, suc, ◌+◌, ◌<◌, ◌≤◌, List, [], ◌∷◌, ◌++◌, Option, length, take, Some, None, refl, sym, ap, subst, arith, inl, inr}
+use Rattle.std.proofs.Common.{◌≡◌, ◌∙◌, ℕ, zero, suc, ◌<◌, ◌≤◌, List, [], ◌∷◌, ◌++◌, Option, length, take, Some, None, refl, sym, ap, subst, arith, inl, inr}
 use Rattle.std.specs.Prelude.{slice_get, ◌⊎◌}
-use Rattle.std.proofs.lemmas.Option.{slice_get_within, same_Some, some_pair_parts}
+use Rattle.std.proofs.lemmas.Option.{same_Some, some_pair_parts}
 use Rattle.rvm_core.specs.Hosts.{PlainHost}
 use Rattle.rvm_frame.specs.declared.frame.Frame.{Frame}
 use Rattle.rvm_journal.specs.declared.entry.Entry.{Entry}

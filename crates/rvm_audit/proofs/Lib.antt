@@ -3,3 +3,6 @@ pub mod Gets
 pub mod Indexes
 pub mod Runs
 pub mod Dead
+pub mod Moves
+pub mod Heard
+pub mod Law

@@ -1,13 +1,12 @@
 -- One more entry joins the order.
-use Rattle.std.proofs.Common.{◌≡◌, ◌∙◌, ℕ, zero, suc, ◌+◌, ◌<◌, ◌≤◌, List, [], ◌∷◌, ◌++◌, Option, length, length-append, take, drop, append_assoc, inl, inr, Some, None, refl, sym, ap, subst, arith, append-nil}
-use Rattle.std.specs.Prelude.{slice_get, ◌⊎◌}
+use Rattle.std.proofs.Common.{◌≡◌, ◌∙◌, ℕ, zero, suc, ◌+◌, List, [], ◌∷◌, ◌++◌, length, take, drop, append_assoc, inl, inr, Some, None, refl, sym, ap, subst, arith, append-nil}
+use Rattle.std.specs.Prelude.{slice_get}
 use Rattle.std.proofs.Math.Seq.{take-length}
 use Rattle.std.proofs.lemmas.Option.{slice_get_within, same_Some}
 use Rattle.rvm_core.specs.Hosts.{PlainHost, host_of}
-use Rattle.rvm_frame.specs.declared.frame.Frame.{Frame}
 use Rattle.rvm_journal.specs.declared.entry.Entry.{Entry}
 use Rattle.rvm_journal.specs.History.{History}
-use Rattle.rvm_journal.specs.Replay.{IsAnswered, IsReplay, IsReplayFrom, LawHost, outcome_at, replay, replay_from}
+use Rattle.rvm_journal.specs.Replay.{IsAnswered, IsReplay, IsReplayFrom, LawHost, outcome_at, replay_from}
 use Rattle.rvm_message.specs.declared.event.HostEvent.{HostEvent}
 use Rattle.rvm_message.specs.declared.event.HostEvent.TheVariants.{Do, Came}
 use Rattle.rvm_message.specs.Events.{event_of}
@@ -16,9 +15,9 @@ use Rattle.rvm_world.specs.declared.event.Event.TheVariants.{At, Deliver}
 use Rattle.rvm_audit.specs.declared.side.Side.{Side}
 use Rattle.rvm_audit.specs.declared.side.Side.TheVariants.{First, Second}
 use Rattle.rvm_audit.specs.declared.merge.Merge.{Merge}
-use Rattle.rvm_audit.specs.Merging.{Becomes, IsIndex, IsPlaced, IsTaken, IsUnmade, IsWaiting, Merged, Places, counted, first_places, noted, second_places}
+use Rattle.rvm_audit.specs.Merging.{Becomes, IsIndex, IsTaken, IsUnmade, IsWaiting, Merged, Places, counted, first_places, noted, second_places}
 use Rattle.rvm_audit.specs.Orders.{IsMerge}
-use Rattle.rvm_audit.specs.Pairs.{AllLowest, AllTurns, CannotStand, HasBytes, IsEvent, IsLowestAt, IsRun, IsTurn, Made, Makes, Pair, after, after_all, entries_at, host_at, made_more, number_of, opened, opening_at, other, outcome_in, put}
+use Rattle.rvm_audit.specs.Pairs.{AllLowest, AllTurns, CannotStand, HasBytes, IsEvent, IsLowestAt, IsRun, IsTurn, Makes, Pair, after, after_all, entries_at, host_at, made_more, number_of, opened, opening_at, other, outcome_in, put}
 use Rattle.rvm_audit.proofs.Gets.{drop_end, drop_get, take_get}
 use Rattle.rvm_audit.proofs.Indexes.{index_rest, index_own, more_length}
 

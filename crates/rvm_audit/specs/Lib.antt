@@ -2,3 +2,4 @@ pub mod Pairs
 pub mod Orders
 pub mod Merging
 pub mod Errors
+pub mod Worlds

@@ -1,5 +1,5 @@
 -- Where a merge has come.
-use Rattle.std.specs.Prelude.{◌≡◌, ◌⊎◌, ℕ, ◌+◌, ◌<◌, ◌≤◌, List, [], ◌∷◌, ◌++◌, take, drop, length, Option, Some, None, slice_get, MatchOption, cond, is_some, if◌then◌else◌}
+use Rattle.std.specs.Prelude.{◌≡◌, ◌⊎◌, ℕ, ◌+◌, ◌<◌, ◌≤◌, List, [], ◌∷◌, ◌++◌, take, drop, length, Option, Some, None, slice_get, is_some, if◌then◌else◌}
 use Rattle.std.specs.BTreeMap.{BTreeMap, get_by}
 use Rattle.std.specs.Borrow.{Bor}
 use Rattle.rvm_frame.specs.declared.frame.Frame.{Frame}
@@ -15,7 +15,7 @@ use Rattle.rvm_world.specs.declared.event.Event.TheVariants.{At, Deliver}
 use Rattle.rvm_audit.specs.declared.side.Side.{Side}
 use Rattle.rvm_audit.specs.declared.side.Side.TheVariants.{First, Second}
 use Rattle.rvm_audit.specs.declared.merge.Merge.{Merge}
-use Rattle.rvm_audit.specs.Pairs.{AllLowest, AllTurns, HasBytes, IsRun, Made, after_all, entries_at, made_more, number_of, opened, other}
+use Rattle.rvm_audit.specs.Pairs.{AllLowest, AllTurns, HasBytes, IsRun, Made, after_all, entries_at, number_of, opened, other}
 
 -- the places of bytes
 abbrev pub Places : Type 0
@@ -74,7 +74,8 @@ pub record IsIndex (x : Side) (made : List Made) (places : Places) : Type 0 wher
   pub all : (bytes : List ℕ) (j : ℕ) → places bytes ≡ None → slice_get made j ≡ Some (x, bytes) → ⊥
 
 -- these events are an order of the first i and j entries, and these the places of their frames
-pub record Merged (a b : History) (i j : ℕ) (events : List Event) (first second : Places) (count : ℕ) : Type 0 where
+pub record Merged (a b : History) (i j : ℕ) (events : List Event) (first second : Places) (count : ℕ)
+    : Type 0 where
   pub i_le : i ≤ length a.entries
   pub j_le : j ≤ length b.entries
   pub steps : List (Side × Entry)
@@ -89,13 +90,15 @@ pub record Merged (a b : History) (i j : ℕ) (events : List Event) (first secon
   pub few : count ≤ i + j
 
 -- a frame, if one was made, has a place: among those of its host, `mine`; the other host's stay
-pub record IsNoted (old new : Merge) (frame : Option (List ℕ)) (mine yours : Merge → Places) : Type 0 where
+pub record IsNoted (old new : Merge) (frame : Option (List ℕ)) (mine yours : Merge → Places)
+    : Type 0 where
   pub own : (bytes : List ℕ) → mine new bytes ≡ noted frame old.made (mine old) bytes
   pub rest : (bytes : List ℕ) → yours new bytes ≡ yours old bytes
   pub count : new.made ≡ counted frame old.made
 
 -- an event was put behind the others, and its frame has a place
-pub record IsTaken (old new : Merge) (event : Event) (frame : Option (List ℕ)) (mine yours : Merge → Places) : Type 0 where
+pub record IsTaken (old new : Merge) (event : Event) (frame : Option (List ℕ)) (mine yours : Merge → Places)
+    : Type 0 where
   pub events : new.events.items ≡ old.events.items ++ event ∷ []
   pub frames : IsNoted old new frame mine yours
 

@@ -36,14 +36,16 @@ pub record MadeBelow (entries : List Entry) (j : ℕ) (bytes : List ℕ) : Type 
   pub stands : slice_get entries place ≡ Some entry
   pub made : entry.frame ≡ Some bytes
 
--- the entry at i is a frame that came, and the other host made none of its bytes among its first j entries
-pub record CameUnmade (version : ℕ) (x : Side) (entries : List Entry) (i : ℕ) (others : List Entry) (j : ℕ) : Type 0 where
+-- the entry at i is a frame that came, and not from the other host, or that host's first j entries made none of its bytes
+pub record CameUnmade (version : ℕ) (x : Side) (entries : List Entry) (i : ℕ) (others : List Entry) (j : ℕ)
+    : Type 0 where
   pub entry : Entry
   pub from : ℕ
   pub frame : Frame
   pub stands : slice_get entries i ≡ Some entry
   pub came : entry.event ≡ Came from frame
-  pub unmade : (bytes : List ℕ) → from ≡ number_of (other x) → HasBytes version x frame bytes → MadeBelow others j bytes → ⊥
+  pub unmade : (bytes : List ℕ) → from ≡ number_of (other x) → HasBytes version x frame bytes
+      → MadeBelow others j bytes → ⊥
 
 -- a host has no next entry, or one that cannot stand
 abbrev pub IsStuck : (version : ℕ) → Side → List Entry → ℕ → List Entry → ℕ → Type 0

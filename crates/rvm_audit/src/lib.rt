@@ -13,4 +13,4 @@ mod places;
 mod side;
 
 pub use error::AuditError;
-pub use order::{audit, dead_ends_have_no_order};
+pub use order::{audit, dead_ends_have_no_order, the_guest_of_an_order_never_moves};

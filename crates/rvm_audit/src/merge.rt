@@ -6,7 +6,7 @@ ghost use Rattle.rvm_audit.specs.Pairs.{other};
 
 use crate::places::{Places, lookup, note};
 use crate::side::Side;
-use rvm_frame::{Addressed, Bytes, Frame, frame_bytes};
+use rvm_frame::{Addressed, Frame, frame_bytes};
 use rvm_journal::Entry;
 use rvm_message::HostEvent;
 use rvm_spelling::has_spelling;

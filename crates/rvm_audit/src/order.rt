@@ -1,10 +1,15 @@
 //! The order of two journals.
 
-ghost use Rattle.std.specs.Prelude.{ℕ, List, IfOk, IfErr};
+ghost use Rattle.std.specs.Prelude.{◌≡◌, ℕ, List, IfOk, IfErr, true};
+ghost use Rattle.rvm_debug.specs.Guest.{GuestState};
+ghost use Rattle.rvm_guest.proofs.TheGuest.{board};
+ghost use Rattle.rvm_guest.specs.Valid.{is_valid};
 ghost use Rattle.rvm_journal.specs.History.{History};
+ghost use Rattle.rvm_protocol.specs.World.{new_world};
 ghost use Rattle.rvm_world.specs.declared.event.Event.{Event};
 ghost use Rattle.rvm_audit.specs.Errors.{IsAuditError};
 ghost use Rattle.rvm_audit.specs.Orders.{IsDeadEnd, IsMerge, IsOrder};
+ghost use Rattle.rvm_audit.specs.Worlds.{AreNew, IsWorldRun};
 
 use crate::error::AuditError;
 use crate::merge::Merge;
@@ -14,15 +19,17 @@ use rvm_mem::PagedMemory;
 use rvm_world::Event;
 use std::alloc::Global;
 
-/// An order of the events of two hosts, by their journals: at each point the first host's next event
-/// where it can stand, else the second one's. A frame that came stands behind the event that made it, as
-/// the lowest of the frames of its bytes.
+/// An order of the events of the two hosts of a world, by their journals: a run from their opening hosts
+/// in which each host has the entries of its journal. At each point it takes the first host's next event
+/// where that can stand, else the second host's. A command stands anywhere. A frame that came stands once
+/// the other host has made one of its bytes, and names the lowest of these. Where neither host's next
+/// event can stand, and one of them has one, there is no order.
 pub fn audit<M: PagedMemory + Drop, N: PagedMemory + Drop>(
     alloc: Global,
     first: &Journal<M>,
     second: &Journal<N>,
 ) -> Result<Vec<Event>, AuditError>
-    ensures order { IfOk result (λ events. IsMerge first.now second.now events.items) }
+    ensures merge { IfOk result (λ events. IsMerge first.now second.now events.items) }
     ensures none { IfErr result (λ why. IsAuditError why first.now second.now) }
 {
     let xs = first.entries();
@@ -52,4 +59,13 @@ pub fn audit<M: PagedMemory + Drop, N: PagedMemory + Drop>(
 pub fn dead_ends_have_no_order()
     ensures { (a b : History) (i j : ℕ) (events : List Event) → IsDeadEnd a b i j
         → IsOrder a b events → ⊥ }
+{}
+
+/// An order of the journals of the two hosts of a new world is a run of the law of live migration: what
+/// is seen in it are the entries of both journals, it ends where their replays end, and the guest is that
+/// of one board that never moves.
+pub fn the_guest_of_an_order_never_moves()
+    ensures { (version : ℕ) (g : GuestState) (limits : ℕ → ℕ) (a b : History) (events : List Event)
+        → is_valid g.guest ≡ true → AreNew version g limits a.opening b.opening → IsOrder a b events
+        → IsWorldRun (new_world board version g.guest 2 limits) g.guest a b events }
 {}

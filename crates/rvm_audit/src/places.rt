@@ -1,6 +1,7 @@
 //! Where frames were made, by their bytes.
 
-ghost use Rattle.std.specs.Prelude.{◌≡◌, ℕ, List, OnOk, Some};
+ghost use Rattle.std.specs.Prelude.{◌≡◌, ℕ, List, OnOk, Some, if◌then◌else◌};
+ghost use Rattle.std.specs.Str.{bytes_eq};
 ghost use Rattle.rvm_audit.specs.Merging.{noted, places_of};
 
 use std::alloc::AllocError;
@@ -17,8 +18,21 @@ pub(crate) fn lookup(places: &Places, bytes: &[u8]) -> Option<u64>
     places.get(bytes).copied()
 }
 
-/// Notes the place of bytes that have none yet.
+/// Gives bytes a place, instead of the one that they may have.
 #[tactic(auto, unfolding(crate::specs::Merging::places_of))]
+pub(crate) fn insert<'a>(
+    places: &mut Places<'a>,
+    bytes: &'a [u8],
+    place: u64,
+) -> Result<(), AllocError>
+    ensures { OnOk result ((other : List ℕ) → places_of places.new other
+        ≡ (if bytes_eq bytes.now other then Some place else places_of places.old other)) }
+{
+    places.insert(bytes, place)?;
+    Ok(())
+}
+
+/// Notes the place of bytes that have none yet.
 pub(crate) fn note<'a>(
     places: &mut Places<'a>,
     bytes: &'a [u8],
@@ -28,7 +42,7 @@ pub(crate) fn note<'a>(
         ≡ noted (Some bytes.now) place (places_of places.old) other) }
 {
     if lookup(places, bytes).is_none() {
-        places.insert(bytes, place)?;
+        insert(places, bytes, place)?;
     }
     Ok(())
 }

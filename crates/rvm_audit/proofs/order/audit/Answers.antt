@@ -1,5 +1,5 @@
-use Rattle.std.proofs.Common.{◌≡◌, ◌∙◌, ℕ, ◌+◌, ◌<◌, ◌≤◌, length, refl, arith, Some, None, sym, ap, subst, inl, inr}
-use Rattle.std.specs.Prelude.{slice_get, MatchOption, ◌⊎◌}
+use Rattle.std.proofs.Common.{◌<◌, length, refl, arith, ap, subst, inl, inr}
+use Rattle.std.specs.Prelude.{◌⊎◌}
 use Rattle.std.proofs.lemmas.Option.{MatchOption-at_some, MatchOption-at_none, slice_get_read, slice_get_within}
 use Rattle.rvm_audit.specs.declared.side.Side.TheVariants.{First, Second}
 use Rattle.rvm_audit.specs.Merging.{IsWaiting, IsNext, first_places, second_places}
@@ -121,8 +121,8 @@ returns-in-None-2-clause-none g c =
     (subst (λ n. IsWaiting n First xs l.i (second_places l.merge)) c.version.ensures first)
     (subst (λ n. IsWaiting n Second ys l.j (first_places l.merge)) c.version-in-None.ensures second)
 
-pub returns-clause-order : goal.returns-clause-order
-returns-clause-order g c =
+pub returns-clause-merge : goal.returns-clause-merge
+returns-clause-merge g c =
     let l = c.loop-i in
     let x_is = ap length c.entries-xs.ensures.entries in
     let y_is = ap length c.entries-ys.ensures.entries in

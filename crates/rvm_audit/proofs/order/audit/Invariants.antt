@@ -1,4 +1,4 @@
-use Rattle.std.proofs.Common.{ℕ, ◌+◌, ◌-◌, length}
+use Rattle.std.proofs.Common.{◌+◌, ◌-◌, length}
 use Rattle.rvm_audit.proofs.Runs.{IsMerged}
 use Rattle.rvm_audit.proofs.order.audit.Given as goal
 
