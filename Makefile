@@ -1,7 +1,7 @@
 # make hi: proves, builds and runs the program on examples/hi.bin. make test: the merge gate.
 # make wrong: all wrong bodies, or those of one crate, as in make wrong CRATE=rvm_hart.
 # make times: the merge gate, and the processor seconds of each crate.
-# make faults: the tests, with each growth of memory refused in turn.
+# make faults: the tests, with growths of memory refused in turn, at most 60 of a test; with MOST=0 each one.
 # make docs-check: the commands of README and docs are run, links and the table of crates looked at.
 # make stress: random scripts for worlds of hosts, against a board that never moves.
 PREFIX ?= /usr/local
@@ -27,7 +27,7 @@ times:
 	tools/gate-times
 
 faults:
-	tools/try-faults $(CRATE)
+	tools/try-faults $(if $(MOST),--most $(MOST)) $(CRATE)
 
 docs-check: build
 	tools/check-docs
@@ -38,6 +38,7 @@ stress: build
 
 bench: bench-programs
 	python3 bench/bench.py
+	python3 bench/large.py
 
 # Host instructions a guest step; wants valgrind.
 count: bench-programs

@@ -3,20 +3,14 @@
 second of processor time of both, and their ratio, by the best and by the median of many short runs
 that alternate; and `rvm_bench`, which has two memories in one program, over each of them. Wants gcc
 and what `make bench` builds. More guests may be named: `bench.py NAME=IMAGE:HARTS:STEPS ..`."""
-import resource
 import statistics
 import subprocess
 import sys
 
+from cost import seconds
 from guests import INTERPRETER, PROGRAM, TWO_MEMORIES, build_interpreter, loop
 
 RUNS = 15
-
-def seconds(command):
-    before = resource.getrusage(resource.RUSAGE_CHILDREN)
-    subprocess.run(command, check=True, stdout=subprocess.DEVNULL, stderr=subprocess.DEVNULL)
-    after = resource.getrusage(resource.RUSAGE_CHILDREN)
-    return after.ru_utime + after.ru_stime - before.ru_utime - before.ru_stime
 
 
 def turns(words):
