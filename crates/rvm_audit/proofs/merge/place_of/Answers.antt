@@ -1,6 +1,4 @@
 use Rattle.std.proofs.Common.{◌≡◌, ◌∙◌, ap, true}
-use Rattle.rvm_frame.specs.declared.addressed.Addressed.{Addressed}
-use Rattle.rvm_frame.specs.Grammar.{HasSpelling, sent}
 use Rattle.rvm_audit.specs.Merging.{places_of}
 use Rattle.rvm_audit.specs.Pairs.{number_of, other}
 use Rattle.rvm_audit.proofs.Spellings.{is_coming, placed}
