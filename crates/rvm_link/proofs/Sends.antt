@@ -1,0 +1,8 @@
+-- The sending end of a side may be shared by threads, where its link may go to any.
+use denote.RattleType.{RattleType}
+use denote.Param.Send.{IsSend, IsSync, sendable}
+use Rattle.std.proofs.Crossing.{crosses}
+use Rattle.rvm_link.specs.contracts.outgoing.Outgoing as Outgoing
+
+pub outgoing_sync : (K : RattleType) → IsSend K → IsSync (Outgoing.the_row K)
+outgoing_sync K s = search (sendable, crosses) depth 40 fits 10000
