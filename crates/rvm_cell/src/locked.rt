@@ -47,6 +47,13 @@ impl<L: Seating, M: PagedMemory + Drop> Locked<L, M> {
         &self.recorded
     }
 
+    /// The recorded host, out of its lock.
+    pub fn into_recorded(self) -> Recorded<M>
+        ensures { result ≡ self }
+    {
+        self.recorded
+    }
+
     /// The host is shared again.
     pub fn share_again(self) -> SharedHost<L, M> {
         SharedHost {
