@@ -1,12 +1,12 @@
 -- The receipts of a slice, one more of them.
-use Rattle.std.proofs.Common.{◌≡◌, ◌∙◌, ℕ, zero, suc, ◌+◌, List, [], ◌∷◌, ◌++◌, length, Some, refl, sym, ap, subst, arith, inl, inr}
+use Rattle.std.proofs.Common.{◌≡◌, ◌∙◌, ℕ, zero, suc, ◌+◌, List, [], ◌∷◌, ◌++◌, ◌-◌, ◌≤◌, min, length, Some, refl, sym, ap, subst, arith, inl, inr}
 use Rattle.std.specs.Prelude.{slice_get, ◌⊎◌}
-use Rattle.std.proofs.lemmas.List.{append_assoc, map-append}
+use Rattle.std.proofs.lemmas.List.{append_assoc, length-map, map-append}
 use Rattle.std.proofs.lemmas.Option.{same_Some}
 use Rattle.rvm_cell.specs.declared.receipt.Receipt.{Receipt}
 use Rattle.rvm_cell.specs.Calls.{AreReceipts, IsReceipt, IsSliceCalled, replies_of}
 use Rattle.rvm_cell.specs.Seats.{PlainSeat, seat_of}
-use Rattle.rvm_journal.specs.History.{Recording}
+use Rattle.rvm_journal.specs.History.{Recording, count_of}
 use Rattle.rvm_journal.specs.Slices.{IsSliceRecorded, IsSteps, most_of, step_of}
 use Rattle.rvm_message.specs.declared.reply.HostReply.{HostReply}
 
@@ -65,3 +65,13 @@ slice_called old new seat turn harts n place rs replies is are told = record {
     steps = subst (λ xs. IsSteps old turn harts (most_of old n) xs new) (sym told) is.steps;
   };
 }
+
+-- a slice has a step, and no more than it was asked for
+pub slice_has_steps : (old new : Recording) (seat : PlainSeat) (turn harts n : ℕ) (rs : List Receipt)
+    → IsSliceCalled old seat turn harts n rs new → (1 ≤ length rs) × (length rs ≤ n)
+slice_has_steps old new seat turn harts n rs is =
+    let steps = is.recorded.steps in
+    let same : length rs ≡ length steps.entries =
+        sym (length-map rs (λ (x : Receipt). x.reply)) ∙ ap length steps.replies_are ∙ length-map steps.entries (λ x. x.reply) in
+    let most : min n (old.capacity - count_of old) ≤ n = omega arith in
+    (omega (arith, same, steps.slice.some), omega (arith, same, steps.slice.bound, most))

@@ -111,6 +111,7 @@ impl<L: Seating, M: PagedMemory + Drop> SharedHost<L, M> {
         n: u32,
     ) -> Result<Vec<Receipt>, SliceError>
         ensures receipts { IfOk result (λ v. AreOfSeat seat.old turn harts v.items) }
+        ensures steps { IfOk result (λ v. (1 ≤ length v.items) × (length v.items ≤ n)) }
         ensures seat { IfOk result (λ v. seat.new ≡ seat_of seat.old.id (seat.old.count + length v.items)) }
         ensures err { OnErr result (seat.new ≡ seat.old) }
     {
