@@ -1,0 +1,8 @@
+use Rattle.std.proofs.Common.{◌≡◌, ◌<◌}
+use Rattle.rvm_worker.proofs.copier.copy_until.Given as goal
+
+abbrev pub invariant-loop-copy : goal.invariant-loop-copy
+invariant-loop-copy g l = record {
+  same : l.caller.start ≡ l.fn.caller.start;
+  few : l.pauses < 1000;
+}

@@ -1,0 +1,5 @@
+use Rattle.std.proofs.Common.{◌≡◌}
+use Rattle.rvm_worker.proofs.copier.resend.Given as goal
+
+abbrev pub invariant-loop-try : goal.invariant-loop-try
+invariant-loop-try g l = l.caller.start ≡ l.fn.caller.start

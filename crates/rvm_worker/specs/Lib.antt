@@ -1,0 +1,4 @@
+pub mod Workers
+pub mod Ends
+pub mod Work
+pub mod Next

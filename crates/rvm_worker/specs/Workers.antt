@@ -1,0 +1,10 @@
+-- The workers of a move, by number.
+use Rattle.std.specs.Prelude.{ℕ}
+use Rattle.rvm_worker.specs.declared.gate.Worker.{Worker}
+use Rattle.rvm_worker.specs.declared.gate.Worker.TheVariants.{Harts, Copier, ReceiverAtA, ReceiverAtB}
+
+abbrev pub number_of : Worker → ℕ
+number_of Harts = 0
+number_of Copier = 1
+number_of ReceiverAtA = 2
+number_of ReceiverAtB = 3

@@ -1,0 +1,117 @@
+//! A worker's seat.
+
+ghost use Rattle.std.specs.Prelude.{◌≡◌, ◌≤◌, [], IfOk, OnErr};
+ghost use Rattle.rvm_worker.specs.Work.{IsCall, IsSliceCall, IsWork};
+
+use crate::end::WorkEnd;
+use crate::steps::{Steps, steps_of};
+use rvm_cell::{Receipt, Seat, Seating, SharedHost};
+use rvm_frame::Addressed;
+use rvm_mem::PagedMemory;
+use rvm_message::{HostEvent, HostReply};
+use std::alloc::Global;
+use std::marker::Model;
+use std::snapshot::Snapshot;
+use std::sync::Wait;
+
+/// A worker's seat at a host, and the receipts of its calls there since the seat was as contracts alone
+/// see it.
+#[derive(Drop)]
+pub struct Caller<L: Seating> {
+    first: Snapshot<Seat<L>>,
+    seat: Seat<L>,
+    receipts: Vec<Receipt>,
+}
+
+impl<L: Seating> Model for Caller<L> {
+    ghost use Rattle.std.specs.Prelude.{◌≡◌};
+    ghost use Rattle.rvm_worker.specs.Work.{IsWork, PlainCaller};
+
+    ghost Value = { PlainCaller };
+
+    ghost view = { λ c. record {
+      start = c.first.value;
+      seat = c.seat;
+      receipts = c.receipts.items;
+    } };
+
+    ghost invariant = { λ c. IsWork c.first.value c.seat c.receipts.items };
+}
+
+impl<L: Seating> Caller<L> {
+    /// Before the first call.
+    pub fn new(alloc: Global, seat: Seat<L>) -> Caller<L>
+        ensures { result ≡ record { start = seat; seat = seat; receipts = [] } }
+    {
+        Caller {
+            first: Snapshot::of(&seat),
+            seat,
+            receipts: Vec::new(alloc),
+        }
+    }
+
+    /// The seat, and the receipts in order.
+    pub fn into_parts(self) -> (Seat<L>, Vec<Receipt>)
+        ensures { IsWork self.start result.0 result.1.items }
+    {
+        let Caller {
+            first: _,
+            seat,
+            receipts,
+        } = self;
+        (seat, receipts)
+    }
+
+    /// Makes a call, whose receipt is kept: the reply, and the frame that the host made.
+    pub fn call<M: PagedMemory + Drop, R: Wait>(
+        &mut self,
+        rt: &R,
+        alloc: Global,
+        host: &SharedHost<L, M>,
+        event: HostEvent,
+    ) -> Result<(HostReply, Option<Addressed>), WorkEnd>
+        ensures start { self.new.start ≡ self.old.start }
+        ensures call { IfOk result (λ r. IsCall self.old.seat event self.old.receipts
+            self.new.seat self.new.receipts r.0) }
+        ensures err { OnErr result (self.new ≡ self.old) }
+    {
+        if self.receipts.reserve(1).is_err() {
+            return Err(WorkEnd::OutOfMemory);
+        }
+        match host.call(rt, alloc, &mut self.seat, event) {
+            Err((why, _event)) => Err(WorkEnd::from(why)),
+            Ok((receipt, frame)) => {
+                let reply = receipt.reply.copy();
+                self.receipts.push_reserved(receipt);
+                Ok((reply, frame))
+            }
+        }
+    }
+
+    /// Makes a slice of at most n turns, whose receipts are kept: the steps that it made.
+    pub fn slice<M: PagedMemory + Drop, R: Wait>(
+        &mut self,
+        rt: &R,
+        alloc: Global,
+        host: &SharedHost<L, M>,
+        turn: u32,
+        harts: u32,
+        n: u32,
+    ) -> Result<Steps, WorkEnd>
+        ensures start { self.new.start ≡ self.old.start }
+        ensures slice { IfOk result (λ s. IsSliceCall self.old.seat turn harts self.old.receipts
+            self.new.seat self.new.receipts s) }
+        ensures within { IfOk result (λ s. s.count ≤ n) }
+        ensures err { OnErr result (self.new ≡ self.old) }
+    {
+        if self.receipts.reserve(n as usize).is_err() {
+            return Err(WorkEnd::OutOfMemory);
+        }
+        let mut receipts = host.call_slice(rt, alloc, &mut self.seat, turn, harts, n)?;
+        let steps = steps_of(receipts.as_slice());
+        if self.receipts.append(&mut receipts).is_err() {
+            unreachable!();
+        }
+        Ok(steps)
+    }
+}

@@ -1,0 +1,241 @@
+//! The copier: it moves the guest to another host.
+
+ghost use Rattle.std.specs.Prelude.{◌≡◌};
+ghost use Rattle.rvm_worker.specs.Work.{IsWork};
+
+use crate::caller::Caller;
+use crate::end::{WorkEnd, Worked};
+use crate::gate::{Gate, Watch, Worker};
+use crate::next::{Next, after_copy, is_gone, says_no_move};
+use crate::telling::{Side, tell};
+use rvm_cell::{Seat, Seating};
+use rvm_link::{Link, SendError};
+use rvm_mem::PagedMemory;
+use rvm_message::{Command, HostEvent};
+use rvm_precopy::Policy;
+use std::alloc::Global;
+use std::sync::Wait;
+use std::thread;
+use std::time::{Clock, Duration};
+
+/// How many times in a row the copier waits before it gives up, and how often at most it asks for the
+/// last frame again, or tries to give up the move.
+const TRIES: u32 = 1000;
+
+/// Between two tries to give up the move where memory ran out.
+const SHORT_PAUSE: u32 = 1;
+
+/// Before the last frame is asked for again.
+const LONG_PAUSE: u32 = 10;
+
+/// Sleeps for so many milliseconds.
+fn pause<R: Clock>(rt: &R, millis: u32) {
+    thread::sleep(rt, Duration::from_millis(u64::from(millis)));
+}
+
+/// Moves the guest of this side's host to another one. It begins the move and copies until the guest is
+/// given up here; then it has the last frame sent again until the other side has the guest. Where it
+/// waits too long before, or a frame cannot be sent, it gives up the move.
+pub fn copier_worker<L: Seating, M: PagedMemory + Drop, K: Link + Drop, G: Gate, R: Wait + Clock>(
+    rt: &R,
+    alloc: Global,
+    side: &Side<L, M, K>,
+    seat: Seat<L>,
+    gate: &G,
+    to: u8,
+    policy: Policy,
+) -> Worked<L>
+    ensures { IsWork seat result.seat result.receipts.items }
+{
+    let mut caller = Caller::new(alloc, seat);
+    let mut watch = Watch::new(gate, Worker::Copier);
+    let begin = Command::Begin { to, policy };
+    let end = move_guest(rt, alloc, side, &mut caller, &mut watch, begin);
+    if end.is_short_of_room() {
+        side.outgoing.close(rt);
+    }
+    let (seat, receipts) = caller.into_parts();
+    Worked {
+        seat,
+        receipts,
+        end,
+    }
+}
+
+/// Makes the calls of the copier, from Begin on.
+fn move_guest<L: Seating, M: PagedMemory + Drop, K: Link + Drop, G: Gate, R: Wait + Clock>(
+    rt: &R,
+    alloc: Global,
+    side: &Side<L, M, K>,
+    caller: &mut Caller<L>,
+    watch: &mut Watch<'_, G>,
+    begin: Command,
+) -> WorkEnd
+    ensures { caller.new.start ≡ caller.old.start }
+{
+    match copy_guest(rt, alloc, side, caller, watch, begin) {
+        Ok(Next::Done) => WorkEnd::Done,
+        Ok(Next::Resend) => resend(rt, alloc, side, caller, watch),
+        Ok(_) => give_up(rt, alloc, side, caller, watch),
+        Err(WorkEnd::OutOfMemory) => abort_without_memory(rt, alloc, side, caller, watch),
+        Err(end) => end,
+    }
+}
+
+/// Begins the move and copies, until something else is to be done.
+fn copy_guest<L: Seating, M: PagedMemory + Drop, K: Link + Drop, G: Gate, R: Wait + Clock>(
+    rt: &R,
+    alloc: Global,
+    side: &Side<L, M, K>,
+    caller: &mut Caller<L>,
+    watch: &mut Watch<'_, G>,
+    begin: Command,
+) -> Result<Next, WorkEnd>
+    ensures { caller.new.start ≡ caller.old.start }
+{
+    let told = tell(rt, alloc, side, caller, watch, HostEvent::Do(begin))?;
+    match told.sent {
+        Ok(()) => copy_until(rt, alloc, side, caller, watch),
+        Err(SendError::OutOfMemory) => Err(WorkEnd::OutOfMemory),
+        Err(_) => Ok(Next::GiveUp),
+    }
+}
+
+/// Copies until something else is to be done. After so many pauses in a row the move is given up.
+fn copy_until<L: Seating, M: PagedMemory + Drop, K: Link + Drop, G: Gate, R: Wait + Clock>(
+    rt: &R,
+    alloc: Global,
+    side: &Side<L, M, K>,
+    caller: &mut Caller<L>,
+    watch: &mut Watch<'_, G>,
+) -> Result<Next, WorkEnd>
+    ensures { caller.new.start ≡ caller.old.start }
+{
+    let mut pauses = 0;
+    for _copy in 0..u64::MAX {
+        match copy(rt, alloc, side, caller, watch)? {
+            Next::Copy => pauses = 0,
+            Next::Wait(millis) => {
+                pause(rt, millis);
+                pauses += 1;
+                if pauses >= TRIES {
+                    return Ok(Next::GiveUp);
+                }
+            }
+            next => return Ok(next),
+        }
+    }
+    Ok(Next::GiveUp)
+}
+
+/// Makes one copy, and says what is to be done then.
+fn copy<L: Seating, M: PagedMemory + Drop, K: Link + Drop, G: Gate, R: Wait>(
+    rt: &R,
+    alloc: Global,
+    side: &Side<L, M, K>,
+    caller: &mut Caller<L>,
+    watch: &mut Watch<'_, G>,
+) -> Result<Next, WorkEnd>
+    ensures { caller.new.start ≡ caller.old.start }
+{
+    let told = tell(rt, alloc, side, caller, watch, HostEvent::Do(Command::Copy))?;
+    match told.sent {
+        Ok(()) => Ok(after_copy(&told.reply)),
+        Err(SendError::OutOfMemory) => Err(WorkEnd::OutOfMemory),
+        Err(_) => Ok(Next::GiveUp),
+    }
+}
+
+/// Has the last frame sent again, until no move is left here.
+fn resend<L: Seating, M: PagedMemory + Drop, K: Link + Drop, G: Gate, R: Wait + Clock>(
+    rt: &R,
+    alloc: Global,
+    side: &Side<L, M, K>,
+    caller: &mut Caller<L>,
+    watch: &mut Watch<'_, G>,
+) -> WorkEnd
+    ensures { caller.new.start ≡ caller.old.start }
+{
+    for _try in 0..TRIES {
+        pause(rt, LONG_PAUSE);
+        match tell(
+            rt,
+            alloc,
+            side,
+            caller,
+            watch,
+            HostEvent::Do(Command::Resend),
+        ) {
+            Err(end) => return end,
+            Ok(told) => {
+                if says_no_move(&told.reply) {
+                    return WorkEnd::Done;
+                }
+            }
+        }
+    }
+    WorkEnd::LinkFault
+}
+
+/// Gives up the move, unless the guest was given up in the meantime.
+fn give_up<L: Seating, M: PagedMemory + Drop, K: Link + Drop, G: Gate, R: Wait + Clock>(
+    rt: &R,
+    alloc: Global,
+    side: &Side<L, M, K>,
+    caller: &mut Caller<L>,
+    watch: &mut Watch<'_, G>,
+) -> WorkEnd
+    ensures { caller.new.start ≡ caller.old.start }
+{
+    match tell(
+        rt,
+        alloc,
+        side,
+        caller,
+        watch,
+        HostEvent::Do(Command::Abort),
+    ) {
+        Err(WorkEnd::OutOfMemory) => abort_without_memory(rt, alloc, side, caller, watch),
+        Err(end) => end,
+        Ok(told) => {
+            if is_gone(&told.reply) {
+                resend(rt, alloc, side, caller, watch)
+            } else {
+                WorkEnd::GivenUp
+            }
+        }
+    }
+}
+
+/// Tries to give up the move where memory ran out.
+fn abort_without_memory<
+    L: Seating,
+    M: PagedMemory + Drop,
+    K: Link + Drop,
+    G: Gate,
+    R: Wait + Clock,
+>(
+    rt: &R,
+    alloc: Global,
+    side: &Side<L, M, K>,
+    caller: &mut Caller<L>,
+    watch: &mut Watch<'_, G>,
+) -> WorkEnd
+    ensures end { result ≡ WorkEnd.OutOfMemory }
+    ensures start { caller.new.start ≡ caller.old.start }
+{
+    for _try in 0..TRIES {
+        match tell(
+            rt,
+            alloc,
+            side,
+            caller,
+            watch,
+            HostEvent::Do(Command::Abort),
+        ) {
+            Err(WorkEnd::OutOfMemory) => pause(rt, SHORT_PAUSE),
+            _ => return WorkEnd::OutOfMemory,
+        }
+    }
+    WorkEnd::OutOfMemory
+}

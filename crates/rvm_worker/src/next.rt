@@ -1,0 +1,95 @@
+//! What a worker does after a reply.
+
+ghost use Rattle.std.specs.Prelude.{◌≡◌};
+ghost use Rattle.rvm_worker.specs.Next.{after_copy, after_refusal, ends_hearing, is_gone, says_no_move};
+
+use rvm_message::{HostRefusal, HostReply};
+
+/// What the copier does next.
+#[derive(Clone, Copy, Debug, PartialEq, Eq)]
+pub enum Next {
+    /// It copies again at once.
+    Copy,
+    /// It copies again in so many milliseconds.
+    Wait(u32),
+    /// The guest was given up here: it asks for the last frame again, until the other side has it.
+    Resend,
+    /// It gives up the move.
+    GiveUp,
+    /// Nothing is left to be done.
+    Done,
+}
+
+/// What the copier does after a refused copy.
+fn after_refusal(why: HostRefusal) -> Next
+    ensures { result ≡ after_refusal why }
+{
+    match why {
+        HostRefusal::Busy => Next::Wait(1),
+        HostRefusal::NotHere => Next::Resend,
+        HostRefusal::NoMove => Next::Done,
+        _ => Next::GiveUp,
+    }
+}
+
+/// What the copier does after a copy. While the state is under way it waits for ten milliseconds.
+pub(crate) fn after_copy(reply: &HostReply) -> Next
+    ensures { result ≡ after_copy reply.now }
+{
+    match reply {
+        HostReply::StateSent | HostReply::PartSent { .. } => Next::Wait(10),
+        HostReply::Refused(why) => after_refusal(*why),
+        _ => Next::Copy,
+    }
+}
+
+/// Whether the move is over for a receiver.
+pub(crate) fn ends_hearing(reply: &HostReply) -> bool
+    ensures { result ≡ ends_hearing reply.now }
+{
+    match reply {
+        HostReply::Finished
+        | HostReply::Dropped
+        | HostReply::Declined(_)
+        | HostReply::MoveDeclined(_) => true,
+        _ => false,
+    }
+}
+
+/// Whether no move is left at this host.
+pub(crate) fn says_no_move(reply: &HostReply) -> bool
+    ensures { result ≡ says_no_move reply.now }
+{
+    match reply {
+        HostReply::Refused(why) => is_no_move(*why),
+        _ => false,
+    }
+}
+
+fn is_no_move(why: HostRefusal) -> bool
+    ensures { result ≡ says_no_move (HostReply.Refused why) }
+{
+    match why {
+        HostRefusal::NoMove => true,
+        _ => false,
+    }
+}
+
+/// Whether the guest is at another host.
+pub(crate) fn is_gone(reply: &HostReply) -> bool
+    ensures { result ≡ is_gone reply.now }
+{
+    match reply {
+        HostReply::Refused(why) => is_not_here(*why),
+        _ => false,
+    }
+}
+
+fn is_not_here(why: HostRefusal) -> bool
+    ensures { result ≡ is_gone (HostReply.Refused why) }
+{
+    match why {
+        HostRefusal::NotHere => true,
+        _ => false,
+    }
+}

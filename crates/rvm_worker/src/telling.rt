@@ -1,0 +1,59 @@
+//! A call at a gate, with the frame that it makes.
+
+ghost use Rattle.std.specs.Prelude.{◌≡◌};
+
+use crate::caller::Caller;
+use crate::end::WorkEnd;
+use crate::gate::{Gate, Watch};
+use rvm_cell::{Seating, SharedHost};
+use rvm_frame::Addressed;
+use rvm_link::{Link, Outgoing, SendError};
+use rvm_mem::PagedMemory;
+use rvm_message::{HostEvent, HostReply};
+use std::alloc::Global;
+use std::sync::Wait;
+
+/// A host, and the end at which its frames are sent.
+#[derive(Drop)]
+pub struct Side<L: Seating, M: PagedMemory + Drop, K: Link + Drop> {
+    pub host: SharedHost<L, M>,
+    pub outgoing: Outgoing<K>,
+}
+
+/// The reply to a call, and whether the frame that it made was sent.
+#[derive(Drop)]
+pub(crate) struct Told {
+    pub(crate) reply: HostReply,
+    pub(crate) sent: Result<(), SendError>,
+}
+
+/// Makes a call once the gate lets it pass, and sends the frame that it makes.
+pub(crate) fn tell<L: Seating, M: PagedMemory + Drop, K: Link + Drop, G: Gate, R: Wait>(
+    rt: &R,
+    alloc: Global,
+    side: &Side<L, M, K>,
+    caller: &mut Caller<L>,
+    watch: &mut Watch<'_, G>,
+    event: HostEvent,
+) -> Result<Told, WorkEnd>
+    ensures { caller.new.start ≡ caller.old.start }
+{
+    watch.before()?;
+    let (reply, frame) = caller.call(rt, alloc, &side.host, event)?;
+    let sent = send(rt, alloc, &side.outgoing, frame);
+    watch.after();
+    Ok(Told { reply, sent })
+}
+
+/// Sends a frame, if there is one.
+fn send<K: Link + Drop, R: Wait>(
+    rt: &R,
+    alloc: Global,
+    outgoing: &Outgoing<K>,
+    frame: Option<Addressed>,
+) -> Result<(), SendError> {
+    match frame {
+        None => Ok(()),
+        Some(addressed) => outgoing.send(rt, alloc, &addressed),
+    }
+}
