@@ -1,0 +1,12 @@
+use Rattle.std.proofs.Common.{◌≡◌, ◌-◌, ◌≤◌}
+use Rattle.rvm_hart_worker.proofs.harts.run.Given as goal
+
+abbrev pub invariant-loop-turn : goal.invariant-loop-turn
+invariant-loop-turn g l = record {
+  at_a : l.pair.at_a.start ≡ l.fn.pair.at_a.start;
+  at_b : l.pair.at_b.start ≡ l.fn.pair.at_b.start;
+  within : l.turn ≤ l.steps;
+}
+
+abbrev pub decreases-loop-turn : goal.decreases-loop-turn
+decreases-loop-turn g l = l.steps - l.turn

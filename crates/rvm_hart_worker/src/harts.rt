@@ -1,0 +1,137 @@
+//! The hart worker: it makes the turns of the guest's harts, wherever the guest is.
+
+ghost use Rattle.std.specs.Prelude.{◌≡◌};
+ghost use Rattle.rvm_worker.specs.Work.{IsWork};
+
+use crate::pair::{Hosts, Pair};
+use crate::slices::{DRAIN_EVERY, Then, until_drain};
+use rvm_cell::{Receipt, Seat, Seating};
+use rvm_mem::PagedMemory;
+use rvm_worker::{Caller, Gate, Watch, WorkEnd, Worker};
+use std::alloc::Global;
+use std::io::Write;
+use std::sync::Wait;
+use std::time::Clock;
+
+/// What the hart worker gives back: its seats at both hosts, the receipts of its calls at each in
+/// order, and how it ended.
+#[derive(Drop)]
+pub struct HartsWorked<A: Seating, B: Seating> {
+    pub seats: (Seat<A>, Seat<B>),
+    pub receipts: (Vec<Receipt>, Vec<Receipt>),
+    pub end: WorkEnd,
+}
+
+/// Makes `steps` turns, or turns until the guest halts its board: in turn t hart t modulo the number of
+/// harts takes a step. What the guest sent is written after each 64 turns, when the board is halted and
+/// at the end. A call that one host refuses, since the guest is not there or paused there, is made at
+/// the other; while both refuse it, it is tried again each millisecond.
+pub fn hart_worker<
+    A: Seating,
+    B: Seating,
+    M: PagedMemory + Drop,
+    W: Write,
+    G: Gate,
+    R: Wait + Clock,
+>(
+    rt: &R,
+    alloc: Global,
+    hosts: &Hosts<'_, A, B, M>,
+    seats: (Seat<A>, Seat<B>),
+    gate: &G,
+    writer: &mut W,
+    harts: u32,
+    steps: u32,
+) -> HartsWorked<A, B>
+    ensures at_a { IsWork seats.0 result.seats.0 result.receipts.0.items }
+    ensures at_b { IsWork seats.1 result.seats.1 result.receipts.1.items }
+{
+    let (a, b) = seats;
+    let mut pair = Pair {
+        at_a: Caller::new(alloc, a),
+        at_b: Caller::new(alloc, b),
+        is_at_a: true,
+    };
+    let mut watch = Watch::new(gate, Worker::Harts);
+    let end = match run(
+        rt, alloc, hosts, &mut pair, &mut watch, writer, harts, steps,
+    ) {
+        Ok(end) => end,
+        Err(end) => end,
+    };
+    give_back(pair, end)
+}
+
+/// What the hart worker gives back.
+fn give_back<A: Seating, B: Seating>(pair: Pair<A, B>, end: WorkEnd) -> HartsWorked<A, B>
+    ensures at_a { IsWork pair.at_a.start result.seats.0 result.receipts.0.items }
+    ensures at_b { IsWork pair.at_b.start result.seats.1 result.receipts.1.items }
+    ensures end { result.end ≡ end }
+{
+    let Pair {
+        at_a,
+        at_b,
+        is_at_a: _,
+    } = pair;
+    let (a, from_a) = at_a.into_parts();
+    let (b, from_b) = at_b.into_parts();
+    HartsWorked {
+        seats: (a, b),
+        receipts: (from_a, from_b),
+        end,
+    }
+}
+
+/// Makes the turns of a run, and writes what the guest sends.
+fn run<A: Seating, B: Seating, M: PagedMemory + Drop, W: Write, G: Gate, R: Wait + Clock>(
+    rt: &R,
+    alloc: Global,
+    hosts: &Hosts<'_, A, B, M>,
+    pair: &mut Pair<A, B>,
+    watch: &mut Watch<'_, G>,
+    writer: &mut W,
+    harts: u32,
+    steps: u32,
+) -> Result<WorkEnd, WorkEnd>
+    ensures at_a { pair.new.at_a.start ≡ pair.old.at_a.start }
+    ensures at_b { pair.new.at_b.start ≡ pair.old.at_b.start }
+{
+    let mut turn = 0;
+    while turn < steps {
+        let n = until_drain(turn, steps);
+        let slice = pair.turns(rt, alloc, hosts, watch, turn, harts, n)?;
+        turn += slice.made;
+        if let Then::Halted(status) = slice.then {
+            drain(rt, alloc, hosts, pair, watch, writer)?;
+            return Ok(WorkEnd::Halted(status));
+        }
+        if turn % DRAIN_EVERY == 0 {
+            drain(rt, alloc, hosts, pair, watch, writer)?;
+        }
+    }
+    drain(rt, alloc, hosts, pair, watch, writer)?;
+    Ok(WorkEnd::StepsSpent)
+}
+
+/// Writes what the guest sent, until nothing is left.
+fn drain<A: Seating, B: Seating, M: PagedMemory + Drop, W: Write, G: Gate, R: Wait + Clock>(
+    rt: &R,
+    alloc: Global,
+    hosts: &Hosts<'_, A, B, M>,
+    pair: &mut Pair<A, B>,
+    watch: &mut Watch<'_, G>,
+    writer: &mut W,
+) -> Result<(), WorkEnd>
+    ensures at_a { pair.new.at_a.start ≡ pair.old.at_a.start }
+    ensures at_b { pair.new.at_b.start ≡ pair.old.at_b.start }
+{
+    for _drain in 0..u64::MAX {
+        let Some(bytes) = pair.sent_by_guest(rt, alloc, hosts, watch)? else {
+            return Ok(());
+        };
+        if writer.write_all(bytes.as_slice()).is_err() {
+            return Err(WorkEnd::LinkFault);
+        }
+    }
+    Ok(())
+}

@@ -1,0 +1,262 @@
+//! The guest's host, of two.
+
+ghost use Rattle.std.specs.Prelude.{◌≡◌, ◌≢◌, ◌≤◌, IfOk};
+ghost use Rattle.rvm_hart_worker.specs.declared.slices.Then.TheVariants.{Elsewhere};
+
+use crate::slices::{Slice, Then, is_elsewhere, made_by};
+use rvm_cell::{Seating, SharedHost};
+use rvm_debug::{BoardEvent, BoardReply, View};
+use rvm_mem::PagedMemory;
+use rvm_message::{Command, HostEvent, HostReply};
+use rvm_worker::{Caller, Gate, Watch, WorkEnd};
+use std::alloc::Global;
+use std::sync::Wait;
+use std::thread;
+use std::time::{Clock, Duration};
+
+/// How many turns in a row may be refused by both hosts.
+const REFUSED_TURNS: u32 = 30000;
+
+/// How many bytes one drain takes at most.
+const DRAIN_SIZE: u32 = 256;
+
+/// Two hosts, at one of which the guest is.
+#[derive(Drop)]
+pub struct Hosts<'h, A: Seating, B: Seating, M: PagedMemory + Drop> {
+    pub a: &'h SharedHost<A, M>,
+    pub b: &'h SharedHost<B, M>,
+}
+
+/// A worker's seats at two hosts, and whether it met the guest at the first of them.
+#[derive(Drop)]
+pub(crate) struct Pair<A: Seating, B: Seating> {
+    pub(crate) at_a: Caller<A>,
+    pub(crate) at_b: Caller<B>,
+    pub(crate) is_at_a: bool,
+}
+
+/// What one drain took.
+#[derive(Drop)]
+pub(crate) enum Drained {
+    /// These bytes.
+    Bytes(View),
+    /// Nothing.
+    Nothing,
+    /// Nothing: the guest is elsewhere.
+    Elsewhere,
+}
+
+/// What the reply to a drain says.
+fn told_by(reply: HostReply) -> Drained {
+    match reply {
+        HostReply::Board(answer) => taken(answer),
+        HostReply::Refused(why) => {
+            if is_elsewhere(why) {
+                Drained::Elsewhere
+            } else {
+                Drained::Nothing
+            }
+        }
+        _ => Drained::Nothing,
+    }
+}
+
+/// The bytes of a board's answer, if it has any.
+fn taken(answer: BoardReply) -> Drained {
+    match answer {
+        BoardReply::Bytes(bytes) => {
+            if bytes.as_slice().is_empty() {
+                Drained::Nothing
+            } else {
+                Drained::Bytes(bytes)
+            }
+        }
+        _ => Drained::Nothing,
+    }
+}
+
+impl<A: Seating, B: Seating> Pair<A, B> {
+    /// Makes a slice where the guest was met last.
+    fn slice<M: PagedMemory + Drop, R: Wait>(
+        &mut self,
+        rt: &R,
+        alloc: Global,
+        hosts: &Hosts<'_, A, B, M>,
+        turn: u32,
+        harts: u32,
+        n: u32,
+    ) -> Result<Slice, WorkEnd>
+        ensures within { IfOk result (λ s. s.made ≤ n) }
+        ensures some { IfOk result (λ s. s.then ≢ Elsewhere → 1 ≤ s.made) }
+        ensures at_a { self.new.at_a.start ≡ self.old.at_a.start }
+        ensures at_b { self.new.at_b.start ≡ self.old.at_b.start }
+    {
+        let steps = if self.is_at_a {
+            self.at_a.slice(rt, alloc, hosts.a, turn, harts, n)?
+        } else {
+            self.at_b.slice(rt, alloc, hosts.b, turn, harts, n)?
+        };
+        Ok(made_by(&steps))
+    }
+
+    /// Makes a slice at the gate. Where the guest is elsewhere, the other host is asked next.
+    fn slice_at_gate<M: PagedMemory + Drop, G: Gate, R: Wait>(
+        &mut self,
+        rt: &R,
+        alloc: Global,
+        hosts: &Hosts<'_, A, B, M>,
+        watch: &mut Watch<'_, G>,
+        turn: u32,
+        harts: u32,
+        n: u32,
+    ) -> Result<Slice, WorkEnd>
+        ensures within { IfOk result (λ s. s.made ≤ n) }
+        ensures some { IfOk result (λ s. s.then ≢ Elsewhere → 1 ≤ s.made) }
+        ensures at_a { self.new.at_a.start ≡ self.old.at_a.start }
+        ensures at_b { self.new.at_b.start ≡ self.old.at_b.start }
+    {
+        watch.before()?;
+        let slice = self.slice(rt, alloc, hosts, turn, harts, n)?;
+        watch.after();
+        if slice.then == Then::Elsewhere {
+            self.is_at_a = !self.is_at_a;
+        }
+        Ok(slice)
+    }
+
+    /// Makes a slice at the host that takes its first turn: none where both refuse it.
+    fn slice_at_either<M: PagedMemory + Drop, G: Gate, R: Wait>(
+        &mut self,
+        rt: &R,
+        alloc: Global,
+        hosts: &Hosts<'_, A, B, M>,
+        watch: &mut Watch<'_, G>,
+        turn: u32,
+        harts: u32,
+        n: u32,
+    ) -> Result<Slice, WorkEnd>
+        ensures within { IfOk result (λ s. s.made ≤ n) }
+        ensures at_a { self.new.at_a.start ≡ self.old.at_a.start }
+        ensures at_b { self.new.at_b.start ≡ self.old.at_b.start }
+    {
+        let slice = self.slice_at_gate(rt, alloc, hosts, watch, turn, harts, n)?;
+        if slice.made > 0 {
+            return Ok(slice);
+        }
+        self.slice_at_gate(rt, alloc, hosts, watch, turn, harts, n)
+    }
+
+    /// Makes at least one turn and at most n. While both hosts refuse the turn it is tried again each
+    /// millisecond.
+    pub(crate) fn turns<M: PagedMemory + Drop, G: Gate, R: Wait + Clock>(
+        &mut self,
+        rt: &R,
+        alloc: Global,
+        hosts: &Hosts<'_, A, B, M>,
+        watch: &mut Watch<'_, G>,
+        turn: u32,
+        harts: u32,
+        n: u32,
+    ) -> Result<Slice, WorkEnd>
+        ensures within { IfOk result (λ s. s.made ≤ n) }
+        ensures some { IfOk result (λ s. 1 ≤ s.made) }
+        ensures at_a { self.new.at_a.start ≡ self.old.at_a.start }
+        ensures at_b { self.new.at_b.start ≡ self.old.at_b.start }
+    {
+        for _try in 0..REFUSED_TURNS {
+            let slice = self.slice_at_either(rt, alloc, hosts, watch, turn, harts, n)?;
+            if slice.made > 0 {
+                return Ok(slice);
+            }
+            thread::sleep(rt, Duration::from_millis(1));
+        }
+        Err(WorkEnd::GuestStopped)
+    }
+
+    /// Drains where the guest was met last.
+    fn drain<M: PagedMemory + Drop, R: Wait>(
+        &mut self,
+        rt: &R,
+        alloc: Global,
+        hosts: &Hosts<'_, A, B, M>,
+    ) -> Result<Drained, WorkEnd>
+        ensures at_a { self.new.at_a.start ≡ self.old.at_a.start }
+        ensures at_b { self.new.at_b.start ≡ self.old.at_b.start }
+    {
+        let event = HostEvent::Do(Command::Board(BoardEvent::Drain(DRAIN_SIZE)));
+        let (reply, _frame) = if self.is_at_a {
+            self.at_a.call(rt, alloc, hosts.a, event)?
+        } else {
+            self.at_b.call(rt, alloc, hosts.b, event)?
+        };
+        Ok(told_by(reply))
+    }
+
+    /// Drains at the gate. Where the guest is elsewhere, the other host is asked next.
+    fn drain_at_gate<M: PagedMemory + Drop, G: Gate, R: Wait>(
+        &mut self,
+        rt: &R,
+        alloc: Global,
+        hosts: &Hosts<'_, A, B, M>,
+        watch: &mut Watch<'_, G>,
+    ) -> Result<Drained, WorkEnd>
+        ensures at_a { self.new.at_a.start ≡ self.old.at_a.start }
+        ensures at_b { self.new.at_b.start ≡ self.old.at_b.start }
+    {
+        watch.before()?;
+        let drained = self.drain(rt, alloc, hosts)?;
+        watch.after();
+        if is_refused(&drained) {
+            self.is_at_a = !self.is_at_a;
+        }
+        Ok(drained)
+    }
+
+    /// Drains at either host.
+    fn drain_at_either<M: PagedMemory + Drop, G: Gate, R: Wait>(
+        &mut self,
+        rt: &R,
+        alloc: Global,
+        hosts: &Hosts<'_, A, B, M>,
+        watch: &mut Watch<'_, G>,
+    ) -> Result<Drained, WorkEnd>
+        ensures at_a { self.new.at_a.start ≡ self.old.at_a.start }
+        ensures at_b { self.new.at_b.start ≡ self.old.at_b.start }
+    {
+        let drained = self.drain_at_gate(rt, alloc, hosts, watch)?;
+        if !is_refused(&drained) {
+            return Ok(drained);
+        }
+        self.drain_at_gate(rt, alloc, hosts, watch)
+    }
+
+    /// The next bytes that the guest sent, if there are any. While both hosts refuse the drain it is
+    /// tried again each millisecond.
+    pub(crate) fn sent_by_guest<M: PagedMemory + Drop, G: Gate, R: Wait + Clock>(
+        &mut self,
+        rt: &R,
+        alloc: Global,
+        hosts: &Hosts<'_, A, B, M>,
+        watch: &mut Watch<'_, G>,
+    ) -> Result<Option<View>, WorkEnd>
+        ensures at_a { self.new.at_a.start ≡ self.old.at_a.start }
+        ensures at_b { self.new.at_b.start ≡ self.old.at_b.start }
+    {
+        for _try in 0..REFUSED_TURNS {
+            match self.drain_at_either(rt, alloc, hosts, watch)? {
+                Drained::Bytes(bytes) => return Ok(Some(bytes)),
+                Drained::Nothing => return Ok(None),
+                Drained::Elsewhere => thread::sleep(rt, Duration::from_millis(1)),
+            }
+        }
+        Err(WorkEnd::GuestStopped)
+    }
+}
+
+/// Whether the guest was elsewhere.
+fn is_refused(drained: &Drained) -> bool {
+    match drained {
+        Drained::Elsewhere => true,
+        _ => false,
+    }
+}

@@ -1,0 +1,99 @@
+//! Slices of turns.
+
+ghost use Rattle.std.specs.Prelude.{◌≡◌, ◌≢◌, ◌≤◌, ◌<◌, ◌+◌, ◌-◌, ◌%◌, min};
+ghost use Rattle.rvm_hart_worker.specs.Turns.{after_answer, after_step, is_elsewhere, turns_of};
+ghost use Rattle.rvm_hart_worker.specs.declared.slices.Then.TheVariants.{Elsewhere};
+
+use rvm_debug::BoardReply;
+use rvm_message::{HostRefusal, HostReply};
+use rvm_worker::Steps;
+
+/// How many turns are made between two drains of what the guest sent.
+pub(crate) const DRAIN_EVERY: u32 = 64;
+
+/// What comes after a turn.
+#[derive(Clone, Copy, Debug, PartialEq, Eq)]
+pub enum Then {
+    /// The next turn.
+    GoOn,
+    /// The same turn at the other host.
+    Elsewhere,
+    /// No turn: the board is halted, with this status.
+    Halted(u8),
+}
+
+/// How many turns a slice made, and what comes then.
+#[derive(Clone, Copy)]
+pub(crate) struct Slice {
+    pub(crate) made: u32,
+    pub(crate) then: Then,
+}
+
+/// How many turns there are up to the next drain.
+pub(crate) fn until_drain(turn: u32, steps: u32) -> u32
+    requires { turn < steps }
+    ensures count { result ≡ min (64 - turn % 64) (steps - turn) }
+    ensures some { 1 ≤ result }
+    ensures within { turn + result ≤ steps }
+{
+    (DRAIN_EVERY - turn % DRAIN_EVERY).min(steps - turn)
+}
+
+/// What comes after the board's answer to a step. A hart that stops at a breakpoint has had its turn.
+fn after_answer(answer: &BoardReply) -> Then
+    ensures { result ≡ after_answer answer.now }
+{
+    match answer {
+        BoardReply::Halted(status) => Then::Halted(*status),
+        _ => Then::GoOn,
+    }
+}
+
+/// Whether the guest is not here, or paused here.
+pub(crate) fn is_elsewhere(why: HostRefusal) -> bool
+    ensures { result ≡ is_elsewhere why }
+{
+    match why {
+        HostRefusal::NotHere | HostRefusal::Paused => true,
+        _ => false,
+    }
+}
+
+/// What comes after a refused step.
+fn after_refused(why: HostRefusal) -> Then
+    ensures { result ≡ after_step (HostReply.Refused why) }
+{
+    if is_elsewhere(why) {
+        Then::Elsewhere
+    } else {
+        Then::GoOn
+    }
+}
+
+/// What comes after the reply to a step.
+pub(crate) fn after_step(reply: &HostReply) -> Then
+    ensures { result ≡ after_step reply.now }
+{
+    match reply {
+        HostReply::Board(answer) => after_answer(answer),
+        HostReply::Refused(why) => after_refused(*why),
+        _ => Then::GoOn,
+    }
+}
+
+/// What a slice of these steps did. A last step that the other host is to make was no turn.
+pub(crate) fn made_by(steps: &Steps) -> Slice
+    ensures then { result.then ≡ after_step steps.now.last }
+    ensures made { result.made ≡ turns_of result.then steps.now.count }
+    ensures within { result.made ≤ steps.now.count }
+    ensures some { result.then ≢ Elsewhere → 1 ≤ result.made }
+{
+    let count = steps.count;
+    match after_step(&steps.last) {
+        Then::Elsewhere => Slice {
+            made: count - 1,
+            then: Then::Elsewhere,
+        },
+        then => Slice { made: count, then },
+    }
+}
