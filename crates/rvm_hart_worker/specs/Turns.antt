@@ -29,4 +29,4 @@ after_step r = GoOn
 -- how many of a slice's steps were turns, where this comes after the last: one that the other host is to make was none
 abbrev pub turns_of : Then → ℕ → ℕ
 turns_of Elsewhere n = n - 1
-turns_of then n = n
+turns_of t n = n
