@@ -72,6 +72,6 @@ pub slice_has_steps : (old new : Recording) (seat : PlainSeat) (turn harts n : �
 slice_has_steps old new seat turn harts n rs is =
     let steps = is.recorded.steps in
     let same : length rs ≡ length steps.entries =
-        sym (length-map rs (λ (x : Receipt). x.reply)) ∙ ap length steps.replies_are ∙ length-map steps.entries (λ x. x.reply) in
+    sym (length-map rs (λ (x : Receipt). x.reply)) ∙ ap length steps.replies_are ∙ length-map steps.entries (λ x. x.reply) in
     let most : min n (old.capacity - count_of old) ≤ n = omega arith in
     (omega (arith, same, steps.slice.some), omega (arith, same, steps.slice.bound, most))
