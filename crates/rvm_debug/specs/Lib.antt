@@ -5,3 +5,6 @@ pub mod Parts
 pub mod Turns
 pub mod WhileFull
 pub mod Refusals
+pub mod State
+pub mod Snapshot
+pub mod Restoring

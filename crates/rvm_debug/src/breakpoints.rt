@@ -55,12 +55,15 @@ impl Breakpoints {
     }
 
     /// The addresses, rising.
-    pub(crate) fn addresses(&self) -> &[u32]
-        ensures addresses { result.now ≡ self.now }
+    pub(crate) fn copied(&self) -> ArrayVec<u32, MAX_BREAKPOINTS>
+        ensures addresses { result.items ≡ self.now }
         ensures few { length self.now ≤ 64 }
         ensures rising { AreRising self.now }
     {
-        self.addresses.as_slice()
+        let mut addresses = ArrayVec::new();
+        let fits = addresses.try_extend_from_slice(&self.addresses).is_ok();
+        prove!(fits);
+        addresses
     }
 
     /// Whether there is none.

@@ -3,24 +3,21 @@
 ghost use Rattle.std.specs.Prelude.{◌≡◌, ◌<◌, ◌≤◌, ◌++◌, ◌∷◌, [], ◌↔◌, false, length, min, take, drop, replicate, OnOk, OnErr, IsErr, true, get_or, MatchOption, refl};
 ghost use Rattle.rvm_mem.specs.Pages.{mark_all};
 ghost use Rattle.rvm_board.specs.Board.{hart_at, with_input, with_output};
-ghost use Rattle.rvm_hart.specs.Fields.{with_number};
-ghost use Rattle.rvm_debug.specs.Guest.{AreRising, fresh};
-ghost use Rattle.rvm_debug.specs.Parts.{CanBeHeld, hart_restored, part_of, restored};
+ghost use Rattle.rvm_debug.specs.Guest.{fresh};
 ghost use Rattle.rvm_debug.specs.Events.{answered, clears_breakpoint, drains, pc_of, sets_breakpoint, sets_register, step_reply, steps, steps_if_there, stops, takes_input, tells_bytes, tells_line, tells_registers, with_board, with_stopped, writes_bytes};
 
 use crate::breakpoints::Breakpoints;
 use crate::event::{BoardEvent, BoardRefusal, BoardReply};
-use crate::part::HartPart;
 use crate::view::View;
 use arrayvec::ArrayVec;
 use rvm_board::{Board, MAX_HARTS, PokeError, VIEW_SIZE};
-use rvm_dev::{DeviceFields, Devices, InputFull};
+use rvm_dev::InputFull;
 use rvm_hart::{PC, Stepped};
 use rvm_mem::{DirtyLog, Memory, PageSet, PagedMemory};
 use std::marker::Model;
 
 /// The most harts that a board has.
-const HARTS: usize = MAX_HARTS as usize;
+pub(crate) const HARTS: usize = MAX_HARTS as usize;
 
 /// A board with at most 64 breakpoints. A hart that comes to one stops there once, instead of its
 /// step, and goes on with the next.
@@ -83,23 +80,6 @@ impl<M: Memory> Debugged<M> {
         self.board.pc(hart)
     }
 
-    /// What the guest keeps of a hart.
-    pub fn hart_part(&self, hart: u32) -> HartPart
-        requires { hart < length self.now.guest.board.harts }
-        ensures part { result ≡ part_of hart self.now.guest }
-        ensures held { CanBeHeld (length self.now.guest.board.shared.bytes) result }
-        ensures whole { with_number hart result.fields ≡ hart_at hart self.now.guest.board }
-    {
-        let devices = self.board.devices();
-        HartPart {
-            fields: self.board.hart_fields(hart),
-            msip: devices.software_is_pending(hart),
-            mtimecmp: devices.mtimecmp(hart),
-            reserved: self.board.reserved(hart),
-            stopped: self.stopped[hart as usize],
-        }
-    }
-
     /// The RAM, of at least one page.
     pub fn memory(&self) -> &M
         ensures bytes { M.bytes result.now ≡ self.now.guest.board.shared.bytes }
@@ -107,62 +87,6 @@ impl<M: Memory> Debugged<M> {
         ensures some { 0 < length self.now.guest.board.shared.bytes }
     {
         self.board.memory()
-    }
-
-    /// The devices.
-    pub fn devices(&self) -> &Devices
-        ensures devices { result.now ≡ self.now.guest.board.shared.devices }
-        ensures msip { length self.now.guest.board.shared.devices.msip
-            ≡ length self.now.guest.board.harts }
-        ensures reservations { length self.now.guest.board.shared.reservations
-            ≡ length self.now.guest.board.harts }
-        ensures stopped { length self.now.guest.stopped ≡ length self.now.guest.board.harts }
-    {
-        self.board.devices()
-    }
-
-    /// The breakpoints, rising, at most 64.
-    pub fn breakpoints(&self) -> &[u32]
-        ensures breakpoints { result.now ≡ self.now.guest.breakpoints }
-        ensures few { length self.now.guest.breakpoints ≤ 64 }
-        ensures rising { AreRising self.now.guest.breakpoints }
-    {
-        self.breakpoints.addresses()
-    }
-
-    /// Sets what the devices keep that all harts share, and the bytes of the queues. Takes no
-    /// memory.
-    pub fn restore(&mut self, fields: DeviceFields, input: &[u8], output: &[u8])
-        requires input { length input.now ≤ 16 }
-        requires output { length output.now ≤ 4096 }
-        ensures { self.new ≡ record self.old {
-          guest = restored fields input.now output.now self.old.guest;
-        } }
-    {
-        self.board.restore(fields, input, output);
-    }
-
-    /// Sets what the guest keeps of a hart. Takes no memory.
-    pub fn restore_hart(&mut self, hart: u32, part: HartPart)
-        requires hart { hart < length self.old.guest.board.harts }
-        requires held { CanBeHeld (length self.old.guest.board.shared.bytes) part }
-        ensures { self.new ≡ record self.old { guest = hart_restored hart part self.old.guest } }
-    {
-        let stopped = &mut self.stopped;
-        stopped[hart as usize] = part.stopped;
-        self.board
-            .restore_hart(hart, part.fields, part.msip, part.mtimecmp, part.reserved);
-    }
-
-    /// Sets the breakpoints. Takes no memory.
-    pub fn restore_breakpoints(&mut self, addresses: &[u32])
-        requires few { length addresses.now ≤ 64 }
-        requires rising { AreRising addresses.now }
-        ensures { self.new ≡ record self.old {
-          guest = record self.old.guest { breakpoints = addresses.now };
-        } }
-    {
-        self.breakpoints = Breakpoints::of(addresses);
     }
 
     /// One step of a hart; none where it stopped at a breakpoint instead.

@@ -1,9 +1,10 @@
-//! The debugged board: a board with breakpoints, the events that a host hands it and its answers.
+//! The debugged board: a board with breakpoints, the events that a host hands it and its answers, and
+//! all that it keeps but its RAM as one value.
 //!
 //! Stands on `rvm_board`, and knows nothing of scripts, files or hosts. No event takes memory.
 //!
-//! To be read in this order: `view`, `breakpoints`, `event`, `part`, `debugged`, `turns`,
-//! `while_full`, `laws`.
+//! To be read in this order: `view`, `breakpoints`, `event`, `part`, `debugged`, `snapshot`,
+//! `turns`, `while_full`, `laws`.
 #![tactic(auto)]
 
 mod breakpoints;
@@ -11,6 +12,7 @@ mod debugged;
 mod event;
 pub mod laws;
 mod part;
+mod snapshot;
 mod turns;
 mod view;
 mod while_full;
@@ -19,5 +21,6 @@ pub use breakpoints::MAX_BREAKPOINTS;
 pub use debugged::Debugged;
 pub use event::{BoardEvent, BoardRefusal, BoardReply};
 pub use part::HartPart;
+pub use snapshot::Snapshot;
 pub use turns::{Order, Stop, Turns};
 pub use view::View;

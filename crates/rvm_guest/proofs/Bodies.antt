@@ -12,11 +12,11 @@ use Rattle.rvm_hart.proofs.Whole.{whole}
 use Rattle.rvm_board.specs.Board.{hart_at}
 use Rattle.rvm_debug.specs.Guest.{Guest}
 use Rattle.rvm_state.specs.Formats.{head, parts, state}
-use Rattle.rvm_state.specs.State.{State, guest_of, parts_of, state_of}
+use Rattle.rvm_debug.specs.State.{State, guest_of, parts_of, state_of}
 use Rattle.rvm_state.specs.Spelling.{HasSpelling, Spells, spelling}
 use Rattle.rvm_state.proofs.Exact.{state_exact}
 use Rattle.rvm_state.proofs.Reading.{found, is_read}
-use Rattle.rvm_state.proofs.Wrote.{made}
+use Rattle.rvm_debug.proofs.Made.{made}
 use Rattle.rvm_guest.specs.Pages.{count_of, joined, pages_in, pages_of, size_of}
 use Rattle.rvm_guest.specs.Valid.{is_valid}
 use Rattle.rvm_guest.specs.Body.{body_of, build, guest_if, has_bytes, read_body}

@@ -2,7 +2,7 @@
 use Rattle.std.proofs.Common.{◌≡◌, inl, inr, ℕ, zero, suc, ◌+◌, ◌*◌, ◌^◌, ◌/◌, ◌%◌, ◌<◌, ◌≤◌, Bool, true, false, ◌==◌, List, [], ◌∷◌, length, get_or, set, replicate, refl, sym, ap, subst, ◌∙◌, arith, below_more}
 use Rattle.std.proofs.lemmas.Bool.{cases_eq, cases_lt, eqb-true}
 use Rattle.std.proofs.lemmas.Bool.Decides.{nat_tests}
-use Rattle.std.proofs.lemmas.List.{length-set, length-replicate, get_or-set_same, get_or-set_other, get_or_past}
+use Rattle.std.proofs.lemmas.List.{length-map, length-set, length-replicate, get_or-set_same, get_or-set_other, get_or_default, get_or_past}
 use Rattle.rvm_mem.specs.Others.{NoneOf}
 use Rattle.rvm_mem.specs.Pages.{has, mark_all}
 use Rattle.rvm_codec.specs.Numbers.{within}
@@ -13,10 +13,15 @@ use Rattle.rvm_hart.specs.Machine.{HartState}
 use Rattle.rvm_hart.specs.Registers.{AreRegisters}
 use Rattle.rvm_board.specs.Board.{hart_at, new_hart}
 use Rattle.rvm_debug.specs.declared.event.BoardEvent.{BoardEvent}
+use Rattle.rvm_debug.specs.declared.part.HartPart.{HartPart}
 use Rattle.rvm_debug.specs.Guest.{Guest}
 use Rattle.rvm_debug.specs.Events.{answered}
 use Rattle.rvm_debug.specs.Kept.{Keeps}
+use Rattle.rvm_debug.specs.Parts.{part_of}
+use Rattle.rvm_debug.specs.State.{guest_of, numbered, parts_of, state_of}
 use Rattle.rvm_debug.proofs.Answering.{answered_keeps}
+use Rattle.rvm_debug.proofs.Guests.{length-numbered}
+use Rattle.rvm_debug.proofs.Made.{numbered_at}
 use Rattle.rvm_guest.specs.Pages.{after, count_of, pages_of, size_of, writes, zeros}
 use Rattle.rvm_guest.specs.Valid.{is_hart, are_harts, is_valid}
 use Rattle.rvm_guest.proofs.Joined.{length_pages, page_at}
@@ -105,13 +110,43 @@ valid_so g v =
 
 -- A GUEST THAT A HOST HAS
 
-pub no_harts : (g : Guest) → AreHarts 0 g
-no_harts g k lt = absurd (omega (arith, lt))
+-- the first harts have 31 registers besides x0
+abbrev pub HaveRegisters : ℕ → List HartPart → Type 0
+HaveRegisters n parts = (k : ℕ) → k < n → (blank : HartPart) → length (get_or parts k blank).fields.registers ≡ 31
 
-pub one_hart_more : (g : Guest) (n : ℕ) (f : HartFields) → length f.registers ≡ 31 → with_number n f ≡ hart_at n g.board → AreHarts n g → AreHarts (n + 1) g
-one_hart_more g n f long is so_far =
-    below_more (λ k. IsHart k (hart_at k g.board)) n so_far
-    (subst (λ h. IsHart n h) is (record { number = refl; registers = (ap suc long, refl) }))
+pub no_harts : (parts : List HartPart) → HaveRegisters 0 parts
+no_harts parts k lt = absurd (omega (arith, lt))
+
+pub one_hart_more : (parts : List HartPart) (n : ℕ) (d : HartPart) → n < length parts → length (get_or parts n d).fields.registers ≡ 31 → HaveRegisters n parts → HaveRegisters (n + 1) parts
+one_hart_more parts n d lt long so_far =
+    below_more (λ k. (blank : HartPart) → length (get_or parts k blank).fields.registers ≡ 31) n so_far
+    (λ blank. ap (λ (p : HartPart). length p.fields.registers) (get_or_default parts n blank d lt) ∙ long)
+
+-- what is kept of each hart makes them all
+made_harts : (g : Guest) (parts : List HartPart) → numbered 0 parts ≡ g.board.harts → HaveRegisters (length parts) parts → AreHarts (length parts) g
+made_harts g parts made have k lt =
+    let blank : HartPart = part_of 0 g in
+    let fields : HartFields = (get_or parts k blank).fields in
+    let number : 0 + k ≡ k = omega arith in
+    let is : with_number (0 + k) fields ≡ hart_at k g.board = sym (numbered_at 0 parts k blank (new_hart 0 0) lt) ∙ ap (λ hs. get_or hs k (new_hart 0 0)) made in
+    subst (λ h. IsHart k h) is (record { number = number; registers = (ap suc (have k lt blank), refl) })
+
+-- a guest that its values and its RAM make
+pub made_valid : (g : Guest) (parts : List HartPart) → parts ≡ parts_of g → guest_of g.board.shared.bytes (state_of g) ≡ g → HaveRegisters (length parts) parts → size_of g % 4096 ≡ 0 → within 1 4096 (count_of g) ≡ true → IsValid g
+made_valid g parts are made have whole count =
+    let all : List HartPart = parts_of g in
+    let harts : numbered 0 all ≡ g.board.harts = ap (λ (x : Guest). x.board.harts) made in
+    let long : length g.board.harts ≡ length all = ap length (sym harts) ∙ length-numbered 0 all in
+    let there : HaveRegisters (length all) all = subst (λ (ps : List HartPart). HaveRegisters (length ps) ps) are have in
+    record {
+      harts = λ k lt. made_harts g all harts there k (omega (arith, lt, long));
+      msip = ap (λ (x : Guest). length x.board.shared.devices.msip) (sym made) ∙ length-map all (λ p. p.msip) ∙ sym long;
+      mtimecmp = ap (λ (x : Guest). length x.board.shared.devices.mtimecmp) (sym made) ∙ length-map all (λ p. p.mtimecmp) ∙ sym long;
+      reservations = ap (λ (x : Guest). length x.board.shared.reservations) (sym made) ∙ length-map all (λ p. p.reserved) ∙ sym long;
+      stopped = ap (λ (x : Guest). length x.stopped) (sym made) ∙ length-map all (λ p. p.stopped) ∙ sym long;
+      whole = whole;
+      count = count;
+    }
 
 pub sized : (g : Guest) (pages : ℕ) → size_of g ≡ 4096 * pages → 0 < size_of g → size_of g ≤ 2 ^ 24 → (size_of g % 4096 ≡ 0) × (within 1 4096 (count_of g) ≡ true)
 sized g pages whole some bound =

@@ -11,7 +11,7 @@ use Rattle.rvm_codec.proofs.Steps.{IsBytes-drop, and_so, both_are, none_is, same
 use Rattle.rvm_codec.proofs.Exact.{alone_exact, as_exact, both_exact, flag_exact, optional_exact, then_each_exact}
 use Rattle.rvm_debug.specs.declared.part.HartPart.{HartPart}
 use Rattle.rvm_state.specs.Formats.{anything, csrs_of, csr_parts, hart_of, hart_parts, shared_of, shared_parts}
-use Rattle.rvm_state.specs.State.{State}
+use Rattle.rvm_debug.specs.State.{State}
 use Rattle.rvm_guest.specs.Values.{one, many, interrupts, interrupts_in, flags_of, csrs, hart, shared, values, values_in, value_parts}
 
 -- EXACT

@@ -8,7 +8,7 @@ use Rattle.rvm_codec.specs.Codec.{◌>>=◌}
 use Rattle.rvm_debug.specs.Guest.{Guest}
 use Rattle.rvm_state.specs.Formats.{state}
 use Rattle.rvm_state.specs.Spelling.{spelling}
-use Rattle.rvm_state.specs.State.{State, state_of, guest_of}
+use Rattle.rvm_debug.specs.State.{State, state_of, guest_of}
 use Rattle.rvm_guest.specs.Pages.{joined, size_of}
 use Rattle.rvm_guest.specs.Values.{values}
 

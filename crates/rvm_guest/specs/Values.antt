@@ -7,7 +7,7 @@ use Rattle.rvm_codec.specs.Codec.{Codec, as_type, both, flag, optional, then_eac
 use Rattle.rvm_codec.specs.Format.{Format, alone}
 use Rattle.rvm_debug.specs.declared.part.HartPart.{HartPart}
 use Rattle.rvm_state.specs.Formats.{anything, csrs_of, csr_parts, hart_of, hart_parts, shared_of, shared_parts}
-use Rattle.rvm_state.specs.State.{State}
+use Rattle.rvm_debug.specs.State.{State}
 
 -- a number, as it is
 abbrev pub front : List ℕ → Option (ℕ × List ℕ)

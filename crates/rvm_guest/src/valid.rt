@@ -11,10 +11,10 @@ use rvm_mem::Memory;
 pub fn valid_guest<M: Memory>(guest: &Debugged<M>)
     ensures { is_valid guest.now.guest ≡ true }
 {
-    let _fields = guest.devices().fields();
     let _size = guest.memory().len();
-    for hart in 0..guest.harts() {
-        has_registers(&guest.hart_part(hart).fields.registers);
+    let snapshot = guest.snapshot();
+    for part in snapshot.harts.as_slice() {
+        has_registers(&part.fields.registers);
     }
 }
 

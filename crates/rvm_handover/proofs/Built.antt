@@ -9,7 +9,7 @@ use Rattle.rvm_state.specs.declared.fault.StateFault.{StateFault}
 use Rattle.rvm_state.specs.declared.fault.StateFault.TheVariants.{BadState, OutOfMemory}
 use Rattle.rvm_state.specs.Formats.{state}
 use Rattle.rvm_state.specs.Spelling.{Spells}
-use Rattle.rvm_state.specs.State.{State, guest_of, state_of}
+use Rattle.rvm_debug.specs.State.{State, guest_of, state_of}
 use Rattle.rvm_state.proofs.Fits.{can_be_restored}
 use Rattle.rvm_state.proofs.Reading.{found, none}
 use Rattle.rvm_guest.specs.Body.{build}

@@ -13,9 +13,9 @@ use Rattle.rvm_codec.proofs.Steps.{both_are}
 use Rattle.rvm_debug.specs.declared.part.HartPart.{HartPart}
 use Rattle.rvm_debug.specs.Guest.{AreAbove, AreRising}
 use Rattle.rvm_debug.specs.Parts.{CanBeHeld}
-use Rattle.rvm_state.specs.State.{State}
+use Rattle.rvm_debug.specs.State.{State}
 use Rattle.rvm_state.specs.Formats.{aligned, mstatus, mie, mtvec, csrs, hart, shared, head, breakpoints, parts, state}
-use Rattle.rvm_state.specs.Restoring.{AreHeld, CanBeRestored}
+use Rattle.rvm_debug.specs.Restoring.{AreHeld, CanBeRestored}
 
 aligned_is : (n : ℕ) → aligned.fits n ≡ true → n % 4 ≡ 0
 aligned_is n h = eqb-true _ _ (both_are ((any 4).fits n) (eqb (n % 4) 0) h).1

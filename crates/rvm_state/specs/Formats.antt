@@ -10,7 +10,7 @@ use Rattle.rvm_codec.specs.Numbers.{rise_from, within}
 use Rattle.rvm_codec.specs.Codec.{Codec, any, as_type, both, counted_bytes, counted_each, flag, number, only, optional, then_each, times}
 use Rattle.rvm_codec.specs.Format.{Format, alone}
 use Rattle.rvm_debug.specs.declared.part.HartPart.{HartPart}
-use Rattle.rvm_state.specs.State.{State}
+use Rattle.rvm_debug.specs.State.{State}
 
 -- a number of four bytes that is a multiple of four
 abbrev pub aligned : Codec ℕ

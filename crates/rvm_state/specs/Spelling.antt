@@ -1,7 +1,7 @@
 -- The one spelling of a guest.
 use Rattle.std.specs.Prelude.{◌≡◌, ◌<◌, ◌+◌, ◌*◌, ℕ, true, List, length}
 use Rattle.rvm_debug.specs.Guest.{Guest}
-use Rattle.rvm_state.specs.State.{guest_of, state_of}
+use Rattle.rvm_debug.specs.State.{guest_of, state_of}
 use Rattle.rvm_state.specs.Formats.{state}
 
 -- the bytes of a guest

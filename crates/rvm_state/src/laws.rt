@@ -3,7 +3,7 @@
 ghost use Rattle.std.specs.Prelude.{◌≡◌, ◌<◌, ℕ, List, Some, length};
 ghost use Rattle.rvm_debug.specs.Guest.{Guest};
 ghost use Rattle.rvm_state.specs.Formats.{state};
-ghost use Rattle.rvm_state.specs.State.{state_of};
+ghost use Rattle.rvm_debug.specs.State.{state_of};
 ghost use Rattle.rvm_state.specs.Spelling.{HasSpelling, Spells, spelling};
 
 /// Bytes and a RAM spell at most one guest.

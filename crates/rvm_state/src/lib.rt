@@ -13,16 +13,16 @@
 //! - the input that waits, a count of one byte and the bytes, oldest first; the output, a count of
 //!   two bytes and the bytes; the breakpoints, a count of one byte and four bytes each, rising.
 //!
-//! To be read in this order: `fault`, `fields`, `parts`, `read`, `put`, `write`,
+//! To be read in this order: `fault`, `fields`, `snapshot`, `read`, `put`, `write`,
 //! `laws`.
 #![tactic(auto)]
 
 mod fault;
 mod fields;
 pub mod laws;
-mod parts;
 mod put;
 mod read;
+mod snapshot;
 mod write;
 
 pub use fault::StateFault;

@@ -1,7 +1,7 @@
 use Rattle.std.proofs.Common.{◌≡◌, ◌-◌, length}
 use Rattle.rvm_codec.specs.Codec.{any, read_each}
 use Rattle.rvm_codec.proofs.EachLoop.{with_front}
-use Rattle.rvm_state.proofs.parts.words_at.Given as goal
+use Rattle.rvm_state.proofs.snapshot.words_at.Given as goal
 
 -- those so far before those still to be read are all
 abbrev pub invariant-loop : goal.invariant-loop

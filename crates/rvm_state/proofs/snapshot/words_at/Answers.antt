@@ -1,7 +1,7 @@
 use Rattle.std.proofs.Common.{◌≡◌, ◌++◌, ◌∷◌, [], length, sym, ap, arith, length-append}
 use Rattle.rvm_codec.specs.Codec.{any, read_each}
 use Rattle.rvm_codec.proofs.EachLoop.{goes_on, ends, is_done}
-use Rattle.rvm_state.proofs.parts.words_at.Goals as goal
+use Rattle.rvm_state.proofs.snapshot.words_at.Goals as goal
 
 pub returns-in-None-clause-words : goal.returns-in-None-clause-words
 returns-in-None-clause-words g c =

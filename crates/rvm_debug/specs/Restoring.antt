@@ -1,9 +1,9 @@
--- A guest that is given the values that were read.
+-- A guest that is given the values of a snapshot.
 use Rattle.std.specs.Prelude.{◌≡◌, ℕ, ◌+◌, ◌≤◌, List, [], ◌∷◌, length}
 use Rattle.rvm_debug.specs.declared.part.HartPart.{HartPart}
 use Rattle.rvm_debug.specs.Guest.{AreRising, Guest}
 use Rattle.rvm_debug.specs.Parts.{CanBeHeld, hart_restored}
-use Rattle.rvm_state.specs.State.{State}
+use Rattle.rvm_debug.specs.State.{State}
 
 -- each hart from h on with its values
 unfoldable pub harts_restored : (h : ℕ) → List HartPart → Guest → Guest

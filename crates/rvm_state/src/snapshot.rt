@@ -1,18 +1,18 @@
-//! All that state bytes spell, in place.
+//! The snapshot that state bytes spell.
 
 ghost use Rattle.std.specs.Prelude.{◌≡◌, ◌≤◌, true, length, option_map, IfSome};
 ghost use Rattle.arrayvec.specs.ArrayVec.{array_vec_len};
 ghost use Rattle.rvm_codec.specs.Numbers.{within};
-ghost use Rattle.rvm_codec.specs.Codec.{any, counted_bytes, read_each, times};
+ghost use Rattle.rvm_codec.specs.Codec.{any, bytes_at, counted_bytes, read_each, times};
+ghost use Rattle.rvm_debug.specs.Snapshot.{state_in};
 ghost use Rattle.rvm_state.specs.Formats.{breakpoints, hart, head, state};
-ghost use Rattle.rvm_state.specs.Read.{state_in};
 
 use crate::fields::{aligned_at, csrs_at, reserved_at, shared_at};
 use arrayvec::ArrayVec;
 use rvm_board::MAX_HARTS;
 use rvm_codec::{bytes_at, flag_at, u8_within, u16_within, u32_at, u32s_rise, u64_at};
-use rvm_debug::{HartPart, MAX_BREAKPOINTS};
-use rvm_dev::DeviceFields;
+use rvm_debug::{HartPart, MAX_BREAKPOINTS, Snapshot};
+use rvm_dev::{DeviceFields, INPUT_CAPACITY, OUTPUT_CAPACITY};
 use rvm_hart::HartFields;
 
 /// The most harts that a board has.
@@ -20,16 +20,6 @@ const HARTS: usize = MAX_HARTS as usize;
 
 /// How many registers a hart has besides x0.
 const REGISTERS: usize = 31;
-
-/// What is kept of each hart, what the devices keep that all share, the queues and the breakpoints.
-#[derive(Drop)]
-pub(crate) struct Parts<'a> {
-    pub(crate) harts: ArrayVec<HartPart, HARTS>,
-    pub(crate) shared: DeviceFields,
-    pub(crate) input: &'a [u8],
-    pub(crate) output: &'a [u8],
-    pub(crate) breakpoints: ArrayVec<u32, MAX_BREAKPOINTS>,
-}
 
 /// So many numbers of four bytes.
 fn words_at<const CAP: usize>(count: usize, bytes: &[u8]) -> Option<(ArrayVec<u32, CAP>, &[u8])>
@@ -121,22 +111,34 @@ fn head_at(bytes: &[u8]) -> Option<((u8, DeviceFields), &[u8])>
     Some(((count, shared), rest))
 }
 
+/// So many bytes of a queue.
+fn queue_at<const CAP: usize>(count: usize, bytes: &[u8]) -> Option<(ArrayVec<u8, CAP>, &[u8])>
+    requires { count ≤ CAP }
+    ensures { option_map (λ x. (x.0.items, x.1.now)) result ≡ bytes_at count bytes.now }
+{
+    let (front, rest) = bytes_at(count, bytes)?;
+    let mut queue = ArrayVec::new();
+    let fits = queue.try_extend_from_slice(front).is_ok();
+    prove!(fits);
+    Some((queue, rest))
+}
+
 /// The bytes that wait for the guest.
-fn input_at(bytes: &[u8]) -> Option<(&[u8], &[u8])>
-    ensures { option_map (λ x. (x.0.now, x.1.now)) result
+fn input_at(bytes: &[u8]) -> Option<(ArrayVec<u8, INPUT_CAPACITY>, &[u8])>
+    ensures { option_map (λ x. (x.0.items, x.1.now)) result
         ≡ (counted_bytes 1 (within 0 16)).read bytes.now }
 {
     let (count, rest) = u8_within(0, 16, bytes)?;
-    bytes_at(count as usize, rest)
+    queue_at(count as usize, rest)
 }
 
 /// The bytes that wait for the console.
-fn output_at(bytes: &[u8]) -> Option<(&[u8], &[u8])>
-    ensures { option_map (λ x. (x.0.now, x.1.now)) result
+fn output_at(bytes: &[u8]) -> Option<(ArrayVec<u8, OUTPUT_CAPACITY>, &[u8])>
+    ensures { option_map (λ x. (x.0.items, x.1.now)) result
         ≡ (counted_bytes 2 (within 0 4096)).read bytes.now }
 {
     let (count, rest) = u16_within(0, 4096, bytes)?;
-    bytes_at(count as usize, rest)
+    queue_at(count as usize, rest)
 }
 
 /// The breakpoints.
@@ -153,12 +155,12 @@ fn breakpoints_at(bytes: &[u8]) -> Option<(ArrayVec<u32, MAX_BREAKPOINTS>, &[u8]
     }
 }
 
-/// All that the bytes spell, with a RAM of so many bytes; None where they spell nothing.
+/// The snapshot that the bytes spell, with a RAM of so many bytes; None where they spell none.
 #[tactic(auto, unfolding(crate::specs::Formats::state, crate::specs::Formats::parts))]
-pub(crate) fn parts_of(size: u32, bytes: &[u8]) -> Option<Parts<'_>>
+pub(crate) fn snapshot_of(size: u32, bytes: &[u8]) -> Option<Snapshot>
     ensures { option_map state_in result ≡ (state size).read bytes.now }
 {
-    let ((count, shared), rest) = head_at(bytes)?;
+    let ((count, devices), rest) = head_at(bytes)?;
     let (harts, rest) = harts_at(size, count as usize, rest)?;
     let (input, rest) = input_at(rest)?;
     let (output, rest) = output_at(rest)?;
@@ -166,9 +168,9 @@ pub(crate) fn parts_of(size: u32, bytes: &[u8]) -> Option<Parts<'_>>
     if !rest.is_empty() {
         return None;
     }
-    Some(Parts {
+    Some(Snapshot {
         harts,
-        shared,
+        devices,
         input,
         output,
         breakpoints,

@@ -10,7 +10,7 @@ use Rattle.rvm_board.specs.Board.{new_hart}
 use Rattle.rvm_debug.specs.declared.part.HartPart.{HartPart}
 use Rattle.rvm_debug.specs.Guest.{Guest}
 use Rattle.rvm_debug.specs.Parts.{part_of}
-use Rattle.rvm_state.specs.State.{State, guest_of, numbered, parts_of, state_of}
+use Rattle.rvm_debug.specs.State.{State, guest_of, numbered, parts_of, state_of}
 
 pub length-numbered : (h : ℕ) (ps : List HartPart) → length (numbered h ps) ≡ length ps
 length-numbered h [] = refl

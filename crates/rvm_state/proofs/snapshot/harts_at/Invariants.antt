@@ -2,7 +2,7 @@ use Rattle.std.proofs.Common.{◌≡◌, ◌-◌, length}
 use Rattle.rvm_codec.specs.Codec.{read_each}
 use Rattle.rvm_state.specs.Formats.{hart}
 use Rattle.rvm_codec.proofs.EachLoop.{with_front}
-use Rattle.rvm_state.proofs.parts.harts_at.Given as goal
+use Rattle.rvm_state.proofs.snapshot.harts_at.Given as goal
 
 -- those so far before those still to be read are all
 abbrev pub invariant-loop : goal.invariant-loop

@@ -1,4 +1,4 @@
--- A guest without its RAM, as the values that its bytes spell.
+-- A guest without its RAM, as plain values.
 use Rattle.std.specs.Prelude.{ℕ, ◌+◌, List, [], ◌∷◌, length, map}
 use Rattle.std.specs.List.{range_with_len}
 use Rattle.rvm_dev.specs.declared.fields.DeviceFields.{DeviceFields}

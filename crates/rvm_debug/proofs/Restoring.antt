@@ -8,8 +8,8 @@ use Rattle.rvm_debug.specs.declared.part.HartPart.{HartPart}
 use Rattle.rvm_board.specs.Board.{Board}
 use Rattle.rvm_debug.specs.Guest.{Guest, GuestState, fresh}
 use Rattle.rvm_debug.specs.Parts.{CanBeHeld, hart_restored, restored}
-use Rattle.rvm_state.specs.State.{State, guest_of, numbered}
-use Rattle.rvm_state.specs.Restoring.{AreHeld, IsOf, harts_restored}
+use Rattle.rvm_debug.specs.State.{State, guest_of, numbered}
+use Rattle.rvm_debug.specs.Restoring.{AreHeld, IsOf, harts_restored}
 
 -- ONE HART
 
@@ -129,12 +129,14 @@ pub restored_is : (ps : List HartPart) (g : Guest) → IsOf (length ps) g → ha
 restored_is ps g is = restored_from ps 0 g (record { harts = omega (arith, is.harts); msip = omega (arith, is.msip); mtimecmp = omega (arith, is.mtimecmp); reservations = omega (arith, is.reservations); stopped = omega (arith, is.stopped) })
 
 -- the guest of a board whose values are all replaced
-pub all_restored : (b : Board) (s : State) (harts : List HartPart) (addresses : List ℕ) (g0 g1 g2 g3 : Guest) → IsOf (length s.harts) (fresh b) → harts ≡ s.harts → addresses ≡ s.breakpoints
-    → g0 ≡ fresh b → g1 ≡ harts_restored 0 harts g0 → g2 ≡ restored s.shared s.input s.output g1 → g3 ≡ record g2 { breakpoints = addresses } → g3 ≡ guest_of b.shared.bytes s
-all_restored b s harts addresses g0 g1 g2 g3 is of_harts of_addresses e0 e1 e2 e3 =
+pub all_restored : (b : Board) (s : State) (harts : List HartPart) (input output addresses : List ℕ) (g0 g1 g2 g3 : Guest) → IsOf (length s.harts) (fresh b) → harts ≡ s.harts → input ≡ s.input → output ≡ s.output → addresses ≡ s.breakpoints
+    → g0 ≡ fresh b → g1 ≡ harts_restored 0 harts g0 → g2 ≡ restored s.shared input output g1 → g3 ≡ record g2 { breakpoints = addresses } → g3 ≡ guest_of b.shared.bytes s
+all_restored b s harts input output addresses g0 g1 g2 g3 is of_harts of_input of_output of_addresses e0 e1 e2 e3 =
     let with_all : Guest = with_lists (numbered 0 s.harts) (map (λ p. p.msip) s.harts) (map (λ p. p.mtimecmp) s.harts) (map (λ p. p.reserved) s.harts) (map (λ p. p.stopped) s.harts) (fresh b) in
     let lists : g1 ≡ with_all =
     e1 ∙ ap (λ hs. harts_restored 0 hs g0) of_harts ∙ ap (λ g. harts_restored 0 s.harts g) e0 ∙ restored_is s.harts (fresh b) is in
+    let queues : g2 ≡ restored s.shared s.input s.output with_all =
+    e2 ∙ ap (λ bytes. restored s.shared bytes output g1) of_input ∙ ap (λ bytes. restored s.shared s.input bytes g1) of_output ∙ ap (λ g. restored s.shared s.input s.output g) lists in
     e3
-    ∙ ap (λ (g : Guest). record g { breakpoints = addresses }) (e2 ∙ ap (λ g. restored s.shared s.input s.output g) lists)
+    ∙ ap (λ (g : Guest). record g { breakpoints = addresses }) queues
     ∙ ap (λ (bs : List ℕ). record (restored s.shared s.input s.output with_all) { breakpoints = bs }) of_addresses

@@ -2,7 +2,7 @@ use Rattle.std.proofs.Common.{◌≡◌, ◌++◌, ◌∷◌, [], length, sym, a
 use Rattle.rvm_codec.specs.Codec.{read_each}
 use Rattle.rvm_state.specs.Formats.{hart}
 use Rattle.rvm_codec.proofs.EachLoop.{goes_on, ends, is_done}
-use Rattle.rvm_state.proofs.parts.harts_at.Goals as goal
+use Rattle.rvm_state.proofs.snapshot.harts_at.Goals as goal
 
 pub returns-in-None-clause-harts : goal.returns-in-None-clause-harts
 returns-in-None-clause-harts c =
