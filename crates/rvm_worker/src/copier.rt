@@ -39,7 +39,7 @@ fn pause<R: Clock>(rt: &R, millis: u32) {
 pub fn copier_worker<L: Seating, M: PagedMemory + Drop, K: Link + Drop, G: Gate, R: Wait + Clock>(
     rt: &R,
     alloc: Global,
-    side: &Side<L, M, K>,
+    side: &Side<'_, L, M, K>,
     seat: Seat<L>,
     gate: &G,
     to: u8,
@@ -66,7 +66,7 @@ pub fn copier_worker<L: Seating, M: PagedMemory + Drop, K: Link + Drop, G: Gate,
 fn move_guest<L: Seating, M: PagedMemory + Drop, K: Link + Drop, G: Gate, R: Wait + Clock>(
     rt: &R,
     alloc: Global,
-    side: &Side<L, M, K>,
+    side: &Side<'_, L, M, K>,
     caller: &mut Caller<L>,
     watch: &mut Watch<'_, G>,
     begin: Command,
@@ -86,7 +86,7 @@ fn move_guest<L: Seating, M: PagedMemory + Drop, K: Link + Drop, G: Gate, R: Wai
 fn copy_guest<L: Seating, M: PagedMemory + Drop, K: Link + Drop, G: Gate, R: Wait + Clock>(
     rt: &R,
     alloc: Global,
-    side: &Side<L, M, K>,
+    side: &Side<'_, L, M, K>,
     caller: &mut Caller<L>,
     watch: &mut Watch<'_, G>,
     begin: Command,
@@ -105,7 +105,7 @@ fn copy_guest<L: Seating, M: PagedMemory + Drop, K: Link + Drop, G: Gate, R: Wai
 fn copy_until<L: Seating, M: PagedMemory + Drop, K: Link + Drop, G: Gate, R: Wait + Clock>(
     rt: &R,
     alloc: Global,
-    side: &Side<L, M, K>,
+    side: &Side<'_, L, M, K>,
     caller: &mut Caller<L>,
     watch: &mut Watch<'_, G>,
 ) -> Result<Next, WorkEnd>
@@ -132,7 +132,7 @@ fn copy_until<L: Seating, M: PagedMemory + Drop, K: Link + Drop, G: Gate, R: Wai
 fn copy<L: Seating, M: PagedMemory + Drop, K: Link + Drop, G: Gate, R: Wait>(
     rt: &R,
     alloc: Global,
-    side: &Side<L, M, K>,
+    side: &Side<'_, L, M, K>,
     caller: &mut Caller<L>,
     watch: &mut Watch<'_, G>,
 ) -> Result<Next, WorkEnd>
@@ -150,7 +150,7 @@ fn copy<L: Seating, M: PagedMemory + Drop, K: Link + Drop, G: Gate, R: Wait>(
 fn resend<L: Seating, M: PagedMemory + Drop, K: Link + Drop, G: Gate, R: Wait + Clock>(
     rt: &R,
     alloc: Global,
-    side: &Side<L, M, K>,
+    side: &Side<'_, L, M, K>,
     caller: &mut Caller<L>,
     watch: &mut Watch<'_, G>,
 ) -> WorkEnd
@@ -181,7 +181,7 @@ fn resend<L: Seating, M: PagedMemory + Drop, K: Link + Drop, G: Gate, R: Wait + 
 fn give_up<L: Seating, M: PagedMemory + Drop, K: Link + Drop, G: Gate, R: Wait + Clock>(
     rt: &R,
     alloc: Global,
-    side: &Side<L, M, K>,
+    side: &Side<'_, L, M, K>,
     caller: &mut Caller<L>,
     watch: &mut Watch<'_, G>,
 ) -> WorkEnd
@@ -217,7 +217,7 @@ fn abort_without_memory<
 >(
     rt: &R,
     alloc: Global,
-    side: &Side<L, M, K>,
+    side: &Side<'_, L, M, K>,
     caller: &mut Caller<L>,
     watch: &mut Watch<'_, G>,
 ) -> WorkEnd

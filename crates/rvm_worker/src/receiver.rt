@@ -46,7 +46,7 @@ pub fn receiver_worker<
 >(
     rt: &R,
     alloc: Global,
-    side: &Side<L, M, K>,
+    side: &Side<'_, L, M, K>,
     seat: Seat<L>,
     gate: &G,
     worker: Worker,
@@ -73,7 +73,7 @@ pub fn receiver_worker<
 fn hear<L: Seating, M: PagedMemory + Drop, K: Link + Drop, I: Link, G: Gate, R: Wait>(
     rt: &R,
     alloc: Global,
-    side: &Side<L, M, K>,
+    side: &Side<'_, L, M, K>,
     caller: &mut Caller<L>,
     watch: &mut Watch<'_, G>,
     from: u8,
@@ -141,7 +141,7 @@ fn end_of_stream(is_inside: bool) -> WorkEnd
 fn take<L: Seating, M: PagedMemory + Drop, K: Link + Drop, G: Gate, R: Wait>(
     rt: &R,
     alloc: Global,
-    side: &Side<L, M, K>,
+    side: &Side<'_, L, M, K>,
     caller: &mut Caller<L>,
     watch: &mut Watch<'_, G>,
     from: u8,
@@ -169,7 +169,7 @@ fn take<L: Seating, M: PagedMemory + Drop, K: Link + Drop, G: Gate, R: Wait>(
 fn came<L: Seating, M: PagedMemory + Drop, K: Link + Drop, G: Gate, R: Wait>(
     rt: &R,
     alloc: Global,
-    side: &Side<L, M, K>,
+    side: &Side<'_, L, M, K>,
     caller: &mut Caller<L>,
     watch: &mut Watch<'_, G>,
     from: u8,

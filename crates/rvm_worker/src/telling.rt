@@ -15,9 +15,9 @@ use std::sync::Wait;
 
 /// A host, and the end at which its frames are sent.
 #[derive(Drop)]
-pub struct Side<L: Seating, M: PagedMemory + Drop, K: Link + Drop> {
-    pub host: SharedHost<L, M>,
-    pub outgoing: Outgoing<K>,
+pub struct Side<'s, L: Seating, M: PagedMemory + Drop, K: Link + Drop> {
+    pub host: &'s SharedHost<L, M>,
+    pub outgoing: &'s Outgoing<K>,
 }
 
 /// The reply to a call, and whether the frame that it made was sent.
@@ -31,7 +31,7 @@ pub(crate) struct Told {
 pub(crate) fn tell<L: Seating, M: PagedMemory + Drop, K: Link + Drop, G: Gate, R: Wait>(
     rt: &R,
     alloc: Global,
-    side: &Side<L, M, K>,
+    side: &Side<'_, L, M, K>,
     caller: &mut Caller<L>,
     watch: &mut Watch<'_, G>,
     event: HostEvent,
@@ -39,8 +39,8 @@ pub(crate) fn tell<L: Seating, M: PagedMemory + Drop, K: Link + Drop, G: Gate, R
     ensures { caller.new.start ≡ caller.old.start }
 {
     watch.before()?;
-    let (reply, frame) = caller.call(rt, alloc, &side.host, event)?;
-    let sent = send(rt, alloc, &side.outgoing, frame);
+    let (reply, frame) = caller.call(rt, alloc, side.host, event)?;
+    let sent = send(rt, alloc, side.outgoing, frame);
     watch.after();
     Ok(Told { reply, sent })
 }

@@ -1,0 +1,68 @@
+//! How the workers of a move ended.
+
+ghost use Rattle.std.specs.Prelude.{◌≡◌};
+ghost use Rattle.rvm_move.specs.Ends.{failure, fails_copying, fails_hearing, fails_turns};
+
+use rvm_worker::WorkEnd;
+
+/// How each worker of a move ended.
+#[derive(Clone, Copy, Debug, PartialEq, Eq)]
+pub struct Ends {
+    pub harts: WorkEnd,
+    pub copier: WorkEnd,
+    pub at_a: WorkEnd,
+    pub at_b: WorkEnd,
+}
+
+impl Ends {
+    /// The first end, in this order, with which the move fails. The turns must come to their end, and
+    /// no worker may lack room. A link that failed stops the move, and not the guest: only where the
+    /// guest was given up by its first host does the copier fail with it.
+    pub fn failure(&self) -> Option<WorkEnd>
+        ensures { result ≡ failure self.now }
+    {
+        if fails_turns(self.harts) {
+            return Some(self.harts);
+        }
+        if fails_copying(self.copier) {
+            return Some(self.copier);
+        }
+        if fails_hearing(self.at_a) {
+            return Some(self.at_a);
+        }
+        if fails_hearing(self.at_b) {
+            return Some(self.at_b);
+        }
+        None
+    }
+}
+
+/// Whether the turns did not come to their end.
+fn fails_turns(end: WorkEnd) -> bool
+    ensures { result ≡ fails_turns end }
+{
+    match end {
+        WorkEnd::Halted(_) | WorkEnd::StepsSpent => false,
+        _ => true,
+    }
+}
+
+/// Whether the copier ended otherwise than with the move, given up or not.
+fn fails_copying(end: WorkEnd) -> bool
+    ensures { result ≡ fails_copying end }
+{
+    match end {
+        WorkEnd::Done | WorkEnd::GivenUp => false,
+        _ => true,
+    }
+}
+
+/// Whether a receiver lacked room, or was stopped.
+fn fails_hearing(end: WorkEnd) -> bool
+    ensures { result ≡ fails_hearing end }
+{
+    match end {
+        WorkEnd::OutOfMemory | WorkEnd::RecorderFull(_) | WorkEnd::Stopped => true,
+        _ => false,
+    }
+}

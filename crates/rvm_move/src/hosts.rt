@@ -1,0 +1,128 @@
+//! The two hosts of a move.
+
+ghost use Rattle.std.specs.Prelude.{◌≡◌, [], vec_len, IfOk};
+ghost use Rattle.rvm_move.specs.Hosts.{IsEnd};
+
+use rvm_cell::{CloseKind, Receipt, Seat, Seating, SharedHost, close, share};
+use rvm_journal::Recorded;
+use rvm_link::{Link, Outgoing};
+use rvm_mem::PagedMemory;
+use std::alloc::{AllocError, Global};
+use std::sync::Wait;
+use std::sync::ledger::Blank;
+
+/// The links of one host: the one that its frames go out by, and the one that the other host's come by.
+#[derive(Drop)]
+pub struct Links<K: Link + Drop> {
+    pub sending: K,
+    pub receiving: K,
+}
+
+/// A host behind a move, and why it was not closed, if it was not. Where it was, each entry of its journal
+/// has exactly one receipt.
+#[derive(Drop)]
+pub struct HostEnd<M: PagedMemory + Drop> {
+    pub recorded: Recorded<M>,
+    pub fault: Option<CloseKind>,
+}
+
+/// A host under its lock, and its stream, which is open.
+#[derive(Drop)]
+pub(crate) struct OpenHost<L: Seating, M: PagedMemory + Drop, K: Link + Drop> {
+    pub(crate) host: SharedHost<L, M>,
+    pub(crate) outgoing: Outgoing<K>,
+}
+
+/// Both hosts of a move.
+#[derive(Drop)]
+pub(crate) struct OpenHosts<'h, L: Seating, N: Seating, M: PagedMemory + Drop, K: Link + Drop> {
+    pub(crate) a: &'h OpenHost<L, M, K>,
+    pub(crate) b: &'h OpenHost<N, M, K>,
+}
+
+/// Shares a host and opens its stream: the host and its seats.
+pub(crate) fn open_host<L: Seating, M: PagedMemory + Drop, K: Link + Drop>(
+    alloc: Global,
+    blank: Blank,
+    recorded: Recorded<M>,
+    seats: u32,
+    version: u32,
+    sending: K,
+) -> Result<(OpenHost<L, M, K>, Vec<Seat<L>>), AllocError>
+    requires ledger { (blank.name ≡ L.name) × (blank.parts ≡ L.parts) × (L.seats ≡ L.parts) }
+    requires seats { blank.parts ≡ seats }
+    requires empty { recorded.journal.entries ≡ [] }
+    ensures { IfOk result (λ r. vec_len r.1 ≡ seats) }
+{
+    let Ok((host, list)) = share::<L, M>(alloc, blank, recorded, seats) else {
+        return Err(AllocError);
+    };
+    let Ok(outgoing) = Outgoing::open(alloc, sending, version) else {
+        return Err(AllocError);
+    };
+    Ok((OpenHost { host, outgoing }, list))
+}
+
+/// The seats and the receipts that workers give back. Some are missing where a growth was refused.
+#[derive(Drop)]
+pub(crate) struct Returned<L: Seating> {
+    seats: Vec<Seat<L>>,
+    receipts: Vec<Receipt>,
+    is_whole: bool,
+}
+
+impl<L: Seating> Returned<L> {
+    /// Nothing yet.
+    pub(crate) fn new(alloc: Global) -> Returned<L> {
+        Returned {
+            seats: Vec::new(alloc),
+            receipts: Vec::new(alloc),
+            is_whole: true,
+        }
+    }
+
+    /// A worker gave back its seat and its receipts.
+    pub(crate) fn add(&mut self, seat: Seat<L>, receipts: Vec<Receipt>) {
+        let mut receipts = receipts;
+        let is_seated = self.seats.push(seat).is_ok();
+        let is_told = self.receipts.append(&mut receipts).is_ok();
+        self.is_whole = self.is_whole && is_seated && is_told;
+    }
+}
+
+/// Closes a host whose workers have ended.
+pub(crate) fn close_host<L: Seating, M: PagedMemory + Drop, K: Link + Drop, R: Wait>(
+    rt: &R,
+    alloc: Global,
+    open: OpenHost<L, M, K>,
+    returned: Returned<L>,
+) -> HostEnd<M>
+    requires { L.seats ≡ L.parts }
+    ensures { IsEnd result.fault result.recorded.journal.entries }
+{
+    let OpenHost { host, outgoing: _ } = open;
+    let Returned {
+        seats,
+        receipts,
+        is_whole,
+    } = returned;
+    match close(rt, alloc, host, seats, receipts) {
+        Ok(recorded) => HostEnd {
+            recorded,
+            fault: None,
+        },
+        Err(error) => HostEnd {
+            recorded: error.opened.into_recorded(),
+            fault: Some(fault_of(is_whole, error.kind)),
+        },
+    }
+}
+
+/// Why a host was not closed: where something is missing that a growth had no room for, for that.
+fn fault_of(is_whole: bool, kind: CloseKind) -> CloseKind {
+    if is_whole {
+        kind
+    } else {
+        CloseKind::OutOfMemory
+    }
+}

@@ -1,0 +1,19 @@
+//! A move of a guest that runs: two hosts, and the four threads that work at them. One makes the turns
+//! of the guest's harts, one copies the guest from host A to host B, and one at each host receives the
+//! frames of the other. Behind the last of them both hosts are closed.
+//!
+//! Stands on the workers, and is generic over links and gate: it knows nothing of sockets, files or texts.
+//!
+//! To be read in this order: `plan`, `ends`, `hosts`, `threads`, `moving`.
+#![tactic(auto)]
+
+mod ends;
+mod hosts;
+mod moving;
+mod plan;
+mod threads;
+
+pub use ends::Ends;
+pub use hosts::{HostEnd, Links};
+pub use moving::{Moved, move_guest};
+pub use plan::Plan;

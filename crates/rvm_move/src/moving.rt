@@ -1,0 +1,179 @@
+//! A move from its beginning to its end.
+
+ghost use Rattle.std.specs.Prelude.{◌≡◌, [], vec_len, IfOk};
+ghost use Rattle.rvm_move.specs.Hosts.{IsEnd};
+
+use crate::ends::Ends;
+use crate::hosts::{HostEnd, Links, OpenHost, OpenHosts, Returned, close_host, open_host};
+use crate::plan::Plan;
+use crate::threads::{Carried, Taken, work};
+use rvm_cell::{Seat, Seating};
+use rvm_hart_worker::HartsWorked;
+use rvm_journal::Recorded;
+use rvm_link::Link;
+use rvm_mem::PagedMemory;
+use rvm_worker::Gate;
+use std::alloc::{AllocError, Global};
+use std::io::Write;
+use std::sync::Wait;
+use std::sync::ledger::Blank;
+use std::thread::Threads;
+use std::time::Clock;
+
+/// How many workers have a seat at host A.
+const SEATS_AT_A: u32 = 3;
+
+/// How many workers have a seat at host B.
+const SEATS_AT_B: u32 = 2;
+
+/// What stands behind a move: both hosts, and how the workers ended.
+#[derive(Drop)]
+pub struct Moved<M: PagedMemory + Drop> {
+    pub a: HostEnd<M>,
+    pub b: HostEnd<M>,
+    pub ends: Ends,
+}
+
+/// Moves the guest of the first host to the second one while it runs. What the guest sends goes to
+/// `writer`. It ends when all workers have ended: the one that makes the turns, the copier, and a receiver
+/// at each host. Refused, before anything was sent but a Hello, where a growth is. It may wait for other
+/// threads, and starts three.
+pub fn move_guest<
+    L: Seating + Send + Sync,
+    N: Seating + Send + Sync,
+    M: PagedMemory + Drop + Send,
+    K: Link + Drop + Send,
+    G: Gate + Sync,
+    W: Write,
+    R: Threads + Wait + Clock + Sync,
+>(
+    rt: &R,
+    alloc: Global,
+    blanks: (Blank, Blank),
+    recorded: (Recorded<M>, Recorded<M>),
+    links: (Links<K>, Links<K>),
+    gate: &G,
+    plan: &Plan,
+    writer: &mut W,
+) -> Result<Moved<M>, AllocError>
+    requires ledger_a { (blanks.0.name ≡ L.name) × (blanks.0.parts ≡ L.parts) × (L.seats ≡ L.parts) }
+    requires ledger_b { (blanks.1.name ≡ N.name) × (blanks.1.parts ≡ N.parts) × (N.seats ≡ N.parts) }
+    requires seats { (blanks.0.parts ≡ 3) × (blanks.1.parts ≡ 2) }
+    requires empty { (recorded.0.journal.entries ≡ []) × (recorded.1.journal.entries ≡ []) }
+    ensures a { IfOk result (λ m. IsEnd m.a.fault m.a.recorded.journal.entries) }
+    ensures b { IfOk result (λ m. IsEnd m.b.fault m.b.recorded.journal.entries) }
+{
+    let (blank_a, blank_b) = blanks;
+    let (recorded_a, recorded_b) = recorded;
+    let (links_a, links_b) = links;
+    let version = plan.version;
+    let (open_a, seats_a) =
+        open_host::<L, M, K>(alloc, blank_a, recorded_a, SEATS_AT_A, version, links_a.sending)?;
+    let (open_b, seats_b) =
+        open_host::<N, M, K>(alloc, blank_b, recorded_b, SEATS_AT_B, version, links_b.sending)?;
+    let hosts = OpenHosts {
+        a: &open_a,
+        b: &open_b,
+    };
+    let receiving = (links_a.receiving, links_b.receiving);
+    let (carried, turned) = seat_and_work(
+        rt, alloc, &hosts, seats_a, seats_b, receiving, gate, plan, writer,
+    );
+    Ok(close_both(rt, alloc, open_a, open_b, carried, turned))
+}
+
+/// Gives each worker its seats, and has all work.
+fn seat_and_work<
+    L: Seating + Send + Sync,
+    N: Seating + Send + Sync,
+    M: PagedMemory + Drop + Send,
+    K: Link + Drop + Send,
+    G: Gate + Sync,
+    W: Write,
+    R: Threads + Wait + Clock + Sync,
+>(
+    rt: &R,
+    alloc: Global,
+    hosts: &OpenHosts<'_, L, N, M, K>,
+    seats_a: Vec<Seat<L>>,
+    seats_b: Vec<Seat<N>>,
+    receiving: (K, K),
+    gate: &G,
+    plan: &Plan,
+    writer: &mut W,
+) -> (Carried<L, N>, HartsWorked<L, N>)
+    requires { (vec_len seats_a ≡ 3) × (vec_len seats_b ≡ 2) }
+{
+    let (mut seats_a, mut seats_b) = (seats_a, seats_b);
+    let (Some(receiver_a), Some(copier), Some(harts_a)) =
+        (seats_a.pop(), seats_a.pop(), seats_a.pop())
+    else {
+        unreachable!()
+    };
+    let (Some(receiver_b), Some(harts_b)) = (seats_b.pop(), seats_b.pop()) else {
+        unreachable!()
+    };
+    let (from_b, from_a) = receiving;
+    let taken = Taken {
+        copier,
+        receiver_a,
+        receiver_b,
+        from_b,
+        from_a,
+        policy: plan.policy,
+    };
+    work(
+        rt,
+        alloc,
+        (&hosts.a.host, &hosts.b.host),
+        (&hosts.a.outgoing, &hosts.b.outgoing),
+        taken,
+        (harts_a, harts_b),
+        gate,
+        plan,
+        writer,
+    )
+}
+
+/// Closes both hosts, with what their workers gave back.
+fn close_both<L: Seating, N: Seating, M: PagedMemory + Drop, K: Link + Drop, R: Wait>(
+    rt: &R,
+    alloc: Global,
+    open_a: OpenHost<L, M, K>,
+    open_b: OpenHost<N, M, K>,
+    carried: Carried<L, N>,
+    turned: HartsWorked<L, N>,
+) -> Moved<M>
+    requires { (L.seats ≡ L.parts) × (N.seats ≡ N.parts) }
+    ensures a { IsEnd result.a.fault result.a.recorded.journal.entries }
+    ensures b { IsEnd result.b.fault result.b.recorded.journal.entries }
+{
+    let Carried {
+        copier,
+        at_a,
+        at_b,
+    } = carried;
+    let HartsWorked {
+        seats: (harts_a, harts_b),
+        receipts: (turns_at_a, turns_at_b),
+        end,
+    } = turned;
+    let ends = Ends {
+        harts: end,
+        copier: copier.end,
+        at_a: at_a.end,
+        at_b: at_b.end,
+    };
+    let mut from_a = Returned::new(alloc);
+    from_a.add(harts_a, turns_at_a);
+    from_a.add(copier.seat, copier.receipts);
+    from_a.add(at_a.seat, at_a.receipts);
+    let mut from_b = Returned::new(alloc);
+    from_b.add(harts_b, turns_at_b);
+    from_b.add(at_b.seat, at_b.receipts);
+    Moved {
+        a: close_host(rt, alloc, open_a, from_a),
+        b: close_host(rt, alloc, open_b, from_b),
+        ends,
+    }
+}

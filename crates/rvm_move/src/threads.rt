@@ -1,0 +1,270 @@
+//! The threads of a move.
+
+use crate::plan::Plan;
+use rvm_cell::{Seat, Seating, SharedHost};
+use rvm_hart_worker::{HartsWorked, Hosts, hart_worker};
+use rvm_link::{Link, Outgoing};
+use rvm_mem::PagedMemory;
+use rvm_precopy::Policy;
+use rvm_worker::{Gate, Side, Worked, Worker, copier_worker, receiver_worker};
+use std::alloc::Global;
+use std::io::Write;
+use std::sync::Wait;
+use std::thread;
+use std::thread::Threads;
+use std::time::Clock;
+
+/// The number of the host from which the guest moves.
+pub(crate) const A: u8 = 0;
+
+/// The number of the host to which it moves.
+pub(crate) const B: u8 = 1;
+
+/// What the workers that move the guest take with them.
+#[derive(Drop)]
+pub(crate) struct Taken<L: Seating, N: Seating, K: Link + Drop> {
+    pub(crate) copier: Seat<L>,
+    pub(crate) receiver_a: Seat<L>,
+    pub(crate) receiver_b: Seat<N>,
+    pub(crate) from_b: K,
+    pub(crate) from_a: K,
+    pub(crate) policy: Policy,
+}
+
+/// What the workers at host A take with them.
+#[derive(Drop)]
+struct TakenAtA<L: Seating, K: Link + Drop> {
+    copier: Seat<L>,
+    receiver: Seat<L>,
+    receiving: K,
+    policy: Policy,
+}
+
+/// What the workers that move the guest give back.
+#[derive(Drop)]
+pub(crate) struct Carried<L: Seating, N: Seating> {
+    pub(crate) copier: Worked<L>,
+    pub(crate) at_a: Worked<L>,
+    pub(crate) at_b: Worked<N>,
+}
+
+/// Copies the guest of a host.
+fn copy<L: Seating, M: PagedMemory + Drop, K: Link + Drop, G: Gate, R: Wait + Clock>(
+    rt: &R,
+    alloc: Global,
+    host: &SharedHost<L, M>,
+    outgoing: &Outgoing<K>,
+    seat: Seat<L>,
+    gate: &G,
+    policy: Policy,
+) -> Worked<L> {
+    copier_worker(rt, alloc, &Side { host, outgoing }, seat, gate, B, policy)
+}
+
+/// Hears the other side. The link is dropped with the end of the receiver, so that whoever sends on it
+/// need not wait.
+fn hear<L: Seating, M: PagedMemory + Drop, K: Link + Drop, G: Gate, R: Wait>(
+    rt: &R,
+    alloc: Global,
+    host: &SharedHost<L, M>,
+    outgoing: &Outgoing<K>,
+    seat: Seat<L>,
+    gate: &G,
+    worker: Worker,
+    from: u8,
+    receiving: K,
+) -> Worked<L> {
+    let mut link = receiving;
+    let side = Side { host, outgoing };
+    receiver_worker(rt, alloc, &side, seat, gate, worker, from, &mut link)
+}
+
+/// Copies the guest of host A, and hears host B beside it. The first seat is the copier's.
+fn copy_and_hear<
+    L: Seating + Send + Sync,
+    M: PagedMemory + Drop + Send,
+    K: Link + Drop + Send,
+    G: Gate + Sync,
+    R: Threads + Wait + Clock + Sync,
+>(
+    rt: &R,
+    alloc: Global,
+    host: &SharedHost<L, M>,
+    outgoing: &Outgoing<K>,
+    seats: (Seat<L>, Seat<L>),
+    gate: &G,
+    policy: Policy,
+    receiving: K,
+) -> (Worked<L>, Worked<L>) {
+    let (copier, receiver) = seats;
+    thread::join(
+        rt,
+        move || copy(rt, alloc, host, outgoing, copier, gate, policy),
+        move || {
+            hear(
+                rt,
+                alloc,
+                host,
+                outgoing,
+                receiver,
+                gate,
+                Worker::ReceiverAtA,
+                B,
+                receiving,
+            )
+        },
+    )
+}
+
+/// Works at host A. Nothing is sent behind the end of both workers.
+fn work_at_a<
+    L: Seating + Send + Sync,
+    M: PagedMemory + Drop + Send,
+    K: Link + Drop + Send,
+    G: Gate + Sync,
+    R: Threads + Wait + Clock + Sync,
+>(
+    rt: &R,
+    alloc: Global,
+    host: &SharedHost<L, M>,
+    outgoing: &Outgoing<K>,
+    taken: TakenAtA<L, K>,
+    gate: &G,
+) -> (Worked<L>, Worked<L>) {
+    let TakenAtA {
+        copier,
+        receiver,
+        receiving,
+        policy,
+    } = taken;
+    let seats = (copier, receiver);
+    let worked = copy_and_hear(
+        rt, alloc, host, outgoing, seats, gate, policy, receiving,
+    );
+    outgoing.close(rt);
+    worked
+}
+
+/// Hears host A at host B. Nothing is sent behind the end.
+fn work_at_b<L: Seating, M: PagedMemory + Drop, K: Link + Drop, G: Gate, R: Wait>(
+    rt: &R,
+    alloc: Global,
+    host: &SharedHost<L, M>,
+    outgoing: &Outgoing<K>,
+    seat: Seat<L>,
+    gate: &G,
+    receiving: K,
+) -> Worked<L> {
+    let worked = hear(
+        rt,
+        alloc,
+        host,
+        outgoing,
+        seat,
+        gate,
+        Worker::ReceiverAtB,
+        A,
+        receiving,
+    );
+    outgoing.close(rt);
+    worked
+}
+
+/// Works at both hosts side by side.
+fn work_at_both<
+    L: Seating + Send + Sync,
+    N: Seating + Send + Sync,
+    M: PagedMemory + Drop + Send,
+    K: Link + Drop + Send,
+    G: Gate + Sync,
+    R: Threads + Wait + Clock + Sync,
+>(
+    rt: &R,
+    alloc: Global,
+    hosts: (&SharedHost<L, M>, &SharedHost<N, M>),
+    outgoing: (&Outgoing<K>, &Outgoing<K>),
+    taken: Taken<L, N, K>,
+    gate: &G,
+) -> ((Worked<L>, Worked<L>), Worked<N>) {
+    let Taken {
+        copier,
+        receiver_a,
+        receiver_b,
+        from_b,
+        from_a,
+        policy,
+    } = taken;
+    let a = TakenAtA {
+        copier,
+        receiver: receiver_a,
+        receiving: from_b,
+        policy,
+    };
+    let (host_a, host_b) = hosts;
+    let (to_b, to_a) = outgoing;
+    thread::join(
+        rt,
+        move || work_at_a(rt, alloc, host_a, to_b, a, gate),
+        move || work_at_b(rt, alloc, host_b, to_a, receiver_b, gate, from_a),
+    )
+}
+
+/// Moves the guest, by three threads.
+fn carry<
+    L: Seating + Send + Sync,
+    N: Seating + Send + Sync,
+    M: PagedMemory + Drop + Send,
+    K: Link + Drop + Send,
+    G: Gate + Sync,
+    R: Threads + Wait + Clock + Sync,
+>(
+    rt: &R,
+    alloc: Global,
+    hosts: (&SharedHost<L, M>, &SharedHost<N, M>),
+    outgoing: (&Outgoing<K>, &Outgoing<K>),
+    taken: Taken<L, N, K>,
+    gate: &G,
+) -> Carried<L, N> {
+    let ((copier, at_a), at_b) = work_at_both(rt, alloc, hosts, outgoing, taken, gate);
+    Carried {
+        copier,
+        at_a,
+        at_b,
+    }
+}
+
+/// Makes the turns of the guest's harts in this thread, and moves the guest in three more.
+pub(crate) fn work<
+    L: Seating + Send + Sync,
+    N: Seating + Send + Sync,
+    M: PagedMemory + Drop + Send,
+    K: Link + Drop + Send,
+    G: Gate + Sync,
+    W: Write,
+    R: Threads + Wait + Clock + Sync,
+>(
+    rt: &R,
+    alloc: Global,
+    hosts: (&SharedHost<L, M>, &SharedHost<N, M>),
+    outgoing: (&Outgoing<K>, &Outgoing<K>),
+    taken: Taken<L, N, K>,
+    hart_seats: (Seat<L>, Seat<N>),
+    gate: &G,
+    plan: &Plan,
+    writer: &mut W,
+) -> (Carried<L, N>, HartsWorked<L, N>) {
+    let (harts, steps) = (plan.harts, plan.steps);
+    let both = Hosts {
+        a: hosts.0,
+        b: hosts.1,
+    };
+    thread::join(
+        rt,
+        move || carry(rt, alloc, hosts, outgoing, taken, gate),
+        || {
+            hart_worker(
+                rt, alloc, &both, hart_seats, gate, writer, harts, steps,
+            )
+        },
+    )
+}
