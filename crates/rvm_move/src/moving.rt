@@ -67,10 +67,22 @@ pub fn move_guest<
     let (recorded_a, recorded_b) = recorded;
     let (links_a, links_b) = links;
     let version = plan.version;
-    let (open_a, seats_a) =
-        open_host::<L, M, K>(alloc, blank_a, recorded_a, SEATS_AT_A, version, links_a.sending)?;
-    let (open_b, seats_b) =
-        open_host::<N, M, K>(alloc, blank_b, recorded_b, SEATS_AT_B, version, links_b.sending)?;
+    let (open_a, seats_a) = open_host::<L, M, K>(
+        alloc,
+        blank_a,
+        recorded_a,
+        SEATS_AT_A,
+        version,
+        links_a.sending,
+    )?;
+    let (open_b, seats_b) = open_host::<N, M, K>(
+        alloc,
+        blank_b,
+        recorded_b,
+        SEATS_AT_B,
+        version,
+        links_b.sending,
+    )?;
     let hosts = OpenHosts {
         a: &open_a,
         b: &open_b,
@@ -105,9 +117,11 @@ fn seat_and_work<
     requires { (vec_len seats_a ≡ 3) × (vec_len seats_b ≡ 2) }
 {
     let (mut seats_a, mut seats_b) = (seats_a, seats_b);
-    let (Some(receiver_a), Some(copier), Some(harts_a)) =
-        (seats_a.pop(), seats_a.pop(), seats_a.pop())
-    else {
+    let (Some(receiver_a), Some(copier), Some(harts_a)) = (
+        seats_a.pop(),
+        seats_a.pop(),
+        seats_a.pop(),
+    ) else {
         unreachable!()
     };
     let (Some(receiver_b), Some(harts_b)) = (seats_b.pop(), seats_b.pop()) else {
@@ -148,11 +162,7 @@ fn close_both<L: Seating, N: Seating, M: PagedMemory + Drop, K: Link + Drop, R: 
     ensures a { IsEnd result.a.fault result.a.recorded.journal.entries }
     ensures b { IsEnd result.b.fault result.b.recorded.journal.entries }
 {
-    let Carried {
-        copier,
-        at_a,
-        at_b,
-    } = carried;
+    let Carried { copier, at_a, at_b } = carried;
     let HartsWorked {
         seats: (harts_a, harts_b),
         receipts: (turns_at_a, turns_at_b),

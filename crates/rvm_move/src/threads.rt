@@ -138,9 +138,7 @@ fn work_at_a<
         policy,
     } = taken;
     let seats = (copier, receiver);
-    let worked = copy_and_hear(
-        rt, alloc, host, outgoing, seats, gate, policy, receiving,
-    );
+    let worked = copy_and_hear(rt, alloc, host, outgoing, seats, gate, policy, receiving);
     outgoing.close(rt);
     worked
 }
@@ -226,11 +224,7 @@ fn carry<
     gate: &G,
 ) -> Carried<L, N> {
     let ((copier, at_a), at_b) = work_at_both(rt, alloc, hosts, outgoing, taken, gate);
-    Carried {
-        copier,
-        at_a,
-        at_b,
-    }
+    Carried { copier, at_a, at_b }
 }
 
 /// Makes the turns of the guest's harts in this thread, and moves the guest in three more.
@@ -261,10 +255,6 @@ pub(crate) fn work<
     thread::join(
         rt,
         move || carry(rt, alloc, hosts, outgoing, taken, gate),
-        || {
-            hart_worker(
-                rt, alloc, &both, hart_seats, gate, writer, harts, steps,
-            )
-        },
+        || { hart_worker(rt, alloc, &both, hart_seats, gate, writer, harts, steps) },
     )
 }

@@ -12,14 +12,14 @@ use Rattle.rvm_move.proofs.threads.work.Goals as goal
 pub join-requires-send-F : goal.join-requires-send-F
 join-requires-send-F g c κs within =
     let host_a : IsSync (SharedHost.the_row (param 0 g.row.L) (param 2 g.row.M) g.L.Seating g.L.Ledger g.M.Memory) =
-        shared_sync (param 0 g.row.L) (param 2 g.row.M) g.L.Seating g.L.Ledger g.M.Memory c.type_bounds.send-M in
+    shared_sync (param 0 g.row.L) (param 2 g.row.M) g.L.Seating g.L.Ledger g.M.Memory c.type_bounds.send-M in
     let host_b : IsSync (SharedHost.the_row (param 1 g.row.N) (param 2 g.row.M) g.N.Seating g.N.Ledger g.M.Memory) =
-        shared_sync (param 1 g.row.N) (param 2 g.row.M) g.N.Seating g.N.Ledger g.M.Memory c.type_bounds.send-M in
+    shared_sync (param 1 g.row.N) (param 2 g.row.M) g.N.Seating g.N.Ledger g.M.Memory c.type_bounds.send-M in
     let outgoing : IsSync (Outgoing.the_row (param 3 g.row.K)) = outgoing_sync (param 3 g.row.K) c.type_bounds.send-K in
     let taken : IsSend (Taken.the_row (param 0 g.row.L) (param 1 g.row.N) (param 3 g.row.K)
-        g.L.Seating g.L.Ledger g.N.Seating g.N.Ledger) =
-        taken_send (param 0 g.row.L) (param 1 g.row.N) (param 3 g.row.K)
-            g.L.Seating g.L.Ledger g.N.Seating g.N.Ledger c.type_bounds.send-K in
+    g.L.Seating g.L.Ledger g.N.Seating g.N.Ledger) =
+    taken_send (param 0 g.row.L) (param 1 g.row.N) (param 3 g.row.K)
+    g.L.Seating g.L.Ledger g.N.Seating g.N.Ledger c.type_bounds.send-K in
     let heap = send in
     let gate = c.type_bounds.sync-G in
     let rt = c.type_bounds.sync-R in

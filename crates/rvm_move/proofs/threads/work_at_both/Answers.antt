@@ -12,10 +12,10 @@ use Rattle.rvm_move.proofs.threads.work_at_both.Goals as goal
 pub join-requires-send-F : goal.join-requires-send-F
 join-requires-send-F g c κs within =
     let host : IsSync (SharedHost.the_row (param 0 g.row.L) (param 2 g.row.M) g.L.Seating g.L.Ledger g.M.Memory) =
-        shared_sync (param 0 g.row.L) (param 2 g.row.M) g.L.Seating g.L.Ledger g.M.Memory c.type_bounds.send-M in
+    shared_sync (param 0 g.row.L) (param 2 g.row.M) g.L.Seating g.L.Ledger g.M.Memory c.type_bounds.send-M in
     let outgoing : IsSync (Outgoing.the_row (param 3 g.row.K)) = outgoing_sync (param 3 g.row.K) c.type_bounds.send-K in
     let taken : IsSend (TakenAtA.the_row (param 0 g.row.L) (param 3 g.row.K) g.L.Seating g.L.Ledger) =
-        taken_at_a_send (param 0 g.row.L) (param 3 g.row.K) g.L.Seating g.L.Ledger c.type_bounds.send-K in
+    taken_at_a_send (param 0 g.row.L) (param 3 g.row.K) g.L.Seating g.L.Ledger c.type_bounds.send-K in
     let heap = send in
     let gate = c.type_bounds.sync-G in
     let rt = c.type_bounds.sync-R in
