@@ -4,8 +4,9 @@ use Rattle.std.specs.Str.Parse.{digits_value, without_leading_plus}
 use Rattle.clap.specs.Walk.{Row, Text, first_of, one_of}
 use Rattle.std.specs.Prelude.{List}
 use Rattle.rvm_arguments.specs.declared.arguments.Arguments.{Arguments}
-use Rattle.rvm_arguments.specs.declared.arguments.Arguments.TheVariants.{Run, Asm, Dis, Debug, Script}
+use Rattle.rvm_arguments.specs.declared.arguments.Arguments.TheVariants.{Run, Asm, Dis, Debug, Script, Move, Audit}
 use Rattle.rvm_arguments.specs.declared.arguments.GuestArguments.{GuestArguments}
+use Rattle.rvm_arguments.specs.declared.arguments.MoveArguments.{MoveArguments}
 use Rattle.rvm_arguments.specs.declared.arguments.RunArguments.{RunArguments}
 use Rattle.rvm_arguments.specs.declared.arguments.ScriptArguments.{ScriptArguments}
 
@@ -46,11 +47,22 @@ pub record IsScript (rows : List Row) (asked : ScriptArguments) : Type 0 where
   pub hosts : IsNumber (first_of (codes "hosts") rows) asked.hosts
   pub stream : IsOptionalNumber (first_of (codes "stream") rows) asked.stream
 
+-- a guest, its turns, when it is paused, and the version of the streams
+pub record IsMove (rows : List Row) (asked : MoveArguments) : Type 0 where
+  pub guest : IsGuest rows asked.guest
+  pub steps : IsNumber (first_of (codes "steps") rows) asked.steps
+  pub rounds : IsNumber (first_of (codes "rounds") rows) asked.rounds
+  pub left : IsNumber (first_of (codes "left") rows) asked.left
+  pub factor : IsNumber (first_of (codes "factor") rows) asked.factor
+  pub stream : IsNumber (first_of (codes "stream") rows) asked.stream
+
 -- what the words of a command with this name ask for
 abbrev pub Gives : Text → List Row → Arguments → Type 0
 Gives name rows (Run run) = (name ≡ codes "run") × IsRun rows run
 Gives name rows (Debug guest) = (name ≡ codes "debug") × IsGuest rows guest
 Gives name rows (Script script) = (name ≡ codes "script") × IsScript rows script
+Gives name rows (Move asked) = (name ≡ codes "move") × IsMove rows asked
+Gives name rows (Audit asked) = (name ≡ codes "audit") × IsMove rows asked
 Gives name rows (Asm asm) =
     (name ≡ codes "asm") × (first_of (codes "source") rows ≡ Some asm.source.now)
     × (first_of (codes "output") rows ≡ Some asm.output.now)

@@ -43,6 +43,21 @@ with_world command =
     with_rule (with_rule (with_guest command) (with_default (codes "2") (bounded (codes "hosts") 2 8)))
     (bounded (codes "stream") 1 3)
 
+-- a command that takes the words that say when a guest that moves is paused
+abbrev pub with_policy : App → App
+with_policy command =
+    with_rule
+    (with_rule (with_rule command (number (codes "rounds") (codes "29") 1000))
+    (number (codes "left") (codes "50") 4096))
+    (number (codes "factor") (codes "3") 100)
+
+-- a command that takes the words of a guest, of its turns and of its move
+abbrev pub with_move : App → App
+with_move command =
+    with_rule
+    (with_policy (with_rule (with_guest command) (number (codes "steps") (codes "10000") 100000)))
+    (number (codes "stream") (codes "1") 3)
+
 -- the commands
 abbrev pub run : App
 run =
@@ -62,6 +77,12 @@ debug = with_guest (new_app (codes "debug"))
 abbrev pub script : App
 script = with_rule (with_world (new_app (codes "script"))) (needed (codes "script"))
 
+abbrev pub move : App
+move = with_move (new_app (codes "move"))
+
+abbrev pub audit : App
+audit = with_move (new_app (codes "audit"))
+
 -- the program, which wants a command
 abbrev pub top : App
 top =
@@ -71,5 +92,7 @@ top =
 abbrev pub program : App
 program =
     with_subcommand
+    (with_subcommand
+    (with_subcommand
     (with_subcommand (with_subcommand (with_subcommand (with_subcommand top run.top) asm.top) dis.top)
-    debug.top) script.top
+    debug.top) script.top) move.top) audit.top

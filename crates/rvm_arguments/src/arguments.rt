@@ -12,6 +12,8 @@ pub enum Arguments<'a> {
     Dis(DisArguments<'a>),
     Debug(GuestArguments<'a>),
     Script(ScriptArguments<'a>),
+    Move(MoveArguments<'a>),
+    Audit(MoveArguments<'a>),
 }
 
 /// A guest: the file of its image, and its board. Each number is within its limits.
@@ -71,4 +73,25 @@ pub struct ScriptArguments<'a> {
     pub stream: Option<u32>,
     ghost hosts_allowed: { (2 ≤ hosts) × (hosts ≤ 8) },
     ghost stream_allowed: { ForSome stream (λ version. (1 ≤ version) × (version ≤ 3)) },
+}
+
+/// The arguments of `rvmove move` and of `rvmove audit`.
+#[derive(Debug, Drop)]
+pub struct MoveArguments<'a> {
+    pub guest: GuestArguments<'a>,
+    /// 1 to 100000 turns.
+    pub steps: u32,
+    /// The guest is paused after so many rounds of copies, 1 to 1000.
+    pub rounds: u32,
+    /// It is paused once fewer pages are left, 1 to 4096.
+    pub left: u32,
+    /// It is paused once more copies are made than so many times its pages, 1 to 100.
+    pub factor: u32,
+    /// The version of the streams, 1 to 3.
+    pub stream: u32,
+    ghost steps_allowed: { (1 ≤ steps) × (steps ≤ 100000) },
+    ghost rounds_allowed: { (1 ≤ rounds) × (rounds ≤ 1000) },
+    ghost left_allowed: { (1 ≤ left) × (left ≤ 4096) },
+    ghost factor_allowed: { (1 ≤ factor) × (factor ≤ 100) },
+    ghost stream_allowed: { (1 ≤ stream) × (stream ≤ 3) },
 }

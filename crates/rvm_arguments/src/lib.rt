@@ -11,6 +11,7 @@ mod program;
 mod reading;
 
 pub use arguments::{
-    Arguments, AsmArguments, DisArguments, GuestArguments, RunArguments, ScriptArguments,
+    Arguments, AsmArguments, DisArguments, GuestArguments, MoveArguments, RunArguments,
+    ScriptArguments,
 };
 pub use reading::{MAX_STEPS, parse_args};

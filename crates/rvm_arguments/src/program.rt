@@ -4,7 +4,7 @@ ghost use Rattle.std.specs.Prelude.{◌≡◌, false, codes, IfOk};
 ghost use Rattle.clap.specs.Simple.{app_of};
 ghost use Rattle.clap.specs.Walk.{rule_of};
 ghost use Rattle.clap.specs.declared.builder.command.Command.TheViews.{out-Command as fields_of};
-ghost use Rattle.rvm_arguments.specs.Program.{asm, bounded, debug, dis, flag, needed, number, option, program, run, script, with_default, with_guest, with_world};
+ghost use Rattle.rvm_arguments.specs.Program.{asm, audit, bounded, debug, dis, flag, move, needed, number, option, program, run, script, top, with_default, with_guest, with_move, with_policy, with_world};
 
 use clap::{Arg, ArgAction, Command, Error, value_parser};
 use std::alloc::Global;
@@ -66,22 +66,48 @@ A leading letter A to H names the host that is asked, else it is the one that ha
 With more than two hosts `begin` and `move` name the one that gets the guest. It stops after R rounds of
 copies (29), or once fewer than L pages are left (50) or more copies made than F times its pages (3).";
 
+/// What stands below the help of `move`.
+const MOVE_HELP: &str = "\
+Example: rvmove move hello.elf --steps 5000 --rounds 3
+
+Standard output has what `rvmove run` would write with the same steps. At the end standard error has the
+answers of both hosts.
+The guest is paused after R rounds of copies, or once fewer than L pages are left, or more copies made than
+F times its pages.";
+
+/// What stands below the help of `audit`.
+const AUDIT_HELP: &str = "\
+Example: rvmove audit hello.elf --steps 5000 --rounds 3 > order.txt
+
+Standard output has one order of what both hosts did: a script that `rvmove script` takes.
+The guest is paused after R rounds of copies, or once fewer than L pages are left, or more copies made than
+F times its pages.";
+
 /// The command line that the program takes.
 pub(crate) fn program<'a>(alloc: Global) -> Result<Command<'a>, Error>
     ensures { IfOk result (λ c. app_of c ≡ program) }
 {
     Ok(
-        Command::new(alloc, "rvmove")
-            .version(VERSION)
-            .about(ABOUT)
-            .subcommand_required(true)
-            .arg_required_else_help(true)
+        bare_program(alloc)
             .subcommand(run_command(alloc)?)?
             .subcommand(asm_command(alloc)?)?
             .subcommand(dis_command(alloc)?)?
             .subcommand(debug_command(alloc)?)?
-            .subcommand(script_command(alloc)?)?,
+            .subcommand(script_command(alloc)?)?
+            .subcommand(move_command(alloc)?)?
+            .subcommand(audit_command(alloc)?)?,
     )
+}
+
+/// The program without its commands, which wants one.
+fn bare_program<'a>(alloc: Global) -> Command<'a>
+    ensures { app_of result ≡ top }
+{
+    Command::new(alloc, "rvmove")
+        .version(VERSION)
+        .about(ABOUT)
+        .subcommand_required(true)
+        .arg_required_else_help(true)
 }
 
 /// The file of an image.
@@ -214,6 +240,71 @@ fn stream_argument<'a>(alloc: Global) -> Arg<'a>
         .help("The version of their streams, 1 to 3; if not given, 1 for two hosts and 3 for more")
 }
 
+/// How many turns a guest makes while it moves.
+fn move_steps_argument<'a>(alloc: Global) -> Arg<'a>
+    ensures rule { rule_of result ≡ number (codes "steps") (codes "10000") 100000 }
+    ensures local { result.global ≡ false }
+{
+    Arg::new(alloc, "steps")
+        .long("steps")
+        .value_name("N")
+        .default_value("10000")
+        .value_parser(value_parser!(u32).range(1..=100_000))
+        .help("How many turns at most, 1 to 100000")
+}
+
+/// After how many rounds of copies the guest is paused.
+fn rounds_argument<'a>(alloc: Global) -> Arg<'a>
+    ensures rule { rule_of result ≡ number (codes "rounds") (codes "29") 1000 }
+    ensures local { result.global ≡ false }
+{
+    Arg::new(alloc, "rounds")
+        .long("rounds")
+        .value_name("R")
+        .default_value("29")
+        .value_parser(value_parser!(u32).range(1..=1000))
+        .help("Pauses the guest after R rounds of copies, 1 to 1000")
+}
+
+/// With fewer than how many pages left it is paused.
+fn left_argument<'a>(alloc: Global) -> Arg<'a>
+    ensures rule { rule_of result ≡ number (codes "left") (codes "50") 4096 }
+    ensures local { result.global ≡ false }
+{
+    Arg::new(alloc, "left")
+        .long("left")
+        .value_name("L")
+        .default_value("50")
+        .value_parser(value_parser!(u32).range(1..=4096))
+        .help("Pauses it once fewer than L pages are left, 1 to 4096")
+}
+
+/// After more than how many copies for each page it is paused.
+fn factor_argument<'a>(alloc: Global) -> Arg<'a>
+    ensures rule { rule_of result ≡ number (codes "factor") (codes "3") 100 }
+    ensures local { result.global ≡ false }
+{
+    Arg::new(alloc, "factor")
+        .long("factor")
+        .value_name("F")
+        .default_value("3")
+        .value_parser(value_parser!(u32).range(1..=100))
+        .help("Pauses it once more copies are made than F times its pages, 1 to 100")
+}
+
+/// The version of the streams of a move.
+fn move_stream_argument<'a>(alloc: Global) -> Arg<'a>
+    ensures rule { rule_of result ≡ number (codes "stream") (codes "1") 3 }
+    ensures local { result.global ≡ false }
+{
+    Arg::new(alloc, "stream")
+        .long("stream")
+        .value_name("V")
+        .default_value("1")
+        .value_parser(value_parser!(u32).range(1..=3))
+        .help("The version of the streams, 1 to 3")
+}
+
 /// A command over a guest, with the words that describe it.
 fn guest_command<'a>(command: Command<'a>, alloc: Global) -> Result<Command<'a>, Error>
     ensures app { IfOk result (λ c. app_of c ≡ with_guest (app_of command.entry)) }
@@ -240,6 +331,30 @@ fn world_command<'a>(command: Command<'a>, alloc: Global) -> Result<Command<'a>,
             .arg(hosts_argument(alloc))?
             .arg(stream_argument(alloc))?,
     )
+}
+
+/// A command over a guest that moves, with the words that say when the guest is paused.
+fn policy_command<'a>(command: Command<'a>, alloc: Global) -> Result<Command<'a>, Error>
+    ensures app { IfOk result (λ c. app_of c ≡ with_policy (app_of command.entry)) }
+    ensures local { (fields_of command.entry).has_globals ≡ false
+        → IfOk result (λ c. (fields_of c).has_globals ≡ false) }
+{
+    Ok(
+        command
+            .arg(rounds_argument(alloc))?
+            .arg(left_argument(alloc))?
+            .arg(factor_argument(alloc))?,
+    )
+}
+
+/// A command over a guest that moves from one host to another, with the words that describe its move.
+fn moving_command<'a>(command: Command<'a>, alloc: Global) -> Result<Command<'a>, Error>
+    ensures app { IfOk result (λ c. app_of c ≡ with_move (app_of command.entry)) }
+    ensures local { (fields_of command.entry).has_globals ≡ false
+        → IfOk result (λ c. (fields_of c).has_globals ≡ false) }
+{
+    let guest = guest_command(command, alloc)?.arg(move_steps_argument(alloc))?;
+    Ok(policy_command(guest, alloc)?.arg(move_stream_argument(alloc))?)
 }
 
 /// The words that `run` takes.
@@ -302,4 +417,26 @@ fn script_command<'a>(alloc: Global) -> Result<Command<'a>, Error>
         .about("Answers the lines of a script for hosts between which a guest moves")
         .after_help(SCRIPT_HELP);
     Ok(world_command(script, alloc)?.arg(script_argument(alloc))?)
+}
+
+/// The words that `move` takes.
+fn move_command<'a>(alloc: Global) -> Result<Command<'a>, Error>
+    ensures app { IfOk result (λ c. app_of c ≡ move) }
+    ensures local { IfOk result (λ c. (fields_of c).has_globals ≡ false) }
+{
+    let command = Command::new(alloc, "move")
+        .about("Moves a guest from one host to another while it runs, and writes what it sends")
+        .after_help(MOVE_HELP);
+    moving_command(command, alloc)
+}
+
+/// The words that `audit` takes.
+fn audit_command<'a>(alloc: Global) -> Result<Command<'a>, Error>
+    ensures app { IfOk result (λ c. app_of c ≡ audit) }
+    ensures local { IfOk result (λ c. (fields_of c).has_globals ≡ false) }
+{
+    let audit = Command::new(alloc, "audit")
+        .about("Moves a guest as `move` does, and writes one order of what both hosts did")
+        .after_help(AUDIT_HELP);
+    moving_command(audit, alloc)
 }

@@ -4,11 +4,12 @@ ghost use Rattle.std.specs.Prelude.{◌≡◌, ◌≤◌, ◌&&◌, nat_le, if�
 ghost use Rattle.clap.specs.Matches.{found_of};
 ghost use Rattle.clap.specs.Simple.{subcommand_of, subcommand_rows_of};
 ghost use Rattle.clap.specs.Walk.{first_of, one_of, rows_of};
-ghost use Rattle.rvm_arguments.specs.Given.{Gives, IsAsked, IsFlag, IsGuest, IsNumber, IsOptionalNumber};
+ghost use Rattle.rvm_arguments.specs.Given.{Gives, IsAsked, IsFlag, IsGuest, IsMove, IsNumber, IsOptionalNumber};
 ghost use Rattle.rvm_arguments.specs.Program.{program};
 
 use crate::arguments::{
-    Arguments, AsmArguments, DisArguments, GuestArguments, RunArguments, ScriptArguments,
+    Arguments, AsmArguments, DisArguments, GuestArguments, MoveArguments, RunArguments,
+    ScriptArguments,
 };
 use crate::program::program;
 use clap::error::ErrorKind;
@@ -28,6 +29,15 @@ const MAX_STREAM: u32 = 3;
 
 /// The most turns that a run makes.
 pub const MAX_STEPS: u32 = 1_000_000_000;
+
+/// The most turns of a guest that moves.
+const MAX_MOVE_STEPS: u32 = 100_000;
+
+/// The most rounds of copies before a guest is paused.
+const MAX_ROUNDS: u32 = 1000;
+
+/// The most copies for each page before it is paused.
+const MAX_FACTOR: u32 = 100;
 
 /// Reads the command line, whose first word is the program's name. The error has `clap`'s text, and
 /// `exit_code` says what the program ends with.
@@ -52,6 +62,8 @@ fn read_matches<'a>(matches: &ArgMatches<'a>) -> Result<Arguments<'a>, &'static 
         Some(("dis", dis)) => read_dis(dis),
         Some(("debug", debug)) => read_debug(debug),
         Some(("script", script)) => read_script(script),
+        Some(("move", words)) => Ok(Arguments::Move(read_move(words)?)),
+        Some(("audit", words)) => Ok(Arguments::Audit(read_move(words)?)),
         _ => Err("a command is missing"),
     }
 }
@@ -159,6 +171,36 @@ fn read_stream(script: &ArgMatches) -> Result<Option<u32>, &'static str>
         Some(version) => Ok(Some(version)),
         None => Err("--stream takes a decimal number from 1 to 3"),
     }
+}
+
+/// The arguments of `move` and of `audit`, or which of them is not what it must be.
+fn read_move<'a>(words: &ArgMatches<'a>) -> Result<MoveArguments<'a>, &'static str>
+    ensures { IfOk result (IsMove (rows_of (found_of words.now))) }
+{
+    let guest = read_guest(words)?;
+    let Some(steps) = number(words, "steps", 1, MAX_MOVE_STEPS) else {
+        return Err("--steps takes a decimal number from 1 to 100000");
+    };
+    let Some(rounds) = number(words, "rounds", 1, MAX_ROUNDS) else {
+        return Err("--rounds takes a decimal number from 1 to 1000");
+    };
+    let Some(left) = number(words, "left", 1, MAX_PAGES) else {
+        return Err("--left takes a decimal number from 1 to 4096");
+    };
+    let Some(factor) = number(words, "factor", 1, MAX_FACTOR) else {
+        return Err("--factor takes a decimal number from 1 to 100");
+    };
+    let Some(stream) = number(words, "stream", 1, MAX_STREAM) else {
+        return Err("--stream takes a decimal number from 1 to 3");
+    };
+    Ok(MoveArguments {
+        guest,
+        steps,
+        rounds,
+        left,
+        factor,
+        stream,
+    })
 }
 
 /// The text of an option, which the words or its default give.
