@@ -5,7 +5,12 @@
 #![tactic(auto)]
 
 use rvm_program::perform;
-use std::io::Write;
+use std::io::{self, Write};
+use std::net::Net;
+use std::rt::Files;
+use std::sync::Wait;
+use std::thread::Threads;
+use std::time::Clock;
 use std::{env, fs};
 
 fn main(rt: HostRuntime) -> anyhow::Result<()> {
@@ -19,7 +24,13 @@ fn main(rt: HostRuntime) -> anyhow::Result<()> {
 }
 
 /// Prints each line of a transcript, and behind each command what it answers.
-fn replay(rt: &HostRuntime, transcript: &str) -> anyhow::Result<()> {
+fn replay<R: Files + AllocGlobal + Print + Net + Threads + Wait + Clock + Sync>(
+    rt: &R,
+    transcript: &str,
+) -> anyhow::Result<()>
+where
+    R::Stream: Send,
+{
     let mut command = None;
     let mut typed = String::new(rt.alloc());
     for line in transcript.lines() {
@@ -37,7 +48,14 @@ fn replay(rt: &HostRuntime, transcript: &str) -> anyhow::Result<()> {
 }
 
 /// Prints what a command answers, if there is one.
-fn answer(rt: &HostRuntime, command: Option<&str>, typed: &[u8]) -> anyhow::Result<()> {
+fn answer<R: Files + AllocGlobal + Print + Net + Threads + Wait + Clock + Sync>(
+    rt: &R,
+    command: Option<&str>,
+    typed: &[u8],
+) -> anyhow::Result<()>
+where
+    R::Stream: Send,
+{
     let Some(command) = command else {
         return Ok(());
     };
@@ -48,14 +66,21 @@ fn answer(rt: &HostRuntime, command: Option<&str>, typed: &[u8]) -> anyhow::Resu
 }
 
 /// Does what the words of a command ask for, and prints what it wrote.
-fn perform_and_print(rt: &HostRuntime, command: &str, input: &[u8]) -> anyhow::Result<()> {
+fn perform_and_print<R: Files + AllocGlobal + Print + Net + Threads + Wait + Clock + Sync>(
+    rt: &R,
+    command: &str,
+    input: &[u8],
+) -> anyhow::Result<()>
+where
+    R::Stream: Send,
+{
     let alloc = rt.alloc();
     let words: Vec<&str> = command.split_whitespace().collect(alloc)?;
     let (mut output, mut errors) = (Vec::new(alloc), Vec::new(alloc));
     let mut input = input;
     let status = perform(rt, &words, &mut input, &mut output, &mut errors);
-    rt.stdout().write_all(&output)?;
-    rt.stdout().write_all(&errors)?;
+    io::writer(rt).write_all(&output)?;
+    io::writer(rt).write_all(&errors)?;
     if status != 0 {
         println!(rt; "status {status}")?;
     }

@@ -9,32 +9,41 @@ ghost use Rattle.std.specs.Prelude.{◌≡◌, ◌⊎◌};
 
 use clap::Error;
 use rvm_arguments::{
-    Arguments, AsmArguments, DisArguments, GuestArguments, RunArguments, ScriptArguments,
-    parse_args,
+    Arguments, AsmArguments, DisArguments, GuestArguments, MoveArguments, RunArguments,
+    ScriptArguments, parse_args,
 };
 use rvm_command::asm_command::asm_command;
 use rvm_command::debug_command::debug_command;
 use rvm_command::dis_command::dis_command;
 use rvm_command::run_command::run_command;
+use rvm_move_command::audit_command::audit_command;
+use rvm_move_command::move_command::move_command;
 use rvm_refusal::Refusal;
 use rvm_world_command::script_command::script_command;
 use std::convert::AsStr;
 use std::fs;
 use std::fs::File;
 use std::io::{BufWriter, Read, Write};
+use std::net::Net;
 use std::rt::Files;
+use std::sync::Wait;
+use std::thread::Threads;
+use std::time::Clock;
 
 /// Does what the words of a command line ask for, of which the first is the program's name, and answers
 /// the status: 0, 1 where it was refused, or 2 for a fault of the command line, which writes nothing to
 /// `output`. `input` stands for standard input, `output` and `errors` for standard output and standard
 /// error.
-pub fn perform<Rt: Files + AllocGlobal, S: AsStr, I: Read, O: Write, E: Write>(
-    rt: &Rt,
-    words: &[S],
-    input: &mut I,
-    output: &mut O,
-    errors: &mut E,
-) -> u8
+/// A guest that moves does so by threads, which may wait for one another, and over TCP.
+pub fn perform<
+    Rt: Files + AllocGlobal + Net + Threads + Wait + Clock + Sync,
+    S: AsStr,
+    I: Read,
+    O: Write,
+    E: Write,
+>(rt: &Rt, words: &[S], input: &mut I, output: &mut O, errors: &mut E) -> u8
+where
+    Rt::Stream: Send,
     ensures status { (result ≡ 0) ⊎ ((result ≡ 1) ⊎ (result ≡ 2)) }
     ensures fault { result ≡ 2 → O.contents output.new ≡ O.contents output.old }
 {
@@ -44,6 +53,8 @@ pub fn perform<Rt: Files + AllocGlobal, S: AsStr, I: Read, O: Write, E: Write>(
         Ok(Arguments::Dis(arguments)) => dis(rt, &arguments, output, errors),
         Ok(Arguments::Debug(arguments)) => debug(rt, &arguments, input, output, errors),
         Ok(Arguments::Script(arguments)) => script(rt, &arguments, output, errors),
+        Ok(Arguments::Move(arguments)) => move_guest(rt, &arguments, output, errors),
+        Ok(Arguments::Audit(arguments)) => audit(rt, &arguments, output, errors),
         Err(error) => explain(&error, output, errors),
     }
 }
@@ -148,6 +159,43 @@ fn script<Rt: Files + AllocGlobal, O: Write, E: Write>(
         errors,
     )
     .unwrap_or(1)
+}
+
+/// Reads the image, and moves its guest.
+fn move_guest<Rt: Files + AllocGlobal + Net + Threads + Wait + Clock + Sync, O: Write, E: Write>(
+    rt: &Rt,
+    arguments: &MoveArguments,
+    output: &mut O,
+    errors: &mut E,
+) -> u8
+where
+    Rt::Stream: Send,
+    ensures { (result ≡ 0) ⊎ (result ≡ 1) }
+{
+    let Ok(image) = fs::read(rt, arguments.guest.image) else {
+        return refuse(errors, Refusal::LinkFault);
+    };
+    move_command(rt, rt.alloc(), arguments, &image, output, errors).unwrap_or(1)
+}
+
+/// Reads the image, moves its guest, and writes an order of what both hosts did.
+fn audit<Rt: Files + AllocGlobal + Net + Threads + Wait + Clock + Sync, O: Write, E: Write>(
+    rt: &Rt,
+    arguments: &MoveArguments,
+    output: &mut O,
+    errors: &mut E,
+) -> u8
+where
+    Rt::Stream: Send,
+    ensures { (result ≡ 0) ⊎ (result ≡ 1) }
+{
+    let Ok(image) = fs::read(rt, arguments.guest.image) else {
+        return refuse(errors, Refusal::LinkFault);
+    };
+    let Ok(mut output) = BufWriter::new(rt.alloc(), output) else {
+        return refuse(errors, Refusal::OutOfMemory);
+    };
+    audit_command(rt, rt.alloc(), arguments, &image, &mut output, errors).unwrap_or(1)
 }
 
 /// Tells of a refusal, and answers the status 1.

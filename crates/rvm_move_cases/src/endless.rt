@@ -1,0 +1,99 @@
+//! A link that gives frames without end, a byte a read, and none of them ends a receiver.
+
+use crate::asked::{HELLO, image_of, to_move};
+use crate::ended::Ended;
+use rvm_link::{Link, Received};
+use rvm_move::Links;
+use rvm_move_command::move_over::move_over;
+use rvm_move_command::{OpenGate, connect_both};
+use rvm_refusal::LinkFault;
+use std::net::Net;
+use std::sync::Wait;
+use std::thread::Threads;
+use std::time::Clock;
+
+/// Hello of version 1, and Ready of move 1.
+const STREAM: [u8; 30] = [
+    0, 0, 0, 0, 0, 0, 0, 0, 0, 4, 0, 0, 0, 1, 0, 0, 0, 8, 1, 0, 0, 0, 0, 0, 0, 0, 0, 0, 0, 0,
+];
+
+/// Where Ready begins, which is given again and again.
+const READY: usize = 17;
+
+/// A link, or in place of what comes by it such a stream.
+#[derive(Drop)]
+struct Endless<K: Link + Drop> {
+    link: K,
+    is_endless: bool,
+    place: usize,
+}
+
+impl<K: Link + Drop> Link for Endless<K> {
+    fn send(&mut self, bytes: &[u8]) -> Result<(), LinkFault> {
+        self.link.send(bytes)
+    }
+
+    fn recv(&mut self, buffer: &mut [u8]) -> Received {
+        if !self.is_endless {
+            return self.link.recv(buffer);
+        }
+        let (Some(byte), Some(first)) = (STREAM.get(self.place), buffer.first_mut()) else {
+            return Received::End;
+        };
+        *first = *byte;
+        self.place = self.place.wrapping_add(1);
+        if self.place == STREAM.len() {
+            self.place = READY;
+        }
+        Received::Bytes(1)
+    }
+}
+
+/// Links of which the receiving one may be endless.
+fn with_noise<K: Link + Drop>(links: Links<K>, is_endless: bool) -> Links<Endless<K>> {
+    let Links { sending, receiving } = links;
+    Links {
+        sending: Endless {
+            link: sending,
+            is_endless: false,
+            place: 0,
+        },
+        receiving: Endless {
+            link: receiving,
+            is_endless,
+            place: 0,
+        },
+    }
+}
+
+/// Moves a guest to a host that hears such a stream, and prints what became of it.
+pub fn hear_without_end<R: AllocGlobal + Print + Net + Threads + Wait + Clock + Sync>(
+    rt: &R,
+) -> anyhow::Result<()>
+where
+    R::Stream: Send,
+{
+    let image = image_of(rt.alloc(), HELLO.as_slice())?;
+    let mut ended = Ended::new(rt.alloc());
+    let Ok((a, b)) = connect_both(rt) else {
+        println!(rt; "no connection")?;
+        return Ok(());
+    };
+    ended.status = move_over(
+        rt,
+        rt.alloc(),
+        &to_move(1),
+        image.as_slice(),
+        (with_noise(a, false), with_noise(b, true)),
+        &OpenGate,
+        &mut ended.output,
+        &mut ended.errors,
+    );
+    let good = ended.status == Ok(0);
+    let moved = ended.has("started");
+    let is_as_run = ended.is_as_run(rt.alloc(), image.as_slice());
+    println!(rt;
+        "a link without end: status 0 {good}, moved {moved}, output as of run {is_as_run}"
+    )?;
+    Ok(())
+}

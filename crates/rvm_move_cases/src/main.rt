@@ -1,0 +1,19 @@
+//! Moves guests over TCP, past a gate at which two workers meet, over a link without end, and over links that
+//! fail, and prints what became of each; and plays the order of a move as a script.
+#![tactic(auto)]
+
+mod asked;
+mod audited;
+mod ended;
+mod endless;
+mod failing;
+mod live;
+mod meeting;
+
+fn main(rt: HostRuntime) -> anyhow::Result<()> {
+    live::move_guests(&rt)?;
+    meeting::meet(&rt)?;
+    audited::play_order(&rt)?;
+    endless::hear_without_end(&rt)?;
+    failing::break_links(&rt)
+}

@@ -1,0 +1,36 @@
+-- How a move ended, as it is told.
+use Rattle.std.specs.Prelude.{◌≡◌, ℕ, List, ◌++◌, Option, None, Some}
+use Rattle.std.specs.Io.KnownBytes.{Appends}
+use Rattle.rvm_cell.specs.declared.closing.CloseKind.{CloseKind}
+use Rattle.rvm_journal.specs.declared.entry.Entry.{Entry}
+use Rattle.rvm_move.specs.declared.ends.Ends.{Ends}
+use Rattle.rvm_move.specs.Ends.{failure}
+use Rattle.rvm_move.specs.Hosts.{IsTold}
+use Rattle.rvm_move_command.specs.Answers.{answers_text}
+use Rattle.rvm_refusal.specs.declared.refusal.Refusal.{Refusal}
+use Rattle.rvm_refusal.specs.declared.refusal.Refusal.TheVariants as refusal
+use Rattle.rvm_worker.specs.declared.end.WorkEnd.{WorkEnd}
+use Rattle.rvm_worker.specs.declared.end.WorkEnd.TheVariants as e
+
+-- with which refusal of the list a worker ended
+abbrev pub refusal_of_end : WorkEnd → Option Refusal
+refusal_of_end e.OutOfMemory = Some refusal.OutOfMemory
+refusal_of_end (e.RecorderFull n) = Some refusal.RecorderFull
+refusal_of_end e.OutOfRange = Some refusal.OutOfRange
+refusal_of_end e.LinkFault = Some refusal.LinkFault
+refusal_of_end e.BadFrame = Some refusal.BadFrame
+refusal_of_end e.TooLong = Some refusal.TooLong
+refusal_of_end e.Failed = Some refusal.Failed
+refusal_of_end end = None
+
+-- no worker failed, and both hosts were closed
+abbrev pub IsSound : Ends → (a b : Option CloseKind) → Type 0
+IsSound ends a b = (failure ends ≡ None) × (a ≡ None) × (b ≡ None)
+
+-- what two hosts answered was told: receipts tell all of it, and nothing else was written
+pub record IsMoved (before after : Option (List ℕ)) : Type 0 where
+  pub first : List Entry
+  pub second : List Entry
+  pub first_told : IsTold first
+  pub second_told : IsTold second
+  pub written : Appends before after (answers_text first ++ answers_text second)

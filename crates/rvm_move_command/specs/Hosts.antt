@@ -1,0 +1,27 @@
+-- The two hosts of a move.
+use Rattle.std.specs.Prelude.{◌≡◌, ℕ, List, [], IfOk}
+use Rattle.rvm_arguments.specs.declared.arguments.MoveArguments.{MoveArguments}
+use Rattle.rvm_command.specs.Command.{guest_of, image_of}
+use Rattle.rvm_core.specs.Hosts.{PlainHost}
+use Rattle.rvm_core.specs.Modes.{PlainMode, Empty, Run}
+use Rattle.rvm_journal.specs.History.{Recording}
+
+-- the host of this number among two, before any move
+abbrev pub host_before : (id version : ℕ) → PlainMode → PlainHost
+host_before id version mode =
+    record { mode = mode; partner = id; id = id; count = 2; limit = 4096; version = version }
+
+-- its empty journal
+abbrev pub recorded_before : PlainHost → Recording
+recorded_before host =
+    record { journal = record { opening = host; entries = []; reserved = 0 }; capacity = 1048576 }
+
+-- the first host has the guest of an image
+abbrev pub IsFirstHost : MoveArguments → (file : List ℕ) → Recording → Type 0
+IsFirstHost a file r =
+    IfOk (image_of a.guest.raw file) (λ i.
+    r ≡ recorded_before (host_before 0 a.stream (Run 0 (guest_of a.guest.harts a.guest.pages i.0 i.1))))
+
+-- the second one has none
+abbrev pub IsSecondHost : MoveArguments → Recording → Type 0
+IsSecondHost a r = r ≡ recorded_before (host_before 1 a.stream (Empty 0))

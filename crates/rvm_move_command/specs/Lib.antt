@@ -1,0 +1,5 @@
+pub mod Hosts
+pub mod Answers
+pub mod Ended
+pub mod Lines
+pub mod Orders

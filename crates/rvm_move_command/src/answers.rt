@@ -1,0 +1,42 @@
+//! What a host answered, as it is told.
+
+ghost use Rattle.std.specs.Prelude.{◌≡◌, OnOk};
+ghost use Rattle.std.specs.Io.KnownBytes.{Appends};
+ghost use Rattle.rvm_journal.specs.History.{is_board};
+ghost use Rattle.rvm_move_command.specs.Answers.{answer_text, answers_text};
+
+use rvm_journal::Entry;
+use rvm_message::{Command, HostEvent};
+use rvm_refusal::LinkFault;
+use rvm_world_line::write_move_reply;
+use std::io::Write;
+
+/// Whether an event is one of the guest's own.
+fn is_of_guest(event: &HostEvent) -> bool
+    ensures { result ≡ is_board event.now }
+{
+    match event {
+        HostEvent::Do(Command::Board(_)) => true,
+        _ => false,
+    }
+}
+
+/// Writes the answer of an entry, unless its event is one of the guest's own.
+fn write_answer<E: Write>(errors: &mut E, entry: &Entry) -> Result<(), LinkFault>
+    ensures { OnOk result (Appends (E.contents errors.old) (E.contents errors.new) (answer_text entry.now)) }
+{
+    if is_of_guest(&entry.event) {
+        return Ok(());
+    }
+    write_move_reply(errors, &entry.reply, None)
+}
+
+/// Writes the answers to the commands of a move and to the frames that came, a line each.
+pub(crate) fn write_answers<E: Write>(errors: &mut E, entries: &[Entry]) -> Result<(), LinkFault>
+    ensures { OnOk result (Appends (E.contents errors.old) (E.contents errors.new) (answers_text entries.now)) }
+{
+    for entry in entries {
+        write_answer(errors, entry)?;
+    }
+    Ok(())
+}

@@ -1,0 +1,120 @@
+//! How a move ended, as it is told.
+
+ghost use Rattle.std.specs.Prelude.{◌≡◌, ◌⊎◌, ◌↔◌, ◌++◌, None, IfOk};
+ghost use Rattle.std.specs.Io.KnownBytes.{Appends};
+ghost use Rattle.rvm_move_command.specs.Answers.{answers_text};
+ghost use Rattle.rvm_move.specs.Hosts.{IsEnd};
+ghost use Rattle.rvm_move_command.specs.Ended.{IsMoved, IsSound, refusal_of_end};
+
+use crate::answers::write_answers;
+use rvm_cell::CloseKind;
+use rvm_command::refused::{Refused, tell};
+use rvm_mem::PagedMemory;
+use rvm_move::Moved;
+use rvm_refusal::{LinkFault, Refusal};
+use rvm_worker::WorkEnd;
+use std::io::Write;
+
+/// The refusal with which a worker ended, if it is one of the list.
+fn refusal_of_end(end: WorkEnd) -> Option<Refusal>
+    ensures { result ≡ refusal_of_end end }
+{
+    match end {
+        WorkEnd::OutOfMemory => Some(Refusal::OutOfMemory),
+        WorkEnd::RecorderFull(_) => Some(Refusal::RecorderFull),
+        WorkEnd::OutOfRange => Some(Refusal::OutOfRange),
+        WorkEnd::LinkFault => Some(Refusal::LinkFault),
+        WorkEnd::BadFrame => Some(Refusal::BadFrame),
+        WorkEnd::TooLong => Some(Refusal::TooLong),
+        WorkEnd::Failed => Some(Refusal::Failed),
+        WorkEnd::Done
+        | WorkEnd::GivenUp
+        | WorkEnd::Halted(_)
+        | WorkEnd::StepsSpent
+        | WorkEnd::Stopped
+        | WorkEnd::GuestStopped => None,
+    }
+}
+
+/// Writes with what a worker failed: a refusal of the list, or in words.
+fn write_end<E: Write>(errors: &mut E, end: WorkEnd) -> Result<(), LinkFault> {
+    match refusal_of_end(end) {
+        Some(refusal) => writeln!(errors, "{refusal}")?,
+        None => writeln!(errors, "{end}")?,
+    }
+    Ok(())
+}
+
+/// Tells with what the move failed, if it did. Answers the status: 0, or 1 where it failed. `LinkFault`
+/// where it cannot be told.
+pub(crate) fn tell_failure<M: PagedMemory + Drop, E: Write>(
+    moved: &Moved<M>,
+    errors: &mut E,
+) -> Result<u8, LinkFault>
+    ensures status { IfOk result (λ status. (status ≡ 0) ⊎ (status ≡ 1)) }
+    ensures sound { IfOk result (λ status. status ≡ 0
+        ↔ IsSound moved.now.ends moved.now.a.fault moved.now.b.fault) }
+    ensures silent { IfOk result (λ status. status ≡ 0 → E.contents errors.new ≡ E.contents errors.old) }
+{
+    if let Some(end) = moved.ends.failure() {
+        write_end(errors, end)?;
+        return Ok(1);
+    }
+    match first_fault(moved.a.fault, moved.b.fault) {
+        None => Ok(0),
+        Some(kind) => {
+            writeln!(errors, "{}", Refusal::from(kind))?;
+            Ok(1)
+        }
+    }
+}
+
+/// The first of two faults.
+fn first_fault(a: Option<CloseKind>, b: Option<CloseKind>) -> Option<CloseKind>
+    ensures { result ≡ None ↔ ((a ≡ None) × (b ≡ None)) }
+{
+    match a {
+        Some(_) => a,
+        None => b,
+    }
+}
+
+/// Tells what both hosts answered, the first one's before the second's, and with what the move failed, if
+/// it did. Answers the status, as `tell_failure` does.
+pub(crate) fn tell_moved<M: PagedMemory + Drop, E: Write>(
+    moved: &Moved<M>,
+    errors: &mut E,
+) -> Result<u8, LinkFault>
+    ensures status { IfOk result (λ status. (status ≡ 0) ⊎ (status ≡ 1)) }
+    ensures sound { IfOk result (λ status. status ≡ 0
+        ↔ IsSound moved.now.ends moved.now.a.fault moved.now.b.fault) }
+    ensures told { IfOk result (λ status. status ≡ 0 → Appends (E.contents errors.old) (E.contents errors.new)
+        (answers_text moved.now.a.recorded.journal.entries
+        ++ answers_text moved.now.b.recorded.journal.entries)) }
+{
+    write_answers(errors, moved.a.recorded.journal().entries())?;
+    write_answers(errors, moved.b.recorded.journal().entries())?;
+    tell_failure(moved, errors)
+}
+
+/// The same of hosts that were closed, or have a fault.
+#[tactic(auto, using(crate::proofs::Moved::told_moved))]
+pub(crate) fn tell_ended<M: PagedMemory + Drop, E: Write>(
+    moved: &Moved<M>,
+    errors: &mut E,
+) -> Result<u8, LinkFault>
+    requires a { IsEnd moved.now.a.fault moved.now.a.recorded.journal.entries }
+    requires b { IsEnd moved.now.b.fault moved.now.b.recorded.journal.entries }
+    ensures status { IfOk result (λ status. (status ≡ 0) ⊎ (status ≡ 1)) }
+    ensures moved { IfOk result (λ status. status ≡ 0 → IsMoved (E.contents errors.old) (E.contents errors.new)) }
+{
+    tell_moved(moved, errors)
+}
+
+/// Tells of a refusal, with which no guest was moved, and answers the status 1.
+pub(crate) fn refuse<E: Write>(refused: Refused, errors: &mut E) -> Result<u8, LinkFault>
+    ensures status { IfOk result (λ status. (status ≡ 0) ⊎ (status ≡ 1)) }
+    ensures moved { IfOk result (λ status. status ≡ 0 → IsMoved (E.contents errors.old) (E.contents errors.new)) }
+{
+    tell(refused, errors)
+}

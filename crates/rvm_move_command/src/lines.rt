@@ -1,0 +1,174 @@
+//! Events of two hosts, as lines of a script that make them.
+
+ghost use Rattle.std.specs.Prelude.{◌≡◌, ◌≤◌, length, OnOk};
+ghost use Rattle.std.specs.Io.KnownBytes.{Appends};
+ghost use Rattle.hex.specs.Hex.{encode_lower};
+ghost use Rattle.rvm_move_command.specs.Lines.{asked_line, command_line, event_line, event_lines};
+
+use hex::encode_to_slice;
+use rvm_board::VIEW_SIZE;
+use rvm_debug::BoardEvent;
+use rvm_message::Command;
+use rvm_refusal::LinkFault;
+use rvm_world::Event;
+use std::fmt;
+use std::io::Write;
+
+/// The letter of a host, A to H.
+#[derive(Clone, Copy)]
+struct Letter(u8);
+
+impl fmt::Display for Letter {
+    ghost use Rattle.std.specs.Prelude.{Some};
+    ghost use Rattle.rvm_move_command.specs.Lines.{letter};
+
+    ghost output = { λ host. Some (letter host.0) };
+
+    fn fmt<W: fmt::Write>(&self, f: &mut fmt::Formatter<W>) -> fmt::Result {
+        let host = self.0;
+        match host {
+            0 => write!(f, "A"),
+            1 => write!(f, "B"),
+            2 => write!(f, "C"),
+            3 => write!(f, "D"),
+            4 => write!(f, "E"),
+            5 => write!(f, "F"),
+            6 => write!(f, "G"),
+            _ => write!(f, "H"),
+        }
+    }
+}
+
+/// The host that a move begun at a host goes to: nothing where it is the other one of two.
+#[derive(Clone, Copy)]
+struct Target {
+    from: u8,
+    to: u8,
+}
+
+impl fmt::Display for Target {
+    ghost use Rattle.std.specs.Prelude.{Some};
+    ghost use Rattle.rvm_move_command.specs.Lines.{target};
+
+    ghost output = { λ t. Some (target t.from t.to) };
+
+    fn fmt<W: fmt::Write>(&self, f: &mut fmt::Formatter<W>) -> fmt::Result {
+        let (from, to) = (self.from, self.to);
+        if (from == 0 && to == 1) || (from == 1 && to == 0) {
+            return Ok(());
+        }
+        write!(f, " {}", Letter(to))
+    }
+}
+
+/// A register, x0 to x31 or pc.
+#[derive(Clone, Copy)]
+struct Register(u32);
+
+impl fmt::Display for Register {
+    ghost use Rattle.std.specs.Prelude.{Some};
+    ghost use Rattle.rvm_move_command.specs.Lines.{register};
+
+    ghost output = { λ r. Some (register r.0) };
+
+    fn fmt<W: fmt::Write>(&self, f: &mut fmt::Formatter<W>) -> fmt::Result {
+        let number = self.0;
+        if number == 32 {
+            write!(f, "pc")
+        } else {
+            write!(f, "x{number}")
+        }
+    }
+}
+
+/// Writes bytes as hexadecimal digits.
+fn write_hex<W: Write>(writer: &mut W, bytes: &[u8]) -> Result<(), LinkFault>
+    requires { length bytes.now ≤ 256 }
+    ensures { OnOk result (Appends (W.contents writer.old) (W.contents writer.new) (encode_lower bytes.now)) }
+{
+    let mut digits = [0; 2 * VIEW_SIZE];
+    let digits = &mut digits[..2 * bytes.len()];
+    let fits = encode_to_slice(bytes, digits).is_ok();
+    prove!(fits);
+    writer.write_all(digits)?;
+    Ok(())
+}
+
+/// Writes what the guest of a host is asked.
+fn write_asked<W: Write>(writer: &mut W, event: &BoardEvent) -> Result<(), LinkFault>
+    ensures { OnOk result (Appends (W.contents writer.old) (W.contents writer.new) (asked_line event.now)) }
+{
+    match event {
+        BoardEvent::Step(hart) => write!(writer, "step {hart}")?,
+        BoardEvent::Input(byte) => {
+            write!(writer, "input ")?;
+            write_hex(writer, &[*byte])?;
+        }
+        BoardEvent::Drain(count) => write!(writer, "drain {count}")?,
+        BoardEvent::Break(address) => write!(writer, "break {address}")?,
+        BoardEvent::Clear(address) => write!(writer, "clear {address}")?,
+        BoardEvent::Regs(hart) => write!(writer, "regs {hart}")?,
+        BoardEvent::Mem { address, length } => write!(writer, "mem {address} {length}")?,
+        BoardEvent::Dis(address) => write!(writer, "dis {address}")?,
+        BoardEvent::PokeReg {
+            hart,
+            register,
+            value,
+        } => write!(writer, "reg {hart} {} {value}", Register(*register))?,
+        BoardEvent::PokeMem { address, bytes } => {
+            write!(writer, "poke {address} ")?;
+            write_hex(writer, bytes.as_slice())?;
+        }
+    }
+    Ok(())
+}
+
+/// Writes what a host is told to do.
+fn write_command<W: Write>(writer: &mut W, host: u8, command: &Command) -> Result<(), LinkFault>
+    ensures { OnOk result (Appends (W.contents writer.old) (W.contents writer.new)
+        (command_line host command.now)) }
+{
+    match command {
+        Command::Board(event) => write_asked(writer, event)?,
+        Command::Begin { to, policy } => write!(
+            writer,
+            "begin{} {} {} {}",
+            Target {
+                from: host,
+                to: *to
+            },
+            policy.max_rounds,
+            policy.min_left,
+            policy.factor
+        )?,
+        Command::Copy => write!(writer, "copy")?,
+        Command::Resend => write!(writer, "resend")?,
+        Command::Abort => write!(writer, "abort")?,
+    }
+    Ok(())
+}
+
+/// Writes an event as a line.
+fn write_event<W: Write>(writer: &mut W, event: &Event) -> Result<(), LinkFault>
+    ensures { OnOk result (Appends (W.contents writer.old) (W.contents writer.new) (event_line event.now)) }
+{
+    match event {
+        Event::At(host, command) => {
+            write!(writer, "{} ", Letter(*host))?;
+            write_command(writer, *host, command)?;
+        }
+        Event::Deliver(place) => write!(writer, "deliver {place}")?,
+    }
+    writeln!(writer)?;
+    Ok(())
+}
+
+/// Writes events, a line each.
+pub fn write_events<W: Write>(writer: &mut W, events: &[Event]) -> Result<(), LinkFault>
+    ensures { OnOk result (Appends (W.contents writer.old) (W.contents writer.new) (event_lines events.now)) }
+{
+    for event in events {
+        write_event(writer, event)?;
+    }
+    Ok(())
+}

@@ -1,0 +1,82 @@
+//! `rvmove move`: a guest moves between two hosts in this process, over TCP.
+
+ghost use Rattle.std.specs.Prelude.{◌≡◌, ◌⊎◌, IfOk};
+ghost use Rattle.rvm_command.specs.Command.{image_of};
+ghost use Rattle.rvm_command.specs.Ends.{IsLoadable};
+ghost use Rattle.rvm_move_command.specs.Ended.{IsMoved};
+
+use crate::ended::refuse;
+use crate::hosts::new_hosts;
+use crate::move_over::{move_hosts, plan_of};
+use crate::socket::{Socket, connect};
+use rvm_arguments::MoveArguments;
+use rvm_command::refused::Refused;
+use rvm_move::Links;
+use rvm_refusal::LinkFault;
+use rvm_worker::{Gate, Worker};
+use std::alloc::Global;
+use std::io::Write;
+use std::net::Net;
+use std::sync::Wait;
+use std::thread::Threads;
+use std::time::Clock;
+
+/// A gate that lets each call pass.
+#[derive(Drop)]
+pub struct OpenGate;
+
+impl Gate for OpenGate {
+    fn before(&self, _worker: Worker, _call: u32) -> bool {
+        true
+    }
+
+    fn after(&self, _worker: Worker, _call: u32) {}
+}
+
+/// Moves the guest of an image as `move_over` does, over two TCP connections of this machine, one in
+/// each direction. `LinkFault` is told where they cannot be made, and nothing was run.
+pub fn move_command<O: Write, E: Write, R: Net + Threads + Wait + Clock + Sync>(
+    rt: &R,
+    alloc: Global,
+    arguments: &MoveArguments,
+    image: &[u8],
+    output: &mut O,
+    errors: &mut E,
+) -> Result<u8, LinkFault>
+where
+    R::Stream: Send,
+    ensures status { IfOk result (λ status. (status ≡ 0) ⊎ (status ≡ 1)) }
+    ensures moved { IfOk result (λ status. status ≡ 0 → IsMoved (E.contents errors.old) (E.contents errors.new)) }
+    ensures unloadable { IsLoadable (image_of arguments.now.guest.raw image.now) arguments.now.guest.pages
+        ⊎ (O.contents output.new ≡ O.contents output.old) }
+{
+    let recorded = match new_hosts(alloc, arguments, image) {
+        Ok(recorded) => recorded,
+        Err(refused) => return refuse(refused, errors),
+    };
+    match connect_both(rt) {
+        Ok(links) => {
+            let plan = plan_of(arguments);
+            move_hosts(rt, alloc, recorded, links, &OpenGate, &plan, output, errors)
+        }
+        Err(fault) => refuse(Refused::from(fault), errors),
+    }
+}
+
+/// A TCP connection of this machine from each side to the other.
+pub fn connect_both<R: Net>(
+    rt: &R,
+) -> Result<(Links<Socket<R::Stream>>, Links<Socket<R::Stream>>), LinkFault> {
+    let (from_a, to_b) = connect(rt)?;
+    let (from_b, to_a) = connect(rt)?;
+    Ok((
+        Links {
+            sending: from_a,
+            receiving: to_a,
+        },
+        Links {
+            sending: from_b,
+            receiving: to_b,
+        },
+    ))
+}

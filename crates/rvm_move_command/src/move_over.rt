@@ -1,0 +1,132 @@
+//! A move over links that are handed in.
+
+ghost use Rattle.std.specs.Prelude.{◌≡◌, ◌⊎◌, [], IfOk};
+ghost use Rattle.rvm_command.specs.Command.{image_of};
+ghost use Rattle.rvm_command.specs.Ends.{IsLoadable};
+ghost use Rattle.rvm_move.specs.Hosts.{IsEnd};
+ghost use Rattle.rvm_move_command.specs.Ended.{IsMoved};
+
+use crate::ended::{refuse, tell_ended};
+use crate::hosts::new_hosts;
+use rvm_arguments::MoveArguments;
+use rvm_command::refused::Refused;
+use rvm_journal::Recorded;
+use rvm_link::Link;
+use rvm_move::{Links, Moved, Plan, move_guest};
+use rvm_paged::PagedRam;
+use rvm_precopy::Policy;
+use rvm_refusal::{LinkFault, Refusal};
+use rvm_worker::Gate;
+use std::alloc::Global;
+use std::io::Write;
+use std::marker::Brand;
+use std::sync::Wait;
+use std::sync::ledger::Blank;
+use std::thread::Threads;
+use std::time::Clock;
+
+/// Moves the guest whose file `image` is from the first host to the second one while it runs. Each side
+/// has a link that its frames go out by, and one that the other side's come by. What the guest sends goes
+/// to `output`; what both hosts answered to the commands of the move and to frames goes to `errors` when
+/// all is over, the first one's before the second's. Answers the status: 0, or 1 where the image was
+/// refused, which leaves `output` as it was, or the move failed; then the last line of `errors` says with
+/// what. `LinkFault` as the answer: a write to `errors` failed. It may wait for other threads, and starts
+/// three.
+pub fn move_over<
+    K: Link + Drop + Send,
+    G: Gate + Sync,
+    O: Write,
+    E: Write,
+    R: Threads + Wait + Clock + Sync,
+>(
+    rt: &R,
+    alloc: Global,
+    arguments: &MoveArguments,
+    image: &[u8],
+    links: (Links<K>, Links<K>),
+    gate: &G,
+    output: &mut O,
+    errors: &mut E,
+) -> Result<u8, LinkFault>
+    ensures status { IfOk result (λ status. (status ≡ 0) ⊎ (status ≡ 1)) }
+    ensures moved { IfOk result (λ status. status ≡ 0 → IsMoved (E.contents errors.old) (E.contents errors.new)) }
+    ensures unloadable { IsLoadable (image_of arguments.now.guest.raw image.now) arguments.now.guest.pages
+        ⊎ (O.contents output.new ≡ O.contents output.old) }
+{
+    match new_hosts(alloc, arguments, image) {
+        Ok(recorded) => {
+            let plan = plan_of(arguments);
+            move_hosts(rt, alloc, recorded, links, gate, &plan, output, errors)
+        }
+        Err(refused) => refuse(refused, errors),
+    }
+}
+
+/// What the arguments of a move ask for.
+pub fn plan_of(arguments: &MoveArguments) -> Plan {
+    Plan {
+        harts: arguments.guest.harts,
+        steps: arguments.steps,
+        policy: Policy {
+            max_rounds: arguments.rounds,
+            min_left: arguments.left,
+            factor: arguments.factor,
+        },
+        version: arguments.stream,
+    }
+}
+
+/// Moves the guest of the first host, and tells what both hosts answered.
+pub(crate) fn move_hosts<
+    K: Link + Drop + Send,
+    G: Gate + Sync,
+    O: Write,
+    E: Write,
+    R: Threads + Wait + Clock + Sync,
+>(
+    rt: &R,
+    alloc: Global,
+    recorded: (Recorded<PagedRam>, Recorded<PagedRam>),
+    links: (Links<K>, Links<K>),
+    gate: &G,
+    plan: &Plan,
+    output: &mut O,
+    errors: &mut E,
+) -> Result<u8, LinkFault>
+    requires { (recorded.0.journal.entries ≡ []) × (recorded.1.journal.entries ≡ []) }
+    ensures status { IfOk result (λ status. (status ≡ 0) ⊎ (status ≡ 1)) }
+    ensures moved { IfOk result (λ status. status ≡ 0 → IsMoved (E.contents errors.old) (E.contents errors.new)) }
+{
+    match move_recorded(rt, alloc, recorded, links, gate, plan, output) {
+        Ok(moved) => tell_ended(&moved, errors),
+        Err(refused) => refuse(refused, errors),
+    }
+}
+
+/// Moves the guest of the first host.
+pub fn move_recorded<
+    K: Link + Drop + Send,
+    G: Gate + Sync,
+    O: Write,
+    R: Threads + Wait + Clock + Sync,
+>(
+    rt: &R,
+    alloc: Global,
+    recorded: (Recorded<PagedRam>, Recorded<PagedRam>),
+    links: (Links<K>, Links<K>),
+    gate: &G,
+    plan: &Plan,
+    output: &mut O,
+) -> Result<Moved<PagedRam>, Refused>
+    requires { (recorded.0.journal.entries ≡ []) × (recorded.1.journal.entries ≡ []) }
+    ensures a { IfOk result (λ m. IsEnd m.a.fault m.a.recorded.journal.entries) }
+    ensures b { IfOk result (λ m. IsEnd m.b.fault m.b.recorded.journal.entries) }
+{
+    let blanks = (Blank::new(3), Blank::new(2));
+    match move_guest::<Brand, Brand, PagedRam, K, G, O, R>(
+        rt, alloc, blanks, recorded, links, gate, plan, output,
+    ) {
+        Ok(moved) => Ok(moved),
+        Err(_) => Err(Refused::from(Refusal::OutOfMemory)),
+    }
+}

@@ -1,0 +1,49 @@
+//! Links over TCP.
+
+use rvm_link::{Link, Received};
+use rvm_refusal::LinkFault;
+use std::io::{ErrorKind, Read, Write};
+use std::net::{Ipv4Addr, Net, OpenListener, OpenStream, TcpListener, TcpStream};
+
+/// One direction of a TCP connection.
+#[derive(Drop)]
+pub struct Socket<S: Read + Write + Drop> {
+    stream: S,
+}
+
+impl<S: Read + Write + Drop> Link for Socket<S> {
+    fn send(&mut self, bytes: &[u8]) -> Result<(), LinkFault> {
+        match self.stream.write_all(bytes) {
+            Ok(()) => Ok(()),
+            Err(_) => Err(LinkFault),
+        }
+    }
+
+    fn recv(&mut self, buffer: &mut [u8]) -> Received {
+        match self.stream.read(buffer) {
+            Ok(0) => Received::End,
+            Ok(count) => Received::Bytes(count),
+            Err(error) => {
+                if error.kind() == ErrorKind::Interrupted {
+                    Received::Idle
+                } else {
+                    Received::LinkFault
+                }
+            }
+        }
+    }
+}
+
+/// A connection in this machine: the end that sends, and the one that receives. Each frame goes out as
+/// soon as it is written.
+pub(crate) fn connect<R: Net>(rt: &R) -> Result<(Socket<R::Stream>, Socket<R::Stream>), LinkFault> {
+    let listener = TcpListener::bind(rt, (Ipv4Addr::LOCALHOST, 0u16))?;
+    let address = listener.local_addr()?;
+    let sending = TcpStream::connect(rt, address)?;
+    let (receiving, peer) = listener.accept()?;
+    if peer != sending.local_addr()? {
+        return Err(LinkFault);
+    }
+    sending.set_nodelay(true)?;
+    Ok((Socket { stream: sending }, Socket { stream: receiving }))
+}
