@@ -4,9 +4,10 @@
 # make faults: the tests, with growths of memory refused in turn, at most 60 of a test; with MOST=0 each one.
 # make docs-check: the commands of README and docs are run, links and the table of crates looked at.
 # make stress: random scripts for worlds of hosts, against a board that never moves.
+# make live IMAGES=..: guests are moved while they run, 200 times, and their output compared with that of run.
 PREFIX ?= /usr/local
 
-.PHONY: build hi test wrong times faults docs-check stress bench bench-programs count install clean
+.PHONY: build hi test wrong times faults docs-check stress live bench bench-programs count install clean
 
 # The program lies in build/rvmove afterwards.
 build:
@@ -35,6 +36,9 @@ docs-check: build
 
 stress: build
 	cd bench && python3 stress.py
+
+live: build
+	python3 bench/live.py $(IMAGES)
 
 bench: bench-programs
 	python3 bench/bench.py

@@ -48,4 +48,5 @@ def main():
         compare(name, [image, "--raw", "--harts", harts, "--steps", steps])
 
 
-main()
+if __name__ == "__main__":
+    main()

@@ -80,4 +80,5 @@ def main():
         print(f"geometric mean {math.exp(sum(map(math.log, figures)) / len(figures)):.2f}")
 
 
-main()
+if __name__ == "__main__":
+    main()

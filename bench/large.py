@@ -167,4 +167,5 @@ def report(name, command):
     print(flush=True)
 
 
-main()
+if __name__ == "__main__":
+    main()

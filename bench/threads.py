@@ -1,0 +1,86 @@
+#!/usr/bin/env python3
+"""Measures moves by threads, `rvmove move`:
+
+- host instructions a step of the guest, beside those of `rvmove run`, by valgrind's cachegrind: the difference of
+  two moves of the same guest over their difference in steps, divided so since start and end are the same;
+- the time of a move of 4096 pages that nobody writes, in each version, beside that of a plain copy of as many
+  bytes over a loopback socket, best of some runs that alternate.
+
+    bench/threads.py [TIMES]      TIMES runs each, 5 where it is not given
+
+Wants valgrind, and what `make build` builds."""
+import os
+import socket
+import subprocess
+import sys
+import threading
+import time
+
+from count import instructions
+from guests import BUILD, PROGRAM, loop
+
+FEWER, MORE = 20_000, 100_000
+PAGES = 4096
+PAGE_FRAME = 13 + 2 + 4 + 4096
+PIECE = 1 << 16
+
+
+def a_step(command):
+    """Host instructions a step."""
+    words = [[PROGRAM, command, loop(), "--raw", "--pages", "4", "--steps", str(steps)] for steps in (FEWER, MORE)]
+    fewer, more = map(instructions, words)
+    return (more - fewer) / (MORE - FEWER)
+
+
+def copied(count):
+    """The seconds that so many bytes take over a loopback socket."""
+    listener = socket.create_server(("127.0.0.1", 0))
+    sending = socket.create_connection(listener.getsockname())
+    receiving, _ = listener.accept()
+    sending.setsockopt(socket.IPPROTO_TCP, socket.TCP_NODELAY, 1)
+
+    def send():
+        for _ in range(count // PAGE_FRAME):
+            sending.sendall(frame)
+        sending.close()
+
+    frame, buffer = bytes(PAGE_FRAME), bytearray(PIECE)
+    begun = time.monotonic()
+    thread = threading.Thread(target=send)
+    thread.start()
+    while receiving.recv_into(buffer):
+        pass
+    thread.join()
+    return time.monotonic() - begun
+
+
+def moved(version):
+    """The seconds of a move of a large board, less those of one of a single page."""
+    def taken(pages):
+        image = os.path.join(BUILD, f"still-{pages}.bin")
+        with open(image, "wb") as file:
+            file.write(b"\x6f\x00\x00\x00" + b"\xff" * (pages * 4096 - 4))
+        words = ["move", image, "--raw", "--steps", "1", "--pages", str(pages), "--stream", str(version)]
+        begun = time.monotonic()
+        done = subprocess.run([PROGRAM, *words], stdout=subprocess.DEVNULL, stderr=subprocess.DEVNULL)
+        ended = time.monotonic()
+        if done.returncode:
+            sys.exit(f"{' '.join(words)}: status {done.returncode}")
+        return ended - begun
+
+    return taken(PAGES), taken(1)
+
+
+def main():
+    times = int(sys.argv[1]) if len(sys.argv) > 1 else 5
+    run, move = a_step("run"), a_step("move")
+    print(f"host instructions a step: run {run:.1f}, move {move:.1f}, {move / run:.1f} times")
+    runs = [(copied(PAGES * PAGE_FRAME), moved(1), moved(2), moved(3)) for _ in range(times)]
+    print(f"plain copy of {PAGES * PAGE_FRAME} bytes over loopback: {min(it[0] for it in runs) * 1000:.1f} ms")
+    for version in (1, 2, 3):
+        large, small = (min(it[version][place] for it in runs) * 1000 for place in (0, 1))
+        print(f"move of {PAGES} pages by version {version}: {large:.1f} ms; of one page: {small:.1f} ms")
+
+
+if __name__ == "__main__":
+    main()
