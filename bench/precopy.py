@@ -5,8 +5,9 @@
 
 Each guest has 256 pages. `rvmove script` moves it: between two turns of the source (`copy`) the guest makes so many
 steps, which stands for the speed of the link. The answers tell the rounds: pages sent, pages skipped, pages left. What
-is sent behind `stopping` is the pause. The table goes to standard output, a picture for each guest to FOLDER. Wants
-matplotlib (Debian: python3-matplotlib).
+is sent behind `stopping` is the pause. A second table is of `rvmove move`, which moves the same guests while they run,
+by threads and over TCP, so that it differs each time. The tables go to standard output, a picture for each guest to
+FOLDER. Wants matplotlib (Debian: python3-matplotlib).
 """
 import os
 import re
@@ -26,6 +27,8 @@ PAGES = 256
 STEPS = 400
 POLICY = 29, 8, 3
 TURNS = 3 * POLICY[2] * PAGES
+# The steps of a guest that moves by threads.
+LIVE_STEPS = "100000"
 
 # Name, what it writes, how many pages it goes round, and how many instructions it waits before each store.
 GUESTS = [
@@ -56,18 +59,32 @@ def source_of(pages, wait):
     ])
 
 
-def play(name, pages, wait, folder):
-    """The answers of a move of the guest."""
-    text, image, script = (os.path.join(folder, name + ending) for ending in (".s", ".elf", ".txt"))
+def image_of(name, pages, wait, folder):
+    """The file of a guest's image."""
+    text, image = (os.path.join(folder, name + ending) for ending in (".s", ".elf"))
     with open(text, "w", encoding="utf-8") as file:
         file.write(source_of(pages, wait))
     subprocess.run([PROGRAM, "asm", text, image], check=True)
+    return image
+
+
+def play(image, folder):
+    """The answers of a move of a guest, turn by turn."""
+    script = os.path.join(folder, "script.txt")
     lines = ["step 0 5000", "begin {} {} {}".format(*POLICY), "deliver 0", "deliver 1"]
     lines += [f"step 0 {STEPS}", "copy"] * TURNS
     with open(script, "w", encoding="utf-8") as file:
         file.write("\n".join(lines) + "\n")
     done = subprocess.run([PROGRAM, "script", image, script, "--pages", str(PAGES)], check=True, capture_output=True, text=True)
     return done.stdout.splitlines()
+
+
+def move(image):
+    """The answers of a move of a guest that runs meanwhile."""
+    rounds, left, factor = map(str, POLICY)
+    words = ["--pages", str(PAGES), "--steps", LIVE_STEPS, "--rounds", rounds, "--left", left, "--factor", factor]
+    done = subprocess.run([PROGRAM, "move", image, *words], check=True, capture_output=True, text=True)
+    return done.stderr.splitlines()
 
 
 def rounds_of(answers):
@@ -106,18 +123,26 @@ def draw(name, what, rounds, last, folder):
     plt.close(figure)
 
 
+def tell(moves):
+    """Prints a table of the moves of all guests."""
+    print("| Guest | Rounds | Sent while it runs | Sent in the pause | All, of 256 |")
+    print("|---|---|---|---|---|")
+    for (_, what, _, _), (rounds, last) in zip(GUESTS, moves):
+        running = sum(sent for sent, _, _ in rounds)
+        print(f"| {what} | {len(rounds)} | {running} | {last} | {(running + last) / PAGES:.2f} times |")
+
+
 def main():
     folder = sys.argv[1] if len(sys.argv) > 1 else os.path.join(HERE, "..", "docs", "pictures")
     os.makedirs(folder, exist_ok=True)
     plt.rcParams["svg.hashsalt"] = "precopy"
-    print("| Guest | Rounds | Sent while it runs | Sent in the pause | All, of 256 |")
-    print("|---|---|---|---|---|")
     with tempfile.TemporaryDirectory() as scratch:
-        for name, what, pages, wait in GUESTS:
-            rounds, last = rounds_of(play(name, pages, wait, scratch))
-            running = sum(sent for sent, _, _ in rounds)
-            print(f"| {what} | {len(rounds)} | {running} | {last} | {(running + last) / PAGES:.2f} times |")
-            draw(name, what, rounds, last, folder)
+        images = [image_of(name, pages, wait, scratch) for name, _, pages, wait in GUESTS]
+        played = [rounds_of(play(image, scratch)) for image in images]
+        tell(played)
+        tell([rounds_of(move(image)) for image in images])
+    for (name, what, _, _), (rounds, last) in zip(GUESTS, played):
+        draw(name, what, rounds, last, folder)
 
 
 if __name__ == "__main__":
