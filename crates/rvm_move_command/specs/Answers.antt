@@ -1,5 +1,5 @@
 -- What is told of a journal.
-use Rattle.std.specs.Prelude.{ℕ, true, List, [], None, if◌then◌else◌}
+use Rattle.std.specs.Prelude.{ℕ, List, [], None, if◌then◌else◌}
 use Rattle.std.specs.List.{flat_map}
 use Rattle.rvm_journal.specs.declared.entry.Entry.{Entry}
 use Rattle.rvm_journal.specs.History.{is_board}
