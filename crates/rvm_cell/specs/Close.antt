@@ -1,7 +1,5 @@
 -- What the receipts of a shared host have to say of its journal.
-use Rattle.std.specs.Prelude.{◌≡◌, ℕ, ◌+◌, ◌<◌, ◌≤◌, List, length, slice_get, Some, None, Option, ◌⊎◌}
-use Rattle.std.specs.BTreeMap.{BTreeMap, get}
-use Rattle.std.specs.Ordering.{nat_cmp}
+use Rattle.std.specs.Prelude.{◌≡◌, ℕ, ◌<◌, ◌≤◌, List, length, slice_get, Some, ◌⊎◌}
 use Rattle.rvm_journal.specs.declared.entry.Entry.{Entry}
 use Rattle.rvm_cell.specs.declared.receipt.Receipt.{Receipt}
 

@@ -4,21 +4,16 @@ use denote.Enum.Declared.{shape}
 use denote.Enum.Enum.{Enum}
 use denote.Struct.Declared as struct
 use denote.Struct.Struct.{Struct}
-use denote.Param.Send.{IsSend, IsSync, sendable}
+use denote.Param.Send.{IsSend, sendable}
 use Rattle.std.proofs.Crossing.{crosses}
 use Rattle.std.specs.declared.sync.ledger.Ledger as Ledger
-use Rattle.rvm_mem.specs.declared.memory.Memory as Memory
 use Rattle.rvm_message.specs.contracts.event.HostEvent as HostEvent
 use Rattle.rvm_message.specs.contracts.reply.HostReply as HostReply
 use Rattle.rvm_cell.specs.declared.seat.Seating as Seating
 use Rattle.rvm_cell.specs.contracts.receipt.Receipt as Receipt
 use Rattle.rvm_cell.specs.contracts.seat.Seat as Seat
-use Rattle.rvm_cell.specs.contracts.shared.SharedHost as SharedHost
-use Rattle.rvm_cell.proofs.Sends.{seat_send, shared_sync}
-use Rattle.rvm_link.specs.contracts.outgoing.Outgoing as Outgoing
-use Rattle.rvm_link.proofs.Sends.{outgoing_sync}
+use Rattle.rvm_cell.proofs.Sends.{seat_send}
 use Rattle.rvm_worker.specs.contracts.end.Worked as Worked
-use Rattle.rvm_worker.specs.contracts.telling.Side as Side
 
 event_send : IsSend (Enum (shape HostEvent.the_type))
 event_send = search (sendable, crosses) depth 40 fits 10000

@@ -1,4 +1,4 @@
-use Rattle.std.proofs.Common.{rules, ℕ, ◌≤◌, ◌<◌, arith, sym, ap, length, get_or}
+use Rattle.std.proofs.Common.{rules}
 use Rattle.std.proofs.lemmas.List.Sorted.{IsNonDecreasingBy-from_sort_by_key}
 use Rattle.rvm_cell.specs.declared.receipt.Receipt.{Receipt}
 use Rattle.rvm_cell.proofs.Checks.{by_place}

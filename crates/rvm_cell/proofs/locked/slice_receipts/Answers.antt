@@ -2,7 +2,7 @@ use Rattle.std.proofs.Common.{rules, ◌≡◌, ◌∙◌, ◌+◌, ◌++◌, le
 use Rattle.rvm_cell.specs.declared.receipt.Receipt.{Receipt}
 use Rattle.rvm_cell.specs.Calls.{AreReceipts, replies_of}
 use Rattle.rvm_cell.specs.Seats.{seat_of}
-use Rattle.rvm_cell.proofs.Receipts.{no_receipts, more_receipts, more_replies}
+use Rattle.rvm_cell.proofs.Receipts.{more_receipts, more_replies}
 use Rattle.rvm_cell.proofs.locked.slice_receipts.Goals as goal
 
 pub loop-reply-preserved : goal.loop-reply-preserved

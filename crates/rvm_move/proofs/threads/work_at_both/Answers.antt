@@ -1,4 +1,4 @@
-use Rattle.std.proofs.Crossing.{crosses, send}
+use Rattle.std.proofs.Crossing.{send}
 use denote.Param.{param}
 use denote.Param.Send.{IsSync, IsSend, sendable}
 use Rattle.rvm_cell.specs.contracts.shared.SharedHost as SharedHost
