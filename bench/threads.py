@@ -2,7 +2,7 @@
 """Measures moves by threads, `rvmove move`:
 
 - host instructions a step of the guest, beside those of `rvmove run`, by valgrind's cachegrind: the difference of
-  two moves of the same guest over their difference in steps, divided so since start and end are the same;
+  two moves of the same guest over their difference in steps, so that start and end do not count;
 - the time of a move of 4096 pages that nobody writes, in each version, beside that of a plain copy of as many
   bytes over a loopback socket, best of some runs that alternate.
 
@@ -55,7 +55,7 @@ def copied(count):
 
 
 def moved(version):
-    """The seconds of a move of a large board, less those of one of a single page."""
+    """The seconds of a move of all pages, and of one page."""
     def taken(pages):
         image = os.path.join(BUILD, f"still-{pages}.bin")
         with open(image, "wb") as file:
