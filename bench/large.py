@@ -104,8 +104,36 @@ def script_runs(inputs):
     for count in (10_000, 20_000, 40_000):
         lines = ["begin", *["deliver 0"] * count]
         yield f"script: one frame delivered {count} times", script(inputs, "again.txt", lines)
-    million = script(inputs, "million.txt", ["step 0 1000000"] * 5)
-    yield "script: 5 lines `step 0 1000000`", million
+    steps = ["step 0 1000000"] * 5
+    yield "script: 5 lines `step 0 1000000`", script(inputs, "million.txt", steps)
+    begin = ["begin", "deliver 0", "deliver 1"]
+    yield "script: the same while pages are copied", script(inputs, "copying.txt", begin + steps)
+
+
+def round_lines(pages):
+    """The first round of a move of so many pages, each frame of which comes, and the start before it."""
+    begin = ["begin", "deliver 0", "deliver 1"]
+    return begin, begin + ["copy"] * (pages + 1) + [f"deliver {place}" for place in range(2, pages + 3)]
+
+
+def round_runs(inputs):
+    """A round of 4096 pages, whose first byte alone, or last byte alone, is not 0; and a copy of as many bytes."""
+    pages, size = 4096, 4096 * 4096
+    for name, place in (("first", 0), ("last", 4095)):
+        image = inputs.folder / f"{name}.bin"
+        page = bytearray(4096)
+        page[place] = 1
+        image.write_bytes(bytes(page) * pages)
+        begin, lines = round_lines(pages)
+        for version in "12":
+            words = [PROGRAM, "script", "--raw", "--pages", str(pages), "--stream", version, image]
+            what = f"version {version}, pages that are 0 but for their {name} byte"
+            yield f"begin of a move, {what}", [*words, inputs.text("begin.txt", begin)]
+            yield f"the same and a round, {what}", [*words, inputs.text("round.txt", lines)]
+    code = f"import time; a = bytes({size}); b = bytearray({size}); b[:] = a; t = time.process_time(); b[:] = a; " \
+        "print(time.process_time() - t)"
+    taken = min(float(subprocess.run([sys.executable, "-c", code], capture_output=True, text=True).stdout) for _ in range(5))
+    print(f"{taken * 1000:8.1f} ms  memcpy of {size} bytes")
 
 
 def move_runs(inputs):
@@ -144,7 +172,7 @@ def main():
     wanted = sys.argv[1:]
     with tempfile.TemporaryDirectory(prefix="large-") as folder:
         inputs = Inputs(folder)
-        for runs in (script_runs, move_runs, assembler_runs, listing_runs):
+        for runs in (script_runs, round_runs, move_runs, assembler_runs, listing_runs):
             for name, command in runs(inputs):
                 if wanted and not any(word in name for word in wanted):
                     continue
@@ -157,7 +185,7 @@ def report(name, command):
     if command[1] == "debug":
         given["stdin"] = open(command.pop(), "rb")
     seconds, megabytes = measured(command, **given)
-    print(f"{name:50} {seconds:8.2f} s {megabytes:8.0f} MB", end="", flush=True)
+    print(f"{name:70} {seconds:8.3f} s {megabytes:8.0f} MB", end="", flush=True)
     if command[1] in ("dis", "debug") and shutil.which("strace"):
         if given:
             given["stdin"].seek(0)

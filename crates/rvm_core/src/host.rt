@@ -2,6 +2,8 @@
 
 ghost use Rattle.std.specs.Prelude.{◌≡◌, ◌↔◌, ℕ, true, false, IfOk, IfErr, IsErr, OnErr, None};
 ghost use Rattle.rvm_message.specs.Events.{command_of, event_of};
+ghost use Rattle.rvm_message.specs.Exchanges.{step_of_hart};
+ghost use Rattle.rvm_message.specs.Steps.{reply_to_step};
 ghost use Rattle.rvm_message.specs.Frames.{BoardFrame, addressed_made, frame_heard, frame_made};
 ghost use Rattle.rvm_precopy.specs.Policies.{policy_of};
 ghost use Rattle.rvm_guest.proofs.TheGuest.{board};
@@ -11,7 +13,7 @@ ghost use Rattle.rvm_protocol.specs.Host.{is_heard, is_offer_above, is_there};
 ghost use Rattle.rvm_core.specs.Bounds.{CanBePosted, IsHost, addressed, frame_bound};
 ghost use Rattle.rvm_core.specs.Hosts.{Steps, host_of, is_sized, new_host, partner_of, version_of};
 ghost use Rattle.rvm_core.specs.Memory.{asks_memory, needs_memory, takes_memory};
-ghost use Rattle.rvm_core.specs.Turns.{turned};
+ghost use Rattle.rvm_core.specs.Turns.{HasLog, turned};
 
 use crate::bound::{came_body, with_header};
 use crate::limits::is_spoken;
@@ -19,7 +21,7 @@ use crate::mode::Mode;
 use rvm_debug::{Debugged, Turns};
 use rvm_frame::{Addressed, Frame};
 use rvm_mem::PagedMemory;
-use rvm_message::{Command, HostEvent, HostRefusal, HostReply, can_come};
+use rvm_message::{Command, HostEvent, HostRefusal, HostReply, StepReply, can_come};
 use rvm_precopy::Policy;
 use std::alloc::{AllocError, Global};
 use std::marker::Model;
@@ -159,12 +161,20 @@ impl<M: PagedMemory + Drop> Host<M> {
         Ok((reply, addressed(self.id, self.partner, frame)))
     }
 
-    /// Makes turns of a hart, at most `count`, as `Debugged::turns` does, where the guest runs here, no
-    /// move is going on and the hart is there; else none. Takes no memory.
+    /// Makes a step of a hart, as `apply` does, with a reply of a few bytes. Takes no memory.
+    pub fn step(&mut self, hart: u32) -> StepReply
+        ensures { Steps self.old (event_of (step_of_hart hart)) (reply_to_step result, None) self.new }
+    {
+        self.mode.step(hart)
+    }
+
+    /// Makes turns of a hart, at most `count`, as `Debugged::turns` does, where the guest runs here and the
+    /// hart is there; else none. Takes no memory.
     pub fn turns(&mut self, hart: u32, count: u32) -> Turns
         ensures host { self.new ≡ record self.old { mode = (turned hart count self.old.mode).mode } }
         ensures made { result.made ≡ (turned hart count self.old.mode).made }
         ensures stop { result.stop ≡ (turned hart count self.old.mode).stop }
+        ensures log { HasLog self.old.mode }
     {
         self.mode.turns(hart, count)
     }

@@ -4,6 +4,8 @@ ghost use Rattle.std.specs.Prelude.{◌≡◌, ◌<◌, ℕ, IfOk, OnErr, None, 
 ghost use Rattle.rvm_guest.proofs.TheGuest.{board};
 ghost use Rattle.rvm_message.specs.Answers.{Answers};
 ghost use Rattle.rvm_message.specs.Sendable.{CanBeSent};
+ghost use Rattle.rvm_message.specs.Steps.{reply_to_step};
+ghost use Rattle.rvm_debug.specs.declared.event.BoardEvent.TheVariants.{Step};
 ghost use Rattle.rvm_precopy.specs.Policies.{policy_of};
 ghost use Rattle.rvm_protocol.specs.Frames as frames;
 ghost use Rattle.rvm_protocol.specs.Modes as protocol;
@@ -11,22 +13,18 @@ ghost use Rattle.rvm_protocol.specs.Obeying as obeying;
 ghost use Rattle.rvm_protocol.specs.Receiving as receiving;
 ghost use Rattle.rvm_core.specs.Bounds.{HasNumber, copy_body, resend_body};
 ghost use Rattle.rvm_core.specs.Modes.{mode_of, plain_of};
-ghost use Rattle.rvm_core.specs.Turns.{guest_turned, turned};
+ghost use Rattle.rvm_core.specs.Turns.{HasLog, turned};
 
 use crate::mode::Mode;
-use rvm_debug::{BoardEvent, Debugged, Order, Turns};
+use rvm_debug::{BoardEvent, Debugged, Turns};
 use rvm_frame::Frame;
-use rvm_mem::{Memory, PagedMemory};
-use rvm_message::{Answer, HostRefusal, HostReply, apply_event};
+use rvm_mem::PagedMemory;
+use rvm_message::{
+    Answer, HostRefusal, HostReply, NO_TURNS, StepReply, apply_event, step_guest, turn_guest,
+};
 use rvm_precopy::Policy;
 use rvm_source::Source;
 use std::alloc::{AllocError, Global};
-
-/// No turn was made.
-const NO_TURNS: Turns = Turns {
-    made: 0,
-    stop: None,
-};
 
 impl<M: PagedMemory + Drop> Mode<M> {
     /// An event of the guest. Takes no memory.
@@ -45,14 +43,32 @@ impl<M: PagedMemory + Drop> Mode<M> {
         }
     }
 
-    /// Makes turns of a hart, at most `count`, where the guest runs and no move is going on; else none.
+    /// Makes a step of a hart of the guest. Takes no memory.
+    pub(crate) fn step(&mut self, hart: u32) -> StepReply
+        ensures { (version : ℕ) → Answers version
+            (obeying.board board (Step hart) (mode_of (plain_of self.old)))
+            (reply_to_step result, None) (mode_of (plain_of self.new)) }
+    {
+        match self {
+            Mode::Run { guest, .. } => step_guest(guest, hart),
+            Mode::Leaving(source) => source.step(hart),
+            Mode::Held { .. } => StepReply::Refused(HostRefusal::Paused),
+            Mode::Empty { .. } | Mode::Given { .. } | Mode::Staging { .. } => StepReply::Refused(
+                HostRefusal::NotHere,
+            ),
+        }
+    }
+
+    /// Makes turns of a hart, at most `count`, where the guest runs; else none. Takes no memory.
     pub(crate) fn turns(&mut self, hart: u32, count: u32) -> Turns
         ensures mode { plain_of self.new ≡ (turned hart count (plain_of self.old)).mode }
         ensures made { result.made ≡ (turned hart count (plain_of self.old)).made }
         ensures stop { result.stop ≡ (turned hart count (plain_of self.old)).stop }
+        ensures log { HasLog (plain_of self.old) }
     {
         match self {
-            Mode::Run { guest, .. } => turns_of(guest, hart, count),
+            Mode::Run { guest, .. } => turn_guest(guest, hart, count),
+            Mode::Leaving(source) => source.turns(hart, count),
             _ => NO_TURNS,
         }
     }
@@ -247,16 +263,4 @@ impl<M: PagedMemory + Drop> Mode<M> {
             _ => HostReply::Refused(HostRefusal::Ignored),
         }
     }
-}
-
-/// Turns of a hart of a guest, at most `count`; none where it is not there.
-fn turns_of<M: Memory>(guest: &mut Debugged<M>, hart: u32, count: u32) -> Turns
-    ensures guest { guest.new.guest ≡ (guest_turned hart count guest.old.guest).guest }
-    ensures made { result.made ≡ (guest_turned hart count guest.old.guest).made }
-    ensures stop { result.stop ≡ (guest_turned hart count guest.old.guest).stop }
-{
-    if hart >= guest.harts() {
-        return NO_TURNS;
-    }
-    guest.turns(Order::Alone, hart, count)
 }

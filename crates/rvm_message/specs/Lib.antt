@@ -4,3 +4,6 @@ pub mod Refusals
 pub mod Replies
 pub mod Answers
 pub mod Sendable
+pub mod Steps
+pub mod Turns
+pub mod Exchanges

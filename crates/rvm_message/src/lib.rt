@@ -3,15 +3,21 @@
 //!
 //! Stands on `rvm_guest`, `rvm_precopy` and `rvm_frame`, and knows nothing of modes or hosts.
 //!
-//! To be read in this order: `event`, `frame`, `reply`, `guest`.
+//! To be read in this order: `event`, `frame`, `reply`, `step`, `turns`, `exchange`, `guest`.
 #![tactic(auto)]
 
 mod event;
+mod exchange;
 mod frame;
 mod guest;
 mod reply;
+mod step;
+mod turns;
 
 pub use event::{Command, HostEvent};
+pub use exchange::{Exchange, ExchangeRef, ExchangeRoom};
 pub use frame::can_come;
 pub use guest::apply_event;
 pub use reply::{Answer, HostRefusal, HostReply};
+pub use step::{StepReply, step_guest};
+pub use turns::{NO_TURNS, turn_guest};

@@ -1,6 +1,11 @@
 -- No page of a guest that is moved is forgotten, by what the calls of its rounds told.
-use Rattle.std.proofs.Common.{◌≡◌, ℕ, ◌-◌, ◌^◌, ◌<◌, ◌==◌, true, false, List, Bool, length, Option, Some, None, refl, sym, subst, arith}
+use Rattle.std.proofs.Common.{◌≡◌, ◌⊎◌, inl, inr, ℕ, ◌-◌, ◌^◌, ◌<◌, ◌==◌, true, false, ◌||◌, List, Bool, length, replicate, Option, Some, None, refl, sym, ap, ◌∙◌, subst, arith}
 use Rattle.std.proofs.lemmas.Bool.{cond_both}
+use Rattle.rvm_mem.specs.Pages.{has, mark_all}
+use Rattle.rvm_debug.specs.declared.turns.Turns.{Turns}
+use Rattle.rvm_debug.specs.Guest.{GuestState}
+use Rattle.rvm_debug.specs.Turns.{AfterTurns, TakesTurns}
+use Rattle.rvm_message.proofs.Logs.{has_marked, length_marked}
 use Rattle.rvm_precopy.specs.Coverage.{Covers, CoversLast}
 use Rattle.rvm_precopy.specs.Plans.{IsPlanOf, LastTurn, Plan, Turn, copied_if, found, last_copied, last_found, last_next_of, next_of, peek, stopping, with_found, with_last}
 use Rattle.rvm_precopy.specs.declared.rounds.Next.{Next}
@@ -10,7 +15,7 @@ use Rattle.rvm_precopy.specs.declared.rounds.LastNext.TheVariants as last
 use Rattle.rvm_precopy.proofs.Coverage.{turned, paused, last_turned}
 use Rattle.rvm_source.specs.declared.phase.Phase.{Phase}
 use Rattle.rvm_source.specs.declared.phase.Phase.TheVariants as phases
-use Rattle.rvm_source.specs.Sources.{HasPages, IsCovered, PlainSource}
+use Rattle.rvm_source.specs.Sources.{HasPages, HasTurn, IsCovered, PlainSource}
 
 -- THE GUEST RUNS
 
@@ -68,6 +73,41 @@ next_covered pages s log plan a h phase c ea er el =
 pub still_covered : (f : Phase) (log : List Bool) (plan : Plan) → f ≡ phases.Copying → Covers log plan
     → IsCovered f log plan
 still_covered f log plan phase c = subst (λ x. IsCovered x log plan) (sym phase) c
+
+-- with more pages in the dirty log none is forgotten
+covers_more : (log more : List Bool) (r : Plan) → ((p : ℕ) → has p log ≡ true → has p more ≡ true) → Covers log r
+    → Covers more r
+covers_more log more r grows c =
+    record {
+      page = λ p lt.
+          elim (c.page p lt) [
+            | inl copied ↦ inl copied
+            | inr (inl due) ↦ inr (inl due)
+            | inr (inr dirty) ↦ inr (inr (grows p dirty))
+          ];
+      peeked = λ p near set. grows p (c.peeked p near set);
+      numbers = c.numbers;
+      over = c.over;
+    }
+
+marked_covered : (ps : List ℕ) (log : List Bool) (r : Plan) → Covers log r → Covers (mark_all ps log) r
+marked_covered ps log r c =
+    covers_more log (mark_all ps log) r
+    (λ p here. has_marked ps log p ∙ ap (λ b. b || has p (mark_all ps (replicate (length log) false))) here) c
+
+-- turns of a guest that runs, whose pages are in the log then, leave what its source has to keep
+pub turns_keep : (f : Phase) {t : AfterTurns} {g new : GuestState} {told : Turns} (r : Plan)
+    → (f ≡ phases.Offering) ⊎ (f ≡ phases.Copying) → TakesTurns t g new told
+    → length g.dirty ≡ length r.to_send → IsCovered f g.dirty r
+    → (length new.dirty ≡ length r.to_send) × (HasTurn f new r × IsCovered f new.dirty r)
+turns_keep phases.Offering {t} {g} r runs took size c =
+    (ap length took.dirty ∙ length_marked t.pages g.dirty ∙ size, (tt, tt))
+turns_keep phases.Copying {t} {g} r runs took size c = (
+  ap length took.dirty ∙ length_marked t.pages g.dirty ∙ size,
+  (tt, subst (λ d. Covers d r) (sym took.dirty) (marked_covered t.pages g.dirty r c)),
+)
+turns_keep (phases.Stopped turn) r (inl e) took size c = absurd cc
+turns_keep (phases.Stopped turn) r (inr e) took size c = absurd cc
 
 -- THE GUEST IS PAUSED
 

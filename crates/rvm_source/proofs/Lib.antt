@@ -7,3 +7,4 @@ mod Pieces
 mod Sending
 mod Sendings
 mod Covering
+mod Zeros

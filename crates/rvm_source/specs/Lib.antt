@@ -1,3 +1,4 @@
 pub mod Sources
 pub mod States
 pub mod Bounds
+pub mod Turns

@@ -1,6 +1,6 @@
 //! The frame of a copy of a page.
 
-ghost use Rattle.std.specs.Prelude.{◌≡◌, ◌<◌, ◌==◌, length, Some};
+ghost use Rattle.std.specs.Prelude.{◌≡◌, ◌<◌, ◌≤◌, ◌==◌, length, Some};
 ghost use Rattle.std.specs.List.{list_all};
 ghost use Rattle.rvm_protocol.specs.Frames as protocol;
 ghost use Rattle.rvm_protocol.specs.Rounds.{page_of};
@@ -59,9 +59,14 @@ fn is_zeros(bytes: &[u8; PAGE_SIZE as usize]) -> bool
     all_zeros(bytes)
 }
 
-/// Whether bytes are all zeros.
+/// Whether bytes are all zeros: they are just where their sum is 0, which is found many at a time.
 fn all_zeros(bytes: &[u8]) -> bool
+    requires { length bytes.now ≤ 4096 }
     ensures { result ≡ list_all (λ b. b == 0) bytes.now }
 {
-    bytes.iter().all(|byte| *byte == 0)
+    let mut sum: u32 = 0;
+    for byte in bytes {
+        sum += u32::from(*byte);
+    }
+    sum == 0
 }

@@ -10,20 +10,26 @@ ghost use Rattle.rvm_protocol.specs.Pages.{is_in};
 ghost use Rattle.rvm_protocol.specs.Receiving as receiving;
 ghost use Rattle.rvm_protocol.specs.Rounds.{page_of};
 ghost use Rattle.rvm_precopy.specs.Policies.{policy_of};
+ghost use Rattle.rvm_guest.specs.Pages.{count_of};
 ghost use Rattle.rvm_guest.proofs.TheGuest.{board};
 ghost use Rattle.rvm_message.specs.Answers.{Answers};
 ghost use Rattle.rvm_message.specs.Frames.{frame_made, frame_of};
 ghost use Rattle.rvm_message.specs.Sendable.{CanBeSent};
+ghost use Rattle.rvm_message.specs.Steps.{reply_to_step};
+ghost use Rattle.rvm_debug.specs.declared.event.BoardEvent.TheVariants.{Step};
 ghost use Rattle.rvm_source.specs.Bounds.{body_bound, is_copied};
 ghost use Rattle.rvm_source.specs.Sources.{HasPages, is_offering, is_stopped, mode_of};
+ghost use Rattle.rvm_source.specs.Turns.{source_turned};
 
 use crate::page::{COPY_BODY, page_frame};
 use crate::phase::Phase;
 use crate::state::{send_state, state_bound};
-use rvm_debug::{BoardEvent, Debugged};
+use rvm_debug::{BoardEvent, Debugged, Turns};
 use rvm_frame::{Frame, PageBytes};
 use rvm_mem::{Memory, PageSet, PagedMemory};
-use rvm_message::{Answer, HostRefusal, HostReply, apply_event};
+use rvm_message::{
+    Answer, HostRefusal, HostReply, NO_TURNS, StepReply, apply_event, step_guest, turn_guest,
+};
 use rvm_precopy::{LastNext, Next, Policy, Rounds};
 use std::alloc::{AllocError, Global};
 use std::marker::Model;
@@ -160,6 +166,32 @@ impl<M: PagedMemory> Source<M> {
                 &mut self.guest,
                 event,
             )),
+        }
+    }
+
+    /// Makes a step of a hart of the guest, as `apply` does. Takes no memory.
+    pub fn step(&mut self, hart: u32) -> StepReply
+        ensures { (version : ℕ) → Answers version (obeying.board board (Step hart) (mode_of self.old))
+            (reply_to_step result, None) (mode_of self.new) }
+    {
+        match self.phase {
+            Phase::Stopped { .. } => StepReply::Refused(HostRefusal::Paused),
+            Phase::Offering | Phase::Copying => step_guest(&mut self.guest, hart),
+        }
+    }
+
+    /// Makes turns of a hart of the guest, at most `count`, as `Debugged::turns` does, unless the guest is
+    /// paused or the hart is not there. Takes no memory.
+    pub fn turns(&mut self, hart: u32, count: u32) -> Turns
+        ensures source { self.new ≡ (source_turned hart count self.old).source }
+        ensures made { result.made ≡ (source_turned hart count self.old).made }
+        ensures stop { result.stop ≡ (source_turned hart count self.old).stop }
+        ensures log { length self.old.guest.dirty ≡ count_of self.old.guest.guest }
+    {
+        let _size = self.guest.memory().len();
+        match self.phase {
+            Phase::Stopped { .. } => NO_TURNS,
+            Phase::Offering | Phase::Copying => turn_guest(&mut self.guest, hart, count),
         }
     }
 

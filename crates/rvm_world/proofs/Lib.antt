@@ -3,7 +3,7 @@ mod Keeping
 mod Happenings
 mod NewWorlds
 mod Runs
-mod Laws
+pub mod Laws
 mod Drives
 mod FirstRound
 mod Sending
@@ -11,3 +11,5 @@ mod Opening
 mod Moves
 mod Endings
 mod Stepping
+mod Running
+mod Turning

@@ -180,8 +180,7 @@ impl<M: PagedMemory + Drop> World<M> {
         }
     }
 
-    /// Makes the first turns of steps of a hart, at most `count`, where the guest runs at this host and no
-    /// move is going on; else none.
+    /// Makes the first turns of steps of a hart, at most `count`, where the guest runs at this host; else none.
     pub(crate) fn turns(&mut self, host: u8, hart: u32, count: u32) -> Turns
         ensures { AreFirst host hart count (world_of self.old) (world_of self.new) result.made result.stop }
     {

@@ -2,7 +2,7 @@ use Rattle.std.proofs.Common.{◌<◌, ◌∙◌, subst}
 use Rattle.rvm_world.specs.Steps.{AreFirst}
 use Rattle.rvm_world.specs.Worlds.{PlainWorld, world_of}
 use Rattle.rvm_world.proofs.Happenings.{with_host}
-use Rattle.rvm_world.proofs.Stepping.{turns_become}
+use Rattle.rvm_world.proofs.Turning.{turns_become}
 use Rattle.rvm_world.proofs.world.World.turns.Goals as goal
 
 pub invariant_of-self : goal.invariant_of-self
@@ -12,7 +12,7 @@ invariant_of-self g c =
     let lt = subst (λ z. c.args.host < z) (c.len.ensures ∙ f.hosts.ok.0) c.if-host-len.false in
     (turns_become w c.args.host c.args.hart c.args.count c.index_mut.result.now c.turns.new.self c.turns.result.made
     c.turns.result.stop c.self.invariant lt c.index_mut.ensures.value c.turns.ensures.host c.turns.ensures.made
-    c.turns.ensures.stop).stays
+    c.turns.ensures.stop c.turns.ensures.log).stays
 
 pub returns : goal.returns
 returns g c =
@@ -24,4 +24,4 @@ returns g c =
     c.turns.result.made c.turns.result.stop) c.self.view_is
     (turns_become w c.args.host c.args.hart c.args.count c.index_mut.result.now c.turns.new.self c.turns.result.made
     c.turns.result.stop c.self.invariant lt c.index_mut.ensures.value c.turns.ensures.host c.turns.ensures.made
-    c.turns.ensures.stop).first
+    c.turns.ensures.stop c.turns.ensures.log).first

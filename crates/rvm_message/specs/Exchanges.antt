@@ -1,0 +1,43 @@
+-- Exchanges: an event of a host and the reply to it.
+use Rattle.std.specs.Prelude.{ℕ}
+use Rattle.rvm_debug.specs.declared.event.BoardEvent.TheVariants as board
+use Rattle.rvm_message.specs.declared.event.Command.TheVariants.{Board}
+use Rattle.rvm_message.specs.declared.event.HostEvent.{HostEvent}
+use Rattle.rvm_message.specs.declared.event.HostEvent.TheVariants.{Do}
+use Rattle.rvm_message.specs.declared.exchange.ExchangeRef.{ExchangeRef}
+use Rattle.rvm_message.specs.declared.exchange.ExchangeRef.TheVariants as look
+use Rattle.rvm_message.specs.declared.exchange.Kept.{Kept}
+use Rattle.rvm_message.specs.declared.exchange.Kept.TheVariants as kept
+use Rattle.rvm_message.specs.declared.exchange.Pair.{Pair}
+use Rattle.rvm_message.specs.declared.reply.HostReply.{HostReply}
+use Rattle.rvm_message.specs.declared.step.StepReply.{StepReply}
+use Rattle.rvm_message.specs.Steps.{reply_to_step}
+
+pub record PlainExchange : Type 0 where
+  pub event : HostEvent
+  pub reply : HostReply
+
+abbrev pub exchange : HostEvent → HostReply → PlainExchange
+exchange e r = record { event = e; reply = r }
+
+-- a step of a hart
+abbrev pub step_of_hart : (hart : ℕ) → HostEvent
+step_of_hart h = Do (Board (board.Step h))
+
+-- of a step and the reply to it
+abbrev pub step_exchange : (hart : ℕ) → StepReply → PlainExchange
+step_exchange h r = exchange (step_of_hart h) (reply_to_step r)
+
+-- of an event and its reply in one place
+abbrev pub pair_exchange : Pair → PlainExchange
+pair_exchange p = exchange p.event p.reply
+
+-- as it is kept
+abbrev pub plain_of : Kept → PlainExchange
+plain_of (kept.Step h r) = step_exchange h r
+plain_of (kept.Other p) = pair_exchange p.value
+
+-- that is looked at
+abbrev pub exchange_in : ExchangeRef → PlainExchange
+exchange_in (look.Step h r) = step_exchange h r
+exchange_in (look.Other e r) = exchange e.now r.now

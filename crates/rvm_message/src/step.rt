@@ -1,0 +1,83 @@
+//! A step of a hart, and the reply to it.
+
+ghost use Rattle.std.specs.Prelude.{◌≡◌, ◌||◌, ℕ, length};
+ghost use Rattle.rvm_debug.specs.declared.event.BoardEvent.TheVariants.{Step};
+ghost use Rattle.rvm_debug.specs.Events.{steps_if_there};
+ghost use Rattle.rvm_mem.specs.Pages.{has, mark_all};
+ghost use Rattle.rvm_guest.proofs.TheGuest.{board};
+ghost use Rattle.rvm_message.specs.Replies.{ends_steps, reply_of};
+ghost use Rattle.rvm_message.specs.Steps.{reply_to_step};
+
+use crate::reply::{HostRefusal, HostReply};
+use rvm_debug::{BoardRefusal, BoardReply, Debugged};
+use rvm_hart::Stepped;
+use rvm_mem::{Memory, PagedMemory};
+
+/// What a host answers to a step of a hart. It takes a few bytes, where a `HostReply` has room for all
+/// that a board can tell.
+#[derive(Clone, Copy, Debug, PartialEq, Eq)]
+pub enum StepReply {
+    /// The hart took a step.
+    Stepped(Stepped),
+    /// The hart stopped at the breakpoint at this address instead.
+    Break(u32),
+    /// The board has no such hart.
+    BadHart,
+    /// The host refused the step.
+    Refused(HostRefusal),
+}
+
+impl StepReply {
+    /// The same, as a reply of a host.
+    pub fn reply(self) -> HostReply
+        ensures { result ≡ reply_to_step self }
+    {
+        match self {
+            StepReply::Stepped(stepped) => HostReply::Board(BoardReply::of_step(stepped)),
+            StepReply::Break(address) => HostReply::Board(BoardReply::Break(address)),
+            StepReply::BadHart => HostReply::Board(BoardReply::Refused(BoardRefusal::BadHart)),
+            StepReply::Refused(why) => HostReply::Refused(why),
+        }
+    }
+
+    /// Whether no step is made after this reply to one: the hart stopped at a breakpoint, the board is
+    /// halted, or the step was refused.
+    pub fn ends_steps(self) -> bool
+        ensures { result ≡ ends_steps (reply_of (reply_to_step self)) }
+    {
+        match self {
+            StepReply::Stepped(Stepped::Halted(_)) => true,
+            StepReply::Stepped(_) => false,
+            StepReply::Break(_) | StepReply::BadHart | StepReply::Refused(_) => true,
+        }
+    }
+}
+
+/// Makes a step of a hart of a guest, as `apply_event` does. Takes no memory.
+pub fn step_guest<M: PagedMemory>(guest: &mut Debugged<M>, hart: u32) -> StepReply
+    ensures reply { reply_to_step result ≡ HostReply.Board (board.answer guest.old.guest (Step hart)) }
+    ensures next { guest.new.guest ≡ board.next guest.old.guest (Step hart) }
+    ensures log { (p : ℕ) → has p guest.new.dirty
+        ≡ (has p guest.old.dirty || board.wrote guest.old.guest (Step hart) p) }
+    ensures size { length guest.new.dirty ≡ length guest.old.dirty }
+{
+    let _size = guest.memory().len();
+    step_if_there(guest, hart)
+}
+
+/// The step of a hart that may not be there.
+#[inline(always)]
+fn step_if_there<M: PagedMemory>(guest: &mut Debugged<M>, hart: u32) -> StepReply
+    ensures guest { guest.new.guest ≡ (steps_if_there hart guest.old.guest).guest }
+    ensures dirty { guest.new.dirty ≡ mark_all (steps_if_there hart guest.old.guest).pages guest.old.dirty }
+    ensures reply { reply_to_step result ≡ HostReply.Board (steps_if_there hart guest.old.guest).reply }
+{
+    if hart >= guest.harts() {
+        return StepReply::BadHart;
+    }
+    let pc = guest.pc(hart);
+    match guest.step(hart) {
+        Some(stepped) => StepReply::Stepped(stepped),
+        None => StepReply::Break(pc),
+    }
+}
