@@ -26,6 +26,7 @@ use Rattle.rvm_protocol.specs.World.{and_sent, entry_of, frame_for, happened, hi
 use Rattle.rvm_protocol.proofs.OneGuestHolds.{the_law}
 use Rattle.rvm_world.specs.declared.event.Event.{Event}
 use Rattle.rvm_world.specs.declared.event.Event.TheVariants.{At, Deliver}
+use Rattle.rvm_world.proofs.Laws.{frames_are_true}
 use Rattle.rvm_world.specs.NeverMoved.{BoardEntry, NeverMoved}
 use Rattle.rvm_world.specs.Worlds.{BoardWorld, meant}
 use Rattle.rvm_audit.specs.declared.side.Side.{Side}
@@ -270,4 +271,5 @@ module _ (version : ℕ) (g : GuestState) (limits : ℕ → ℕ) where
             ∙ o.second_ends;
         never_moved = as_a_board (at_start g.guest) (run board new (map meant events)) (history board new (map meant events))
             (the_law board g.guest version 2 limits (map meant events) (allowed g.guest valid));
+        frames = frames_are_true g.guest new version 2 limits (map meant events) valid refl;
       }

@@ -11,7 +11,7 @@ use Rattle.rvm_message.specs.Replies.{reply_of}
 use Rattle.rvm_protocol.specs.Told.{at_start}
 use Rattle.rvm_protocol.specs.World.{history, run}
 use Rattle.rvm_world.specs.declared.event.Event.{Event}
-use Rattle.rvm_world.specs.NeverMoved.{BoardEntry, NeverMoved}
+use Rattle.rvm_world.specs.NeverMoved.{BoardEntry, FramesAreTrue, NeverMoved}
 use Rattle.rvm_world.specs.Worlds.{BoardWorld, meant}
 use Rattle.rvm_audit.specs.declared.side.Side.{Side}
 use Rattle.rvm_audit.specs.declared.side.Side.TheVariants.{First, Second}
@@ -26,8 +26,8 @@ pub record AreNew (version : ℕ) (g : GuestState) (limits : ℕ → ℕ) (a b :
 abbrev pub seen : Side × Entry → BoardEntry
 seen s = record { host = number_of s.0; event = event_of s.1.event; reply = reply_of s.1.reply }
 
--- in a world these events are the entries of the two journals, which ends where their replays end, and the guest, which
--- was g, is that of one board that never moves
+-- in a world these events are the entries of the two journals, which ends where their replays end; the guest, which was
+-- g, is that of one board that never moves, and the frames are those of its moves
 pub record IsWorldRun (w : BoardWorld) (g : Guest) (a b : History) (events : List Event) : Type 0 where
   pub steps : List (Side × Entry)
   pub at_first : entries_at First steps ≡ a.entries
@@ -37,3 +37,4 @@ pub record IsWorldRun (w : BoardWorld) (g : Guest) (a b : History) (events : Lis
   pub second_ends : (run board w (map meant events)).hosts 1 ≡ replay b.opening b.entries
   pub never_moved :
       NeverMoved (at_start g) (run board w (map meant events)) (history board w (map meant events))
+  pub frames : FramesAreTrue g w (map meant events)

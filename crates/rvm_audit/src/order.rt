@@ -62,8 +62,8 @@ pub fn dead_ends_have_no_order()
 {}
 
 /// An order of the journals of the two hosts of a new world is a run of the law of live migration: what
-/// is seen in it are the entries of both journals, it ends where their replays end, and the guest is that
-/// of one board that never moves.
+/// is seen in it are the entries of both journals, it ends where their replays end, the guest is that of
+/// one board that never moves, and the frames are those of its moves.
 pub fn the_guest_of_an_order_never_moves()
     ensures { (version : ℕ) (g : GuestState) (limits : ℕ → ℕ) (a b : History) (events : List Event)
         → is_valid g.guest ≡ true → AreNew version g limits a.opening b.opening → IsOrder a b events
