@@ -7,6 +7,7 @@ ghost use Rattle.byteorder.specs.Endian.{little_bytes};
 ghost use Rattle.rvm_codec.specs.Codec.{flag};
 
 use byteorder::{ByteOrder, LittleEndian};
+use std::mem;
 
 /// Puts bytes behind those that are there.
 pub fn append_bytes(out: &mut Vec<u8>, bytes: &[u8])
@@ -15,9 +16,23 @@ pub fn append_bytes(out: &mut Vec<u8>, bytes: &[u8])
     ensures len { vec_len out.new ≡ vec_len out.old + length bytes.now }
     ensures capacity { vec_capacity out.new ≡ vec_capacity out.old }
 {
+    let none = Vec::new(*out.allocator());
+    let before = mem::replace(out, none);
+    *out = with_bytes(before, bytes);
+}
+
+/// The bytes of a vector, and others behind them. It is not borrowed, so that they are copied at once.
+fn with_bytes(before: Vec<u8>, bytes: &[u8]) -> Vec<u8>
+    requires { vec_len before + length bytes.now ≤ vec_capacity before }
+    ensures items { result.items ≡ before.items ++ bytes.now }
+    ensures len { vec_len result ≡ vec_len before + length bytes.now }
+    ensures capacity { vec_capacity result ≡ vec_capacity before }
+{
+    let mut out = before;
     for byte in bytes {
         out.push_reserved(*byte);
     }
+    out
 }
 
 /// Puts a byte behind those that are there.

@@ -100,13 +100,13 @@ impl Reservations {
     }
 
     /// A debugger wrote the byte at an address: each reservation of its word ends.
-    #[inline(never)]
-    #[tactic(auto, using(crate::proofs::Words::words))]
+    #[inline(always)]
     pub fn poked(&mut self, address: u32)
         ensures { self.new ≡ poked address self.old }
     {
-        end_word(&mut self.words, word_of(address));
-        self.reserved = count(&self.words[..self.harts]);
+        if self.reserved > 0 {
+            self.end_all(address);
+        }
     }
 
     /// Ends the reservation of hart `hart`, and answers whether it was of the word at an address.
@@ -125,6 +125,17 @@ impl Reservations {
         self.words[hart] = None;
         self.reserved -= 1;
         own == Some(address)
+    }
+
+    /// What a debugger's write does where a reservation is held.
+    #[cold]
+    #[inline(never)]
+    #[tactic(auto, using(crate::proofs::Words::words))]
+    fn end_all(&mut self, address: u32)
+        ensures { self.new ≡ poked address self.old }
+    {
+        end_word(&mut self.words, word_of(address));
+        self.reserved = count(&self.words[..self.harts]);
     }
 
     /// What a store does where a reservation is held.

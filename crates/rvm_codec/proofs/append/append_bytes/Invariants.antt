@@ -1,9 +1,0 @@
-use Rattle.std.proofs.Common.{◌≡◌, ◌+◌, ◌++◌, take, vec_len, vec_capacity}
-use Rattle.rvm_codec.proofs.append.append_bytes.Given as goal
-
-abbrev pub invariant-loop-byte : goal.invariant-loop-byte
-invariant-loop-byte l = record {
-  items : l.out.items ≡ l.fn.out.items ++ take l.byte-index l.bytes;
-  len : vec_len l.out ≡ vec_len l.fn.out + l.byte-index;
-  capacity : vec_capacity l.out ≡ vec_capacity l.fn.out;
-}
