@@ -4,7 +4,7 @@ use Rattle.std.specs.Prelude.{slice_get, ◌⊎◌}
 use Rattle.std.proofs.lemmas.Option.{same_Some, some_pair_parts}
 use Rattle.rvm_core.specs.Hosts.{PlainHost}
 use Rattle.rvm_frame.specs.declared.frame.Frame.{Frame}
-use Rattle.rvm_journal.specs.declared.entry.Entry.{Entry}
+use Rattle.rvm_journal.specs.Entries.{PlainEntry}
 use Rattle.rvm_journal.specs.History.{History}
 use Rattle.rvm_message.specs.declared.event.HostEvent.{HostEvent}
 use Rattle.rvm_message.specs.declared.event.HostEvent.TheVariants.{Do, Came}
@@ -18,7 +18,7 @@ use Rattle.rvm_audit.specs.Pairs.{HasBytes, IsRun, Made, Makes, Pair, after, aft
 use Rattle.rvm_audit.proofs.Gets.{get_end, get_front, get_last, get_nothing, get_take}
 
 module _ (a b : PlainHost) where
-  made_stays : (w : Pair) (ss : List (Side × Entry)) (i : ℕ) (s : Made) → slice_get w.made i ≡ Some s
+  made_stays : (w : Pair) (ss : List (Side × PlainEntry)) (i : ℕ) (s : Made) → slice_get w.made i ≡ Some s
       → slice_get (after_all a b w ss).made i ≡ Some s
   made_stays w [] i s at = at
   made_stays w ((First, n) ∷ ss) i s at =
@@ -33,7 +33,7 @@ module _ (a b : PlainHost) where
       (get_end w.made (y, bytes))
 
   -- each frame that a host's entries made is there
-  made_all : (y : Side) (w : Pair) (ss : List (Side × Entry)) (k : ℕ) (n : Entry) (bytes : List ℕ)
+  made_all : (y : Side) (w : Pair) (ss : List (Side × PlainEntry)) (k : ℕ) (n : PlainEntry) (bytes : List ℕ)
       → slice_get (entries_at y ss) k ≡ Some n → n.frame ≡ Some bytes
       → (i : ℕ) × (slice_get (after_all a b w ss).made i ≡ Some (y, bytes))
   made_all y w [] k n bytes at is = cc
@@ -55,9 +55,9 @@ module _ (a b : PlainHost) where
   made_all Second w ((Second, m) ∷ ss) (suc k) n bytes at is = made_all Second (after a b w Second m) ss k n bytes at is
 
   -- an entry that cannot stand came, and was not made
-  unmade : (version : ℕ) (x : Side) (mine others : List Entry) (i j : ℕ) (w : Pair) (ss : List (Side × Entry))
+  unmade : (version : ℕ) (x : Side) (mine others : List PlainEntry) (i j : ℕ) (w : Pair) (ss : List (Side × PlainEntry))
       (places : Places) → IsIndex (other x) (after_all a b w ss).made places → entries_at (other x) ss ≡ take j others
-      → (n : Entry) → slice_get mine i ≡ Some n → (v : HostEvent) → n.event ≡ v → IsUnmade version x v places
+      → (n : PlainEntry) → slice_get mine i ≡ Some n → (v : HostEvent) → n.event ≡ v → IsUnmade version x v places
       → CameUnmade version x mine i others j
   unmade version x mine others i j w ss places index at_other n at (Do c) is never = absurd never
   unmade version x mine others i j w ss places index at_other n at (Came from f) is never = record {
@@ -74,7 +74,7 @@ module _ (a b : PlainHost) where
 
 -- one host cannot go on
 pub first_waits : (a b : History) (i j : ℕ) (es : List Event) (p q : Places) (count : ℕ) → Merged a b i j es p q count
-    → (xs : List Entry) → xs ≡ a.entries → IsWaiting a.opening.version First xs i q
+    → (xs : List PlainEntry) → xs ≡ a.entries → IsWaiting a.opening.version First xs i q
     → IsStuck a.opening.version First a.entries i b.entries j
 first_waits a b i j es p q count m xs is (inl le) = let i_le = m.i_le in inl (omega (arith, ap length is))
 first_waits a b i j es p q count m xs is (inr w) = inr
@@ -82,7 +82,7 @@ first_waits a b i j es p q count m xs is (inr w) = inr
     m.second_index m.at_second w.0 (ap (λ ys. slice_get ys i) (sym is) ∙ w.1) w.0.event refl w.2)
 
 pub second_waits : (a b : History) (i j : ℕ) (es : List Event) (p q : Places) (count : ℕ) → Merged a b i j es p q count
-    → (ys : List Entry) → ys ≡ b.entries → IsWaiting b.opening.version Second ys j p
+    → (ys : List PlainEntry) → ys ≡ b.entries → IsWaiting b.opening.version Second ys j p
     → IsStuck b.opening.version Second b.entries j a.entries i
 second_waits a b i j es p q count m ys is (inl le) = let j_le = m.j_le in inl (omega (arith, ap length is))
 second_waits a b i j es p q count m ys is (inr w) = inr
@@ -91,7 +91,7 @@ second_waits a b i j es p q count m ys is (inr w) = inr
 
 -- neither can
 pub dead_end : (a b : History) (i j : ℕ) (es : List Event) (p q : Places) (count : ℕ) → Merged a b i j es p q count
-    → (xs ys : List Entry) → xs ≡ a.entries → ys ≡ b.entries → (i < length xs) ⊎ (j < length ys)
+    → (xs ys : List PlainEntry) → xs ≡ a.entries → ys ≡ b.entries → (i < length xs) ⊎ (j < length ys)
     → IsWaiting a.opening.version First xs i q → IsWaiting b.opening.version Second ys j p → IsDeadEnd a b i j
 dead_end a b i j es p q count m xs ys xs_is ys_is rest wa wb = record {
   i_le = m.i_le;
@@ -107,24 +107,24 @@ dead_end a b i j es p q count m xs ys xs_is ys_is rest wa wb = record {
 -- THE LAW
 
 -- a host's entries stop at p: there is no more, or a frame of bytes that the other host does not make
-abbrev StuckBy : (version : ℕ) → Side → ℕ → (List ℕ → Type 0) → List Entry → Type 0
+abbrev StuckBy : (version : ℕ) → Side → ℕ → (List ℕ → Type 0) → List PlainEntry → Type 0
 StuckBy version x p F xs =
     (length xs ≤ p)
-    ⊎ ((n : Entry) × (from : ℕ) × (f : Frame) × (slice_get xs p ≡ Some n) × (n.event ≡ Came from f)
+    ⊎ ((n : PlainEntry) × (from : ℕ) × (f : Frame) × (slice_get xs p ≡ Some n) × (n.event ≡ Came from f)
     × ((bytes : List ℕ) → from ≡ number_of (other x) → HasBytes version x f bytes → F bytes → ⊥))
 
-abbrev MadeIn : ℕ → (List ℕ → Type 0) → List Entry → Type 0
-MadeIn p F xs = (k : ℕ) (n : Entry) (bytes : List ℕ) → k < p → slice_get xs k ≡ Some n → n.frame ≡ Some bytes → F bytes
+abbrev MadeIn : ℕ → (List ℕ → Type 0) → List PlainEntry → Type 0
+MadeIn p F xs = (k : ℕ) (n : PlainEntry) (bytes : List ℕ) → k < p → slice_get xs k ≡ Some n → n.frame ≡ Some bytes → F bytes
 
 abbrev AllMade : Side → (List ℕ → Type 0) → Pair → Type 0
 AllMade x F w = (k : ℕ) (bytes : List ℕ) → slice_get w.made k ≡ Some (x, bytes) → F bytes
 
-stuck_tail : (version : ℕ) (x : Side) (p : ℕ) (F : List ℕ → Type 0) (n : Entry) (xs : List Entry)
+stuck_tail : (version : ℕ) (x : Side) (p : ℕ) (F : List ℕ → Type 0) (n : PlainEntry) (xs : List PlainEntry)
     → StuckBy version x (suc p) F (n ∷ xs) → StuckBy version x p F xs
 stuck_tail version x p F n xs (inl le) = inl (omega arith)
 stuck_tail version x p F n xs (inr s) = inr s
 
-made_tail : (p : ℕ) (F : List ℕ → Type 0) (n : Entry) (xs : List Entry) → MadeIn (suc p) F (n ∷ xs) → MadeIn p F xs
+made_tail : (p : ℕ) (F : List ℕ → Type 0) (n : PlainEntry) (xs : List PlainEntry) → MadeIn (suc p) F (n ∷ xs) → MadeIn p F xs
 made_tail p F n xs made = λ k m bytes lt at is. made (suc k) m bytes (omega arith) at is
 
 -- what a host makes
@@ -140,24 +140,24 @@ made_step x y F made (Some more) old new k bytes at = elim (get_last made (y, mo
 
 module _ (a b : PlainHost) where
   -- where the next entry cannot stand, no event makes it
-  no_step : (w : Pair) (e : Event) (x : Side) (n : Entry) (xs : List Entry) (F : List ℕ → Type 0)
+  no_step : (w : Pair) (e : Event) (x : Side) (n : PlainEntry) (xs : List PlainEntry) (F : List ℕ → Type 0)
       → StuckBy (opening_at a b x).version x 0 F (n ∷ xs) → AllMade (other x) F w → Makes a b w e x n → ⊥
   no_step w e x n xs F (inl le) made m = omega arith
   no_step w (At h c) x n xs F (inr s) made m =
       let is : n ≡ s.0 = same_Some n s.0 s.3 in
-      let came : n.event ≡ Came s.1 s.2 = ap (λ (y : Entry). y.event) is ∙ s.4 in
+      let came : n.event ≡ Came s.1 s.2 = ap (λ (y : PlainEntry). y.event) is ∙ s.4 in
       let does = m.event.1 in
       cc
   no_step w (Deliver k) x n xs F (inr s) made m =
       let is : n ≡ s.0 = same_Some n s.0 s.3 in
       let c = m.event in
-      let came : Came (number_of (other x)) c.frame ≡ Came s.1 s.2 = sym c.event ∙ ap (λ (y : Entry). y.event) is ∙ s.4 in
+      let came : Came (number_of (other x)) c.frame ≡ Came s.1 s.2 = sym c.event ∙ ap (λ (y : PlainEntry). y.event) is ∙ s.4 in
       let from_is : number_of (other x) ≡ s.1 = cc in
       let frame_is : c.frame ≡ s.2 = cc in
       s.5 c.bytes (sym from_is) (subst (λ f. HasBytes (opening_at a b x).version x f c.bytes) frame_is c.same)
       (made k c.bytes c.there)
 
-  record Bound (p q : ℕ) (F G : List ℕ → Type 0) (w : Pair) (xs ys : List Entry) : Type 0 where
+  record Bound (p q : ℕ) (F G : List ℕ → Type 0) (w : Pair) (xs ys : List PlainEntry) : Type 0 where
     first_stuck : StuckBy a.version First p G xs
     second_stuck : StuckBy b.version Second q F ys
     first_made : AllMade First F w
@@ -165,7 +165,7 @@ module _ (a b : PlainHost) where
     first_makes : MadeIn p F xs
     second_makes : MadeIn q G ys
 
-  no_run : (es : List Event) (ss : List (Side × Entry)) (w : Pair) (p q : ℕ) (F G : List ℕ → Type 0) → IsRun a b w es ss
+  no_run : (es : List Event) (ss : List (Side × PlainEntry)) (w : Pair) (p q : ℕ) (F G : List ℕ → Type 0) → IsRun a b w es ss
       → Bound p q F G w (entries_at First ss) (entries_at Second ss)
       → (p < length (entries_at First ss)) ⊎ (q < length (entries_at Second ss)) → ⊥
   no_run [] [] w p q F G r d rest = elim rest [ inl l ↦ omega arith | inr l ↦ omega arith ]
@@ -198,12 +198,12 @@ module _ (a b : PlainHost) where
       })
       (elim rest [ inl l ↦ inl l | inr l ↦ inr (omega arith) ])
 
-stuck_by : (version : ℕ) (x : Side) (xs ys : List Entry) (i j : ℕ) → IsStuck version x xs i ys j
+stuck_by : (version : ℕ) (x : Side) (xs ys : List PlainEntry) (i j : ℕ) → IsStuck version x xs i ys j
     → StuckBy version x i (MadeBelow ys j) xs
 stuck_by version x xs ys i j (inl is) = inl (omega arith)
 stuck_by version x xs ys i j (inr c) = inr (c.entry, c.from, c.frame, c.stands, c.came, c.unmade)
 
-made_below : (xs : List Entry) (i : ℕ) → MadeIn i (MadeBelow xs i) xs
+made_below : (xs : List PlainEntry) (i : ℕ) → MadeIn i (MadeBelow xs i) xs
 made_below xs i = λ k n bytes lt at is. record { place = k; entry = n; below = lt; stands = at; made = is }
 
 pub no_order : (a b : History) (i j : ℕ) (es : List Event) → IsDeadEnd a b i j → IsOrder a b es → ⊥

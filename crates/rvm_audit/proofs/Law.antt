@@ -9,7 +9,7 @@ use Rattle.rvm_debug.specs.Guest.{Guest, GuestState}
 use Rattle.rvm_frame.specs.declared.frame.Frame.{Frame}
 use Rattle.rvm_guest.proofs.TheGuest.{answers_are, board, fold_is}
 use Rattle.rvm_guest.specs.Valid.{is_valid}
-use Rattle.rvm_journal.specs.declared.entry.Entry.{Entry}
+use Rattle.rvm_journal.specs.Entries.{PlainEntry}
 use Rattle.rvm_journal.specs.History.{History}
 use Rattle.rvm_journal.specs.Replay.{IsAnswered, LawHost, Outcome}
 use Rattle.rvm_message.specs.declared.event.Command.{Command}
@@ -175,7 +175,7 @@ module _ (version : ℕ) (g : GuestState) (limits : ℕ → ℕ) where
     result_is Second v = ap (λ (h : LawHost). host_step board version 1 2 (limits 1) (event_of v) h) so.second
 
     -- one event more
-    linked_next : (x : Side) (n : Entry) → IsAnswered version (outcome_in one two w x n.event) n
+    linked_next : (x : Side) (n : PlainEntry) → IsAnswered version (outcome_in one two w x n.event) n
         → Linked (after one two w x n) (put hosts (number_of x) (outcome_in one two w x n.event).next)
         (and_sent sent (outcome_in one two w x n.event).made)
     linked_next First n is = record {
@@ -198,17 +198,17 @@ module _ (version : ℕ) (g : GuestState) (limits : ℕ → ℕ) where
     }
 
   -- a run of both hosts is one of the law
-  record Runs (w : Pair) (u : BoardWorld) (es : List Event) (ss : List (Side × Entry)) : Type 0 where
+  record Runs (w : Pair) (u : BoardWorld) (es : List Event) (ss : List (Side × PlainEntry)) : Type 0 where
     seen_so : history board u (map meant es) ≡ map seen ss
     first_there : (run board u (map meant es)).hosts 0 ≡ (after_all one two w ss).first
     second_there : (run board u (map meant es)).hosts 1 ≡ (after_all one two w ss).second
 
-  answer_at : (x : Side) (w : Pair) (n : Entry) → IsAnswered (opening_at one two x).version (outcome_in one two w x n.event) n
+  answer_at : (x : Side) (w : Pair) (n : PlainEntry) → IsAnswered (opening_at one two x).version (outcome_in one two w x n.event) n
       → IsAnswered version (outcome_in one two w x n.event) n
   answer_at First w n is = is
   answer_at Second w n is = is
 
-  runs : (es : List Event) (ss : List (Side × Entry)) (w : Pair) (hosts : ℕ → LawHost) (sent : List Posted)
+  runs : (es : List Event) (ss : List (Side × PlainEntry)) (w : Pair) (hosts : ℕ → LawHost) (sent : List Posted)
       → Linked w hosts sent → IsRun one two w es ss → Runs w (world hosts sent) es ss
   unfolding history run
   runs [] [] w hosts sent so r = record { seen_so = refl; first_there = so.first; second_there = so.second }

@@ -4,7 +4,7 @@ use Rattle.std.specs.Prelude.{slice_get}
 use Rattle.std.proofs.Math.Seq.{take-length}
 use Rattle.std.proofs.lemmas.Option.{slice_get_within, same_Some}
 use Rattle.rvm_core.specs.Hosts.{PlainHost, host_of}
-use Rattle.rvm_journal.specs.declared.entry.Entry.{Entry}
+use Rattle.rvm_journal.specs.Entries.{PlainEntry}
 use Rattle.rvm_journal.specs.History.{History}
 use Rattle.rvm_journal.specs.Replay.{IsAnswered, IsReplay, IsReplayFrom, LawHost, outcome_at, replay_from}
 use Rattle.rvm_message.specs.declared.event.HostEvent.{HostEvent}
@@ -22,27 +22,27 @@ use Rattle.rvm_audit.proofs.Gets.{drop_end, drop_get, take_get}
 use Rattle.rvm_audit.proofs.Indexes.{index_rest, index_own, more_length}
 
 module _ (a b : PlainHost) where
-  run_snoc : (w : Pair) (es : List Event) (ss : List (Side × Entry)) (e : Event) (x : Side) (n : Entry) → IsRun a b w es ss
+  run_snoc : (w : Pair) (es : List Event) (ss : List (Side × PlainEntry)) (e : Event) (x : Side) (n : PlainEntry) → IsRun a b w es ss
       → Makes a b (after_all a b w ss) e x n → IsRun a b w (es ++ e ∷ []) (ss ++ (x, n) ∷ [])
   run_snoc w [] [] e x n r m = (m, tt)
   run_snoc w [] (s ∷ ss) e x n r m = absurd r
   run_snoc w (d ∷ es) [] e x n r m = absurd r
   run_snoc w (d ∷ es) (s ∷ ss) e x n r m = (r.0, run_snoc (after a b w s.0 s.1) es ss e x n r.1 m)
 
-  lowest_snoc : (w : Pair) (es : List Event) (ss : List (Side × Entry)) (e : Event) (x : Side) (n : Entry) → IsRun a b w es ss
+  lowest_snoc : (w : Pair) (es : List Event) (ss : List (Side × PlainEntry)) (e : Event) (x : Side) (n : PlainEntry) → IsRun a b w es ss
       → AllLowest a b w es ss → IsLowestAt a b (after_all a b w ss) e → AllLowest a b w (es ++ e ∷ []) (ss ++ (x, n) ∷ [])
   lowest_snoc w [] [] e x n r l m = (m, tt)
   lowest_snoc w [] (s ∷ ss) e x n r l m = absurd r
   lowest_snoc w (d ∷ es) [] e x n r l m = absurd r
   lowest_snoc w (d ∷ es) (s ∷ ss) e x n r l m = (l.0, lowest_snoc (after a b w s.0 s.1) es ss e x n r.1 l.1 m)
 
-  after_snoc : (w : Pair) (ss : List (Side × Entry)) (x : Side) (n : Entry)
+  after_snoc : (w : Pair) (ss : List (Side × PlainEntry)) (x : Side) (n : PlainEntry)
       → after_all a b w (ss ++ (x, n) ∷ []) ≡ after a b (after_all a b w ss) x n
   after_snoc w [] x n = refl
   after_snoc w (s ∷ ss) x n = after_snoc (after a b w s.0 s.1) ss x n
 
   -- each host is where its entries lead
-  pub host_after : (x : Side) (w : Pair) (ss : List (Side × Entry))
+  pub host_after : (x : Side) (w : Pair) (ss : List (Side × PlainEntry))
       → host_at x (after_all a b w ss) ≡ replay_from (opening_at a b x) (host_at x w) (entries_at x ss)
   host_after x w [] = refl
   host_after First w ((First, n) ∷ ss) = host_after First (after a b w First n) ss
@@ -50,12 +50,12 @@ module _ (a b : PlainHost) where
   host_after Second w ((First, n) ∷ ss) = host_after Second (after a b w First n) ss
   host_after Second w ((Second, n) ∷ ss) = host_after Second (after a b w Second n) ss
 
-  made_after : (w : Pair) (x : Side) (n : Entry) → (after a b w x n).made ≡ w.made ++ made_more x n.frame
+  made_after : (w : Pair) (x : Side) (n : PlainEntry) → (after a b w x n).made ≡ w.made ++ made_more x n.frame
   made_after w First n = refl
   made_after w Second n = refl
 
   -- an event that can stand makes its entry
-  becomes_makes : (w : Pair) (x : Side) (n : Entry) (v : HostEvent) (places : Places) (e : Event) → n.event ≡ v
+  becomes_makes : (w : Pair) (x : Side) (n : PlainEntry) (v : HostEvent) (places : Places) (e : Event) → n.event ≡ v
       → IsAnswered (opening_at a b x).version (outcome_in a b w x n.event) n → IsIndex (other x) w.made places
       → Becomes (opening_at a b x).version x v places e → Makes a b w e x n × IsLowestAt a b w e
   becomes_makes w x n (Do c) places e v is index can =
@@ -78,30 +78,30 @@ module _ (a b : PlainHost) where
         λ j lt same. index.lowest placed.bytes k j placed.there lt (same ∙ there),
       )
 
-put_append : (x y : Side) (n : Entry) (es fs : List Entry) → put x y n (es ++ fs) ≡ put x y n es ++ fs
+put_append : (x y : Side) (n : PlainEntry) (es fs : List PlainEntry) → put x y n (es ++ fs) ≡ put x y n es ++ fs
 put_append First First n es fs = refl
 put_append First Second n es fs = refl
 put_append Second First n es fs = refl
 put_append Second Second n es fs = refl
 
-entries_snoc : (x : Side) (ss : List (Side × Entry)) (y : Side) (n : Entry)
+entries_snoc : (x : Side) (ss : List (Side × PlainEntry)) (y : Side) (n : PlainEntry)
     → entries_at x (ss ++ (y, n) ∷ []) ≡ entries_at x ss ++ put x y n []
 entries_snoc x [] y n = refl
 entries_snoc x ((z, k) ∷ ss) y n =
     ap (put x z k) (entries_snoc x ss y n) ∙ put_append x z k (entries_at x ss) (put x y n [])
 
-one_put : (x : Side) (n : Entry) (rest : List Entry) → put First x n [] ++ rest ≡ put First x n rest
+one_put : (x : Side) (n : PlainEntry) (rest : List PlainEntry) → put First x n [] ++ rest ≡ put First x n rest
 one_put First n rest = refl
 one_put Second n rest = refl
 
-behind : (ss : List (Side × Entry)) (x : Side) (n : Entry) (rest left : List Entry) → left ≡ put First x n rest
+behind : (ss : List (Side × PlainEntry)) (x : Side) (n : PlainEntry) (rest left : List PlainEntry) → left ≡ put First x n rest
     → entries_at First (ss ++ (x, n) ∷ []) ++ rest ≡ entries_at First ss ++ left
 behind ss x n rest left is =
     ap (λ es. es ++ rest) (entries_snoc First ss x n) ∙ append_assoc (entries_at First ss) (put First x n []) rest
     ∙ ap (λ es. entries_at First ss ++ es) (one_put x n rest ∙ sym is)
 
 module _ (a b : PlainHost) where
-  turns_snoc : (w : Pair) (ss : List (Side × Entry)) (x : Side) (n : Entry) (rest left : List Entry)
+  turns_snoc : (w : Pair) (ss : List (Side × PlainEntry)) (x : Side) (n : PlainEntry) (rest left : List PlainEntry)
       → left ≡ put First x n rest → AllTurns a b w ss left → IsTurn a b (after_all a b w ss) x left
       → AllTurns a b w (ss ++ (x, n) ∷ []) rest
   turns_snoc w [] x n rest left is all turn = (subst (IsTurn a b w x) (is ∙ sym (one_put x n rest)) turn, tt)
@@ -120,13 +120,13 @@ module _ (a b : PlainHost) where
       let frame_is : is.frame ≡ f = let d = is.event in cc in
       index.all is.bytes k (un is.bytes from_is (subst (λ g. HasBytes a.version First g is.bytes) frame_is is.same)) is.there
 
-  cannot_stand : (w : Pair) (xs : List Entry) (i : ℕ) (places : Places) → IsIndex Second w.made places
+  cannot_stand : (w : Pair) (xs : List PlainEntry) (i : ℕ) (places : Places) → IsIndex Second w.made places
       → IsWaiting a.version First xs i places → CannotStand a b w First (drop i xs)
   cannot_stand w xs i places index (inl le) = subst (CannotStand a b w First) (sym (drop_end xs i le)) tt
   cannot_stand w xs i places index (inr n) =
       subst (CannotStand a b w First) (sym (drop_get xs i n.0 n.1)) (λ e is. no_event w places n.0.event e index n.2 is)
 
-replay_at : (o : PlainHost) (h : LawHost) (xs : List Entry) → IsReplayFrom o h xs → (i : ℕ) (n : Entry)
+replay_at : (o : PlainHost) (h : LawHost) (xs : List PlainEntry) → IsReplayFrom o h xs → (i : ℕ) (n : PlainEntry)
     → slice_get xs i ≡ Some n → IsAnswered o.version (outcome_at o (replay_from o h (take i xs)) (event_of n.event)) n
 replay_at o h [] all i n at = cc
 replay_at o h (x ∷ xs) all zero n at =
@@ -135,7 +135,7 @@ replay_at o h (x ∷ xs) all (suc i) n at = replay_at o (outcome_at o h (event_o
 
 -- the first journal's next entry joins the order
 pub take_first : (a b : History) (i j : ℕ) (es : List Event) (p q : Places) (count : ℕ) → Merged a b i j es p q count
-    → IsReplay a.opening a.entries → (n : Entry) → slice_get a.entries i ≡ Some n → (e : Event)
+    → IsReplay a.opening a.entries → (n : PlainEntry) → slice_get a.entries i ≡ Some n → (e : Event)
     → Becomes a.opening.version First n.event q e → (p' q' : Places)
     → ((bytes : List ℕ) → p' bytes ≡ noted n.frame count p bytes) → ((bytes : List ℕ) → q' bytes ≡ q bytes)
     → Merged a b (i + 1) j (es ++ e ∷ []) p' q' (counted n.frame count)
@@ -177,7 +177,7 @@ take_first a b i j es p q count m all n at e can p' q' own rest =
 
 pub take_second : (a b : History) (i j : ℕ) (es : List Event) (p q : Places) (count : ℕ) → Merged a b i j es p q count
     → IsReplay b.opening b.entries → IsWaiting a.opening.version First a.entries i q
-    → (n : Entry) → slice_get b.entries j ≡ Some n → (e : Event)
+    → (n : PlainEntry) → slice_get b.entries j ≡ Some n → (e : Event)
     → Becomes b.opening.version Second n.event p e → (p' q' : Places)
     → ((bytes : List ℕ) → q' bytes ≡ noted n.frame count q bytes) → ((bytes : List ℕ) → p' bytes ≡ p bytes)
     → Merged a b i (j + 1) (es ++ e ∷ []) p' q' (counted n.frame count)
@@ -221,7 +221,7 @@ take_second a b i j es p q count m all waits n at e can p' q' own rest =
 abbrev pub IsMerged : (a b : History) → (i j : ℕ) → Merge → Type 0
 IsMerged a b i j m = Merged a b i j m.events.items (first_places m) (second_places m) m.made
 
-module _ (a b : History) (i j : ℕ) (old new : Merge) (so : IsMerged a b i j old) (xs : List Entry) (version : ℕ) (n k : Entry)
+module _ (a b : History) (i j : ℕ) (old new : Merge) (so : IsMerged a b i j old) (xs : List PlainEntry) (version : ℕ) (n k : PlainEntry)
     (e : Event) where
   pub took_first : IsReplay a.opening a.entries → xs ≡ a.entries → version ≡ a.opening.version → slice_get xs i ≡ Some n
       → slice_get xs i ≡ Some k → Becomes version First n.event (second_places old) e
@@ -230,7 +230,7 @@ module _ (a b : History) (i j : ℕ) (old new : Merge) (so : IsMerged a b i j ol
       let same : n ≡ k = same_Some n k (sym at ∙ again) in
       let here = ap (λ ys. slice_get ys i) (sym xs_is) ∙ again in
       let may : Becomes a.opening.version First k.event (second_places old) e =
-      subst (λ (y : Entry). Becomes a.opening.version First y.event (second_places old) e) same
+      subst (λ (y : PlainEntry). Becomes a.opening.version First y.event (second_places old) e) same
       (subst (λ v. Becomes v First n.event (second_places old) e) version_is can)
       in
       let t =
@@ -250,7 +250,7 @@ module _ (a b : History) (i j : ℕ) (old new : Merge) (so : IsMerged a b i j ol
       let same : n ≡ k = same_Some n k (sym at ∙ again) in
       let here = ap (λ ys. slice_get ys j) (sym xs_is) ∙ again in
       let may : Becomes b.opening.version Second k.event (first_places old) e =
-      subst (λ (y : Entry). Becomes b.opening.version Second y.event (first_places old) e) same
+      subst (λ (y : PlainEntry). Becomes b.opening.version Second y.event (first_places old) e) same
       (subst (λ v. Becomes v Second n.event (first_places old) e) version_is can)
       in
       let t =

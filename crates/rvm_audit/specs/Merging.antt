@@ -6,7 +6,7 @@ use Rattle.rvm_frame.specs.declared.frame.Frame.{Frame}
 use Rattle.std.specs.Cmp.Lexicographic.{slice_cmp}
 use Rattle.std.specs.Ordering.{nat_cmp}
 use Rattle.std.specs.Str.{bytes_eq}
-use Rattle.rvm_journal.specs.declared.entry.Entry.{Entry}
+use Rattle.rvm_journal.specs.Entries.{PlainEntry}
 use Rattle.rvm_journal.specs.History.{History}
 use Rattle.rvm_message.specs.declared.event.HostEvent.{HostEvent}
 use Rattle.rvm_message.specs.declared.event.HostEvent.TheVariants.{Do, Came}
@@ -58,14 +58,14 @@ IsUnmade version x (Do c) places = ⊥
 IsUnmade version x (Came from f) places = IsUnplaced version x from f places
 
 -- there is no next entry, or it is a frame that cannot stand
-abbrev pub IsWaiting : (version : ℕ) → Side → List Entry → ℕ → Places → Type 0
+abbrev pub IsWaiting : (version : ℕ) → Side → List PlainEntry → ℕ → Places → Type 0
 IsWaiting version x entries k places =
-    (length entries ≤ k) ⊎ ((n : Entry) × (slice_get entries k ≡ Some n) × IsUnmade version x n.event places)
+    (length entries ≤ k) ⊎ ((n : PlainEntry) × (slice_get entries k ≡ Some n) × IsUnmade version x n.event places)
 
 -- what the next entry becomes
-abbrev pub IsNext : (version : ℕ) → Side → List Entry → ℕ → Places → Event → Type 0
+abbrev pub IsNext : (version : ℕ) → Side → List PlainEntry → ℕ → Places → Event → Type 0
 IsNext version x entries k places e =
-    (n : Entry) × (slice_get entries k ≡ Some n) × Becomes version x n.event places e
+    (n : PlainEntry) × (slice_get entries k ≡ Some n) × Becomes version x n.event places e
 
 -- the places are the lowest ones of all frames that a host made
 pub record IsIndex (x : Side) (made : List Made) (places : Places) : Type 0 where
@@ -78,7 +78,7 @@ pub record Merged (a b : History) (i j : ℕ) (events : List Event) (first secon
     : Type 0 where
   pub i_le : i ≤ length a.entries
   pub j_le : j ≤ length b.entries
-  pub steps : List (Side × Entry)
+  pub steps : List (Side × PlainEntry)
   pub run : IsRun a.opening b.opening (opened a.opening b.opening) events steps
   pub lowest : AllLowest a.opening b.opening (opened a.opening b.opening) events steps
   pub turns : AllTurns a.opening b.opening (opened a.opening b.opening) steps (drop i a.entries)

@@ -1,7 +1,7 @@
 -- Orders of two journals.
 use Rattle.std.specs.Prelude.{◌≡◌, ◌⊎◌, ℕ, ◌<◌, ◌≤◌, List, [], Some, slice_get, length}
 use Rattle.rvm_frame.specs.declared.frame.Frame.{Frame}
-use Rattle.rvm_journal.specs.declared.entry.Entry.{Entry}
+use Rattle.rvm_journal.specs.Entries.{PlainEntry}
 use Rattle.rvm_journal.specs.History.{History}
 use Rattle.rvm_journal.specs.Replay.{replay}
 use Rattle.rvm_message.specs.declared.event.HostEvent.TheVariants.{Came}
@@ -13,7 +13,7 @@ use Rattle.rvm_audit.specs.Pairs.{AllLowest, AllTurns, HasBytes, IsRun, after_al
 -- a run from the two opening hosts, whose events at each host are the entries of its journal, with their replies and
 -- frames, and which ends where their replays end
 pub record IsOrder (a b : History) (events : List Event) : Type 0 where
-  pub steps : List (Side × Entry)
+  pub steps : List (Side × PlainEntry)
   pub run : IsRun a.opening b.opening (opened a.opening b.opening) events steps
   pub at_first : entries_at First steps ≡ a.entries
   pub at_second : entries_at Second steps ≡ b.entries
@@ -29,17 +29,17 @@ pub record IsMerge (a b : History) (events : List Event) : Type 0 where
   pub turns : AllTurns a.opening b.opening (opened a.opening b.opening) order.steps []
 
 -- one of the first j entries made a frame of these bytes
-pub record MadeBelow (entries : List Entry) (j : ℕ) (bytes : List ℕ) : Type 0 where
+pub record MadeBelow (entries : List PlainEntry) (j : ℕ) (bytes : List ℕ) : Type 0 where
   pub place : ℕ
-  pub entry : Entry
+  pub entry : PlainEntry
   pub below : place < j
   pub stands : slice_get entries place ≡ Some entry
   pub made : entry.frame ≡ Some bytes
 
 -- the entry at i is a frame that came, and not from the other host, or that host's first j entries made none of its bytes
-pub record CameUnmade (version : ℕ) (x : Side) (entries : List Entry) (i : ℕ) (others : List Entry) (j : ℕ)
+pub record CameUnmade (version : ℕ) (x : Side) (entries : List PlainEntry) (i : ℕ) (others : List PlainEntry) (j : ℕ)
     : Type 0 where
-  pub entry : Entry
+  pub entry : PlainEntry
   pub from : ℕ
   pub frame : Frame
   pub stands : slice_get entries i ≡ Some entry
@@ -48,7 +48,7 @@ pub record CameUnmade (version : ℕ) (x : Side) (entries : List Entry) (i : ℕ
       → MadeBelow others j bytes → ⊥
 
 -- a host has no next entry, or one that cannot stand
-abbrev pub IsStuck : (version : ℕ) → Side → List Entry → ℕ → List Entry → ℕ → Type 0
+abbrev pub IsStuck : (version : ℕ) → Side → List PlainEntry → ℕ → List PlainEntry → ℕ → Type 0
 IsStuck version x entries i others j = (i ≡ length entries) ⊎ CameUnmade version x entries i others j
 
 -- neither journal can go on from here, and one of them is not at its end

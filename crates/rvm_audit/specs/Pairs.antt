@@ -4,7 +4,7 @@ use Rattle.rvm_core.specs.Hosts.{PlainHost, host_of}
 use Rattle.rvm_frame.specs.declared.addressed.Addressed.{Addressed}
 use Rattle.rvm_frame.specs.declared.frame.Frame.{Frame}
 use Rattle.rvm_frame.specs.Grammar.{HasSpelling, sent, spelling}
-use Rattle.rvm_journal.specs.declared.entry.Entry.{Entry}
+use Rattle.rvm_journal.specs.Entries.{PlainEntry}
 use Rattle.rvm_journal.specs.Replay.{IsAnswered, LawHost, Outcome, outcome_at}
 use Rattle.rvm_message.specs.declared.event.HostEvent.{HostEvent}
 use Rattle.rvm_message.specs.declared.event.HostEvent.TheVariants.{Do, Came}
@@ -55,14 +55,14 @@ abbrev pub made_more : Side → Option (List ℕ) → List Made
 made_more x None = []
 made_more x (Some bytes) = (x, bytes) ∷ []
 
-abbrev pub put : Side → Side → Entry → List Entry → List Entry
+abbrev pub put : Side → Side → PlainEntry → List PlainEntry → List PlainEntry
 put First First e es = e ∷ es
 put First Second e es = es
 put Second First e es = es
 put Second Second e es = e ∷ es
 
 -- the entries of one host
-abbrev pub entries_at : Side → List (Side × Entry) → List Entry
+abbrev pub entries_at : Side → List (Side × PlainEntry) → List PlainEntry
 entries_at x [] = []
 entries_at x (s ∷ ss) = put x s.0 s.1 (entries_at x ss)
 
@@ -76,7 +76,7 @@ module _ (a b : PlainHost) where
   outcome_in w x e = outcome_at (opening_at a b x) (host_at x w) (event_of e)
 
   -- after an entry of one host: the other host stays as it was
-  abbrev pub after : Pair → Side → Entry → Pair
+  abbrev pub after : Pair → Side → PlainEntry → Pair
   after w First n =
       record { first = (outcome_in w First n.event).next; second = w.second; made = w.made ++ made_more First n.frame }
   after w Second n =
@@ -96,18 +96,18 @@ module _ (a b : PlainHost) where
   IsEvent w (Deliver k) x e = Comes w x e k
 
   -- an event of the world is this entry of a host, with the reply and the frame of the law
-  pub record Makes (w : Pair) (e : Event) (x : Side) (n : Entry) : Type 0 where
+  pub record Makes (w : Pair) (e : Event) (x : Side) (n : PlainEntry) : Type 0 where
     pub event : IsEvent w e x n.event
     pub answer : IsAnswered (opening_at a b x).version (outcome_in w x n.event) n
 
   -- each event is the entry of one host
-  abbrev pub IsRun : Pair → List Event → List (Side × Entry) → Type 0
+  abbrev pub IsRun : Pair → List Event → List (Side × PlainEntry) → Type 0
   IsRun w [] [] = Unit {0}
   IsRun w [] (s ∷ ss) = ⊥
   IsRun w (e ∷ es) [] = ⊥
   IsRun w (e ∷ es) (s ∷ ss) = Makes w e s.0 s.1 × IsRun (after w s.0 s.1) es ss
 
-  abbrev pub after_all : Pair → List (Side × Entry) → Pair
+  abbrev pub after_all : Pair → List (Side × PlainEntry) → Pair
   after_all w [] = w
   after_all w (s ∷ ss) = after_all (after w s.0 s.1) ss
 
@@ -116,23 +116,23 @@ module _ (a b : PlainHost) where
   IsLowestAt w (At h c) = Unit {0}
   IsLowestAt w (Deliver k) = (j : ℕ) → j < k → slice_get w.made j ≡ slice_get w.made k → ⊥
 
-  abbrev pub AllLowest : Pair → List Event → List (Side × Entry) → Type 0
+  abbrev pub AllLowest : Pair → List Event → List (Side × PlainEntry) → Type 0
   AllLowest w [] ss = Unit {0}
   AllLowest w (e ∷ es) [] = Unit {0}
   AllLowest w (e ∷ es) (s ∷ ss) = IsLowestAt w e × AllLowest (after w s.0 s.1) es ss
 
   -- no event of the world is a host's next entry
-  abbrev pub CannotStand : Pair → Side → List Entry → Type 0
+  abbrev pub CannotStand : Pair → Side → List PlainEntry → Type 0
   CannotStand w x [] = Unit {0}
   CannotStand w x (n ∷ ns) = (e : Event) → IsEvent w e x n.event → ⊥
 
   -- the second host has its turn where the first one's next entry, of those that are left, cannot stand
-  abbrev pub IsTurn : Pair → Side → List Entry → Type 0
+  abbrev pub IsTurn : Pair → Side → List PlainEntry → Type 0
   IsTurn w First left = Unit {0}
   IsTurn w Second left = CannotStand w First left
 
   -- at each point; behind these steps the first host has `rest`
-  abbrev pub AllTurns : Pair → List (Side × Entry) → List Entry → Type 0
+  abbrev pub AllTurns : Pair → List (Side × PlainEntry) → List PlainEntry → Type 0
   AllTurns w [] rest = Unit {0}
   AllTurns w (s ∷ ss) rest =
       IsTurn w s.0 (entries_at First (s ∷ ss) ++ rest) × AllTurns (after w s.0 s.1) ss rest

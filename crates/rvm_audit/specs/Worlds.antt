@@ -3,7 +3,7 @@ use Rattle.std.specs.Prelude.{◌≡◌, ℕ, List, map, Some, None}
 use Rattle.rvm_core.specs.Hosts.{PlainHost, new_host}
 use Rattle.rvm_debug.specs.Guest.{Guest, GuestState}
 use Rattle.rvm_guest.proofs.TheGuest.{board}
-use Rattle.rvm_journal.specs.declared.entry.Entry.{Entry}
+use Rattle.rvm_journal.specs.Entries.{PlainEntry}
 use Rattle.rvm_journal.specs.History.{History}
 use Rattle.rvm_journal.specs.Replay.{replay}
 use Rattle.rvm_message.specs.Events.{event_of}
@@ -23,13 +23,13 @@ pub record AreNew (version : ℕ) (g : GuestState) (limits : ℕ → ℕ) (a b :
   pub second : b ≡ new_host None 1 2 (limits 1) version
 
 -- an entry of a host, as it is seen in a world
-abbrev pub seen : Side × Entry → BoardEntry
+abbrev pub seen : Side × PlainEntry → BoardEntry
 seen s = record { host = number_of s.0; event = event_of s.1.event; reply = reply_of s.1.reply }
 
 -- in a world these events are the entries of the two journals, which ends where their replays end; the guest, which was
 -- g, is that of one board that never moves, and the frames are those of its moves
 pub record IsWorldRun (w : BoardWorld) (g : Guest) (a b : History) (events : List Event) : Type 0 where
-  pub steps : List (Side × Entry)
+  pub steps : List (Side × PlainEntry)
   pub at_first : entries_at First steps ≡ a.entries
   pub at_second : entries_at Second steps ≡ b.entries
   pub seen_are : history board w (map meant events) ≡ map seen steps

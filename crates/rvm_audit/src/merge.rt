@@ -6,9 +6,10 @@ ghost use Rattle.rvm_audit.specs.Pairs.{other};
 
 use crate::places::{Places, lookup, note};
 use crate::side::Side;
+use rvm_debug::BoardEvent;
 use rvm_frame::{Addressed, Frame, frame_bytes};
 use rvm_journal::Entry;
-use rvm_message::HostEvent;
+use rvm_message::{Command, Exchange, ExchangeRef, HostEvent};
 use rvm_spelling::has_spelling;
 use rvm_world::Event;
 use std::alloc::{AllocError, Global};
@@ -58,7 +59,7 @@ impl<'a> Merge<'a> {
         };
         match entries.get(k) {
             None => Ok(None),
-            Some(entry) => event_of(alloc, side, version, &entry.event, others),
+            Some(entry) => event_of(alloc, side, version, entry.exchange(), others),
         }
     }
 
@@ -74,7 +75,7 @@ impl<'a> Merge<'a> {
             (places_at side) (places_at (other side))) }
     {
         self.events.push(event)?;
-        if let Some(bytes) = &entry.frame {
+        if let Some(bytes) = entry.frame() {
             self.note(side, bytes.as_slice())?;
         }
         Ok(())
@@ -98,6 +99,27 @@ impl<'a> Merge<'a> {
 
 /// The event of the world that a host's event is, where it can stand.
 fn event_of(
+    alloc: Global,
+    side: Side,
+    version: u32,
+    exchange: &Exchange,
+    others: &Places,
+) -> Result<Option<Event>, AllocError>
+    ensures { IfOk result (λ o. MatchOption o
+        (IsUnmade version side exchange.now.event (places_of others.now))
+        (λ e. Becomes version side exchange.now.event (places_of others.now) e)) }
+{
+    match exchange.look() {
+        ExchangeRef::Step { hart, reply: _ } => {
+            let step = Command::Board(BoardEvent::Step(hart));
+            Ok(Some(Event::At(side.number(), step)))
+        }
+        ExchangeRef::Other { event, reply: _ } => world_event(alloc, side, version, event, others),
+    }
+}
+
+/// The event of the world that an event is, where it can stand.
+fn world_event(
     alloc: Global,
     side: Side,
     version: u32,

@@ -8,8 +8,8 @@ use Rattle.std.proofs.lemmas.Option.{slice_get_within, slice_get-get_or, same_So
 use Rattle.rvm_message.specs.declared.event.Command.TheVariants.{Copy}
 use Rattle.rvm_message.specs.declared.event.HostEvent.TheVariants.{Do}
 use Rattle.rvm_message.specs.declared.reply.HostReply.TheVariants.{Noted}
-use Rattle.rvm_journal.specs.declared.entry.Entry.{Entry}
-use Rattle.rvm_cell.specs.declared.receipt.Receipt.{Receipt}
+use Rattle.rvm_journal.specs.Entries.{PlainEntry}
+use Rattle.rvm_cell.specs.Receipts.{PlainReceipt}
 use Rattle.rvm_cell.specs.Checking.{IsByPlace, Stands, Checked}
 use Rattle.rvm_cell.specs.Close.{IsRightAt, IsPast, IsFirstFault, IsJournal}
 
@@ -23,9 +23,9 @@ below_or k p lt = grind arith
 same_or : (a b : ℕ) → (a ≡ b) ⊎ (a ≢ b)
 same_or a b = grind arith
 
-module _ (entries : List Entry) (rs : List Receipt) (lasts : BTreeMap ℕ ℕ) (p : ℕ) (by : IsByPlace rs) (so : Checked entries rs lasts p) where
+module _ (entries : List PlainEntry) (rs : List PlainReceipt) (lasts : BTreeMap ℕ ℕ) (p : ℕ) (by : IsByPlace rs) (so : Checked entries rs lasts p) where
   -- the receipts below are right
-  pub right_below : (k : ℕ) (e : Entry) (r : Receipt) → k < p → slice_get rs k ≡ Some r → slice_get entries k ≡ Some e → IsRightAt entries rs k
+  pub right_below : (k : ℕ) (e : PlainEntry) (r : PlainReceipt) → k < p → slice_get rs k ≡ Some r → slice_get entries k ≡ Some e → IsRightAt entries rs k
   right_below k e r lt here kept = record {
     index = k;
     receipt = r;
@@ -62,7 +62,7 @@ module _ (entries : List Entry) (rs : List Receipt) (lasts : BTreeMap ℕ ℕ) (
       ])
 
   -- a place that is right is what the check sees
-  pub right_stands : (e : Entry) → slice_get entries p ≡ Some e → IsRightAt entries rs p → p < length rs → Stands rs p e lasts
+  pub right_stands : (e : PlainEntry) → slice_get entries p ≡ Some e → IsRightAt entries rs p → p < length rs → Stands rs p e lasts
   right_stands e kept w within =
       let i = right_index w within in
       let e_is : w.entry ≡ e = same_Some w.entry e (sym w.kept ∙ kept) in
@@ -91,12 +91,12 @@ module _ (entries : List Entry) (rs : List Receipt) (lasts : BTreeMap ℕ ℕ) (
         | inr above ↦ omega arith
       ])
 
-  module _ (e : Entry) (kept : slice_get entries p ≡ Some e) (s : Stands rs p e lasts) (next : BTreeMap ℕ ℕ)
+  module _ (e : PlainEntry) (kept : slice_get entries p ≡ Some e) (s : Stands rs p e lasts) (next : BTreeMap ℕ ℕ)
       (same : get nat_cmp next s.receipt.seat ≡ Some s.receipt.count) (other : (q : ℕ) → q ≢ s.receipt.seat → get nat_cmp next q ≡ get nat_cmp lasts q) where
-    here_is : (k : ℕ) (r : Receipt) → k ≡ p → slice_get rs k ≡ Some r → r ≡ s.receipt
+    here_is : (k : ℕ) (r : PlainReceipt) → k ≡ p → slice_get rs k ≡ Some r → r ≡ s.receipt
     here_is k r is there = same_Some r s.receipt (sym there ∙ ap (slice_get rs) is ∙ s.here)
 
-    covers_more : (k : ℕ) (r : Receipt) → k < p + 1 → slice_get rs k ≡ Some r → (c : ℕ) × (get nat_cmp next r.seat ≡ Some c) × (r.count ≤ c)
+    covers_more : (k : ℕ) (r : PlainReceipt) → k < p + 1 → slice_get rs k ≡ Some r → (c : ℕ) × (get nat_cmp next r.seat ≡ Some c) × (r.count ≤ c)
     covers_more k r lt there = elim (below_or k p lt) [
       | inl less ↦
           let h = so.covers k r less there in
@@ -107,13 +107,13 @@ module _ (entries : List Entry) (rs : List Receipt) (lasts : BTreeMap ℕ ℕ) (
       | inr is ↦ let r_is = here_is k r is there in (s.receipt.count, ap (λ x. get nat_cmp next x.seat) r_is ∙ same, omega (arith, ap (λ x. x.count) r_is))
     ]
 
-    from_more : (seat c : ℕ) → get nat_cmp next seat ≡ Some c → (k : ℕ) × (r : Receipt) × (k < p + 1) × (slice_get rs k ≡ Some r) × (r.seat ≡ seat) × (r.count ≡ c)
+    from_more : (seat c : ℕ) → get nat_cmp next seat ≡ Some c → (k : ℕ) × (r : PlainReceipt) × (k < p + 1) × (slice_get rs k ≡ Some r) × (r.seat ≡ seat) × (r.count ≡ c)
     from_more seat c got = elim (same_or seat s.receipt.seat) [
       | inl is ↦ (p, s.receipt, omega arith, s.here, sym is, same_Some s.receipt.count c (sym same ∙ ap (get nat_cmp next) (sym is) ∙ got))
       | inr differ ↦ let f = so.from seat c (sym (other seat differ) ∙ got) in let l = f.2 in (f.0, f.1, omega arith, f.3, f.4, f.5)
     ]
 
-    rises_more : (j k : ℕ) (t r : Receipt) → j < k → k < p + 1 → slice_get rs j ≡ Some t → slice_get rs k ≡ Some r → t.seat ≡ r.seat → t.count < r.count
+    rises_more : (j k : ℕ) (t r : PlainReceipt) → j < k → k < p + 1 → slice_get rs j ≡ Some t → slice_get rs k ≡ Some r → t.seat ≡ r.seat → t.count < r.count
     rises_more j k t r jk lt there here seat = elim (below_or k p lt) [
       | inl less ↦ so.rises j k t r jk less there here seat
       | inr is ↦
@@ -125,7 +125,7 @@ module _ (entries : List Entry) (rs : List Receipt) (lasts : BTreeMap ℕ ℕ) (
           let c = ap (λ x. x.count) r_is in omega arith
     ]
 
-    apart_more : (k : ℕ) (r : Receipt) → p + 1 ≤ k → slice_get rs k ≡ Some r → p + 1 ≤ r.place
+    apart_more : (k : ℕ) (r : PlainReceipt) → p + 1 ≤ k → slice_get rs k ≡ Some r → p + 1 ≤ r.place
     apart_more k r le there = elim (same_or r.place p) [
       | inl is ↦
           let l = slice_get_within rs k r there in
@@ -151,30 +151,30 @@ module _ (entries : List Entry) (rs : List Receipt) (lasts : BTreeMap ℕ ℕ) (
     }
 
 -- fillers past the end
-no_entry : Entry
+no_entry : PlainEntry
 no_entry = record { event = Do Copy; reply = Noted; frame = None }
 
-no_receipt : Receipt
+no_receipt : PlainReceipt
 no_receipt = record { place = 0; reply = Noted; seat = 0; count = 0; event = Do Copy }
 
 -- all that are below the place
-pub all_below : (entries : List Entry) (rs : List Receipt) (lasts : BTreeMap ℕ ℕ) (p : ℕ) → IsByPlace rs → Checked entries rs lasts p → p ≤ length entries → (k : ℕ) → k < p → IsRightAt entries rs k
+pub all_below : (entries : List PlainEntry) (rs : List PlainReceipt) (lasts : BTreeMap ℕ ℕ) (p : ℕ) → IsByPlace rs → Checked entries rs lasts p → p ≤ length entries → (k : ℕ) → k < p → IsRightAt entries rs k
 all_below entries rs lasts p by so le k lt =
     let l = so.len in let d = no_entry in let r = no_receipt in
     right_below entries rs lasts p by so k (get_or entries k d) (get_or rs k r) lt (slice_get-get_or rs k r (omega arith)) (slice_get-get_or entries k d (omega arith))
 
-pub by_place : (rs : List Receipt) → IsNonDecreasingBy (λ r. r.place) rs → IsByPlace rs
+pub by_place : (rs : List PlainReceipt) → IsNonDecreasingBy (λ r. r.place) rs → IsByPlace rs
 by_place rs rise = record {
   le = λ i j r s ij at there.
       (let l = slice_get_within rs j s there in
       let h = rise i j r ij l in
       let ri = get_or_from_slice_get rs i r r at in
       let sj = get_or_from_slice_get rs j s r there in
-      omega (arith, h, ap (λ (x : Receipt). x.place) ri, ap (λ (x : Receipt). x.place) sj));
+      omega (arith, h, ap (λ (x : PlainReceipt). x.place) ri, ap (λ (x : PlainReceipt). x.place) sj));
 }
 
 -- a receipt is left over
-pub left_over : (entries : List Entry) (rs : List Receipt) (lasts : BTreeMap ℕ ℕ) → IsByPlace rs → Checked entries rs lasts (length entries) → length entries < length rs → IsFirstFault entries rs (length entries)
+pub left_over : (entries : List PlainEntry) (rs : List PlainReceipt) (lasts : BTreeMap ℕ ℕ) → IsByPlace rs → Checked entries rs lasts (length entries) → length entries < length rs → IsFirstFault entries rs (length entries)
 left_over entries rs lasts by so lt =
     let n = length entries in
     let r = get_or rs n no_receipt in
@@ -185,7 +185,7 @@ left_over entries rs lasts by so lt =
     (all_below entries rs lasts n by so ok, inr (refl, past))
 
 -- all was checked
-pub all_checked : (entries : List Entry) (rs : List Receipt) (lasts : BTreeMap ℕ ℕ) → Checked entries rs lasts (length entries) → length rs ≤ length entries → IsJournal entries rs
+pub all_checked : (entries : List PlainEntry) (rs : List PlainReceipt) (lasts : BTreeMap ℕ ℕ) → Checked entries rs lasts (length entries) → length rs ≤ length entries → IsJournal entries rs
 all_checked entries rs lasts so le = let l = so.len in record {
   len = omega arith;
   place = λ k r at. let w = slice_get_within rs k r at in so.place k r (omega arith) at;

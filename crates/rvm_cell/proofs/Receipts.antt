@@ -3,7 +3,7 @@ use Rattle.std.proofs.Common.{◌≡◌, ◌∙◌, ℕ, zero, suc, ◌+◌, Lis
 use Rattle.std.specs.Prelude.{slice_get, ◌⊎◌}
 use Rattle.std.proofs.lemmas.List.{append_assoc, length-map, map-append}
 use Rattle.std.proofs.lemmas.Option.{same_Some}
-use Rattle.rvm_cell.specs.declared.receipt.Receipt.{Receipt}
+use Rattle.rvm_cell.specs.Receipts.{PlainReceipt}
 use Rattle.rvm_cell.specs.Calls.{AreReceipts, IsReceipt, IsSliceCalled, replies_of}
 use Rattle.rvm_cell.specs.Seats.{PlainSeat, seat_of}
 use Rattle.rvm_journal.specs.History.{Recording, count_of}
@@ -29,14 +29,14 @@ no_receipts seat place turn harts = record {
 }
 
 -- one more
-pub more_receipts : (seat : PlainSeat) (place turn harts : ℕ) (rs : List Receipt) (r : Receipt)
+pub more_receipts : (seat : PlainSeat) (place turn harts : ℕ) (rs : List PlainReceipt) (r : PlainReceipt)
     → AreReceipts seat place turn harts rs → r.place ≡ place + length rs
     → IsReceipt (seat_of seat.id (seat.count + length rs)) (step_of (turn + length rs) harts) r
     → AreReceipts seat place turn harts (rs ++ r ∷ [])
 more_receipts seat place turn harts rs r so at is = record {
   place_is = λ k s h. (elim (got_or_last rs r s k h) [
     | inl there ↦ so.place_is k s there
-    | inr last ↦ ap (λ (x : Receipt). x.place) (sym last.1) ∙ at ∙ ap (λ n. place + n) (sym last.0)
+    | inr last ↦ ap (λ (x : PlainReceipt). x.place) (sym last.1) ∙ at ∙ ap (λ n. place + n) (sym last.0)
   ]);
   each = λ k s h. (elim (got_or_last rs r s k h) [
     | inl there ↦ so.each k s there
@@ -47,15 +47,15 @@ more_receipts seat place turn harts rs r so at is = record {
 }
 
 -- the replies of the receipts, and those that are left
-pub more_replies : (rs : List Receipt) (r : Receipt) (left rest all : List HostReply)
+pub more_replies : (rs : List PlainReceipt) (r : PlainReceipt) (left rest all : List HostReply)
     → replies_of rs ++ left ≡ all → left ≡ r.reply ∷ rest → replies_of (rs ++ r ∷ []) ++ rest ≡ all
 more_replies rs r left rest all so is =
-    ap (λ xs. xs ++ rest) (map-append (λ (x : Receipt). x.reply) rs (r ∷ []))
+    ap (λ xs. xs ++ rest) (map-append (λ (x : PlainReceipt). x.reply) rs (r ∷ []))
     ∙ append_assoc (replies_of rs) (r.reply ∷ []) rest
     ∙ sym (ap (λ xs. replies_of rs ++ xs) is) ∙ so
 
 -- a slice that was recorded, with its receipts
-pub slice_called : (old new : Recording) (seat : PlainSeat) (turn harts n place : ℕ) (rs : List Receipt)
+pub slice_called : (old new : Recording) (seat : PlainSeat) (turn harts n place : ℕ) (rs : List PlainReceipt)
     (replies : List HostReply) → IsSliceRecorded old turn harts n (place, replies) new
     → AreReceipts seat place turn harts rs → replies_of rs ≡ replies → IsSliceCalled old seat turn harts n rs new
 slice_called old new seat turn harts n place rs replies is are told = record {
@@ -67,11 +67,11 @@ slice_called old new seat turn harts n place rs replies is are told = record {
 }
 
 -- a slice has a step, and no more than it was asked for
-pub slice_has_steps : (old new : Recording) (seat : PlainSeat) (turn harts n : ℕ) (rs : List Receipt)
+pub slice_has_steps : (old new : Recording) (seat : PlainSeat) (turn harts n : ℕ) (rs : List PlainReceipt)
     → IsSliceCalled old seat turn harts n rs new → (1 ≤ length rs) × (length rs ≤ n)
 slice_has_steps old new seat turn harts n rs is =
     let steps = is.recorded.steps in
     let same : length rs ≡ length steps.entries =
-    sym (length-map rs (λ (x : Receipt). x.reply)) ∙ ap length steps.replies_are ∙ length-map steps.entries (λ x. x.reply) in
+    sym (length-map rs (λ (x : PlainReceipt). x.reply)) ∙ ap length steps.replies_are ∙ length-map steps.entries (λ x. x.reply) in
     let most : min n (old.capacity - count_of old) ≤ n = omega arith in
     (omega (arith, same, steps.slice.some), omega (arith, same, steps.slice.bound, most))

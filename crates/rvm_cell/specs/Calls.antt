@@ -1,6 +1,6 @@
 -- What a call of a shared host answers and records.
 use Rattle.std.specs.Prelude.{◌≡◌, ℕ, ◌+◌, List, map, Option, Some, slice_get}
-use Rattle.rvm_cell.specs.declared.receipt.Receipt.{Receipt}
+use Rattle.rvm_cell.specs.Receipts.{PlainReceipt}
 use Rattle.rvm_cell.specs.Seats.{PlainSeat, seat_of}
 use Rattle.rvm_frame.specs.declared.addressed.Addressed.{Addressed}
 use Rattle.rvm_journal.specs.History.{IsRecorded, Recording, count_of}
@@ -9,34 +9,34 @@ use Rattle.rvm_message.specs.declared.event.HostEvent.{HostEvent}
 use Rattle.rvm_message.specs.declared.reply.HostReply.{HostReply}
 
 -- a receipt of this event for a seat that had made so many calls
-pub record IsReceipt (seat : PlainSeat) (event : HostEvent) (r : Receipt) : Type 0 where
+pub record IsReceipt (seat : PlainSeat) (event : HostEvent) (r : PlainReceipt) : Type 0 where
   pub seat_is : r.seat ≡ seat.id
   pub count : r.count ≡ seat.count
   pub event_is : r.event ≡ event
 
--- under the lock the event was recorded at the place and with the reply of the receipt, and the frame is the one that it made
-pub record IsCalled (old : Recording) (seat : PlainSeat) (event : HostEvent) (answer : Receipt × Option Addressed)
+-- under the lock the event was recorded at the place and with the reply of the receipt, and it made this frame
+pub record IsCalled (old : Recording) (seat : PlainSeat) (event : HostEvent) (answer : PlainReceipt × Option Addressed)
     (new : Recording) : Type 0 where
   pub receipt : IsReceipt seat event answer.0
   pub recorded : IsRecorded old event (answer.0.place, answer.0.reply, answer.1) new
 
 -- the receipts of a slice: their places follow each other, each keeps one call more than the one before, and its step
-pub record AreReceipts (seat : PlainSeat) (place turn harts : ℕ) (rs : List Receipt) : Type 0 where
-  pub place_is : (k : ℕ) (r : Receipt) → slice_get rs k ≡ Some r → r.place ≡ place + k
-  pub each : (k : ℕ) (r : Receipt) → slice_get rs k ≡ Some r
+pub record AreReceipts (seat : PlainSeat) (place turn harts : ℕ) (rs : List PlainReceipt) : Type 0 where
+  pub place_is : (k : ℕ) (r : PlainReceipt) → slice_get rs k ≡ Some r → r.place ≡ place + k
+  pub each : (k : ℕ) (r : PlainReceipt) → slice_get rs k ≡ Some r
       → IsReceipt (seat_of seat.id (seat.count + k)) (step_of (turn + k) harts) r
 
 -- the same, wherever they stand
-pub record AreOfSeat (seat : PlainSeat) (turn harts : ℕ) (rs : List Receipt) : Type 0 where
+pub record AreOfSeat (seat : PlainSeat) (turn harts : ℕ) (rs : List PlainReceipt) : Type 0 where
   pub place : ℕ
   pub receipts : AreReceipts seat place turn harts rs
 
 -- what these receipts were answered
-abbrev pub replies_of : List Receipt → List HostReply
+abbrev pub replies_of : List PlainReceipt → List HostReply
 replies_of rs = map (λ r. r.reply) rs
 
 -- under the lock a slice was recorded, with the replies of these receipts
-pub record IsSliceCalled (old : Recording) (seat : PlainSeat) (turn harts n : ℕ) (rs : List Receipt) (new : Recording)
-    : Type 0 where
+pub record IsSliceCalled (old : Recording) (seat : PlainSeat) (turn harts n : ℕ) (rs : List PlainReceipt)
+    (new : Recording) : Type 0 where
   pub receipts : AreReceipts seat (count_of old) turn harts rs
   pub recorded : IsSliceRecorded old turn harts n (count_of old, replies_of rs) new

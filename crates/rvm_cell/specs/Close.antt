@@ -1,38 +1,43 @@
 -- What the receipts of a shared host have to say of its journal.
 use Rattle.std.specs.Prelude.{◌≡◌, ℕ, ◌<◌, ◌≤◌, List, length, slice_get, Some, ◌⊎◌}
-use Rattle.rvm_journal.specs.declared.entry.Entry.{Entry}
-use Rattle.rvm_cell.specs.declared.receipt.Receipt.{Receipt}
+use Rattle.rvm_journal.specs.Entries.{PlainEntry}
+use Rattle.rvm_cell.specs.Receipts.{PlainReceipt}
 
 -- this place has one receipt, with its event and reply, made after the same seat's receipts of lower places
-pub record IsRightAt (entries : List Entry) (receipts : List Receipt) (place : ℕ) : Type 0 where
+pub record IsRightAt (entries : List PlainEntry) (receipts : List PlainReceipt) (place : ℕ) : Type 0 where
   pub index : ℕ
-  pub receipt : Receipt
-  pub entry : Entry
+  pub receipt : PlainReceipt
+  pub entry : PlainEntry
   pub stands : slice_get receipts index ≡ Some receipt
   pub at : receipt.place ≡ place
-  pub one : (j : ℕ) (s : Receipt) → slice_get receipts j ≡ Some s → s.place ≡ place → j ≡ index
+  pub one : (j : ℕ) (s : PlainReceipt) → slice_get receipts j ≡ Some s → s.place ≡ place → j ≡ index
   pub kept : slice_get entries place ≡ Some entry
   pub event : receipt.event ≡ entry.event
   pub reply : receipt.reply ≡ entry.reply
-  pub rises : (j : ℕ) (s : Receipt) → slice_get receipts j ≡ Some s → s.place < place → s.seat ≡ receipt.seat → s.count < receipt.count
+  pub rises : (j : ℕ) (s : PlainReceipt) → slice_get receipts j ≡ Some s → s.place < place → s.seat ≡ receipt.seat
+      → s.count < receipt.count
 
 -- a receipt's place is past the end
-pub record IsPast (entries : List Entry) (receipts : List Receipt) : Type 0 where
+pub record IsPast (entries : List PlainEntry) (receipts : List PlainReceipt) : Type 0 where
   pub index : ℕ
-  pub receipt : Receipt
+  pub receipt : PlainReceipt
   pub stands : slice_get receipts index ≡ Some receipt
   pub past : length entries ≤ receipt.place
 
 -- the first fault of the receipts
-abbrev pub IsFirstFault : List Entry → List Receipt → ℕ → Type 0
+abbrev pub IsFirstFault : List PlainEntry → List PlainReceipt → ℕ → Type 0
 IsFirstFault entries receipts place =
     ((k : ℕ) → k < place → IsRightAt entries receipts k)
-    × (((place < length entries) × (IsRightAt entries receipts place → ⊥)) ⊎ ((place ≡ length entries) × IsPast entries receipts))
+    × (((place < length entries) × (IsRightAt entries receipts place → ⊥))
+    ⊎ ((place ≡ length entries) × IsPast entries receipts))
 
 -- in the order of their places the receipts are the journal's entries, and those of one seat rise
-pub record IsJournal (entries : List Entry) (receipts : List Receipt) : Type 0 where
+pub record IsJournal (entries : List PlainEntry) (receipts : List PlainReceipt) : Type 0 where
   pub len : length receipts ≡ length entries
-  pub place : (k : ℕ) (r : Receipt) → slice_get receipts k ≡ Some r → r.place ≡ k
-  pub event : (k : ℕ) (r : Receipt) (e : Entry) → slice_get receipts k ≡ Some r → slice_get entries k ≡ Some e → r.event ≡ e.event
-  pub reply : (k : ℕ) (r : Receipt) (e : Entry) → slice_get receipts k ≡ Some r → slice_get entries k ≡ Some e → r.reply ≡ e.reply
-  pub rises : (j k : ℕ) (s r : Receipt) → j < k → slice_get receipts j ≡ Some s → slice_get receipts k ≡ Some r → s.seat ≡ r.seat → s.count < r.count
+  pub place : (k : ℕ) (r : PlainReceipt) → slice_get receipts k ≡ Some r → r.place ≡ k
+  pub event : (k : ℕ) (r : PlainReceipt) (e : PlainEntry) → slice_get receipts k ≡ Some r
+      → slice_get entries k ≡ Some e → r.event ≡ e.event
+  pub reply : (k : ℕ) (r : PlainReceipt) (e : PlainEntry) → slice_get receipts k ≡ Some r
+      → slice_get entries k ≡ Some e → r.reply ≡ e.reply
+  pub rises : (j k : ℕ) (s r : PlainReceipt) → j < k → slice_get receipts j ≡ Some s
+      → slice_get receipts k ≡ Some r → s.seat ≡ r.seat → s.count < r.count

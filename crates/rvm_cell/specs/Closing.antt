@@ -2,22 +2,22 @@
 use Rattle.std.specs.Prelude.{◌≡◌, ◌≢◌, ℕ, List, length, sum_by, IsPermutation, ◌⊎◌}
 use Rattle.rvm_cell.specs.Seats.{PlainSeat}
 use Rattle.rvm_cell.specs.Close.{IsFirstFault, IsJournal}
-use Rattle.rvm_journal.specs.declared.entry.Entry.{Entry}
-use Rattle.rvm_cell.specs.declared.receipt.Receipt.{Receipt}
+use Rattle.rvm_journal.specs.Entries.{PlainEntry}
+use Rattle.rvm_cell.specs.Receipts.{PlainReceipt}
 use Rattle.rvm_cell.specs.declared.closing.CloseKind.{CloseKind}
 use Rattle.rvm_cell.specs.declared.closing.CloseKind.TheVariants.{OutOfMemory, Mismatch}
 use Rattle.rvm_refusal.specs.declared.refusal.Refusal.{Refusal}
 use Rattle.rvm_refusal.specs.declared.refusal.Refusal.TheVariants as refusal
 
 -- the receipts, in the order of their places, are the journal, and the seats' counts add up to it
-pub record IsClosed (entries : List Entry) (seats : List PlainSeat) (receipts : List Receipt) : Type 0 where
-  pub ordered : List Receipt
+pub record IsClosed (entries : List PlainEntry) (seats : List PlainSeat) (receipts : List PlainReceipt) : Type 0 where
+  pub ordered : List PlainReceipt
   pub same : IsPermutation receipts ordered
   pub journal : IsJournal entries ordered
   pub counts : sum_by (λ s. s.count) seats ≡ length entries
 
 -- the stated fault: of the receipts, or else a seat is missing
-abbrev pub IsCloseError : CloseKind → List Entry → ℕ → ℕ → List Receipt → Type 0
+abbrev pub IsCloseError : CloseKind → List PlainEntry → ℕ → ℕ → List PlainReceipt → Type 0
 IsCloseError OutOfMemory entries want have receipts = Unit {0}
 IsCloseError (Mismatch place) entries want have receipts =
     IsFirstFault entries receipts place ⊎ ((place ≡ length entries) × IsJournal entries receipts × (have ≢ want))

@@ -1,4 +1,5 @@
 pub mod Seats
+pub mod Receipts
 pub mod Calls
 pub mod Close
 pub mod Checking

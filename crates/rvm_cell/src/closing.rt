@@ -10,7 +10,6 @@ ghost use Rattle.rvm_cell.specs.Closing.{IsClosed, IsCloseError, close_refusal};
 
 use crate::locked::Locked;
 use crate::receipt::Receipt;
-use crate::same::{is_same_event, is_same_reply};
 use crate::seat::{Seat, Seating};
 use crate::shared::SharedHost;
 use rvm_journal::{Entry, Recorded};
@@ -81,10 +80,10 @@ fn stands(receipts: &[Receipt], p: usize, entry: &Entry, lasts: &BTreeMap<u32, u
     if r.place as usize != p {
         return false;
     }
-    if p + 1 < receipts.len() && receipts[p + 1].place as usize == p {
+    if p + 1 < receipts.len() && receipts[p + 1].place() as usize == p {
         return false;
     }
-    if !is_same_event(&r.event, &entry.event) || !is_same_reply(&r.reply, &entry.reply) {
+    if !r.exchange.is_same(entry.exchange()) {
         return false;
     }
     match lasts.get(&r.seat) {
@@ -117,7 +116,8 @@ fn first_fault(
         if p >= receipts.len() || !stands(receipts, p, entry, &lasts) {
             return Ok(Some(p));
         }
-        note(&mut lasts, receipts[p].seat, receipts[p].count)?;
+        let receipt = &receipts[p];
+        note(&mut lasts, receipt.seat, receipt.count)?;
     }
     if receipts.len() > entries.len() {
         return Ok(Some(entries.len()));
@@ -125,12 +125,12 @@ fn first_fault(
     Ok(None)
 }
 
-/// Sorts receipts by place.
-fn sort_by_place(receipts: &mut Vec<Receipt>)
-    ensures sorted { IsByPlace receipts.new.items }
+/// Sorts receipts by place. Those of one seat come in order, and a stable sort merges such runs.
+fn sort_by_place(receipts: &mut Vec<Receipt>) -> Result<(), AllocError>
+    ensures sorted { OnOk result (IsByPlace receipts.new.items) }
     ensures same { IsPermutation receipts.old.items receipts.new.items }
 {
-    receipts.sort_unstable_by_key(|r| r.place);
+    receipts.sort_by_key(|r| r.place())
 }
 
 /// What keeps a host from being closed, if anything does. The receipts are sorted by place.
@@ -160,6 +160,24 @@ fn fault_of<L: Seating, M: PagedMemory + Drop>(
     }
 }
 
+/// What keeps a host from being closed, if anything does. It sorts the receipts by place.
+fn sort_and_compare<L: Seating, M: PagedMemory + Drop>(
+    alloc: Global,
+    locked: &Locked<L, M>,
+    want: usize,
+    have: usize,
+    receipts: &mut Vec<Receipt>,
+) -> Option<CloseKind>
+    ensures same { IsPermutation receipts.old.items receipts.new.items }
+    ensures none { IfNone result ((have ≡ want) × IsJournal locked.now.journal.entries receipts.new.items) }
+    ensures some { IfSome result (λ k. IsCloseError k locked.now.journal.entries want have receipts.new.items) }
+{
+    if sort_by_place(receipts).is_err() {
+        return Some(CloseKind::OutOfMemory);
+    }
+    fault_of(alloc, locked, want, have, receipts.as_slice())
+}
+
 /// Ends a shared host: its recorded host, where each place of its journal has exactly one receipt, with
 /// the event and the reply of that place, the receipts of each seat rise in place as they rise in count,
 /// and all seats are there. Else everything comes back. It may wait for another thread.
@@ -173,19 +191,19 @@ pub fn close<L: Seating, M: PagedMemory + Drop, R: Wait>(
     requires { L.seats ≡ L.parts }
     ensures ok { IfOk result (λ r. IsClosed r.journal.entries seats.items receipts.items) }
     ensures back { IfErr result (λ e. (e.seats.items ≡ seats.items) × IsPermutation receipts.items e.receipts.items) }
-    ensures fault { IfErr result (λ e. IsCloseError e.kind e.opened.journal.entries L.seats (vec_len seats) e.receipts.items) }
+    ensures fault { IfErr result (λ e. IsCloseError e.kind e.opened.journal.entries L.seats (vec_len seats)
+        e.receipts.items) }
 {
     let SharedHost { lock } = shared;
     let mut receipts = receipts;
-    sort_by_place(&mut receipts);
     let locked = lock.into_inner();
     let want = locked.seats;
-    if let Some(kind) = fault_of(
+    if let Some(kind) = sort_and_compare(
         alloc,
         &locked,
         want as usize,
         seats.len(),
-        receipts.as_slice(),
+        &mut receipts,
     ) {
         return Err(CloseError {
             kind,

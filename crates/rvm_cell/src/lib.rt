@@ -3,13 +3,12 @@
 //!
 //! Stands on `rvm_journal`, and knows nothing of links, workers or the audit.
 //!
-//! To be read in this order: `seat`, `receipt`, `locked`, `shared`, `same`, `closing`.
+//! To be read in this order: `seat`, `receipt`, `locked`, `shared`, `closing`.
 #![tactic(auto)]
 
 mod closing;
 mod locked;
 mod receipt;
-mod same;
 mod seat;
 mod shared;
 

@@ -1,18 +1,20 @@
 //! What lies under the lock of a shared host.
 
 ghost use Rattle.std.specs.Prelude.{◌≡◌, ◌+◌, ◌<◌, ◌≤◌, ◌^◌, ℕ, [], length, IfOk, IfErr, OnOk, OnErr, vec_capacity};
-ghost use Rattle.rvm_cell.specs.Calls.{AreReceipts, IsCalled, IsSliceCalled, replies_of};
+ghost use Rattle.rvm_cell.specs.Calls.{AreReceipts, IsCalled, IsReceipt, IsSliceCalled, replies_of};
 ghost use Rattle.rvm_cell.specs.Seats.{seat_of};
 ghost use Rattle.rvm_journal.specs.Errors.{IsRecordError, IsSliceError};
 ghost use Rattle.rvm_journal.specs.History.{count_of};
+ghost use Rattle.rvm_journal.specs.Slices.{replies_to, step_of};
+ghost use Rattle.rvm_message.specs.Steps.{reply_to_step};
 
 use crate::receipt::Receipt;
 use crate::seat::{Seat, Seating};
 use crate::shared::SharedHost;
 use rvm_frame::Addressed;
-use rvm_journal::{RecordError, Recorded, SliceError, step_of_turn};
+use rvm_journal::{RecordError, Recorded, SliceError, hart_of_turn};
 use rvm_mem::PagedMemory;
-use rvm_message::{HostEvent, HostReply};
+use rvm_message::{Exchange, ExchangeRoom, HostEvent, StepReply};
 use std::alloc::Global;
 use std::marker::Model;
 use std::sync::Mutex;
@@ -61,13 +63,14 @@ impl<L: Seating, M: PagedMemory + Drop> Locked<L, M> {
         }
     }
 
-    /// Records an event for a seat. `copy` is the same event, for the receipt.
+    /// Records an event for a seat. `copy` is the same event, for the receipt, which takes this room.
     pub(crate) fn call(
         &mut self,
         alloc: Global,
         seat: &mut Seat<L>,
         event: HostEvent,
         copy: HostEvent,
+        room: ExchangeRoom,
     ) -> Result<(Receipt, Option<Addressed>), (RecordError, HostEvent)>
         requires { copy ≡ event }
         ensures called { IfOk result (λ r. IsCalled self.old seat.old event r self.new) }
@@ -85,10 +88,9 @@ impl<L: Seating, M: PagedMemory + Drop> Locked<L, M> {
                 book.add(share, 1);
                 let receipt = Receipt {
                     place,
-                    reply,
                     seat: *id,
                     count: *count,
-                    event: copy,
+                    exchange: Exchange::new(room, copy, reply),
                 };
                 *count += 1;
                 Ok((receipt, frame))
@@ -134,7 +136,7 @@ fn slice_receipts(
     count: u64,
     turn: u32,
     harts: u32,
-    replies: Vec<HostReply>,
+    replies: Vec<StepReply>,
     receipts: Vec<Receipt>,
 ) -> Vec<Receipt>
     requires harts { 1 ≤ harts }
@@ -144,20 +146,40 @@ fn slice_receipts(
     requires places { place + length replies.items < 2 ^ 32 }
     requires counts { count + length replies.items < 2 ^ 64 }
     ensures receipts { AreReceipts (seat_of seat count) place turn harts result.items }
-    ensures replies { replies_of result.items ≡ replies.items }
+    ensures replies { replies_of result.items ≡ replies_to replies.items }
     ensures count { length result.items ≡ length replies.items }
 {
     let mut receipts = receipts;
     let mut behind: u32 = 0;
     for reply in replies {
-        receipts.push_reserved(Receipt {
-            place: place + behind,
-            reply,
-            seat,
-            count: count + u64::from(behind),
-            event: step_of_turn(turn, behind, harts),
-        });
+        receipts.push_reserved(receipt_of_step(place, seat, count, turn, harts, behind, reply));
         behind += 1;
     }
     receipts
+}
+
+/// The receipt of the step so many turns behind the first of a slice.
+#[inline(always)]
+fn receipt_of_step(
+    place: u32,
+    seat: u32,
+    count: u64,
+    turn: u32,
+    harts: u32,
+    behind: u32,
+    reply: StepReply,
+) -> Receipt
+    requires harts { 1 ≤ harts }
+    requires places { place + behind < 2 ^ 32 }
+    requires counts { count + behind < 2 ^ 64 }
+    ensures place { result.place ≡ place + behind }
+    ensures receipt { IsReceipt (seat_of seat (count + behind)) (step_of (turn + behind) harts) result }
+    ensures reply { result.reply ≡ reply_to_step reply }
+{
+    Receipt {
+        place: place + behind,
+        seat,
+        count: count + u64::from(behind),
+        exchange: Exchange::of_step(hart_of_turn(turn, behind, harts), reply),
+    }
 }

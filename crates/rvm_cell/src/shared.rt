@@ -10,7 +10,7 @@ use crate::seat::{Seat, Seating};
 use rvm_frame::Addressed;
 use rvm_journal::{RecordError, Recorded, SliceError};
 use rvm_mem::PagedMemory;
-use rvm_message::HostEvent;
+use rvm_message::{ExchangeRoom, HostEvent};
 use std::alloc::{AllocError, Global};
 use std::sync::ledger::{Blank, Share};
 use std::sync::{Mutex, Wait};
@@ -96,7 +96,10 @@ impl<L: Seating, M: PagedMemory + Drop> SharedHost<L, M> {
         let Ok(copy) = event.copy(alloc) else {
             return Err((RecordError::OutOfMemory, event));
         };
-        self.lock.lock(rt).call(alloc, seat, event, copy)
+        let Ok(room) = ExchangeRoom::new(alloc) else {
+            return Err((RecordError::OutOfMemory, event));
+        };
+        self.lock.lock(rt).call(alloc, seat, event, copy, room)
     }
 
     /// Records a slice of at most n steps under one hold of the lock, as `Recorded::record_slice` has

@@ -5,7 +5,7 @@ use Rattle.rvm_core.specs.Hosts.{PlainHost, Steps, host_of, step_of}
 use Rattle.rvm_core.specs.Spelled.{AreSpelled}
 use Rattle.rvm_frame.specs.declared.addressed.Addressed.{Addressed}
 use Rattle.rvm_guest.proofs.TheGuest.{board}
-use Rattle.rvm_journal.specs.declared.entry.Entry.{Entry}
+use Rattle.rvm_journal.specs.Entries.{PlainEntry}
 use Rattle.rvm_journal.specs.History.{History, IsKept, IsRecorded, Recording, bytes_of, with_entries}
 use Rattle.rvm_journal.specs.Replay.{IsAnswered, IsReplay, IsReplayFrom, LawHost, Outcome, outcome_at, replay, replay_from}
 use Rattle.rvm_message.specs.declared.event.HostEvent.{HostEvent}
@@ -16,23 +16,23 @@ use Rattle.rvm_message.specs.Replies.{reply_of}
 use Rattle.rvm_protocol.specs.Host.{host_step}
 
 -- the entry of an event that was answered
-abbrev pub entry_of : (version : ℕ) → HostEvent → HostReply → Option Addressed → Entry
+abbrev pub entry_of : (version : ℕ) → HostEvent → HostReply → Option Addressed → PlainEntry
 entry_of version event reply frame = record { event = event; reply = reply; frame = bytes_of version frame }
 
 -- with these entries alone
-abbrev pub with_all : Recording → List Entry → (reserved : ℕ) → Recording
+abbrev pub with_all : Recording → List PlainEntry → (reserved : ℕ) → Recording
 with_all r xs n = record r { journal = record r.journal { entries = xs; reserved = n } }
 
 -- what an event does after these entries
-abbrev pub outcome_after : (o : PlainHost) → LawHost → List Entry → HostEvent → Outcome
+abbrev pub outcome_after : (o : PlainHost) → LawHost → List PlainEntry → HostEvent → Outcome
 outcome_after o h xs e = outcome_at o (replay_from o h xs) (event_of e)
 
-replay_push : (o : PlainHost) (h : LawHost) (xs : List Entry) (x : Entry)
+replay_push : (o : PlainHost) (h : LawHost) (xs : List PlainEntry) (x : PlainEntry)
     → replay_from o h (xs ++ x ∷ []) ≡ (outcome_after o h xs x.event).next
 replay_push o h [] x = refl
 replay_push o h (y ∷ xs) x = replay_push o (outcome_at o h (event_of y.event)).next xs x
 
-is_replay_push : (o : PlainHost) (h : LawHost) (xs : List Entry) (x : Entry) → IsReplayFrom o h xs
+is_replay_push : (o : PlainHost) (h : LawHost) (xs : List PlainEntry) (x : PlainEntry) → IsReplayFrom o h xs
     → IsAnswered o.version (outcome_after o h xs x.event) x → IsReplayFrom o h (xs ++ x ∷ [])
 is_replay_push o h [] x all is = (is, tt)
 is_replay_push o h (y ∷ xs) x all is =
@@ -62,7 +62,7 @@ module _ (host next : PlainHost) (h : History) (capacity : ℕ) (event : HostEve
   pub made_is : addressed_made frame ≡ (outcome_after h.opening (host_of h.opening) h.entries event).made
   made_is = steps.made ∙ ap (λ (x : Outcome). x.made) same_outcome
 
-  abbrev entry : Entry
+  abbrev entry : PlainEntry
   entry = entry_of h.opening.version event reply frame
 
   -- the entry has the reply and the frame of the law
@@ -75,7 +75,7 @@ module _ (host next : PlainHost) (h : History) (capacity : ℕ) (event : HostEve
         (subst (λ v. AreSpelled v (addressed_made frame) (bytes_of v frame)) same_version (spelled host most frame so));
   }
 
-  module _ (new : List Entry) (new_is : new ≡ h.entries ++ entry ∷ []) where
+  module _ (new : List PlainEntry) (new_is : new ≡ h.entries ++ entry ∷ []) where
     pub replays : (most : ℕ) → CanBePosted host most frame → IsReplay h.opening h.entries → IsReplay h.opening new
     replays most so all =
         subst (IsReplay h.opening) (sym new_is)

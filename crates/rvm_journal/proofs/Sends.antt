@@ -23,6 +23,11 @@ use Rattle.rvm_core.specs.contracts.mode.Mode as Mode
 use Rattle.rvm_core.specs.contracts.host.Host as Host
 use Rattle.rvm_message.specs.contracts.event.HostEvent as HostEvent
 use Rattle.rvm_message.specs.contracts.reply.HostReply as HostReply
+use Rattle.rvm_message.specs.contracts.step.StepReply as StepReply
+use Rattle.rvm_message.specs.contracts.exchange.Pair as Pair
+use Rattle.rvm_message.specs.contracts.exchange.Kept as Kept
+use Rattle.rvm_message.specs.contracts.exchange.Exchange as Exchange
+use Rattle.rvm_message.specs.contracts.exchange.ExchangeRoom as ExchangeRoom
 use Rattle.rvm_journal.specs.contracts.entry.Entry as Entry
 use Rattle.rvm_journal.specs.contracts.journal.Journal as Journal
 use Rattle.rvm_journal.specs.contracts.recorded.Recorded as Recorded
@@ -72,11 +77,26 @@ event_send = search (sendable, crosses) depth 40 fits 10000
 reply_send : IsSend (Enum (shape HostReply.the_type))
 reply_send = search (sendable, crosses) depth 40 fits 10000
 
-entry_send : IsSend (Struct (struct.shape Entry.the_type))
-entry_send = search (event_send, reply_send, sendable, crosses) depth 40 fits 10000
+step_reply_send : IsSend (Enum (shape StepReply.the_type))
+step_reply_send = search (sendable, crosses) depth 40 fits 10000
+
+pair_send : IsSend (Struct (struct.shape Pair.the_type))
+pair_send = search (event_send, reply_send, sendable, crosses) depth 40 fits 10000
+
+kept_send : IsSend (Enum (shape Kept.the_type))
+kept_send = search (step_reply_send, pair_send, sendable, crosses) depth 40 fits 10000
+
+exchange_send : IsSend Exchange.the_row
+exchange_send = search (kept_send, sendable, crosses) depth 40 fits 10000
+
+room_send : IsSend (Struct (struct.shape ExchangeRoom.the_type))
+room_send = search (pair_send, sendable, crosses) depth 40 fits 10000
+
+entry_send : IsSend Entry.the_row
+entry_send = search (exchange_send, sendable, crosses) depth 40 fits 10000
 
 journal_send : (M : RattleType) (g : Memory.Ghosts M.Denot) → IsSend M → IsSend (Journal.the_row M g)
-journal_send M g s = search (entry_send, sendable, crosses) depth 40 fits 10000
+journal_send M g s = search (entry_send, room_send, sendable, crosses) depth 40 fits 10000
 
 pub recorded_send : (M : RattleType) (g : Memory.Ghosts M.Denot) → IsSend M → IsSend (Recorded.the_row M g)
 recorded_send M g s = search (host_send, journal_send, sendable, crosses) depth 40 fits 10000

@@ -3,7 +3,7 @@ use Rattle.std.specs.Prelude.{◌≡◌, ℕ, ◌+◌, ◌-◌, ◌<◌, ◌≤�
 use Rattle.rvm_core.specs.Hosts.{PlainHost, host_of}
 use Rattle.rvm_frame.specs.declared.addressed.Addressed.{Addressed}
 use Rattle.rvm_frame.specs.Grammar.{sent, spelling}
-use Rattle.rvm_journal.specs.declared.entry.Entry.{Entry}
+use Rattle.rvm_journal.specs.Entries.{PlainEntry}
 use Rattle.rvm_journal.specs.Replay.{LawHost, Outcome, outcome_at, replay}
 use Rattle.rvm_message.specs.declared.event.Command.TheVariants.{Board}
 use Rattle.rvm_message.specs.declared.event.HostEvent.{HostEvent}
@@ -16,7 +16,7 @@ use Rattle.rvm_message.specs.Replies.{reply_of}
 -- the opening host, the entries, and for how many more there is room
 pub record History : Type 0 where
   pub opening : PlainHost
-  pub entries : List Entry
+  pub entries : List PlainEntry
   pub reserved : ℕ
 
 -- a journal, and how many entries it takes
@@ -37,7 +37,7 @@ abbrev pub count_of : Recording → ℕ
 count_of r = length r.journal.entries
 
 -- with these entries behind its own, and room for so many more
-abbrev pub with_entries : Recording → List Entry → (reserved : ℕ) → Recording
+abbrev pub with_entries : Recording → List PlainEntry → (reserved : ℕ) → Recording
 with_entries r xs n =
     record r { journal = record r.journal { entries = r.journal.entries ++ xs; reserved = n } }
 

@@ -1,3 +1,4 @@
+pub mod Entries
 pub mod Replay
 pub mod History
 pub mod Keeping

@@ -5,7 +5,7 @@ use Rattle.rvm_core.specs.Spelled.{AreSpelled}
 use Rattle.rvm_debug.specs.declared.event.BoardReply.{BoardReply}
 use Rattle.rvm_debug.specs.Guest.{Guest}
 use Rattle.rvm_guest.proofs.TheGuest.{board}
-use Rattle.rvm_journal.specs.declared.entry.Entry.{Entry}
+use Rattle.rvm_journal.specs.Entries.{PlainEntry}
 use Rattle.rvm_message.specs.Events.{BoardHostEvent, event_of}
 use Rattle.rvm_message.specs.Replies.{reply_of}
 use Rattle.rvm_protocol.specs.Host as protocol
@@ -24,26 +24,26 @@ abbrev pub outcome_at : (opening : PlainHost) → LawHost → BoardHostEvent →
 outcome_at o h e = host_step board o.version o.id o.count o.limit e h
 
 -- the host after these entries
-abbrev pub replay_from : (opening : PlainHost) → LawHost → List Entry → LawHost
+abbrev pub replay_from : (opening : PlainHost) → LawHost → List PlainEntry → LawHost
 replay_from o h [] = h
 replay_from o h (x ∷ xs) = replay_from o (outcome_at o h (event_of x.event)).next xs
 
 -- the host after all entries of a journal
-abbrev pub replay : (opening : PlainHost) → List Entry → LawHost
+abbrev pub replay : (opening : PlainHost) → List PlainEntry → LawHost
 replay o xs = replay_from o (host_of o) xs
 
 -- an entry has this reply, and the bytes of this frame
-pub record IsAnswered (version : ℕ) (outcome : Outcome) (x : Entry) : Type 0 where
+pub record IsAnswered (version : ℕ) (outcome : Outcome) (x : PlainEntry) : Type 0 where
   pub reply : reply_of x.reply ≡ outcome.reply
   pub frame : AreSpelled version outcome.made x.frame
 
 -- each of these entries has the reply and the frame that the law gives at its place
-abbrev pub IsReplayFrom : (opening : PlainHost) → LawHost → List Entry → Type 0
+abbrev pub IsReplayFrom : (opening : PlainHost) → LawHost → List PlainEntry → Type 0
 IsReplayFrom o h [] = Unit {0}
 IsReplayFrom o h (x ∷ xs) =
     IsAnswered o.version (outcome_at o h (event_of x.event)) x
     × IsReplayFrom o (outcome_at o h (event_of x.event)).next xs
 
 -- of all entries of a journal
-abbrev pub IsReplay : (opening : PlainHost) → List Entry → Type 0
+abbrev pub IsReplay : (opening : PlainHost) → List PlainEntry → Type 0
 IsReplay o xs = IsReplayFrom o (host_of o) xs

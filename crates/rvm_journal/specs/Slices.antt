@@ -1,37 +1,37 @@
 -- A slice: steps of harts in turn, recorded one behind the other.
 use Rattle.std.specs.Prelude.{◌≡◌, ℕ, suc, ◌+◌, ◌-◌, ◌%◌, ◌<◌, ◌≤◌, min, true, false, List, length, map, slice_get, Some, None}
-use Rattle.rvm_debug.specs.declared.event.BoardEvent.TheVariants.{Step}
-use Rattle.rvm_journal.specs.declared.entry.Entry.{Entry}
+use Rattle.rvm_journal.specs.Entries.{PlainEntry}
 use Rattle.rvm_journal.specs.History.{Recording, count_of, with_entries}
-use Rattle.rvm_message.specs.declared.event.Command.TheVariants.{Board}
 use Rattle.rvm_message.specs.declared.event.HostEvent.{HostEvent}
-use Rattle.rvm_message.specs.declared.event.HostEvent.TheVariants.{Do}
 use Rattle.rvm_message.specs.declared.reply.HostReply.{HostReply}
+use Rattle.rvm_message.specs.declared.step.StepReply.{StepReply}
+use Rattle.rvm_message.specs.Exchanges.{step_of_hart}
 use Rattle.rvm_message.specs.Replies.{ends_steps, reply_of}
+use Rattle.rvm_message.specs.Steps.{reply_to_step}
 
 -- the step of the hart whose turn it is
 abbrev pub step_of : (turn harts : ℕ) → HostEvent
-step_of turn harts = Do (Board (Step (turn % harts)))
+step_of turn harts = step_of_hart (turn % harts)
 
--- the entry of an event that made no frame
-abbrev pub silent : HostEvent → HostReply → Entry
-silent event reply = record { event = event; reply = reply; frame = None }
+-- the replies to steps, as replies of a host
+abbrev pub replies_to : List StepReply → List HostReply
+replies_to replies = map (λ r. reply_to_step r) replies
 
 -- the entries are the steps from a turn on; only the last of them may end a slice, and one that is shorter than asked for
 -- ends with such a reply
-pub record IsSlice (turn harts most : ℕ) (xs : List Entry) : Type 0 where
+pub record IsSlice (turn harts most : ℕ) (xs : List PlainEntry) : Type 0 where
   pub some : 1 ≤ length xs
   pub bound : length xs ≤ most
-  pub events : (k : ℕ) (x : Entry) → slice_get xs k ≡ Some x → x.event ≡ step_of (turn + k) harts
-  pub silent : (k : ℕ) (x : Entry) → slice_get xs k ≡ Some x → x.frame ≡ None
-  pub goes_on : (k : ℕ) (x : Entry) → slice_get xs k ≡ Some x → suc k < length xs
+  pub events : (k : ℕ) (x : PlainEntry) → slice_get xs k ≡ Some x → x.event ≡ step_of (turn + k) harts
+  pub silent : (k : ℕ) (x : PlainEntry) → slice_get xs k ≡ Some x → x.frame ≡ None
+  pub goes_on : (k : ℕ) (x : PlainEntry) → slice_get xs k ≡ Some x → suc k < length xs
       → ends_steps (reply_of x.reply) ≡ false
-  pub ended : (k : ℕ) (x : Entry) → slice_get xs k ≡ Some x → suc k ≡ length xs → length xs < most
+  pub ended : (k : ℕ) (x : PlainEntry) → slice_get xs k ≡ Some x → suc k ≡ length xs → length xs < most
       → ends_steps (reply_of x.reply) ≡ true
 
 -- the steps of a slice of at most so many were recorded, with these replies, and nothing else changed
 pub record IsSteps (old : Recording) (turn harts most : ℕ) (replies : List HostReply) (new : Recording) : Type 0 where
-  pub entries : List Entry
+  pub entries : List PlainEntry
   pub slice : IsSlice turn harts most entries
   pub replies_are : replies ≡ map (λ x. x.reply) entries
   pub next : new ≡ with_entries old entries new.journal.reserved

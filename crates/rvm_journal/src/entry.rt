@@ -1,12 +1,51 @@
 //! An entry of a journal.
 
+ghost use Rattle.std.specs.Prelude.{◌≡◌, None};
+ghost use Rattle.rvm_journal.specs.Entries.{exchange_of, silent};
+ghost use Rattle.rvm_message.specs.Exchanges.{step_of_hart};
+ghost use Rattle.rvm_message.specs.Steps.{reply_to_step};
+
 use rvm_frame::Bytes;
-use rvm_message::{HostEvent, HostReply};
+use rvm_message::{Exchange, StepReply};
+use std::marker::Model;
 
 /// An event of a host, its reply, and the bytes of the frame that it made, if it made one.
 #[derive(Drop)]
 pub struct Entry {
-    pub event: HostEvent,
-    pub reply: HostReply,
-    pub frame: Option<Bytes>,
+    pub(crate) exchange: Exchange,
+    pub(crate) frame: Option<Bytes>,
+}
+
+impl Model for Entry {
+    ghost use Rattle.rvm_journal.specs.Entries.{PlainEntry};
+
+    ghost Value = { PlainEntry };
+
+    ghost view = { λ e. record { event = e.exchange.event; reply = e.exchange.reply; frame = e.frame } };
+}
+
+impl Entry {
+    /// A step of a hart. Takes no memory.
+    pub(crate) fn of_step(hart: u32, reply: StepReply) -> Entry
+        ensures { result ≡ silent (step_of_hart hart) (reply_to_step reply) }
+    {
+        Entry {
+            exchange: Exchange::of_step(hart, reply),
+            frame: None,
+        }
+    }
+
+    /// The event and the reply.
+    pub fn exchange(&self) -> &Exchange
+        ensures { result.now ≡ exchange_of self.now }
+    {
+        &self.exchange
+    }
+
+    /// The bytes of the frame that the event made, if it made one.
+    pub fn frame(&self) -> &Option<Bytes>
+        ensures { result.now ≡ self.now.frame }
+    {
+        &self.frame
+    }
 }

@@ -16,4 +16,4 @@ pub use entry::Entry;
 pub use error::{RecordError, SliceError};
 pub use journal::Journal;
 pub use recorded::Recorded;
-pub use slice::step_of_turn;
+pub use slice::hart_of_turn;

@@ -1,19 +1,22 @@
 //! A host with its journal.
 
-ghost use Rattle.std.specs.Prelude.{◌≡◌, ◌+◌, ◌<◌, ◌≤◌, [], true, max, length, IfOk, IfErr, IsOk, OnErr, OnOk, Some, vec_capacity};
+ghost use Rattle.std.specs.Prelude.{◌≡◌, ◌+◌, ◌-◌, ◌∷◌, ◌<◌, ◌≤◌, [], true, max, length, IfOk, IfErr, IsOk, OnErr, OnOk, Some, vec_capacity};
 ghost use Rattle.rvm_core.specs.Hosts.{host_of};
 ghost use Rattle.rvm_frame.specs.Grammar.{HasSpelling, sent, spelling};
+ghost use Rattle.rvm_journal.specs.Entries.{silent};
 ghost use Rattle.rvm_journal.specs.Errors.{IsRecordError, IsReserveError};
-ghost use Rattle.rvm_journal.specs.History.{IsRecorded, bytes_of, count_of, host_now, is_board};
+ghost use Rattle.rvm_journal.specs.History.{IsRecorded, bytes_of, count_of, host_now, is_board, with_entries};
 ghost use Rattle.rvm_journal.specs.Keeping.{CanBeKept};
+ghost use Rattle.rvm_message.specs.Exchanges.{step_of_hart};
+ghost use Rattle.rvm_message.specs.Steps.{reply_to_step};
 
 use crate::entry::Entry;
 use crate::error::RecordError;
-use crate::journal::Journal;
+use crate::journal::{Journal, make_room};
 use rvm_core::Host;
 use rvm_frame::{Addressed, Bytes, append_frame};
 use rvm_mem::PagedMemory;
-use rvm_message::{HostEvent, HostReply};
+use rvm_message::{Exchange, ExchangeRoom, HostEvent, HostReply, StepReply};
 use std::alloc::Global;
 use std::marker::Model;
 
@@ -112,7 +115,7 @@ impl<M: PagedMemory + Drop> Recorded<M> {
         if place >= *capacity as usize {
             return Err((RecordError::RecorderFull(*capacity), event));
         }
-        if journal.entries.reserve(1).is_err() {
+        if make_room(alloc, &mut journal.entries, &mut journal.rooms, 1).is_err() {
             return Err((RecordError::OutOfMemory, event));
         }
         let Ok(bytes) = Vec::with_capacity(alloc, host.frame_bound(&event)) else {
@@ -121,15 +124,35 @@ impl<M: PagedMemory + Drop> Recorded<M> {
         let Ok((reply, frame)) = host.apply(alloc, &event) else {
             return Err((RecordError::OutOfMemory, event));
         };
-        let entry = keep(journal.version, event, &reply, &frame, bytes);
+        let Some(room) = journal.rooms.pop() else {
+            unreachable!();
+        };
+        let entry = keep(journal.version, room, event, &reply, &frame, bytes);
         journal.entries.push_reserved(entry);
         journal.reserved = left;
         Ok((place as u32, reply, frame))
     }
 
+    /// Makes a step of a hart and records it, where there is room for it: the reply. Takes no memory.
+    pub(crate) fn record_step(&mut self, hart: u32) -> StepReply
+        requires { 0 < self.old.journal.reserved }
+        ensures { self.new ≡ with_entries self.old (silent (step_of_hart hart) (reply_to_step result) ∷ [])
+            (self.old.journal.reserved - 1) }
+    {
+        let Recorded {
+            host,
+            journal,
+            capacity: _,
+        } = self;
+        let reply = host.step(hart);
+        journal.entries.push_reserved(Entry::of_step(hart, reply));
+        journal.reserved -= 1;
+        reply
+    }
+
     /// Makes room for n more entries, so that as many events of the guest take no memory. Where fewer
     /// than n places are free, or a growth is refused, nothing has changed.
-    pub fn reserve(&mut self, n: u32) -> Result<(), RecordError>
+    pub fn reserve(&mut self, alloc: Global, n: u32) -> Result<(), RecordError>
         ensures room { OnOk result (self.new ≡ record self.old {
           journal = record self.old.journal {
             reserved = max self.old.journal.reserved n;
@@ -148,7 +171,7 @@ impl<M: PagedMemory + Drop> Recorded<M> {
         if (*capacity as usize) - place < n as usize {
             return Err(RecordError::RecorderFull(*capacity));
         }
-        if journal.entries.reserve(n as usize).is_err() {
+        if make_room(alloc, &mut journal.entries, &mut journal.rooms, n as usize).is_err() {
             return Err(RecordError::OutOfMemory);
         }
         journal.reserved = journal.reserved.max(n);
@@ -159,6 +182,7 @@ impl<M: PagedMemory + Drop> Recorded<M> {
 /// The entry of an event, with the bytes of its frame in room that is there.
 fn keep(
     version: u32,
+    room: ExchangeRoom,
     event: HostEvent,
     reply: &HostReply,
     frame: &Option<Addressed>,
@@ -173,8 +197,7 @@ fn keep(
     } }
 {
     Entry {
-        event,
-        reply: reply.copy(),
+        exchange: Exchange::new(room, event, reply.copy()),
         frame: spell(version, frame, bytes),
     }
 }

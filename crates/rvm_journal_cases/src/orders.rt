@@ -38,11 +38,34 @@ struct Pair {
 }
 
 impl Pair {
-    /// Hosts that have written down nothing.
-    fn new(alloc: Global) -> Option<Pair> {
-        let a = recorded(alloc, 0, 1, ENTRIES)?;
-        let b = recorded(alloc, 1, 1, ENTRIES)?;
+    /// Hosts that have written down nothing, with journals of so many entries.
+    fn new(alloc: Global, entries: u32) -> Option<Pair> {
+        let a = recorded(alloc, 0, 1, entries)?;
+        let b = recorded(alloc, 1, 1, entries)?;
         Some(Pair { a, b })
+    }
+
+    /// Fills both journals: host A offers its guest again and again, and each offer comes to host B.
+    fn fill(&mut self, alloc: Global, entries: u32) -> Option<()> {
+        let (_, _, mut offer) = record(&mut self.a, alloc, HostEvent::Do(BEGIN))?;
+        for _ in 1..entries {
+            self.come(alloc, offer)?;
+            (_, _, offer) = record(&mut self.a, alloc, HostEvent::Do(Command::Resend))?;
+        }
+        self.come(alloc, offer)
+    }
+
+    /// A frame comes to host B.
+    fn come(&mut self, alloc: Global, frame: Option<Addressed>) -> Option<()> {
+        let frame = frame?.frame;
+        record(&mut self.b, alloc, HostEvent::Came(0, frame))?;
+        Some(())
+    }
+
+    /// How many events the order of such journals has.
+    fn filled_count(&mut self, alloc: Global, entries: u32) -> Option<usize> {
+        self.fill(alloc, entries)?;
+        self.count(alloc)
     }
 
     /// The next event of host A, and of each host as frames come of it.
@@ -107,6 +130,18 @@ impl Pair {
     }
 }
 
+/// Puts two journals of so many entries in order, in which frames of equal bytes come again and again.
+pub fn order_long_journals<R: AllocGlobal + Print>(rt: &R, entries: u32) -> Option<()> {
+    let events = count_of_long_journals(rt.alloc(), entries)?;
+    println!(rt; "two journals of {entries} entries: {events} events").ok()
+}
+
+/// How many events the order of two journals of so many entries has.
+fn count_of_long_journals(alloc: Global, entries: u32) -> Option<usize> {
+    let mut pair = Pair::new(alloc, entries)?;
+    pair.filled_count(alloc, entries)
+}
+
 /// Puts journals in order: of a whole move, of a move whose beginning was not written down, and of nothing.
 pub fn put_in_order<R: AllocGlobal + Print>(rt: &R) -> Option<()> {
     order_a_move(rt)?;
@@ -127,7 +162,7 @@ fn order_a_move<R: AllocGlobal + Print>(rt: &R) -> Option<()> {
 
 /// The order of a move that has come to its end.
 fn order_of_a_move(alloc: Global) -> Option<Vec<Event>> {
-    let mut pair = Pair::new(alloc)?;
+    let mut pair = Pair::new(alloc, ENTRIES)?;
     pair.played_order(alloc)
 }
 
@@ -183,6 +218,6 @@ fn order_nothing<R: AllocGlobal + Print>(rt: &R) -> Option<()> {
 
 /// How many events the order of two empty journals has.
 fn count_nothing(alloc: Global) -> Option<usize> {
-    let pair = Pair::new(alloc)?;
+    let pair = Pair::new(alloc, ENTRIES)?;
     pair.count(alloc)
 }

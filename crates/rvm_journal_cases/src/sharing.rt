@@ -45,11 +45,11 @@ fn poke_and_look<L: Seating, R: AllocGlobal + Print + Wait>(
     });
     let (poked, _) = call(rt, &host, &mut first, poke)?;
     let (seen, _) = call(rt, &host, &mut second, board(BoardEvent::Regs(0)))?;
-    let t0 = match seen.reply {
+    let t0 = match seen.reply() {
         HostReply::Board(BoardReply::Regs(registers)) => registers[5],
         _ => 0,
     };
-    let is_later = seen.place > poked.place;
+    let is_later = seen.place() > poked.place();
     println!(rt; "one seat writes 7, the other reads {t0}, at a later place {is_later}").ok()
 }
 

@@ -3,15 +3,15 @@ use Rattle.std.specs.Prelude.{◌≡◌, List, Option, None}
 use Rattle.rvm_cell.specs.Closing.{IsClosed}
 use Rattle.rvm_cell.specs.Seats.{PlainSeat}
 use Rattle.rvm_cell.specs.declared.closing.CloseKind.{CloseKind}
-use Rattle.rvm_cell.specs.declared.receipt.Receipt.{Receipt}
-use Rattle.rvm_journal.specs.declared.entry.Entry.{Entry}
+use Rattle.rvm_cell.specs.Receipts.{PlainReceipt}
+use Rattle.rvm_journal.specs.Entries.{PlainEntry}
 
 -- seats and receipts tell all entries of a journal
-pub record IsTold (entries : List Entry) : Type 0 where
+pub record IsTold (entries : List PlainEntry) : Type 0 where
   pub seats : List PlainSeat
-  pub receipts : List Receipt
+  pub receipts : List PlainReceipt
   pub closed : IsClosed entries seats receipts
 
 -- a host without a fault was closed
-abbrev pub IsEnd : (fault : Option CloseKind) → List Entry → Type 0
+abbrev pub IsEnd : (fault : Option CloseKind) → List PlainEntry → Type 0
 IsEnd fault entries = fault ≡ None → IsTold entries

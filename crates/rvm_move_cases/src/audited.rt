@@ -2,11 +2,11 @@
 
 use crate::asked::{LOOP, image_of, to_audit, to_script};
 use rvm_audit::audit;
-use rvm_debug::BoardEvent;
+use rvm_event_line::write_events;
 use rvm_journal::{Entry, Journal};
-use rvm_message::{Command, HostEvent};
+use rvm_message::{Command, ExchangeRef, HostEvent};
 use rvm_move_command::audit_over::{Audited, audit_over};
-use rvm_move_command::{OpenGate, connect_both, write_events};
+use rvm_move_command::{OpenGate, connect_both};
 use rvm_paged::PagedRam;
 use rvm_refusal::LinkFault;
 use rvm_world::Event;
@@ -52,7 +52,7 @@ impl<'a> Unplayed<'a> {
 
     /// The place of the frame that a host's entry made, if it made one.
     fn place(&mut self, host: u8, entry: &Entry) -> Option<usize> {
-        if entry.frame.is_none() {
+        if entry.frame().is_none() {
             return None;
         }
         let place = self.senders.len();
@@ -63,12 +63,12 @@ impl<'a> Unplayed<'a> {
 
 /// Writes an entry's reply as a script is answered.
 fn write_reply(text: &mut Vec<u8>, entry: &Entry, place: Option<usize>) -> Result<(), LinkFault> {
-    match &entry.event {
-        HostEvent::Do(Command::Board(BoardEvent::Step(hart))) => {
-            write_steps_reply(text, *hart, 1, &entry.reply)
-        }
-        HostEvent::Do(Command::Board(_)) => write_guest_reply(text, None, &entry.reply),
-        _ => write_move_reply(text, &entry.reply, place),
+    match entry.exchange().look() {
+        ExchangeRef::Step { hart, reply } => write_steps_reply(text, hart, 1, &reply.reply()),
+        ExchangeRef::Other { event, reply } => match event {
+            HostEvent::Do(Command::Board(_)) => write_guest_reply(text, None, reply),
+            _ => write_move_reply(text, reply, place),
+        },
     }
 }
 

@@ -2,7 +2,7 @@
 use Rattle.std.specs.Prelude.{◌≡◌, ℕ, List, ◌++◌, Option, None, Some}
 use Rattle.std.specs.Io.KnownBytes.{Appends}
 use Rattle.rvm_cell.specs.declared.closing.CloseKind.{CloseKind}
-use Rattle.rvm_journal.specs.declared.entry.Entry.{Entry}
+use Rattle.rvm_journal.specs.Entries.{PlainEntry}
 use Rattle.rvm_move.specs.declared.ends.Ends.{Ends}
 use Rattle.rvm_move.specs.Ends.{failure}
 use Rattle.rvm_move.specs.Hosts.{IsTold}
@@ -29,8 +29,8 @@ IsSound ends a b = (failure ends ≡ None) × (a ≡ None) × (b ≡ None)
 
 -- what two hosts answered was told: receipts tell all of it, and nothing else was written
 pub record IsMoved (before after : Option (List ℕ)) : Type 0 where
-  pub first : List Entry
-  pub second : List Entry
+  pub first : List PlainEntry
+  pub second : List PlainEntry
   pub first_told : IsTold first
   pub second_told : IsTold second
   pub written : Appends before after (answers_text first ++ answers_text second)

@@ -1,5 +1,4 @@
 pub mod Hosts
 pub mod Answers
 pub mod Ended
-pub mod Lines
 pub mod Orders

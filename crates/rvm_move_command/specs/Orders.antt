@@ -4,7 +4,7 @@ use Rattle.std.specs.Io.KnownBytes.{Appends}
 use Rattle.rvm_audit.specs.Orders.{IsMerge}
 use Rattle.rvm_journal.specs.History.{History}
 use Rattle.rvm_move.specs.Hosts.{IsTold}
-use Rattle.rvm_move_command.specs.Lines.{event_lines}
+use Rattle.rvm_event_line.specs.EventLines.{event_lines}
 use Rattle.rvm_world.specs.declared.event.Event.{Event}
 
 -- the order of two journals was written, a line an event; receipts tell all of both

@@ -3,10 +3,10 @@
 ghost use Rattle.std.specs.Prelude.{◌≡◌, OnOk};
 ghost use Rattle.std.specs.Io.KnownBytes.{Appends};
 ghost use Rattle.rvm_journal.specs.History.{is_board};
-ghost use Rattle.rvm_move_command.specs.Answers.{answer_text, answers_text};
+ghost use Rattle.rvm_move_command.specs.Answers.{answer_text, answers_text, reply_text};
 
 use rvm_journal::Entry;
-use rvm_message::{Command, HostEvent};
+use rvm_message::{Command, ExchangeRef, HostEvent, HostReply};
 use rvm_refusal::LinkFault;
 use rvm_world_line::write_move_reply;
 use std::io::Write;
@@ -25,10 +25,25 @@ fn is_of_guest(event: &HostEvent) -> bool
 fn write_answer<E: Write>(errors: &mut E, entry: &Entry) -> Result<(), LinkFault>
     ensures { OnOk result (Appends (E.contents errors.old) (E.contents errors.new) (answer_text entry.now)) }
 {
-    if is_of_guest(&entry.event) {
+    match entry.exchange().look() {
+        ExchangeRef::Step { .. } => Ok(()),
+        ExchangeRef::Other { event, reply } => write_unless_of_guest(errors, event, reply),
+    }
+}
+
+/// Writes the answer to an event, unless it is one of the guest's own.
+fn write_unless_of_guest<E: Write>(
+    errors: &mut E,
+    event: &HostEvent,
+    reply: &HostReply,
+) -> Result<(), LinkFault>
+    ensures { OnOk result (Appends (E.contents errors.old) (E.contents errors.new)
+        (reply_text event.now reply.now)) }
+{
+    if is_of_guest(event) {
         return Ok(());
     }
-    write_move_reply(errors, &entry.reply, None)
+    write_move_reply(errors, reply, None)
 }
 
 /// Writes the answers to the commands of a move and to the frames that came, a line each.

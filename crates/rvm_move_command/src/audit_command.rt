@@ -3,18 +3,18 @@
 ghost use Rattle.std.specs.Prelude.{◌≡◌, ◌⊎◌, ◌↔◌, [], IfOk, IfSome, IsSome, OnOk};
 ghost use Rattle.std.specs.Io.KnownBytes.{Appends};
 ghost use Rattle.rvm_move.specs.Hosts.{IsTold};
-ghost use Rattle.rvm_move_command.specs.Lines.{event_lines};
+ghost use Rattle.rvm_event_line.specs.EventLines.{event_lines};
 ghost use Rattle.rvm_move_command.specs.Orders.{IsAudited};
 
 use crate::audit_over::{Audited, audit_hosts, no_hosts};
 use crate::hosts::new_hosts;
-use crate::lines::write_events;
 use crate::move_command::{OpenGate, connect_both};
 use crate::move_over::plan_of;
 use rvm_arguments::MoveArguments;
 use rvm_audit::audit;
 use rvm_command::dis_command::flush;
 use rvm_command::refused::{Refused, tell};
+use rvm_event_line::write_events;
 use rvm_journal::{Journal, Recorded};
 use rvm_mem::PagedMemory;
 use rvm_paged::PagedRam;

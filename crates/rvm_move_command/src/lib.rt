@@ -4,7 +4,7 @@
 //! Stands on moves, on the audit of journals, on the other commands for guests and refusals, and on scripts
 //! for the texts of replies. It knows nothing of files, processes or the terminal.
 //!
-//! To be read in this order: `hosts`, `answers`, `ended`, `move_over`, `socket`, `move_command`, `lines`,
+//! To be read in this order: `hosts`, `answers`, `ended`, `move_over`, `socket`, `move_command`,
 //! `audit_over`, `audit_command`.
 #![tactic(auto)]
 
@@ -13,13 +13,11 @@ pub mod audit_command;
 pub mod audit_over;
 mod ended;
 mod hosts;
-mod lines;
 pub mod move_command;
 pub mod move_over;
 mod socket;
 
 pub use hosts::new_hosts;
-pub use lines::write_events;
 pub use move_command::{OpenGate, connect_both};
 pub use move_over::{move_recorded, plan_of};
 pub use socket::Socket;

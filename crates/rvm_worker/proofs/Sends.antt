@@ -8,7 +8,11 @@ use denote.Param.Send.{IsSend, sendable}
 use Rattle.std.proofs.Crossing.{crosses}
 use Rattle.std.specs.declared.sync.ledger.Ledger as Ledger
 use Rattle.rvm_message.specs.contracts.event.HostEvent as HostEvent
+use Rattle.rvm_message.specs.contracts.exchange.Exchange as Exchange
+use Rattle.rvm_message.specs.contracts.exchange.Kept as Kept
+use Rattle.rvm_message.specs.contracts.exchange.Pair as Pair
 use Rattle.rvm_message.specs.contracts.reply.HostReply as HostReply
+use Rattle.rvm_message.specs.contracts.step.StepReply as StepReply
 use Rattle.rvm_cell.specs.declared.seat.Seating as Seating
 use Rattle.rvm_cell.specs.contracts.receipt.Receipt as Receipt
 use Rattle.rvm_cell.specs.contracts.seat.Seat as Seat
@@ -21,8 +25,20 @@ event_send = search (sendable, crosses) depth 40 fits 10000
 reply_send : IsSend (Enum (shape HostReply.the_type))
 reply_send = search (sendable, crosses) depth 40 fits 10000
 
-pub receipt_send : IsSend (Struct (struct.shape Receipt.the_type))
-receipt_send = search (event_send, reply_send, sendable, crosses) depth 40 fits 10000
+step_reply_send : IsSend (Enum (shape StepReply.the_type))
+step_reply_send = search (sendable, crosses) depth 40 fits 10000
+
+pair_send : IsSend (Struct (struct.shape Pair.the_type))
+pair_send = search (event_send, reply_send, sendable, crosses) depth 40 fits 10000
+
+kept_send : IsSend (Enum (shape Kept.the_type))
+kept_send = search (step_reply_send, pair_send, sendable, crosses) depth 40 fits 10000
+
+exchange_send : IsSend Exchange.the_row
+exchange_send = search (kept_send, sendable, crosses) depth 40 fits 10000
+
+pub receipt_send : IsSend Receipt.the_row
+receipt_send = search (exchange_send, sendable, crosses) depth 40 fits 10000
 
 pub worked_send : (L : RattleType) (g : Seating.Ghosts L.Denot) (h : Ledger.Ghosts L.Denot) → IsSend (Worked.the_row L g h)
 worked_send L g h =

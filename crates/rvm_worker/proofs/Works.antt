@@ -1,7 +1,7 @@
 -- The receipts of a slice behind those that are there.
 use Rattle.std.proofs.Common.{◌≡◌, ◌∙◌, ℕ, zero, suc, ◌+◌, List, [], ◌∷◌, ◌++◌, length, length-append, Some, ap, arith, inl, inr}
 use Rattle.std.specs.Prelude.{slice_get, ◌⊎◌}
-use Rattle.rvm_cell.specs.declared.receipt.Receipt.{Receipt}
+use Rattle.rvm_cell.specs.Receipts.{PlainReceipt}
 use Rattle.rvm_cell.specs.Calls.{AreOfSeat}
 use Rattle.rvm_cell.specs.Seats.{PlainSeat, seat_of}
 use Rattle.rvm_worker.specs.Work.{IsWork}
@@ -18,8 +18,8 @@ got_either {X} (x ∷ xs) ys b (suc k) h = elim (got_either xs ys b k h) [
 ]
 
 -- a slice is work, behind work
-pub work_slice : (first seat new : PlainSeat) (turn harts : ℕ) (before slice : List Receipt) → IsWork first seat before
-    → AreOfSeat seat turn harts slice → new ≡ seat_of seat.id (seat.count + length slice)
+pub work_slice : (first seat new : PlainSeat) (turn harts : ℕ) (before slice : List PlainReceipt)
+    → IsWork first seat before → AreOfSeat seat turn harts slice → new ≡ seat_of seat.id (seat.count + length slice)
     → IsWork first new (before ++ slice)
 work_slice first seat new turn harts before slice work are is =
     let id = ap (λ s. s.id) work.seat_is in

@@ -81,7 +81,7 @@ impl<L: Seating> Caller<L> {
         match host.call(rt, alloc, &mut self.seat, event) {
             Err((why, _event)) => Err(WorkEnd::from(why)),
             Ok((receipt, frame)) => {
-                let reply = receipt.reply.copy();
+                let reply = receipt.reply();
                 self.receipts.push_reserved(receipt);
                 Ok((reply, frame))
             }

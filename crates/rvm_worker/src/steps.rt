@@ -26,6 +26,6 @@ pub(crate) fn steps_of(receipts: &[Receipt]) -> Steps
     };
     Steps {
         count: receipts.len() as u32,
-        last: last.reply.copy(),
+        last: last.reply(),
     }
 }

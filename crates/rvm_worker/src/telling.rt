@@ -22,7 +22,7 @@ pub struct Side<'s, L: Seating, M: PagedMemory + Drop, K: Link + Drop> {
 
 /// The reply to a call, and whether the frame that it made was sent.
 #[derive(Drop)]
-pub(crate) struct Told {
+pub(crate) struct Called {
     pub(crate) reply: HostReply,
     pub(crate) sent: Result<(), SendError>,
 }
@@ -35,14 +35,14 @@ pub(crate) fn tell<L: Seating, M: PagedMemory + Drop, K: Link + Drop, G: Gate, R
     caller: &mut Caller<L>,
     watch: &mut Watch<'_, G>,
     event: HostEvent,
-) -> Result<Told, WorkEnd>
+) -> Result<Called, WorkEnd>
     ensures { caller.new.start ≡ caller.old.start }
 {
     watch.before()?;
     let (reply, frame) = caller.call(rt, alloc, side.host, event)?;
     let sent = send(rt, alloc, side.outgoing, frame);
     watch.after();
-    Ok(Told { reply, sent })
+    Ok(Called { reply, sent })
 }
 
 /// Sends a frame, if there is one.

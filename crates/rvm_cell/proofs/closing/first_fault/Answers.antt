@@ -2,7 +2,7 @@ use Rattle.std.proofs.Common.{◌≡◌, ℕ, ◌≤◌, refl, ◌∙◌, ◌≢
 use Rattle.std.proofs.lemmas.Option.{slice_get_read, get_or_from_slice_get}
 use Rattle.std.specs.BTreeMap.{get}
 use Rattle.std.specs.Ordering.{nat_cmp}
-use Rattle.rvm_cell.specs.declared.receipt.Receipt.{Receipt}
+use Rattle.rvm_cell.specs.Receipts.{PlainReceipt}
 use Rattle.rvm_cell.specs.Close.{IsRightAt}
 use Rattle.rvm_cell.specs.Checking.{Checked}
 use Rattle.rvm_cell.proofs.Checks.{one_more, all_below, right_stands, right_within, left_over, all_checked}
@@ -17,10 +17,11 @@ loop-p-preserved c =
     let s = c.if-not-stands.ensures.yes refl in
     let rs = c.args.receipts.now in
     let next = c.note.new.lasts in
-    let a = get_or_from_slice_get rs p s.receipt c.index-receipts-p.result s.here in
-    let b = get_or_from_slice_get rs p s.receipt c.index-receipts-p-in-loop-p.result s.here in
-    let same : get nat_cmp next s.receipt.seat ≡ Some s.receipt.count = ap (λ (x : Receipt). get nat_cmp next x.seat) (sym a) ∙ c.in_ok-note.ensures.same ∙ ap (λ (x : Receipt). Some x.count) b in
-    let other : (q : ℕ) → q ≢ s.receipt.seat → get nat_cmp next q ≡ get nat_cmp c.loop-p.lasts q = λ q differ. c.in_ok-note.ensures.other q (λ e. differ (e ∙ ap (λ (x : Receipt). x.seat) a)) in
+    let is = c.receipt.view_is ∙ c.index-receipts-p.is ∙ get_or_from_slice_get rs p s.receipt c.index-receipts-p.result s.here in
+    let same : get nat_cmp next s.receipt.seat ≡ Some s.receipt.count =
+    ap (λ (x : PlainReceipt). get nat_cmp next x.seat) (sym is) ∙ c.in_ok-note.ensures.same ∙ ap (λ (x : PlainReceipt). Some x.count) is in
+    let other : (q : ℕ) → q ≢ s.receipt.seat → get nat_cmp next q ≡ get nat_cmp c.loop-p.lasts q =
+    λ q differ. c.in_ok-note.ensures.other q (λ e. differ (e ∙ ap (λ (x : PlainReceipt). x.seat) is)) in
     one_more entries rs c.loop-p.lasts p c.requires c.loop-p.invariant c.index-entries-p.result kept s next same other
 
 pub returns-then-p-receipts-clause-some : goal.returns-then-p-receipts-clause-some

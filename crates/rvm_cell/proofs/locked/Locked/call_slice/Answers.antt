@@ -1,6 +1,7 @@
 use Rattle.std.proofs.Common.{subst}
 use Rattle.rvm_cell.specs.Calls.{IsSliceCalled}
 use Rattle.rvm_cell.specs.Seats.{seat_of}
+use Rattle.rvm_journal.specs.Slices.{replies_to}
 use Rattle.rvm_cell.proofs.Receipts.{slice_called}
 use Rattle.rvm_cell.proofs.locked.Locked.call_slice.Goals as goal
 
@@ -13,7 +14,7 @@ returns-clause-called g c =
     let said = c.slice_receipts-receipts in
     let rs = said.result.items in
     let called : IsSliceCalled old seat a.turn a.harts a.n rs new =
-    slice_called old new seat a.turn a.harts a.n c.in_ok-place.place rs c.in_ok-place.replies.items
+    slice_called old new seat a.turn a.harts a.n c.in_ok-place.place rs (replies_to c.in_ok-place.replies.items)
     c.in_ok-place.ensures.slice said.ensures.receipts said.ensures.replies in
     subst (λ s. IsSliceCalled a.self.now s a.turn a.harts a.n rs new) c.seat.view_is
     (subst (λ r. IsSliceCalled r seat a.turn a.harts a.n rs new) c.self.view_is called)

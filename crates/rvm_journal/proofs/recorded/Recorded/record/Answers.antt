@@ -1,7 +1,7 @@
-use Rattle.std.proofs.Common.{◌≡◌, ◌∙◌, [], ◌∷◌, ◌++◌, sym, ap, subst, arith, List, ℕ}
+use Rattle.std.proofs.Common.{◌≡◌, ◌∙◌, [], ◌∷◌, ◌++◌, length, sym, ap, subst, arith, List, ℕ}
 use Rattle.rvm_core.specs.Bounds.{frame_bound}
-use Rattle.rvm_journal.specs.declared.entry.Entry.{Entry}
-use Rattle.rvm_journal.specs.History.{History, IsKept, IsRecorded, Recording}
+use Rattle.rvm_journal.specs.Entries.{PlainEntry}
+use Rattle.rvm_journal.specs.History.{History, IsKept, IsRecorded}
 use Rattle.rvm_journal.proofs.Replays.{entry_of, is_recorded, replays, still_kept}
 use Rattle.rvm_journal.proofs.recorded.Recorded.record.Given.{Over}
 use Rattle.rvm_journal.proofs.recorded.Recorded.record.Goals as goal
@@ -19,8 +19,8 @@ module _ (g : Over) (c : goal.After-journal-2-1 g) where
   new_is : c.push_reserved.new.self.items
       ≡ before.entries ++ entry_of before.opening.version c.args.event c.in-Ok-apply.reply c.in-Ok-apply.frame ∷ []
   new_is =
-      c.push_reserved.ensures.items ∙ ap (λ (xs : List Entry). xs ++ c.keep-entry.result ∷ []) c.reserve.ensures.items
-      ∙ ap (λ (x : Entry). before.entries ++ x ∷ []) (c.keep-entry.ensures
+      c.push_reserved.ensures.items ∙ ap (λ (xs : List PlainEntry). xs ++ c.keep-entry.result ∷ []) c.make_room.ensures.same
+      ∙ ap (λ (x : PlainEntry). before.entries ++ x ∷ []) (c.keep-entry.ensures
       ∙ ap (λ v. entry_of v c.args.event c.in-Ok-apply.reply c.in-Ok-apply.frame) c.journal.invariant.1)
 
   abbrev most : ℕ
@@ -32,7 +32,8 @@ invariant_of-journal-2 g c =
       replays c.self.inside.host c.apply.new.self (before g c) c.self.inside.capacity c.args.event a.reply a.frame (kept g c) a.ensures.steps c.push_reserved.new.self.items (new_is g c)
           (most g c) a.ensures.sent c.journal.invariant.0,
       c.journal.invariant.1,
-      omega arith,
+      omega (arith, ap length c.make_room.ensures.same),
+      omega (arith, c.in-Some.ensures.len),
     )
 
 pub invariant_of-self-2 : goal.invariant_of-self-2

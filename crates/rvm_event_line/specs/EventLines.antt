@@ -1,5 +1,5 @@
--- Events of two hosts, as the lines of a script that make them.
-use Rattle.std.specs.Prelude.{ℕ, ◌==◌, ◌&&◌, ◌||◌, List, [], ◌∷◌, ◌++◌, codes, if◌then◌else◌}
+-- Events of a world, as the lines of a script that make them.
+use Rattle.std.specs.Prelude.{ℕ, ◌==◌, List, [], ◌∷◌, ◌++◌, codes, if◌then◌else◌}
 use Rattle.std.specs.Fmt.{decimal}
 use Rattle.std.specs.List.{flat_map}
 use Rattle.hex.specs.Hex.{encode_lower}
@@ -16,11 +16,6 @@ letter host =
     if host == 0 then codes "A" else (if host == 1 then codes "B" else (if host == 2 then codes "C"
     else (if host == 3 then codes "D" else (if host == 4 then codes "E" else (if host == 5 then codes "F"
     else (if host == 6 then codes "G" else codes "H"))))))
-
--- where a move goes that begins at a host: nothing is said of the other one of two
-abbrev pub target : (from to : ℕ) → List ℕ
-target from to =
-    if (from == 0 && to == 1) || (from == 1 && to == 0) then [] else codes " " ++ letter to
 
 -- a register by its number, pc being 32
 abbrev pub register : ℕ → List ℕ
@@ -40,18 +35,18 @@ asked_line (asked.PokeReg h r v) = codes "reg " ++ decimal h ++ codes " " ++ reg
 asked_line (asked.PokeMem a bytes) = codes "poke " ++ decimal a ++ codes " " ++ encode_lower bytes
 
 -- what a host is told to do
-abbrev pub command_line : (host : ℕ) → Command → List ℕ
-command_line h (command.Board e) = asked_line e
-command_line h (command.Begin to p) =
-    codes "begin" ++ target h to ++ codes " " ++ decimal p.max_rounds ++ codes " " ++ decimal p.min_left
+abbrev pub command_line : Command → List ℕ
+command_line (command.Board e) = asked_line e
+command_line (command.Begin to p) =
+    codes "begin " ++ letter to ++ codes " " ++ decimal p.max_rounds ++ codes " " ++ decimal p.min_left
     ++ codes " " ++ decimal p.factor
-command_line h command.Copy = codes "copy"
-command_line h command.Resend = codes "resend"
-command_line h command.Abort = codes "abort"
+command_line command.Copy = codes "copy"
+command_line command.Resend = codes "resend"
+command_line command.Abort = codes "abort"
 
 -- an event, in a line
 abbrev pub event_line : Event → List ℕ
-event_line (event.At h c) = letter h ++ codes " " ++ command_line h c ++ codes "\n"
+event_line (event.At h c) = letter h ++ codes " " ++ command_line c ++ codes "\n"
 event_line (event.Deliver k) = codes "deliver " ++ decimal k ++ codes "\n"
 
 -- events, a line each

@@ -1,9 +1,9 @@
-//! Events of two hosts, as lines of a script that make them.
+//! Events of a world, as lines of a script that make them.
 
 ghost use Rattle.std.specs.Prelude.{◌≡◌, ◌≤◌, length, OnOk};
 ghost use Rattle.std.specs.Io.KnownBytes.{Appends};
 ghost use Rattle.hex.specs.Hex.{encode_lower};
-ghost use Rattle.rvm_move_command.specs.Lines.{asked_line, command_line, event_line, event_lines};
+ghost use Rattle.rvm_event_line.specs.EventLines.{asked_line, command_line, event_line, event_lines};
 
 use hex::encode_to_slice;
 use rvm_board::VIEW_SIZE;
@@ -20,7 +20,7 @@ struct Letter(u8);
 
 impl fmt::Display for Letter {
     ghost use Rattle.std.specs.Prelude.{Some};
-    ghost use Rattle.rvm_move_command.specs.Lines.{letter};
+    ghost use Rattle.rvm_event_line.specs.EventLines.{letter};
 
     ghost output = { λ host. Some (letter host.0) };
 
@@ -39,35 +39,13 @@ impl fmt::Display for Letter {
     }
 }
 
-/// The host that a move begun at a host goes to: nothing where it is the other one of two.
-#[derive(Clone, Copy)]
-struct Target {
-    from: u8,
-    to: u8,
-}
-
-impl fmt::Display for Target {
-    ghost use Rattle.std.specs.Prelude.{Some};
-    ghost use Rattle.rvm_move_command.specs.Lines.{target};
-
-    ghost output = { λ t. Some (target t.from t.to) };
-
-    fn fmt<W: fmt::Write>(&self, f: &mut fmt::Formatter<W>) -> fmt::Result {
-        let (from, to) = (self.from, self.to);
-        if (from == 0 && to == 1) || (from == 1 && to == 0) {
-            return Ok(());
-        }
-        write!(f, " {}", Letter(to))
-    }
-}
-
 /// A register, x0 to x31 or pc.
 #[derive(Clone, Copy)]
 struct Register(u32);
 
 impl fmt::Display for Register {
     ghost use Rattle.std.specs.Prelude.{Some};
-    ghost use Rattle.rvm_move_command.specs.Lines.{register};
+    ghost use Rattle.rvm_event_line.specs.EventLines.{register};
 
     ghost output = { λ r. Some (register r.0) };
 
@@ -124,19 +102,16 @@ fn write_asked<W: Write>(writer: &mut W, event: &BoardEvent) -> Result<(), LinkF
 }
 
 /// Writes what a host is told to do.
-fn write_command<W: Write>(writer: &mut W, host: u8, command: &Command) -> Result<(), LinkFault>
+fn write_command<W: Write>(writer: &mut W, command: &Command) -> Result<(), LinkFault>
     ensures { OnOk result (Appends (W.contents writer.old) (W.contents writer.new)
-        (command_line host command.now)) }
+        (command_line command.now)) }
 {
     match command {
         Command::Board(event) => write_asked(writer, event)?,
         Command::Begin { to, policy } => write!(
             writer,
-            "begin{} {} {} {}",
-            Target {
-                from: host,
-                to: *to
-            },
+            "begin {} {} {} {}",
+            Letter(*to),
             policy.max_rounds,
             policy.min_left,
             policy.factor
@@ -155,7 +130,7 @@ fn write_event<W: Write>(writer: &mut W, event: &Event) -> Result<(), LinkFault>
     match event {
         Event::At(host, command) => {
             write!(writer, "{} ", Letter(*host))?;
-            write_command(writer, *host, command)?;
+            write_command(writer, command)?;
         }
         Event::Deliver(place) => write!(writer, "deliver {place}")?,
     }

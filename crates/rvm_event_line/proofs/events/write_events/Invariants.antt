@@ -1,7 +1,7 @@
 use Rattle.std.proofs.Common.{take}
 use Rattle.std.specs.Io.KnownBytes.{Appends}
-use Rattle.rvm_move_command.specs.Lines.{event_lines}
-use Rattle.rvm_move_command.proofs.lines.write_events.Given as goal
+use Rattle.rvm_event_line.specs.EventLines.{event_lines}
+use Rattle.rvm_event_line.proofs.events.write_events.Given as goal
 
 abbrev pub invariant-loop-event : goal.invariant-loop-event
 invariant-loop-event g l =
