@@ -15,7 +15,7 @@ use Rattle.rvm_debug.specs.Guest.{Guest, GuestState}
 use Rattle.rvm_script.specs.declared.script.ScriptError.{ScriptError}
 use Rattle.rvm_script.specs.declared.script.ScriptError.TheVariants as script
 use Rattle.rvm_script.specs.Runs.{IsRun}
-use Rattle.rvm_script.specs.Script.{Told, script_of}
+use Rattle.rvm_script.specs.Script.{Answers, script_of}
 use Rattle.rvm_script.specs.Words.{lines}
 use Rattle.rvm_command.specs.declared.refused.Refused.{Refused}
 use Rattle.rvm_command.specs.Command.{FileImage}

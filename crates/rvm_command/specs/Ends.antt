@@ -13,7 +13,7 @@ use Rattle.rvm_asm.specs.Assembly.{IsAssembly}
 use Rattle.rvm_asm.specs.Refusals.{IsError}
 use Rattle.rvm_script.specs.declared.script.ScriptError.{ScriptError}
 use Rattle.rvm_script.specs.declared.script.ScriptError.TheVariants as script
-use Rattle.rvm_script.specs.Script.{Told, script_of}
+use Rattle.rvm_script.specs.Script.{Answers, script_of}
 use Rattle.rvm_script.specs.Words.{lines}
 use Rattle.rvm_refusal.specs.declared.refusal.Refusal.TheVariants.{OutOfMemory, OutsideRam, BadToken, LinkFault}
 use Rattle.rvm_arguments.specs.declared.arguments.GuestArguments.{GuestArguments}
@@ -64,7 +64,7 @@ IsListEnd image (Err r) before after =
 
 -- a script is told to its end, or to the line that is none; or memory ran out, or it is too long, or
 -- a read or a write failed
-abbrev pub IsScriptEnd : (text : List ℕ) → Told → Result (Unit {0}) ScriptError
+abbrev pub IsScriptEnd : (text : List ℕ) → Answers → Result (Unit {0}) ScriptError
     → (before after : Option (List ℕ)) → Type 0
 IsScriptEnd text told (Ok done) before after = (told.end ≡ None) × Appends before after told.text
 IsScriptEnd text told (Err (script.BadToken n)) before after =
@@ -122,16 +122,16 @@ IsAsmEnd text (Err r) before after =
 
 -- what a command answers that ends so: 0 where it is done, 1 where it was refused, with the refusal
 -- told to `errors`
-abbrev pub Answers : (status : ℕ) → (End : Result (Unit {0}) Refused → Type 0)
+abbrev pub HasStatus : (status : ℕ) → (End : Result (Unit {0}) Refused → Type 0)
     → (before after : Option (List ℕ)) → Type 0
-Answers zero End before after = End (Ok tt) × (after ≡ before)
-Answers (suc zero) End before after = (r : Refused) × End (Err r) × IsTold r before after
-Answers (suc (suc n)) End before after = ⊥
+HasStatus zero End before after = End (Ok tt) × (after ≡ before)
+HasStatus (suc zero) End before after = (r : Refused) × End (Err r) × IsTold r before after
+HasStatus (suc (suc n)) End before after = ⊥
 
 -- the same of a run, which tells how it ended
-abbrev pub RunAnswers : (status : ℕ) → (End : Result Ended Refused → Type 0)
+abbrev pub RunHasStatus : (status : ℕ) → (End : Result Ended Refused → Type 0)
     → (before after : Option (List ℕ)) → Type 0
-RunAnswers zero End before after =
+RunHasStatus zero End before after =
     (e : Ended) × End (Ok e) × Appends before after (end_text e ++ codes "\n")
-RunAnswers (suc zero) End before after = (r : Refused) × End (Err r) × IsTold r before after
-RunAnswers (suc (suc n)) End before after = ⊥
+RunHasStatus (suc zero) End before after = (r : Refused) × End (Err r) × IsTold r before after
+RunHasStatus (suc (suc n)) End before after = ⊥

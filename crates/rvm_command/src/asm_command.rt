@@ -5,7 +5,7 @@ ghost use Rattle.rvm_image.specs.Images.{pieces_of};
 ghost use Rattle.rvm_elf.specs.Spelling.{file_of};
 ghost use Rattle.rvm_refusal.specs.declared.refusal.Refusal.TheVariants.{BadToken};
 ghost use Rattle.rvm_command.specs.Assembled.{IsFileOf};
-ghost use Rattle.rvm_command.specs.Ends.{Answers, IsAsmEnd, IsTextRefusal, IsUnwritable, line_of_byte};
+ghost use Rattle.rvm_command.specs.Ends.{HasStatus, IsAsmEnd, IsTextRefusal, IsUnwritable, line_of_byte};
 ghost use Rattle.rvm_command.specs.Refusals.{refused_at};
 
 use crate::refused::{Refused, tell};
@@ -28,7 +28,7 @@ pub fn asm_command<O: Write, E: Write>(
     output: &mut O,
     errors: &mut E,
 ) -> Result<u8, LinkFault>
-    ensures status { IfOk result (λ status. Answers status
+    ensures status { IfOk result (λ status. HasStatus status
         (λ end. IsAsmEnd source.now end (O.contents output.old) (O.contents output.new))
         (E.contents errors.old) (E.contents errors.new)) }
     ensures refused { (O.contents output.new ≡ O.contents output.old)

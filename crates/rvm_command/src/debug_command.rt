@@ -3,7 +3,7 @@
 ghost use Rattle.std.specs.Prelude.{◌≡◌, ◌*◌, IfOk, IsErr, false};
 ghost use Rattle.rvm_elf.specs.Load.{fits};
 ghost use Rattle.rvm_command.specs.Command.{image_of};
-ghost use Rattle.rvm_command.specs.Ends.{Answers, IsDebugEnd, IsScriptEndOf};
+ghost use Rattle.rvm_command.specs.Ends.{HasStatus, IsDebugEnd, IsScriptEndOf};
 
 use crate::dis_command::flush;
 use crate::guest::load_guest;
@@ -32,7 +32,7 @@ pub fn debug_command<R: Read, O: Write, E: Write>(
     output: &mut O,
     errors: &mut E,
 ) -> Result<u8, LinkFault>
-    ensures status { IfOk result (λ status. Answers status
+    ensures status { IfOk result (λ status. HasStatus status
         (λ end. IsDebugEnd arguments.now image.now (R.remaining reader.old) end (O.contents output.old) (O.contents output.new))
         (E.contents errors.old) (E.contents errors.new)) }
     ensures fault { IsErr (image_of arguments.now.raw image.now)

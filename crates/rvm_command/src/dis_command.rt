@@ -5,7 +5,7 @@ ghost use Rattle.std.specs.Io.KnownBytes.{Appends, Keeps};
 ghost use Rattle.rvm_image.specs.Images.{pieces_of};
 ghost use Rattle.rvm_dis.specs.Disassembly.{line_at};
 ghost use Rattle.rvm_command.specs.Command.{before_word, image_of, listing, word_lines};
-ghost use Rattle.rvm_command.specs.Ends.{Answers, IsListEnd};
+ghost use Rattle.rvm_command.specs.Ends.{HasStatus, IsListEnd};
 
 use crate::guest::read_file;
 use crate::refused::{Refused, tell};
@@ -30,7 +30,7 @@ pub fn dis_command<O: Write, E: Write>(
     output: &mut O,
     errors: &mut E,
 ) -> Result<u8, LinkFault>
-    ensures status { IfOk result (λ status. Answers status
+    ensures status { IfOk result (λ status. HasStatus status
         (λ end. IsListEnd (image_of arguments.now.raw image.now) end (O.contents output.old) (O.contents output.new))
         (E.contents errors.old) (E.contents errors.new)) }
     ensures fault { IsErr (image_of arguments.now.raw image.now)

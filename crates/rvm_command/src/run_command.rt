@@ -4,7 +4,7 @@ ghost use Rattle.std.specs.Prelude.{◌≡◌, ◌*◌, ◌++◌, IfOk, IsErr, c
 ghost use Rattle.std.specs.Io.KnownBytes.{Appends};
 ghost use Rattle.rvm_elf.specs.Load.{fits};
 ghost use Rattle.rvm_command.specs.Command.{end_text, image_of};
-ghost use Rattle.rvm_command.specs.Ends.{IsRunEnd, RunAnswers};
+ghost use Rattle.rvm_command.specs.Ends.{IsRunEnd, RunHasStatus};
 
 use crate::guest::load_guest;
 use crate::refused::{Refused, tell};
@@ -44,7 +44,7 @@ pub fn run_command<O: Write, E: Write>(
     output: &mut O,
     errors: &mut E,
 ) -> Result<u8, LinkFault>
-    ensures status { IfOk result (λ status. RunAnswers status
+    ensures status { IfOk result (λ status. RunHasStatus status
         (λ end. IsRunEnd arguments.now image.now input.now end (O.contents output.old) (O.contents output.new))
         (E.contents errors.old) (E.contents errors.new)) }
     ensures fault { IsErr (image_of arguments.now.guest.raw image.now)

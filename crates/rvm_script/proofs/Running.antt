@@ -26,7 +26,7 @@ use Rattle.rvm_script.specs.Words.{lines}
 use Rattle.rvm_script.specs.Lines.{line_of}
 use Rattle.rvm_script.specs.Runs.{IsReadError, IsRun, IsLineRun}
 use Rattle.rvm_script.specs.Answers.{is_refused}
-use Rattle.rvm_script.specs.Script.{Stepping, stepping, stepping_after, inputs, answered_after, Told, told_after, told_by, ended, done_by, script_of, stepped}
+use Rattle.rvm_script.specs.Script.{Stepping, stepping, stepping_after, inputs, answered_after, Answers, answers_behind, answers_by, ended, done_by, script_of, stepped}
 
 pub appends_none : (a : Option (List ℕ)) → Appends a a []
 appends_none None = tt
@@ -273,7 +273,7 @@ inputs_over {all} {first} {dirty} left g so_far none =
       log = so_far.log ∙ ap (λ ps. mark_all ps first) (sym (append-nil so_far.pages) ∙ ap (λ (s : Answered). s.pages) whole);
     }
 
-line_first : (b : List ℕ) (bs : List (List ℕ)) (n : ℕ) (g : Guest) → script_of (b ∷ bs) n g ≡ told_by (line_of b) n g (script_of bs (n + 1))
+line_first : (b : List ℕ) (bs : List (List ℕ)) (n : ℕ) (g : Guest) → script_of (b ∷ bs) n g ≡ answers_by (line_of b) n g (script_of bs (n + 1))
 unfolding script_of
 line_first b bs n g = refl
 
@@ -281,24 +281,24 @@ no_line : (n : ℕ) (g : Guest) → script_of [] n g ≡ ended None g
 unfolding script_of
 no_line n g = refl
 
-told_both : (ps qs ts us : List ℕ) (t : Told) → told_after ps ts (told_after qs us t) ≡ told_after (ps ++ qs) (ts ++ us) t
+told_both : (ps qs ts us : List ℕ) (t : Answers) → answers_behind ps ts (answers_behind qs us t) ≡ answers_behind (ps ++ qs) (ts ++ us) t
 told_both ps qs ts us t =
     ap (λ l. record t { pages = l; text = ts ++ (us ++ t.text) }) (sym (append_assoc ps qs t.pages))
     ∙ ap (λ l. record t { pages = (ps ++ qs) ++ t.pages; text = l }) (sym (append_assoc ts us t.text))
 
 -- lines behind others, none of which ended the script
-line_both : (o : Option Line) (ls more : List (List ℕ)) (n : ℕ) (g : Guest) → ((h : Guest) → (script_of ls (n + 1) h).end ≡ None → script_of (ls ++ more) (n + 1) h ≡ told_after (script_of ls (n + 1) h).pages (script_of ls (n + 1) h).text (script_of more (n + 1 + length ls) (script_of ls (n + 1) h).guest))
-    → let first = told_by o n g (script_of ls (n + 1)) in first.end ≡ None → told_by o n g (script_of (ls ++ more) (n + 1)) ≡ told_after first.pages first.text (script_of more (n + suc (length ls)) first.guest)
+line_both : (o : Option Line) (ls more : List (List ℕ)) (n : ℕ) (g : Guest) → ((h : Guest) → (script_of ls (n + 1) h).end ≡ None → script_of (ls ++ more) (n + 1) h ≡ answers_behind (script_of ls (n + 1) h).pages (script_of ls (n + 1) h).text (script_of more (n + 1 + length ls) (script_of ls (n + 1) h).guest))
+    → let first = answers_by o n g (script_of ls (n + 1)) in first.end ≡ None → answers_by o n g (script_of (ls ++ more) (n + 1)) ≡ answers_behind first.pages first.text (script_of more (n + suc (length ls)) first.guest)
 line_both None ls more n g others on = absurd cc
 line_both (Some l) ls more n g others on =
     let r = done_by l g in
-    let d : Told = script_of ls (n + 1) r.guest in
+    let d : Answers = script_of ls (n + 1) r.guest in
     let count : n + 1 + length ls ≡ n + suc (length ls) = omega arith in
-    ap (told_after r.pages r.text) (others r.guest on)
+    ap (answers_behind r.pages r.text) (others r.guest on)
     ∙ told_both r.pages d.pages r.text d.text (script_of more (n + 1 + length ls) d.guest)
-    ∙ ap (λ k. told_after (r.pages ++ d.pages) (r.text ++ d.text) (script_of more k d.guest)) count
+    ∙ ap (λ k. answers_behind (r.pages ++ d.pages) (r.text ++ d.text) (script_of more k d.guest)) count
 
-script_both : (ls more : List (List ℕ)) (n : ℕ) (g : Guest) → (script_of ls n g).end ≡ None → script_of (ls ++ more) n g ≡ told_after (script_of ls n g).pages (script_of ls n g).text (script_of more (n + length ls) (script_of ls n g).guest)
+script_both : (ls more : List (List ℕ)) (n : ℕ) (g : Guest) → (script_of ls n g).end ≡ None → script_of (ls ++ more) n g ≡ answers_behind (script_of ls n g).pages (script_of ls n g).text (script_of more (n + length ls) (script_of ls n g).guest)
 unfolding script_of
 script_both [] more n g on = let same : n ≡ n + 0 = omega arith in ap (λ k. script_of more k g) same
 script_both (l ∷ ls) more n g on = line_both (line_of l) ls more n g (script_both ls more (n + 1)) on
@@ -307,11 +307,11 @@ script_both (l ∷ ls) more n g on = line_both (line_of l) ls more n g (script_b
 one_line : (ls : List (List ℕ)) (b : List ℕ) (l : Line) (g : Guest) → (script_of ls 1 g).end ≡ None → line_of b ≡ Some l
     → let d = script_of ls 1 g in let r = done_by l d.guest in script_of (ls ++ b ∷ []) 1 g ≡ record { guest = r.guest; pages = d.pages ++ r.pages; text = d.text ++ r.text; end = None }
 one_line ls b l g on is =
-    let d : Told = script_of ls 1 g in
+    let d : Answers = script_of ls 1 g in
     let n = 1 + length ls in
     let r = done_by l d.guest in
     script_both ls (b ∷ []) 1 g on
-    ∙ ap (told_after d.pages d.text) (line_first b [] n d.guest ∙ ap (λ o. told_by o n d.guest (script_of [] (n + 1))) is ∙ ap (told_after r.pages r.text) (no_line (n + 1) r.guest))
+    ∙ ap (answers_behind d.pages d.text) (line_first b [] n d.guest ∙ ap (λ o. answers_by o n d.guest (script_of [] (n + 1))) is ∙ ap (answers_behind r.pages r.text) (no_line (n + 1) r.guest))
     ∙ ap (λ ps. record { guest = r.guest; pages = d.pages ++ ps; text = d.text ++ (r.text ++ []); end = None }) (append-nil r.pages)
     ∙ ap (λ ts. record { guest = r.guest; pages = d.pages ++ r.pages; text = d.text ++ ts; end = None }) (append-nil r.text)
 
@@ -336,11 +336,11 @@ IsDone l old new = (new.guest ≡ (done_by l old.guest).guest) × (new.dirty ≡
 line_left : {all left : List (List ℕ)} {number : ℕ} {start now : GuestState} {before written : Option (List ℕ)} (b : List ℕ) (l : Line) (new : GuestState) → (p : Lines all left number start now before written) → line_of b ≡ Some l → IsDone l now new
     → let told = script_of (p.done ++ b ∷ []) 1 start.guest in (new.guest ≡ told.guest) × (new.dirty ≡ mark_all told.pages start.dirty)
 line_left {all} {left} {number} {start} {now} {before} {written} b l new p is made =
-    let d : Told = script_of p.done 1 start.guest in
+    let d : Answers = script_of p.done 1 start.guest in
     let r = done_by l d.guest in
     let told = sym (one_line p.done b l start.guest p.on is) in (
-      made.0 ∙ ap (λ g. (done_by l g).guest) p.guest ∙ ap (λ (t : Told). t.guest) told,
-      made.1 ∙ ap (λ g. mark_all (done_by l g).pages now.dirty) p.guest ∙ ap (mark_all r.pages) p.dirty ∙ sym (mark_more d.pages r.pages start.dirty) ∙ ap (λ (t : Told). mark_all t.pages start.dirty) told,
+      made.0 ∙ ap (λ g. (done_by l g).guest) p.guest ∙ ap (λ (t : Answers). t.guest) told,
+      made.1 ∙ ap (λ g. mark_all (done_by l g).pages now.dirty) p.guest ∙ ap (mark_all r.pages) p.dirty ∙ sym (mark_more d.pages r.pages start.dirty) ∙ ap (λ (t : Answers). mark_all t.pages start.dirty) told,
     )
 
 line_next : (done bs : List (List ℕ)) (b : List ℕ) (left all : List (List ℕ)) → left ≡ b ∷ bs → done ++ left ≡ all → (done ++ b ∷ []) ++ bs ≡ all
@@ -350,7 +350,7 @@ pub line_done : {all left : List (List ℕ)} {number : ℕ} {start old : GuestSt
     → left ≡ b ∷ bs → next ≡ number + 1 → IsLineRun (Ok u) k o old new mid after → Lines all bs next start new before after
 line_done {all} {left} {number} {start} {old} {before} {mid} next k bs b new after u None is p more counted run = absurd run
 line_done {all} {left} {number} {start} {old} {before} {mid} next k bs b new after u (Some l) is p more counted run =
-    let d : Told = script_of p.done 1 start.guest in
+    let d : Answers = script_of p.done 1 start.guest in
     let r = done_by l d.guest in
     let told = one_line p.done b l start.guest p.on is in
     let made = line_left b l new p is (run.0, run.1) in
@@ -359,10 +359,10 @@ line_done {all} {left} {number} {start} {old} {before} {mid} next k bs b new aft
       done = p.done ++ b ∷ [];
       whole = line_next p.done bs b left all more p.whole;
       counted = omega (arith, counted, p.counted, length-append p.done (b ∷ []));
-      on = ap (λ (t : Told). t.end) told;
+      on = ap (λ (t : Answers). t.end) told;
       guest = made.0;
       dirty = made.1;
-      text = subst (Appends before after) (ap (λ (t : Told). t.text) (sym told)) (appends_more before mid after d.text r.text p.text text);
+      text = subst (Appends before after) (ap (λ (t : Answers). t.text) (sym told)) (appends_more before mid after d.text r.text p.text text);
     }
 
 pub lines_over : (all left : List (List ℕ)) (number : ℕ) (start new : GuestState) (before after : Option (List ℕ)) (u : Unit {0}) → left ≡ [] → Lines all left number start new before after → IsRun (Ok u) all start new before after
@@ -381,17 +381,17 @@ line_refused all left bs b number k start old new before mid after LinkFault (So
     record { done = p.done ++ b ∷ []; left = bs; whole = line_next p.done bs b left all more p.whole; guest = made.0; dirty = made.1 }
 line_refused all left bs b number k start old new before mid after (BadToken j) (Some l) is p same more run = absurd run
 line_refused all left bs b number k start old new before mid after (BadToken j) None is p same more run =
-    let d : Told = script_of p.done 1 start.guest in
+    let d : Answers = script_of p.done 1 start.guest in
     let n = 1 + length p.done in
-    let told : script_of all 1 start.guest ≡ told_after d.pages d.text (ended (Some n) d.guest) =
+    let told : script_of all 1 start.guest ≡ answers_behind d.pages d.text (ended (Some n) d.guest) =
     ap (λ l. script_of l 1 start.guest) (sym p.whole ∙ ap (λ l. p.done ++ l) more)
     ∙ script_both p.done (b ∷ bs) 1 start.guest p.on
-    ∙ ap (told_after d.pages d.text) (line_first b bs n d.guest ∙ ap (λ x. told_by x n d.guest (script_of bs (n + 1))) is) in (
-      ap (λ (t : Told). t.end) told ∙ ap (λ (i : ℕ). Some i) (sym (run.0 ∙ same ∙ p.counted)),
+    ∙ ap (answers_behind d.pages d.text) (line_first b bs n d.guest ∙ ap (λ x. answers_by x n d.guest (script_of bs (n + 1))) is) in (
+      ap (λ (t : Answers). t.end) told ∙ ap (λ (i : ℕ). Some i) (sym (run.0 ∙ same ∙ p.counted)),
       record {
-        guest = ap (λ (s : GuestState). s.guest) run.1 ∙ p.guest ∙ ap (λ (t : Told). t.guest) (sym told);
-        dirty = ap (λ (s : GuestState). s.dirty) run.1 ∙ p.dirty ∙ ap (λ ps. mark_all ps start.dirty) (sym (append-nil d.pages)) ∙ ap (λ (t : Told). mark_all t.pages start.dirty) (sym told);
-        text = rw run.2 (subst (Appends before mid) (sym (append-nil d.text) ∙ ap (λ (t : Told). t.text) (sym told)) p.text);
+        guest = ap (λ (s : GuestState). s.guest) run.1 ∙ p.guest ∙ ap (λ (t : Answers). t.guest) (sym told);
+        dirty = ap (λ (s : GuestState). s.dirty) run.1 ∙ p.dirty ∙ ap (λ ps. mark_all ps start.dirty) (sym (append-nil d.pages)) ∙ ap (λ (t : Answers). mark_all t.pages start.dirty) (sym told);
+        text = rw run.2 (subst (Appends before mid) (sym (append-nil d.text) ∙ ap (λ (t : Answers). t.text) (sym told)) p.text);
       },
     )
 

@@ -8,10 +8,10 @@ use Rattle.rvm_debug.specs.Guest.{GuestState}
 use Rattle.rvm_script.specs.declared.script.ScriptError.{ScriptError}
 use Rattle.rvm_script.specs.declared.script.ScriptError.TheVariants.{OutOfMemory, TooLong, BadToken, LinkFault}
 use Rattle.rvm_script.specs.declared.line.Line.{Line}
-use Rattle.rvm_script.specs.Script.{Told, done_by, script_of}
+use Rattle.rvm_script.specs.Script.{Answers, done_by, script_of}
 
 -- what was told went out, and the guest and its dirty log are as told
-pub record Leaves (told : Told) (old new : GuestState) (before after : Option (List ℕ))
+pub record Leaves (told : Answers) (old new : GuestState) (before after : Option (List ℕ))
     : Type 0 where
   pub guest : new.guest ≡ told.guest
   pub dirty : new.dirty ≡ mark_all told.pages old.dirty

@@ -69,26 +69,26 @@ done_by (line.Ask e) g = replied (address_of e) (answered e g)
 
 -- the guest that a script leaves, the pages that it wrote, all that it answers, and the number of
 -- the line that is none, if one ended it
-pub record Told : Type 0 where
+pub record Answers : Type 0 where
   pub guest : Guest
   pub pages : List ℕ
   pub text : List ℕ
   pub end : Option ℕ
 
 -- the same behind pages that were written and text that was answered before
-abbrev pub told_after : (pages text : List ℕ) → Told → Told
-told_after ps ts t = record t { pages = ps ++ t.pages; text = ts ++ t.text }
+abbrev pub answers_behind : (pages text : List ℕ) → Answers → Answers
+answers_behind ps ts t = record t { pages = ps ++ t.pages; text = ts ++ t.text }
 
 -- a script ends
-abbrev pub ended : Option ℕ → Guest → Told
+abbrev pub ended : Option ℕ → Guest → Answers
 ended end g = record { guest = g; pages = []; text = []; end = end }
 
 -- a line with this number, and the rest of its script behind it
-abbrev pub told_by : Option Line → (number : ℕ) → Guest → (Guest → Told) → Told
-told_by None n g rest = ended (Some n) g
-told_by (Some l) n g rest = let r = done_by l g in told_after r.pages r.text (rest r.guest)
+abbrev pub answers_by : Option Line → (number : ℕ) → Guest → (Guest → Answers) → Answers
+answers_by None n g rest = ended (Some n) g
+answers_by (Some l) n g rest = let r = done_by l g in answers_behind r.pages r.text (rest r.guest)
 
 -- what lines do, the first of which has this number
-unfoldable pub script_of : List (List ℕ) → (number : ℕ) → Guest → Told
+unfoldable pub script_of : List (List ℕ) → (number : ℕ) → Guest → Answers
 script_of [] n g = ended None g
-script_of (l ∷ ls) n g = told_by (line_of l) n g (script_of ls (n + 1))
+script_of (l ∷ ls) n g = answers_by (line_of l) n g (script_of ls (n + 1))

@@ -2,7 +2,7 @@
 
 ghost use Rattle.std.specs.Prelude.{◌≡◌, ◌*◌, IfOk, IsErr, false};
 ghost use Rattle.rvm_command.specs.Command.{image_of};
-ghost use Rattle.rvm_command.specs.Ends.{Answers};
+ghost use Rattle.rvm_command.specs.Ends.{HasStatus};
 ghost use Rattle.rvm_debug.specs.Guest.{Guest};
 ghost use Rattle.rvm_elf.specs.Load.{fits};
 ghost use Rattle.rvm_protocol.specs.Shown.{Shown};
@@ -42,7 +42,7 @@ pub fn script_command<R: Read, O: Write, E: Write>(
     output: &mut O,
     errors: &mut E,
 ) -> Result<u8, LinkFault>
-    ensures status { IfOk result (λ status. Answers status
+    ensures status { IfOk result (λ status. HasStatus status
         (λ end. IsScriptEnd arguments.now image.now (R.remaining script.old) end (O.contents output.old) (O.contents output.new))
         (E.contents errors.old) (E.contents errors.new)) }
     ensures fault { IsErr (image_of arguments.now.guest.raw image.now)
