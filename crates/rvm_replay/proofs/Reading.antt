@@ -1,0 +1,103 @@
+-- What the words of the lines of events are read as.
+use Rattle.std.proofs.Common.{◌≡◌, ℕ, ◌^◌, ◌<◌, ◌≤◌, Bool, true, false, cond, nat_lt, nat_le, List, [], ◌∷◌, ◌++◌, length, map, Option, Some, None, refl, sym, ap, ◌∙◌, append_assoc, arith}
+use Rattle.std.specs.Prelude.{codes, option_map}
+use Rattle.std.specs.Fmt.{decimal}
+use Rattle.std.specs.List.{list_all}
+use Rattle.std.proofs.lemmas.List.{append-nil}
+use Rattle.std.proofs.lemmas.Bool.Decides.{nat_tests}
+use Rattle.hex.specs.Hex.{encode_lower}
+use Rattle.rvm_debug.specs.declared.event.BoardEvent.{BoardEvent}
+use Rattle.rvm_debug.specs.declared.event.BoardEvent.TheVariants as asked
+use Rattle.rvm_dis.proofs.Reading.{is_one_word}
+use Rattle.rvm_event_line.specs.EventLines.{event_line, letter, register}
+use Rattle.rvm_message.specs.declared.event.Command.{Command}
+use Rattle.rvm_message.specs.declared.event.Command.TheVariants as command
+use Rattle.rvm_script.specs.Lines.{command_of}
+use Rattle.rvm_script.specs.Words.{lines, words, without_return}
+use Rattle.rvm_world.specs.declared.event.Event.{Event}
+use Rattle.rvm_world.specs.declared.event.Event.TheVariants as event
+use Rattle.rvm_world_line.specs.declared.line.WorldLine.{WorldLine}
+use Rattle.rvm_world_line.specs.declared.line.WorldLine.TheVariants as line
+use Rattle.rvm_world_line.specs.WorldLines.{asked_at, letter_host, lettered, world_asked, world_command_of, world_line_of}
+use Rattle.rvm_replay.specs.Sayable.{IsAskable, IsSayable, IsTellable, asking, line_making, telling}
+use Rattle.rvm_replay.proofs.Joined.{joined, lines_joined, no_lines, whole_joined, words_joined}
+use Rattle.rvm_replay.proofs.Lines.{asked_words, command_words, event_all, event_joined, event_words, one_byte}
+use Rattle.rvm_replay.proofs.Spelled.{hex_reads, letter_names, letter_speaks, numeral_decimal, register_names}
+
+-- what is asked behind a letter
+abbrev Reads : (n h : ℕ) → Command → Type 0
+Reads n h c = asked_at n (Some h) (command_words c) ≡ Some (line.Host (Some h) (telling c))
+
+module _ (n h : ℕ) where
+  asked_read : (e : BoardEvent) → IsAskable e → Reads n h (command.Board e)
+  unfolding world_command_of command_of
+  asked_read (asked.Step x) can = rw (numeral_decimal x can) refl
+  asked_read (asked.Input b) can = rw (hex_reads (b ∷ []) (one_byte b can) (omega arith)) refl
+  asked_read (asked.Drain x) can = rw (numeral_decimal x can) refl
+  asked_read (asked.Break a) can = rw (numeral_decimal a can) refl
+  asked_read (asked.Clear a) can = rw (numeral_decimal a can) refl
+  asked_read (asked.Regs x) can = rw (numeral_decimal x can) refl
+  asked_read (asked.Mem a x) can = rw (numeral_decimal a can.0, numeral_decimal x can.1) refl
+  asked_read (asked.Dis a) can = rw (numeral_decimal a can) refl
+  asked_read (asked.PokeReg x r v) can =
+      rw (numeral_decimal x can.0, register_names r can.1, numeral_decimal v can.2) refl
+  asked_read (asked.PokeMem a bytes) can =
+      let most = can.2 in
+      let small : nat_le (length bytes) 256 ≡ true = grind (arith, nat_tests) in
+      rw (numeral_decimal a can.0, hex_reads bytes can.3 can.1, small) refl
+
+  command_read : (c : Command) → IsTellable c → Reads n h c
+  unfolding world_command_of
+  command_read (command.Board e) can = asked_read e can
+  command_read (command.Begin to p) can =
+      rw (
+        letter_names to can.0,
+        numeral_decimal p.max_rounds can.1,
+        numeral_decimal p.min_left can.2,
+        numeral_decimal p.factor can.3,
+      ) refl
+  command_read command.Copy can = refl
+  command_read command.Resend can = refl
+  command_read command.Abort can = refl
+
+-- a letter names the host that is asked
+behind_host : (n h : ℕ) (ws : List (List ℕ)) → h < n → h < 8
+    → world_asked n (letter h ∷ ws) ≡ asked_at n (Some h) ws
+behind_host n h ws there below =
+    let inside : nat_lt h n ≡ true = grind (arith, nat_tests) in
+    ap (λ t. cond t (Some line.Empty) (lettered n (letter_host (letter h)) (letter h) ws)) (letter_speaks h below)
+    ∙ ap (λ host. lettered n host (letter h) ws) (letter_names h below)
+    ∙ ap (λ t. cond t (asked_at n (Some h) ws) None) inside
+
+words_read : (n : ℕ) (e : Event) → n ≤ 8 → IsSayable n e → world_asked n (event_words e) ≡ Some (line_making e)
+words_read n (event.At h c) most can =
+    let there : h < n = can.0 in
+    behind_host n h (command_words c) there (omega arith) ∙ command_read n h c can.1
+words_read n (event.Deliver k) most can = rw (numeral_decimal k can) refl
+
+-- the text of an event, without its line feed
+abbrev pub text : Event → List ℕ
+text e = joined (event_words e)
+
+pub text_read : (n : ℕ) (e : Event) → n ≤ 8 → IsSayable n e → world_line_of n (text e) ≡ Some (line_making e)
+unfolding world_line_of
+text_read n e most can =
+    let all = event_all n e most can in
+    ap (λ l. world_asked n (words l)) (whole_joined (event_words e) all)
+    ∙ ap (world_asked n) (words_joined (event_words e) all)
+    ∙ words_read n e most can
+
+-- with its line feed it is a line
+pub text_ends : (n : ℕ) (e : Event) (rest : List ℕ) → n ≤ 8 → IsSayable n e
+    → lines (event_line e ++ rest) ≡ text e ∷ lines rest
+text_ends n e rest most can =
+    ap (λ l. lines (l ++ rest)) (event_joined e)
+    ∙ ap lines (append_assoc (text e) (codes "\n") rest)
+    ∙ lines_joined (event_words e) rest (event_all n e most can)
+
+pub one_line_read : (n : ℕ) (e : Event) → n ≤ 8 → IsSayable n e
+    → map (world_line_of n) (lines (event_line e)) ≡ Some (line_making e) ∷ []
+one_line_read n e most can =
+    ap (λ l. map (world_line_of n) (lines l)) (sym (append-nil (event_line e)))
+    ∙ ap (map (world_line_of n)) (text_ends n e [] most can ∙ ap (λ l. text e ∷ l) no_lines)
+    ∙ ap (λ l. l ∷ []) (text_read n e most can)
