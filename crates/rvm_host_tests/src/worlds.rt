@@ -198,8 +198,13 @@ fn a_guest_goes_round_three_hosts(rt: HostRuntime) -> Result<(), Fail> {
 #[test]
 fn a_driven_move_is_declined_or_refused(rt: HostRuntime) -> Result<(), Fail> {
     let mut world = world(rt.alloc(), 4, &[4, 3], 1)?;
-    let Ok(driven) = drive_move(rt.alloc(), &mut world, 0, 1, POLICY) else {
-        return Ok(());
+    let driven = match drive_move(rt.alloc(), &mut world, 0, 1, POLICY) {
+        Ok(driven) => driven,
+        // What was begun is given up, and the move begins anew.
+        Err(_) => {
+            answer(rt.alloc(), &mut world, &Event::At(0, Command::Abort))?;
+            drive_move(rt.alloc(), &mut world, 0, 1, POLICY)?
+        }
     };
     assert_eq!(rt; driven, Driven::Declined(3));
     assert_eq!(rt; answer(rt.alloc(), &mut world, &step(0))?.0, "retired");
@@ -209,7 +214,8 @@ fn a_driven_move_is_declined_or_refused(rt: HostRuntime) -> Result<(), Fail> {
         (0, 5, "BadHost"),
         (6, 0, "BadHost"),
     ] {
-        let Ok(Driven::Refused(why)) = drive_move(rt.alloc(), &mut world, from, to, POLICY) else {
+        let driven = again!(drive_move(rt.alloc(), &mut world, from, to, POLICY));
+        let Driven::Refused(why) = driven else {
             return Err(Fail::from("the move is refused"));
         };
         assert_eq!(rt; rvm_refusal::Refusal::from(why).name(), reason);

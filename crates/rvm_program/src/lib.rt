@@ -161,7 +161,7 @@ fn script<Rt: Files + AllocGlobal, O: Write, E: Write>(
     .unwrap_or(1)
 }
 
-/// Reads the image, and moves its guest.
+/// Reads the image, and moves its guest. What is told of the move goes out in pieces.
 fn move_guest<Rt: Files + AllocGlobal + Net + Threads + Wait + Clock + Sync, O: Write, E: Write>(
     rt: &Rt,
     arguments: &MoveArguments,
@@ -175,7 +175,14 @@ where
     let Ok(image) = fs::read(rt, arguments.guest.image) else {
         return refuse(errors, Refusal::LinkFault);
     };
-    move_command(rt, rt.alloc(), arguments, &image, output, errors).unwrap_or(1)
+    let Ok(mut lines) = BufWriter::new(rt.alloc(), &mut *errors) else {
+        return refuse(errors, Refusal::OutOfMemory);
+    };
+    let status = move_command(rt, rt.alloc(), arguments, &image, output, &mut lines).unwrap_or(1);
+    match lines.flush() {
+        Ok(()) => status,
+        Err(_) => 1,
+    }
 }
 
 /// Reads the image, moves its guest, and writes an order of what both hosts did.
