@@ -51,6 +51,8 @@ count: bench-programs
 bench-programs: build
 	cd crates/rvm_bench && rt run -- ../../examples/hi.bin 1 flat 1000 > /dev/null
 	cp crates/rvm_bench/out/rvm_bench build/rvm_bench
+	cd crates/rvm_journal_cases && rt run > /dev/null
+	cp crates/rvm_journal_cases/out/rvm_journal_cases build/rvm_journal_cases
 
 install: build
 	install -D build/rvmove $(PREFIX)/bin/rvmove

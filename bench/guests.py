@@ -7,6 +7,7 @@ HERE = os.path.dirname(os.path.abspath(__file__))
 BUILD = os.path.join(HERE, "..", "build")
 PROGRAM = os.path.join(BUILD, "rvmove")
 TWO_MEMORIES = os.path.join(BUILD, "rvm_bench")
+LONG_JOURNALS = os.path.join(BUILD, "rvm_journal_cases")
 INTERPRETER = os.path.join(BUILD, "interpreter")
 
 # Counts x6 down from 4,000,000 and the word at 0x80001000 up, then halts: 20,000,005 steps.

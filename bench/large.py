@@ -11,12 +11,13 @@ import os
 import random
 import re
 import shutil
+import struct
 import subprocess
 import sys
 import tempfile
 from pathlib import Path
 
-from guests import PROGRAM
+from guests import LONG_JOURNALS, PROGRAM, TWO_MEMORIES
 
 GUEST = "_start:\n    auipc x2, 1\nnext:\n    sw x1, 0(x2)\n    addi x1, x1, 1\n    j next\n"
 # Lines of a move of four pages, by the place of its first frame.
@@ -41,9 +42,9 @@ def deliveries(count):
 
 
 def measured(command, **given):
-    """Processor seconds and peak megabytes of a command, the best of three runs. GNU time starts it: the peak
-    of a process counts what it was forked from."""
-    best = (math.inf, math.inf)
+    """Processor seconds of a command, how many of them are its own and not the system's, and its peak megabytes, the
+    best of three runs. GNU time starts it: the peak of a process counts what it was forked from."""
+    best = (math.inf, math.inf, math.inf)
     for _ in range(3):
         with tempfile.NamedTemporaryFile("r") as told:
             if "stdin" in given:
@@ -54,7 +55,7 @@ def measured(command, **given):
             process.returncode = os.waitstatus_to_exitcode(status)
             if process.returncode:
                 sys.exit(f"{' '.join(map(str, command))}: status {process.returncode}")
-            best = min(best, (used.ru_utime + used.ru_stime, int(told.read()) / 1024))
+            best = min(best, (used.ru_utime + used.ru_stime, used.ru_utime, int(told.read()) / 1024))
     return best
 
 
@@ -136,6 +137,19 @@ def round_runs(inputs):
     print(f"{taken * 1000:8.1f} ms  memcpy of {size} bytes")
 
 
+def stream_runs(inputs):
+    """A stream of 4096 Page frames, fed to a reader in pieces of 4096 bytes, beside a copy of it."""
+    def frame(kind, move, body):
+        return struct.pack("<BQI", kind, move, len(body)) + body
+
+    pages = (struct.pack("<HI", page, page + 1) + bytes([page % 256]) * 4096 for page in range(4096))
+    stream = inputs.folder / "stream.bin"
+    stream.write_bytes(frame(0, 0, struct.pack("<I", 1)) + b"".join(frame(4, 1, page) for page in pages))
+    runs = [subprocess.run([TWO_MEMORIES, stream], capture_output=True, text=True, check=True).stdout for _ in range(9)]
+    read, copied = (min(int(re.search(f"{word} in (\\d+) us", run)[1]) for run in runs) for word in ("read", "copied"))
+    print(f"a stream of 4096 pages: read in {read / 1000:.1f} ms, copied in {copied / 1000:.1f} ms, {read / copied:.1f} times")
+
+
 def move_runs(inputs):
     full = inputs.random("full.bin", 4096 * 4096)
     script = inputs.text("move.txt", ["move"])
@@ -143,6 +157,11 @@ def move_runs(inputs):
         words = [PROGRAM, "script", "--pages", "4096", "--stream", version]
         yield f"move of 4096 pages of zeros, version {version}", [*words, inputs.image, script]
         yield f"move of 4096 random pages, version {version}", [*words, "--raw", full, script]
+
+
+def journal_runs(_inputs):
+    for count in (125_000, 250_000, 500_000):
+        yield f"two journals of {count} entries are written and put in order", [LONG_JOURNALS, str(count)]
 
 
 def assembler_runs(inputs):
@@ -172,7 +191,9 @@ def main():
     wanted = sys.argv[1:]
     with tempfile.TemporaryDirectory(prefix="large-") as folder:
         inputs = Inputs(folder)
-        for runs in (script_runs, round_runs, move_runs, assembler_runs, listing_runs):
+        if not wanted or "stream" in wanted:
+            stream_runs(inputs)
+        for runs in (script_runs, round_runs, move_runs, journal_runs, assembler_runs, listing_runs):
             for name, command in runs(inputs):
                 if wanted and not any(word in name for word in wanted):
                     continue
@@ -184,8 +205,8 @@ def report(name, command):
     given = {}
     if command[1] == "debug":
         given["stdin"] = open(command.pop(), "rb")
-    seconds, megabytes = measured(command, **given)
-    print(f"{name:70} {seconds:8.3f} s {megabytes:8.0f} MB", end="", flush=True)
+    seconds, own, megabytes = measured(command, **given)
+    print(f"{name:76} {seconds:8.3f} s, its own {own:8.3f} s {megabytes:8.0f} MB", end="", flush=True)
     if command[1] in ("dis", "debug") and shutil.which("strace"):
         if given:
             given["stdin"].seek(0)

@@ -1,8 +1,13 @@
 //! `rvm_bench IMAGE HARTS flat|paged STEPS`: runs an image as `rvmove run` does, over one of two
 //! memories, so that the benchmark sees what a second instantiation of a step costs. What the guest
 //! sends goes to standard output.
+//!
+//! `rvm_bench STREAM`: reads a stream of frames, and prints how long that took.
 #![tactic(auto)]
 
+mod feed;
+
+use crate::feed::feed;
 use rvm_board::Board;
 use rvm_command::run::run;
 use rvm_debug::Debugged;
@@ -16,8 +21,12 @@ const PAGES: u32 = 256;
 
 fn main(rt: HostRuntime) -> anyhow::Result<ExitCode> {
     let words: Vec<String> = env::args(&rt)?.collect(rt.alloc())?;
+    if let [_, stream] = words.as_slice() {
+        feed(&rt, fs::read(&rt, stream.as_str())?.as_slice())?;
+        return Ok(ExitCode::SUCCESS);
+    }
     let [_, file, harts, memory, steps] = words.as_slice() else {
-        eprintln!(&rt; "usage: rvm_bench IMAGE HARTS flat|paged STEPS")?;
+        eprintln!(&rt; "usage: rvm_bench IMAGE HARTS flat|paged STEPS, or rvm_bench STREAM")?;
         return Ok(ExitCode::from(2));
     };
     let harts: u32 = harts.as_str().parse()?;
