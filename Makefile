@@ -7,7 +7,7 @@
 # make live IMAGES=..: guests are moved while they run, 200 times, and their output compared with that of run.
 PREFIX ?= /usr/local
 
-.PHONY: build hi test wrong times faults docs-check stress live bench bench-programs count install clean
+.PHONY: build hi test wrong times faults docs-check stress live bench bench-programs bench-journals count install clean
 
 # The program lies in build/rvmove afterwards.
 build:
@@ -40,7 +40,7 @@ stress: build
 live: build
 	python3 bench/live.py $(IMAGES)
 
-bench: bench-programs
+bench: bench-programs bench-journals
 	python3 bench/bench.py
 	python3 bench/large.py
 
@@ -51,6 +51,9 @@ count: bench-programs
 bench-programs: build
 	cd crates/rvm_bench && rt run -- ../../examples/hi.bin 1 flat 1000 > /dev/null
 	cp crates/rvm_bench/out/rvm_bench build/rvm_bench
+
+# Long journals, put in order: its proof takes minutes.
+bench-journals: build
 	cd crates/rvm_journal_cases && rt run > /dev/null
 	cp crates/rvm_journal_cases/out/rvm_journal_cases build/rvm_journal_cases
 
