@@ -2,18 +2,22 @@
 
 ghost use Rattle.std.specs.Prelude.{◌≡◌, ◌≤◌, [], IfSome};
 
-use rvm_arguments::GuestArguments;
-use rvm_command::guest::load_guest;
+use rvm_board::Board;
 use rvm_core::Host;
-use rvm_debug::BoardEvent;
+use rvm_debug::{BoardEvent, Debugged};
 use rvm_frame::Addressed;
+use rvm_hart::RAM_BASE;
 use rvm_journal::{RecordError, Recorded};
+use rvm_mem::write_bytes;
 use rvm_message::{Command, HostEvent, HostReply};
 use rvm_paged::PagedRam;
 use std::alloc::Global;
 
-/// Jumps to itself, in little-endian bytes.
-const LOOP: [u8; 4] = [0x6f, 0x00, 0x00, 0x00];
+/// How many pages a guest has.
+const PAGES: u32 = 4;
+
+/// Jumps to itself.
+const LOOP: u32 = 0x0000006f;
 
 /// Makes a call, and once more where it was refused.
 macro_rules! again {
@@ -33,19 +37,23 @@ pub fn recorded(alloc: Global, id: u8, harts: u32, capacity: u32) -> Option<Reco
     requires { (1 ≤ harts) × (harts ≤ 8) }
     ensures { IfSome result (λ r. r.journal.entries ≡ []) }
 {
-    let arguments = GuestArguments {
-        image: "",
-        raw: true,
-        harts,
-        pages: 4,
-    };
     let guest = if id == 0 {
-        Some(again!(load_guest(alloc, &arguments, LOOP.as_slice())))
+        Some(looping(alloc, harts)?)
     } else {
         None
     };
     let host = Host::with_version(guest, id, 2, 4096, 1).ok()?;
     Some(Recorded::new(alloc, host, capacity))
+}
+
+/// A guest of so many harts and four pages that jumps to itself.
+fn looping(alloc: Global, harts: u32) -> Option<Debugged<PagedRam>> {
+    let mut ram = again!(PagedRam::new(alloc, PAGES));
+    write_bytes(&mut ram, 0, &LOOP.to_le_bytes()).ok()?;
+    match Board::new(alloc, harts, ram, RAM_BASE) {
+        Ok(board) => Some(Debugged::new(board)),
+        Err((_, ram)) => Some(Debugged::new(Board::new(alloc, harts, ram, RAM_BASE).ok()?)),
+    }
 }
 
 /// An event of the guest.

@@ -10,12 +10,13 @@ ghost use Rattle.std.specs.Prelude.{◌≡◌, ◌⊎◌};
 use clap::Error;
 use rvm_arguments::{
     Arguments, AsmArguments, DisArguments, GuestArguments, MoveArguments, RunArguments,
-    ScriptArguments, parse_args,
+    ScriptArguments,
 };
 use rvm_command::asm_command::asm_command;
 use rvm_command::debug_command::debug_command;
 use rvm_command::dis_command::dis_command;
 use rvm_command::run_command::run_command;
+use rvm_command_line::parse_args;
 use rvm_move_command::audit_command::audit_command;
 use rvm_move_command::move_command::move_command;
 use rvm_refusal::Refusal;

@@ -1,6 +1,7 @@
 //! The command line: the values that its words have.
 
-use rvm_arguments::{Arguments, RunArguments, parse_args};
+use rvm_arguments::{Arguments, RunArguments};
+use rvm_command_line::parse_args;
 use std::process::Abort;
 use std::test::Fail;
 

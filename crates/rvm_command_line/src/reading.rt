@@ -4,16 +4,16 @@ ghost use Rattle.std.specs.Prelude.{◌≡◌, ◌≤◌, ◌&&◌, nat_le, if�
 ghost use Rattle.clap.specs.Matches.{found_of};
 ghost use Rattle.clap.specs.Simple.{subcommand_of, subcommand_rows_of};
 ghost use Rattle.clap.specs.Walk.{first_of, one_of, rows_of};
-ghost use Rattle.rvm_arguments.specs.Given.{Gives, IsAsked, IsFlag, IsGuest, IsMove, IsNumber, IsOptionalNumber};
-ghost use Rattle.rvm_arguments.specs.Program.{program};
+ghost use Rattle.rvm_command_line.specs.Given.{Gives, IsAsked, IsFlag, IsGuest, IsMove, IsNumber, IsOptionalNumber};
+ghost use Rattle.rvm_command_line.specs.Program.{program};
 
-use crate::arguments::{
-    Arguments, AsmArguments, DisArguments, GuestArguments, MoveArguments, RunArguments,
-    ScriptArguments,
-};
 use crate::program::program;
 use clap::error::ErrorKind;
 use clap::{ArgMatches, Error};
+use rvm_arguments::{
+    Arguments, AsmArguments, DisArguments, GuestArguments, MoveArguments, RunArguments,
+    ScriptArguments,
+};
 use rvm_mem::MAX_PAGES;
 use std::alloc::Global;
 use std::convert::AsStr;

@@ -1,5 +1,5 @@
-use Rattle.rvm_arguments.proofs.Commands.{adds}
-use Rattle.rvm_arguments.proofs.program.program.Goals as goal
+use Rattle.rvm_command_line.proofs.Commands.{adds}
+use Rattle.rvm_command_line.proofs.program.program.Goals as goal
 
 -- src/program.rt:87:1
 pub returns : goal.returns

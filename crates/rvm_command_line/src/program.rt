@@ -4,7 +4,7 @@ ghost use Rattle.std.specs.Prelude.{◌≡◌, false, codes, IfOk};
 ghost use Rattle.clap.specs.Simple.{app_of};
 ghost use Rattle.clap.specs.Walk.{rule_of};
 ghost use Rattle.clap.specs.declared.builder.command.Command.TheViews.{out-Command as fields_of};
-ghost use Rattle.rvm_arguments.specs.Program.{asm, audit, bounded, debug, dis, flag, move, needed, number, option, program, run, script, top, with_default, with_guest, with_move, with_policy, with_world};
+ghost use Rattle.rvm_command_line.specs.Program.{asm, audit, bounded, debug, dis, flag, move, needed, number, option, program, run, script, top, with_default, with_guest, with_move, with_policy, with_world};
 
 use clap::{Arg, ArgAction, Command, Error, value_parser};
 use std::alloc::Global;

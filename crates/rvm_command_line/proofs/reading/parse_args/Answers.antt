@@ -1,5 +1,5 @@
-use Rattle.rvm_arguments.proofs.Rows.{asked_of}
-use Rattle.rvm_arguments.proofs.reading.parse_args.Goals as goal
+use Rattle.rvm_command_line.proofs.Rows.{asked_of}
+use Rattle.rvm_command_line.proofs.reading.parse_args.Goals as goal
 
 -- src/reading.rt:36:1
 pub returns-in-Ok : goal.returns-in-Ok

@@ -7,8 +7,8 @@ use Rattle.clap.specs.declared.parser.matches.ArgMatches.{ArgMatches}
 use Rattle.clap.specs.declared.parser.matches.Found.{Found}
 use Rattle.clap.proofs.WalkLemmas as walk
 use Rattle.rvm_arguments.specs.declared.arguments.Arguments.{Arguments}
-use Rattle.rvm_arguments.specs.Given.{IsAsked}
-use Rattle.rvm_arguments.specs.Program.{program}
+use Rattle.rvm_command_line.specs.Given.{IsAsked}
+use Rattle.rvm_command_line.specs.Program.{program}
 
 pub first_row : (f : Found) (id : Text) (text : Option Text) → text ≡ first_value f id → text ≡ first_of id (rows_of f)
 first_row f id text given = given ∙ walk.first_value-rows f id

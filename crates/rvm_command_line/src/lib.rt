@@ -1,0 +1,12 @@
+//! The command line: what its words ask for, within the limits of a board.
+//!
+//! Stands on `clap`, on the types of arguments and on the limits of reservations and memories, beside the
+//! chain of crates that lead to a board, and knows nothing of what a command does.
+//!
+//! To be read in this order: `program`, `reading`.
+#![tactic(auto)]
+
+mod program;
+mod reading;
+
+pub use reading::{MAX_STEPS, parse_args};
