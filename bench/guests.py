@@ -9,6 +9,7 @@ PROGRAM = os.path.join(BUILD, "rvmove")
 TWO_MEMORIES = os.path.join(BUILD, "rvm_bench")
 LONG_JOURNALS = os.path.join(BUILD, "rvm_journal_cases")
 INTERPRETER = os.path.join(BUILD, "interpreter")
+PAGES_PROGRAM = os.path.join(BUILD, "pages")
 
 # Counts x6 down from 4,000,000 and the word at 0x80001000 up, then halts: 20,000,005 steps.
 LOOP = [
@@ -30,6 +31,10 @@ REPEATED = 240
 
 def build_interpreter():
     subprocess.run(["gcc", "-O2", "-o", INTERPRETER, os.path.join(HERE, "interpreter.c")], check=True)
+
+
+def build_pages():
+    subprocess.run(["gcc", "-O2", "-pthread", "-o", PAGES_PROGRAM, os.path.join(HERE, "pages.c")], check=True)
 
 
 def loop():

@@ -4,25 +4,22 @@
 - host instructions a step of the guest, beside those of `rvmove run`, by valgrind's cachegrind: the difference of
   two moves of the same guest over their difference in steps, so that start and end do not count;
 - the time of a move of 4096 pages that nobody writes, in each version, beside that of a run of the same image
-  and of a plain copy of as many bytes over a loopback socket, best of some runs that alternate.
+  and of a plain copy of as many bytes over a loopback socket in C (`pages.c`), whose sides keep no copy of a page,
+  one, or two, best of some runs that alternate.
 
     bench/threads.py [TIMES]      TIMES runs each, 5 where it is not given
 
-Wants valgrind, and what `make build` builds."""
+Wants valgrind, gcc, and what `make build` builds."""
 import os
-import socket
 import subprocess
 import sys
-import threading
 import time
 
 from count import instructions
-from guests import BUILD, PROGRAM, loop
+from guests import BUILD, PAGES_PROGRAM, PROGRAM, build_pages, loop
 
 FEWER, MORE = 20_000, 100_000
 PAGES = 4096
-PAGE_FRAME = 13 + 2 + 4 + 4096
-PIECE = 1 << 16
 
 
 def a_step(command):
@@ -32,26 +29,10 @@ def a_step(command):
     return (more - fewer) / (MORE - FEWER)
 
 
-def copied(count):
-    """The seconds that so many bytes take over a loopback socket."""
-    listener = socket.create_server(("127.0.0.1", 0))
-    sending = socket.create_connection(listener.getsockname())
-    receiving, _ = listener.accept()
-    sending.setsockopt(socket.IPPROTO_TCP, socket.TCP_NODELAY, 1)
-
-    def send():
-        for _ in range(count // PAGE_FRAME):
-            sending.sendall(frame)
-        sending.close()
-
-    frame, buffer = bytes(PAGE_FRAME), bytearray(PIECE)
-    begun = time.monotonic()
-    thread = threading.Thread(target=send)
-    thread.start()
-    while receiving.recv_into(buffer):
-        pass
-    thread.join()
-    return time.monotonic() - begun
+def copied(kept):
+    """The seconds that as many bytes take over a loopback socket, where each side keeps so many copies of a page."""
+    done = subprocess.run([PAGES_PROGRAM, str(kept)], check=True, capture_output=True, text=True)
+    return float(done.stdout) / 1000
 
 
 def taken(command, pages, *options):
@@ -77,8 +58,11 @@ def main():
     times = int(sys.argv[1]) if len(sys.argv) > 1 else 5
     run, move = a_step("run"), a_step("move")
     print(f"host instructions a step: run {run:.1f}, move {move:.1f}, {move / run:.1f} times")
-    runs = [(copied(PAGES * PAGE_FRAME), moved(1), moved(2), moved(3), taken("run", PAGES)) for _ in range(times)]
-    print(f"plain copy of {PAGES * PAGE_FRAME} bytes over loopback: {min(it[0] for it in runs) * 1000:.1f} ms")
+    build_pages()
+    runs = [(list(map(copied, range(3))), moved(1), moved(2), moved(3), taken("run", PAGES)) for _ in range(times)]
+    for kept in range(3):
+        copy = min(it[0][kept] for it in runs) * 1000
+        print(f"plain copy of as many bytes over loopback, {kept} copies of a page kept: {copy:.1f} ms")
     print(f"run of {PAGES} pages, that is to load them: {min(it[4] for it in runs) * 1000:.1f} ms")
     for version in (1, 2, 3):
         large, small = (min(it[version][place] for it in runs) * 1000 for place in (0, 1))

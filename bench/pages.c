@@ -1,0 +1,80 @@
+/* pages.c KEPT: sends 4096 page frames over a loopback socket from one thread to another, as a plain loop, and
+   prints the milliseconds that it took. Each side keeps KEPT copies of each page, in boxes of their own, as a
+   journal and receipts keep them; with KEPT above 0 the receiver also puts each page into memory that is new, as
+   a host that gets a guest does. */
+#include <netinet/in.h>
+#include <netinet/tcp.h>
+#include <pthread.h>
+#include <stdio.h>
+#include <stdlib.h>
+#include <string.h>
+#include <sys/socket.h>
+#include <time.h>
+#include <unistd.h>
+
+enum { PAGES = 4096, PAGE = 4096, HEAD = 19 };
+
+static int kept, sending, receiving;
+static char *source, *target;
+
+static void keep(const char *page) {
+    for (int copy = 0; copy < kept; copy++) {
+        char *box = malloc(PAGE);
+        if (box == NULL) exit(1);
+        memcpy(box, page, PAGE);
+    }
+}
+
+static void *send_pages(void *unused) {
+    char frame[HEAD + PAGE] = {0};
+    for (int page = 0; page < PAGES; page++) {
+        keep(source + page * PAGE);
+        memcpy(frame + HEAD, source + page * PAGE, PAGE);
+        if (write(sending, frame, sizeof frame) != sizeof frame) exit(1);
+    }
+    close(sending);
+    return unused;
+}
+
+static void *receive_pages(void *unused) {
+    char frame[HEAD + PAGE];
+    for (int page = 0; page < PAGES; page++) {
+        for (size_t have = 0; have < sizeof frame;) {
+            ssize_t count = read(receiving, frame + have, sizeof frame - have);
+            if (count <= 0) exit(1);
+            have += count;
+        }
+        keep(frame + HEAD);
+        if (kept > 0) memcpy(target + page * PAGE, frame + HEAD, PAGE);
+    }
+    return unused;
+}
+
+static void connect_both(void) {
+    struct sockaddr_in address = {.sin_family = AF_INET, .sin_addr.s_addr = htonl(INADDR_LOOPBACK)};
+    socklen_t length = sizeof address;
+    int listener = socket(AF_INET, SOCK_STREAM, 0), one = 1;
+    if (bind(listener, (struct sockaddr *)&address, length) != 0 || listen(listener, 1) != 0) exit(1);
+    getsockname(listener, (struct sockaddr *)&address, &length);
+    sending = socket(AF_INET, SOCK_STREAM, 0);
+    if (connect(sending, (struct sockaddr *)&address, length) != 0) exit(1);
+    setsockopt(sending, IPPROTO_TCP, TCP_NODELAY, &one, sizeof one);
+    receiving = accept(listener, NULL, NULL);
+}
+
+int main(int count, char **words) {
+    kept = count > 1 ? atoi(words[1]) : 0;
+    source = malloc(PAGES * PAGE);
+    target = malloc(PAGES * PAGE);
+    memset(source, 255, PAGES * PAGE);
+    connect_both();
+    struct timespec begun, ended;
+    pthread_t sender, receiver;
+    clock_gettime(CLOCK_MONOTONIC, &begun);
+    pthread_create(&sender, NULL, send_pages, NULL);
+    pthread_create(&receiver, NULL, receive_pages, NULL);
+    pthread_join(sender, NULL);
+    pthread_join(receiver, NULL);
+    clock_gettime(CLOCK_MONOTONIC, &ended);
+    printf("%.1f\n", (ended.tv_sec - begun.tv_sec) * 1e3 + (ended.tv_nsec - begun.tv_nsec) / 1e6);
+}
