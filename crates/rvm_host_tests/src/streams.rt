@@ -122,22 +122,3 @@ fn each_cut_of_a_stream_gives_the_frames_before_it(rt: HostRuntime) -> Result<()
     }
     Ok(())
 }
-
-#[test]
-fn a_stream_comes_in_pieces(rt: HostRuntime) -> Result<(), Fail> {
-    for (version, ends) in STREAMS {
-        let stream = stream(rt.alloc(), version)?;
-        for size in [1, 7, 4096] {
-            let mut reader = FrameReader::new(rt.alloc());
-            let mut came = 0;
-            let mut fed = 0usize;
-            for piece in stream.as_slice().chunks(size) {
-                let now = feed(rt.alloc(), &mut reader, piece, &ends, came)?;
-                fed = fed.wrapping_add(piece.len());
-                came = ended(&ends, fed);
-                assert_eq!(rt; now, Some(came), "byte {fed} in pieces of {size}");
-            }
-        }
-    }
-    Ok(())
-}

@@ -182,20 +182,6 @@ fn a_move_is_driven_in_each_version(rt: HostRuntime) -> Result<(), Fail> {
 }
 
 #[test]
-fn a_guest_goes_round_three_hosts(rt: HostRuntime) -> Result<(), Fail> {
-    let mut world = world(rt.alloc(), 4, &[4, 4, 4], 3)?;
-    for (from, to, move_number) in [(0, 1, 1), (1, 2, 2), (2, 0, 3)] {
-        let Ok(driven) = drive_move(rt.alloc(), &mut world, from, to, POLICY) else {
-            assert!(rt; has_guest(rt.alloc(), &mut world)?);
-            return Ok(());
-        };
-        assert_eq!(rt; driven, Driven::Moved(move_number, 19));
-    }
-    assert_eq!(rt; answer(rt.alloc(), &mut world, &step(0))?.0, "retired");
-    Ok(())
-}
-
-#[test]
 fn a_driven_move_is_declined_or_refused(rt: HostRuntime) -> Result<(), Fail> {
     let mut world = world(rt.alloc(), 4, &[4, 3], 1)?;
     let driven = match drive_move(rt.alloc(), &mut world, 0, 1, POLICY) {
