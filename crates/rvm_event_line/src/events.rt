@@ -1,13 +1,11 @@
 //! Events of a world, as lines of a script that make them.
 
-ghost use Rattle.std.specs.Prelude.{◌≡◌, ◌≤◌, length, OnOk};
+ghost use Rattle.std.specs.Prelude.{◌≡◌, OnOk};
 ghost use Rattle.std.specs.Io.KnownBytes.{Appends};
-ghost use Rattle.hex.specs.Hex.{encode_lower};
 ghost use Rattle.rvm_event_line.specs.EventLines.{asked_line, command_line, event_line, event_lines};
 
-use hex::encode_to_slice;
-use rvm_board::VIEW_SIZE;
 use rvm_debug::BoardEvent;
+use rvm_hex::write_hex;
 use rvm_message::Command;
 use rvm_refusal::LinkFault;
 use rvm_world::Event;
@@ -57,19 +55,6 @@ impl fmt::Display for Register {
             write!(f, "x{number}")
         }
     }
-}
-
-/// Writes bytes as hexadecimal digits.
-fn write_hex<W: Write>(writer: &mut W, bytes: &[u8]) -> Result<(), LinkFault>
-    requires { length bytes.now ≤ 256 }
-    ensures { OnOk result (Appends (W.contents writer.old) (W.contents writer.new) (encode_lower bytes.now)) }
-{
-    let mut digits = [0; 2 * VIEW_SIZE];
-    let digits = &mut digits[..2 * bytes.len()];
-    let fits = encode_to_slice(bytes, digits).is_ok();
-    prove!(fits);
-    writer.write_all(digits)?;
-    Ok(())
 }
 
 /// Writes what the guest of a host is asked.

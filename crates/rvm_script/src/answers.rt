@@ -2,15 +2,13 @@
 
 ghost use Rattle.std.specs.Prelude.{◌≡◌, ◌+◌, ◌*◌, ◌<◌, ◌≤◌, length, slice_index, codes, ◌++◌, OnOk};
 ghost use Rattle.std.specs.Io.KnownBytes.{Appends};
-ghost use Rattle.hex.specs.Hex.{encode_lower};
 ghost use Rattle.rvm_text.specs.Registers.{name_of};
 ghost use Rattle.rvm_dis.specs.Disassembly.{line_at};
 ghost use Rattle.rvm_script.specs.Answers.{address_of, bytes_text, four_text, memory_text, output_text, is_refused, registers_text, reply_text, row_text, step_text, two_text};
 
-use hex::encode_to_slice;
-use rvm_board::VIEW_SIZE;
 use rvm_debug::{BoardEvent, BoardReply};
 use rvm_dis::write_line;
+use rvm_hex::write_hex;
 use rvm_refusal::{LinkFault, Refusal};
 use rvm_text::register_name;
 use std::fmt;
@@ -148,20 +146,6 @@ fn write_bytes<W: Write>(
         Some(address) => write_memory(writer, address, bytes),
         None => write_output(writer, bytes),
     }
-}
-
-/// Writes bytes as hexadecimal digits.
-fn write_hex<W: Write>(writer: &mut W, bytes: &[u8]) -> Result<(), LinkFault>
-    requires { length bytes.now ≤ 256 }
-    ensures { OnOk result (Appends (W.contents writer.old) (W.contents writer.new)
-        (encode_lower bytes.now)) }
-{
-    let mut digits = [0; 2 * VIEW_SIZE];
-    let digits = &mut digits[..2 * bytes.len()];
-    let fits = encode_to_slice(bytes, digits).is_ok();
-    prove!(fits);
-    writer.write_all(digits)?;
-    Ok(())
 }
 
 /// Writes bytes that the guest sent.
