@@ -5,7 +5,7 @@ ghost use Rattle.std.specs.Io.KnownBytes.{Appends};
 ghost use Rattle.rvm_event_line.specs.EventLines.{asked_line, command_line, event_line, event_lines};
 
 use rvm_debug::BoardEvent;
-use rvm_hex::write_hex;
+use rvm_digits::write_hex;
 use rvm_message::Command;
 use rvm_refusal::LinkFault;
 use rvm_world::Event;

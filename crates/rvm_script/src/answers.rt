@@ -7,8 +7,8 @@ ghost use Rattle.rvm_dis.specs.Disassembly.{line_at};
 ghost use Rattle.rvm_script.specs.Answers.{address_of, bytes_text, four_text, memory_text, output_text, is_refused, registers_text, reply_text, row_text, step_text, two_text};
 
 use rvm_debug::{BoardEvent, BoardReply};
+use rvm_digits::write_hex;
 use rvm_dis::write_line;
-use rvm_hex::write_hex;
 use rvm_refusal::{LinkFault, Refusal};
 use rvm_text::register_name;
 use std::fmt;
