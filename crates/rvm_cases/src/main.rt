@@ -1,7 +1,7 @@
 //! `rvm_cases FILE..`: makes transcripts of `rvmove` anew. A line `$ rvmove WORDS..` of a FILE is a
 //! command; on standard input it gets the file behind `<`, or else the lines `> TEXT` below it. Behind
-//! it stand what it wrote to standard output, what it wrote to standard error, and a status other than
-//! 0. All other lines are as they were.
+//! it stand what it wrote to standard output, what it wrote to standard error, unless that goes to a file
+//! behind `2>`, which is not written, and a status other than 0. All other lines are as they were.
 #![tactic(auto)]
 
 use rvm_program::perform;
@@ -59,17 +59,24 @@ where
     let Some(command) = command else {
         return Ok(());
     };
+    let (command, tells_errors) = match command.split_once(" 2> ") {
+        None => (command, true),
+        Some((command, _)) => (command, false),
+    };
     match command.split_once(" < ") {
-        None => perform_and_print(rt, command, typed),
-        Some((command, file)) => perform_and_print(rt, command, &fs::read(rt, file)?),
+        None => perform_and_print(rt, command, typed, tells_errors),
+        Some((command, file)) => {
+            perform_and_print(rt, command, &fs::read(rt, file)?, tells_errors)
+        }
     }
 }
 
-/// Does what the words of a command ask for, and prints what it wrote.
+/// Does what the words of a command ask for, and prints what it wrote, to standard error where that is wanted.
 fn perform_and_print<R: Files + AllocGlobal + Print + Net + Threads + Wait + Clock + Sync>(
     rt: &R,
     command: &str,
     input: &[u8],
+    tells_errors: bool,
 ) -> anyhow::Result<()>
 where
     R::Stream: Send,
@@ -80,7 +87,9 @@ where
     let mut input = input;
     let status = perform(rt, &words, &mut input, &mut output, &mut errors);
     io::writer(rt).write_all(&output)?;
-    io::writer(rt).write_all(&errors)?;
+    if tells_errors {
+        io::writer(rt).write_all(&errors)?;
+    }
     if status != 0 {
         println!(rt; "status {status}")?;
     }
