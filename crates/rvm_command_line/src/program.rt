@@ -1,7 +1,8 @@
 //! The words that the program takes, as `clap` is told of them.
 
 ghost use Rattle.std.specs.Prelude.{◌≡◌, false, codes, IfOk};
-ghost use Rattle.clap.specs.Simple.{app_of};
+ghost use Rattle.std.specs.Result.{IsOkAnd};
+ghost use Rattle.clap.specs.Simple.{app_of, with_subcommand};
 ghost use Rattle.clap.specs.Walk.{rule_of};
 ghost use Rattle.clap.specs.declared.builder.command.Command.TheViews.{out-Command as fields_of};
 ghost use Rattle.rvm_command_line.specs.Program.{asm, audit, bounded, debug, dis, flag, move, needed, number, option, program, run, script, top, with_default, with_guest, with_move, with_policy, with_world};
@@ -87,16 +88,24 @@ F times its pages.";
 pub(crate) fn program<'a>(alloc: Global) -> Result<Command<'a>, Error>
     ensures { IfOk result (λ c. app_of c ≡ program) }
 {
-    Ok(
-        bare_program(alloc)
-            .subcommand(run_command(alloc)?)?
-            .subcommand(asm_command(alloc)?)?
-            .subcommand(dis_command(alloc)?)?
-            .subcommand(debug_command(alloc)?)?
-            .subcommand(script_command(alloc)?)?
-            .subcommand(move_command(alloc)?)?
-            .subcommand(audit_command(alloc)?)?,
-    )
+    let program = with_command(bare_program(alloc), run_command(alloc))?;
+    let program = with_command(program, asm_command(alloc))?;
+    let program = with_command(program, dis_command(alloc))?;
+    let program = with_command(program, debug_command(alloc))?;
+    let program = with_command(program, script_command(alloc))?;
+    let program = with_command(program, move_command(alloc))?;
+    with_command(program, audit_command(alloc))
+}
+
+/// The program with a command more, if that was made.
+fn with_command<'a>(
+    program: Command<'a>,
+    command: Result<Command<'a>, Error>,
+) -> Result<Command<'a>, Error>
+    ensures { IfOk result (λ c. IsOkAnd command.entry (λ m. (fields_of m).has_globals ≡ false
+        → app_of c ≡ with_subcommand (app_of program.entry) (app_of m).top)) }
+{
+    Ok(program.subcommand(command?)?)
 }
 
 /// The program without its commands, which wants one.

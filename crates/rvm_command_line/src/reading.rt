@@ -2,14 +2,14 @@
 
 ghost use Rattle.std.specs.Prelude.{◌≡◌, ◌≤◌, ◌&&◌, nat_le, if◌then◌else◌, Some, IfOk, IfSome, codes, map, option_map};
 ghost use Rattle.clap.specs.Matches.{found_of};
-ghost use Rattle.clap.specs.Simple.{subcommand_of, subcommand_rows_of};
+ghost use Rattle.clap.specs.Simple.{app_of, subcommand_of, subcommand_rows_of};
 ghost use Rattle.clap.specs.Walk.{first_of, one_of, rows_of};
 ghost use Rattle.rvm_command_line.specs.Given.{Gives, IsAsked, IsFlag, IsGuest, IsMove, IsNumber, IsOptionalNumber};
 ghost use Rattle.rvm_command_line.specs.Program.{program};
 
 use crate::program::program;
 use clap::error::ErrorKind;
-use clap::{ArgMatches, Error};
+use clap::{ArgMatches, Command, Error};
 use rvm_arguments::{
     Arguments, AsmArguments, DisArguments, GuestArguments, MoveArguments, RunArguments,
     ScriptArguments,
@@ -45,6 +45,17 @@ pub fn parse_args<'a, S: AsStr>(alloc: Global, words: &'a [S]) -> Result<Argumen
     ensures { IfOk result (IsAsked (subcommand_of program (map S.text words.now))) }
 {
     let mut command = program(alloc)?;
+    read_words(&mut command, words)
+}
+
+/// Reads a command line by the words that the program takes.
+fn read_words<'a, S: AsStr>(
+    command: &mut Command<'a>,
+    words: &'a [S],
+) -> Result<Arguments<'a>, Error>
+    requires { app_of command.old ≡ program }
+    ensures { IfOk result (IsAsked (subcommand_of program (map S.text words.now))) }
+{
     let matches = command.try_get_matches_from_mut(words)?;
     match read_matches(&matches) {
         Ok(arguments) => Ok(arguments),

@@ -1,13 +1,14 @@
-use Rattle.rvm_command_line.proofs.Commands.{adds}
+use Rattle.rvm_command_line.specs.Program.{asm, audit, debug, dis, move, run, script}
+use Rattle.rvm_command_line.proofs.Commands.{adds, adds_last}
 use Rattle.rvm_command_line.proofs.program.program.Goals as goal
 
--- src/program.rt:87:1
+-- src/program.rt:88:1
 pub returns : goal.returns
 returns c =
-    let first = adds (c.in_ok-subcommand.ensures.shape c.in_ok-run_command.ensures.local) c.bare_program.ensures c.in_ok-run_command.ensures.app in
-    let second = adds (c.in_ok-subcommand-2.ensures.shape c.in_ok-asm_command.ensures.local) first c.in_ok-asm_command.ensures.app in
-    let third = adds (c.in_ok-subcommand-3.ensures.shape c.in_ok-dis_command.ensures.local) second c.in_ok-dis_command.ensures.app in
-    let fourth = adds (c.in_ok-subcommand-4.ensures.shape c.in_ok-debug_command.ensures.local) third c.in_ok-debug_command.ensures.app in
-    let fifth = adds (c.in_ok-subcommand-5.ensures.shape c.in_ok-script_command.ensures.local) fourth c.in_ok-script_command.ensures.app in
-    let sixth = adds (c.in_ok-subcommand-6.ensures.shape c.in_ok-move_command.ensures.local) fifth c.in_ok-move_command.ensures.app in
-    adds (c.in_ok-subcommand-7.ensures.shape c.in_ok-audit_command.ensures.local) sixth c.in_ok-audit_command.ensures.app
+    let first = adds run _ c.in_ok-program.ensures c.bare_program.ensures c.run_command.ensures.app c.run_command.ensures.local in
+    let second = adds asm _ c.in_ok-program-2.ensures first c.asm_command.ensures.app c.asm_command.ensures.local in
+    let third = adds dis _ c.in_ok-program-3.ensures second c.dis_command.ensures.app c.dis_command.ensures.local in
+    let fourth = adds debug _ c.in_ok-program-4.ensures third c.debug_command.ensures.app c.debug_command.ensures.local in
+    let fifth = adds script _ c.in_ok-program-5.ensures fourth c.script_command.ensures.app c.script_command.ensures.local in
+    let sixth = adds move _ c.in_ok-program-6.ensures fifth c.move_command.ensures.app c.move_command.ensures.local in
+    adds_last audit _ _ c.with_command-7.ensures sixth c.audit_command.ensures.app c.audit_command.ensures.local
