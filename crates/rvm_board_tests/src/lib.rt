@@ -6,14 +6,12 @@
 //! Stands on the libraries, which have no tests of their own. What it expects comes from the
 //! definitions' worked cases and from the manual's formats, never from this program.
 //!
-//! `memory`, `paged`, `frames`, `dirty_log`, `state` and `scripts` each test one crate; `boards` makes
-//! the boards of the last three, `retry` makes a call again.
+//! `memory`, `paged`, `frames`, `state` and `scripts` each test one crate; `boards` makes the boards of the
+//! last two, `retry` makes a call again.
 #![tactic(auto)]
 
 #[cfg(test)]
 mod boards;
-#[cfg(test)]
-mod dirty_log;
 #[cfg(test)]
 mod frames;
 #[cfg(test)]
