@@ -37,13 +37,20 @@ pub fn recorded(alloc: Global, id: u8, harts: u32, capacity: u32) -> Option<Reco
     requires { (1 ≤ harts) × (harts ≤ 8) }
     ensures { IfSome result (λ r. r.journal.entries ≡ []) }
 {
+    let host = host(alloc, id, harts)?;
+    Some(Recorded::new(alloc, host, capacity))
+}
+
+/// The host of such a journal.
+pub fn host(alloc: Global, id: u8, harts: u32) -> Option<Host<PagedRam>>
+    requires { (1 ≤ harts) × (harts ≤ 8) }
+{
     let guest = if id == 0 {
         Some(looping(alloc, harts)?)
     } else {
         None
     };
-    let host = Host::with_version(guest, id, 2, 4096, 1).ok()?;
-    Some(Recorded::new(alloc, host, capacity))
+    Host::with_version(guest, id, 2, 4096, 1).ok()
 }
 
 /// A guest of so many harts and four pages that jumps to itself.

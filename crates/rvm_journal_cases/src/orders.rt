@@ -1,6 +1,6 @@
 //! One order of the journals of two hosts.
 
-use crate::asked::{again, record, recorded};
+use crate::asked::{again, host, record, recorded};
 use rvm_audit::{AuditError, audit};
 use rvm_core::Host;
 use rvm_frame::Addressed;
@@ -30,25 +30,67 @@ const BEGIN: Command = Command::Begin {
     },
 };
 
+/// What two hosts do before their journals are put in order.
+#[derive(Clone, Copy)]
+enum Story {
+    Nothing,
+    /// A guest of four pages moves, from the beginning to the end.
+    Move,
+    /// Host B accepts an offer that host A made before its journal began.
+    LateJournal,
+    /// Host A offers its guest so many times, and each offer comes to host B.
+    Offers(u32),
+}
+
 /// Two hosts with journals.
 #[derive(Drop)]
 struct Pair {
     a: Recorded<PagedRam>,
     b: Recorded<PagedRam>,
+    /// The offer that host A made before its journal began.
+    offer: Option<Addressed>,
 }
 
 impl Pair {
     /// Hosts that have written down nothing, with journals of so many entries.
-    fn new(alloc: Global, entries: u32) -> Option<Pair> {
-        let a = recorded(alloc, 0, 1, entries)?;
+    fn new(alloc: Global, entries: u32, has_offered: bool) -> Option<Pair> {
         let b = recorded(alloc, 1, 1, entries)?;
-        Some(Pair { a, b })
+        Pair::with(alloc, entries, has_offered, host(alloc, 0, 1), b)
     }
 
-    /// Fills both journals: host A offers its guest again and again, and each offer comes to host B.
-    fn fill(&mut self, alloc: Global, entries: u32) -> Option<()> {
+    /// The hosts, if there is a first one.
+    fn with(
+        alloc: Global,
+        entries: u32,
+        has_offered: bool,
+        first: Option<Host<PagedRam>>,
+        b: Recorded<PagedRam>,
+    ) -> Option<Pair> {
+        let mut first = first?;
+        let offer = if has_offered {
+            begin(alloc, &mut first)
+        } else {
+            None
+        };
+        let a = Recorded::new(alloc, first, entries);
+        Some(Pair { a, b, offer })
+    }
+
+    /// Plays a story, and puts the journals in order.
+    fn order_of(&mut self, alloc: Global, story: Story) -> Option<Result<Vec<Event>, AuditError>> {
+        match story {
+            Story::Nothing => {}
+            Story::Move => self.play_a_move(alloc)?,
+            Story::LateJournal => self.accept(alloc)?,
+            Story::Offers(count) => self.fill(alloc, count)?,
+        }
+        Some(self.order(alloc))
+    }
+
+    /// Host A offers its guest again and again, and each offer comes to host B.
+    fn fill(&mut self, alloc: Global, count: u32) -> Option<()> {
         let (_, _, mut offer) = record(&mut self.a, alloc, HostEvent::Do(BEGIN))?;
-        for _ in 1..entries {
+        for _ in 1..count {
             self.come(alloc, offer)?;
             (_, _, offer) = record(&mut self.a, alloc, HostEvent::Do(Command::Resend))?;
         }
@@ -60,12 +102,6 @@ impl Pair {
         let frame = frame?.frame;
         record(&mut self.b, alloc, HostEvent::Came(0, frame))?;
         Some(())
-    }
-
-    /// How many events the order of such journals has.
-    fn filled_count(&mut self, alloc: Global, entries: u32) -> Option<usize> {
-        self.fill(alloc, entries)?;
-        self.count(alloc)
     }
 
     /// The next event of host A, and of each host as frames come of it.
@@ -95,30 +131,13 @@ impl Pair {
         Some(())
     }
 
-    /// The order of a move that has come to its end.
-    fn played_order(&mut self, alloc: Global) -> Option<Vec<Event>> {
-        self.play_a_move(alloc)?;
-        self.order(alloc).ok()
-    }
-
-    /// Host B accepts an offer, and host A hears of it.
-    fn accept(&mut self, alloc: Global, offer: Addressed) -> Option<()> {
+    /// Host B accepts the offer, and host A hears of it.
+    fn accept(&mut self, alloc: Global) -> Option<()> {
+        let offer = self.offer.take()?;
         let (_, _, accept) = record(&mut self.b, alloc, HostEvent::Came(0, offer.frame))?;
         let accept = accept?;
         record(&mut self.a, alloc, HostEvent::Came(1, accept.frame))?;
         Some(())
-    }
-
-    /// Why there is no order behind an offer that host A did not write down.
-    fn fault_behind(&mut self, alloc: Global, offer: Addressed) -> Option<AuditError> {
-        self.accept(alloc, offer)?;
-        self.order(alloc).err()
-    }
-
-    /// How many events the order has.
-    fn count(&self, alloc: Global) -> Option<usize> {
-        let events = self.order(alloc).ok()?;
-        Some(events.len())
     }
 
     /// One order of both journals, asked for once more where that was refused memory.
@@ -130,16 +149,31 @@ impl Pair {
     }
 }
 
-/// Puts two journals of so many entries in order, in which frames of equal bytes come again and again.
-pub fn order_long_journals<R: AllocGlobal + Print>(rt: &R, entries: u32) -> Option<()> {
-    let events = count_of_long_journals(rt.alloc(), entries)?;
-    println!(rt; "two journals of {entries} entries: {events} events").ok()
+/// Begins a move: the offer.
+fn begin(alloc: Global, host: &mut Host<PagedRam>) -> Option<Addressed> {
+    let (_, offer) = again!(host.apply(alloc, &HostEvent::Do(BEGIN)));
+    offer
 }
 
-/// How many events the order of two journals of so many entries has.
-fn count_of_long_journals(alloc: Global, entries: u32) -> Option<usize> {
-    let mut pair = Pair::new(alloc, entries)?;
-    pair.filled_count(alloc, entries)
+/// The order of two journals behind a story, for so many entries each.
+fn order_behind(
+    alloc: Global,
+    entries: u32,
+    story: Story,
+) -> Option<Result<Vec<Event>, AuditError>> {
+    let has_offered = matches!(story, Story::LateJournal);
+    let mut pair = Pair::new(alloc, entries, has_offered)?;
+    pair.order_of(alloc, story)
+}
+
+/// Puts two journals of so many entries in order, in which frames of equal bytes come again and again.
+pub fn order_long_journals<R: AllocGlobal + Print>(rt: &R, entries: u32) -> Option<()> {
+    let events = order_behind(rt.alloc(), entries, Story::Offers(entries))?.ok()?;
+    println!(rt;
+        "two journals of {entries} entries: {} events",
+        events.len()
+    )
+    .ok()
 }
 
 /// Puts journals in order: of a whole move, of a move whose beginning was not written down, and of nothing.
@@ -151,19 +185,13 @@ pub fn put_in_order<R: AllocGlobal + Print>(rt: &R) -> Option<()> {
 
 /// A guest of four pages moves, frame by frame.
 fn order_a_move<R: AllocGlobal + Print>(rt: &R) -> Option<()> {
-    let events = order_of_a_move(rt.alloc())?;
+    let events = order_behind(rt.alloc(), ENTRIES, Story::Move)?.ok()?;
     let (deliveries, are_once) = deliveries(events.as_slice());
     println!(rt;
         "a move: {} events, {deliveries} deliveries, each once {are_once}",
         events.len()
     )
     .ok()
-}
-
-/// The order of a move that has come to its end.
-fn order_of_a_move(alloc: Global) -> Option<Vec<Event>> {
-    let mut pair = Pair::new(alloc, ENTRIES)?;
-    pair.played_order(alloc)
 }
 
 /// How many frames are delivered, and whether they are the first, the second and so on, each once.
@@ -180,44 +208,13 @@ fn deliveries(events: &[Event]) -> (u64, bool) {
 
 /// Host A writes nothing down before the move has begun.
 fn miss_the_beginning<R: AllocGlobal + Print>(rt: &R) -> Option<()> {
-    let why = order_without_a_beginning(rt.alloc())?;
+    let why = order_behind(rt.alloc(), ENTRIES, Story::LateJournal)?.err()?;
     let has_none = why == AuditError::NoOrder { i: 0, j: 0 };
     println!(rt; "a move whose beginning is missing: no order behind 0 and 0 {has_none}").ok()
 }
 
-/// Why a move whose beginning was not written down has no order.
-fn order_without_a_beginning(alloc: Global) -> Option<AuditError> {
-    let (a, offer) = begun(alloc)?;
-    let Some(b) = recorded(alloc, 1, 1, ENTRIES) else {
-        return None;
-    };
-    let mut pair = Pair { a, b };
-    pair.fault_behind(alloc, offer)
-}
-
-/// Host A, whose journal begins behind the beginning of its move, and its offer.
-fn begun(alloc: Global) -> Option<(Recorded<PagedRam>, Addressed)> {
-    let (mut host, _) = recorded(alloc, 0, 1, ENTRIES)?.into_parts();
-    match begin(alloc, &mut host) {
-        Some(offer) => Some((Recorded::new(alloc, host, ENTRIES), offer)),
-        None => None,
-    }
-}
-
-/// Begins a move: the offer.
-fn begin(alloc: Global, host: &mut Host<PagedRam>) -> Option<Addressed> {
-    let (_, offer) = again!(host.apply(alloc, &HostEvent::Do(BEGIN)));
-    offer
-}
-
 /// Hosts at which nothing happened.
 fn order_nothing<R: AllocGlobal + Print>(rt: &R) -> Option<()> {
-    let count = count_nothing(rt.alloc())?;
-    println!(rt; "empty journals: {count} events").ok()
-}
-
-/// How many events the order of two empty journals has.
-fn count_nothing(alloc: Global) -> Option<usize> {
-    let pair = Pair::new(alloc, ENTRIES)?;
-    pair.count(alloc)
+    let events = order_behind(rt.alloc(), ENTRIES, Story::Nothing)?.ok()?;
+    println!(rt; "empty journals: {} events", events.len()).ok()
 }

@@ -1,45 +1,89 @@
 //! Slices of steps, and room for entries.
 
+ghost use Rattle.std.specs.Prelude.{◌≤◌};
+
 use crate::asked::{again, board, record, recorded};
 use rvm_debug::BoardEvent;
 use rvm_hart::Stepped;
-use rvm_journal::{RecordError, SliceError};
+use rvm_journal::{RecordError, Recorded, SliceError};
 use rvm_message::StepReply;
+use rvm_paged::PagedRam;
+
+/// What is shown at a host.
+#[derive(Clone, Copy)]
+enum Shown {
+    Slices,
+    Breakpoint,
+    Room,
+}
 
 /// Records slices of the steps of four harts until the journal is full, one that ends at a breakpoint,
 /// and makes room for entries.
 pub fn record_slices<R: AllocGlobal + Print>(rt: &R) -> Option<()> {
-    fill_with_slices(rt)?;
-    stop_at_a_breakpoint(rt)?;
-    make_room(rt)
+    show_at_a_host(rt, 4, 100, Shown::Slices)?;
+    show_at_a_host(rt, 1, 100, Shown::Breakpoint)?;
+    show_at_a_host(rt, 1, 4, Shown::Room)
+}
+
+/// At a host with so many harts and a journal of so many entries.
+fn show_at_a_host<R: AllocGlobal + Print>(
+    rt: &R,
+    harts: u32,
+    capacity: u32,
+    shown: Shown,
+) -> Option<()>
+    requires { (1 ≤ harts) × (harts ≤ 8) }
+{
+    let mut host = recorded(rt.alloc(), 0, harts, capacity)?;
+    show(rt, &mut host, shown)
+}
+
+/// At this host.
+fn show<R: AllocGlobal + Print>(rt: &R, host: &mut Recorded<PagedRam>, shown: Shown) -> Option<()> {
+    match shown {
+        Shown::Slices => fill_with_slices(rt, host),
+        Shown::Breakpoint => stop_at_a_breakpoint(rt, host),
+        Shown::Room => make_room(rt, host),
+    }
 }
 
 /// Slices of four harts in a journal of 100 entries.
-fn fill_with_slices<R: AllocGlobal + Print>(rt: &R) -> Option<()> {
-    let alloc = rt.alloc();
-    let mut host = recorded(alloc, 0, 4, 100)?;
-    for turn in [0, 64] {
-        let (place, replies) = again!(host.record_slice(alloc, turn, 4, 64));
-        let retired = StepReply::Stepped(Stepped::Retired);
-        let are_retired = replies.as_slice().iter().all(|reply| *reply == retired);
-        println!(rt;
-            "slice of 4 harts from turn {turn}: {} entries from place {place}, retired {are_retired}",
-            replies.len()
-        )
-        .ok()?;
-    }
-    let is_full = host.record_slice(alloc, 100, 4, 64) == Err(SliceError::RecorderFull(100));
+fn fill_with_slices<R: AllocGlobal + Print>(rt: &R, host: &mut Recorded<PagedRam>) -> Option<()> {
+    record_a_slice(rt, host, 0)?;
+    record_a_slice(rt, host, 64)?;
+    let is_full = host.record_slice(rt.alloc(), 100, 4, 64) == Err(SliceError::RecorderFull(100));
     println!(rt; "the next slice: journal of 100 entries full {is_full}").ok()
 }
 
+/// A slice of four harts from a turn on.
+fn record_a_slice<R: AllocGlobal + Print>(
+    rt: &R,
+    host: &mut Recorded<PagedRam>,
+    turn: u32,
+) -> Option<()> {
+    let (place, replies) = again!(host.record_slice(rt.alloc(), turn, 4, 64));
+    let are_retired = are_all(replies.as_slice(), StepReply::Stepped(Stepped::Retired));
+    println!(rt;
+        "slice of 4 harts from turn {turn}: {} entries from place {place}, retired {are_retired}",
+        replies.len()
+    )
+    .ok()
+}
+
+/// Whether each reply is this one.
+fn are_all(replies: &[StepReply], wanted: StepReply) -> bool {
+    replies.iter().all(|reply| *reply == wanted)
+}
+
 /// A slice ends behind a breakpoint.
-fn stop_at_a_breakpoint<R: AllocGlobal + Print>(rt: &R) -> Option<()> {
+fn stop_at_a_breakpoint<R: AllocGlobal + Print>(
+    rt: &R,
+    host: &mut Recorded<PagedRam>,
+) -> Option<()> {
     let alloc = rt.alloc();
-    let mut host = recorded(alloc, 0, 1, 100)?;
-    record(&mut host, alloc, board(BoardEvent::Break(0x80000000)))?;
+    record(host, alloc, board(BoardEvent::Break(0x80000000)))?;
     let (place, replies) = again!(host.record_slice(alloc, 0, 1, 64));
-    let stopped = StepReply::Break(0x80000000);
-    let is_stopped = replies.as_slice().iter().all(|reply| *reply == stopped);
+    let is_stopped = are_all(replies.as_slice(), StepReply::Break(0x80000000));
     println!(rt;
         "slice at a breakpoint: {} entry from place {place}, stopped {is_stopped}",
         replies.len()
@@ -48,8 +92,7 @@ fn stop_at_a_breakpoint<R: AllocGlobal + Print>(rt: &R) -> Option<()> {
 }
 
 /// Room for as many entries as the journal takes, and for one more.
-fn make_room<R: AllocGlobal + Print>(rt: &R) -> Option<()> {
-    let mut host = recorded(rt.alloc(), 0, 1, 4)?;
+fn make_room<R: AllocGlobal + Print>(rt: &R, host: &mut Recorded<PagedRam>) -> Option<()> {
     let alloc = rt.alloc();
     again!(host.reserve(alloc, 4));
     let is_full = host.reserve(alloc, 5) == Err(RecordError::RecorderFull(4));
