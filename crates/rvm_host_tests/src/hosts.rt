@@ -88,6 +88,42 @@ pub fn guest(alloc: Global, pages: u32, words: &[u32]) -> Result<Debugged<FlatMe
     }
 }
 
+/// The host that has the guest, with room for all.
+fn first_host(
+    alloc: Global,
+    guest: Debugged<FlatMemory>,
+    count: u8,
+    limit: u16,
+    version: u32,
+) -> Result<Vec<Host<FlatMemory>>, Fail> {
+    let mut hosts = again!(Vec::with_capacity(alloc, usize::from(count)));
+    match Host::with_version(Some(guest), 0, count, limit, version) {
+        Ok(host) => {
+            hosts.push_reserved(host);
+            Ok(hosts)
+        }
+        Err(_) => Err(Fail::from("there are two to eight hosts")),
+    }
+}
+
+/// The hosts behind the first one.
+fn add_others(
+    hosts: &mut Vec<Host<FlatMemory>>,
+    count: u8,
+    limits: &[u16],
+    version: u32,
+) -> Result<(), Fail> {
+    let mut id = 1u8;
+    for limit in limits {
+        let Ok(host) = Host::with_version(None, id, count, *limit, version) else {
+            return Err(Fail::from("there are two to eight hosts"));
+        };
+        hosts.push(host)?;
+        id = id.wrapping_add(1);
+    }
+    Ok(())
+}
+
 impl Hosts {
     /// So many hosts, with this guest at host 0.
     pub fn new(
@@ -96,20 +132,14 @@ impl Hosts {
         limits: &[u16],
         version: u32,
     ) -> Result<Hosts, Fail> {
+        let [first, others @ ..] = limits else {
+            return Err(Fail::from("there are two to eight hosts"));
+        };
         let Ok(count) = u8::try_from(limits.len()) else {
             return Err(Fail::from("there are two to eight hosts"));
         };
-        let mut hosts = Vec::new(alloc);
-        let mut guest = Some(guest);
-        let mut id = 0u8;
-        for limit in limits {
-            let Ok(host) = Host::with_version(guest.take(), id, count, *limit, version) else {
-                return Err(Fail::from("there are two to eight hosts"));
-            };
-            again!(hosts.reserve(1));
-            hosts.push_reserved(host);
-            id = id.wrapping_add(1);
-        }
+        let mut hosts = first_host(alloc, guest, count, *first, version)?;
+        add_others(&mut hosts, count, others, version)?;
         Ok(Hosts {
             hosts,
             sent: Vec::new(alloc),

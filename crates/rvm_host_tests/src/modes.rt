@@ -72,6 +72,25 @@ fn at(alloc: Global, place: Place) -> Result<Hosts, Fail> {
     Ok(hosts)
 }
 
+/// What a host there answers to an event.
+fn turned(alloc: Global, place: Place, event: Event) -> Result<&'static str, Fail> {
+    let mut hosts = at(alloc, place)?;
+    let (said, _) = hosts.turn(alloc, event)?;
+    Ok(said.0)
+}
+
+/// What a host there answers to a frame of the other one.
+fn heard(alloc: Global, place: Place, frame: Frame) -> Result<&'static str, Fail> {
+    let mut hosts = at(alloc, place)?;
+    hear(alloc, &mut hosts, place.host, frame)
+}
+
+/// What a host answers to a frame of the other one.
+fn hear(alloc: Global, hosts: &mut Hosts, host: u8, frame: Frame) -> Result<&'static str, Fail> {
+    let from = if host == A { 1 } else { 0 };
+    Ok(hosts.hear(alloc, host, from, frame)?.0)
+}
+
 /// The answers to Step, Begin, Copy, Resend and Abort in each mode.
 const COMMANDS: [(Place, [&str; 5]); 10] = [
     (
@@ -117,9 +136,7 @@ fn each_command_is_answered_by_the_mode(rt: HostRuntime) -> Result<(), Fail> {
             Event::Abort(host),
         ];
         for (command, answer) in commands.iter().zip(answers) {
-            let mut hosts = at(rt.alloc(), place)?;
-            let (said, _) = hosts.turn(rt.alloc(), *command)?;
-            assert_eq!(rt; said.0, answer);
+            assert_eq!(rt; turned(rt.alloc(), place, *command)?, answer);
         }
     }
     Ok(())
@@ -166,12 +183,9 @@ fn answer_to(kind: u32, answers: &'static [(u32, &'static str)]) -> &'static str
 #[test]
 fn each_frame_is_answered_by_the_mode(rt: HostRuntime) -> Result<(), Fail> {
     for (place, answers) in FRAMES {
-        let from = if place.host == A { 1 } else { 0 };
         for kind in 0..KINDS {
-            let mut hosts = at(rt.alloc(), place)?;
             let frame = again!(frame(rt.alloc(), 1, kind));
-            let (name, _) = hosts.hear(rt.alloc(), place.host, from, frame)?;
-            assert_eq!(rt; name, answer_to(kind, answers));
+            assert_eq!(rt; heard(rt.alloc(), place, frame)?, answer_to(kind, answers));
         }
     }
     Ok(())
@@ -194,16 +208,13 @@ const OFFERS: [(Place, [&str; 3]); 10] = [
 #[test]
 fn each_offer_is_answered_by_the_mode(rt: HostRuntime) -> Result<(), Fail> {
     for (place, answers) in OFFERS {
-        let from = if place.host == A { 1 } else { 0 };
         for ((move_number, pages), answer) in [(1, 1), (2, 1), (3, 2)].iter().zip(answers) {
-            let mut hosts = at(rt.alloc(), place)?;
             let offer = Frame::Offer {
                 move_number: *move_number,
                 pages: *pages,
                 harts: 1,
             };
-            let (name, _) = hosts.hear(rt.alloc(), place.host, from, offer)?;
-            assert_eq!(rt; name, answer);
+            assert_eq!(rt; heard(rt.alloc(), place, offer)?, answer);
         }
     }
     Ok(())

@@ -2,6 +2,7 @@
 
 ghost use Rattle.std.specs.Prelude.{◌≡◌, ◌⊎◌, ◌↔◌, [], IfOk, IfSome, IsSome};
 ghost use Rattle.rvm_move.specs.Hosts.{IsEnd, IsTold};
+ghost use Rattle.rvm_move_command.specs.Ended.{IsSound};
 
 use crate::ended::tell_failure;
 use crate::hosts::new_hosts;
@@ -87,8 +88,7 @@ pub(crate) fn audit_hosts<
     }
 }
 
-/// Both hosts of a move, unless it failed.
-#[tactic(auto, using(crate::proofs::Moved::first_told, crate::proofs::Moved::second_told))]
+/// Tells with what a move failed, if it did, and hands out both hosts, unless it did.
 fn hand_out<E: Write>(moved: Moved<PagedRam>, errors: &mut E) -> Result<Audited, LinkFault>
     requires a { IsEnd moved.a.fault moved.a.recorded.journal.entries }
     requires b { IsEnd moved.b.fault moved.b.recorded.journal.entries }
@@ -97,14 +97,32 @@ fn hand_out<E: Write>(moved: Moved<PagedRam>, errors: &mut E) -> Result<Audited,
     ensures told { IfOk result (λ a. IfSome a.hosts (λ h.
         IsTold h.0.journal.entries × IsTold h.1.journal.entries)) }
 {
-    let status = tell_failure(&moved, errors)?;
+    match tell_failure(&moved, errors) {
+        Ok(status) => Ok(hosts_behind(moved, status)),
+        Err(fault) => Err(fault),
+    }
+}
+
+/// Both hosts of a move that ended with a status, if that is 0.
+#[tactic(auto, using(crate::proofs::Moved::first_told, crate::proofs::Moved::second_told))]
+fn hosts_behind(moved: Moved<PagedRam>, status: u8) -> Audited
+    requires a { IsEnd moved.a.fault moved.a.recorded.journal.entries }
+    requires b { IsEnd moved.b.fault moved.b.recorded.journal.entries }
+    requires status { (status ≡ 0) ⊎ (status ≡ 1) }
+    requires sound { status ≡ 0 → IsSound moved.ends moved.a.fault moved.b.fault }
+    ensures status { (result.status ≡ 0) ⊎ (result.status ≡ 1) }
+    ensures hosts { result.status ≡ 0 ↔ IsSome result.hosts }
+    ensures told { IfSome result.hosts (λ h. IsTold h.0.journal.entries × IsTold h.1.journal.entries) }
+{
+    if status != 0 {
+        return Audited {
+            status,
+            hosts: None,
+        };
+    }
     let Moved { a, b, ends: _ } = moved;
-    let hosts = if status == 0 {
-        Some((a.recorded, b.recorded))
-    } else {
-        None
-    };
-    Ok(Audited { status, hosts })
+    let hosts = Some((a.recorded, b.recorded));
+    Audited { status, hosts }
 }
 
 /// A refusal: there are no hosts.
