@@ -188,6 +188,16 @@ fn is_full<L: Seating, R: AllocGlobal + Wait>(
     seat: &mut Seat<L>,
 ) -> bool {
     match host.call(rt, rt.alloc(), seat, board(BoardEvent::Step(0))) {
+        Err((RecordError::OutOfMemory, event)) => {
+            is_handed_back(host.call(rt, rt.alloc(), seat, event))
+        }
+        answer => is_handed_back(answer),
+    }
+}
+
+/// Whether a journal of one entry was full, and the event of the call came back.
+fn is_handed_back(answer: Result<(Receipt, Option<Addressed>), (RecordError, HostEvent)>) -> bool {
+    match answer {
         Err((RecordError::RecorderFull(1), event)) => event == board(BoardEvent::Step(0)),
         _ => false,
     }
