@@ -17,11 +17,15 @@ enum { PAGES = 4096, PAGE = 4096, HEAD = 19 };
 static int kept, sending, receiving;
 static char *source, *target;
 
+/* The copy that was kept last: volatile, so that the compiler leaves no copy out. */
+static char *volatile newest;
+
 static void keep(const char *page) {
     for (int copy = 0; copy < kept; copy++) {
         char *box = malloc(PAGE);
         if (box == NULL) exit(1);
         memcpy(box, page, PAGE);
+        newest = box;
     }
 }
 
@@ -66,6 +70,7 @@ int main(int count, char **words) {
     kept = count > 1 ? atoi(words[1]) : 0;
     source = malloc(PAGES * PAGE);
     target = malloc(PAGES * PAGE);
+    if (source == NULL || target == NULL) exit(1);
     memset(source, 255, PAGES * PAGE);
     connect_both();
     struct timespec begun, ended;

@@ -19,6 +19,9 @@ pub const POLICY: Policy = Policy {
     factor: 3,
 };
 
+/// Why hosts of another number cannot be made.
+const WRONG_COUNT: &str = "there are two to eight hosts";
+
 /// What happens.
 #[derive(Clone, Copy)]
 pub enum Event {
@@ -102,7 +105,7 @@ fn first_host(
             hosts.push_reserved(host);
             Ok(hosts)
         }
-        Err(_) => Err(Fail::from("there are two to eight hosts")),
+        Err(_) => Err(Fail::from(WRONG_COUNT)),
     }
 }
 
@@ -116,7 +119,7 @@ fn add_others(
     let mut id = 1u8;
     for limit in limits {
         let Ok(host) = Host::with_version(None, id, count, *limit, version) else {
-            return Err(Fail::from("there are two to eight hosts"));
+            return Err(Fail::from(WRONG_COUNT));
         };
         hosts.push(host)?;
         id = id.wrapping_add(1);
@@ -133,10 +136,10 @@ impl Hosts {
         version: u32,
     ) -> Result<Hosts, Fail> {
         let [first, others @ ..] = limits else {
-            return Err(Fail::from("there are two to eight hosts"));
+            return Err(Fail::from(WRONG_COUNT));
         };
         let Ok(count) = u8::try_from(limits.len()) else {
-            return Err(Fail::from("there are two to eight hosts"));
+            return Err(Fail::from(WRONG_COUNT));
         };
         let mut hosts = first_host(alloc, guest, count, *first, version)?;
         add_others(&mut hosts, count, others, version)?;

@@ -1,4 +1,4 @@
-//! The frames of a move as one stream of bytes, read in whatever pieces they come.
+//! The frames of a move as one stream of bytes, cut in two at each place.
 
 use crate::hosts::again;
 use crate::worlds::{first_events, turn, world};
@@ -106,18 +106,34 @@ fn feed(
     Ok(Some(came))
 }
 
+/// Feeds a stream cut in two, and answers how many frames came of its front, and of all of it.
+fn feed_cut(
+    alloc: Global,
+    stream: &[u8],
+    cut: usize,
+    ends: &[End],
+) -> Result<(Option<usize>, Option<usize>), FrameFault>
+    requires { cut ≤ length stream.now }
+{
+    let (front, back) = stream.split_at(cut);
+    let mut reader = FrameReader::new(alloc);
+    let first = feed(alloc, &mut reader, front, ends, 0)?;
+    let both = feed(alloc, &mut reader, back, ends, first.unwrap_or(0))?;
+    Ok((first, both))
+}
+
 #[test]
 fn each_cut_of_a_stream_gives_the_frames_before_it(rt: HostRuntime) -> Result<(), Fail> {
     for (version, ends) in STREAMS {
         let stream = stream(rt.alloc(), version)?;
         assert_eq!(rt; Some(stream.len()), ends.last().map(|(end, _)| *end));
         for cut in 0..=stream.len() {
-            let (front, back) = stream.split_at(cut);
-            let mut reader = FrameReader::new(rt.alloc());
-            let came = feed(rt.alloc(), &mut reader, front, &ends, 0)?;
-            assert_eq!(rt; came, Some(ended(&ends, cut)), "cut at {cut}");
-            let came = feed(rt.alloc(), &mut reader, back, &ends, came.unwrap_or(0))?;
-            assert_eq!(rt; came, Some(ends.len()), "cut at {cut}");
+            let came = feed_cut(rt.alloc(), &stream, cut, &ends)?;
+            assert_eq!(rt;
+                came,
+                (Some(ended(&ends, cut)), Some(ends.len())),
+                "cut at {cut}"
+            );
         }
     }
     Ok(())

@@ -1,4 +1,4 @@
-//! Worked moves: each event, the answer, and the place of the frame that was made.
+//! A guest that is larger than a host takes: each event, the answer, and the place of the frame that was made.
 
 use crate::hosts::{Event, Hosts, guest};
 use std::alloc::Global;
