@@ -1,5 +1,7 @@
 //! The frames of a move as one stream of bytes, cut in two at each place.
 
+ghost use Rattle.std.specs.Prelude.{◌≤◌, length};
+
 use crate::hosts::again;
 use crate::worlds::{first_events, turn, world};
 use rvm_frame::{Frame, FrameFault, FrameReader};
