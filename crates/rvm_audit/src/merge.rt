@@ -133,7 +133,7 @@ fn world_event(
     match event {
         HostEvent::Do(command) => Ok(Some(Event::At(side.number(), command.copy()))),
         HostEvent::Came(from, frame) => {
-            match place_of(alloc, side, version, *from, frame, others)? {
+            match place_of(alloc, side, version, *from, frame.get(), others)? {
                 None => Ok(None),
                 Some(place) => Ok(Some(Event::Deliver(place))),
             }

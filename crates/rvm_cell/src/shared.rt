@@ -93,7 +93,7 @@ impl<L: Seating, M: PagedMemory + Drop> SharedHost<L, M> {
         ensures err { OnErr result (seat.new ≡ seat.old) }
         ensures event { IfErr result (λ e. e.1 ≡ event) }
     {
-        let Ok(copy) = event.copy(alloc) else {
+        let Ok(copy) = event.copy() else {
             return Err((RecordError::OutOfMemory, event));
         };
         let Ok(room) = ExchangeRoom::new(alloc) else {

@@ -136,7 +136,7 @@ impl<M: PagedMemory + Drop> Host<M> {
     {
         match event {
             HostEvent::Do(command) => self.obey(alloc, command),
-            HostEvent::Came(from, frame) => self.came(alloc, *from, frame),
+            HostEvent::Came(from, frame) => self.came(alloc, *from, frame.get()),
         }
     }
 
@@ -228,7 +228,7 @@ impl<M: PagedMemory + Drop> Host<M> {
     {
         match event {
             HostEvent::Do(command) => self.command_bound(command),
-            HostEvent::Came(_, frame) => self.came_bound(frame),
+            HostEvent::Came(_, frame) => self.came_bound(frame.get()),
         }
     }
 

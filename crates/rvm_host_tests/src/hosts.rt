@@ -7,7 +7,7 @@ use rvm_debug::{BoardEvent, Debugged};
 use rvm_frame::{Addressed, Frame};
 use rvm_hart::RAM_BASE;
 use rvm_mem::{FlatMemory, MAX_PAGES, PagedMemory, write_bytes};
-use rvm_message::{Command, HostEvent, HostReply};
+use rvm_message::{Command, HostEvent, HostReply, Shared};
 use rvm_precopy::Policy;
 use std::alloc::{AllocError, Global};
 use std::test::Fail;
@@ -155,7 +155,7 @@ impl Hosts {
             rvm_world::Event::At(host, command) => Some((host, HostEvent::Do(command))),
             rvm_world::Event::Deliver(place) => match self.sent.get(place as usize) {
                 Some(sent) => {
-                    let frame = sent.frame.copy(alloc)?;
+                    let frame = shared(alloc, &sent.frame)?;
                     Some((sent.to, HostEvent::Came(sent.from, frame)))
                 }
                 None => None,
@@ -181,9 +181,15 @@ impl Hosts {
 
     /// A frame of a host comes to another one.
     pub fn hear(&mut self, alloc: Global, host: u8, from: u8, frame: Frame) -> Result<Said, Fail> {
+        let frame = again!(shared(alloc, &frame));
         let (reply, _) = answer(alloc, &mut self.hosts, host, &HostEvent::Came(from, frame))?;
         Ok(said(&reply))
     }
+}
+
+/// A copy of a frame, for an event.
+fn shared(alloc: Global, frame: &Frame) -> Result<Shared<Frame>, AllocError> {
+    Ok(Shared::new(alloc, frame.copy(alloc)?)?)
 }
 
 /// What a host answers to an event, also where it was refused memory at first.

@@ -5,11 +5,11 @@ ghost use Rattle.std.specs.Prelude.{◌≡◌, ◌≤◌, [], IfSome};
 use rvm_board::Board;
 use rvm_core::Host;
 use rvm_debug::{BoardEvent, Debugged};
-use rvm_frame::Addressed;
+use rvm_frame::{Addressed, Frame};
 use rvm_hart::RAM_BASE;
 use rvm_journal::{RecordError, Recorded};
 use rvm_mem::write_bytes;
-use rvm_message::{Command, HostEvent, HostReply};
+use rvm_message::{Command, HostEvent, HostReply, Shared};
 use rvm_paged::PagedRam;
 use std::alloc::Global;
 
@@ -79,4 +79,13 @@ pub fn record(
         Err((RecordError::OutOfMemory, event)) => recorded.record(alloc, event).ok(),
         Err((RecordError::RecorderFull(_), _)) => None,
     }
+}
+
+/// The event that a frame comes from a host, also where it was refused memory at first.
+pub fn came(alloc: Global, from: u8, frame: Frame) -> Option<HostEvent> {
+    let frame = match Shared::new(alloc, frame) {
+        Err(refused) => Shared::new(alloc, refused.value).ok()?,
+        Ok(frame) => frame,
+    };
+    Some(HostEvent::Came(from, frame))
 }

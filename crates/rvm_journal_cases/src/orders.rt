@@ -1,6 +1,6 @@
 //! One order of the journals of two hosts.
 
-use crate::asked::{again, host, record, recorded};
+use crate::asked::{again, came, host, record, recorded};
 use rvm_audit::{AuditError, audit};
 use rvm_core::Host;
 use rvm_frame::Addressed;
@@ -100,7 +100,7 @@ impl Pair {
     /// A frame comes to host B.
     fn come(&mut self, alloc: Global, frame: Option<Addressed>) -> Option<()> {
         let frame = frame?.frame;
-        record(&mut self.b, alloc, HostEvent::Came(0, frame))?;
+        record(&mut self.b, alloc, came(alloc, 0, frame)?)?;
         Some(())
     }
 
@@ -111,11 +111,11 @@ impl Pair {
             let Some(Addressed { from, to, frame }) = made else {
                 return Some(());
             };
-            let came = HostEvent::Came(from, frame);
+            let event = came(alloc, from, frame)?;
             let (_, _, next) = if to == 0 {
-                record(&mut self.a, alloc, came)?
+                record(&mut self.a, alloc, event)?
             } else {
-                record(&mut self.b, alloc, came)?
+                record(&mut self.b, alloc, event)?
             };
             made = next;
         }
@@ -134,9 +134,9 @@ impl Pair {
     /// Host B accepts the offer, and host A hears of it.
     fn accept(&mut self, alloc: Global) -> Option<()> {
         let offer = self.offer.take()?;
-        let (_, _, accept) = record(&mut self.b, alloc, HostEvent::Came(0, offer.frame))?;
+        let (_, _, accept) = record(&mut self.b, alloc, came(alloc, 0, offer.frame)?)?;
         let accept = accept?;
-        record(&mut self.a, alloc, HostEvent::Came(1, accept.frame))?;
+        record(&mut self.a, alloc, came(alloc, 1, accept.frame)?)?;
         Some(())
     }
 

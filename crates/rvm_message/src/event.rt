@@ -2,10 +2,11 @@
 
 ghost use Rattle.std.specs.Prelude.{◌≡◌, IfOk};
 
+use crate::shared::Shared;
 use rvm_debug::BoardEvent;
 use rvm_frame::Frame;
 use rvm_precopy::Policy;
-use std::alloc::{AllocError, Global};
+use std::alloc::AllocError;
 
 /// What a host is told to do.
 #[derive(Drop, PartialEq, Eq)]
@@ -28,7 +29,7 @@ pub enum HostEvent {
     /// It is told to do something.
     Do(Command),
     /// A frame comes from a host.
-    Came(u8, Frame),
+    Came(u8, Shared<Frame>),
 }
 
 impl Command {
@@ -50,13 +51,13 @@ impl Command {
 }
 
 impl HostEvent {
-    /// The same event again.
-    pub fn copy(&self, alloc: Global) -> Result<HostEvent, AllocError>
+    /// The same event again. A frame has one more owner then; this takes no memory.
+    pub fn copy(&self) -> Result<HostEvent, AllocError>
         ensures { IfOk result (λ copy. copy ≡ self.now) }
     {
         match self {
             HostEvent::Do(command) => Ok(HostEvent::Do(command.copy())),
-            HostEvent::Came(from, frame) => Ok(HostEvent::Came(*from, frame.copy(alloc)?)),
+            HostEvent::Came(from, frame) => Ok(HostEvent::Came(*from, frame.share()?)),
         }
     }
 }

@@ -3,7 +3,7 @@
 //!
 //! Stands on `rvm_guest`, `rvm_precopy` and `rvm_frame`, and knows nothing of modes or hosts.
 //!
-//! To be read in this order: `event`, `frame`, `reply`, `step`, `turns`, `exchange`, `guest`.
+//! To be read in this order: `shared`, `event`, `frame`, `reply`, `step`, `turns`, `exchange`, `guest`.
 #![tactic(auto)]
 
 mod event;
@@ -11,6 +11,7 @@ mod exchange;
 mod frame;
 mod guest;
 mod reply;
+mod shared;
 mod step;
 mod turns;
 
@@ -19,5 +20,6 @@ pub use exchange::{Exchange, ExchangeRef, ExchangeRoom};
 pub use frame::can_come;
 pub use guest::apply_event;
 pub use reply::{Answer, HostRefusal, HostReply};
+pub use shared::Shared;
 pub use step::{StepReply, step_guest};
 pub use turns::{NO_TURNS, turn_guest};

@@ -12,7 +12,7 @@ use rvm_cell::{Seat, Seating};
 use rvm_frame::{Frame, FrameReader};
 use rvm_link::{Link, Received};
 use rvm_mem::PagedMemory;
-use rvm_message::HostEvent;
+use rvm_message::{HostEvent, Shared};
 use std::alloc::Global;
 use std::sync::Wait;
 
@@ -180,6 +180,9 @@ fn came<L: Seating, M: PagedMemory + Drop, K: Link + Drop, G: Gate, R: Wait>(
     if is_hello(&frame) {
         return Ok(());
     }
+    let Ok(frame) = Shared::new(alloc, frame) else {
+        return Err(WorkEnd::OutOfMemory);
+    };
     let told = tell(rt, alloc, side, caller, watch, HostEvent::Came(from, frame))?;
     told.sent?;
     if ends_hearing(&told.reply) {
