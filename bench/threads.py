@@ -3,14 +3,17 @@
 
 - host instructions a step of the guest, beside those of `rvmove run`, by valgrind's cachegrind: the difference of
   two moves of the same guest over their difference in steps, so that start and end do not count;
-- the time of a move of 4096 pages that nobody writes, in each version, beside that of a run of the same image
-  and of a plain copy of as many bytes over a loopback socket in C (`pages.c`), whose sides keep no copy of a page,
-  one, or two, best of some runs that alternate.
+- the time of a move of 4096 pages that nobody writes, in each version, best of some runs that alternate with those it
+  is compared with: a run of the same image, that is to load it; a move of one page, that is the workers' sleeps, to
+  which each further piece of a state adds one; and a plain copy of as many bytes over a loopback socket in C
+  (`pages.c`), whose sides keep no copy of a page, one, or two. What is left behind load and sleeps is for the pages;
+- the same with large pages for the heap, as docs/OPERATING.md has it.
 
     bench/threads.py [TIMES]      TIMES runs each, 5 where it is not given
 
 Wants valgrind, gcc, and what `make build` builds."""
 import os
+import re
 import subprocess
 import sys
 import time
@@ -20,6 +23,11 @@ from guests import BUILD, PAGES_PROGRAM, PROGRAM, build_pages, loop
 
 FEWER, MORE = 20_000, 100_000
 PAGES = 4096
+VERSIONS = (1, 2, 3)
+LARGE_PAGES = "glibc.malloc.hugetlb=1:glibc.malloc.top_pad=60000000"
+
+# Between two pieces of a state the copier sleeps for so many milliseconds.
+PIECE_SLEEP = 10
 
 
 def a_step(command):
@@ -35,23 +43,48 @@ def copied(kept):
     return float(done.stdout) / 1000
 
 
-def taken(command, pages, *options):
-    """The seconds of a command over an image of so many pages, of which the guest makes one step."""
+def command_for(command, pages, *options):
+    """A command over an image of so many pages, of which the guest makes one step."""
     image = os.path.join(BUILD, f"still-{pages}.bin")
     with open(image, "wb") as file:
         file.write(b"\x6f\x00\x00\x00" + b"\xff" * (pages * 4096 - 4))
-    words = [command, image, "--raw", "--steps", "1", "--pages", str(pages), *options]
+    return [PROGRAM, command, image, "--raw", "--steps", "1", "--pages", str(pages), *options]
+
+
+def taken(words):
+    """The seconds of a command."""
     begun = time.monotonic()
-    done = subprocess.run([PROGRAM, *words], stdout=subprocess.DEVNULL, stderr=subprocess.DEVNULL)
+    done = subprocess.run(words, stdout=subprocess.DEVNULL, stderr=subprocess.DEVNULL)
     ended = time.monotonic()
     if done.returncode:
         sys.exit(f"{' '.join(words)}: status {done.returncode}")
     return ended - begun
 
 
-def moved(version):
-    """The seconds of a move of all pages, and of one page."""
-    return taken("move", PAGES, "--stream", str(version)), taken("move", 1, "--stream", str(version))
+def pieces_of(words):
+    """In how many pieces a move sent the state: 1 where it sent it whole."""
+    answers = subprocess.run(words, check=True, capture_output=True, text=True).stderr
+    return max(map(int, re.findall(r"^part \d+ of (\d+) sent", answers, re.M)), default=1)
+
+
+def best(times, calls):
+    """The least of what each call gives, in runs that alternate."""
+    return [min(figures) for figures in zip(*([call() for call in calls] for _ in range(times)))]
+
+
+def measure_pages(times):
+    """The table of moves, and of what they are compared with."""
+    large, small = ([command_for("move", pages, "--stream", str(version)) for version in VERSIONS] for pages in (PAGES, 1))
+    words = [command_for("run", PAGES), *large, *small]
+    figures = best(times, [lambda kept=kept: copied(kept) for kept in range(3)] + [lambda line=line: taken(line) for line in words])
+    copies, (load, *moves) = figures[:3], (1000 * figure for figure in figures[3:])
+    for kept, seconds in enumerate(copies):
+        print(f"  plain copy of as many bytes over loopback, {kept} copies of a page kept: {seconds * 1000:.1f} ms")
+    print(f"  run of {PAGES} pages, that is to load them: {load:.1f} ms")
+    for version, line, move, sleeps in zip(VERSIONS, large, moves, moves[len(VERSIONS):]):
+        sleeps += (pieces_of(line) - 1) * PIECE_SLEEP
+        left = move - load - sleeps
+        print(f"  move of {PAGES} pages by version {version}: {move:.1f} ms; sleeps {sleeps:.1f} ms; for the pages {left:.1f} ms")
 
 
 def main():
@@ -59,14 +92,11 @@ def main():
     run, move = a_step("run"), a_step("move")
     print(f"host instructions a step: run {run:.1f}, move {move:.1f}, {move / run:.1f} times")
     build_pages()
-    runs = [(list(map(copied, range(3))), moved(1), moved(2), moved(3), taken("run", PAGES)) for _ in range(times)]
-    for kept in range(3):
-        copy = min(it[0][kept] for it in runs) * 1000
-        print(f"plain copy of as many bytes over loopback, {kept} copies of a page kept: {copy:.1f} ms")
-    print(f"run of {PAGES} pages, that is to load them: {min(it[4] for it in runs) * 1000:.1f} ms")
-    for version in (1, 2, 3):
-        large, small = (min(it[version][place] for it in runs) * 1000 for place in (0, 1))
-        print(f"move of {PAGES} pages by version {version}: {large:.1f} ms; of one page: {small:.1f} ms")
+    print("moves of pages:")
+    measure_pages(times)
+    print("with large pages for the heap:")
+    os.environ["GLIBC_TUNABLES"] = LARGE_PAGES
+    measure_pages(times)
 
 
 if __name__ == "__main__":
