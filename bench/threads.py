@@ -4,9 +4,9 @@
 - host instructions a step of the guest, beside those of `rvmove run`, by valgrind's cachegrind: the difference of
   two moves of the same guest over their difference in steps, so that start and end do not count;
 - the time of a move of 4096 pages that nobody writes, in each version, best of some runs that alternate with those it
-  is compared with: a run of the same image, that is to load it; a move of one page, that is the workers' sleeps, to
-  which each further piece of a state adds one; and a plain copy of as many bytes over a loopback socket in C
-  (`pages.c`), whose sides keep no copy of a page, one, or two. What is left behind load and sleeps is for the pages;
+  is compared with: a run of the same image, that is to load it; and a plain copy of as many bytes over a loopback
+  socket in C (`pages.c`), whose sides keep no copy of a page, one, or two. How long the copier slept in that move, its
+  answers tell. What is left beside load and sleeps is for the pages;
 - the same with large pages for the heap, as docs/OPERATING.md has it.
 
     bench/threads.py [TIMES]      TIMES runs each, 5 where it is not given
@@ -26,8 +26,9 @@ PAGES = 4096
 VERSIONS = (1, 2, 3)
 LARGE_PAGES = "glibc.malloc.hugetlb=1:glibc.malloc.top_pad=60000000"
 
-# Between two pieces of a state the copier sleeps for so many milliseconds.
-PIECE_SLEEP = 10
+# How many milliseconds the copier sleeps behind such an answer. When the guest is gone it sleeps once more before it asks
+# for the last frame, which is answered NoMove where the target had it.
+SLEEPS = ((r"^refused \d+ Busy$", 1), (r"^state sent$", 10), (r"^part \d+ of \d+ sent$", 10), (r"^resent$", 10), (r"^refused \d+ NoMove$", 10))
 
 
 def a_step(command):
@@ -38,9 +39,8 @@ def a_step(command):
 
 
 def copied(kept):
-    """The seconds that as many bytes take over a loopback socket, where each side keeps so many copies of a page."""
-    done = subprocess.run([PAGES_PROGRAM, str(kept)], check=True, capture_output=True, text=True)
-    return float(done.stdout) / 1000
+    """The milliseconds that as many bytes take over a loopback socket, where each side keeps so many copies of a page."""
+    return float(subprocess.run([PAGES_PROGRAM, str(kept)], check=True, capture_output=True, text=True).stdout)
 
 
 def command_for(command, pages, *options):
@@ -52,39 +52,33 @@ def command_for(command, pages, *options):
 
 
 def taken(words):
-    """The seconds of a command."""
+    """The milliseconds of a command, and what it wrote to standard error."""
     begun = time.monotonic()
-    done = subprocess.run(words, stdout=subprocess.DEVNULL, stderr=subprocess.DEVNULL)
+    done = subprocess.run(words, stdout=subprocess.DEVNULL, stderr=subprocess.PIPE, text=True)
     ended = time.monotonic()
     if done.returncode:
         sys.exit(f"{' '.join(words)}: status {done.returncode}")
-    return ended - begun
+    return (ended - begun) * 1000, done.stderr
 
 
-def pieces_of(words):
-    """In how many pieces a move sent the state: 1 where it sent it whole."""
-    answers = subprocess.run(words, check=True, capture_output=True, text=True).stderr
-    return max(map(int, re.findall(r"^part \d+ of (\d+) sent", answers, re.M)), default=1)
-
-
-def best(times, calls):
-    """The least of what each call gives, in runs that alternate."""
-    return [min(figures) for figures in zip(*([call() for call in calls] for _ in range(times)))]
+def slept(answers):
+    """The milliseconds of the copier's sleeps in a move with these answers."""
+    return sum(length * len(re.findall(answer, answers, re.M)) for answer, length in SLEEPS)
 
 
 def measure_pages(times):
-    """The table of moves, and of what they are compared with."""
-    large, small = ([command_for("move", pages, "--stream", str(version)) for version in VERSIONS] for pages in (PAGES, 1))
-    words = [command_for("run", PAGES), *large, *small]
-    figures = best(times, [lambda kept=kept: copied(kept) for kept in range(3)] + [lambda line=line: taken(line) for line in words])
-    copies, (load, *moves) = figures[:3], (1000 * figure for figure in figures[3:])
-    for kept, seconds in enumerate(copies):
-        print(f"  plain copy of as many bytes over loopback, {kept} copies of a page kept: {seconds * 1000:.1f} ms")
-    print(f"  run of {PAGES} pages, that is to load them: {load:.1f} ms")
-    for version, line, move, sleeps in zip(VERSIONS, large, moves, moves[len(VERSIONS):]):
-        sleeps += (pieces_of(line) - 1) * PIECE_SLEEP
-        left = move - load - sleeps
-        print(f"  move of {PAGES} pages by version {version}: {move:.1f} ms; sleeps {sleeps:.1f} ms; for the pages {left:.1f} ms")
+    """Prints the times of moves, and of what they are compared with."""
+    load = command_for("run", PAGES)
+    moves = [command_for("move", PAGES, "--stream", str(version)) for version in VERSIONS]
+    rounds = [([copied(kept) for kept in range(3)], taken(load), [taken(move) for move in moves]) for _ in range(times)]
+    for kept in range(3):
+        print(f"  plain copy of as many bytes over loopback, {kept} copies of a page kept: {min(it[0][kept] for it in rounds):.1f} ms")
+    loaded, _ = min(it[1] for it in rounds)
+    print(f"  run of {PAGES} pages, that is to load them: {loaded:.1f} ms")
+    for place, version in enumerate(VERSIONS):
+        moved, answers = min(it[2][place] for it in rounds)
+        left = moved - loaded - slept(answers)
+        print(f"  move of {PAGES} pages by version {version}: {moved:.1f} ms; sleeps {slept(answers)} ms; for the pages {left:.1f} ms")
 
 
 def main():
