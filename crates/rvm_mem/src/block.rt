@@ -25,6 +25,15 @@ pub fn put32(bytes: &mut [u8], at: usize, value: u32)
     LittleEndian::write_u32(&mut bytes[at..at + 4], value);
 }
 
+/// Writes bytes from a place on.
+pub fn put_bytes(bytes: &mut [u8], at: usize, from: &[u8])
+    requires { at + length from.now ≤ length bytes.old }
+    ensures bytes { bytes.new ≡ replaced at from.now bytes.old }
+    ensures length { length bytes.new ≡ length bytes.old }
+{
+    bytes[at..at + from.len()].copy_from_slice(from);
+}
+
 /// Copies a page out of a block of whole pages.
 pub fn copy_page(bytes: &[u8], page: u32, into: &mut [u8; PAGE_SIZE as usize])
     requires { 4096 * page + 4096 ≤ length bytes.now }
@@ -39,6 +48,5 @@ pub fn put_page(bytes: &mut [u8], page: u32, from: &[u8; PAGE_SIZE as usize])
     requires { 4096 * page + 4096 ≤ length bytes.old }
     ensures { bytes.new ≡ replaced (4096 * page) from.now bytes.old }
 {
-    let start = page as usize * PAGE_SIZE as usize;
-    bytes[start..start + PAGE_SIZE as usize].copy_from_slice(from);
+    put_bytes(bytes, page as usize * PAGE_SIZE as usize, from);
 }

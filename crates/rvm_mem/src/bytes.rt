@@ -4,7 +4,7 @@ ghost use Rattle.std.specs.Prelude.{◌≡◌, ◌+◌, ◌≤◌, ◌<◌, ◌�
 ghost use Rattle.rvm_mem.specs.Bytes.{slice, replaced};
 ghost use Rattle.rvm_mem.specs.Pages.{byte_pages, mark_all};
 
-use crate::memory::Memory;
+use crate::memory::{Memory, PAGE_SIZE};
 use rvm_refusal::Refusal;
 use thiserror::Error;
 
@@ -51,18 +51,17 @@ pub fn write_bytes<M: Memory>(memory: &mut M, at: u32, bytes: &[u8]) -> Result<(
     if u64::from(memory.len()) < u64::from(at) + bytes.len() as u64 {
         return Err(OutOfRange);
     }
-    for i in 0..bytes.len() {
-        memory.store8(at + i as u32, bytes[i]);
-    }
+    memory.store_bytes(at, bytes);
     Ok(())
 }
 
 /// Writes zeros over the whole memory; each page is in the dirty log afterwards.
+#[tactic(auto, using(crate::proofs::Zeros::zeros_more, crate::proofs::Zeros::zeros_all, crate::proofs::Zeros::marked_more, crate::proofs::Zeros::marked_all))]
 pub fn clear_bytes<M: Memory>(memory: &mut M)
     ensures bytes { M.bytes memory.new ≡ replicate (length (M.bytes memory.old)) 0 }
     ensures dirty { M.dirty memory.new ≡ replicate (length (M.dirty memory.old)) true }
 {
-    for word in 0..memory.len() / 4 {
-        memory.store32(4 * word, 0);
+    for page in 0..memory.len() / PAGE_SIZE {
+        memory.store_bytes(PAGE_SIZE * page, &[0; PAGE_SIZE as usize]);
     }
 }

@@ -74,6 +74,11 @@ impl Memory for FlatMemory {
         self.dirty.insert(at / PAGE_SIZE);
         block::put32(&mut self.bytes, at as usize, value);
     }
+
+    fn store_bytes(&mut self, at: u32, from: &[u8]) {
+        self.dirty.insert_range(at, from.len());
+        block::put_bytes(&mut self.bytes, at as usize, from);
+    }
 }
 
 impl PagedMemory for FlatMemory {

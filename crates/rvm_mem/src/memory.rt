@@ -1,8 +1,8 @@
 //! What a guest's memory promises.
 
 ghost use Rattle.std.specs.Prelude.{◌≡◌, ℕ, ◌+◌, ◌*◌, ◌/◌, ◌%◌, ◌^◌, ◌≤◌, List, Bool, length};
-ghost use Rattle.rvm_mem.specs.Bytes.{load, store};
-ghost use Rattle.rvm_mem.specs.Pages.{mark};
+ghost use Rattle.rvm_mem.specs.Bytes.{load, replaced, store};
+ghost use Rattle.rvm_mem.specs.Pages.{byte_pages, mark, mark_all};
 
 /// How many bytes a page has.
 pub const PAGE_SIZE: u32 = 4096;
@@ -15,7 +15,7 @@ pub const MAX_PAGES: u32 = 4096;
 /// Instruction-Length Encoding" and "Memory").
 ///
 /// A place is an offset from the first byte, aligned to the size of the access and in range; that
-/// is the caller's condition. A store changes these bytes and adds this page to the log, also
+/// is the caller's condition. A store changes these bytes and adds their pages to the log, also
 /// where the bytes stay equal, and nothing else.
 pub trait Memory {
     /// The bytes, however they are kept.
@@ -66,4 +66,10 @@ pub trait Memory {
         requires inside { at + 4 ≤ length (bytes self.old) }
         ensures bytes { bytes self.new ≡ store 4 at value (bytes self.old) }
         ensures dirty { dirty self.new ≡ mark (at / 4096) (dirty self.old) };
+
+    /// Writes bytes from a place on, which need not be aligned.
+    fn store_bytes(&mut self, at: u32, from: &[u8])
+        requires { at + length from.now ≤ length (bytes self.old) }
+        ensures bytes { bytes self.new ≡ replaced at from.now (bytes self.old) }
+        ensures dirty { dirty self.new ≡ mark_all (byte_pages at (length from.now)) (dirty self.old) };
 }

@@ -1,8 +1,9 @@
 //! A flag for each page of a memory.
 
-ghost use Rattle.std.specs.Prelude.{◌≡◌, ◌≤◌, ◌<◌, length, replicate, false, IfOk};
-ghost use Rattle.rvm_mem.specs.Pages.{bits, count, mark, window};
+ghost use Rattle.std.specs.Prelude.{◌≡◌, ◌+◌, ◌*◌, ◌≤◌, ◌<◌, length, replicate, false, IfOk};
+ghost use Rattle.rvm_mem.specs.Pages.{bits, byte_pages, count, mark, mark_all, window};
 
+use crate::memory::PAGE_SIZE;
 use crate::page_set::PageSet;
 use crate::word;
 use std::alloc::{AllocError, Global};
@@ -51,6 +52,23 @@ impl PageFlags {
         ensures { self.new ≡ mark page self.old }
     {
         self.flags[page as usize] = true;
+    }
+
+    /// Marks the page of each of so many bytes from a place on.
+    #[tactic(auto, using(crate::proofs::Ranges::none_marked, crate::proofs::Ranges::more_marked))]
+    pub fn insert_range(&mut self, at: u32, count: usize)
+        requires { at + count ≤ 4096 * length self.old }
+        ensures marks { self.new ≡ mark_all (byte_pages at count) self.old }
+        ensures pages { length self.new ≡ length self.old }
+    {
+        let _pages = self.pages();
+        let page_size = PAGE_SIZE as usize;
+        let mut done = 0;
+        while done < count {
+            let place = at as usize + done;
+            self.insert((place / page_size) as u32);
+            done = count.min(done + page_size - place % page_size);
+        }
     }
 
     /// How many pages are marked.
