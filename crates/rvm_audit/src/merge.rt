@@ -3,13 +3,14 @@
 ghost use Rattle.std.specs.Prelude.{◌≡◌, ◌<◌, ◌^◌, ◌-◌, IfOk, OnOk, MatchOption, [], ℕ, List, Some, None};
 ghost use Rattle.rvm_audit.specs.Merging.{Becomes, IsNext, IsNoted, IsPlaced, IsTaken, IsUnmade, IsUnplaced, IsWaiting, places_at, places_of};
 ghost use Rattle.rvm_audit.specs.Pairs.{other};
+ghost use Rattle.rvm_message.specs.declared.event.HostEvent.TheVariants.{Came};
 
 use crate::places::{Places, lookup, note};
 use crate::side::Side;
 use rvm_debug::BoardEvent;
 use rvm_frame::{Addressed, Frame, frame_bytes};
 use rvm_journal::Entry;
-use rvm_message::{Command, Exchange, ExchangeRef, HostEvent};
+use rvm_message::{Command, Exchange, ExchangeRef, HostEvent, Shared};
 use rvm_spelling::has_spelling;
 use rvm_world::Event;
 use std::alloc::{AllocError, Global};
@@ -114,6 +115,10 @@ fn event_of(
             let step = Command::Board(BoardEvent::Step(hart));
             Ok(Some(Event::At(side.number(), step)))
         }
+        ExchangeRef::Copied { .. } => Ok(Some(Event::At(side.number(), Command::Copy))),
+        ExchangeRef::Stored { from, frame, .. } => {
+            delivery(alloc, side, version, from, frame, others)
+        }
         ExchangeRef::Other { event, reply: _ } => world_event(alloc, side, version, event, others),
     }
 }
@@ -132,12 +137,26 @@ fn world_event(
 {
     match event {
         HostEvent::Do(command) => Ok(Some(Event::At(side.number(), command.copy()))),
-        HostEvent::Came(from, frame) => {
-            match place_of(alloc, side, version, *from, frame.get(), others)? {
-                None => Ok(None),
-                Some(place) => Ok(Some(Event::Deliver(place))),
-            }
-        }
+        HostEvent::Came(from, frame) => delivery(alloc, side, version, *from, frame, others),
+    }
+}
+
+/// The delivery that a frame from a host is, where it can stand.
+fn delivery(
+    alloc: Global,
+    side: Side,
+    version: u32,
+    from: u8,
+    frame: &Shared<Frame>,
+    others: &Places,
+) -> Result<Option<Event>, AllocError>
+    ensures { IfOk result (λ o. MatchOption o
+        (IsUnmade version side (Came from frame.now) (places_of others.now))
+        (λ e. Becomes version side (Came from frame.now) (places_of others.now) e)) }
+{
+    match place_of(alloc, side, version, from, frame.get(), others)? {
+        None => Ok(None),
+        Some(place) => Ok(Some(Event::Deliver(place))),
     }
 }
 

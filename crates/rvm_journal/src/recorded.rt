@@ -1,13 +1,13 @@
 //! A host with its journal.
 
-ghost use Rattle.std.specs.Prelude.{◌≡◌, ◌+◌, ◌-◌, ◌∷◌, ◌<◌, ◌≤◌, [], true, max, length, IfOk, IfErr, IsOk, OnErr, OnOk, Some, vec_capacity};
+ghost use Rattle.std.specs.Prelude.{◌≡◌, ◌+◌, ◌-◌, ◌∷◌, ◌<◌, ◌≤◌, [], true, max, length, IfOk, IfErr, IsOk, OnErr, OnOk, Some, vec_capacity, vec_len};
 ghost use Rattle.rvm_core.specs.Hosts.{host_of};
 ghost use Rattle.rvm_frame.specs.Grammar.{HasSpelling, sent, spelling};
 ghost use Rattle.rvm_journal.specs.Entries.{silent};
 ghost use Rattle.rvm_journal.specs.Errors.{IsRecordError, IsReserveError};
 ghost use Rattle.rvm_journal.specs.History.{IsRecorded, bytes_of, count_of, host_now, is_board, with_entries};
 ghost use Rattle.rvm_journal.specs.Keeping.{CanBeKept};
-ghost use Rattle.rvm_message.specs.Exchanges.{step_of_hart};
+ghost use Rattle.rvm_message.specs.Exchanges.{exchange, step_of_hart};
 ghost use Rattle.rvm_message.specs.Steps.{reply_to_step};
 
 use crate::entry::Entry;
@@ -124,10 +124,14 @@ impl<M: PagedMemory + Drop> Recorded<M> {
         let Ok((reply, frame)) = host.apply(alloc, &event) else {
             return Err((RecordError::OutOfMemory, event));
         };
-        let Some(room) = journal.rooms.pop() else {
-            unreachable!();
-        };
-        let entry = keep(journal.version, room, event, &reply, &frame, bytes);
+        let entry = keep(
+            journal.version,
+            &mut journal.rooms,
+            event,
+            &reply,
+            &frame,
+            bytes,
+        );
         journal.entries.push_reserved(entry);
         journal.reserved = left;
         Ok((place as u32, reply, frame))
@@ -179,27 +183,45 @@ impl<M: PagedMemory + Drop> Recorded<M> {
     }
 }
 
-/// The entry of an event, with the bytes of its frame in room that is there.
+/// The entry of an event, with the bytes of its frame in room that is there. At most one of the rooms is
+/// taken.
 fn keep(
     version: u32,
-    room: ExchangeRoom,
+    rooms: &mut Vec<ExchangeRoom>,
     event: HostEvent,
     reply: &HostReply,
     frame: &Option<Addressed>,
     bytes: Vec<u8>,
 ) -> Entry
+    requires room { 0 < vec_len rooms.old }
     requires empty { bytes.items ≡ [] }
     requires fits { CanBeKept version (vec_capacity bytes) frame.now }
-    ensures { result ≡ record {
+    ensures entry { result ≡ record {
       event = event;
       reply = reply.now;
       frame = bytes_of version frame.now;
     } }
+    ensures rooms { vec_len rooms.old ≤ vec_len rooms.new + 1 }
 {
     Entry {
-        exchange: Exchange::new(room, event, reply.copy()),
+        exchange: keep_exchange(rooms, event, reply.copy()),
         frame: spell(version, frame, bytes),
     }
+}
+
+/// An event and the reply to it. Where they do not fit in a few bytes, one of the rooms is taken.
+fn keep_exchange(rooms: &mut Vec<ExchangeRoom>, event: HostEvent, reply: HostReply) -> Exchange
+    requires room { 0 < vec_len rooms.old }
+    ensures exchange { result ≡ exchange event reply }
+    ensures rooms { vec_len rooms.old ≤ vec_len rooms.new + 1 }
+{
+    if Exchange::is_small(&event, &reply) {
+        return Exchange::small(event, reply);
+    }
+    let Some(room) = rooms.pop() else {
+        unreachable!();
+    };
+    Exchange::new(room, event, reply)
 }
 
 /// The bytes of a frame, if one was made, in room that is there.

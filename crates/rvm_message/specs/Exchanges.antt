@@ -1,15 +1,17 @@
 -- Exchanges: an event of a host and the reply to it.
-use Rattle.std.specs.Prelude.{ℕ}
+use Rattle.std.specs.Prelude.{ℕ, Bool, true, false}
 use Rattle.rvm_debug.specs.declared.event.BoardEvent.TheVariants as board
-use Rattle.rvm_message.specs.declared.event.Command.TheVariants.{Board}
+use Rattle.rvm_frame.specs.declared.frame.Frame.{Frame}
+use Rattle.rvm_message.specs.declared.event.Command.TheVariants.{Board, Copy}
 use Rattle.rvm_message.specs.declared.event.HostEvent.{HostEvent}
-use Rattle.rvm_message.specs.declared.event.HostEvent.TheVariants.{Do}
+use Rattle.rvm_message.specs.declared.event.HostEvent.TheVariants.{Came, Do}
 use Rattle.rvm_message.specs.declared.exchange.ExchangeRef.{ExchangeRef}
 use Rattle.rvm_message.specs.declared.exchange.ExchangeRef.TheVariants as look
 use Rattle.rvm_message.specs.declared.exchange.Kept.{Kept}
 use Rattle.rvm_message.specs.declared.exchange.Kept.TheVariants as kept
 use Rattle.rvm_message.specs.declared.exchange.Pair.{Pair}
 use Rattle.rvm_message.specs.declared.reply.HostReply.{HostReply}
+use Rattle.rvm_message.specs.declared.reply.HostReply.TheVariants.{Copied, Stored}
 use Rattle.rvm_message.specs.declared.step.StepReply.{StepReply}
 use Rattle.rvm_message.specs.Steps.{reply_to_step}
 
@@ -28,6 +30,20 @@ step_of_hart h = Do (Board (board.Step h))
 abbrev pub step_exchange : (hart : ℕ) → StepReply → PlainExchange
 step_exchange h r = exchange (step_of_hart h) (reply_to_step r)
 
+-- of Copy, where a page was copied
+abbrev pub copied_exchange : (page copy_number : ℕ) → PlainExchange
+copied_exchange p n = exchange (Do Copy) (Copied p n)
+
+-- of a frame that came, where it was stored as a copy of a page
+abbrev pub stored_exchange : (from : ℕ) → Frame → (page copy_number : ℕ) → PlainExchange
+stored_exchange h f p n = exchange (Came h f) (Stored p n)
+
+-- whether an event and the reply to it are one of these two
+abbrev pub is_small : HostEvent → HostReply → Bool
+is_small (Do Copy) (Copied p n) = true
+is_small (Came h f) (Stored p n) = true
+is_small e r = false
+
 -- of an event and its reply in one place
 abbrev pub pair_exchange : Pair → PlainExchange
 pair_exchange p = exchange p.event p.reply
@@ -35,9 +51,13 @@ pair_exchange p = exchange p.event p.reply
 -- as it is kept
 abbrev pub plain_of : Kept → PlainExchange
 plain_of (kept.Step h r) = step_exchange h r
+plain_of (kept.Copied p n) = copied_exchange p n
+plain_of (kept.Stored h p n f) = stored_exchange h f p n
 plain_of (kept.Other p) = pair_exchange p.value
 
 -- that is looked at
 abbrev pub exchange_in : ExchangeRef → PlainExchange
 exchange_in (look.Step h r) = step_exchange h r
+exchange_in (look.Copied p n) = copied_exchange p n
+exchange_in (look.Stored h f p n) = stored_exchange h f.now p n
 exchange_in (look.Other e r) = exchange e.now r.now

@@ -1,17 +1,20 @@
 //! An event of a host and the reply to it.
 
 ghost use Rattle.std.specs.Prelude.{◌≡◌, ◌↔◌, true};
-ghost use Rattle.rvm_message.specs.Exchanges.{exchange, exchange_in, pair_exchange, step_exchange};
+ghost use Rattle.rvm_message.specs.declared.event.HostEvent.TheVariants.{Came, Do};
+ghost use Rattle.rvm_message.specs.Exchanges.{copied_exchange, exchange, exchange_in, is_small, pair_exchange, plain_of, step_exchange, stored_exchange};
 
 use crate::event::{Command, HostEvent};
 use crate::reply::HostReply;
+use crate::shared::Shared;
 use crate::step::StepReply;
 use rvm_debug::BoardEvent;
+use rvm_frame::Frame;
 use std::alloc::{AllocError, Global};
 use std::marker::Model;
 
-/// An event of a host and the reply to it. A step of a hart is kept in a few bytes, any other event in
-/// a box.
+/// An event of a host and the reply to it. What hosts are told most is kept in a few bytes: a step of a
+/// hart, a copy of a page, and a copy that came and was stored. Any other event is kept in a box.
 #[derive(Drop)]
 pub struct Exchange {
     kept: Kept,
@@ -20,7 +23,22 @@ pub struct Exchange {
 /// How an exchange is kept.
 #[derive(Drop)]
 enum Kept {
-    Step { hart: u32, reply: StepReply },
+    Step {
+        hart: u32,
+        reply: StepReply,
+    },
+    /// The reply to Copy.
+    Copied {
+        page: u16,
+        copy_number: u32,
+    },
+    /// The reply to a frame that came.
+    Stored {
+        from: u8,
+        page: u16,
+        copy_number: u32,
+        frame: Shared<Frame>,
+    },
     Other(Box<Pair>),
 }
 
@@ -44,6 +62,18 @@ pub enum ExchangeRef<'a> {
     Step {
         hart: u32,
         reply: StepReply,
+    },
+    /// A page was copied.
+    Copied {
+        page: u16,
+        copy_number: u32,
+    },
+    /// The copy of a page came, and was stored.
+    Stored {
+        from: u8,
+        frame: &'a Shared<Frame>,
+        page: u16,
+        copy_number: u32,
     },
     /// Any event.
     Other {
@@ -86,10 +116,36 @@ impl Exchange {
         }
     }
 
+    /// Whether an event and the reply to it are kept in a few bytes, and need no room.
+    pub fn is_small(event: &HostEvent, reply: &HostReply) -> bool
+        ensures { result ≡ is_small event.now reply.now }
+    {
+        match (event, reply) {
+            (HostEvent::Do(Command::Copy), HostReply::Copied { .. }) => true,
+            (HostEvent::Came(_, _), HostReply::Stored { .. }) => true,
+            _ => false,
+        }
+    }
+
+    /// An event and the reply to it, in a few bytes. Takes no memory.
+    pub fn small(event: HostEvent, reply: HostReply) -> Exchange
+        requires { is_small event reply ≡ true }
+        ensures { result ≡ exchange event reply }
+    {
+        let kept = match event {
+            HostEvent::Do(_) => kept_copy(&reply),
+            HostEvent::Came(from, frame) => kept_store(from, frame, &reply),
+        };
+        Exchange { kept }
+    }
+
     /// Any event, and the reply to it, in room that is there.
     pub fn new(room: ExchangeRoom, event: HostEvent, reply: HostReply) -> Exchange
         ensures { result ≡ exchange event reply }
     {
+        if Exchange::is_small(&event, &reply) {
+            return Exchange::small(event, reply);
+        }
         let mut place = room.place;
         *place = Pair { event, reply };
         Exchange {
@@ -106,6 +162,21 @@ impl Exchange {
                 hart: *hart,
                 reply: *reply,
             },
+            Kept::Copied { page, copy_number } => ExchangeRef::Copied {
+                page: *page,
+                copy_number: *copy_number,
+            },
+            Kept::Stored {
+                from,
+                page,
+                copy_number,
+                frame,
+            } => ExchangeRef::Stored {
+                from: *from,
+                frame,
+                page: *page,
+                copy_number: *copy_number,
+            },
             Kept::Other(pair) => ExchangeRef::Other {
                 event: &pair.event,
                 reply: &pair.reply,
@@ -119,6 +190,19 @@ impl Exchange {
     {
         match &self.kept {
             Kept::Step { hart: _, reply } => reply.reply(),
+            Kept::Copied { page, copy_number } => HostReply::Copied {
+                page: *page,
+                copy_number: *copy_number,
+            },
+            Kept::Stored {
+                from: _,
+                page,
+                copy_number,
+                frame: _,
+            } => HostReply::Stored {
+                page: *page,
+                copy_number: *copy_number,
+            },
             Kept::Other(pair) => pair.reply.copy(),
         }
     }
@@ -128,25 +212,91 @@ impl Exchange {
         ensures { (result ≡ true) ↔ (self.now ≡ other.now) }
     {
         match (&self.kept, &other.kept) {
+            (Kept::Other(pair), kept) => is_kept(kept, pair),
+            (kept, Kept::Other(pair)) => is_kept(kept, pair),
             (
                 Kept::Step { hart, reply },
                 Kept::Step {
                     hart: other_hart,
                     reply: other_reply,
                 },
-            ) => { *hart == *other_hart && *reply == *other_reply }
-            (Kept::Step { hart, reply }, Kept::Other(pair)) => is_step(pair, *hart, *reply),
-            (Kept::Other(pair), Kept::Step { hart, reply }) => is_step(pair, *hart, *reply),
-            (Kept::Other(pair), Kept::Other(other)) => is_same_pair(pair, other),
+            ) => *hart == *other_hart && *reply == *other_reply,
+            (
+                Kept::Copied { page, copy_number },
+                Kept::Copied {
+                    page: other_page,
+                    copy_number: other_number,
+                },
+            ) => *page == *other_page && *copy_number == *other_number,
+            (
+                Kept::Stored {
+                    from,
+                    page,
+                    copy_number,
+                    frame,
+                },
+                Kept::Stored {
+                    from: other_from,
+                    page: other_page,
+                    copy_number: other_number,
+                    frame: other_frame,
+                },
+            ) => {
+                *from == *other_from
+                    && *page == *other_page
+                    && *copy_number == *other_number
+                    && frame == other_frame
+            }
+            _ => false,
         }
     }
 }
 
-/// Whether two pairs are the same.
-fn is_same_pair(one: &Pair, other: &Pair) -> bool
-    ensures { (result ≡ true) ↔ (pair_exchange one.now ≡ pair_exchange other.now) }
+/// What is kept of Copy, where a page was copied.
+fn kept_copy(reply: &HostReply) -> Kept
+    requires { is_small (Do Command.Copy) reply.now ≡ true }
+    ensures { plain_of result ≡ exchange (Do Command.Copy) reply.now }
 {
-    is_same(&one.event, &one.reply, &other.event, &other.reply)
+    let HostReply::Copied { page, copy_number } = reply else {
+        unreachable!();
+    };
+    Kept::Copied {
+        page: *page,
+        copy_number: *copy_number,
+    }
+}
+
+/// What is kept of a frame that came, where it was stored.
+fn kept_store(from: u8, frame: Shared<Frame>, reply: &HostReply) -> Kept
+    requires { is_small (Came from frame) reply.now ≡ true }
+    ensures { plain_of result ≡ exchange (Came from frame) reply.now }
+{
+    let HostReply::Stored { page, copy_number } = reply else {
+        unreachable!();
+    };
+    Kept::Stored {
+        from,
+        page: *page,
+        copy_number: *copy_number,
+        frame,
+    }
+}
+
+/// Whether what is kept is a pair.
+fn is_kept(kept: &Kept, pair: &Pair) -> bool
+    ensures { (result ≡ true) ↔ (plain_of kept.now ≡ pair_exchange pair.now) }
+{
+    match kept {
+        Kept::Step { hart, reply } => is_step(pair, *hart, *reply),
+        Kept::Copied { page, copy_number } => is_copied(pair, *page, *copy_number),
+        Kept::Stored {
+            from,
+            page,
+            copy_number,
+            frame,
+        } => is_stored(pair, *from, frame, *page, *copy_number),
+        Kept::Other(own) => is_same(&own.event, &own.reply, &pair.event, &pair.reply),
+    }
 }
 
 /// Whether a pair is a step of a hart with this reply.
@@ -154,8 +304,27 @@ fn is_step(pair: &Pair, hart: u32, reply: StepReply) -> bool
     ensures { (result ≡ true) ↔ (step_exchange hart reply ≡ pair_exchange pair.now) }
 {
     let event = HostEvent::Do(Command::Board(BoardEvent::Step(hart)));
-    let reply = reply.reply();
+    is_same(&event, &reply.reply(), &pair.event, &pair.reply)
+}
+
+/// Whether a pair is a copy of this page.
+fn is_copied(pair: &Pair, page: u16, copy_number: u32) -> bool
+    ensures { (result ≡ true) ↔ (copied_exchange page copy_number ≡ pair_exchange pair.now) }
+{
+    let event = HostEvent::Do(Command::Copy);
+    let reply = HostReply::Copied { page, copy_number };
     is_same(&event, &reply, &pair.event, &pair.reply)
+}
+
+/// Whether a pair is this frame, and a copy of this page that was stored.
+fn is_stored(pair: &Pair, from: u8, frame: &Shared<Frame>, page: u16, copy_number: u32) -> bool
+    ensures { (result ≡ true) ↔ (stored_exchange from frame.now page copy_number ≡ pair_exchange pair.now) }
+{
+    let reply = HostReply::Stored { page, copy_number };
+    match &pair.event {
+        HostEvent::Came(other, came) => from == *other && frame == came && reply == pair.reply,
+        HostEvent::Do(_) => false,
+    }
 }
 
 /// Whether two events are the same, and their replies.

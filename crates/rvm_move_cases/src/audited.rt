@@ -65,6 +65,9 @@ impl<'a> Unplayed<'a> {
 fn write_reply(text: &mut Vec<u8>, entry: &Entry, place: Option<usize>) -> Result<(), LinkFault> {
     match entry.exchange().look() {
         ExchangeRef::Step { hart, reply } => write_steps_reply(text, hart, 1, &reply.reply()),
+        ExchangeRef::Copied { .. } | ExchangeRef::Stored { .. } => {
+            write_move_reply(text, &entry.exchange().reply(), place)
+        }
         ExchangeRef::Other { event, reply } => match event {
             HostEvent::Do(Command::Board(_)) => write_guest_reply(text, None, reply),
             _ => write_move_reply(text, reply, place),

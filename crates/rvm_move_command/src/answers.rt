@@ -27,6 +27,9 @@ fn write_answer<E: Write>(errors: &mut E, entry: &Entry) -> Result<(), LinkFault
 {
     match entry.exchange().look() {
         ExchangeRef::Step { .. } => Ok(()),
+        ExchangeRef::Copied { .. } | ExchangeRef::Stored { .. } => {
+            write_move_reply(errors, &entry.exchange().reply(), None)
+        }
         ExchangeRef::Other { event, reply } => write_unless_of_guest(errors, event, reply),
     }
 }

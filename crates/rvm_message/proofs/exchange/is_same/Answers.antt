@@ -1,7 +1,6 @@
 use Rattle.std.proofs.Common.{◌≡◌, ap}
 use Rattle.rvm_message.proofs.Derived.{told_apart}
 use Rattle.rvm_message.proofs.Same.{host_events, host_replies}
-use Rattle.rvm_message.specs.declared.event.HostEvent.{HostEvent}
 use Rattle.rvm_message.specs.Exchanges.{PlainExchange, exchange}
 use Rattle.rvm_message.proofs.exchange.is_same.Goals as goal
 

@@ -20,7 +20,7 @@ module _ (g : Over) (c : goal.After-journal-2-1 g) where
       ≡ before.entries ++ entry_of before.opening.version c.args.event c.in-Ok-apply.reply c.in-Ok-apply.frame ∷ []
   new_is =
       c.push_reserved.ensures.items ∙ ap (λ (xs : List PlainEntry). xs ++ c.keep-entry.result ∷ []) c.make_room.ensures.same
-      ∙ ap (λ (x : PlainEntry). before.entries ++ x ∷ []) (c.keep-entry.ensures
+      ∙ ap (λ (x : PlainEntry). before.entries ++ x ∷ []) (c.keep-entry.ensures.entry
       ∙ ap (λ v. entry_of v c.args.event c.in-Ok-apply.reply c.in-Ok-apply.frame) c.journal.invariant.1)
 
   abbrev most : ℕ
@@ -33,7 +33,7 @@ invariant_of-journal-2 g c =
           (most g c) a.ensures.sent c.journal.invariant.0,
       c.journal.invariant.1,
       omega (arith, ap length c.make_room.ensures.same),
-      omega (arith, c.in-Some.ensures.len),
+      omega (arith, c.keep-entry.ensures.rooms),
     )
 
 pub invariant_of-self-2 : goal.invariant_of-self-2
