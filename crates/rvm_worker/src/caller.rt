@@ -4,6 +4,7 @@ ghost use Rattle.std.specs.Prelude.{◌≡◌, ◌≤◌, [], IfOk, OnErr};
 ghost use Rattle.rvm_worker.specs.Work.{IsCall, IsSliceCall, IsWork};
 
 use crate::end::WorkEnd;
+use crate::heap;
 use crate::steps::{Steps, steps_of};
 use rvm_cell::{Receipt, Seat, Seating, SharedHost};
 use rvm_frame::Addressed;
@@ -75,6 +76,9 @@ impl<L: Seating> Caller<L> {
             self.new.seat self.new.receipts r.0) }
         ensures err { OnErr result (self.new ≡ self.old) }
     {
+        if self.receipts.len() % heap::CALLS_PER_BLOCK == 0 {
+            heap::grow(alloc);
+        }
         if self.receipts.reserve(1).is_err() {
             return Err(WorkEnd::OutOfMemory);
         }

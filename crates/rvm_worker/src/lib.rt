@@ -5,13 +5,14 @@
 //! Stands on `rvm_cell` and `rvm_link`, and knows nothing of sockets, of how workers are started, or of
 //! what becomes of their receipts.
 //!
-//! To be read in this order: `gate`, `end`, `steps`, `caller`, `telling`, `next`, `copier`, `receiver`.
+//! To be read in this order: `gate`, `end`, `steps`, `heap`, `caller`, `telling`, `next`, `copier`, `receiver`.
 #![tactic(auto)]
 
 mod caller;
 mod copier;
 mod end;
 mod gate;
+mod heap;
 mod next;
 mod receiver;
 mod steps;
