@@ -4,9 +4,9 @@
 - host instructions a step of the guest, beside those of `rvmove run`, by valgrind's cachegrind: the difference of
   two moves of the same guest over their difference in steps, so that start and end do not count;
 - the time of a move of 4096 pages that nobody writes, in each version, best of some runs that alternate with those it
-  is compared with: a run of the same image, that is to load it; and a plain copy of as many bytes over a loopback
-  socket in C (`pages.c`), whose sides keep no copy of a page, one, or two. How long the copier slept in that move, its
-  answers tell. What is left beside load and sleeps is for the pages;
+  is compared with: a run of the same image, that is to load it; and a plain copy of as many pages over a loopback
+  socket in C (`pages.c`), whose sides keep no further copy of a page, or one, as journals do. How long the copier slept
+  in that move, its answers tell. What is left beside load and sleeps is for the pages;
 - the same with large pages for the heap, as docs/OPERATING.md has it.
 
     bench/threads.py [TIMES]      TIMES runs each, 5 where it is not given
@@ -24,6 +24,7 @@ from guests import BUILD, PAGES_PROGRAM, PROGRAM, build_pages, loop
 FEWER, MORE = 20_000, 100_000
 PAGES = 4096
 VERSIONS = (1, 2, 3)
+KEPT = (0, 1)
 LARGE_PAGES = "glibc.malloc.hugetlb=1:glibc.malloc.top_pad=60000000"
 
 # How many milliseconds the copier sleeps behind such an answer. When the guest is gone it sleeps once more before it asks
@@ -39,7 +40,7 @@ def a_step(command):
 
 
 def copied(kept):
-    """The milliseconds that as many bytes take over a loopback socket, where each side keeps so many copies of a page."""
+    """The milliseconds that as many pages take over a loopback socket, where each side keeps so many copies of a page."""
     return float(subprocess.run([PAGES_PROGRAM, str(kept)], check=True, capture_output=True, text=True).stdout)
 
 
@@ -70,9 +71,9 @@ def measure_pages(times):
     """Prints the times of moves, and of what they are compared with."""
     load = command_for("run", PAGES)
     moves = [command_for("move", PAGES, "--stream", str(version)) for version in VERSIONS]
-    rounds = [([copied(kept) for kept in range(3)], taken(load), [taken(move) for move in moves]) for _ in range(times)]
-    for kept in range(3):
-        print(f"  plain copy of as many bytes over loopback, {kept} copies of a page kept: {min(it[0][kept] for it in rounds):.1f} ms")
+    rounds = [([copied(kept) for kept in KEPT], taken(load), [taken(move) for move in moves]) for _ in range(times)]
+    for kept in KEPT:
+        print(f"  plain copy of as many pages over loopback, {kept} copies of a page kept: {min(it[0][kept] for it in rounds):.1f} ms")
     loaded, _ = min(it[1] for it in rounds)
     print(f"  run of {PAGES} pages, that is to load them: {loaded:.1f} ms")
     for place, version in enumerate(VERSIONS):
