@@ -1,6 +1,7 @@
-/* pages.c KEPT: copies 4096 pages over a loopback socket, from the memory of one thread to new memory of another, a
-   page frame at a time, and prints the milliseconds that it took. With KEPT above 0 each side also keeps KEPT copies
-   of each page, in boxes of their own, as journals do. */
+/* pages.c MODE: sends 4096 pages over a loopback socket from one thread to another, a page frame at a time, and prints
+   the milliseconds that it took. MODE says what becomes of them: `thrown` away at the target; `put` into memory there
+   that is new, as a host does that gets a guest; `kept`, which is put, and kept once more at both ends in boxes of
+   their own, as journals do. */
 #include <netinet/in.h>
 #include <netinet/tcp.h>
 #include <pthread.h>
@@ -13,19 +14,18 @@
 
 enum { PAGES = 4096, PAGE = 4096, HEAD = 19 };
 
-static int kept, sending, receiving;
+static int is_put, is_kept, sending, receiving;
 static char *source, *target;
 
 /* The copy that was kept last: volatile, so that the compiler leaves no copy out. */
 static char *volatile newest;
 
 static void keep(const char *page) {
-    for (int copy = 0; copy < kept; copy++) {
-        char *box = malloc(PAGE);
-        if (box == NULL) exit(1);
-        memcpy(box, page, PAGE);
-        newest = box;
-    }
+    if (!is_kept) return;
+    char *box = malloc(PAGE);
+    if (box == NULL) exit(1);
+    memcpy(box, page, PAGE);
+    newest = box;
 }
 
 static void *send_pages(void *unused) {
@@ -48,7 +48,7 @@ static void *receive_pages(void *unused) {
             have += count;
         }
         keep(frame + HEAD);
-        memcpy(target + page * PAGE, frame + HEAD, PAGE);
+        if (is_put) memcpy(target + page * PAGE, frame + HEAD, PAGE);
     }
     return unused;
 }
@@ -66,7 +66,9 @@ static void connect_both(void) {
 }
 
 int main(int count, char **words) {
-    kept = count > 1 ? atoi(words[1]) : 0;
+    const char *mode = count > 1 ? words[1] : "thrown";
+    is_kept = strcmp(mode, "kept") == 0;
+    is_put = is_kept || strcmp(mode, "put") == 0;
     source = malloc(PAGES * PAGE);
     target = malloc(PAGES * PAGE);
     if (source == NULL || target == NULL) exit(1);

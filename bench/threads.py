@@ -5,8 +5,8 @@
   two moves of the same guest over their difference in steps, so that start and end do not count;
 - the time of a move of 4096 pages that nobody writes, in each version, best of some runs that alternate with those it
   is compared with: a run of the same image, that is to load it; and a plain copy of as many pages over a loopback
-  socket in C (`pages.c`), whose sides keep no further copy of a page, or one, as journals do. How long the copier slept
-  in that move, its answers tell. What is left beside load and sleeps is for the pages;
+  socket in C (`pages.c`), whose target throws them away, puts them into memory, or also keeps them as journals do. How
+  long the copier slept in that move, its answers tell. What is left beside load and sleeps is for the pages;
 - the same with large pages for the heap, as docs/OPERATING.md has it.
 
     bench/threads.py [TIMES]      TIMES runs each, 5 where it is not given
@@ -24,7 +24,7 @@ from guests import BUILD, PAGES_PROGRAM, PROGRAM, build_pages, loop
 FEWER, MORE = 20_000, 100_000
 PAGES = 4096
 VERSIONS = (1, 2, 3)
-KEPT = (0, 1)
+MODES = ("thrown", "put", "kept")
 LARGE_PAGES = "glibc.malloc.hugetlb=1:glibc.malloc.top_pad=60000000"
 
 # How many milliseconds the copier sleeps behind such an answer. When the guest is gone it sleeps once more before it asks
@@ -39,9 +39,9 @@ def a_step(command):
     return (more - fewer) / (MORE - FEWER)
 
 
-def copied(kept):
-    """The milliseconds that as many pages take over a loopback socket, where each side keeps so many copies of a page."""
-    return float(subprocess.run([PAGES_PROGRAM, str(kept)], check=True, capture_output=True, text=True).stdout)
+def copied(mode):
+    """The milliseconds that as many pages take over a loopback socket."""
+    return float(subprocess.run([PAGES_PROGRAM, mode], check=True, capture_output=True, text=True).stdout)
 
 
 def command_for(command, pages, *options):
@@ -71,9 +71,9 @@ def measure_pages(times):
     """Prints the times of moves, and of what they are compared with."""
     load = command_for("run", PAGES)
     moves = [command_for("move", PAGES, "--stream", str(version)) for version in VERSIONS]
-    rounds = [([copied(kept) for kept in KEPT], taken(load), [taken(move) for move in moves]) for _ in range(times)]
-    for kept in KEPT:
-        print(f"  plain copy of as many pages over loopback, {kept} copies of a page kept: {min(it[0][kept] for it in rounds):.1f} ms")
+    rounds = [([copied(mode) for mode in MODES], taken(load), [taken(move) for move in moves]) for _ in range(times)]
+    for place, mode in enumerate(MODES):
+        print(f"  plain copy of as many pages over loopback, {mode}: {min(it[0][place] for it in rounds):.1f} ms")
     loaded, _ = min(it[1] for it in rounds)
     print(f"  run of {PAGES} pages, that is to load them: {loaded:.1f} ms")
     for place, version in enumerate(VERSIONS):
