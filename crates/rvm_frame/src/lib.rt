@@ -4,8 +4,8 @@
 //! Stands on `rvm_codec` and the numbered refusals, and knows nothing of guests, moves or hosts:
 //! what a frame means is told above.
 //!
-//! To be read in this order: `items`, `page`, `frame`, `addressed`, `kind`, `fault`, `body`, `read`,
-//! `fields`, `layout`, `write`, `part`, `unfinished`, `reader`, `laws`.
+//! To be read in this order: `items`, `page`, `part`, `frame`, `addressed`, `kind`, `fault`, `body`, `read`,
+//! `fields`, `layout`, `write`, `unfinished`, `reader`, `laws`.
 #![tactic(auto)]
 
 mod addressed;
@@ -30,6 +30,7 @@ pub use fault::{FrameFault, ReadFault};
 pub use frame::Frame;
 pub use items::{Bytes, CopyNumbers, Items, PageNumbers};
 pub use page::PageBytes;
+pub use part::PagePart;
 pub use read::read_frame;
 pub use reader::FrameReader;
 pub use write::{append_frame, frame_bytes, frame_len, write_frame};

@@ -1,6 +1,6 @@
 //! The bytes of a frame that is not whole, where they are kept: the header and a Page's numbers in
-//! an array, a Page's bytes in its box, any other body in a vector with room for all of it. The memory
-//! for either is asked for with the header's last byte; a Page asks for no more.
+//! an array, a Page's bytes where the page will have them, any other body in a vector with room for
+//! all of it. The memory for either is asked for with the header's last byte; a Page asks for no more.
 
 ghost use Rattle.std.specs.Prelude.{◌≡◌, ◌+◌, ◌<◌, ◌≤◌, ◌++◌, ◌∷◌, [], Option, ℕ, length, min, take, true, Some, Ok, None, IfOk, IfErr, OnErr, is_some, option_map, vec_len, vec_capacity};
 ghost use Rattle.rvm_frame.specs.Kinds.{header_len, names_hosts};

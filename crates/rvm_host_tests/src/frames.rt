@@ -19,7 +19,7 @@ pub fn frame(alloc: Global, move_number: u64, kind: u32) -> Result<Frame, AllocE
             move_number,
             page: 0,
             copy_number: 9,
-            bytes: PageBytes::zeros(alloc)?,
+            bytes: PageBytes::from_slice(alloc, &[0; 4096])?,
         },
         4 => Frame::RoundEnd {
             move_number,

@@ -34,8 +34,8 @@ impl<S: Read + Write + Drop> Link for Socket<S> {
     }
 }
 
-/// A connection in this machine: the end that sends, and the one that receives. Each frame goes out as
-/// soon as it is written.
+/// A connection in this machine: the end that sends, and the one that receives. Frames that are written
+/// while others are on their way go out together, as soon as those have been read.
 pub(crate) fn connect<R: Net>(rt: &R) -> Result<(Socket<R::Stream>, Socket<R::Stream>), LinkFault> {
     let listener = TcpListener::bind(rt, (Ipv4Addr::LOCALHOST, 0u16))?;
     let address = listener.local_addr()?;
@@ -44,6 +44,5 @@ pub(crate) fn connect<R: Net>(rt: &R) -> Result<(Socket<R::Stream>, Socket<R::St
     if peer != sending.local_addr()? {
         return Err(LinkFault);
     }
-    sending.set_nodelay(true)?;
     Ok((Socket { stream: sending }, Socket { stream: receiving }))
 }

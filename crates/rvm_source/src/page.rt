@@ -1,6 +1,6 @@
 //! The frame of a copy of a page.
 
-ghost use Rattle.std.specs.Prelude.{◌≡◌, ◌<◌, ◌≤◌, ◌==◌, length, Some};
+ghost use Rattle.std.specs.Prelude.{◌≡◌, ◌<◌, ◌≤◌, ◌==◌, [], length, Some};
 ghost use Rattle.std.specs.List.{list_all};
 ghost use Rattle.rvm_protocol.specs.Frames as protocol;
 ghost use Rattle.rvm_protocol.specs.Rounds.{page_of};
@@ -10,22 +10,23 @@ ghost use Rattle.rvm_message.specs.Frames.{frame_of};
 ghost use Rattle.rvm_message.specs.Sendable.{CanBeSent};
 
 use rvm_debug::Debugged;
-use rvm_frame::{Frame, PageBytes};
+use rvm_frame::{Frame, PagePart};
 use rvm_mem::{Memory, PAGE_SIZE, PagedMemory};
 
 /// The most bytes of the body of a copy: two numbers and those of the page.
 pub(crate) const COPY_BODY: usize = 2 + 4 + PAGE_SIZE as usize;
 
 /// The copy of a page with this number, as a stream of this version has it: from version 2 on a page
-/// of zeros goes without its bytes. `bytes` is where they go.
+/// of zeros goes without its bytes. `part` is where they go.
 pub(crate) fn page_frame<M: PagedMemory>(
     version: u32,
-    mut bytes: PageBytes,
+    mut part: PagePart,
     move_number: u64,
     guest: &Debugged<M>,
     page: u16,
     copy_number: u32,
 ) -> Frame
+    requires empty { part ≡ [] }
     requires page { page < length guest.now.dirty }
     requires move_number { 0 < move_number }
     requires copy_number { 0 < copy_number }
@@ -43,12 +44,12 @@ pub(crate) fn page_frame<M: PagedMemory>(
             copy_number,
         };
     }
-    bytes.set(&copy);
+    part.fill(&copy);
     Frame::Page {
         move_number,
         page,
         copy_number,
-        bytes,
+        bytes: part.into_page(),
     }
 }
 

@@ -1,6 +1,6 @@
 //! The source of a move.
 
-ghost use Rattle.std.specs.Prelude.{◌≡◌, ◌≤◌, ◌<◌, ◌&&◌, ℕ, length, nat_lt, true, IfOk, IfErr, OnErr, None, Some};
+ghost use Rattle.std.specs.Prelude.{◌≡◌, [], ◌≤◌, ◌<◌, ◌&&◌, ℕ, length, nat_lt, true, IfOk, IfErr, OnErr, None, Some};
 ghost use Rattle.rvm_mem.specs.Pages.{has};
 ghost use Rattle.rvm_protocol.specs.Commands.{is_allowed};
 ghost use Rattle.rvm_protocol.specs.Frames as frames;
@@ -25,7 +25,7 @@ use crate::page::{COPY_BODY, page_frame};
 use crate::phase::Phase;
 use crate::state::{send_state, state_bound};
 use rvm_debug::{BoardEvent, Debugged, Turns};
-use rvm_frame::{Frame, PageBytes};
+use rvm_frame::{Frame, PagePart};
 use rvm_mem::{Memory, PageSet, PagedMemory};
 use rvm_message::{
     Answer, HostRefusal, HostReply, NO_TURNS, StepReply, apply_event, step_guest, turn_guest,
@@ -236,12 +236,12 @@ impl<M: PagedMemory> Source<M> {
         ensures sent { IfOk result (λ a. CanBeSent version
             (Some (body_bound version self.old)) a.1) }
     {
-        let bytes = PageBytes::zeros(alloc)?;
+        let part = PagePart::new(alloc)?;
         let _pages = self.pages();
         let number = self.move_number;
         Ok(match self.rounds.next(&mut self.guest) {
             Next::Copied { page, number: copy } => {
-                copied(version, bytes, number, &self.guest, page as u16, copy)
+                copied(version, part, number, &self.guest, page as u16, copy)
             }
             Next::RoundEnded {
                 round,
@@ -272,13 +272,13 @@ impl<M: PagedMemory> Source<M> {
         ensures sent { IfOk result (λ a. CanBeSent version
             (Some (body_bound version self.old)) a.1) }
     {
-        let bytes = PageBytes::zeros(alloc)?;
+        let part = PagePart::new(alloc)?;
         let _pages = self.pages();
         let number = self.move_number;
         match self.rounds.next_last() {
             LastNext::Copied { page, number: copy } => {
                 self.phase = Phase::Stopped { turn: 0 };
-                Ok(copied(version, bytes, number, &self.guest, page as u16, copy))
+                Ok(copied(version, part, number, &self.guest, page as u16, copy))
             }
             LastNext::SeqSpent => Ok(HostReply::refused(HostRefusal::SeqSpent)),
             LastNext::NothingLeft => {
@@ -363,12 +363,13 @@ fn offer_frame<M: PagedMemory>(move_number: u64, guest: &Debugged<M>) -> Frame
 /// A copy of a page, and its frame.
 fn copied<M: PagedMemory>(
     version: u32,
-    bytes: PageBytes,
+    part: PagePart,
     move_number: u64,
     guest: &Debugged<M>,
     page: u16,
     copy_number: u32,
 ) -> Answer
+    requires empty { part ≡ [] }
     requires page { page < length guest.now.dirty }
     requires move_number { 0 < move_number }
     requires copy_number { 0 < copy_number }
@@ -377,7 +378,7 @@ fn copied<M: PagedMemory>(
         (frames.Page move_number page copy_number (page_of board guest.now.guest page))) }
     ensures sent { CanBeSent version (Some 4102) result.1 }
 {
-    let frame = page_frame(version, bytes, move_number, guest, page, copy_number);
+    let frame = page_frame(version, part, move_number, guest, page, copy_number);
     let reply = HostReply::Copied { page, copy_number };
     reply.with(frame)
 }

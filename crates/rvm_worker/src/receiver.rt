@@ -23,7 +23,7 @@ const READS: u32 = 1048576;
 const IDLE_READS: u32 = 1000;
 
 /// How many bytes a read takes at most.
-const BUFFER_SIZE: usize = 4096;
+const BUFFER_SIZE: usize = 1 << 16;
 
 /// A stream of frames, and whether it stands inside a frame.
 #[derive(Drop)]
