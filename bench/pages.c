@@ -3,7 +3,6 @@
    that is new, as a host does that gets a guest; `kept`, which is put, and kept once more at both ends in boxes of
    their own, as journals do. */
 #include <netinet/in.h>
-#include <netinet/tcp.h>
 #include <pthread.h>
 #include <stdio.h>
 #include <stdlib.h>
@@ -56,12 +55,11 @@ static void *receive_pages(void *unused) {
 static void connect_both(void) {
     struct sockaddr_in address = {.sin_family = AF_INET, .sin_addr.s_addr = htonl(INADDR_LOOPBACK)};
     socklen_t length = sizeof address;
-    int listener = socket(AF_INET, SOCK_STREAM, 0), one = 1;
+    int listener = socket(AF_INET, SOCK_STREAM, 0);
     if (bind(listener, (struct sockaddr *)&address, length) != 0 || listen(listener, 1) != 0) exit(1);
     getsockname(listener, (struct sockaddr *)&address, &length);
     sending = socket(AF_INET, SOCK_STREAM, 0);
     if (connect(sending, (struct sockaddr *)&address, length) != 0) exit(1);
-    setsockopt(sending, IPPROTO_TCP, TCP_NODELAY, &one, sizeof one);
     receiving = accept(listener, NULL, NULL);
 }
 
