@@ -1,4 +1,4 @@
-use Rattle.std.proofs.Common.{◌∙◌, ◌*◌, length, ap, sym}
+use Rattle.std.proofs.Common.{◌∙◌, ◌*◌, ◌++◌, length, ap, sym}
 use Rattle.rvm_guest.specs.Pages.{is_zeros}
 use Rattle.rvm_source.proofs.Frames.{page_at_is, zero_frame, old_frame, page_frame}
 use Rattle.rvm_source.proofs.page.page_frame.Goals as goal
@@ -18,12 +18,13 @@ returns-clause-frame g c =
     let guest = c.args.guest.now in
     let a = c.len-size.ensures.length ∙ ap length c.memory.ensures.bytes in
     let b = c.len-size.ensures.pages ∙ ap (λ xs. 4096 * length xs) c.memory.ensures.dirty in
-    let same = c.set.ensures ∙ page_at_is guest.guest c.args.page c.from.result (length guest.dirty) c.len-size.result c.copy_page.new.into _ c.copy_page.ensures c.memory-2.ensures.bytes a b c.from.ensures c.requires.page in
+    let filled = c.into_page.ensures ∙ c.fill.ensures ∙ ap (λ xs. xs ++ c.copy_page.new.into) c.requires.empty in
+    let same = filled ∙ page_at_is guest.guest c.args.page c.from.result (length guest.dirty) c.len-size.result c.copy_page.new.into _ c.copy_page.ensures c.memory-2.ensures.bytes a b c.from.ensures c.requires.page in
     elim c.else-version-ge2.branch [
       | else-version-ge2-via-then-version-ge2+else-is_zeros w ↦
-          page_frame c.args.version c.args.move_number c.args.page c.args.copy_number guest.guest c.set.new.self same
-          w.if-version-ge2.true (ap is_zeros c.set.ensures ∙ sym w.is_zeros.ensures ∙ w.if-is_zeros.false)
+          page_frame c.args.version c.args.move_number c.args.page c.args.copy_number guest.guest c.into_page.result same
+          w.if-version-ge2.true (ap is_zeros filled ∙ sym w.is_zeros.ensures ∙ w.if-is_zeros.false)
       | else-version-ge2-via-else-version-ge2 w ↦
-          old_frame c.args.version c.args.move_number c.args.page c.args.copy_number guest.guest c.set.new.self same
+          old_frame c.args.version c.args.move_number c.args.page c.args.copy_number guest.guest c.into_page.result same
           w.if-version-ge2.false
     ]
