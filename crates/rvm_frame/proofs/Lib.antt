@@ -7,4 +7,3 @@ pub mod Parts
 pub mod Streams
 pub mod Gather
 pub mod Examples
-pub mod Pages
