@@ -9,7 +9,8 @@
   long the copier slept in that move, its answers tell. What is left beside load and sleeps is for the pages;
 - the same with large pages for the heap, as docs/OPERATING.md has it.
 
-    bench/threads.py [TIMES]      TIMES runs each, 5 where it is not given
+    bench/threads.py [TIMES [ROUNDS]]      TIMES runs each, 5 where it is not given, in so many rounds, 1 where it is not
+                                           given, of which the lowest and the highest are printed
 
 Wants valgrind, gcc, and what `make build` builds."""
 import os
@@ -67,31 +68,44 @@ def slept(answers):
     return sum(length * len(re.findall(answer, answers, re.M)) for answer, length in SLEEPS)
 
 
-def measure_pages(times):
-    """Prints the times of moves, and of what they are compared with."""
+def one_round(times):
+    """What a round of so many runs tells, by its name: times in milliseconds, and how they compare with a plain copy."""
     load = command_for("run", PAGES)
     moves = [command_for("move", PAGES, "--stream", str(version)) for version in VERSIONS]
-    rounds = [([copied(mode) for mode in MODES], taken(load), [taken(move) for move in moves]) for _ in range(times)]
-    for place, mode in enumerate(MODES):
-        print(f"  plain copy of as many pages over loopback, {mode}: {min(it[0][place] for it in rounds):.1f} ms")
-    loaded, _ = min(it[1] for it in rounds)
-    print(f"  run of {PAGES} pages, that is to load them: {loaded:.1f} ms")
+    runs = [([copied(mode) for mode in MODES], taken(load), [taken(move) for move in moves]) for _ in range(times)]
+    plain = {mode: min(run[0][place] for run in runs) for place, mode in enumerate(MODES)}
+    loaded, _ = min(run[1] for run in runs)
+    told = {f"plain copy over loopback, {mode}": best for mode, best in plain.items()}
+    told[f"run of {PAGES} pages, that is to load them"] = loaded
     for place, version in enumerate(VERSIONS):
-        moved, answers = min(it[2][place] for it in rounds)
+        moved, answers = min(run[2][place] for run in runs)
         left = moved - loaded - slept(answers)
-        print(f"  move of {PAGES} pages by version {version}: {moved:.1f} ms; sleeps {slept(answers)} ms; for the pages {left:.1f} ms")
+        told[f"move by version {version}"] = moved
+        told[f"  of that, sleeps, version {version}"] = slept(answers)
+        told[f"  for the pages, by version {version}"] = left
+        for mode, best in plain.items():
+            told[f"  that is, times the plain copy, {mode}, version {version}"] = left / best
+    return told
+
+
+def measure_pages(times, rounds):
+    """Prints the times of moves, and of what they are compared with, the lowest and the highest of some rounds."""
+    told = [one_round(times) for _ in range(rounds)]
+    for name in told[0]:
+        print(f"  {name}: {min(it[name] for it in told):.1f} to {max(it[name] for it in told):.1f}")
 
 
 def main():
     times = int(sys.argv[1]) if len(sys.argv) > 1 else 5
+    rounds = int(sys.argv[2]) if len(sys.argv) > 2 else 1
     run, move = a_step("run"), a_step("move")
     print(f"host instructions a step: run {run:.1f}, move {move:.1f}, {move / run:.1f} times")
     build_pages()
-    print("moves of pages:")
-    measure_pages(times)
+    print(f"moves of {PAGES} pages, in milliseconds:")
+    measure_pages(times, rounds)
     print("with large pages for the heap:")
     os.environ["GLIBC_TUNABLES"] = LARGE_PAGES
-    measure_pages(times)
+    measure_pages(times, rounds)
 
 
 if __name__ == "__main__":
