@@ -497,7 +497,7 @@ static void refuse(int no, const char *name)
 }
 static void usage(void)
 {
-    fprintf(stderr, "usage: yardstick run IMAGE [--raw] [--harts N] "
+    fprintf(stderr, "usage: interpreter run IMAGE [--raw] [--harts N] "
                     "[--pages N] [--steps N] [--input FILE] [--count]\n");
     exit(2);
 }

@@ -64,8 +64,10 @@ def taken(words):
 
 
 def slept(answers):
-    """The milliseconds of the copier's sleeps in a move with these answers."""
-    return sum(length * len(re.findall(answer, answers, re.M)) for answer, length in SLEEPS)
+    """The milliseconds of the copier's sleeps in a move with these answers: A's, before those of B, the first of which
+    is `accepted`."""
+    at_a = answers.partition("\naccepted")[0]
+    return sum(length * len(re.findall(answer, at_a, re.M)) for answer, length in SLEEPS)
 
 
 def one_round(times):
