@@ -7,7 +7,7 @@ use Rattle.rvm_protocol.specs.Guest.{Guest}
 pub data Frame (P B : Type 0) : Type 0 where
   -- the source asks to move a guest of this size
   Offer : (move pages processors : ℕ) → Frame P B
-  -- the destination has room for it, or has not
+  -- the target has room for it, or has not
   Accept : (move : ℕ) → Frame P B
   Refuse : (move limit : ℕ) → Frame P B
   -- a copy of one page, numbered from 1 in each move
@@ -16,17 +16,17 @@ pub data Frame (P B : Type 0) : Type 0 where
   Zero : (move page number : ℕ) → Frame P B
   -- a round of copies is over
   RoundEnd : (move round sent skipped left : ℕ) → Frame P B
-  -- the destination lacks these copies
+  -- the target lacks these copies
   Lost : (move : ℕ) → (pages : List ℕ) → Frame P B
   -- the paused guest without its pages, and the number of each page's newest copy
   State : (move : ℕ) → (numbers : List ℕ) → (body : B) → Frame P B
   -- one of the pieces of such a state; its stamp says how many copies were made before
   Part : (move stamp part parts : ℕ) → (bytes : List ℕ) → Frame P B
-  -- the destination holds the whole guest
+  -- the target holds the whole guest
   Ready : (move : ℕ) → Frame P B
-  -- the source has committed: the guest is the destination's
+  -- the source has committed: the guest is the target's
   Go : (move : ℕ) → Frame P B
-  -- the destination runs it
+  -- the target runs it
   Started : (move : ℕ) → Frame P B
   -- the source goes on by itself
   Abort : (move : ℕ) → Frame P B

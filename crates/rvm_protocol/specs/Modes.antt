@@ -19,7 +19,7 @@ pub data Mode (S P : Type 0) : Type 0 where
   Copying : (move : ℕ) → (rounds : Rounds S) → Mode S P
   -- the guest is paused, and the last pages and its state are copied
   Stopped : (move : ℕ) → (last : Last S) → Mode S P
-  -- the guest was committed to the destination
+  -- the guest was committed to the target
   Given : (move : ℕ) → Mode S P
   -- pages of a guest come
   Staging : (move : ℕ) → (stage : Stage P) → Mode S P

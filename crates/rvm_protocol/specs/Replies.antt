@@ -43,7 +43,7 @@ pub data Reply (A : Type 0) : Type 0 where
   Fixing : (count : ℕ) → Reply A
   Committed : (move : ℕ) → Reply A
   Finished : Reply A
-  -- replies to frames, at the destination
+  -- replies to frames, at the target
   Accepted : Reply A
   Declined : (limit : ℕ) → Reply A
   Stored : (page number : ℕ) → Reply A

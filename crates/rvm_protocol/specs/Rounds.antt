@@ -33,7 +33,7 @@ pub record Rounds (S : Type 0) : Type 0 where
 pub record Last (S : Type 0) : Type 0 where
   pub guest : S
   pub to_send : Pages
-  -- pages that the destination reported lost
+  -- pages that the target reported lost
   pub to_fix : Pages
   pub newest : ℕ → ℕ
   pub copies : ℕ

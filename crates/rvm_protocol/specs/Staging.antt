@@ -1,4 +1,4 @@
--- The destination of a move: pages are staged as their copies come, each replaced by newer ones
+-- The target of a move: pages are staged as their copies come, each replaced by newer ones
 -- alone, until a state names copies that are all there.
 use Rattle.std.specs.Prelude.{ℕ, Bool, ◌&&◌, ◌||◌, ◌==◌, if◌then◌else◌, nat_lt, List, get_or, set, replicate}
 use Rattle.std.specs.declared.option.Option.{Option}

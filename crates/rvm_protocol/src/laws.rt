@@ -45,7 +45,7 @@ pub fn a_round_copies_what_is_not_written_again<S, P, E, A, B>()
     ensures always { (m : Guest S P E A B) (version n : ℕ) → RoundsCopyWhatIsNotWrittenAgain m version n }
 {}
 
-/// Before it stops, a move makes at most as many copies of a page as it may make rounds.
+/// Before it stops, a move makes at most as many copies as it may make rounds, times the pages of its guest.
 pub fn copies_are_bounded<S, P, E, A, B>()
     ensures always { (m : Guest S P E A B) → CopiesAreBounded m }
 {}
