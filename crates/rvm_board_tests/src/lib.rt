@@ -1,7 +1,7 @@
 //! Tests of memories, frames, the bytes of a guest and a debugger's scripts, of what no clause
 //! says: layouts, that each call that takes memory succeeds, also after one that was refused it (`make faults`
-//! refuses each growth of each test in turn), and what a read or a write that fails leads to. What a debugger
-//! prints are cases (`debugging.cases` of `rvm_cases`).
+//! refuses growths in turn, at most 60 of a test; with `MOST=0` each one), and what a read or a write that fails
+//! leads to. What a debugger prints are cases (`debugging.cases` of `rvm_cases`).
 //!
 //! Stands on the libraries, which have no tests of their own. What it expects comes from the
 //! definitions' worked cases and from the manual's formats, never from this program.

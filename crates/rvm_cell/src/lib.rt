@@ -16,4 +16,4 @@ pub use closing::{CloseError, CloseKind, close};
 pub use locked::Locked;
 pub use receipt::Receipt;
 pub use seat::{Seat, Seating};
-pub use shared::{SharedHost, share};
+pub use shared::{ShareError, SharedHost, share};

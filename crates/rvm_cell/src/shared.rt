@@ -1,8 +1,11 @@
 //! A recorded host under a lock.
 
-ghost use Rattle.std.specs.Prelude.{◌≡◌, ◌+◌, ◌<◌, ◌≤◌, ℕ, [], length, IfOk, IfErr, OnOk, OnErr, Some, slice_get, vec_len, vec_capacity};
+ghost use Rattle.std.specs.Prelude.{◌≡◌, ◌⊎◌, ◌↔◌, ◌+◌, ◌<◌, ◌≤◌, ℕ, [], length, IfOk, IfErr, OnOk, OnErr, Some, slice_get, vec_len, vec_capacity};
 ghost use Rattle.rvm_cell.specs.Calls.{AreOfSeat, IsReceipt};
-ghost use Rattle.rvm_cell.specs.Seats.{seat_of};
+ghost use Rattle.rvm_cell.specs.declared.shared.ShareError.TheVariants.{BadSize};
+ghost use Rattle.rvm_cell.specs.Seats.{seat_of, share_refusal};
+ghost use Rattle.rvm_journal.specs.declared.error.SliceError.TheVariants.{OutOfRange};
+ghost use Rattle.rvm_journal.specs.Errors.{IsSized};
 
 use crate::locked::Locked;
 use crate::receipt::Receipt;
@@ -11,9 +14,36 @@ use rvm_frame::Addressed;
 use rvm_journal::{RecordError, Recorded, SliceError};
 use rvm_mem::PagedMemory;
 use rvm_message::{ExchangeRoom, HostEvent};
-use std::alloc::{AllocError, Global};
+use rvm_refusal::Refusal;
+use std::alloc::Global;
 use std::sync::ledger::{Blank, Share};
 use std::sync::{Mutex, Wait};
+use thiserror::Error;
+
+/// The most seats of a host.
+const MAX_SEATS: u32 = 16;
+
+/// Why a host was not shared.
+#[derive(Clone, Copy, PartialEq, Eq, Debug, Error)]
+pub enum ShareError {
+    /// No seat, or more than 16.
+    #[error("a host has 1 to 16 seats")]
+    BadSize,
+    /// A growth was refused.
+    #[error("out of memory")]
+    OutOfMemory,
+}
+
+impl From<ShareError> for Refusal {
+    ghost from_gives = { λ why told. told ≡ share_refusal why };
+
+    fn from(why: ShareError) -> Refusal {
+        match why {
+            ShareError::BadSize => Refusal::BadSize,
+            ShareError::OutOfMemory => Refusal::OutOfMemory,
+        }
+    }
+}
 
 /// A host that several threads call, each with a seat of its own.
 #[derive(Drop)]
@@ -21,23 +51,28 @@ pub struct SharedHost<L: Seating, M: PagedMemory + Drop> {
     pub(crate) lock: Mutex<Locked<L, M>>,
 }
 
-/// A shared host and its seats, each of which has made no call. Where a growth is refused, what was
-/// handed in comes back.
+/// A shared host and its seats, 1 to 16, each of which has made no call. `BadSize` for any other number of
+/// seats. What was handed in comes back with a refusal.
 pub fn share<L: Seating, M: PagedMemory + Drop>(
     alloc: Global,
     blank: Blank,
     recorded: Recorded<M>,
     seats: u32,
-) -> Result<(SharedHost<L, M>, Vec<Seat<L>>), (AllocError, Blank, Recorded<M>)>
+) -> Result<(SharedHost<L, M>, Vec<Seat<L>>), (ShareError, Blank, Recorded<M>)>
     requires ledger { (blank.name ≡ L.name) × (blank.parts ≡ L.parts) × (L.seats ≡ L.parts) }
     requires seats { blank.parts ≡ seats }
     requires empty { recorded.journal.entries ≡ [] }
     ensures seats { IfOk result (λ r. vec_len r.1 ≡ seats) }
     ensures fresh { IfOk result (λ r. (k : ℕ) → k < seats → slice_get r.1.items k ≡ Some (seat_of k 0)) }
+    ensures few { OnOk result ((1 ≤ seats) × (seats ≤ 16)) }
+    ensures size { IfErr result (λ e. (e.0 ≡ BadSize) ↔ ((seats ≡ 0) ⊎ (16 < seats))) }
     ensures back { IfErr result (λ e. (e.1 ≡ blank) × (e.2 ≡ recorded)) }
 {
+    if seats == 0 || seats > MAX_SEATS {
+        return Err((ShareError::BadSize, blank, recorded));
+    }
     let Ok(list) = Vec::with_capacity(alloc, seats as usize) else {
-        return Err((AllocError, blank, recorded));
+        return Err((ShareError::OutOfMemory, blank, recorded));
     };
     let (book, all) = blank.open::<L>();
     let (list, spare) = cut(all, list, seats);
@@ -102,8 +137,8 @@ impl<L: Seating, M: PagedMemory + Drop> SharedHost<L, M> {
         self.lock.lock(rt).call(alloc, seat, event, copy, room)
     }
 
-    /// Records a slice of at most n steps under one hold of the lock, as `Recorded::record_slice` has
-    /// it: a receipt for each step. It may wait for another thread.
+    /// Records a slice of at most n steps, 1 to 64, under one hold of the lock, as `Recorded::record_slice`
+    /// has it: a receipt for each step. It may wait for another thread.
     pub fn call_slice<R: Wait>(
         &self,
         rt: &R,
@@ -117,6 +152,7 @@ impl<L: Seating, M: PagedMemory + Drop> SharedHost<L, M> {
         ensures steps { IfOk result (λ v. (1 ≤ length v.items) × (length v.items ≤ n)) }
         ensures seat { IfOk result (λ v. seat.new ≡ seat_of seat.old.id (seat.old.count + length v.items)) }
         ensures err { OnErr result (seat.new ≡ seat.old) }
+        ensures range { IfErr result (λ e. e ≡ OutOfRange → IsSized harts n → ⊥) }
     {
         let Ok(receipts) = Vec::with_capacity(alloc, 64) else {
             return Err(SliceError::OutOfMemory);

@@ -1,20 +1,25 @@
 -- A frame as a host hears it.
 use Rattle.std.proofs.Common.{◌≡◌, ℕ, true, false, if◌then◌else◌, Option, None, Result, sym, ap, subst}
-use Rattle.std.specs.Prelude.{IfOk}
+use Rattle.std.specs.Prelude.{IfOk, OnErr}
 use Rattle.std.specs.declared.alloc.AllocError.{AllocError}
 use Rattle.rvm_frame.specs.declared.frame.Frame.{Frame}
 use Rattle.rvm_guest.proofs.TheGuest.{board}
-use Rattle.rvm_message.specs.Answers.{Answers, BoardMode}
+use Rattle.rvm_message.specs.Answers.{Answers, BoardMode, BoardOutcome}
 use Rattle.rvm_message.specs.Frames.{BoardFrame, can_come, frame_heard, frame_of, no_frame}
 use Rattle.rvm_message.specs.declared.reply.HostReply.{HostReply}
 use Rattle.rvm_protocol.specs.Frames.{plain}
 use Rattle.rvm_protocol.specs.Receiving.{came}
+use Rattle.rvm_core.specs.Memory.{is_ignored}
 use Rattle.rvm_core.proofs.Sendings.{frame_is}
-use Rattle.rvm_core.proofs.Targets.{alone, if_ok}
+use Rattle.rvm_core.proofs.Targets.{alone, if_err, if_ok}
 
 -- what a host hears of a frame
 abbrev pub heard : Frame → BoardFrame
 heard f = plain board (frame_heard f)
+
+-- what comes of a frame that is not ignored
+abbrev pub Heeds : BoardOutcome → Type 0
+Heeds o = is_ignored o.reply ≡ false
 
 module _ (limit : ℕ) (f : Frame) (h : BoardFrame) (mode next : BoardMode) (is : heard f ≡ h) where
   pub so_heard : (version : ℕ) (a : HostReply × Option Frame) → Answers version (came board limit h mode) a next → Answers version (came board limit (heard f) mode) a next
@@ -29,6 +34,14 @@ module _ (limit : ℕ) (f : Frame) (h : BoardFrame) (mode next : BoardMode) (is 
       → IfOk r (λ a. (version : ℕ) → Answers version (came board limit (heard f) mode) a next)
   if_heard r = if_ok r (λ a. (version : ℕ) → Answers version (came board limit h mode) a next) (λ a. (version : ℕ) → Answers version (came board limit (heard f) mode) a next)
       (λ a so version. so_heard version a (so version))
+
+  pub so_heeded : Heeds (came board limit h mode) → Heeds (came board limit (heard f) mode)
+  so_heeded so = subst (λ (x : BoardFrame). Heeds (came board limit x mode)) (sym is) so
+
+  -- what is said whatever the limit is
+  pub err_heeded : (r : Result (HostReply × Option Frame) AllocError)
+      → OnErr r ((most : ℕ) → Heeds (came board most h mode)) → OnErr r (Heeds (came board limit (heard f) mode))
+  err_heeded r = if_err r ((most : ℕ) → Heeds (came board most h mode)) (Heeds (came board limit (heard f) mode)) (λ so. so_heeded (so limit))
 
 -- FRAMES THAT COME, AND OTHERS
 

@@ -1,8 +1,9 @@
 -- What comes of a frame at the target of a move.
-use Rattle.std.proofs.Common.{◌≡◌, ℕ, Bool, if◌then◌else◌, List, Option, None, Result, Ok, Err, sym, ap, subst, ◌∙◌}
-use Rattle.std.specs.Prelude.{IfOk}
+use Rattle.std.proofs.Common.{◌≡◌, ℕ, ◌==◌, Bool, true, if◌then◌else◌, List, Option, None, Result, Ok, Err, sym, ap, subst, ◌∙◌}
+use Rattle.std.specs.Prelude.{IfOk, OnErr}
 use Rattle.std.specs.declared.alloc.AllocError.{AllocError}
-use Rattle.std.proofs.lemmas.Bool.{eq-eqb, ne_eqb}
+use Rattle.std.proofs.lemmas.Bool.{eq-eqb, eqb-true, ne_eqb}
+use Rattle.rvm_codec.proofs.Steps.{both_are}
 use Rattle.rvm_frame.specs.declared.frame.Frame.{Frame}
 use Rattle.rvm_guest.proofs.TheGuest.{board}
 use Rattle.rvm_handover.specs.Outcomes.{IsLeft}
@@ -19,12 +20,23 @@ use Rattle.rvm_protocol.specs.Modes as protocol
 use Rattle.rvm_protocol.specs.Modes.{ignores, move_of, sends}
 use Rattle.rvm_protocol.specs.Receiving.{came, of_this_move, offer_above, part_came, state_came}
 use Rattle.rvm_protocol.specs.Replies.{Accepted}
-use Rattle.rvm_core.specs.Modes.{PlainMode, Staging, mode_of}
+use Rattle.rvm_protocol.specs.Staging as staging
+use Rattle.rvm_core.specs.Modes.{PlainMode, Staging, mode_of, takes_part}
 
 -- what follows from what holds where a result is there
 pub if_ok : {X E : Type 0} (r : Result X E) (P Q : X → Type 0) → ((x : X) → P x → Q x) → IfOk r P → IfOk r Q
 if_ok (Ok x) P Q so is = so x is
 if_ok (Err e) P Q so is = tt
+
+-- what follows from what holds where a result is an error
+pub if_err : {X E : Type 0} (r : Result X E) (P Q : Type 0) → (P → Q) → OnErr r P → OnErr r Q
+if_err (Ok x) P Q so is = tt
+if_err (Err e) P Q so is = so is
+
+-- what holds anyway holds where a result is an error
+pub on_err : {X E : Type 0} (r : Result X E) (P : Type 0) → P → OnErr r P
+on_err (Ok x) P so = tt
+on_err (Err e) P so = so
 
 -- a reply without a frame
 pub alone : (version : ℕ) (o : BoardOutcome) (a : HostReply × Option Frame) (r : HostReply) (next : BoardMode)
@@ -33,6 +45,12 @@ alone version o a r next first second is = record { reply = ap reply_of first �
 
 this_move : (n k : ℕ) (o : BoardOutcome) (mode : BoardMode) → n ≡ k → of_this_move board n k o mode ≡ o
 this_move n k o mode same = ap (λ (b : Bool). if b then o else ignores mode) (eq-eqb n k same)
+
+-- a piece counts for the move whose pages come
+pub of_staged : (k stamp part parts n : ℕ) (mode : PlainMode) (s : PlainStage) → mode ≡ Staging n s → takes_part k stamp part parts mode ≡ true → n ≡ k
+of_staged k stamp part parts n mode s here takes =
+    let is : takes_part k stamp part parts (Staging n s) ≡ true = sym (ap (λ (m : PlainMode). takes_part k stamp part parts m) here) ∙ takes in
+    eqb-true n k (both_are (n == k) (staging.takes_part (stage_of s) stamp part parts) is).0
 
 module _ (limit version n k : ℕ) (mode last : PlainMode) (before after : PlainStage) (a : HostReply × Option Frame) (here : mode ≡ Staging n before) (there : last ≡ Staging k after) (same : n ≡ k) where
   pub state_left : (numbers body : List ℕ) (reason : NotReady)

@@ -1,9 +1,10 @@
 -- The modes of a host: as plain values, and as the law of live migration has them.
-use Rattle.std.specs.Prelude.{ℕ, ◌==◌, Bool, true, false}
+use Rattle.std.specs.Prelude.{ℕ, ◌==◌, ◌&&◌, Bool, true, false}
 use Rattle.rvm_debug.specs.Guest.{Guest}
 use Rattle.rvm_handover.specs.Stages.{PlainStage, stage_of}
 use Rattle.rvm_message.specs.Answers.{BoardMode}
 use Rattle.rvm_protocol.specs.Modes as protocol
+use Rattle.rvm_protocol.specs.Staging as staging
 use Rattle.rvm_source.specs.Sources as source
 use Rattle.rvm_source.specs.Sources.{PlainSource}
 use Rattle.rvm_core.specs.declared.mode.Mode.{Mode}
@@ -39,6 +40,11 @@ mode_of (Held n g) = protocol.Held n g
 abbrev pub is_held : (move : ℕ) → PlainMode → Bool
 is_held k (Held n g) = n == k
 is_held k mode = false
+
+-- pages of the guest of this move come, and this piece of its state counts
+abbrev pub takes_part : (move stamp part parts : ℕ) → PlainMode → Bool
+takes_part k stamp part parts (Staging n s) = (n == k) && staging.takes_part (stage_of s) stamp part parts
+takes_part k stamp part parts mode = false
 
 -- the guest runs here, and no move is going on
 abbrev pub runs : PlainMode → Bool

@@ -11,12 +11,12 @@ ghost use Rattle.rvm_protocol.specs.Commands as commands;
 ghost use Rattle.rvm_protocol.specs.Frames.{plain, posted};
 ghost use Rattle.rvm_protocol.specs.Host.{is_heard, is_offer_above, is_there};
 ghost use Rattle.rvm_core.specs.Bounds.{CanBePosted, IsHost, addressed, frame_bound};
-ghost use Rattle.rvm_core.specs.Hosts.{Steps, host_of, is_sized, new_host, partner_of, version_of};
-ghost use Rattle.rvm_core.specs.Memory.{asks_memory, needs_memory, takes_memory};
+ghost use Rattle.rvm_core.specs.Hosts.{Steps, host_of, is_sized, new_host, partner_of, step_of, version_of};
+ghost use Rattle.rvm_core.specs.Memory.{asks_memory, is_ignored, needs_memory, takes_memory};
 ghost use Rattle.rvm_core.specs.Turns.{HasLog, turned};
 
 use crate::bound::{came_body, with_header};
-use crate::limits::is_spoken;
+use crate::limits::{BadSize, is_spoken};
 use crate::mode::Mode;
 use rvm_debug::{Debugged, Turns};
 use rvm_frame::{Addressed, Frame};
@@ -71,22 +71,22 @@ impl<M: PagedMemory> Model for Host<M> {
 
 impl<M: PagedMemory + Drop> Host<M> {
     /// A host with this number among so many, that has this guest or none, takes guests of at most so
-    /// many pages and speaks this version of the stream. The guest comes back where the number of hosts
-    /// is not 2 to 8, the host's number not below it, the limit not 1 to 4096, or the version none that
-    /// so many hosts can speak: 1, 2 or 3 of two, 3 of more.
+    /// many pages and speaks this version of the stream. `BadSize` where the number of hosts is not 2 to
+    /// 8, the host's number not below it, the limit not 1 to 4096, or the version none that so many hosts
+    /// can speak: 1, 2 or 3 of two, 3 of more; and the guest comes back.
     pub fn with_version(
         guest: Option<Debugged<M>>,
         id: u8,
         count: u8,
         limit: u16,
         version: u32,
-    ) -> Result<Host<M>, Option<Debugged<M>>>
+    ) -> Result<Host<M>, (BadSize, Option<Debugged<M>>)>
         ensures host { IfOk result (λ h. h ≡ new_host guest id count limit version) }
         ensures size { IsErr result ↔ (is_sized id count limit version ≡ false) }
-        ensures guest { IfErr result (λ g. g ≡ guest) }
+        ensures guest { IfErr result (λ e. e.1 ≡ guest) }
     {
         if !is_sized(id, count, limit, version) {
-            return Err(guest);
+            return Err((BadSize, guest));
         }
         let mode = match guest {
             Some(guest) => Mode::Run {
@@ -105,24 +105,25 @@ impl<M: PagedMemory + Drop> Host<M> {
         })
     }
 
-    /// A host that speaks version 1 of the stream where there are two, else version 3.
+    /// A host that speaks version 1 of the stream where there are two, else version 3. `BadSize`, and the
+    /// guest comes back, where `with_version` answers it.
     pub fn new(
         guest: Option<Debugged<M>>,
         id: u8,
         count: u8,
         limit: u16,
-    ) -> Result<Host<M>, Option<Debugged<M>>>
+    ) -> Result<Host<M>, (BadSize, Option<Debugged<M>>)>
         ensures host { IfOk result (λ h. h ≡ new_host guest id count limit (version_of count)) }
         ensures size { IsErr result ↔ (is_sized id count limit (version_of count) ≡ false) }
-        ensures guest { IfErr result (λ g. g ≡ guest) }
+        ensures guest { IfErr result (λ e. e.1 ≡ guest) }
     {
         let version = if count == 2 { 1 } else { 3 };
         Host::with_version(guest, id, count, limit, version)
     }
 
     /// What an event does: the reply, and the frame that was made, if one was. After a refused growth
-    /// nothing has changed; events of the guest, and frames but Offer, Lost, State and Part, take no
-    /// memory.
+    /// nothing has changed; events of the guest, frames but Offer, Lost, State and Part, and each frame
+    /// that is ignored, take no memory.
     pub fn apply(
         &mut self,
         alloc: Global,
@@ -131,6 +132,7 @@ impl<M: PagedMemory + Drop> Host<M> {
         ensures steps { IfOk result (λ a. Steps self.old (event_of event.now) a self.new) }
         ensures err { OnErr result (self.new ≡ self.old) }
         ensures memory { OnErr result (needs_memory (event_of event.now) ≡ true) }
+        ensures heeded { OnErr result (is_ignored (step_of self.old (event_of event.now)).reply ≡ false) }
         ensures sent { IfOk result (λ a. CanBePosted self.old
             (frame_bound self.old (event_of event.now)) a.1) }
     {
@@ -211,6 +213,8 @@ impl<M: PagedMemory + Drop> Host<M> {
             (commands.Came from (frame_heard frame.now)) a self.new) }
         ensures err { OnErr result (self.new ≡ self.old) }
         ensures memory { OnErr result (takes_memory (frame_heard frame.now) ≡ true) }
+        ensures heeded { OnErr result (is_ignored (step_of self.old
+            (commands.Came from (frame_heard frame.now))).reply ≡ false) }
         ensures sent { IfOk result (λ a. CanBePosted self.old
             (frame_bound self.old (commands.Came from (frame_heard frame.now))) a.1) }
     {

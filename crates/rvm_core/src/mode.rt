@@ -1,6 +1,6 @@
 //! The modes of a host.
 
-ghost use Rattle.std.specs.Prelude.{◌≡◌, ◌≤◌, ℕ, true, IfOk, OnErr, None};
+ghost use Rattle.std.specs.Prelude.{◌≡◌, ◌≤◌, ℕ, true, false, IfOk, OnErr, None};
 ghost use Rattle.rvm_guest.proofs.TheGuest.{board};
 ghost use Rattle.rvm_message.specs.Answers.{Answers};
 ghost use Rattle.rvm_message.specs.Events.{command_of};
@@ -11,7 +11,7 @@ ghost use Rattle.rvm_protocol.specs.Modes.{move_of};
 ghost use Rattle.rvm_protocol.specs.Obeying as obeying;
 ghost use Rattle.rvm_protocol.specs.Receiving as receiving;
 ghost use Rattle.rvm_core.specs.Bounds.{HasNumber, came_body, command_body};
-ghost use Rattle.rvm_core.specs.Memory.{asks_memory, takes_memory};
+ghost use Rattle.rvm_core.specs.Memory.{asks_memory, is_ignored, takes_memory};
 ghost use Rattle.rvm_core.specs.Modes.{mode_of, plain_of, runs};
 
 use rvm_debug::Debugged;
@@ -135,6 +135,8 @@ impl<M: PagedMemory + Drop> Mode<M> {
             (mode_of (plain_of self.old))) a (mode_of (plain_of self.new))) }
         ensures err { OnErr result (self.new ≡ self.old) }
         ensures memory { OnErr result (takes_memory (frame_heard frame.now) ≡ true) }
+        ensures heeded { OnErr result (is_ignored (receiving.came board limit
+            (plain board (frame_heard frame.now)) (mode_of (plain_of self.old))).reply ≡ false) }
         ensures sent { IfOk result (λ a. (version : ℕ)
             → CanBeSent version (came_body (frame_heard frame.now)) a.1) }
     {

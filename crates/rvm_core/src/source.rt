@@ -1,6 +1,6 @@
 //! The commands of a host, and the frames that come to the source of a move.
 
-ghost use Rattle.std.specs.Prelude.{◌≡◌, ◌<◌, ℕ, IfOk, OnErr, None, Some};
+ghost use Rattle.std.specs.Prelude.{◌≡◌, ◌<◌, ℕ, false, IfOk, OnErr, None, Some};
 ghost use Rattle.rvm_guest.proofs.TheGuest.{board};
 ghost use Rattle.rvm_message.specs.Answers.{Answers};
 ghost use Rattle.rvm_message.specs.Sendable.{CanBeSent};
@@ -12,6 +12,7 @@ ghost use Rattle.rvm_protocol.specs.Modes as protocol;
 ghost use Rattle.rvm_protocol.specs.Obeying as obeying;
 ghost use Rattle.rvm_protocol.specs.Receiving as receiving;
 ghost use Rattle.rvm_core.specs.Bounds.{HasNumber, copy_body, resend_body};
+ghost use Rattle.rvm_core.specs.Memory.{is_ignored};
 ghost use Rattle.rvm_core.specs.Modes.{mode_of, plain_of};
 ghost use Rattle.rvm_core.specs.Turns.{HasLog, turned};
 
@@ -213,7 +214,8 @@ impl<M: PagedMemory + Drop> Mode<M> {
         }
     }
 
-    /// The target lacks copies of pages. After a refused growth nothing has changed.
+    /// The target lacks copies of pages. After a refused growth nothing has changed; none is asked for
+    /// where the frame is ignored.
     pub(crate) fn lost(
         &mut self,
         alloc: Global,
@@ -225,9 +227,16 @@ impl<M: PagedMemory + Drop> Mode<M> {
             (mode_of (plain_of self.old)))
             (r, None) (mode_of (plain_of self.new))) }
         ensures err { OnErr result (self.new ≡ self.old) }
+        ensures heeded { OnErr result ((limit : ℕ) → is_ignored (receiving.came board limit
+            (frames.Lost move_number pages.now) (mode_of (plain_of self.old))).reply ≡ false) }
     {
         match self {
-            Mode::Leaving(source) => source.lost(alloc, move_number, pages),
+            Mode::Leaving(source) => {
+                if !source.is_stopped(move_number) {
+                    return Ok(HostReply::Refused(HostRefusal::Ignored));
+                }
+                source.lost(alloc, move_number, pages)
+            }
             _ => Ok(HostReply::Refused(HostRefusal::Ignored)),
         }
     }

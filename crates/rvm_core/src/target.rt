@@ -1,6 +1,6 @@
 //! The frames that come to the target of a move.
 
-ghost use Rattle.std.specs.Prelude.{◌≡◌, ◌≤◌, ◌<◌, ℕ, if◌then◌else◌, IfOk, OnErr, None, Some};
+ghost use Rattle.std.specs.Prelude.{◌≡◌, ◌≤◌, ◌<◌, ℕ, false, if◌then◌else◌, IfOk, OnErr, None, Some};
 ghost use Rattle.rvm_guest.proofs.TheGuest.{board};
 ghost use Rattle.rvm_message.specs.Answers.{Answers, BoardOutcome};
 ghost use Rattle.rvm_message.specs.Sendable.{CanBeSent};
@@ -11,7 +11,8 @@ ghost use Rattle.rvm_protocol.specs.Receiving as receiving;
 ghost use Rattle.rvm_handover.specs.Outcomes.{CanBeTold, IsLeft};
 ghost use Rattle.rvm_handover.specs.Pieces.{IsPartLeft, PartCanBeTold};
 ghost use Rattle.rvm_handover.specs.Stages.{PlainStage, stage_of};
-ghost use Rattle.rvm_core.specs.Modes.{is_held, mode_of, plain_of};
+ghost use Rattle.rvm_core.specs.Memory.{is_ignored};
+ghost use Rattle.rvm_core.specs.Modes.{is_held, mode_of, plain_of, takes_part};
 
 use crate::mode::Mode;
 use rvm_debug::Debugged;
@@ -23,7 +24,7 @@ use std::alloc::{AllocError, Global};
 
 impl<M: PagedMemory + Drop> Mode<M> {
     /// A move is offered. What is staged or held here stays until there is room for the new guest.
-    /// After a refused growth nothing has changed.
+    /// After a refused growth nothing has changed; none is asked for where the offer is ignored.
     pub(crate) fn offered(
         &mut self,
         alloc: Global,
@@ -40,6 +41,8 @@ impl<M: PagedMemory + Drop> Mode<M> {
             (receiving.came board limit (frames.Offer move_number pages harts)
             (mode_of (plain_of self.old))) a (mode_of (plain_of self.new))) }
         ensures err { OnErr result (self.new ≡ self.old) }
+        ensures heeded { OnErr result (is_ignored (receiving.came board limit
+            (frames.Offer move_number pages harts) (mode_of (plain_of self.old))).reply ≡ false) }
         ensures sent { IfOk result (λ a. (version : ℕ) → CanBeSent version (Some 2) a.1) }
     {
         match self {
@@ -76,6 +79,9 @@ impl<M: PagedMemory + Drop> Mode<M> {
             (receiving.offer_above board (move_of (mode_of (plain_of self.old))) limit move_number
             pages harts (mode_of (plain_of self.old))) a (mode_of (plain_of self.new))) }
         ensures err { OnErr result (self.new ≡ self.old) }
+        ensures heeded { OnErr result (is_ignored (receiving.offer_above board
+            (move_of (mode_of (plain_of self.old))) limit move_number pages harts
+            (mode_of (plain_of self.old))).reply ≡ false) }
         ensures sent { IfOk result (λ a. (version : ℕ) → CanBeSent version (Some 2) a.1) }
     {
         if move_number <= self.move_number() {
@@ -156,7 +162,7 @@ impl<M: PagedMemory + Drop> Mode<M> {
     }
 
     /// The state of the guest. What is staged stays whole until the guest is made. After a refused
-    /// growth nothing has changed.
+    /// growth nothing has changed; none is asked for where the state is ignored.
     pub(crate) fn state(
         &mut self,
         alloc: Global,
@@ -169,6 +175,8 @@ impl<M: PagedMemory + Drop> Mode<M> {
             (receiving.came board limit (frames.State move_number numbers.now bytes.now)
             (mode_of (plain_of self.old))) a (mode_of (plain_of self.new))) }
         ensures err { OnErr result (self.new ≡ self.old) }
+        ensures heeded { OnErr result ((limit : ℕ) → is_ignored (receiving.came board limit
+            (frames.State move_number numbers.now bytes.now) (mode_of (plain_of self.old))).reply ≡ false) }
         ensures sent { IfOk result (λ a. (version : ℕ) → CanBeSent version (Some 8194) a.1) }
     {
         if self.is_held(move_number) {
@@ -198,7 +206,8 @@ impl<M: PagedMemory + Drop> Mode<M> {
         }
     }
 
-    /// A piece of the state. After a refused growth nothing has changed.
+    /// A piece of the state. After a refused growth nothing has changed; none is asked for where the
+    /// piece is ignored.
     pub(crate) fn part(
         &mut self,
         alloc: Global,
@@ -214,33 +223,39 @@ impl<M: PagedMemory + Drop> Mode<M> {
             (receiving.came board limit (frames.Part move_number stamp part parts bytes.now)
             (mode_of (plain_of self.old))) a (mode_of (plain_of self.new))) }
         ensures err { OnErr result (self.new ≡ self.old) }
+        ensures heeded { OnErr result ((limit : ℕ) → is_ignored (receiving.came board limit
+            (frames.Part move_number stamp part parts bytes.now) (mode_of (plain_of self.old))).reply ≡ false) }
         ensures sent { IfOk result (λ a. (version : ℕ) → CanBeSent version (Some 8194) a.1) }
     {
         if self.is_held(move_number) {
             return Ok(HostReply::ReadySent.with(Frame::Ready { move_number }));
         }
+        if !self.takes_part(move_number, stamp, part, parts) {
+            return Ok(HostReply::refused(HostRefusal::Ignored));
+        }
         let bytes = bytes.copy(alloc)?;
         match self.take() {
+            Mode::Staging { staging, .. } => match staging.part(alloc, stamp, part, parts, bytes) {
+                Ok(guest) => Ok(self.hold(move_number, guest)),
+                Err((reason, staging)) => {
+                    self.keep(move_number, staging);
+                    not_joined(move_number, part, parts, reason)
+                }
+            },
+            mode => Ok(self.stay(mode, HostRefusal::Ignored)),
+        }
+    }
+
+    /// Whether a piece of the state of this move's guest counts here. Takes no memory.
+    fn takes_part(&self, move_number: u64, stamp: u32, part: u8, parts: u8) -> bool
+        ensures { result ≡ takes_part move_number stamp part parts (plain_of self.now) }
+    {
+        match self {
             Mode::Staging {
                 move_number: staged,
                 staging,
-            } => {
-                if staged != move_number {
-                    let mode = Mode::Staging {
-                        move_number: staged,
-                        staging,
-                    };
-                    return Ok(self.stay(mode, HostRefusal::Ignored));
-                }
-                match staging.part(alloc, stamp, part, parts, bytes) {
-                    Ok(guest) => Ok(self.hold(move_number, guest)),
-                    Err((reason, staging)) => {
-                        self.keep(move_number, staging);
-                        not_joined(move_number, part, parts, reason)
-                    }
-                }
-            }
-            mode => Ok(self.stay(mode, HostRefusal::Ignored)),
+            } => *staged == move_number && staging.takes(stamp, part, parts),
+            _ => false,
         }
     }
 

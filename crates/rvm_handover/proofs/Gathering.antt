@@ -1,6 +1,6 @@
 -- The bytes of pieces, one behind the other, where none is lacking.
-use Rattle.std.proofs.Common.{◌≡◌, ◌<◌, ◌≤◌, ℕ, suc, ◌+◌, ◌-◌, List, ◌++◌, Option, Some, None, refl, sym, ap, ◌∙◌, arith, append_assoc, append-nil}
-use Rattle.std.specs.Prelude.{option_map}
+use Rattle.std.proofs.Common.{◌≡◌, ◌<◌, ◌≤◌, ℕ, suc, ◌+◌, ◌-◌, Bool, true, false, List, ◌++◌, Option, Some, None, refl, sym, ap, ◌∙◌, arith, append_assoc, append-nil}
+use Rattle.std.specs.Prelude.{is_some, option_map}
 use Rattle.rvm_protocol.specs.Pages.{gathered, with_first}
 use Rattle.rvm_guest.specs.Pages.{joined}
 
@@ -43,3 +43,23 @@ module _ (f : ℕ → Option (List ℕ)) (p n : ℕ) (xs : List ℕ) (all : Opti
       ap (λ z. Some z) (sym (append-nil xs))
       ∙ ap (λ k. behind xs (option_map joined (gathered f p k))) (sym e)
       ∙ so_far
+
+-- WHETHER NONE IS LACKING
+
+first_there : (x : List ℕ) (rest : Option (List (List ℕ))) → is_some (with_first (Some x) rest) ≡ is_some rest
+first_there x None = refl
+first_there x (Some xs) = refl
+
+module _ (f : ℕ → Option (List ℕ)) (p n : ℕ) (all : Bool) (so_far : is_some (gathered f p (n - p)) ≡ all) where
+  pub one_there : (x : List ℕ) → p < n → f p ≡ Some x → is_some (gathered f (p + 1) (n - (p + 1))) ≡ all
+  one_there x lt is =
+      sym (ap (λ (o : Option (List (List ℕ))). is_some o) (next_is (Some x) f p n lt is) ∙ first_there x (gathered f (p + 1) (n - (p + 1)))) ∙ so_far
+
+  pub one_lacking : p < n → f p ≡ None → false ≡ all
+  one_lacking lt is = sym (ap (λ (o : Option (List (List ℕ))). is_some o) (next_is None f p n lt is)) ∙ so_far
+
+  pub all_there : n ≤ p → true ≡ all
+  unfolding gathered
+  all_there ge =
+      let e : n - p ≡ 0 = omega (arith, ge) in
+      sym (ap (λ k. is_some (gathered f p k)) e) ∙ so_far

@@ -1,6 +1,6 @@
 -- A piece of a state is answered as the law of migration says.
 use Rattle.std.proofs.Common.{◌≡◌, ◌<◌, ℕ, ◌*◌, ◌==◌, ◌&&◌, Bool, true, false, nat_lt, if◌then◌else◌, List, length, get_or, replicate, Option, Some, None, refl, sym, ap, subst, ◌∙◌, arith}
-use Rattle.std.specs.Prelude.{option_map}
+use Rattle.std.specs.Prelude.{is_some, option_map}
 use Rattle.std.proofs.Math.Path.{fun_ext}
 use Rattle.std.proofs.lemmas.Bool.{ltb-true}
 use Rattle.rvm_frame.specs.Bodies as frame
@@ -14,7 +14,7 @@ use Rattle.rvm_guest.specs.Pages.{joined}
 use Rattle.rvm_guest.specs.Pieces.{join}
 use Rattle.rvm_guest.proofs.TheGuest.{board}
 use Rattle.rvm_handover.specs.Outcomes.{BoardOutcome, IsLeft, ready}
-use Rattle.rvm_handover.specs.Pieces.{IsPartLeft, left_of, pieces_before, reason_joined, with_piece}
+use Rattle.rvm_handover.specs.Pieces.{IsPartLeft, is_partial, left_of, pieces_before, reason_joined, with_piece}
 use Rattle.rvm_handover.specs.Stages.{PlainStage, stage_of}
 use Rattle.rvm_handover.proofs.States.{by_count, came_if, with_pieces}
 use Rattle.rvm_handover.specs.declared.not_joined.NotJoined.{NotJoined}
@@ -74,6 +74,36 @@ and_first false b h = h
 pub is_place : (s : PlainStage) (stamp part parts : ℕ) → takes_part (stage_of s) stamp part parts ≡ true → part < parts
 is_place s stamp part parts h = ltb-true part parts (and_first (nat_lt part parts) _ h)
 
+-- WANT OF MEMORY, WHERE ALL PIECES ARE THERE
+
+read_whole : (move : ℕ) (old : Stage (List ℕ)) (made : Option Guest) → is_partial (guest_read board move old made).reply ≡ false
+read_whole move old None = refl
+read_whole move old (Some g) = refl
+
+pub state_whole : (move : ℕ) (old s : Stage (List ℕ)) (numbers body : List ℕ) (count : ℕ) (fits some : Bool)
+    → is_partial (came_if move old s numbers body count fits some).reply ≡ false
+state_whole move old s numbers body count false some = refl
+state_whole move old s numbers body count true true = refl
+state_whole move old s numbers body count true false = read_whole move old (board.build s.processors body s.pages)
+
+joined_whole : (move : ℕ) (old s : Stage (List ℕ)) (state : Option (List ℕ × List ℕ)) → is_partial (pieces_joined board move old s state).reply ≡ false
+joined_whole move old s None = refl
+joined_whole move old s (Some state) =
+    state_whole move old s state.0 state.1 (length s.pages) (length state.0 == length s.pages) (nat_lt 0 (size (lacks s state.0) (length s.pages)))
+
+kept_whole : (move : ℕ) (old s : Stage (List ℕ)) (part parts : ℕ) (o : Option (List (List ℕ))) → is_some o ≡ true
+    → is_partial (part_kept board move old s part parts o).reply ≡ false
+kept_whole move old s part parts None h = absurd cc
+kept_whole move old s part parts (Some pieces) h = joined_whole move old s (board.join pieces)
+
+pub lack_of_whole : (move : ℕ) (s : PlainStage) (stamp part parts : ℕ) (bytes : List ℕ) → takes_part (stage_of s) stamp part parts ≡ true
+    → is_some (gathered (with_part (stage_of s) stamp part parts bytes).pieces 0 parts) ≡ true
+    → is_partial (part_came board move (stage_of s) stamp part parts bytes).reply ≡ false
+lack_of_whole move s stamp part parts bytes takes there =
+    let t : Stage (List ℕ) = with_part (stage_of s) stamp part parts bytes in
+    ap (λ (b : Bool). is_partial (if b then part_kept board move (stage_of s) t part parts (gathered t.pieces 0 parts) else ignores (Staging move (stage_of s))).reply) takes
+    ∙ kept_whole move (stage_of s) t part parts (gathered t.pieces 0 parts) there
+
 -- THE STATE THAT PIECES JOIN TO
 
 reply_of : BoardOutcome → Reply BoardReply
@@ -131,7 +161,8 @@ module _ (move : ℕ) (s : PlainStage) (stamp part parts : ℕ) (bytes numbers b
       other ∙ same_lack move s stamp parts kept.pieces numbers body (length s.have) _ _ ps (sym own ∙ h)
       ∙ ap (λ x. sends (Lacking (length ps)) (Lost move ps) (Staging move x)) (sym (stage_with_piece s stamp part parts bytes places lt))
   left_too ready_not.BadState places lt h = other ∙ same_bad move s stamp parts kept.pieces numbers body (length s.have) _ _ (sym own ∙ h)
-  left_too ready_not.OutOfMemory places lt h = tt
+  left_too ready_not.OutOfMemory places lt h =
+      state_whole move (stage_of s) kept numbers body (length kept.pages) (length numbers == length kept.pages) (nat_lt 0 (size (lacks kept numbers) (length kept.pages)))
 
 -- the reason and the stage that are left, as the last piece gave them
 pub left_kept : (move stamp part parts : ℕ) (bytes : List ℕ) (s t u : PlainStage) (r : NotReady) (j : NotJoined) (o : BoardOutcome)

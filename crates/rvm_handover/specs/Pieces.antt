@@ -1,9 +1,11 @@
 -- The pieces of a state that are kept, and what comes of one.
-use Rattle.std.specs.Prelude.{◌≡◌, ℕ, true, nat_lt, if◌then◌else◌, List, length, slice_set, replicate, Option, Some, None}
+use Rattle.std.specs.Prelude.{◌≡◌, ℕ, Bool, true, false, nat_lt, if◌then◌else◌, List, length, slice_set, replicate, Option, Some, None}
 use Rattle.rvm_frame.specs.Bodies.{lost}
 use Rattle.rvm_protocol.specs.Frames.{Lost}
 use Rattle.rvm_protocol.specs.Modes.{Staging, says, sends, refuses, ignores}
 use Rattle.rvm_protocol.specs.Replies as replies
+use Rattle.rvm_protocol.specs.Replies.{Reply, Refused}
+use Rattle.rvm_debug.specs.declared.event.BoardReply.{BoardReply}
 use Rattle.rvm_handover.specs.declared.not_joined.NotJoined.{NotJoined}
 use Rattle.rvm_handover.specs.declared.not_joined.NotJoined.TheVariants as reasons
 use Rattle.rvm_handover.specs.declared.not_ready.NotReady.{NotReady}
@@ -27,14 +29,20 @@ left_of (reasons.Lacking pages) kept before = kept
 left_of reasons.BadState kept before = before
 left_of reasons.OutOfMemory kept before = before
 
--- no guest was made of a piece for this reason, and this stage is left; where memory lacks nothing is said
+-- a piece is ignored, or kept while others are lacking
+abbrev pub is_partial : Reply BoardReply → Bool
+is_partial (Refused replies.Ignored) = true
+is_partial (replies.Kept part parts) = true
+is_partial reply = false
+
+-- no guest was made of a piece for this reason, and this stage is left: memory lacks only of the piece with which all are there
 abbrev pub IsPartLeft : (move part parts : ℕ) → NotJoined → PlainStage → BoardOutcome → Type 0
 IsPartLeft move part parts reasons.Ignored s o = o ≡ ignores (Staging move (stage_of s))
 IsPartLeft move part parts reasons.Kept s o = o ≡ says (replies.Kept part parts) (Staging move (stage_of s))
 IsPartLeft move part parts (reasons.Lacking pages) s o =
     o ≡ sends (replies.Lacking (length pages)) (Lost move pages) (Staging move (stage_of s))
 IsPartLeft move part parts reasons.BadState s o = o ≡ refuses replies.BadState (Staging move (stage_of s))
-IsPartLeft move part parts reasons.OutOfMemory s o = Unit {0}
+IsPartLeft move part parts reasons.OutOfMemory s o = is_partial o.reply ≡ false
 
 -- the pages that are lacking can be told in a frame
 abbrev pub PartCanBeTold : NotJoined → Type 0

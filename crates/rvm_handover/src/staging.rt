@@ -1,6 +1,6 @@
 //! The pages of a guest that comes.
 
-ghost use Rattle.std.specs.Prelude.{◌≡◌, ◌≤◌, ◌*◌, ◌<◌, ℕ, true, length, get_or, IfOk, IfErr, OnErr, Some, None, option_map, if◌then◌else◌};
+ghost use Rattle.std.specs.Prelude.{◌≡◌, ◌≤◌, ◌*◌, ◌<◌, ℕ, true, length, get_or, IfOk, IfErr, OnErr, Some, None, is_some, option_map, if◌then◌else◌};
 ghost use Rattle.rvm_frame.specs.Bodies.{lost};
 ghost use Rattle.rvm_protocol.specs.Pages.{gathered, members, put};
 ghost use Rattle.rvm_protocol.specs.Receiving.{page_came, part_came, state_came};
@@ -167,7 +167,8 @@ impl<M: PagedMemory> Staging<M> {
 
     /// Takes a piece of a state of stream versions 2 and 3: its stamp, its place among so many
     /// parts, at most 6, and its bytes. Where all pieces are there, they are answered as the state
-    /// that they join to. Else why there is no guest, and the stage, with the piece where it is kept.
+    /// that they join to. Else why there is no guest, and the stage, with the piece where it is kept:
+    /// `OutOfMemory` only of a piece with which all are there.
     pub fn part(
         self,
         alloc: Global,
@@ -229,8 +230,9 @@ impl<M: PagedMemory> Staging<M> {
         }
     }
 
-    /// Whether a piece counts.
-    fn takes(&self, stamp: u32, part: u8, parts: u8) -> bool
+    /// Whether a piece counts: its place is among its parts, and its stamp is higher than all before,
+    /// or the same with the same count of parts. Takes no memory.
+    pub fn takes(&self, stamp: u32, part: u8, parts: u8) -> bool
         ensures takes { result ≡ takes_part (stage_of self.now) stamp part parts }
         ensures places { length self.now.pieces ≡ 6 }
         ensures bytes { length self.now.bytes ≡ 4096 * length self.now.have }
@@ -254,7 +256,8 @@ impl<M: PagedMemory> Staging<M> {
         self
     }
 
-    /// The bytes of all pieces of a state, where none is lacking behind this one.
+    /// The bytes of all pieces of a state, where none is lacking behind this one. Takes memory only
+    /// there.
     fn joined(
         &self,
         alloc: Global,
@@ -263,8 +266,10 @@ impl<M: PagedMemory> Staging<M> {
         parts: u8,
         bytes: &[u8],
     ) -> Result<Option<Vec<u8>>, AllocError>
-        ensures { IfOk result (λ whole. option_map (λ v. v.items) whole
+        ensures whole { IfOk result (λ whole. option_map (λ v. v.items) whole
             ≡ option_map joined (gathered (with_part (stage_of self.now) stamp part parts bytes.now).pieces 0 parts)) }
+        ensures memory { OnErr result
+            (is_some (gathered (with_part (stage_of self.now) stamp part parts bytes.now).pieces 0 parts) ≡ true) }
     {
         if self.stamp < stamp {
             join(alloc, &[], part, parts, bytes)
@@ -360,7 +365,20 @@ fn piece_at<'a>(
     }
 }
 
-/// The bytes of all pieces, one behind the other, where none is lacking.
+/// Whether no piece is lacking. Takes no memory.
+fn are_all_there(pieces: &[Option<Bytes>], part: u8, parts: u8, bytes: &[u8]) -> bool
+    ensures { result
+        ≡ is_some (gathered (put (λ i. get_or pieces.now i None) part (Some bytes.now)) 0 parts) }
+{
+    for place in 0..parts {
+        let Some(_piece) = piece_at(pieces, place, part, bytes) else {
+            return false;
+        };
+    }
+    true
+}
+
+/// The bytes of all pieces, one behind the other, where none is lacking. Takes memory only there.
 fn join(
     alloc: Global,
     pieces: &[Option<Bytes>],
@@ -368,9 +386,14 @@ fn join(
     parts: u8,
     bytes: &[u8],
 ) -> Result<Option<Vec<u8>>, AllocError>
-    ensures { IfOk result (λ whole. option_map (λ v. v.items) whole
+    ensures whole { IfOk result (λ whole. option_map (λ v. v.items) whole
         ≡ option_map joined (gathered (put (λ i. get_or pieces.now i None) part (Some bytes.now)) 0 parts)) }
+    ensures memory { OnErr result
+        (is_some (gathered (put (λ i. get_or pieces.now i None) part (Some bytes.now)) 0 parts) ≡ true) }
 {
+    if !are_all_there(pieces, part, parts, bytes) {
+        return Ok(None);
+    }
     let mut whole = Vec::new(alloc);
     for place in 0..parts {
         let Some(piece) = piece_at(pieces, place, part, bytes) else {

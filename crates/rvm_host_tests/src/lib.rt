@@ -1,6 +1,6 @@
 //! Tests of hosts and worlds, of what no clause says: that each event that takes memory succeeds, also after it
-//! was refused memory (`make faults` refuses each growth of each test in turn). Worked moves are cases
-//! (`moves.cases` of `rvm_cases`).
+//! was refused memory (`make faults` refuses growths in turn, at most 60 of a test; with `MOST=0` each one).
+//! Worked moves are cases (`moves.cases` of `rvm_cases`).
 //!
 //! Stands on the libraries, which have no tests of their own. The answers that it expects are worked
 //! by hand from the protocol's rules.

@@ -11,7 +11,7 @@ const A: u8 = 0;
 const B: u8 = 1;
 
 /// A move of a guest of one page from A to B.
-const MOVE: [Event; 12] = [
+pub const MOVE: [Event; 12] = [
     Event::Begin(A, 1),
     Event::Deliver(0),
     Event::Deliver(1),

@@ -1,7 +1,8 @@
 //! Frames that a host does not wait for: each kind, of another move, in each mode.
 
 use crate::frames::{KINDS, frame};
-use crate::hosts::{Event, Hosts, again, guest};
+use crate::hosts::{Hosts, again, guest};
+use crate::modes::MOVE;
 use std::alloc::Global;
 use std::test::Fail;
 
@@ -21,21 +22,7 @@ fn first_heard(alloc: Global, hosts: &mut Hosts, host: u8, from: u8) -> Result<O
 fn frames_of_another_move_are_ignored_in_each_mode(rt: HostRuntime) -> Result<(), Fail> {
     let guest = guest(rt.alloc(), 1, &[0x0000_006F])?;
     let mut hosts = Hosts::new(rt.alloc(), guest, &[1, 1], 1)?;
-    let moves = [
-        Event::Begin(0, 1),
-        Event::Deliver(0),
-        Event::Deliver(1),
-        Event::Copy(0),
-        Event::Deliver(2),
-        Event::Copy(0),
-        Event::Copy(0),
-        Event::Copy(0),
-        Event::Deliver(4),
-        Event::Deliver(5),
-        Event::Deliver(6),
-        Event::Deliver(7),
-    ];
-    for event in moves {
+    for event in MOVE {
         assert_eq!(rt; first_heard(rt.alloc(), &mut hosts, 0, 1)?, None);
         assert_eq!(rt; first_heard(rt.alloc(), &mut hosts, 1, 0)?, None);
         hosts.turn(rt.alloc(), event)?;

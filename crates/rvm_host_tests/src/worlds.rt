@@ -2,7 +2,8 @@
 
 use crate::hosts::{POLICY, again, guest};
 use crate::replies::{Said, said};
-use rvm_debug::BoardEvent;
+use rvm_core::{BadSize, Host};
+use rvm_debug::{BoardEvent, BoardReply, Debugged};
 use rvm_mem::FlatMemory;
 use rvm_message::Command;
 use rvm_world::{Driven, Event, World, WorldError, drive_move, run_world};
@@ -69,6 +70,39 @@ fn is_made(alloc: Global, limits: &[u16], version: u32) -> Result<bool, Fail> {
     ))
 }
 
+/// The version that a new world of such hosts speaks; none where it is refused, and the guest comes back.
+fn world_version(alloc: Global, limits: &[u16]) -> Result<Option<u32>, Fail> {
+    let guest = guest(alloc, 1, &[LOOP])?;
+    let made = match World::new(alloc, guest, limits) {
+        Err((WorldError::OutOfMemory, guest)) => World::new(alloc, guest, limits),
+        made => made,
+    };
+    match made {
+        Ok(world) => Ok(Some(world.version())),
+        Err((WorldError::BadSize, guest)) => came_back(guest),
+        Err((error, _)) => Err(Fail::from(error)),
+    }
+}
+
+/// The version that a new host of so many speaks; none where it is refused, and the guest comes back.
+fn host_version(alloc: Global, count: u8, limit: u16) -> Result<Option<u32>, Fail> {
+    let guest = guest(alloc, 1, &[LOOP])?;
+    match Host::new(Some(guest), 0, count, limit) {
+        Ok(host) => Ok(Some(host.version())),
+        Err((BadSize, Some(guest))) => came_back(guest),
+        Err((BadSize, None)) => Err(Fail::from("the guest comes back")),
+    }
+}
+
+/// No version; the guest that came back loops as before.
+fn came_back(guest: Debugged<FlatMemory>) -> Result<Option<u32>, Fail> {
+    let mut guest = guest;
+    match guest.apply(BoardEvent::Step(0)) {
+        BoardReply::Retired => Ok(None),
+        _ => Err(Fail::from("the guest that came back loops")),
+    }
+}
+
 #[test]
 fn a_world_has_two_to_eight_hosts_of_some_pages(rt: HostRuntime) -> Result<(), Fail> {
     let worlds: [(&[u16], u32, bool); 9] = [
@@ -85,40 +119,119 @@ fn a_world_has_two_to_eight_hosts_of_some_pages(rt: HostRuntime) -> Result<(), F
     for (limits, version, made) in worlds {
         assert_eq!(rt; is_made(rt.alloc(), limits, version)?, made);
     }
+    let worlds: [(&[u16], Option<u32>); 7] = [
+        (&[4, 4], Some(1)),
+        (&[1, 4096], Some(1)),
+        (&[4, 4, 4], Some(3)),
+        (&[4, 4, 4, 4, 4, 4, 4, 4], Some(3)),
+        (&[4, 0], None),
+        (&[4, 4097], None),
+        (&[4, 4, 4, 4, 4, 4, 4, 4, 4], None),
+    ];
+    for (limits, version) in worlds {
+        assert_eq!(rt; world_version(rt.alloc(), limits)?, version);
+    }
+    let hosts = [
+        (2, 4, Some(1)),
+        (3, 4, Some(3)),
+        (8, 4096, Some(3)),
+        (2, 0, None),
+        (2, 4097, None),
+        (9, 4, None),
+    ];
+    for (count, limit, version) in hosts {
+        assert_eq!(rt; host_version(rt.alloc(), count, limit)?, version);
+    }
     Ok(())
+}
+
+/// Host 0 begins a move to host 1.
+fn begin() -> Event {
+    let policy = POLICY;
+    Event::At(0, Command::Begin { to: 1, policy })
+}
+
+/// Host 0 copies.
+fn copy() -> Event {
+    Event::At(0, Command::Copy)
 }
 
 /// The events of a move of four pages from host 0 to host 1 up to the commit, in versions 1 and 2.
 pub fn first_events() -> [Event; 17] {
     [
-        Event::At(
-            0,
-            Command::Begin {
-                to: 1,
-                policy: POLICY,
-            },
-        ),
+        begin(),
         Event::Deliver(0),
         Event::Deliver(1),
-        Event::At(0, Command::Copy),
-        Event::At(0, Command::Copy),
-        Event::At(0, Command::Copy),
-        Event::At(0, Command::Copy),
-        Event::At(0, Command::Copy),
+        copy(),
+        copy(),
+        copy(),
+        copy(),
+        copy(),
         Event::Deliver(2),
         Event::Deliver(3),
         Event::Deliver(4),
         Event::Deliver(5),
         Event::Deliver(6),
-        Event::At(0, Command::Copy),
-        Event::At(0, Command::Copy),
+        copy(),
+        copy(),
         Event::Deliver(7),
         Event::Deliver(8),
     ]
 }
 
+/// An event, what is answered to it, and the place of the frame that was made.
+type Row = (Event, Said, Option<usize>);
+
+/// The same move, of which the fourth copy never comes: host 1 lacks its page, which is copied again.
+fn lost_copy() -> [Row; 20] {
+    [
+        (begin(), ("begun", [1, 0, 0, 0]), Some(0)),
+        (Event::Deliver(0), ("accepted", [0; 4]), Some(1)),
+        (Event::Deliver(1), ("open", [0; 4]), None),
+        (copy(), ("copied", [0, 1, 0, 0]), Some(2)),
+        (copy(), ("copied", [1, 2, 0, 0]), Some(3)),
+        (copy(), ("copied", [2, 3, 0, 0]), Some(4)),
+        (copy(), ("copied", [3, 4, 0, 0]), Some(5)),
+        (copy(), ("round", [1, 4, 0, 0]), Some(6)),
+        (Event::Deliver(2), ("stored", [0, 1, 0, 0]), None),
+        (Event::Deliver(3), ("stored", [1, 2, 0, 0]), None),
+        (Event::Deliver(4), ("stored", [2, 3, 0, 0]), None),
+        (Event::Deliver(6), ("noted", [0; 4]), None),
+        (copy(), ("stopping", [0; 4]), None),
+        (copy(), ("state sent", [0; 4]), Some(7)),
+        (Event::Deliver(7), ("lacking", [1, 0, 0, 0]), Some(8)),
+        (Event::Deliver(8), ("fixing", [1, 0, 0, 0]), None),
+        (copy(), ("copied", [3, 5, 0, 0]), Some(9)),
+        (copy(), ("state sent", [0; 4]), Some(10)),
+        (Event::Deliver(9), ("stored", [3, 5, 0, 0]), None),
+        (Event::Deliver(10), ("ready", [0; 4]), Some(11)),
+    ]
+}
+
+/// The first of these events whose answer is another one.
+fn first_other(
+    alloc: Global,
+    world: &mut World<FlatMemory>,
+    rows: &[Row],
+) -> Result<Option<usize>, Fail> {
+    for (place, (event, answer, frame)) in rows.iter().enumerate() {
+        let (said, made) = turn(alloc, world, event)?;
+        if said.0 != answer.0 || said.1 != answer.1 || made != *frame {
+            return Ok(Some(place));
+        }
+    }
+    Ok(None)
+}
+
+/// Loses a copy in a new world.
+fn lose_a_copy(alloc: Global) -> Result<Option<usize>, Fail> {
+    let mut world = world(alloc, 4, &[4, 4], 1)?;
+    first_other(alloc, &mut world, &lost_copy())
+}
+
 #[test]
 fn a_list_of_events_is_run(rt: HostRuntime) -> Result<(), Fail> {
+    assert_eq!(rt; lose_a_copy(rt.alloc())?, None);
     let mut world = world(rt.alloc(), 4, &[4, 4], 1)?;
     let Ok(replies) = run_world(rt.alloc(), &mut world, &first_events()) else {
         return Ok(());

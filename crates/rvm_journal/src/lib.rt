@@ -15,5 +15,5 @@ mod slice;
 pub use entry::Entry;
 pub use error::{RecordError, SliceError};
 pub use journal::Journal;
-pub use recorded::Recorded;
+pub use recorded::{MAX_CAPACITY, Recorded};
 pub use slice::hart_of_turn;

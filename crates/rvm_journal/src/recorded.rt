@@ -1,6 +1,6 @@
 //! A host with its journal.
 
-ghost use Rattle.std.specs.Prelude.{◌≡◌, ◌+◌, ◌-◌, ◌∷◌, ◌<◌, ◌≤◌, [], true, max, length, IfOk, IfErr, IsOk, OnErr, OnOk, Some, vec_capacity, vec_len};
+ghost use Rattle.std.specs.Prelude.{◌≡◌, ◌⊎◌, ◌↔◌, ◌+◌, ◌-◌, ◌∷◌, ◌<◌, ◌≤◌, [], true, max, length, IfOk, IfErr, IsErr, IsOk, OnErr, OnOk, Some, vec_capacity, vec_len};
 ghost use Rattle.rvm_core.specs.Hosts.{host_of};
 ghost use Rattle.rvm_frame.specs.Grammar.{HasSpelling, sent, spelling};
 ghost use Rattle.rvm_journal.specs.Entries.{silent};
@@ -13,12 +13,15 @@ ghost use Rattle.rvm_message.specs.Steps.{reply_to_step};
 use crate::entry::Entry;
 use crate::error::RecordError;
 use crate::journal::{Journal, make_room};
-use rvm_core::Host;
+use rvm_core::{BadSize, Host};
 use rvm_frame::{Addressed, Bytes, append_frame};
 use rvm_mem::PagedMemory;
 use rvm_message::{Exchange, ExchangeRoom, HostEvent, HostReply, StepReply};
 use std::alloc::Global;
 use std::marker::Model;
+
+/// The most entries that a journal takes.
+pub const MAX_CAPACITY: u32 = 1048576;
 
 /// A host, and the journal of what it answered, which takes at most so many entries.
 #[derive(Drop)]
@@ -39,19 +42,29 @@ impl<M: PagedMemory + Drop> Model for Recorded<M> {
 }
 
 impl<M: PagedMemory + Drop> Recorded<M> {
-    /// A host with an empty journal that takes at most so many entries.
-    pub fn new(alloc: Global, host: Host<M>, capacity: u32) -> Recorded<M>
-        ensures { result ≡ record {
+    /// A host with an empty journal that takes at most so many entries, 1 to 1048576. `BadSize` for any
+    /// other number; then the host comes back.
+    pub fn new(
+        alloc: Global,
+        host: Host<M>,
+        capacity: u32,
+    ) -> Result<Recorded<M>, (BadSize, Host<M>)>
+        ensures recorded { IfOk result (λ r. r ≡ record {
           journal = record { opening = host; entries = []; reserved = 0 };
           capacity = capacity;
-        } }
+        }) }
+        ensures size { IsErr result ↔ ((capacity ≡ 0) ⊎ (1048576 < capacity)) }
+        ensures host { IfErr result (λ e. e.1 ≡ host) }
     {
+        if capacity == 0 || capacity > MAX_CAPACITY {
+            return Err((BadSize, host));
+        }
         let journal = Journal::new(alloc, &host);
-        Recorded {
+        Ok(Recorded {
             host,
             journal,
             capacity,
-        }
+        })
     }
 
     /// What it answered until now.
@@ -224,7 +237,7 @@ fn keep_exchange(rooms: &mut Vec<ExchangeRoom>, event: HostEvent, reply: HostRep
     Exchange::new(room, event, reply)
 }
 
-/// The bytes of a frame, if one was made, in room that is there.
+/// The bytes of a frame, if one was made, in room that is there; what it does not need is given back.
 fn spell(version: u32, frame: &Option<Addressed>, bytes: Vec<u8>) -> Option<Bytes>
     requires empty { bytes.items ≡ [] }
     requires fits { CanBeKept version (vec_capacity bytes) frame.now }
@@ -233,5 +246,6 @@ fn spell(version: u32, frame: &Option<Addressed>, bytes: Vec<u8>) -> Option<Byte
     let mut bytes = bytes;
     let frame = frame.as_ref()?;
     append_frame(version, frame, &mut bytes);
+    bytes.shrink_to_fit();
     Some(Bytes::from_vec(bytes))
 }

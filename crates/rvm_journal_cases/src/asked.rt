@@ -38,7 +38,7 @@ pub fn recorded(alloc: Global, id: u8, harts: u32, capacity: u32) -> Option<Reco
     ensures { IfSome result (λ r. r.journal.entries ≡ []) }
 {
     let host = host(alloc, id, harts)?;
-    Some(Recorded::new(alloc, host, capacity))
+    Recorded::new(alloc, host, capacity).ok()
 }
 
 /// The host of such a journal.

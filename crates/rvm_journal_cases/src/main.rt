@@ -1,14 +1,15 @@
-//! What hosts write down, by call: slices, room for entries, hosts that two seats call, and one order of
-//! two journals. It prints what came of each, and makes a call that was refused memory once more, so that
-//! it prints the same whichever growth is refused. With a number as its argument it puts two journals of so
-//! many entries in order instead.
+//! What hosts write down, by call: slices, room for entries, hosts that two seats call, what is refused for
+//! its size, and one order of two journals. It prints what came of each, and makes a call that was refused
+//! memory once more, so that it prints the same whichever growth is refused. With a number as its argument it
+//! puts two journals of so many entries in order instead.
 //!
-//! To be read in this order: `asked`, `slices`, `sharing`, `orders`.
+//! To be read in this order: `asked`, `slices`, `sharing`, `sizes`, `orders`.
 #![tactic(auto)]
 
 mod asked;
 mod orders;
 mod sharing;
+mod sizes;
 mod slices;
 
 use std::env;
@@ -20,6 +21,7 @@ fn main(rt: HostRuntime) {
             slices::record_slices(&rt).is_some()
                 && sharing::write_and_read(&rt).is_some()
                 && sharing::fill_a_journal(&rt).is_some()
+                && sizes::refuse_sizes(&rt).is_some()
                 && orders::put_in_order(&rt).is_some()
         }
     };

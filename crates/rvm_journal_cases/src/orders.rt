@@ -54,25 +54,18 @@ struct Pair {
 impl Pair {
     /// Hosts that have written down nothing, with journals of so many entries.
     fn new(alloc: Global, entries: u32, has_offered: bool) -> Option<Pair> {
-        let b = recorded(alloc, 1, 1, entries)?;
-        Pair::with(alloc, entries, has_offered, host(alloc, 0, 1), b)
+        let (a, offer) = first_host(alloc, entries, has_offered)?;
+        Pair::with(alloc, entries, a, offer)
     }
 
-    /// The hosts, if there is a first one.
+    /// The hosts, of which the first is there.
     fn with(
         alloc: Global,
         entries: u32,
-        has_offered: bool,
-        first: Option<Host<PagedRam>>,
-        b: Recorded<PagedRam>,
+        a: Recorded<PagedRam>,
+        offer: Option<Addressed>,
     ) -> Option<Pair> {
-        let mut first = first?;
-        let offer = if has_offered {
-            begin(alloc, &mut first)
-        } else {
-            None
-        };
-        let a = Recorded::new(alloc, first, entries);
+        let b = recorded(alloc, 1, 1, entries)?;
         Some(Pair { a, b, offer })
     }
 
@@ -153,6 +146,22 @@ impl Pair {
 fn begin(alloc: Global, host: &mut Host<PagedRam>) -> Option<Addressed> {
     let (_, offer) = again!(host.apply(alloc, &HostEvent::Do(BEGIN)));
     offer
+}
+
+/// Host A with an empty journal, and the offer that it made before.
+fn first_host(
+    alloc: Global,
+    entries: u32,
+    has_offered: bool,
+) -> Option<(Recorded<PagedRam>, Option<Addressed>)> {
+    let mut host = host(alloc, 0, 1)?;
+    let offer = if has_offered {
+        begin(alloc, &mut host)
+    } else {
+        None
+    };
+    let a = Recorded::new(alloc, host, entries).ok()?;
+    Some((a, offer))
 }
 
 /// The order of two journals behind a story, for so many entries each.

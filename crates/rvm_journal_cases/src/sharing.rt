@@ -36,7 +36,7 @@ fn poke_and_look<L: Seating, R: AllocGlobal + Print + Wait>(
     requires seats { blank.parts ≡ 2 }
     requires empty { recorded.journal.entries ≡ [] }
 {
-    let (host, seats) = share_host::<L>(rt.alloc(), blank, recorded)?;
+    let (host, seats) = share_host::<L>(rt.alloc(), blank, recorded, 2)?;
     let (mut first, mut second) = both(seats)?;
     let poke = board(BoardEvent::PokeReg {
         hart: 0,
@@ -64,7 +64,7 @@ fn fill_and_close<L: Seating, R: AllocGlobal + Print + Wait>(
     requires empty { recorded.journal.entries ≡ [] }
 {
     let alloc = rt.alloc();
-    let (host, seats) = share_host::<L>(alloc, blank, recorded)?;
+    let (host, seats) = share_host::<L>(alloc, blank, recorded, 2)?;
     let (mut first, second) = both(seats)?;
     let (receipt, _) = call(rt, &host, &mut first, board(BoardEvent::Step(0)))?;
     let is_full = is_full(rt, &host, &mut first);
@@ -132,19 +132,20 @@ fn count_closed<L: Seating, R: AllocGlobal + Wait>(
     }
 }
 
-/// Shares a host between two seats, and once more where that was refused.
-fn share_host<L: Seating>(
+/// Shares a host between so many seats, and once more where that was refused.
+pub fn share_host<L: Seating>(
     alloc: Global,
     blank: Blank,
     recorded: Recorded<PagedRam>,
+    seats: u32,
 ) -> Option<(SharedHost<L, PagedRam>, Vec<Seat<L>>)>
     requires ledger { (blank.name ≡ L.name) × (blank.parts ≡ L.parts) × (L.seats ≡ L.parts) }
-    requires seats { blank.parts ≡ 2 }
+    requires seats { blank.parts ≡ seats }
     requires empty { recorded.journal.entries ≡ [] }
 {
-    match share::<L, PagedRam>(alloc, blank, recorded, 2) {
+    match share::<L, PagedRam>(alloc, blank, recorded, seats) {
         Ok(shared) => Some(shared),
-        Err((_, blank, recorded)) => share::<L, PagedRam>(alloc, blank, recorded, 2).ok(),
+        Err((_, blank, recorded)) => share::<L, PagedRam>(alloc, blank, recorded, seats).ok(),
     }
 }
 

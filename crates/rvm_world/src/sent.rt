@@ -78,7 +78,8 @@ pub(crate) fn make_room(
     Vec::with_capacity(alloc, bound)
 }
 
-/// Keeps the bytes of a frame, if one was made, and says at which place. There is room for it.
+/// Keeps the bytes of a frame, if one was made, and says at which place. There is room for it; what it does
+/// not need is given back.
 pub(crate) fn post(
     version: u32,
     sent: &mut Vec<Sent>,
@@ -93,6 +94,7 @@ pub(crate) fn post(
 {
     let frame = frame?;
     append_frame(version, &frame, &mut bytes);
+    bytes.shrink_to_fit();
     let place = sent.len();
     sent.push_reserved(Sent {
         from: frame.from,

@@ -5,8 +5,8 @@ use Rattle.rvm_guest.specs.Pages.{joined}
 use Rattle.rvm_handover.proofs.Gathering.{behind, done, lacking, taken}
 use Rattle.rvm_handover.proofs.staging.join.Goals as goal
 
-pub returns-in_default : goal.returns-in_default
-returns-in_default c =
+pub returns-in_default-clause-whole : goal.returns-in_default-clause-whole
+returns-in_default-clause-whole c =
     lacking (put (λ i. get_or c.args.pieces.now i None) c.args.part (Some c.args.bytes.now)) c.loop-place.place c.args.parts c.loop-place.whole.items _ c.loop-place.invariant c.loop-place-test.true (sym c.in_default.ensures)
 
 pub loop-place-preserved : goal.loop-place-preserved
@@ -16,6 +16,6 @@ loop-place-preserved c =
     ap (λ xs. behind xs (option_map joined (gathered f (p + 1) (c.args.parts - (p + 1))))) c.in_ok-extend_from_slice.ensures.items
     ∙ taken f p c.args.parts c.loop-place.whole.items _ c.loop-place.invariant c.in-Some.piece.now c.loop-place-test.true (sym c.in-Some.ensures)
 
-pub returns : goal.returns
-returns c =
+pub returns-clause-whole : goal.returns-clause-whole
+returns-clause-whole c =
     done (put (λ i. get_or c.args.pieces.now i None) c.args.part (Some c.args.bytes.now)) c.loop-place.place c.args.parts c.loop-place.whole.items _ c.loop-place.invariant c.loop-place-test.false

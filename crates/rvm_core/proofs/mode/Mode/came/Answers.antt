@@ -2,9 +2,10 @@ use Rattle.std.proofs.Common.{ap, sym, ◌∙◌}
 use Rattle.rvm_guest.proofs.TheGuest.{board}
 use Rattle.rvm_message.specs.Frames.{no_frame}
 use Rattle.rvm_protocol.specs.Frames as frames
+use Rattle.rvm_protocol.specs.Receiving.{came}
 use Rattle.rvm_core.specs.Modes.{mode_of, plain_of}
-use Rattle.rvm_core.proofs.Targets.{if_ok}
-use Rattle.rvm_core.proofs.Hearing.{as_it_is, as_none, heard_alone, if_heard, so_heard}
+use Rattle.rvm_core.proofs.Targets.{if_ok, on_err}
+use Rattle.rvm_core.proofs.Hearing.{Heeds, as_it_is, as_none, err_heeded, heard, heard_alone, if_heard, so_heard, so_heeded}
 use Rattle.rvm_core.proofs.Sendings.{answer_sent, if_answer_sent}
 use Rattle.rvm_core.proofs.mode.Mode.came.Goals as goal
 
@@ -100,3 +101,27 @@ returns-in-Part-clause-answer g c =
 
 pub returns-in-Part-clause-sent : goal.returns-in-Part-clause-sent
 returns-in-Part-clause-sent g c = if_answer_sent c.in-Part.is c.if-not-can_come.ensures c.part.result c.part.ensures.sent
+
+pub returns-in-State-clause-heeded : goal.returns-in-State-clause-heeded
+returns-in-State-clause-heeded g c =
+    let n = c.in-State.move_number in
+    let mode = mode_of (plain_of c.args.self.now) in
+    err_heeded c.args.limit c.args.frame.now (frames.State n c.as_slice-in-State.result.now c.as_slice-in-State-2.result.now) mode mode
+    (as_it_is c.in-State.is c.if-not-can_come.ensures ∙ (λ i. frames.State n (sym c.as_slice-in-State.ensures i) (sym c.as_slice-in-State-2.ensures i)))
+    c.state.result c.state.ensures.heeded
+
+pub returns-in-Part-clause-heeded : goal.returns-in-Part-clause-heeded
+returns-in-Part-clause-heeded g c =
+    let mode = mode_of (plain_of c.args.self.now) in
+    err_heeded c.args.limit c.args.frame.now (frames.Part c.in-Part.move_number c.in-Part.stamp c.in-Part.part c.in-Part.parts c.in-Part.bytes) mode mode
+    (as_it_is c.in-Part.is c.if-not-can_come.ensures) c.part.result c.part.ensures.heeded
+
+pub returns-in_err-lost-in-Lost-clause-heeded : goal.returns-in_err-lost-in-Lost-clause-heeded
+returns-in_err-lost-in-Lost-clause-heeded g c =
+    let n = c.in-Lost.move_number in
+    let limit = c.args.limit in
+    let mode = mode_of (plain_of c.args.self.now) in
+    on_err c.from_residual.result (Heeds (came board limit (heard c.args.frame.now) mode))
+    (so_heeded limit c.args.frame.now (frames.Lost n c.as_slice.result.now) mode mode
+    (as_it_is c.in-Lost.is c.if-not-can_come.ensures ∙ ap (λ ps. frames.Lost n ps) (sym c.as_slice.ensures))
+    (c.in_err-lost-in-Lost.ensures.heeded limit))

@@ -8,7 +8,7 @@ use Rattle.rvm_core.specs.Modes.{mode_of, plain_of}
 use Rattle.rvm_source.specs.Sources as source
 use Rattle.rvm_core.proofs.mode.Mode.lost.Goals as goal
 
-pub returns-in-Leaving-clause-answer : goal.returns-in-Leaving-clause-answer
-returns-in-Leaving-clause-answer g c =
+pub returns-else-not-is_stopped-clause-answer : goal.returns-else-not-is_stopped-clause-answer
+returns-else-not-is_stopped-clause-answer g c =
     subst (λ (m : Mode g.row.M.Denot). IfOk c.lost.result (λ r. (limit version : ℕ) → Answers version (receiving.came board limit (frames.Lost c.args.move_number c.args.pages.now) (mode_of (plain_of m))) (r, None) (source.mode_of c.lost.new.self)))
     (sym c.in-Leaving.is) c.lost.ensures.answer

@@ -1,5 +1,5 @@
-use Rattle.std.proofs.Common.{◌<◌, List, ℕ, Option, Vec, Global, ap, sym, subst, ◌∙◌, arith}
-use Rattle.std.specs.Prelude.{option_map}
+use Rattle.std.proofs.Common.{◌≡◌, true, ◌<◌, List, ℕ, Option, Vec, Global, ap, sym, subst, ◌∙◌, arith}
+use Rattle.std.specs.Prelude.{is_some, option_map}
 use Rattle.rvm_frame.specs.Bodies as frame
 use Rattle.rvm_protocol.specs.Modes.{Staging, says}
 use Rattle.rvm_protocol.specs.Pages.{gathered}
@@ -11,15 +11,21 @@ use Rattle.rvm_guest.proofs.TheGuest.{board}
 use Rattle.rvm_handover.specs.Stages.{PlainStage, stage_of}
 use Rattle.rvm_handover.specs.Pieces.{IsPartLeft, left_of, reason_joined, with_piece}
 use Rattle.rvm_handover.specs.Outcomes.{BoardOutcome, IsLeft}
-use Rattle.rvm_handover.proofs.Parts.{by_whole, is_place, left_kept, left_too, part_is, ready_too, stage_with_piece}
+use Rattle.rvm_handover.proofs.Parts.{by_whole, is_place, lack_of_whole, left_kept, left_too, part_is, ready_too, stage_with_piece}
 use Rattle.rvm_handover.proofs.Told.{told_joined}
 use Rattle.rvm_handover.proofs.staging.Staging.part.Goals as goal
+
+pub returns-in_default-clause-left : goal.returns-in_default-clause-left
+returns-in_default-clause-left g c =
+    let s : PlainStage = c.args.self in
+    let there = subst (λ (b : List ℕ). is_some (gathered (with_part (stage_of s) c.args.stamp c.args.part c.args.parts b).pieces 0 c.args.parts) ≡ true) c.as_slice.ensures c.in_default.ensures.memory in
+    λ move. lack_of_whole move s c.args.stamp c.args.part c.args.parts c.args.bytes (sym c.if-not-takes.ensures.takes) there
 
 pub returns-in_default-whole-clause-left : goal.returns-in_default-whole-clause-left
 returns-in_default-whole-clause-left g c =
     let s : PlainStage = c.args.self in
     let items : Option (Vec ℕ Global) → Option (List ℕ) = λ o. option_map (λ v. v.items) o in
-    let is = c.in-Ok.ensures ∙ ap (λ (b : List ℕ). option_map joined (gathered (with_part (stage_of s) c.args.stamp c.args.part c.args.parts b).pieces 0 c.args.parts)) c.as_slice.ensures in
+    let is = c.in-Ok.ensures.whole ∙ ap (λ (b : List ℕ). option_map joined (gathered (with_part (stage_of s) c.args.stamp c.args.part c.args.parts b).pieces 0 c.args.parts)) c.as_slice.ensures in
     let place = is_place s c.args.stamp c.args.part c.args.parts (sym c.if-not-takes.ensures.takes) in
     let lt : c.args.part < 6 = omega (arith, place, c.requires) in
     λ move.
@@ -31,7 +37,7 @@ pub returns-in_default-state_parts-clause-left : goal.returns-in_default-state_p
 returns-in_default-state_parts-clause-left g c =
     let s : PlainStage = c.args.self in
     let items : Option (Vec ℕ Global) → Option (List ℕ) = λ o. option_map (λ v. v.items) o in
-    let is = c.in-Ok.ensures ∙ ap (λ (b : List ℕ). option_map joined (gathered (with_part (stage_of s) c.args.stamp c.args.part c.args.parts b).pieces 0 c.args.parts)) c.as_slice.ensures in
+    let is = c.in-Ok.ensures.whole ∙ ap (λ (b : List ℕ). option_map joined (gathered (with_part (stage_of s) c.args.stamp c.args.part c.args.parts b).pieces 0 c.args.parts)) c.as_slice.ensures in
     λ move.
     part_is move s c.args.stamp c.args.part c.args.parts c.args.bytes (items c.in-Ok.whole) (sym c.if-not-takes.ensures.takes) is
     ∙ ap (λ w. by_whole move (stage_of s) (with_part (stage_of s) c.args.stamp c.args.part c.args.parts c.args.bytes) c.args.part c.args.parts (items w)) c.in-Some.is
@@ -41,7 +47,7 @@ pub returns-in-Ok-state-clause-ready : goal.returns-in-Ok-state-clause-ready
 returns-in-Ok-state-clause-ready g c =
     let s : PlainStage = c.args.self in
     let items : Option (Vec ℕ Global) → Option (List ℕ) = λ o. option_map (λ v. v.items) o in
-    let is = c.in-Ok.ensures ∙ ap (λ (b : List ℕ). option_map joined (gathered (with_part (stage_of s) c.args.stamp c.args.part c.args.parts b).pieces 0 c.args.parts)) c.as_slice.ensures in
+    let is = c.in-Ok.ensures.whole ∙ ap (λ (b : List ℕ). option_map joined (gathered (with_part (stage_of s) c.args.stamp c.args.part c.args.parts b).pieces 0 c.args.parts)) c.as_slice.ensures in
     let numbers : List ℕ = c.in-Some-state_parts.numbers.items in
     let body : List ℕ = c.in-Some-state_parts.state.now in
     λ move.
@@ -55,7 +61,7 @@ pub returns-in-Err-clause-left : goal.returns-in-Err-clause-left
 returns-in-Err-clause-left g c =
     let s : PlainStage = c.args.self in
     let items : Option (Vec ℕ Global) → Option (List ℕ) = λ o. option_map (λ v. v.items) o in
-    let is = c.in-Ok.ensures ∙ ap (λ (b : List ℕ). option_map joined (gathered (with_part (stage_of s) c.args.stamp c.args.part c.args.parts b).pieces 0 c.args.parts)) c.as_slice.ensures in
+    let is = c.in-Ok.ensures.whole ∙ ap (λ (b : List ℕ). option_map joined (gathered (with_part (stage_of s) c.args.stamp c.args.part c.args.parts b).pieces 0 c.args.parts)) c.as_slice.ensures in
     let numbers : List ℕ = c.in-Some-state_parts.numbers.items in
     let body : List ℕ = c.in-Some-state_parts.state.now in
     let place = is_place s c.args.stamp c.args.part c.args.parts (sym c.if-not-takes.ensures.takes) in
