@@ -2,6 +2,7 @@
 
 ghost use Rattle.std.specs.Prelude.{◌≡◌, ◌≢◌, ◌≤◌, IfOk};
 ghost use Rattle.rvm_hart_worker.specs.declared.slices.Then.TheVariants.{Elsewhere};
+ghost use Rattle.rvm_hart_worker.specs.Drains.{is_refused, taken, told_by};
 
 use crate::slices::{Slice, Then, is_elsewhere, made_by};
 use rvm_cell::{Seating, SharedHost};
@@ -47,7 +48,9 @@ pub(crate) enum Drained {
 }
 
 /// What the reply to a drain says.
-fn told_by(reply: HostReply) -> Drained {
+fn told_by(reply: HostReply) -> Drained
+    ensures { result ≡ told_by reply }
+{
     match reply {
         HostReply::Board(answer) => taken(answer),
         HostReply::Refused(why) => {
@@ -62,7 +65,9 @@ fn told_by(reply: HostReply) -> Drained {
 }
 
 /// The bytes of a board's answer, if it has any.
-fn taken(answer: BoardReply) -> Drained {
+fn taken(answer: BoardReply) -> Drained
+    ensures { result ≡ taken answer }
+{
     match answer {
         BoardReply::Bytes(bytes) => {
             if bytes.as_slice().is_empty() {
@@ -254,7 +259,9 @@ impl<A: Seating, B: Seating> Pair<A, B> {
 }
 
 /// Whether the guest was elsewhere.
-fn is_refused(drained: &Drained) -> bool {
+fn is_refused(drained: &Drained) -> bool
+    ensures { result ≡ is_refused drained.now }
+{
     match drained {
         Drained::Elsewhere => true,
         _ => false,

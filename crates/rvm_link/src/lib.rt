@@ -10,5 +10,5 @@ mod link;
 mod outgoing;
 
 pub use error::SendError;
-pub use link::{Link, Received};
+pub use link::{Link, LinkRead};
 pub use outgoing::Outgoing;

@@ -1,13 +1,14 @@
 //! Links.
 
-ghost use Rattle.std.specs.Prelude.{ℕ, List, Option, None, OnOk};
+ghost use Rattle.std.specs.Prelude.{ℕ, List, Option, None, OnOk, length};
 ghost use Rattle.std.specs.Io.KnownBytes.{Appends};
+ghost use Rattle.rvm_link.specs.Reads.{GivesAtMost};
 
 use rvm_refusal::LinkFault;
 
 /// What a read of a link gave.
 #[derive(Clone, Copy, Debug, PartialEq, Eq)]
-pub enum Received {
+pub enum LinkRead {
     /// So many bytes, which stand at the front of the buffer.
     Bytes(usize),
     /// Nothing yet.
@@ -27,6 +28,8 @@ pub trait Link {
     fn send(&mut self, bytes: &[u8]) -> Result<(), LinkFault>
         ensures { OnOk result (Appends (contents self.old) (contents self.new) bytes.now) };
 
-    /// Reads what came, into a buffer.
-    fn recv(&mut self, buffer: &mut [u8]) -> Received;
+    /// Reads what came. It takes a buffer of any length, puts the bytes at its front, and gives how many
+    /// they are, at most the buffer's length. What stands behind them may have changed too.
+    fn recv(&mut self, buffer: &mut [u8]) -> LinkRead
+        ensures { GivesAtMost result (length buffer.new) };
 }

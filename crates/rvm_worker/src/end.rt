@@ -45,8 +45,8 @@ pub enum WorkEnd {
     /// The stream goes on with no frame that may stand there.
     #[error("no frame that may stand there")]
     BadFrame,
-    /// The length of a frame's body is above 32768.
-    #[error("the body is longer than 32768 bytes")]
+    /// The body of a frame is longer than the stream has it.
+    #[error("the body is longer than a frame of the stream may have")]
     TooLong,
     /// The stream was refused before.
     #[error("the stream was refused before")]

@@ -10,7 +10,7 @@ use crate::next::ends_hearing;
 use crate::telling::{Side, tell};
 use rvm_cell::{Seat, Seating};
 use rvm_frame::{Frame, FrameReader};
-use rvm_link::{Link, Received};
+use rvm_link::{Link, LinkRead};
 use rvm_mem::PagedMemory;
 use rvm_message::{HostEvent, Shared};
 use std::alloc::Global;
@@ -91,9 +91,8 @@ fn hear<L: Seating, M: PagedMemory + Drop, K: Link + Drop, I: Link, G: Gate, R: 
         match read_link(link, &mut buffer, stream.is_inside) {
             Read::Ended(end) => return end,
             Read::Nothing => idle += 1,
-            Read::Bytes(count) => {
+            Read::Bytes(piece) => {
                 idle = 0;
-                let piece = &buffer[..count.min(BUFFER_SIZE)];
                 if let Err(end) = take(rt, alloc, side, caller, watch, from, &mut stream, piece) {
                     return end;
                 }
@@ -107,9 +106,9 @@ fn hear<L: Seating, M: PagedMemory + Drop, K: Link + Drop, I: Link, G: Gate, R: 
 }
 
 /// What a read gave a receiver.
-enum Read {
-    /// So many bytes at the front of the buffer.
-    Bytes(usize),
+enum Read<'b> {
+    /// These bytes, which stand at the front of the buffer.
+    Bytes(&'b [u8]),
     /// Nothing yet.
     Nothing,
     /// The receiver ends.
@@ -117,12 +116,12 @@ enum Read {
 }
 
 /// Reads a link once.
-fn read_link<I: Link>(link: &mut I, buffer: &mut [u8], is_inside: bool) -> Read {
+fn read_link<'b, I: Link>(link: &mut I, buffer: &'b mut [u8], is_inside: bool) -> Read<'b> {
     match link.recv(buffer) {
-        Received::Bytes(count) => Read::Bytes(count),
-        Received::Idle => Read::Nothing,
-        Received::End => Read::Ended(end_of_stream(is_inside)),
-        Received::LinkFault => Read::Ended(WorkEnd::LinkFault),
+        LinkRead::Bytes(count) => Read::Bytes(&buffer[..count]),
+        LinkRead::Idle => Read::Nothing,
+        LinkRead::End => Read::Ended(end_of_stream(is_inside)),
+        LinkRead::LinkFault => Read::Ended(WorkEnd::LinkFault),
     }
 }
 
