@@ -1,9 +1,9 @@
 //! The two hosts of a move.
 
-ghost use Rattle.std.specs.Prelude.{◌≡◌, [], vec_len, IfOk};
+ghost use Rattle.std.specs.Prelude.{◌≡◌, ◌≤◌, [], vec_len, IfOk};
 ghost use Rattle.rvm_move.specs.Hosts.{IsEnd};
 
-use rvm_cell::{CloseKind, Receipt, Seat, Seating, SharedHost, close, share};
+use rvm_cell::{CloseKind, Receipt, Seat, Seating, ShareError, SharedHost, close, share};
 use rvm_journal::Recorded;
 use rvm_link::{Link, Outgoing};
 use rvm_mem::PagedMemory;
@@ -51,11 +51,14 @@ pub(crate) fn open_host<L: Seating, M: PagedMemory + Drop, K: Link + Drop>(
 ) -> Result<(OpenHost<L, M, K>, Vec<Seat<L>>), AllocError>
     requires ledger { (blank.name ≡ L.name) × (blank.parts ≡ L.parts) × (L.seats ≡ L.parts) }
     requires seats { blank.parts ≡ seats }
+    requires few { (1 ≤ seats) × (seats ≤ 16) }
     requires empty { recorded.journal.entries ≡ [] }
     ensures { IfOk result (λ r. vec_len r.1 ≡ seats) }
 {
-    let Ok((host, list)) = share::<L, M>(alloc, blank, recorded, seats) else {
-        return Err(AllocError);
+    let (host, list) = match share::<L, M>(alloc, blank, recorded, seats) {
+        Ok(shared) => shared,
+        Err((ShareError::BadSize, ..)) => unreachable!(),
+        Err((ShareError::OutOfMemory, ..)) => return Err(AllocError),
     };
     let Ok(outgoing) = Outgoing::open(alloc, sending, version) else {
         return Err(AllocError);

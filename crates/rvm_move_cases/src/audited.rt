@@ -1,13 +1,10 @@
-//! An order of what both hosts of a move did, played again as a script.
+//! The order that an audit prints, played as a script.
 
 use crate::asked::{LOOP, image_of, to_audit, to_script};
 use rvm_audit::audit;
-use rvm_event_line::write_events;
-use rvm_journal::{Entry, Journal};
+use rvm_journal::Entry;
 use rvm_message::{Command, ExchangeRef, HostEvent};
 use rvm_move_command::audit_over::{Audited, audit_over};
-use rvm_move_command::{OpenGate, connect_both};
-use rvm_paged::PagedRam;
 use rvm_refusal::LinkFault;
 use rvm_world::Event;
 use rvm_world_command::script_command::script_command;
@@ -88,13 +85,6 @@ fn answers(alloc: Global, unplayed: Unplayed, events: &[Event]) -> Option<Vec<u8
     Some(text)
 }
 
-/// The lines of events.
-fn script_of(alloc: Global, events: &[Event]) -> Option<Vec<u8>> {
-    let mut script = Vec::new(alloc);
-    write_events(&mut script, events).ok()?;
-    Some(script)
-}
-
 /// What a script answers, with the guest of the move.
 fn play(alloc: Global, image: &[u8], script: &[u8]) -> Option<Vec<u8>> {
     let (mut played, mut errors) = (Vec::new(alloc), Vec::new(alloc));
@@ -110,61 +100,49 @@ fn play(alloc: Global, image: &[u8], script: &[u8]) -> Option<Vec<u8>> {
     if status == Ok(0) { Some(played) } else { None }
 }
 
-/// Whether an order of two journals, played as a script, answers as both.
-fn is_played(
-    alloc: Global,
-    image: &[u8],
-    first: &Journal<PagedRam>,
-    second: &Journal<PagedRam>,
-) -> Option<bool> {
-    let events = audit(alloc, first, second).ok()?;
-    let script = script_of(alloc, events.as_slice())?;
-    let played = play(alloc, image, script.as_slice())?;
+/// What both hosts of an audit answered, in the order that it found.
+fn told(alloc: Global, audited: &Audited) -> Option<Vec<u8>> {
+    let (a, b) = audited.hosts.as_ref()?;
+    let events = audit(alloc, a.journal(), b.journal()).ok()?;
     let unplayed = Unplayed {
-        first: first.entries(),
-        second: second.entries(),
+        first: a.journal().entries(),
+        second: b.journal().entries(),
         senders: Vec::new(alloc),
     };
-    let answers = answers(alloc, unplayed, events.as_slice())?;
-    Some(played.as_slice() == answers.as_slice())
+    answers(alloc, unplayed, events.as_slice())
 }
 
-/// The same of the hosts of a move, if it did not fail.
-fn are_played(alloc: Global, image: &[u8], audited: &Audited) -> Option<bool> {
-    let (a, b) = audited.hosts.as_ref()?;
-    is_played(alloc, image, a.journal(), b.journal())
-}
-
-/// Moves a guest over TCP: both hosts.
-fn move_guest<R: AllocGlobal + Net + Threads + Wait + Clock + Sync>(
+/// Audits a move: the order that is printed goes to `script`.
+fn audit_move<R: AllocGlobal + Net + Threads + Wait + Clock + Sync>(
     rt: &R,
     image: &[u8],
+    script: &mut Vec<u8>,
 ) -> Option<Audited>
 where
     R::Stream: Send,
 {
     let mut errors = Vec::new(rt.alloc());
-    let links = connect_both(rt).ok()?;
-    audit_over(
-        rt,
-        rt.alloc(),
-        &to_audit(),
-        image,
-        links,
-        &OpenGate,
-        &mut errors,
-    )
-    .ok()
+    audit_over(rt, rt.alloc(), &to_audit(), image, script, &mut errors).ok()
 }
 
-/// Moves a guest, and whether its order answers as both journals.
-fn is_moved_and_played<R: AllocGlobal + Net + Threads + Wait + Clock + Sync>(rt: &R) -> Option<bool>
+/// Whether a script, played with the same guest, answers as both hosts did, if the move did not fail.
+fn is_played(alloc: Global, image: &[u8], script: &[u8], audited: &Audited) -> Option<bool> {
+    let told = told(alloc, audited)?;
+    let played = play(alloc, image, script)?;
+    Some(played.as_slice() == told.as_slice())
+}
+
+/// Audits a move, and plays the order that was printed.
+fn is_audited_and_played<R: AllocGlobal + Net + Threads + Wait + Clock + Sync>(
+    rt: &R,
+) -> Option<bool>
 where
     R::Stream: Send,
 {
     let image = image_of(rt.alloc(), LOOP.as_slice()).ok()?;
-    let audited = move_guest(rt, image.as_slice())?;
-    are_played(rt.alloc(), image.as_slice(), &audited)
+    let mut script = Vec::new(rt.alloc());
+    let audited = audit_move(rt, image.as_slice(), &mut script)?;
+    is_played(rt.alloc(), image.as_slice(), script.as_slice(), &audited)
 }
 
 /// Plays the order of a move.
@@ -174,7 +152,7 @@ pub fn play_order<R: AllocGlobal + Print + Net + Threads + Wait + Clock + Sync>(
 where
     R::Stream: Send,
 {
-    let is_played = is_moved_and_played(rt) == Some(true);
+    let is_played = is_audited_and_played(rt) == Some(true);
     println!(rt; "an order played as a script answers as both journals {is_played}")?;
     Ok(())
 }

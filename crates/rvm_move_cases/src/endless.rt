@@ -2,7 +2,7 @@
 
 use crate::asked::{HELLO, image_of, to_move};
 use crate::ended::Ended;
-use rvm_link::{Link, Received};
+use rvm_link::{Link, LinkRead};
 use rvm_move::Links;
 use rvm_move_command::move_over::move_over;
 use rvm_move_command::{OpenGate, connect_both};
@@ -33,19 +33,19 @@ impl<K: Link + Drop> Link for Endless<K> {
         self.link.send(bytes)
     }
 
-    fn recv(&mut self, buffer: &mut [u8]) -> Received {
+    fn recv(&mut self, buffer: &mut [u8]) -> LinkRead {
         if !self.is_endless {
             return self.link.recv(buffer);
         }
         let (Some(byte), Some(first)) = (STREAM.get(self.place), buffer.first_mut()) else {
-            return Received::End;
+            return LinkRead::End;
         };
         *first = *byte;
         self.place = self.place.wrapping_add(1);
         if self.place == STREAM.len() {
             self.place = READY;
         }
-        Received::Bytes(1)
+        LinkRead::Bytes(1)
     }
 }
 

@@ -1,8 +1,8 @@
 //! Links that fail.
 
-use crate::asked::{HELLO, image_of, to_move};
+use crate::asked::{LOOP, image_of, to_move};
 use crate::ended::Ended;
-use rvm_link::{Link, Received};
+use rvm_link::{Link, LinkRead};
 use rvm_move::Links;
 use rvm_move_command::move_over::move_over;
 use rvm_move_command::{OpenGate, connect_both};
@@ -28,7 +28,7 @@ impl<K: Link + Drop> Link for Failing<K> {
         self.link.send(bytes)
     }
 
-    fn recv(&mut self, buffer: &mut [u8]) -> Received {
+    fn recv(&mut self, buffer: &mut [u8]) -> LinkRead {
         self.link.recv(buffer)
     }
 }
@@ -65,8 +65,8 @@ where
 }
 
 /// Moves a guest while A sends at most so many times, and B. Whether the end is one that may be: no
-/// commit, the output of a run and the status 0; a commit, a start and that output; or a commit alone and
-/// the status 1.
+/// commit and no start, the output of a run and the status 0; a commit, a start and that output; or a commit
+/// alone and the status 1.
 fn break_link<R: AllocGlobal + Net + Threads + Wait + Clock + Sync>(
     rt: &R,
     at_a: u32,
@@ -75,7 +75,7 @@ fn break_link<R: AllocGlobal + Net + Threads + Wait + Clock + Sync>(
 where
     R::Stream: Send,
 {
-    let image = image_of(rt.alloc(), HELLO.as_slice())?;
+    let image = image_of(rt.alloc(), LOOP.as_slice())?;
     let mut ended = Ended::new(rt.alloc());
     let Ok((a, b)) = connect_both(rt) else {
         return Ok(false);
@@ -90,9 +90,14 @@ where
         &mut ended.output,
         &mut ended.errors,
     );
-    if ended.has("committed 1") && !ended.has("started") {
-        return Ok(ended.status == Ok(1));
+    let is_started = ended.has("started");
+    let is_as_run = ended.is_as_run(rt.alloc(), image.as_slice());
+    if !ended.has("committed 1") {
+        return Ok(!is_started && is_as_run && ended.status == Ok(0));
     }
-    let is_kept = ended.has("started") || ended.status == Ok(0);
-    Ok(is_kept && ended.is_as_run(rt.alloc(), image.as_slice()))
+    Ok(if is_started {
+        is_as_run
+    } else {
+        ended.status == Ok(1)
+    })
 }

@@ -1,5 +1,6 @@
 //! Moves guests over TCP, past a gate at which two workers meet, over a link without end, and over links that
-//! fail, and prints what became of each; and plays the order of a move as a script.
+//! fail, and prints what became of each; plays the order of a move as a script; and prints how receivers end,
+//! by what their links give.
 #![tactic(auto)]
 
 mod asked;
@@ -7,6 +8,7 @@ mod audited;
 mod ended;
 mod endless;
 mod failing;
+mod hearing;
 mod live;
 mod meeting;
 
@@ -15,5 +17,6 @@ fn main(rt: HostRuntime) -> anyhow::Result<()> {
     meeting::meet(&rt)?;
     audited::play_order(&rt)?;
     endless::hear_without_end(&rt)?;
+    hearing::hear_links(&rt)?;
     failing::break_links(&rt)
 }

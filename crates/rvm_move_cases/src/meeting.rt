@@ -40,7 +40,7 @@ impl<C: Clock + Drop> Gate for Meeting<C> {
     fn before(&self, worker: Worker, call: u32) -> bool {
         match worker {
             Worker::Harts => {
-                if call > 0 {
+                if call != 1 {
                     return true;
                 }
                 self.harts.store(true, Ordering::SeqCst);

@@ -1,6 +1,7 @@
 -- How a move ended, as it is told.
-use Rattle.std.specs.Prelude.{◌≡◌, ℕ, List, ◌++◌, Option, None, Some}
+use Rattle.std.specs.Prelude.{◌≡◌, ℕ, List, ◌++◌, Option, None, Some, option_map, codes}
 use Rattle.std.specs.Io.KnownBytes.{Appends}
+use Rattle.rvm_cell.specs.Closing.{close_refusal}
 use Rattle.rvm_cell.specs.declared.closing.CloseKind.{CloseKind}
 use Rattle.rvm_journal.specs.Entries.{PlainEntry}
 use Rattle.rvm_move.specs.declared.ends.Ends.{Ends}
@@ -9,6 +10,7 @@ use Rattle.rvm_move.specs.Hosts.{IsTold}
 use Rattle.rvm_move_command.specs.Answers.{answers_text}
 use Rattle.rvm_refusal.specs.declared.refusal.Refusal.{Refusal}
 use Rattle.rvm_refusal.specs.declared.refusal.Refusal.TheVariants as refusal
+use Rattle.rvm_refusal.specs.Refusal.{text_of}
 use Rattle.rvm_worker.specs.declared.end.WorkEnd.{WorkEnd}
 use Rattle.rvm_worker.specs.declared.end.WorkEnd.TheVariants as e
 
@@ -22,6 +24,24 @@ refusal_of_end e.BadFrame = Some refusal.BadFrame
 refusal_of_end e.TooLong = Some refusal.TooLong
 refusal_of_end e.Failed = Some refusal.Failed
 refusal_of_end end = None
+
+-- of a worker's end, or else of a host's fault
+abbrev pub told_first : Option WorkEnd → Option CloseKind → Option Refusal
+told_first (Some end) fault = refusal_of_end end
+told_first None fault = option_map close_refusal fault
+
+-- the line of a refusal
+abbrev pub line_of : Refusal → List ℕ
+line_of r = text_of r ++ codes "\n"
+
+-- the first of two faults
+abbrev pub first_fault : (a b : Option CloseKind) → Option CloseKind
+first_fault (Some kind) b = Some kind
+first_fault None b = b
+
+-- with which refusal of the list a move failed: that of the first worker that failed, else the first host's
+abbrev pub refusal_of_failure : Ends → (a b : Option CloseKind) → Option Refusal
+refusal_of_failure ends a b = told_first (failure ends) (first_fault a b)
 
 -- no worker failed, and both hosts were closed
 abbrev pub IsSound : Ends → (a b : Option CloseKind) → Type 0

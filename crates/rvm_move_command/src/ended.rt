@@ -1,10 +1,10 @@
 //! How a move ended, as it is told.
 
-ghost use Rattle.std.specs.Prelude.{◌≡◌, ◌⊎◌, ◌↔◌, ◌++◌, None, IfOk};
+ghost use Rattle.std.specs.Prelude.{◌≡◌, ◌⊎◌, ◌↔◌, ◌++◌, None, IfOk, IfSome, OnOk};
 ghost use Rattle.std.specs.Io.KnownBytes.{Appends};
 ghost use Rattle.rvm_move_command.specs.Answers.{answers_text};
 ghost use Rattle.rvm_move.specs.Hosts.{IsEnd};
-ghost use Rattle.rvm_move_command.specs.Ended.{IsMoved, IsSound, refusal_of_end};
+ghost use Rattle.rvm_move_command.specs.Ended.{IsMoved, IsSound, first_fault, line_of, refusal_of_end, refusal_of_failure};
 
 use crate::answers::write_answers;
 use rvm_cell::CloseKind;
@@ -37,7 +37,10 @@ fn refusal_of_end(end: WorkEnd) -> Option<Refusal>
 }
 
 /// Writes with what a worker failed: a refusal of the list, or in words.
-fn write_end<E: Write>(errors: &mut E, end: WorkEnd) -> Result<(), LinkFault> {
+fn write_end<E: Write>(errors: &mut E, end: WorkEnd) -> Result<(), LinkFault>
+    ensures { OnOk result (IfSome (refusal_of_end end) (λ refusal.
+        Appends (E.contents errors.old) (E.contents errors.new) (line_of refusal))) }
+{
     match refusal_of_end(end) {
         Some(refusal) => writeln!(errors, "{refusal}")?,
         None => writeln!(errors, "{end}")?,
@@ -45,8 +48,9 @@ fn write_end<E: Write>(errors: &mut E, end: WorkEnd) -> Result<(), LinkFault> {
     Ok(())
 }
 
-/// Tells with what the move failed, if it did. Answers the status: 0, or 1 where it failed. `LinkFault`
-/// where it cannot be told.
+/// Tells with what the move failed, if it did: the first end of a worker with which it fails, else the
+/// first host's fault, else the second's. Answers the status: 0, or 1 where it failed. `LinkFault` where
+/// it cannot be told.
 pub(crate) fn tell_failure<M: PagedMemory + Drop, E: Write>(
     moved: &Moved<M>,
     errors: &mut E,
@@ -55,6 +59,8 @@ pub(crate) fn tell_failure<M: PagedMemory + Drop, E: Write>(
     ensures sound { IfOk result (λ status. status ≡ 0
         ↔ IsSound moved.now.ends moved.now.a.fault moved.now.b.fault) }
     ensures silent { IfOk result (λ status. status ≡ 0 → E.contents errors.new ≡ E.contents errors.old) }
+    ensures told { OnOk result (IfSome (refusal_of_failure moved.now.ends moved.now.a.fault moved.now.b.fault)
+        (λ refusal. Appends (E.contents errors.old) (E.contents errors.new) (line_of refusal))) }
 {
     if let Some(end) = moved.ends.failure() {
         write_end(errors, end)?;
@@ -71,7 +77,8 @@ pub(crate) fn tell_failure<M: PagedMemory + Drop, E: Write>(
 
 /// The first of two faults.
 fn first_fault(a: Option<CloseKind>, b: Option<CloseKind>) -> Option<CloseKind>
-    ensures { result ≡ None ↔ ((a ≡ None) × (b ≡ None)) }
+    ensures first { result ≡ first_fault a b }
+    ensures none { result ≡ None ↔ ((a ≡ None) × (b ≡ None)) }
 {
     match a {
         Some(_) => a,

@@ -1,17 +1,18 @@
 //! The two hosts of a move.
 
-ghost use Rattle.std.specs.Prelude.{◌≡◌, [], IfOk, IfErr, OnOk};
+ghost use Rattle.std.specs.Prelude.{◌≡◌, ◌<◌, ◌≤◌, [], IfOk, IfErr, OnOk};
 ghost use Rattle.rvm_command.specs.Command.{image_of};
 ghost use Rattle.rvm_command.specs.Ends.{IsLoadable, IsLoadRefusal};
-ghost use Rattle.rvm_move_command.specs.Hosts.{IsFirstHost, IsSecondHost};
+ghost use Rattle.rvm_core.specs.Hosts.{new_host};
+ghost use Rattle.rvm_move_command.specs.Hosts.{IsFirstHost, IsSecondHost, recorded_before};
 
 use rvm_arguments::MoveArguments;
 use rvm_command::guest::load_guest;
 use rvm_command::refused::Refused;
 use rvm_core::Host;
-use rvm_journal::Recorded;
+use rvm_debug::Debugged;
+use rvm_journal::{MAX_CAPACITY, Recorded};
 use rvm_paged::PagedRam;
-use rvm_refusal::Refusal;
 use std::alloc::Global;
 
 /// How many hosts a move has.
@@ -19,9 +20,6 @@ const HOSTS: u8 = 2;
 
 /// How many pages each host takes.
 const HOST_PAGES: u16 = 4096;
-
-/// How many entries each journal takes.
-const CAPACITY: u32 = 1048576;
 
 /// Two hosts with empty journals, of which the first has the guest of an image. Refused for the fault of
 /// the file, `OutsideRam` for an image that does not lie in RAM, and `OutOfMemory`.
@@ -40,14 +38,35 @@ pub fn new_hosts(
 {
     let guest = load_guest(alloc, &arguments.guest, image)?;
     let version = arguments.stream;
-    let Ok(first) = Host::with_version(Some(guest), 0, HOSTS, HOST_PAGES, version) else {
-        unreachable!()
-    };
-    let Ok(second) = Host::with_version(None, 1, HOSTS, HOST_PAGES, version) else {
-        unreachable!()
-    };
     Ok((
-        Recorded::new(alloc, first, CAPACITY),
-        Recorded::new(alloc, second, CAPACITY),
+        new_host(alloc, Some(guest), 0, version),
+        new_host(alloc, None, 1, version),
     ))
+}
+
+/// A host with this number, with a guest or none, and with an empty journal.
+fn new_host(
+    alloc: Global,
+    guest: Option<Debugged<PagedRam>>,
+    id: u8,
+    version: u32,
+) -> Recorded<PagedRam>
+    requires there { id < 2 }
+    requires version { (1 ≤ version) × (version ≤ 3) }
+    ensures { result ≡ recorded_before (new_host guest id 2 4096 version) }
+{
+    match Host::with_version(guest, id, HOSTS, HOST_PAGES, version) {
+        Ok(host) => record(alloc, host),
+        Err(_) => unreachable!(),
+    }
+}
+
+/// A host with an empty journal.
+fn record(alloc: Global, host: Host<PagedRam>) -> Recorded<PagedRam>
+    ensures { result ≡ recorded_before host }
+{
+    match Recorded::new(alloc, host, MAX_CAPACITY) {
+        Ok(recorded) => recorded,
+        Err(_) => unreachable!(),
+    }
 }

@@ -4,7 +4,7 @@
 //! Stands on moves, on the audit of journals, on the other commands for guests and refusals, and on scripts
 //! for the texts of replies. It knows nothing of files, processes or the terminal.
 //!
-//! To be read in this order: `hosts`, `answers`, `ended`, `move_over`, `socket`, `move_command`,
+//! To be read in this order: `hosts`, `answers`, `ended`, `move_over`, `socket`, `move_command`, `order`,
 //! `audit_over`, `audit_command`.
 #![tactic(auto)]
 
@@ -15,6 +15,7 @@ mod ended;
 mod hosts;
 pub mod move_command;
 pub mod move_over;
+mod order;
 mod socket;
 
 pub use hosts::new_hosts;

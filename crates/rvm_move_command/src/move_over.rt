@@ -5,6 +5,7 @@ ghost use Rattle.rvm_command.specs.Command.{image_of};
 ghost use Rattle.rvm_command.specs.Ends.{IsLoadable};
 ghost use Rattle.rvm_move.specs.Hosts.{IsEnd};
 ghost use Rattle.rvm_move_command.specs.Ended.{IsMoved};
+ghost use Rattle.rvm_move_command.specs.Plans.{plan_of};
 
 use crate::ended::{refuse, tell_ended};
 use crate::hosts::new_hosts;
@@ -63,7 +64,9 @@ pub fn move_over<
 }
 
 /// What the arguments of a move ask for.
-pub fn plan_of(arguments: &MoveArguments) -> Plan {
+pub fn plan_of(arguments: &MoveArguments) -> Plan
+    ensures { result ≡ plan_of arguments.now }
+{
     Plan {
         harts: arguments.guest.harts,
         steps: arguments.steps,

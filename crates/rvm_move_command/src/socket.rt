@@ -1,6 +1,6 @@
 //! Links over TCP.
 
-use rvm_link::{Link, Received};
+use rvm_link::{Link, LinkRead};
 use rvm_refusal::LinkFault;
 use std::io::{ErrorKind, Read, Write};
 use std::net::{Ipv4Addr, Net, OpenListener, OpenStream, TcpListener, TcpStream};
@@ -19,15 +19,15 @@ impl<S: Read + Write + Drop> Link for Socket<S> {
         }
     }
 
-    fn recv(&mut self, buffer: &mut [u8]) -> Received {
+    fn recv(&mut self, buffer: &mut [u8]) -> LinkRead {
         match self.stream.read(buffer) {
-            Ok(0) => Received::End,
-            Ok(count) => Received::Bytes(count),
+            Ok(0) => LinkRead::End,
+            Ok(count) => LinkRead::Bytes(count),
             Err(error) => {
                 if error.kind() == ErrorKind::Interrupted {
-                    Received::Idle
+                    LinkRead::Idle
                 } else {
-                    Received::LinkFault
+                    LinkRead::LinkFault
                 }
             }
         }
@@ -35,7 +35,7 @@ impl<S: Read + Write + Drop> Link for Socket<S> {
 }
 
 /// A connection in this machine: the end that sends, and the one that receives. Frames that are written
-/// while others are on their way go out together, as soon as those have been read.
+/// while others are on their way go out together, at the latest when those have been read.
 pub(crate) fn connect<R: Net>(rt: &R) -> Result<(Socket<R::Stream>, Socket<R::Stream>), LinkFault> {
     let listener = TcpListener::bind(rt, (Ipv4Addr::LOCALHOST, 0u16))?;
     let address = listener.local_addr()?;

@@ -1,0 +1,216 @@
+//! How receivers end, by what their links give.
+
+ghost use Rattle.std.specs.Prelude.{◌≡◌, [], IfSome};
+
+use rvm_cell::{Seat, Seating, SharedHost, share};
+use rvm_core::Host;
+use rvm_journal::Recorded;
+use rvm_link::{Link, LinkRead, Outgoing};
+use rvm_move_command::OpenGate;
+use rvm_paged::PagedRam;
+use rvm_refusal::LinkFault;
+use rvm_worker::{Side, WorkEnd, Worker, receiver_worker};
+use std::alloc::Global;
+use std::marker::Brand;
+use std::sync::Wait;
+use std::sync::ledger::Blank;
+
+/// Hello of version 1; of move 1 the offer of a guest of four pages and one hart, the end of a round, and Ready.
+const STREAM: [u8; 67] = [
+    0, 0, 0, 0, 0, 0, 0, 0, 0, 4, 0, 0, 0, 1, 0, 0, 0, //
+    1, 1, 0, 0, 0, 0, 0, 0, 0, 3, 0, 0, 0, 4, 0, 1, //
+    5, 1, 0, 0, 0, 0, 0, 0, 0, 8, 0, 0, 0, 1, 0, 4, 0, 0, 0, 0, 0, //
+    8, 1, 0, 0, 0, 0, 0, 0, 0, 0, 0, 0, 0,
+];
+
+/// The bytes before each of these frames, and all of them.
+const WHOLE: [usize; 5] = [0, 17, 33, 54, 67];
+
+/// Hello twice.
+const TWICE: [u8; 34] = [
+    0, 0, 0, 0, 0, 0, 0, 0, 0, 4, 0, 0, 0, 1, 0, 0, 0, //
+    0, 0, 0, 0, 0, 0, 0, 0, 0, 4, 0, 0, 0, 1, 0, 0, 0,
+];
+
+/// Hello, and a kind that version 1 does not have.
+const ZERO: [u8; 18] = [0, 0, 0, 0, 0, 0, 0, 0, 0, 4, 0, 0, 0, 1, 0, 0, 0, 12];
+
+/// Hello, and a state of 32769 bytes.
+const LONG: [u8; 30] = [
+    0, 0, 0, 0, 0, 0, 0, 0, 0, 4, 0, 0, 0, 1, 0, 0, 0, //
+    7, 1, 0, 0, 0, 0, 0, 0, 0, 1, 128, 0, 0,
+];
+
+/// Hello, the offer, and the end of the move.
+const DROPPED: [u8; 46] = [
+    0, 0, 0, 0, 0, 0, 0, 0, 0, 4, 0, 0, 0, 1, 0, 0, 0, //
+    1, 1, 0, 0, 0, 0, 0, 0, 0, 3, 0, 0, 0, 4, 0, 1, //
+    11, 1, 0, 0, 0, 0, 0, 0, 0, 0, 0, 0, 0,
+];
+
+/// What links give: their stream, how many reads before each of its bytes and before its end give nothing, and
+/// whether they fail in place of the end.
+const LINKS: [(&str, &[u8], u32, bool); 10] = [
+    ("999 reads of nothing, and the end", &[], 999, false),
+    ("1000 reads of nothing, and the end", &[], 1000, false),
+    ("reads of nothing without end", &[], u32::MAX, false),
+    ("999 reads of nothing before each byte", &STREAM, 999, false),
+    ("a link that fails", &[], 0, true),
+    ("a link that fails behind frames", &STREAM, 0, true),
+    (
+        "a link that fails behind the end of a move",
+        &DROPPED,
+        0,
+        true,
+    ),
+    ("Hello twice", &TWICE, 0, false),
+    ("a kind of another version", &ZERO, 0, false),
+    ("a body of 32769 bytes", &LONG, 0, false),
+];
+
+/// A link that takes all bytes, and gives those of a stream, at most so many a read. Before each read that
+/// gives bytes, and before the end, so many give nothing. In place of the end it may fail.
+#[derive(Drop)]
+struct Given<'s> {
+    stream: &'s [u8],
+    at_once: usize,
+    pauses: u32,
+    paused: u32,
+    fails: bool,
+}
+
+impl<'s> Given<'s> {
+    /// A link that gives these bytes, so many a read, and ends.
+    fn new(stream: &'s [u8], at_once: usize) -> Given<'s> {
+        Given {
+            stream,
+            at_once,
+            pauses: 0,
+            paused: 0,
+            fails: false,
+        }
+    }
+}
+
+impl Link for Given<'_> {
+    fn send(&mut self, _bytes: &[u8]) -> Result<(), LinkFault> {
+        Ok(())
+    }
+
+    fn recv(&mut self, buffer: &mut [u8]) -> LinkRead {
+        if self.paused < self.pauses {
+            self.paused += 1;
+            return LinkRead::Idle;
+        }
+        self.paused = 0;
+        if self.stream.is_empty() {
+            return if self.fails {
+                LinkRead::LinkFault
+            } else {
+                LinkRead::End
+            };
+        }
+        let count = self.at_once.min(self.stream.len()).min(buffer.len());
+        let (piece, rest) = self.stream.split_at(count);
+        buffer[..count].copy_from_slice(piece);
+        self.stream = rest;
+        LinkRead::Bytes(count)
+    }
+}
+
+/// Hears streams that are cut and links of all kinds, and prints how the receivers end.
+pub fn hear_links<R: AllocGlobal + Print + Wait>(rt: &R) -> anyhow::Result<()> {
+    let is_cut_well = ends_at_each_cut(rt, 1) && ends_at_each_cut(rt, STREAM.len());
+    println!(rt; "a stream cut at each of its 67 bytes: ends as it must {is_cut_well}")?;
+    for (name, stream, pauses, fails) in LINKS {
+        let mut given = Given::new(stream, 1);
+        given.pauses = pauses;
+        given.fails = fails;
+        let end = hear(rt, given);
+        println!(rt; "{name}: {end:?}")?;
+    }
+    Ok(())
+}
+
+/// Whether a receiver that hears the first bytes of the stream, so many a read, ends as it must, however many
+/// they are: between two frames nothing is left to be done, and inside a frame the link has failed.
+fn ends_at_each_cut<R: AllocGlobal + Wait>(rt: &R, at_once: usize) -> bool {
+    let stream = STREAM;
+    for count in 0..=stream.len() {
+        let must = if WHOLE.contains(&count) {
+            WorkEnd::Done
+        } else {
+            WorkEnd::LinkFault
+        };
+        if hear(rt, Given::new(&stream[..count], at_once)) != must {
+            return false;
+        }
+    }
+    true
+}
+
+/// How a receiver at a new host ends that hears a link.
+fn hear<R: AllocGlobal + Wait>(rt: &R, given: Given) -> WorkEnd {
+    match recorded(rt.alloc()) {
+        Some(recorded) => hear_at::<Brand, R>(rt, Blank::new(1), recorded, given),
+        None => WorkEnd::OutOfMemory,
+    }
+}
+
+/// The second of two hosts, without a guest and with an empty journal.
+fn recorded(alloc: Global) -> Option<Recorded<PagedRam>>
+    ensures { IfSome result (λ r. r.journal.entries ≡ []) }
+{
+    let host = Host::with_version(None, 1, 2, 4096, 1).ok()?;
+    Recorded::new(alloc, host, 100).ok()
+}
+
+/// How a receiver at this host ends.
+fn hear_at<L: Seating, R: AllocGlobal + Wait>(
+    rt: &R,
+    blank: Blank,
+    recorded: Recorded<PagedRam>,
+    given: Given,
+) -> WorkEnd
+    requires ledger { (blank.name ≡ L.name) × (blank.parts ≡ L.parts) × (L.seats ≡ L.parts) }
+    requires seats { blank.parts ≡ 1 }
+    requires empty { recorded.journal.entries ≡ [] }
+{
+    match share::<L, PagedRam>(rt.alloc(), blank, recorded, 1) {
+        Ok((host, seats)) => hear_by(rt, &host, seats, given),
+        Err(_) => WorkEnd::OutOfMemory,
+    }
+}
+
+/// How the receiver ends that has the one seat.
+fn hear_by<L: Seating, R: AllocGlobal + Wait>(
+    rt: &R,
+    host: &SharedHost<L, PagedRam>,
+    seats: Vec<Seat<L>>,
+    given: Given,
+) -> WorkEnd {
+    let mut seats = seats;
+    let Some(seat) = seats.pop() else {
+        return WorkEnd::OutOfMemory;
+    };
+    let Ok(outgoing) = Outgoing::open(rt.alloc(), Given::new(&[], 1), 1) else {
+        return WorkEnd::OutOfMemory;
+    };
+    let side = Side {
+        host,
+        outgoing: &outgoing,
+    };
+    let mut given = given;
+    let worker = Worker::ReceiverAtB;
+    receiver_worker(
+        rt,
+        rt.alloc(),
+        &side,
+        seat,
+        &OpenGate,
+        worker,
+        0,
+        &mut given,
+    )
+    .end
+}

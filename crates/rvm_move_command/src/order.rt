@@ -1,0 +1,50 @@
+//! The order of two journals, as it is written.
+
+ghost use Rattle.std.specs.Prelude.{◌≡◌, ◌⊎◌, IfOk, OnOk};
+ghost use Rattle.std.specs.Io.KnownBytes.{Appends};
+ghost use Rattle.rvm_move.specs.Hosts.{IsTold};
+ghost use Rattle.rvm_event_line.specs.EventLines.{event_lines};
+ghost use Rattle.rvm_move_command.specs.Orders.{IsAudited};
+
+use rvm_audit::audit;
+use rvm_command::dis_command::flush;
+use rvm_command::refused::{Refused, tell};
+use rvm_event_line::write_events;
+use rvm_journal::Journal;
+use rvm_mem::PagedMemory;
+use rvm_refusal::{LinkFault, Refusal};
+use rvm_world::Event;
+use std::alloc::Global;
+use std::io::Write;
+
+/// Writes an order of two journals, or tells that there is none.
+#[tactic(auto, using(crate::proofs::Orders::audited))]
+pub(crate) fn write_order<M: PagedMemory + Drop, O: Write, E: Write>(
+    alloc: Global,
+    first: &Journal<M>,
+    second: &Journal<M>,
+    output: &mut O,
+    errors: &mut E,
+) -> Result<u8, LinkFault>
+    requires first { IsTold first.now.entries }
+    requires second { IsTold second.now.entries }
+    ensures status { IfOk result (λ status. (status ≡ 0) ⊎ (status ≡ 1)) }
+    ensures order { IfOk result (λ status. status ≡ 0
+        → IsAudited (O.contents output.old) (O.contents output.new)) }
+{
+    match audit(alloc, first, second) {
+        Ok(events) => match write_whole(output, events.as_slice()) {
+            Ok(()) => Ok(0),
+            Err(fault) => tell(Refused::from(fault), errors),
+        },
+        Err(error) => tell(Refused::from(Refusal::from(error)), errors),
+    }
+}
+
+/// Writes events, and what the writer held back.
+fn write_whole<O: Write>(output: &mut O, events: &[Event]) -> Result<(), LinkFault>
+    ensures { OnOk result (Appends (O.contents output.old) (O.contents output.new) (event_lines events.now)) }
+{
+    write_events(output, events)?;
+    flush(output)
+}
