@@ -26,28 +26,33 @@ fn main(rt: HostRuntime) -> anyhow::Result<ExitCode> {
         return Ok(ExitCode::SUCCESS);
     }
     let [_, file, harts, memory, steps] = words.as_slice() else {
-        eprintln!(&rt; "usage: rvm_bench IMAGE HARTS flat|paged STEPS, or rvm_bench STREAM")?;
-        return Ok(ExitCode::from(2));
+        return tell_usage(&rt);
     };
     let harts: u32 = harts.as_str().parse()?;
     let steps: u32 = steps.as_str().parse()?;
-    let image = fs::read(&rt, file.as_str())?;
-    if memory.as_str() == "paged" {
-        run_over::<PagedRam>(&rt, harts, steps, image.as_slice())
-    } else {
-        run_over::<FlatMemory>(&rt, harts, steps, image.as_slice())
+    match memory.as_str() {
+        "flat" => run_over::<FlatMemory>(&rt, file.as_str(), harts, steps),
+        "paged" => run_over::<PagedRam>(&rt, file.as_str(), harts, steps),
+        _ => tell_usage(&rt),
     }
 }
 
-/// Makes so many turns of a board whose RAM begins with an image.
+/// Writes to standard error how the program is called, and answers the status 2.
+fn tell_usage(rt: &HostRuntime) -> anyhow::Result<ExitCode> {
+    eprintln!(rt; "usage: rvm_bench IMAGE HARTS flat|paged STEPS, or rvm_bench STREAM")?;
+    Ok(ExitCode::from(2))
+}
+
+/// Makes so many turns of a board whose RAM begins with the image of a file.
 fn run_over<M: PagedMemory + Drop>(
     rt: &HostRuntime,
+    file: &str,
     harts: u32,
     steps: u32,
-    image: &[u8],
 ) -> anyhow::Result<ExitCode> {
+    let image = fs::read(rt, file)?;
     let mut ram = M::zeroed(rt.alloc(), PAGES)?;
-    write_bytes(&mut ram, 0, image)?;
+    write_bytes(&mut ram, 0, image.as_slice())?;
     let board = match Board::new(rt.alloc(), harts, ram, RAM_BASE) {
         Ok(board) => board,
         Err((error, _)) => return Err(anyhow::Error::from(error)),

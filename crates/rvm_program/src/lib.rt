@@ -3,28 +3,21 @@
 //!
 //! Stands on the commands and `clap`, and reaches files through the runtime alone, so that another
 //! program can call what `rvmove` does.
+//!
+//! To be read in this order: `perform`, `commands`, `files`.
 #![tactic(auto)]
 
 ghost use Rattle.std.specs.Prelude.{◌≡◌, ◌⊎◌};
 
+mod commands;
+mod files;
+
 use clap::Error;
-use rvm_arguments::{
-    Arguments, AsmArguments, DisArguments, GuestArguments, MoveArguments, RunArguments,
-    ScriptArguments,
-};
-use rvm_command::asm_command::asm_command;
-use rvm_command::debug_command::debug_command;
-use rvm_command::dis_command::dis_command;
-use rvm_command::run_command::run_command;
+use rvm_arguments::Arguments;
+use rvm_command::refused::{Refused, tell};
 use rvm_command_line::parse_args;
-use rvm_move_command::audit_command::audit_command;
-use rvm_move_command::move_command::move_command;
-use rvm_refusal::Refusal;
-use rvm_world_command::script_command::script_command;
 use std::convert::AsStr;
-use std::fs;
-use std::fs::File;
-use std::io::{BufWriter, Read, Write};
+use std::io::{Read, Write};
 use std::net::Net;
 use std::rt::Files;
 use std::sync::Wait;
@@ -49,169 +42,36 @@ where
     ensures fault { result ≡ 2 → O.contents output.new ≡ O.contents output.old }
 {
     match parse_args(rt.alloc(), words) {
-        Ok(Arguments::Run(arguments)) => run(rt, &arguments, output, errors),
-        Ok(Arguments::Asm(arguments)) => asm(rt, &arguments, errors),
-        Ok(Arguments::Dis(arguments)) => dis(rt, &arguments, output, errors),
-        Ok(Arguments::Debug(arguments)) => debug(rt, &arguments, input, output, errors),
-        Ok(Arguments::Script(arguments)) => script(rt, &arguments, output, errors),
-        Ok(Arguments::Move(arguments)) => move_guest(rt, &arguments, output, errors),
-        Ok(Arguments::Audit(arguments)) => audit(rt, &arguments, output, errors),
+        Ok(arguments) => do_command(rt, &arguments, input, output, errors),
         Err(error) => explain(&error, output, errors),
     }
 }
 
-/// Reads the files of `run`, in the order in which the command names them, and runs.
-fn run<Rt: Files + AllocGlobal, O: Write, E: Write>(
-    rt: &Rt,
-    arguments: &RunArguments,
-    output: &mut O,
-    errors: &mut E,
-) -> u8
-    ensures { (result ≡ 0) ⊎ (result ≡ 1) }
-{
-    let Ok(image) = fs::read(rt, arguments.guest.image) else {
-        return refuse(errors, Refusal::LinkFault);
-    };
-    let keys = match arguments.input {
-        None => Vec::new(rt.alloc()),
-        Some(file) => match fs::read(rt, file) {
-            Ok(bytes) => bytes,
-            Err(_) => return refuse(errors, Refusal::LinkFault),
-        },
-    };
-    run_command(rt.alloc(), arguments, &image, &keys, output, errors).unwrap_or(1)
-}
-
-/// Reads the text, opens the file that is written, and assembles.
-fn asm<Rt: Files + AllocGlobal, E: Write>(rt: &Rt, arguments: &AsmArguments, errors: &mut E) -> u8
-    ensures { (result ≡ 0) ⊎ (result ≡ 1) }
-{
-    let Ok(source) = fs::read(rt, arguments.source) else {
-        return refuse(errors, Refusal::LinkFault);
-    };
-    let Ok(mut file) = File::create(rt, arguments.output) else {
-        return refuse(errors, Refusal::LinkFault);
-    };
-    asm_command(rt.alloc(), &source, &mut file, errors).unwrap_or(1)
-}
-
-/// Reads the image, and writes its lines.
-fn dis<Rt: Files + AllocGlobal, O: Write, E: Write>(
-    rt: &Rt,
-    arguments: &DisArguments,
-    output: &mut O,
-    errors: &mut E,
-) -> u8
-    ensures { (result ≡ 0) ⊎ (result ≡ 1) }
-{
-    let Ok(image) = fs::read(rt, arguments.image) else {
-        return refuse(errors, Refusal::LinkFault);
-    };
-    let Ok(mut output) = BufWriter::new(rt.alloc(), output) else {
-        return refuse(errors, Refusal::OutOfMemory);
-    };
-    dis_command(rt.alloc(), arguments, &image, &mut output, errors).unwrap_or(1)
-}
-
-/// Reads the image, and answers the script that standard input gives.
-fn debug<Rt: Files + AllocGlobal, I: Read, O: Write, E: Write>(
-    rt: &Rt,
-    arguments: &GuestArguments,
-    input: &mut I,
-    output: &mut O,
-    errors: &mut E,
-) -> u8
-    ensures { (result ≡ 0) ⊎ (result ≡ 1) }
-{
-    let Ok(image) = fs::read(rt, arguments.image) else {
-        return refuse(errors, Refusal::LinkFault);
-    };
-    let Ok(mut output) = BufWriter::new(rt.alloc(), output) else {
-        return refuse(errors, Refusal::OutOfMemory);
-    };
-    debug_command(rt.alloc(), arguments, &image, input, &mut output, errors).unwrap_or(1)
-}
-
-/// Reads the image and the script, and answers the script.
-fn script<Rt: Files + AllocGlobal, O: Write, E: Write>(
-    rt: &Rt,
-    arguments: &ScriptArguments,
-    output: &mut O,
-    errors: &mut E,
-) -> u8
-    ensures { (result ≡ 0) ⊎ (result ≡ 1) }
-{
-    let Ok(image) = fs::read(rt, arguments.guest.image) else {
-        return refuse(errors, Refusal::LinkFault);
-    };
-    let Ok(script) = fs::read(rt, arguments.script) else {
-        return refuse(errors, Refusal::LinkFault);
-    };
-    let Ok(mut output) = BufWriter::new(rt.alloc(), output) else {
-        return refuse(errors, Refusal::OutOfMemory);
-    };
-    let mut lines = script.as_slice();
-    script_command(
-        rt.alloc(),
-        arguments,
-        &image,
-        &mut lines,
-        &mut output,
-        errors,
-    )
-    .unwrap_or(1)
-}
-
-/// Reads the image, and moves its guest. What is told of the move goes out in pieces.
-fn move_guest<Rt: Files + AllocGlobal + Net + Threads + Wait + Clock + Sync, O: Write, E: Write>(
-    rt: &Rt,
-    arguments: &MoveArguments,
-    output: &mut O,
-    errors: &mut E,
-) -> u8
+/// Does what a command line asks for, and answers the status: 0, or 1 where it was refused. A refusal that the
+/// command has not told itself is told here.
+fn do_command<
+    Rt: Files + AllocGlobal + Net + Threads + Wait + Clock + Sync,
+    I: Read,
+    O: Write,
+    E: Write,
+>(rt: &Rt, arguments: &Arguments, input: &mut I, output: &mut O, errors: &mut E) -> u8
 where
     Rt::Stream: Send,
     ensures { (result ≡ 0) ⊎ (result ≡ 1) }
 {
-    let Ok(image) = fs::read(rt, arguments.guest.image) else {
-        return refuse(errors, Refusal::LinkFault);
+    let done = match arguments {
+        Arguments::Run(arguments) => commands::run(rt, arguments, output, errors),
+        Arguments::Asm(arguments) => commands::asm(rt, arguments, errors),
+        Arguments::Dis(arguments) => commands::dis(rt, arguments, output, errors),
+        Arguments::Debug(arguments) => commands::debug(rt, arguments, input, output, errors),
+        Arguments::Script(arguments) => commands::script(rt, arguments, output, errors),
+        Arguments::Move(arguments) => commands::move_guest(rt, arguments, output, errors),
+        Arguments::Audit(arguments) => commands::audit(rt, arguments, output, errors),
     };
-    let Ok(mut lines) = BufWriter::new(rt.alloc(), &mut *errors) else {
-        return refuse(errors, Refusal::OutOfMemory);
-    };
-    let status = move_command(rt, rt.alloc(), arguments, &image, output, &mut lines).unwrap_or(1);
-    match lines.flush() {
-        Ok(()) => status,
-        Err(_) => 1,
+    match done {
+        Ok(status) => status,
+        Err(refusal) => tell(Refused::from(refusal), errors).unwrap_or(commands::UNTOLD),
     }
-}
-
-/// Reads the image, moves its guest, and writes an order of what both hosts did.
-fn audit<Rt: Files + AllocGlobal + Net + Threads + Wait + Clock + Sync, O: Write, E: Write>(
-    rt: &Rt,
-    arguments: &MoveArguments,
-    output: &mut O,
-    errors: &mut E,
-) -> u8
-where
-    Rt::Stream: Send,
-    ensures { (result ≡ 0) ⊎ (result ≡ 1) }
-{
-    let Ok(image) = fs::read(rt, arguments.guest.image) else {
-        return refuse(errors, Refusal::LinkFault);
-    };
-    let Ok(mut output) = BufWriter::new(rt.alloc(), output) else {
-        return refuse(errors, Refusal::OutOfMemory);
-    };
-    audit_command(rt, rt.alloc(), arguments, &image, &mut output, errors).unwrap_or(1)
-}
-
-/// Tells of a refusal, and answers the status 1.
-fn refuse<E: Write>(errors: &mut E, refusal: Refusal) -> u8
-    ensures { result ≡ 1 }
-{
-    let _ = writeln!(errors, "{refusal}");
-    1
 }
 
 /// Writes the text of a command line that has a fault, or that asks for help, where `clap` prints it.
