@@ -1,9 +1,12 @@
 //! `rvm_cases FILE..`: makes transcripts of `rvmove` anew. A line `$ rvmove WORDS..` of a FILE is a
 //! command; on standard input it gets the file behind `<`, or else the lines `> TEXT` below it. Behind
 //! it stand what it wrote to standard output, what it wrote to standard error, unless that goes to a file
-//! behind `2>`, which is not written, and a status other than 0. All other lines are as they were.
+//! behind `2>`, which is not written, and a status other than 0. All other lines are as they were. Each command is
+//! done over both memories of a guest, and a line behind it says so where they differ.
 #![tactic(auto)]
 
+use rvm_mem::{FlatMemory, PagedMemory};
+use rvm_paged::PagedRam;
 use rvm_program::perform;
 use std::io::{self, Write};
 use std::net::Net;
@@ -72,6 +75,7 @@ where
 }
 
 /// Does what the words of a command ask for, and prints what it wrote, to standard error where that is wanted.
+/// It is done over both memories, and a line is printed where they differ.
 fn perform_and_print<R: Files + AllocGlobal + Print + Net + Threads + Wait + Clock + Sync>(
     rt: &R,
     command: &str,
@@ -81,17 +85,55 @@ fn perform_and_print<R: Files + AllocGlobal + Print + Net + Threads + Wait + Clo
 where
     R::Stream: Send,
 {
-    let alloc = rt.alloc();
-    let words: Vec<&str> = command.split_whitespace().collect(alloc)?;
-    let (mut output, mut errors) = (Vec::new(alloc), Vec::new(alloc));
-    let mut input = input;
-    let status = perform(rt, &words, &mut input, &mut output, &mut errors);
-    io::writer(rt).write_all(&output)?;
-    if tells_errors {
-        io::writer(rt).write_all(&errors)?;
+    let words: Vec<&str> = command.split_whitespace().collect(rt.alloc())?;
+    let flat = perform_over::<FlatMemory, R>(rt, words.as_slice(), input, tells_errors);
+    let paged = perform_over::<PagedRam, R>(rt, words.as_slice(), input, tells_errors);
+    io::writer(rt).write_all(&paged.output)?;
+    io::writer(rt).write_all(&paged.errors)?;
+    if paged.status != 0 {
+        println!(rt; "status {}", paged.status)?;
     }
-    if status != 0 {
-        println!(rt; "status {status}")?;
+    if !paged.is_as(&flat) {
+        println!(rt; "over a flat memory it does something else")?;
     }
     Ok(())
+}
+
+/// What a command wrote, and its status.
+#[derive(Drop)]
+struct Performed {
+    output: Vec<u8>,
+    errors: Vec<u8>,
+    status: u8,
+}
+
+impl Performed {
+    /// Whether another one wrote the same, with the same status.
+    fn is_as(&self, other: &Performed) -> bool {
+        self.output.as_slice() == other.output.as_slice()
+            && self.errors.as_slice() == other.errors.as_slice()
+            && self.status == other.status
+    }
+}
+
+/// Does what the words of a command ask for, over a memory. What it wrote to standard error is left out where
+/// it is not wanted.
+fn perform_over<
+    M: PagedMemory + Drop + Send,
+    R: Files + AllocGlobal + Net + Threads + Wait + Clock + Sync,
+>(rt: &R, words: &[&str], input: &[u8], tells_errors: bool) -> Performed
+where
+    R::Stream: Send,
+{
+    let (mut output, mut errors) = (Vec::new(rt.alloc()), Vec::new(rt.alloc()));
+    let mut input = input;
+    let status = perform::<M, R, _, _, _, _>(rt, words, &mut input, &mut output, &mut errors);
+    if !tells_errors {
+        errors.clear();
+    }
+    Performed {
+        output,
+        errors,
+        status,
+    }
 }

@@ -4,7 +4,7 @@ use Rattle.rvm_hart.specs.Machine.{HartState, Shared}
 use Rattle.rvm_debug.specs.declared.event.BoardEvent.TheVariants.{Step, Input, Drain}
 use Rattle.rvm_debug.specs.Guest.{Guest}
 use Rattle.rvm_command.specs.declared.run.Ended.TheVariants.{HaltedWith, StepsSpent}
-use Rattle.rvm_command.specs.Run.{after, left, ran, run_from, step_of}
+use Rattle.rvm_command.specs.Run.{after, left, ran, run_from}
 
 -- two harts, each of which stops at a breakpoint in its next turn
 abbrev two_harts : HartState → Shared → (input output : List ℕ) → (halted : Option ℕ) → Guest

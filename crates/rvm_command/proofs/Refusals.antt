@@ -1,5 +1,5 @@
 -- Errors of files, images and scripts, by cases.
-use Rattle.std.proofs.Common.{◌≡◌, ◌⊎◌, ◌∙◌, ◌<◌, ◌≤◌, ◌^◌, ℕ, suc, false, List, [], ◌∷◌, length, Option, Some, None, refl, sym, ap, subst, inl, inr}
+use Rattle.std.proofs.Common.{◌≡◌, ◌∙◌, ◌<◌, ◌≤◌, ◌^◌, ℕ, suc, false, List, [], ◌∷◌, length, Option, Some, None, refl, sym, ap, subst, inl, inr}
 use Rattle.std.specs.Prelude.{Result, Ok, Err, IfErr, IfSome, ◌↔◌}
 use Rattle.std.specs.Io.KnownBytes.{Appends, Keeps}
 use Rattle.rvm_image.specs.Images.{Piece, pieces_of}
@@ -15,7 +15,7 @@ use Rattle.rvm_debug.specs.Guest.{Guest, GuestState}
 use Rattle.rvm_script.specs.declared.script.ScriptError.{ScriptError}
 use Rattle.rvm_script.specs.declared.script.ScriptError.TheVariants as script
 use Rattle.rvm_script.specs.Runs.{IsRun}
-use Rattle.rvm_script.specs.Script.{Answers, script_of}
+use Rattle.rvm_script.specs.Script.{script_of}
 use Rattle.rvm_script.specs.Words.{lines}
 use Rattle.rvm_command.specs.declared.refused.Refused.{Refused}
 use Rattle.rvm_command.specs.Command.{FileImage}

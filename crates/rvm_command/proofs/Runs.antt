@@ -17,7 +17,6 @@ use Rattle.rvm_debug.specs.declared.event.BoardReply.{BoardReply}
 use Rattle.rvm_debug.specs.declared.event.BoardReply.TheVariants as reply
 use Rattle.rvm_debug.specs.declared.event.BoardRefusal.TheVariants.{BadHart, InputFull}
 use Rattle.rvm_debug.specs.declared.turns.Order.TheVariants.{RoundRobin}
-use Rattle.rvm_debug.specs.declared.turns.Stop.{Stop}
 use Rattle.rvm_debug.specs.declared.turns.Turns.{Turns}
 use Rattle.rvm_debug.specs.Guest.{Guest, GuestState}
 use Rattle.rvm_debug.specs.Events.{Answered, answered, leaves, pc_of, refuses, reply_of, steps, stops, takes_step, with_board, with_stopped}

@@ -5,12 +5,12 @@ ghost use Rattle.rvm_elf.specs.Load.{fits};
 ghost use Rattle.rvm_command.specs.Command.{image_of};
 ghost use Rattle.rvm_command.specs.Ends.{HasStatus, IsDebugEnd, IsScriptEndOf};
 
-use crate::dis_command::flush;
+use crate::flush::flush;
 use crate::guest::load_guest;
 use crate::refused::{Refused, tell};
 use rvm_arguments::GuestArguments;
 use rvm_debug::Debugged;
-use rvm_mem::Memory;
+use rvm_mem::{Memory, PagedMemory};
 use rvm_refusal::LinkFault;
 use rvm_script::{ScriptError, run_script};
 use std::alloc::Global;
@@ -24,7 +24,7 @@ use std::io::{Read, Write};
 /// grammar, after the answers to the lines before it; and `LinkFault` where a read or a write to
 /// `output` failed, of which a part may have gone out. Whether a reader or a writer fails is not
 /// said. `LinkFault` as the answer: a write to `errors` failed.
-pub fn debug_command<R: Read, O: Write, E: Write>(
+pub fn debug_command<M: PagedMemory + Drop, R: Read, O: Write, E: Write>(
     alloc: Global,
     arguments: &GuestArguments,
     image: &[u8],
@@ -41,14 +41,14 @@ pub fn debug_command<R: Read, O: Write, E: Write>(
         fits i.0 i.1 (4096 * arguments.now.pages) ≡ false
         → O.contents output.new ≡ O.contents output.old) }
 {
-    match debug(alloc, arguments, image, reader, output) {
+    match debug::<M, R, O>(alloc, arguments, image, reader, output) {
         Ok(()) => Ok(0),
         Err(refused) => tell(refused, errors),
     }
 }
 
 /// The script itself.
-fn debug<R: Read, O: Write>(
+fn debug<M: PagedMemory + Drop, R: Read, O: Write>(
     alloc: Global,
     arguments: &GuestArguments,
     image: &[u8],
@@ -63,7 +63,7 @@ fn debug<R: Read, O: Write>(
         fits i.0 i.1 (4096 * arguments.now.pages) ≡ false
         → O.contents output.new ≡ O.contents output.old) }
 {
-    let mut guest = load_guest(alloc, arguments, image)?;
+    let mut guest = load_guest::<M>(alloc, arguments, image)?;
     answer(alloc, &mut guest, reader, output)?;
     Ok(())
 }

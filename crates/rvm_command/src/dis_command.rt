@@ -1,12 +1,13 @@
 //! `rvmove dis`: the lines of an image's words.
 
-ghost use Rattle.std.specs.Prelude.{◌≡◌, ◌⊎◌, ◌+◌, ◌%◌, ◌^◌, ◌++◌, codes, IfOk, IsErr, OnOk, drop};
-ghost use Rattle.std.specs.Io.KnownBytes.{Appends, Keeps};
+ghost use Rattle.std.specs.Prelude.{◌≡◌, ◌+◌, ◌%◌, ◌^◌, ◌++◌, codes, IfOk, IsErr, OnOk, drop};
+ghost use Rattle.std.specs.Io.KnownBytes.{Appends};
 ghost use Rattle.rvm_image.specs.Images.{pieces_of};
 ghost use Rattle.rvm_dis.specs.Disassembly.{line_at};
 ghost use Rattle.rvm_command.specs.Command.{before_word, image_of, listing, word_lines};
 ghost use Rattle.rvm_command.specs.Ends.{HasStatus, IsListEnd};
 
+use crate::flush::flush;
 use crate::guest::read_file;
 use crate::refused::{Refused, tell};
 use byteorder::{ByteOrder, LittleEndian};
@@ -58,16 +59,6 @@ fn dis<O: Write>(
     list(&program.segments, output)?;
     flush(output)?;
     Ok(())
-}
-
-/// Writes what a writer holds back.
-pub fn flush<W: Write>(writer: &mut W) -> Result<(), LinkFault>
-    ensures { Keeps (W.contents writer.old) (W.contents writer.new) }
-{
-    match writer.flush() {
-        Ok(()) => Ok(()),
-        Err(_) => Err(LinkFault),
-    }
 }
 
 /// Writes the lines of segments.

@@ -17,18 +17,17 @@ use rvm_elf::{load, raw_image, read_image};
 use rvm_hart::RAM_BASE;
 use rvm_image::Image;
 use rvm_mem::PagedMemory;
-use rvm_paged::PagedRam;
 use rvm_refusal::Refusal;
 use std::alloc::Global;
 
 /// A guest at reset whose board is loaded with the image of a file. It is refused for the fault of
 /// the file, `OutsideRam` for an image that does not lie in RAM, and `OutOfMemory`.
 #[tactic(auto, using(crate::proofs::Refusals::file_not_loaded))]
-pub fn load_guest(
+pub fn load_guest<M: PagedMemory + Drop>(
     alloc: Global,
     arguments: &GuestArguments,
     file: &[u8],
-) -> Result<Debugged<PagedRam>, Refused>
+) -> Result<Debugged<M>, Refused>
     ensures loadable { OnOk result (IsLoadable (image_of arguments.now.raw file.now) arguments.now.pages) }
     ensures guest { IfOk result (λ g. IfOk (image_of arguments.now.raw file.now) (λ i.
         g.guest ≡ guest_of arguments.now.harts arguments.now.pages i.0 i.1)) }
@@ -57,12 +56,12 @@ pub(crate) fn read_file(alloc: Global, raw: bool, file: &[u8]) -> Result<Image, 
 
 /// A board at reset with so many harts and pages, loaded with an image. `OutsideRam` where the
 /// image does not lie in RAM.
-fn new_guest(
+fn new_guest<M: PagedMemory + Drop>(
     alloc: Global,
     harts: u32,
     pages: u32,
     image: &Image,
-) -> Result<Debugged<PagedRam>, Refused>
+) -> Result<Debugged<M>, Refused>
     requires harts { (1 ≤ harts) × (harts ≤ 8) }
     requires pages { (1 ≤ pages) × (pages ≤ 4096) }
     ensures guest { IfOk result (λ g. g.guest
@@ -80,14 +79,18 @@ fn new_guest(
 }
 
 /// A board at reset whose RAM is zeros.
-fn new_board(alloc: Global, harts: u32, pages: u32) -> Result<Board<PagedRam>, Refusal>
+fn new_board<M: PagedMemory + Drop>(
+    alloc: Global,
+    harts: u32,
+    pages: u32,
+) -> Result<Board<M>, Refusal>
     requires harts { (1 ≤ harts) × (harts ≤ 8) }
     requires pages { (1 ≤ pages) × (pages ≤ 4096) }
     ensures board { IfOk result
         (λ b. b.plain ≡ at_reset harts 0x80000000 (replicate (4096 * pages) 0)) }
     ensures refused { IfErr result (λ e. e ≡ OutOfMemory) }
 {
-    let Ok(ram) = PagedRam::zeroed(alloc, pages) else {
+    let Ok(ram) = M::zeroed(alloc, pages) else {
         return Err(Refusal::OutOfMemory);
     };
     match Board::new(alloc, harts, ram, RAM_BASE) {

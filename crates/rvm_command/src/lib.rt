@@ -5,13 +5,14 @@
 //! Stands on the debugged board, images, the assembler, the disassembler, scripts and the arguments,
 //! and knows nothing of files, processes or the terminal.
 //!
-//! To be read in this order: `guest`, `refused`, `run`, `run_command`, `asm_command`,
+//! To be read in this order: `guest`, `refused`, `flush`, `run`, `run_command`, `asm_command`,
 //! `dis_command`, `debug_command`.
 #![tactic(auto)]
 
 pub mod asm_command;
 pub mod debug_command;
 pub mod dis_command;
+pub mod flush;
 pub mod guest;
 pub mod refused;
 pub mod run;

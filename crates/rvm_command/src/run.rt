@@ -1,6 +1,6 @@
 //! The loop of `rvmove run`: turns of the harts, input to the guest, and what it sends.
 
-ghost use Rattle.std.specs.Prelude.{◌≡◌, ◌<◌, ◌≤◌, ◌+◌, ◌-◌, ◌%◌, ◌∷◌, [], OnOk, OnErr, IfOk, drop, length, true};
+ghost use Rattle.std.specs.Prelude.{◌≡◌, ◌<◌, ◌≤◌, ◌+◌, ◌-◌, ◌%◌, ◌∷◌, [], OnOk, OnErr, IfOk, drop, length};
 ghost use Rattle.std.specs.Io.KnownBytes.{Appends};
 ghost use Rattle.rvm_mem.specs.Pages.{mark_all};
 ghost use Rattle.rvm_debug.specs.declared.event.BoardEvent.TheVariants.{Drain};
@@ -9,16 +9,10 @@ ghost use Rattle.rvm_debug.specs.WhileFull.{turns_while};
 ghost use Rattle.rvm_command.specs.Run.{IsAfter, IsPartWay, after, drains, left, offers, ran, run_from};
 ghost use Rattle.rvm_command.specs.Slices.{GoesOn, rest_of_run, status_of, takes_none};
 
-use rvm_debug::{Debugged, Order, Stop, Turns};
+use rvm_debug::{DRAIN_EVERY, DRAIN_SIZE, Debugged, Order, Stop, Turns};
 use rvm_mem::Memory;
 use rvm_refusal::LinkFault;
 use std::io::Write;
-
-/// How many turns are made between two drains of what the guest sent.
-const DRAIN_EVERY: u32 = 64;
-
-/// How many bytes one drain takes at most.
-const DRAIN_SIZE: usize = 256;
 
 /// How a run ended.
 #[derive(Clone, Copy, Debug, PartialEq, Eq)]
@@ -190,7 +184,7 @@ fn drain_once<M: Memory, W: Write>(guest: &mut Debugged<M>, writer: &mut W) -> R
         (after (Drain 256 ∷ []) guest.old.guest).bytes) }
     ensures guest { IsAfter (Drain 256 ∷ []) guest.old guest.new }
 {
-    let mut bytes = [0; DRAIN_SIZE];
+    let mut bytes = [0; DRAIN_SIZE as usize];
     let count = guest.drain(&mut bytes);
     match writer.write_all(&bytes[..count]) {
         Ok(()) => Ok(()),

@@ -10,6 +10,7 @@ use crate::guest::load_guest;
 use crate::refused::{Refused, tell};
 use crate::run::{Ended, run};
 use rvm_arguments::RunArguments;
+use rvm_mem::PagedMemory;
 use rvm_refusal::LinkFault;
 use std::alloc::Global;
 use std::fmt;
@@ -36,7 +37,7 @@ impl fmt::Display for Ended {
 /// `output` as it was, and `LinkFault` where a write to `output` failed, of which a part may have
 /// gone out. Whether a writer fails is not said. `LinkFault` as the answer: a write to `errors`
 /// failed.
-pub fn run_command<O: Write, E: Write>(
+pub fn run_command<M: PagedMemory + Drop, O: Write, E: Write>(
     alloc: Global,
     arguments: &RunArguments,
     image: &[u8],
@@ -53,7 +54,7 @@ pub fn run_command<O: Write, E: Write>(
         fits i.0 i.1 (4096 * arguments.now.guest.pages) ≡ false
         → O.contents output.new ≡ O.contents output.old) }
 {
-    match run_image(alloc, arguments, image, input, output) {
+    match run_image::<M, O>(alloc, arguments, image, input, output) {
         Ok(ended) => tell_end(ended, errors),
         Err(refused) => tell(refused, errors),
     }
@@ -71,7 +72,7 @@ fn tell_end<E: Write>(ended: Ended, errors: &mut E) -> Result<u8, LinkFault>
 }
 
 /// The run itself.
-fn run_image<O: Write>(
+fn run_image<M: PagedMemory + Drop, O: Write>(
     alloc: Global,
     arguments: &RunArguments,
     image: &[u8],
@@ -86,6 +87,6 @@ fn run_image<O: Write>(
         fits i.0 i.1 (4096 * arguments.now.guest.pages) ≡ false
         → O.contents output.new ≡ O.contents output.old) }
 {
-    let mut guest = load_guest(alloc, &arguments.guest, image)?;
+    let mut guest = load_guest::<M>(alloc, &arguments.guest, image)?;
     Ok(run(&mut guest, arguments.steps, input, output)?)
 }

@@ -12,7 +12,7 @@ use Rattle.rvm_message.specs.Frames.{BoardFrame, addressed_made}
 use Rattle.rvm_message.specs.declared.reply.HostReply.{HostReply}
 use Rattle.rvm_precopy.specs.Plans.{Plan}
 use Rattle.rvm_protocol.specs.Commands.{Policy, Command, Board, Begin, Copy, Resend, AbortMove, Do, Came, is_allowed}
-use Rattle.rvm_protocol.specs.Frames.{Frame, Offer, Accept, Refuse, Page, RoundEnd, Lost, State, Part, Ready, Go, Started, Abort, is_compact, made_as, plain, posted}
+use Rattle.rvm_protocol.specs.Frames.{Offer, Accept, Refuse, Page, RoundEnd, Lost, State, Part, Ready, Go, Started, Abort, is_compact, made_as, plain, posted}
 use Rattle.rvm_protocol.specs.Frames as protocol
 use Rattle.rvm_protocol.specs.Host as law
 use Rattle.rvm_protocol.specs.Host.{addressee, is_heard, is_offer_above, is_there, obey_at, partner_then}

@@ -16,7 +16,7 @@ ghost use Rattle.rvm_core.specs.Memory.{asks_memory, is_ignored, needs_memory, t
 ghost use Rattle.rvm_core.specs.Turns.{HasLog, turned};
 
 use crate::bound::{came_body, with_header};
-use crate::limits::{BadSize, is_spoken};
+use crate::limits::{BadSize, is_spoken, version_of};
 use crate::mode::Mode;
 use rvm_debug::{Debugged, Turns};
 use rvm_frame::{Addressed, Frame};
@@ -117,8 +117,7 @@ impl<M: PagedMemory + Drop> Host<M> {
         ensures size { IsErr result ↔ (is_sized id count limit (version_of count) ≡ false) }
         ensures guest { IfErr result (λ e. e.1 ≡ guest) }
     {
-        let version = if count == 2 { 1 } else { 3 };
-        Host::with_version(guest, id, count, limit, version)
+        Host::with_version(guest, id, count, limit, version_of(count as usize))
     }
 
     /// What an event does: the reply, and the frame that was made, if one was. After a refused growth

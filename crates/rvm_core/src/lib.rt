@@ -16,4 +16,4 @@ mod source;
 mod target;
 
 pub use host::Host;
-pub use limits::{BadSize, is_spoken};
+pub use limits::{BadSize, MAX_HOSTS, is_spoken, version_of};

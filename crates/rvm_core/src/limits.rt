@@ -1,13 +1,16 @@
 //! How many hosts there may be, and what they speak.
 
 ghost use Rattle.std.specs.Prelude.{◌≡◌};
-ghost use Rattle.rvm_core.specs.Hosts.{is_spoken};
+ghost use Rattle.rvm_core.specs.Hosts.{is_spoken, version_of};
 
 use rvm_refusal::Refusal;
 use thiserror::Error;
 
-/// A number of hosts, a host's number, the pages that it takes, the version of its streams or the entries
-/// that its journal takes are outside their limits.
+/// The most hosts that there may be.
+pub const MAX_HOSTS: usize = 8;
+
+/// A number of hosts, a host's number, the pages that it takes or the version of its streams is outside
+/// its limits.
 #[derive(Clone, Copy, Debug, PartialEq, Eq, Error)]
 #[error("a number of a host is outside its limits")]
 pub struct BadSize;
@@ -27,5 +30,12 @@ impl From<BadSize> for Refusal {
 pub fn is_spoken(version: u32, count: usize) -> bool
     ensures { result ≡ is_spoken version count }
 {
-    2 <= count && count <= 8 && (version == 3 || count == 2 && 1 <= version && version <= 2)
+    2 <= count && count <= MAX_HOSTS && (version == 3 || count == 2 && 1 <= version && version <= 2)
+}
+
+/// The version of the stream that so many hosts speak where none is asked for: 1 of two, 3 of more.
+pub fn version_of(count: usize) -> u32
+    ensures { result ≡ version_of count }
+{
+    if count == 2 { 1 } else { 3 }
 }

@@ -1,6 +1,6 @@
 //! A board with its breakpoints.
 
-ghost use Rattle.std.specs.Prelude.{◌≡◌, ◌<◌, ◌≤◌, ◌++◌, ◌∷◌, [], ◌↔◌, false, length, min, take, drop, replicate, OnOk, OnErr, IsErr, true, get_or, MatchOption, refl};
+ghost use Rattle.std.specs.Prelude.{◌≡◌, ◌<◌, ◌≤◌, ◌++◌, ◌∷◌, [], ◌↔◌, false, length, min, take, drop, replicate, OnOk, OnErr, IsErr, get_or, MatchOption, refl};
 ghost use Rattle.rvm_mem.specs.Pages.{mark_all};
 ghost use Rattle.rvm_board.specs.Board.{hart_at, with_input, with_output};
 ghost use Rattle.rvm_debug.specs.Guest.{fresh};

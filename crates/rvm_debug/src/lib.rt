@@ -22,5 +22,5 @@ pub use debugged::Debugged;
 pub use event::{BoardEvent, BoardRefusal, BoardReply};
 pub use part::HartPart;
 pub use snapshot::Snapshot;
-pub use turns::{Order, Stop, Turns};
+pub use turns::{DRAIN_EVERY, DRAIN_SIZE, Order, Stop, Turns};
 pub use view::View;

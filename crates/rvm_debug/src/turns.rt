@@ -12,6 +12,12 @@ use crate::event::BoardReply;
 use rvm_hart::Stepped;
 use rvm_mem::Memory;
 
+/// How many turns a run makes between two drains of what the guest sent.
+pub const DRAIN_EVERY: u32 = 64;
+
+/// How many bytes a drain of a run takes at most.
+pub const DRAIN_SIZE: u32 = 256;
+
 /// Which hart has the turn after that of another.
 #[derive(Clone, Copy, Debug, PartialEq, Eq)]
 pub enum Order {

@@ -4,8 +4,9 @@ ghost use Rattle.std.specs.Prelude.{◌≡◌};
 ghost use Rattle.rvm_worker.specs.Work.{IsWork};
 
 use crate::pair::{Hosts, Pair};
-use crate::slices::{DRAIN_EVERY, Then, until_drain};
+use crate::slices::{Then, until_drain};
 use rvm_cell::{Receipt, Seat, Seating};
+use rvm_debug::DRAIN_EVERY;
 use rvm_mem::PagedMemory;
 use rvm_worker::{Caller, Gate, Watch, WorkEnd, Worker};
 use std::alloc::Global;

@@ -6,7 +6,7 @@ ghost use Rattle.rvm_hart_worker.specs.Drains.{is_refused, taken, told_by};
 
 use crate::slices::{Slice, Then, is_elsewhere, made_by};
 use rvm_cell::{Seating, SharedHost};
-use rvm_debug::{BoardEvent, BoardReply, View};
+use rvm_debug::{BoardEvent, BoardReply, DRAIN_SIZE, View};
 use rvm_mem::PagedMemory;
 use rvm_message::{Command, HostEvent, HostReply};
 use rvm_worker::{Caller, Gate, Watch, WorkEnd};
@@ -17,9 +17,6 @@ use std::time::{Clock, Duration};
 
 /// How many turns in a row may be refused by both hosts.
 const REFUSED_TURNS: u32 = 30000;
-
-/// How many bytes one drain takes at most.
-const DRAIN_SIZE: u32 = 256;
 
 /// Two hosts, at one of which the guest is.
 #[derive(Drop)]

@@ -4,12 +4,9 @@ ghost use Rattle.std.specs.Prelude.{◌≡◌, ◌≢◌, ◌≤◌, ◌<◌, �
 ghost use Rattle.rvm_hart_worker.specs.Turns.{after_answer, after_step, is_elsewhere, turns_of};
 ghost use Rattle.rvm_hart_worker.specs.declared.slices.Then.TheVariants.{Elsewhere};
 
-use rvm_debug::BoardReply;
+use rvm_debug::{BoardReply, DRAIN_EVERY};
 use rvm_message::{HostRefusal, HostReply};
 use rvm_worker::Steps;
-
-/// How many turns are made between two drains of what the guest sent.
-pub(crate) const DRAIN_EVERY: u32 = 64;
 
 /// What comes after a turn.
 #[derive(Clone, Copy, Debug, PartialEq, Eq)]

@@ -1,6 +1,6 @@
 //! Guests, and what is asked of them.
 
-ghost use Rattle.std.specs.Prelude.{◌≡◌, ◌≤◌};
+ghost use Rattle.std.specs.Prelude.{◌≤◌};
 
 use rvm_arguments::{GuestArguments, MoveArguments, RunArguments, ScriptArguments};
 use std::alloc::{AllocError, Global};

@@ -5,6 +5,7 @@ use rvm_audit::audit;
 use rvm_journal::Entry;
 use rvm_message::{Command, ExchangeRef, HostEvent};
 use rvm_move_command::audit_over::{Audited, audit_over};
+use rvm_paged::PagedRam;
 use rvm_refusal::LinkFault;
 use rvm_world::Event;
 use rvm_world_command::script_command::script_command;
@@ -89,7 +90,7 @@ fn answers(alloc: Global, unplayed: Unplayed, events: &[Event]) -> Option<Vec<u8
 fn play(alloc: Global, image: &[u8], script: &[u8]) -> Option<Vec<u8>> {
     let (mut played, mut errors) = (Vec::new(alloc), Vec::new(alloc));
     let mut lines = script;
-    let status = script_command(
+    let status = script_command::<PagedRam, _, _, _>(
         alloc,
         &to_script(),
         image,
@@ -101,7 +102,7 @@ fn play(alloc: Global, image: &[u8], script: &[u8]) -> Option<Vec<u8>> {
 }
 
 /// What both hosts of an audit answered, in the order that it found.
-fn told(alloc: Global, audited: &Audited) -> Option<Vec<u8>> {
+fn told(alloc: Global, audited: &Audited<PagedRam>) -> Option<Vec<u8>> {
     let (a, b) = audited.hosts.as_ref()?;
     let events = audit(alloc, a.journal(), b.journal()).ok()?;
     let unplayed = Unplayed {
@@ -117,16 +118,21 @@ fn audit_move<R: AllocGlobal + Net + Threads + Wait + Clock + Sync>(
     rt: &R,
     image: &[u8],
     script: &mut Vec<u8>,
-) -> Option<Audited>
+) -> Option<Audited<PagedRam>>
 where
     R::Stream: Send,
 {
     let mut errors = Vec::new(rt.alloc());
-    audit_over(rt, rt.alloc(), &to_audit(), image, script, &mut errors).ok()
+    audit_over::<PagedRam, _, _, _>(rt, rt.alloc(), &to_audit(), image, script, &mut errors).ok()
 }
 
 /// Whether a script, played with the same guest, answers as both hosts did, if the move did not fail.
-fn is_played(alloc: Global, image: &[u8], script: &[u8], audited: &Audited) -> Option<bool> {
+fn is_played(
+    alloc: Global,
+    image: &[u8],
+    script: &[u8],
+    audited: &Audited<PagedRam>,
+) -> Option<bool> {
     let told = told(alloc, audited)?;
     let played = play(alloc, image, script)?;
     Some(played.as_slice() == told.as_slice())

@@ -2,6 +2,7 @@
 
 use crate::asked::to_run;
 use rvm_command::run_command::run_command;
+use rvm_paged::PagedRam;
 use rvm_refusal::LinkFault;
 use std::alloc::Global;
 
@@ -35,7 +36,14 @@ impl Ended {
     pub fn is_as_run(&self, alloc: Global, image: &[u8]) -> bool {
         let mut output = Vec::new(alloc);
         let mut errors = Vec::new(alloc);
-        let run = run_command(alloc, &to_run(), image, &[], &mut output, &mut errors);
+        let run = run_command::<PagedRam, _, _>(
+            alloc,
+            &to_run(),
+            image,
+            &[],
+            &mut output,
+            &mut errors,
+        );
         run == Ok(0) && output.as_slice() == self.output.as_slice()
     }
 }

@@ -6,6 +6,7 @@ use rvm_link::{Link, LinkRead};
 use rvm_move::Links;
 use rvm_move_command::move_over::move_over;
 use rvm_move_command::{OpenGate, connect_both};
+use rvm_paged::PagedRam;
 use rvm_refusal::LinkFault;
 use std::net::Net;
 use std::sync::Wait;
@@ -80,7 +81,7 @@ where
     let Ok((a, b)) = connect_both(rt) else {
         return Ok(false);
     };
-    ended.status = move_over(
+    ended.status = move_over::<PagedRam, _, _, _, _, _>(
         rt,
         rt.alloc(),
         &to_move(1),

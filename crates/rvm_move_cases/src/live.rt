@@ -5,6 +5,7 @@ ghost use Rattle.std.specs.Prelude.{◌≤◌};
 use crate::asked::{HELLO, WRITER, image_of, to_move};
 use crate::ended::Ended;
 use rvm_move_command::move_command::move_command;
+use rvm_paged::PagedRam;
 use std::net::Net;
 use std::sync::Wait;
 use std::thread::Threads;
@@ -37,7 +38,7 @@ where
 {
     let image = image_of(rt.alloc(), words)?;
     let mut ended = Ended::new(rt.alloc());
-    ended.status = move_command(
+    ended.status = move_command::<PagedRam, _, _, _>(
         rt,
         rt.alloc(),
         &to_move(stream),

@@ -4,6 +4,7 @@ use crate::asked::{LOOP, image_of, to_move};
 use crate::ended::Ended;
 use rvm_move_command::connect_both;
 use rvm_move_command::move_over::move_over;
+use rvm_paged::PagedRam;
 use rvm_worker::{Gate, Worker};
 use std::net::Net;
 use std::sync::Wait;
@@ -78,7 +79,7 @@ where
         println!(rt; "no connection")?;
         return Ok(());
     };
-    ended.status = move_over(
+    ended.status = move_over::<PagedRam, _, _, _, _, _>(
         rt,
         rt.alloc(),
         &to_move(1),

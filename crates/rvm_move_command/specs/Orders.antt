@@ -7,12 +7,16 @@ use Rattle.rvm_move.specs.Hosts.{IsTold}
 use Rattle.rvm_event_line.specs.EventLines.{event_lines}
 use Rattle.rvm_world.specs.declared.event.Event.{Event}
 
--- the order of two journals was written, a line an event; receipts tell all of both
+-- an order of two journals was written, a line an event
+pub record IsWritten (first second : History) (before after : Option (List ℕ)) : Type 0 where
+  pub events : List Event
+  pub merge : IsMerge first second events
+  pub written : Appends before after (event_lines events)
+
+-- of two journals of which receipts tell all
 pub record IsAudited (before after : Option (List ℕ)) : Type 0 where
   pub first : History
   pub second : History
   pub first_told : IsTold first.entries
   pub second_told : IsTold second.entries
-  pub events : List Event
-  pub merge : IsMerge first second events
-  pub written : Appends before after (event_lines events)
+  pub order : IsWritten first second before after

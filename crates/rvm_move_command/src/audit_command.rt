@@ -5,6 +5,7 @@ ghost use Rattle.rvm_move_command.specs.Orders.{IsAudited};
 
 use crate::audit_over::audit_over;
 use rvm_arguments::MoveArguments;
+use rvm_mem::PagedMemory;
 use rvm_refusal::LinkFault;
 use std::alloc::Global;
 use std::io::Write;
@@ -19,7 +20,13 @@ use std::time::Clock;
 /// then `errors` says with what, and else nothing is written to it. `LinkFault` is told where a write to
 /// `output` failed or no connection can be made; as the answer, that a write to `errors` failed. It may
 /// wait for other threads, and starts three.
-pub fn audit_command<O: Write, E: Write, R: Net + Threads + Wait + Clock + Sync>(
+#[tactic(auto, using(crate::proofs::Orders::audited))]
+pub fn audit_command<
+    M: PagedMemory + Drop + Send,
+    O: Write,
+    E: Write,
+    R: Net + Threads + Wait + Clock + Sync,
+>(
     rt: &R,
     alloc: Global,
     arguments: &MoveArguments,
@@ -33,6 +40,6 @@ where
     ensures order { IfOk result (λ status. status ≡ 0
         → IsAudited (O.contents output.old) (O.contents output.new)) }
 {
-    let audited = audit_over(rt, alloc, arguments, image, output, errors)?;
+    let audited = audit_over::<M, O, E, R>(rt, alloc, arguments, image, output, errors)?;
     Ok(audited.status)
 }

@@ -1,20 +1,17 @@
 //! An audit of a move, with both hosts behind it.
 
-ghost use Rattle.std.specs.Prelude.{◌≡◌, ◌⊎◌, ◌↔◌, [], IfErr, IfOk, IfSome, IsErr, IsSome};
+ghost use Rattle.std.specs.Prelude.{◌≡◌, ◌⊎◌, ◌↔◌, IfOk, IfSome, IsSome};
 ghost use Rattle.rvm_move.specs.Hosts.{IsEnd, IsTold};
-ghost use Rattle.rvm_move_command.specs.Ended.{IsSound};
-ghost use Rattle.rvm_move_command.specs.Orders.{IsAudited};
+ghost use Rattle.rvm_move_command.specs.Orders.{IsWritten};
 
 use crate::ended::tell_failure;
-use crate::hosts::new_hosts;
-use crate::move_command::{OpenGate, connect_both};
-use crate::move_over::{move_recorded, plan_of};
+use crate::move_command::move_image;
 use crate::order::write_order;
 use rvm_arguments::MoveArguments;
 use rvm_command::refused::{Refused, tell};
 use rvm_journal::Recorded;
-use rvm_move::{Moved, Plan};
-use rvm_paged::PagedRam;
+use rvm_mem::PagedMemory;
+use rvm_move::Moved;
 use rvm_refusal::LinkFault;
 use std::alloc::Global;
 use std::io;
@@ -26,125 +23,47 @@ use std::time::Clock;
 
 /// What became of an audit: the status, and where it is 0 both hosts, closed.
 #[derive(Drop)]
-pub struct Audited {
+pub struct Audited<M: PagedMemory + Drop> {
     pub status: u8,
-    pub hosts: Option<(Recorded<PagedRam>, Recorded<PagedRam>)>,
+    pub hosts: Option<(Recorded<M>, Recorded<M>)>,
 }
 
 /// Does what `audit_command` does, and hands out both hosts, closed, where the status is 0: each entry of
-/// their journals has exactly one receipt.
-pub fn audit_over<O: Write, E: Write, R: Net + Threads + Wait + Clock + Sync>(
+/// their journals has exactly one receipt, and the order that was written is theirs.
+pub fn audit_over<
+    M: PagedMemory + Drop + Send,
+    O: Write,
+    E: Write,
+    R: Net + Threads + Wait + Clock + Sync,
+>(
     rt: &R,
     alloc: Global,
     arguments: &MoveArguments,
     image: &[u8],
     output: &mut O,
     errors: &mut E,
-) -> Result<Audited, LinkFault>
+) -> Result<Audited<M>, LinkFault>
 where
     R::Stream: Send,
     ensures status { IfOk result (λ a. (a.status ≡ 0) ⊎ (a.status ≡ 1)) }
     ensures hosts { IfOk result (λ a. a.status ≡ 0 ↔ IsSome a.hosts) }
     ensures told { IfOk result (λ a. IfSome a.hosts (λ h.
         IsTold h.0.journal.entries × IsTold h.1.journal.entries)) }
-    ensures order { IfOk result (λ a. a.status ≡ 0
-        → IsAudited (O.contents output.old) (O.contents output.new)) }
+    ensures order { IfOk result (λ a. IfSome a.hosts (λ h.
+        IsWritten h.0.journal h.1.journal (O.contents output.old) (O.contents output.new))) }
 {
-    let moved = move_image(rt, alloc, arguments, image, errors)?;
-    let written = write_audited(alloc, &moved, output, errors);
-    behind_order(moved, written)
-}
-
-/// Moves the guest of an image over TCP, and hands out both hosts. What the guest sends is written nowhere.
-fn move_image<E: Write, R: Net + Threads + Wait + Clock + Sync>(
-    rt: &R,
-    alloc: Global,
-    arguments: &MoveArguments,
-    image: &[u8],
-    errors: &mut E,
-) -> Result<Audited, LinkFault>
-where
-    R::Stream: Send,
-    ensures status { IfOk result (λ a. (a.status ≡ 0) ⊎ (a.status ≡ 1)) }
-    ensures hosts { IfOk result (λ a. a.status ≡ 0 ↔ IsSome a.hosts) }
-    ensures told { IfOk result (λ a. IfSome a.hosts (λ h.
-        IsTold h.0.journal.entries × IsTold h.1.journal.entries)) }
-{
-    match new_hosts(alloc, arguments, image) {
-        Ok(recorded) => move_hosts(rt, alloc, &plan_of(arguments), recorded, errors),
+    match move_image::<M, _, R>(rt, alloc, arguments, image, &mut io::sink()) {
+        Ok(moved) => audit_moved(alloc, moved, output, errors),
         Err(refused) => no_hosts(refused, errors),
     }
-}
-
-/// Moves the guest of the first host over TCP, and hands out both hosts.
-fn move_hosts<E: Write, R: Net + Threads + Wait + Clock + Sync>(
-    rt: &R,
-    alloc: Global,
-    plan: &Plan,
-    recorded: (Recorded<PagedRam>, Recorded<PagedRam>),
-    errors: &mut E,
-) -> Result<Audited, LinkFault>
-where
-    R::Stream: Send,
-    requires { (recorded.0.journal.entries ≡ []) × (recorded.1.journal.entries ≡ []) }
-    ensures status { IfOk result (λ a. (a.status ≡ 0) ⊎ (a.status ≡ 1)) }
-    ensures hosts { IfOk result (λ a. a.status ≡ 0 ↔ IsSome a.hosts) }
-    ensures told { IfOk result (λ a. IfSome a.hosts (λ h.
-        IsTold h.0.journal.entries × IsTold h.1.journal.entries)) }
-{
-    let links = match connect_both(rt) {
-        Ok(links) => links,
-        Err(fault) => return no_hosts(Refused::from(fault), errors),
-    };
-    match move_recorded(rt, alloc, recorded, links, &OpenGate, plan, &mut io::sink()) {
-        Ok(moved) => hand_out(moved, errors),
-        Err(refused) => no_hosts(refused, errors),
-    }
-}
-
-/// Tells with what a move failed, if it did, and hands out both hosts, unless it did.
-fn hand_out<E: Write>(moved: Moved<PagedRam>, errors: &mut E) -> Result<Audited, LinkFault>
-    requires a { IsEnd moved.a.fault moved.a.recorded.journal.entries }
-    requires b { IsEnd moved.b.fault moved.b.recorded.journal.entries }
-    ensures status { IfOk result (λ a. (a.status ≡ 0) ⊎ (a.status ≡ 1)) }
-    ensures hosts { IfOk result (λ a. a.status ≡ 0 ↔ IsSome a.hosts) }
-    ensures told { IfOk result (λ a. IfSome a.hosts (λ h.
-        IsTold h.0.journal.entries × IsTold h.1.journal.entries)) }
-{
-    match tell_failure(&moved, errors) {
-        Ok(status) => Ok(hosts_behind(moved, status)),
-        Err(fault) => Err(fault),
-    }
-}
-
-/// Both hosts of a move that ended with a status, if that is 0.
-#[tactic(auto, using(crate::proofs::Moved::first_told, crate::proofs::Moved::second_told))]
-fn hosts_behind(moved: Moved<PagedRam>, status: u8) -> Audited
-    requires a { IsEnd moved.a.fault moved.a.recorded.journal.entries }
-    requires b { IsEnd moved.b.fault moved.b.recorded.journal.entries }
-    requires status { (status ≡ 0) ⊎ (status ≡ 1) }
-    requires sound { status ≡ 0 → IsSound moved.ends moved.a.fault moved.b.fault }
-    ensures status { (result.status ≡ 0) ⊎ (result.status ≡ 1) }
-    ensures hosts { result.status ≡ 0 ↔ IsSome result.hosts }
-    ensures told { IfSome result.hosts (λ h. IsTold h.0.journal.entries × IsTold h.1.journal.entries) }
-{
-    if status != 0 {
-        return Audited {
-            status,
-            hosts: None,
-        };
-    }
-    let Moved { a, b, ends: _ } = moved;
-    let hosts = Some((a.recorded, b.recorded));
-    Audited { status, hosts }
 }
 
 /// A refusal: there are no hosts.
-fn no_hosts<E: Write>(refused: Refused, errors: &mut E) -> Result<Audited, LinkFault>
-    ensures status { IfOk result (λ a. (a.status ≡ 0) ⊎ (a.status ≡ 1)) }
-    ensures hosts { IfOk result (λ a. a.status ≡ 0 ↔ IsSome a.hosts) }
-    ensures told { IfOk result (λ a. IfSome a.hosts (λ h.
-        IsTold h.0.journal.entries × IsTold h.1.journal.entries)) }
+fn no_hosts<M: PagedMemory + Drop, E: Write>(
+    refused: Refused,
+    errors: &mut E,
+) -> Result<Audited<M>, LinkFault>
+    ensures { IfOk result (λ a. (a.status ≡ 1) × (a.hosts ≡ None)) }
 {
     let status = tell(refused, errors)?;
     Ok(Audited {
@@ -153,39 +72,63 @@ fn no_hosts<E: Write>(refused: Refused, errors: &mut E) -> Result<Audited, LinkF
     })
 }
 
-/// Writes the order of both hosts, if the move did not fail.
-fn write_audited<O: Write, E: Write>(
+/// Writes the order of what both hosts of a move did, and hands both out, unless it failed.
+fn audit_moved<M: PagedMemory + Drop, O: Write, E: Write>(
     alloc: Global,
-    moved: &Audited,
+    moved: Moved<M>,
     output: &mut O,
     errors: &mut E,
-) -> Result<u8, LinkFault>
-    requires status { (moved.now.status ≡ 0) ⊎ (moved.now.status ≡ 1) }
-    requires hosts { moved.now.status ≡ 0 ↔ IsSome moved.now.hosts }
-    requires told { IfSome moved.now.hosts (λ h. IsTold h.0.journal.entries × IsTold h.1.journal.entries) }
-    ensures status { IfOk result (λ status. (status ≡ 0) ⊎ (status ≡ 1)) }
-    ensures hosts { IfOk result (λ status. status ≡ 0 → IsSome moved.now.hosts) }
-    ensures order { IfOk result (λ status. status ≡ 0
-        → IsAudited (O.contents output.old) (O.contents output.new)) }
-{
-    match &moved.hosts {
-        Some((a, b)) => write_order(alloc, a.journal(), b.journal(), output, errors),
-        None => Ok(moved.status),
-    }
-}
-
-/// Both hosts, unless the status with which their order was written is 1.
-fn behind_order(moved: Audited, written: Result<u8, LinkFault>) -> Result<Audited, LinkFault>
-    requires status { IfOk written (λ status. (status ≡ 0) ⊎ (status ≡ 1)) }
-    requires hosts { IfOk written (λ status. status ≡ 0 → IsSome moved.hosts) }
-    requires told { IfSome moved.hosts (λ h. IsTold h.0.journal.entries × IsTold h.1.journal.entries) }
-    ensures status { IfOk written (λ status. IfOk result (λ a. a.status ≡ status)) }
-    ensures fault { IfErr written (λ _. IsErr result) }
+) -> Result<Audited<M>, LinkFault>
+    requires a { IsEnd moved.a.fault moved.a.recorded.journal.entries }
+    requires b { IsEnd moved.b.fault moved.b.recorded.journal.entries }
+    ensures status { IfOk result (λ a. (a.status ≡ 0) ⊎ (a.status ≡ 1)) }
     ensures hosts { IfOk result (λ a. a.status ≡ 0 ↔ IsSome a.hosts) }
     ensures told { IfOk result (λ a. IfSome a.hosts (λ h.
         IsTold h.0.journal.entries × IsTold h.1.journal.entries)) }
+    ensures order { IfOk result (λ a. IfSome a.hosts (λ h.
+        IsWritten h.0.journal h.1.journal (O.contents output.old) (O.contents output.new))) }
 {
-    let status = written?;
-    let hosts = if status == 0 { moved.hosts } else { None };
-    Ok(Audited { status, hosts })
+    match write_audit(alloc, &moved, output, errors) {
+        Ok(0) => Ok(Audited {
+            status: 0,
+            hosts: Some((moved.a.recorded, moved.b.recorded)),
+        }),
+        Ok(status) => {
+            drop(moved);
+            Ok(Audited {
+                status,
+                hosts: None,
+            })
+        }
+        Err(fault) => {
+            drop(moved);
+            Err(fault)
+        }
+    }
+}
+
+/// Tells with what a move failed, if it did; else writes the order of what both hosts did, or tells that
+/// there is none.
+#[tactic(auto, using(crate::proofs::Moved::first_told, crate::proofs::Moved::second_told))]
+fn write_audit<M: PagedMemory + Drop, O: Write, E: Write>(
+    alloc: Global,
+    moved: &Moved<M>,
+    output: &mut O,
+    errors: &mut E,
+) -> Result<u8, LinkFault>
+    requires a { IsEnd moved.now.a.fault moved.now.a.recorded.journal.entries }
+    requires b { IsEnd moved.now.b.fault moved.now.b.recorded.journal.entries }
+    ensures status { IfOk result (λ status. (status ≡ 0) ⊎ (status ≡ 1)) }
+    ensures a { IfOk result (λ status. status ≡ 0 → IsTold moved.now.a.recorded.journal.entries) }
+    ensures b { IfOk result (λ status. status ≡ 0 → IsTold moved.now.b.recorded.journal.entries) }
+    ensures order { IfOk result (λ status. status ≡ 0
+        → IsWritten moved.now.a.recorded.journal moved.now.b.recorded.journal
+        (O.contents output.old) (O.contents output.new)) }
+{
+    let status = tell_failure(moved, errors)?;
+    if status != 0 {
+        return Ok(status);
+    }
+    let (a, b) = (moved.a.recorded.journal(), moved.b.recorded.journal());
+    write_order(alloc, a, b, output, errors)
 }

@@ -12,22 +12,19 @@ use rvm_command::refused::Refused;
 use rvm_core::Host;
 use rvm_debug::Debugged;
 use rvm_journal::{MAX_CAPACITY, Recorded};
-use rvm_paged::PagedRam;
+use rvm_mem::{MAX_PAGES, PagedMemory};
 use std::alloc::Global;
 
 /// How many hosts a move has.
 const HOSTS: u8 = 2;
 
-/// How many pages each host takes.
-const HOST_PAGES: u16 = 4096;
-
 /// Two hosts with empty journals, of which the first has the guest of an image. Refused for the fault of
 /// the file, `OutsideRam` for an image that does not lie in RAM, and `OutOfMemory`.
-pub fn new_hosts(
+pub fn new_hosts<M: PagedMemory + Drop>(
     alloc: Global,
     arguments: &MoveArguments,
     image: &[u8],
-) -> Result<(Recorded<PagedRam>, Recorded<PagedRam>), Refused>
+) -> Result<(Recorded<M>, Recorded<M>), Refused>
     ensures loadable { OnOk result
         (IsLoadable (image_of arguments.now.guest.raw image.now) arguments.now.guest.pages) }
     ensures empty { IfOk result (λ r. (r.0.journal.entries ≡ []) × (r.1.journal.entries ≡ [])) }
@@ -45,24 +42,24 @@ pub fn new_hosts(
 }
 
 /// A host with this number, with a guest or none, and with an empty journal.
-fn new_host(
+fn new_host<M: PagedMemory + Drop>(
     alloc: Global,
-    guest: Option<Debugged<PagedRam>>,
+    guest: Option<Debugged<M>>,
     id: u8,
     version: u32,
-) -> Recorded<PagedRam>
+) -> Recorded<M>
     requires there { id < 2 }
     requires version { (1 ≤ version) × (version ≤ 3) }
     ensures { result ≡ recorded_before (new_host guest id 2 4096 version) }
 {
-    match Host::with_version(guest, id, HOSTS, HOST_PAGES, version) {
+    match Host::with_version(guest, id, HOSTS, MAX_PAGES as u16, version) {
         Ok(host) => record(alloc, host),
         Err(_) => unreachable!(),
     }
 }
 
 /// A host with an empty journal.
-fn record(alloc: Global, host: Host<PagedRam>) -> Recorded<PagedRam>
+fn record<M: PagedMemory + Drop>(alloc: Global, host: Host<M>) -> Recorded<M>
     ensures { result ≡ recorded_before host }
 {
     match Recorded::new(alloc, host, MAX_CAPACITY) {

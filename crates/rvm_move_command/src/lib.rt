@@ -20,5 +20,5 @@ mod socket;
 
 pub use hosts::new_hosts;
 pub use move_command::{OpenGate, connect_both};
-pub use move_over::{move_recorded, plan_of};
+pub use move_over::plan_of;
 pub use socket::Socket;

@@ -3,15 +3,17 @@
 ghost use Rattle.std.specs.Prelude.{◌≡◌, ◌⊎◌, IfOk};
 ghost use Rattle.rvm_command.specs.Command.{image_of};
 ghost use Rattle.rvm_command.specs.Ends.{IsLoadable};
+ghost use Rattle.rvm_move.specs.Hosts.{IsEnd};
 ghost use Rattle.rvm_move_command.specs.Ended.{IsMoved};
 
-use crate::ended::refuse;
+use crate::ended::{refuse, tell_ended};
 use crate::hosts::new_hosts;
-use crate::move_over::{move_hosts, plan_of};
+use crate::move_over::{move_recorded, plan_of};
 use crate::socket::{Socket, connect};
 use rvm_arguments::MoveArguments;
 use rvm_command::refused::Refused;
-use rvm_move::Links;
+use rvm_mem::PagedMemory;
+use rvm_move::{Links, Moved};
 use rvm_refusal::LinkFault;
 use rvm_worker::{Gate, Worker};
 use std::alloc::Global;
@@ -35,7 +37,12 @@ impl Gate for OpenGate {
 
 /// Moves the guest of an image as `move_over` does, over two TCP connections of this machine, one in
 /// each direction. `LinkFault` is told where they cannot be made, and nothing was run.
-pub fn move_command<O: Write, E: Write, R: Net + Threads + Wait + Clock + Sync>(
+pub fn move_command<
+    M: PagedMemory + Drop + Send,
+    O: Write,
+    E: Write,
+    R: Net + Threads + Wait + Clock + Sync,
+>(
     rt: &R,
     alloc: Global,
     arguments: &MoveArguments,
@@ -50,16 +57,38 @@ where
     ensures unloadable { IsLoadable (image_of arguments.now.guest.raw image.now) arguments.now.guest.pages
         ⊎ (O.contents output.new ≡ O.contents output.old) }
 {
-    let recorded = match new_hosts(alloc, arguments, image) {
-        Ok(recorded) => recorded,
-        Err(refused) => return refuse(refused, errors),
-    };
+    match move_image::<M, O, R>(rt, alloc, arguments, image, output) {
+        Ok(moved) => tell_ended(&moved, errors),
+        Err(refused) => refuse(refused, errors),
+    }
+}
+
+/// Moves the guest of an image over TCP: both hosts behind the move.
+pub(crate) fn move_image<
+    M: PagedMemory + Drop + Send,
+    O: Write,
+    R: Net + Threads + Wait + Clock + Sync,
+>(
+    rt: &R,
+    alloc: Global,
+    arguments: &MoveArguments,
+    image: &[u8],
+    output: &mut O,
+) -> Result<Moved<M>, Refused>
+where
+    R::Stream: Send,
+    ensures a { IfOk result (λ m. IsEnd m.a.fault m.a.recorded.journal.entries) }
+    ensures b { IfOk result (λ m. IsEnd m.b.fault m.b.recorded.journal.entries) }
+    ensures unloadable { IsLoadable (image_of arguments.now.guest.raw image.now) arguments.now.guest.pages
+        ⊎ (O.contents output.new ≡ O.contents output.old) }
+{
+    let recorded = new_hosts::<M>(alloc, arguments, image)?;
     match connect_both(rt) {
         Ok(links) => {
             let plan = plan_of(arguments);
-            move_hosts(rt, alloc, recorded, links, &OpenGate, &plan, output, errors)
+            move_recorded(rt, alloc, recorded, links, &OpenGate, &plan, output)
         }
-        Err(fault) => refuse(Refused::from(fault), errors),
+        Err(fault) => Err(Refused::from(fault)),
     }
 }
 

@@ -13,8 +13,8 @@ use rvm_arguments::MoveArguments;
 use rvm_command::refused::Refused;
 use rvm_journal::Recorded;
 use rvm_link::Link;
+use rvm_mem::PagedMemory;
 use rvm_move::{Links, Moved, Plan, move_guest};
-use rvm_paged::PagedRam;
 use rvm_precopy::Policy;
 use rvm_refusal::{LinkFault, Refusal};
 use rvm_worker::Gate;
@@ -34,6 +34,7 @@ use std::time::Clock;
 /// what. `LinkFault` as the answer: a write to `errors` failed. It may wait for other threads, and starts
 /// three.
 pub fn move_over<
+    M: PagedMemory + Drop + Send,
     K: Link + Drop + Send,
     G: Gate + Sync,
     O: Write,
@@ -54,10 +55,11 @@ pub fn move_over<
     ensures unloadable { IsLoadable (image_of arguments.now.guest.raw image.now) arguments.now.guest.pages
         ⊎ (O.contents output.new ≡ O.contents output.old) }
 {
-    match new_hosts(alloc, arguments, image) {
+    match new_hosts::<M>(alloc, arguments, image) {
         Ok(recorded) => {
             let plan = plan_of(arguments);
-            move_hosts(rt, alloc, recorded, links, gate, &plan, output, errors)
+            let moved = move_recorded(rt, alloc, recorded, links, gate, &plan, output);
+            tell_end(moved, errors)
         }
         Err(refused) => refuse(refused, errors),
     }
@@ -79,35 +81,25 @@ pub fn plan_of(arguments: &MoveArguments) -> Plan
     }
 }
 
-/// Moves the guest of the first host, and tells what both hosts answered.
-pub(crate) fn move_hosts<
-    K: Link + Drop + Send,
-    G: Gate + Sync,
-    O: Write,
-    E: Write,
-    R: Threads + Wait + Clock + Sync,
->(
-    rt: &R,
-    alloc: Global,
-    recorded: (Recorded<PagedRam>, Recorded<PagedRam>),
-    links: (Links<K>, Links<K>),
-    gate: &G,
-    plan: &Plan,
-    output: &mut O,
+/// Tells what both hosts of a move answered, or of a refusal.
+fn tell_end<M: PagedMemory + Drop, E: Write>(
+    moved: Result<Moved<M>, Refused>,
     errors: &mut E,
 ) -> Result<u8, LinkFault>
-    requires { (recorded.0.journal.entries ≡ []) × (recorded.1.journal.entries ≡ []) }
+    requires a { IfOk moved (λ m. IsEnd m.a.fault m.a.recorded.journal.entries) }
+    requires b { IfOk moved (λ m. IsEnd m.b.fault m.b.recorded.journal.entries) }
     ensures status { IfOk result (λ status. (status ≡ 0) ⊎ (status ≡ 1)) }
     ensures moved { IfOk result (λ status. status ≡ 0 → IsMoved (E.contents errors.old) (E.contents errors.new)) }
 {
-    match move_recorded(rt, alloc, recorded, links, gate, plan, output) {
+    match moved {
         Ok(moved) => tell_ended(&moved, errors),
         Err(refused) => refuse(refused, errors),
     }
 }
 
 /// Moves the guest of the first host.
-pub fn move_recorded<
+pub(crate) fn move_recorded<
+    M: PagedMemory + Drop + Send,
     K: Link + Drop + Send,
     G: Gate + Sync,
     O: Write,
@@ -115,18 +107,18 @@ pub fn move_recorded<
 >(
     rt: &R,
     alloc: Global,
-    recorded: (Recorded<PagedRam>, Recorded<PagedRam>),
+    recorded: (Recorded<M>, Recorded<M>),
     links: (Links<K>, Links<K>),
     gate: &G,
     plan: &Plan,
     output: &mut O,
-) -> Result<Moved<PagedRam>, Refused>
+) -> Result<Moved<M>, Refused>
     requires { (recorded.0.journal.entries ≡ []) × (recorded.1.journal.entries ≡ []) }
     ensures a { IfOk result (λ m. IsEnd m.a.fault m.a.recorded.journal.entries) }
     ensures b { IfOk result (λ m. IsEnd m.b.fault m.b.recorded.journal.entries) }
 {
     let blanks = (Blank::new(3), Blank::new(2));
-    match move_guest::<Brand, Brand, PagedRam, K, G, O, R>(
+    match move_guest::<Brand, Brand, M, K, G, O, R>(
         rt, alloc, blanks, recorded, links, gate, plan, output,
     ) {
         Ok(moved) => Ok(moved),

@@ -2,12 +2,11 @@
 
 ghost use Rattle.std.specs.Prelude.{◌≡◌, ◌⊎◌, IfOk, OnOk};
 ghost use Rattle.std.specs.Io.KnownBytes.{Appends};
-ghost use Rattle.rvm_move.specs.Hosts.{IsTold};
 ghost use Rattle.rvm_event_line.specs.EventLines.{event_lines};
-ghost use Rattle.rvm_move_command.specs.Orders.{IsAudited};
+ghost use Rattle.rvm_move_command.specs.Orders.{IsWritten};
 
 use rvm_audit::audit;
-use rvm_command::dis_command::flush;
+use rvm_command::flush::flush;
 use rvm_command::refused::{Refused, tell};
 use rvm_event_line::write_events;
 use rvm_journal::Journal;
@@ -18,7 +17,7 @@ use std::alloc::Global;
 use std::io::Write;
 
 /// Writes an order of two journals, or tells that there is none.
-#[tactic(auto, using(crate::proofs::Orders::audited))]
+#[tactic(auto, using(crate::proofs::Orders::written))]
 pub(crate) fn write_order<M: PagedMemory + Drop, O: Write, E: Write>(
     alloc: Global,
     first: &Journal<M>,
@@ -26,11 +25,9 @@ pub(crate) fn write_order<M: PagedMemory + Drop, O: Write, E: Write>(
     output: &mut O,
     errors: &mut E,
 ) -> Result<u8, LinkFault>
-    requires first { IsTold first.now.entries }
-    requires second { IsTold second.now.entries }
     ensures status { IfOk result (λ status. (status ≡ 0) ⊎ (status ≡ 1)) }
     ensures order { IfOk result (λ status. status ≡ 0
-        → IsAudited (O.contents output.old) (O.contents output.new)) }
+        → IsWritten first.now second.now (O.contents output.old) (O.contents output.new)) }
 {
     match audit(alloc, first, second) {
         Ok(events) => match write_whole(output, events.as_slice()) {

@@ -12,6 +12,7 @@ use rvm_command::asm_command::asm_command;
 use rvm_command::debug_command::debug_command;
 use rvm_command::dis_command::dis_command;
 use rvm_command::run_command::run_command;
+use rvm_mem::PagedMemory;
 use rvm_move_command::audit_command::audit_command;
 use rvm_move_command::move_command::move_command;
 use rvm_refusal::Refusal;
@@ -28,7 +29,7 @@ use std::time::Clock;
 pub(crate) const UNTOLD: u8 = 1;
 
 /// Reads the image and the bytes for the console, and runs.
-pub(crate) fn run<Rt: Files + AllocGlobal, O: Write, E: Write>(
+pub(crate) fn run<M: PagedMemory + Drop, Rt: Files + AllocGlobal, O: Write, E: Write>(
     rt: &Rt,
     arguments: &RunArguments,
     output: &mut O,
@@ -41,7 +42,7 @@ pub(crate) fn run<Rt: Files + AllocGlobal, O: Write, E: Write>(
         Some(file) => read_file(rt, file)?,
         None => Vec::new(rt.alloc()),
     };
-    let ended = run_command(rt.alloc(), arguments, &image, &input, output, errors);
+    let ended = run_command::<M, O, E>(rt.alloc(), arguments, &image, &input, output, errors);
     Ok(ended.unwrap_or(UNTOLD))
 }
 
@@ -75,7 +76,7 @@ pub(crate) fn dis<Rt: Files + AllocGlobal, O: Write, E: Write>(
 }
 
 /// Reads the image, and answers the script that standard input gives.
-pub(crate) fn debug<Rt: Files + AllocGlobal, I: Read, O: Write, E: Write>(
+pub(crate) fn debug<M: PagedMemory + Drop, Rt: Files + AllocGlobal, I: Read, O: Write, E: Write>(
     rt: &Rt,
     arguments: &GuestArguments,
     input: &mut I,
@@ -86,12 +87,19 @@ pub(crate) fn debug<Rt: Files + AllocGlobal, I: Read, O: Write, E: Write>(
 {
     let image = read_file(rt, arguments.image)?;
     let mut output = BufWriter::new(rt.alloc(), output).map_err(refusal_of)?;
-    let ended = debug_command(rt.alloc(), arguments, &image, input, &mut output, errors);
+    let ended = debug_command::<M, _, _, E>(
+        rt.alloc(),
+        arguments,
+        &image,
+        input,
+        &mut output,
+        errors,
+    );
     Ok(ended.unwrap_or(UNTOLD))
 }
 
 /// Reads the image and the script, and answers the script.
-pub(crate) fn script<Rt: Files + AllocGlobal, O: Write, E: Write>(
+pub(crate) fn script<M: PagedMemory + Drop, Rt: Files + AllocGlobal, O: Write, E: Write>(
     rt: &Rt,
     arguments: &ScriptArguments,
     output: &mut O,
@@ -103,7 +111,7 @@ pub(crate) fn script<Rt: Files + AllocGlobal, O: Write, E: Write>(
     let script = read_script(rt, arguments.script)?;
     let mut output = BufWriter::new(rt.alloc(), output).map_err(refusal_of)?;
     let mut lines = script.as_slice();
-    let ended = script_command(
+    let ended = script_command::<M, _, _, E>(
         rt.alloc(),
         arguments,
         &image,
@@ -116,6 +124,7 @@ pub(crate) fn script<Rt: Files + AllocGlobal, O: Write, E: Write>(
 
 /// Reads the image, and moves its guest. What is told of the move goes out in pieces.
 pub(crate) fn move_guest<
+    M: PagedMemory + Drop + Send,
     Rt: Files + AllocGlobal + Net + Threads + Wait + Clock + Sync,
     O: Write,
     E: Write,
@@ -126,7 +135,7 @@ where
 {
     let image = read_file(rt, arguments.guest.image)?;
     let mut lines = BufWriter::new(rt.alloc(), errors).map_err(refusal_of)?;
-    let ended = move_command(rt, rt.alloc(), arguments, &image, output, &mut lines);
+    let ended = move_command::<M, O, _, Rt>(rt, rt.alloc(), arguments, &image, output, &mut lines);
     match lines.flush() {
         Ok(()) => Ok(ended.unwrap_or(UNTOLD)),
         Err(_) => Ok(UNTOLD),
@@ -135,6 +144,7 @@ where
 
 /// Reads the image, moves its guest, and writes an order of what both hosts did.
 pub(crate) fn audit<
+    M: PagedMemory + Drop + Send,
     Rt: Files + AllocGlobal + Net + Threads + Wait + Clock + Sync,
     O: Write,
     E: Write,
@@ -145,6 +155,13 @@ where
 {
     let image = read_file(rt, arguments.guest.image)?;
     let mut output = BufWriter::new(rt.alloc(), output).map_err(refusal_of)?;
-    let ended = audit_command(rt, rt.alloc(), arguments, &image, &mut output, errors);
+    let ended = audit_command::<M, _, E, Rt>(
+        rt,
+        rt.alloc(),
+        arguments,
+        &image,
+        &mut output,
+        errors,
+    );
     Ok(ended.unwrap_or(UNTOLD))
 }

@@ -16,6 +16,7 @@ use clap::Error;
 use rvm_arguments::Arguments;
 use rvm_command::refused::{Refused, tell};
 use rvm_command_line::parse_args;
+use rvm_mem::PagedMemory;
 use std::convert::AsStr;
 use std::io::{Read, Write};
 use std::net::Net;
@@ -27,9 +28,9 @@ use std::time::Clock;
 /// Does what the words of a command line ask for, of which the first is the program's name, and answers
 /// the status: 0, 1 where it was refused, or 2 for a fault of the command line, which writes nothing to
 /// `output`. `input` stands for standard input, `output` and `errors` for standard output and standard
-/// error.
-/// A guest that moves does so by threads, which may wait for one another, and over TCP.
+/// error. Each guest's memory is an `M`. A guest that moves does so by threads, which may wait for one another, and over TCP.
 pub fn perform<
+    M: PagedMemory + Drop + Send,
     Rt: Files + AllocGlobal + Net + Threads + Wait + Clock + Sync,
     S: AsStr,
     I: Read,
@@ -42,7 +43,7 @@ where
     ensures fault { result ≡ 2 → O.contents output.new ≡ O.contents output.old }
 {
     match parse_args(rt.alloc(), words) {
-        Ok(arguments) => do_command(rt, &arguments, input, output, errors),
+        Ok(arguments) => do_command::<M, Rt, I, O, E>(rt, &arguments, input, output, errors),
         Err(error) => explain(&error, output, errors),
     }
 }
@@ -50,6 +51,7 @@ where
 /// Does what a command line asks for, and answers the status: 0, or 1 where it was refused. A refusal that the
 /// command has not told itself is told here.
 fn do_command<
+    M: PagedMemory + Drop + Send,
     Rt: Files + AllocGlobal + Net + Threads + Wait + Clock + Sync,
     I: Read,
     O: Write,
@@ -60,13 +62,21 @@ where
     ensures { (result ≡ 0) ⊎ (result ≡ 1) }
 {
     let done = match arguments {
-        Arguments::Run(arguments) => commands::run(rt, arguments, output, errors),
+        Arguments::Run(arguments) => commands::run::<M, Rt, O, E>(rt, arguments, output, errors),
         Arguments::Asm(arguments) => commands::asm(rt, arguments, errors),
         Arguments::Dis(arguments) => commands::dis(rt, arguments, output, errors),
-        Arguments::Debug(arguments) => commands::debug(rt, arguments, input, output, errors),
-        Arguments::Script(arguments) => commands::script(rt, arguments, output, errors),
-        Arguments::Move(arguments) => commands::move_guest(rt, arguments, output, errors),
-        Arguments::Audit(arguments) => commands::audit(rt, arguments, output, errors),
+        Arguments::Debug(arguments) => commands::debug::<M, Rt, I, O, E>(
+            rt, arguments, input, output, errors,
+        ),
+        Arguments::Script(arguments) => commands::script::<M, Rt, O, E>(
+            rt, arguments, output, errors,
+        ),
+        Arguments::Move(arguments) => commands::move_guest::<M, Rt, O, E>(
+            rt, arguments, output, errors,
+        ),
+        Arguments::Audit(arguments) => commands::audit::<M, Rt, O, E>(
+            rt, arguments, output, errors,
+        ),
     };
     match done {
         Ok(status) => status,

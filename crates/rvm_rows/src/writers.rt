@@ -4,6 +4,7 @@ use rvm_arguments::{GuestArguments, RunArguments};
 use rvm_command::asm_command::asm_command;
 use rvm_command::debug_command::debug_command;
 use rvm_command::run_command::run_command;
+use rvm_paged::PagedRam;
 use rvm_refusal::LinkFault;
 use std::alloc::{AllocError, Global};
 use std::io;
@@ -76,7 +77,14 @@ fn a_failed_write_of_a_run_is_told(rt: HostRuntime) -> Result<(), Fail> {
     // The output fails in the middle of a piece, or at once.
     for room in [40, 0] {
         let (mut output, mut errors) = (Narrow { room }, Vec::new(alloc));
-        let status = run_command(alloc, &arguments, &letters, &[], &mut output, &mut errors);
+        let status = run_command::<PagedRam, _, _>(
+            alloc,
+            &arguments,
+            &letters,
+            &[],
+            &mut output,
+            &mut errors,
+        );
         assert_eq!(rt; errors.as_slice(), REFUSAL.as_bytes());
         assert_eq!(rt; output.room, 0);
         assert_eq!(rt; status, Ok(1));
@@ -84,7 +92,14 @@ fn a_failed_write_of_a_run_is_told(rt: HostRuntime) -> Result<(), Fail> {
     // What is said of the end can fail too.
     let letter = bytes_of(alloc, &LETTER)?;
     let (mut output, mut errors) = (Vec::new(alloc), Narrow { room: 3 });
-    let status = run_command(alloc, &arguments, &letter, &[], &mut output, &mut errors);
+    let status = run_command::<PagedRam, _, _>(
+        alloc,
+        &arguments,
+        &letter,
+        &[],
+        &mut output,
+        &mut errors,
+    );
     assert_eq!(rt; output.as_slice(), "A".as_bytes());
     assert_eq!(rt; status, Err(LinkFault));
     Ok(())
@@ -96,7 +111,7 @@ fn a_failed_write_of_an_answer_is_told(rt: HostRuntime) -> Result<(), Fail> {
     let image = bytes_of(alloc, &LETTERS)?;
     let (mut output, mut errors) = (Narrow { room: 10 }, Vec::new(alloc));
     let mut reader = "regs 0\n".as_bytes();
-    let status = debug_command(
+    let status = debug_command::<PagedRam, _, _, _>(
         alloc,
         &guest(),
         &image,

@@ -4,7 +4,7 @@ use Rattle.rvm_debug.specs.declared.event.BoardReply.{BoardReply}
 use Rattle.rvm_debug.specs.declared.event.BoardReply.TheVariants as answer
 use Rattle.rvm_debug.specs.declared.turns.Stop.{Stop}
 use Rattle.rvm_debug.specs.declared.turns.Stop.TheVariants as stop
-use Rattle.rvm_debug.specs.Events.{leaves, reply_of, steps, stops}
+use Rattle.rvm_debug.specs.Events.{leaves, stops}
 use Rattle.rvm_debug.specs.Events as events
 use Rattle.rvm_debug.specs.Turns.{reply_of_stop}
 use Rattle.rvm_guest.proofs.TheGuest.{board}

@@ -1,11 +1,11 @@
 //! Runs of a world.
 
-ghost use Rattle.std.specs.Prelude.{◌≡◌, ℕ, true, List, map, IfOk, OnOk, OnErr};
+ghost use Rattle.std.specs.Prelude.{◌≡◌, ℕ, true, map, IfOk, OnOk, OnErr};
 ghost use Rattle.rvm_debug.specs.Guest.{Guest};
 ghost use Rattle.rvm_guest.proofs.TheGuest.{board};
 ghost use Rattle.rvm_guest.specs.Valid.{is_valid};
 ghost use Rattle.rvm_protocol.specs.Shown.{Shown};
-ghost use Rattle.rvm_protocol.specs.Told.{Told, at_start};
+ghost use Rattle.rvm_protocol.specs.Told.{Told};
 ghost use Rattle.rvm_protocol.specs.World.{history, new_world, replies, run};
 ghost use Rattle.rvm_world.specs.NeverMoved.{FramesAreTrue, NeverMoved};
 ghost use Rattle.rvm_world.specs.Worlds.{IsPartOf, meant, said, world_of};

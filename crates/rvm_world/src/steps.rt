@@ -1,6 +1,6 @@
 //! Steps of a hart at a host.
 
-ghost use Rattle.std.specs.Prelude.{◌≡◌, ◌-◌, ◌+◌, ◌<◌, ◌≤◌, IfOk};
+ghost use Rattle.std.specs.Prelude.{◌≡◌, ◌-◌, ◌+◌, ◌<◌};
 ghost use Rattle.rvm_debug.specs.declared.event.BoardReply.TheVariants.{Retired};
 ghost use Rattle.rvm_guest.proofs.TheGuest.{board};
 ghost use Rattle.rvm_message.specs.Replies.{reply_of};

@@ -22,7 +22,7 @@ use crate::error::WorldError;
 use crate::event::{Event, WorldReply};
 use crate::hosts::{add_hosts, is_sized};
 use crate::sent::{Sent, make_room, post};
-use rvm_core::Host;
+use rvm_core::{Host, version_of};
 use rvm_debug::{Debugged, Turns};
 use rvm_guest::valid_guest;
 use rvm_mem::PagedMemory;
@@ -108,7 +108,7 @@ impl<M: PagedMemory + Drop> World<M> {
             ↔ (is_sized (version_of (length limits.now)) limits.now ≡ false)) }
         ensures guest { IfErr result (λ e. e.1 ≡ guest) }
     {
-        let version = if limits.len() == 2 { 1 } else { 3 };
+        let version = version_of(limits.len());
         World::with_version(alloc, guest, limits, version)
     }
 

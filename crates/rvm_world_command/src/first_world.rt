@@ -1,6 +1,6 @@
 //! The world in which a script begins.
 
-ghost use Rattle.std.specs.Prelude.{◌≡◌, ◌≤◌, true, IfOk, IfErr, OnOk, replicate};
+ghost use Rattle.std.specs.Prelude.{◌≡◌, ◌≤◌, true, IfOk, IfErr, OnOk};
 ghost use Rattle.rvm_command.specs.Command.{guest_of, image_of};
 ghost use Rattle.rvm_command.specs.Ends.{IsLoadable};
 ghost use Rattle.rvm_guest.proofs.TheGuest.{board};
@@ -14,27 +14,21 @@ ghost use Rattle.rvm_world_command.specs.FirstWorld.{limits_of, version_asked};
 use rvm_arguments::ScriptArguments;
 use rvm_command::guest::load_guest;
 use rvm_command::refused::Refused;
+use rvm_core::{MAX_HOSTS, version_of};
 use rvm_debug::Debugged;
-use rvm_mem::PagedMemory;
-use rvm_paged::PagedRam;
+use rvm_mem::{MAX_PAGES, PagedMemory};
 use rvm_refusal::Refusal;
 use rvm_world::World;
 use std::alloc::Global;
 
-/// The most hosts that a world has.
-const MAX_HOSTS: usize = 8;
-
-/// How many pages each host takes.
-const HOST_PAGES: u16 = 4096;
-
 /// A new world whose first host has the guest of an image. It is refused for the fault of the file,
 /// `OutsideRam` for an image that does not lie in RAM, `BadSize` where so many hosts do not speak the
 /// version of streams, and `OutOfMemory`.
-pub(crate) fn load_world(
+pub(crate) fn load_world<M: PagedMemory + Drop>(
     alloc: Global,
     arguments: &ScriptArguments,
     image: &[u8],
-) -> Result<World<PagedRam>, Refused>
+) -> Result<World<M>, Refused>
     ensures loadable { OnOk result
         (IsLoadable (image_of arguments.now.guest.raw image.now) arguments.now.guest.pages) }
     ensures sized { OnOk result (is_sized (version_asked arguments.now) (limits_of arguments.now.hosts) ≡ true) }
@@ -57,7 +51,7 @@ fn asked_version(arguments: &ScriptArguments) -> u32
 {
     match arguments.stream {
         Some(version) => version,
-        None => { if arguments.hosts == 2 { 1 } else { 3 } }
+        None => version_of(arguments.hosts as usize),
     }
 }
 
@@ -75,7 +69,7 @@ fn new_world<M: PagedMemory + Drop>(
     ensures shown { IfOk result (λ w. Shown (world_of w).hosts (at_start guest.guest)) }
     ensures refused { IfErr result (IsWorldRefusal version hosts) }
 {
-    let limits = [HOST_PAGES; MAX_HOSTS];
+    let limits = [MAX_PAGES as u16; MAX_HOSTS];
     match World::with_version(alloc, guest, &limits[..hosts as usize], version) {
         Ok(world) => Ok(world),
         Err((error, _)) => Err(Refused::from(Refusal::from(error))),

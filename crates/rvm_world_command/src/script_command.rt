@@ -15,7 +15,7 @@ ghost use Rattle.rvm_world_script.specs.Runs.{standing};
 use crate::first_world::load_world;
 use crate::refused::refused_of;
 use rvm_arguments::ScriptArguments;
-use rvm_command::dis_command::flush;
+use rvm_command::flush::flush;
 use rvm_command::refused::{Refused, tell};
 use rvm_mem::PagedMemory;
 use rvm_refusal::LinkFault;
@@ -34,7 +34,7 @@ use std::io::{Read, Write};
 /// answers to the lines before it; and `LinkFault` where a read or a write to `output` failed, of which
 /// a part may have gone out. Whether a reader or a writer fails is not said. `LinkFault` as the answer:
 /// a write to `errors` failed.
-pub fn script_command<R: Read, O: Write, E: Write>(
+pub fn script_command<M: PagedMemory + Drop, R: Read, O: Write, E: Write>(
     alloc: Global,
     arguments: &ScriptArguments,
     image: &[u8],
@@ -53,7 +53,7 @@ pub fn script_command<R: Read, O: Write, E: Write>(
     ensures size { is_sized (version_asked arguments.now) (limits_of arguments.now.hosts) ≡ false
         → O.contents output.new ≡ O.contents output.old }
 {
-    match answer_image(alloc, arguments, image, script, output) {
+    match answer_image::<M, R, O>(alloc, arguments, image, script, output) {
         Ok(()) => Ok(0),
         Err(refused) => tell(refused, errors),
     }
@@ -61,7 +61,7 @@ pub fn script_command<R: Read, O: Write, E: Write>(
 
 /// The script itself.
 #[tactic(auto, using(crate::proofs::Ended::answered_first))]
-fn answer_image<R: Read, O: Write>(
+fn answer_image<M: PagedMemory + Drop, R: Read, O: Write>(
     alloc: Global,
     arguments: &ScriptArguments,
     image: &[u8],
@@ -78,7 +78,7 @@ fn answer_image<R: Read, O: Write>(
     ensures size { is_sized (version_asked arguments.now) (limits_of arguments.now.hosts) ≡ false
         → O.contents output.new ≡ O.contents output.old }
 {
-    let mut world = load_world(alloc, arguments, image)?;
+    let mut world = load_world::<M>(alloc, arguments, image)?;
     match answer(alloc, &mut world, script, output) {
         Ok(()) => Ok(()),
         Err(error) => Err(refused_of(error)),

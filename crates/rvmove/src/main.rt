@@ -2,13 +2,14 @@
 //! between hosts. Hands the command line and the standard streams to `rvm_program`.
 #![tactic(auto)]
 
+use rvm_paged::PagedRam;
 use rvm_program::perform;
 use std::env;
 use std::process::ExitCode;
 
 fn main(rt: HostRuntime) -> anyhow::Result<ExitCode> {
     let words: Vec<String> = env::args(&rt)?.collect(rt.alloc())?;
-    let status = perform(
+    let status = perform::<PagedRam, _, _, _, _, _>(
         &rt,
         words.as_slice(),
         &mut rt.stdin(),

@@ -1,4 +1,4 @@
-use Rattle.std.proofs.Common.{◌≡◌, ◌<◌, ◌++◌, ◌∷◌, [], length, refl, arith}
+use Rattle.std.proofs.Common.{◌<◌, ◌∷◌, [], length, arith}
 use Rattle.rvm_debug.specs.declared.event.BoardEvent.TheVariants.{Drain}
 use Rattle.rvm_command.specs.Run.{IsPartWay, after, drains}
 use Rattle.rvm_command.proofs.Runs.{all_made, begins, drain_fewer, drain_first, drained_some, drains_none, goes_on, on_err, part_way, some_bytes, whole_part}

@@ -1,4 +1,4 @@
-use Rattle.std.proofs.Common.{◌≡◌, ◌∙◌, refl, replicate, subst}
+use Rattle.std.proofs.Common.{◌∙◌, refl, replicate, subst}
 use Rattle.std.specs.Io.KnownBytes.{Appends}
 use Rattle.rvm_command.proofs.Runs.{drained, drained_bytes, drained_piece}
 use Rattle.rvm_command.proofs.run.drain_once.Goals as goal

@@ -1,4 +1,4 @@
-use Rattle.std.proofs.Common.{Bool, false, nat_lt, length, ◌≡◌, ap, sym, ◌∙◌, ◌-◌, ◌+◌, ◌%◌, ◌≤◌, ◌<◌, drop, refl, arith}
+use Rattle.std.proofs.Common.{nat_lt, length, ap, ◌-◌, ◌%◌, drop, refl, arith}
 use Rattle.rvm_command.specs.Slices.{takes_none}
 use Rattle.rvm_command.proofs.Runs.{idle, none_left, slice_from, some_made}
 use Rattle.rvm_debug.proofs.Waiting.{while_within}

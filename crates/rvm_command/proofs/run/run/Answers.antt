@@ -1,6 +1,6 @@
-use Rattle.std.proofs.Common.{[], ◌≡◌, ℕ, ◌+◌, ◌-◌, ◌%◌, ◌<◌, ◌≤◌, List, length, drop, ap, sym, ◌∙◌, refl, arith}
+use Rattle.std.proofs.Common.{[], ◌≡◌, ℕ, ◌+◌, ◌-◌, ◌<◌, length, drop, ap, sym, ◌∙◌, refl, arith}
 use Rattle.rvm_command.specs.declared.run.Ended.TheVariants as ended
-use Rattle.rvm_command.specs.Run.{IsPartWay, Run, after, drains, first, run_from}
+use Rattle.rvm_command.specs.Run.{IsPartWay, Run, after, drains, run_from}
 use Rattle.rvm_command.specs.Slices.{rest_of_run}
 use Rattle.rvm_command.proofs.Runs.{begins, broken_off, drained_rest, finished, goes_on, halted_rest, last_drains, on_err, quiet_rest, slice_behind, slice_ended, spent_run}
 use Rattle.rvm_command.proofs.run.run.Goals as goal

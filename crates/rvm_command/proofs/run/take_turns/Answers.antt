@@ -1,4 +1,3 @@
-use Rattle.rvm_debug.specs.Turns.{TakesTurns}
 use Rattle.rvm_command.proofs.Runs.{any_turns}
 use Rattle.rvm_command.proofs.run.take_turns.Goals as goal
 
