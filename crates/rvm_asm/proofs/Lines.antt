@@ -1,6 +1,7 @@
 -- Lines that are read.
-use Rattle.std.proofs.Common.{◌≡◌, ℕ, zero, suc, ◌+◌, ◌<◌, List, [], ◌∷◌, length, get_or, refl, ap, sym, subst, ◌∙◌, Option, Some, None, Result, Err, arith, rules, ⊎_elim}
-use Rattle.std.specs.Prelude.{IsSome, map, unwrap_or}
+use Rattle.std.proofs.Common.{◌≡◌, ℕ, zero, suc, ◌+◌, ◌<◌, List, [], ◌∷◌, length, get_or, refl, ap, sym, subst, ◌∙◌, Option, Some, None, Result, Ok, Err, arith, rules, ⊎_elim, inr}
+use Rattle.std.specs.Prelude.{IfErr, IsSome, map, unwrap_or}
+use Rattle.std.specs.Str.Lines.{lines}
 use denote.Ref.{Bor}
 use Rattle.std.proofs.lemmas.List.{get_or-map, length-map}
 use Rattle.rvm_text.specs.Lexemes.{Lexeme, lexemes}
@@ -8,8 +9,9 @@ use Rattle.rvm_line.specs.declared.faults.LineError.{LineError}
 use Rattle.rvm_line.specs.declared.faults.LineError.TheVariants.{OutOfMemory, Faulty}
 use Rattle.rvm_line.specs.Values.{Names}
 use Rattle.rvm_image.specs.Images.{Piece}
+use Rattle.rvm_asm.specs.declared.error.AsmError.{AsmError}
 use Rattle.rvm_asm.specs.Assembly.{AreRead, line_at}
-use Rattle.rvm_asm.specs.Refusals.{IsReadError, count_at, error_at}
+use Rattle.rvm_asm.specs.Refusals.{IsError, IsErrorOf, IsReadError, count_at, error_at}
 use Rattle.rvm_asm.specs.Views.{line_of, lines_of, texts_of, IsUnreadable, IsLaying, IsPutting, Fits}
 use Rattle.rvm_asm.proofs.Laying.{below_or_at}
 
@@ -104,3 +106,11 @@ pub count_text : (names : Names) (place : ℕ) (text : List ℕ) (ts : List Lexe
 count_text names place text ts e = ap (λ l. count_at names place l) (sym (line_is text ts e))
 
 pub ruleset texts_put = (put_text, unread_put, fits_text, count_text)
+
+-- a fault of the lines is one of their text
+pub text_refused : {T : Type 0} (text : List ℕ) (texts : List (Bor (List ℕ))) (r : Result T AsmError)
+    → map (λ x. x.now) texts ≡ lines text → AreRead (texts_of texts) (lines_of (texts_of texts))
+    → IfErr r (λ e. IsErrorOf (lines_of (texts_of texts)) e) → IfErr r (λ e. IsError text e)
+text_refused text texts (Ok v) same read fault = tt
+text_refused text texts (Err e) same read fault =
+    inr (lines_of (texts_of texts), subst (λ all. AreRead all (lines_of (texts_of texts))) same read, fault)

@@ -86,6 +86,16 @@ AreTooLarge all =
     × IsLaid all names places × IsImageTo all i names places image
     × (2 ^ 24 < count_to all names places i)
 
+-- all lines, under names and places that fit them, have at most 2 ^ 24 bytes
+abbrev pub AreFew : List (List Lexeme) → Type 0
+AreFew all =
+    (names : Names) × (places : List ℕ) × IsLaid all names places
+    × (count_to all names places (length all) ≤ 2 ^ 24)
+
+-- the lines of a text, which all have lexemes, have at most 2 ^ 24 bytes
+abbrev pub IsSmall : List ℕ → Type 0
+IsSmall text = (all : List (List Lexeme)) × AreRead (lines text) all × AreFew all
+
 -- a line is the first that has no lexemes
 abbrev pub IsUnread : List (List ℕ) → ℕ → Fault → Type 0
 IsUnread texts i fault =

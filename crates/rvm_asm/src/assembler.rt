@@ -1,10 +1,10 @@
 //! From text to an image.
 
-ghost use Rattle.std.specs.Prelude.{◌≡◌, ◌^◌, IfOk, IfErr, All, map};
+ghost use Rattle.std.specs.Prelude.{◌≡◌, IfOk, IfErr, OnOk, All, map};
 ghost use Rattle.std.specs.Str.Lines.{lines};
 ghost use Rattle.rvm_line.specs.Views.{names_of};
 ghost use Rattle.rvm_asm.specs.Assembly.{entry_of, AreRead, IsAssemblyOf, IsAssembly};
-ghost use Rattle.rvm_asm.specs.Refusals.{IsErrorOf, IsError};
+ghost use Rattle.rvm_asm.specs.Refusals.{AreFew, IsErrorOf, IsError, IsSmall};
 ghost use Rattle.rvm_asm.specs.Views.{lines_of, texts_of, HasNoZeros};
 ghost use Rattle.rvm_image.specs.Images.{IsRising, pieces_of};
 
@@ -24,6 +24,7 @@ pub fn assemble(alloc: Global, text: &str) -> Result<Image, AsmError>
     ensures image { IfOk result (λ v. IsAssembly text.now v.entry (pieces_of v.segments.items)) }
     ensures rising { IfOk result (λ v. IsRising (pieces_of v.segments.items)) }
     ensures zeros { IfOk result (λ v. All HasNoZeros v.segments.items) }
+    ensures small { OnOk result (IsSmall text.now) }
     ensures refused { IfErr result (λ e. IsError text.now e) }
 {
     let texts = split(alloc, text)?;
@@ -45,6 +46,7 @@ fn assemble_lines(alloc: Global, texts: &[&str]) -> Result<Image, AsmError>
         (pieces_of v.segments.items)) }
     ensures rising { IfOk result (λ v. IsRising (pieces_of v.segments.items)) }
     ensures zeros { IfOk result (λ v. All HasNoZeros v.segments.items) }
+    ensures few { OnOk result (AreFew (lines_of (texts_of texts.now))) }
     ensures refused { IfErr result (λ e. IsErrorOf (lines_of (texts_of texts.now)) e) }
 {
     let layout = lay_out(alloc, texts)?;

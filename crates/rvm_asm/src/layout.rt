@@ -1,6 +1,6 @@
 //! The second pass: each name's value and each line's place.
 
-ghost use Rattle.std.specs.Prelude.{◌≡◌, ◌≤◌, ◌^◌, IfOk, IfErr, IsSome};
+ghost use Rattle.std.specs.Prelude.{◌≤◌, ◌^◌, IfOk, IfErr, IsSome};
 ghost use Rattle.rvm_text.specs.Lexemes.{lexemes};
 ghost use Rattle.rvm_text.specs.Tokens.{lexemes_of};
 ghost use Rattle.rvm_line.specs.Views.{names_of, definition_of};

@@ -1,23 +1,21 @@
 //! The third pass: the bytes of each line at its place.
 
-ghost use Rattle.std.specs.Prelude.{◌≡◌, IfOk, IfErr, OnOk, IsSome};
+ghost use Rattle.std.specs.Prelude.{◌≡◌, ◌≤◌, ◌^◌, length, IfOk, IfErr, OnOk, IsSome};
 ghost use Rattle.rvm_text.specs.Lexemes.{lexemes};
 ghost use Rattle.rvm_text.specs.Tokens.{lexemes_of};
 ghost use Rattle.rvm_line.specs.Views.{names_of};
 ghost use Rattle.rvm_asm.specs.Assembly.{AreRead, IsLaid, IsImage};
 ghost use Rattle.rvm_asm.specs.Images.{AreOrdered};
-ghost use Rattle.rvm_asm.specs.Refusals.{count_at, IsErrorOf};
+ghost use Rattle.rvm_asm.specs.Refusals.{count_at, count_to, IsErrorOf};
 ghost use Rattle.rvm_asm.specs.Views.{line_of, lines_of, texts_of, placed_pieces, Fits, IsPutting};
 
 use crate::error::AsmError;
 use crate::reading::read_line;
 use crate::segments::{Placed, insert, is_free};
+use rvm_image::MAX_BYTES;
 use rvm_line::{Fault, LineError, Symbols, contents, label};
 use rvm_text::Token;
 use std::alloc::Global;
-
-/// The most bytes that all lines may have together.
-const MAX_BYTES: usize = 1 << 24;
 
 /// The bytes of all lines, each at its place.
 pub fn place_lines(
@@ -31,6 +29,8 @@ pub fn place_lines(
     ensures placed { IfOk result (λ v. IsImage (lines_of (texts_of texts.now)) (names_of symbols.now)
         places.now (placed_pieces v)) }
     ensures ordered { IfOk result (λ v. AreOrdered 0 0 (placed_pieces v)) }
+    ensures few { OnOk result (count_to (lines_of (texts_of texts.now)) (names_of symbols.now)
+        places.now (length (lines_of (texts_of texts.now))) ≤ 2 ^ 24) }
     ensures refused { IfErr result (λ e. IsErrorOf (lines_of (texts_of texts.now)) e) }
 {
     let mut placed = Placed::new(alloc);

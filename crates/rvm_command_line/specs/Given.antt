@@ -1,6 +1,6 @@
 -- What arguments are, by the values that `clap` found for the options of a command.
 use Rattle.std.specs.Prelude.{◌≡◌, ℕ, Bool, true, false, Option, Some, None, option_map, codes}
-use Rattle.std.specs.Str.Parse.{digits_value, without_leading_plus}
+use Rattle.std.specs.Str.Parse.{IsNumeral, digits_value}
 use Rattle.clap.specs.Walk.{Row, Text, first_of, one_of}
 use Rattle.std.specs.Prelude.{List}
 use Rattle.rvm_arguments.specs.declared.arguments.Arguments.{Arguments}
@@ -10,12 +10,12 @@ use Rattle.rvm_arguments.specs.declared.arguments.MoveArguments.{MoveArguments}
 use Rattle.rvm_arguments.specs.declared.arguments.RunArguments.{RunArguments}
 use Rattle.rvm_arguments.specs.declared.arguments.ScriptArguments.{ScriptArguments}
 
--- a text was given, and it writes this number in decimal
+-- a text was given, and it writes this number in decimal digits alone
 abbrev pub IsNumber : Option Text → ℕ → Type 0
 IsNumber None n = ⊥
-IsNumber (Some text) n = digits_value 10 (without_leading_plus text) ≡ n
+IsNumber (Some text) n = IsNumeral 10 text × (digits_value 10 text ≡ n)
 
--- there is a number just where a text was given, which writes it in decimal
+-- there is a number just where a text was given, which writes it so
 abbrev pub IsOptionalNumber : Option Text → Option ℕ → Type 0
 IsOptionalNumber None n = n ≡ None
 IsOptionalNumber (Some text) None = ⊥

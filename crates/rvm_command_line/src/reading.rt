@@ -235,11 +235,18 @@ fn number(command: &ArgMatches, option: &str, least: u32, most: u32) -> Option<u
     ensures within { IfSome result (λ n. (least ≤ n) × (n ≤ most)) }
     ensures given { IfSome result (IsNumber (first_of option.now (rows_of (found_of command.now)))) }
 {
-    let text = text(command, option)?;
-    if text.starts_with('+') {
-        return None;
+    within(unsigned(text(command, option)?)?, least, most)
+}
+
+/// The number that a text writes in decimal digits alone.
+#[tactic(auto, using(crate::proofs::Numbers::unsigned))]
+fn unsigned(text: &str) -> Option<u32>
+    ensures { IfSome result (IsNumber (Some text.now)) }
+{
+    match text.as_bytes() {
+        [b'+', ..] => None,
+        _ => text.parse().ok(),
     }
-    within(text.parse::<u32>().ok()?, least, most)
 }
 
 /// A number that is within limits.

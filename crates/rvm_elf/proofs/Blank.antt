@@ -1,7 +1,7 @@
 -- A write into a board where no hart has a reservation and each page is in the dirty log changes RAM alone.
 use Rattle.std.proofs.Common.{◌≡◌, ℕ, zero, suc, ◌+◌, ◌-◌, List, [], ◌∷◌, true, Option, None, length, map, set, replicate, refl, sym, ap, ◌∙◌}
 use Rattle.rvm_mem.specs.Bytes.{replaced}
-use Rattle.rvm_mem.specs.Pages.{byte_pages, mark, mark_all}
+use Rattle.rvm_mem.specs.Pages.{byte_pages, mark_all}
 use Rattle.rvm_res.specs.Reservations.{poked, without}
 use Rattle.rvm_hart.specs.Bus.{ram_base}
 use Rattle.rvm_hart.specs.Pokes.{poked_each}

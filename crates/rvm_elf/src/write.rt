@@ -8,11 +8,8 @@ ghost use Rattle.rvm_elf.specs.Spelling.{all_bytes, is_small, are_small, in_reac
 use crate::error::WriteError;
 use crate::layout::{EM_RISCV, ET_EXEC, HEADER_SIZE, MAX_HEADERS, PROGRAM_HEADER_SIZE, PT_LOAD};
 use rvm_codec::{append_bytes, append_u16s, append_u32s};
-use rvm_image::{Image, Segment};
+use rvm_image::{Image, MAX_BYTES, Segment};
 use std::alloc::Global;
-
-/// The most bytes that all segments may have.
-const MAX_BYTES: usize = 1 << 24;
 
 /// The magic bytes, 32-bit, little-endian, version 1.
 const IDENT: [u8; 16] = [0x7F, b'E', b'L', b'F', 1, 1, 1, 0, 0, 0, 0, 0, 0, 0, 0, 0];

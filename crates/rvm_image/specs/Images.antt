@@ -1,5 +1,5 @@
 -- The bytes of an image: which byte stands at an address.
-use Rattle.std.specs.Prelude.{◌≡◌, ℕ, ◌+◌, ◌-◌, ◌<◌, ◌≤◌, List, [], ◌∷◌, Option, Some, None, length, get_or, map, nat_le, nat_lt, ◌&&◌, if◌then◌else◌}
+use Rattle.std.specs.Prelude.{ℕ, ◌+◌, ◌-◌, ◌<◌, List, [], ◌∷◌, Option, Some, None, length, get_or, map, nat_le, nat_lt, ◌&&◌, if◌then◌else◌}
 use Rattle.rvm_image.specs.declared.image.Segment.{Segment}
 
 -- bytes from an address on, and how many zeros stand behind them

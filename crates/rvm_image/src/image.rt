@@ -1,5 +1,8 @@
 //! Where a program begins, and its bytes.
 
+/// The most bytes that a program has, the zeros behind its segments not counted.
+pub const MAX_BYTES: usize = 1 << 24;
+
 /// Bytes from an address on, and zeros behind them.
 #[derive(Drop)]
 pub struct Segment {

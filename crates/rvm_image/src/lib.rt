@@ -4,4 +4,4 @@
 
 mod image;
 
-pub use image::{Image, Segment};
+pub use image::{Image, MAX_BYTES, Segment};

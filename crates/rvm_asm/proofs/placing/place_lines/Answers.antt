@@ -1,4 +1,4 @@
-use Rattle.std.proofs.Common.{◌≡◌, ap, arith, get_or, refl, length, subst}
+use Rattle.std.proofs.Common.{◌≡◌, ◌≤◌, ◌^◌, ap, arith, get_or, refl, length, subst}
 use Rattle.rvm_asm.specs.Assembly.{IsImageTo}
 use Rattle.rvm_asm.specs.Refusals.{count_to}
 use Rattle.rvm_line.specs.Views.{names_of}
@@ -45,3 +45,8 @@ pub returns-clause-placed : goal.returns-clause-placed
 returns-clause-placed c =
     let e : c.loop-index.index ≡ length (lines_of (texts_of c.args.texts.now)) = omega (arith, lines_count c.args.texts.now) in
     subst (λ n. IsImageTo (lines_of (texts_of c.args.texts.now)) n (names_of c.args.symbols.now) c.args.places.now (placed_pieces c.loop-index.placed)) e c.loop-index.invariant.placed
+
+pub returns-clause-few : goal.returns-clause-few
+returns-clause-few c =
+    let e : c.loop-index.index ≡ length (lines_of (texts_of c.args.texts.now)) = omega (arith, lines_count c.args.texts.now) in
+    subst (λ n. count_to (lines_of (texts_of c.args.texts.now)) (names_of c.args.symbols.now) c.args.places.now n ≤ 2 ^ 24) e (omega (arith, c.loop-index.invariant.counted))
