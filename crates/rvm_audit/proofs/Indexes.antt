@@ -11,7 +11,8 @@ use Rattle.std.specs.Cmp.Lexicographic.{slice_cmp}
 use Rattle.std.specs.Map.{lookup}
 use Rattle.std.specs.Ordering.{nat_cmp}
 use Rattle.rvm_audit.specs.declared.merge.Merge.{Merge}
-use Rattle.rvm_audit.specs.Merging.{IsIndex, Places, counted, noted, places_at, places_of}
+use Rattle.rvm_audit.specs.Merging.{Places, counted, noted, places_at, places_of}
+use Rattle.rvm_audit.proofs.Merged.{IsIndex}
 use Rattle.rvm_audit.specs.Pairs.{Made, made_more, other}
 use Rattle.rvm_audit.proofs.Gets.{get_end, get_front, get_last, get_nothing}
 

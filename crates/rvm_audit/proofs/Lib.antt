@@ -1,3 +1,4 @@
+pub mod Merged
 pub mod Spellings
 pub mod Gets
 pub mod Indexes

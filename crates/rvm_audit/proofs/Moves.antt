@@ -9,7 +9,7 @@ use Rattle.rvm_message.specs.Answers.{BoardMode, BoardOutcome}
 use Rattle.rvm_message.specs.Events.{BoardHostEvent}
 use Rattle.rvm_message.specs.Frames.{BoardFrame}
 use Rattle.rvm_protocol.specs.Commands.{Policy, Command, Board, Begin, Copy, Resend, AbortMove, Do, Came, is_allowed}
-use Rattle.rvm_protocol.specs.Frames.{Frame, Offer, Accept, Refuse, Page, RoundEnd, Lost, State, Part, Ready, Go, Started, Abort, is_compact, made_as, plain, posted}
+use Rattle.rvm_protocol.specs.Frames.{Offer, Accept, Refuse, Page, RoundEnd, Lost, State, Part, Ready, Go, Started, Abort, is_compact, made_as, plain, posted}
 use Rattle.rvm_protocol.specs.Frames as protocol
 use Rattle.rvm_protocol.specs.Host as law
 use Rattle.rvm_protocol.specs.Host.{addressee, host_step, outcome, is_heard, is_offer_above, is_there, obey_at, partner_then}

@@ -15,9 +15,10 @@ use Rattle.rvm_world.specs.declared.event.Event.TheVariants.{At, Deliver}
 use Rattle.rvm_audit.specs.declared.side.Side.{Side}
 use Rattle.rvm_audit.specs.declared.side.Side.TheVariants.{First, Second}
 use Rattle.rvm_audit.specs.declared.merge.Merge.{Merge}
-use Rattle.rvm_audit.specs.Merging.{Becomes, IsIndex, IsTaken, IsUnmade, IsWaiting, Merged, Places, counted, first_places, noted, second_places}
+use Rattle.rvm_audit.specs.Merging.{Becomes, IsTaken, IsUnmade, IsWaiting, Places, counted, first_places, noted, second_places}
 use Rattle.rvm_audit.specs.Orders.{IsMerge}
 use Rattle.rvm_audit.specs.Pairs.{AllLowest, AllTurns, CannotStand, HasBytes, IsEvent, IsLowestAt, IsRun, IsTurn, Makes, Pair, after, after_all, entries_at, host_at, made_more, number_of, opened, opening_at, other, outcome_in, put}
+use Rattle.rvm_audit.proofs.Merged.{IsIndex, Merged}
 use Rattle.rvm_audit.proofs.Gets.{drop_end, drop_get, take_get}
 use Rattle.rvm_audit.proofs.Indexes.{index_rest, index_own, more_length}
 

@@ -1,5 +1,5 @@
 -- Where a merge has come.
-use Rattle.std.specs.Prelude.{◌≡◌, ◌⊎◌, ℕ, ◌+◌, ◌<◌, ◌≤◌, List, [], ◌∷◌, ◌++◌, take, drop, length, Option, Some, None, slice_get, is_some, if◌then◌else◌}
+use Rattle.std.specs.Prelude.{◌≡◌, ◌⊎◌, ℕ, ◌+◌, ◌≤◌, List, [], ◌∷◌, ◌++◌, length, Option, Some, None, slice_get, is_some, if◌then◌else◌}
 use Rattle.std.specs.BTreeMap.{BTreeMap, get_by}
 use Rattle.std.specs.Borrow.{Bor}
 use Rattle.rvm_frame.specs.declared.frame.Frame.{Frame}
@@ -7,7 +7,6 @@ use Rattle.std.specs.Cmp.Lexicographic.{slice_cmp}
 use Rattle.std.specs.Ordering.{nat_cmp}
 use Rattle.std.specs.Str.{bytes_eq}
 use Rattle.rvm_journal.specs.Entries.{PlainEntry}
-use Rattle.rvm_journal.specs.History.{History}
 use Rattle.rvm_message.specs.declared.event.HostEvent.{HostEvent}
 use Rattle.rvm_message.specs.declared.event.HostEvent.TheVariants.{Do, Came}
 use Rattle.rvm_world.specs.declared.event.Event.{Event}
@@ -15,7 +14,7 @@ use Rattle.rvm_world.specs.declared.event.Event.TheVariants.{At, Deliver}
 use Rattle.rvm_audit.specs.declared.side.Side.{Side}
 use Rattle.rvm_audit.specs.declared.side.Side.TheVariants.{First, Second}
 use Rattle.rvm_audit.specs.declared.merge.Merge.{Merge}
-use Rattle.rvm_audit.specs.Pairs.{AllLowest, AllTurns, HasBytes, IsRun, Made, after_all, entries_at, number_of, opened, other}
+use Rattle.rvm_audit.specs.Pairs.{HasBytes, number_of, other}
 
 -- the places of bytes
 abbrev pub Places : Type 0
@@ -66,28 +65,6 @@ IsWaiting version x entries k places =
 abbrev pub IsNext : (version : ℕ) → Side → List PlainEntry → ℕ → Places → Event → Type 0
 IsNext version x entries k places e =
     (n : PlainEntry) × (slice_get entries k ≡ Some n) × Becomes version x n.event places e
-
--- the places are the lowest ones of all frames that a host made
-pub record IsIndex (x : Side) (made : List Made) (places : Places) : Type 0 where
-  pub found : (bytes : List ℕ) (k : ℕ) → places bytes ≡ Some k → slice_get made k ≡ Some (x, bytes)
-  pub lowest : (bytes : List ℕ) (k j : ℕ) → places bytes ≡ Some k → j < k → slice_get made j ≡ Some (x, bytes) → ⊥
-  pub all : (bytes : List ℕ) (j : ℕ) → places bytes ≡ None → slice_get made j ≡ Some (x, bytes) → ⊥
-
--- these events are an order of the first i and j entries, and these the places of their frames
-pub record Merged (a b : History) (i j : ℕ) (events : List Event) (first second : Places) (count : ℕ)
-    : Type 0 where
-  pub i_le : i ≤ length a.entries
-  pub j_le : j ≤ length b.entries
-  pub steps : List (Side × PlainEntry)
-  pub run : IsRun a.opening b.opening (opened a.opening b.opening) events steps
-  pub lowest : AllLowest a.opening b.opening (opened a.opening b.opening) events steps
-  pub turns : AllTurns a.opening b.opening (opened a.opening b.opening) steps (drop i a.entries)
-  pub at_first : entries_at First steps ≡ take i a.entries
-  pub at_second : entries_at Second steps ≡ take j b.entries
-  pub first_index : IsIndex First (after_all a.opening b.opening (opened a.opening b.opening) steps).made first
-  pub second_index : IsIndex Second (after_all a.opening b.opening (opened a.opening b.opening) steps).made second
-  pub count_is : length (after_all a.opening b.opening (opened a.opening b.opening) steps).made ≡ count
-  pub few : count ≤ i + j
 
 -- a frame, if one was made, has a place: among those of its host, `mine`; the other host's stay
 pub record IsNoted (old new : Merge) (frame : Option (List ℕ)) (mine yours : Merge → Places)

@@ -10,8 +10,25 @@ use Rattle.rvm_message.specs.declared.event.HostEvent.TheVariants.{Do}
 use Rattle.rvm_message.specs.declared.reply.HostReply.TheVariants.{Noted}
 use Rattle.rvm_journal.specs.Entries.{PlainEntry}
 use Rattle.rvm_cell.specs.Receipts.{PlainReceipt}
-use Rattle.rvm_cell.specs.Checking.{IsByPlace, Stands, Checked}
+use Rattle.rvm_cell.specs.Checking.{IsByPlace, Stands}
 use Rattle.rvm_cell.specs.Close.{IsRightAt, IsPast, IsFirstFault, IsJournal}
+
+-- the receipts below p are right
+pub record Checked (entries : List PlainEntry) (receipts : List PlainReceipt) (lasts : BTreeMap ℕ ℕ) (p : ℕ)
+    : Type 0 where
+  pub len : p ≤ length receipts
+  pub place : (k : ℕ) (r : PlainReceipt) → k < p → slice_get receipts k ≡ Some r → r.place ≡ k
+  pub event : (k : ℕ) (r : PlainReceipt) (e : PlainEntry) → k < p → slice_get receipts k ≡ Some r
+      → slice_get entries k ≡ Some e → r.event ≡ e.event
+  pub reply : (k : ℕ) (r : PlainReceipt) (e : PlainEntry) → k < p → slice_get receipts k ≡ Some r
+      → slice_get entries k ≡ Some e → r.reply ≡ e.reply
+  pub rises : (j k : ℕ) (s r : PlainReceipt) → j < k → k < p → slice_get receipts j ≡ Some s
+      → slice_get receipts k ≡ Some r → s.seat ≡ r.seat → s.count < r.count
+  pub covers : (k : ℕ) (r : PlainReceipt) → k < p → slice_get receipts k ≡ Some r
+      → (c : ℕ) × (get nat_cmp lasts r.seat ≡ Some c) × (r.count ≤ c)
+  pub from : (seat c : ℕ) → get nat_cmp lasts seat ≡ Some c
+      → (k : ℕ) × (r : PlainReceipt) × (k < p) × (slice_get receipts k ≡ Some r) × (r.seat ≡ seat) × (r.count ≡ c)
+  pub apart : (k : ℕ) (r : PlainReceipt) → p ≤ k → slice_get receipts k ≡ Some r → p ≤ r.place
 
 -- below i, at i, or above it
 cases_at : (i k : ℕ) → ((k < i) ⊎ (k ≡ i)) ⊎ (i < k)

@@ -1,6 +1,6 @@
 //! The end of a shared host: its journal is compared with the receipts.
 
-ghost use Rattle.std.specs.Prelude.{◌≡◌, ◌++◌, ◌∷◌, [], ◌+◌, ◌<◌, ◌≤◌, ℕ, length, vec_len, IfOk, OnOk, OnErr, IfErr, IfNone, IfSome, IsTrue, Some, None, slice_get, sum_by, List, IsPermutation, false, true};
+ghost use Rattle.std.specs.Prelude.{◌≡◌, ◌+◌, ◌<◌, ℕ, length, vec_len, IfOk, OnOk, IfErr, IfNone, IfSome, IsTrue, Some, None, sum_by, IsPermutation, false, true};
 ghost use Rattle.std.specs.Prelude.{◌≢◌};
 ghost use Rattle.std.specs.BTreeMap.{get};
 ghost use Rattle.std.specs.Ordering.{nat_cmp};

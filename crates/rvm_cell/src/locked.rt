@@ -1,6 +1,6 @@
 //! What lies under the lock of a shared host.
 
-ghost use Rattle.std.specs.Prelude.{◌≡◌, ◌+◌, ◌<◌, ◌≤◌, ◌^◌, ℕ, [], length, IfOk, IfErr, OnOk, OnErr, vec_capacity};
+ghost use Rattle.std.specs.Prelude.{◌≡◌, ◌+◌, ◌<◌, ◌≤◌, ◌^◌, [], length, IfOk, IfErr, OnOk, OnErr, vec_capacity};
 ghost use Rattle.rvm_cell.specs.Calls.{AreReceipts, IsCalled, IsReceipt, IsSliceCalled, replies_of};
 ghost use Rattle.rvm_cell.specs.Seats.{seat_of};
 ghost use Rattle.rvm_journal.specs.Errors.{IsRecordError, IsSliceError};

@@ -1,6 +1,6 @@
 //! Events of a world, as lines of a script that make them.
 
-ghost use Rattle.std.specs.Prelude.{◌≡◌, OnOk};
+ghost use Rattle.std.specs.Prelude.{OnOk};
 ghost use Rattle.std.specs.Io.KnownBytes.{Appends};
 ghost use Rattle.rvm_event_line.specs.EventLines.{asked_line, command_line, event_line, event_lines};
 

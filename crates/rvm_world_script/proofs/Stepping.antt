@@ -15,7 +15,7 @@ use Rattle.rvm_message.specs.Replies.{ends_steps}
 use Rattle.rvm_script.specs.declared.line.Line.{Line}
 use Rattle.rvm_script.specs.declared.line.Line.TheVariants as line
 use Rattle.rvm_world_line.specs.Replies.{guest_text, steps_text}
-use Rattle.rvm_world_script.specs.Runs.{IsInput, IsStepped, standing}
+use Rattle.rvm_world_script.specs.Runs.{IsInput, standing}
 use Rattle.rvm_world_script.specs.WorldScript.{Replied, Standing, Stepping, after, guest_done, inputs, is_taken, reply_in, stepping}
 
 -- the world, the number and the last reply are those of the world's steps
@@ -41,6 +41,12 @@ steps_alike x h (suc left) made last s =
     (steps.stepping x h left (made + 1) (reply_in s ev) now.world)
     (record { world = refl; count = refl; reply = refl })
     (steps_alike x h left (made + 1) (reply_in s ev) now)
+
+-- what steps leave, how many there were and the reply to the last
+pub record IsStepped (s : Stepping) (new : BoardWorld) (count : ℕ) (last : Reply BoardReply) : Type 0 where
+  pub world : new ≡ s.standing.world
+  pub made : count ≡ s.count
+  pub reply : last ≡ s.reply
 
 -- what steps leave, how many there were and the reply to the last, are those of a script
 pub steps_are : (x h n : ℕ) (w new : BoardWorld) (count : ℕ) (last : Reply BoardReply) (t : Told Guest)

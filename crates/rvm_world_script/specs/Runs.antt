@@ -24,7 +24,7 @@ use Rattle.rvm_world_script.specs.declared.lines.LineFault.{LineFault}
 use Rattle.rvm_world_script.specs.declared.lines.LineFault.TheVariants as fault
 use Rattle.rvm_world_script.specs.declared.script.WorldScriptError.{WorldScriptError}
 use Rattle.rvm_world_script.specs.declared.script.WorldScriptError.TheVariants.{OutOfMemory, LineOutOfMemory, TooLong, BadToken, LinkFault}
-use Rattle.rvm_world_script.specs.WorldScript.{Replied, Standing, Stepping, after_all, done_by, world_script_of}
+use Rattle.rvm_world_script.specs.WorldScript.{Replied, Standing, after_all, done_by, world_script_of}
 
 -- some whole events of a move that is driven were made
 pub record IsBegun (s : Standing) (new : BoardWorld) : Type 0 where
@@ -125,12 +125,6 @@ abbrev pub driven_text : Driven → List ℕ
 driven_text (driven.Moved n events) = codes "moved " ++ decimal n ++ codes " events " ++ decimal events ++ codes "\n"
 driven_text (driven.Declined limit) = codes "declined " ++ decimal limit ++ codes "\n"
 driven_text (driven.Refused why) = move_text (Refused (refusal_of why)) None
-
--- what steps leave, how many there were and the reply to the last
-pub record IsStepped (s : Stepping) (new : BoardWorld) (count : ℕ) (last : Reply BoardReply) : Type 0 where
-  pub world : new ≡ s.standing.world
-  pub made : count ≡ s.count
-  pub reply : last ≡ s.reply
 
 -- what bytes leave that came, and the text of the reply to the last
 pub record IsInput (r : Replied) (new : BoardWorld) (last : Reply BoardReply) : Type 0 where

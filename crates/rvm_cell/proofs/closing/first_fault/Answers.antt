@@ -4,7 +4,7 @@ use Rattle.std.specs.BTreeMap.{get}
 use Rattle.std.specs.Ordering.{nat_cmp}
 use Rattle.rvm_cell.specs.Receipts.{PlainReceipt}
 use Rattle.rvm_cell.specs.Close.{IsRightAt}
-use Rattle.rvm_cell.specs.Checking.{Checked}
+use Rattle.rvm_cell.proofs.Checks.{Checked}
 use Rattle.rvm_cell.proofs.Checks.{one_more, all_below, right_stands, right_within, left_over, all_checked}
 use Rattle.rvm_cell.proofs.closing.first_fault.Goals as goal
 use Rattle.rvm_cell.proofs.closing.first_fault.Goals.{then-p-receipts-via-then-p-receipts, then-p-receipts-via-else-p-receipts+then-not-stands}

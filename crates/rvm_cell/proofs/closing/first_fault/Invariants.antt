@@ -1,4 +1,4 @@
-use Rattle.rvm_cell.specs.Checking.{Checked}
+use Rattle.rvm_cell.proofs.Checks.{Checked}
 use Rattle.rvm_cell.proofs.closing.first_fault.Given as goal
 
 abbrev pub invariant-loop-p : goal.invariant-loop-p
