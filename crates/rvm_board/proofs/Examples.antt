@@ -1,15 +1,14 @@
 -- The step computed on small boards, against values worked out by hand from the manuals.
-use Rattle.std.proofs.Common.{◌≡◌, ℕ, List, [], ◌∷◌, ◌++◌, true, false, Some, None, get_or, set, refl}
+use Rattle.std.proofs.Common.{◌≡◌, ℕ, List, [], ◌∷◌, true, false, set, refl}
 use Rattle.std.specs.Prelude.{slice_index, flat_map, replicate}
 use Rattle.rvm_mem.specs.Endian.{little_bytes}
-use Rattle.rvm_csr.specs.declared.cause.Exception.TheVariants.{IllegalInstruction, InstructionAccessFault, InstructionAddressMisaligned, StoreAddressMisaligned, EnvironmentCall}
+use Rattle.rvm_csr.specs.declared.cause.Exception.TheVariants.{IllegalInstruction, InstructionAccessFault, EnvironmentCall}
 use Rattle.rvm_csr.specs.declared.cause.Interrupt.TheVariants.{Timer}
 use Rattle.rvm_csr.specs.Registers.{mstatus_of}
 use Rattle.rvm_csr.specs.Table as csr
 use Rattle.rvm_dev.specs.Map.{register_at}
 use Rattle.rvm_isa.specs.Table as isa
 use Rattle.rvm_word.specs.Word.{signed_value}
-use Rattle.rvm_hart.specs.Machine.{HartState}
 use Rattle.rvm_hart.specs.Rows.{effect}
 use Rattle.rvm_hart.specs.declared.outcome.Stepped.{Stepped}
 use Rattle.rvm_hart.specs.declared.outcome.Stepped.TheVariants.{Retired, Trapped, Interrupted, Halted}

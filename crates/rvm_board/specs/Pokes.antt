@@ -1,5 +1,5 @@
 -- Writes from outside, as a debugger makes them.
-use Rattle.std.specs.Prelude.{ℕ, Bool, ◌&&◌, nat_lt, nat_le, List, length, slice_set}
+use Rattle.std.specs.Prelude.{ℕ, Bool, ◌&&◌, nat_lt, nat_le, List, slice_set}
 use Rattle.rvm_hart.specs.Bus.{in_ram}
 use Rattle.rvm_hart.specs.Machine.{BusState}
 use Rattle.rvm_hart.specs.Pokes as hart

@@ -24,7 +24,7 @@ use std::marker::Model;
 pub const VIEW_SIZE: usize = 256;
 
 /// The most harts that a board has.
-pub const MAX_HARTS: u32 = 8;
+pub const MAX_HARTS: u32 = rvm_res::MAX_HARTS as u32;
 
 /// Harts, RAM and devices.
 #[derive(Drop)]

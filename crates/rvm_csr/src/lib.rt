@@ -4,8 +4,7 @@
 //! Stands on `rvm_word`, and knows nothing of instructions, memory or devices: which interrupts are
 //! pending at the hart is told to it as an `Interrupts`.
 //!
-//! To be read in this order: `interrupts`, `cause`, `register`, `fields`,
-//! `file`.
+//! To be read in this order: `interrupts`, `cause`, `register`, `counters`, `fields`, `file`.
 #![tactic(auto)]
 
 pub mod cause;

@@ -1,5 +1,5 @@
 -- The words of as many harts as there are, out of those of 8.
-use Rattle.std.proofs.Common.{◌≡◌, ℕ, zero, suc, ◌-◌, ◌^◌, ◌≤◌, Bool, false, List, [], ◌∷◌, take, set, replicate, refl, ap, length-take}
+use Rattle.std.proofs.Common.{◌≡◌, ℕ, zero, suc, ◌-◌, ◌^◌, ◌≤◌, false, List, [], ◌∷◌, take, set, replicate, refl, ap, length-take}
 use Rattle.std.proofs.lemmas.List.{take-replicate}
 
 -- a write of one word

@@ -15,10 +15,11 @@ pub const MTIMECMP: u32 = 0x0200_4000;
 /// The time, its low half first.
 pub const MTIME: u32 = 0x0200_BFF8;
 
+/// Its high half.
+pub const MTIME_HIGH: u32 = MTIME + 4;
+
 /// The console's words: transmit, receive, status and interrupt enable.
 pub const CONSOLE: u32 = 0x1000_0000;
-
-const MTIME_HIGH: u32 = MTIME + 4;
 
 const RECEIVE: u32 = CONSOLE + 4;
 

@@ -1,6 +1,6 @@
 //! How the body of each kind of frame is laid out.
 
-ghost use Rattle.std.specs.Prelude.{◌≡◌, ◌++◌, true, length};
+ghost use Rattle.std.specs.Prelude.{◌≡◌, ◌++◌, true};
 ghost use Rattle.rvm_frame.specs.Grammar.{body_fits, body_of};
 ghost use Rattle.rvm_frame.specs.Layout.{joined};
 

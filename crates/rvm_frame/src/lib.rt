@@ -25,7 +25,7 @@ mod unfinished;
 mod write;
 
 pub use addressed::{Addressed, Received};
-pub use body::{state_body, state_parts};
+pub use body::{is_piece, state_body, state_parts};
 pub use fault::{FrameFault, ReadFault};
 pub use frame::Frame;
 pub use items::{Bytes, CopyNumbers, Items, PageNumbers};

@@ -1,6 +1,6 @@
 //! What bytes are, where a frame begins, and reading one whole frame.
 
-ghost use Rattle.std.specs.Prelude.{◌≡◌, true, Option, Some, IfOk, option_map};
+ghost use Rattle.std.specs.Prelude.{◌≡◌, Option, Some, IfOk, option_map};
 ghost use Rattle.rvm_frame.specs.Grammar.{Received, Spells};
 ghost use Rattle.rvm_frame.specs.Faults.{Finds, Gives};
 ghost use Rattle.rvm_frame.specs.Verdict.{after_header, header_at, hosts_at, numbers_at, one_frame_of, verdict};

@@ -1,6 +1,6 @@
 //! A reader of a stream that comes in pieces.
 
-ghost use Rattle.std.specs.Prelude.{◌≡◌, ◌+◌, ◌≤◌, ◌++◌, Ok, Some, None, false, true, length, take, drop, IfOk, IfErr, IfSome, OnErr};
+ghost use Rattle.std.specs.Prelude.{◌≡◌, ◌+◌, ◌++◌, Ok, Some, None, false, true, take, IfOk, IfErr, IfSome, OnErr};
 ghost use Rattle.rvm_frame.specs.Grammar.{Spells};
 ghost use Rattle.rvm_frame.specs.Kinds.{version_after};
 ghost use Rattle.rvm_frame.specs.Reader.{Faults, Refuses, at_start, faulted_of, next_of};

@@ -2,7 +2,7 @@
 //! an array, a Page's bytes where the page will have them, any other body in a vector with room for
 //! all of it. The memory for either is asked for with the header's last byte; a Page asks for no more.
 
-ghost use Rattle.std.specs.Prelude.{◌≡◌, ◌+◌, ◌<◌, ◌≤◌, ◌++◌, ◌∷◌, [], Option, ℕ, length, min, take, true, Some, Ok, None, IfOk, IfErr, OnErr, is_some, option_map, vec_len, vec_capacity};
+ghost use Rattle.std.specs.Prelude.{◌≡◌, ◌+◌, ◌<◌, ◌≤◌, ◌++◌, [], Option, length, min, take, true, Some, Ok, None, IfOk, IfErr, OnErr, is_some, option_map, vec_capacity};
 ghost use Rattle.rvm_frame.specs.Kinds.{header_len, names_hosts};
 ghost use Rattle.rvm_frame.specs.Reader.{Refuses};
 ghost use Rattle.rvm_frame.specs.Verdict.{verdict, wanted};
@@ -13,6 +13,7 @@ use crate::body::{is_body, read_body};
 use crate::fault::ReadFault;
 use crate::frame::Frame;
 use crate::kind::{Kind, header_len, names_hosts};
+use crate::page::PAGE_SIZE;
 use crate::part::PagePart;
 use crate::read::{header_of, judge};
 use arrayvec::ArrayVec;
@@ -44,7 +45,7 @@ pub struct Unfinished {
 }
 
 impl Model for Unfinished {
-    ghost use Rattle.std.specs.Prelude.{List, ℕ, ◌++◌};
+    ghost use Rattle.std.specs.Prelude.{◌++◌};
     ghost use Rattle.rvm_frame.specs.Kinds.{names_hosts};
     ghost use Rattle.rvm_frame.specs.Unfinished.{Beginning, Kept, stored};
 
@@ -101,7 +102,7 @@ fn take_page(part: &mut PagePart, piece: &[u8]) -> usize
     ensures count { result ≤ length piece.now }
     ensures fits { length part.old + result ≤ 4096 }
 {
-    let count = lesser(4096 - part.len(), piece.len());
+    let count = lesser(PAGE_SIZE - part.len(), piece.len());
     part.fill(&piece[..count]);
     count
 }
@@ -298,7 +299,7 @@ fn page_step(
     }
     let before = part.len();
     let count = take_page(&mut part, piece);
-    if part.len() < 4096 {
+    if part.len() < PAGE_SIZE {
         *store = Store::Page(part);
         return Ok((count, None));
     }

@@ -1,5 +1,5 @@
 -- A step leaves each page as it was that it does not list.
-use Rattle.std.proofs.Common.{◌≡◌, ℕ, ◌+◌, ◌-◌, ◌%◌, ◌^◌, ◌≤◌, Bool, true, false, List, [], Option, Some, None, length, refl, ap, ◌∙◌, arith, ℤ, if◌then◌else◌, option_map, ◌==◌}
+use Rattle.std.proofs.Common.{◌≡◌, ℕ, ◌+◌, ◌-◌, ◌%◌, ◌^◌, ◌≤◌, Bool, true, false, List, [], Option, Some, None, length, refl, ap, arith, ℤ, if◌then◌else◌, option_map, ◌==◌}
 use Rattle.std.proofs.lemmas.Bool.{eqb-true}
 use Rattle.std.proofs.lemmas.Bool.Decides.{nat_tests}
 use Rattle.rvm_mem.specs.Others.{Others}

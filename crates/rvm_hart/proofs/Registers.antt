@@ -14,8 +14,6 @@ use Rattle.rvm_hart.specs.declared.atomics.Amo.{Amo}
 use Rattle.rvm_hart.specs.declared.arithmetic.Operation.{Operation}
 use Rattle.rvm_hart.specs.declared.arithmetic.Operation.TheVariants as op
 use Rattle.rvm_hart.specs.declared.csrs.CsrChange.{CsrChange}
-use Rattle.rvm_hart.specs.declared.outcome.Written.{Written}
-use Rattle.rvm_hart.specs.declared.outcome.Written.TheVariants as wrote
 use Rattle.rvm_hart.specs.Machine.{Machine, number_of}
 use Rattle.rvm_hart.specs.Registers.{AreRegisters}
 use Rattle.rvm_hart.specs.Bus.{in_ram, ram_load, ram_stored, word_stored, word_loaded, after_word_load, Stored, mip_of}

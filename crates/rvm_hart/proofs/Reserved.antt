@@ -1,6 +1,5 @@
 -- Each reservation stays one of an aligned word of RAM.
-use Rattle.std.proofs.Common.{◌≡◌, ℕ, zero, suc, ◌+◌, ◌≤◌, ◌<◌, ◌++◌, take, drop, length-append, length-take, Bool, true, false, ◌&&◌, List, [], ◌∷◌, Option, None, Some, length, map, set, get_or, replicate, refl, sym, ap, subst, ◌∙◌, arith, cond, eqb}
-use Rattle.std.specs.List.{list_all}
+use Rattle.std.proofs.Common.{◌≡◌, ℕ, zero, suc, ◌+◌, ◌≤◌, ◌++◌, take, drop, length-append, length-take, Bool, true, false, ◌&&◌, List, [], ◌∷◌, Option, None, Some, length, map, set, get_or, replicate, refl, sym, subst, arith, cond, eqb}
 use Rattle.std.proofs.lemmas.List.{length-drop}
 use Rattle.std.proofs.lemmas.Bool.Decides.{nat_tests}
 use Rattle.rvm_mem.specs.Bytes.{replaced, store}

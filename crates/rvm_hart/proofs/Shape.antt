@@ -1,16 +1,15 @@
 -- No step changes the hart's number, the size of RAM, or for how many harts reservations and devices are.
-use Rattle.std.proofs.Common.{◌≡◌, ℕ, zero, suc, ◌+◌, ◌-◌, ◌%◌, ◌^◌, ◌≤◌, Bool, true, false, List, [], ◌∷◌, Option, Some, None, length, map, refl, sym, ap, ◌∙◌, arith, ℤ, if◌then◌else◌, option_map, not, ◌==◌, nat_lt, int_lt}
+use Rattle.std.proofs.Common.{◌≡◌, ℕ, zero, suc, ◌+◌, ◌-◌, ◌%◌, ◌^◌, ◌≤◌, Bool, true, false, List, [], ◌∷◌, Option, Some, None, length, map, refl, ap, ◌∙◌, arith, ℤ, if◌then◌else◌, option_map, ◌==◌}
 use Rattle.std.proofs.lemmas.Bool.Decides.{nat_tests}
 use Rattle.std.proofs.lemmas.List.{length-set, length-map}
 use Rattle.rvm_mem.specs.Bytes.{store}
 use Rattle.rvm_mem.proofs.Lengths.{length-store}
 use Rattle.rvm_csr.specs.declared.register.Csr.{Csr}
 use Rattle.rvm_csr.specs.declared.register.Csr.TheVariants.{Mstatus, Misa, Mie, Mtvec, Mstatush, Mcountinhibit, Mhpmevent, Mscratch, Mepc, Mcause, Mtval, Mip, Mcycle, Minstret, Mhpmcounter, Mcycleh, Minstreth, Mhpmcounterh, Mvendorid, Marchid, Mimpid, Mhartid, Mconfigptr}
-use Rattle.rvm_csr.specs.declared.interrupts.Interrupts.{Interrupts}
 use Rattle.rvm_csr.specs.declared.cause.Exception.{Exception}
 use Rattle.rvm_csr.specs.declared.cause.Interrupt.{Interrupt}
 use Rattle.rvm_csr.specs.Registers.{CsrState}
-use Rattle.rvm_csr.specs.Table.{csr_at, csr_read, csr_write, written, is_read_only}
+use Rattle.rvm_csr.specs.Table.{csr_at, csr_write, written, is_read_only}
 use Rattle.rvm_csr.specs.Traps.{pending}
 use Rattle.rvm_dev.specs.declared.register.Register.{Register}
 use Rattle.rvm_dev.specs.declared.register.Register.TheVariants.{Halt, Msip, MtimecmpLow, MtimecmpHigh, MtimeLow, MtimeHigh, Transmit, Receive, Status, InterruptEnable}
@@ -29,7 +28,6 @@ use Rattle.rvm_hart.specs.Outcome.{Outcome, Done, Traps, machine_after, done_wit
 use Rattle.rvm_hart.specs.Pokes.{poked_each}
 use Rattle.rvm_hart.specs.Kinds as kind
 use Rattle.rvm_hart.specs.Rows.{effect, sign_extended_byte, sign_extended_half, zero_extended}
-use Rattle.rvm_word.specs.Word.{signed}
 use Rattle.rvm_word.specs.Bits.{is_set}
 use Rattle.rvm_hart.specs.declared.atomics.Amo.TheVariants as amo
 use Rattle.rvm_hart.specs.declared.csrs.CsrChange.TheVariants as change

@@ -1,5 +1,5 @@
 -- A hart is the one of its number that keeps its values.
-use Rattle.std.proofs.Common.{◌≡◌, ℕ, ◌<◌, List, [], ◌∷◌, length, take, drop, get_or, refl, sym, ap, ◌∙◌, arith}
+use Rattle.std.proofs.Common.{◌≡◌, ℕ, ◌<◌, List, [], ◌∷◌, length, take, drop, get_or, sym, ap, ◌∙◌, arith}
 use Rattle.std.proofs.lemmas.List.{length-drop, take_all}
 use Rattle.rvm_csr.specs.declared.fields.CsrFields.{CsrFields}
 use Rattle.rvm_csr.specs.Registers.{CsrState}

@@ -1,5 +1,5 @@
 -- What the instructions of each kind do, given their operands.
-use Rattle.std.specs.Prelude.{ℕ, ℤ, pos, ◌+◌, ◌-◌, ◌*◌, ◌/◌, ◌%◌, ◌^◌, ◌+ℤ◌, ◌*ℤ◌, Bool, true, not, ◌==◌, nat_lt, int_lt, if◌then◌else◌, List, [], ◌∷◌, Option, Some, None, option_map, bit_and, bit_or, bit_xor}
+use Rattle.std.specs.Prelude.{ℕ, ℤ, pos, ◌+◌, ◌-◌, ◌*◌, ◌/◌, ◌%◌, ◌^◌, ◌+ℤ◌, ◌*ℤ◌, Bool, true, not, ◌==◌, nat_lt, int_lt, if◌then◌else◌, List, [], Option, Some, None, option_map, bit_and, bit_or, bit_xor}
 use Rattle.rvm_word.specs.Word.{signed, modulo, high, floor_shift, quotient, remainder, unsigned_quotient, unsigned_remainder}
 use Rattle.rvm_csr.specs.declared.cause.Exception.TheVariants.{InstructionAddressMisaligned, IllegalInstruction, LoadAddressMisaligned, LoadAccessFault, StoreAddressMisaligned, StoreAccessFault}
 use Rattle.rvm_csr.specs.Registers.{CsrState}
@@ -15,7 +15,7 @@ use Rattle.rvm_hart.specs.declared.csrs.CsrChange.{CsrChange}
 use Rattle.rvm_hart.specs.declared.csrs.CsrChange.TheVariants as change
 use Rattle.rvm_hart.specs.declared.outcome.Written.{Written}
 use Rattle.rvm_hart.specs.declared.outcome.Written.TheVariants.{Other, Mcycle, Minstret}
-use Rattle.rvm_hart.specs.Machine.{Machine, HartState, number_of}
+use Rattle.rvm_hart.specs.Machine.{Machine, number_of}
 use Rattle.rvm_hart.specs.Bus.{Stored, in_ram, ram_load, word_loaded, after_word_load, ram_stored, word_stored, mip_of}
 use Rattle.rvm_hart.specs.Outcome.{Outcome, Done, Traps, with_register, next_pc, with_result, at_next, done_with, done}
 

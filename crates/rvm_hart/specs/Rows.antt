@@ -1,7 +1,7 @@
 -- What each row of the instruction table does. Sources are read before rd is written; values are whole numbers,
 -- reduced modulo 2 ^ 32.
-use Rattle.std.specs.Prelude.{ℕ, pos, ◌+◌, ◌-◌, ◌*◌, ◌/◌, ◌%◌, ◌^◌, ◌*ℤ◌, Bool, true, false, not, ◌==◌, nat_lt, int_lt, if◌then◌else◌, [], bit_and, bit_or, bit_xor}
-use Rattle.rvm_word.specs.Word.{signed, signed_value, modulo, high, floor_shift, quotient, remainder, unsigned_quotient, unsigned_remainder}
+use Rattle.std.specs.Prelude.{ℕ, ◌+◌, ◌*◌, ◌%◌, ◌^◌, []}
+use Rattle.rvm_word.specs.Word.{signed_value, modulo}
 use Rattle.rvm_isa.specs.declared.ins.Ins.{Ins}
 use Rattle.rvm_isa.specs.declared.ins.Ins.TheVariants.{Lui, Auipc, Jal, Jalr, Beq, Bne, Blt, Bge, Bltu, Bgeu, Lb, Lh, Lw, Lbu, Lhu, Sb, Sh, Sw, Addi, Slti, Sltiu, Xori, Ori, Andi, Slli, Srli, Srai, Add, Sub, Sll, Slt, Sltu, Xor, Srl, Sra, Or, And, Mul, Mulh, Mulhsu, Mulhu, Div, Divu, Rem, Remu, Fence, FenceI, Ecall, Ebreak, Mret, Wfi, Csrrw, Csrrs, Csrrc, Csrrwi, Csrrsi, Csrrci, LrW, ScW, AmoswapW, AmoaddW, AmoxorW, AmoandW, AmoorW, AmominW, AmomaxW, AmominuW, AmomaxuW}
 use Rattle.rvm_csr.specs.declared.cause.Exception.TheVariants.{EnvironmentCall, Breakpoint}

@@ -1,5 +1,5 @@
 -- One step of a hart.
-use Rattle.std.specs.Prelude.{ℕ, ◌≡◌, ◌+◌, ◌%◌, ◌^◌, Bool, true, false, if◌then◌else◌, List, [], Option, Some, None}
+use Rattle.std.specs.Prelude.{ℕ, ◌≡◌, Bool, true, false, List, [], Option, Some, None}
 use Rattle.rvm_isa.specs.declared.ins.Ins.{Ins}
 use Rattle.rvm_isa.specs.Table.{decoded}
 use Rattle.rvm_csr.specs.declared.cause.Exception.TheVariants.{InstructionAccessFault, IllegalInstruction}

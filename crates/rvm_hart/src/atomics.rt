@@ -2,7 +2,6 @@
 //! so that aq and rl ask for nothing more.
 
 ghost use Rattle.std.specs.Prelude.{◌≡◌, ◌<◌, length};
-ghost use Rattle.rvm_hart.specs.Machine.{machine};
 ghost use Rattle.rvm_hart.specs.Outcome.{reg};
 ghost use Rattle.rvm_hart.specs.Kinds.{atomic_value, atomic, load_reserved, store_conditional};
 ghost use Rattle.rvm_hart.specs.Step.{Executes};

@@ -11,7 +11,7 @@ ghost use Rattle.rvm_hart.specs.Bus.{in_ram, ram_base, ram_load, word_loaded, af
 
 use crate::outcome::Written;
 use rvm_csr::Interrupts;
-use rvm_dev::register::{HALT, MTIME};
+use rvm_dev::register::{HALT, MTIME, MTIME_HIGH};
 use rvm_dev::{DeviceFields, Devices, InputFull};
 use rvm_mem::{Memory, OutOfRange, PageSet, PagedMemory, clear_bytes, read_bytes, write_bytes};
 use rvm_res::Reservations;
@@ -19,9 +19,6 @@ use std::marker::Model;
 
 /// The address of RAM's first byte.
 pub const RAM_BASE: u32 = 0x8000_0000;
-
-/// The high half of the time.
-const MTIME_HIGH: u32 = MTIME + 4;
 
 /// RAM, devices and reservations of one board. Each reservation is of an aligned word of RAM.
 #[derive(Drop)]

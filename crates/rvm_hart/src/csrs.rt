@@ -3,7 +3,6 @@
 ghost use Rattle.std.specs.Prelude.{◌≡◌, ◌<◌, length};
 ghost use Rattle.rvm_csr.specs.Table.{value_of};
 ghost use Rattle.rvm_hart.specs.Bus.{mip_of};
-ghost use Rattle.rvm_hart.specs.Machine.{machine};
 ghost use Rattle.rvm_hart.specs.Outcome.{reg};
 ghost use Rattle.rvm_hart.specs.Kinds.{access_csr, changed_value, change_csr, read_csr, writes, wrote_csr};
 ghost use Rattle.rvm_hart.specs.Step.{Executes};

@@ -1,6 +1,6 @@
 //! A hart's registers.
 
-ghost use Rattle.std.specs.Prelude.{◌≡◌, ◌%◌, ◌<◌, length, drop, replicate, slice_set, ◌≤◌};
+ghost use Rattle.std.specs.Prelude.{◌≡◌, ◌%◌, length, drop, replicate, slice_set, ◌≤◌};
 ghost use Rattle.rvm_csr.specs.Registers.{at_reset};
 ghost use Rattle.rvm_csr.specs.Traps.{trap_left};
 ghost use Rattle.rvm_hart.specs.Machine.{HartState};

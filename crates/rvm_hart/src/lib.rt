@@ -7,7 +7,7 @@
 //!
 //! To be read in this order: `outcome`, `bus`, `fields`, `hart`, then the rooms of the instructions
 //! (`arithmetic`, `jumps`, `loads`, `stores`, `csrs`, `atomics`), `rows`, which says of each row what it does,
-//! and `step`.
+//! `step`, and `laws`.
 #![tactic(auto)]
 
 mod arithmetic;

@@ -2,7 +2,6 @@
 //! whether something is there.
 
 ghost use Rattle.std.specs.Prelude.{◌≡◌, ◌%◌};
-ghost use Rattle.rvm_hart.specs.Machine.{machine};
 ghost use Rattle.rvm_hart.specs.Outcome.{reg};
 ghost use Rattle.rvm_hart.specs.Kinds.{sum, load_byte, load_half, load_word};
 ghost use Rattle.rvm_hart.specs.Step.{Executes};

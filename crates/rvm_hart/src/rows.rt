@@ -1,7 +1,6 @@
 //! What each row of the instruction table does.
 
-ghost use Rattle.std.specs.Prelude.{◌≡◌, ◌<◌, length};
-ghost use Rattle.rvm_hart.specs.Machine.{machine};
+ghost use Rattle.std.specs.Prelude.{◌<◌, length};
 ghost use Rattle.rvm_hart.specs.Outcome.{done_with, done};
 ghost use Rattle.rvm_hart.specs.Rows.{effect, trap_return};
 ghost use Rattle.rvm_hart.specs.Step.{Executes};
@@ -16,9 +15,6 @@ use crate::outcome::Stepped;
 use rvm_csr::Exception;
 use rvm_isa::{Ins, Reg};
 use rvm_mem::Memory;
-use rvm_word::{
-    add_signed, div, divu, less_signed, less_signed_than, mulh, mulhsu, mulhu, rem, remu, sra,
-};
 
 impl Hart {
     /// Ends an instruction whose result goes to rd.

@@ -2,7 +2,6 @@
 //! whether something is there.
 
 ghost use Rattle.std.specs.Prelude.{◌≡◌, ◌%◌, ◌<◌, length};
-ghost use Rattle.rvm_hart.specs.Machine.{machine};
 ghost use Rattle.rvm_hart.specs.Outcome.{reg};
 ghost use Rattle.rvm_hart.specs.Kinds.{sum, store_byte, store_half, store_word};
 ghost use Rattle.rvm_hart.specs.Step.{Executes};

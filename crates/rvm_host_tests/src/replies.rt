@@ -1,7 +1,7 @@
 //! Replies as names and numbers, by which tables of expected answers are written.
 
-use rvm_debug::{BoardRefusal, BoardReply};
-use rvm_message::{HostRefusal, HostReply};
+use rvm_debug::BoardReply;
+use rvm_message::HostReply;
 use rvm_refusal::Refusal;
 
 /// A reply: its name, and up to four numbers.

@@ -150,7 +150,7 @@ pub fn encode(ins: &Ins) -> u32
 }
 
 impl PartialEq for Ins {
-    ghost use Rattle.std.specs.Prelude.{◌==◌, nat_eq};
+    ghost use Rattle.std.specs.Prelude.{◌==◌};
     ghost use Rattle.std.specs.Cmp.Rules.{comparing};
     ghost use Rattle.std.proofs.Common.{rules};
     ghost use Rattle.rvm_isa.specs.Words.{word_of};

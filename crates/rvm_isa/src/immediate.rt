@@ -1,6 +1,6 @@
 //! The signed immediates and offsets of an instruction, each in its range.
 
-ghost use Rattle.std.specs.Prelude.{◌≡◌, ◌<◌, ◌%◌, ◌^◌, ◌↔◌, IsSome, IfSome};
+ghost use Rattle.std.specs.Prelude.{◌≡◌, ◌<◌, ◌%◌, ◌^◌};
 ghost use Rattle.rvm_word.specs.Word.{signed_value, signed, modulo, FitsSignedBits};
 ghost use Rattle.rvm_isa.specs.Fields.{IsEven};
 
@@ -31,18 +31,6 @@ impl Imm12 {
         ensures { result ≡ value }
     {
         Imm12(value)
-    }
-
-    /// The immediate of this number, if it is in range.
-    pub fn try_new(value: i32) -> Option<Imm12>
-        ensures some { IfSome result (λ immediate. immediate ≡ value) }
-        ensures in_range { IsSome result ↔ FitsSignedBits 12 value }
-    {
-        if -2048 <= value && value <= 2047 {
-            Some(Imm12(value))
-        } else {
-            None
-        }
     }
 
     /// The immediate whose two's complement bits these are.
@@ -116,18 +104,6 @@ impl Off13 {
         Off13(value)
     }
 
-    /// The offset of this number, if it is in range and even.
-    pub fn try_new(value: i32) -> Option<Off13>
-        ensures some { IfSome result (λ offset. offset ≡ value) }
-        ensures in_range { IsSome result ↔ (FitsSignedBits 13 value × IsEven value) }
-    {
-        if -4096 <= value && value <= 4094 && value.cast_unsigned() % 2 == 0 {
-            Some(Off13(value))
-        } else {
-            None
-        }
-    }
-
     /// The offset whose two's complement bits these are.
     #[inline(always)]
     #[tactic(auto, unfolding(rvm_word::specs::Word::signed_value))]
@@ -190,18 +166,6 @@ impl Off21 {
         ensures { result ≡ value }
     {
         Off21(value)
-    }
-
-    /// The offset of this number, if it is in range and even.
-    pub fn try_new(value: i32) -> Option<Off21>
-        ensures some { IfSome result (λ offset. offset ≡ value) }
-        ensures in_range { IsSome result ↔ (FitsSignedBits 21 value × IsEven value) }
-    {
-        if -1048576 <= value && value <= 1048574 && value.cast_unsigned() % 2 == 0 {
-            Some(Off21(value))
-        } else {
-            None
-        }
     }
 
     /// The offset whose two's complement bits these are.

@@ -1,8 +1,7 @@
 //! A host with its journal.
 
-ghost use Rattle.std.specs.Prelude.{◌≡◌, ◌⊎◌, ◌↔◌, ◌+◌, ◌-◌, ◌∷◌, ◌<◌, ◌≤◌, [], true, max, length, IfOk, IfErr, IsErr, IsOk, OnErr, OnOk, Some, vec_capacity, vec_len};
+ghost use Rattle.std.specs.Prelude.{◌≡◌, ◌⊎◌, ◌↔◌, ◌+◌, ◌-◌, ◌∷◌, ◌<◌, ◌≤◌, [], true, max, IfOk, IfErr, IsErr, IsOk, OnErr, OnOk, Some, vec_capacity, vec_len};
 ghost use Rattle.rvm_core.specs.Hosts.{host_of};
-ghost use Rattle.rvm_frame.specs.Grammar.{HasSpelling, sent, spelling};
 ghost use Rattle.rvm_journal.specs.Entries.{silent};
 ghost use Rattle.rvm_journal.specs.Errors.{IsRecordError, IsReserveError};
 ghost use Rattle.rvm_journal.specs.History.{IsRecorded, bytes_of, count_of, host_now, is_board, with_entries};

@@ -8,14 +8,13 @@ ghost use Rattle.rvm_journal.specs.Slices.{IsSliceRecorded, IsSteps, replies_to}
 
 use crate::error::SliceError;
 use crate::recorded::Recorded;
+use rvm_board::MAX_HARTS;
 use rvm_mem::PagedMemory;
 use rvm_message::StepReply;
 use std::alloc::Global;
 
 /// The most steps of a slice.
 const MOST: u32 = 64;
-/// The most harts of a board.
-const HARTS: u32 = 8;
 
 impl<M: PagedMemory + Drop> Recorded<M> {
     /// Records the steps of harts in turn, from a turn on, as if each were recorded by itself: at most n
@@ -35,7 +34,7 @@ impl<M: PagedMemory + Drop> Recorded<M> {
         ensures few { IfOk result (λ r. length r.1.items ≤ 64) }
         ensures places { IfOk result (λ r. r.0 + length r.1.items < 2 ^ 32) }
     {
-        if n < 1 || n > MOST || harts < 1 || harts > HARTS {
+        if n < 1 || n > MOST || harts < 1 || harts > MAX_HARTS {
             return Err(SliceError::OutOfRange);
         }
         let place = self.count();

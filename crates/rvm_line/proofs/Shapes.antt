@@ -1,5 +1,5 @@
 -- Operands by their shapes, one after the other.
-use Rattle.std.proofs.Common.{◌≡◌, ℕ, ◌+◌, ◌<◌, List, length, get_or, drop, refl, ap, sym, ◌∙◌, Result, Ok, Err}
+use Rattle.std.proofs.Common.{◌≡◌, ℕ, ◌+◌, ◌<◌, List, length, get_or, drop, ap, sym, ◌∙◌, Err}
 use Rattle.std.proofs.lemmas.List.{drop_more}
 use Rattle.rvm_text.specs.Lexemes.{Lexeme}
 use Rattle.rvm_line.specs.declared.faults.Fault.{Fault}

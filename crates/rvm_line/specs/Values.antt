@@ -99,10 +99,6 @@ in_halves ts (suc n) v = in_halves ts n (v >>= in_half (drop (3 * n) ts))
 unfoldable pub last_value : Names → List Lexeme → Result ℕ Fault
 last_value names ts = value_at names ts >>= ended
 
--- an expression and a comma
-abbrev pub value_comma : Names → List Lexeme → Result (ℕ × List Lexeme) Fault
-value_comma names ts = value_at names ts >>= λ v. mark_at 44 v.1 >>= λ rest. Ok (v.0, rest)
-
 -- whether a value as signed is a number of so many bits
 abbrev pub fits_signed : (bits value : ℕ) → Bool
 fits_signed bits value = nat_lt value (2 ^ (bits - 1)) || nat_le (2 ^ 32 - 2 ^ (bits - 1)) value

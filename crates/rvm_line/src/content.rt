@@ -1,7 +1,6 @@
 //! The bytes of a line.
 
 ghost use Rattle.std.specs.Prelude.{◌≡◌, ◌∷◌, [], ◌++◌, replicate, IfOk, OnOk};
-ghost use Rattle.rvm_isa.specs.Words.{word_of};
 ghost use Rattle.rvm_text.specs.Strings.{text_of};
 ghost use Rattle.rvm_text.specs.Tokens.{lexemes_of};
 ghost use Rattle.rvm_line.specs.Contents.{has_width, value_of_width, value_bytes};

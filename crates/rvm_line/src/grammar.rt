@@ -2,7 +2,7 @@
 
 ghost use Rattle.std.specs.Prelude.{◌≡◌};
 ghost use Rattle.rvm_text.specs.Tokens.{lexemes_of};
-ghost use Rattle.rvm_line.specs.Grammar.{behind_value, behind_base, behind_text, behind};
+ghost use Rattle.rvm_line.specs.Grammar.{behind_base, behind_text, behind};
 ghost use Rattle.rvm_line.specs.Grammar.{operands_at, expression_at, expressions_at};
 ghost use Rattle.rvm_line.specs.Grammar.{shapes_of_operation, shapes_of_pseudo, shapes_of_code};
 ghost use Rattle.rvm_line.specs.Grammar.{grammar_at};

@@ -1,6 +1,6 @@
 //! The words of instructions.
 
-ghost use Rattle.std.specs.Prelude.{◌≡◌, ◌≤◌, ◌<◌, IfOk};
+ghost use Rattle.std.specs.Prelude.{◌≡◌, ◌≤◌, ◌<◌};
 ghost use Rattle.rvm_isa.specs.Words.{word_of};
 ghost use Rattle.rvm_text.specs.Tokens.{lexemes_of};
 ghost use Rattle.rvm_line.specs.Values.{high};

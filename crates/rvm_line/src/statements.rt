@@ -6,7 +6,7 @@ ghost use Rattle.rvm_line.specs.Operations.{operation_of};
 ghost use Rattle.rvm_line.specs.Reading.{is_comma};
 ghost use Rattle.rvm_line.specs.Statements.{keyword_of, keyword_at, statement_at, label_of};
 ghost use Rattle.rvm_line.specs.Statements.{advanced, bytes_in, behind_string, list_size, size_of};
-ghost use Rattle.rvm_line.specs.Statements.{is_alignment, padding, balign_at, space_at};
+ghost use Rattle.rvm_line.specs.Statements.{is_alignment, balign_at, space_at};
 ghost use Rattle.rvm_line.specs.Statements.{place_after, next_place, equ_of, equ_at};
 ghost use Rattle.rvm_line.specs.Views.{names_of, seen, seen_definition, definition_of};
 

@@ -8,7 +8,7 @@ ghost use Rattle.rvm_line.specs.Reading.{known};
 ghost use Rattle.rvm_line.specs.Values.{negative_at, number_at, sum_at, simple_at, high, low};
 ghost use Rattle.rvm_line.specs.Values.{Names, half_of, half_named, half_at, in_half, in_halves};
 ghost use Rattle.rvm_line.specs.Values.{value_at, last_value};
-ghost use Rattle.rvm_line.specs.Values.{value_comma, fits_signed};
+ghost use Rattle.rvm_line.specs.Values.{fits_signed};
 ghost use Rattle.rvm_line.specs.Views.{names_of, seen, seen_half, seen_rest};
 
 use crate::faults::Fault;

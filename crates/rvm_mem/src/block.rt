@@ -1,6 +1,6 @@
 //! Numbers and pages in one block of bytes.
 
-ghost use Rattle.std.specs.Prelude.{◌≡◌, ℕ, ◌+◌, ◌*◌, ◌≤◌, List, length};
+ghost use Rattle.std.specs.Prelude.{◌≡◌, ◌+◌, ◌*◌, ◌≤◌, length};
 ghost use Rattle.rvm_mem.specs.Bytes.{store, replaced};
 ghost use Rattle.rvm_mem.specs.Pages.{page_of};
 

@@ -1,6 +1,6 @@
 //! Whole ranges of bytes, read and written.
 
-ghost use Rattle.std.specs.Prelude.{◌≡◌, ◌+◌, ◌≤◌, ◌<◌, ◌↔◌, length, replicate, true, IsErr, OnOk, OnErr};
+ghost use Rattle.std.specs.Prelude.{◌≡◌, ◌+◌, ◌<◌, ◌↔◌, length, replicate, true, IsErr, OnOk, OnErr};
 ghost use Rattle.rvm_mem.specs.Bytes.{slice, replaced};
 ghost use Rattle.rvm_mem.specs.Pages.{byte_pages, mark_all};
 

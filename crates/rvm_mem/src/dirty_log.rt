@@ -1,6 +1,6 @@
 //! What has a dirty log that is looked at and taken: a memory, or a guest with its memory.
 
-ghost use Rattle.std.specs.Prelude.{◌≡◌, ℕ, ◌%◌, ◌<◌, List, Bool, false, length, replicate};
+ghost use Rattle.std.specs.Prelude.{◌≡◌, ◌%◌, List, Bool, false, length, replicate};
 ghost use Rattle.rvm_mem.specs.Pages.{bits, count, window};
 
 use crate::page_set::PageSet;

@@ -1,8 +1,6 @@
 //! A memory over one vector of bytes.
 
-ghost use Rattle.std.specs.Prelude.{◌≡◌, ℕ, ◌+◌, ◌*◌, ◌/◌, ◌%◌, ◌^◌, ◌≤◌, List, Bool, false, length, IfOk, replicate};
-ghost use Rattle.rvm_mem.specs.Bytes.{load, store};
-ghost use Rattle.rvm_mem.specs.Pages.{mark};
+ghost use Rattle.std.specs.Prelude.{◌≡◌, ◌*◌, ◌/◌, ◌≤◌, length};
 
 use crate::block;
 use crate::memory::{Memory, PAGE_SIZE};

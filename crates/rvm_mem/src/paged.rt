@@ -1,6 +1,6 @@
 //! What a memory promises that a host copies page by page while its guest runs.
 
-ghost use Rattle.std.specs.Prelude.{◌≡◌, ℕ, ◌+◌, ◌*◌, ◌%◌, ◌<◌, ◌≤◌, List, Bool, false, length, replicate, IfOk};
+ghost use Rattle.std.specs.Prelude.{◌≡◌, ◌*◌, ◌%◌, ◌<◌, ◌≤◌, false, length, replicate, IfOk};
 ghost use Rattle.rvm_mem.specs.Bytes.{replaced};
 ghost use Rattle.rvm_mem.specs.Pages.{bits, count, page_of, window};
 

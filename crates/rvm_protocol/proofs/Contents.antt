@@ -1,5 +1,5 @@
 -- Frames carry the guest.
-use Rattle.std.proofs.Common.{◌≡◌, ◌⊎◌, inl, inr, ℕ, ◌+◌, ◌==◌, ◌^◌, ◌-◌, Bool, true, false, nat_lt, nat_le, not, ◌&&◌, ◌||◌, List, length, Option, Some, None, refl, ap, ◌∙◌, subst, get_or, sym, [], ◌<◌, arith}
+use Rattle.std.proofs.Common.{◌≡◌, ◌⊎◌, inl, inr, ℕ, ◌+◌, ◌==◌, ◌^◌, ◌-◌, true, nat_lt, nat_le, not, ◌&&◌, ◌||◌, length, Option, Some, None, refl, ap, ◌∙◌, subst, get_or, sym, [], ◌<◌, arith}
 use Rattle.rvm_protocol.specs.Commands.{Command, Board, Begin, Copy, Resend, AbortMove, HostEvent, Do, Came, is_allowed}
 use Rattle.rvm_protocol.specs.FrameContents.{IsStateOf, Carries, FramesCarryTheGuest}
 use Rattle.rvm_protocol.specs.Frames.{Frame, Offer, Accept, Refuse, Page, RoundEnd, Lost, State, Ready, Go, Started, Abort, Addressed, posted, plain, written, made_as, Part, is_compact, Zero, read}

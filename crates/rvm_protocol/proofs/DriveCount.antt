@@ -1,5 +1,5 @@
 -- How many events a driven move has.
-use Rattle.std.proofs.Common.{◌≡◌, ℕ, ◌+◌, ◌*◌, List, [], ◌∷◌, ◌++◌, length, arith}
+use Rattle.std.proofs.Common.{◌≡◌, ◌+◌, ◌*◌, List, [], ◌∷◌, ◌++◌, length, arith}
 use Rattle.std.proofs.lemmas.List.{length-append}
 use Rattle.rvm_protocol.specs.Commands.{Begin, Copy}
 use Rattle.rvm_protocol.specs.DrivenMove.{DriveCount}

@@ -1,14 +1,14 @@
 -- What a host answers at the limits of numbers, pages and pieces.
-use Rattle.std.proofs.Common.{◌≡◌, ℕ, ◌+◌, ◌*◌, ◌==◌, ◌^◌, ◌-◌, Bool, true, false, List, [], ◌∷◌, length, refl, Option, Some, None}
-use Rattle.rvm_protocol.specs.Commands.{Policy, Board, Begin, Copy, Resend, AbortMove, HostEvent, Do, Came}
-use Rattle.rvm_protocol.specs.Frames.{Frame, Addressed, Zero, Page, Offer, Accept, Refuse, RoundEnd, Lost, State, Part, Ready, Go, Started, Abort}
-use Rattle.rvm_protocol.specs.Modes.{Mode, Empty, Run, Offering, Copying, Stopped, Given, Staging, Held}
-use Rattle.rvm_protocol.specs.Pages.{least, size, listed, members, gathered, is_in}
-use Rattle.rvm_protocol.specs.Replies.{BadState, SeqSpent, EpochsSpent, Busy, NotHere, Paused, Ignored, BadHost, BadSize, NoFrame, NoMove, Reply, Begun, Copied, RoundEnded, PartSent, StateSent, Kept, Lacking, ReadySent, Fixing, Refused, Declined, Accepted, Resent}
-use Rattle.rvm_protocol.specs.Rounds.{Rounds, Last, opened, stopped}
-use Rattle.rvm_protocol.specs.Staging.{Stage, new_stage}
+use Rattle.std.proofs.Common.{◌≡◌, ℕ, ◌==◌, ◌^◌, ◌-◌, false, List, [], ◌∷◌, refl}
+use Rattle.rvm_protocol.specs.Commands.{Policy, Begin, Copy, Resend, HostEvent, Do, Came}
+use Rattle.rvm_protocol.specs.Frames.{Offer, Lost, Part}
+use Rattle.rvm_protocol.specs.Modes.{Mode, Empty, Run, Copying, Stopped, Staging, Held}
+use Rattle.rvm_protocol.specs.Pages.{least, size, listed, gathered, is_in}
+use Rattle.rvm_protocol.specs.Replies.{BadState, SeqSpent, EpochsSpent, Busy, Ignored, BadHost, BadSize, Reply, Begun, Copied, PartSent, Kept, ReadySent, Fixing, Refused, Accepted, Resent}
+use Rattle.rvm_protocol.specs.Rounds.{Last, opened}
+use Rattle.rvm_protocol.specs.Staging.{new_stage}
 use Rattle.rvm_protocol.specs.Host.{Host, host_step}
-use Rattle.rvm_protocol.proofs.Counter.{Counter, CounterEvent, Tick, Write, counter, split_counter, fresh, policy}
+use Rattle.rvm_protocol.proofs.Counter.{Counter, CounterEvent, split_counter, fresh, policy}
 
 abbrev g : Counter
 g = fresh 4

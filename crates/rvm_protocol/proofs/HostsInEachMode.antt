@@ -1,15 +1,15 @@
 -- What a host answers in each mode to each command and each kind of frame, of its move and of a
 -- later one.
-use Rattle.std.proofs.Common.{◌≡◌, ℕ, ◌+◌, ◌*◌, ◌==◌, ◌^◌, ◌-◌, suc, Bool, true, false, List, [], ◌∷◌, length, map, refl, Option, Some, None}
+use Rattle.std.proofs.Common.{◌≡◌, ℕ, suc, List, [], ◌∷◌, map, refl}
 use Rattle.rvm_protocol.specs.Commands.{Policy, Board, Begin, Copy, Resend, AbortMove, HostEvent, Do, Came}
-use Rattle.rvm_protocol.specs.Frames.{Frame, Addressed, Zero, Page, Offer, Accept, Refuse, RoundEnd, Lost, State, Part, Ready, Go, Started, Abort}
+use Rattle.rvm_protocol.specs.Frames.{Zero, Page, Offer, Accept, Refuse, RoundEnd, Lost, State, Part, Ready, Go, Started, Abort}
 use Rattle.rvm_protocol.specs.Modes.{Mode, Empty, Run, Offering, Copying, Stopped, Given, Staging, Held}
 use Rattle.rvm_protocol.specs.Pages.{least, size, listed, members, gathered, is_in, none}
 use Rattle.rvm_protocol.specs.Replies.{BadState, Busy, NotHere, Paused, Ignored, BadHost, BadSize, NoMove, Reply, Answered, Begun, Copied, StateSent, Resent, Aborted, Accepted, Open, MoveDeclined, Stored, Noted, Kept, Lacking, ReadySent, Fixing, Committed, StartedHere, Finished, Dropped, Refused}
-use Rattle.rvm_protocol.specs.Rounds.{Rounds, Last, opened}
-use Rattle.rvm_protocol.specs.Staging.{Stage, new_stage}
-use Rattle.rvm_protocol.specs.Host.{Host, host_step}
-use Rattle.rvm_protocol.proofs.Counter.{Counter, CounterEvent, Tick, Write, counter, fresh, policy}
+use Rattle.rvm_protocol.specs.Rounds.{opened}
+use Rattle.rvm_protocol.specs.Staging.{new_stage}
+use Rattle.rvm_protocol.specs.Host.{host_step}
+use Rattle.rvm_protocol.proofs.Counter.{Counter, CounterEvent, Tick, counter, fresh, policy}
 
 abbrev g : Counter
 g = fresh 2

@@ -1,10 +1,10 @@
 -- Longer runs, whose replies were computed by another program, written from the rules in words.
-use Rattle.std.proofs.Common.{◌≡◌, ℕ, ◌==◌, if◌then◌else◌, ◌+◌, ◌*◌, List, [], ◌∷◌, ◌++◌, length, refl, ◌-◌}
-use Rattle.rvm_protocol.specs.Commands.{Policy, Board, Begin, Copy, Resend, AbortMove, Came}
+use Rattle.std.proofs.Common.{◌≡◌, ℕ, ◌==◌, if◌then◌else◌, [], ◌∷◌, refl}
+use Rattle.rvm_protocol.specs.Commands.{Board, Begin, Copy, Resend, AbortMove}
 use Rattle.rvm_protocol.specs.Pages.{least, size, listed, members, gathered, is_in}
-use Rattle.rvm_protocol.specs.Replies.{BadState, SeqSpent, EpochsSpent, Busy, NotHere, Paused, Ignored, BadHost, BadSize, NoFrame, NoMove, Reply, Answered, Begun, Copied, RoundEnded, Stopping, StateSent, PartSent, Resent, Aborted, Accepted, Declined, Open, MoveDeclined, Stored, Noted, Kept, Lacking, ReadySent, Fixing, Committed, StartedHere, Finished, Dropped, Refused}
-use Rattle.rvm_protocol.specs.World.{World, Event, At, Deliver, mode_at, run, replies, new_world}
-use Rattle.rvm_protocol.proofs.Counter.{Counter, CounterEvent, Tick, Write, counter, split_counter, fresh, policy}
+use Rattle.rvm_protocol.specs.Replies.{Busy, NotHere, Paused, Ignored, BadHost, BadSize, NoFrame, NoMove, Answered, Begun, Copied, RoundEnded, Stopping, StateSent, PartSent, Resent, Aborted, Accepted, Declined, Open, MoveDeclined, Stored, Noted, Kept, Lacking, ReadySent, Fixing, Committed, StartedHere, Dropped, Refused}
+use Rattle.rvm_protocol.specs.World.{Event, At, Deliver, replies, new_world}
+use Rattle.rvm_protocol.proofs.Counter.{CounterEvent, Tick, Write, counter, split_counter, fresh, policy}
 
 abbrev d : ℕ → Event CounterEvent
 d k = Deliver k

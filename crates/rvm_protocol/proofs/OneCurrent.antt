@@ -1,15 +1,14 @@
 -- The modes show one current host, and a commit makes the sender of its frame the current one.
-use Rattle.std.proofs.Common.{◌≡◌, ◌≢◌, inl, inr, ℕ, suc, ◌<◌, ◌==◌, ◌||◌, true, false, refl, sym, ap, ◌∙◌, subst, arith}
+use Rattle.std.proofs.Common.{◌≡◌, inl, inr, ℕ, suc, ◌==◌, ◌||◌, true, false, refl, sym, ◌∙◌, subst, arith}
 use Rattle.std.proofs.lemmas.Bool.{eqb-true}
 use Rattle.rvm_protocol.proofs.Basics.{and_both, or_true, same_or}
 use Rattle.rvm_protocol.proofs.Behind.{GivenOk, is_run}
 use Rattle.rvm_protocol.proofs.CurrentModes.{either}
 use Rattle.rvm_protocol.proofs.OneGuestHolds.{no_other}
 use Rattle.rvm_protocol.proofs.OtherHosts.{NoCommit, came_ok, none_at}
-use Rattle.rvm_protocol.proofs.PairInvariant.{HoldsNone, Meet}
+use Rattle.rvm_protocol.proofs.PairInvariant.{HoldsNone}
 use Rattle.rvm_protocol.proofs.Runs.{SoundAt}
 use Rattle.rvm_protocol.proofs.Tellings.{commanded}
-use Rattle.rvm_protocol.proofs.WorldInvariant.{reach, reach_there}
 use Rattle.rvm_protocol.specs.Commands.{Board, Begin, Copy, Resend, AbortMove, Command}
 use Rattle.rvm_protocol.specs.Frames.{Accept, Frame, Go, Lost, Ready, Refuse, read}
 use Rattle.rvm_protocol.specs.Guest.{Guest}
@@ -18,7 +17,7 @@ use Rattle.rvm_protocol.specs.Modes.{Copying, Empty, Given, Held, Mode, Offering
 use Rattle.rvm_protocol.specs.Obeying.{begin}
 use Rattle.rvm_protocol.specs.Receiving.{came, of_this_move}
 use Rattle.rvm_protocol.specs.Replies.{BadHost, Committed, Reply}
-use Rattle.rvm_protocol.specs.Shown.{IsTarget, Shown, has_given, holds_current}
+use Rattle.rvm_protocol.specs.Shown.{IsTarget, Shown}
 use Rattle.rvm_protocol.specs.Told.{Told, reply_current}
 use Rattle.rvm_protocol.specs.World.{World}
 

@@ -1,14 +1,14 @@
 -- A round copies those of its pages that were not in the dirty log at its first look at them.
-use Rattle.std.proofs.Common.{◌≡◌, ◌≢◌, ◌⊎◌, ◌↔◌, inl, inr, ℕ, zero, suc, ◌+◌, ◌-◌, ◌*◌, ◌/◌, ◌%◌, ◌^◌, ◌<◌, ◌≤◌, ◌==◌, Bool, true, false, not, ◌&&◌, if◌then◌else◌, nat_le, List, length, Option, Some, None, refl, sym, ap, ◌∙◌, subst, arith, leb-true, leb-false}
+use Rattle.std.proofs.Common.{◌≡◌, ◌⊎◌, ◌↔◌, inl, inr, ℕ, zero, suc, ◌-◌, ◌/◌, ◌%◌, ◌^◌, ◌<◌, ◌≤◌, ◌==◌, true, false, not, ◌&&◌, if◌then◌else◌, nat_le, Option, Some, None, refl, sym, ap, ◌∙◌, subst, arith, leb-true, leb-false}
 use Rattle.std.proofs.lemmas.Bool.{eqb-true, eqb-false, eq-eqb}
-use Rattle.rvm_protocol.specs.Commands.{Policy, Command, Board, Begin, Copy, Resend, AbortMove}
+use Rattle.rvm_protocol.specs.Commands.{Command, Board, Begin, Copy, Resend, AbortMove}
 use Rattle.rvm_protocol.specs.Guest.{Guest}
 use Rattle.rvm_protocol.specs.Modes.{Mode, Copying, Stopped, says, refuses}
 use Rattle.rvm_protocol.specs.Obeying.{obey, copy_page, sends_page}
 use Rattle.rvm_protocol.specs.Replies.{Reply, SeqSpent, Stopping, Copied}
 use Rattle.rvm_protocol.specs.RoundCopies.{first_beside, IsRound, CopiesAt, IsFirstLook, IsCopied, RoundsCopyWhatIsNotWrittenAgain}
 use Rattle.rvm_protocol.specs.Rounds.{Rounds, is_skipped, page_count, next_page, stops, page_copied, round_over, next_round, stopped}
-use Rattle.rvm_protocol.proofs.Basics.{some_is, and_not, and_not_false, both_false, IsLeast, least_found, least_none, same_or}
+use Rattle.rvm_protocol.proofs.Basics.{and_not, and_not_false, both_false, IsLeast, least_found, least_none, same_or}
 
 -- pages that the scan has not come to are skipped where the log has them now
 skip_before : {S : Type 0} (r : Rounds S) (p : ℕ) → r.scan ≤ first_beside p

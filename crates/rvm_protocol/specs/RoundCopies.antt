@@ -4,7 +4,7 @@ use Rattle.std.specs.Prelude.{◌≡◌, ◌⊎◌, ◌↔◌, ◌<◌, ◌≤�
 use Rattle.std.specs.declared.option.Option.TheVariants.{None}
 use Rattle.rvm_protocol.specs.Guest.{Guest}
 use Rattle.rvm_protocol.specs.Commands.{Command}
-use Rattle.rvm_protocol.specs.Replies.{Reply, Copied}
+use Rattle.rvm_protocol.specs.Replies.{Copied}
 use Rattle.rvm_protocol.specs.Rounds.{Rounds, page_count, next_page}
 use Rattle.rvm_protocol.specs.Modes.{Copying}
 use Rattle.rvm_protocol.specs.Obeying.{obey}

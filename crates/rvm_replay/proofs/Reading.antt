@@ -1,27 +1,22 @@
 -- What the words of the lines of events are read as.
-use Rattle.std.proofs.Common.{◌≡◌, ℕ, ◌^◌, ◌<◌, ◌≤◌, Bool, true, false, cond, nat_lt, nat_le, List, [], ◌∷◌, ◌++◌, length, map, Option, Some, None, refl, sym, ap, ◌∙◌, append_assoc, arith}
-use Rattle.std.specs.Prelude.{codes, option_map}
-use Rattle.std.specs.Fmt.{decimal}
-use Rattle.std.specs.List.{list_all}
+use Rattle.std.proofs.Common.{◌≡◌, ℕ, ◌<◌, ◌≤◌, true, cond, nat_lt, nat_le, List, [], ◌∷◌, ◌++◌, length, map, Some, None, refl, sym, ap, ◌∙◌, append_assoc, arith}
+use Rattle.std.specs.Prelude.{codes}
 use Rattle.std.proofs.lemmas.List.{append-nil}
 use Rattle.std.proofs.lemmas.Bool.Decides.{nat_tests}
-use Rattle.hex.specs.Hex.{encode_lower}
 use Rattle.rvm_debug.specs.declared.event.BoardEvent.{BoardEvent}
 use Rattle.rvm_debug.specs.declared.event.BoardEvent.TheVariants as asked
-use Rattle.rvm_dis.proofs.Reading.{is_one_word}
-use Rattle.rvm_event_line.specs.EventLines.{event_line, letter, register}
+use Rattle.rvm_event_line.specs.EventLines.{event_line, letter}
 use Rattle.rvm_message.specs.declared.event.Command.{Command}
 use Rattle.rvm_message.specs.declared.event.Command.TheVariants as command
 use Rattle.rvm_script.specs.Lines.{command_of}
-use Rattle.rvm_script.specs.Words.{lines, words, without_return}
+use Rattle.rvm_script.specs.Words.{lines, words}
 use Rattle.rvm_world.specs.declared.event.Event.{Event}
 use Rattle.rvm_world.specs.declared.event.Event.TheVariants as event
-use Rattle.rvm_world_line.specs.declared.line.WorldLine.{WorldLine}
 use Rattle.rvm_world_line.specs.declared.line.WorldLine.TheVariants as line
 use Rattle.rvm_world_line.specs.WorldLines.{asked_at, letter_host, lettered, world_asked, world_command_of, world_line_of}
-use Rattle.rvm_replay.specs.Sayable.{IsAskable, IsSayable, IsTellable, asking, line_making, telling}
+use Rattle.rvm_replay.specs.Sayable.{IsAskable, IsSayable, IsTellable, line_making, telling}
 use Rattle.rvm_replay.proofs.Joined.{joined, lines_joined, no_lines, whole_joined, words_joined}
-use Rattle.rvm_replay.proofs.Lines.{asked_words, command_words, event_all, event_joined, event_words, one_byte}
+use Rattle.rvm_replay.proofs.Lines.{command_words, event_all, event_joined, event_words, one_byte}
 use Rattle.rvm_replay.proofs.Spelled.{hex_reads, letter_names, letter_speaks, numeral_decimal, register_names}
 
 -- what is asked behind a letter

@@ -1,21 +1,20 @@
 -- What scripts do whose lines are those of events.
-use Rattle.std.proofs.Common.{◌≡◌, ℕ, ◌+◌, ◌≤◌, Bool, true, false, cond, List, [], ◌∷◌, ◌++◌, map, Option, Some, None, refl, sym, ap, subst, ◌∙◌, arith}
-use Rattle.std.specs.List.{flat_map}
+use Rattle.std.proofs.Common.{◌≡◌, ℕ, ◌+◌, ◌≤◌, Bool, true, false, cond, List, [], ◌∷◌, map, Option, Some, None, refl, sym, subst}
 use Rattle.rvm_debug.specs.declared.event.BoardEvent.{BoardEvent}
 use Rattle.rvm_debug.specs.declared.event.BoardEvent.TheVariants as asked
-use Rattle.rvm_event_line.specs.EventLines.{event_line, event_lines}
+use Rattle.rvm_event_line.specs.EventLines.{event_lines}
 use Rattle.rvm_guest.proofs.TheGuest.{board}
 use Rattle.rvm_message.specs.declared.event.Command.TheVariants as command
 use Rattle.rvm_message.specs.Events.{BoardHostEvent}
 use Rattle.rvm_protocol.specs.Commands.{Board}
-use Rattle.rvm_protocol.specs.World.{At, happened, meaning, step}
+use Rattle.rvm_protocol.specs.World.{At, happened, meaning}
 use Rattle.rvm_script.specs.Words.{lines}
 use Rattle.rvm_world.specs.declared.event.Event.{Event}
 use Rattle.rvm_world.specs.declared.event.Event.TheVariants as event
 use Rattle.rvm_world.specs.Worlds.{BoardWorld, meant}
 use Rattle.rvm_world_line.specs.WorldLines.{world_line_of}
 use Rattle.rvm_world_script.specs.WorldScript.{Answers, Replied, Standing, after, after_all, answers_by, done_by, inputs, is_taken, reply_in, stepping, world_script_of}
-use Rattle.rvm_replay.specs.Sayable.{AreSayable, IsSayable, line_making}
+use Rattle.rvm_replay.specs.Sayable.{AreSayable, line_making}
 use Rattle.rvm_replay.proofs.Joined.{no_lines}
 use Rattle.rvm_replay.proofs.Reading.{text, text_ends, text_read}
 

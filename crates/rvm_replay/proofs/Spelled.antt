@@ -1,5 +1,5 @@
 -- Letters, numbers, registers and bytes as words, and what these words are read as.
-use Rattle.std.proofs.Common.{◌≡◌, ℕ, zero, suc, ◌+◌, ◌*◌, ◌/◌, ◌%◌, ◌^◌, ◌<◌, ◌≤◌, Bool, true, false, not, cond, ◌&&◌, eqb, nat_lt, List, [], ◌∷◌, ◌++◌, length, slice_index, Option, Some, None, refl, sym, ap, subst, ◌∙◌, arith, eqb-true, inl, inr}
+use Rattle.std.proofs.Common.{◌≡◌, ℕ, suc, ◌+◌, ◌*◌, ◌/◌, ◌%◌, ◌^◌, ◌<◌, ◌≤◌, Bool, true, false, not, cond, ◌&&◌, eqb, List, [], ◌∷◌, length, slice_index, Option, Some, None, refl, sym, ap, subst, ◌∙◌, arith, eqb-true, inl, inr}
 use Rattle.std.specs.Char as char
 use Rattle.std.specs.Fmt.{decimal, digits}
 use Rattle.std.specs.List.{list_all}
@@ -12,7 +12,7 @@ use Rattle.hex.proofs.HexLemmas.{length-encode_with}
 use Rattle.rvm_dis.proofs.Numbers.{all_below, decimal_number, each_below}
 use Rattle.rvm_dis.proofs.Reading.{both, first_of, is_one_word, second_of}
 use Rattle.rvm_event_line.specs.EventLines.{letter, register}
-use Rattle.rvm_script.specs.HexBytes.{bytes_in, hex_of, is_hex, is_hex_digit}
+use Rattle.rvm_script.specs.HexBytes.{bytes_in, hex_of, is_hex_digit}
 use Rattle.rvm_script.specs.Lines.{is_comment, numeral, register_in}
 use Rattle.rvm_text.specs.Bytes.{is_word}
 use Rattle.rvm_text.specs.Numbers.{digit_value, number_of}

@@ -1,5 +1,5 @@
 -- What a write of one word, or of each, leaves of the harts' words.
-use Rattle.std.proofs.Common.{◌≡◌, ℕ, zero, suc, ◌<◌, ◌≤◌, Bool, true, false, ◌||◌, List, [], ◌∷◌, length, take, set, map, replicate, Option, None, Some, is_some, refl, ap, sym, ◌∙◌, ◌+◌, cond, arith, get_or, length-take, add-one, add-zero}
+use Rattle.std.proofs.Common.{◌≡◌, ℕ, zero, suc, ◌<◌, ◌≤◌, Bool, true, false, ◌||◌, List, [], ◌∷◌, length, take, set, map, replicate, Option, None, Some, is_some, refl, ap, sym, ◌∙◌, ◌+◌, cond, arith, get_or, length-take}
 use Rattle.std.specs.List.{list_any, count_by}
 use Rattle.std.proofs.lemmas.List.Sums.{count_by-le-length, sum_by-cons, sum_by-set}
 use Rattle.std.proofs.lemmas.List.{take-replicate, take-map, set-get_or, get_or-take}

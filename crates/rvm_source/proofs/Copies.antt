@@ -10,7 +10,7 @@ use Rattle.rvm_protocol.specs.Frames.{Page, RoundEnd}
 use Rattle.rvm_protocol.specs.Replies as replies
 use Rattle.rvm_protocol.specs.Pages.{least, size}
 use Rattle.rvm_protocol.specs.Rounds as protocol
-use Rattle.rvm_protocol.specs.Rounds.{Rounds, page_count, page_of}
+use Rattle.rvm_protocol.specs.Rounds.{page_count, page_of}
 use Rattle.rvm_protocol.specs.Modes.{Copying, Stopped, Outcome, says, sends, refuses}
 use Rattle.rvm_protocol.specs.Obeying.{copy, copy_page, copy_last, sends_page, sends_last}
 use Rattle.rvm_precopy.specs.declared.rounds.Next.{Next}

@@ -10,7 +10,7 @@ use Rattle.rvm_protocol.specs.Frames as frames
 use Rattle.rvm_protocol.specs.Frames.{is_compact}
 use Rattle.rvm_protocol.specs.Replies as replies
 use Rattle.rvm_protocol.specs.Modes as protocol
-use Rattle.rvm_protocol.specs.Modes.{sends, refuses, says}
+use Rattle.rvm_protocol.specs.Modes.{sends, refuses}
 use Rattle.rvm_protocol.specs.Obeying.{part_frame, resend, resend_last, sends_state, state_frame}
 use Rattle.rvm_protocol.specs.Receiving.{came, lost_came}
 use Rattle.rvm_protocol.specs.Rounds.{Last, next_turn, page_count, pieces_of}

@@ -9,7 +9,7 @@ ghost use Rattle.rvm_frame.specs.Kinds.{kind_of, move_fits, move_of};
 ghost use Rattle.rvm_spelling.specs.Spelled.{is_short};
 
 use rvm_codec::u16s_rise;
-use rvm_frame::Frame;
+use rvm_frame::{Frame, is_piece};
 
 /// Whether all numbers are page numbers.
 fn are_pages(numbers: &[u16]) -> bool
@@ -47,13 +47,6 @@ fn state_fits(copy_numbers: &[u32], bytes: &[u8]) -> bool
     ensures { result ≡ state.fits (copy_numbers.now, bytes.now) }
 {
     1 <= copy_numbers.len() && copy_numbers.len() <= 4096 && are_copies(copy_numbers)
-}
-
-/// Whether so many bytes are a piece of a state.
-fn is_piece(part: u8, parts: u8, len: usize) -> bool
-    ensures { result ≡ is_piece part parts len }
-{
-    part < parts && 1 <= len && len <= 4096 && (len == 4096 || part + 1 == parts)
 }
 
 /// Whether these are the numbers of a RoundEnd: all are.

@@ -4,7 +4,7 @@
 ghost use Rattle.std.specs.Prelude.{◌≡◌, option_map};
 ghost use Rattle.rvm_hart.specs.Fields.{is_ram_word};
 ghost use Rattle.rvm_codec.specs.Codec.{any, optional};
-ghost use Rattle.rvm_state.specs.Formats.{aligned, anything, csrs, enables_of, mie, mstatus, mtvec, shared};
+ghost use Rattle.rvm_state.specs.Formats.{aligned, anything, csrs, mie, mstatus, mtvec, shared};
 
 use rvm_codec::{flag_at, u8_at, u32_at, u64_at};
 use rvm_csr::{CsrFields, Interrupts};

@@ -1,7 +1,6 @@
 //! The snapshot that state bytes spell.
 
-ghost use Rattle.std.specs.Prelude.{◌≡◌, ◌≤◌, true, length, option_map, IfSome};
-ghost use Rattle.arrayvec.specs.ArrayVec.{array_vec_len};
+ghost use Rattle.std.specs.Prelude.{◌≡◌, ◌≤◌, length, option_map, IfSome};
 ghost use Rattle.rvm_codec.specs.Numbers.{within};
 ghost use Rattle.rvm_codec.specs.Codec.{any, bytes_at, counted_bytes, read_each, times};
 ghost use Rattle.rvm_debug.specs.Snapshot.{state_in};

@@ -4,7 +4,7 @@ ghost use Rattle.std.specs.Prelude.{◌≡◌, ◌+◌, ◌<◌, ◌≤◌, ◌+
 ghost use Rattle.rvm_text.specs.Bytes.{is_word, is_space, is_mark, is_escape};
 ghost use Rattle.rvm_text.specs.Lexemes.{lexemes, after, open_at, at_end, Word};
 ghost use Rattle.rvm_text.specs.Refusals.{refusal_of};
-ghost use Rattle.rvm_text.specs.Tokens.{lexeme_of, lexemes_of, is_name, mode_of, IsTextError, IsBegun, Moves, Adds};
+ghost use Rattle.rvm_text.specs.Tokens.{lexemes_of, is_name, mode_of, IsTextError, IsBegun, Moves, Adds};
 
 use rvm_refusal::Refusal;
 use std::alloc::{AllocError, AllocFailed, Global};

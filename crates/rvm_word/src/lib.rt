@@ -40,15 +40,6 @@ pub fn less_signed(a: u32, b: u32) -> bool
     a.cast_signed() < b.cast_signed()
 }
 
-/// Whether the signed value of `a` is below the number `b` (SLTI).
-#[inline(always)]
-#[tactic(auto, using(crate::proofs::Casts::casts))]
-pub fn less_signed_than(a: u32, b: i32) -> bool
-    ensures { result ≡ int_lt (signed a) b }
-{
-    a.cast_signed() < b
-}
-
 /// `value` shifted right by `amount` bits, which copies of the sign fill (SRA).
 #[inline(always)]
 #[tactic(auto, using(crate::proofs::Casts::casts))]

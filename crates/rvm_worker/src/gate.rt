@@ -1,6 +1,6 @@
 //! Gates.
 
-ghost use Rattle.std.specs.Prelude.{◌≡◌, OnOk, OnErr, IfErr};
+ghost use Rattle.std.specs.Prelude.{◌≡◌, IfErr};
 ghost use Rattle.rvm_worker.specs.Workers.{number_of};
 
 use crate::end::WorkEnd;

@@ -1,4 +1,4 @@
-use Rattle.std.proofs.Common.{get_or, List, ℕ, Option, None, Some, sym}
+use Rattle.std.proofs.Common.{get_or, None, Some, sym}
 use Rattle.rvm_protocol.specs.Pages.{put}
 use Rattle.rvm_handover.proofs.Gathering.{all_there, one_lacking, one_there}
 use Rattle.rvm_handover.proofs.staging.are_all_there.Goals as goal

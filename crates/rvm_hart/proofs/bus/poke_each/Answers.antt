@@ -1,4 +1,4 @@
-use Rattle.std.proofs.Common.{◌≡◌, ◌+◌, refl, add-one, ap, ◌∙◌}
+use Rattle.std.proofs.Common.{◌+◌, refl, add-one, ap, ◌∙◌}
 use Rattle.rvm_res.specs.Reservations.{poked}
 use Rattle.rvm_hart.specs.Pokes.{poked_each}
 use Rattle.rvm_hart.proofs.bus.poke_each.Goals as goal

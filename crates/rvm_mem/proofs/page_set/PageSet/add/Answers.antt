@@ -3,7 +3,6 @@ use Rattle.std.proofs.lemmas.List.{get_or_default}
 use Rattle.rvm_mem.specs.Pages.{count, union}
 use Rattle.rvm_mem.specs.Rows.{flags, AreRows}
 use Rattle.rvm_mem.proofs.Joined.{joined_with, all_joined, joined_rows, joined_flags, same_pages, same_rows}
-use Rattle.rvm_mem.proofs.page_set.PageSet.add.Goals.{In-loop-i, After-loop-i}
 use Rattle.rvm_mem.proofs.page_set.PageSet.add.Goals as goal
 
 pub index-requires : goal.index-requires

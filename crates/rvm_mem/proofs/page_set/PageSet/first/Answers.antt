@@ -3,7 +3,7 @@ use Rattle.std.specs.Int.{trailing_zeros}
 use mir.Syntax.{w64}
 use Rattle.rvm_mem.specs.Pages.{first}
 use Rattle.rvm_mem.proofs.Lowest.{first_in_row, first_in_none}
-use Rattle.rvm_mem.proofs.page_set.PageSet.first.Goals.{In-loop-i, After-row_at-row}
+use Rattle.rvm_mem.proofs.page_set.PageSet.first.Goals.{After-row_at-row}
 use Rattle.rvm_mem.proofs.page_set.PageSet.first.Goals as goal
 
 -- the row that is read

@@ -1,6 +1,6 @@
 use Rattle.std.proofs.Common.{true, set, ap, sym, ◌∙◌, arith}
 use Rattle.rvm_mem.proofs.Changed.{Read, page_inside, row_inside, flag_stays, flags_changed, inserted, inserted_counted, few_counted}
-use Rattle.rvm_mem.proofs.page_set.PageSet.insert.Goals.{Start, After-has_bit}
+use Rattle.rvm_mem.proofs.page_set.PageSet.insert.Goals.{After-has_bit}
 use Rattle.rvm_mem.proofs.page_set.PageSet.insert.Goals as goal
 
 pub index-row-requires : goal.index-row-requires

@@ -1,6 +1,6 @@
 use Rattle.std.proofs.Common.{false, set, ap, sym, ◌∙◌, arith}
 use Rattle.rvm_mem.proofs.Changed.{Read, page_inside, row_inside, flag_stays, flags_changed, removed, removed_counted, some_counted}
-use Rattle.rvm_mem.proofs.page_set.PageSet.remove.Goals.{Start, After-has_bit}
+use Rattle.rvm_mem.proofs.page_set.PageSet.remove.Goals.{After-has_bit}
 use Rattle.rvm_mem.proofs.page_set.PageSet.remove.Goals as goal
 
 pub index-row-requires : goal.index-row-requires

@@ -3,7 +3,7 @@ use Rattle.rvm_mem.specs.Pages.{IsLowest, has_except}
 use Rattle.rvm_precopy.specs.Plans.{Plan}
 use Rattle.rvm_precopy.proofs.Scans.{Looked, Finds, looked_fresh, looked_kept, scan_goes_on, scan_finds, scan_ends}
 use Rattle.rvm_precopy.proofs.rounds.Rounds.find.Given.{Over}
-use Rattle.rvm_precopy.proofs.rounds.Rounds.find.Goals.{then-from-eq0, else-from-eq0, After-next_except, In-Some, In_default}
+use Rattle.rvm_precopy.proofs.rounds.Rounds.find.Goals.{then-from-eq0, else-from-eq0, After-next_except, In-Some}
 use Rattle.rvm_precopy.proofs.rounds.Rounds.find.Goals as goal
 
 -- the word that the block is looked at with
