@@ -65,6 +65,13 @@ impl<M: PagedMemory + Drop> Mode<M> {
         mem::replace(self, Mode::Empty { move_number: 0 })
     }
 
+    /// This is the mode from now on.
+    pub(crate) fn set(&mut self, mode: Mode<M>)
+        ensures { self.new ≡ mode }
+    {
+        *self = mode;
+    }
+
     /// The highest number of a move that the host has begun or staged.
     pub(crate) fn move_number(&self) -> u64
         ensures { result ≡ move_of (mode_of (plain_of self.now)) }
@@ -92,7 +99,7 @@ impl<M: PagedMemory + Drop> Mode<M> {
         ensures frame { result.1 ≡ None }
         ensures mode { self.new ≡ mode }
     {
-        *self = mode;
+        self.set(mode);
         HostReply::refused(why)
     }
 

@@ -112,11 +112,11 @@ impl<M: PagedMemory + Drop> Mode<M> {
         match Source::begin(alloc, move_number + 1, guest, policy) {
             Ok(source) => {
                 let offer = source.offer();
-                *self = Mode::Leaving(source);
+                self.set(Mode::Leaving(source));
                 Ok(HostReply::Begun(move_number + 1).with(offer))
             }
             Err(guest) => {
-                *self = Mode::Run { move_number, guest };
+                self.set(Mode::Run { move_number, guest });
                 Err(AllocError)
             }
         }
@@ -172,7 +172,7 @@ impl<M: PagedMemory + Drop> Mode<M> {
             Mode::Leaving(source) => {
                 let move_number = source.move_number();
                 let guest = source.into_guest();
-                *self = Mode::Run { move_number, guest };
+                self.set(Mode::Run { move_number, guest });
                 HostReply::Aborted.with(Frame::Abort { move_number })
             }
             Mode::Run { move_number, guest } => {
@@ -207,7 +207,7 @@ impl<M: PagedMemory + Drop> Mode<M> {
                     return self.stay(Mode::Leaving(source), HostRefusal::Ignored);
                 }
                 let guest = source.into_guest();
-                *self = Mode::Run { move_number, guest };
+                self.set(Mode::Run { move_number, guest });
                 HostReply::MoveDeclined(most).alone()
             }
             mode => self.stay(mode, HostRefusal::Ignored),
@@ -251,7 +251,7 @@ impl<M: PagedMemory + Drop> Mode<M> {
     {
         match self {
             Mode::Leaving(source) if source.is_stopped(move_number) => {
-                *self = Mode::Given { move_number };
+                self.set(Mode::Given { move_number });
                 HostReply::Committed(move_number).with(Frame::Go { move_number })
             }
             _ => HostReply::refused(HostRefusal::Ignored),
@@ -266,7 +266,7 @@ impl<M: PagedMemory + Drop> Mode<M> {
     {
         match self {
             Mode::Given { move_number: given } if *given == move_number => {
-                *self = Mode::Empty { move_number };
+                self.set(Mode::Empty { move_number });
                 HostReply::Finished
             }
             _ => HostReply::Refused(HostRefusal::Ignored),

@@ -91,10 +91,10 @@ impl<M: PagedMemory + Drop> Mode<M> {
             return Ok(HostReply::Declined(limit).with(Frame::Refuse { move_number, limit }));
         }
         let staging = Staging::offer(alloc, u32::from(pages), u32::from(harts))?;
-        *self = Mode::Staging {
+        self.set(Mode::Staging {
             move_number,
             staging,
-        };
+        });
         Ok(HostReply::Accepted.with(Frame::Accept { move_number }))
     }
 
@@ -263,10 +263,10 @@ impl<M: PagedMemory + Drop> Mode<M> {
     fn keep(&mut self, move_number: u64, staging: Staging<M>)
         ensures { self.new ≡ Mode.Staging move_number staging }
     {
-        *self = Mode::Staging {
+        self.set(Mode::Staging {
             move_number,
             staging,
-        };
+        });
     }
 
     /// The whole guest is here.
@@ -275,7 +275,7 @@ impl<M: PagedMemory + Drop> Mode<M> {
         ensures frame { result.1 ≡ Some (Frame.Ready move_number) }
         ensures mode { self.new ≡ Mode.Held move_number guest }
     {
-        *self = Mode::Held { move_number, guest };
+        self.set(Mode::Held { move_number, guest });
         HostReply::ReadySent.with(Frame::Ready { move_number })
     }
 
@@ -312,17 +312,17 @@ impl<M: PagedMemory + Drop> Mode<M> {
                     };
                     return self.stay(mode, HostRefusal::Ignored);
                 }
-                *self = Mode::Run { move_number, guest };
+                self.set(Mode::Run { move_number, guest });
                 HostReply::Started.with(Frame::Started { move_number })
             }
             Mode::Run {
                 move_number: runs,
                 guest,
             } => {
-                *self = Mode::Run {
+                self.set(Mode::Run {
                     move_number: runs,
                     guest,
-                };
+                });
                 if runs != move_number {
                     return HostReply::refused(HostRefusal::Ignored);
                 }
@@ -343,14 +343,14 @@ impl<M: PagedMemory + Drop> Mode<M> {
                 move_number: staged,
                 ..
             } if *staged == move_number => {
-                *self = Mode::Empty { move_number };
+                self.set(Mode::Empty { move_number });
                 HostReply::Dropped
             }
             Mode::Held {
                 move_number: held,
                 ..
             } if *held == move_number => {
-                *self = Mode::Empty { move_number };
+                self.set(Mode::Empty { move_number });
                 HostReply::Dropped
             }
             _ => HostReply::Refused(HostRefusal::Ignored),

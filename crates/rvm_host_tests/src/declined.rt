@@ -1,16 +1,25 @@
 //! A guest that is larger than a host takes: each event, the answer, and the place of the frame that was made.
 
-use crate::hosts::{Event, Hosts, guest};
+use crate::hosts::{Event, Hosts};
 use std::alloc::Global;
 use std::test::Fail;
-
-/// `jal zero, 0`.
-const LOOP: u32 = 0x0000_006F;
 
 const A: u8 = 0;
 
 /// An event, and what is answered to it.
 type Row = (Event, &'static str, [u64; 4], Option<usize>);
+
+/// The offer of four pages to a host that takes three, and what comes of it.
+static ROWS: [Row; 8] = [
+    (Event::Begin(A, 1), "begun", [1, 0, 0, 0], Some(0)),
+    (Event::Resend(A), "resent", [0; 4], Some(1)),
+    (Event::Deliver(0), "declined", [3, 0, 0, 0], Some(2)),
+    (Event::Deliver(2), "move declined", [3, 0, 0, 0], None),
+    (Event::Deliver(1), "declined", [3, 0, 0, 0], Some(3)),
+    (Event::Deliver(3), "Ignored", [27, 0, 0, 0], None),
+    (Event::Copy(A), "NoMove", [25, 0, 0, 0], None),
+    (Event::Begin(A, 0), "BadHost", [33, 0, 0, 0], None),
+];
 
 /// The first of these events whose answer is another one.
 fn first_other(alloc: Global, hosts: &mut Hosts, rows: &[Row]) -> Result<Option<usize>, Fail> {
@@ -23,20 +32,14 @@ fn first_other(alloc: Global, hosts: &mut Hosts, rows: &[Row]) -> Result<Option<
     Ok(None)
 }
 
+/// Offers the guest in new hosts.
+fn offer(alloc: Global) -> Result<Option<usize>, Fail> {
+    let mut hosts = Hosts::new(alloc, 4, &[4, 3])?;
+    first_other(alloc, &mut hosts, &ROWS)
+}
+
 #[test]
 fn a_guest_that_is_too_large_is_declined(rt: HostRuntime) -> Result<(), Fail> {
-    let guest = guest(rt.alloc(), 4, &[LOOP])?;
-    let mut hosts = Hosts::new(rt.alloc(), guest, &[4, 3], 1)?;
-    let rows = [
-        (Event::Begin(A, 1), "begun", [1, 0, 0, 0], Some(0)),
-        (Event::Resend(A), "resent", [0; 4], Some(1)),
-        (Event::Deliver(0), "declined", [3, 0, 0, 0], Some(2)),
-        (Event::Deliver(2), "move declined", [3, 0, 0, 0], None),
-        (Event::Deliver(1), "declined", [3, 0, 0, 0], Some(3)),
-        (Event::Deliver(3), "Ignored", [27, 0, 0, 0], None),
-        (Event::Copy(A), "NoMove", [25, 0, 0, 0], None),
-        (Event::Begin(A, 0), "BadHost", [33, 0, 0, 0], None),
-    ];
-    assert_eq!(rt; first_other(rt.alloc(), &mut hosts, &rows)?, None);
+    assert_eq!(rt; offer(rt.alloc())?, None);
     Ok(())
 }

@@ -19,6 +19,12 @@ pub const POLICY: Policy = Policy {
     factor: 3,
 };
 
+/// `jal zero, 0`.
+pub const LOOP: u32 = 0x0000_006F;
+
+/// The version of the stream that the hosts speak.
+const VERSION: u32 = 1;
+
 /// Why hosts of another number cannot be made.
 const WRONG_COUNT: &str = "there are two to eight hosts";
 
@@ -91,62 +97,49 @@ pub fn guest(alloc: Global, pages: u32, words: &[u32]) -> Result<Debugged<FlatMe
     }
 }
 
-/// The host that has the guest, with room for all.
-fn first_host(
+/// Puts the hosts in, of which the first one has a guest of so many pages that loops.
+fn fill(
     alloc: Global,
-    guest: Debugged<FlatMemory>,
-    count: u8,
-    limit: u16,
-    version: u32,
-) -> Result<Vec<Host<FlatMemory>>, Fail> {
-    let mut hosts = again!(Vec::with_capacity(alloc, usize::from(count)));
-    match Host::with_version(Some(guest), 0, count, limit, version) {
-        Ok(host) => {
-            hosts.push_reserved(host);
-            Ok(hosts)
-        }
-        Err(_) => Err(Fail::from(WRONG_COUNT)),
-    }
-}
-
-/// The hosts behind the first one.
-fn add_others(
     hosts: &mut Vec<Host<FlatMemory>>,
+    pages: u32,
     count: u8,
     limits: &[u16],
-    version: u32,
 ) -> Result<(), Fail> {
-    let mut id = 1u8;
+    let mut id = 0u8;
     for limit in limits {
-        let Ok(host) = Host::with_version(None, id, count, *limit, version) else {
-            return Err(Fail::from(WRONG_COUNT));
+        let guest = match id {
+            0 => Some(guest(alloc, pages, &[LOOP])?),
+            _ => None,
         };
-        hosts.push(host)?;
+        match Host::with_version(guest, id, count, *limit, VERSION) {
+            Ok(host) => hosts.push(host)?,
+            Err(refused) => {
+                drop(refused);
+                return Err(Fail::from(WRONG_COUNT));
+            }
+        }
         id = id.wrapping_add(1);
     }
     Ok(())
 }
 
 impl Hosts {
-    /// So many hosts, with this guest at host 0.
-    pub fn new(
-        alloc: Global,
-        guest: Debugged<FlatMemory>,
-        limits: &[u16],
-        version: u32,
-    ) -> Result<Hosts, Fail> {
-        let [first, others @ ..] = limits else {
-            return Err(Fail::from(WRONG_COUNT));
-        };
+    /// So many hosts, with a guest of so many pages at host 0.
+    pub fn new(alloc: Global, pages: u32, limits: &[u16]) -> Result<Hosts, Fail> {
         let Ok(count) = u8::try_from(limits.len()) else {
             return Err(Fail::from(WRONG_COUNT));
         };
-        let mut hosts = first_host(alloc, guest, count, *first, version)?;
-        add_others(&mut hosts, count, others, version)?;
-        Ok(Hosts {
-            hosts,
-            sent: Vec::new(alloc),
-        })
+        let mut hosts = again!(Vec::with_capacity(alloc, limits.len()));
+        match fill(alloc, &mut hosts, pages, count, limits) {
+            Ok(()) => Ok(Hosts {
+                hosts,
+                sent: Vec::new(alloc),
+            }),
+            Err(fail) => {
+                drop(hosts);
+                Err(fail)
+            }
+        }
     }
 
     /// What an event is at a host; none where no such frame was sent.
@@ -181,10 +174,20 @@ impl Hosts {
 
     /// A frame of a host comes to another one.
     pub fn hear(&mut self, alloc: Global, host: u8, from: u8, frame: Frame) -> Result<Said, Fail> {
-        let frame = again!(shared(alloc, &frame));
-        let (reply, _) = answer(alloc, &mut self.hosts, host, &HostEvent::Came(from, frame))?;
+        let event = came(alloc, from, &frame);
+        drop(frame);
+        let event = event?;
+        let answered = answer(alloc, &mut self.hosts, host, &event);
+        drop(event);
+        let (reply, _) = answered?;
         Ok(said(&reply))
     }
+}
+
+/// The event that a copy of a frame comes.
+fn came(alloc: Global, from: u8, frame: &Frame) -> Result<HostEvent, Fail> {
+    let frame = again!(shared(alloc, frame));
+    Ok(HostEvent::Came(from, frame))
 }
 
 /// A copy of a frame, for an event.

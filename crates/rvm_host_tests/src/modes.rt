@@ -1,9 +1,10 @@
 //! Each command and each kind of frame at a host in each mode.
 
 use crate::frames::{KINDS, frame};
-use crate::hosts::{Event, Hosts, again, guest};
+use crate::hosts::{Event, Hosts, again};
 use rvm_frame::Frame;
 use std::alloc::Global;
+use std::process::Abort;
 use std::test::Fail;
 
 const A: u8 = 0;
@@ -11,7 +12,7 @@ const A: u8 = 0;
 const B: u8 = 1;
 
 /// A move of a guest of one page from A to B.
-pub const MOVE: [Event; 12] = [
+pub static MOVE: [Event; 12] = [
     Event::Begin(A, 1),
     Event::Deliver(0),
     Event::Deliver(1),
@@ -64,17 +65,32 @@ const EMPTY_AFTER: Place = Place {
 
 /// Two hosts behind the first events of the move.
 fn at(alloc: Global, place: Place) -> Result<Hosts, Fail> {
-    let guest = guest(alloc, 1, &[0x0000_006F])?;
-    let mut hosts = Hosts::new(alloc, guest, &[1, 1], 1)?;
-    for event in MOVE.iter().take(place.events) {
+    let mut hosts = Hosts::new(alloc, 1, &[1, 1])?;
+    match play(alloc, &mut hosts, place.events) {
+        Ok(()) => Ok(hosts),
+        Err(fail) => {
+            drop(hosts);
+            Err(fail)
+        }
+    }
+}
+
+/// Plays so many events of the move.
+fn play(alloc: Global, hosts: &mut Hosts, events: usize) -> Result<(), Fail> {
+    for event in MOVE.iter().take(events) {
         hosts.turn(alloc, *event)?;
     }
-    Ok(hosts)
+    Ok(())
 }
 
 /// What a host there answers to an event.
 fn turned(alloc: Global, place: Place, event: Event) -> Result<&'static str, Fail> {
     let mut hosts = at(alloc, place)?;
+    turn(alloc, &mut hosts, event)
+}
+
+/// What a host answers to an event.
+fn turn(alloc: Global, hosts: &mut Hosts, event: Event) -> Result<&'static str, Fail> {
     let (said, _) = hosts.turn(alloc, event)?;
     Ok(said.0)
 }
@@ -92,7 +108,7 @@ fn hear(alloc: Global, hosts: &mut Hosts, host: u8, frame: Frame) -> Result<&'st
 }
 
 /// The answers to Step, Begin, Copy, Resend and Abort in each mode.
-const COMMANDS: [(Place, [&str; 5]); 10] = [
+static COMMANDS: [(Place, [&str; 5]); 10] = [
     (
         EMPTY,
         ["NotHere", "NotHere", "NotHere", "NoMove", "NotHere"],
@@ -123,28 +139,51 @@ const COMMANDS: [(Place, [&str; 5]); 10] = [
     ),
 ];
 
+/// A host there answers an event so.
+fn assert_turned(
+    rt: &impl Abort,
+    alloc: Global,
+    place: Place,
+    event: Event,
+    answer: &'static str,
+) -> Result<(), Fail> {
+    assert_eq!(rt; turned(alloc, place, event)?, answer);
+    Ok(())
+}
+
+/// A host there answers each command so.
+fn assert_commands(
+    rt: &impl Abort,
+    alloc: Global,
+    place: Place,
+    answers: &[&'static str; 5],
+) -> Result<(), Fail> {
+    let host = place.host;
+    let to = if host == A { 1 } else { 0 };
+    let commands = [
+        Event::Step(host),
+        Event::Begin(host, to),
+        Event::Copy(host),
+        Event::Resend(host),
+        Event::Abort(host),
+    ];
+    for (command, answer) in commands.iter().zip(answers) {
+        assert_turned(rt, alloc, place, *command, *answer)?;
+    }
+    Ok(())
+}
+
 #[test]
 fn each_command_is_answered_by_the_mode(rt: HostRuntime) -> Result<(), Fail> {
-    for (place, answers) in COMMANDS {
-        let host = place.host;
-        let to = if host == A { 1 } else { 0 };
-        let commands = [
-            Event::Step(host),
-            Event::Begin(host, to),
-            Event::Copy(host),
-            Event::Resend(host),
-            Event::Abort(host),
-        ];
-        for (command, answer) in commands.iter().zip(answers) {
-            assert_eq!(rt; turned(rt.alloc(), place, *command)?, answer);
-        }
+    for (place, answers) in &COMMANDS {
+        assert_commands(&rt, rt.alloc(), *place, answers)?;
     }
     Ok(())
 }
 
 /// The kinds of frames of the move that are not ignored in each mode, by their places in `frames`, and
 /// their answers.
-const FRAMES: [(Place, &[(u32, &str)]); 10] = [
+static FRAMES: [(Place, &[(u32, &str)]); 10] = [
     (EMPTY, &[]),
     (RUN, &[]),
     (OFFERING, &[(1, "open"), (2, "move declined")]),
@@ -180,19 +219,42 @@ fn answer_to(kind: u32, answers: &'static [(u32, &'static str)]) -> &'static str
     "Ignored"
 }
 
+/// A host there answers a frame of the other one so.
+fn assert_heard(
+    rt: &impl Abort,
+    alloc: Global,
+    place: Place,
+    frame: Frame,
+    answer: &'static str,
+) -> Result<(), Fail> {
+    assert_eq!(rt; heard(alloc, place, frame)?, answer);
+    Ok(())
+}
+
+/// A host there answers each kind of frame so.
+fn assert_frames(
+    rt: &impl Abort,
+    alloc: Global,
+    place: Place,
+    answers: &'static [(u32, &'static str)],
+) -> Result<(), Fail> {
+    for kind in 0..KINDS {
+        let frame = again!(frame(alloc, 1, kind));
+        assert_heard(rt, alloc, place, frame, answer_to(kind, answers))?;
+    }
+    Ok(())
+}
+
 #[test]
 fn each_frame_is_answered_by_the_mode(rt: HostRuntime) -> Result<(), Fail> {
-    for (place, answers) in FRAMES {
-        for kind in 0..KINDS {
-            let frame = again!(frame(rt.alloc(), 1, kind));
-            assert_eq!(rt; heard(rt.alloc(), place, frame)?, answer_to(kind, answers));
-        }
+    for (place, answers) in &FRAMES {
+        assert_frames(&rt, rt.alloc(), *place, *answers)?;
     }
     Ok(())
 }
 
 /// The answers to an offer of move 1, of move 2 and of too large a guest, in each mode.
-const OFFERS: [(Place, [&str; 3]); 10] = [
+static OFFERS: [(Place, [&str; 3]); 10] = [
     (EMPTY, ["accepted", "accepted", "declined"]),
     (RUN, ["Ignored", "Ignored", "Ignored"]),
     (OFFERING, ["Ignored", "Ignored", "Ignored"]),
@@ -205,17 +267,28 @@ const OFFERS: [(Place, [&str; 3]); 10] = [
     (EMPTY_AFTER, ["Ignored", "accepted", "declined"]),
 ];
 
+/// A host there answers the offers so.
+fn assert_offers(
+    rt: &impl Abort,
+    alloc: Global,
+    place: Place,
+    answers: &[&'static str; 3],
+) -> Result<(), Fail> {
+    for ((move_number, pages), answer) in [(1, 1), (2, 1), (3, 2)].iter().zip(answers) {
+        let offer = Frame::Offer {
+            move_number: *move_number,
+            pages: *pages,
+            harts: 1,
+        };
+        assert_heard(rt, alloc, place, offer, *answer)?;
+    }
+    Ok(())
+}
+
 #[test]
 fn each_offer_is_answered_by_the_mode(rt: HostRuntime) -> Result<(), Fail> {
-    for (place, answers) in OFFERS {
-        for ((move_number, pages), answer) in [(1, 1), (2, 1), (3, 2)].iter().zip(answers) {
-            let offer = Frame::Offer {
-                move_number: *move_number,
-                pages: *pages,
-                harts: 1,
-            };
-            assert_eq!(rt; heard(rt.alloc(), place, offer)?, answer);
-        }
+    for (place, answers) in &OFFERS {
+        assert_offers(&rt, rt.alloc(), *place, answers)?;
     }
     Ok(())
 }

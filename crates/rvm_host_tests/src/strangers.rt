@@ -1,9 +1,10 @@
 //! Frames that a host does not wait for: each kind, of another move, in each mode.
 
 use crate::frames::{KINDS, frame};
-use crate::hosts::{Hosts, again, guest};
+use crate::hosts::{Hosts, again};
 use crate::modes::MOVE;
 use std::alloc::Global;
+use std::process::Abort;
 use std::test::Fail;
 
 /// The first kind of frame of move 7 that a host does not ignore where another host sends it.
@@ -18,16 +19,24 @@ fn first_heard(alloc: Global, hosts: &mut Hosts, host: u8, from: u8) -> Result<O
     Ok(None)
 }
 
+/// Both hosts ignore each kind of frame of move 7.
+fn assert_ignored(rt: &impl Abort, alloc: Global, hosts: &mut Hosts) -> Result<(), Fail> {
+    assert_eq!(rt; first_heard(alloc, hosts, 0, 1)?, None);
+    assert_eq!(rt; first_heard(alloc, hosts, 1, 0)?, None);
+    Ok(())
+}
+
+/// They ignore them before and behind each event of a move.
+fn assert_ignored_in_a_move(rt: &impl Abort, alloc: Global, hosts: &mut Hosts) -> Result<(), Fail> {
+    for event in &MOVE {
+        assert_ignored(rt, alloc, hosts)?;
+        hosts.turn(alloc, *event)?;
+    }
+    assert_ignored(rt, alloc, hosts)
+}
+
 #[test]
 fn frames_of_another_move_are_ignored_in_each_mode(rt: HostRuntime) -> Result<(), Fail> {
-    let guest = guest(rt.alloc(), 1, &[0x0000_006F])?;
-    let mut hosts = Hosts::new(rt.alloc(), guest, &[1, 1], 1)?;
-    for event in MOVE {
-        assert_eq!(rt; first_heard(rt.alloc(), &mut hosts, 0, 1)?, None);
-        assert_eq!(rt; first_heard(rt.alloc(), &mut hosts, 1, 0)?, None);
-        hosts.turn(rt.alloc(), event)?;
-    }
-    assert_eq!(rt; first_heard(rt.alloc(), &mut hosts, 0, 1)?, None);
-    assert_eq!(rt; first_heard(rt.alloc(), &mut hosts, 1, 0)?, None);
-    Ok(())
+    let mut hosts = Hosts::new(rt.alloc(), 1, &[1, 1])?;
+    assert_ignored_in_a_move(&rt, rt.alloc(), &mut hosts)
 }

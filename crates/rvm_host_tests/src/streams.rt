@@ -3,22 +3,25 @@
 ghost use Rattle.std.specs.Prelude.{◌≤◌, length};
 
 use crate::hosts::again;
-use crate::worlds::{first_events, turn, world};
+use crate::worlds::{FIRST_EVENTS, turn, world};
 use rvm_frame::{Frame, FrameFault, FrameReader};
+use rvm_mem::FlatMemory;
+use rvm_world::World;
 use std::alloc::Global;
+use std::process::Abort;
 use std::test::Fail;
 
 /// The places of the frames that host 0 sends in the move up to the commit.
-const SENT: [usize; 8] = [0, 2, 3, 4, 5, 6, 7, 9];
+static SENT: [usize; 8] = [0, 2, 3, 4, 5, 6, 7, 9];
 
 /// Where a frame of a stream ends, and its name.
 type End = (usize, &'static str);
 
 /// The stream of host 0 in each version.
-const STREAMS: [(u8, [End; 9]); 2] = [
+static STREAMS: [(u8, &[End]); 2] = [
     (
         1,
-        [
+        &[
             (17, "Hello"),
             (33, "Offer"),
             (4148, "Page"),
@@ -32,7 +35,7 @@ const STREAMS: [(u8, [End; 9]); 2] = [
     ),
     (
         2,
-        [
+        &[
             (17, "Hello"),
             (33, "Offer"),
             (4148, "Page"),
@@ -49,13 +52,29 @@ const STREAMS: [(u8, [End; 9]); 2] = [
 /// Hello, and the frames that host 0 sends in a move of four pages.
 fn stream(alloc: Global, version: u8) -> Result<Vec<u8>, Fail> {
     let mut world = world(alloc, 4, &[4, 4], u32::from(version))?;
-    for event in first_events() {
-        turn(alloc, &mut world, &event)?;
+    match play(alloc, &mut world) {
+        Ok(()) => sent(alloc, &world, version),
+        Err(fail) => {
+            drop(world);
+            Err(fail)
+        }
     }
+}
+
+/// The events of the move up to the commit.
+fn play(alloc: Global, world: &mut World<FlatMemory>) -> Result<(), Fail> {
+    for event in &FIRST_EVENTS {
+        turn(alloc, world, event)?;
+    }
+    Ok(())
+}
+
+/// Hello of a version, and the frames that host 0 sent.
+fn sent(alloc: Global, world: &World<FlatMemory>, version: u8) -> Result<Vec<u8>, Fail> {
     let mut stream = again!(Vec::with_capacity(alloc, 20_000));
     again!(stream.extend_from_slice(&[0, 0, 0, 0, 0, 0, 0, 0, 0, 4, 0, 0, 0, version, 0, 0, 0]));
-    for place in SENT {
-        if let Some(bytes) = world.frame(place) {
+    for place in &SENT {
+        if let Some(bytes) = world.frame(*place) {
             again!(stream.extend_from_slice(bytes));
         }
     }
@@ -124,19 +143,25 @@ fn feed_cut(
     Ok((first, both))
 }
 
+/// A stream ends where its last frame does, and each cut of it gives the frames before it.
+fn assert_cuts(rt: &impl Abort, alloc: Global, stream: &[u8], ends: &[End]) -> Result<(), Fail> {
+    assert_eq!(rt; Some(stream.len()), ends.last().map(|(end, _)| *end));
+    for cut in 0..=stream.len() {
+        let came = feed_cut(alloc, stream, cut, ends)?;
+        assert_eq!(rt;
+            came,
+            (Some(ended(ends, cut)), Some(ends.len())),
+            "cut at {cut}"
+        );
+    }
+    Ok(())
+}
+
 #[test]
 fn each_cut_of_a_stream_gives_the_frames_before_it(rt: HostRuntime) -> Result<(), Fail> {
-    for (version, ends) in STREAMS {
-        let stream = stream(rt.alloc(), version)?;
-        assert_eq!(rt; Some(stream.len()), ends.last().map(|(end, _)| *end));
-        for cut in 0..=stream.len() {
-            let came = feed_cut(rt.alloc(), &stream, cut, &ends)?;
-            assert_eq!(rt;
-                came,
-                (Some(ended(&ends, cut)), Some(ends.len())),
-                "cut at {cut}"
-            );
-        }
+    for (version, ends) in &STREAMS {
+        let stream = stream(rt.alloc(), *version)?;
+        assert_cuts(&rt, rt.alloc(), &stream, *ends)?;
     }
     Ok(())
 }

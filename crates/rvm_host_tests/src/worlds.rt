@@ -1,17 +1,15 @@
 //! Worlds: lists of events, and moves that are driven.
 
-use crate::hosts::{POLICY, again, guest};
+use crate::hosts::{Event, LOOP, POLICY, again, guest};
 use crate::replies::{Said, said};
 use rvm_core::{BadSize, Host};
 use rvm_debug::{BoardEvent, BoardReply, Debugged};
 use rvm_mem::FlatMemory;
 use rvm_message::Command;
-use rvm_world::{Driven, Event, World, WorldError, drive_move, run_world};
+use rvm_world::{Driven, World, WorldError, WorldReply, drive_move, run_world};
 use std::alloc::Global;
+use std::process::Abort;
 use std::test::Fail;
-
-/// `jal zero, 0`.
-const LOOP: u32 = 0x0000_006F;
 
 /// A world whose first host has a guest of so many pages that loops.
 pub fn world(
@@ -31,17 +29,12 @@ pub fn world(
     }
 }
 
-/// An event of the guest at a host.
-fn step(host: u8) -> Event {
-    Event::At(host, Command::Board(BoardEvent::Step(0)))
-}
-
 /// What an event is answered, and the place of the frame that was made, also where the world was refused
 /// memory at first: it is then as before.
 pub fn turn(
     alloc: Global,
     world: &mut World<FlatMemory>,
-    event: &Event,
+    event: &rvm_world::Event,
 ) -> Result<(Said, Option<usize>), Fail> {
     let before = (world.sent(), world.current());
     let reply = match world.apply(alloc, event) {
@@ -57,17 +50,36 @@ pub fn turn(
 }
 
 /// What an event is answered.
-fn answer(alloc: Global, world: &mut World<FlatMemory>, event: &Event) -> Result<Said, Fail> {
-    Ok(turn(alloc, world, event)?.0)
+fn answer(alloc: Global, world: &mut World<FlatMemory>, event: Event) -> Result<Said, Fail> {
+    Ok(turn(alloc, world, &event.in_world())?.0)
+}
+
+/// An event is answered so.
+fn assert_answer(
+    rt: &impl Abort,
+    alloc: Global,
+    world: &mut World<FlatMemory>,
+    event: Event,
+    name: &'static str,
+) -> Result<(), Fail> {
+    assert_eq!(rt; answer(alloc, world, event)?.0, name);
+    Ok(())
 }
 
 /// A world of so many hosts is made, or refused.
 fn is_made(alloc: Global, limits: &[u16], version: u32) -> Result<bool, Fail> {
     let guest = guest(alloc, 1, &[LOOP])?;
-    Ok(!matches!(
-        World::with_version(alloc, guest, limits, version),
-        Err((WorldError::BadSize, _))
-    ))
+    match World::with_version(alloc, guest, limits, version) {
+        Ok(world) => {
+            drop(world);
+            Ok(true)
+        }
+        Err(refused) => {
+            let made = !matches!(refused.0, WorldError::BadSize);
+            drop(refused);
+            Ok(made)
+        }
+    }
 }
 
 /// The version that a new world of such hosts speaks; none where it is refused, and the guest comes back.
@@ -78,135 +90,182 @@ fn world_version(alloc: Global, limits: &[u16]) -> Result<Option<u32>, Fail> {
         made => made,
     };
     match made {
-        Ok(world) => Ok(Some(world.version())),
-        Err((WorldError::BadSize, guest)) => came_back(guest),
-        Err((error, _)) => Err(Fail::from(error)),
+        Ok(world) => {
+            let version = world.version();
+            drop(world);
+            Ok(Some(version))
+        }
+        Err(refused) => no_world(refused),
     }
+}
+
+/// No version, where a world was refused for its size and its guest came back.
+fn no_world(refused: (WorldError, Debugged<FlatMemory>)) -> Result<Option<u32>, Fail> {
+    let (error, mut guest) = refused;
+    let version = match error {
+        WorldError::BadSize => came_back(&mut guest),
+        _ => Err(Fail::from(error)),
+    };
+    drop(guest);
+    version
 }
 
 /// The version that a new host of so many speaks; none where it is refused, and the guest comes back.
 fn host_version(alloc: Global, count: u8, limit: u16) -> Result<Option<u32>, Fail> {
     let guest = guest(alloc, 1, &[LOOP])?;
     match Host::new(Some(guest), 0, count, limit) {
-        Ok(host) => Ok(Some(host.version())),
-        Err((BadSize, Some(guest))) => came_back(guest),
-        Err((BadSize, None)) => Err(Fail::from("the guest comes back")),
+        Ok(host) => {
+            let version = host.version();
+            drop(host);
+            Ok(Some(version))
+        }
+        Err(refused) => no_version(refused),
     }
 }
 
+/// No version, where a host was refused and its guest came back.
+fn no_version(refused: (BadSize, Option<Debugged<FlatMemory>>)) -> Result<Option<u32>, Fail> {
+    let mut refused = refused;
+    let version = match &mut refused.1 {
+        Some(guest) => came_back(guest),
+        None => Err(Fail::from("the guest comes back")),
+    };
+    drop(refused);
+    version
+}
+
 /// No version; the guest that came back loops as before.
-fn came_back(guest: Debugged<FlatMemory>) -> Result<Option<u32>, Fail> {
-    let mut guest = guest;
+fn came_back(guest: &mut Debugged<FlatMemory>) -> Result<Option<u32>, Fail> {
     match guest.apply(BoardEvent::Step(0)) {
         BoardReply::Retired => Ok(None),
         _ => Err(Fail::from("the guest that came back loops")),
     }
 }
 
-#[test]
-fn a_world_has_two_to_eight_hosts_of_some_pages(rt: HostRuntime) -> Result<(), Fail> {
-    let worlds: [(&[u16], u32, bool); 9] = [
-        (&[4, 4], 1, true),
-        (&[4, 4], 3, true),
-        (&[4, 4], 4, false),
-        (&[4], 1, false),
-        (&[4, 4, 4], 3, true),
-        (&[4, 4, 4], 2, false),
-        (&[4, 0], 1, false),
-        (&[4, 4097], 1, false),
-        (&[4, 4, 4, 4, 4, 4, 4, 4, 4], 3, false),
-    ];
-    for (limits, version, made) in worlds {
-        assert_eq!(rt; is_made(rt.alloc(), limits, version)?, made);
-    }
-    let worlds: [(&[u16], Option<u32>); 7] = [
-        (&[4, 4], Some(1)),
-        (&[1, 4096], Some(1)),
-        (&[4, 4, 4], Some(3)),
-        (&[4, 4, 4, 4, 4, 4, 4, 4], Some(3)),
-        (&[4, 0], None),
-        (&[4, 4097], None),
-        (&[4, 4, 4, 4, 4, 4, 4, 4, 4], None),
-    ];
-    for (limits, version) in worlds {
-        assert_eq!(rt; world_version(rt.alloc(), limits)?, version);
-    }
-    let hosts = [
-        (2, 4, Some(1)),
-        (3, 4, Some(3)),
-        (8, 4096, Some(3)),
-        (2, 0, None),
-        (2, 4097, None),
-        (9, 4, None),
-    ];
-    for (count, limit, version) in hosts {
-        assert_eq!(rt; host_version(rt.alloc(), count, limit)?, version);
+/// The limits of hosts and a version, and whether a world of them is made.
+static MADE: [(&[u16], u32, bool); 9] = [
+    (&[4, 4], 1, true),
+    (&[4, 4], 3, true),
+    (&[4, 4], 4, false),
+    (&[4], 1, false),
+    (&[4, 4, 4], 3, true),
+    (&[4, 4, 4], 2, false),
+    (&[4, 0], 1, false),
+    (&[4, 4097], 1, false),
+    (&[4, 4, 4, 4, 4, 4, 4, 4, 4], 3, false),
+];
+
+/// The limits of hosts, and the version that a new world of them speaks.
+static WORLDS: [(&[u16], Option<u32>); 7] = [
+    (&[4, 4], Some(1)),
+    (&[1, 4096], Some(1)),
+    (&[4, 4, 4], Some(3)),
+    (&[4, 4, 4, 4, 4, 4, 4, 4], Some(3)),
+    (&[4, 0], None),
+    (&[4, 4097], None),
+    (&[4, 4, 4, 4, 4, 4, 4, 4, 4], None),
+];
+
+/// How many hosts there are and a host's limit, and the version that a new one speaks.
+static HOSTS: [(u8, u16, Option<u32>); 6] = [
+    (2, 4, Some(1)),
+    (3, 4, Some(3)),
+    (8, 4096, Some(3)),
+    (2, 0, None),
+    (2, 4097, None),
+    (9, 4, None),
+];
+
+/// Just the worlds of `MADE` that can be are made.
+fn assert_made(rt: &impl Abort, alloc: Global) -> Result<(), Fail> {
+    for (limits, version, made) in &MADE {
+        assert_eq!(rt; is_made(alloc, *limits, *version)?, *made);
     }
     Ok(())
 }
 
-/// Host 0 begins a move to host 1.
-fn begin() -> Event {
-    let policy = POLICY;
-    Event::At(0, Command::Begin { to: 1, policy })
+/// New worlds speak the versions of `WORLDS`.
+fn assert_worlds(rt: &impl Abort, alloc: Global) -> Result<(), Fail> {
+    for (limits, version) in &WORLDS {
+        assert_eq!(rt; world_version(alloc, *limits)?, *version);
+    }
+    Ok(())
 }
+
+/// New hosts speak the versions of `HOSTS`.
+fn assert_hosts(rt: &impl Abort, alloc: Global) -> Result<(), Fail> {
+    for (count, limit, version) in &HOSTS {
+        assert_eq!(rt; host_version(alloc, *count, *limit)?, *version);
+    }
+    Ok(())
+}
+
+#[test]
+fn a_world_has_two_to_eight_hosts_of_some_pages(rt: HostRuntime) -> Result<(), Fail> {
+    assert_made(&rt, rt.alloc())?;
+    assert_worlds(&rt, rt.alloc())?;
+    assert_hosts(&rt, rt.alloc())
+}
+
+/// Host 0 begins a move to host 1.
+const BEGIN: rvm_world::Event = rvm_world::Event::At(
+    0,
+    Command::Begin {
+        to: 1,
+        policy: POLICY,
+    },
+);
 
 /// Host 0 copies.
-fn copy() -> Event {
-    Event::At(0, Command::Copy)
-}
+const COPY: rvm_world::Event = rvm_world::Event::At(0, Command::Copy);
 
 /// The events of a move of four pages from host 0 to host 1 up to the commit, in versions 1 and 2.
-pub fn first_events() -> [Event; 17] {
-    [
-        begin(),
-        Event::Deliver(0),
-        Event::Deliver(1),
-        copy(),
-        copy(),
-        copy(),
-        copy(),
-        copy(),
-        Event::Deliver(2),
-        Event::Deliver(3),
-        Event::Deliver(4),
-        Event::Deliver(5),
-        Event::Deliver(6),
-        copy(),
-        copy(),
-        Event::Deliver(7),
-        Event::Deliver(8),
-    ]
-}
+pub const FIRST_EVENTS: [rvm_world::Event; 17] = [
+    BEGIN,
+    rvm_world::Event::Deliver(0),
+    rvm_world::Event::Deliver(1),
+    COPY,
+    COPY,
+    COPY,
+    COPY,
+    COPY,
+    rvm_world::Event::Deliver(2),
+    rvm_world::Event::Deliver(3),
+    rvm_world::Event::Deliver(4),
+    rvm_world::Event::Deliver(5),
+    rvm_world::Event::Deliver(6),
+    COPY,
+    COPY,
+    rvm_world::Event::Deliver(7),
+    rvm_world::Event::Deliver(8),
+];
 
 /// An event, what is answered to it, and the place of the frame that was made.
 type Row = (Event, Said, Option<usize>);
 
 /// The same move, of which the fourth copy never comes: host 1 lacks its page, which is copied again.
-fn lost_copy() -> [Row; 20] {
-    [
-        (begin(), ("begun", [1, 0, 0, 0]), Some(0)),
-        (Event::Deliver(0), ("accepted", [0; 4]), Some(1)),
-        (Event::Deliver(1), ("open", [0; 4]), None),
-        (copy(), ("copied", [0, 1, 0, 0]), Some(2)),
-        (copy(), ("copied", [1, 2, 0, 0]), Some(3)),
-        (copy(), ("copied", [2, 3, 0, 0]), Some(4)),
-        (copy(), ("copied", [3, 4, 0, 0]), Some(5)),
-        (copy(), ("round", [1, 4, 0, 0]), Some(6)),
-        (Event::Deliver(2), ("stored", [0, 1, 0, 0]), None),
-        (Event::Deliver(3), ("stored", [1, 2, 0, 0]), None),
-        (Event::Deliver(4), ("stored", [2, 3, 0, 0]), None),
-        (Event::Deliver(6), ("noted", [0; 4]), None),
-        (copy(), ("stopping", [0; 4]), None),
-        (copy(), ("state sent", [0; 4]), Some(7)),
-        (Event::Deliver(7), ("lacking", [1, 0, 0, 0]), Some(8)),
-        (Event::Deliver(8), ("fixing", [1, 0, 0, 0]), None),
-        (copy(), ("copied", [3, 5, 0, 0]), Some(9)),
-        (copy(), ("state sent", [0; 4]), Some(10)),
-        (Event::Deliver(9), ("stored", [3, 5, 0, 0]), None),
-        (Event::Deliver(10), ("ready", [0; 4]), Some(11)),
-    ]
-}
+static LOST_COPY: [Row; 20] = [
+    (Event::Begin(0, 1), ("begun", [1, 0, 0, 0]), Some(0)),
+    (Event::Deliver(0), ("accepted", [0; 4]), Some(1)),
+    (Event::Deliver(1), ("open", [0; 4]), None),
+    (Event::Copy(0), ("copied", [0, 1, 0, 0]), Some(2)),
+    (Event::Copy(0), ("copied", [1, 2, 0, 0]), Some(3)),
+    (Event::Copy(0), ("copied", [2, 3, 0, 0]), Some(4)),
+    (Event::Copy(0), ("copied", [3, 4, 0, 0]), Some(5)),
+    (Event::Copy(0), ("round", [1, 4, 0, 0]), Some(6)),
+    (Event::Deliver(2), ("stored", [0, 1, 0, 0]), None),
+    (Event::Deliver(3), ("stored", [1, 2, 0, 0]), None),
+    (Event::Deliver(4), ("stored", [2, 3, 0, 0]), None),
+    (Event::Deliver(6), ("noted", [0; 4]), None),
+    (Event::Copy(0), ("stopping", [0; 4]), None),
+    (Event::Copy(0), ("state sent", [0; 4]), Some(7)),
+    (Event::Deliver(7), ("lacking", [1, 0, 0, 0]), Some(8)),
+    (Event::Deliver(8), ("fixing", [1, 0, 0, 0]), None),
+    (Event::Copy(0), ("copied", [3, 5, 0, 0]), Some(9)),
+    (Event::Copy(0), ("state sent", [0; 4]), Some(10)),
+    (Event::Deliver(9), ("stored", [3, 5, 0, 0]), None),
+    (Event::Deliver(10), ("ready", [0; 4]), Some(11)),
+];
 
 /// The first of these events whose answer is another one.
 fn first_other(
@@ -215,7 +274,7 @@ fn first_other(
     rows: &[Row],
 ) -> Result<Option<usize>, Fail> {
     for (place, (event, answer, frame)) in rows.iter().enumerate() {
-        let (said, made) = turn(alloc, world, event)?;
+        let (said, made) = turn(alloc, world, &event.in_world())?;
         if said.0 != answer.0 || said.1 != answer.1 || made != *frame {
             return Ok(Some(place));
         }
@@ -226,98 +285,166 @@ fn first_other(
 /// Loses a copy in a new world.
 fn lose_a_copy(alloc: Global) -> Result<Option<usize>, Fail> {
     let mut world = world(alloc, 4, &[4, 4], 1)?;
-    first_other(alloc, &mut world, &lost_copy())
+    first_other(alloc, &mut world, &LOST_COPY)
+}
+
+/// What is answered behind the first events, with the commit on its way.
+static LAST_EVENTS: [(Event, &str); 7] = [
+    (Event::Step(0), "NotHere"),
+    (Event::Step(1), "Paused"),
+    (Event::Deliver(9), "started"),
+    (Event::Step(1), "retired"),
+    (Event::Deliver(10), "finished"),
+    (Event::Deliver(11), "NoFrame"),
+    (Event::Step(2), "BadHost"),
+];
+
+/// Events are answered so.
+fn assert_answers(
+    rt: &impl Abort,
+    alloc: Global,
+    world: &mut World<FlatMemory>,
+    rows: &'static [(Event, &'static str)],
+) -> Result<(), Fail> {
+    for (event, name) in rows {
+        assert_answer(rt, alloc, world, *event, *name)?;
+    }
+    Ok(())
+}
+
+/// How long the frames of the move are.
+static LENGTHS: [usize; 11] = [16, 13, 4115, 4115, 4115, 4115, 21, 235, 13, 13, 13];
+
+/// The frames are so long.
+fn assert_lengths(rt: &impl Abort, world: &World<FlatMemory>) {
+    for (place, length) in LENGTHS.iter().enumerate() {
+        assert_eq!(rt; world.frame(place).map(|bytes| bytes.len()), Some(*length));
+    }
+}
+
+/// What the last event of a list was answered.
+fn last_said(replies: &[WorldReply]) -> Option<Said> {
+    replies.last().map(|reply| said(&reply.reply))
+}
+
+/// Runs the events of a move as a list, where there is memory for it, and then the last ones.
+fn assert_run(rt: &impl Abort, alloc: Global, world: &mut World<FlatMemory>) -> Result<(), Fail> {
+    let Ok(replies) = run_world(alloc, world, &FIRST_EVENTS) else {
+        return Ok(());
+    };
+    let last = last_said(&replies);
+    drop(replies);
+    assert_eq!(rt; last, Some(("committed", [1, 0, 0, 0])));
+    assert_answers(rt, alloc, world, &LAST_EVENTS)?;
+    assert_lengths(rt, world);
+    Ok(())
 }
 
 #[test]
 fn a_list_of_events_is_run(rt: HostRuntime) -> Result<(), Fail> {
     assert_eq!(rt; lose_a_copy(rt.alloc())?, None);
     let mut world = world(rt.alloc(), 4, &[4, 4], 1)?;
-    let Ok(replies) = run_world(rt.alloc(), &mut world, &first_events()) else {
-        return Ok(());
-    };
-    assert_eq!(rt;
-        replies.last().map(|reply| said(&reply.reply)),
-        Some(("committed", [1, 0, 0, 0]))
-    );
-    assert_eq!(rt; answer(rt.alloc(), &mut world, &step(0))?.0, "NotHere");
-    assert_eq!(rt; answer(rt.alloc(), &mut world, &step(1))?.0, "Paused");
-    assert_eq!(rt;
-        answer(rt.alloc(), &mut world, &Event::Deliver(9))?.0,
-        "started"
-    );
-    assert_eq!(rt; answer(rt.alloc(), &mut world, &step(1))?.0, "retired");
-    assert_eq!(rt;
-        answer(rt.alloc(), &mut world, &Event::Deliver(10))?.0,
-        "finished"
-    );
-    assert_eq!(rt;
-        answer(rt.alloc(), &mut world, &Event::Deliver(11))?.0,
-        "NoFrame"
-    );
-    assert_eq!(rt; answer(rt.alloc(), &mut world, &step(2))?.0, "BadHost");
-    let lengths = [16, 13, 4115, 4115, 4115, 4115, 21, 235, 13, 13, 13];
-    for (place, length) in lengths.iter().enumerate() {
-        assert_eq!(rt; world.frame(place).map(|bytes| bytes.len()), Some(*length));
-    }
-    Ok(())
+    assert_run(&rt, rt.alloc(), &mut world)
 }
 
 /// Some host has the guest.
 fn has_guest(alloc: Global, world: &mut World<FlatMemory>) -> Result<bool, Fail> {
     for host in 0..world.hosts() {
-        if answer(alloc, world, &step(host))?.0 != "NotHere" {
+        if answer(alloc, world, Event::Step(host))?.0 != "NotHere" {
             return Ok(true);
         }
     }
     Ok(false)
 }
 
+/// What is answered behind a move.
+static MOVED: [(Event, &str); 2] = [(Event::Step(0), "NotHere"), (Event::Step(1), "retired")];
+
+/// Drives a move that takes so many events, and answers whether there was memory for it; where not, some
+/// host has the guest.
+fn is_driven(
+    rt: &impl Abort,
+    alloc: Global,
+    world: &mut World<FlatMemory>,
+    events: u32,
+) -> Result<bool, Fail> {
+    let Ok(driven) = drive_move(alloc, world, 0, 1, POLICY) else {
+        assert!(rt; has_guest(alloc, world)?);
+        return Ok(false);
+    };
+    assert_eq!(rt; driven, Driven::Moved(1, events));
+    assert_answers(rt, alloc, world, &MOVED)?;
+    Ok(true)
+}
+
+/// The same in a new world of so many pages and a version.
+fn is_moved(rt: &impl Abort, alloc: Global, row: (u32, u32, u32)) -> Result<bool, Fail> {
+    let (pages, version, events) = row;
+    let mut world = world(alloc, pages, &[4096, 4096], version)?;
+    is_driven(rt, alloc, &mut world, events)
+}
+
 #[test]
 fn a_move_is_driven_in_each_version(rt: HostRuntime) -> Result<(), Fail> {
-    for (pages, version, events) in [
+    for row in [
         (4, 1, 19),
         (1, 1, 13),
         (4, 2, 19),
         (4, 3, 19),
         (1024, 2, 2061),
     ] {
-        let mut world = world(rt.alloc(), pages, &[4096, 4096], version)?;
-        let Ok(driven) = drive_move(rt.alloc(), &mut world, 0, 1, POLICY) else {
-            assert!(rt; has_guest(rt.alloc(), &mut world)?);
+        if !is_moved(&rt, rt.alloc(), row)? {
             return Ok(());
-        };
-        assert_eq!(rt; driven, Driven::Moved(1, events));
-        assert_eq!(rt; answer(rt.alloc(), &mut world, &step(0))?.0, "NotHere");
-        assert_eq!(rt; answer(rt.alloc(), &mut world, &step(1))?.0, "retired");
+        }
     }
     Ok(())
+}
+
+/// Drives a move, also where it was refused memory at first.
+fn drive_again(alloc: Global, world: &mut World<FlatMemory>) -> Result<Driven, Fail> {
+    match drive_move(alloc, world, 0, 1, POLICY) {
+        Ok(driven) => Ok(driven),
+        // What was begun is given up, and the move begins anew.
+        Err(_) => {
+            answer(alloc, world, Event::Abort(0))?;
+            Ok(drive_move(alloc, world, 0, 1, POLICY)?)
+        }
+    }
+}
+
+/// Moves that no host can make, and why.
+static REFUSED: [(u8, u8, &str); 4] = [
+    (1, 0, "NotHere"),
+    (0, 0, "BadHost"),
+    (0, 5, "BadHost"),
+    (6, 0, "BadHost"),
+];
+
+/// The moves are refused.
+fn assert_refused(
+    rt: &impl Abort,
+    alloc: Global,
+    world: &mut World<FlatMemory>,
+) -> Result<(), Fail> {
+    for (from, to, reason) in &REFUSED {
+        let driven = again!(drive_move(alloc, world, *from, *to, POLICY));
+        let Driven::Refused(why) = driven else {
+            return Err(Fail::from("the move is refused"));
+        };
+        assert_eq!(rt; rvm_refusal::Refusal::from(why).name(), *reason);
+    }
+    Ok(())
+}
+
+/// A move to host 1 is declined, the guest runs on, and other moves are refused.
+fn assert_stays(rt: &impl Abort, alloc: Global, world: &mut World<FlatMemory>) -> Result<(), Fail> {
+    assert_eq!(rt; drive_again(alloc, world)?, Driven::Declined(3));
+    assert_answer(rt, alloc, world, Event::Step(0), "retired")?;
+    assert_refused(rt, alloc, world)
 }
 
 #[test]
 fn a_driven_move_is_declined_or_refused(rt: HostRuntime) -> Result<(), Fail> {
     let mut world = world(rt.alloc(), 4, &[4, 3], 1)?;
-    let driven = match drive_move(rt.alloc(), &mut world, 0, 1, POLICY) {
-        Ok(driven) => driven,
-        // What was begun is given up, and the move begins anew.
-        Err(_) => {
-            answer(rt.alloc(), &mut world, &Event::At(0, Command::Abort))?;
-            drive_move(rt.alloc(), &mut world, 0, 1, POLICY)?
-        }
-    };
-    assert_eq!(rt; driven, Driven::Declined(3));
-    assert_eq!(rt; answer(rt.alloc(), &mut world, &step(0))?.0, "retired");
-    for (from, to, reason) in [
-        (1, 0, "NotHere"),
-        (0, 0, "BadHost"),
-        (0, 5, "BadHost"),
-        (6, 0, "BadHost"),
-    ] {
-        let driven = again!(drive_move(rt.alloc(), &mut world, from, to, POLICY));
-        let Driven::Refused(why) = driven else {
-            return Err(Fail::from("the move is refused"));
-        };
-        assert_eq!(rt; rvm_refusal::Refusal::from(why).name(), reason);
-    }
-    Ok(())
+    assert_stays(&rt, rt.alloc(), &mut world)
 }

@@ -65,8 +65,14 @@ impl Pair {
         a: Recorded<PagedRam>,
         offer: Option<Addressed>,
     ) -> Option<Pair> {
-        let b = recorded(alloc, 1, 1, entries)?;
-        Some(Pair { a, b, offer })
+        match recorded(alloc, 1, 1, entries) {
+            Some(b) => Some(Pair { a, b, offer }),
+            None => {
+                drop(a);
+                drop(offer);
+                None
+            }
+        }
     }
 
     /// Plays a story, and puts the journals in order.
@@ -82,10 +88,10 @@ impl Pair {
 
     /// Host A offers its guest again and again, and each offer comes to host B.
     fn fill(&mut self, alloc: Global, count: u32) -> Option<()> {
-        let (_, _, mut offer) = record(&mut self.a, alloc, HostEvent::Do(BEGIN))?;
+        let mut offer = made(&mut self.a, alloc, HostEvent::Do(BEGIN))?;
         for _ in 1..count {
             self.come(alloc, offer)?;
-            (_, _, offer) = record(&mut self.a, alloc, HostEvent::Do(Command::Resend))?;
+            offer = made(&mut self.a, alloc, HostEvent::Do(Command::Resend))?;
         }
         self.come(alloc, offer)
     }
@@ -93,25 +99,21 @@ impl Pair {
     /// A frame comes to host B.
     fn come(&mut self, alloc: Global, frame: Option<Addressed>) -> Option<()> {
         let frame = frame?.frame;
-        record(&mut self.b, alloc, came(alloc, 0, frame)?)?;
+        drop(made(&mut self.b, alloc, came(alloc, 0, frame)?)?);
         Some(())
     }
 
     /// The next event of host A, and of each host as frames come of it.
     fn play(&mut self, alloc: Global, event: HostEvent) -> Option<()> {
-        let (_, _, mut made) = record(&mut self.a, alloc, event)?;
+        let mut next = made(&mut self.a, alloc, event)?;
         for _ in 0..FRAMES {
-            let Some(Addressed { from, to, frame }) = made else {
+            let Some(Addressed { from, to, frame }) = next else {
                 return Some(());
             };
-            let event = came(alloc, from, frame)?;
-            let (_, _, next) = if to == 0 {
-                record(&mut self.a, alloc, event)?
-            } else {
-                record(&mut self.b, alloc, event)?
-            };
-            made = next;
+            let host = if to == 0 { &mut self.a } else { &mut self.b };
+            next = made(host, alloc, came(alloc, from, frame)?)?;
         }
+        drop(next);
         None
     }
 
@@ -127,9 +129,8 @@ impl Pair {
     /// Host B accepts the offer, and host A hears of it.
     fn accept(&mut self, alloc: Global) -> Option<()> {
         let offer = self.offer.take()?;
-        let (_, _, accept) = record(&mut self.b, alloc, came(alloc, 0, offer.frame)?)?;
-        let accept = accept?;
-        record(&mut self.a, alloc, came(alloc, 1, accept.frame)?)?;
+        let accept = made(&mut self.b, alloc, came(alloc, 0, offer.frame)?)??;
+        drop(made(&mut self.a, alloc, came(alloc, 1, accept.frame)?)?);
         Some(())
     }
 
@@ -140,6 +141,17 @@ impl Pair {
             ended => ended,
         }
     }
+}
+
+/// Records an event: the frame that came of it, if one did.
+fn made(
+    recorded: &mut Recorded<PagedRam>,
+    alloc: Global,
+    event: HostEvent,
+) -> Option<Option<Addressed>> {
+    let (_, reply, frame) = record(recorded, alloc, event)?;
+    drop(reply);
+    Some(frame)
 }
 
 /// Begins a move: the offer.
@@ -172,7 +184,9 @@ fn order_behind(
 ) -> Option<Result<Vec<Event>, AuditError>> {
     let has_offered = matches!(story, Story::LateJournal);
     let mut pair = Pair::new(alloc, entries, has_offered)?;
-    pair.order_of(alloc, story)
+    let order = pair.order_of(alloc, story);
+    drop(pair);
+    order
 }
 
 /// Puts two journals of so many entries in order, in which frames of equal bytes come again and again.

@@ -14,6 +14,13 @@ use std::marker::Brand;
 use std::sync::Wait;
 use std::sync::ledger::Blank;
 
+/// Writes 7 to the register t0.
+const POKE: BoardEvent = BoardEvent::PokeReg {
+    hart: 0,
+    register: 5,
+    value: 7,
+};
+
 /// What one seat writes to a register the other one reads.
 pub fn write_and_read<R: AllocGlobal + Print + Wait>(rt: &R) -> Option<()> {
     let host = recorded(rt.alloc(), 0, 1, 100)?;
@@ -36,21 +43,47 @@ fn poke_and_look<L: Seating, R: AllocGlobal + Print + Wait>(
     requires seats { blank.parts ≡ 2 }
     requires empty { recorded.journal.entries ≡ [] }
 {
-    let (host, seats) = share_host::<L>(rt.alloc(), blank, recorded, 2)?;
-    let (mut first, mut second) = both(seats)?;
-    let poke = board(BoardEvent::PokeReg {
-        hart: 0,
-        register: 5,
-        value: 7,
-    });
-    let (poked, _) = call(rt, &host, &mut first, poke)?;
-    let (seen, _) = call(rt, &host, &mut second, board(BoardEvent::Regs(0)))?;
-    let t0 = match seen.reply() {
+    let (host, mut seats) = share_host::<L>(rt.alloc(), blank, recorded, 2)?;
+    let done = poke_and_tell(rt, &host, seats.as_mut_slice());
+    drop(host);
+    drop(seats);
+    done
+}
+
+/// Pokes a register from the first of these seats, and tells what the second sees.
+fn poke_and_tell<L: Seating, R: AllocGlobal + Print + Wait>(
+    rt: &R,
+    host: &SharedHost<L, PagedRam>,
+    seats: &mut [Seat<L>],
+) -> Option<()> {
+    let (poked, _) = place_and_t0(rt, host, seats, 0, POKE)?;
+    let (seen, t0) = place_and_t0(rt, host, seats, 1, BoardEvent::Regs(0))?;
+    let is_later = seen > poked;
+    println!(rt; "one seat writes 7, the other reads {t0}, at a later place {is_later}").ok()
+}
+
+/// Calls a host from one of these seats: the place of the call, and the register t0 in its answer.
+fn place_and_t0<L: Seating, R: AllocGlobal + Wait>(
+    rt: &R,
+    host: &SharedHost<L, PagedRam>,
+    seats: &mut [Seat<L>],
+    seat: usize,
+    event: BoardEvent,
+) -> Option<(u32, u32)> {
+    let seat = seats.get_mut(seat)?;
+    let (receipt, frame) = call(rt, host, seat, board(event))?;
+    drop(frame);
+    let told = (receipt.place(), t0_of(receipt.reply()));
+    drop(receipt);
+    Some(told)
+}
+
+/// The register t0 in an answer; 0 if it has no registers.
+fn t0_of(reply: HostReply) -> u32 {
+    match reply {
         HostReply::Board(BoardReply::Regs(registers)) => registers[5],
         _ => 0,
-    };
-    let is_later = seen.place() > poked.place();
-    println!(rt; "one seat writes 7, the other reads {t0}, at a later place {is_later}").ok()
+    }
 }
 
 /// Calls once more than the journal takes, and closes the host, first without its one receipt.
@@ -63,15 +96,51 @@ fn fill_and_close<L: Seating, R: AllocGlobal + Print + Wait>(
     requires seats { blank.parts ≡ 2 }
     requires empty { recorded.journal.entries ≡ [] }
 {
-    let alloc = rt.alloc();
-    let (host, seats) = share_host::<L>(alloc, blank, recorded, 2)?;
-    let (mut first, second) = both(seats)?;
-    let (receipt, _) = call(rt, &host, &mut first, board(BoardEvent::Step(0)))?;
-    let is_full = is_full(rt, &host, &mut first);
-    println!(rt; "a second call: journal of 1 entry full, event handed back {is_full}").ok()?;
-    let seats = seated(alloc, first, second)?;
-    let error = close_without(rt, host, seats)?;
-    close_with(rt, error, receipt)
+    let (host, mut seats) = share_host::<L>(rt.alloc(), blank, recorded, 2)?;
+    match fill(rt, &host, seats.as_mut_slice()) {
+        Some(receipt) => close_twice(rt, host, seats, receipt),
+        None => {
+            drop(host);
+            drop(seats);
+            None
+        }
+    }
+}
+
+/// Calls twice from the first of these seats: the receipt of the one call that the journal takes.
+fn fill<L: Seating, R: AllocGlobal + Print + Wait>(
+    rt: &R,
+    host: &SharedHost<L, PagedRam>,
+    seats: &mut [Seat<L>],
+) -> Option<Receipt> {
+    let first = seats.get_mut(0)?;
+    let (receipt, frame) = call(rt, host, first, board(BoardEvent::Step(0)))?;
+    drop(frame);
+    match tell_full(rt, host, first) {
+        Some(()) => Some(receipt),
+        None => {
+            drop(receipt);
+            None
+        }
+    }
+}
+
+/// Closes a host, first without its one receipt.
+fn close_twice<L: Seating, R: AllocGlobal + Print + Wait>(
+    rt: &R,
+    host: SharedHost<L, PagedRam>,
+    seats: Vec<Seat<L>>,
+    receipt: Receipt,
+) -> Option<()>
+    requires { L.seats ≡ L.parts }
+{
+    match close_without(rt, host, seats) {
+        Some(error) => close_with(rt, error, receipt),
+        None => {
+            drop(receipt);
+            None
+        }
+    }
 }
 
 /// Closes a host without its one receipt, which cannot be: all comes back.
@@ -82,10 +151,17 @@ fn close_without<L: Seating, R: AllocGlobal + Print + Wait>(
 ) -> Option<CloseError<L, PagedRam>>
     requires { L.seats ≡ L.parts }
 {
-    let error = close_again(rt, host, seats, Vec::new(rt.alloc())).err()?;
-    let is_missed = error.kind == CloseKind::Mismatch(0);
-    println!(rt; "closed without its receipt: place 0 is missed {is_missed}").unwrap_or(());
-    Some(error)
+    match close_again(rt, host, seats, Vec::new(rt.alloc())) {
+        Err(error) => {
+            let is_missed = error.kind == CloseKind::Mismatch(0);
+            println!(rt; "closed without its receipt: place 0 is missed {is_missed}").unwrap_or(());
+            Some(error)
+        }
+        Ok(recorded) => {
+            drop(recorded);
+            None
+        }
+    }
 }
 
 /// Closes the host that came back with its receipt.
@@ -102,9 +178,14 @@ fn close_with<L: Seating, R: AllocGlobal + Print + Wait>(
         seats,
         receipts,
     } = error;
-    let receipts = with_one_more(receipts, receipt)?;
-    let count = count_closed(rt, opened.share_again(), seats, receipts)?;
-    println!(rt; "closed with it: {count} entry").ok()
+    match with_one_more(receipts, receipt) {
+        Some(receipts) => tell_closed(rt, opened.share_again(), seats, receipts),
+        None => {
+            drop(opened);
+            drop(seats);
+            None
+        }
+    }
 }
 
 /// Receipts, and one more.
@@ -117,18 +198,25 @@ fn with_one_more(receipts: Vec<Receipt>, receipt: Receipt) -> Option<Vec<Receipt
     Some(receipts)
 }
 
-/// Closes a host: how many entries its journal has.
-fn count_closed<L: Seating, R: AllocGlobal + Wait>(
+/// Closes a host, and tells how many entries its journal has.
+fn tell_closed<L: Seating, R: AllocGlobal + Print + Wait>(
     rt: &R,
     host: SharedHost<L, PagedRam>,
     seats: Vec<Seat<L>>,
     receipts: Vec<Receipt>,
-) -> Option<u32>
+) -> Option<()>
     requires { L.seats ≡ L.parts }
 {
     match close_again(rt, host, seats, receipts) {
-        Ok(recorded) => Some(recorded.count()),
-        Err(_) => None,
+        Ok(recorded) => {
+            let count = recorded.count();
+            drop(recorded);
+            println!(rt; "closed with it: {count} entry").ok()
+        }
+        Err(error) => {
+            drop(error);
+            None
+        }
     }
 }
 
@@ -149,25 +237,6 @@ pub fn share_host<L: Seating>(
     }
 }
 
-/// The two seats.
-fn both<L: Seating>(seats: Vec<Seat<L>>) -> Option<(Seat<L>, Seat<L>)> {
-    let mut seats = seats;
-    let second = seats.pop()?;
-    let first = seats.pop()?;
-    Some((first, second))
-}
-
-/// A list of both seats.
-fn seated<L: Seating>(alloc: Global, first: Seat<L>, second: Seat<L>) -> Option<Vec<Seat<L>>> {
-    let mut seats = match Vec::with_capacity(alloc, 2) {
-        Ok(seats) => seats,
-        Err(_) => Vec::with_capacity(alloc, 2).ok()?,
-    };
-    seats.push_reserved(first);
-    seats.push_reserved(second);
-    Some(seats)
-}
-
 /// Calls a host, and once more where that was refused memory.
 fn call<L: Seating, R: AllocGlobal + Wait>(
     rt: &R,
@@ -182,25 +251,29 @@ fn call<L: Seating, R: AllocGlobal + Wait>(
     }
 }
 
-/// Whether a journal of one entry takes no second one, and hands its event back.
-fn is_full<L: Seating, R: AllocGlobal + Wait>(
+/// Tells whether a journal of one entry takes no second one, and hands its event back.
+fn tell_full<L: Seating, R: AllocGlobal + Print + Wait>(
     rt: &R,
     host: &SharedHost<L, PagedRam>,
     seat: &mut Seat<L>,
-) -> bool {
-    match host.call(rt, rt.alloc(), seat, board(BoardEvent::Step(0))) {
+) -> Option<()> {
+    let is_full = match host.call(rt, rt.alloc(), seat, board(BoardEvent::Step(0))) {
         Err((RecordError::OutOfMemory, event)) => {
             is_handed_back(host.call(rt, rt.alloc(), seat, event))
         }
         answer => is_handed_back(answer),
-    }
+    };
+    println!(rt; "a second call: journal of 1 entry full, event handed back {is_full}").ok()
 }
 
 /// Whether a journal of one entry was full, and the event of the call came back.
 fn is_handed_back(answer: Result<(Receipt, Option<Addressed>), (RecordError, HostEvent)>) -> bool {
     match answer {
         Err((RecordError::RecorderFull(1), event)) => event == board(BoardEvent::Step(0)),
-        _ => false,
+        other => {
+            drop(other);
+            false
+        }
     }
 }
 

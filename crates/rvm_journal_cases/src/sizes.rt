@@ -26,21 +26,28 @@ fn ask_for_journals<R: AllocGlobal + Print>(rt: &R) -> Option<()> {
     let host = refuse_journal(rt.alloc(), host, 0)?;
     let host = refuse_journal(rt.alloc(), host, 1048577)?;
     let mut recorded = Recorded::new(rt.alloc(), host, 1048576).ok()?;
-    tell_step(rt, &mut recorded)
+    let done = tell_step(rt, &mut recorded);
+    drop(recorded);
+    done
 }
 
 /// The host, where a journal of so many entries is refused for its size.
 fn refuse_journal(alloc: Global, host: Host<PagedRam>, capacity: u32) -> Option<Host<PagedRam>> {
     match Recorded::new(alloc, host, capacity) {
         Err((BadSize, host)) => Some(host),
-        Ok(_) => None,
+        Ok(recorded) => {
+            drop(recorded);
+            None
+        }
     }
 }
 
 /// Whether a host writes down a step of its guest.
 fn tell_step<R: AllocGlobal + Print>(rt: &R, recorded: &mut Recorded<PagedRam>) -> Option<()> {
-    let (_, reply, _) = record(recorded, rt.alloc(), board(BoardEvent::Step(0)))?;
+    let (_, reply, frame) = record(recorded, rt.alloc(), board(BoardEvent::Step(0)))?;
+    drop(frame);
     let is_retired = reply == HostReply::Board(BoardReply::Retired);
+    drop(reply);
     println!(rt;
         "journals of 0 and of 1048577 entries: BadSize, the host comes back; of 1048576: retired {is_retired}"
     ).ok()
@@ -76,7 +83,10 @@ fn refuse_share<L: Seating>(
 {
     match share::<L, PagedRam>(alloc, blank, host, seats) {
         Err((ShareError::BadSize, _, host)) => Some(host),
-        _ => None,
+        other => {
+            drop(other);
+            None
+        }
     }
 }
 
@@ -90,10 +100,9 @@ fn tell_seats<L: Seating, R: AllocGlobal + Print>(
     requires seats { blank.parts ≡ 16 }
     requires empty { host.journal.entries ≡ [] }
 {
-    let (_host, seats) = share_host::<L>(rt.alloc(), blank, host, 16)?;
-    println!(rt;
-        "0 and 17 seats: BadSize, the host comes back; shared by {} seats",
-        seats.len()
-    )
-    .ok()
+    let (host, seats) = share_host::<L>(rt.alloc(), blank, host, 16)?;
+    drop(host);
+    let count = seats.len();
+    drop(seats);
+    println!(rt; "0 and 17 seats: BadSize, the host comes back; shared by {count} seats").ok()
 }

@@ -8,6 +8,7 @@ use rvm_hart::Stepped;
 use rvm_journal::{RecordError, Recorded, SliceError};
 use rvm_message::StepReply;
 use rvm_paged::PagedRam;
+use std::alloc::Global;
 
 /// What is shown at a host.
 #[derive(Clone, Copy)]
@@ -35,7 +36,9 @@ fn show_at_a_host<R: AllocGlobal + Print>(
     requires { (1 ≤ harts) × (harts ≤ 8) }
 {
     let mut host = recorded(rt.alloc(), 0, harts, capacity)?;
-    show(rt, &mut host, shown)
+    let done = show(rt, &mut host, shown);
+    drop(host);
+    done
 }
 
 /// At this host.
@@ -61,13 +64,23 @@ fn record_a_slice<R: AllocGlobal + Print>(
     host: &mut Recorded<PagedRam>,
     turn: u32,
 ) -> Option<()> {
-    let (place, replies) = again!(host.record_slice(rt.alloc(), turn, 4, 64));
-    let are_retired = are_all(replies.as_slice(), StepReply::Stepped(Stepped::Retired));
+    let retired = StepReply::Stepped(Stepped::Retired);
+    let (place, count, are_retired) = answered(host, rt.alloc(), turn, 4, retired)?;
     println!(rt;
-        "slice of 4 harts from turn {turn}: {} entries from place {place}, retired {are_retired}",
-        replies.len()
-    )
-    .ok()
+        "slice of 4 harts from turn {turn}: {count} entries from place {place}, retired {are_retired}"
+    ).ok()
+}
+
+/// Records a slice: the place of its first entry, how many it has, and whether each has this answer.
+fn answered(
+    host: &mut Recorded<PagedRam>,
+    alloc: Global,
+    turn: u32,
+    harts: u32,
+    wanted: StepReply,
+) -> Option<(u32, usize, bool)> {
+    let (place, replies) = again!(host.record_slice(alloc, turn, harts, 64));
+    Some((place, replies.len(), are_all(replies.as_slice(), wanted)))
 }
 
 /// Whether each reply is this one.
@@ -81,14 +94,12 @@ fn stop_at_a_breakpoint<R: AllocGlobal + Print>(
     host: &mut Recorded<PagedRam>,
 ) -> Option<()> {
     let alloc = rt.alloc();
-    record(host, alloc, board(BoardEvent::Break(0x80000000)))?;
-    let (place, replies) = again!(host.record_slice(alloc, 0, 1, 64));
-    let is_stopped = are_all(replies.as_slice(), StepReply::Break(0x80000000));
+    drop(record(host, alloc, board(BoardEvent::Break(0x80000000)))?);
+    let stopped = StepReply::Break(0x80000000);
+    let (place, count, is_stopped) = answered(host, alloc, 0, 1, stopped)?;
     println!(rt;
-        "slice at a breakpoint: {} entry from place {place}, stopped {is_stopped}",
-        replies.len()
-    )
-    .ok()
+        "slice at a breakpoint: {count} entry from place {place}, stopped {is_stopped}"
+    ).ok()
 }
 
 /// Room for as many entries as the journal takes, and for one more.

@@ -6,7 +6,7 @@ ghost use Rattle.rvm_move.specs.Hosts.{IsEnd};
 use crate::ends::Ends;
 use crate::hosts::{HostEnd, Links, OpenHost, OpenHosts, Returned, close_host, open_host};
 use crate::plan::Plan;
-use crate::threads::{Carried, Taken, work};
+use crate::threads::{Carried, Taken, TakenAtA, TakenAtB, work};
 use rvm_cell::{Seat, Seating};
 use rvm_hart_worker::HartsWorked;
 use rvm_journal::Recorded;
@@ -129,12 +129,16 @@ fn seat_and_work<
     };
     let (from_b, from_a) = receiving;
     let taken = Taken {
-        copier,
-        receiver_a,
-        receiver_b,
-        from_b,
-        from_a,
-        policy: plan.policy,
+        at_a: TakenAtA {
+            copier,
+            receiver: receiver_a,
+            receiving: from_b,
+            policy: plan.policy,
+        },
+        at_b: TakenAtB {
+            receiver: receiver_b,
+            receiving: from_a,
+        },
     };
     work(
         rt,

@@ -20,24 +20,27 @@ pub(crate) const A: u8 = 0;
 /// The number of the host to which it moves.
 pub(crate) const B: u8 = 1;
 
-/// What the workers that move the guest take with them.
+/// What the workers at host A take with them.
 #[derive(Drop)]
-pub(crate) struct Taken<L: Seating, N: Seating, K: Link + Drop> {
+pub(crate) struct TakenAtA<L: Seating, K: Link + Drop> {
     pub(crate) copier: Seat<L>,
-    pub(crate) receiver_a: Seat<L>,
-    pub(crate) receiver_b: Seat<N>,
-    pub(crate) from_b: K,
-    pub(crate) from_a: K,
+    pub(crate) receiver: Seat<L>,
+    pub(crate) receiving: K,
     pub(crate) policy: Policy,
 }
 
-/// What the workers at host A take with them.
+/// What the worker at host B takes with it.
 #[derive(Drop)]
-struct TakenAtA<L: Seating, K: Link + Drop> {
-    copier: Seat<L>,
-    receiver: Seat<L>,
-    receiving: K,
-    policy: Policy,
+pub(crate) struct TakenAtB<N: Seating, K: Link + Drop> {
+    pub(crate) receiver: Seat<N>,
+    pub(crate) receiving: K,
+}
+
+/// What the workers that move the guest take with them.
+#[derive(Drop)]
+pub(crate) struct Taken<L: Seating, N: Seating, K: Link + Drop> {
+    pub(crate) at_a: TakenAtA<L, K>,
+    pub(crate) at_b: TakenAtB<N, K>,
 }
 
 /// What the workers that move the guest give back.
@@ -149,16 +152,19 @@ fn work_at_b<L: Seating, M: PagedMemory + Drop, K: Link + Drop, G: Gate, R: Wait
     alloc: Global,
     host: &SharedHost<L, M>,
     outgoing: &Outgoing<K>,
-    seat: Seat<L>,
+    taken: TakenAtB<L, K>,
     gate: &G,
-    receiving: K,
 ) -> Worked<L> {
+    let TakenAtB {
+        receiver,
+        receiving,
+    } = taken;
     let worked = hear(
         rt,
         alloc,
         host,
         outgoing,
-        seat,
+        receiver,
         gate,
         Worker::ReceiverAtB,
         A,
@@ -184,26 +190,13 @@ fn work_at_both<
     taken: Taken<L, N, K>,
     gate: &G,
 ) -> ((Worked<L>, Worked<L>), Worked<N>) {
-    let Taken {
-        copier,
-        receiver_a,
-        receiver_b,
-        from_b,
-        from_a,
-        policy,
-    } = taken;
-    let a = TakenAtA {
-        copier,
-        receiver: receiver_a,
-        receiving: from_b,
-        policy,
-    };
+    let Taken { at_a, at_b } = taken;
     let (host_a, host_b) = hosts;
     let (to_b, to_a) = outgoing;
     thread::join(
         rt,
-        move || work_at_a(rt, alloc, host_a, to_b, a, gate),
-        move || work_at_b(rt, alloc, host_b, to_a, receiver_b, gate, from_a),
+        move || work_at_a(rt, alloc, host_a, to_b, at_a, gate),
+        move || work_at_b(rt, alloc, host_b, to_a, at_b, gate),
     )
 }
 

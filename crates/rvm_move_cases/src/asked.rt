@@ -1,33 +1,27 @@
-//! Guests, and what is asked of them.
+//! Guests, by the bytes of their images, and what is asked of them.
 
 ghost use Rattle.std.specs.Prelude.{◌≤◌};
 
 use rvm_arguments::{GuestArguments, MoveArguments, RunArguments, ScriptArguments};
-use std::alloc::{AllocError, Global};
 
 /// How many turns each guest makes at most.
 const STEPS: u32 = 20000;
 
-/// Prints `Hi` and halts its board.
-pub const HELLO: [u32; 9] = [
-    0x100002b7, 0x04800313, 0x0062a023, 0x06900313, 0x0062a023, 0x00a00313, 0x0062a023, 0x001003b7,
-    0x0003a023,
+/// Prints `Hi` and halts its board: the words 100002B7 04800313 0062A023 06900313 0062A023 00A00313 0062A023
+/// 001003B7 0003A023.
+pub const HELLO: &[u8] = &[
+    0xb7, 0x02, 0x00, 0x10, 0x13, 0x03, 0x80, 0x04, 0x23, 0xa0, 0x62, 0x00, //
+    0x13, 0x03, 0x90, 0x06, 0x23, 0xa0, 0x62, 0x00, 0x13, 0x03, 0xa0, 0x00, //
+    0x23, 0xa0, 0x62, 0x00, 0xb7, 0x03, 0x10, 0x00, 0x23, 0xa0, 0x03, 0x00,
 ];
 
-/// Writes the first word of its RAM again and again.
-pub const WRITER: [u32; 3] = [0x800012b7, 0x0002a023, 0xffdff06f];
+/// Writes the first word of its second page again and again: the words 800012B7 0002A023 FFDFF06F.
+pub const WRITER: &[u8] = &[
+    0xb7, 0x12, 0x00, 0x80, 0x23, 0xa0, 0x02, 0x00, 0x6f, 0xf0, 0xdf, 0xff,
+];
 
-/// Jumps to itself.
-pub const LOOP: [u32; 1] = [0x0000006f];
-
-/// The bytes of an image.
-pub fn image_of(alloc: Global, words: &[u32]) -> Result<Vec<u8>, AllocError> {
-    let mut bytes = Vec::new(alloc);
-    for word in words {
-        bytes.extend_from_slice(&word.to_le_bytes())?;
-    }
-    Ok(bytes)
-}
+/// Jumps to itself: the word 0000006F.
+pub const LOOP: &[u8] = &[0x6f, 0x00, 0x00, 0x00];
 
 /// A board of one hart and four pages.
 fn guest() -> GuestArguments<'static> {

@@ -1,6 +1,6 @@
 //! The order that an audit prints, played as a script.
 
-use crate::asked::{LOOP, image_of, to_audit, to_script};
+use crate::asked::{LOOP, to_audit, to_script};
 use rvm_audit::audit;
 use rvm_journal::Entry;
 use rvm_message::{Command, ExchangeRef, HostEvent};
@@ -86,19 +86,19 @@ fn answers(alloc: Global, unplayed: Unplayed, events: &[Event]) -> Option<Vec<u8
     Some(text)
 }
 
-/// What a script answers, with the guest of the move.
-fn play(alloc: Global, image: &[u8], script: &[u8]) -> Option<Vec<u8>> {
+/// Whether a script with the guest of the move is answered so.
+fn is_played(alloc: Global, script: &[u8], told: &[u8]) -> bool {
     let (mut played, mut errors) = (Vec::new(alloc), Vec::new(alloc));
     let mut lines = script;
     let status = script_command::<PagedRam, _, _, _>(
         alloc,
         &to_script(),
-        image,
+        LOOP,
         &mut lines,
         &mut played,
         &mut errors,
     );
-    if status == Ok(0) { Some(played) } else { None }
+    status == Ok(0) && played.as_slice() == told
 }
 
 /// What both hosts of an audit answered, in the order that it found.
@@ -113,42 +113,37 @@ fn told(alloc: Global, audited: &Audited<PagedRam>) -> Option<Vec<u8>> {
     answers(alloc, unplayed, events.as_slice())
 }
 
-/// Audits a move: the order that is printed goes to `script`.
+/// Audits a move: what both hosts answered, if it did not fail. The order that is printed goes to `script`.
 fn audit_move<R: AllocGlobal + Net + Threads + Wait + Clock + Sync>(
     rt: &R,
-    image: &[u8],
     script: &mut Vec<u8>,
-) -> Option<Audited<PagedRam>>
+) -> Option<Vec<u8>>
 where
     R::Stream: Send,
 {
-    let mut errors = Vec::new(rt.alloc());
-    audit_over::<PagedRam, _, _, _>(rt, rt.alloc(), &to_audit(), image, script, &mut errors).ok()
+    let alloc = rt.alloc();
+    let mut errors = Vec::new(alloc);
+    match audit_over::<PagedRam, _, _, _>(rt, alloc, &to_audit(), LOOP, script, &mut errors) {
+        Ok(audited) => {
+            let told = told(alloc, &audited);
+            drop(audited);
+            told
+        }
+        Err(_) => None,
+    }
 }
 
-/// Whether a script, played with the same guest, answers as both hosts did, if the move did not fail.
-fn is_played(
-    alloc: Global,
-    image: &[u8],
-    script: &[u8],
-    audited: &Audited<PagedRam>,
-) -> Option<bool> {
-    let told = told(alloc, audited)?;
-    let played = play(alloc, image, script)?;
-    Some(played.as_slice() == told.as_slice())
-}
-
-/// Audits a move, and plays the order that was printed.
-fn is_audited_and_played<R: AllocGlobal + Net + Threads + Wait + Clock + Sync>(
-    rt: &R,
-) -> Option<bool>
+/// Whether a move did not fail, and the order that its audit printed, played with the same guest, answers as
+/// both hosts did.
+fn is_audited_and_played<R: AllocGlobal + Net + Threads + Wait + Clock + Sync>(rt: &R) -> bool
 where
     R::Stream: Send,
 {
-    let image = image_of(rt.alloc(), LOOP.as_slice()).ok()?;
     let mut script = Vec::new(rt.alloc());
-    let audited = audit_move(rt, image.as_slice(), &mut script)?;
-    is_played(rt.alloc(), image.as_slice(), script.as_slice(), &audited)
+    match audit_move(rt, &mut script) {
+        Some(told) => is_played(rt.alloc(), script.as_slice(), told.as_slice()),
+        None => false,
+    }
 }
 
 /// Plays the order of a move.
@@ -158,7 +153,7 @@ pub fn play_order<R: AllocGlobal + Print + Net + Threads + Wait + Clock + Sync>(
 where
     R::Stream: Send,
 {
-    let is_played = is_audited_and_played(rt) == Some(true);
+    let is_played = is_audited_and_played(rt);
     println!(rt; "an order played as a script answers as both journals {is_played}")?;
     Ok(())
 }

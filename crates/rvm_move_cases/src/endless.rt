@@ -1,12 +1,10 @@
 //! A link that gives frames without end, a byte a read, and none of them ends a receiver.
 
-use crate::asked::{HELLO, image_of, to_move};
-use crate::ended::Ended;
+use crate::asked::HELLO;
+use crate::ended::{Ended, print_no_connection};
 use rvm_link::{Link, LinkRead};
 use rvm_move::Links;
-use rvm_move_command::move_over::move_over;
 use rvm_move_command::{OpenGate, connect_both};
-use rvm_paged::PagedRam;
 use rvm_refusal::LinkFault;
 use std::net::Net;
 use std::sync::Wait;
@@ -74,25 +72,21 @@ pub fn hear_without_end<R: AllocGlobal + Print + Net + Threads + Wait + Clock + 
 where
     R::Stream: Send,
 {
-    let image = image_of(rt.alloc(), HELLO.as_slice())?;
-    let mut ended = Ended::new(rt.alloc());
-    let Ok((a, b)) = connect_both(rt) else {
-        println!(rt; "no connection")?;
-        return Ok(());
-    };
-    ended.status = move_over::<PagedRam, _, _, _, _, _>(
-        rt,
-        rt.alloc(),
-        &to_move(1),
-        image.as_slice(),
-        (with_noise(a, false), with_noise(b, true)),
-        &OpenGate,
-        &mut ended.output,
-        &mut ended.errors,
-    );
+    match connect_both(rt) {
+        Ok((a, b)) => {
+            let links = (with_noise(a, false), with_noise(b, true));
+            let ended = Ended::of_move(rt, HELLO, links, &OpenGate);
+            print_end(rt, &ended)
+        }
+        Err(_) => print_no_connection(rt),
+    }
+}
+
+/// Prints what became of the move.
+fn print_end<R: AllocGlobal + Print>(rt: &R, ended: &Ended) -> anyhow::Result<()> {
     let good = ended.status == Ok(0);
     let moved = ended.has("started");
-    let is_as_run = ended.is_as_run(rt.alloc(), image.as_slice());
+    let is_as_run = ended.is_as_run(rt.alloc(), HELLO);
     println!(rt;
         "a link without end: status 0 {good}, moved {moved}, output as of run {is_as_run}"
     )?;

@@ -1,13 +1,12 @@
 //! Links that fail.
 
-use crate::asked::{LOOP, image_of, to_move};
+use crate::asked::LOOP;
 use crate::ended::Ended;
 use rvm_link::{Link, LinkRead};
 use rvm_move::Links;
-use rvm_move_command::move_over::move_over;
 use rvm_move_command::{OpenGate, connect_both};
-use rvm_paged::PagedRam;
 use rvm_refusal::LinkFault;
+use std::alloc::Global;
 use std::net::Net;
 use std::sync::Wait;
 use std::thread::Threads;
@@ -57,48 +56,52 @@ where
     R::Stream: Send,
 {
     for k in 0..12 {
-        let is_allowed = break_link(rt, k, u32::MAX)?;
-        println!(rt; "A sends {k} times: an end that may be {is_allowed}")?;
-        let is_allowed = break_link(rt, u32::MAX, k)?;
-        println!(rt; "B sends {k} times: an end that may be {is_allowed}")?;
+        break_link(rt, "A", k, k, u32::MAX)?;
+        break_link(rt, "B", k, u32::MAX, k)?;
     }
     Ok(())
 }
 
-/// Moves a guest while A sends at most so many times, and B. Whether the end is one that may be: no
-/// commit and no start, the output of a run and the status 0; a commit, a start and that output; or a commit
-/// alone and the status 1.
-fn break_link<R: AllocGlobal + Net + Threads + Wait + Clock + Sync>(
+/// Moves a guest while A sends at most so many times, and B, and prints of the side that fails whether the
+/// end is one that may be.
+fn break_link<R: AllocGlobal + Print + Net + Threads + Wait + Clock + Sync>(
     rt: &R,
+    side: &str,
+    k: u32,
     at_a: u32,
     at_b: u32,
-) -> anyhow::Result<bool>
+) -> anyhow::Result<()>
 where
     R::Stream: Send,
 {
-    let image = image_of(rt.alloc(), LOOP.as_slice())?;
-    let mut ended = Ended::new(rt.alloc());
-    let Ok((a, b)) = connect_both(rt) else {
-        return Ok(false);
+    let is_allowed = match connect_both(rt) {
+        Ok((a, b)) => {
+            let links = (that_fail(a, at_a), that_fail(b, at_b));
+            let ended = Ended::of_move(rt, LOOP, links, &OpenGate);
+            may_be(rt.alloc(), &ended)
+        }
+        Err(_) => false,
     };
-    ended.status = move_over::<PagedRam, _, _, _, _, _>(
-        rt,
-        rt.alloc(),
-        &to_move(1),
-        image.as_slice(),
-        (that_fail(a, at_a), that_fail(b, at_b)),
-        &OpenGate,
-        &mut ended.output,
-        &mut ended.errors,
-    );
+    print_end(rt, side, k, is_allowed)
+}
+
+/// Prints whether the end is one that may be, where a side sends so many times.
+fn print_end<R: Print>(rt: &R, side: &str, k: u32, is_allowed: bool) -> anyhow::Result<()> {
+    println!(rt; "{side} sends {k} times: an end that may be {is_allowed}")?;
+    Ok(())
+}
+
+/// Whether an end is one that may be: no commit and no start, the output of a run and the status 0; a
+/// commit, a start and that output; or a commit alone and the status 1.
+fn may_be(alloc: Global, ended: &Ended) -> bool {
     let is_started = ended.has("started");
-    let is_as_run = ended.is_as_run(rt.alloc(), image.as_slice());
+    let is_as_run = ended.is_as_run(alloc, LOOP);
     if !ended.has("committed 1") {
-        return Ok(!is_started && is_as_run && ended.status == Ok(0));
+        return !is_started && is_as_run && ended.status == Ok(0);
     }
-    Ok(if is_started {
+    if is_started {
         is_as_run
     } else {
         ended.status == Ok(1)
-    })
+    }
 }

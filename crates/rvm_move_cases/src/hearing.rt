@@ -122,13 +122,26 @@ impl Link for Given<'_> {
 pub fn hear_links<R: AllocGlobal + Print + Wait>(rt: &R) -> anyhow::Result<()> {
     let is_cut_well = ends_at_each_cut(rt, 1) && ends_at_each_cut(rt, STREAM.len());
     println!(rt; "a stream cut at each of its 67 bytes: ends as it must {is_cut_well}")?;
-    for (name, stream, pauses, fails) in LINKS {
+    hear_each(rt, LINKS.as_slice())
+}
+
+/// Hears links of all kinds, and prints how the receivers end.
+fn hear_each<R: AllocGlobal + Print + Wait>(
+    rt: &R,
+    links: &[(&str, &[u8], u32, bool)],
+) -> anyhow::Result<()> {
+    for (name, stream, pauses, fails) in links {
         let mut given = Given::new(stream, 1);
-        given.pauses = pauses;
-        given.fails = fails;
-        let end = hear(rt, given);
-        println!(rt; "{name}: {end:?}")?;
+        given.pauses = *pauses;
+        given.fails = *fails;
+        print_end(rt, name, hear(rt, given))?;
     }
+    Ok(())
+}
+
+/// Prints how the receiver ended that heard this link.
+fn print_end<R: Print>(rt: &R, name: &str, end: WorkEnd) -> anyhow::Result<()> {
+    println!(rt; "{name}: {end:?}")?;
     Ok(())
 }
 
@@ -177,8 +190,15 @@ fn hear_at<L: Seating, R: AllocGlobal + Wait>(
     requires empty { recorded.journal.entries ≡ [] }
 {
     match share::<L, PagedRam>(rt.alloc(), blank, recorded, 1) {
-        Ok((host, seats)) => hear_by(rt, &host, seats, given),
-        Err(_) => WorkEnd::OutOfMemory,
+        Ok((host, seats)) => {
+            let end = hear_by(rt, &host, seats, given);
+            drop(host);
+            end
+        }
+        Err((_, _, recorded)) => {
+            drop(recorded);
+            WorkEnd::OutOfMemory
+        }
     }
 }
 
@@ -190,10 +210,21 @@ fn hear_by<L: Seating, R: AllocGlobal + Wait>(
     given: Given,
 ) -> WorkEnd {
     let mut seats = seats;
-    let Some(seat) = seats.pop() else {
-        return WorkEnd::OutOfMemory;
-    };
+    match seats.pop() {
+        Some(seat) => hear_in(rt, host, seat, given),
+        None => WorkEnd::OutOfMemory,
+    }
+}
+
+/// How the receiver ends that has this seat.
+fn hear_in<L: Seating, R: AllocGlobal + Wait>(
+    rt: &R,
+    host: &SharedHost<L, PagedRam>,
+    seat: Seat<L>,
+    given: Given,
+) -> WorkEnd {
     let Ok(outgoing) = Outgoing::open(rt.alloc(), Given::new(&[], 1), 1) else {
+        drop(seat);
         return WorkEnd::OutOfMemory;
     };
     let side = Side {

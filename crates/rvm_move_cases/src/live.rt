@@ -2,7 +2,7 @@
 
 ghost use Rattle.std.specs.Prelude.{◌≤◌};
 
-use crate::asked::{HELLO, WRITER, image_of, to_move};
+use crate::asked::{HELLO, WRITER, to_move};
 use crate::ended::Ended;
 use rvm_move_command::move_command::move_command;
 use rvm_paged::PagedRam;
@@ -19,8 +19,8 @@ where
     R::Stream: Send,
 {
     for stream in 1..=3 {
-        move_one(rt, "hello", HELLO.as_slice(), stream)?;
-        move_one(rt, "writer", WRITER.as_slice(), stream)?;
+        move_one(rt, "hello", HELLO, stream)?;
+        move_one(rt, "writer", WRITER, stream)?;
     }
     Ok(())
 }
@@ -29,25 +29,35 @@ where
 fn move_one<R: AllocGlobal + Print + Net + Threads + Wait + Clock + Sync>(
     rt: &R,
     name: &str,
-    words: &[u32],
+    image: &[u8],
     stream: u32,
 ) -> anyhow::Result<()>
 where
     R::Stream: Send,
     requires { (1 ≤ stream) × (stream ≤ 3) }
 {
-    let image = image_of(rt.alloc(), words)?;
     let mut ended = Ended::new(rt.alloc());
     ended.status = move_command::<PagedRam, _, _, _>(
         rt,
         rt.alloc(),
         &to_move(stream),
-        image.as_slice(),
+        image,
         &mut ended.output,
         &mut ended.errors,
     );
+    print_end(rt, name, stream, image, &ended)
+}
+
+/// Prints what became of a move.
+fn print_end<R: AllocGlobal + Print>(
+    rt: &R,
+    name: &str,
+    stream: u32,
+    image: &[u8],
+    ended: &Ended,
+) -> anyhow::Result<()> {
     let moved = ended.has("committed 1") && ended.has("started") && ended.has("finished");
-    let is_as_run = ended.is_as_run(rt.alloc(), image.as_slice());
+    let is_as_run = ended.is_as_run(rt.alloc(), image);
     let good = ended.status == Ok(0);
     println!(rt;
         "{name} by stream {stream}: status 0 {good}, moved {moved}, output as of run {is_as_run}"

@@ -1,10 +1,8 @@
 //! Two workers that wait for one another.
 
-use crate::asked::{LOOP, image_of, to_move};
-use crate::ended::Ended;
+use crate::asked::LOOP;
+use crate::ended::{Ended, print_no_connection};
 use rvm_move_command::connect_both;
-use rvm_move_command::move_over::move_over;
-use rvm_paged::PagedRam;
 use rvm_worker::{Gate, Worker};
 use std::net::Net;
 use std::sync::Wait;
@@ -68,27 +66,19 @@ pub fn meet<R: AllocGlobal + Print + Net + Threads + Wait + Clock + Sync>(
 where
     R::Stream: Send,
 {
-    let image = image_of(rt.alloc(), LOOP.as_slice())?;
     let gate = Meeting {
         clock: rt,
         harts: AtomicBool::new(false),
         copier: AtomicBool::new(false),
     };
-    let mut ended = Ended::new(rt.alloc());
-    let Ok(links) = connect_both(rt) else {
-        println!(rt; "no connection")?;
-        return Ok(());
-    };
-    ended.status = move_over::<PagedRam, _, _, _, _, _>(
-        rt,
-        rt.alloc(),
-        &to_move(1),
-        image.as_slice(),
-        links,
-        &gate,
-        &mut ended.output,
-        &mut ended.errors,
-    );
+    match connect_both(rt) {
+        Ok(links) => print_end(rt, &Ended::of_move(rt, LOOP, links, &gate)),
+        Err(_) => print_no_connection(rt),
+    }
+}
+
+/// Prints what became of the move.
+fn print_end<R: Print>(rt: &R, ended: &Ended) -> anyhow::Result<()> {
     let good = ended.status == Ok(0);
     let moved = ended.has("finished");
     println!(rt; "two workers meet: status 0 {good}, moved {moved}")?;

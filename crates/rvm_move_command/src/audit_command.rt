@@ -20,7 +20,6 @@ use std::time::Clock;
 /// then `errors` says with what, and else nothing is written to it. `LinkFault` is told where a write to
 /// `output` failed or no connection can be made; as the answer, that a write to `errors` failed. It may
 /// wait for other threads, and starts three.
-#[tactic(auto, using(crate::proofs::Orders::audited))]
 pub fn audit_command<
     M: PagedMemory + Drop + Send,
     O: Write,
@@ -41,5 +40,7 @@ where
         → IsAudited (O.contents output.old) (O.contents output.new)) }
 {
     let audited = audit_over::<M, O, E, R>(rt, alloc, arguments, image, output, errors)?;
-    Ok(audited.status)
+    let status = audited.status;
+    drop(audited);
+    Ok(status)
 }

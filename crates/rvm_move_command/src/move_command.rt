@@ -6,9 +6,8 @@ ghost use Rattle.rvm_command.specs.Ends.{IsLoadable};
 ghost use Rattle.rvm_move.specs.Hosts.{IsEnd};
 ghost use Rattle.rvm_move_command.specs.Ended.{IsMoved};
 
-use crate::ended::{refuse, tell_ended};
 use crate::hosts::new_hosts;
-use crate::move_over::{move_recorded, plan_of};
+use crate::move_over::{move_recorded, plan_of, tell_end};
 use crate::socket::{Socket, connect};
 use rvm_arguments::MoveArguments;
 use rvm_command::refused::Refused;
@@ -57,10 +56,8 @@ where
     ensures unloadable { IsLoadable (image_of arguments.now.guest.raw image.now) arguments.now.guest.pages
         ⊎ (O.contents output.new ≡ O.contents output.old) }
 {
-    match move_image::<M, O, R>(rt, alloc, arguments, image, output) {
-        Ok(moved) => tell_ended(&moved, errors),
-        Err(refused) => refuse(refused, errors),
-    }
+    let moved = move_image::<M, O, R>(rt, alloc, arguments, image, output);
+    tell_end(moved, errors)
 }
 
 /// Moves the guest of an image over TCP: both hosts behind the move.
@@ -88,7 +85,10 @@ where
             let plan = plan_of(arguments);
             move_recorded(rt, alloc, recorded, links, &OpenGate, &plan, output)
         }
-        Err(fault) => Err(Refused::from(fault)),
+        Err(fault) => {
+            drop(recorded);
+            Err(Refused::from(fault))
+        }
     }
 }
 

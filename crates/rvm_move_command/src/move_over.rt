@@ -82,7 +82,7 @@ pub fn plan_of(arguments: &MoveArguments) -> Plan
 }
 
 /// Tells what both hosts of a move answered, or of a refusal.
-fn tell_end<M: PagedMemory + Drop, E: Write>(
+pub(crate) fn tell_end<M: PagedMemory + Drop, E: Write>(
     moved: Result<Moved<M>, Refused>,
     errors: &mut E,
 ) -> Result<u8, LinkFault>
@@ -92,7 +92,11 @@ fn tell_end<M: PagedMemory + Drop, E: Write>(
     ensures moved { IfOk result (λ status. status ≡ 0 → IsMoved (E.contents errors.old) (E.contents errors.new)) }
 {
     match moved {
-        Ok(moved) => tell_ended(&moved, errors),
+        Ok(moved) => {
+            let told = tell_ended(&moved, errors);
+            drop(moved);
+            told
+        }
         Err(refused) => refuse(refused, errors),
     }
 }
