@@ -13,6 +13,7 @@
                                            given, of which the lowest and the highest are printed
 
 Wants valgrind, gcc, and what `make build` builds."""
+import functools
 import os
 import re
 import subprocess
@@ -63,11 +64,20 @@ def taken(words):
     return (ended - begun) * 1000, done.stderr
 
 
+@functools.cache
+def sleep_length(millis, times=20):
+    """How many milliseconds a sleep of so many takes: the system wakes a thread a little later."""
+    begun = time.monotonic()
+    for _ in range(times):
+        time.sleep(millis / 1000)
+    return (time.monotonic() - begun) * 1000 / times
+
+
 def slept(answers):
     """The milliseconds of the copier's sleeps in a move with these answers: A's, before those of B, the first of which
     is `accepted`."""
     at_a = answers.partition("\naccepted")[0]
-    return sum(length * len(re.findall(answer, at_a, re.M)) for answer, length in SLEEPS)
+    return sum(sleep_length(millis) * len(re.findall(answer, at_a, re.M)) for answer, millis in SLEEPS)
 
 
 def one_round(times):

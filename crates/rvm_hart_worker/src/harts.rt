@@ -1,7 +1,9 @@
 //! The hart worker: it makes the turns of the guest's harts, wherever the guest is.
 
-ghost use Rattle.std.specs.Prelude.{◌≡◌};
+ghost use Rattle.std.specs.Prelude.{◌≡◌, ◌≢◌, OnOk, IfErr, ⊤};
+ghost use Rattle.std.specs.Io.KnownBytes.{Appends};
 ghost use Rattle.rvm_worker.specs.Work.{IsWork};
+ghost use Rattle.rvm_hart_worker.specs.Calls.{IsOutput, Written};
 
 use crate::pair::{Hosts, Pair};
 use crate::slices::{Then, until_drain};
@@ -26,7 +28,9 @@ pub struct HartsWorked<A: Seating, B: Seating> {
 /// Makes `steps` turns, or turns until the guest halts its board: in turn t hart t modulo the number of
 /// harts takes a step. What the guest sent is written after each 64 turns, when the board is halted and
 /// at the end. A call that one host refuses, since the guest is not there or paused there, is made at
-/// the other; while both refuse it, it is tried again each millisecond.
+/// the other; while both refuse it, it is tried again each millisecond. Each byte that a drain takes is
+/// written once, in order, unless the writer fails, which ends the worker with `LinkFault`.
+#[tactic(auto, using(crate::proofs::Calls::output_written))]
 pub fn hart_worker<
     A: Seating,
     B: Seating,
@@ -46,6 +50,8 @@ pub fn hart_worker<
 ) -> HartsWorked<A, B>
     ensures at_a { IsWork seats.0 result.seats.0 result.receipts.0.items }
     ensures at_b { IsWork seats.1 result.seats.1 result.receipts.1.items }
+    ensures output { IsOutput result.receipts.0.items result.receipts.1.items
+        (W.contents writer.old) (W.contents writer.new) (result.end ≢ WorkEnd.LinkFault) }
 {
     let (a, b) = seats;
     let mut pair = Pair {
@@ -54,12 +60,9 @@ pub fn hart_worker<
         is_at_a: true,
     };
     let mut watch = Watch::new(gate, Worker::Harts);
-    let end = match run(
+    let end = run_to_end(
         rt, alloc, hosts, &mut pair, &mut watch, writer, harts, steps,
-    ) {
-        Ok(end) => end,
-        Err(end) => end,
-    };
+    );
     give_back(pair, end)
 }
 
@@ -67,6 +70,7 @@ pub fn hart_worker<
 fn give_back<A: Seating, B: Seating>(pair: Pair<A, B>, end: WorkEnd) -> HartsWorked<A, B>
     ensures at_a { IsWork pair.at_a.start result.seats.0 result.receipts.0.items }
     ensures at_b { IsWork pair.at_b.start result.seats.1 result.receipts.1.items }
+    ensures receipts { (result.receipts.0.items ≡ pair.at_a.receipts) × (result.receipts.1.items ≡ pair.at_b.receipts) }
     ensures end { result.end ≡ end }
 {
     let Pair {
@@ -83,7 +87,29 @@ fn give_back<A: Seating, B: Seating>(pair: Pair<A, B>, end: WorkEnd) -> HartsWor
     }
 }
 
+/// Does what `run` does, and answers how it ended.
+#[tactic(auto, using(crate::proofs::Calls::written_whole))]
+fn run_to_end<A: Seating, B: Seating, M: PagedMemory + Drop, W: Write, G: Gate, R: Wait + Clock>(
+    rt: &R,
+    alloc: Global,
+    hosts: &Hosts<'_, A, B, M>,
+    pair: &mut Pair<A, B>,
+    watch: &mut Watch<'_, G>,
+    writer: &mut W,
+    harts: u32,
+    steps: u32,
+) -> WorkEnd
+    ensures { Written (pair.old.at_a, pair.old.at_b) (pair.new.at_a, pair.new.at_b)
+        (W.contents writer.old) (W.contents writer.new) (result ≢ WorkEnd.LinkFault) }
+{
+    match run(rt, alloc, hosts, pair, watch, writer, harts, steps) {
+        Ok(end) => end,
+        Err(end) => end,
+    }
+}
+
 /// Makes the turns of a run, and writes what the guest sends.
+#[tactic(auto, using(crate::proofs::Calls::written_none, crate::proofs::Calls::written_still, crate::proofs::Calls::written_still_err, crate::proofs::Calls::written_behind, crate::proofs::Calls::written_behind_err, crate::proofs::Calls::written_then, crate::proofs::Calls::written_then_err))]
 fn run<A: Seating, B: Seating, M: PagedMemory + Drop, W: Write, G: Gate, R: Wait + Clock>(
     rt: &R,
     alloc: Global,
@@ -94,8 +120,10 @@ fn run<A: Seating, B: Seating, M: PagedMemory + Drop, W: Write, G: Gate, R: Wait
     harts: u32,
     steps: u32,
 ) -> Result<WorkEnd, WorkEnd>
-    ensures at_a { pair.new.at_a.start ≡ pair.old.at_a.start }
-    ensures at_b { pair.new.at_b.start ≡ pair.old.at_b.start }
+    ensures written { OnOk result (Written (pair.old.at_a, pair.old.at_b) (pair.new.at_a, pair.new.at_b)
+        (W.contents writer.old) (W.contents writer.new) ⊤) }
+    ensures err { IfErr result (λ e. Written (pair.old.at_a, pair.old.at_b) (pair.new.at_a, pair.new.at_b)
+        (W.contents writer.old) (W.contents writer.new) (e ≢ WorkEnd.LinkFault)) }
 {
     let mut turn = 0;
     while turn < steps {
@@ -115,6 +143,7 @@ fn run<A: Seating, B: Seating, M: PagedMemory + Drop, W: Write, G: Gate, R: Wait
 }
 
 /// Writes what the guest sent, until nothing is left.
+#[tactic(auto, using(crate::proofs::Calls::written_none, crate::proofs::Calls::written_next, crate::proofs::Calls::written_still, crate::proofs::Calls::written_still_err, crate::proofs::Calls::written_failed_err))]
 fn drain<A: Seating, B: Seating, M: PagedMemory + Drop, W: Write, G: Gate, R: Wait + Clock>(
     rt: &R,
     alloc: Global,
@@ -123,16 +152,27 @@ fn drain<A: Seating, B: Seating, M: PagedMemory + Drop, W: Write, G: Gate, R: Wa
     watch: &mut Watch<'_, G>,
     writer: &mut W,
 ) -> Result<(), WorkEnd>
-    ensures at_a { pair.new.at_a.start ≡ pair.old.at_a.start }
-    ensures at_b { pair.new.at_b.start ≡ pair.old.at_b.start }
+    ensures written { OnOk result (Written (pair.old.at_a, pair.old.at_b) (pair.new.at_a, pair.new.at_b)
+        (W.contents writer.old) (W.contents writer.new) ⊤) }
+    ensures err { IfErr result (λ e. Written (pair.old.at_a, pair.old.at_b) (pair.new.at_a, pair.new.at_b)
+        (W.contents writer.old) (W.contents writer.new) (e ≢ WorkEnd.LinkFault)) }
 {
     for _drain in 0..u64::MAX {
-        let Some(bytes) = pair.sent_by_guest(rt, alloc, hosts, watch)? else {
-            return Ok(());
-        };
-        if writer.write_all(bytes.as_slice()).is_err() {
-            return Err(WorkEnd::LinkFault);
+        match pair.sent_by_guest(rt, alloc, hosts, watch)? {
+            Some(bytes) => write(writer, bytes.as_slice())?,
+            None => return Ok(()),
         }
     }
     Ok(())
+}
+
+/// Writes what a drain took.
+fn write<W: Write>(writer: &mut W, bytes: &[u8]) -> Result<(), WorkEnd>
+    ensures written { OnOk result (Appends (W.contents writer.old) (W.contents writer.new) bytes.now) }
+    ensures fault { IfErr result (λ e. e ≡ WorkEnd.LinkFault) }
+{
+    match writer.write_all(bytes) {
+        Ok(()) => Ok(()),
+        Err(_) => Err(WorkEnd::LinkFault),
+    }
 }

@@ -1,6 +1,7 @@
 //! The guest's host, of two.
 
-ghost use Rattle.std.specs.Prelude.{◌≡◌, ◌≢◌, ◌≤◌, IfOk};
+ghost use Rattle.std.specs.Prelude.{◌≡◌, ◌≢◌, ◌≤◌, [], IfOk, OnErr};
+ghost use Rattle.rvm_hart_worker.specs.Calls.{Made, bytes_of, given};
 ghost use Rattle.rvm_hart_worker.specs.declared.slices.Then.TheVariants.{Elsewhere};
 ghost use Rattle.rvm_hart_worker.specs.Drains.{is_refused, taken, told_by};
 
@@ -79,6 +80,7 @@ fn taken(answer: BoardReply) -> Drained
 
 impl<A: Seating, B: Seating> Pair<A, B> {
     /// Makes a slice where the guest was met last.
+    #[tactic(auto, using(crate::proofs::Calls::made_slice_at_a, crate::proofs::Calls::made_slice_at_b, crate::proofs::Calls::made_none))]
     fn slice<M: PagedMemory + Drop, R: Wait>(
         &mut self,
         rt: &R,
@@ -90,8 +92,7 @@ impl<A: Seating, B: Seating> Pair<A, B> {
     ) -> Result<Slice, WorkEnd>
         ensures within { IfOk result (λ s. s.made ≤ n) }
         ensures some { IfOk result (λ s. s.then ≢ Elsewhere → 1 ≤ s.made) }
-        ensures at_a { self.new.at_a.start ≡ self.old.at_a.start }
-        ensures at_b { self.new.at_b.start ≡ self.old.at_b.start }
+        ensures made { Made (self.old.at_a, self.old.at_b) (self.new.at_a, self.new.at_b) [] }
     {
         let steps = if self.is_at_a {
             self.at_a.slice(rt, alloc, hosts.a, turn, harts, n)?
@@ -102,6 +103,7 @@ impl<A: Seating, B: Seating> Pair<A, B> {
     }
 
     /// Makes a slice at the gate. Where the guest is elsewhere, the other host is asked next.
+    #[tactic(auto, using(crate::proofs::Calls::made_none))]
     fn slice_at_gate<M: PagedMemory + Drop, G: Gate, R: Wait>(
         &mut self,
         rt: &R,
@@ -114,8 +116,7 @@ impl<A: Seating, B: Seating> Pair<A, B> {
     ) -> Result<Slice, WorkEnd>
         ensures within { IfOk result (λ s. s.made ≤ n) }
         ensures some { IfOk result (λ s. s.then ≢ Elsewhere → 1 ≤ s.made) }
-        ensures at_a { self.new.at_a.start ≡ self.old.at_a.start }
-        ensures at_b { self.new.at_b.start ≡ self.old.at_b.start }
+        ensures made { Made (self.old.at_a, self.old.at_b) (self.new.at_a, self.new.at_b) [] }
     {
         watch.before()?;
         let slice = self.slice(rt, alloc, hosts, turn, harts, n)?;
@@ -127,6 +128,7 @@ impl<A: Seating, B: Seating> Pair<A, B> {
     }
 
     /// Makes a slice at the host that takes its first turn: none where both refuse it.
+    #[tactic(auto, using(crate::proofs::Calls::made_behind))]
     fn slice_at_either<M: PagedMemory + Drop, G: Gate, R: Wait>(
         &mut self,
         rt: &R,
@@ -138,8 +140,7 @@ impl<A: Seating, B: Seating> Pair<A, B> {
         n: u32,
     ) -> Result<Slice, WorkEnd>
         ensures within { IfOk result (λ s. s.made ≤ n) }
-        ensures at_a { self.new.at_a.start ≡ self.old.at_a.start }
-        ensures at_b { self.new.at_b.start ≡ self.old.at_b.start }
+        ensures made { Made (self.old.at_a, self.old.at_b) (self.new.at_a, self.new.at_b) [] }
     {
         let slice = self.slice_at_gate(rt, alloc, hosts, watch, turn, harts, n)?;
         if slice.made > 0 {
@@ -150,6 +151,7 @@ impl<A: Seating, B: Seating> Pair<A, B> {
 
     /// Makes at least one turn and at most n. While both hosts refuse the turn it is tried again each
     /// millisecond.
+    #[tactic(auto, using(crate::proofs::Calls::made_none, crate::proofs::Calls::made_behind))]
     pub(crate) fn turns<M: PagedMemory + Drop, G: Gate, R: Wait + Clock>(
         &mut self,
         rt: &R,
@@ -162,8 +164,7 @@ impl<A: Seating, B: Seating> Pair<A, B> {
     ) -> Result<Slice, WorkEnd>
         ensures within { IfOk result (λ s. s.made ≤ n) }
         ensures some { IfOk result (λ s. 1 ≤ s.made) }
-        ensures at_a { self.new.at_a.start ≡ self.old.at_a.start }
-        ensures at_b { self.new.at_b.start ≡ self.old.at_b.start }
+        ensures made { Made (self.old.at_a, self.old.at_b) (self.new.at_a, self.new.at_b) [] }
     {
         for _try in 0..REFUSED_TURNS {
             let slice = self.slice_at_either(rt, alloc, hosts, watch, turn, harts, n)?;
@@ -176,14 +177,16 @@ impl<A: Seating, B: Seating> Pair<A, B> {
     }
 
     /// Drains where the guest was met last.
+    #[tactic(auto, using(crate::proofs::Calls::made_drain_at_a, crate::proofs::Calls::made_drain_at_b, crate::proofs::Calls::made_none))]
     fn drain<M: PagedMemory + Drop, R: Wait>(
         &mut self,
         rt: &R,
         alloc: Global,
         hosts: &Hosts<'_, A, B, M>,
     ) -> Result<Drained, WorkEnd>
-        ensures at_a { self.new.at_a.start ≡ self.old.at_a.start }
-        ensures at_b { self.new.at_b.start ≡ self.old.at_b.start }
+        ensures made { IfOk result (λ d. Made (self.old.at_a, self.old.at_b)
+            (self.new.at_a, self.new.at_b) (bytes_of d)) }
+        ensures err { OnErr result (Made (self.old.at_a, self.old.at_b) (self.new.at_a, self.new.at_b) []) }
     {
         let event = HostEvent::Do(Command::Board(BoardEvent::Drain(DRAIN_SIZE)));
         let (reply, _frame) = if self.is_at_a {
@@ -195,6 +198,7 @@ impl<A: Seating, B: Seating> Pair<A, B> {
     }
 
     /// Drains at the gate. Where the guest is elsewhere, the other host is asked next.
+    #[tactic(auto, using(crate::proofs::Calls::made_none))]
     fn drain_at_gate<M: PagedMemory + Drop, G: Gate, R: Wait>(
         &mut self,
         rt: &R,
@@ -202,8 +206,9 @@ impl<A: Seating, B: Seating> Pair<A, B> {
         hosts: &Hosts<'_, A, B, M>,
         watch: &mut Watch<'_, G>,
     ) -> Result<Drained, WorkEnd>
-        ensures at_a { self.new.at_a.start ≡ self.old.at_a.start }
-        ensures at_b { self.new.at_b.start ≡ self.old.at_b.start }
+        ensures made { IfOk result (λ d. Made (self.old.at_a, self.old.at_b)
+            (self.new.at_a, self.new.at_b) (bytes_of d)) }
+        ensures err { OnErr result (Made (self.old.at_a, self.old.at_b) (self.new.at_a, self.new.at_b) []) }
     {
         watch.before()?;
         let drained = self.drain(rt, alloc, hosts)?;
@@ -215,6 +220,7 @@ impl<A: Seating, B: Seating> Pair<A, B> {
     }
 
     /// Drains at either host.
+    #[tactic(auto, using(crate::proofs::Calls::made_behind))]
     fn drain_at_either<M: PagedMemory + Drop, G: Gate, R: Wait>(
         &mut self,
         rt: &R,
@@ -222,8 +228,9 @@ impl<A: Seating, B: Seating> Pair<A, B> {
         hosts: &Hosts<'_, A, B, M>,
         watch: &mut Watch<'_, G>,
     ) -> Result<Drained, WorkEnd>
-        ensures at_a { self.new.at_a.start ≡ self.old.at_a.start }
-        ensures at_b { self.new.at_b.start ≡ self.old.at_b.start }
+        ensures made { IfOk result (λ d. Made (self.old.at_a, self.old.at_b)
+            (self.new.at_a, self.new.at_b) (bytes_of d)) }
+        ensures err { OnErr result (Made (self.old.at_a, self.old.at_b) (self.new.at_a, self.new.at_b) []) }
     {
         let drained = self.drain_at_gate(rt, alloc, hosts, watch)?;
         if !is_refused(&drained) {
@@ -234,6 +241,7 @@ impl<A: Seating, B: Seating> Pair<A, B> {
 
     /// The next bytes that the guest sent, if there are any. While both hosts refuse the drain it is
     /// tried again each millisecond.
+    #[tactic(auto, using(crate::proofs::Calls::made_none, crate::proofs::Calls::made_behind))]
     pub(crate) fn sent_by_guest<M: PagedMemory + Drop, G: Gate, R: Wait + Clock>(
         &mut self,
         rt: &R,
@@ -241,8 +249,9 @@ impl<A: Seating, B: Seating> Pair<A, B> {
         hosts: &Hosts<'_, A, B, M>,
         watch: &mut Watch<'_, G>,
     ) -> Result<Option<View>, WorkEnd>
-        ensures at_a { self.new.at_a.start ≡ self.old.at_a.start }
-        ensures at_b { self.new.at_b.start ≡ self.old.at_b.start }
+        ensures made { IfOk result (λ o. Made (self.old.at_a, self.old.at_b)
+            (self.new.at_a, self.new.at_b) (given o)) }
+        ensures err { OnErr result (Made (self.old.at_a, self.old.at_b) (self.new.at_a, self.new.at_b) []) }
     {
         for _try in 0..REFUSED_TURNS {
             match self.drain_at_either(rt, alloc, hosts, watch)? {

@@ -30,7 +30,7 @@ pub taken_at_a_send : (L K : RattleType) (g : Seating.Ghosts L.Denot) (h : Ledge
     → IsSend K → IsSend (TakenAtA.the_row L K g h)
 taken_at_a_send L K g h link =
     let seat : IsSend (Seat.the_row L g h) = seat_send L g h in
-    search (policy_send, sendable, crosses) depth 40 fits 10000
+    search (sendable, crosses) depth 40 fits 10000
 
 pub taken_at_b_send : (N K : RattleType) (i : Seating.Ghosts N.Denot) (j : Ledger.Ghosts N.Denot)
     → IsSend K → IsSend (TakenAtB.the_row N K i j)
@@ -46,4 +46,4 @@ taken_send L N K g h i j link =
     let at_b : IsSend (TakenAtB.the_row N K i j) = taken_at_b_send N K i j link in
     let seat_a : IsSend (Seat.the_row L g h) = seat_send L g h in
     let seat_b : IsSend (Seat.the_row N i j) = seat_send N i j in
-    search (policy_send, sendable, crosses) depth 60 fits 40000
+    search (sendable, crosses) depth 60 fits 40000

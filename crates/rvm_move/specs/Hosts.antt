@@ -1,5 +1,5 @@
 -- A host behind a move.
-use Rattle.std.specs.Prelude.{◌≡◌, List, Option, None}
+use Rattle.std.specs.Prelude.{◌≡◌, List, ◌++◌, Option, None}
 use Rattle.rvm_cell.specs.Closing.{IsClosed}
 use Rattle.rvm_cell.specs.Seats.{PlainSeat}
 use Rattle.rvm_cell.specs.declared.closing.CloseKind.{CloseKind}
@@ -15,3 +15,13 @@ pub record IsTold (entries : List PlainEntry) : Type 0 where
 -- a host without a fault was closed
 abbrev pub IsEnd : (fault : Option CloseKind) → List PlainEntry → Type 0
 IsEnd fault entries = fault ≡ None → IsTold entries
+
+-- with the seats, these receipts tell all entries of a journal
+pub record AreAll (entries : List PlainEntry) (receipts : List PlainReceipt) : Type 0 where
+  pub seats : List PlainSeat
+  pub closed : IsClosed entries seats receipts
+
+-- with others, these receipts do
+pub record AreAmong (entries : List PlainEntry) (receipts : List PlainReceipt) : Type 0 where
+  pub others : List PlainReceipt
+  pub all : AreAll entries (receipts ++ others)

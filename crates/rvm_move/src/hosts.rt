@@ -1,7 +1,7 @@
 //! The two hosts of a move.
 
-ghost use Rattle.std.specs.Prelude.{◌≡◌, ◌≤◌, [], vec_len, IfOk};
-ghost use Rattle.rvm_move.specs.Hosts.{IsEnd};
+ghost use Rattle.std.specs.Prelude.{◌≡◌, ◌≤◌, [], ◌++◌, true, None, vec_len, IfOk};
+ghost use Rattle.rvm_move.specs.Hosts.{AreAll, IsEnd};
 
 use rvm_cell::{CloseKind, Receipt, Seat, Seating, ShareError, SharedHost, close, share};
 use rvm_journal::Recorded;
@@ -69,14 +69,16 @@ pub(crate) fn open_host<L: Seating, M: PagedMemory + Drop, K: Link + Drop>(
 /// The seats and the receipts that workers give back. Some are missing where a growth was refused.
 #[derive(Drop)]
 pub(crate) struct Returned<L: Seating> {
-    seats: Vec<Seat<L>>,
-    receipts: Vec<Receipt>,
-    is_whole: bool,
+    pub(crate) seats: Vec<Seat<L>>,
+    pub(crate) receipts: Vec<Receipt>,
+    pub(crate) is_whole: bool,
 }
 
 impl<L: Seating> Returned<L> {
     /// Nothing yet.
-    pub(crate) fn new(alloc: Global) -> Returned<L> {
+    pub(crate) fn new(alloc: Global) -> Returned<L>
+        ensures { result.receipts.items ≡ [] }
+    {
         Returned {
             seats: Vec::new(alloc),
             receipts: Vec::new(alloc),
@@ -85,7 +87,10 @@ impl<L: Seating> Returned<L> {
     }
 
     /// A worker gave back its seat and its receipts.
-    pub(crate) fn add(&mut self, seat: Seat<L>, receipts: Vec<Receipt>) {
+    pub(crate) fn add(&mut self, seat: Seat<L>, receipts: Vec<Receipt>)
+        ensures { self.new.is_whole ≡ true → (self.old.is_whole ≡ true)
+            × (self.new.receipts.items ≡ self.old.receipts.items ++ receipts.items) }
+    {
         let mut receipts = receipts;
         let is_seated = self.seats.push(seat).is_ok();
         let is_told = self.receipts.append(&mut receipts).is_ok();
@@ -101,7 +106,9 @@ pub(crate) fn close_host<L: Seating, M: PagedMemory + Drop, K: Link + Drop, R: W
     returned: Returned<L>,
 ) -> HostEnd<M>
     requires { L.seats ≡ L.parts }
-    ensures { IsEnd result.fault result.recorded.journal.entries }
+    ensures end { IsEnd result.fault result.recorded.journal.entries }
+    ensures told { result.fault ≡ None → (returned.is_whole ≡ true)
+        × AreAll result.recorded.journal.entries returned.receipts.items }
 {
     let OpenHost { host, outgoing: _ } = open;
     let Returned {
@@ -112,20 +119,23 @@ pub(crate) fn close_host<L: Seating, M: PagedMemory + Drop, K: Link + Drop, R: W
     match close(rt, alloc, host, seats, receipts) {
         Ok(recorded) => HostEnd {
             recorded,
-            fault: None,
+            fault: fault_of(is_whole, None),
         },
         Err(error) => HostEnd {
             recorded: error.opened.into_recorded(),
-            fault: Some(fault_of(is_whole, error.kind)),
+            fault: fault_of(is_whole, Some(error.kind)),
         },
     }
 }
 
-/// Why a host was not closed: where something is missing that a growth had no room for, for that.
-fn fault_of(is_whole: bool, kind: CloseKind) -> CloseKind {
+/// Why a host was not closed, if it was not: where something is missing that a growth had no room for, for
+/// that.
+fn fault_of(is_whole: bool, fault: Option<CloseKind>) -> Option<CloseKind>
+    ensures { result ≡ None → (is_whole ≡ true) × (fault ≡ None) }
+{
     if is_whole {
-        kind
+        fault
     } else {
-        CloseKind::OutOfMemory
+        Some(CloseKind::OutOfMemory)
     }
 }

@@ -4,14 +4,16 @@
 //!
 //! Stands on the workers, and is generic over links and gate: it knows nothing of sockets, files or texts.
 //!
-//! To be read in this order: `plan`, `ends`, `hosts`, `threads`, `moving`.
+//! To be read in this order: `plan`, `ends`, `hosts`, `beside`, `turns`, `threads`, `moving`.
 #![tactic(auto)]
 
+mod beside;
 mod ends;
 mod hosts;
 mod moving;
 mod plan;
 mod threads;
+mod turns;
 
 pub use ends::Ends;
 pub use hosts::{HostEnd, Links};

@@ -1,7 +1,10 @@
 //! A move from its beginning to its end.
 
-ghost use Rattle.std.specs.Prelude.{◌≡◌, [], vec_len, IfOk};
-ghost use Rattle.rvm_move.specs.Hosts.{IsEnd};
+ghost use Rattle.std.specs.Prelude.{◌≡◌, ◌≢◌, [], None, vec_len, IfOk};
+ghost use Rattle.rvm_hart_worker.specs.Calls.{IsOutput};
+ghost use Rattle.rvm_move.specs.Hosts.{AreAmong, IsEnd};
+ghost use Rattle.rvm_move.specs.Output.{IsEndOutput};
+ghost use Rattle.rvm_worker.specs.declared.end.WorkEnd.TheVariants.{LinkFault};
 
 use crate::ends::Ends;
 use crate::hosts::{HostEnd, Links, OpenHost, OpenHosts, Returned, close_host, open_host};
@@ -62,6 +65,8 @@ pub fn move_guest<
     requires empty { (recorded.0.journal.entries ≡ []) × (recorded.1.journal.entries ≡ []) }
     ensures a { IfOk result (λ m. IsEnd m.a.fault m.a.recorded.journal.entries) }
     ensures b { IfOk result (λ m. IsEnd m.b.fault m.b.recorded.journal.entries) }
+    ensures output { IfOk result (λ m. IsEndOutput m.ends m.a.fault m.b.fault
+        m.a.recorded.journal.entries m.b.recorded.journal.entries (W.contents writer.old) (W.contents writer.new)) }
 {
     let (blank_a, blank_b) = blanks;
     let (recorded_a, recorded_b) = recorded;
@@ -115,6 +120,8 @@ fn seat_and_work<
     writer: &mut W,
 ) -> (Carried<L, N>, HartsWorked<L, N>)
     requires { (vec_len seats_a ≡ 3) × (vec_len seats_b ≡ 2) }
+    ensures { IsOutput result.1.receipts.0.items result.1.receipts.1.items
+        (W.contents writer.old) (W.contents writer.new) (result.1.end ≢ LinkFault) }
 {
     let (mut seats_a, mut seats_b) = (seats_a, seats_b);
     let (Some(receiver_a), Some(copier), Some(harts_a)) = (
@@ -154,6 +161,7 @@ fn seat_and_work<
 }
 
 /// Closes both hosts, with what their workers gave back.
+#[tactic(auto, using(crate::proofs::Told::among_two))]
 fn close_both<L: Seating, N: Seating, M: PagedMemory + Drop, K: Link + Drop, R: Wait>(
     rt: &R,
     alloc: Global,
@@ -165,6 +173,9 @@ fn close_both<L: Seating, N: Seating, M: PagedMemory + Drop, K: Link + Drop, R: 
     requires { (L.seats ≡ L.parts) × (N.seats ≡ N.parts) }
     ensures a { IsEnd result.a.fault result.a.recorded.journal.entries }
     ensures b { IsEnd result.b.fault result.b.recorded.journal.entries }
+    ensures harts { result.ends.harts ≡ turned.end }
+    ensures told_a { result.a.fault ≡ None → AreAmong result.a.recorded.journal.entries turned.receipts.0.items }
+    ensures told_b { result.b.fault ≡ None → AreAmong result.b.recorded.journal.entries turned.receipts.1.items }
 {
     let Carried { copier, at_a, at_b } = carried;
     let HartsWorked {

@@ -1,8 +1,14 @@
 //! The threads of a move.
 
+ghost use Rattle.std.specs.Prelude.{◌≡◌, ◌≢◌};
+ghost use Rattle.rvm_hart_worker.specs.Calls.{IsOutput};
+ghost use Rattle.rvm_worker.specs.declared.end.WorkEnd.TheVariants.{LinkFault};
+
+use crate::beside::{beside, take_back};
 use crate::plan::Plan;
+use crate::turns::Turns;
 use rvm_cell::{Seat, Seating, SharedHost};
-use rvm_hart_worker::{HartsWorked, Hosts, hart_worker};
+use rvm_hart_worker::{HartsWorked, Hosts};
 use rvm_link::{Link, Outgoing};
 use rvm_mem::PagedMemory;
 use rvm_precopy::Policy;
@@ -239,15 +245,27 @@ pub(crate) fn work<
     gate: &G,
     plan: &Plan,
     writer: &mut W,
-) -> (Carried<L, N>, HartsWorked<L, N>) {
-    let (harts, steps) = (plan.harts, plan.steps);
-    let both = Hosts {
-        a: hosts.0,
-        b: hosts.1,
+) -> (Carried<L, N>, HartsWorked<L, N>)
+    ensures { IsOutput result.1.receipts.0.items result.1.receipts.1.items
+        (W.contents writer.old) (W.contents writer.new) (result.1.end ≢ LinkFault) }
+{
+    let turns = Turns {
+        rt,
+        alloc,
+        hosts: Hosts {
+            a: hosts.0,
+            b: hosts.1,
+        },
+        seats: hart_seats,
+        gate,
+        plan: *plan,
+        writer,
     };
-    thread::join(
+    let (carried, (turned, writer)) = beside(
         rt,
         move || carry(rt, alloc, hosts, outgoing, taken, gate),
-        || { hart_worker(rt, alloc, &both, hart_seats, gate, writer, harts, steps) },
-    )
+        turns,
+    );
+    take_back(writer);
+    (carried, turned)
 }

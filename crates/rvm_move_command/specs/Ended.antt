@@ -7,6 +7,7 @@ use Rattle.rvm_journal.specs.Entries.{PlainEntry}
 use Rattle.rvm_move.specs.declared.ends.Ends.{Ends}
 use Rattle.rvm_move.specs.Ends.{failure}
 use Rattle.rvm_move.specs.Hosts.{IsTold}
+use Rattle.rvm_move.specs.Output.{IsOutputOf}
 use Rattle.rvm_move_command.specs.Answers.{answers_text}
 use Rattle.rvm_refusal.specs.declared.refusal.Refusal.{Refusal}
 use Rattle.rvm_refusal.specs.declared.refusal.Refusal.TheVariants as refusal
@@ -47,10 +48,17 @@ refusal_of_failure ends a b = told_first (failure ends) (first_fault a b)
 abbrev pub IsSound : Ends → (a b : Option CloseKind) → Type 0
 IsSound ends a b = (failure ends ≡ None) × (a ≡ None) × (b ≡ None)
 
--- what two hosts answered was told: receipts tell all of it, and nothing else was written
-pub record IsMoved (before after : Option (List ℕ)) : Type 0 where
+-- of a sound move, what both hosts answered was told, and nothing else
+pub record IsToldOf (ends : Ends) (a b : Option CloseKind) (first second : List PlainEntry) (before after : Option (List ℕ))
+    : Type 0 where
+  pub sound : IsSound ends a b
+  pub written : Appends before after (answers_text first ++ answers_text second)
+
+-- what two hosts answered was told, and receipts tell all of it; the output is what drains took of the guest
+pub record IsMoved (before after output_before output_after : Option (List ℕ)) : Type 0 where
   pub first : List PlainEntry
   pub second : List PlainEntry
   pub first_told : IsTold first
   pub second_told : IsTold second
   pub written : Appends before after (answers_text first ++ answers_text second)
+  pub output : IsOutputOf first second output_before output_after

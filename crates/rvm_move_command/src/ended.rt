@@ -3,12 +3,10 @@
 ghost use Rattle.std.specs.Prelude.{◌≡◌, ◌⊎◌, ◌↔◌, ◌++◌, None, IfOk, IfSome, OnOk};
 ghost use Rattle.std.specs.Io.KnownBytes.{Appends};
 ghost use Rattle.rvm_move_command.specs.Answers.{answers_text};
-ghost use Rattle.rvm_move.specs.Hosts.{IsEnd};
-ghost use Rattle.rvm_move_command.specs.Ended.{IsMoved, IsSound, first_fault, line_of, refusal_of_end, refusal_of_failure};
+ghost use Rattle.rvm_move_command.specs.Ended.{IsSound, first_fault, line_of, refusal_of_end, refusal_of_failure};
 
 use crate::answers::write_answers;
 use rvm_cell::CloseKind;
-use rvm_command::refused::{Refused, tell};
 use rvm_mem::PagedMemory;
 use rvm_move::Moved;
 use rvm_refusal::{LinkFault, Refusal};
@@ -102,26 +100,4 @@ pub(crate) fn tell_moved<M: PagedMemory + Drop, E: Write>(
     write_answers(errors, moved.a.recorded.journal().entries())?;
     write_answers(errors, moved.b.recorded.journal().entries())?;
     tell_failure(moved, errors)
-}
-
-/// The same of hosts that were closed, or have a fault.
-#[tactic(auto, using(crate::proofs::Moved::told_moved))]
-pub(crate) fn tell_ended<M: PagedMemory + Drop, E: Write>(
-    moved: &Moved<M>,
-    errors: &mut E,
-) -> Result<u8, LinkFault>
-    requires a { IsEnd moved.now.a.fault moved.now.a.recorded.journal.entries }
-    requires b { IsEnd moved.now.b.fault moved.now.b.recorded.journal.entries }
-    ensures status { IfOk result (λ status. (status ≡ 0) ⊎ (status ≡ 1)) }
-    ensures moved { IfOk result (λ status. status ≡ 0 → IsMoved (E.contents errors.old) (E.contents errors.new)) }
-{
-    tell_moved(moved, errors)
-}
-
-/// Tells of a refusal, with which no guest was moved, and answers the status 1.
-pub(crate) fn refuse<E: Write>(refused: Refused, errors: &mut E) -> Result<u8, LinkFault>
-    ensures status { IfOk result (λ status. (status ≡ 0) ⊎ (status ≡ 1)) }
-    ensures moved { IfOk result (λ status. status ≡ 0 → IsMoved (E.contents errors.old) (E.contents errors.new)) }
-{
-    tell(refused, errors)
 }

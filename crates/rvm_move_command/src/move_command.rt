@@ -4,6 +4,7 @@ ghost use Rattle.std.specs.Prelude.{◌≡◌, ◌⊎◌, IfOk};
 ghost use Rattle.rvm_command.specs.Command.{image_of};
 ghost use Rattle.rvm_command.specs.Ends.{IsLoadable};
 ghost use Rattle.rvm_move.specs.Hosts.{IsEnd};
+ghost use Rattle.rvm_move.specs.Output.{IsEndOutput};
 ghost use Rattle.rvm_move_command.specs.Ended.{IsMoved};
 
 use crate::hosts::new_hosts;
@@ -52,7 +53,8 @@ pub fn move_command<
 where
     R::Stream: Send,
     ensures status { IfOk result (λ status. (status ≡ 0) ⊎ (status ≡ 1)) }
-    ensures moved { IfOk result (λ status. status ≡ 0 → IsMoved (E.contents errors.old) (E.contents errors.new)) }
+    ensures moved { IfOk result (λ status. status ≡ 0 → IsMoved (E.contents errors.old) (E.contents errors.new)
+        (O.contents output.old) (O.contents output.new)) }
     ensures unloadable { IsLoadable (image_of arguments.now.guest.raw image.now) arguments.now.guest.pages
         ⊎ (O.contents output.new ≡ O.contents output.old) }
 {
@@ -76,6 +78,8 @@ where
     R::Stream: Send,
     ensures a { IfOk result (λ m. IsEnd m.a.fault m.a.recorded.journal.entries) }
     ensures b { IfOk result (λ m. IsEnd m.b.fault m.b.recorded.journal.entries) }
+    ensures output { IfOk result (λ m. IsEndOutput m.ends m.a.fault m.b.fault
+        m.a.recorded.journal.entries m.b.recorded.journal.entries (O.contents output.old) (O.contents output.new)) }
     ensures unloadable { IsLoadable (image_of arguments.now.guest.raw image.now) arguments.now.guest.pages
         ⊎ (O.contents output.new ≡ O.contents output.old) }
 {

@@ -3,14 +3,16 @@
 ghost use Rattle.std.specs.Prelude.{◌≡◌, ◌⊎◌, [], IfOk};
 ghost use Rattle.rvm_command.specs.Command.{image_of};
 ghost use Rattle.rvm_command.specs.Ends.{IsLoadable};
+ghost use Rattle.std.specs.Result.{IsOkAnd};
 ghost use Rattle.rvm_move.specs.Hosts.{IsEnd};
-ghost use Rattle.rvm_move_command.specs.Ended.{IsMoved};
+ghost use Rattle.rvm_move.specs.Output.{IsEndOutput};
+ghost use Rattle.rvm_move_command.specs.Ended.{IsMoved, IsToldOf};
 ghost use Rattle.rvm_move_command.specs.Plans.{plan_of};
 
-use crate::ended::{refuse, tell_ended};
+use crate::ended::tell_moved;
 use crate::hosts::new_hosts;
 use rvm_arguments::MoveArguments;
-use rvm_command::refused::Refused;
+use rvm_command::refused::{Refused, tell};
 use rvm_journal::Recorded;
 use rvm_link::Link;
 use rvm_mem::PagedMemory;
@@ -51,7 +53,8 @@ pub fn move_over<
     errors: &mut E,
 ) -> Result<u8, LinkFault>
     ensures status { IfOk result (λ status. (status ≡ 0) ⊎ (status ≡ 1)) }
-    ensures moved { IfOk result (λ status. status ≡ 0 → IsMoved (E.contents errors.old) (E.contents errors.new)) }
+    ensures moved { IfOk result (λ status. status ≡ 0 → IsMoved (E.contents errors.old) (E.contents errors.new)
+        (O.contents output.old) (O.contents output.new)) }
     ensures unloadable { IsLoadable (image_of arguments.now.guest.raw image.now) arguments.now.guest.pages
         ⊎ (O.contents output.new ≡ O.contents output.old) }
 {
@@ -61,7 +64,7 @@ pub fn move_over<
             let moved = move_recorded(rt, alloc, recorded, links, gate, &plan, output);
             tell_end(moved, errors)
         }
-        Err(refused) => refuse(refused, errors),
+        Err(refused) => tell(refused, errors),
     }
 }
 
@@ -86,18 +89,17 @@ pub(crate) fn tell_end<M: PagedMemory + Drop, E: Write>(
     moved: Result<Moved<M>, Refused>,
     errors: &mut E,
 ) -> Result<u8, LinkFault>
-    requires a { IfOk moved (λ m. IsEnd m.a.fault m.a.recorded.journal.entries) }
-    requires b { IfOk moved (λ m. IsEnd m.b.fault m.b.recorded.journal.entries) }
     ensures status { IfOk result (λ status. (status ≡ 0) ⊎ (status ≡ 1)) }
-    ensures moved { IfOk result (λ status. status ≡ 0 → IsMoved (E.contents errors.old) (E.contents errors.new)) }
+    ensures told { IfOk result (λ status. status ≡ 0 → IsOkAnd moved (λ m. IsToldOf m.ends m.a.fault m.b.fault
+        m.a.recorded.journal.entries m.b.recorded.journal.entries (E.contents errors.old) (E.contents errors.new))) }
 {
     match moved {
         Ok(moved) => {
-            let told = tell_ended(&moved, errors);
+            let told = tell_moved(&moved, errors);
             drop(moved);
             told
         }
-        Err(refused) => refuse(refused, errors),
+        Err(refused) => tell(refused, errors),
     }
 }
 
@@ -120,6 +122,8 @@ pub(crate) fn move_recorded<
     requires { (recorded.0.journal.entries ≡ []) × (recorded.1.journal.entries ≡ []) }
     ensures a { IfOk result (λ m. IsEnd m.a.fault m.a.recorded.journal.entries) }
     ensures b { IfOk result (λ m. IsEnd m.b.fault m.b.recorded.journal.entries) }
+    ensures output { IfOk result (λ m. IsEndOutput m.ends m.a.fault m.b.fault
+        m.a.recorded.journal.entries m.b.recorded.journal.entries (O.contents output.old) (O.contents output.new)) }
 {
     let blanks = (Blank::new(3), Blank::new(2));
     match move_guest::<Brand, Brand, M, K, G, O, R>(

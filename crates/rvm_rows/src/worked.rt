@@ -13,7 +13,6 @@ use std::process::Abort;
 use std::test::Fail;
 
 /// A guest's text, and what a debugger asks and is answered.
-#[derive(Clone, Copy)]
 struct Case {
     text: &'static str,
     script: &'static str,
@@ -40,40 +39,38 @@ const ACCESSES: &str = "
 /// lr.w t0, (a0); sc.w t1, t2, (a0); sw t2, 0(a0). By LLVM's assembler.
 const CONTENDED: &str = ".word 0x100522AF, 0x1875232F, 0x00752023\n";
 
-fn cases() -> [Case; 4] {
-    [
-        Case {
-            text: ACCESSES,
-            script: "step 0 13\nmem 0x80000FFC 20\n",
-            answers: "step 0 13: retired\n80000ffc: 017fff80017f0100ffffffffff900080\n\
-                8000100c: ff800000\n",
-        },
-        Case {
-            text: CONTENDED,
-            script: "reg 0 a0 0x80000100\nreg 1 a0 0x80000100\nreg 0 t2 1\nreg 1 t2 2\n\
-                reg 1 pc 0x80000008\nstep 0\nstep 1\nstep 0\nmem 0x80000100 4\n",
-            answers: "done\ndone\ndone\ndone\ndone\nstep 0 1: retired\nstep 1 1: retired\n\
-                step 0 1: retired\n80000100: 02000000\n",
-        },
-        Case {
-            text: CONTENDED,
-            script: "reg 0 a0 0x80000100\nreg 0 t2 1\nstep 0 2\nmem 0x80000100 4\n",
-            answers: "done\ndone\nstep 0 2: retired\n80000100: 01000000\n",
-        },
-        Case {
-            text: "nop\n",
-            script: "poke 0x80000FFF 0102\nmem 0x80000FFE 4\nmem 0x80001FFF 2\nreg 0 pc 0x80002000\n\
-                step 0\n",
-            answers: "done\n80000ffe: 00010200\nrefused 2 OutOfRange\ndone\nstep 0 1: trapped 1\n",
-        },
-    ]
-}
+static CASES: [Case; 4] = [
+    Case {
+        text: ACCESSES,
+        script: "step 0 13\nmem 0x80000FFC 20\n",
+        answers: "step 0 13: retired\n80000ffc: 017fff80017f0100ffffffffff900080\n\
+            8000100c: ff800000\n",
+    },
+    Case {
+        text: CONTENDED,
+        script: "reg 0 a0 0x80000100\nreg 1 a0 0x80000100\nreg 0 t2 1\nreg 1 t2 2\n\
+            reg 1 pc 0x80000008\nstep 0\nstep 1\nstep 0\nmem 0x80000100 4\n",
+        answers: "done\ndone\ndone\ndone\ndone\nstep 0 1: retired\nstep 1 1: retired\n\
+            step 0 1: retired\n80000100: 02000000\n",
+    },
+    Case {
+        text: CONTENDED,
+        script: "reg 0 a0 0x80000100\nreg 0 t2 1\nstep 0 2\nmem 0x80000100 4\n",
+        answers: "done\ndone\nstep 0 2: retired\n80000100: 01000000\n",
+    },
+    Case {
+        text: "nop\n",
+        script: "poke 0x80000FFF 0102\nmem 0x80000FFE 4\nmem 0x80001FFF 2\nreg 0 pc 0x80002000\n\
+            step 0\n",
+        answers: "done\n80000ffe: 00010200\nrefused 2 OutOfRange\ndone\nstep 0 1: trapped 1\n",
+    },
+];
 
 #[test]
 fn worked_cases_hold_over_both_memories(rt: HostRuntime) -> Result<(), Fail> {
-    for case in cases() {
-        assert_case::<FlatMemory>(&rt, rt.alloc(), &case)?;
-        assert_case::<PagedRam>(&rt, rt.alloc(), &case)?;
+    for case in CASES.iter() {
+        assert_case::<FlatMemory>(&rt, rt.alloc(), case)?;
+        assert_case::<PagedRam>(&rt, rt.alloc(), case)?;
     }
     Ok(())
 }

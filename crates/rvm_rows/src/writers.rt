@@ -12,10 +12,10 @@ use std::io::Write;
 use std::test::Fail;
 
 /// Sends A without end: lui t0, 0x10000; addi t1, a0, 65; sw t1, 0(t0); jal zero, -4.
-const LETTERS: [u32; 4] = [0x1000_02B7, 0x0415_0313, 0x0062_A023, 0xFFDF_F06F];
+static LETTERS: [u32; 4] = [0x1000_02B7, 0x0415_0313, 0x0062_A023, 0xFFDF_F06F];
 
 /// Sends A and halts: lui t0, 0x10000; addi t1, a0, 65; sw t1, 0(t0); lui t2, 0x100; sw zero, 0(t2).
-const LETTER: [u32; 5] = [
+static LETTER: [u32; 5] = [
     0x1000_02B7,
     0x0415_0313,
     0x0062_A023,

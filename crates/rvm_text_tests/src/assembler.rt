@@ -33,14 +33,13 @@ fn are_at(segments: &[Segment], wanted: &[(u32, &[u8])]) -> bool {
 }
 
 /// A text, the entry of its image, and the address and bytes of each of its segments.
-#[derive(Clone, Copy)]
 struct Assembled {
     text: &'static str,
     entry: u32,
     segments: &'static [(u32, &'static [u8])],
 }
 
-const IMAGES: [Assembled; 8] = [
+static IMAGES: [Assembled; 8] = [
     // Labels of later lines have values.
     Assembled {
         text: "j end\n.word end, end - 4\n\nend:\nret",
@@ -111,47 +110,46 @@ const IMAGES: [Assembled; 8] = [
 
 #[test]
 fn texts_have_these_images(rt: HostRuntime) -> Result<(), Fail> {
-    for Assembled {
-        text,
-        entry,
-        segments,
-    } in IMAGES {
+    for wanted in IMAGES.iter() {
+        let text = wanted.text;
         let image = image(rt.alloc(), text)?;
-        assert_eq!(rt; image.entry, entry, "{text}");
-        assert!(rt; are_at(&image.segments, segments), "{text}");
+        assert_eq!(rt; image.entry, wanted.entry, "{text}");
+        assert!(rt; are_at(&image.segments, wanted.segments), "{text}");
     }
     Ok(())
 }
 
+/// Texts, and the fault of their third line.
+static FAULTS: [(&str, Fault); 16] = [
+    ("here: nop\n\n.byte 256", Fault::OutOfReach),
+    ("here: nop\n\nj nowhere", Fault::UnknownName),
+    ("here: nop\n\nhere: nop", Fault::Defined),
+    (".word 1\n.org 0x80000000\n.byte 0", Fault::Overlap),
+    ("here: nop\n\naddi a0, a0", Fault::BadToken),
+    ("here: nop\n\n.ascii \"a", Fault::BadToken),
+    // A line that is not in the grammar is told so, whatever its names and values, and where
+    // it stands.
+    ("here: nop\n\njalr a0, here, 4", Fault::BadToken),
+    ("here: nop\n\njalr a0, a1, 4", Fault::BadToken),
+    ("here: nop\n\nlw a0, 5000(q1)", Fault::BadToken),
+    ("here: nop\n\n.word nosuch 5", Fault::BadToken),
+    ("here: nop\n\n.byte 300, x y", Fault::BadToken),
+    ("here: nop\n\ncsrrw a0, 5000, q1", Fault::BadToken),
+    ("here: nop\n\nhere: addi a0, a0", Fault::BadToken),
+    ("here: nop\n.byte 1\nlw a0, 4", Fault::BadToken),
+    ("here: nop\n.org 0xFFFFFFFF\n.half 0", Fault::OutOfReach),
+    (
+        "here: nop\n\n.equ late, later\n.equ later, 1",
+        Fault::UnknownName,
+    ),
+];
+
 #[test]
 fn faults_stand_at_their_line(rt: HostRuntime) {
-    let cases = [
-        ("here: nop\n\n.byte 256", Fault::OutOfReach),
-        ("here: nop\n\nj nowhere", Fault::UnknownName),
-        ("here: nop\n\nhere: nop", Fault::Defined),
-        (".word 1\n.org 0x80000000\n.byte 0", Fault::Overlap),
-        ("here: nop\n\naddi a0, a0", Fault::BadToken),
-        ("here: nop\n\n.ascii \"a", Fault::BadToken),
-        // A line that is not in the grammar is told so, whatever its names and values, and where
-        // it stands.
-        ("here: nop\n\njalr a0, here, 4", Fault::BadToken),
-        ("here: nop\n\njalr a0, a1, 4", Fault::BadToken),
-        ("here: nop\n\nlw a0, 5000(q1)", Fault::BadToken),
-        ("here: nop\n\n.word nosuch 5", Fault::BadToken),
-        ("here: nop\n\n.byte 300, x y", Fault::BadToken),
-        ("here: nop\n\ncsrrw a0, 5000, q1", Fault::BadToken),
-        ("here: nop\n\nhere: addi a0, a0", Fault::BadToken),
-        ("here: nop\n.byte 1\nlw a0, 4", Fault::BadToken),
-        ("here: nop\n.org 0xFFFFFFFF\n.half 0", Fault::OutOfReach),
-        (
-            "here: nop\n\n.equ late, later\n.equ later, 1",
-            Fault::UnknownName,
-        ),
-    ];
-    for (text, fault) in cases {
+    for (text, fault) in FAULTS.iter() {
         assert_eq!(rt;
             image(rt.alloc(), text).err(),
-            Some(AsmError::Line(3, fault)),
+            Some(AsmError::Line(3, *fault)),
             "{text}"
         );
     }

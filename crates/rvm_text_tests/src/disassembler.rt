@@ -6,7 +6,7 @@ use rvm_refusal::LinkFault;
 use std::test::Fail;
 
 /// One word of each row of the table, at 0x80000000.
-const ROWS: [(u32, &str); 68] = [
+static ROWS: [(u32, &str); 68] = [
     (0x100001B7, "lui gp, 0x10000"),
     (0xFFFFF517, "auipc a0, 0xfffff"),
     (0xFFDFF0EF, "jal ra, 0x7ffffffc"),
@@ -79,7 +79,7 @@ const ROWS: [(u32, &str); 68] = [
 
 /// No row; a fence of writes alone, one with total store ordering, and a fence.i with an
 /// immediate; a shift by 32.
-const DATA: [(u32, &str); 6] = [
+static DATA: [(u32, &str); 6] = [
     (0x00000000, ".word 0x00000000"),
     (0xFFFFFFFF, ".word 0xffffffff"),
     (0x0110000F, ".word 0x0110000f"),

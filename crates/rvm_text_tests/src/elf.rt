@@ -13,7 +13,7 @@ use std::test::Fail;
 /// bytes; a part of 16 bytes from place 148 at 0x80000000; one of 4 bytes from place 164 and 8
 /// zeros, at virtual address 0x80002000 and physical address 0x80000010. The program sends A: lui
 /// t0, 0x10000; addi t1, zero, 65; sw t1, 0(t0); jal zero, -12.
-const LINKED: [u8; 168] = [
+static LINKED: [u8; 168] = [
     127, 69, 76, 70, 1, 1, 1, 0, 0, 0, 0, 0, 0, 0, 0, 0, //
     2, 0, 243, 0, 1, 0, 0, 0, 0, 0, 0, 128, 52, 0, 0, 0, //
     16, 1, 0, 0, 0, 0, 0, 0, 52, 0, 32, 0, 3, 0, 40, 0, //

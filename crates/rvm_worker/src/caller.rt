@@ -53,7 +53,8 @@ impl<L: Seating> Caller<L> {
 
     /// The seat, and the receipts in order.
     pub fn into_parts(self) -> (Seat<L>, Vec<Receipt>)
-        ensures { IsWork self.start result.0 result.1.items }
+        ensures work { IsWork self.start result.0 result.1.items }
+        ensures receipts { result.1.items ≡ self.receipts }
     {
         let Caller {
             first: _,

@@ -1,10 +1,12 @@
-use Rattle.std.proofs.Common.{◌≡◌, ◌-◌, ◌≤◌}
+use Rattle.std.proofs.Common.{◌-◌, ◌≤◌}
+use Rattle.std.specs.Prelude.{⊤}
+use Rattle.rvm_hart_worker.specs.Calls.{Written}
 use Rattle.rvm_hart_worker.proofs.harts.run.Given as goal
 
 abbrev pub invariant-loop-turn : goal.invariant-loop-turn
 invariant-loop-turn g l = record {
-  at_a : l.pair.at_a.start ≡ l.fn.pair.at_a.start;
-  at_b : l.pair.at_b.start ≡ l.fn.pair.at_b.start;
+  written : Written (l.fn.pair.at_a, l.fn.pair.at_b) (l.pair.at_a, l.pair.at_b)
+      (g.W.Write.contents l.fn.writer) (g.W.Write.contents l.writer) ⊤;
   within : l.turn ≤ l.steps;
 }
 

@@ -9,8 +9,8 @@ use Rattle.rvm_move.specs.contracts.threads.Taken as Taken
 use Rattle.rvm_move.proofs.Sends.{six_send, taken_send, two_send}
 use Rattle.rvm_move.proofs.threads.work.Goals as goal
 
-pub join-requires-send-F : goal.join-requires-send-F
-join-requires-send-F g c κs within =
+pub beside-carried-requires-send-F : goal.beside-carried-requires-send-F
+beside-carried-requires-send-F g c κs within =
     let host_a : IsSync (SharedHost.the_row (param 0 g.row.L) (param 2 g.row.M) g.L.Seating g.L.Ledger g.M.Memory) =
     shared_sync (param 0 g.row.L) (param 2 g.row.M) g.L.Seating g.L.Ledger g.M.Memory c.type_bounds.send-M in
     let host_b : IsSync (SharedHost.the_row (param 1 g.row.N) (param 2 g.row.M) g.N.Seating g.N.Ledger g.M.Memory) =

@@ -1,0 +1,40 @@
+-- What calls tell, worked out by hand.
+use Rattle.std.proofs.Common.{◌≡◌, List, [], ◌∷◌, length, codes, refl}
+use Rattle.std.specs.List.{flat_map}
+use Rattle.rvm_cell.specs.Receipts.{PlainReceipt}
+use Rattle.rvm_debug.specs.declared.event.BoardEvent.{BoardEvent}
+use Rattle.rvm_debug.specs.declared.event.BoardEvent.TheVariants as asked
+use Rattle.rvm_debug.specs.declared.event.BoardReply.TheVariants as answer
+use Rattle.rvm_message.specs.declared.event.Command.TheVariants as command
+use Rattle.rvm_message.specs.declared.event.HostEvent.TheVariants as event
+use Rattle.rvm_message.specs.declared.reply.HostRefusal.TheVariants as refusal
+use Rattle.rvm_message.specs.declared.reply.HostReply.{HostReply}
+use Rattle.rvm_message.specs.declared.reply.HostReply.TheVariants as reply
+use Rattle.rvm_hart_worker.specs.Calls.{AtA, AtB, Call, bytes_in, in_a, in_b}
+
+-- a receipt of what a guest was asked
+abbrev receipt : BoardEvent → HostReply → PlainReceipt
+receipt e r = record { place = 0; seat = 0; count = 0; event = event.Do (command.Board e); reply = r }
+
+-- a guest sends H at the first host, and i at the second, where it is met once the first has refused a drain
+abbrev calls : List Call
+calls =
+    AtA (receipt (asked.Step 0) (reply.Board answer.Retired))
+    ∷ AtA (receipt (asked.Drain 256) (reply.Board (answer.Bytes (codes "H"))))
+    ∷ AtA (receipt (asked.Drain 256) (reply.Refused refusal.NotHere))
+    ∷ AtB (receipt (asked.Drain 256) (reply.Board (answer.Bytes (codes "i"))))
+    ∷ AtB (receipt (asked.Drain 256) (reply.Board (answer.Bytes [])))
+    ∷ []
+
+drains_tell_what_the_guest_sent : flat_map bytes_in calls ≡ codes "Hi"
+drains_tell_what_the_guest_sent = refl
+
+three_calls_are_at_the_first_host : length (flat_map in_a calls) ≡ 3
+three_calls_are_at_the_first_host = refl
+
+two_calls_are_at_the_second_host : length (flat_map in_b calls) ≡ 2
+two_calls_are_at_the_second_host = refl
+
+-- bytes of RAM are none that the guest sent
+bytes_of_ram_are_not_output : bytes_in (AtA (receipt (asked.Mem 0x80000000 1) (reply.Board (answer.Bytes (codes "x"))))) ≡ []
+bytes_of_ram_are_not_output = refl

@@ -1,0 +1,69 @@
+-- What a worker at two hosts was told by its calls.
+use Rattle.std.specs.Prelude.{◌≡◌, ℕ, List, [], ◌∷◌, ◌++◌, Option, None, Some}
+use Rattle.std.specs.Io.KnownBytes.{Appends}
+use Rattle.std.specs.List.{flat_map}
+use Rattle.rvm_cell.specs.Receipts.{PlainReceipt}
+use Rattle.rvm_debug.specs.declared.event.BoardEvent.TheVariants as asked
+use Rattle.rvm_message.specs.declared.event.Command.TheVariants as command
+use Rattle.rvm_message.specs.declared.event.HostEvent.{HostEvent}
+use Rattle.rvm_message.specs.declared.event.HostEvent.TheVariants as event
+use Rattle.rvm_message.specs.declared.reply.HostReply.{HostReply}
+use Rattle.rvm_worker.specs.Work.{PlainCaller}
+use Rattle.rvm_hart_worker.specs.declared.pair.Drained.{Drained}
+use Rattle.rvm_hart_worker.specs.declared.pair.Drained.TheVariants as drained
+use Rattle.rvm_hart_worker.specs.Drains.{told_by}
+
+-- a call at the first host or at the second one, by its receipt
+pub data Call : Type 0 where
+  AtA : PlainReceipt → Call
+  AtB : PlainReceipt → Call
+
+-- its receipt, if it was made at the first host, or at the second
+abbrev pub in_a : Call → List PlainReceipt
+in_a (AtA r) = r ∷ []
+in_a (AtB r) = []
+
+abbrev pub in_b : Call → List PlainReceipt
+in_b (AtA r) = []
+in_b (AtB r) = r ∷ []
+
+-- the bytes that a drain took
+abbrev pub bytes_of : Drained → List ℕ
+bytes_of (drained.Bytes bs) = bs
+bytes_of d = []
+
+-- the bytes that the reply to an event tells, if the event was a drain
+abbrev pub drained_by : HostEvent → HostReply → List ℕ
+drained_by (event.Do (command.Board (asked.Drain n))) r = bytes_of (told_by r)
+drained_by e r = []
+
+abbrev pub bytes_in : Call → List ℕ
+bytes_in (AtA r) = drained_by r.event r.reply
+bytes_in (AtB r) = drained_by r.event r.reply
+
+-- the bytes that are there, if any
+abbrev pub given : Option (List ℕ) → List ℕ
+given None = []
+given (Some bs) = bs
+
+-- calls were made by a caller at each of two hosts, whose drains told these bytes
+pub record Made (old new : PlainCaller × PlainCaller) (bytes : List ℕ) : Type 0 where
+  pub calls : List Call
+  pub start_a : new.0.start ≡ old.0.start
+  pub start_b : new.1.start ≡ old.1.start
+  pub at_a : new.0.receipts ≡ old.0.receipts ++ flat_map in_a calls
+  pub at_b : new.1.receipts ≡ old.1.receipts ++ flat_map in_b calls
+  pub told : flat_map bytes_in calls ≡ bytes
+
+-- calls were made, and a writer was given the bytes that their drains told, unless it failed
+pub record Written (old new : PlainCaller × PlainCaller) (before after : Option (List ℕ)) (works : Type 0) : Type 0 where
+  pub bytes : List ℕ
+  pub made : Made old new bytes
+  pub written : works → Appends before after bytes
+
+-- receipts of calls at two hosts, in an order of which a writer was given the bytes that drains told, unless it failed
+pub record IsOutput (at_a at_b : List PlainReceipt) (before after : Option (List ℕ)) (works : Type 0) : Type 0 where
+  pub calls : List Call
+  pub first : at_a ≡ flat_map in_a calls
+  pub second : at_b ≡ flat_map in_b calls
+  pub written : works → Appends before after (flat_map bytes_in calls)

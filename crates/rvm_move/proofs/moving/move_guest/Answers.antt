@@ -1,0 +1,12 @@
+use Rattle.std.proofs.Common.{◌∙◌, ◌≢◌}
+use Rattle.rvm_worker.specs.declared.end.WorkEnd.TheVariants.{LinkFault}
+use Rattle.rvm_move.proofs.Told.{output_of}
+use Rattle.rvm_move.proofs.moving.move_guest.Goals as goal
+
+pub returns-clause-output : goal.returns-clause-output
+returns-clause-output g c works a b =
+    output_of c.close_both.result.a.recorded.journal.entries c.close_both.result.b.recorded.journal.entries
+    c.seat_and_work-carried.result.1.receipts.0.items c.seat_and_work-carried.result.1.receipts.1.items
+    (g.W.Write.contents c.args.writer.now) (g.W.Write.contents c.seat_and_work-carried.new.writer)
+    (c.seat_and_work-carried.result.1.end ≢ LinkFault) (λ is. works (c.close_both.ensures.harts ∙ is))
+    (c.close_both.ensures.told_a a) (c.close_both.ensures.told_b b) c.seat_and_work-carried.ensures

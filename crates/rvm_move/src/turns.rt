@@ -1,0 +1,63 @@
+//! The turns of the guest's harts, as what a thread does beside others.
+
+ghost use Rattle.std.specs.Prelude.{◌≡◌, ◌≢◌, ⊤};
+ghost use Rattle.rvm_hart_worker.specs.Calls.{IsOutput};
+ghost use Rattle.rvm_worker.specs.declared.end.WorkEnd.TheVariants.{LinkFault};
+
+use crate::beside::Task;
+use crate::plan::Plan;
+use rvm_cell::{Seat, Seating};
+use rvm_hart_worker::{HartsWorked, Hosts, hart_worker};
+use rvm_mem::PagedMemory;
+use rvm_worker::Gate;
+use std::alloc::Global;
+use std::io::Write;
+use std::sync::Wait;
+use std::time::Clock;
+
+/// The turns of the guest's harts, which a worker with these seats is to make.
+#[derive(Drop)]
+pub(crate) struct Turns<
+    't,
+    A: Seating,
+    B: Seating,
+    M: PagedMemory + Drop,
+    G: Gate,
+    W: Write,
+    R: Wait + Clock,
+> {
+    pub(crate) rt: &'t R,
+    pub(crate) alloc: Global,
+    pub(crate) hosts: Hosts<'t, A, B, M>,
+    pub(crate) seats: (Seat<A>, Seat<B>),
+    pub(crate) gate: &'t G,
+    pub(crate) plan: Plan,
+    pub(crate) writer: &'t mut W,
+}
+
+impl<'t, A: Seating, B: Seating, M: PagedMemory + Drop, G: Gate, W: Write, R: Wait + Clock> Task
+    for Turns<'t, A, B, M, G, W, R> {
+    type Output = (HartsWorked<A, B>, &'t mut W);
+
+    ghost can_run = { λ _. ⊤ };
+
+    ghost gives = { λ t r. (r.1.ghost_name ≡ t.writer.ghost_name)
+        × IsOutput r.0.receipts.0.items r.0.receipts.1.items (W.contents t.writer.now) (W.contents r.1.now)
+        (r.0.end ≢ LinkFault) };
+
+    fn run(self) -> (HartsWorked<A, B>, &'t mut W) {
+        let Turns {
+            rt,
+            alloc,
+            hosts,
+            seats,
+            gate,
+            plan,
+            writer,
+        } = self;
+        let worked = hart_worker(
+            rt, alloc, &hosts, seats, gate, writer, plan.harts, plan.steps,
+        );
+        (worked, writer)
+    }
+}
