@@ -1,6 +1,6 @@
 //! Two threads, of which one borrows what it changes.
 
-ghost use Rattle.std.specs.Prelude.{◌≡◌, ⊤};
+ghost use Rattle.std.specs.Prelude.{◌≡◌};
 
 use std::thread;
 use std::thread::Threads;

@@ -3,7 +3,7 @@
 ghost use Rattle.std.specs.Prelude.{◌≡◌, ◌≢◌, [], None, vec_len, IfOk};
 ghost use Rattle.rvm_hart_worker.specs.Calls.{IsOutput};
 ghost use Rattle.rvm_move.specs.Hosts.{AreAmong, IsEnd};
-ghost use Rattle.rvm_move.specs.Output.{IsEndOutput};
+ghost use Rattle.rvm_move.specs.Output.{AreOfOne, IsEndOutput};
 ghost use Rattle.rvm_worker.specs.declared.end.WorkEnd.TheVariants.{LinkFault};
 
 use crate::ends::Ends;
@@ -120,8 +120,9 @@ fn seat_and_work<
     writer: &mut W,
 ) -> (Carried<L, N>, HartsWorked<L, N>)
     requires { (vec_len seats_a ≡ 3) × (vec_len seats_b ≡ 2) }
-    ensures { IsOutput result.1.receipts.0.items result.1.receipts.1.items
+    ensures output { IsOutput result.1.receipts.0.items result.1.receipts.1.items
         (W.contents writer.old) (W.contents writer.new) (result.1.end ≢ LinkFault) }
+    ensures one { AreOfOne result.1.receipts.0.items × AreOfOne result.1.receipts.1.items }
 {
     let (mut seats_a, mut seats_b) = (seats_a, seats_b);
     let (Some(receiver_a), Some(copier), Some(harts_a)) = (

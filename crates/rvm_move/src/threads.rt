@@ -1,7 +1,8 @@
 //! The threads of a move.
 
-ghost use Rattle.std.specs.Prelude.{◌≡◌, ◌≢◌};
+ghost use Rattle.std.specs.Prelude.{◌≢◌};
 ghost use Rattle.rvm_hart_worker.specs.Calls.{IsOutput};
+ghost use Rattle.rvm_move.specs.Output.{AreOfOne};
 ghost use Rattle.rvm_worker.specs.declared.end.WorkEnd.TheVariants.{LinkFault};
 
 use crate::beside::{beside, take_back};
@@ -227,6 +228,7 @@ fn carry<
 }
 
 /// Makes the turns of the guest's harts in this thread, and moves the guest in three more.
+#[tactic(auto, using(crate::proofs::Told::of_one))]
 pub(crate) fn work<
     L: Seating + Send + Sync,
     N: Seating + Send + Sync,
@@ -246,8 +248,9 @@ pub(crate) fn work<
     plan: &Plan,
     writer: &mut W,
 ) -> (Carried<L, N>, HartsWorked<L, N>)
-    ensures { IsOutput result.1.receipts.0.items result.1.receipts.1.items
+    ensures output { IsOutput result.1.receipts.0.items result.1.receipts.1.items
         (W.contents writer.old) (W.contents writer.new) (result.1.end ≢ LinkFault) }
+    ensures one { AreOfOne result.1.receipts.0.items × AreOfOne result.1.receipts.1.items }
 {
     let turns = Turns {
         rt,

@@ -2,6 +2,7 @@
 
 ghost use Rattle.std.specs.Prelude.{◌≡◌, ◌≢◌, ⊤};
 ghost use Rattle.rvm_hart_worker.specs.Calls.{IsOutput};
+ghost use Rattle.rvm_worker.specs.Work.{IsWork};
 ghost use Rattle.rvm_worker.specs.declared.end.WorkEnd.TheVariants.{LinkFault};
 
 use crate::beside::Task;
@@ -43,7 +44,8 @@ impl<'t, A: Seating, B: Seating, M: PagedMemory + Drop, G: Gate, W: Write, R: Wa
 
     ghost gives = { λ t r. (r.1.ghost_name ≡ t.writer.ghost_name)
         × IsOutput r.0.receipts.0.items r.0.receipts.1.items (W.contents t.writer.now) (W.contents r.1.now)
-        (r.0.end ≢ LinkFault) };
+        (r.0.end ≢ LinkFault) × IsWork t.seats.0 r.0.seats.0 r.0.receipts.0.items
+        × IsWork t.seats.1 r.0.seats.1 r.0.receipts.1.items };
 
     fn run(self) -> (HartsWorked<A, B>, &'t mut W) {
         let Turns {
