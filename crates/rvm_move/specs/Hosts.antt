@@ -1,5 +1,5 @@
 -- A host behind a move.
-use Rattle.std.specs.Prelude.{◌≡◌, List, ◌++◌, Option, None}
+use Rattle.std.specs.Prelude.{◌≡◌, List, Option, None}
 use Rattle.rvm_cell.specs.Closing.{IsClosed}
 use Rattle.rvm_cell.specs.Seats.{PlainSeat}
 use Rattle.rvm_cell.specs.declared.closing.CloseKind.{CloseKind}
@@ -20,8 +20,3 @@ IsEnd fault entries = fault ≡ None → IsTold entries
 pub record AreAll (entries : List PlainEntry) (receipts : List PlainReceipt) : Type 0 where
   pub seats : List PlainSeat
   pub closed : IsClosed entries seats receipts
-
--- with others, these receipts do
-pub record AreAmong (entries : List PlainEntry) (receipts : List PlainReceipt) : Type 0 where
-  pub others : List PlainReceipt
-  pub all : AreAll entries (receipts ++ others)

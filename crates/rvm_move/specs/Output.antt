@@ -1,14 +1,25 @@
 -- What a move wrote of what its guest sent.
-use Rattle.std.specs.Prelude.{◌≡◌, ◌≢◌, ℕ, List, Option, None, ⊤}
+use Rattle.std.specs.Io.KnownBytes.{Appends}
+use Rattle.std.specs.List.{filter, flat_map}
+use Rattle.std.specs.Prelude.{◌≡◌, ◌≢◌, ℕ, List, map, Option, None}
 use Rattle.rvm_cell.specs.declared.closing.CloseKind.{CloseKind}
 use Rattle.rvm_cell.specs.Receipts.{PlainReceipt}
 use Rattle.rvm_cell.specs.Seats.{PlainSeat}
-use Rattle.rvm_hart_worker.specs.Calls.{IsOutput}
-use Rattle.rvm_journal.specs.Entries.{PlainEntry}
+use Rattle.rvm_hart_worker.specs.Calls.{Call, bytes_in, in_a, in_b}
+use Rattle.rvm_journal.specs.Entries.{PlainEntry, exchange_of}
+use Rattle.rvm_journal.specs.History.{is_board}
+use Rattle.rvm_message.specs.Exchanges.{PlainExchange, exchange}
 use Rattle.rvm_move.specs.declared.ends.Ends.{Ends}
-use Rattle.rvm_move.specs.Hosts.{AreAmong}
 use Rattle.rvm_worker.specs.Work.{IsWork}
 use Rattle.rvm_worker.specs.declared.end.WorkEnd.TheVariants.{LinkFault}
+
+-- the events of the guest in a journal, and the replies to them
+abbrev pub of_guest : List PlainEntry → List PlainExchange
+of_guest entries = map exchange_of (filter (λ e. is_board e.event) entries)
+
+-- the same of calls, by their receipts
+abbrev pub called_of_guest : List PlainReceipt → List PlainExchange
+called_of_guest receipts = map (λ r. exchange r.event r.reply) (filter (λ r. is_board r.event) receipts)
 
 -- the receipts of calls of one seat, in order
 pub record AreOfOne (receipts : List PlainReceipt) : Type 0 where
@@ -16,16 +27,13 @@ pub record AreOfOne (receipts : List PlainReceipt) : Type 0 where
   pub last : PlainSeat
   pub work : IsWork first last receipts
 
--- of two journals: what was written are the bytes that drains told, of calls of one seat at either host, whose receipts are
--- among those that tell the journals
+-- of two journals: the events of the guest in both are calls that were made one after the other, and what was written are
+-- the bytes that the drains among them told, in that order
 pub record IsOutputOf (first second : List PlainEntry) (before after : Option (List ℕ)) : Type 0 where
-  pub at_a : List PlainReceipt
-  pub at_b : List PlainReceipt
-  pub one_a : AreOfOne at_a
-  pub one_b : AreOfOne at_b
-  pub first_told : AreAmong first at_a
-  pub second_told : AreAmong second at_b
-  pub output : IsOutput at_a at_b before after ⊤
+  pub calls : List Call
+  pub of_first : of_guest first ≡ called_of_guest (flat_map in_a calls)
+  pub of_second : of_guest second ≡ called_of_guest (flat_map in_b calls)
+  pub written : Appends before after (flat_map bytes_in calls)
 
 -- so it is where both hosts were closed, unless the writer failed
 abbrev pub IsEndOutput : Ends → (a b : Option CloseKind) → (first second : List PlainEntry)

@@ -2,8 +2,8 @@
 
 ghost use Rattle.std.specs.Prelude.{◌≡◌, ◌≢◌, [], None, vec_len, IfOk};
 ghost use Rattle.rvm_hart_worker.specs.Calls.{IsOutput};
-ghost use Rattle.rvm_move.specs.Hosts.{AreAmong, IsEnd};
-ghost use Rattle.rvm_move.specs.Output.{AreOfOne, IsEndOutput};
+ghost use Rattle.rvm_move.specs.Hosts.{IsEnd};
+ghost use Rattle.rvm_move.specs.Output.{AreOfOne, IsEndOutput, called_of_guest, of_guest};
 ghost use Rattle.rvm_worker.specs.declared.end.WorkEnd.TheVariants.{LinkFault};
 
 use crate::ends::Ends;
@@ -162,7 +162,7 @@ fn seat_and_work<
 }
 
 /// Closes both hosts, with what their workers gave back.
-#[tactic(auto, using(crate::proofs::Told::among_two))]
+#[tactic(auto, using(crate::proofs::Told::guest_of_two))]
 fn close_both<L: Seating, N: Seating, M: PagedMemory + Drop, K: Link + Drop, R: Wait>(
     rt: &R,
     alloc: Global,
@@ -171,12 +171,15 @@ fn close_both<L: Seating, N: Seating, M: PagedMemory + Drop, K: Link + Drop, R: 
     carried: Carried<L, N>,
     turned: HartsWorked<L, N>,
 ) -> Moved<M>
-    requires { (L.seats ≡ L.parts) × (N.seats ≡ N.parts) }
+    requires seats { (L.seats ≡ L.parts) × (N.seats ≡ N.parts) }
+    requires one { AreOfOne turned.receipts.0.items × AreOfOne turned.receipts.1.items }
     ensures a { IsEnd result.a.fault result.a.recorded.journal.entries }
     ensures b { IsEnd result.b.fault result.b.recorded.journal.entries }
     ensures harts { result.ends.harts ≡ turned.end }
-    ensures told_a { result.a.fault ≡ None → AreAmong result.a.recorded.journal.entries turned.receipts.0.items }
-    ensures told_b { result.b.fault ≡ None → AreAmong result.b.recorded.journal.entries turned.receipts.1.items }
+    ensures told_a { result.a.fault ≡ None
+        → of_guest result.a.recorded.journal.entries ≡ called_of_guest turned.receipts.0.items }
+    ensures told_b { result.b.fault ≡ None
+        → of_guest result.b.recorded.journal.entries ≡ called_of_guest turned.receipts.1.items }
 {
     let Carried { copier, at_a, at_b } = carried;
     let HartsWorked {

@@ -1,8 +1,10 @@
 -- What the calls of a seat leave.
-use Rattle.std.specs.Prelude.{◌≡◌, ℕ, ◌+◌, ◌-◌, List, [], ◌∷◌, ◌++◌, length, IfSome, Some, slice_get}
+use Rattle.std.specs.List.{All}
+use Rattle.std.specs.Prelude.{◌≡◌, ℕ, ◌+◌, ◌-◌, false, List, [], ◌∷◌, ◌++◌, length, IfSome, Some, slice_get}
 use Rattle.rvm_cell.specs.Calls.{AreOfSeat, IsReceipt}
 use Rattle.rvm_cell.specs.Seats.{PlainSeat, seat_of}
 use Rattle.rvm_cell.specs.Receipts.{PlainReceipt}
+use Rattle.rvm_journal.specs.History.{is_board}
 use Rattle.rvm_message.specs.declared.event.HostEvent.{HostEvent}
 use Rattle.rvm_message.specs.declared.reply.HostReply.{HostReply}
 use Rattle.rvm_worker.specs.declared.steps.Steps.{Steps}
@@ -12,6 +14,10 @@ pub record IsWork (first seat : PlainSeat) (receipts : List PlainReceipt) : Type
   pub seat_is : seat ≡ seat_of first.id (first.count + length receipts)
   pub row : (k : ℕ) (r : PlainReceipt) → slice_get receipts k ≡ Some r
       → (r.seat ≡ first.id) × (r.count ≡ first.count + k)
+
+-- none of them is of an event of the guest
+abbrev pub AreOfMove : List PlainReceipt → Type 0
+AreOfMove receipts = All (λ r. is_board r.event ≡ false) receipts
 
 -- where a seat was first, where it is, and the receipts between
 pub record PlainCaller : Type 0 where

@@ -1,11 +1,13 @@
 //! The copier: it moves the guest to another host.
 
-ghost use Rattle.std.specs.Prelude.{◌≡◌};
+ghost use Rattle.std.specs.Prelude.{◌≡◌, false};
+ghost use Rattle.rvm_journal.specs.History.{is_board};
+ghost use Rattle.rvm_message.specs.declared.event.HostEvent.TheVariants.{Do};
 ghost use Rattle.rvm_worker.specs.Work.{IsWork};
 
-use crate::caller::Caller;
 use crate::end::{WorkEnd, Worked};
 use crate::gate::{Gate, Watch, Worker};
+use crate::mover::Mover;
 use crate::next::{Next, after_copy, is_gone, says_no_move};
 use crate::telling::{Side, tell};
 use rvm_cell::{Seat, Seating};
@@ -47,19 +49,14 @@ pub fn copier_worker<L: Seating, M: PagedMemory + Drop, K: Link + Drop, G: Gate,
 ) -> Worked<L>
     ensures { IsWork seat result.seat result.receipts.items }
 {
-    let mut caller = Caller::new(alloc, seat);
+    let mut mover = Mover::new(alloc, seat);
     let mut watch = Watch::new(gate, Worker::Copier);
     let begin = Command::Begin { to, policy };
-    let end = move_guest(rt, alloc, side, &mut caller, &mut watch, begin);
+    let end = move_guest(rt, alloc, side, &mut mover, &mut watch, begin);
     if end.is_short_of_room() {
         side.outgoing.close(rt);
     }
-    let (seat, receipts) = caller.into_parts();
-    Worked {
-        seat,
-        receipts,
-        end,
-    }
+    mover.end(end)
 }
 
 /// Makes the calls of the copier, from Begin on.
@@ -67,17 +64,18 @@ fn move_guest<L: Seating, M: PagedMemory + Drop, K: Link + Drop, G: Gate, R: Wai
     rt: &R,
     alloc: Global,
     side: &Side<'_, L, M, K>,
-    caller: &mut Caller<L>,
+    mover: &mut Mover<L>,
     watch: &mut Watch<'_, G>,
     begin: Command,
 ) -> WorkEnd
-    ensures { caller.new.start ≡ caller.old.start }
+    requires { is_board (Do begin) ≡ false }
+    ensures { mover.new.start ≡ mover.old.start }
 {
-    match copy_guest(rt, alloc, side, caller, watch, begin) {
+    match copy_guest(rt, alloc, side, mover, watch, begin) {
         Ok(Next::Done) => WorkEnd::Done,
-        Ok(Next::Resend) => resend(rt, alloc, side, caller, watch),
-        Ok(_) => give_up(rt, alloc, side, caller, watch),
-        Err(WorkEnd::OutOfMemory) => abort_without_memory(rt, alloc, side, caller, watch),
+        Ok(Next::Resend) => resend(rt, alloc, side, mover, watch),
+        Ok(_) => give_up(rt, alloc, side, mover, watch),
+        Err(WorkEnd::OutOfMemory) => abort_without_memory(rt, alloc, side, mover, watch),
         Err(end) => end,
     }
 }
@@ -87,15 +85,16 @@ fn copy_guest<L: Seating, M: PagedMemory + Drop, K: Link + Drop, G: Gate, R: Wai
     rt: &R,
     alloc: Global,
     side: &Side<'_, L, M, K>,
-    caller: &mut Caller<L>,
+    mover: &mut Mover<L>,
     watch: &mut Watch<'_, G>,
     begin: Command,
 ) -> Result<Next, WorkEnd>
-    ensures { caller.new.start ≡ caller.old.start }
+    requires { is_board (Do begin) ≡ false }
+    ensures { mover.new.start ≡ mover.old.start }
 {
-    let told = tell(rt, alloc, side, caller, watch, HostEvent::Do(begin))?;
+    let told = tell(rt, alloc, side, mover, watch, HostEvent::Do(begin))?;
     match told.sent {
-        Ok(()) => copy_until(rt, alloc, side, caller, watch),
+        Ok(()) => copy_until(rt, alloc, side, mover, watch),
         Err(SendError::OutOfMemory) => Err(WorkEnd::OutOfMemory),
         Err(_) => Ok(Next::GiveUp),
     }
@@ -106,14 +105,14 @@ fn copy_until<L: Seating, M: PagedMemory + Drop, K: Link + Drop, G: Gate, R: Wai
     rt: &R,
     alloc: Global,
     side: &Side<'_, L, M, K>,
-    caller: &mut Caller<L>,
+    mover: &mut Mover<L>,
     watch: &mut Watch<'_, G>,
 ) -> Result<Next, WorkEnd>
-    ensures { caller.new.start ≡ caller.old.start }
+    ensures { mover.new.start ≡ mover.old.start }
 {
     let mut pauses = 0;
     for _copy in 0..u64::MAX {
-        match copy(rt, alloc, side, caller, watch)? {
+        match copy(rt, alloc, side, mover, watch)? {
             Next::Copy => pauses = 0,
             Next::Wait(millis) => {
                 pause(rt, millis);
@@ -133,12 +132,12 @@ fn copy<L: Seating, M: PagedMemory + Drop, K: Link + Drop, G: Gate, R: Wait>(
     rt: &R,
     alloc: Global,
     side: &Side<'_, L, M, K>,
-    caller: &mut Caller<L>,
+    mover: &mut Mover<L>,
     watch: &mut Watch<'_, G>,
 ) -> Result<Next, WorkEnd>
-    ensures { caller.new.start ≡ caller.old.start }
+    ensures { mover.new.start ≡ mover.old.start }
 {
-    let told = tell(rt, alloc, side, caller, watch, HostEvent::Do(Command::Copy))?;
+    let told = tell(rt, alloc, side, mover, watch, HostEvent::Do(Command::Copy))?;
     match told.sent {
         Ok(()) => Ok(after_copy(&told.reply)),
         Err(SendError::OutOfMemory) => Err(WorkEnd::OutOfMemory),
@@ -151,10 +150,10 @@ fn resend<L: Seating, M: PagedMemory + Drop, K: Link + Drop, G: Gate, R: Wait + 
     rt: &R,
     alloc: Global,
     side: &Side<'_, L, M, K>,
-    caller: &mut Caller<L>,
+    mover: &mut Mover<L>,
     watch: &mut Watch<'_, G>,
 ) -> WorkEnd
-    ensures { caller.new.start ≡ caller.old.start }
+    ensures { mover.new.start ≡ mover.old.start }
 {
     for _try in 0..TRIES {
         pause(rt, LONG_PAUSE);
@@ -162,7 +161,7 @@ fn resend<L: Seating, M: PagedMemory + Drop, K: Link + Drop, G: Gate, R: Wait + 
             rt,
             alloc,
             side,
-            caller,
+            mover,
             watch,
             HostEvent::Do(Command::Resend),
         ) {
@@ -182,24 +181,17 @@ fn give_up<L: Seating, M: PagedMemory + Drop, K: Link + Drop, G: Gate, R: Wait +
     rt: &R,
     alloc: Global,
     side: &Side<'_, L, M, K>,
-    caller: &mut Caller<L>,
+    mover: &mut Mover<L>,
     watch: &mut Watch<'_, G>,
 ) -> WorkEnd
-    ensures { caller.new.start ≡ caller.old.start }
+    ensures { mover.new.start ≡ mover.old.start }
 {
-    match tell(
-        rt,
-        alloc,
-        side,
-        caller,
-        watch,
-        HostEvent::Do(Command::Abort),
-    ) {
-        Err(WorkEnd::OutOfMemory) => abort_without_memory(rt, alloc, side, caller, watch),
+    match tell(rt, alloc, side, mover, watch, HostEvent::Do(Command::Abort)) {
+        Err(WorkEnd::OutOfMemory) => abort_without_memory(rt, alloc, side, mover, watch),
         Err(end) => end,
         Ok(told) => {
             if is_gone(&told.reply) {
-                resend(rt, alloc, side, caller, watch)
+                resend(rt, alloc, side, mover, watch)
             } else {
                 WorkEnd::GivenUp
             }
@@ -218,21 +210,14 @@ fn abort_without_memory<
     rt: &R,
     alloc: Global,
     side: &Side<'_, L, M, K>,
-    caller: &mut Caller<L>,
+    mover: &mut Mover<L>,
     watch: &mut Watch<'_, G>,
 ) -> WorkEnd
     ensures end { result ≡ WorkEnd.OutOfMemory }
-    ensures start { caller.new.start ≡ caller.old.start }
+    ensures start { mover.new.start ≡ mover.old.start }
 {
     for _try in 0..TRIES {
-        match tell(
-            rt,
-            alloc,
-            side,
-            caller,
-            watch,
-            HostEvent::Do(Command::Abort),
-        ) {
+        match tell(rt, alloc, side, mover, watch, HostEvent::Do(Command::Abort)) {
             Err(WorkEnd::OutOfMemory) => pause(rt, SHORT_PAUSE),
             _ => return WorkEnd::OutOfMemory,
         }

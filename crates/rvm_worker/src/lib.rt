@@ -5,7 +5,8 @@
 //! Stands on `rvm_cell` and `rvm_link`, and knows nothing of sockets, of how workers are started, or of
 //! what becomes of their receipts.
 //!
-//! To be read in this order: `gate`, `end`, `steps`, `heap`, `caller`, `telling`, `next`, `copier`, `receiver`.
+//! To be read in this order: `gate`, `end`, `steps`, `heap`, `caller`, `mover`, `telling`, `next`, `copier`,
+//! `receiver`.
 #![tactic(auto)]
 
 mod caller;
@@ -13,6 +14,7 @@ mod copier;
 mod end;
 mod gate;
 mod heap;
+mod mover;
 mod next;
 mod receiver;
 mod steps;

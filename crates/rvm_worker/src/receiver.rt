@@ -3,9 +3,9 @@
 ghost use Rattle.std.specs.Prelude.{◌≡◌, if◌then◌else◌};
 ghost use Rattle.rvm_worker.specs.Work.{IsWork};
 
-use crate::caller::Caller;
 use crate::end::{WorkEnd, Worked};
 use crate::gate::{Gate, Watch, Worker};
+use crate::mover::Mover;
 use crate::next::ends_hearing;
 use crate::telling::{Side, tell};
 use rvm_cell::{Seat, Seating};
@@ -55,18 +55,13 @@ pub fn receiver_worker<
 ) -> Worked<L>
     ensures { IsWork seat result.seat result.receipts.items }
 {
-    let mut caller = Caller::new(alloc, seat);
+    let mut mover = Mover::new(alloc, seat);
     let mut watch = Watch::new(gate, worker);
-    let end = hear(rt, alloc, side, &mut caller, &mut watch, from, link);
+    let end = hear(rt, alloc, side, &mut mover, &mut watch, from, link);
     if end.is_short_of_room() {
         side.outgoing.close(rt);
     }
-    let (seat, receipts) = caller.into_parts();
-    Worked {
-        seat,
-        receipts,
-        end,
-    }
+    mover.end(end)
 }
 
 /// Reads a link until the receiver ends.
@@ -74,12 +69,12 @@ fn hear<L: Seating, M: PagedMemory + Drop, K: Link + Drop, I: Link, G: Gate, R: 
     rt: &R,
     alloc: Global,
     side: &Side<'_, L, M, K>,
-    caller: &mut Caller<L>,
+    mover: &mut Mover<L>,
     watch: &mut Watch<'_, G>,
     from: u8,
     link: &mut I,
 ) -> WorkEnd
-    ensures { caller.new.start ≡ caller.old.start }
+    ensures { mover.new.start ≡ mover.old.start }
 {
     let mut stream = Stream {
         reader: FrameReader::new(alloc),
@@ -93,7 +88,7 @@ fn hear<L: Seating, M: PagedMemory + Drop, K: Link + Drop, I: Link, G: Gate, R: 
             Read::Nothing => idle += 1,
             Read::Bytes(piece) => {
                 idle = 0;
-                if let Err(end) = take(rt, alloc, side, caller, watch, from, &mut stream, piece) {
+                if let Err(end) = take(rt, alloc, side, mover, watch, from, &mut stream, piece) {
                     return end;
                 }
             }
@@ -141,13 +136,13 @@ fn take<L: Seating, M: PagedMemory + Drop, K: Link + Drop, G: Gate, R: Wait>(
     rt: &R,
     alloc: Global,
     side: &Side<'_, L, M, K>,
-    caller: &mut Caller<L>,
+    mover: &mut Mover<L>,
     watch: &mut Watch<'_, G>,
     from: u8,
     stream: &mut Stream,
     piece: &[u8],
 ) -> Result<(), WorkEnd>
-    ensures { caller.new.start ≡ caller.old.start }
+    ensures { mover.new.start ≡ mover.old.start }
 {
     let mut rest = piece;
     for _turn in 0..piece.len() {
@@ -158,7 +153,7 @@ fn take<L: Seating, M: PagedMemory + Drop, K: Link + Drop, G: Gate, R: Wait>(
         rest = &rest[taken..];
         stream.is_inside = received.is_none();
         if let Some((_hosts, frame)) = received {
-            came(rt, alloc, side, caller, watch, from, frame)?;
+            came(rt, alloc, side, mover, watch, from, frame)?;
         }
     }
     Ok(())
@@ -169,12 +164,12 @@ fn came<L: Seating, M: PagedMemory + Drop, K: Link + Drop, G: Gate, R: Wait>(
     rt: &R,
     alloc: Global,
     side: &Side<'_, L, M, K>,
-    caller: &mut Caller<L>,
+    mover: &mut Mover<L>,
     watch: &mut Watch<'_, G>,
     from: u8,
     frame: Frame,
 ) -> Result<(), WorkEnd>
-    ensures { caller.new.start ≡ caller.old.start }
+    ensures { mover.new.start ≡ mover.old.start }
 {
     if is_hello(&frame) {
         return Ok(());
@@ -182,7 +177,7 @@ fn came<L: Seating, M: PagedMemory + Drop, K: Link + Drop, G: Gate, R: Wait>(
     let Ok(frame) = Shared::new(alloc, frame) else {
         return Err(WorkEnd::OutOfMemory);
     };
-    let told = tell(rt, alloc, side, caller, watch, HostEvent::Came(from, frame))?;
+    let told = tell(rt, alloc, side, mover, watch, HostEvent::Came(from, frame))?;
     told.sent?;
     if ends_hearing(&told.reply) {
         return Err(WorkEnd::Done);

@@ -9,5 +9,4 @@ returns-clause-output g c works a b =
     c.seat_and_work-carried.result.1.receipts.0.items c.seat_and_work-carried.result.1.receipts.1.items
     (g.W.Write.contents c.args.writer.now) (g.W.Write.contents c.seat_and_work-carried.new.writer)
     (c.seat_and_work-carried.result.1.end ≢ LinkFault) (λ is. works (c.close_both.ensures.harts ∙ is))
-    c.seat_and_work-carried.ensures.one.0 c.seat_and_work-carried.ensures.one.1
     (c.close_both.ensures.told_a a) (c.close_both.ensures.told_b b) c.seat_and_work-carried.ensures.output
