@@ -1,5 +1,5 @@
 -- What calls tell, worked out by hand.
-use Rattle.std.proofs.Common.{◌≡◌, List, [], ◌∷◌, length, codes, refl}
+use Rattle.std.proofs.Common.{◌≡◌, false, List, [], ◌∷◌, ◌++◌, length, codes, refl}
 use Rattle.std.specs.List.{flat_map}
 use Rattle.rvm_cell.specs.Receipts.{PlainReceipt}
 use Rattle.rvm_debug.specs.declared.event.BoardEvent.{BoardEvent}
@@ -10,21 +10,26 @@ use Rattle.rvm_message.specs.declared.event.HostEvent.TheVariants as event
 use Rattle.rvm_message.specs.declared.reply.HostRefusal.TheVariants as refusal
 use Rattle.rvm_message.specs.declared.reply.HostReply.{HostReply}
 use Rattle.rvm_message.specs.declared.reply.HostReply.TheVariants as reply
-use Rattle.rvm_hart_worker.specs.Calls.{AtA, AtB, Call, bytes_in, in_a, in_b}
+use Rattle.rvm_hart_worker.specs.Calls.{AtA, AtB, Call, EndsDry, bytes_in, in_a, in_b, is_dry}
 
 -- a receipt of what a guest was asked
 abbrev receipt : BoardEvent → HostReply → PlainReceipt
 receipt e r = record { place = 0; seat = 0; count = 0; event = event.Do (command.Board e); reply = r }
 
 -- a guest sends H at the first host, and i at the second, where it is met once the first has refused a drain
-abbrev calls : List Call
-calls =
+abbrev all_but_last : List Call
+all_but_last =
     AtA (receipt (asked.Step 0) (reply.Board answer.Retired))
     ∷ AtA (receipt (asked.Drain 256) (reply.Board (answer.Bytes (codes "H"))))
     ∷ AtA (receipt (asked.Drain 256) (reply.Refused refusal.NotHere))
     ∷ AtB (receipt (asked.Drain 256) (reply.Board (answer.Bytes (codes "i"))))
-    ∷ AtB (receipt (asked.Drain 256) (reply.Board (answer.Bytes [])))
     ∷ []
+
+abbrev last : Call
+last = AtB (receipt (asked.Drain 256) (reply.Board (answer.Bytes [])))
+
+abbrev calls : List Call
+calls = all_but_last ++ last ∷ []
 
 drains_tell_what_the_guest_sent : flat_map bytes_in calls ≡ codes "Hi"
 drains_tell_what_the_guest_sent = refl
@@ -38,3 +43,13 @@ two_calls_are_at_the_second_host = refl
 -- bytes of RAM are none that the guest sent
 bytes_of_ram_are_not_output : bytes_in (AtA (receipt (asked.Mem 0x80000000 1) (reply.Board (answer.Bytes (codes "x"))))) ≡ []
 bytes_of_ram_are_not_output = refl
+
+they_end_with_a_drain_that_found_nothing : EndsDry calls
+they_end_with_a_drain_that_found_nothing = record { before = all_but_last; last = last; is_last = refl; dry = refl }
+
+-- neither a drain that found bytes nor one that was refused found nothing
+bytes_are_not_nothing : is_dry (AtB (receipt (asked.Drain 256) (reply.Board (answer.Bytes (codes "i"))))) ≡ false
+bytes_are_not_nothing = refl
+
+a_refusal_is_not_nothing : is_dry (AtA (receipt (asked.Drain 256) (reply.Refused refusal.Paused))) ≡ false
+a_refusal_is_not_nothing = refl

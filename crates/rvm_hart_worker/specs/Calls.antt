@@ -1,5 +1,5 @@
 -- What a worker at two hosts was told by its calls.
-use Rattle.std.specs.Prelude.{◌≡◌, ℕ, List, [], ◌∷◌, ◌++◌, Option, None, Some}
+use Rattle.std.specs.Prelude.{◌≡◌, ℕ, Bool, true, false, List, [], ◌∷◌, ◌++◌, Option, None, Some}
 use Rattle.std.specs.Io.KnownBytes.{Appends}
 use Rattle.std.specs.List.{flat_map}
 use Rattle.rvm_cell.specs.Receipts.{PlainReceipt}
@@ -11,7 +11,7 @@ use Rattle.rvm_message.specs.declared.reply.HostReply.{HostReply}
 use Rattle.rvm_worker.specs.Work.{PlainCaller}
 use Rattle.rvm_hart_worker.specs.declared.pair.Drained.{Drained}
 use Rattle.rvm_hart_worker.specs.declared.pair.Drained.TheVariants as drained
-use Rattle.rvm_hart_worker.specs.Drains.{told_by}
+use Rattle.rvm_hart_worker.specs.Drains.{is_nothing, told_by}
 
 -- a call at the first host or at the second one, by its receipt
 pub data Call : Type 0 where
@@ -41,29 +41,54 @@ abbrev pub bytes_in : Call → List ℕ
 bytes_in (AtA r) = drained_by r.event r.reply
 bytes_in (AtB r) = drained_by r.event r.reply
 
+-- whether an event was a drain that found nothing, by the reply to it
+abbrev pub found_nothing : HostEvent → HostReply → Bool
+found_nothing (event.Do (command.Board (asked.Drain n))) r = is_nothing (told_by r)
+found_nothing e r = false
+
+abbrev pub is_dry : Call → Bool
+is_dry (AtA r) = found_nothing r.event r.reply
+is_dry (AtB r) = found_nothing r.event r.reply
+
+-- the last of these calls is one
+pub record EndsDry (calls : List Call) : Type 0 where
+  pub before : List Call
+  pub last : Call
+  pub is_last : calls ≡ before ++ last ∷ []
+  pub dry : is_dry last ≡ true
+
 -- the bytes that are there, if any
 abbrev pub given : Option (List ℕ) → List ℕ
 given None = []
 given (Some bs) = bs
 
--- calls were made by a caller at each of two hosts, whose drains told these bytes
-pub record Made (old new : PlainCaller × PlainCaller) (bytes : List ℕ) : Type 0 where
+abbrev pub has_none : Option (List ℕ) → Bool
+has_none None = true
+has_none (Some bs) = false
+
+-- calls were made by a caller at each of two hosts, whose drains told these bytes; where `dry`, the last found nothing
+pub record Made (old new : PlainCaller × PlainCaller) (bytes : List ℕ) (dry : Bool) : Type 0 where
   pub calls : List Call
   pub start_a : new.0.start ≡ old.0.start
   pub start_b : new.1.start ≡ old.1.start
   pub at_a : new.0.receipts ≡ old.0.receipts ++ flat_map in_a calls
   pub at_b : new.1.receipts ≡ old.1.receipts ++ flat_map in_b calls
   pub told : flat_map bytes_in calls ≡ bytes
+  pub ends : dry ≡ true → EndsDry calls
 
 -- calls were made, and a writer was given the bytes that their drains told, unless it failed
-pub record Written (old new : PlainCaller × PlainCaller) (before after : Option (List ℕ)) (works : Type 0) : Type 0 where
+pub record Written (old new : PlainCaller × PlainCaller) (before after : Option (List ℕ)) (works : Type 0) (dry : Bool)
+    : Type 0 where
   pub bytes : List ℕ
-  pub made : Made old new bytes
+  pub made : Made old new bytes dry
   pub written : works → Appends before after bytes
 
--- receipts of calls at two hosts, in an order of which a writer was given the bytes that drains told, unless it failed
-pub record IsOutput (at_a at_b : List PlainReceipt) (before after : Option (List ℕ)) (works : Type 0) : Type 0 where
+-- receipts of calls at two hosts, in an order of which a writer was given the bytes that drains told, unless it failed;
+-- where `dry`, the last found nothing
+pub record IsOutput (at_a at_b : List PlainReceipt) (before after : Option (List ℕ)) (works : Type 0) (dry : Bool)
+    : Type 0 where
   pub calls : List Call
   pub first : at_a ≡ flat_map in_a calls
   pub second : at_b ≡ flat_map in_b calls
   pub written : works → Appends before after (flat_map bytes_in calls)
+  pub ends : dry ≡ true → EndsDry calls

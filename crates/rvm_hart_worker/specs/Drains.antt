@@ -1,26 +1,23 @@
 -- What a drain took.
-use Rattle.std.specs.Prelude.{Bool, true, false, if◌then◌else◌, [], ◌∷◌}
-use Rattle.rvm_debug.specs.declared.event.BoardReply.{BoardReply}
+use Rattle.std.specs.Prelude.{Bool, true, false, [], ◌∷◌}
 use Rattle.rvm_debug.specs.declared.event.BoardReply.TheVariants as answer
 use Rattle.rvm_message.specs.declared.reply.HostReply.{HostReply}
 use Rattle.rvm_message.specs.declared.reply.HostReply.TheVariants as reply
 use Rattle.rvm_hart_worker.specs.declared.pair.Drained.{Drained}
 use Rattle.rvm_hart_worker.specs.declared.pair.Drained.TheVariants as drained
-use Rattle.rvm_hart_worker.specs.Turns.{is_elsewhere}
 
--- the bytes of a board's answer, if it has any
-abbrev pub taken : BoardReply → Drained
-taken (answer.Bytes []) = drained.Nothing
-taken (answer.Bytes (b ∷ bs)) = drained.Bytes (b ∷ bs)
-taken a = drained.Nothing
-
--- what a host's reply to a drain says: a refusal that the guest is not here, or is paused, sends the drain to the other host
+-- what a host's reply to a drain says: any that has no bytes, not even none, sends the drain to the other host
 abbrev pub told_by : HostReply → Drained
-told_by (reply.Board a) = taken a
-told_by (reply.Refused why) = if is_elsewhere why then drained.Elsewhere else drained.Nothing
-told_by r = drained.Nothing
+told_by (reply.Board (answer.Bytes [])) = drained.Nothing
+told_by (reply.Board (answer.Bytes (b ∷ bs))) = drained.Bytes (b ∷ bs)
+told_by r = drained.Elsewhere
 
 -- whether the guest was elsewhere
 abbrev pub is_refused : Drained → Bool
 is_refused drained.Elsewhere = true
 is_refused d = false
+
+-- whether the guest was there, and had sent nothing more
+abbrev pub is_nothing : Drained → Bool
+is_nothing drained.Nothing = true
+is_nothing d = false

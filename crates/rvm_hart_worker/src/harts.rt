@@ -1,6 +1,6 @@
 //! The hart worker: it makes the turns of the guest's harts, wherever the guest is.
 
-ghost use Rattle.std.specs.Prelude.{◌≡◌, ◌≢◌, OnOk, IfErr, ⊤};
+ghost use Rattle.std.specs.Prelude.{◌≡◌, ◌≢◌, true, false, OnOk, IfErr, Err, is_ok, ⊤};
 ghost use Rattle.std.specs.Io.KnownBytes.{Appends};
 ghost use Rattle.rvm_worker.specs.Work.{IsWork};
 ghost use Rattle.rvm_hart_worker.specs.Calls.{IsOutput, Written};
@@ -16,21 +16,31 @@ use std::io::Write;
 use std::sync::Wait;
 use std::time::Clock;
 
+/// How the turns of a guest came to their end.
+#[derive(Clone, Copy, Debug, PartialEq, Eq)]
+pub enum TurnsEnd {
+    /// The guest halted its board with this status.
+    Halted(u8),
+    /// As many turns were made as were asked for.
+    StepsSpent,
+}
+
 /// What the hart worker gives back: its seats at both hosts, the receipts of its calls at each in
-/// order, and how it ended.
+/// order, and how the turns came to their end, or why not.
 #[derive(Drop)]
 pub struct HartsWorked<A: Seating, B: Seating> {
     pub seats: (Seat<A>, Seat<B>),
     pub receipts: (Vec<Receipt>, Vec<Receipt>),
-    pub end: WorkEnd,
+    pub end: Result<TurnsEnd, WorkEnd>,
 }
 
 /// Makes `steps` turns, or turns until the guest halts its board: in turn t hart t modulo the number of
 /// harts takes a step. What the guest sent is written after each 64 turns, when the board is halted and
 /// at the end. A call that one host refuses, since the guest is not there or paused there, is made at
 /// the other; while both refuse it, it is tried again each millisecond. Each byte that a drain takes is
-/// written once, in order, unless the writer fails, which ends the worker with `LinkFault`.
-#[tactic(auto, using(crate::proofs::Calls::output_written))]
+/// written once, in order, unless the writer fails, which ends the worker with `LinkFault`. Where the turns
+/// come to their end, the last call is a drain that finds nothing.
+#[tactic(auto, using(crate::proofs::Calls::output_of_run))]
 pub fn hart_worker<
     A: Seating,
     B: Seating,
@@ -51,7 +61,7 @@ pub fn hart_worker<
     ensures at_a { IsWork seats.0 result.seats.0 result.receipts.0.items }
     ensures at_b { IsWork seats.1 result.seats.1 result.receipts.1.items }
     ensures output { IsOutput result.receipts.0.items result.receipts.1.items
-        (W.contents writer.old) (W.contents writer.new) (result.end ≢ WorkEnd.LinkFault) }
+        (W.contents writer.old) (W.contents writer.new) (result.end ≢ Err WorkEnd.LinkFault) (is_ok result.end) }
 {
     let (a, b) = seats;
     let mut pair = Pair {
@@ -60,14 +70,17 @@ pub fn hart_worker<
         is_at_a: true,
     };
     let mut watch = Watch::new(gate, Worker::Harts);
-    let end = run_to_end(
+    let end = run(
         rt, alloc, hosts, &mut pair, &mut watch, writer, harts, steps,
     );
     give_back(pair, end)
 }
 
 /// What the hart worker gives back.
-fn give_back<A: Seating, B: Seating>(pair: Pair<A, B>, end: WorkEnd) -> HartsWorked<A, B>
+fn give_back<A: Seating, B: Seating>(
+    pair: Pair<A, B>,
+    end: Result<TurnsEnd, WorkEnd>,
+) -> HartsWorked<A, B>
     ensures at_a { IsWork pair.at_a.start result.seats.0 result.receipts.0.items }
     ensures at_b { IsWork pair.at_b.start result.seats.1 result.receipts.1.items }
     ensures receipts { (result.receipts.0.items ≡ pair.at_a.receipts) × (result.receipts.1.items ≡ pair.at_b.receipts) }
@@ -87,29 +100,8 @@ fn give_back<A: Seating, B: Seating>(pair: Pair<A, B>, end: WorkEnd) -> HartsWor
     }
 }
 
-/// Does what `run` does, and answers how it ended.
-#[tactic(auto, using(crate::proofs::Calls::written_whole))]
-fn run_to_end<A: Seating, B: Seating, M: PagedMemory + Drop, W: Write, G: Gate, R: Wait + Clock>(
-    rt: &R,
-    alloc: Global,
-    hosts: &Hosts<'_, A, B, M>,
-    pair: &mut Pair<A, B>,
-    watch: &mut Watch<'_, G>,
-    writer: &mut W,
-    harts: u32,
-    steps: u32,
-) -> WorkEnd
-    ensures { Written (pair.old.at_a, pair.old.at_b) (pair.new.at_a, pair.new.at_b)
-        (W.contents writer.old) (W.contents writer.new) (result ≢ WorkEnd.LinkFault) }
-{
-    match run(rt, alloc, hosts, pair, watch, writer, harts, steps) {
-        Ok(end) => end,
-        Err(end) => end,
-    }
-}
-
 /// Makes the turns of a run, and writes what the guest sends.
-#[tactic(auto, using(crate::proofs::Calls::written_none, crate::proofs::Calls::written_still, crate::proofs::Calls::written_still_err, crate::proofs::Calls::written_behind, crate::proofs::Calls::written_behind_err, crate::proofs::Calls::written_then, crate::proofs::Calls::written_then_err))]
+#[tactic(auto, using(crate::proofs::Calls::written_none, crate::proofs::Calls::written_still, crate::proofs::Calls::written_still_err, crate::proofs::Calls::written_behind, crate::proofs::Calls::written_behind_err, crate::proofs::Calls::written_on, crate::proofs::Calls::written_then, crate::proofs::Calls::written_then_err))]
 fn run<A: Seating, B: Seating, M: PagedMemory + Drop, W: Write, G: Gate, R: Wait + Clock>(
     rt: &R,
     alloc: Global,
@@ -119,11 +111,11 @@ fn run<A: Seating, B: Seating, M: PagedMemory + Drop, W: Write, G: Gate, R: Wait
     writer: &mut W,
     harts: u32,
     steps: u32,
-) -> Result<WorkEnd, WorkEnd>
+) -> Result<TurnsEnd, WorkEnd>
     ensures written { OnOk result (Written (pair.old.at_a, pair.old.at_b) (pair.new.at_a, pair.new.at_b)
-        (W.contents writer.old) (W.contents writer.new) ⊤) }
+        (W.contents writer.old) (W.contents writer.new) ⊤ true) }
     ensures err { IfErr result (λ e. Written (pair.old.at_a, pair.old.at_b) (pair.new.at_a, pair.new.at_b)
-        (W.contents writer.old) (W.contents writer.new) (e ≢ WorkEnd.LinkFault)) }
+        (W.contents writer.old) (W.contents writer.new) (e ≢ WorkEnd.LinkFault) false) }
 {
     let mut turn = 0;
     while turn < steps {
@@ -132,14 +124,14 @@ fn run<A: Seating, B: Seating, M: PagedMemory + Drop, W: Write, G: Gate, R: Wait
         turn += slice.made;
         if let Then::Halted(status) = slice.then {
             drain(rt, alloc, hosts, pair, watch, writer)?;
-            return Ok(WorkEnd::Halted(status));
+            return Ok(TurnsEnd::Halted(status));
         }
         if turn % DRAIN_EVERY == 0 {
             drain(rt, alloc, hosts, pair, watch, writer)?;
         }
     }
     drain(rt, alloc, hosts, pair, watch, writer)?;
-    Ok(WorkEnd::StepsSpent)
+    Ok(TurnsEnd::StepsSpent)
 }
 
 /// Writes what the guest sent, until nothing is left.
@@ -153,9 +145,9 @@ fn drain<A: Seating, B: Seating, M: PagedMemory + Drop, W: Write, G: Gate, R: Wa
     writer: &mut W,
 ) -> Result<(), WorkEnd>
     ensures written { OnOk result (Written (pair.old.at_a, pair.old.at_b) (pair.new.at_a, pair.new.at_b)
-        (W.contents writer.old) (W.contents writer.new) ⊤) }
+        (W.contents writer.old) (W.contents writer.new) ⊤ true) }
     ensures err { IfErr result (λ e. Written (pair.old.at_a, pair.old.at_b) (pair.new.at_a, pair.new.at_b)
-        (W.contents writer.old) (W.contents writer.new) (e ≢ WorkEnd.LinkFault)) }
+        (W.contents writer.old) (W.contents writer.new) (e ≢ WorkEnd.LinkFault) false) }
 {
     for _drain in 0..u64::MAX {
         match pair.sent_by_guest(rt, alloc, hosts, watch)? {
@@ -163,7 +155,7 @@ fn drain<A: Seating, B: Seating, M: PagedMemory + Drop, W: Write, G: Gate, R: Wa
             None => return Ok(()),
         }
     }
-    Ok(())
+    Err(WorkEnd::GuestStopped)
 }
 
 /// Writes what a drain took.

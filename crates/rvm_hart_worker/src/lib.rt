@@ -10,5 +10,5 @@ mod harts;
 mod pair;
 mod slices;
 
-pub use harts::{HartsWorked, hart_worker};
+pub use harts::{HartsWorked, TurnsEnd, hart_worker};
 pub use pair::Hosts;

@@ -1,9 +1,9 @@
 //! The guest's host, of two.
 
-ghost use Rattle.std.specs.Prelude.{◌≡◌, ◌≢◌, ◌≤◌, [], IfOk, OnErr};
-ghost use Rattle.rvm_hart_worker.specs.Calls.{Made, bytes_of, given};
+ghost use Rattle.std.specs.Prelude.{◌≡◌, ◌≢◌, ◌≤◌, false, [], IfOk, OnErr};
+ghost use Rattle.rvm_hart_worker.specs.Calls.{Made, bytes_of, given, has_none};
 ghost use Rattle.rvm_hart_worker.specs.declared.slices.Then.TheVariants.{Elsewhere};
-ghost use Rattle.rvm_hart_worker.specs.Drains.{is_refused, taken, told_by};
+ghost use Rattle.rvm_hart_worker.specs.Drains.{is_nothing, is_refused, told_by};
 
 use crate::slices::{Slice, Then, is_elsewhere, made_by};
 use rvm_cell::{Seating, SharedHost};
@@ -45,36 +45,24 @@ pub(crate) enum Drained {
     Elsewhere,
 }
 
-/// What the reply to a drain says.
+/// What the reply to a drain says. Where it has no bytes, not even none, the guest is elsewhere.
 fn told_by(reply: HostReply) -> Drained
     ensures { result ≡ told_by reply }
 {
     match reply {
-        HostReply::Board(answer) => taken(answer),
-        HostReply::Refused(why) => {
-            if is_elsewhere(why) {
-                Drained::Elsewhere
-            } else {
-                Drained::Nothing
-            }
-        }
-        _ => Drained::Nothing,
+        HostReply::Board(BoardReply::Bytes(bytes)) => taken(bytes),
+        _ => Drained::Elsewhere,
     }
 }
 
-/// The bytes of a board's answer, if it has any.
-fn taken(answer: BoardReply) -> Drained
-    ensures { result ≡ taken answer }
+/// What a drain took.
+fn taken(bytes: View) -> Drained
+    ensures { result ≡ told_by (HostReply.Board (BoardReply.Bytes bytes)) }
 {
-    match answer {
-        BoardReply::Bytes(bytes) => {
-            if bytes.as_slice().is_empty() {
-                Drained::Nothing
-            } else {
-                Drained::Bytes(bytes)
-            }
-        }
-        _ => Drained::Nothing,
+    if bytes.as_slice().is_empty() {
+        Drained::Nothing
+    } else {
+        Drained::Bytes(bytes)
     }
 }
 
@@ -92,7 +80,7 @@ impl<A: Seating, B: Seating> Pair<A, B> {
     ) -> Result<Slice, WorkEnd>
         ensures within { IfOk result (λ s. s.made ≤ n) }
         ensures some { IfOk result (λ s. s.then ≢ Elsewhere → 1 ≤ s.made) }
-        ensures made { Made (self.old.at_a, self.old.at_b) (self.new.at_a, self.new.at_b) [] }
+        ensures made { Made (self.old.at_a, self.old.at_b) (self.new.at_a, self.new.at_b) [] false }
     {
         let steps = if self.is_at_a {
             self.at_a.slice(rt, alloc, hosts.a, turn, harts, n)?
@@ -116,7 +104,7 @@ impl<A: Seating, B: Seating> Pair<A, B> {
     ) -> Result<Slice, WorkEnd>
         ensures within { IfOk result (λ s. s.made ≤ n) }
         ensures some { IfOk result (λ s. s.then ≢ Elsewhere → 1 ≤ s.made) }
-        ensures made { Made (self.old.at_a, self.old.at_b) (self.new.at_a, self.new.at_b) [] }
+        ensures made { Made (self.old.at_a, self.old.at_b) (self.new.at_a, self.new.at_b) [] false }
     {
         watch.before()?;
         let slice = self.slice(rt, alloc, hosts, turn, harts, n)?;
@@ -140,7 +128,7 @@ impl<A: Seating, B: Seating> Pair<A, B> {
         n: u32,
     ) -> Result<Slice, WorkEnd>
         ensures within { IfOk result (λ s. s.made ≤ n) }
-        ensures made { Made (self.old.at_a, self.old.at_b) (self.new.at_a, self.new.at_b) [] }
+        ensures made { Made (self.old.at_a, self.old.at_b) (self.new.at_a, self.new.at_b) [] false }
     {
         let slice = self.slice_at_gate(rt, alloc, hosts, watch, turn, harts, n)?;
         if slice.made > 0 {
@@ -164,7 +152,7 @@ impl<A: Seating, B: Seating> Pair<A, B> {
     ) -> Result<Slice, WorkEnd>
         ensures within { IfOk result (λ s. s.made ≤ n) }
         ensures some { IfOk result (λ s. 1 ≤ s.made) }
-        ensures made { Made (self.old.at_a, self.old.at_b) (self.new.at_a, self.new.at_b) [] }
+        ensures made { Made (self.old.at_a, self.old.at_b) (self.new.at_a, self.new.at_b) [] false }
     {
         for _try in 0..REFUSED_TURNS {
             let slice = self.slice_at_either(rt, alloc, hosts, watch, turn, harts, n)?;
@@ -185,8 +173,8 @@ impl<A: Seating, B: Seating> Pair<A, B> {
         hosts: &Hosts<'_, A, B, M>,
     ) -> Result<Drained, WorkEnd>
         ensures made { IfOk result (λ d. Made (self.old.at_a, self.old.at_b)
-            (self.new.at_a, self.new.at_b) (bytes_of d)) }
-        ensures err { OnErr result (Made (self.old.at_a, self.old.at_b) (self.new.at_a, self.new.at_b) []) }
+            (self.new.at_a, self.new.at_b) (bytes_of d) (is_nothing d)) }
+        ensures err { OnErr result (Made (self.old.at_a, self.old.at_b) (self.new.at_a, self.new.at_b) [] false) }
     {
         let event = HostEvent::Do(Command::Board(BoardEvent::Drain(DRAIN_SIZE)));
         let (reply, _frame) = if self.is_at_a {
@@ -207,8 +195,8 @@ impl<A: Seating, B: Seating> Pair<A, B> {
         watch: &mut Watch<'_, G>,
     ) -> Result<Drained, WorkEnd>
         ensures made { IfOk result (λ d. Made (self.old.at_a, self.old.at_b)
-            (self.new.at_a, self.new.at_b) (bytes_of d)) }
-        ensures err { OnErr result (Made (self.old.at_a, self.old.at_b) (self.new.at_a, self.new.at_b) []) }
+            (self.new.at_a, self.new.at_b) (bytes_of d) (is_nothing d)) }
+        ensures err { OnErr result (Made (self.old.at_a, self.old.at_b) (self.new.at_a, self.new.at_b) [] false) }
     {
         watch.before()?;
         let drained = self.drain(rt, alloc, hosts)?;
@@ -229,8 +217,8 @@ impl<A: Seating, B: Seating> Pair<A, B> {
         watch: &mut Watch<'_, G>,
     ) -> Result<Drained, WorkEnd>
         ensures made { IfOk result (λ d. Made (self.old.at_a, self.old.at_b)
-            (self.new.at_a, self.new.at_b) (bytes_of d)) }
-        ensures err { OnErr result (Made (self.old.at_a, self.old.at_b) (self.new.at_a, self.new.at_b) []) }
+            (self.new.at_a, self.new.at_b) (bytes_of d) (is_nothing d)) }
+        ensures err { OnErr result (Made (self.old.at_a, self.old.at_b) (self.new.at_a, self.new.at_b) [] false) }
     {
         let drained = self.drain_at_gate(rt, alloc, hosts, watch)?;
         if !is_refused(&drained) {
@@ -250,8 +238,8 @@ impl<A: Seating, B: Seating> Pair<A, B> {
         watch: &mut Watch<'_, G>,
     ) -> Result<Option<View>, WorkEnd>
         ensures made { IfOk result (λ o. Made (self.old.at_a, self.old.at_b)
-            (self.new.at_a, self.new.at_b) (given o)) }
-        ensures err { OnErr result (Made (self.old.at_a, self.old.at_b) (self.new.at_a, self.new.at_b) []) }
+            (self.new.at_a, self.new.at_b) (given o) (has_none o)) }
+        ensures err { OnErr result (Made (self.old.at_a, self.old.at_b) (self.new.at_a, self.new.at_b) [] false) }
     {
         for _try in 0..REFUSED_TURNS {
             match self.drain_at_either(rt, alloc, hosts, watch)? {

@@ -1,5 +1,5 @@
 -- What the workers of a move told.
-use Rattle.std.proofs.Common.{◌≡◌, ◌∙◌, ℕ, false, List, [], ◌++◌, append_assoc, Option, ap}
+use Rattle.std.proofs.Common.{◌≡◌, ◌∙◌, ℕ, Bool, false, List, [], ◌++◌, append_assoc, Option, ap}
 use Rattle.std.proofs.lemmas.List.Elements.{All-append}
 use Rattle.rvm_cell.specs.Receipts.{PlainReceipt}
 use Rattle.rvm_cell.specs.Seats.{PlainSeat}
@@ -33,11 +33,12 @@ of_one first last receipts work = record { first = first; last = last; work = wo
 
 -- what a worker's drains told is what was written
 pub output_of : (first second : List PlainEntry) (at_a at_b : List PlainReceipt) (before after : Option (List ℕ)) (works : Type 0)
-    → works → of_guest first ≡ called_of_guest at_a → of_guest second ≡ called_of_guest at_b
-    → IsOutput at_a at_b before after works → IsOutputOf first second before after
-output_of first second at_a at_b before after works w a b output = record {
+    (dry : Bool) → works → of_guest first ≡ called_of_guest at_a → of_guest second ≡ called_of_guest at_b
+    → IsOutput at_a at_b before after works dry → IsOutputOf first second before after dry
+output_of first second at_a at_b before after works dry w a b output = record {
   calls = output.calls;
   of_first = a ∙ ap called_of_guest output.first;
   of_second = b ∙ ap called_of_guest output.second;
   written = output.written w;
+  ends = output.ends;
 }

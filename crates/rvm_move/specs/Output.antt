@@ -1,11 +1,11 @@
 -- What a move wrote of what its guest sent.
 use Rattle.std.specs.Io.KnownBytes.{Appends}
 use Rattle.std.specs.List.{filter, flat_map}
-use Rattle.std.specs.Prelude.{◌≡◌, ◌≢◌, ℕ, List, map, Option, None}
+use Rattle.std.specs.Prelude.{◌≡◌, ◌≢◌, ℕ, Bool, true, List, map, Option, None, Err, is_ok}
 use Rattle.rvm_cell.specs.declared.closing.CloseKind.{CloseKind}
 use Rattle.rvm_cell.specs.Receipts.{PlainReceipt}
 use Rattle.rvm_cell.specs.Seats.{PlainSeat}
-use Rattle.rvm_hart_worker.specs.Calls.{Call, bytes_in, in_a, in_b}
+use Rattle.rvm_hart_worker.specs.Calls.{Call, EndsDry, bytes_in, in_a, in_b}
 use Rattle.rvm_journal.specs.Entries.{PlainEntry, exchange_of}
 use Rattle.rvm_journal.specs.History.{is_board}
 use Rattle.rvm_message.specs.Exchanges.{PlainExchange, exchange}
@@ -28,15 +28,16 @@ pub record AreOfOne (receipts : List PlainReceipt) : Type 0 where
   pub work : IsWork first last receipts
 
 -- of two journals: the events of the guest in both are calls that were made one after the other, and what was written are
--- the bytes that the drains among them told, in that order
-pub record IsOutputOf (first second : List PlainEntry) (before after : Option (List ℕ)) : Type 0 where
+-- the bytes that the drains among them told, in that order; where `dry`, the last call is a drain that found nothing
+pub record IsOutputOf (first second : List PlainEntry) (before after : Option (List ℕ)) (dry : Bool) : Type 0 where
   pub calls : List Call
   pub of_first : of_guest first ≡ called_of_guest (flat_map in_a calls)
   pub of_second : of_guest second ≡ called_of_guest (flat_map in_b calls)
   pub written : Appends before after (flat_map bytes_in calls)
+  pub ends : dry ≡ true → EndsDry calls
 
--- so it is where both hosts were closed, unless the writer failed
+-- so it is where both hosts were closed, unless the writer failed; dry where the turns came to their end
 abbrev pub IsEndOutput : Ends → (a b : Option CloseKind) → (first second : List PlainEntry)
     → (before after : Option (List ℕ)) → Type 0
 IsEndOutput ends a b first second before after =
-    ends.harts ≢ LinkFault → a ≡ None → b ≡ None → IsOutputOf first second before after
+    ends.harts ≢ Err LinkFault → a ≡ None → b ≡ None → IsOutputOf first second before after (is_ok ends.harts)

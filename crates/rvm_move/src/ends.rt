@@ -1,14 +1,15 @@
 //! How the workers of a move ended.
 
 ghost use Rattle.std.specs.Prelude.{◌≡◌};
-ghost use Rattle.rvm_move.specs.Ends.{failure, fails_copying, fails_hearing, fails_turns};
+ghost use Rattle.rvm_move.specs.Ends.{failure, fails_copying, fails_hearing};
 
+use rvm_hart_worker::TurnsEnd;
 use rvm_worker::WorkEnd;
 
 /// How each worker of a move ended.
 #[derive(Clone, Copy, Debug, PartialEq, Eq)]
 pub struct Ends {
-    pub harts: WorkEnd,
+    pub harts: Result<TurnsEnd, WorkEnd>,
     pub copier: WorkEnd,
     pub at_a: WorkEnd,
     pub at_b: WorkEnd,
@@ -21,8 +22,8 @@ impl Ends {
     pub fn failure(&self) -> Option<WorkEnd>
         ensures { result ≡ failure self.now }
     {
-        if fails_turns(self.harts) {
-            return Some(self.harts);
+        if let Err(end) = self.harts {
+            return Some(end);
         }
         if fails_copying(self.copier) {
             return Some(self.copier);
@@ -34,16 +35,6 @@ impl Ends {
             return Some(self.at_b);
         }
         None
-    }
-}
-
-/// Whether the turns did not come to their end.
-fn fails_turns(end: WorkEnd) -> bool
-    ensures { result ≡ fails_turns end }
-{
-    match end {
-        WorkEnd::Halted(_) | WorkEnd::StepsSpent => false,
-        _ => true,
     }
 }
 

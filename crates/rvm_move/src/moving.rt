@@ -1,6 +1,6 @@
 //! A move from its beginning to its end.
 
-ghost use Rattle.std.specs.Prelude.{◌≡◌, ◌≢◌, [], None, vec_len, IfOk};
+ghost use Rattle.std.specs.Prelude.{◌≡◌, ◌≢◌, [], None, Err, vec_len, is_ok, IfOk};
 ghost use Rattle.rvm_hart_worker.specs.Calls.{IsOutput};
 ghost use Rattle.rvm_move.specs.Hosts.{IsEnd};
 ghost use Rattle.rvm_move.specs.Output.{AreOfOne, IsEndOutput, called_of_guest, of_guest};
@@ -121,7 +121,7 @@ fn seat_and_work<
 ) -> (Carried<L, N>, HartsWorked<L, N>)
     requires { (vec_len seats_a ≡ 3) × (vec_len seats_b ≡ 2) }
     ensures output { IsOutput result.1.receipts.0.items result.1.receipts.1.items
-        (W.contents writer.old) (W.contents writer.new) (result.1.end ≢ LinkFault) }
+        (W.contents writer.old) (W.contents writer.new) (result.1.end ≢ Err LinkFault) (is_ok result.1.end) }
     ensures one { AreOfOne result.1.receipts.0.items × AreOfOne result.1.receipts.1.items }
 {
     let (mut seats_a, mut seats_b) = (seats_a, seats_b);

@@ -1,13 +1,13 @@
 -- What a sound move leaves.
-use Rattle.std.proofs.Common.{subst, sym}
-use Rattle.std.specs.Prelude.{◌≡◌, ℕ, List, Option, None, Some, Result, Ok, Err, IfOk, IfSome, if◌then◌else◌}
+use Rattle.std.specs.Prelude.{◌≡◌, ◌≢◌, ℕ, Bool, true, List, Option, None, Result, Ok, Err, IfOk, is_ok}
 use Rattle.std.specs.Result.{IsOkAnd}
 use Rattle.rvm_cell.specs.declared.closing.CloseKind.{CloseKind}
+use Rattle.rvm_hart_worker.specs.declared.harts.TurnsEnd.{TurnsEnd}
 use Rattle.rvm_journal.specs.Entries.{PlainEntry}
 use Rattle.rvm_move.specs.declared.ends.Ends.{Ends}
 use Rattle.rvm_move.specs.Hosts.{IsEnd, IsTold}
-use Rattle.rvm_move.specs.Ends.{fails_turns}
-use Rattle.rvm_move.specs.Output.{IsEndOutput}
+use Rattle.rvm_move.specs.Ends.{failure_of_turns}
+use Rattle.rvm_move.specs.Output.{IsEndOutput, IsOutputOf}
 use Rattle.rvm_move_command.specs.Ended.{IsMoved, IsSound, IsToldOf}
 use Rattle.rvm_worker.specs.declared.end.WorkEnd.{WorkEnd}
 use Rattle.rvm_worker.specs.declared.end.WorkEnd.TheVariants.{LinkFault}
@@ -19,11 +19,11 @@ first_told ends a b first end sound = end sound.1
 pub second_told : (ends : Ends) → (a b : Option CloseKind) → (second : List PlainEntry) → IsEnd b second → IsSound ends a b → IsTold second
 second_told ends a b second end sound = end sound.2
 
--- whose turns did not end with the writer
-turns_end : (end : WorkEnd) (rest : Option WorkEnd) → (if fails_turns end then Some end else rest) ≡ None → end ≡ LinkFault → ⊥
-turns_end end rest none is =
-    let failed : Some LinkFault ≡ None = subst (λ e. (if fails_turns e then Some e else rest) ≡ None) is none in
-    subst (λ o. IfSome o (λ _. ⊥)) (sym failed) tt
+-- the turns of a sound move came to their end
+turned : (P : Bool → Type 0) (harts : Result TurnsEnd WorkEnd) (rest : Option WorkEnd) → failure_of_turns harts rest ≡ None
+    → (harts ≢ Err LinkFault → P (is_ok harts)) → P true
+turned P (Ok end) rest none output = output (λ is. absurd cc)
+turned P (Err end) rest none output = absurd cc
 
 -- where that was told, it was a move
 pub moved : (ends : Ends) → (a b : Option CloseKind) → (first second : List PlainEntry)
@@ -36,7 +36,8 @@ moved ends a b first second before after output_before output_after end_a end_b 
   first_told = end_a told.sound.1;
   second_told = end_b told.sound.2;
   written = told.written;
-  output = output (turns_end ends.harts _ told.sound.0) told.sound.1 told.sound.2;
+  output = turned (IsOutputOf first second output_before output_after) ends.harts _ told.sound.0
+      (λ works. output works told.sound.1 told.sound.2);
 }
 
 -- the same of what a call answers

@@ -1,5 +1,5 @@
 -- How a move ended, as it is told.
-use Rattle.std.specs.Prelude.{◌≡◌, ℕ, List, ◌++◌, Option, None, Some, option_map, codes}
+use Rattle.std.specs.Prelude.{◌≡◌, ℕ, true, List, ◌++◌, Option, None, Some, option_map, codes}
 use Rattle.std.specs.Io.KnownBytes.{Appends}
 use Rattle.rvm_cell.specs.Closing.{close_refusal}
 use Rattle.rvm_cell.specs.declared.closing.CloseKind.{CloseKind}
@@ -54,11 +54,12 @@ pub record IsToldOf (ends : Ends) (a b : Option CloseKind) (first second : List 
   pub sound : IsSound ends a b
   pub written : Appends before after (answers_text first ++ answers_text second)
 
--- what two hosts answered was told, and receipts tell all of it; the output is what drains took of the guest
+-- what two hosts answered was told, and receipts tell all of it; the output is all that drains took of the guest, the last of
+-- which found nothing
 pub record IsMoved (before after output_before output_after : Option (List ℕ)) : Type 0 where
   pub first : List PlainEntry
   pub second : List PlainEntry
   pub first_told : IsTold first
   pub second_told : IsTold second
   pub written : Appends before after (answers_text first ++ answers_text second)
-  pub output : IsOutputOf first second output_before output_after
+  pub output : IsOutputOf first second output_before output_after true

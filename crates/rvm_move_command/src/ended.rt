@@ -25,12 +25,7 @@ fn refusal_of_end(end: WorkEnd) -> Option<Refusal>
         WorkEnd::BadFrame => Some(Refusal::BadFrame),
         WorkEnd::TooLong => Some(Refusal::TooLong),
         WorkEnd::Failed => Some(Refusal::Failed),
-        WorkEnd::Done
-        | WorkEnd::GivenUp
-        | WorkEnd::Halted(_)
-        | WorkEnd::StepsSpent
-        | WorkEnd::Stopped
-        | WorkEnd::GuestStopped => None,
+        WorkEnd::Done | WorkEnd::GivenUp | WorkEnd::Stopped | WorkEnd::GuestStopped => None,
     }
 }
 

@@ -19,12 +19,6 @@ pub enum WorkEnd {
     /// The move was given up before the guest was.
     #[error("the move was given up")]
     GivenUp,
-    /// The guest halted its board with this status.
-    #[error("the guest halted with status {0}")]
-    Halted(u8),
-    /// As many turns were made as were asked for.
-    #[error("all turns were made")]
-    StepsSpent,
     /// The gate let no further call pass.
     #[error("the gate let no further call pass")]
     Stopped,
