@@ -190,6 +190,7 @@ pub fn close<L: Seating, M: PagedMemory + Drop, R: Wait>(
 ) -> Result<Recorded<M>, CloseError<L, M>>
     requires { L.seats ≡ L.parts }
     ensures ok { IfOk result (λ r. IsClosed r.journal.entries seats.items receipts.items) }
+    ensures opening { IfOk result (λ r. r.journal.opening ≡ L.opening) }
     ensures back { IfErr result (λ e. (e.seats.items ≡ seats.items) × IsPermutation receipts.items e.receipts.items) }
     ensures fault { IfErr result (λ e. IsCloseError e.kind e.opened.journal.entries L.seats (vec_len seats)
         e.receipts.items) }

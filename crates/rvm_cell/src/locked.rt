@@ -38,7 +38,8 @@ impl<L: Seating, M: PagedMemory + Drop> Model for Locked<L, M> {
 
     ghost view = { λ l. l.recorded };
 
-    ghost invariant = { λ l. (l.seats ≡ L.seats) × (l.book.total ≡ count_of l.recorded) × (l.spare.parts ≡ 0) };
+    ghost invariant = { λ l. (l.seats ≡ L.seats) × (l.book.total ≡ count_of l.recorded) × (l.spare.parts ≡ 0)
+        × (l.recorded.journal.opening ≡ L.opening) };
 }
 
 impl<L: Seating, M: PagedMemory + Drop> Locked<L, M> {
@@ -51,7 +52,8 @@ impl<L: Seating, M: PagedMemory + Drop> Locked<L, M> {
 
     /// The recorded host, out of its lock.
     pub fn into_recorded(self) -> Recorded<M>
-        ensures { result ≡ self }
+        ensures recorded { result ≡ self }
+        ensures opening { result.journal.opening ≡ L.opening }
     {
         self.recorded
     }

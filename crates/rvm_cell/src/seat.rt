@@ -1,17 +1,23 @@
 //! Seats: the right to call a host, and the number of its calls.
 
-ghost use Rattle.std.specs.Prelude.{◌≡◌, ℕ};
+ghost use Rattle.std.specs.Prelude.{◌≡◌, ℕ, None};
+ghost use Rattle.rvm_core.specs.Hosts.{PlainHost, new_host};
 
 use std::marker::{Brand, Model};
 use std::sync::ledger::{Ledger, Share};
 
-/// The ledger of one shared host: it counts the calls of all seats, of which there are so many.
+/// The ledger of one shared host: it counts the calls of all seats, of which there are so many. The host
+/// was as `opening` when its journal was opened.
 pub trait Seating: Ledger {
     ghost seats: { ℕ };
+
+    ghost opening: { PlainHost };
 }
 
 impl Seating for Brand {
     ghost seats = { 0 };
+
+    ghost opening = { new_host None 0 2 1 1 };
 }
 
 /// The right to call a host, and the number of its calls.

@@ -62,6 +62,7 @@ pub fn share<L: Seating, M: PagedMemory + Drop>(
     requires ledger { (blank.name ≡ L.name) × (blank.parts ≡ L.parts) × (L.seats ≡ L.parts) }
     requires seats { blank.parts ≡ seats }
     requires empty { recorded.journal.entries ≡ [] }
+    requires opening { recorded.journal.opening ≡ L.opening }
     ensures seats { IfOk result (λ r. vec_len r.1 ≡ seats) }
     ensures fresh { IfOk result (λ r. (k : ℕ) → k < seats → slice_get r.1.items k ≡ Some (seat_of k 0)) }
     ensures few { OnOk result ((1 ≤ seats) × (seats ≤ 16)) }

@@ -42,6 +42,7 @@ fn poke_and_look<L: Seating, R: AllocGlobal + Print + Wait>(
     requires ledger { (blank.name ≡ L.name) × (blank.parts ≡ L.parts) × (L.seats ≡ L.parts) }
     requires seats { blank.parts ≡ 2 }
     requires empty { recorded.journal.entries ≡ [] }
+    requires opening { recorded.journal.opening ≡ L.opening }
 {
     let (host, mut seats) = share_host::<L>(rt.alloc(), blank, recorded, 2)?;
     let done = poke_and_tell(rt, &host, seats.as_mut_slice());
@@ -95,6 +96,7 @@ fn fill_and_close<L: Seating, R: AllocGlobal + Print + Wait>(
     requires ledger { (blank.name ≡ L.name) × (blank.parts ≡ L.parts) × (L.seats ≡ L.parts) }
     requires seats { blank.parts ≡ 2 }
     requires empty { recorded.journal.entries ≡ [] }
+    requires opening { recorded.journal.opening ≡ L.opening }
 {
     let (host, mut seats) = share_host::<L>(rt.alloc(), blank, recorded, 2)?;
     match fill(rt, &host, seats.as_mut_slice()) {
@@ -230,6 +232,7 @@ pub fn share_host<L: Seating>(
     requires ledger { (blank.name ≡ L.name) × (blank.parts ≡ L.parts) × (L.seats ≡ L.parts) }
     requires seats { blank.parts ≡ seats }
     requires empty { recorded.journal.entries ≡ [] }
+    requires opening { recorded.journal.opening ≡ L.opening }
 {
     match share::<L, PagedRam>(alloc, blank, recorded, seats) {
         Ok(shared) => Some(shared),

@@ -79,6 +79,7 @@ fn refuse_share<L: Seating>(
     requires ledger { (blank.name ≡ L.name) × (blank.parts ≡ L.parts) × (L.seats ≡ L.parts) }
     requires seats { blank.parts ≡ seats }
     requires empty { host.journal.entries ≡ [] }
+    requires opening { host.journal.opening ≡ L.opening }
     ensures { IfSome result (λ r. r.journal.entries ≡ []) }
 {
     match share::<L, PagedRam>(alloc, blank, host, seats) {
@@ -99,6 +100,7 @@ fn tell_seats<L: Seating, R: AllocGlobal + Print>(
     requires ledger { (blank.name ≡ L.name) × (blank.parts ≡ L.parts) × (L.seats ≡ L.parts) }
     requires seats { blank.parts ≡ 16 }
     requires empty { host.journal.entries ≡ [] }
+    requires opening { host.journal.opening ≡ L.opening }
 {
     let (host, seats) = share_host::<L>(rt.alloc(), blank, host, 16)?;
     drop(host);

@@ -53,6 +53,7 @@ pub(crate) fn open_host<L: Seating, M: PagedMemory + Drop, K: Link + Drop>(
     requires seats { blank.parts ≡ seats }
     requires few { (1 ≤ seats) × (seats ≤ 16) }
     requires empty { recorded.journal.entries ≡ [] }
+    requires opening { recorded.journal.opening ≡ L.opening }
     ensures { IfOk result (λ r. vec_len r.1 ≡ seats) }
 {
     let (host, list) = match share::<L, M>(alloc, blank, recorded, seats) {
@@ -107,6 +108,7 @@ pub(crate) fn close_host<L: Seating, M: PagedMemory + Drop, K: Link + Drop, R: W
 ) -> HostEnd<M>
     requires { L.seats ≡ L.parts }
     ensures end { IsEnd result.fault result.recorded.journal.entries }
+    ensures opening { result.recorded.journal.opening ≡ L.opening }
     ensures told { result.fault ≡ None → (returned.is_whole ≡ true)
         × AreAll result.recorded.journal.entries returned.receipts.items }
 {

@@ -63,6 +63,9 @@ pub fn move_guest<
     requires ledger_b { (blanks.1.name ≡ N.name) × (blanks.1.parts ≡ N.parts) × (N.seats ≡ N.parts) }
     requires seats { (blanks.0.parts ≡ 3) × (blanks.1.parts ≡ 2) }
     requires empty { (recorded.0.journal.entries ≡ []) × (recorded.1.journal.entries ≡ []) }
+    requires opening { (recorded.0.journal.opening ≡ L.opening) × (recorded.1.journal.opening ≡ N.opening) }
+    ensures opening { IfOk result (λ m. (m.a.recorded.journal.opening ≡ recorded.0.journal.opening)
+        × (m.b.recorded.journal.opening ≡ recorded.1.journal.opening)) }
     ensures a { IfOk result (λ m. IsEnd m.a.fault m.a.recorded.journal.entries) }
     ensures b { IfOk result (λ m. IsEnd m.b.fault m.b.recorded.journal.entries) }
     ensures output { IfOk result (λ m. IsEndOutput m.ends m.a.fault m.b.fault
@@ -173,6 +176,7 @@ fn close_both<L: Seating, N: Seating, M: PagedMemory + Drop, K: Link + Drop, R: 
 ) -> Moved<M>
     requires seats { (L.seats ≡ L.parts) × (N.seats ≡ N.parts) }
     requires one { AreOfOne turned.receipts.0.items × AreOfOne turned.receipts.1.items }
+    ensures opening { (result.a.recorded.journal.opening ≡ L.opening) × (result.b.recorded.journal.opening ≡ N.opening) }
     ensures a { IsEnd result.a.fault result.a.recorded.journal.entries }
     ensures b { IsEnd result.b.fault result.b.recorded.journal.entries }
     ensures harts { result.ends.harts ≡ turned.end }

@@ -188,6 +188,7 @@ fn hear_at<L: Seating, R: AllocGlobal + Wait>(
     requires ledger { (blank.name ≡ L.name) × (blank.parts ≡ L.parts) × (L.seats ≡ L.parts) }
     requires seats { blank.parts ≡ 1 }
     requires empty { recorded.journal.entries ≡ [] }
+    requires opening { recorded.journal.opening ≡ L.opening }
 {
     match share::<L, PagedRam>(rt.alloc(), blank, recorded, 1) {
         Ok((host, seats)) => {

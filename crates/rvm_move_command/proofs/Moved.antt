@@ -1,16 +1,27 @@
 -- What a sound move leaves.
+use Rattle.std.proofs.Common.{◌∙◌, ap}
 use Rattle.std.specs.Prelude.{◌≡◌, ◌≢◌, ℕ, Bool, true, List, Option, None, Result, Ok, Err, IfOk, is_ok}
 use Rattle.std.specs.Result.{IsOkAnd}
+use Rattle.rvm_arguments.specs.declared.arguments.MoveArguments.{MoveArguments}
 use Rattle.rvm_cell.specs.declared.closing.CloseKind.{CloseKind}
 use Rattle.rvm_hart_worker.specs.declared.harts.TurnsEnd.{TurnsEnd}
+use Rattle.rvm_command.specs.Command.{image_of}
+use Rattle.rvm_command.specs.Ends.{IsLoadable}
+use Rattle.rvm_core.specs.Hosts.{PlainHost}
 use Rattle.rvm_journal.specs.Entries.{PlainEntry}
+use Rattle.rvm_journal.specs.History.{History, Recording}
 use Rattle.rvm_move.specs.declared.ends.Ends.{Ends}
 use Rattle.rvm_move.specs.Hosts.{IsEnd, IsTold}
 use Rattle.rvm_move.specs.Ends.{failure_of_turns}
 use Rattle.rvm_move.specs.Output.{IsEndOutput, IsOutputOf}
 use Rattle.rvm_move_command.specs.Ended.{IsMoved, IsSound, IsToldOf}
+use Rattle.rvm_move_command.specs.Hosts.{AreOpened, HasValidGuest, IsFirstHost, IsSecondHost}
 use Rattle.rvm_worker.specs.declared.end.WorkEnd.{WorkEnd}
 use Rattle.rvm_worker.specs.declared.end.WorkEnd.TheVariants.{LinkFault}
+
+pub if_ok : {X E : Type 0} (r : Result X E) (P Q : X → Type 0) → ((x : X) → P x → Q x) → IfOk r P → IfOk r Q
+if_ok (Ok x) P Q f p = f x p
+if_ok (Err e) P Q f p = tt
 
 -- each host of a sound move was closed
 pub first_told : (ends : Ends) → (a b : Option CloseKind) → (first : List PlainEntry) → IsEnd a first → IsSound ends a b → IsTold first
@@ -25,25 +36,40 @@ turned : (P : Bool → Type 0) (harts : Result TurnsEnd WorkEnd) (rest : Option 
 turned P (Ok end) rest none output = output (λ is. absurd cc)
 turned P (Err end) rest none output = absurd cc
 
+-- hosts whose journals begin as two new hosts did
+pub opened : (a : MoveArguments) (file : List ℕ) (first second : Recording) (at_a at_b : PlainHost)
+    → IsLoadable (image_of a.guest.raw file) a.guest.pages → HasValidGuest a file → IsFirstHost a file first
+    → IsSecondHost a second → at_a ≡ first.journal.opening → at_b ≡ second.journal.opening → AreOpened a file at_a at_b
+opened a file first second at_a at_b loadable valid has_guest has_none same_a same_b = record {
+  loadable = loadable;
+  valid = valid;
+  has_guest = if_ok (image_of a.guest.raw file) _ _ (λ i is. same_a ∙ ap (λ r. r.journal.opening) is) has_guest;
+  has_none = same_b ∙ ap (λ r. r.journal.opening) has_none;
+}
+
 -- where that was told, it was a move
-pub moved : (ends : Ends) → (a b : Option CloseKind) → (first second : List PlainEntry)
-    → (before after output_before output_after : Option (List ℕ)) → IsEnd a first → IsEnd b second
-    → IsEndOutput ends a b first second output_before output_after → IsToldOf ends a b first second before after
-    → IsMoved before after output_before output_after
-moved ends a b first second before after output_before output_after end_a end_b output told = record {
+pub moved : (arguments : MoveArguments) (file : List ℕ) (ends : Ends) (a b : Option CloseKind) (first second : History)
+    (before after output_before output_after : Option (List ℕ)) → AreOpened arguments file first.opening second.opening
+    → IsEnd a first.entries → IsEnd b second.entries
+    → IsEndOutput ends a b first.entries second.entries output_before output_after
+    → IsToldOf ends a b first second before after → IsMoved arguments file before after output_before output_after
+moved arguments file ends a b first second before after output_before output_after opened end_a end_b output told = record {
   first = first;
   second = second;
+  opened = opened;
+  first_replays = told.first_replays;
+  second_replays = told.second_replays;
   first_told = end_a told.sound.1;
   second_told = end_b told.sound.2;
   written = told.written;
-  output = turned (IsOutputOf first second output_before output_after) ends.harts _ told.sound.0
+  output = turned (IsOutputOf first.entries second.entries output_before output_after) ends.harts _ told.sound.0
       (λ works. output works told.sound.1 told.sound.2);
 }
 
 -- the same of what a call answers
-pub moved_told : {X E F : Type 0} (r : Result ℕ F) (m : Result X E) (end_a end_b output told : X → Type 0) (Z : Type 0)
-    → ((x : X) → end_a x → end_b x → output x → told x → Z) → IfOk m end_a → IfOk m end_b → IfOk m output
-    → IfOk r (λ s. s ≡ 0 → IsOkAnd m told) → IfOk r (λ s. s ≡ 0 → Z)
-moved_told (Ok s) (Ok x) end_a end_b output told Z f p q o t = λ is. f x p q o (t is)
-moved_told (Ok s) (Err e) end_a end_b output told Z f p q o t = λ is. absurd (t is)
-moved_told (Err e) m end_a end_b output told Z f p q o t = tt
+pub moved_told : {X E F : Type 0} (r : Result ℕ F) (m : Result X E) (opened end_a end_b output told : X → Type 0) (Z : Type 0)
+    → ((x : X) → opened x → end_a x → end_b x → output x → told x → Z) → IfOk m opened → IfOk m end_a → IfOk m end_b
+    → IfOk m output → IfOk r (λ s. s ≡ 0 → IsOkAnd m told) → IfOk r (λ s. s ≡ 0 → Z)
+moved_told (Ok s) (Ok x) opened end_a end_b output told Z f n p q o t = λ is. f x n p q o (t is)
+moved_told (Ok s) (Err e) opened end_a end_b output told Z f n p q o t = λ is. absurd (t is)
+moved_told (Err e) m opened end_a end_b output told Z f n p q o t = tt

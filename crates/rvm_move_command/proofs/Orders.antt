@@ -1,11 +1,20 @@
 -- What an audit leaves.
-use Rattle.std.specs.Prelude.{◌≡◌, ◌↔◌, List, Option, None, Some, ℕ, IfSome, IsSome}
+use Rattle.std.specs.Prelude.{◌≡◌, ◌↔◌, true, List, [], Option, None, Some, Result, Ok, Err, ℕ, IfOk, IfSome, IsSome}
 use Rattle.std.specs.Io.KnownBytes.{Appends}
-use Rattle.rvm_audit.specs.Orders.{IsMerge}
+use Rattle.rvm_arguments.specs.declared.arguments.MoveArguments.{MoveArguments}
+use Rattle.rvm_audit.specs.Orders.{IsMerge, IsOrder}
+use Rattle.rvm_audit.specs.Worlds.{AreNew, IsWorldRun}
+use Rattle.rvm_command.specs.Command.{image_of}
+use Rattle.rvm_core.specs.Modes.{Run}
+use Rattle.rvm_debug.specs.Guest.{GuestState}
+use Rattle.rvm_guest.proofs.TheGuest.{board}
+use Rattle.rvm_guest.specs.Valid.{is_valid}
 use Rattle.rvm_journal.specs.History.{History, Recording}
 use Rattle.rvm_move.specs.Hosts.{IsTold}
 use Rattle.rvm_event_line.specs.EventLines.{event_lines}
-use Rattle.rvm_move_command.specs.Orders.{IsAudited, IsWritten}
+use Rattle.rvm_move_command.specs.Hosts.{AreOpened, guest_in, host_before}
+use Rattle.rvm_move_command.specs.Orders.{IsAudited, IsWritten, NeverMoves}
+use Rattle.rvm_protocol.specs.World.{new_world}
 use Rattle.rvm_world.specs.declared.event.Event.{Event}
 
 -- the lines of a merge are an order that was written
@@ -13,20 +22,43 @@ pub written : (first second : History) (events : List Event) (before after : Opt
     → IsMerge first second events → Appends before after (event_lines events) → IsWritten first second before after
 written first second events before after merge lines = record { events = events; merge = merge; written = lines }
 
+of_image : {X E : Type 0} (r : Result X E) (P Q R : X → Type 0) → ((x : X) → P x → Q x → R x) → IfOk r P → IfOk r Q → IfOk r R
+of_image (Ok x) P Q R f p q = f x p q
+of_image (Err e) P Q R f p q = tt
+
 nothing : (T : Type 0) → IsSome {T = T} None → ⊥
 nothing T some = cc
 
+-- an order of the journals of a move's hosts, by the law of the audit
+never_moves : (a : MoveArguments) (file : List ℕ) (first second : History) (events : List Event) → AreOpened a file first.opening second.opening
+    → IsOrder first second events → ((version : ℕ) (g : GuestState) (limits : ℕ → ℕ) (a b : History) (events : List Event)
+    → is_valid g.guest ≡ true → AreNew version g limits a.opening b.opening → IsOrder a b events
+    → IsWorldRun (new_world board version g.guest 2 limits) g.guest a b events)
+    → NeverMoves a file first second events
+never_moves a file first second events opened order law =
+    of_image (image_of a.guest.raw file) (λ i. is_valid (guest_in a i) ≡ true) (λ i. first.opening ≡ host_before 0 a.stream (Run 0 (guest_in a i)))
+    (λ i. IsWorldRun (new_world board a.stream (guest_in a i) 2 (λ k. 4096)) (guest_in a i) first second events)
+    (λ i valid is. law a.stream (record { guest = guest_in a i; dirty = [] }) (λ k. 4096) first second events valid
+    (record { first = is; second = opened.has_none }) order)
+    opened.valid opened.has_guest
+
 -- and an audit where both hosts were closed
-pub audited : (status : ℕ) (hosts : Option (Recording × Recording)) (before after : Option (List ℕ))
-    → status ≡ 0 ↔ IsSome hosts
+pub audited : (a : MoveArguments) (file : List ℕ) (status : ℕ) (hosts : Option (Recording × Recording))
+    (before after : Option (List ℕ)) → status ≡ 0 ↔ IsSome hosts
+    → IfSome hosts (λ h. AreOpened a file h.0.journal.opening h.1.journal.opening)
     → IfSome hosts (λ h. IsTold h.0.journal.entries × IsTold h.1.journal.entries)
     → IfSome hosts (λ h. IsWritten h.0.journal h.1.journal before after)
-    → status ≡ 0 → IsAudited before after
-audited status None before after are told order is = absurd (nothing (Recording × Recording) (are.0 is))
-audited status (Some h) before after are told order is = record {
+    → ((version : ℕ) (g : GuestState) (limits : ℕ → ℕ) (a b : History) (events : List Event)
+    → is_valid g.guest ≡ true → AreNew version g limits a.opening b.opening → IsOrder a b events
+    → IsWorldRun (new_world board version g.guest 2 limits) g.guest a b events)
+    → status ≡ 0 → IsAudited a file before after
+audited a file status None before after are opened told order law is = absurd (nothing (Recording × Recording) (are.0 is))
+audited a file status (Some h) before after are opened told order law is = record {
   first = h.0.journal;
   second = h.1.journal;
+  opened = opened;
   first_told = told.0;
   second_told = told.1;
   order = order;
+  never_moves = never_moves a file h.0.journal h.1.journal order.events opened order.merge.order law;
 }

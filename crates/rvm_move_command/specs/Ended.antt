@@ -1,14 +1,17 @@
 -- How a move ended, as it is told.
 use Rattle.std.specs.Prelude.{◌≡◌, ℕ, true, List, ◌++◌, Option, None, Some, option_map, codes}
 use Rattle.std.specs.Io.KnownBytes.{Appends}
+use Rattle.rvm_arguments.specs.declared.arguments.MoveArguments.{MoveArguments}
 use Rattle.rvm_cell.specs.Closing.{close_refusal}
 use Rattle.rvm_cell.specs.declared.closing.CloseKind.{CloseKind}
-use Rattle.rvm_journal.specs.Entries.{PlainEntry}
+use Rattle.rvm_journal.specs.History.{History}
+use Rattle.rvm_journal.specs.Replay.{IsReplay}
 use Rattle.rvm_move.specs.declared.ends.Ends.{Ends}
 use Rattle.rvm_move.specs.Ends.{failure}
 use Rattle.rvm_move.specs.Hosts.{IsTold}
 use Rattle.rvm_move.specs.Output.{IsOutputOf}
 use Rattle.rvm_move_command.specs.Answers.{answers_text}
+use Rattle.rvm_move_command.specs.Hosts.{AreOpened}
 use Rattle.rvm_refusal.specs.declared.refusal.Refusal.{Refusal}
 use Rattle.rvm_refusal.specs.declared.refusal.Refusal.TheVariants as refusal
 use Rattle.rvm_refusal.specs.Refusal.{text_of}
@@ -48,18 +51,24 @@ refusal_of_failure ends a b = told_first (failure ends) (first_fault a b)
 abbrev pub IsSound : Ends → (a b : Option CloseKind) → Type 0
 IsSound ends a b = (failure ends ≡ None) × (a ≡ None) × (b ≡ None)
 
--- of a sound move, what both hosts answered was told, and nothing else
-pub record IsToldOf (ends : Ends) (a b : Option CloseKind) (first second : List PlainEntry) (before after : Option (List ℕ))
+-- of a sound move, what both hosts answered was told, and nothing else; each answer is the law's
+pub record IsToldOf (ends : Ends) (a b : Option CloseKind) (first second : History) (before after : Option (List ℕ))
     : Type 0 where
   pub sound : IsSound ends a b
-  pub written : Appends before after (answers_text first ++ answers_text second)
+  pub first_replays : IsReplay first.opening first.entries
+  pub second_replays : IsReplay second.opening second.entries
+  pub written : Appends before after (answers_text first.entries ++ answers_text second.entries)
 
--- what two hosts answered was told, and receipts tell all of it; the output is all that drains took of the guest, the last of
--- which found nothing
-pub record IsMoved (before after output_before output_after : Option (List ℕ)) : Type 0 where
-  pub first : List PlainEntry
-  pub second : List PlainEntry
-  pub first_told : IsTold first
-  pub second_told : IsTold second
-  pub written : Appends before after (answers_text first ++ answers_text second)
-  pub output : IsOutputOf first second output_before output_after true
+-- a move of a file: what two hosts answered was told, of which the first began with the guest of the file. Each answer is
+-- the law's, and receipts tell all of them. The output is all that drains took of the guest, the last of which found nothing
+pub record IsMoved (a : MoveArguments) (file : List ℕ) (before after output_before output_after : Option (List ℕ))
+    : Type 0 where
+  pub first : History
+  pub second : History
+  pub opened : AreOpened a file first.opening second.opening
+  pub first_replays : IsReplay first.opening first.entries
+  pub second_replays : IsReplay second.opening second.entries
+  pub first_told : IsTold first.entries
+  pub second_told : IsTold second.entries
+  pub written : Appends before after (answers_text first.entries ++ answers_text second.entries)
+  pub output : IsOutputOf first.entries second.entries output_before output_after true

@@ -5,6 +5,7 @@ ghost use Rattle.rvm_move_command.specs.Orders.{IsAudited};
 
 use crate::audit_over::audit_over;
 use rvm_arguments::MoveArguments;
+use rvm_audit::the_guest_of_an_order_never_moves;
 use rvm_mem::PagedMemory;
 use rvm_refusal::LinkFault;
 use std::alloc::Global;
@@ -37,10 +38,11 @@ where
     R::Stream: Send,
     ensures status { IfOk result (λ status. (status ≡ 0) ⊎ (status ≡ 1)) }
     ensures order { IfOk result (λ status. status ≡ 0
-        → IsAudited (O.contents output.old) (O.contents output.new)) }
+        → IsAudited arguments.now image.now (O.contents output.old) (O.contents output.new)) }
 {
     let audited = audit_over::<M, O, E, R>(rt, alloc, arguments, image, output, errors)?;
     let status = audited.status;
+    the_guest_of_an_order_never_moves();
     drop(audited);
     Ok(status)
 }

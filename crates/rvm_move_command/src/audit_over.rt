@@ -2,6 +2,7 @@
 
 ghost use Rattle.std.specs.Prelude.{◌≡◌, ◌⊎◌, ◌↔◌, IfOk, IfSome, IsSome};
 ghost use Rattle.rvm_move.specs.Hosts.{IsEnd, IsTold};
+ghost use Rattle.rvm_move_command.specs.Hosts.{AreOpened};
 ghost use Rattle.rvm_move_command.specs.Orders.{IsWritten};
 
 use crate::ended::tell_failure;
@@ -47,6 +48,8 @@ where
     R::Stream: Send,
     ensures status { IfOk result (λ a. (a.status ≡ 0) ⊎ (a.status ≡ 1)) }
     ensures hosts { IfOk result (λ a. a.status ≡ 0 ↔ IsSome a.hosts) }
+    ensures opened { IfOk result (λ a. IfSome a.hosts (λ h.
+        AreOpened arguments.now image.now h.0.journal.opening h.1.journal.opening)) }
     ensures told { IfOk result (λ a. IfSome a.hosts (λ h.
         IsTold h.0.journal.entries × IsTold h.1.journal.entries)) }
     ensures order { IfOk result (λ a. IfSome a.hosts (λ h.
@@ -83,6 +86,8 @@ fn audit_moved<M: PagedMemory + Drop, O: Write, E: Write>(
     requires b { IsEnd moved.b.fault moved.b.recorded.journal.entries }
     ensures status { IfOk result (λ a. (a.status ≡ 0) ⊎ (a.status ≡ 1)) }
     ensures hosts { IfOk result (λ a. a.status ≡ 0 ↔ IsSome a.hosts) }
+    ensures same { IfOk result (λ a. IfSome a.hosts (λ h. (h.0.journal.opening ≡ moved.a.recorded.journal.opening)
+        × (h.1.journal.opening ≡ moved.b.recorded.journal.opening))) }
     ensures told { IfOk result (λ a. IfSome a.hosts (λ h.
         IsTold h.0.journal.entries × IsTold h.1.journal.entries)) }
     ensures order { IfOk result (λ a. IfSome a.hosts (λ h.

@@ -4,13 +4,14 @@ ghost use Rattle.std.specs.Prelude.{◌≡◌, ◌<◌, ◌≤◌, [], IfOk, IfE
 ghost use Rattle.rvm_command.specs.Command.{image_of};
 ghost use Rattle.rvm_command.specs.Ends.{IsLoadable, IsLoadRefusal};
 ghost use Rattle.rvm_core.specs.Hosts.{new_host};
-ghost use Rattle.rvm_move_command.specs.Hosts.{IsFirstHost, IsSecondHost, recorded_before};
+ghost use Rattle.rvm_move_command.specs.Hosts.{HasValidGuest, IsFirstHost, IsSecondHost, recorded_before};
 
 use rvm_arguments::MoveArguments;
 use rvm_command::guest::load_guest;
 use rvm_command::refused::Refused;
 use rvm_core::Host;
 use rvm_debug::Debugged;
+use rvm_guest::valid_guest;
 use rvm_journal::{MAX_CAPACITY, Recorded};
 use rvm_mem::{MAX_PAGES, PagedMemory};
 use std::alloc::Global;
@@ -30,10 +31,12 @@ pub fn new_hosts<M: PagedMemory + Drop>(
     ensures empty { IfOk result (λ r. (r.0.journal.entries ≡ []) × (r.1.journal.entries ≡ [])) }
     ensures first { IfOk result (λ r. IsFirstHost arguments.now image.now r.0) }
     ensures second { IfOk result (λ r. IsSecondHost arguments.now r.1) }
+    ensures valid { OnOk result (HasValidGuest arguments.now image.now) }
     ensures refused { IfErr result
         (IsLoadRefusal (image_of arguments.now.guest.raw image.now) arguments.now.guest.pages) }
 {
     let guest = load_guest(alloc, &arguments.guest, image)?;
+    valid_guest(&guest);
     let version = arguments.stream;
     Ok((
         new_host(alloc, Some(guest), 0, version),

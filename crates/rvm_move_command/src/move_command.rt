@@ -6,6 +6,7 @@ ghost use Rattle.rvm_command.specs.Ends.{IsLoadable};
 ghost use Rattle.rvm_move.specs.Hosts.{IsEnd};
 ghost use Rattle.rvm_move.specs.Output.{IsEndOutput};
 ghost use Rattle.rvm_move_command.specs.Ended.{IsMoved};
+ghost use Rattle.rvm_move_command.specs.Hosts.{AreOpened};
 
 use crate::hosts::new_hosts;
 use crate::move_over::{move_recorded, plan_of, tell_end};
@@ -53,8 +54,8 @@ pub fn move_command<
 where
     R::Stream: Send,
     ensures status { IfOk result (λ status. (status ≡ 0) ⊎ (status ≡ 1)) }
-    ensures moved { IfOk result (λ status. status ≡ 0 → IsMoved (E.contents errors.old) (E.contents errors.new)
-        (O.contents output.old) (O.contents output.new)) }
+    ensures moved { IfOk result (λ status. status ≡ 0 → IsMoved arguments.now image.now
+        (E.contents errors.old) (E.contents errors.new) (O.contents output.old) (O.contents output.new)) }
     ensures unloadable { IsLoadable (image_of arguments.now.guest.raw image.now) arguments.now.guest.pages
         ⊎ (O.contents output.new ≡ O.contents output.old) }
 {
@@ -63,6 +64,7 @@ where
 }
 
 /// Moves the guest of an image over TCP: both hosts behind the move.
+#[tactic(auto, using(crate::proofs::Moved::opened))]
 pub(crate) fn move_image<
     M: PagedMemory + Drop + Send,
     O: Write,
@@ -76,6 +78,8 @@ pub(crate) fn move_image<
 ) -> Result<Moved<M>, Refused>
 where
     R::Stream: Send,
+    ensures opened { IfOk result (λ m. AreOpened arguments.now image.now
+        m.a.recorded.journal.opening m.b.recorded.journal.opening) }
     ensures a { IfOk result (λ m. IsEnd m.a.fault m.a.recorded.journal.entries) }
     ensures b { IfOk result (λ m. IsEnd m.b.fault m.b.recorded.journal.entries) }
     ensures output { IfOk result (λ m. IsEndOutput m.ends m.a.fault m.b.fault

@@ -53,8 +53,8 @@ pub fn move_over<
     errors: &mut E,
 ) -> Result<u8, LinkFault>
     ensures status { IfOk result (λ status. (status ≡ 0) ⊎ (status ≡ 1)) }
-    ensures moved { IfOk result (λ status. status ≡ 0 → IsMoved (E.contents errors.old) (E.contents errors.new)
-        (O.contents output.old) (O.contents output.new)) }
+    ensures moved { IfOk result (λ status. status ≡ 0 → IsMoved arguments.now image.now
+        (E.contents errors.old) (E.contents errors.new) (O.contents output.old) (O.contents output.new)) }
     ensures unloadable { IsLoadable (image_of arguments.now.guest.raw image.now) arguments.now.guest.pages
         ⊎ (O.contents output.new ≡ O.contents output.old) }
 {
@@ -91,7 +91,7 @@ pub(crate) fn tell_end<M: PagedMemory + Drop, E: Write>(
 ) -> Result<u8, LinkFault>
     ensures status { IfOk result (λ status. (status ≡ 0) ⊎ (status ≡ 1)) }
     ensures told { IfOk result (λ status. status ≡ 0 → IsOkAnd moved (λ m. IsToldOf m.ends m.a.fault m.b.fault
-        m.a.recorded.journal.entries m.b.recorded.journal.entries (E.contents errors.old) (E.contents errors.new))) }
+        m.a.recorded.journal m.b.recorded.journal (E.contents errors.old) (E.contents errors.new))) }
 {
     match moved {
         Ok(moved) => {
@@ -120,6 +120,8 @@ pub(crate) fn move_recorded<
     output: &mut O,
 ) -> Result<Moved<M>, Refused>
     requires { (recorded.0.journal.entries ≡ []) × (recorded.1.journal.entries ≡ []) }
+    ensures opening { IfOk result (λ m. (m.a.recorded.journal.opening ≡ recorded.0.journal.opening)
+        × (m.b.recorded.journal.opening ≡ recorded.1.journal.opening)) }
     ensures a { IfOk result (λ m. IsEnd m.a.fault m.a.recorded.journal.entries) }
     ensures b { IfOk result (λ m. IsEnd m.b.fault m.b.recorded.journal.entries) }
     ensures output { IfOk result (λ m. IsEndOutput m.ends m.a.fault m.b.fault

@@ -4,6 +4,6 @@ use Rattle.rvm_journal_cases.proofs.sizes.ask_for_seats.Given as goal
 abbrev pub ghosts-tell_seats-L-Ledger : goal.ghosts-tell_seats-L-Ledger
 ghosts-tell_seats-L-Ledger g a = record { name = a.blank.name; parts = a.blank.parts }
 
--- a seat for each of its parts
+-- a seat for each of its parts, and the host that is shared
 abbrev pub ghosts-tell_seats-L-Seating : goal.ghosts-tell_seats-L-Seating
-ghosts-tell_seats-L-Seating g a = record { seats = a.blank.parts }
+ghosts-tell_seats-L-Seating g a = record { seats = a.blank.parts; opening = a.host.journal.opening }

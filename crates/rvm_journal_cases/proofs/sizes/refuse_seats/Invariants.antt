@@ -4,6 +4,6 @@ use Rattle.rvm_journal_cases.proofs.sizes.refuse_seats.Given as goal
 abbrev pub ghosts-refuse_share-L-Ledger : goal.ghosts-refuse_share-L-Ledger
 ghosts-refuse_share-L-Ledger a = record { name = a.blank.name; parts = a.blank.parts }
 
--- a seat for each of its parts
+-- a seat for each of its parts, and the host that is shared
 abbrev pub ghosts-refuse_share-L-Seating : goal.ghosts-refuse_share-L-Seating
-ghosts-refuse_share-L-Seating a = record { seats = a.blank.parts }
+ghosts-refuse_share-L-Seating a = record { seats = a.blank.parts; opening = a.host.journal.opening }

@@ -4,6 +4,6 @@ use Rattle.rvm_move_cases.proofs.hearing.hear.Given as goal
 abbrev pub ghosts-hear_at-L-Ledger : goal.ghosts-hear_at-L-Ledger
 ghosts-hear_at-L-Ledger g a = record { name = a.blank.name; parts = a.blank.parts }
 
--- a seat for each of its parts
+-- a seat for each of its parts, and the host that is shared
 abbrev pub ghosts-hear_at-L-Seating : goal.ghosts-hear_at-L-Seating
-ghosts-hear_at-L-Seating g a = record { seats = a.blank.parts }
+ghosts-hear_at-L-Seating g a = record { seats = a.blank.parts; opening = a.recorded.journal.opening }
