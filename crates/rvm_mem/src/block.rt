@@ -34,13 +34,17 @@ pub fn put_bytes(bytes: &mut [u8], at: usize, from: &[u8])
     bytes[at..at + from.len()].copy_from_slice(from);
 }
 
-/// Copies a page out of a block of whole pages.
-pub fn copy_page(bytes: &[u8], page: u32, into: &mut [u8; PAGE_SIZE as usize])
+/// A page of a block of whole pages.
+pub fn page(bytes: &[u8], page: u32) -> &[u8; PAGE_SIZE as usize]
     requires { 4096 * page + 4096 ≤ length bytes.now }
-    ensures { into.new ≡ page_of page bytes.now }
+    ensures { result.now ≡ page_of page bytes.now }
 {
     let start = page as usize * PAGE_SIZE as usize;
-    into.copy_from_slice(&bytes[start..start + PAGE_SIZE as usize]);
+    let part = &bytes[start..start + PAGE_SIZE as usize];
+    let Ok(found) = <&[u8; PAGE_SIZE as usize]>::try_from(part) else {
+        unreachable!();
+    };
+    found
 }
 
 /// Writes a page over one of a block of whole pages.

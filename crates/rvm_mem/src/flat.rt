@@ -90,8 +90,8 @@ impl PagedMemory for FlatMemory {
         self.dirty.pages()
     }
 
-    fn copy_page(&self, page: u32, into: &mut [u8; PAGE_SIZE as usize]) {
-        block::copy_page(&self.bytes, page, into);
+    fn page(&self, page: u32) -> &[u8; PAGE_SIZE as usize] {
+        block::page(&self.bytes, page)
     }
 
     fn put_page(&mut self, page: u32, from: &[u8; PAGE_SIZE as usize]) {

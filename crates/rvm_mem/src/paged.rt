@@ -25,10 +25,10 @@ pub trait PagedMemory: Memory {
         ensures pages { result ≡ length (Self.dirty self.now) }
         ensures bound { result ≤ 4096 };
 
-    /// Copies a page out.
-    fn copy_page(&self, page: u32, into: &mut [u8; PAGE_SIZE as usize])
+    /// The bytes of a page.
+    fn page(&self, page: u32) -> &[u8; PAGE_SIZE as usize]
         requires { page < length (Self.dirty self.now) }
-        ensures { into.new ≡ page_of page (Self.bytes self.now) };
+        ensures { result.now ≡ page_of page (Self.bytes self.now) };
 
     /// Writes a page over; the dirty log is left as it was.
     fn put_page(&mut self, page: u32, from: &[u8; PAGE_SIZE as usize])

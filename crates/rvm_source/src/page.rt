@@ -35,16 +35,15 @@ pub(crate) fn page_frame<M: PagedMemory>(
     ensures sent { CanBeSent version (Some 4102) (Some result) }
 {
     let _size = guest.memory().len();
-    let mut copy = [0; PAGE_SIZE as usize];
-    guest.memory().copy_page(u32::from(page), &mut copy);
-    if version >= 2 && is_zeros(&copy) {
+    let copy = guest.memory().page(u32::from(page));
+    if version >= 2 && is_zeros(copy) {
         return Frame::Zero {
             move_number,
             page,
             copy_number,
         };
     }
-    part.fill(&copy);
+    part.fill(copy);
     Frame::Page {
         move_number,
         page,

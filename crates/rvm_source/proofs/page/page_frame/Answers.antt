@@ -9,8 +9,8 @@ returns-then-is_zeros-clause-frame g c =
     let guest = c.args.guest.now in
     let a = c.len-size.ensures.length ∙ ap length c.memory.ensures.bytes in
     let b = c.len-size.ensures.pages ∙ ap (λ xs. 4096 * length xs) c.memory.ensures.dirty in
-    zero_frame c.args.version c.args.move_number c.args.page c.args.copy_number guest.guest c.copy_page.new.into
-    (page_at_is guest.guest c.args.page c.from.result (length guest.dirty) c.len-size.result c.copy_page.new.into _ c.copy_page.ensures c.memory-2.ensures.bytes a b c.from.ensures c.requires.page)
+    zero_frame c.args.version c.args.move_number c.args.page c.args.copy_number guest.guest c.page-copy.result.now
+    (page_at_is guest.guest c.args.page c.from.result (length guest.dirty) c.len-size.result c.page-copy.result.now _ c.page-copy.ensures c.memory-2.ensures.bytes a b c.from.ensures c.requires.page)
     c.if-version-ge2.true (sym c.is_zeros.ensures ∙ c.if-is_zeros.true)
 
 pub returns-clause-frame : goal.returns-clause-frame
@@ -18,8 +18,8 @@ returns-clause-frame g c =
     let guest = c.args.guest.now in
     let a = c.len-size.ensures.length ∙ ap length c.memory.ensures.bytes in
     let b = c.len-size.ensures.pages ∙ ap (λ xs. 4096 * length xs) c.memory.ensures.dirty in
-    let filled = c.into_page.ensures ∙ c.fill.ensures ∙ ap (λ xs. xs ++ c.copy_page.new.into) c.requires.empty in
-    let same = filled ∙ page_at_is guest.guest c.args.page c.from.result (length guest.dirty) c.len-size.result c.copy_page.new.into _ c.copy_page.ensures c.memory-2.ensures.bytes a b c.from.ensures c.requires.page in
+    let filled = c.into_page.ensures ∙ c.fill.ensures ∙ ap (λ xs. xs ++ c.page-copy.result.now) c.requires.empty in
+    let same = filled ∙ page_at_is guest.guest c.args.page c.from.result (length guest.dirty) c.len-size.result c.page-copy.result.now _ c.page-copy.ensures c.memory-2.ensures.bytes a b c.from.ensures c.requires.page in
     elim c.else-version-ge2.branch [
       | else-version-ge2-via-then-version-ge2+else-is_zeros w ↦
           page_frame c.args.version c.args.move_number c.args.page c.args.copy_number guest.guest c.into_page.result same
