@@ -1,12 +1,12 @@
 //! The sending end of a side.
 
-ghost use Rattle.std.specs.Prelude.{◌≡◌, None, OnOk, OnErr, IfOk, IfErr, IsErr, IsSome, IfSome};
+ghost use Rattle.std.specs.Prelude.{◌≡◌, ◌≢◌, None, OnOk, OnErr, IfOk, IfErr, IsErr, IsSome, IfSome};
 ghost use Rattle.std.specs.Io.KnownBytes.{Appends};
 ghost use Rattle.rvm_frame.specs.Grammar.{HasSpelling, sent, spelling};
 
 use crate::error::SendError;
 use crate::link::Link;
-use rvm_frame::{Addressed, Frame, frame_bytes};
+use rvm_frame::{Addressed, Frame, append_frame, frame_len};
 use rvm_refusal::LinkFault;
 use rvm_spelling::has_spelling;
 use std::alloc::Global;
@@ -16,25 +16,30 @@ use std::sync::{Mutex, Wait};
 #[derive(Drop)]
 struct SendingEnd<K: Link + Drop> {
     link: Option<K>,
+    /// The bytes of the frame that goes out, whose memory the next one takes.
+    frame: Vec<u8>,
 }
 
 impl<K: Link + Drop> SendingEnd<K> {
-    /// Sends all of these bytes. A link that fails is dropped.
-    fn send(&mut self, bytes: &[u8]) -> Result<(), LinkFault>
+    /// Sends a frame whole, in a stream of this version. A link that fails is dropped.
+    fn send(&mut self, version: u32, addressed: &Addressed) -> Result<(), SendError>
         ensures sent { OnOk result (IfSome self.old.link (λ old. IfSome self.new.link (λ new.
-            Appends (K.contents old) (K.contents new) bytes.now))) }
+            Appends (K.contents old) (K.contents new) (spelling (sent version addressed.now))))) }
         ensures kept { OnOk result (IsSome self.new.link) }
-        ensures fault { OnErr result (self.new.link ≡ None) }
         ensures closed { self.old.link ≡ None → IsErr result }
+        ensures fault { result ≡ Err SendError.LinkFault → self.new.link ≡ None }
+        ensures spelled { IfErr result (λ e. e ≡ SendError.BadFrame → HasSpelling (sent version addressed.now) → ⊥) }
     {
+        spell(version, addressed, &mut self.frame)?;
         let sent = match &mut self.link {
-            Some(link) => link.send(bytes),
+            Some(link) => link.send(self.frame.as_slice()),
             None => Err(LinkFault),
         };
         if sent.is_err() {
             self.close();
+            return Err(SendError::LinkFault);
         }
-        sent
+        Ok(())
     }
 
     /// Drops the link.
@@ -54,7 +59,7 @@ pub struct Outgoing<K: Link + Drop> {
 }
 
 impl<K: Link + Drop> Outgoing<K> {
-    /// Opens a stream of this version: its Hello is sent. Where that fails the link is dropped.
+    /// Opens a stream of this version: its Hello is sent. A link that fails is dropped.
     pub fn open(alloc: Global, link: K, version: u32) -> Result<Outgoing<K>, SendError>
         ensures { IfOk result (λ o. o.version ≡ version) }
     {
@@ -63,29 +68,24 @@ impl<K: Link + Drop> Outgoing<K> {
             to: 1,
             frame: Frame::Hello { version },
         };
-        let bytes = spell(alloc, version, &hello)?;
-        let mut end = SendingEnd { link: Some(link) };
-        let _sent = end.send(bytes.as_slice());
-        Ok(Outgoing {
-            version,
-            end: Mutex::new(end),
-        })
+        let mut end = SendingEnd {
+            link: Some(link),
+            frame: Vec::new(alloc),
+        };
+        match end.send(version, &hello) {
+            Ok(()) | Err(SendError::LinkFault) => Ok(Outgoing {
+                version,
+                end: Mutex::new(end),
+            }),
+            Err(why) => Err(why),
+        }
     }
 
     /// Sends a frame whole. It may wait for another thread.
-    pub fn send<R: Wait>(
-        &self,
-        rt: &R,
-        alloc: Global,
-        addressed: &Addressed,
-    ) -> Result<(), SendError>
+    pub fn send<R: Wait>(&self, rt: &R, addressed: &Addressed) -> Result<(), SendError>
         ensures { IfErr result (λ e. e ≡ SendError.BadFrame → HasSpelling (sent self.now.version addressed.now) → ⊥) }
     {
-        let bytes = spell(alloc, self.version, addressed)?;
-        match self.end.lock(rt).send(bytes.as_slice()) {
-            Ok(()) => Ok(()),
-            Err(LinkFault) => Err(SendError::LinkFault),
-        }
+        self.end.lock(rt).send(self.version, addressed)
     }
 
     /// Drops the link. It may wait for another thread.
@@ -94,16 +94,19 @@ impl<K: Link + Drop> Outgoing<K> {
     }
 }
 
-/// The bytes of a frame.
-fn spell(alloc: Global, version: u32, addressed: &Addressed) -> Result<Vec<u8>, SendError>
-    ensures bytes { IfOk result (λ bytes. bytes.items ≡ spelling (sent version addressed.now)) }
+/// Puts the bytes of a frame in place of those that are there.
+fn spell(version: u32, addressed: &Addressed, bytes: &mut Vec<u8>) -> Result<(), SendError>
+    ensures bytes { OnOk result (bytes.new.items ≡ spelling (sent version addressed.now)) }
     ensures fault { IfErr result (λ e. e ≡ SendError.BadFrame → HasSpelling (sent version addressed.now) → ⊥) }
+    ensures unsent { IfErr result (λ e. e ≢ SendError.LinkFault) }
 {
     if !has_spelling(version, addressed) {
         return Err(SendError::BadFrame);
     }
-    match frame_bytes(alloc, version, addressed) {
-        Ok(bytes) => Ok(bytes),
-        Err(_) => Err(SendError::OutOfMemory),
+    bytes.clear();
+    if bytes.reserve(frame_len(version, addressed)).is_err() {
+        return Err(SendError::OutOfMemory);
     }
+    append_frame(version, addressed, bytes);
+    Ok(())
 }

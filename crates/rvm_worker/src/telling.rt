@@ -42,7 +42,7 @@ pub(crate) fn tell<L: Seating, M: PagedMemory + Drop, K: Link + Drop, G: Gate, R
 {
     watch.before()?;
     let (reply, frame) = mover.call(rt, alloc, side.host, event)?;
-    let sent = send(rt, alloc, side.outgoing, frame);
+    let sent = send(rt, side.outgoing, frame);
     watch.after();
     Ok(Called { reply, sent })
 }
@@ -50,12 +50,11 @@ pub(crate) fn tell<L: Seating, M: PagedMemory + Drop, K: Link + Drop, G: Gate, R
 /// Sends a frame, if there is one.
 fn send<K: Link + Drop, R: Wait>(
     rt: &R,
-    alloc: Global,
     outgoing: &Outgoing<K>,
     frame: Option<Addressed>,
 ) -> Result<(), SendError> {
     match frame {
         None => Ok(()),
-        Some(addressed) => outgoing.send(rt, alloc, &addressed),
+        Some(addressed) => outgoing.send(rt, &addressed),
     }
 }
