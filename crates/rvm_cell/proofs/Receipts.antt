@@ -1,14 +1,16 @@
 -- The receipts of a slice, one more of them.
-use Rattle.std.proofs.Common.{◌≡◌, ◌∙◌, ℕ, zero, suc, ◌+◌, List, [], ◌∷◌, ◌++◌, ◌-◌, ◌≤◌, min, length, Some, refl, sym, ap, subst, arith, inl, inr}
+use Rattle.std.proofs.Common.{◌≡◌, ◌∙◌, ℕ, zero, suc, ◌+◌, List, [], ◌∷◌, ◌++◌, ◌-◌, ◌≤◌, min, length, map, Some, refl, sym, ap, subst, arith, inl, inr}
 use Rattle.std.specs.Prelude.{slice_get, ◌⊎◌}
 use Rattle.std.proofs.lemmas.List.{append_assoc, length-map, map-append}
 use Rattle.std.proofs.lemmas.Option.{same_Some}
 use Rattle.rvm_cell.specs.Receipts.{PlainReceipt}
-use Rattle.rvm_cell.specs.Calls.{AreReceipts, IsReceipt, IsSliceCalled, replies_of}
+use Rattle.rvm_cell.specs.Calls.{AreOfSeat, AreReceipts, IsReceipt, IsSliceCalled, replies_of}
 use Rattle.rvm_cell.specs.Seats.{PlainSeat, seat_of}
+use Rattle.rvm_journal.specs.Entries.{PlainEntry}
 use Rattle.rvm_journal.specs.History.{Recording, count_of}
 use Rattle.rvm_journal.specs.Slices.{IsSliceRecorded, IsSteps, most_of, step_of}
 use Rattle.rvm_message.specs.declared.reply.HostReply.{HostReply}
+use Rattle.rvm_message.specs.Replies.{ends_steps, reply_of}
 
 -- what stands in a list with one more behind is in the list, or is the one more
 got_or_last : {X : Type 0} (xs : List X) (a b : X) (k : ℕ) → slice_get (xs ++ a ∷ []) k ≡ Some b
@@ -75,3 +77,34 @@ slice_has_steps old new seat turn harts n rs is =
     sym (length-map rs (λ (x : PlainReceipt). x.reply)) ∙ ap length steps.replies_are ∙ length-map steps.entries (λ x. x.reply) in
     let most : min n (old.capacity - count_of old) ≤ n = omega arith in
     (omega (arith, same, steps.slice.some), omega (arith, same, steps.slice.bound, most))
+
+head_is : (a b : HostReply) (xs ys : List HostReply) → a ∷ xs ≡ b ∷ ys → a ≡ b
+head_is a b xs ys e = cc
+
+tail_is : (a b : HostReply) (xs ys : List HostReply) → a ∷ xs ≡ b ∷ ys → xs ≡ ys
+tail_is a b xs ys e = cc
+
+-- where receipts have the replies of entries, so has each the reply of the entry of its index
+same_at : (rs : List PlainReceipt) (xs : List PlainEntry) (k : ℕ) (r : PlainReceipt) → replies_of rs ≡ map (λ x. x.reply) xs
+    → slice_get rs k ≡ Some r → (x : PlainEntry) × (slice_get xs k ≡ Some x) × (r.reply ≡ x.reply)
+same_at [] xs k r same here = cc
+same_at (s ∷ rs) [] k r same here = cc
+same_at (s ∷ rs) (x ∷ xs) zero r same here =
+    (x, refl, ap (λ (y : PlainReceipt). y.reply) (sym (same_Some s r here)) ∙ head_is _ _ _ _ same)
+same_at (s ∷ rs) (x ∷ xs) (suc k) r same here = same_at rs xs k r (tail_is _ _ _ _ same) here
+
+-- all but the last of its steps go on
+pub slice_of_seat : (old new : Recording) (seat : PlainSeat) (turn harts n : ℕ) (rs : List PlainReceipt)
+    → IsSliceCalled old seat turn harts n rs new → AreOfSeat seat turn harts rs
+slice_of_seat old new seat turn harts n rs is =
+    let steps = is.recorded.steps in
+    let same : length rs ≡ length steps.entries =
+    sym (length-map rs (λ (x : PlainReceipt). x.reply)) ∙ ap length steps.replies_are ∙ length-map steps.entries (λ x. x.reply) in
+    record {
+      place = count_of old;
+      receipts = is.receipts;
+      goes_on = λ k r here more.
+          (let entry = same_at rs steps.entries k r steps.replies_are here in
+          ap (λ y. ends_steps (reply_of y)) entry.2
+          ∙ steps.slice.goes_on k entry.0 entry.1 (omega (arith, same, more)));
+    }

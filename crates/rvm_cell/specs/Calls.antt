@@ -1,5 +1,5 @@
 -- What a call of a shared host answers and records.
-use Rattle.std.specs.Prelude.{◌≡◌, ℕ, ◌+◌, List, map, Option, Some, slice_get}
+use Rattle.std.specs.Prelude.{◌≡◌, ℕ, suc, ◌+◌, ◌<◌, false, List, length, map, Option, Some, slice_get}
 use Rattle.rvm_cell.specs.Receipts.{PlainReceipt}
 use Rattle.rvm_cell.specs.Seats.{PlainSeat, seat_of}
 use Rattle.rvm_frame.specs.declared.addressed.Addressed.{Addressed}
@@ -7,6 +7,7 @@ use Rattle.rvm_journal.specs.History.{IsRecorded, Recording, count_of}
 use Rattle.rvm_journal.specs.Slices.{IsSliceRecorded, step_of}
 use Rattle.rvm_message.specs.declared.event.HostEvent.{HostEvent}
 use Rattle.rvm_message.specs.declared.reply.HostReply.{HostReply}
+use Rattle.rvm_message.specs.Replies.{ends_steps, reply_of}
 
 -- a receipt of this event for a seat that had made so many calls
 pub record IsReceipt (seat : PlainSeat) (event : HostEvent) (r : PlainReceipt) : Type 0 where
@@ -26,10 +27,12 @@ pub record AreReceipts (seat : PlainSeat) (place turn harts : ℕ) (rs : List Pl
   pub each : (k : ℕ) (r : PlainReceipt) → slice_get rs k ≡ Some r
       → IsReceipt (seat_of seat.id (seat.count + k)) (step_of (turn + k) harts) r
 
--- the same, wherever they stand
+-- the same, wherever they stand; only the last of the steps may end a slice
 pub record AreOfSeat (seat : PlainSeat) (turn harts : ℕ) (rs : List PlainReceipt) : Type 0 where
   pub place : ℕ
   pub receipts : AreReceipts seat place turn harts rs
+  pub goes_on : (k : ℕ) (r : PlainReceipt) → slice_get rs k ≡ Some r → suc k < length rs
+      → ends_steps (reply_of r.reply) ≡ false
 
 -- what these receipts were answered
 abbrev pub replies_of : List PlainReceipt → List HostReply

@@ -1,8 +1,8 @@
 -- Calls behind calls.
-use Rattle.std.proofs.Common.{◌≡◌, ◌≢◌, ◌∙◌, ℕ, zero, suc, ◌+◌, Bool, true, false, List, [], ◌∷◌, ◌++◌, append-nil, append_assoc, Option, Some, Result, Ok, Err, refl, sym, ap, map, subst}
+use Rattle.std.proofs.Common.{◌≡◌, ◌≢◌, ◌∙◌, ℕ, zero, suc, ◌+◌, ◌-◌, ◌≤◌, Bool, true, false, List, [], ◌∷◌, ◌++◌, append-nil, append_assoc, Option, Some, Result, Ok, Err, refl, sym, ap, map, subst, arith, length}
 use Rattle.std.proofs.lemmas.List.Concat.{flat_map-append}
 use Rattle.std.proofs.KnownBytes.{Appends-nil, Appends-trans}
-use Rattle.std.specs.Prelude.{slice_get, ◌%◌, IfErr, OnErr, OnOk, is_ok, ⊤}
+use Rattle.std.specs.Prelude.{slice_get, ◌%◌, IfErr, IfOk, IfSome, OnErr, ⊤}
 use Rattle.std.specs.Io.KnownBytes.{Appends}
 use Rattle.std.specs.List.{flat_map}
 use Rattle.rvm_cell.specs.Receipts.{PlainReceipt}
@@ -14,11 +14,18 @@ use Rattle.rvm_worker.specs.declared.end.WorkEnd.{WorkEnd}
 use Rattle.rvm_worker.specs.declared.end.WorkEnd.TheVariants.{LinkFault}
 use Rattle.rvm_worker.specs.declared.steps.Steps.{Steps}
 use Rattle.rvm_worker.specs.Work.{IsCall, IsSliceCall, PlainCaller}
-use Rattle.rvm_hart_worker.specs.Calls.{AtA, AtB, Call, EndsDry, Made, Written, IsOutput, bytes_in, bytes_of, drained_by, found_nothing, in_a, in_b}
+use Rattle.rvm_hart_worker.specs.Calls.{AtA, AtB, Call, EndsDry, HasRun, Made, Written, IsRun, bytes_in, bytes_of, drained_by, found_nothing, in_a, in_b, turns_in}
 use Rattle.rvm_hart_worker.specs.Drains.{is_nothing, told_by}
+use Rattle.rvm_hart_worker.specs.Turns.{AreTurns, Turn, after_step, after_turns, turn_made, turns, turns_of}
+use Rattle.rvm_hart_worker.specs.declared.harts.TurnsEnd.{TurnsEnd}
+use Rattle.rvm_hart_worker.specs.declared.harts.TurnsEnd.TheVariants as ended
+use Rattle.rvm_hart_worker.specs.declared.harts.TurnsEnd.TheVariants.{StepsSpent}
+use Rattle.rvm_hart_worker.specs.declared.slices.Then.{Then}
+use Rattle.rvm_hart_worker.specs.declared.slices.Then.TheVariants.{GoOn, Elsewhere, Halted}
+use Rattle.rvm_hart_worker.proofs.Turns.{slice_turns, told_a, told_b, turns_on}
 
 -- no call
-pub made_none : (p : PlainCaller × PlainCaller) → Made p p [] false
+pub made_none : (p : PlainCaller × PlainCaller) → Made p p [] [] false
 made_none p = record {
   calls = [];
   start_a = refl;
@@ -26,6 +33,7 @@ made_none p = record {
   at_a = sym (append-nil p.0.receipts);
   at_b = sym (append-nil p.1.receipts);
   told = refl;
+  turned = refl;
   ends = λ dry. absurd cc;
 }
 
@@ -39,9 +47,9 @@ ends_behind xs ys e = record {
 }
 
 -- calls, and then others
-pub made_both : (old mid new : PlainCaller × PlainCaller) (xs ys : List ℕ) (first dry : Bool)
-    → Made old mid xs first → Made mid new ys dry → Made old new (xs ++ ys) dry
-made_both old mid new xs ys first dry p q = record {
+pub made_both : (old mid new : PlainCaller × PlainCaller) (xs ys : List ℕ) (ts us : List Turn) (first dry : Bool)
+    → Made old mid xs ts first → Made mid new ys us dry → Made old new (xs ++ ys) (ts ++ us) dry
+made_both old mid new xs ys ts us first dry p q = record {
   calls = p.calls ++ q.calls;
   start_a = q.start_a ∙ p.start_a;
   start_b = q.start_b ∙ p.start_b;
@@ -53,36 +61,48 @@ made_both old mid new xs ys first dry p q = record {
       ∙ ap (λ l. old.1.receipts ++ l) (sym (flat_map-append in_b p.calls q.calls));
   told = flat_map-append bytes_in p.calls q.calls ∙ ap (λ l. l ++ flat_map bytes_in q.calls) p.told
       ∙ ap (λ l. xs ++ l) q.told;
+  turned = flat_map-append turns_in p.calls q.calls ∙ ap (λ l. l ++ flat_map turns_in q.calls) p.turned
+      ∙ ap (λ l. ts ++ l) q.turned;
   ends = λ is. ends_behind p.calls q.calls (q.ends is);
 }
 
--- calls whose drains told nothing, and then others
-pub made_behind : (old mid new : PlainCaller × PlainCaller) (bytes : List ℕ) (dry : Bool) → Made old mid [] false
-    → Made mid new bytes dry → Made old new bytes dry
-made_behind old mid new bytes dry p q = made_both old mid new [] bytes false dry p q
+-- calls that were neither a turn nor told anything, and then others
+pub made_behind : (old mid new : PlainCaller × PlainCaller) (bytes : List ℕ) (ts : List Turn) (dry : Bool)
+    → Made old mid [] [] false → Made mid new bytes ts dry → Made old new bytes ts dry
+made_behind old mid new bytes ts dry p q = made_both old mid new [] bytes [] ts false dry p q
+
+-- a slice of no turn, and then other calls
+pub made_behind_none : (old mid new : PlainCaller × PlainCaller) (bytes : List ℕ) (ts : List Turn) (dry : Bool)
+    (harts turn made : ℕ) (last : Then) → made ≡ 0 → Made old mid [] (turns harts turn made last) false
+    → Made mid new bytes ts dry → Made old new bytes ts dry
+unfolding turns
+made_behind_none old mid new bytes ts dry harts turn made last none p q =
+    made_behind old mid new bytes ts dry (subst (λ n. Made old mid [] (turns harts turn n last) false) none p) q
 
 -- the same where the last of them failed
 pub made_behind_err : {T E : Type 0} (r : Result T E) (old mid new : PlainCaller × PlainCaller)
-    → Made old mid [] false → Made mid new [] false → OnErr r (Made old new [] false)
+    → Made old mid [] [] false → Made mid new [] [] false → OnErr r (Made old new [] [] false)
 made_behind_err (Ok x) old mid new p q = tt
-made_behind_err (Err e) old mid new p q = made_behind old mid new [] false p q
+made_behind_err (Err e) old mid new p q = made_behind old mid new [] [] false p q
 
 -- calls, of which others may come behind the last
-made_on : (old new : PlainCaller × PlainCaller) (bytes : List ℕ) → Made old new bytes true → Made old new bytes false
-made_on old new bytes p = record {
+made_on : (old new : PlainCaller × PlainCaller) (bytes : List ℕ) (ts : List Turn) → Made old new bytes ts true
+    → Made old new bytes ts false
+made_on old new bytes ts p = record {
   calls = p.calls;
   start_a = p.start_a;
   start_b = p.start_b;
   at_a = p.at_a;
   at_b = p.at_b;
   told = p.told;
+  turned = p.turned;
   ends = λ dry. absurd cc;
 }
 
 -- a drain
 pub made_drain_at_a : (old new b : PlainCaller) (n : ℕ) (reply : HostReply) → new.start ≡ old.start
     → IsCall old.seat (event.Do (command.Board (asked.Drain n))) old.receipts new.seat new.receipts reply
-    → Made (old, b) (new, b) (bytes_of (told_by reply)) (is_nothing (told_by reply))
+    → Made (old, b) (new, b) (bytes_of (told_by reply)) [] (is_nothing (told_by reply))
 made_drain_at_a old new b n reply same c = record {
   calls = AtA c.receipt ∷ [];
   start_a = same;
@@ -91,6 +111,7 @@ made_drain_at_a old new b n reply same c = record {
   at_b = sym (append-nil b.receipts);
   told = append-nil (drained_by c.receipt.event c.receipt.reply)
       ∙ ap (λ e. drained_by e c.receipt.reply) c.of_event.event_is ∙ ap (λ r. bytes_of (told_by r)) c.answered;
+  turned = append-nil (turn_made c.receipt.event c.receipt.reply) ∙ ap (λ e. turn_made e c.receipt.reply) c.of_event.event_is;
   ends = λ is. record {
     before = [];
     last = AtA c.receipt;
@@ -101,7 +122,7 @@ made_drain_at_a old new b n reply same c = record {
 
 pub made_drain_at_b : (a old new : PlainCaller) (n : ℕ) (reply : HostReply) → new.start ≡ old.start
     → IsCall old.seat (event.Do (command.Board (asked.Drain n))) old.receipts new.seat new.receipts reply
-    → Made (a, old) (a, new) (bytes_of (told_by reply)) (is_nothing (told_by reply))
+    → Made (a, old) (a, new) (bytes_of (told_by reply)) [] (is_nothing (told_by reply))
 made_drain_at_b a old new n reply same c = record {
   calls = AtB c.receipt ∷ [];
   start_a = refl;
@@ -110,6 +131,7 @@ made_drain_at_b a old new n reply same c = record {
   at_b = c.added;
   told = append-nil (drained_by c.receipt.event c.receipt.reply)
       ∙ ap (λ e. drained_by e c.receipt.reply) c.of_event.event_is ∙ ap (λ r. bytes_of (told_by r)) c.answered;
+  turned = append-nil (turn_made c.receipt.event c.receipt.reply) ∙ ap (λ e. turn_made e c.receipt.reply) c.of_event.event_is;
   ends = λ is. record {
     before = [];
     last = AtB c.receipt;
@@ -155,131 +177,245 @@ silent_b (r ∷ rs) steps =
     ∙ silent_b rs (λ k s there. steps (suc k) s there)
 
 -- a slice
-pub made_slice_at_a : (old new b : PlainCaller) (turn harts : ℕ) (steps : Steps) → new.start ≡ old.start
-    → IsSliceCall old.seat turn harts old.receipts new.seat new.receipts steps → Made (old, b) (new, b) [] false
-made_slice_at_a old new b turn harts steps same c = record {
-  calls = map AtA c.receipts;
-  start_a = same;
-  start_b = refl;
-  at_a = c.added ∙ ap (λ l. old.receipts ++ l) (sym (a_in_a c.receipts));
-  at_b = sym (append-nil b.receipts) ∙ ap (λ l. b.receipts ++ l) (sym (a_in_b c.receipts));
-  told = silent_a c.receipts (λ k r there. ((turn + k) % harts, (c.of_seat.receipts.each k r there).event_is));
-  ends = λ dry. absurd cc;
-}
+module _ (old new : PlainCaller) (turn harts made : ℕ) (last : Then) (steps : Steps) (last_is : last ≡ after_step steps.last)
+    (made_is : made ≡ turns_of last steps.count) (same : new.start ≡ old.start)
+    (c : IsSliceCall old.seat turn harts old.receipts new.seat new.receipts steps) where
+  of_step : (k : ℕ) (r : PlainReceipt) → slice_get c.receipts k ≡ Some r
+      → (hart : ℕ) × (r.event ≡ event.Do (command.Board (asked.Step hart)))
+  of_step k r there = ((turn + k) % harts, (c.of_seat.receipts.each k r there).event_is)
 
-pub made_slice_at_b : (a old new : PlainCaller) (turn harts : ℕ) (steps : Steps) → new.start ≡ old.start
-    → IsSliceCall old.seat turn harts old.receipts new.seat new.receipts steps → Made (a, old) (a, new) [] false
-made_slice_at_b a old new turn harts steps same c = record {
-  calls = map AtB c.receipts;
-  start_a = refl;
-  start_b = same;
-  at_a = sym (append-nil a.receipts) ∙ ap (λ l. a.receipts ++ l) (sym (b_in_a c.receipts));
-  at_b = c.added ∙ ap (λ l. old.receipts ++ l) (sym (b_in_b c.receipts));
-  told = silent_b c.receipts (λ k r there. ((turn + k) % harts, (c.of_seat.receipts.each k r there).event_is));
-  ends = λ dry. absurd cc;
-}
+  is_last : (k : ℕ) (r : PlainReceipt) → slice_get c.receipts k ≡ Some r → suc k ≡ length c.receipts → r.reply ≡ steps.last
+  is_last k r there is =
+      subst (λ o. IfSome o (λ (x : PlainReceipt). x.reply ≡ steps.last)) there
+      (subst (λ n. IfSome (slice_get c.receipts n) (λ (x : PlainReceipt). x.reply ≡ steps.last)) (omega (arith, is)) c.told.last)
+
+  turned_is : flat_map (λ (r : PlainReceipt). turn_made r.event r.reply) c.receipts ≡ turns harts turn made (after_turns last)
+  turned_is =
+      slice_turns c.receipts harts turn steps.last (λ k r there. (c.of_seat.receipts.each k r there).event_is)
+      c.of_seat.goes_on is_last
+      ∙ ap (λ t. turns harts turn (turns_of t (length c.receipts)) (after_turns t)) (sym last_is)
+      ∙ ap (λ n. turns harts turn (turns_of last n) (after_turns last)) (sym c.told.count)
+      ∙ ap (λ n. turns harts turn n (after_turns last)) (sym made_is)
+
+  pub made_slice_at_a : (b : PlainCaller) → Made (old, b) (new, b) [] (turns harts turn made (after_turns last)) false
+  made_slice_at_a b = record {
+    calls = map AtA c.receipts;
+    start_a = same;
+    start_b = refl;
+    at_a = c.added ∙ ap (λ l. old.receipts ++ l) (sym (a_in_a c.receipts));
+    at_b = sym (append-nil b.receipts) ∙ ap (λ l. b.receipts ++ l) (sym (a_in_b c.receipts));
+    told = silent_a c.receipts of_step;
+    turned = told_a c.receipts ∙ turned_is;
+    ends = λ dry. absurd cc;
+  }
+
+  pub made_slice_at_b : (a : PlainCaller) → Made (a, old) (a, new) [] (turns harts turn made (after_turns last)) false
+  made_slice_at_b a = record {
+    calls = map AtB c.receipts;
+    start_a = refl;
+    start_b = same;
+    at_a = sym (append-nil a.receipts) ∙ ap (λ l. a.receipts ++ l) (sym (b_in_a c.receipts));
+    at_b = c.added ∙ ap (λ l. old.receipts ++ l) (sym (b_in_b c.receipts));
+    told = silent_b c.receipts of_step;
+    turned = told_b c.receipts ∙ turned_is;
+    ends = λ dry. absurd cc;
+  }
 
 -- nothing was written yet
-pub written_none : (p : PlainCaller × PlainCaller) (w : Option (List ℕ)) → Written p p w w ⊤ false
+pub written_none : (p : PlainCaller × PlainCaller) (w : Option (List ℕ)) → Written p p w w ⊤ [] false
 written_none p w = record { bytes = []; made = made_none p; written = λ _. Appends-nil w }
 
 -- what other calls told was written behind the rest
 pub written_then : (old mid new : PlainCaller × PlainCaller) (before between after : Option (List ℕ)) (works : Type 0)
-    (first dry : Bool) → Written old mid before between ⊤ first → Written mid new between after works dry
-    → Written old new before after works dry
-written_then old mid new before between after works first dry p q = record {
+    (ts us : List Turn) (first dry : Bool) → Written old mid before between ⊤ ts first
+    → Written mid new between after works us dry → Written old new before after works (ts ++ us) dry
+written_then old mid new before between after works ts us first dry p q = record {
   bytes = p.bytes ++ q.bytes;
-  made = made_both old mid new p.bytes q.bytes first dry p.made q.made;
+  made = made_both old mid new p.bytes q.bytes ts us first dry p.made q.made;
   written = λ w. Appends-trans before between after p.bytes q.bytes (p.written tt) (q.written w);
 }
 
 -- what further calls told was written
 pub written_next : (old mid new : PlainCaller × PlainCaller) (before between after : Option (List ℕ)) (bytes : List ℕ)
-    → Written old mid before between ⊤ false → Made mid new bytes false → Appends between after bytes
-    → Written old new before after ⊤ false
+    → Written old mid before between ⊤ [] false → Made mid new bytes [] false → Appends between after bytes
+    → Written old new before after ⊤ [] false
 written_next old mid new before between after bytes p q more =
-    written_then old mid new before between after ⊤ false false p (record { bytes = bytes; made = q; written = λ _. more })
+    written_then old mid new before between after ⊤ [] [] false false p (record { bytes = bytes; made = q; written = λ _. more })
 
 -- further calls told nothing
-pub written_still : (old mid new : PlainCaller × PlainCaller) (before after : Option (List ℕ)) (works : Type 0) (dry : Bool)
-    → Written old mid before after ⊤ false → Made mid new [] dry → Written old new before after works dry
-written_still old mid new before after works dry p q =
-    written_then old mid new before after after works false dry p
+pub written_still : (old mid new : PlainCaller × PlainCaller) (before after : Option (List ℕ)) (works : Type 0)
+    (ts us : List Turn) (dry : Bool) → Written old mid before after ⊤ ts false → Made mid new [] us dry
+    → Written old new before after works (ts ++ us) dry
+written_still old mid new before after works ts us dry p q =
+    written_then old mid new before after after works ts us false dry p
     (record { bytes = []; made = q; written = λ _. Appends-nil after })
+
+-- of which none was a turn
+pub written_dry : (old mid new : PlainCaller × PlainCaller) (before after : Option (List ℕ)) (works : Type 0) (dry : Bool)
+    → Written old mid before after ⊤ [] false → Made mid new [] [] dry → Written old new before after works [] dry
+written_dry old mid new before after works dry p q = written_still old mid new before after works [] [] dry p q
 
 -- what further calls told could not be written
 pub written_failed : (old mid new : PlainCaller × PlainCaller) (before between after : Option (List ℕ)) (bytes : List ℕ)
-    (e : WorkEnd) → Written old mid before between ⊤ false → Made mid new bytes false → e ≡ LinkFault
-    → Written old new before after (e ≢ LinkFault) false
+    (e : WorkEnd) → Written old mid before between ⊤ [] false → Made mid new bytes [] false → e ≡ LinkFault
+    → Written old new before after (e ≢ LinkFault) [] false
 written_failed old mid new before between after bytes e p q is =
-    written_then old mid new before between after (e ≢ LinkFault) false false p
+    written_then old mid new before between after (e ≢ LinkFault) [] [] false false p
     (record { bytes = bytes; made = q; written = λ works. absurd (works is) })
-
--- calls that told nothing, and then others
-pub written_behind : (old mid last new : PlainCaller × PlainCaller) (before between after : Option (List ℕ)) (works : Type 0)
-    (dry : Bool) → Written old mid before between ⊤ false → Made mid last [] false
-    → Written last new between after works dry → Written old new before after works dry
-written_behind old mid last new before between after works dry p q r =
-    written_then old last new before between after works false dry (written_still old mid last before between ⊤ false p q) r
-
--- the same where more calls are to come
-pub written_on : (old mid last new : PlainCaller × PlainCaller) (before between after : Option (List ℕ))
-    → Written old mid before between ⊤ false → Made mid last [] false → Written last new between after ⊤ true
-    → Written old new before after ⊤ false
-written_on old mid last new before between after p q r =
-    written_behind old mid last new before between after ⊤ false p q
-    (record { bytes = r.bytes; made = made_on last new r.bytes r.made; written = r.written })
 
 -- the same where the last of them failed
 pub written_still_err : {T : Type 0} (r : Result T WorkEnd) (old mid new : PlainCaller × PlainCaller)
-    (before after : Option (List ℕ)) → Written old mid before after ⊤ false → Made mid new [] false
-    → IfErr r (λ e. Written old new before after (e ≢ LinkFault) false)
+    (before after : Option (List ℕ)) → Written old mid before after ⊤ [] false → Made mid new [] [] false
+    → IfErr r (λ e. Written old new before after (e ≢ LinkFault) [] false)
 written_still_err (Ok x) old mid new before after p q = tt
-written_still_err (Err e) old mid new before after p q = written_still old mid new before after (e ≢ LinkFault) false p q
+written_still_err (Err e) old mid new before after p q =
+    written_still old mid new before after (e ≢ LinkFault) [] [] false p q
 
 pub written_failed_err : {T : Type 0} (r : Result T WorkEnd) (old mid new : PlainCaller × PlainCaller)
-    (before between after : Option (List ℕ)) (bytes : List ℕ) → Written old mid before between ⊤ false
-    → Made mid new bytes false → IfErr r (λ e. e ≡ LinkFault)
-    → IfErr r (λ e. Written old new before after (e ≢ LinkFault) false)
+    (before between after : Option (List ℕ)) (bytes : List ℕ) → Written old mid before between ⊤ [] false
+    → Made mid new bytes [] false → IfErr r (λ e. e ≡ LinkFault)
+    → IfErr r (λ e. Written old new before after (e ≢ LinkFault) [] false)
 written_failed_err (Ok x) old mid new before between after bytes p q is = tt
 written_failed_err (Err e) old mid new before between after bytes p q is =
     written_failed old mid new before between after bytes e p q is
 
-pub written_then_err : {T : Type 0} (r : Result T WorkEnd) (old mid new : PlainCaller × PlainCaller)
-    (before between after : Option (List ℕ)) → Written old mid before between ⊤ false
-    → IfErr r (λ e. Written mid new between after (e ≢ LinkFault) false)
-    → IfErr r (λ e. Written old new before after (e ≢ LinkFault) false)
-written_then_err (Ok x) old mid new before between after p q = tt
-written_then_err (Err e) old mid new before between after p q =
-    written_then old mid new before between after (e ≢ LinkFault) false false p q
+-- further calls, of which none was a turn
+pub written_more : (old mid new : PlainCaller × PlainCaller) (before between after : Option (List ℕ)) (works : Type 0)
+    (ts : List Turn) (dry : Bool) → Written old mid before between ⊤ ts false → Written mid new between after works [] dry
+    → Written old new before after works ts dry
+written_more old mid new before between after works ts dry p q =
+    subst (λ l. Written old new before after works l dry) (append-nil ts)
+    (written_then old mid new before between after works ts [] false dry p q)
 
-pub written_behind_err : {T : Type 0} (r : Result T WorkEnd) (old mid last new : PlainCaller × PlainCaller)
-    (before between after : Option (List ℕ)) → Written old mid before between ⊤ false → Made mid last [] false
-    → IfErr r (λ e. Written last new between after (e ≢ LinkFault) false)
-    → IfErr r (λ e. Written old new before after (e ≢ LinkFault) false)
-written_behind_err r old mid last new before between after p q =
-    written_then_err r old last new before between after (written_still old mid last before between ⊤ false p q)
+-- calls behind which others may come
+pub written_on : (old new : PlainCaller × PlainCaller) (before after : Option (List ℕ)) → Written old new before after ⊤ [] true
+    → Written old new before after ⊤ [] false
+written_on old new before after p = record { bytes = p.bytes; made = made_on old new p.bytes [] p.made; written = p.written }
 
--- what was written from the first call on is the output
-output_written : (old new : PlainCaller × PlainCaller) (before after : Option (List ℕ)) (works : Type 0) (dry : Bool)
-    → old.0.receipts ≡ [] → old.1.receipts ≡ [] → Written old new before after works dry
-    → IsOutput new.0.receipts new.1.receipts before after works dry
-output_written old new before after works dry first second p = record {
-  calls = p.made.calls;
-  first = p.made.at_a ∙ ap (λ l. l ++ flat_map in_a p.made.calls) first;
-  second = p.made.at_b ∙ ap (λ l. l ++ flat_map in_b p.made.calls) second;
-  written = λ w. subst (λ l. Appends before after l) (sym p.made.told) (p.written w);
-  ends = p.made.ends;
-}
+-- A RUN
 
--- and it is all of the output where the run came to its end
-pub output_of_run : {T : Type 0} (r : Result T WorkEnd) (old new : PlainCaller × PlainCaller) (before after : Option (List ℕ))
-    → old.0.receipts ≡ [] → old.1.receipts ≡ [] → OnOk r (Written old new before after ⊤ true)
-    → IfErr r (λ e. Written old new before after (e ≢ LinkFault) false)
-    → IsOutput new.0.receipts new.1.receipts before after (r ≢ Err LinkFault) (is_ok r)
-output_of_run (Ok x) old new before after first second p q =
-    output_written old new before after (Ok x ≢ Err LinkFault) true first second
-    (record { bytes = p.bytes; made = p.made; written = λ _. p.written tt })
-output_of_run (Err e) old new before after first second p q =
-    output_written old new before after (Err e ≢ Err LinkFault) false first second
-    (record { bytes = q.bytes; made = q.made; written = λ w. q.written (λ is. w (ap Err is)) })
+-- where a run has come: so many turns were made, and each is followed by the next
+abbrev pub HasCome : (old new : PlainCaller × PlainCaller) (before after : Option (List ℕ)) (harts turn : ℕ) → Type 0
+HasCome old new before after harts turn = Written old new before after ⊤ (turns harts 0 turn GoOn) false
+
+-- before the first turn
+pub has_begun : (p : PlainCaller × PlainCaller) (w : Option (List ℕ)) (harts : ℕ) → HasCome p p w w harts 0
+unfolding turns
+has_begun p w harts = written_none p w
+
+-- behind a turn that did not halt the board comes the next one
+pub goes_after : (last : Then) → ((status : ℕ) → last ≡ Halted status → ⊥) → after_turns last ≡ GoOn
+goes_after GoOn none = refl
+goes_after Elsewhere none = refl
+goes_after (Halted status) none = absurd (none status refl)
+
+-- it failed behind so many turns
+failed_behind : (old mid new : PlainCaller × PlainCaller) (before between after : Option (List ℕ)) (harts steps count : ℕ)
+    (last : Then) (e : WorkEnd) → count ≤ steps → Written old mid before between ⊤ (turns harts 0 count last) false
+    → Written mid new between after (e ≢ LinkFault) [] false → HasRun old new before after harts steps (Err e)
+failed_behind old mid new before between after harts steps count last e within so failed =
+    let all = written_more old mid new before between after (e ≢ LinkFault) (turns harts 0 count last) false so failed in record {
+      turns = turns harts 0 count last;
+      are = record { count = count; last = last; within = within; are = refl };
+      written = record { bytes = all.bytes; made = all.made; written = λ works. all.written (λ is. works (ap Err is)) };
+    }
+
+-- a run that came to its end with a drain
+ended_with : (old mid new : PlainCaller × PlainCaller) (before between after : Option (List ℕ)) (harts steps : ℕ)
+    (ts : List Turn) (end : TurnsEnd) → AreTurns harts steps (Ok end) ts → Written old mid before between ⊤ ts false
+    → Written mid new between after ⊤ [] true → HasRun old new before after harts steps (Ok end)
+ended_with old mid new before between after harts steps ts end are so drained =
+    let all = written_more old mid new before between after ⊤ ts true so drained in record {
+      turns = ts;
+      are = are;
+      written = record { bytes = all.bytes; made = all.made; written = λ _. all.written tt };
+    }
+
+module _ (old mid : PlainCaller × PlainCaller) (before between : Option (List ℕ)) (harts turn steps : ℕ) (within : turn ≤ steps)
+    (so : HasCome old mid before between harts turn) where
+  -- the next slice failed
+  pub slice_failed : {T : Type 0} (r : Result T WorkEnd) (new : PlainCaller × PlainCaller) → Made mid new [] [] false
+      → IfErr r (λ e. HasRun old new before between harts steps (Err e))
+  slice_failed (Ok x) new made = tt
+  slice_failed (Err e) new made =
+      failed_behind old mid new before between between harts steps turn GoOn e within so
+      (record { bytes = []; made = made; written = λ _. Appends-nil between })
+
+  -- all turns were made, and the drain failed
+  pub last_drain_failed : {T : Type 0} (r : Result T WorkEnd) (new : PlainCaller × PlainCaller) (after : Option (List ℕ))
+      → IfErr r (λ e. Written mid new between after (e ≢ LinkFault) [] false)
+      → IfErr r (λ e. HasRun old new before after harts steps (Err e))
+  last_drain_failed (Ok x) new after failed = tt
+  last_drain_failed (Err e) new after failed =
+      failed_behind old mid new before between after harts steps turn GoOn e within so failed
+
+  -- or it found all
+  pub all_spent : (new : PlainCaller × PlainCaller) (after : Option (List ℕ)) → steps ≤ turn
+      → Written mid new between after ⊤ [] true → HasRun old new before after harts steps (Ok StepsSpent)
+  all_spent new after all drained =
+      ended_with old mid new before between after harts steps (turns harts 0 turn GoOn) StepsSpent
+      (ap (λ n. turns harts 0 n GoOn) (omega (arith, within, all))) so drained
+
+  module _ (next : PlainCaller × PlainCaller) (made : ℕ) (last : Then) (some : 1 ≤ made) (room : turn + made ≤ steps)
+      (slice : Made mid next [] (turns harts turn made (after_turns last)) false) where
+    -- with the turns of the next slice
+    with_slice : Written old next before between ⊤ (turns harts 0 (turn + made) (after_turns last)) false
+    with_slice =
+        subst (λ l. Written old next before between ⊤ l false) (turns_on harts turn made (after_turns last) some)
+        (written_still old mid next before between ⊤ (turns harts 0 turn GoOn) (turns harts turn made (after_turns last)) false so slice)
+
+    -- it goes on
+    pub goes_on : after_turns last ≡ GoOn → HasCome old next before between harts (turn + made)
+    goes_on is = subst (λ t. Written old next before between ⊤ (turns harts 0 (turn + made) t) false) is with_slice
+
+    -- behind a drain
+    pub goes_on_drained : (new : PlainCaller × PlainCaller) (after : Option (List ℕ)) → after_turns last ≡ GoOn
+        → Written next new between after ⊤ [] true → HasCome old new before after harts (turn + made)
+    goes_on_drained new after is drained =
+        written_more old next new before between after ⊤ (turns harts 0 (turn + made) GoOn) false (goes_on is)
+        (written_on next new between after drained)
+
+    -- the drain behind it failed
+    pub drain_failed : {T : Type 0} (r : Result T WorkEnd) (new : PlainCaller × PlainCaller) (after : Option (List ℕ))
+        → IfErr r (λ e. Written next new between after (e ≢ LinkFault) [] false)
+        → IfErr r (λ e. HasRun old new before after harts steps (Err e))
+    drain_failed (Ok x) new after failed = tt
+    drain_failed (Err e) new after failed =
+        failed_behind old next new before between after harts steps (turn + made) (after_turns last) e room with_slice failed
+
+    -- the last turn halted the board
+    pub has_halted : (status : ℕ) (new : PlainCaller × PlainCaller) (after : Option (List ℕ)) → last ≡ Halted status
+        → Written next new between after ⊤ [] true → HasRun old new before after harts steps (Ok (ended.Halted status))
+    has_halted status new after is drained =
+        ended_with old next new before between after harts steps (turns harts 0 (turn + made) (after_turns last)) (ended.Halted status)
+        (record {
+          before = turn + made - 1;
+          within = omega (arith, some, room);
+          are = ap (λ n. turns harts 0 n (after_turns last)) (omega (arith, some))
+              ∙ ap (λ t. turns harts 0 (suc (turn + made - 1)) (after_turns t)) is;
+        }) with_slice drained
+
+-- the calls of a run from the first one on
+run_told : (old new : PlainCaller × PlainCaller) (before after : Option (List ℕ)) (harts steps : ℕ)
+    (end : Result TurnsEnd WorkEnd) → old.0.receipts ≡ [] → old.1.receipts ≡ []
+    → HasRun old new before after harts steps end
+    → IsRun new.0.receipts new.1.receipts before after (end ≢ Err LinkFault) harts steps end
+run_told old new before after harts steps end first second run =
+    let p = run.written in record {
+      calls = p.made.calls;
+      first = p.made.at_a ∙ ap (λ l. l ++ flat_map in_a p.made.calls) first;
+      second = p.made.at_b ∙ ap (λ l. l ++ flat_map in_b p.made.calls) second;
+      turned = subst (AreTurns harts steps end) (sym p.made.turned) run.are;
+      written = λ w. subst (λ l. Appends before after l) (sym p.made.told) (p.written w);
+      ends = p.made.ends;
+    }
+
+pub is_run : (r : Result TurnsEnd WorkEnd) (old new : PlainCaller × PlainCaller) (before after : Option (List ℕ))
+    (harts steps : ℕ) → old.0.receipts ≡ [] → old.1.receipts ≡ []
+    → IfOk r (λ end. HasRun old new before after harts steps (Ok end))
+    → IfErr r (λ e. HasRun old new before after harts steps (Err e))
+    → IsRun new.0.receipts new.1.receipts before after (r ≢ Err LinkFault) harts steps r
+is_run (Ok x) old new before after harts steps first second p q =
+    run_told old new before after harts steps (Ok x) first second p
+is_run (Err e) old new before after harts steps first second p q =
+    run_told old new before after harts steps (Err e) first second q

@@ -10,7 +10,9 @@ use Rattle.rvm_message.specs.declared.event.HostEvent.TheVariants as event
 use Rattle.rvm_message.specs.declared.reply.HostRefusal.TheVariants as refusal
 use Rattle.rvm_message.specs.declared.reply.HostReply.{HostReply}
 use Rattle.rvm_message.specs.declared.reply.HostReply.TheVariants as reply
-use Rattle.rvm_hart_worker.specs.Calls.{AtA, AtB, Call, EndsDry, bytes_in, in_a, in_b, is_dry}
+use Rattle.rvm_hart_worker.specs.Calls.{AtA, AtB, Call, EndsDry, bytes_in, in_a, in_b, is_dry, turns_in}
+use Rattle.rvm_hart_worker.specs.declared.slices.Then.TheVariants.{GoOn, Halted}
+use Rattle.rvm_hart_worker.specs.Turns.{turns}
 
 -- a receipt of what a guest was asked
 abbrev receipt : BoardEvent → HostReply → PlainReceipt
@@ -53,3 +55,24 @@ bytes_are_not_nothing = refl
 
 a_refusal_is_not_nothing : is_dry (AtA (receipt (asked.Drain 256) (reply.Refused refusal.Paused))) ≡ false
 a_refusal_is_not_nothing = refl
+
+-- of two harts, from turn 3 on: the third turn halts the board
+three_turns : turns 2 3 3 (Halted 7) ≡ (1, GoOn) ∷ (0, GoOn) ∷ (1, Halted 7) ∷ []
+unfolding turns
+three_turns = refl
+
+-- the first host refuses the second hart's step, which the second host makes
+abbrev steps : List Call
+steps =
+    AtA (receipt (asked.Step 0) (reply.Board answer.Retired))
+    ∷ AtA (receipt (asked.Step 1) (reply.Refused refusal.NotHere))
+    ∷ AtB (receipt (asked.Step 1) (reply.Board (answer.Halted 7)))
+    ∷ []
+
+a_refused_step_is_no_turn : flat_map turns_in steps ≡ turns 2 0 2 (Halted 7)
+unfolding turns
+a_refused_step_is_no_turn = refl
+
+-- neither drains nor a look at registers are turns
+other_events_are_no_turns : flat_map turns_in (AtA (receipt (asked.Regs 0) (reply.Board answer.Done)) ∷ last ∷ []) ≡ []
+other_events_are_no_turns = refl

@@ -1,5 +1,5 @@
--- What a worker at two hosts was told by its calls.
-use Rattle.std.specs.Prelude.{◌≡◌, ℕ, Bool, true, false, List, [], ◌∷◌, ◌++◌, Option, None, Some}
+-- What a worker at two hosts was told by its calls, and which turns they made.
+use Rattle.std.specs.Prelude.{◌≡◌, ◌≢◌, ℕ, Bool, true, false, List, [], ◌∷◌, ◌++◌, Option, None, Some, Result, Err, is_ok}
 use Rattle.std.specs.Io.KnownBytes.{Appends}
 use Rattle.std.specs.List.{flat_map}
 use Rattle.rvm_cell.specs.Receipts.{PlainReceipt}
@@ -9,9 +9,13 @@ use Rattle.rvm_message.specs.declared.event.HostEvent.{HostEvent}
 use Rattle.rvm_message.specs.declared.event.HostEvent.TheVariants as event
 use Rattle.rvm_message.specs.declared.reply.HostReply.{HostReply}
 use Rattle.rvm_worker.specs.Work.{PlainCaller}
+use Rattle.rvm_hart_worker.specs.declared.harts.TurnsEnd.{TurnsEnd}
 use Rattle.rvm_hart_worker.specs.declared.pair.Drained.{Drained}
 use Rattle.rvm_hart_worker.specs.declared.pair.Drained.TheVariants as drained
 use Rattle.rvm_hart_worker.specs.Drains.{is_nothing, told_by}
+use Rattle.rvm_hart_worker.specs.Turns.{AreTurns, Turn, turn_made}
+use Rattle.rvm_worker.specs.declared.end.WorkEnd.{WorkEnd}
+use Rattle.rvm_worker.specs.declared.end.WorkEnd.TheVariants.{LinkFault}
 
 -- a call at the first host or at the second one, by its receipt
 pub data Call : Type 0 where
@@ -41,6 +45,11 @@ abbrev pub bytes_in : Call → List ℕ
 bytes_in (AtA r) = drained_by r.event r.reply
 bytes_in (AtB r) = drained_by r.event r.reply
 
+-- the turn that a call made, if it made one
+abbrev pub turns_in : Call → List Turn
+turns_in (AtA r) = turn_made r.event r.reply
+turns_in (AtB r) = turn_made r.event r.reply
+
 -- whether an event was a drain that found nothing, by the reply to it
 abbrev pub found_nothing : HostEvent → HostReply → Bool
 found_nothing (event.Do (command.Board (asked.Drain n))) r = is_nothing (told_by r)
@@ -66,29 +75,39 @@ abbrev pub has_none : Option (List ℕ) → Bool
 has_none None = true
 has_none (Some bs) = false
 
--- calls were made by a caller at each of two hosts, whose drains told these bytes; where `dry`, the last found nothing
-pub record Made (old new : PlainCaller × PlainCaller) (bytes : List ℕ) (dry : Bool) : Type 0 where
+-- calls were made by a caller at each of two hosts, whose drains told these bytes, and whose steps made these turns; where
+-- `dry`, the last found nothing
+pub record Made (old new : PlainCaller × PlainCaller) (bytes : List ℕ) (turns : List Turn) (dry : Bool) : Type 0 where
   pub calls : List Call
   pub start_a : new.0.start ≡ old.0.start
   pub start_b : new.1.start ≡ old.1.start
   pub at_a : new.0.receipts ≡ old.0.receipts ++ flat_map in_a calls
   pub at_b : new.1.receipts ≡ old.1.receipts ++ flat_map in_b calls
   pub told : flat_map bytes_in calls ≡ bytes
+  pub turned : flat_map turns_in calls ≡ turns
   pub ends : dry ≡ true → EndsDry calls
 
 -- calls were made, and a writer was given the bytes that their drains told, unless it failed
-pub record Written (old new : PlainCaller × PlainCaller) (before after : Option (List ℕ)) (works : Type 0) (dry : Bool)
-    : Type 0 where
+pub record Written (old new : PlainCaller × PlainCaller) (before after : Option (List ℕ)) (works : Type 0)
+    (turns : List Turn) (dry : Bool) : Type 0 where
   pub bytes : List ℕ
-  pub made : Made old new bytes dry
+  pub made : Made old new bytes turns dry
   pub written : works → Appends before after bytes
 
--- receipts of calls at two hosts, in an order of which a writer was given the bytes that drains told, unless it failed;
--- where `dry`, the last found nothing
-pub record IsOutput (at_a at_b : List PlainReceipt) (before after : Option (List ℕ)) (works : Type 0) (dry : Bool)
-    : Type 0 where
+-- the calls of a run that ended so, and what a writer was given of them
+pub record HasRun (old new : PlainCaller × PlainCaller) (before after : Option (List ℕ)) (harts steps : ℕ)
+    (end : Result TurnsEnd WorkEnd) : Type 0 where
+  pub turns : List Turn
+  pub are : AreTurns harts steps end turns
+  pub written : Written old new before after (end ≢ Err LinkFault) turns (is_ok end)
+
+-- receipts of calls at two hosts, in an order in which the steps are the turns of a run, and of which a writer was given
+-- the bytes that drains told, unless it failed; where the run came to its end, the last call is a drain that found nothing
+pub record IsRun (at_a at_b : List PlainReceipt) (before after : Option (List ℕ)) (works : Type 0) (harts steps : ℕ)
+    (end : Result TurnsEnd WorkEnd) : Type 0 where
   pub calls : List Call
   pub first : at_a ≡ flat_map in_a calls
   pub second : at_b ≡ flat_map in_b calls
+  pub turned : AreTurns harts steps end (flat_map turns_in calls)
   pub written : works → Appends before after (flat_map bytes_in calls)
-  pub ends : dry ≡ true → EndsDry calls
+  pub ends : is_ok end ≡ true → EndsDry calls

@@ -1,13 +1,20 @@
--- What comes after a turn.
-use Rattle.std.specs.Prelude.{ℕ, ◌-◌, Bool, true, false, if◌then◌else◌}
+-- Turns, and what comes after them.
+use Rattle.std.specs.Prelude.{◌≡◌, ℕ, zero, suc, ◌-◌, ◌%◌, ◌≤◌, ◌<◌, Bool, true, false, List, [], ◌∷◌, Result, Ok, Err, if◌then◌else◌}
+use Rattle.rvm_debug.specs.declared.event.BoardEvent.TheVariants as asked
 use Rattle.rvm_debug.specs.declared.event.BoardReply.{BoardReply}
 use Rattle.rvm_debug.specs.declared.event.BoardReply.TheVariants as answer
+use Rattle.rvm_message.specs.declared.event.Command.TheVariants as command
+use Rattle.rvm_message.specs.declared.event.HostEvent.{HostEvent}
+use Rattle.rvm_message.specs.declared.event.HostEvent.TheVariants as event
 use Rattle.rvm_message.specs.declared.reply.HostRefusal.{HostRefusal}
 use Rattle.rvm_message.specs.declared.reply.HostRefusal.TheVariants as refusal
 use Rattle.rvm_message.specs.declared.reply.HostReply.{HostReply}
 use Rattle.rvm_message.specs.declared.reply.HostReply.TheVariants as reply
+use Rattle.rvm_hart_worker.specs.declared.harts.TurnsEnd.{TurnsEnd}
+use Rattle.rvm_hart_worker.specs.declared.harts.TurnsEnd.TheVariants as ended
 use Rattle.rvm_hart_worker.specs.declared.slices.Then.{Then}
 use Rattle.rvm_hart_worker.specs.declared.slices.Then.TheVariants.{GoOn, Elsewhere, Halted}
+use Rattle.rvm_worker.specs.declared.end.WorkEnd.{WorkEnd}
 
 -- after the board's answer: a hart that stops at a breakpoint has had its turn
 abbrev pub after_answer : BoardReply → Then
@@ -30,3 +37,49 @@ after_step r = GoOn
 abbrev pub turns_of : Then → ℕ → ℕ
 turns_of Elsewhere n = n - 1
 turns_of t n = n
+
+-- and this after the last that was one
+abbrev pub after_turns : Then → Then
+after_turns Elsewhere = GoOn
+after_turns t = t
+
+-- a turn: the hart that stepped, and what comes then
+abbrev pub Turn : Type 0
+Turn = ℕ × Then
+
+-- so many turns of so many harts, which step one after another, from a turn on: behind the last comes this, behind each
+-- other one the next turn
+unfoldable pub turns : (harts from count : ℕ) → Then → List Turn
+turns harts from zero last = []
+turns harts from (suc zero) last = (from % harts, last) ∷ []
+turns harts from (suc (suc n)) last = (from % harts, GoOn) ∷ turns harts (suc from) (suc n) last
+
+-- the turn that a hart's step was, if this comes after it
+abbrev pub turn_of_step : (hart : ℕ) → Then → List Turn
+turn_of_step hart Elsewhere = []
+turn_of_step hart t = (hart, t) ∷ []
+
+-- the turn that an event was, by the reply to it, if it was one
+abbrev pub turn_made : HostEvent → HostReply → List Turn
+turn_made (event.Do (command.Board (asked.Step hart))) r = turn_of_step hart (after_step r)
+turn_made e r = []
+
+-- turns of a run, of which the last halted the board
+pub record Halts (harts steps status : ℕ) (made : List Turn) : Type 0 where
+  pub before : ℕ
+  pub within : before < steps
+  pub are : made ≡ turns harts 0 (suc before) (Halted status)
+
+-- the first turns of a run
+pub record Begins (harts steps : ℕ) (made : List Turn) : Type 0 where
+  pub count : ℕ
+  pub last : Then
+  pub within : count ≤ steps
+  pub are : made ≡ turns harts 0 count last
+
+-- the turns of a run of at most so many, by how it ended: all were made, or the last one halted the board, or it failed
+-- behind some
+abbrev pub AreTurns : (harts steps : ℕ) → Result TurnsEnd WorkEnd → List Turn → Type 0
+AreTurns harts steps (Ok ended.StepsSpent) made = made ≡ turns harts 0 steps GoOn
+AreTurns harts steps (Ok (ended.Halted status)) made = Halts harts steps status made
+AreTurns harts steps (Err why) made = Begins harts steps made

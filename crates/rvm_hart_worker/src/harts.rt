@@ -1,9 +1,9 @@
 //! The hart worker: it makes the turns of the guest's harts, wherever the guest is.
 
-ghost use Rattle.std.specs.Prelude.{◌≡◌, ◌≢◌, true, false, OnOk, IfErr, Err, is_ok, ⊤};
+ghost use Rattle.std.specs.Prelude.{◌≡◌, ◌≢◌, true, false, [], OnOk, IfOk, IfErr, Ok, Err, ⊤};
 ghost use Rattle.std.specs.Io.KnownBytes.{Appends};
 ghost use Rattle.rvm_worker.specs.Work.{IsWork};
-ghost use Rattle.rvm_hart_worker.specs.Calls.{IsOutput, Written};
+ghost use Rattle.rvm_hart_worker.specs.Calls.{HasRun, IsRun, Written};
 
 use crate::pair::{Hosts, Pair};
 use crate::slices::{Then, until_drain};
@@ -40,7 +40,7 @@ pub struct HartsWorked<A: Seating, B: Seating> {
 /// the other; while both refuse it, it is tried again each millisecond. Each byte that a drain takes is
 /// written once, in order, unless the writer fails, which ends the worker with `LinkFault`. Where the turns
 /// come to their end, the last call is a drain that finds nothing.
-#[tactic(auto, using(crate::proofs::Calls::output_of_run))]
+#[tactic(auto, using(crate::proofs::Calls::is_run))]
 pub fn hart_worker<
     A: Seating,
     B: Seating,
@@ -60,8 +60,8 @@ pub fn hart_worker<
 ) -> HartsWorked<A, B>
     ensures at_a { IsWork seats.0 result.seats.0 result.receipts.0.items }
     ensures at_b { IsWork seats.1 result.seats.1 result.receipts.1.items }
-    ensures output { IsOutput result.receipts.0.items result.receipts.1.items
-        (W.contents writer.old) (W.contents writer.new) (result.end ≢ Err WorkEnd.LinkFault) (is_ok result.end) }
+    ensures run { IsRun result.receipts.0.items result.receipts.1.items (W.contents writer.old)
+        (W.contents writer.new) (result.end ≢ Err WorkEnd.LinkFault) harts steps result.end }
 {
     let (a, b) = seats;
     let mut pair = Pair {
@@ -101,7 +101,7 @@ fn give_back<A: Seating, B: Seating>(
 }
 
 /// Makes the turns of a run, and writes what the guest sends.
-#[tactic(auto, using(crate::proofs::Calls::written_none, crate::proofs::Calls::written_still, crate::proofs::Calls::written_still_err, crate::proofs::Calls::written_behind, crate::proofs::Calls::written_behind_err, crate::proofs::Calls::written_on, crate::proofs::Calls::written_then, crate::proofs::Calls::written_then_err))]
+#[tactic(auto, using(crate::proofs::Calls::has_begun))]
 fn run<A: Seating, B: Seating, M: PagedMemory + Drop, W: Write, G: Gate, R: Wait + Clock>(
     rt: &R,
     alloc: Global,
@@ -112,10 +112,10 @@ fn run<A: Seating, B: Seating, M: PagedMemory + Drop, W: Write, G: Gate, R: Wait
     harts: u32,
     steps: u32,
 ) -> Result<TurnsEnd, WorkEnd>
-    ensures written { OnOk result (Written (pair.old.at_a, pair.old.at_b) (pair.new.at_a, pair.new.at_b)
-        (W.contents writer.old) (W.contents writer.new) ⊤ true) }
-    ensures err { IfErr result (λ e. Written (pair.old.at_a, pair.old.at_b) (pair.new.at_a, pair.new.at_b)
-        (W.contents writer.old) (W.contents writer.new) (e ≢ WorkEnd.LinkFault) false) }
+    ensures run { IfOk result (λ end. HasRun (pair.old.at_a, pair.old.at_b) (pair.new.at_a, pair.new.at_b)
+        (W.contents writer.old) (W.contents writer.new) harts steps (Ok end)) }
+    ensures err { IfErr result (λ e. HasRun (pair.old.at_a, pair.old.at_b) (pair.new.at_a, pair.new.at_b)
+        (W.contents writer.old) (W.contents writer.new) harts steps (Err e)) }
 {
     let mut turn = 0;
     while turn < steps {
@@ -135,7 +135,7 @@ fn run<A: Seating, B: Seating, M: PagedMemory + Drop, W: Write, G: Gate, R: Wait
 }
 
 /// Writes what the guest sent, until nothing is left.
-#[tactic(auto, using(crate::proofs::Calls::written_none, crate::proofs::Calls::written_next, crate::proofs::Calls::written_still, crate::proofs::Calls::written_still_err, crate::proofs::Calls::written_failed_err))]
+#[tactic(auto, using(crate::proofs::Calls::written_none, crate::proofs::Calls::written_next, crate::proofs::Calls::written_dry, crate::proofs::Calls::written_still_err, crate::proofs::Calls::written_failed_err))]
 fn drain<A: Seating, B: Seating, M: PagedMemory + Drop, W: Write, G: Gate, R: Wait + Clock>(
     rt: &R,
     alloc: Global,
@@ -145,9 +145,9 @@ fn drain<A: Seating, B: Seating, M: PagedMemory + Drop, W: Write, G: Gate, R: Wa
     writer: &mut W,
 ) -> Result<(), WorkEnd>
     ensures written { OnOk result (Written (pair.old.at_a, pair.old.at_b) (pair.new.at_a, pair.new.at_b)
-        (W.contents writer.old) (W.contents writer.new) ⊤ true) }
+        (W.contents writer.old) (W.contents writer.new) ⊤ [] true) }
     ensures err { IfErr result (λ e. Written (pair.old.at_a, pair.old.at_b) (pair.new.at_a, pair.new.at_b)
-        (W.contents writer.old) (W.contents writer.new) (e ≢ WorkEnd.LinkFault) false) }
+        (W.contents writer.old) (W.contents writer.new) (e ≢ WorkEnd.LinkFault) [] false) }
 {
     for _drain in 0..u64::MAX {
         match pair.sent_by_guest(rt, alloc, hosts, watch)? {

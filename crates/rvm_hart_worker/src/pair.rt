@@ -4,6 +4,7 @@ ghost use Rattle.std.specs.Prelude.{◌≡◌, ◌≢◌, ◌≤◌, false, [], 
 ghost use Rattle.rvm_hart_worker.specs.Calls.{Made, bytes_of, given, has_none};
 ghost use Rattle.rvm_hart_worker.specs.declared.slices.Then.TheVariants.{Elsewhere};
 ghost use Rattle.rvm_hart_worker.specs.Drains.{is_nothing, is_refused, told_by};
+ghost use Rattle.rvm_hart_worker.specs.Turns.{after_turns, turns};
 
 use crate::slices::{Slice, Then, is_elsewhere, made_by};
 use rvm_cell::{Seating, SharedHost};
@@ -80,7 +81,9 @@ impl<A: Seating, B: Seating> Pair<A, B> {
     ) -> Result<Slice, WorkEnd>
         ensures within { IfOk result (λ s. s.made ≤ n) }
         ensures some { IfOk result (λ s. s.then ≢ Elsewhere → 1 ≤ s.made) }
-        ensures made { Made (self.old.at_a, self.old.at_b) (self.new.at_a, self.new.at_b) [] false }
+        ensures made { IfOk result (λ s. Made (self.old.at_a, self.old.at_b) (self.new.at_a, self.new.at_b)
+            [] (turns harts turn s.made (after_turns s.then)) false) }
+        ensures err { OnErr result (Made (self.old.at_a, self.old.at_b) (self.new.at_a, self.new.at_b) [] [] false) }
     {
         let steps = if self.is_at_a {
             self.at_a.slice(rt, alloc, hosts.a, turn, harts, n)?
@@ -104,7 +107,9 @@ impl<A: Seating, B: Seating> Pair<A, B> {
     ) -> Result<Slice, WorkEnd>
         ensures within { IfOk result (λ s. s.made ≤ n) }
         ensures some { IfOk result (λ s. s.then ≢ Elsewhere → 1 ≤ s.made) }
-        ensures made { Made (self.old.at_a, self.old.at_b) (self.new.at_a, self.new.at_b) [] false }
+        ensures made { IfOk result (λ s. Made (self.old.at_a, self.old.at_b) (self.new.at_a, self.new.at_b)
+            [] (turns harts turn s.made (after_turns s.then)) false) }
+        ensures err { OnErr result (Made (self.old.at_a, self.old.at_b) (self.new.at_a, self.new.at_b) [] [] false) }
     {
         watch.before()?;
         let slice = self.slice(rt, alloc, hosts, turn, harts, n)?;
@@ -116,7 +121,7 @@ impl<A: Seating, B: Seating> Pair<A, B> {
     }
 
     /// Makes a slice at the host that takes its first turn: none where both refuse it.
-    #[tactic(auto, using(crate::proofs::Calls::made_behind))]
+    #[tactic(auto, using(crate::proofs::Calls::made_behind_none))]
     fn slice_at_either<M: PagedMemory + Drop, G: Gate, R: Wait>(
         &mut self,
         rt: &R,
@@ -128,7 +133,9 @@ impl<A: Seating, B: Seating> Pair<A, B> {
         n: u32,
     ) -> Result<Slice, WorkEnd>
         ensures within { IfOk result (λ s. s.made ≤ n) }
-        ensures made { Made (self.old.at_a, self.old.at_b) (self.new.at_a, self.new.at_b) [] false }
+        ensures made { IfOk result (λ s. Made (self.old.at_a, self.old.at_b) (self.new.at_a, self.new.at_b)
+            [] (turns harts turn s.made (after_turns s.then)) false) }
+        ensures err { OnErr result (Made (self.old.at_a, self.old.at_b) (self.new.at_a, self.new.at_b) [] [] false) }
     {
         let slice = self.slice_at_gate(rt, alloc, hosts, watch, turn, harts, n)?;
         if slice.made > 0 {
@@ -139,7 +146,7 @@ impl<A: Seating, B: Seating> Pair<A, B> {
 
     /// Makes at least one turn and at most n. While both hosts refuse the turn it is tried again each
     /// millisecond.
-    #[tactic(auto, using(crate::proofs::Calls::made_none, crate::proofs::Calls::made_behind))]
+    #[tactic(auto, using(crate::proofs::Calls::made_none, crate::proofs::Calls::made_behind, crate::proofs::Calls::made_behind_none))]
     pub(crate) fn turns<M: PagedMemory + Drop, G: Gate, R: Wait + Clock>(
         &mut self,
         rt: &R,
@@ -152,7 +159,9 @@ impl<A: Seating, B: Seating> Pair<A, B> {
     ) -> Result<Slice, WorkEnd>
         ensures within { IfOk result (λ s. s.made ≤ n) }
         ensures some { IfOk result (λ s. 1 ≤ s.made) }
-        ensures made { Made (self.old.at_a, self.old.at_b) (self.new.at_a, self.new.at_b) [] false }
+        ensures made { IfOk result (λ s. Made (self.old.at_a, self.old.at_b) (self.new.at_a, self.new.at_b)
+            [] (turns harts turn s.made (after_turns s.then)) false) }
+        ensures err { OnErr result (Made (self.old.at_a, self.old.at_b) (self.new.at_a, self.new.at_b) [] [] false) }
     {
         for _try in 0..REFUSED_TURNS {
             let slice = self.slice_at_either(rt, alloc, hosts, watch, turn, harts, n)?;
@@ -173,8 +182,8 @@ impl<A: Seating, B: Seating> Pair<A, B> {
         hosts: &Hosts<'_, A, B, M>,
     ) -> Result<Drained, WorkEnd>
         ensures made { IfOk result (λ d. Made (self.old.at_a, self.old.at_b)
-            (self.new.at_a, self.new.at_b) (bytes_of d) (is_nothing d)) }
-        ensures err { OnErr result (Made (self.old.at_a, self.old.at_b) (self.new.at_a, self.new.at_b) [] false) }
+            (self.new.at_a, self.new.at_b) (bytes_of d) [] (is_nothing d)) }
+        ensures err { OnErr result (Made (self.old.at_a, self.old.at_b) (self.new.at_a, self.new.at_b) [] [] false) }
     {
         let event = HostEvent::Do(Command::Board(BoardEvent::Drain(DRAIN_SIZE)));
         let (reply, _frame) = if self.is_at_a {
@@ -195,8 +204,8 @@ impl<A: Seating, B: Seating> Pair<A, B> {
         watch: &mut Watch<'_, G>,
     ) -> Result<Drained, WorkEnd>
         ensures made { IfOk result (λ d. Made (self.old.at_a, self.old.at_b)
-            (self.new.at_a, self.new.at_b) (bytes_of d) (is_nothing d)) }
-        ensures err { OnErr result (Made (self.old.at_a, self.old.at_b) (self.new.at_a, self.new.at_b) [] false) }
+            (self.new.at_a, self.new.at_b) (bytes_of d) [] (is_nothing d)) }
+        ensures err { OnErr result (Made (self.old.at_a, self.old.at_b) (self.new.at_a, self.new.at_b) [] [] false) }
     {
         watch.before()?;
         let drained = self.drain(rt, alloc, hosts)?;
@@ -217,8 +226,8 @@ impl<A: Seating, B: Seating> Pair<A, B> {
         watch: &mut Watch<'_, G>,
     ) -> Result<Drained, WorkEnd>
         ensures made { IfOk result (λ d. Made (self.old.at_a, self.old.at_b)
-            (self.new.at_a, self.new.at_b) (bytes_of d) (is_nothing d)) }
-        ensures err { OnErr result (Made (self.old.at_a, self.old.at_b) (self.new.at_a, self.new.at_b) [] false) }
+            (self.new.at_a, self.new.at_b) (bytes_of d) [] (is_nothing d)) }
+        ensures err { OnErr result (Made (self.old.at_a, self.old.at_b) (self.new.at_a, self.new.at_b) [] [] false) }
     {
         let drained = self.drain_at_gate(rt, alloc, hosts, watch)?;
         if !is_refused(&drained) {
@@ -238,8 +247,8 @@ impl<A: Seating, B: Seating> Pair<A, B> {
         watch: &mut Watch<'_, G>,
     ) -> Result<Option<View>, WorkEnd>
         ensures made { IfOk result (λ o. Made (self.old.at_a, self.old.at_b)
-            (self.new.at_a, self.new.at_b) (given o) (has_none o)) }
-        ensures err { OnErr result (Made (self.old.at_a, self.old.at_b) (self.new.at_a, self.new.at_b) [] false) }
+            (self.new.at_a, self.new.at_b) (given o) [] (has_none o)) }
+        ensures err { OnErr result (Made (self.old.at_a, self.old.at_b) (self.new.at_a, self.new.at_b) [] [] false) }
     {
         for _try in 0..REFUSED_TURNS {
             match self.drain_at_either(rt, alloc, hosts, watch)? {

@@ -10,7 +10,7 @@ use Rattle.rvm_message.specs.declared.event.HostEvent.TheVariants as event
 use Rattle.rvm_message.specs.declared.reply.HostReply.{HostReply}
 use Rattle.rvm_message.specs.declared.reply.HostReply.TheVariants as reply
 use Rattle.rvm_message.specs.Exchanges.{PlainExchange, exchange}
-use Rattle.rvm_move.specs.Output.{called_of_guest, of_guest}
+use Rattle.rvm_move.specs.Runs.{called_of_guest, of_guest}
 
 abbrev entry : HostEvent → HostReply → PlainEntry
 entry e r = record { event = e; reply = r; frame = None }

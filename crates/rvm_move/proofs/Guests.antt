@@ -13,7 +13,7 @@ use Rattle.rvm_journal.specs.Entries.{PlainEntry, exchange_of}
 use Rattle.rvm_journal.specs.History.{is_board}
 use Rattle.rvm_message.specs.Exchanges.{exchange}
 use Rattle.rvm_move.specs.Hosts.{AreAll}
-use Rattle.rvm_move.specs.Output.{AreOfOne, called_of_guest, of_guest}
+use Rattle.rvm_move.specs.Runs.{AreOfOne, called_of_guest, of_guest}
 use Rattle.rvm_worker.specs.Work.{AreOfMove, IsWork}
 
 -- WHAT IS IN A LIST

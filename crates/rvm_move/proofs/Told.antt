@@ -1,15 +1,17 @@
 -- What the workers of a move told.
-use Rattle.std.proofs.Common.{◌≡◌, ◌∙◌, ℕ, Bool, false, List, [], ◌++◌, append_assoc, Option, ap}
+use Rattle.std.proofs.Common.{◌≡◌, ◌∙◌, ℕ, false, List, [], ◌++◌, append_assoc, Option, Result, ap}
 use Rattle.std.proofs.lemmas.List.Elements.{All-append}
 use Rattle.rvm_cell.specs.Receipts.{PlainReceipt}
 use Rattle.rvm_cell.specs.Seats.{PlainSeat}
-use Rattle.rvm_hart_worker.specs.Calls.{IsOutput}
+use Rattle.rvm_hart_worker.specs.Calls.{IsRun}
+use Rattle.rvm_hart_worker.specs.declared.harts.TurnsEnd.{TurnsEnd}
 use Rattle.rvm_journal.specs.Entries.{PlainEntry}
 use Rattle.rvm_journal.specs.History.{is_board}
 use Rattle.rvm_move.proofs.Guests.{guest_of_one}
 use Rattle.rvm_move.specs.Hosts.{AreAll}
-use Rattle.rvm_move.specs.Output.{AreOfOne, IsOutputOf, called_of_guest, of_guest}
+use Rattle.rvm_move.specs.Runs.{AreOfOne, IsRunOf, called_of_guest, of_guest}
 use Rattle.rvm_worker.specs.Work.{AreOfMove, IsWork}
+use Rattle.rvm_worker.specs.declared.end.WorkEnd.{WorkEnd}
 
 -- of two workers one drove the guest
 pub guest_of_two : (entries : List PlainEntry) (none own others one two : List PlainReceipt) → none ≡ []
@@ -31,14 +33,16 @@ guest_of_three entries none own second third one two three is a b c told of_one 
 pub of_one : (first last : PlainSeat) (receipts : List PlainReceipt) → IsWork first last receipts → AreOfOne receipts
 of_one first last receipts work = record { first = first; last = last; work = work }
 
--- what a worker's drains told is what was written
-pub output_of : (first second : List PlainEntry) (at_a at_b : List PlainReceipt) (before after : Option (List ℕ)) (works : Type 0)
-    (dry : Bool) → works → of_guest first ≡ called_of_guest at_a → of_guest second ≡ called_of_guest at_b
-    → IsOutput at_a at_b before after works dry → IsOutputOf first second before after dry
-output_of first second at_a at_b before after works dry w a b output = record {
-  calls = output.calls;
-  of_first = a ∙ ap called_of_guest output.first;
-  of_second = b ∙ ap called_of_guest output.second;
-  written = output.written w;
-  ends = output.ends;
+-- the calls of a worker are the events of the guest
+pub run_of : (first second : List PlainEntry) (at_a at_b : List PlainReceipt) (before after : Option (List ℕ)) (works : Type 0)
+    (harts steps : ℕ) (end : Result TurnsEnd WorkEnd) → works → of_guest first ≡ called_of_guest at_a
+    → of_guest second ≡ called_of_guest at_b → IsRun at_a at_b before after works harts steps end
+    → IsRunOf first second before after harts steps end
+run_of first second at_a at_b before after works harts steps end w a b run = record {
+  calls = run.calls;
+  of_first = a ∙ ap called_of_guest run.first;
+  of_second = b ∙ ap called_of_guest run.second;
+  turned = run.turned;
+  written = run.written w;
+  ends = run.ends;
 }

@@ -1,3 +1,3 @@
 pub mod Hosts
 pub mod Ends
-pub mod Output
+pub mod Runs

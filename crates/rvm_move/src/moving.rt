@@ -1,9 +1,9 @@
 //! A move from its beginning to its end.
 
-ghost use Rattle.std.specs.Prelude.{◌≡◌, ◌≢◌, [], None, Err, vec_len, is_ok, IfOk};
-ghost use Rattle.rvm_hart_worker.specs.Calls.{IsOutput};
+ghost use Rattle.std.specs.Prelude.{◌≡◌, ◌≢◌, [], None, Err, vec_len, IfOk};
+ghost use Rattle.rvm_hart_worker.specs.Calls.{IsRun};
 ghost use Rattle.rvm_move.specs.Hosts.{IsEnd};
-ghost use Rattle.rvm_move.specs.Output.{AreOfOne, IsEndOutput, called_of_guest, of_guest};
+ghost use Rattle.rvm_move.specs.Runs.{AreOfOne, IsEndRun, called_of_guest, of_guest};
 ghost use Rattle.rvm_worker.specs.declared.end.WorkEnd.TheVariants.{LinkFault};
 
 use crate::ends::Ends;
@@ -68,8 +68,8 @@ pub fn move_guest<
         × (m.b.recorded.journal.opening ≡ recorded.1.journal.opening)) }
     ensures a { IfOk result (λ m. IsEnd m.a.fault m.a.recorded.journal.entries) }
     ensures b { IfOk result (λ m. IsEnd m.b.fault m.b.recorded.journal.entries) }
-    ensures output { IfOk result (λ m. IsEndOutput m.ends m.a.fault m.b.fault
-        m.a.recorded.journal.entries m.b.recorded.journal.entries (W.contents writer.old) (W.contents writer.new)) }
+    ensures run { IfOk result (λ m. IsEndRun m.ends m.a.fault m.b.fault m.a.recorded.journal.entries
+        m.b.recorded.journal.entries (W.contents writer.old) (W.contents writer.new) plan.now.harts plan.now.steps) }
 {
     let (blank_a, blank_b) = blanks;
     let (recorded_a, recorded_b) = recorded;
@@ -123,8 +123,8 @@ fn seat_and_work<
     writer: &mut W,
 ) -> (Carried<L, N>, HartsWorked<L, N>)
     requires { (vec_len seats_a ≡ 3) × (vec_len seats_b ≡ 2) }
-    ensures output { IsOutput result.1.receipts.0.items result.1.receipts.1.items
-        (W.contents writer.old) (W.contents writer.new) (result.1.end ≢ Err LinkFault) (is_ok result.1.end) }
+    ensures run { IsRun result.1.receipts.0.items result.1.receipts.1.items (W.contents writer.old)
+        (W.contents writer.new) (result.1.end ≢ Err LinkFault) plan.now.harts plan.now.steps result.1.end }
     ensures one { AreOfOne result.1.receipts.0.items × AreOfOne result.1.receipts.1.items }
 {
     let (mut seats_a, mut seats_b) = (seats_a, seats_b);

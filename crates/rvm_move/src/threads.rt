@@ -1,8 +1,8 @@
 //! The threads of a move.
 
-ghost use Rattle.std.specs.Prelude.{◌≢◌, Err, is_ok};
-ghost use Rattle.rvm_hart_worker.specs.Calls.{IsOutput};
-ghost use Rattle.rvm_move.specs.Output.{AreOfOne};
+ghost use Rattle.std.specs.Prelude.{◌≢◌, Err};
+ghost use Rattle.rvm_hart_worker.specs.Calls.{IsRun};
+ghost use Rattle.rvm_move.specs.Runs.{AreOfOne};
 ghost use Rattle.rvm_worker.specs.declared.end.WorkEnd.TheVariants.{LinkFault};
 
 use crate::beside::{beside, take_back};
@@ -248,8 +248,8 @@ pub(crate) fn work<
     plan: &Plan,
     writer: &mut W,
 ) -> (Carried<L, N>, HartsWorked<L, N>)
-    ensures output { IsOutput result.1.receipts.0.items result.1.receipts.1.items
-        (W.contents writer.old) (W.contents writer.new) (result.1.end ≢ Err LinkFault) (is_ok result.1.end) }
+    ensures run { IsRun result.1.receipts.0.items result.1.receipts.1.items (W.contents writer.old)
+        (W.contents writer.new) (result.1.end ≢ Err LinkFault) plan.now.harts plan.now.steps result.1.end }
     ensures one { AreOfOne result.1.receipts.0.items × AreOfOne result.1.receipts.1.items }
 {
     let turns = Turns {

@@ -1,6 +1,6 @@
 -- What a sound move leaves.
 use Rattle.std.proofs.Common.{◌∙◌, ap}
-use Rattle.std.specs.Prelude.{◌≡◌, ◌≢◌, ℕ, Bool, true, List, Option, None, Result, Ok, Err, IfOk, is_ok}
+use Rattle.std.specs.Prelude.{◌≡◌, ◌≢◌, ℕ, List, Option, None, Result, Ok, Err, IfOk}
 use Rattle.std.specs.Result.{IsOkAnd}
 use Rattle.rvm_arguments.specs.declared.arguments.MoveArguments.{MoveArguments}
 use Rattle.rvm_cell.specs.declared.closing.CloseKind.{CloseKind}
@@ -13,7 +13,7 @@ use Rattle.rvm_journal.specs.History.{History, Recording}
 use Rattle.rvm_move.specs.declared.ends.Ends.{Ends}
 use Rattle.rvm_move.specs.Hosts.{IsEnd, IsTold}
 use Rattle.rvm_move.specs.Ends.{failure_of_turns}
-use Rattle.rvm_move.specs.Output.{IsEndOutput, IsOutputOf}
+use Rattle.rvm_move.specs.Runs.{IsEndRun, IsRunOf}
 use Rattle.rvm_move_command.specs.Ended.{IsMoved, IsSound, IsToldOf}
 use Rattle.rvm_move_command.specs.Hosts.{AreOpened, HasValidGuest, IsFirstHost, IsSecondHost}
 use Rattle.rvm_worker.specs.declared.end.WorkEnd.{WorkEnd}
@@ -31,10 +31,10 @@ pub second_told : (ends : Ends) → (a b : Option CloseKind) → (second : List 
 second_told ends a b second end sound = end sound.2
 
 -- the turns of a sound move came to their end
-turned : (P : Bool → Type 0) (harts : Result TurnsEnd WorkEnd) (rest : Option WorkEnd) → failure_of_turns harts rest ≡ None
-    → (harts ≢ Err LinkFault → P (is_ok harts)) → P true
-turned P (Ok end) rest none output = output (λ is. absurd cc)
-turned P (Err end) rest none output = absurd cc
+turned : (P : Result TurnsEnd WorkEnd → Type 0) (harts : Result TurnsEnd WorkEnd) (rest : Option WorkEnd)
+    → failure_of_turns harts rest ≡ None → (harts ≢ Err LinkFault → P harts) → (end : TurnsEnd) × P (Ok end)
+turned P (Ok end) rest none run = (end, run (λ is. absurd cc))
+turned P (Err end) rest none run = absurd cc
 
 -- hosts whose journals begin as two new hosts did
 pub opened : (a : MoveArguments) (file : List ℕ) (first second : Recording) (at_a at_b : PlainHost)
@@ -51,20 +51,22 @@ opened a file first second at_a at_b loadable valid has_guest has_none same_a sa
 pub moved : (arguments : MoveArguments) (file : List ℕ) (ends : Ends) (a b : Option CloseKind) (first second : History)
     (before after output_before output_after : Option (List ℕ)) → AreOpened arguments file first.opening second.opening
     → IsEnd a first.entries → IsEnd b second.entries
-    → IsEndOutput ends a b first.entries second.entries output_before output_after
+    → IsEndRun ends a b first.entries second.entries output_before output_after arguments.guest.harts arguments.steps
     → IsToldOf ends a b first second before after → IsMoved arguments file before after output_before output_after
-moved arguments file ends a b first second before after output_before output_after opened end_a end_b output told = record {
-  first = first;
-  second = second;
-  opened = opened;
-  first_replays = told.first_replays;
-  second_replays = told.second_replays;
-  first_told = end_a told.sound.1;
-  second_told = end_b told.sound.2;
-  written = told.written;
-  output = turned (IsOutputOf first.entries second.entries output_before output_after) ends.harts _ told.sound.0
-      (λ works. output works told.sound.1 told.sound.2);
-}
+moved arguments file ends a b first second before after output_before output_after opened end_a end_b run told =
+    let all = turned (IsRunOf first.entries second.entries output_before output_after arguments.guest.harts arguments.steps)
+    ends.harts _ told.sound.0 (λ works. run works told.sound.1 told.sound.2) in record {
+      first = first;
+      second = second;
+      opened = opened;
+      first_replays = told.first_replays;
+      second_replays = told.second_replays;
+      first_told = end_a told.sound.1;
+      second_told = end_b told.sound.2;
+      written = told.written;
+      end = all.0;
+      run = all.1;
+    }
 
 -- the same of what a call answers
 pub moved_told : {X E F : Type 0} (r : Result ℕ F) (m : Result X E) (opened end_a end_b output told : X → Type 0) (Z : Type 0)

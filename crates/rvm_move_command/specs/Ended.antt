@@ -1,15 +1,16 @@
 -- How a move ended, as it is told.
-use Rattle.std.specs.Prelude.{◌≡◌, ℕ, true, List, ◌++◌, Option, None, Some, option_map, codes}
+use Rattle.std.specs.Prelude.{◌≡◌, ℕ, List, ◌++◌, Option, None, Some, Ok, option_map, codes}
 use Rattle.std.specs.Io.KnownBytes.{Appends}
 use Rattle.rvm_arguments.specs.declared.arguments.MoveArguments.{MoveArguments}
 use Rattle.rvm_cell.specs.Closing.{close_refusal}
 use Rattle.rvm_cell.specs.declared.closing.CloseKind.{CloseKind}
+use Rattle.rvm_hart_worker.specs.declared.harts.TurnsEnd.{TurnsEnd}
 use Rattle.rvm_journal.specs.History.{History}
 use Rattle.rvm_journal.specs.Replay.{IsReplay}
 use Rattle.rvm_move.specs.declared.ends.Ends.{Ends}
 use Rattle.rvm_move.specs.Ends.{failure}
 use Rattle.rvm_move.specs.Hosts.{IsTold}
-use Rattle.rvm_move.specs.Output.{IsOutputOf}
+use Rattle.rvm_move.specs.Runs.{IsRunOf}
 use Rattle.rvm_move_command.specs.Answers.{answers_text}
 use Rattle.rvm_move_command.specs.Hosts.{AreOpened}
 use Rattle.rvm_refusal.specs.declared.refusal.Refusal.{Refusal}
@@ -60,7 +61,8 @@ pub record IsToldOf (ends : Ends) (a b : Option CloseKind) (first second : Histo
   pub written : Appends before after (answers_text first.entries ++ answers_text second.entries)
 
 -- a move of a file: what two hosts answered was told, of which the first began with the guest of the file. Each answer is
--- the law's, and receipts tell all of them. The output is all that drains took of the guest, the last of which found nothing
+-- the law's, and receipts tell all of them. The guest's turns came to this end, in the one journal or the other, and the
+-- output is all that drains took of it, the last of which found nothing
 pub record IsMoved (a : MoveArguments) (file : List ℕ) (before after output_before output_after : Option (List ℕ))
     : Type 0 where
   pub first : History
@@ -71,4 +73,5 @@ pub record IsMoved (a : MoveArguments) (file : List ℕ) (before after output_be
   pub first_told : IsTold first.entries
   pub second_told : IsTold second.entries
   pub written : Appends before after (answers_text first.entries ++ answers_text second.entries)
-  pub output : IsOutputOf first.entries second.entries output_before output_after true
+  pub end : TurnsEnd
+  pub run : IsRunOf first.entries second.entries output_before output_after a.guest.harts a.steps (Ok end)

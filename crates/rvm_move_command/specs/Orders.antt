@@ -5,12 +5,12 @@ use Rattle.rvm_arguments.specs.declared.arguments.MoveArguments.{MoveArguments}
 use Rattle.rvm_audit.specs.Orders.{IsMerge}
 use Rattle.rvm_audit.specs.Worlds.{IsWorldRun}
 use Rattle.rvm_command.specs.Command.{image_of}
+use Rattle.rvm_event_line.specs.EventLines.{event_lines}
 use Rattle.rvm_guest.proofs.TheGuest.{board}
 use Rattle.rvm_journal.specs.History.{History}
 use Rattle.rvm_move.specs.Hosts.{IsTold}
 use Rattle.rvm_move_command.specs.Hosts.{AreOpened, guest_in}
 use Rattle.rvm_protocol.specs.World.{new_world}
-use Rattle.rvm_event_line.specs.EventLines.{event_lines}
 use Rattle.rvm_world.specs.declared.event.Event.{Event}
 
 -- an order of two journals was written, a line an event

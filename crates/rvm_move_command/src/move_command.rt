@@ -4,7 +4,7 @@ ghost use Rattle.std.specs.Prelude.{◌≡◌, ◌⊎◌, IfOk};
 ghost use Rattle.rvm_command.specs.Command.{image_of};
 ghost use Rattle.rvm_command.specs.Ends.{IsLoadable};
 ghost use Rattle.rvm_move.specs.Hosts.{IsEnd};
-ghost use Rattle.rvm_move.specs.Output.{IsEndOutput};
+ghost use Rattle.rvm_move.specs.Runs.{IsEndRun};
 ghost use Rattle.rvm_move_command.specs.Ended.{IsMoved};
 ghost use Rattle.rvm_move_command.specs.Hosts.{AreOpened};
 
@@ -82,8 +82,9 @@ where
         m.a.recorded.journal.opening m.b.recorded.journal.opening) }
     ensures a { IfOk result (λ m. IsEnd m.a.fault m.a.recorded.journal.entries) }
     ensures b { IfOk result (λ m. IsEnd m.b.fault m.b.recorded.journal.entries) }
-    ensures output { IfOk result (λ m. IsEndOutput m.ends m.a.fault m.b.fault
-        m.a.recorded.journal.entries m.b.recorded.journal.entries (O.contents output.old) (O.contents output.new)) }
+    ensures run { IfOk result (λ m. IsEndRun m.ends m.a.fault m.b.fault m.a.recorded.journal.entries
+        m.b.recorded.journal.entries (O.contents output.old) (O.contents output.new)
+        arguments.now.guest.harts arguments.now.steps) }
     ensures unloadable { IsLoadable (image_of arguments.now.guest.raw image.now) arguments.now.guest.pages
         ⊎ (O.contents output.new ≡ O.contents output.old) }
 {

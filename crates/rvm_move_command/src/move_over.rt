@@ -1,11 +1,11 @@
 //! A move over links that are handed in.
 
 ghost use Rattle.std.specs.Prelude.{◌≡◌, ◌⊎◌, [], IfOk};
+ghost use Rattle.std.specs.Result.{IsOkAnd};
 ghost use Rattle.rvm_command.specs.Command.{image_of};
 ghost use Rattle.rvm_command.specs.Ends.{IsLoadable};
-ghost use Rattle.std.specs.Result.{IsOkAnd};
 ghost use Rattle.rvm_move.specs.Hosts.{IsEnd};
-ghost use Rattle.rvm_move.specs.Output.{IsEndOutput};
+ghost use Rattle.rvm_move.specs.Runs.{IsEndRun};
 ghost use Rattle.rvm_move_command.specs.Ended.{IsMoved, IsToldOf};
 ghost use Rattle.rvm_move_command.specs.Plans.{plan_of};
 
@@ -124,8 +124,8 @@ pub(crate) fn move_recorded<
         × (m.b.recorded.journal.opening ≡ recorded.1.journal.opening)) }
     ensures a { IfOk result (λ m. IsEnd m.a.fault m.a.recorded.journal.entries) }
     ensures b { IfOk result (λ m. IsEnd m.b.fault m.b.recorded.journal.entries) }
-    ensures output { IfOk result (λ m. IsEndOutput m.ends m.a.fault m.b.fault
-        m.a.recorded.journal.entries m.b.recorded.journal.entries (O.contents output.old) (O.contents output.new)) }
+    ensures run { IfOk result (λ m. IsEndRun m.ends m.a.fault m.b.fault m.a.recorded.journal.entries
+        m.b.recorded.journal.entries (O.contents output.old) (O.contents output.new) plan.now.harts plan.now.steps) }
 {
     let blanks = (Blank::new(3), Blank::new(2));
     match move_guest::<Brand, Brand, M, K, G, O, R>(

@@ -1,12 +1,11 @@
 use Rattle.std.proofs.Common.{◌-◌, ◌≤◌}
-use Rattle.std.specs.Prelude.{false, ⊤}
-use Rattle.rvm_hart_worker.specs.Calls.{Written}
+use Rattle.rvm_hart_worker.proofs.Calls.{HasCome}
 use Rattle.rvm_hart_worker.proofs.harts.run.Given as goal
 
 abbrev pub invariant-loop-turn : goal.invariant-loop-turn
 invariant-loop-turn g l = record {
-  written : Written (l.fn.pair.at_a, l.fn.pair.at_b) (l.pair.at_a, l.pair.at_b)
-      (g.W.Write.contents l.fn.writer) (g.W.Write.contents l.writer) ⊤ false;
+  come : HasCome (l.fn.pair.at_a, l.fn.pair.at_b) (l.pair.at_a, l.pair.at_b)
+      (g.W.Write.contents l.fn.writer) (g.W.Write.contents l.writer) l.harts l.turn;
   within : l.turn ≤ l.steps;
 }
 

@@ -1,5 +1,5 @@
 use Rattle.rvm_move.specs.Hosts.{IsEnd}
-use Rattle.rvm_move.specs.Output.{IsEndOutput}
+use Rattle.rvm_move.specs.Runs.{IsEndRun}
 use Rattle.rvm_move_command.specs.Ended.{IsMoved, IsToldOf}
 use Rattle.rvm_move_command.specs.Hosts.{AreOpened}
 use Rattle.rvm_move_command.proofs.Moved.{moved, moved_told}
@@ -14,8 +14,9 @@ returns-clause-moved g c =
     moved_told c.tell_end.result c.move_image-moved.result
     (λ m. AreOpened c.args.arguments.now c.args.image.now m.a.recorded.journal.opening m.b.recorded.journal.opening)
     (λ m. IsEnd m.a.fault m.a.recorded.journal.entries) (λ m. IsEnd m.b.fault m.b.recorded.journal.entries)
-    (λ m. IsEndOutput m.ends m.a.fault m.b.fault m.a.recorded.journal.entries m.b.recorded.journal.entries output_before output_after)
+    (λ m. IsEndRun m.ends m.a.fault m.b.fault m.a.recorded.journal.entries m.b.recorded.journal.entries output_before output_after
+    c.args.arguments.now.guest.harts c.args.arguments.now.steps)
     (λ m. IsToldOf m.ends m.a.fault m.b.fault m.a.recorded.journal m.b.recorded.journal before after)
     (IsMoved c.args.arguments.now c.args.image.now before after output_before output_after)
     (λ m. moved c.args.arguments.now c.args.image.now m.ends m.a.fault m.b.fault m.a.recorded.journal m.b.recorded.journal before after output_before output_after)
-    c.move_image-moved.ensures.opened c.move_image-moved.ensures.a c.move_image-moved.ensures.b c.move_image-moved.ensures.output c.tell_end.ensures.told
+    c.move_image-moved.ensures.opened c.move_image-moved.ensures.a c.move_image-moved.ensures.b c.move_image-moved.ensures.run c.tell_end.ensures.told

@@ -1,5 +1,7 @@
+use Rattle.std.proofs.Common.{subst}
+use Rattle.std.specs.Prelude.{IfOk}
 use Rattle.rvm_move.specs.Hosts.{IsEnd}
-use Rattle.rvm_move.specs.Output.{IsEndOutput}
+use Rattle.rvm_move.specs.Runs.{IsEndRun}
 use Rattle.rvm_move_command.specs.Ended.{IsMoved, IsToldOf}
 use Rattle.rvm_move_command.specs.Hosts.{AreOpened}
 use Rattle.rvm_move_command.proofs.Moved.{if_ok, moved, moved_told, opened}
@@ -14,11 +16,14 @@ returns-in-Ok-clause-moved g c =
     let begun = if_ok c.move_recorded-moved.result _ _ (λ m same. opened c.args.arguments.now c.args.image.now
     c.in-Ok.recorded.0 c.in-Ok.recorded.1 m.a.recorded.journal.opening m.b.recorded.journal.opening
     c.in-Ok.ensures.loadable c.in-Ok.ensures.valid c.in-Ok.ensures.first c.in-Ok.ensures.second same.0 same.1) c.move_recorded-moved.ensures.opening in
+    let run = subst (λ plan. IfOk c.move_recorded-moved.result (λ m. IsEndRun m.ends m.a.fault m.b.fault m.a.recorded.journal.entries
+    m.b.recorded.journal.entries output_before output_after plan.harts plan.steps)) c.plan_of-plan.ensures c.move_recorded-moved.ensures.run in
     moved_told c.tell_end.result c.move_recorded-moved.result
     (λ m. AreOpened c.args.arguments.now c.args.image.now m.a.recorded.journal.opening m.b.recorded.journal.opening)
     (λ m. IsEnd m.a.fault m.a.recorded.journal.entries) (λ m. IsEnd m.b.fault m.b.recorded.journal.entries)
-    (λ m. IsEndOutput m.ends m.a.fault m.b.fault m.a.recorded.journal.entries m.b.recorded.journal.entries output_before output_after)
+    (λ m. IsEndRun m.ends m.a.fault m.b.fault m.a.recorded.journal.entries m.b.recorded.journal.entries output_before output_after
+    c.args.arguments.now.guest.harts c.args.arguments.now.steps)
     (λ m. IsToldOf m.ends m.a.fault m.b.fault m.a.recorded.journal m.b.recorded.journal before after)
     (IsMoved c.args.arguments.now c.args.image.now before after output_before output_after)
     (λ m. moved c.args.arguments.now c.args.image.now m.ends m.a.fault m.b.fault m.a.recorded.journal m.b.recorded.journal before after output_before output_after)
-    begun c.move_recorded-moved.ensures.a c.move_recorded-moved.ensures.b c.move_recorded-moved.ensures.output c.tell_end.ensures.told
+    begun c.move_recorded-moved.ensures.a c.move_recorded-moved.ensures.b run c.tell_end.ensures.told

@@ -5,7 +5,7 @@ use Rattle.rvm_hart_worker.proofs.pair.Pair.sent_by_guest.Goals as goal
 
 pub returns-in_err-bytes-clause-err : goal.returns-in_err-bytes-clause-err
 returns-in_err-bytes-clause-err g c =
-    let last : Made (c.loop-try.self.at_a, c.loop-try.self.at_b) (c.drain_at_either.new.self.at_a, c.drain_at_either.new.self.at_b) [] false =
+    let last : Made (c.loop-try.self.at_a, c.loop-try.self.at_b) (c.drain_at_either.new.self.at_a, c.drain_at_either.new.self.at_b) [] [] false =
     search rules in
     made_behind_err c.from_residual.result (c.args.self.now.at_a, c.args.self.now.at_b) (c.loop-try.self.at_a, c.loop-try.self.at_b)
     (c.drain_at_either.new.self.at_a, c.drain_at_either.new.self.at_b) c.loop-try.invariant last

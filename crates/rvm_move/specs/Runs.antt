@@ -1,16 +1,19 @@
--- What a move wrote of what its guest sent.
+-- The turns of a guest that moves, and what a move wrote of what it sent.
 use Rattle.std.specs.Io.KnownBytes.{Appends}
 use Rattle.std.specs.List.{filter, flat_map}
-use Rattle.std.specs.Prelude.{◌≡◌, ◌≢◌, ℕ, Bool, true, List, map, Option, None, Err, is_ok}
+use Rattle.std.specs.Prelude.{◌≡◌, ◌≢◌, ℕ, true, List, map, Option, None, Result, Err, is_ok}
 use Rattle.rvm_cell.specs.declared.closing.CloseKind.{CloseKind}
 use Rattle.rvm_cell.specs.Receipts.{PlainReceipt}
 use Rattle.rvm_cell.specs.Seats.{PlainSeat}
-use Rattle.rvm_hart_worker.specs.Calls.{Call, EndsDry, bytes_in, in_a, in_b}
+use Rattle.rvm_hart_worker.specs.Calls.{Call, EndsDry, bytes_in, in_a, in_b, turns_in}
+use Rattle.rvm_hart_worker.specs.Turns.{AreTurns}
+use Rattle.rvm_hart_worker.specs.declared.harts.TurnsEnd.{TurnsEnd}
 use Rattle.rvm_journal.specs.Entries.{PlainEntry, exchange_of}
 use Rattle.rvm_journal.specs.History.{is_board}
 use Rattle.rvm_message.specs.Exchanges.{PlainExchange, exchange}
 use Rattle.rvm_move.specs.declared.ends.Ends.{Ends}
 use Rattle.rvm_worker.specs.Work.{IsWork}
+use Rattle.rvm_worker.specs.declared.end.WorkEnd.{WorkEnd}
 use Rattle.rvm_worker.specs.declared.end.WorkEnd.TheVariants.{LinkFault}
 
 -- the events of the guest in a journal, and the replies to them
@@ -27,17 +30,20 @@ pub record AreOfOne (receipts : List PlainReceipt) : Type 0 where
   pub last : PlainSeat
   pub work : IsWork first last receipts
 
--- of two journals: the events of the guest in both are calls that were made one after the other, and what was written are
--- the bytes that the drains among them told, in that order; where `dry`, the last call is a drain that found nothing
-pub record IsOutputOf (first second : List PlainEntry) (before after : Option (List ℕ)) (dry : Bool) : Type 0 where
+-- of two journals: the events of the guest in both are calls that were made one after the other. The steps among them are
+-- the turns of a run that ended so, and what was written are the bytes that the drains told, in that order; where the run
+-- came to its end, the last call is a drain that found nothing
+pub record IsRunOf (first second : List PlainEntry) (before after : Option (List ℕ)) (harts steps : ℕ)
+    (end : Result TurnsEnd WorkEnd) : Type 0 where
   pub calls : List Call
   pub of_first : of_guest first ≡ called_of_guest (flat_map in_a calls)
   pub of_second : of_guest second ≡ called_of_guest (flat_map in_b calls)
+  pub turned : AreTurns harts steps end (flat_map turns_in calls)
   pub written : Appends before after (flat_map bytes_in calls)
-  pub ends : dry ≡ true → EndsDry calls
+  pub ends : is_ok end ≡ true → EndsDry calls
 
--- so it is where both hosts were closed, unless the writer failed; dry where the turns came to their end
-abbrev pub IsEndOutput : Ends → (a b : Option CloseKind) → (first second : List PlainEntry)
-    → (before after : Option (List ℕ)) → Type 0
-IsEndOutput ends a b first second before after =
-    ends.harts ≢ Err LinkFault → a ≡ None → b ≡ None → IsOutputOf first second before after (is_ok ends.harts)
+-- so it is where both hosts were closed, unless the writer failed
+abbrev pub IsEndRun : Ends → (a b : Option CloseKind) → (first second : List PlainEntry)
+    → (before after : Option (List ℕ)) → (harts steps : ℕ) → Type 0
+IsEndRun ends a b first second before after harts steps =
+    ends.harts ≢ Err LinkFault → a ≡ None → b ≡ None → IsRunOf first second before after harts steps ends.harts

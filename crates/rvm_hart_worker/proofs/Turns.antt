@@ -1,0 +1,149 @@
+-- The turns of a slice, and turns behind turns.
+use Rattle.std.proofs.Common.{◌≡◌, ◌∙◌, ℕ, zero, suc, ◌+◌, ◌-◌, ◌<◌, ◌≤◌, ◌%◌, false, List, [], ◌∷◌, ◌++◌, length, map, Some, refl, sym, ap, arith}
+use Rattle.std.specs.List.{flat_map}
+use Rattle.std.specs.Prelude.{slice_get}
+use Rattle.rvm_cell.specs.Receipts.{PlainReceipt}
+use Rattle.rvm_debug.specs.declared.event.BoardEvent.TheVariants as asked
+use Rattle.rvm_debug.specs.declared.event.BoardReply.TheVariants as answer
+use Rattle.rvm_hart_worker.specs.Calls.{AtA, AtB, turns_in}
+use Rattle.rvm_hart_worker.specs.Turns.{Turn, after_step, after_turns, turn_made, turn_of_step, turns, turns_of}
+use Rattle.rvm_hart_worker.specs.declared.slices.Then.{Then}
+use Rattle.rvm_hart_worker.specs.declared.slices.Then.TheVariants.{GoOn, Elsewhere, Halted}
+use Rattle.rvm_message.specs.declared.event.Command.TheVariants as command
+use Rattle.rvm_message.specs.declared.event.HostEvent.{HostEvent}
+use Rattle.rvm_message.specs.declared.event.HostEvent.TheVariants as event
+use Rattle.rvm_message.specs.declared.reply.HostReply.{HostReply}
+use Rattle.rvm_message.specs.declared.reply.HostReply.TheVariants as reply
+use Rattle.rvm_message.specs.Replies.{ends_steps, reply_of}
+
+-- the first of some turns
+first_turn : (harts from n : ℕ) → turns harts from (suc n) GoOn ≡ (from % harts, GoOn) ∷ turns harts (suc from) n GoOn
+unfolding turns
+first_turn harts from zero = refl
+first_turn harts from (suc n) = refl
+
+-- turns behind turns
+turns_behind : (harts from m n k : ℕ) (last : Then) → k ≡ m + suc n
+    → turns harts from m GoOn ++ turns harts (from + m) (suc n) last ≡ turns harts from k last
+unfolding turns
+turns_behind harts from zero n k last all =
+    let here : from + 0 ≡ from = omega arith in
+    let rest : suc n ≡ k = omega (arith, all) in
+    ap (λ x. turns harts x (suc n) last) here ∙ ap (λ x. turns harts from x last) rest
+turns_behind harts from (suc m) n zero last all = absurd (omega (arith, all))
+turns_behind harts from (suc m) n (suc zero) last all = absurd (omega (arith, all))
+turns_behind harts from (suc m) n (suc (suc j)) last all =
+    let next : from + suc m ≡ suc from + m = omega arith in
+    let rest : suc j ≡ m + suc n = omega (arith, all) in
+    ap (λ l. l ++ turns harts (from + suc m) (suc n) last) (first_turn harts from m)
+    ∙ ap (λ x. (from % harts, GoOn) ∷ (turns harts (suc from) m GoOn ++ turns harts x (suc n) last)) next
+    ∙ ap (λ l. (from % harts, GoOn) ∷ l) (turns_behind harts (suc from) m n (suc j) last rest)
+
+pub turns_on : (harts turn made : ℕ) (last : Then) → 1 ≤ made
+    → turns harts 0 turn GoOn ++ turns harts turn made last ≡ turns harts 0 (turn + made) last
+turns_on harts turn zero last some = absurd (omega (arith, some))
+turns_on harts turn (suc n) last some =
+    let here : turn ≡ 0 + turn = omega arith in
+    ap (λ x. turns harts 0 turn GoOn ++ turns harts x (suc n) last) here
+    ∙ turns_behind harts 0 turn n (turn + suc n) last refl
+
+-- a reply that does not end a slice was to a turn
+after_going : (r : HostReply) → ends_steps (reply_of r) ≡ false → after_step r ≡ GoOn
+after_going (reply.Board answer.Retired) goes = refl
+after_going (reply.Board (answer.Trapped e)) goes = refl
+after_going (reply.Board (answer.Interrupted i)) goes = refl
+after_going (reply.Board (answer.Halted s)) goes = absurd cc
+after_going (reply.Board (answer.Break a)) goes = absurd cc
+after_going (reply.Board answer.Done) goes = refl
+after_going (reply.Board (answer.Bytes bs)) goes = refl
+after_going (reply.Board (answer.Regs rs)) goes = refl
+after_going (reply.Board (answer.Line a w)) goes = refl
+after_going (reply.Board (answer.Refused r)) goes = absurd cc
+after_going (reply.Begun n) goes = absurd cc
+after_going (reply.Copied page number) goes = absurd cc
+after_going (reply.RoundEnded round sent skipped left) goes = absurd cc
+after_going reply.Stopping goes = absurd cc
+after_going reply.StateSent goes = absurd cc
+after_going (reply.PartSent part parts) goes = absurd cc
+after_going reply.Resent goes = absurd cc
+after_going reply.Aborted goes = absurd cc
+after_going reply.Open goes = absurd cc
+after_going (reply.MoveDeclined limit) goes = absurd cc
+after_going (reply.Fixing count) goes = absurd cc
+after_going (reply.Committed n) goes = absurd cc
+after_going reply.Finished goes = absurd cc
+after_going reply.Accepted goes = absurd cc
+after_going (reply.Declined limit) goes = absurd cc
+after_going (reply.Stored page number) goes = absurd cc
+after_going reply.Noted goes = absurd cc
+after_going (reply.Kept part parts) goes = absurd cc
+after_going (reply.Lacking count) goes = absurd cc
+after_going reply.ReadySent goes = absurd cc
+after_going reply.Started goes = absurd cc
+after_going reply.Dropped goes = absurd cc
+after_going (reply.Refused why) goes = absurd cc
+
+-- the step of the hart whose turn it is
+abbrev pub step_of : (turn harts : ℕ) → HostEvent
+step_of turn harts = event.Do (command.Board (asked.Step (turn % harts)))
+
+-- the turns that receipts tell
+abbrev pub told : List PlainReceipt → List Turn
+told rs = flat_map (λ (r : PlainReceipt). turn_made r.event r.reply) rs
+
+-- one step
+one_step : (harts turn : ℕ) (last : Then)
+    → turn_of_step (turn % harts) last ++ [] ≡ turns harts turn (turns_of last 1) (after_turns last)
+unfolding turns
+one_step harts turn GoOn = refl
+one_step harts turn Elsewhere = refl
+one_step harts turn (Halted s) = refl
+
+-- a step, and others behind it
+step_before : (harts turn n : ℕ) (last : Then)
+    → (turn % harts, GoOn) ∷ turns harts (suc turn) (turns_of last (suc n)) (after_turns last)
+    ≡ turns harts turn (turns_of last (suc (suc n))) (after_turns last)
+unfolding turns
+step_before harts turn n GoOn = refl
+step_before harts turn n Elsewhere =
+    let one : suc n - 1 ≡ n = omega arith in
+    let two : suc n ≡ suc (suc n) - 1 = omega arith in
+    ap (λ k. (turn % harts, GoOn) ∷ turns harts (suc turn) k GoOn) one
+    ∙ sym (first_turn harts turn n) ∙ ap (λ k. turns harts turn k GoOn) two
+step_before harts turn n (Halted s) = refl
+
+no_steps : (harts turn : ℕ) (last : Then) → [] ≡ turns harts turn (turns_of last 0) (after_turns last)
+unfolding turns
+no_steps harts turn GoOn = refl
+no_steps harts turn Elsewhere = refl
+no_steps harts turn (Halted s) = refl
+
+-- the steps of a slice are turns, but for the last one where the other host is to make it
+pub slice_turns : (rs : List PlainReceipt) (harts turn : ℕ) (last : HostReply)
+    → ((k : ℕ) (r : PlainReceipt) → slice_get rs k ≡ Some r → r.event ≡ step_of (turn + k) harts)
+    → ((k : ℕ) (r : PlainReceipt) → slice_get rs k ≡ Some r → suc k < length rs → ends_steps (reply_of r.reply) ≡ false)
+    → ((k : ℕ) (r : PlainReceipt) → slice_get rs k ≡ Some r → suc k ≡ length rs → r.reply ≡ last)
+    → told rs ≡ turns harts turn (turns_of (after_step last) (length rs)) (after_turns (after_step last))
+slice_turns [] harts turn last steps goes ends = no_steps harts turn (after_step last)
+slice_turns (r ∷ []) harts turn last steps goes ends =
+    ap (λ e. turn_made e r.reply ++ []) (steps zero r refl ∙ ap (λ n. step_of n harts) (omega arith))
+    ∙ ap (λ y. turn_of_step (turn % harts) (after_step y) ++ []) (ends zero r refl refl)
+    ∙ one_step harts turn (after_step last)
+slice_turns (r ∷ s ∷ rs) harts turn last steps goes ends =
+    ap (λ e. turn_made e r.reply ++ told (s ∷ rs)) (steps zero r refl ∙ ap (λ n. step_of n harts) (omega arith))
+    ∙ ap (λ t. turn_of_step (turn % harts) t ++ told (s ∷ rs)) (after_going r.reply (goes zero r refl (omega arith)))
+    ∙ ap (λ l. (turn % harts, GoOn) ∷ l)
+    (slice_turns (s ∷ rs) harts (suc turn) last
+    (λ k t here. steps (suc k) t here ∙ ap (λ n. step_of n harts) (omega arith))
+    (λ k t here more. goes (suc k) t here (omega (arith, more)))
+    (λ k t here is. ends (suc k) t here (ap suc is)))
+    ∙ step_before harts turn (length rs) (after_step last)
+
+-- made at the first host, or at the second
+pub told_a : (rs : List PlainReceipt) → flat_map turns_in (map AtA rs) ≡ told rs
+told_a [] = refl
+told_a (r ∷ rs) = ap (λ l. turn_made r.event r.reply ++ l) (told_a rs)
+
+pub told_b : (rs : List PlainReceipt) → flat_map turns_in (map AtB rs) ≡ told rs
+told_b [] = refl
+told_b (r ∷ rs) = ap (λ l. turn_made r.event r.reply ++ l) (told_b rs)
