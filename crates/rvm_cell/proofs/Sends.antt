@@ -10,10 +10,10 @@ use Rattle.rvm_cell.specs.declared.seat.Seating as Seating
 use Rattle.rvm_cell.specs.contracts.locked.Locked as Locked
 use Rattle.rvm_cell.specs.contracts.seat.Seat as Seat
 use Rattle.rvm_cell.specs.contracts.shared.SharedHost as SharedHost
-use Rattle.rvm_journal.proofs.Sends.{recorded_send}
+use Rattle.rvm_journal.proofs.Sends.{recorded_send, room_send}
 
 pub seat_send : (L : RattleType) (g : Seating.Ghosts L.Denot) (h : Ledger.Ghosts L.Denot) → IsSend (Seat.the_row L g h)
-seat_send L g h = search (share_send, sendable, crosses) depth 40 fits 10000
+seat_send L g h = search (share_send, room_send, sendable, crosses) depth 40 fits 10000
 
 pub locked_send : (L M : RattleType) (g : Seating.Ghosts L.Denot) (h : Ledger.Ghosts L.Denot)
     (m : Memory.Ghosts M.Denot) → IsSend M → IsSend (Locked.the_row L M g h m)

@@ -9,7 +9,7 @@ ghost use Rattle.rvm_journal.specs.Slices.{replies_to, step_of};
 ghost use Rattle.rvm_message.specs.Steps.{reply_to_step};
 
 use crate::receipt::Receipt;
-use crate::seat::{Seat, Seating};
+use crate::seat::{Seat, Seating, keep};
 use crate::shared::SharedHost;
 use rvm_frame::Addressed;
 use rvm_journal::{RecordError, Recorded, SliceError, hart_of_turn};
@@ -82,7 +82,12 @@ impl<L: Seating, M: PagedMemory + Drop> Locked<L, M> {
         ensures fault { IfErr result (λ e. IsRecordError e.0 (count_of self.old) self.old.capacity) }
     {
         let Locked { recorded, book, .. } = self;
-        let Seat { id, count, share } = seat;
+        let Seat {
+            id,
+            count,
+            share,
+            room: spare,
+        } = seat;
         book.audit(share);
         match recorded.record(alloc, event) {
             Err(e) => Err(e),
@@ -92,7 +97,7 @@ impl<L: Seating, M: PagedMemory + Drop> Locked<L, M> {
                     place,
                     seat: *id,
                     count: *count,
-                    exchange: Exchange::new(room, copy, reply),
+                    exchange: keep(spare, room, copy, reply),
                 };
                 *count += 1;
                 Ok((receipt, frame))
@@ -120,7 +125,12 @@ impl<L: Seating, M: PagedMemory + Drop> Locked<L, M> {
             return Err(SliceError::OutOfRange);
         }
         let Locked { recorded, book, .. } = self;
-        let Seat { id, count, share } = seat;
+        let Seat {
+            id,
+            count,
+            share,
+            ..
+        } = seat;
         book.audit(share);
         let (place, replies) = recorded.record_slice(alloc, turn, harts, n)?;
         let steps = replies.len() as u64;

@@ -2,7 +2,10 @@
 
 ghost use Rattle.std.specs.Prelude.{◌≡◌, ℕ, None};
 ghost use Rattle.rvm_core.specs.Hosts.{PlainHost, new_host};
+ghost use Rattle.rvm_message.specs.Exchanges.{exchange};
 
+use rvm_message::{Exchange, ExchangeRoom, HostEvent, HostReply};
+use std::alloc::{AllocError, Global};
 use std::marker::{Brand, Model};
 use std::sync::ledger::{Ledger, Share};
 
@@ -26,6 +29,8 @@ pub struct Seat<L: Seating> {
     pub(crate) id: u32,
     pub(crate) count: u64,
     pub(crate) share: Share<L>,
+    /// Room for an exchange, which an earlier call did not need.
+    pub(crate) room: Option<ExchangeRoom>,
 }
 
 impl<L: Seating> Model for Seat<L> {
@@ -48,6 +53,16 @@ impl<L: Seating> Seat<L> {
         self.id
     }
 
+    /// Room for an exchange.
+    pub(crate) fn take_room(&mut self, alloc: Global) -> Result<ExchangeRoom, AllocError>
+        ensures { self.new ≡ self.old }
+    {
+        match self.room.take() {
+            Some(room) => Ok(room),
+            None => ExchangeRoom::new(alloc),
+        }
+    }
+
     /// Its part of the ledger.
     pub(crate) fn into_share(self) -> Share<L>
         ensures parts { result.parts ≡ 1 }
@@ -57,7 +72,24 @@ impl<L: Seating> Seat<L> {
             id: _,
             count: _,
             share,
+            room: _,
         } = self;
         share
     }
+}
+
+/// An event and the reply to it. The room for them is kept where they fit in a few bytes.
+pub(crate) fn keep(
+    spare: &mut Option<ExchangeRoom>,
+    room: ExchangeRoom,
+    event: HostEvent,
+    reply: HostReply,
+) -> Exchange
+    ensures { result ≡ exchange event reply }
+{
+    if Exchange::is_small(&event, &reply) {
+        *spare = Some(room);
+        return Exchange::small(event, reply);
+    }
+    Exchange::new(room, event, reply)
 }

@@ -13,7 +13,7 @@ use crate::seat::{Seat, Seating};
 use rvm_frame::Addressed;
 use rvm_journal::{RecordError, Recorded, SliceError};
 use rvm_mem::PagedMemory;
-use rvm_message::{ExchangeRoom, HostEvent};
+use rvm_message::HostEvent;
 use rvm_refusal::Refusal;
 use std::alloc::Global;
 use std::sync::ledger::{Blank, Share};
@@ -108,6 +108,7 @@ fn cut<L: Seating>(all: Share<L>, list: Vec<Seat<L>>, seats: u32) -> (Vec<Seat<L
             id,
             count: 0,
             share,
+            room: None,
         });
     }
     (list, all)
@@ -132,7 +133,7 @@ impl<L: Seating, M: PagedMemory + Drop> SharedHost<L, M> {
         let Ok(copy) = event.copy() else {
             return Err((RecordError::OutOfMemory, event));
         };
-        let Ok(room) = ExchangeRoom::new(alloc) else {
+        let Ok(room) = seat.take_room(alloc) else {
             return Err((RecordError::OutOfMemory, event));
         };
         self.lock.lock(rt).call(alloc, seat, event, copy, room)

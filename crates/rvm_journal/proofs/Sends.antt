@@ -89,7 +89,7 @@ kept_send = search (step_reply_send, pair_send, sendable, crosses) depth 40 fits
 exchange_send : IsSend Exchange.the_row
 exchange_send = search (kept_send, sendable, crosses) depth 40 fits 10000
 
-room_send : IsSend (Struct (struct.shape ExchangeRoom.the_type))
+pub room_send : IsSend (Struct (struct.shape ExchangeRoom.the_type))
 room_send = search (pair_send, sendable, crosses) depth 40 fits 10000
 
 entry_send : IsSend Entry.the_row

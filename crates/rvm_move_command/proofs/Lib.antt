@@ -1,3 +1,4 @@
 pub mod Examples
+pub mod Sends
 pub mod Moved
 pub mod Orders

@@ -60,7 +60,7 @@ where
         ⊎ (O.contents output.new ≡ O.contents output.old) }
 {
     let moved = move_image::<M, O, R>(rt, alloc, arguments, image, output);
-    tell_end(moved, errors)
+    tell_end(rt, moved, errors)
 }
 
 /// Moves the guest of an image over TCP: both hosts behind the move.

@@ -25,6 +25,7 @@ use std::io::Write;
 use std::marker::Brand;
 use std::sync::Wait;
 use std::sync::ledger::Blank;
+use std::thread;
 use std::thread::Threads;
 use std::time::Clock;
 
@@ -62,7 +63,7 @@ pub fn move_over<
         Ok(recorded) => {
             let plan = plan_of(arguments);
             let moved = move_recorded(rt, alloc, recorded, links, gate, &plan, output);
-            tell_end(moved, errors)
+            tell_end(rt, moved, errors)
         }
         Err(refused) => tell(refused, errors),
     }
@@ -85,7 +86,8 @@ pub fn plan_of(arguments: &MoveArguments) -> Plan
 }
 
 /// Tells what both hosts of a move answered, or of a refusal.
-pub(crate) fn tell_end<M: PagedMemory + Drop, E: Write>(
+pub(crate) fn tell_end<M: PagedMemory + Drop + Send, E: Write, R: Threads>(
+    rt: &R,
     moved: Result<Moved<M>, Refused>,
     errors: &mut E,
 ) -> Result<u8, LinkFault>
@@ -96,11 +98,17 @@ pub(crate) fn tell_end<M: PagedMemory + Drop, E: Write>(
     match moved {
         Ok(moved) => {
             let told = tell_moved(&moved, errors);
-            drop(moved);
+            give_back(rt, moved);
             told
         }
         Err(refused) => tell(refused, errors),
     }
+}
+
+/// Gives back what both hosts keep, side by side.
+fn give_back<M: PagedMemory + Drop + Send, R: Threads>(rt: &R, moved: Moved<M>) {
+    let Moved { a, b, ends: _ } = moved;
+    thread::join(rt, move || drop(a), move || drop(b));
 }
 
 /// Moves the guest of the first host.

@@ -3,10 +3,10 @@
 use std::alloc::{AllocError, Global};
 
 /// How many calls a block has room for: each keeps a page and a little more.
-pub(crate) const CALLS_PER_BLOCK: usize = 15;
+pub(crate) const CALLS_PER_BLOCK: usize = 26;
 
-/// How many bytes a block has.
-const BLOCK_SIZE: usize = 1 << 16;
+/// How many bytes a block has. The C library's allocator maps what has 128 KiB by itself, outside of a heap.
+const BLOCK_SIZE: usize = 112 << 10;
 
 /// A block of memory. It is not inlined, so that the compiler does not leave it out.
 #[inline(never)]
