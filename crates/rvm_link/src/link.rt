@@ -1,6 +1,6 @@
 //! Links.
 
-ghost use Rattle.std.specs.Prelude.{ℕ, List, Option, None, OnOk, length};
+ghost use Rattle.std.specs.Prelude.{◌≡◌, ℕ, List, Option, None, OnOk, length};
 ghost use Rattle.std.specs.Io.KnownBytes.{Appends};
 ghost use Rattle.rvm_link.specs.Reads.{GivesAtMost};
 
@@ -27,6 +27,10 @@ pub trait Link {
     /// Sends all of these bytes.
     fn send(&mut self, bytes: &[u8]) -> Result<(), LinkFault>
         ensures { OnOk result (Appends (contents self.old) (contents self.new) bytes.now) };
+
+    /// Has what was sent go out now, where some of it waits to go out together with more.
+    fn flush(&mut self) -> Result<(), LinkFault>
+        ensures { contents self.new ≡ contents self.old };
 
     /// Reads what came. It takes a buffer of any length, puts the bytes at its front, and gives how many
     /// they are, at most the buffer's length. What stands behind them may have changed too.

@@ -42,6 +42,20 @@ impl<K: Link + Drop> SendingEnd<K> {
         Ok(())
     }
 
+    /// Has what was sent go out now. A link that fails is dropped.
+    fn flush(&mut self)
+        ensures sent { IfSome self.old.link (λ old. IfSome self.new.link (λ new. K.contents new ≡ K.contents old)) }
+        ensures closed { self.old.link ≡ None → self.new.link ≡ None }
+    {
+        let flushed = match &mut self.link {
+            Some(link) => link.flush(),
+            None => Ok(()),
+        };
+        if flushed.is_err() {
+            self.close();
+        }
+    }
+
     /// Drops the link.
     fn close(&mut self)
         ensures { self.new.link ≡ None }
@@ -86,6 +100,12 @@ impl<K: Link + Drop> Outgoing<K> {
         ensures { IfErr result (λ e. e ≡ SendError.BadFrame → HasSpelling (sent self.now.version addressed.now) → ⊥) }
     {
         self.end.lock(rt).send(self.version, addressed)
+    }
+
+    /// Has what was sent go out now, where some of it waits to go out together with more. It may wait for
+    /// another thread.
+    pub fn flush<R: Wait>(&self, rt: &R) {
+        self.end.lock(rt).flush();
     }
 
     /// Drops the link. It may wait for another thread.

@@ -32,6 +32,10 @@ impl<K: Link + Drop> Link for Endless<K> {
         self.link.send(bytes)
     }
 
+    fn flush(&mut self) -> Result<(), LinkFault> {
+        self.link.flush()
+    }
+
     fn recv(&mut self, buffer: &mut [u8]) -> LinkRead {
         if !self.is_endless {
             return self.link.recv(buffer);

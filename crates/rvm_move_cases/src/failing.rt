@@ -28,6 +28,10 @@ impl<K: Link + Drop> Link for Failing<K> {
         self.link.send(bytes)
     }
 
+    fn flush(&mut self) -> Result<(), LinkFault> {
+        self.link.flush()
+    }
+
     fn recv(&mut self, buffer: &mut [u8]) -> LinkRead {
         self.link.recv(buffer)
     }

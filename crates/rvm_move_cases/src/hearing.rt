@@ -97,6 +97,10 @@ impl Link for Given<'_> {
         Ok(())
     }
 
+    fn flush(&mut self) -> Result<(), LinkFault> {
+        Ok(())
+    }
+
     fn recv(&mut self, buffer: &mut [u8]) -> LinkRead {
         if self.paused < self.pauses {
             self.paused += 1;

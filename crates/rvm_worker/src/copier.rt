@@ -30,8 +30,13 @@ const SHORT_PAUSE: u32 = 1;
 /// Before the last frame is asked for again.
 const LONG_PAUSE: u32 = 10;
 
-/// Sleeps for so many milliseconds.
-fn pause<R: Clock>(rt: &R, millis: u32) {
+/// Has the frames go out that were sent, and sleeps for so many milliseconds.
+fn pause<L: Seating, M: PagedMemory + Drop, K: Link + Drop, R: Wait + Clock>(
+    rt: &R,
+    side: &Side<'_, L, M, K>,
+    millis: u32,
+) {
+    side.outgoing.flush(rt);
     thread::sleep(rt, Duration::from_millis(u64::from(millis)));
 }
 
@@ -115,7 +120,7 @@ fn copy_until<L: Seating, M: PagedMemory + Drop, K: Link + Drop, G: Gate, R: Wai
         match copy(rt, alloc, side, mover, watch)? {
             Next::Copy => pauses = 0,
             Next::Wait(millis) => {
-                pause(rt, millis);
+                pause(rt, side, millis);
                 pauses += 1;
                 if pauses >= TRIES {
                     return Ok(Next::GiveUp);
@@ -156,7 +161,7 @@ fn resend<L: Seating, M: PagedMemory + Drop, K: Link + Drop, G: Gate, R: Wait + 
     ensures { mover.new.start ≡ mover.old.start }
 {
     for _try in 0..TRIES {
-        pause(rt, LONG_PAUSE);
+        pause(rt, side, LONG_PAUSE);
         match tell(
             rt,
             alloc,
@@ -218,7 +223,7 @@ fn abort_without_memory<
 {
     for _try in 0..TRIES {
         match tell(rt, alloc, side, mover, watch, HostEvent::Do(Command::Abort)) {
-            Err(WorkEnd::OutOfMemory) => pause(rt, SHORT_PAUSE),
+            Err(WorkEnd::OutOfMemory) => pause(rt, side, SHORT_PAUSE),
             _ => return WorkEnd::OutOfMemory,
         }
     }
