@@ -40,7 +40,6 @@ pub struct HartsWorked<A: Seating, B: Seating> {
 /// the other; while both refuse it, it is tried again each millisecond. Each byte that a drain takes is
 /// written once, in order, unless the writer fails, which ends the worker with `LinkFault`. Where the turns
 /// come to their end, the last call is a drain that finds nothing.
-#[tactic(auto, using(crate::proofs::Calls::is_run))]
 pub fn hart_worker<
     A: Seating,
     B: Seating,
