@@ -34,8 +34,8 @@ use std::time::Clock;
 /// to `output`; what both hosts answered to the commands of the move and to frames goes to `errors` when
 /// all is over, the first one's before the second's. Answers the status: 0, or 1 where the image was
 /// refused, which leaves `output` as it was, or the move failed; then the last line of `errors` says with
-/// what. `LinkFault` as the answer: a write to `errors` failed. It may wait for other threads, and starts
-/// three.
+/// what. `LinkFault` as the answer: a write to `errors` failed. It may wait for other threads: it starts
+/// three, and behind them one that gives back what a host keeps.
 pub fn move_over<
     M: PagedMemory + Drop + Send,
     K: Link + Drop + Send,
