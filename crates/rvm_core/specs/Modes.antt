@@ -23,7 +23,7 @@ abbrev pub plain_of : {M : Type 0} → Mode M → PlainMode
 plain_of (code.Empty n) = Empty n
 plain_of (code.Run n g) = Run n g.guest
 plain_of (code.Leaving s) = Leaving s
-plain_of (code.Given n) = Given n
+plain_of (code.Given n s) = Given n
 plain_of (code.Staging n s) = Staging n s
 plain_of (code.Held n g) = Held n g.guest
 

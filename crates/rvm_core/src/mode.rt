@@ -41,9 +41,11 @@ pub(crate) enum Mode<M: PagedMemory> {
     },
     /// The guest is here, and its move to another host is going on.
     Leaving(Source<M>),
-    /// The guest was committed to the target.
+    /// The guest was committed to the target. What remains of it here is dropped once it runs there: much
+    /// memory takes long to give back, and the guest stands still until the target hears of the commit.
     Given {
         move_number: u64,
+        remains: Source<M>,
     },
     /// Pages of a guest come.
     Staging {
@@ -79,7 +81,7 @@ impl<M: PagedMemory + Drop> Mode<M> {
         match self {
             Mode::Empty { move_number }
             | Mode::Run { move_number, .. }
-            | Mode::Given { move_number }
+            | Mode::Given { move_number, .. }
             | Mode::Staging { move_number, .. }
             | Mode::Held { move_number, .. } => *move_number,
             Mode::Leaving(source) => source.move_number(),

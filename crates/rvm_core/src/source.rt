@@ -149,7 +149,7 @@ impl<M: PagedMemory + Drop> Mode<M> {
     {
         match self {
             Mode::Leaving(source) => source.resend(alloc, version),
-            Mode::Given { move_number } => {
+            Mode::Given { move_number, .. } => {
                 let move_number = *move_number;
                 Ok(HostReply::Resent.with(Frame::Go { move_number }))
             }
@@ -249,12 +249,18 @@ impl<M: PagedMemory + Drop> Mode<M> {
             result (mode_of (plain_of self.new)) }
         ensures sent { (version : ℕ) → CanBeSent version (Some 0) result.1 }
     {
-        match self {
-            Mode::Leaving(source) if source.is_stopped(move_number) => {
-                self.set(Mode::Given { move_number });
+        match self.take() {
+            Mode::Leaving(remains) => {
+                if !remains.is_stopped(move_number) {
+                    return self.stay(Mode::Leaving(remains), HostRefusal::Ignored);
+                }
+                self.set(Mode::Given {
+                    move_number,
+                    remains,
+                });
                 HostReply::Committed(move_number).with(Frame::Go { move_number })
             }
-            _ => HostReply::refused(HostRefusal::Ignored),
+            mode => self.stay(mode, HostRefusal::Ignored),
         }
     }
 
@@ -265,7 +271,10 @@ impl<M: PagedMemory + Drop> Mode<M> {
             (result, None) (mode_of (plain_of self.new)) }
     {
         match self {
-            Mode::Given { move_number: given } if *given == move_number => {
+            Mode::Given {
+                move_number: given,
+                ..
+            } if *given == move_number => {
                 self.set(Mode::Empty { move_number });
                 HostReply::Finished
             }

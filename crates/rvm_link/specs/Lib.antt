@@ -1,2 +1,3 @@
 pub mod Errors
 pub mod Reads
+pub mod Waiting

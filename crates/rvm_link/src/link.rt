@@ -24,13 +24,17 @@ pub trait Link {
     /// What was sent, where that is known.
     ghost contents: { Self → Option (List ℕ) } = { λ _. None };
 
-    /// Sends all of these bytes.
+    /// Nothing that was sent waits to go out together with more.
+    ghost is_flushed: { Self → Type 0 } = { λ _. Unit {0} };
+
+    /// Sends all of these bytes. They may wait to go out together with more.
     fn send(&mut self, bytes: &[u8]) -> Result<(), LinkFault>
         ensures { OnOk result (Appends (contents self.old) (contents self.new) bytes.now) };
 
-    /// Has what was sent go out now, where some of it waits to go out together with more.
+    /// Has what was sent go out now.
     fn flush(&mut self) -> Result<(), LinkFault>
-        ensures { contents self.new ≡ contents self.old };
+        ensures same { contents self.new ≡ contents self.old }
+        ensures out { OnOk result (is_flushed self.new) };
 
     /// Reads what came. It takes a buffer of any length, puts the bytes at its front, and gives how many
     /// they are, at most the buffer's length. What stands behind them may have changed too.

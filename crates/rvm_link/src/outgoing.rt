@@ -1,8 +1,9 @@
 //! The sending end of a side.
 
-ghost use Rattle.std.specs.Prelude.{◌≡◌, ◌≢◌, None, OnOk, OnErr, IfOk, IfErr, IsErr, IsSome, IfSome};
+ghost use Rattle.std.specs.Prelude.{◌≡◌, ◌≢◌, false, None, OnOk, IfOk, IfErr, IsErr, IsSome, IfSome};
 ghost use Rattle.std.specs.Io.KnownBytes.{Appends};
 ghost use Rattle.rvm_frame.specs.Grammar.{HasSpelling, sent, spelling};
+ghost use Rattle.rvm_link.specs.Waiting.{may_wait};
 
 use crate::error::SendError;
 use crate::link::Link;
@@ -21,18 +22,20 @@ struct SendingEnd<K: Link + Drop> {
 }
 
 impl<K: Link + Drop> SendingEnd<K> {
-    /// Sends a frame whole, in a stream of this version. A link that fails is dropped.
+    /// Sends a frame whole, in a stream of this version. Unless it may wait, it has gone out then, and all
+    /// before it. A link that fails is dropped.
     fn send(&mut self, version: u32, addressed: &Addressed) -> Result<(), SendError>
         ensures sent { OnOk result (IfSome self.old.link (λ old. IfSome self.new.link (λ new.
             Appends (K.contents old) (K.contents new) (spelling (sent version addressed.now))))) }
         ensures kept { OnOk result (IsSome self.new.link) }
+        ensures out { OnOk result (may_wait addressed.now.frame ≡ false → IfSome self.new.link K.is_flushed) }
         ensures closed { self.old.link ≡ None → IsErr result }
         ensures fault { result ≡ Err SendError.LinkFault → self.new.link ≡ None }
         ensures spelled { IfErr result (λ e. e ≡ SendError.BadFrame → HasSpelling (sent version addressed.now) → ⊥) }
     {
         spell(version, addressed, &mut self.frame)?;
         let sent = match &mut self.link {
-            Some(link) => link.send(self.frame.as_slice()),
+            Some(link) => send_bytes(link, self.frame.as_slice(), may_wait(&addressed.frame)),
             None => Err(LinkFault),
         };
         if sent.is_err() {
@@ -40,20 +43,6 @@ impl<K: Link + Drop> SendingEnd<K> {
             return Err(SendError::LinkFault);
         }
         Ok(())
-    }
-
-    /// Has what was sent go out now. A link that fails is dropped.
-    fn flush(&mut self)
-        ensures sent { IfSome self.old.link (λ old. IfSome self.new.link (λ new. K.contents new ≡ K.contents old)) }
-        ensures closed { self.old.link ≡ None → self.new.link ≡ None }
-    {
-        let flushed = match &mut self.link {
-            Some(link) => link.flush(),
-            None => Ok(()),
-        };
-        if flushed.is_err() {
-            self.close();
-        }
     }
 
     /// Drops the link.
@@ -64,8 +53,9 @@ impl<K: Link + Drop> SendingEnd<K> {
     }
 }
 
-/// The sending end of a side, which its workers share. Each frame goes out whole; after the first fault,
-/// or once it is closed, the link is dropped, and nothing is sent any more.
+/// The sending end of a side, which its workers share. Each frame is sent whole; the copy of a page may
+/// wait for the next frame. After the first fault, or once it is closed, the link is dropped, and nothing is
+/// sent any more.
 #[derive(Drop)]
 pub struct Outgoing<K: Link + Drop> {
     version: u32,
@@ -102,16 +92,32 @@ impl<K: Link + Drop> Outgoing<K> {
         self.end.lock(rt).send(self.version, addressed)
     }
 
-    /// Has what was sent go out now, where some of it waits to go out together with more. It may wait for
-    /// another thread.
-    pub fn flush<R: Wait>(&self, rt: &R) {
-        self.end.lock(rt).flush();
-    }
-
     /// Drops the link. It may wait for another thread.
     pub fn close<R: Wait>(&self, rt: &R) {
         self.end.lock(rt).close();
     }
+}
+
+/// Whether a frame may wait for the next one, as the copy of a page may: another frame always follows it.
+fn may_wait(frame: &Frame) -> bool
+    ensures { result ≡ may_wait frame.now }
+{
+    match frame {
+        Frame::Page { .. } | Frame::Zero { .. } => true,
+        _ => false,
+    }
+}
+
+/// Sends bytes, and unless they may wait, has them go out.
+fn send_bytes<K: Link>(link: &mut K, bytes: &[u8], may_wait: bool) -> Result<(), LinkFault>
+    ensures sent { OnOk result (Appends (K.contents link.old) (K.contents link.new) bytes.now) }
+    ensures out { OnOk result (may_wait ≡ false → K.is_flushed link.new) }
+{
+    link.send(bytes)?;
+    if may_wait {
+        return Ok(());
+    }
+    link.flush()
 }
 
 /// Puts the bytes of a frame in place of those that are there.

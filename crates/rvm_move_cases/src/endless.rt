@@ -76,7 +76,7 @@ pub fn hear_without_end<R: AllocGlobal + Print + Net + Threads + Wait + Clock + 
 where
     R::Stream: Send,
 {
-    match connect_both(rt) {
+    match connect_both(rt, rt.alloc()) {
         Ok((a, b)) => {
             let links = (with_noise(a, false), with_noise(b, true));
             let ended = Ended::of_move(rt, HELLO, links, &OpenGate);

@@ -78,7 +78,7 @@ fn break_link<R: AllocGlobal + Print + Net + Threads + Wait + Clock + Sync>(
 where
     R::Stream: Send,
 {
-    let is_allowed = match connect_both(rt) {
+    let is_allowed = match connect_both(rt, rt.alloc()) {
         Ok((a, b)) => {
             let links = (that_fail(a, at_a), that_fail(b, at_b));
             let ended = Ended::of_move(rt, LOOP, links, &OpenGate);

@@ -71,7 +71,7 @@ where
         harts: AtomicBool::new(false),
         copier: AtomicBool::new(false),
     };
-    match connect_both(rt) {
+    match connect_both(rt, rt.alloc()) {
         Ok(links) => print_end(rt, &Ended::of_move(rt, LOOP, links, &gate)),
         Err(_) => print_no_connection(rt),
     }

@@ -15,7 +15,7 @@ use rvm_arguments::MoveArguments;
 use rvm_command::refused::Refused;
 use rvm_mem::PagedMemory;
 use rvm_move::{Links, Moved};
-use rvm_refusal::LinkFault;
+use rvm_refusal::{LinkFault, Refusal};
 use rvm_worker::{Gate, Worker};
 use std::alloc::Global;
 use std::io::Write;
@@ -89,24 +89,26 @@ where
         ⊎ (O.contents output.new ≡ O.contents output.old) }
 {
     let recorded = new_hosts::<M>(alloc, arguments, image)?;
-    match connect_both(rt) {
+    match connect_both(rt, alloc) {
         Ok(links) => {
             let plan = plan_of(arguments);
             move_recorded(rt, alloc, recorded, links, &OpenGate, &plan, output)
         }
-        Err(fault) => {
+        Err(refusal) => {
             drop(recorded);
-            Err(Refused::from(fault))
+            Err(Refused::from(refusal))
         }
     }
 }
 
-/// A TCP connection of this machine from each side to the other.
+/// A TCP connection of this machine from each side to the other. `LinkFault` where one cannot be made,
+/// `OutOfMemory` where there is no memory for what waits in it.
 pub fn connect_both<R: Net>(
     rt: &R,
-) -> Result<(Links<Socket<R::Stream>>, Links<Socket<R::Stream>>), LinkFault> {
-    let (from_a, to_b) = connect(rt)?;
-    let (from_b, to_a) = connect(rt)?;
+    alloc: Global,
+) -> Result<(Links<Socket<R::Stream>>, Links<Socket<R::Stream>>), Refusal> {
+    let (from_a, to_b) = connect(rt, alloc)?;
+    let (from_b, to_a) = connect(rt, alloc)?;
     Ok((
         Links {
             sending: from_a,

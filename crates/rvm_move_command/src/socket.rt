@@ -1,33 +1,39 @@
 //! Links over TCP.
 
+ghost use Rattle.std.specs.Prelude.{◌≡◌, []};
+ghost use Rattle.std.specs.Io.Buffered.{writer_buffer};
+
 use rvm_link::{Link, LinkRead};
-use rvm_refusal::LinkFault;
-use std::io::{ErrorKind, Read, Write};
+use rvm_refusal::{LinkFault, Refusal};
+use std::alloc::Global;
+use std::io::{BufWriter, ErrorKind, Read, Write};
 use std::net::{Ipv4Addr, Net, OpenListener, OpenStream, TcpListener, TcpStream};
 
-/// One direction of a TCP connection.
+/// How many bytes go out together: eight pages.
+const TOGETHER: usize = 1 << 15;
+
+/// One direction of a TCP connection. What is sent waits until `TOGETHER` bytes can go out, or until it is
+/// flushed.
 #[derive(Drop)]
 pub struct Socket<S: Read + Write + Drop> {
-    stream: S,
+    stream: BufWriter<S>,
 }
 
-impl<S: Read + Write + OpenStream + Drop> Link for Socket<S> {
+impl<S: Read + Write + Drop> Link for Socket<S> {
+    ghost is_flushed = { λ s. writer_buffer s.stream ≡ [] };
+
     fn send(&mut self, bytes: &[u8]) -> Result<(), LinkFault> {
-        match self.stream.write_all(bytes) {
-            Ok(()) => Ok(()),
-            Err(_) => Err(LinkFault),
-        }
+        self.stream.write_all(bytes)?;
+        Ok(())
     }
 
-    /// Linux sends at once what waits, where a socket is asked to let nothing wait (tcp(7), TCP_NODELAY).
     fn flush(&mut self) -> Result<(), LinkFault> {
-        self.stream.set_nodelay(true)?;
-        self.stream.set_nodelay(false)?;
+        self.stream.flush()?;
         Ok(())
     }
 
     fn recv(&mut self, buffer: &mut [u8]) -> LinkRead {
-        match self.stream.read(buffer) {
+        match self.stream.get_mut().read(buffer) {
             Ok(0) => LinkRead::End,
             Ok(count) => LinkRead::Bytes(count),
             Err(error) => {
@@ -41,9 +47,22 @@ impl<S: Read + Write + OpenStream + Drop> Link for Socket<S> {
     }
 }
 
-/// A connection in this machine: the end that sends, and the one that receives. Frames that are written
-/// while others are on their way go out together, at the latest when they are flushed.
-pub(crate) fn connect<R: Net>(rt: &R) -> Result<(Socket<R::Stream>, Socket<R::Stream>), LinkFault> {
+/// A link over a stream, in which so many bytes wait at most. `OutOfMemory` where there is no memory for
+/// them.
+fn link_over<S: Read + Write + Drop>(
+    alloc: Global,
+    stream: S,
+    most: usize,
+) -> Result<Socket<S>, Refusal> {
+    match BufWriter::with_capacity(alloc, most, stream) {
+        Ok(stream) => Ok(Socket { stream }),
+        Err(_) => Err(Refusal::OutOfMemory),
+    }
+}
+
+/// A connection in this machine: the end that sends, and the one that receives. The system keeps nothing
+/// back of what is written (tcp(7), TCP_NODELAY), since frames that wait go out together already.
+fn connect_streams<R: Net>(rt: &R) -> Result<(R::Stream, R::Stream), LinkFault> {
     let listener = TcpListener::bind(rt, (Ipv4Addr::LOCALHOST, 0u16))?;
     let address = listener.local_addr()?;
     let sending = TcpStream::connect(rt, address)?;
@@ -51,5 +70,18 @@ pub(crate) fn connect<R: Net>(rt: &R) -> Result<(Socket<R::Stream>, Socket<R::St
     if peer != sending.local_addr()? {
         return Err(LinkFault);
     }
-    Ok((Socket { stream: sending }, Socket { stream: receiving }))
+    sending.set_nodelay(true)?;
+    Ok((sending, receiving))
+}
+
+/// A link in this machine: the end that sends, and the one that receives, in which nothing waits.
+pub(crate) fn connect<R: Net>(
+    rt: &R,
+    alloc: Global,
+) -> Result<(Socket<R::Stream>, Socket<R::Stream>), Refusal> {
+    let (sending, receiving) = connect_streams(rt)?;
+    Ok((
+        link_over(alloc, sending, TOGETHER)?,
+        link_over(alloc, receiving, 0)?,
+    ))
 }

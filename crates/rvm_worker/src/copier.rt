@@ -30,13 +30,8 @@ const SHORT_PAUSE: u32 = 1;
 /// Before the last frame is asked for again.
 const LONG_PAUSE: u32 = 10;
 
-/// Has the frames go out that were sent, and sleeps for so many milliseconds.
-fn pause<L: Seating, M: PagedMemory + Drop, K: Link + Drop, R: Wait + Clock>(
-    rt: &R,
-    side: &Side<'_, L, M, K>,
-    millis: u32,
-) {
-    side.outgoing.flush(rt);
+/// Sleeps for so many milliseconds.
+fn pause<R: Clock>(rt: &R, millis: u32) {
     thread::sleep(rt, Duration::from_millis(u64::from(millis)));
 }
 
@@ -120,7 +115,7 @@ fn copy_until<L: Seating, M: PagedMemory + Drop, K: Link + Drop, G: Gate, R: Wai
         match copy(rt, alloc, side, mover, watch)? {
             Next::Copy => pauses = 0,
             Next::Wait(millis) => {
-                pause(rt, side, millis);
+                pause(rt, millis);
                 pauses += 1;
                 if pauses >= TRIES {
                     return Ok(Next::GiveUp);
@@ -161,7 +156,7 @@ fn resend<L: Seating, M: PagedMemory + Drop, K: Link + Drop, G: Gate, R: Wait + 
     ensures { mover.new.start ≡ mover.old.start }
 {
     for _try in 0..TRIES {
-        pause(rt, side, LONG_PAUSE);
+        pause(rt, LONG_PAUSE);
         match tell(
             rt,
             alloc,
@@ -223,7 +218,7 @@ fn abort_without_memory<
 {
     for _try in 0..TRIES {
         match tell(rt, alloc, side, mover, watch, HostEvent::Do(Command::Abort)) {
-            Err(WorkEnd::OutOfMemory) => pause(rt, side, SHORT_PAUSE),
+            Err(WorkEnd::OutOfMemory) => pause(rt, SHORT_PAUSE),
             _ => return WorkEnd::OutOfMemory,
         }
     }
