@@ -1,3 +1,4 @@
+pub mod Pages
 pub mod Kinds
 pub mod Layout
 pub mod Bodies

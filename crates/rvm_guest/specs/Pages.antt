@@ -1,6 +1,7 @@
 -- The pages of a guest, and what an event of it leaves.
 use Rattle.std.specs.Prelude.{ℕ, zero, suc, ◌/◌, Bool, false, ◌&&◌, ◌==◌, List, [], ◌∷◌, ◌++◌, length, replicate, take, drop}
 use Rattle.std.specs.List.{list_all}
+pub use Rattle.rvm_frame.specs.Pages.{zeros}
 use Rattle.rvm_mem.specs.Pages.{has, mark_all}
 use Rattle.rvm_debug.specs.declared.event.BoardEvent.{BoardEvent}
 use Rattle.rvm_debug.specs.Guest.{Guest}
@@ -38,9 +39,6 @@ after g e = (answered e g).guest
 unfoldable pub writes : Guest → BoardEvent → ℕ → Bool
 writes g e page = has page (mark_all (answered e g).pages (replicate (count_of g) false))
 
--- a page of zeros, and its test
-abbrev pub zeros : List ℕ
-zeros = replicate 4096 0
-
+-- whether bytes are a page of zeros
 abbrev pub is_zeros : List ℕ → Bool
 is_zeros bytes = (length bytes == 4096) && list_all (λ b. b == 0) bytes

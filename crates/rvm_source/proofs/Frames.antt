@@ -1,7 +1,6 @@
 -- A copy of a page as a stream's version sends it, and the frame that offers a guest.
-use Rattle.std.proofs.Common.{◌≡◌, ℕ, ◌*◌, ◌<◌, ◌≤◌, Bool, true, false, ◌&&◌, ◌==◌, if◌then◌else◌, List, length, refl, sym, ap, ◌∙◌, arith}
-use Rattle.std.specs.List.{list_all}
-use Rattle.std.proofs.lemmas.Bool.{eq-eqb}
+use Rattle.std.proofs.Common.{◌≡◌, ◌↔◌, ℕ, ◌*◌, ◌<◌, ◌≤◌, Bool, true, false, ◌&&◌, if◌then◌else◌, List, length, refl, sym, ap, ◌∙◌, arith}
+use Rattle.std.proofs.lemmas.Bool.{false≢true}
 use Rattle.std.proofs.lemmas.Bool.Decides.{nat_tests}
 use Rattle.rvm_mem.specs.Pages as mem
 use Rattle.rvm_debug.specs.Guest.{Guest}
@@ -20,8 +19,15 @@ pub if_false : {X : Type 0} (b : Bool) (x y : X) → b ≡ false → (if b then 
 if_false true x y h = absurd (cc)
 if_false false x y h = refl
 
-pub zeros_are : (bytes : List ℕ) (all : Bool) → length bytes ≡ 4096 → all ≡ list_all (λ b. b == 0) bytes → all ≡ is_zeros bytes
-zeros_are bytes all long is = is ∙ ap (λ t. t && list_all (λ b. b == 0) bytes) (sym (eq-eqb _ _ long))
+none_is : (b : Bool) → (b ≡ true → ⊥) → false ≡ b
+none_is true never = absurd (never refl)
+none_is false never = refl
+
+-- it is told exactly whether bytes are a page of zeros
+pub zeros_are : (bytes : List ℕ) (told : Bool) → (told ≡ true ↔ bytes ≡ zeros) → told ≡ is_zeros bytes
+unfolding board
+zeros_are bytes true is = sym (ap is_zeros (is.0 refl))
+zeros_are bytes false is = none_is (is_zeros bytes) (λ all. false≢true (is.1 (board.only_zeros_pass bytes all)))
 
 -- a guest has as many pages as its dirty log
 pub count_is : (g : Guest) (pages bytes : ℕ) → bytes ≡ size_of g → bytes ≡ 4096 * pages → page_count board g ≡ pages

@@ -7,4 +7,3 @@ mod Pieces
 mod Sending
 mod Sendings
 mod Covering
-mod Zeros

@@ -1,11 +1,9 @@
 //! The frame of a copy of a page.
 
-ghost use Rattle.std.specs.Prelude.{◌≡◌, ◌<◌, ◌≤◌, ◌==◌, [], length, Some};
-ghost use Rattle.std.specs.List.{list_all};
+ghost use Rattle.std.specs.Prelude.{◌≡◌, ◌<◌, [], length, Some};
 ghost use Rattle.rvm_protocol.specs.Frames as protocol;
 ghost use Rattle.rvm_protocol.specs.Rounds.{page_of};
 ghost use Rattle.rvm_guest.proofs.TheGuest.{board};
-ghost use Rattle.rvm_guest.specs.Pages.{is_zeros};
 ghost use Rattle.rvm_message.specs.Frames.{frame_of};
 ghost use Rattle.rvm_message.specs.Sendable.{CanBeSent};
 
@@ -36,37 +34,19 @@ pub(crate) fn page_frame<M: PagedMemory>(
 {
     let _size = guest.memory().len();
     let copy = guest.memory().page(u32::from(page));
-    if version >= 2 && is_zeros(copy) {
+    part.fill(copy);
+    let bytes = part.into_page();
+    if version >= 2 && bytes.is_zeros() {
         return Frame::Zero {
             move_number,
             page,
             copy_number,
         };
     }
-    part.fill(copy);
     Frame::Page {
         move_number,
         page,
         copy_number,
-        bytes: part.into_page(),
+        bytes,
     }
-}
-
-/// Whether the bytes of a page are all zeros.
-fn is_zeros(bytes: &[u8; PAGE_SIZE as usize]) -> bool
-    ensures { result ≡ is_zeros bytes.now }
-{
-    all_zeros(bytes)
-}
-
-/// Whether bytes are all zeros: they are just where their sum is 0, which is found many at a time.
-fn all_zeros(bytes: &[u8]) -> bool
-    requires { length bytes.now ≤ 4096 }
-    ensures { result ≡ list_all (λ b. b == 0) bytes.now }
-{
-    let mut sum: u32 = 0;
-    for byte in bytes {
-        sum += u32::from(*byte);
-    }
-    sum == 0
 }
