@@ -3,10 +3,11 @@
 
 - host instructions a step of the guest, beside those of `rvmove run`, by valgrind's cachegrind: the difference of
   two moves of the same guest over their difference in steps, so that start and end do not count;
-- the time of a move of 4096 pages that nobody writes, in each version, best of some runs that alternate with those it
-  is compared with: a run of the same image, that is to load it; and a plain copy of as many pages over a loopback
-  socket in C (`pages.c`), whose target throws them away, puts them into memory, or also keeps them as journals do. How
-  long the copier slept in that move, its answers tell. What is left beside load and sleeps is for the pages;
+- the time of a move of 4096 pages that nobody writes, all of them zeros or none, in each version, best of some runs that
+  alternate with those it is compared with: a run of the same image, that is to load it; and a plain copy of as many
+  pages over a loopback socket in C (`pages.c`), whose target throws them away, puts them into memory, or also keeps them
+  as journals do. How long the copier slept in that move, its answers tell. What is left beside load and sleeps is for
+  the pages;
 - the same with large pages for the heap, as docs/OPERATING.md has it.
 
     bench/threads.py [TIMES [ROUNDS]]      TIMES runs each, 5 where it is not given, in so many rounds, 1 where it is not
@@ -46,12 +47,12 @@ def copied(mode):
     return float(subprocess.run([PAGES_PROGRAM, mode], check=True, capture_output=True, text=True).stdout)
 
 
-def command_for(command, pages, *options):
-    """A command over an image of so many pages, of which the guest makes one step."""
-    image = os.path.join(BUILD, f"still-{pages}.bin")
+def command_for(command, filled, *options):
+    """A command over a RAM of all pages, which the image fills or leaves zeros. The guest makes one step."""
+    image = os.path.join(BUILD, "still-filled.bin" if filled else "still.bin")
     with open(image, "wb") as file:
-        file.write(b"\x6f\x00\x00\x00" + b"\xff" * (pages * 4096 - 4))
-    return [PROGRAM, command, image, "--raw", "--steps", "1", "--pages", str(pages), *options]
+        file.write(b"\x6f\x00\x00\x00" + b"\xff" * (PAGES * 4096 - 4 if filled else 0))
+    return [PROGRAM, command, image, "--raw", "--steps", "1", "--pages", str(PAGES), *options]
 
 
 def taken(words):
@@ -80,10 +81,10 @@ def slept(answers):
     return sum(sleep_length(millis) * len(re.findall(answer, at_a, re.M)) for answer, millis in SLEEPS)
 
 
-def one_round(times):
+def one_round(times, filled):
     """What a round of so many runs tells, by its name: times in milliseconds, and how they compare with a plain copy."""
-    load = command_for("run", PAGES)
-    moves = [command_for("move", PAGES, "--stream", str(version)) for version in VERSIONS]
+    load = command_for("run", filled)
+    moves = [command_for("move", filled, "--stream", str(version)) for version in VERSIONS]
     runs = [([copied(mode) for mode in MODES], taken(load), [taken(move) for move in moves]) for _ in range(times)]
     plain = {mode: min(run[0][place] for run in runs) for place, mode in enumerate(MODES)}
     loaded, _ = min(run[1] for run in runs)
@@ -102,9 +103,11 @@ def one_round(times):
 
 def measure_pages(times, rounds):
     """Prints the times of moves, and of what they are compared with, the lowest and the highest of some rounds."""
-    told = [one_round(times) for _ in range(rounds)]
-    for name in told[0]:
-        print(f"  {name}: {min(it[name] for it in told):.1f} to {max(it[name] for it in told):.1f}")
+    for filled, pages in ((True, "no page is zeros"), (False, "all pages are zeros")):
+        told = [one_round(times, filled) for _ in range(rounds)]
+        print(f"  {pages}:")
+        for name in told[0]:
+            print(f"    {name}: {min(it[name] for it in told):.1f} to {max(it[name] for it in told):.1f}")
 
 
 def main():

@@ -1,12 +1,11 @@
 -- The lowest place of each frame.
 use Rattle.std.proofs.Common.{◌≡◌, ◌∙◌, ℕ, ◌+◌, ◌<◌, ◌≤◌, Bool, true, false, List, [], ◌∷◌, ◌++◌, Option, length, length-append, Some, None, refl, sym, ap, arith, inl, inr, if◌then◌else◌}
-use Rattle.std.specs.Prelude.{slice_get, is_some, bytes_eq, ◌⊎◌}
+use Rattle.std.specs.Prelude.{Vec, slice_get, is_some, bytes_eq, ◌⊎◌}
 use Rattle.std.proofs.lemmas.Slice.Eq.{bytes_eq-Decides}
 use Rattle.std.proofs.lemmas.Option.{slice_get_within, same_Some, some_pair_parts}
 use Rattle.rvm_audit.specs.declared.side.Side.{Side}
 use Rattle.rvm_audit.specs.declared.side.Side.TheVariants.{First, Second}
 use Rattle.std.specs.BTreeMap.{BTreeMap, is_at}
-use Rattle.std.specs.Borrow.{Bor}
 use Rattle.std.specs.Cmp.Lexicographic.{slice_cmp}
 use Rattle.std.specs.Map.{lookup}
 use Rattle.std.specs.Ordering.{nat_cmp}
@@ -141,9 +140,9 @@ noted_before new place n p is bytes = by_test (bytes_eq new bytes) (p bytes) (λ
   by_test true None h = absurd (let z = h refl in cc)
   by_test false None h = refl
 
-no_place : (map : BTreeMap (Bor (List ℕ)) ℕ) → map.entries ≡ [] → (bytes : List ℕ) → places_of map bytes ≡ None
+no_place : {A : Type 0} (map : BTreeMap (Vec ℕ A) ℕ) → map.entries ≡ [] → (bytes : List ℕ) → places_of map bytes ≡ None
 unfolding places_of
-no_place map is bytes = ap (λ es. lookup (is_at (λ (key : Bor (List ℕ)). slice_cmp nat_cmp bytes key.now)) es) is
+no_place {A} map is bytes = ap (λ es. lookup (is_at (λ (key : Vec ℕ A). slice_cmp nat_cmp bytes key.items)) es) is
 
 -- before the first frame
 pub no_places : (x : Side) (m : Merge) → m.first.entries ≡ [] → m.second.entries ≡ [] → (bytes : List ℕ)

@@ -7,3 +7,4 @@ pub mod Dead
 pub mod Moves
 pub mod Heard
 pub mod Law
+mod Keys

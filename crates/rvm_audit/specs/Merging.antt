@@ -1,7 +1,6 @@
 -- Where a merge has come.
-use Rattle.std.specs.Prelude.{◌≡◌, ◌⊎◌, ℕ, ◌+◌, ◌≤◌, List, [], ◌∷◌, ◌++◌, length, Option, Some, None, slice_get, is_some, if◌then◌else◌}
+use Rattle.std.specs.Prelude.{◌≡◌, ◌⊎◌, ℕ, ◌+◌, ◌≤◌, List, [], ◌∷◌, ◌++◌, length, Option, Some, None, Vec, slice_get, is_some, if◌then◌else◌}
 use Rattle.std.specs.BTreeMap.{BTreeMap, get_by}
-use Rattle.std.specs.Borrow.{Bor}
 use Rattle.rvm_frame.specs.declared.frame.Frame.{Frame}
 use Rattle.std.specs.Cmp.Lexicographic.{slice_cmp}
 use Rattle.std.specs.Ordering.{nat_cmp}
@@ -20,8 +19,8 @@ use Rattle.rvm_audit.specs.Pairs.{HasBytes, number_of, other}
 abbrev pub Places : Type 0
 Places = List ℕ → Option ℕ
 
-unfoldable pub places_of : BTreeMap (Bor (List ℕ)) ℕ → Places
-places_of map bytes = get_by (λ key. slice_cmp nat_cmp bytes key.now) map
+unfoldable pub places_of : {A : Type 0} → BTreeMap (Vec ℕ A) ℕ → Places
+places_of map bytes = get_by (λ key. slice_cmp nat_cmp bytes key.items) map
 
 -- where one more frame was made, if one was: bytes that have a place keep it
 abbrev pub noted : Option (List ℕ) → (place : ℕ) → Places → Places

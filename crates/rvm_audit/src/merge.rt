@@ -18,17 +18,17 @@ use std::collections::BTreeMap;
 
 /// The events that were put in order, and where the frames of each host were first made.
 #[derive(Drop)]
-pub(crate) struct Merge<'a> {
+pub(crate) struct Merge {
     pub(crate) events: Vec<Event>,
-    pub(crate) first: Places<'a>,
-    pub(crate) second: Places<'a>,
+    pub(crate) first: Places,
+    pub(crate) second: Places,
     /// How many frames were made.
     pub(crate) made: u64,
 }
 
-impl<'a> Merge<'a> {
+impl Merge {
     /// Nothing.
-    pub(crate) fn new(alloc: Global) -> Merge<'a>
+    pub(crate) fn new(alloc: Global) -> Merge
         ensures events { result.events.items ≡ [] }
         ensures places { (x : Side) (bytes : List ℕ) → places_at x result bytes ≡ None }
         ensures made { result.made ≡ 0 }
@@ -67,8 +67,9 @@ impl<'a> Merge<'a> {
     /// Puts an event behind the others, and notes where its frame was made.
     pub(crate) fn take(
         &mut self,
+        alloc: Global,
         side: Side,
-        entry: &'a Entry,
+        entry: &Entry,
         event: Event,
     ) -> Result<(), AllocError>
         requires { self.old.made < 2 ^ 64 - 1 }
@@ -76,17 +77,17 @@ impl<'a> Merge<'a> {
             (places_at side) (places_at (other side))) }
     {
         self.events.push(event)?;
-        if let Some(bytes) = entry.frame() {
-            self.note(side, bytes.as_slice())?;
+        if let Some(frame) = entry.frame() {
+            self.note(side, frame.to_vec(alloc)?)?;
         }
         Ok(())
     }
 
     /// Notes where a frame was made.
-    fn note(&mut self, side: Side, bytes: &'a [u8]) -> Result<(), AllocError>
+    fn note(&mut self, side: Side, bytes: Vec<u8>) -> Result<(), AllocError>
         requires { self.old.made < 2 ^ 64 - 1 }
         ensures events { OnOk result (self.new.events ≡ self.old.events) }
-        ensures noted { OnOk result (IsNoted self.old self.new (Some bytes.now)
+        ensures noted { OnOk result (IsNoted self.old self.new (Some bytes.items)
             (places_at side) (places_at (other side))) }
     {
         match side {

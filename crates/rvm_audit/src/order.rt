@@ -40,12 +40,12 @@ pub fn audit<M: PagedMemory + Drop, N: PagedMemory + Drop>(
     while i < xs.len() || j < ys.len() {
         match merge.next(alloc, Side::First, first.version(), xs, i)? {
             Some(event) => {
-                merge.take(Side::First, &xs[i], event)?;
+                merge.take(alloc, Side::First, &xs[i], event)?;
                 i += 1;
             }
             None => match merge.next(alloc, Side::Second, second.version(), ys, j)? {
                 Some(event) => {
-                    merge.take(Side::Second, &ys[j], event)?;
+                    merge.take(alloc, Side::Second, &ys[j], event)?;
                     j += 1;
                 }
                 None => return Err(AuditError::NoOrder { i, j }),

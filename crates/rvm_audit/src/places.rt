@@ -8,7 +8,7 @@ use std::alloc::AllocError;
 use std::collections::BTreeMap;
 
 /// The place of the first frame of some bytes, found in logarithmic time.
-pub(crate) type Places<'a> = BTreeMap<&'a [u8], u64>;
+pub(crate) type Places = BTreeMap<Vec<u8>, u64>;
 
 /// The place of the first frame of these bytes.
 #[tactic(auto, unfolding(crate::specs::Merging::places_of))]
@@ -20,28 +20,20 @@ pub(crate) fn lookup(places: &Places, bytes: &[u8]) -> Option<u64>
 
 /// Gives bytes a place, instead of the one that they may have.
 #[tactic(auto, unfolding(crate::specs::Merging::places_of))]
-pub(crate) fn insert<'a>(
-    places: &mut Places<'a>,
-    bytes: &'a [u8],
-    place: u64,
-) -> Result<(), AllocError>
+pub(crate) fn insert(places: &mut Places, bytes: Vec<u8>, place: u64) -> Result<(), AllocError>
     ensures { OnOk result ((other : List ℕ) → places_of places.new other
-        ≡ (if bytes_eq bytes.now other then Some place else places_of places.old other)) }
+        ≡ (if bytes_eq bytes.items other then Some place else places_of places.old other)) }
 {
     places.insert(bytes, place)?;
     Ok(())
 }
 
 /// Notes the place of bytes that have none yet.
-pub(crate) fn note<'a>(
-    places: &mut Places<'a>,
-    bytes: &'a [u8],
-    place: u64,
-) -> Result<(), AllocError>
+pub(crate) fn note(places: &mut Places, bytes: Vec<u8>, place: u64) -> Result<(), AllocError>
     ensures { OnOk result ((other : List ℕ) → places_of places.new other
-        ≡ noted (Some bytes.now) place (places_of places.old) other) }
+        ≡ noted (Some bytes.items) place (places_of places.old) other) }
 {
-    if lookup(places, bytes).is_none() {
+    if lookup(places, bytes.as_slice()).is_none() {
         insert(places, bytes, place)?;
     }
     Ok(())

@@ -1,3 +1,4 @@
 pub mod Replays
 pub mod Slices
 pub mod Sends
+pub mod Kept

@@ -1,7 +1,8 @@
--- Frames whose bytes can be kept.
-use Rattle.std.specs.Prelude.{ℕ, ◌≤◌, length, Option, Some, None}
+-- Frames whose bytes can be kept, and what is told by those that are.
+use Rattle.std.specs.Prelude.{ℕ, ◌≤◌, ◌==◌, List, [], ◌∷◌, ◌++◌, if◌then◌else◌, length, Option, Some, None}
 use Rattle.rvm_frame.specs.declared.addressed.Addressed.{Addressed}
 use Rattle.rvm_frame.specs.Grammar.{HasSpelling, sent, spelling}
+use Rattle.rvm_frame.specs.Pages.{zeros}
 
 -- a frame has a spelling of at most so many bytes
 pub record Fits (version most : ℕ) (a : Addressed) : Type 0 where
@@ -12,3 +13,8 @@ pub record Fits (version most : ℕ) (a : Addressed) : Type 0 where
 abbrev pub CanBeKept : (version most : ℕ) → Option Addressed → Type 0
 CanBeKept version most None = Unit {0}
 CanBeKept version most (Some a) = Fits version most a
+
+-- bytes, by what is kept of them: behind a 0 all, behind any other number those before a page of zeros
+abbrev pub told : List ℕ → List ℕ
+told [] = []
+told (first ∷ front) = if first == 0 then front else front ++ zeros

@@ -5,7 +5,7 @@ ghost use Rattle.rvm_journal.specs.Entries.{exchange_of, silent};
 ghost use Rattle.rvm_message.specs.Exchanges.{step_of_hart};
 ghost use Rattle.rvm_message.specs.Steps.{reply_to_step};
 
-use rvm_frame::Bytes;
+use crate::frame_bytes::FrameBytes;
 use rvm_message::{Exchange, StepReply};
 use std::marker::Model;
 
@@ -13,7 +13,7 @@ use std::marker::Model;
 #[derive(Drop)]
 pub struct Entry {
     pub(crate) exchange: Exchange,
-    pub(crate) frame: Option<Bytes>,
+    pub(crate) frame: Option<FrameBytes>,
 }
 
 impl Model for Entry {
@@ -43,7 +43,7 @@ impl Entry {
     }
 
     /// The bytes of the frame that the event made, if it made one.
-    pub fn frame(&self) -> &Option<Bytes>
+    pub fn frame(&self) -> &Option<FrameBytes>
         ensures { result.now ≡ self.now.frame }
     {
         &self.frame

@@ -3,17 +3,19 @@
 //!
 //! Stands on `rvm_core`, and knows nothing of threads, locks or links.
 //!
-//! To be read in this order: `entry`, `journal`, `error`, `recorded`, `slice`.
+//! To be read in this order: `frame_bytes`, `entry`, `journal`, `error`, `recorded`, `slice`.
 #![tactic(auto)]
 
 mod entry;
 mod error;
+mod frame_bytes;
 mod journal;
 mod recorded;
 mod slice;
 
 pub use entry::Entry;
 pub use error::{RecordError, SliceError};
+pub use frame_bytes::FrameBytes;
 pub use journal::Journal;
 pub use recorded::{MAX_CAPACITY, Recorded};
 pub use slice::hart_of_turn;

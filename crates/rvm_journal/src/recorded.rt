@@ -11,9 +11,10 @@ ghost use Rattle.rvm_message.specs.Steps.{reply_to_step};
 
 use crate::entry::Entry;
 use crate::error::RecordError;
+use crate::frame_bytes::FrameBytes;
 use crate::journal::{Journal, make_room};
 use rvm_core::{BadSize, Host};
-use rvm_frame::{Addressed, Bytes, append_frame};
+use rvm_frame::Addressed;
 use rvm_mem::PagedMemory;
 use rvm_message::{Exchange, ExchangeRoom, HostEvent, HostReply, StepReply};
 use std::alloc::Global;
@@ -130,7 +131,7 @@ impl<M: PagedMemory + Drop> Recorded<M> {
         if make_room(alloc, &mut journal.entries, &mut journal.rooms, 1).is_err() {
             return Err((RecordError::OutOfMemory, event));
         }
-        let Ok(bytes) = Vec::with_capacity(alloc, host.frame_bound(&event)) else {
+        let Ok(room) = FrameBytes::room(alloc, host.frame_bound(&event)) else {
             return Err((RecordError::OutOfMemory, event));
         };
         let Ok((reply, frame)) = host.apply(alloc, &event) else {
@@ -142,7 +143,7 @@ impl<M: PagedMemory + Drop> Recorded<M> {
             event,
             &reply,
             &frame,
-            bytes,
+            room,
         );
         journal.entries.push_reserved(entry);
         journal.reserved = left;
@@ -203,11 +204,11 @@ fn keep(
     event: HostEvent,
     reply: &HostReply,
     frame: &Option<Addressed>,
-    bytes: Vec<u8>,
+    room: Vec<u8>,
 ) -> Entry
     requires room { 0 < vec_len rooms.old }
-    requires empty { bytes.items ≡ [] }
-    requires fits { CanBeKept version (vec_capacity bytes) frame.now }
+    requires empty { room.items ≡ [] }
+    requires fits { CanBeKept version (vec_capacity room - 1) frame.now }
     ensures entry { result ≡ record {
       event = event;
       reply = reply.now;
@@ -217,7 +218,7 @@ fn keep(
 {
     Entry {
         exchange: keep_exchange(rooms, event, reply.copy()),
-        frame: spell(version, frame, bytes),
+        frame: spell(version, frame, room),
     }
 }
 
@@ -236,15 +237,12 @@ fn keep_exchange(rooms: &mut Vec<ExchangeRoom>, event: HostEvent, reply: HostRep
     Exchange::new(room, event, reply)
 }
 
-/// The bytes of a frame, if one was made, in room that is there; what it does not need is given back.
-fn spell(version: u32, frame: &Option<Addressed>, bytes: Vec<u8>) -> Option<Bytes>
-    requires empty { bytes.items ≡ [] }
-    requires fits { CanBeKept version (vec_capacity bytes) frame.now }
+/// The bytes of a frame, if one was made, in room that is there.
+fn spell(version: u32, frame: &Option<Addressed>, room: Vec<u8>) -> Option<FrameBytes>
+    requires empty { room.items ≡ [] }
+    requires fits { CanBeKept version (vec_capacity room - 1) frame.now }
     ensures { result ≡ bytes_of version frame.now }
 {
-    let mut bytes = bytes;
     let frame = frame.as_ref()?;
-    append_frame(version, frame, &mut bytes);
-    bytes.shrink_to_fit();
-    Some(Bytes::from_vec(bytes))
+    Some(FrameBytes::of_frame(version, frame, room))
 }

@@ -1,0 +1,116 @@
+//! The bytes of a frame, as a journal keeps them.
+
+ghost use Rattle.std.specs.Prelude.{◌≡◌, ◌-◌, ◌≤◌, ◌++◌, true, [], drop, length, IfOk, IsOk, Some, slice_get, vec_capacity};
+ghost use Rattle.rvm_frame.specs.Grammar.{sent, spelling};
+ghost use Rattle.rvm_frame.specs.Pages.{zeros};
+ghost use Rattle.rvm_journal.specs.Keeping.{Fits, told};
+
+use rvm_frame::{Addressed, Frame, append_frame};
+use rvm_mem::PAGE_SIZE;
+use std::alloc::{AllocError, Global};
+use std::marker::Model;
+
+/// How many bytes a page has.
+const PAGE: usize = PAGE_SIZE as usize;
+
+/// The first byte where nothing stands behind those that are kept.
+const WHOLE: u8 = 0;
+
+/// The first byte where a page of zeros stands behind them.
+const BEFORE_ZEROS: u8 = 1;
+
+/// The bytes of a frame. Those of a page of zeros at their end are not kept.
+#[derive(Drop)]
+pub struct FrameBytes {
+    /// `WHOLE` or `BEFORE_ZEROS`, and the bytes that are kept.
+    kept: Vec<u8>,
+}
+
+impl Model for FrameBytes {
+    ghost use Rattle.std.specs.Prelude.{List, ℕ};
+    ghost use Rattle.rvm_journal.specs.Keeping.{told};
+
+    ghost Value = { List ℕ };
+
+    ghost view = { λ b. told b.kept.items };
+}
+
+impl FrameBytes {
+    /// Room for the bytes of a frame that has at most so many; none for 0.
+    pub(crate) fn room(alloc: Global, most: usize) -> Result<Vec<u8>, AllocError>
+        ensures empty { IfOk result (λ v. v.items ≡ []) }
+        ensures room { IfOk result (λ v. most ≤ vec_capacity v - 1) }
+        ensures none { most ≡ 0 → IsOk result }
+    {
+        if most == 0 {
+            return Ok(Vec::new(alloc));
+        }
+        let Some(count) = most.checked_add(1) else {
+            return Err(AllocError);
+        };
+        Vec::with_capacity(alloc, count)
+    }
+
+    /// The bytes of a frame, in room that is there; what they do not need is given back.
+    pub(crate) fn of_frame(version: u32, addressed: &Addressed, room: Vec<u8>) -> FrameBytes
+        requires empty { room.items ≡ [] }
+        requires fits { Fits version (vec_capacity room - 1) addressed.now }
+        ensures { result ≡ spelling (sent version addressed.now) }
+    {
+        let mut kept = room;
+        kept.push_reserved(WHOLE);
+        append_frame(version, addressed, &mut kept);
+        if let Frame::Page { bytes, .. } = &addressed.frame {
+            if bytes.is_zeros() {
+                leave_out(&mut kept, bytes.as_array());
+            }
+        }
+        kept.shrink_to_fit();
+        FrameBytes { kept }
+    }
+
+    /// All of the bytes.
+    pub fn to_vec(&self, alloc: Global) -> Result<Vec<u8>, AllocError>
+        ensures { IfOk result (λ v. v.items ≡ self.now) }
+    {
+        let [first, front @ ..] = self.kept.as_slice() else {
+            return Ok(Vec::new(alloc));
+        };
+        if *first == WHOLE {
+            return Vec::from_slice(alloc, front);
+        }
+        with_zeros(alloc, front)
+    }
+}
+
+/// Bytes and a page of zeros behind them.
+fn with_zeros(alloc: Global, front: &[u8]) -> Result<Vec<u8>, AllocError>
+    ensures { IfOk result (λ v. v.items ≡ front.now ++ zeros) }
+{
+    let mut bytes = Vec::from_slice(alloc, front)?;
+    bytes.extend_from_slice(&[0; PAGE])?;
+    Ok(bytes)
+}
+
+/// Leaves out the last bytes, where they are this page of zeros.
+fn leave_out(kept: &mut Vec<u8>, page: &[u8; PAGE])
+    requires first { slice_get kept.old.items 0 ≡ Some 0 }
+    requires page { page.now ≡ zeros }
+    ensures { told kept.new.items ≡ told kept.old.items }
+{
+    let front = kept.len().saturating_sub(PAGE);
+    if front == 0 || !is_behind(kept.as_slice(), front, page) {
+        return;
+    }
+    kept.truncate(front);
+    kept[0] = BEFORE_ZEROS;
+}
+
+/// Whether bytes are a page behind so many first ones.
+fn is_behind(bytes: &[u8], front: usize, page: &[u8; PAGE]) -> bool
+    requires { front ≤ length bytes.now }
+    ensures { result ≡ true → drop front bytes.now ≡ page.now }
+{
+    let (_, rest) = bytes.split_at(front);
+    rest == page.as_slice()
+}
