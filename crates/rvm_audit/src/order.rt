@@ -23,7 +23,8 @@ use std::alloc::Global;
 /// in which each host has the entries of its journal. At each point it takes the first host's next event
 /// where that can stand, else the second host's. A command stands anywhere. A frame that came stands once
 /// the other host has made one of its bytes, and names the lowest of these. Where neither host's next
-/// event can stand, and one of them has one, there is no order.
+/// event can stand, and one of them has one, there is no order (`NoOrder`). `OutOfMemory` where a growth was
+/// refused.
 pub fn audit<M: PagedMemory + Drop, N: PagedMemory + Drop>(
     alloc: Global,
     first: &Journal<M>,

@@ -7,7 +7,7 @@ use Rattle.rvm_cell.specs.Receipts.{PlainReceipt}
 use Rattle.rvm_cell.specs.Calls.{AreOfSeat, AreReceipts, IsReceipt, IsSliceCalled, replies_of}
 use Rattle.rvm_cell.specs.Seats.{PlainSeat, seat_of}
 use Rattle.rvm_journal.specs.Entries.{PlainEntry}
-use Rattle.rvm_journal.specs.History.{Recording, count_of}
+use Rattle.rvm_journal.specs.History.{Recording, count_of, with_room}
 use Rattle.rvm_journal.specs.Slices.{IsSliceRecorded, IsSteps, most_of, step_of}
 use Rattle.rvm_message.specs.declared.reply.HostReply.{HostReply}
 use Rattle.rvm_message.specs.Replies.{ends_steps, reply_of}
@@ -64,7 +64,7 @@ slice_called old new seat turn harts n place rs replies is are told = record {
   receipts = subst (λ p. AreReceipts seat p turn harts rs) is.place are;
   recorded = record {
     place = refl;
-    steps = subst (λ xs. IsSteps old turn harts (most_of old n) xs new) (sym told) is.steps;
+    steps = subst (λ xs. IsSteps (with_room old (most_of old n)) turn harts (most_of old n) xs new) (sym told) is.steps;
   };
 }
 

@@ -180,7 +180,8 @@ fn sort_and_compare<L: Seating, M: PagedMemory + Drop>(
 
 /// Ends a shared host: its recorded host, where each place of its journal has exactly one receipt, with
 /// the event and the reply of that place, the receipts of each seat rise in place as they rise in count,
-/// and all seats are there. Else everything comes back. It may wait for another thread.
+/// and all seats are there. Else everything comes back, with `Mismatch` or, where a growth was refused,
+/// `OutOfMemory`.
 pub fn close<L: Seating, M: PagedMemory + Drop, R: Wait>(
     _rt: &R,
     alloc: Global,

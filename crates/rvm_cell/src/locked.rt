@@ -3,7 +3,7 @@
 ghost use Rattle.std.specs.Prelude.{◌≡◌, ◌+◌, ◌<◌, ◌≤◌, ◌^◌, [], length, IfOk, IfErr, OnOk, OnErr, vec_capacity};
 ghost use Rattle.rvm_cell.specs.Calls.{AreReceipts, IsCalled, IsReceipt, IsSliceCalled, replies_of};
 ghost use Rattle.rvm_cell.specs.Seats.{seat_of};
-ghost use Rattle.rvm_journal.specs.Errors.{IsRecordError, IsSliceError};
+ghost use Rattle.rvm_journal.specs.Errors.{IsRecordError, IsSized, IsSliceError};
 ghost use Rattle.rvm_journal.specs.History.{count_of};
 ghost use Rattle.rvm_journal.specs.Slices.{replies_to, step_of};
 ghost use Rattle.rvm_message.specs.Steps.{reply_to_step};
@@ -120,10 +120,8 @@ impl<L: Seating, M: PagedMemory + Drop> Locked<L, M> {
         ensures seat { IfOk result (λ v. seat.new ≡ seat_of seat.old.id (seat.old.count + length v.items)) }
         ensures err { OnErr result ((self.new ≡ self.old) × (seat.new ≡ seat.old)) }
         ensures fault { IfErr result (λ e. IsSliceError e harts n (count_of self.old) self.old.capacity) }
+        ensures sized { OnOk result (IsSized harts n) }
     {
-        if harts < 1 {
-            return Err(SliceError::OutOfRange);
-        }
         let Locked { recorded, book, .. } = self;
         let Seat {
             id,

@@ -11,7 +11,7 @@ use crate::locked::Locked;
 use crate::receipt::Receipt;
 use crate::seat::{Seat, Seating};
 use rvm_frame::Addressed;
-use rvm_journal::{RecordError, Recorded, SliceError};
+use rvm_journal::{RecordError, Recorded, SliceError, is_slice_in_range};
 use rvm_mem::PagedMemory;
 use rvm_message::HostEvent;
 use rvm_refusal::Refusal;
@@ -140,7 +140,8 @@ impl<L: Seating, M: PagedMemory + Drop> SharedHost<L, M> {
     }
 
     /// Records a slice of at most n steps, 1 to 64, under one hold of the lock, as `Recorded::record_slice`
-    /// has it: a receipt for each step. It may wait for another thread.
+    /// has it: a receipt for each step. It may wait for another thread. Memory is asked for only where the
+    /// slice is in range.
     pub fn call_slice<R: Wait>(
         &self,
         rt: &R,
@@ -154,8 +155,11 @@ impl<L: Seating, M: PagedMemory + Drop> SharedHost<L, M> {
         ensures steps { IfOk result (λ v. (1 ≤ length v.items) × (length v.items ≤ n)) }
         ensures seat { IfOk result (λ v. seat.new ≡ seat_of seat.old.id (seat.old.count + length v.items)) }
         ensures err { OnErr result (seat.new ≡ seat.old) }
-        ensures range { IfErr result (λ e. e ≡ OutOfRange → IsSized harts n → ⊥) }
+        ensures range { (result ≡ Err OutOfRange) ↔ (IsSized harts n → ⊥) }
     {
+        if !is_slice_in_range(harts, n) {
+            return Err(SliceError::OutOfRange);
+        }
         let Ok(receipts) = Vec::with_capacity(alloc, 64) else {
             return Err(SliceError::OutOfMemory);
         };

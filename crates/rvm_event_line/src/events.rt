@@ -123,7 +123,7 @@ fn write_event<W: Write>(writer: &mut W, event: &Event) -> Result<(), LinkFault>
     Ok(())
 }
 
-/// Writes events, a line each.
+/// Writes events, a line each. `LinkFault` where the writer failed.
 pub fn write_events<W: Write>(writer: &mut W, events: &[Event]) -> Result<(), LinkFault>
     ensures { OnOk result (Appends (W.contents writer.old) (W.contents writer.new) (event_lines events.now)) }
 {

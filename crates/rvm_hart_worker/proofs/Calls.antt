@@ -1,10 +1,11 @@
 -- Calls behind calls.
 use Rattle.std.proofs.Common.{◌≡◌, ◌≢◌, ◌∙◌, ℕ, zero, suc, ◌+◌, ◌-◌, ◌≤◌, Bool, true, false, List, [], ◌∷◌, ◌++◌, append-nil, append_assoc, Option, Some, Result, Ok, Err, refl, sym, ap, map, subst, arith, length}
 use Rattle.std.proofs.lemmas.List.Concat.{flat_map-append}
+use Rattle.std.proofs.lemmas.List.Elements.{All-append, All-cons, All-map, All-nil}
 use Rattle.std.proofs.KnownBytes.{Appends-nil, Appends-trans}
 use Rattle.std.specs.Prelude.{slice_get, ◌%◌, IfErr, IfOk, IfSome, OnErr, ⊤}
 use Rattle.std.specs.Io.KnownBytes.{Appends}
-use Rattle.std.specs.List.{flat_map}
+use Rattle.std.specs.List.{All, flat_map}
 use Rattle.rvm_cell.specs.Receipts.{PlainReceipt}
 use Rattle.rvm_debug.specs.declared.event.BoardEvent.TheVariants as asked
 use Rattle.rvm_message.specs.declared.event.Command.TheVariants as command
@@ -14,7 +15,7 @@ use Rattle.rvm_worker.specs.declared.end.WorkEnd.{WorkEnd}
 use Rattle.rvm_worker.specs.declared.end.WorkEnd.TheVariants.{LinkFault}
 use Rattle.rvm_worker.specs.declared.steps.Steps.{Steps}
 use Rattle.rvm_worker.specs.Work.{IsCall, IsSliceCall, PlainCaller}
-use Rattle.rvm_hart_worker.specs.Calls.{AtA, AtB, Call, EndsDry, HasRun, Made, Written, IsRun, bytes_in, bytes_of, drained_by, found_nothing, in_a, in_b, turns_in}
+use Rattle.rvm_hart_worker.specs.Calls.{AtA, AtB, Call, EndsDry, HasRun, Made, Written, IsRun, bytes_in, bytes_of, drained_by, event_in, found_nothing, in_a, in_b, is_of_run, turns_in}
 use Rattle.rvm_hart_worker.specs.Drains.{is_nothing, told_by}
 use Rattle.rvm_hart_worker.specs.Turns.{AreTurns, Turn, after_step, after_turns, turn_made, turns, turns_of}
 use Rattle.rvm_hart_worker.specs.declared.harts.TurnsEnd.{TurnsEnd}
@@ -24,6 +25,10 @@ use Rattle.rvm_hart_worker.specs.declared.slices.Then.{Then}
 use Rattle.rvm_hart_worker.specs.declared.slices.Then.TheVariants.{GoOn, Elsewhere, Halted}
 use Rattle.rvm_hart_worker.proofs.Turns.{slice_turns, told_a, told_b, turns_on}
 
+-- by this call a run goes on
+abbrev IsOfRun : Call → Type 0
+IsOfRun c = is_of_run (event_in c) ≡ true
+
 -- no call
 pub made_none : (p : PlainCaller × PlainCaller) → Made p p [] [] false
 made_none p = record {
@@ -32,6 +37,7 @@ made_none p = record {
   start_b = refl;
   at_a = sym (append-nil p.0.receipts);
   at_b = sym (append-nil p.1.receipts);
+  only = All-nil IsOfRun;
   told = refl;
   turned = refl;
   ends = λ dry. absurd cc;
@@ -59,6 +65,7 @@ made_both old mid new xs ys ts us first dry p q = record {
   at_b = q.at_b ∙ ap (λ l. l ++ flat_map in_b q.calls) p.at_b
       ∙ append_assoc old.1.receipts (flat_map in_b p.calls) (flat_map in_b q.calls)
       ∙ ap (λ l. old.1.receipts ++ l) (sym (flat_map-append in_b p.calls q.calls));
+  only = All-append IsOfRun p.calls q.calls p.only q.only;
   told = flat_map-append bytes_in p.calls q.calls ∙ ap (λ l. l ++ flat_map bytes_in q.calls) p.told
       ∙ ap (λ l. xs ++ l) q.told;
   turned = flat_map-append turns_in p.calls q.calls ∙ ap (λ l. l ++ flat_map turns_in q.calls) p.turned
@@ -94,14 +101,15 @@ made_on old new bytes ts p = record {
   start_b = p.start_b;
   at_a = p.at_a;
   at_b = p.at_b;
+  only = p.only;
   told = p.told;
   turned = p.turned;
   ends = λ dry. absurd cc;
 }
 
--- a drain
+-- a drain of some bytes
 pub made_drain_at_a : (old new b : PlainCaller) (n : ℕ) (reply : HostReply) → new.start ≡ old.start
-    → IsCall old.seat (event.Do (command.Board (asked.Drain n))) old.receipts new.seat new.receipts reply
+    → IsCall old.seat (event.Do (command.Board (asked.Drain (suc n)))) old.receipts new.seat new.receipts reply
     → Made (old, b) (new, b) (bytes_of (told_by reply)) [] (is_nothing (told_by reply))
 made_drain_at_a old new b n reply same c = record {
   calls = AtA c.receipt ∷ [];
@@ -109,6 +117,7 @@ made_drain_at_a old new b n reply same c = record {
   start_b = refl;
   at_a = c.added;
   at_b = sym (append-nil b.receipts);
+  only = All-cons IsOfRun (AtA c.receipt) [] (ap is_of_run c.of_event.event_is) (All-nil IsOfRun);
   told = append-nil (drained_by c.receipt.event c.receipt.reply)
       ∙ ap (λ e. drained_by e c.receipt.reply) c.of_event.event_is ∙ ap (λ r. bytes_of (told_by r)) c.answered;
   turned = append-nil (turn_made c.receipt.event c.receipt.reply) ∙ ap (λ e. turn_made e c.receipt.reply) c.of_event.event_is;
@@ -121,7 +130,7 @@ made_drain_at_a old new b n reply same c = record {
 }
 
 pub made_drain_at_b : (a old new : PlainCaller) (n : ℕ) (reply : HostReply) → new.start ≡ old.start
-    → IsCall old.seat (event.Do (command.Board (asked.Drain n))) old.receipts new.seat new.receipts reply
+    → IsCall old.seat (event.Do (command.Board (asked.Drain (suc n)))) old.receipts new.seat new.receipts reply
     → Made (a, old) (a, new) (bytes_of (told_by reply)) [] (is_nothing (told_by reply))
 made_drain_at_b a old new n reply same c = record {
   calls = AtB c.receipt ∷ [];
@@ -129,6 +138,7 @@ made_drain_at_b a old new n reply same c = record {
   start_b = same;
   at_a = sym (append-nil a.receipts);
   at_b = c.added;
+  only = All-cons IsOfRun (AtB c.receipt) [] (ap is_of_run c.of_event.event_is) (All-nil IsOfRun);
   told = append-nil (drained_by c.receipt.event c.receipt.reply)
       ∙ ap (λ e. drained_by e c.receipt.reply) c.of_event.event_is ∙ ap (λ r. bytes_of (told_by r)) c.answered;
   turned = append-nil (turn_made c.receipt.event c.receipt.reply) ∙ ap (λ e. turn_made e c.receipt.reply) c.of_event.event_is;
@@ -176,6 +186,17 @@ silent_b (r ∷ rs) steps =
     ap (λ e. drained_by e r.reply ++ flat_map bytes_in (map AtB rs)) here.1
     ∙ silent_b rs (λ k s there. steps (suc k) s there)
 
+-- and a run goes on by each of them
+of_run : (rs : List PlainReceipt)
+    → ((k : ℕ) (r : PlainReceipt) → slice_get rs k ≡ Some r
+    → (hart : ℕ) × (r.event ≡ event.Do (command.Board (asked.Step hart))))
+    → All (λ (r : PlainReceipt). is_of_run r.event ≡ true) rs
+of_run [] steps = All-nil (λ (r : PlainReceipt). is_of_run r.event ≡ true)
+of_run (r ∷ rs) steps =
+    let here = steps zero r refl in
+    All-cons (λ (r : PlainReceipt). is_of_run r.event ≡ true) r rs (ap is_of_run here.1)
+    (of_run rs (λ k s there. steps (suc k) s there))
+
 -- a slice
 module _ (old new : PlainCaller) (turn harts made : ℕ) (last : Then) (steps : Steps) (last_is : last ≡ after_step steps.last)
     (made_is : made ≡ turns_of last steps.count) (same : new.start ≡ old.start)
@@ -204,6 +225,7 @@ module _ (old new : PlainCaller) (turn harts made : ℕ) (last : Then) (steps : 
     start_b = refl;
     at_a = c.added ∙ ap (λ l. old.receipts ++ l) (sym (a_in_a c.receipts));
     at_b = sym (append-nil b.receipts) ∙ ap (λ l. b.receipts ++ l) (sym (a_in_b c.receipts));
+    only = All-map IsOfRun AtA c.receipts (of_run c.receipts of_step);
     told = silent_a c.receipts of_step;
     turned = told_a c.receipts ∙ turned_is;
     ends = λ dry. absurd cc;
@@ -216,6 +238,7 @@ module _ (old new : PlainCaller) (turn harts made : ℕ) (last : Then) (steps : 
     start_b = same;
     at_a = sym (append-nil a.receipts) ∙ ap (λ l. a.receipts ++ l) (sym (b_in_a c.receipts));
     at_b = c.added ∙ ap (λ l. old.receipts ++ l) (sym (b_in_b c.receipts));
+    only = All-map IsOfRun AtB c.receipts (of_run c.receipts of_step);
     told = silent_b c.receipts of_step;
     turned = told_b c.receipts ∙ turned_is;
     ends = λ dry. absurd cc;
@@ -405,6 +428,7 @@ run_told old new before after harts steps end first second run =
       calls = p.made.calls;
       first = p.made.at_a ∙ ap (λ l. l ++ flat_map in_a p.made.calls) first;
       second = p.made.at_b ∙ ap (λ l. l ++ flat_map in_b p.made.calls) second;
+      only = p.made.only;
       turned = subst (AreTurns harts steps end) (sym p.made.turned) run.are;
       written = λ w. subst (λ l. Appends before after l) (sym p.made.told) (p.written w);
       ends = p.made.ends;

@@ -1,5 +1,5 @@
 -- What calls tell, worked out by hand.
-use Rattle.std.proofs.Common.{◌≡◌, false, List, [], ◌∷◌, ◌++◌, length, codes, refl}
+use Rattle.std.proofs.Common.{◌≡◌, true, false, List, [], ◌∷◌, ◌++◌, length, codes, refl}
 use Rattle.std.specs.List.{flat_map}
 use Rattle.rvm_cell.specs.Receipts.{PlainReceipt}
 use Rattle.rvm_debug.specs.declared.event.BoardEvent.{BoardEvent}
@@ -10,7 +10,7 @@ use Rattle.rvm_message.specs.declared.event.HostEvent.TheVariants as event
 use Rattle.rvm_message.specs.declared.reply.HostRefusal.TheVariants as refusal
 use Rattle.rvm_message.specs.declared.reply.HostReply.{HostReply}
 use Rattle.rvm_message.specs.declared.reply.HostReply.TheVariants as reply
-use Rattle.rvm_hart_worker.specs.Calls.{AtA, AtB, Call, EndsDry, bytes_in, in_a, in_b, is_dry, turns_in}
+use Rattle.rvm_hart_worker.specs.Calls.{AtA, AtB, Call, EndsDry, bytes_in, in_a, in_b, is_dry, is_of_run, turns_in}
 use Rattle.rvm_hart_worker.specs.declared.slices.Then.TheVariants.{GoOn, Halted}
 use Rattle.rvm_hart_worker.specs.Turns.{turns}
 
@@ -55,6 +55,26 @@ bytes_are_not_nothing = refl
 
 a_refusal_is_not_nothing : is_dry (AtA (receipt (asked.Drain 256) (reply.Refused refusal.Paused))) ≡ false
 a_refusal_is_not_nothing = refl
+
+-- nor did a drain of no bytes, whatever was there
+a_drain_of_no_bytes_is_not_nothing : is_dry (AtA (receipt (asked.Drain 0) (reply.Board (answer.Bytes [])))) ≡ false
+a_drain_of_no_bytes_is_not_nothing = refl
+
+-- a run goes on by steps and by drains of some bytes, and by nothing else
+a_run_goes_on_by_a_step : is_of_run (event.Do (command.Board (asked.Step 1))) ≡ true
+a_run_goes_on_by_a_step = refl
+
+a_run_goes_on_by_a_drain : is_of_run (event.Do (command.Board (asked.Drain 256))) ≡ true
+a_run_goes_on_by_a_drain = refl
+
+no_run_goes_on_by_a_drain_of_no_bytes : is_of_run (event.Do (command.Board (asked.Drain 0))) ≡ false
+no_run_goes_on_by_a_drain_of_no_bytes = refl
+
+no_run_goes_on_by_input : is_of_run (event.Do (command.Board (asked.Input 120))) ≡ false
+no_run_goes_on_by_input = refl
+
+no_run_goes_on_by_a_poke : is_of_run (event.Do (command.Board (asked.PokeMem 0x80000000 (7 ∷ [])))) ≡ false
+no_run_goes_on_by_a_poke = refl
 
 -- of two harts, from turn 3 on: the third turn halts the board
 three_turns : turns 2 3 3 (Halted 7) ≡ (1, GoOn) ∷ (0, GoOn) ∷ (1, Halted 7) ∷ []

@@ -1,7 +1,7 @@
 -- What a worker at two hosts was told by its calls, and which turns they made.
-use Rattle.std.specs.Prelude.{◌≡◌, ◌≢◌, ℕ, Bool, true, false, List, [], ◌∷◌, ◌++◌, Option, None, Some, Result, Err, is_ok}
+use Rattle.std.specs.Prelude.{◌≡◌, ◌≢◌, ℕ, suc, Bool, true, false, List, [], ◌∷◌, ◌++◌, Option, None, Some, Result, Err, is_ok}
 use Rattle.std.specs.Io.KnownBytes.{Appends}
-use Rattle.std.specs.List.{flat_map}
+use Rattle.std.specs.List.{All, flat_map}
 use Rattle.rvm_cell.specs.Receipts.{PlainReceipt}
 use Rattle.rvm_debug.specs.declared.event.BoardEvent.TheVariants as asked
 use Rattle.rvm_message.specs.declared.event.Command.TheVariants as command
@@ -50,9 +50,20 @@ abbrev pub turns_in : Call → List Turn
 turns_in (AtA r) = turn_made r.event r.reply
 turns_in (AtB r) = turn_made r.event r.reply
 
--- whether an event was a drain that found nothing, by the reply to it
+-- the event of a call
+abbrev pub event_in : Call → HostEvent
+event_in (AtA r) = r.event
+event_in (AtB r) = r.event
+
+-- an event by which a run goes on: a hart steps, or some bytes are drained
+abbrev pub is_of_run : HostEvent → Bool
+is_of_run (event.Do (command.Board (asked.Step hart))) = true
+is_of_run (event.Do (command.Board (asked.Drain (suc n)))) = true
+is_of_run e = false
+
+-- whether an event was a drain of some bytes that found nothing, by the reply to it
 abbrev pub found_nothing : HostEvent → HostReply → Bool
-found_nothing (event.Do (command.Board (asked.Drain n))) r = is_nothing (told_by r)
+found_nothing (event.Do (command.Board (asked.Drain (suc n)))) r = is_nothing (told_by r)
 found_nothing e r = false
 
 abbrev pub is_dry : Call → Bool
@@ -75,14 +86,15 @@ abbrev pub has_none : Option (List ℕ) → Bool
 has_none None = true
 has_none (Some bs) = false
 
--- calls were made by a caller at each of two hosts, whose drains told these bytes, and whose steps made these turns; where
--- `dry`, the last found nothing
+-- calls were made by a caller at each of two hosts, none but steps and drains: the drains told these bytes, and the
+-- steps made these turns; where `dry`, the last call found nothing
 pub record Made (old new : PlainCaller × PlainCaller) (bytes : List ℕ) (turns : List Turn) (dry : Bool) : Type 0 where
   pub calls : List Call
   pub start_a : new.0.start ≡ old.0.start
   pub start_b : new.1.start ≡ old.1.start
   pub at_a : new.0.receipts ≡ old.0.receipts ++ flat_map in_a calls
   pub at_b : new.1.receipts ≡ old.1.receipts ++ flat_map in_b calls
+  pub only : All (λ c. is_of_run (event_in c) ≡ true) calls
   pub told : flat_map bytes_in calls ≡ bytes
   pub turned : flat_map turns_in calls ≡ turns
   pub ends : dry ≡ true → EndsDry calls
@@ -101,13 +113,15 @@ pub record HasRun (old new : PlainCaller × PlainCaller) (before after : Option 
   pub are : AreTurns harts steps end turns
   pub written : Written old new before after (end ≢ Err LinkFault) turns (is_ok end)
 
--- receipts of calls at two hosts, in an order in which the steps are the turns of a run, and of which a writer was given
--- the bytes that drains told, unless it failed; where the run came to its end, the last call is a drain that found nothing
+-- receipts of calls at two hosts, none but steps and drains, in an order in which the steps are the turns of a run, and
+-- of which a writer was given the bytes that drains told, unless it failed; where the run came to its end, the last call
+-- is a drain that found nothing
 pub record IsRun (at_a at_b : List PlainReceipt) (before after : Option (List ℕ)) (works : Type 0) (harts steps : ℕ)
     (end : Result TurnsEnd WorkEnd) : Type 0 where
   pub calls : List Call
   pub first : at_a ≡ flat_map in_a calls
   pub second : at_b ≡ flat_map in_b calls
+  pub only : All (λ c. is_of_run (event_in c) ≡ true) calls
   pub turned : AreTurns harts steps end (flat_map turns_in calls)
   pub written : works → Appends before after (flat_map bytes_in calls)
   pub ends : is_ok end ≡ true → EndsDry calls

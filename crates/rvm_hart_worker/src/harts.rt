@@ -38,8 +38,9 @@ pub struct HartsWorked<A: Seating, B: Seating> {
 /// harts takes a step. What the guest sent is written after each 64 turns, when the board is halted and
 /// at the end. A call that one host refuses, since the guest is not there or paused there, is made at
 /// the other; while both refuse it, it is tried again each millisecond. Each byte that a drain takes is
-/// written once, in order, unless the writer fails, which ends the worker with `LinkFault`. Where the turns
-/// come to their end, the last call is a drain that finds nothing.
+/// written once, in order, unless the writer fails, which ends the worker with `LinkFault`. It makes no
+/// event but steps and drains of some bytes. Where the turns come to their end, the last call is a drain
+/// that finds nothing.
 pub fn hart_worker<
     A: Seating,
     B: Seating,

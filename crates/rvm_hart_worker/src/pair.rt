@@ -6,7 +6,7 @@ ghost use Rattle.rvm_hart_worker.specs.declared.slices.Then.TheVariants.{Elsewhe
 ghost use Rattle.rvm_hart_worker.specs.Drains.{is_nothing, is_refused, told_by};
 ghost use Rattle.rvm_hart_worker.specs.Turns.{after_turns, turns};
 
-use crate::slices::{Slice, Then, is_elsewhere, made_by};
+use crate::slices::{Slice, Then, made_by};
 use rvm_cell::{Seating, SharedHost};
 use rvm_debug::{BoardEvent, BoardReply, DRAIN_SIZE, View};
 use rvm_mem::PagedMemory;

@@ -47,7 +47,7 @@ fn after_answer(answer: &BoardReply) -> Then
 }
 
 /// Whether the guest is not here, or paused here.
-pub(crate) fn is_elsewhere(why: HostRefusal) -> bool
+fn is_elsewhere(why: HostRefusal) -> bool
     ensures { result ≡ is_elsewhere why }
 {
     match why {

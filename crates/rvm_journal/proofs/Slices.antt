@@ -40,12 +40,6 @@ map_snoc : {X Y : Type 0} (f : X → Y) (xs : List X) (x : X) → map f xs ++ f 
 map_snoc f [] x = refl
 map_snoc f (y ∷ xs) x = ap (λ r. f y ∷ r) (map_snoc f xs x)
 
--- room for as many more as the recorder says
-with_rest : (old new : Recording) (entries : List PlainEntry) (rest : ℕ) → new ≡ with_entries old entries rest
-    → new ≡ with_entries old entries new.journal.reserved
-with_rest old new entries rest is =
-    is ∙ ap (λ n. with_entries old entries n) (sym (ap (λ (r : Recording). r.journal.reserved) is))
-
 -- one more step
 module _ (old now new : Recording) (turn harts count : ℕ) (replies more : List StepReply) (hart : ℕ)
     (reply : StepReply) (going : IsGoing old turn harts count replies now)
@@ -118,5 +112,5 @@ module _ (old now new : Recording) (turn harts count : ℕ) (replies more : List
               (λ _. is) k x at (omega (arith, many_more, is_last)));
         };
         replies_are = replies_more;
-        next = with_rest old new all (old.journal.reserved - (count + 1)) next_more;
+        next = next_more ∙ ap (λ n. with_entries old all (old.journal.reserved - n)) (sym many_more);
       }

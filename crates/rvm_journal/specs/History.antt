@@ -1,5 +1,5 @@
 -- A journal and a recorder as contracts see them.
-use Rattle.std.specs.Prelude.{◌≡◌, ℕ, ◌+◌, ◌-◌, ◌<◌, ◌≤◌, Bool, true, false, List, [], ◌∷◌, ◌++◌, length, Option, Some, None}
+use Rattle.std.specs.Prelude.{◌≡◌, ℕ, ◌+◌, ◌-◌, ◌<◌, ◌≤◌, Bool, true, false, List, [], ◌∷◌, ◌++◌, length, max, Option, Some, None}
 use Rattle.rvm_core.specs.Hosts.{PlainHost, host_of}
 use Rattle.rvm_frame.specs.declared.addressed.Addressed.{Addressed}
 use Rattle.rvm_frame.specs.Grammar.{sent, spelling}
@@ -40,6 +40,10 @@ count_of r = length r.journal.entries
 abbrev pub with_entries : Recording → List PlainEntry → (reserved : ℕ) → Recording
 with_entries r xs n =
     record r { journal = record r.journal { entries = r.journal.entries ++ xs; reserved = n } }
+
+-- with room for at least so many more
+abbrev pub with_room : Recording → (n : ℕ) → Recording
+with_room r n = record r { journal = record r.journal { reserved = max r.journal.reserved n } }
 
 -- the bytes of a frame that was made, if any
 abbrev pub bytes_of : (version : ℕ) → Option Addressed → Option (List ℕ)

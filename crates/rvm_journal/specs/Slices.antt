@@ -1,7 +1,7 @@
 -- A slice: steps of harts in turn, recorded one behind the other.
 use Rattle.std.specs.Prelude.{◌≡◌, ℕ, suc, ◌+◌, ◌-◌, ◌%◌, ◌<◌, ◌≤◌, min, true, false, List, length, map, slice_get, Some, None}
 use Rattle.rvm_journal.specs.Entries.{PlainEntry}
-use Rattle.rvm_journal.specs.History.{Recording, count_of, with_entries}
+use Rattle.rvm_journal.specs.History.{Recording, count_of, with_entries, with_room}
 use Rattle.rvm_message.specs.declared.event.HostEvent.{HostEvent}
 use Rattle.rvm_message.specs.declared.reply.HostReply.{HostReply}
 use Rattle.rvm_message.specs.declared.step.StepReply.{StepReply}
@@ -29,19 +29,20 @@ pub record IsSlice (turn harts most : ℕ) (xs : List PlainEntry) : Type 0 where
   pub ended : (k : ℕ) (x : PlainEntry) → slice_get xs k ≡ Some x → suc k ≡ length xs → length xs < most
       → ends_steps (reply_of x.reply) ≡ true
 
--- the steps of a slice of at most so many were recorded, with these replies, and nothing else changed
+-- steps of a slice of at most so many were recorded, with these replies, in room that was there; nothing else changed
 pub record IsSteps (old : Recording) (turn harts most : ℕ) (replies : List HostReply) (new : Recording) : Type 0 where
   pub entries : List PlainEntry
   pub slice : IsSlice turn harts most entries
   pub replies_are : replies ≡ map (λ x. x.reply) entries
-  pub next : new ≡ with_entries old entries new.journal.reserved
+  pub next : new ≡ with_entries old entries (old.journal.reserved - length entries)
 
 -- as many steps as were asked for, or as there are places
 abbrev pub most_of : (r : Recording) → (n : ℕ) → ℕ
 most_of r n = min n (r.capacity - count_of r)
 
--- a slice was recorded from this place on, with these replies, and nothing else changed
+-- room was made for a slice, and it was recorded from this place on, with these replies; nothing else changed, so the
+-- room that it did not take is there for what comes
 pub record IsSliceRecorded (old : Recording) (turn harts n : ℕ) (answer : ℕ × List HostReply) (new : Recording)
     : Type 0 where
   pub place : answer.0 ≡ count_of old
-  pub steps : IsSteps old turn harts (most_of old n) answer.1 new
+  pub steps : IsSteps (with_room old (most_of old n)) turn harts (most_of old n) answer.1 new

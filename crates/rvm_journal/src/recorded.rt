@@ -1,10 +1,10 @@
 //! A host with its journal.
 
-ghost use Rattle.std.specs.Prelude.{◌≡◌, ◌⊎◌, ◌↔◌, ◌+◌, ◌-◌, ◌∷◌, ◌<◌, ◌≤◌, [], true, max, IfOk, IfErr, IsErr, IsOk, OnErr, OnOk, Some, vec_capacity, vec_len};
+ghost use Rattle.std.specs.Prelude.{◌≡◌, ◌⊎◌, ◌↔◌, ◌+◌, ◌-◌, ◌∷◌, ◌<◌, ◌≤◌, [], true, IfOk, IfErr, IsErr, IsOk, OnErr, OnOk, Some, vec_capacity, vec_len};
 ghost use Rattle.rvm_core.specs.Hosts.{host_of};
 ghost use Rattle.rvm_journal.specs.Entries.{silent};
 ghost use Rattle.rvm_journal.specs.Errors.{IsRecordError, IsReserveError};
-ghost use Rattle.rvm_journal.specs.History.{IsRecorded, bytes_of, count_of, host_now, is_board, with_entries};
+ghost use Rattle.rvm_journal.specs.History.{IsRecorded, bytes_of, count_of, host_now, is_board, with_entries, with_room};
 ghost use Rattle.rvm_journal.specs.Keeping.{CanBeKept};
 ghost use Rattle.rvm_message.specs.Exchanges.{exchange, step_of_hart};
 ghost use Rattle.rvm_message.specs.Steps.{reply_to_step};
@@ -90,9 +90,13 @@ impl<M: PagedMemory + Drop> Recorded<M> {
         self.capacity
     }
 
-    /// The host, where its journal leads, and the journal.
+    /// The host, where its journal leads, with the numbers of the host that opened it, and the journal.
     pub fn into_parts(self) -> (Host<M>, Journal<M>)
         ensures host { host_of result.0 ≡ host_now self }
+        ensures numbers { result.0 ≡ record self.journal.opening {
+          mode = result.0.mode;
+          partner = result.0.partner;
+        } }
         ensures journal { result.1 ≡ self.journal }
     {
         let Recorded {
@@ -170,11 +174,7 @@ impl<M: PagedMemory + Drop> Recorded<M> {
     /// Makes room for n more entries, so that as many events of the guest take no memory. Where fewer
     /// than n places are free, or a growth is refused, nothing has changed.
     pub fn reserve(&mut self, alloc: Global, n: u32) -> Result<(), RecordError>
-        ensures room { OnOk result (self.new ≡ record self.old {
-          journal = record self.old.journal {
-            reserved = max self.old.journal.reserved n;
-          };
-        }) }
+        ensures room { OnOk result (self.new ≡ with_room self.old n) }
         ensures err { OnErr result (self.new ≡ self.old) }
         ensures free { OnOk result (count_of self.old + n ≤ self.old.capacity) }
         ensures fault { IfErr result (λ e. IsReserveError e (count_of self.old) n self.old.capacity) }

@@ -1,9 +1,9 @@
 //! Slices of steps.
 
-ghost use Rattle.std.specs.Prelude.{◌≡◌, ◌+◌, ◌%◌, ◌<◌, ◌≤◌, ◌^◌, [], max, length, IfOk, IfErr, OnErr, OnOk, vec_capacity};
+ghost use Rattle.std.specs.Prelude.{◌≡◌, ◌↔◌, ◌+◌, ◌%◌, ◌<◌, ◌≤◌, ◌^◌, [], length, IfOk, IfErr, IsTrue, OnErr, OnOk, vec_capacity};
 ghost use Rattle.rvm_journal.specs.declared.error.SliceError.TheVariants.{OutOfMemory};
-ghost use Rattle.rvm_journal.specs.Errors.{IsSliceError};
-ghost use Rattle.rvm_journal.specs.History.{count_of};
+ghost use Rattle.rvm_journal.specs.Errors.{IsSized, IsSliceError};
+ghost use Rattle.rvm_journal.specs.History.{count_of, with_room};
 ghost use Rattle.rvm_journal.specs.Slices.{IsSliceRecorded, IsSteps, replies_to};
 
 use crate::error::SliceError;
@@ -20,7 +20,8 @@ impl<M: PagedMemory + Drop> Recorded<M> {
     /// Records the steps of harts in turn, from a turn on, as if each were recorded by itself: at most n
     /// of them, or as many as there are places. It ends behind a breakpoint, a halt or a refusal. The
     /// place of the first, and the replies. n is 1 to 64, and there are 1 to 8 harts. Where a growth is
-    /// refused or no place is free, nothing is recorded.
+    /// refused or no place is free, nothing is recorded. Room is made for as many as there may be, and
+    /// what they do not take stays for later entries.
     pub fn record_slice(
         &mut self,
         alloc: Global,
@@ -31,10 +32,11 @@ impl<M: PagedMemory + Drop> Recorded<M> {
         ensures slice { IfOk result (λ r. IsSliceRecorded self.old turn harts n (r.0, replies_to r.1.items) self.new) }
         ensures err { OnErr result (self.new ≡ self.old) }
         ensures fault { IfErr result (λ e. IsSliceError e harts n (count_of self.old) self.old.capacity) }
+        ensures sized { OnOk result (IsSized harts n) }
         ensures few { IfOk result (λ r. length r.1.items ≤ 64) }
         ensures places { IfOk result (λ r. r.0 + length r.1.items < 2 ^ 32) }
     {
-        if n < 1 || n > MOST || harts < 1 || harts > MAX_HARTS {
+        if !is_slice_in_range(harts, n) {
             return Err(SliceError::OutOfRange);
         }
         let place = self.count();
@@ -52,11 +54,7 @@ impl<M: PagedMemory + Drop> Recorded<M> {
     /// nothing has changed.
     fn make_room(&mut self, alloc: Global, most: u32) -> Result<Vec<StepReply>, SliceError>
         requires free { count_of self.old + most ≤ self.old.capacity }
-        ensures room { OnOk result (self.new ≡ record self.old {
-          journal = record self.old.journal {
-            reserved = max self.old.journal.reserved most;
-          };
-        }) }
+        ensures room { OnOk result (self.new ≡ with_room self.old most) }
         ensures replies { IfOk result (λ r. (r.items ≡ []) × (most ≤ vec_capacity r)) }
         ensures err { OnErr result (self.new ≡ self.old) }
         ensures fault { IfErr result (λ e. e ≡ OutOfMemory) }
@@ -94,6 +92,13 @@ impl<M: PagedMemory + Drop> Recorded<M> {
         }
         replies
     }
+}
+
+/// Whether a slice may have so many steps, 1 to 64, of so many harts, 1 to 8.
+pub fn is_slice_in_range(harts: u32, n: u32) -> bool
+    ensures { IsTrue result ↔ IsSized harts n }
+{
+    1 <= harts && harts <= MAX_HARTS && 1 <= n && n <= MOST
 }
 
 /// The hart whose turn it is so many turns behind a turn, where the harts step in turn.

@@ -1,8 +1,8 @@
 //! Links.
 
-ghost use Rattle.std.specs.Prelude.{◌≡◌, ℕ, List, Option, None, OnOk, length};
-ghost use Rattle.std.specs.Io.KnownBytes.{Appends};
-ghost use Rattle.rvm_link.specs.Reads.{GivesAtMost};
+ghost use Rattle.std.specs.Prelude.{ℕ, List, Option, None, OnOk, length};
+ghost use Rattle.std.specs.Io.KnownBytes.{Appends, Keeps};
+ghost use Rattle.rvm_link.specs.Reads.{GivesAtMost, IsRead};
 
 use rvm_refusal::LinkFault;
 
@@ -27,17 +27,22 @@ pub trait Link {
     /// Nothing that was sent waits to go out together with more.
     ghost is_flushed: { Self → Type 0 } = { λ _. Unit {0} };
 
-    /// Sends all of these bytes. They may wait to go out together with more.
+    /// What is to come, where that is known.
+    ghost remaining: { Self → Option (List ℕ) } = { λ _. None };
+
+    /// Sends all of these bytes, or answers `LinkFault` where the link failed. They may wait to go out
+    /// together with more.
     fn send(&mut self, bytes: &[u8]) -> Result<(), LinkFault>
         ensures { OnOk result (Appends (contents self.old) (contents self.new) bytes.now) };
 
-    /// Has what was sent go out now.
+    /// Has what was sent go out now, or answers `LinkFault` where the link failed.
     fn flush(&mut self) -> Result<(), LinkFault>
-        ensures same { contents self.new ≡ contents self.old }
+        ensures same { Keeps (contents self.old) (contents self.new) }
         ensures out { OnOk result (is_flushed self.new) };
 
     /// Reads what came. It takes a buffer of any length, puts the bytes at its front, and gives how many
     /// they are, at most the buffer's length. What stands behind them may have changed too.
     fn recv(&mut self, buffer: &mut [u8]) -> LinkRead
-        ensures { GivesAtMost result (length buffer.new) };
+        ensures most { GivesAtMost result (length buffer.new) }
+        ensures bytes { IsRead (remaining self.old) (remaining self.new) result buffer.new };
 }

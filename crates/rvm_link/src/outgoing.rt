@@ -23,7 +23,8 @@ struct SendingEnd<K: Link + Drop> {
 
 impl<K: Link + Drop> SendingEnd<K> {
     /// Sends a frame whole, in a stream of this version. Unless it may wait, it has gone out then, and all
-    /// before it. A link that fails is dropped.
+    /// before it. A link that fails is dropped; where there is no memory, or the frame has no spelling,
+    /// nothing was sent.
     fn send(&mut self, version: u32, addressed: &Addressed) -> Result<(), SendError>
         ensures sent { OnOk result (IfSome self.old.link (λ old. IfSome self.new.link (λ new.
             Appends (K.contents old) (K.contents new) (spelling (sent version addressed.now))))) }
@@ -31,6 +32,7 @@ impl<K: Link + Drop> SendingEnd<K> {
         ensures out { OnOk result (may_wait addressed.now.frame ≡ false → IfSome self.new.link K.is_flushed) }
         ensures closed { self.old.link ≡ None → IsErr result }
         ensures fault { result ≡ Err SendError.LinkFault → self.new.link ≡ None }
+        ensures unsent { IfErr result (λ e. e ≢ SendError.LinkFault → self.new.link ≡ self.old.link) }
         ensures spelled { IfErr result (λ e. e ≡ SendError.BadFrame → HasSpelling (sent version addressed.now) → ⊥) }
     {
         spell(version, addressed, &mut self.frame)?;
@@ -63,7 +65,8 @@ pub struct Outgoing<K: Link + Drop> {
 }
 
 impl<K: Link + Drop> Outgoing<K> {
-    /// Opens a stream of this version: its Hello is sent. A link that fails is dropped.
+    /// Opens a stream of this version: its Hello is sent. A link that fails is dropped. `OutOfMemory`, or
+    /// `BadFrame` for another version than 1, 2 and 3.
     pub fn open(alloc: Global, link: K, version: u32) -> Result<Outgoing<K>, SendError>
         ensures { IfOk result (λ o. o.version ≡ version) }
     {
@@ -85,7 +88,8 @@ impl<K: Link + Drop> Outgoing<K> {
         }
     }
 
-    /// Sends a frame whole. It may wait for another thread.
+    /// Sends a frame whole. `BadFrame` where the frame has no spelling, `OutOfMemory` where a growth was
+    /// refused, and `LinkFault` where the link fails, or is closed. It may wait for another thread.
     pub fn send<R: Wait>(&self, rt: &R, addressed: &Addressed) -> Result<(), SendError>
         ensures { IfErr result (λ e. e ≡ SendError.BadFrame → HasSpelling (sent self.now.version addressed.now) → ⊥) }
     {

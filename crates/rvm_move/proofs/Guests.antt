@@ -1,7 +1,7 @@
 -- The events of the guest in a journal are the calls of one worker.
 use Rattle.std.proofs.Common.{◌≡◌, ◌∙◌, ℕ, zero, suc, ◌+◌, ◌<◌, Bool, true, false, cond, List, [], ◌∷◌, ◌++◌, length, map, Some, refl, sym, ap, subst, arith, inl, inr}
-use Rattle.std.proofs.lemmas.List.Elements.{All-contains, All-contains_itself, All-filter, All-weaker, Contains-append_cases, Contains-append_left, filter_passes}
-use Rattle.std.proofs.lemmas.List.Sorted.{Contains-permutation, IsPermutation-sym}
+use Rattle.std.proofs.lemmas.List.Elements.{All-cons, All-contains, All-contains_itself, All-filter, All-head, All-nil, All-tail, All-weaker, Contains-append_cases, Contains-append_left, filter_passes}
+use Rattle.std.proofs.lemmas.List.Sorted.{All-permutation, Contains-permutation, IsPermutation-sym}
 use Rattle.std.proofs.lemmas.Option.{slice_get-get_or}
 use Rattle.std.specs.List.{All, Contains, filter}
 use Rattle.std.specs.List.Sorted.{IsPermutation}
@@ -11,10 +11,11 @@ use Rattle.rvm_cell.specs.Receipts.{PlainReceipt}
 use Rattle.rvm_cell.specs.Seats.{PlainSeat}
 use Rattle.rvm_journal.specs.Entries.{PlainEntry, exchange_of}
 use Rattle.rvm_journal.specs.History.{is_board}
+use Rattle.rvm_message.specs.declared.event.HostEvent.{HostEvent}
 use Rattle.rvm_message.specs.Exchanges.{exchange}
 use Rattle.rvm_move.specs.Hosts.{AreAll}
 use Rattle.rvm_move.specs.Runs.{AreOfOne, called_of_guest, of_guest}
-use Rattle.rvm_worker.specs.Work.{AreOfMove, IsWork}
+use Rattle.rvm_worker.specs.Work.{IsWork}
 
 -- WHAT IS IN A LIST
 
@@ -163,8 +164,12 @@ told_alike (e ∷ es) (r ∷ rs) len event reply =
 
 -- ONE WORKER
 
+-- no call of these is an event of the guest
+abbrev pub AreNoneOfGuest : List PlainReceipt → Type 0
+AreNoneOfGuest receipts = All (λ r. is_board r.event ≡ false) receipts
+
 module _ (entries : List PlainEntry) (own others ordered : List PlainReceipt) (first last : PlainSeat)
-    (work : IsWork first last own) (moved : AreOfMove others) (same : IsPermutation (own ++ others) ordered)
+    (work : IsWork first last own) (moved : AreNoneOfGuest others) (same : IsPermutation (own ++ others) ordered)
     (journal : IsJournal entries ordered) where
   -- an event of the guest is the worker's
   is_own : (r : PlainReceipt) → Contains ordered r → drives r ≡ true → Contains own r
@@ -195,9 +200,28 @@ module _ (entries : List PlainEntry) (own others ordered : List PlainReceipt) (f
       (rises_kept drives own (rises_row own first.count (λ k r there. (work.row k r there).1)))
       into back)
 
--- the events of the guest in a journal are the calls of one worker, where the others' are of the move
-pub guest_of_one : (entries : List PlainEntry) (own others all : List PlainReceipt) → all ≡ own ++ others
-    → AreAll entries all → AreOfOne own → AreOfMove others → of_guest entries ≡ called_of_guest own
-guest_of_one entries own others all is told one moved =
-    let closed = subst (λ l. AreAll entries l) is told in
-    of_one_worker entries own others closed.closed.ordered one.first one.last one.work moved closed.closed.same closed.closed.journal
+-- the events of the guest in a journal are the calls of one worker, where the others have none
+pub guest_of_one : (entries : List PlainEntry) (own others : List PlainReceipt) → AreAll entries (own ++ others)
+    → AreOfOne own → AreNoneOfGuest others → of_guest entries ≡ called_of_guest own
+guest_of_one entries own others told one moved =
+    of_one_worker entries own others told.closed.ordered one.first one.last one.work moved told.closed.same told.closed.journal
+
+-- ALL EVENTS
+
+module _ (P : HostEvent → Type 0) where
+  asked_alike : (es : List PlainEntry) (rs : List PlainReceipt) → length rs ≡ length es
+      → ((k : ℕ) (r : PlainReceipt) (e : PlainEntry) → slice_get rs k ≡ Some r → slice_get es k ≡ Some e → r.event ≡ e.event)
+      → All (λ r. P r.event) rs → All (λ e. P e.event) es
+  asked_alike [] rs len event all = All-nil (λ e. P e.event)
+  asked_alike (e ∷ es) [] len event all = absurd (omega (arith, len))
+  asked_alike (e ∷ es) (r ∷ rs) len event all =
+      All-cons (λ f. P f.event) e es (subst P (event zero r e refl refl) (All-head (λ s. P s.event) r rs all))
+      (asked_alike es rs (omega (arith, len)) (λ k s f a b. event (suc k) s f a b) (All-tail (λ s. P s.event) r rs all))
+
+  -- what is so of each call is so of each entry
+  pub all_asked : (entries : List PlainEntry) (receipts : List PlainReceipt) → AreAll entries receipts
+      → All (λ r. P r.event) receipts → All (λ e. P e.event) entries
+  all_asked entries receipts told all =
+      let ordered = told.closed.ordered in
+      asked_alike entries ordered told.closed.journal.len told.closed.journal.event
+      (All-permutation (λ r. P r.event) receipts ordered told.closed.same all)

@@ -1,48 +1,122 @@
 -- What the workers of a move told.
-use Rattle.std.proofs.Common.{◌≡◌, ◌∙◌, ℕ, false, List, [], ◌++◌, append_assoc, Option, Result, ap}
-use Rattle.std.proofs.lemmas.List.Elements.{All-append}
+use Rattle.std.proofs.Common.{◌≡◌, ◌∙◌, ℕ, true, false, List, [], ◌∷◌, ◌++◌, append_assoc, None, Option, Result, ap, inl, inr, refl, subst, sym}
+use Rattle.std.proofs.lemmas.List.Elements.{All-append, All-cons, All-head, All-nil, All-tail, All-weaker}
+use Rattle.std.specs.List.{All, flat_map}
+use Rattle.std.specs.Prelude.{◌⊎◌}
+use Rattle.rvm_cell.specs.declared.closing.CloseKind.{CloseKind}
 use Rattle.rvm_cell.specs.Receipts.{PlainReceipt}
 use Rattle.rvm_cell.specs.Seats.{PlainSeat}
-use Rattle.rvm_hart_worker.specs.Calls.{IsRun}
+use Rattle.rvm_hart_worker.specs.Calls.{AtA, AtB, Call, IsRun, event_in, in_a, in_b, is_of_run}
 use Rattle.rvm_hart_worker.specs.declared.harts.TurnsEnd.{TurnsEnd}
 use Rattle.rvm_journal.specs.Entries.{PlainEntry}
 use Rattle.rvm_journal.specs.History.{is_board}
-use Rattle.rvm_move.proofs.Guests.{guest_of_one}
-use Rattle.rvm_move.specs.Hosts.{AreAll}
+use Rattle.rvm_message.specs.declared.event.Command.TheVariants as command
+use Rattle.rvm_message.specs.declared.event.HostEvent.{HostEvent}
+use Rattle.rvm_message.specs.declared.event.HostEvent.TheVariants as event
+use Rattle.rvm_move.proofs.Guests.{AreNoneOfGuest, all_asked, guest_of_one}
+use Rattle.rvm_move.specs.Hosts.{AreAll, AreCarried, IsAskedOfFirst, IsAskedOfSecond, IsEnd}
 use Rattle.rvm_move.specs.Runs.{AreOfOne, IsRunOf, called_of_guest, of_guest}
-use Rattle.rvm_worker.specs.Work.{AreOfMove, IsWork}
+use Rattle.rvm_precopy.specs.declared.policy.Policy.{Policy}
+use Rattle.rvm_worker.specs.Work.{AreOfCopier, AreOfReceiver, IsOfCopier, IsOfReceiver, IsWork}
 use Rattle.rvm_worker.specs.declared.end.WorkEnd.{WorkEnd}
 
--- of two workers one drove the guest
-pub guest_of_two : (entries : List PlainEntry) (none own others one two : List PlainReceipt) → none ≡ []
-    → one ≡ none ++ own → two ≡ one ++ others → AreAll entries two → AreOfOne own → AreOfMove others
-    → of_guest entries ≡ called_of_guest own
-guest_of_two entries none own others one two is first second told =
-    guest_of_one entries own others two (second ∙ ap (λ l. l ++ others) (first ∙ ap (λ l. l ++ own) is)) told
+-- WHAT IS GIVEN BACK
 
--- of three one did
-pub guest_of_three : (entries : List PlainEntry) (none own second third one two three : List PlainReceipt) → none ≡ []
-    → one ≡ none ++ own → two ≡ one ++ second → three ≡ two ++ third → AreAll entries three → AreOfOne own
-    → AreOfMove second → AreOfMove third → of_guest entries ≡ called_of_guest own
-guest_of_three entries none own second third one two three is a b c told of_one moved_second moved_third =
-    guest_of_one entries own (second ++ third) three
+-- the receipts of two workers, one behind the other
+pub all_of_two : (entries : List PlainEntry) (none own others one two : List PlainReceipt) → none ≡ []
+    → one ≡ none ++ own → two ≡ one ++ others → AreAll entries two → AreAll entries (own ++ others)
+all_of_two entries none own others one two is first second told =
+    subst (λ l. AreAll entries l) (second ∙ ap (λ l. l ++ others) (first ∙ ap (λ l. l ++ own) is)) told
+
+-- of three
+pub all_of_three : (entries : List PlainEntry) (none own second third one two three : List PlainReceipt) → none ≡ []
+    → one ≡ none ++ own → two ≡ one ++ second → three ≡ two ++ third → AreAll entries three
+    → AreAll entries (own ++ (second ++ third))
+all_of_three entries none own second third one two three is a b c told =
+    subst (λ l. AreAll entries l)
     (c ∙ ap (λ l. l ++ third) (b ∙ ap (λ l. l ++ second) (a ∙ ap (λ l. l ++ own) is)) ∙ append_assoc own second third) told
-    of_one (All-append (λ r. is_board r.event ≡ false) second third moved_second moved_third)
 
 -- the receipts of a worker are of one seat
 pub of_one : (first last : PlainSeat) (receipts : List PlainReceipt) → IsWork first last receipts → AreOfOne receipts
 of_one first last receipts work = record { first = first; last = last; work = work }
 
--- the calls of a worker are the events of the guest
-pub run_of : (first second : List PlainEntry) (at_a at_b : List PlainReceipt) (before after : Option (List ℕ)) (works : Type 0)
-    (harts steps : ℕ) (end : Result TurnsEnd WorkEnd) → works → of_guest first ≡ called_of_guest at_a
-    → of_guest second ≡ called_of_guest at_b → IsRun at_a at_b before after works harts steps end
-    → IsRunOf first second before after harts steps end
-run_of first second at_a at_b before after works harts steps end w a b run = record {
-  calls = run.calls;
-  of_first = a ∙ ap called_of_guest run.first;
-  of_second = b ∙ ap called_of_guest run.second;
-  turned = run.turned;
-  written = run.written w;
-  ends = run.ends;
-}
+-- WHAT EACH WORKER ASKS
+
+copier_is_no_guest : (to : ℕ) (policy : Policy) (e : HostEvent) → IsOfCopier to policy e → is_board e ≡ false
+copier_is_no_guest to policy (event.Do (command.Board x)) is = absurd is
+copier_is_no_guest to policy (event.Do (command.Begin x p)) is = refl
+copier_is_no_guest to policy (event.Do command.Copy) is = refl
+copier_is_no_guest to policy (event.Do command.Resend) is = refl
+copier_is_no_guest to policy (event.Do command.Abort) is = refl
+copier_is_no_guest to policy (event.Came x f) is = refl
+
+receiver_is_no_guest : (from : ℕ) (e : HostEvent) → IsOfReceiver from e → is_board e ≡ false
+receiver_is_no_guest from (event.Do c) is = absurd is
+receiver_is_no_guest from (event.Came x f) is = refl
+
+none_of_copier : (to : ℕ) (policy : Policy) (rs : List PlainReceipt) → AreOfCopier to policy rs → AreNoneOfGuest rs
+none_of_copier to policy rs all =
+    All-weaker (λ r. IsOfCopier to policy r.event) (λ r. is_board r.event ≡ false) (λ r is. copier_is_no_guest to policy r.event is) rs all
+
+none_of_receiver : (from : ℕ) (rs : List PlainReceipt) → AreOfReceiver from rs → AreNoneOfGuest rs
+none_of_receiver from rs all =
+    All-weaker (λ r. IsOfReceiver from r.event) (λ r. is_board r.event ≡ false) (λ r is. receiver_is_no_guest from r.event is) rs all
+
+abbrev IsOfRun : PlainReceipt → Type 0
+IsOfRun r = is_of_run r.event ≡ true
+
+abbrev IsCall : Call → Type 0
+IsCall c = is_of_run (event_in c) ≡ true
+
+run_at_a : (calls : List Call) → All IsCall calls → All IsOfRun (flat_map in_a calls)
+run_at_a [] all = All-nil IsOfRun
+run_at_a (AtA r ∷ cs) all = All-cons IsOfRun r (flat_map in_a cs) (All-head IsCall (AtA r) cs all) (run_at_a cs (All-tail IsCall (AtA r) cs all))
+run_at_a (AtB r ∷ cs) all = run_at_a cs (All-tail IsCall (AtB r) cs all)
+
+run_at_b : (calls : List Call) → All IsCall calls → All IsOfRun (flat_map in_b calls)
+run_at_b [] all = All-nil IsOfRun
+run_at_b (AtA r ∷ cs) all = run_at_b cs (All-tail IsCall (AtA r) cs all)
+run_at_b (AtB r ∷ cs) all = All-cons IsOfRun r (flat_map in_b cs) (All-head IsCall (AtB r) cs all) (run_at_b cs (All-tail IsCall (AtB r) cs all))
+
+-- WHAT WAS ASKED OF EACH HOST
+
+module _ (policy : Policy) (copier heard_a heard_b : List PlainReceipt) (carried : AreCarried policy copier heard_a heard_b)
+    (at_a at_b : List PlainReceipt) (before after : Option (List ℕ)) (works : Type 0) (harts steps : ℕ)
+    (end : Result TurnsEnd WorkEnd) (run : IsRun at_a at_b before after works harts steps end) where
+  pub asked_of_first : (fault : Option CloseKind) (entries : List PlainEntry)
+      → (fault ≡ None → AreAll entries (at_a ++ (copier ++ heard_a))) → IsEnd (IsAskedOfFirst policy) fault entries
+  asked_of_first fault entries told closed =
+      let turns = subst (All IsOfRun) (sym run.first) (run_at_a run.calls run.only) in
+      let P : PlainReceipt → Type 0 = λ r. IsAskedOfFirst policy r.event in
+      all_asked (IsAskedOfFirst policy) entries (at_a ++ (copier ++ heard_a)) (told closed)
+      (All-append P at_a (copier ++ heard_a) (All-weaker IsOfRun P (λ r is. inl is) at_a turns)
+      (All-append P copier heard_a
+      (All-weaker (λ r. IsOfCopier 1 policy r.event) P (λ r is. inr (inl is)) copier carried.of_copier)
+      (All-weaker (λ r. IsOfReceiver 1 r.event) P (λ r is. inr (inr is)) heard_a carried.of_first)))
+
+  pub asked_of_second : (fault : Option CloseKind) (entries : List PlainEntry)
+      → (fault ≡ None → AreAll entries (at_b ++ heard_b)) → IsEnd IsAskedOfSecond fault entries
+  asked_of_second fault entries told closed =
+      let turns = subst (All IsOfRun) (sym run.second) (run_at_b run.calls run.only) in
+      let P : PlainReceipt → Type 0 = λ r. IsAskedOfSecond r.event in
+      all_asked IsAskedOfSecond entries (at_b ++ heard_b) (told closed)
+      (All-append P at_b heard_b (All-weaker IsOfRun P (λ r is. inl is) at_b turns)
+      (All-weaker (λ r. IsOfReceiver 0 r.event) P (λ r is. inr is) heard_b carried.of_second))
+
+  -- the calls of the hart worker are the events of the guest
+  pub run_of : (first second : List PlainEntry) → works → AreAll first (at_a ++ (copier ++ heard_a)) → AreAll second (at_b ++ heard_b)
+      → AreOfOne at_a → AreOfOne at_b → IsRunOf first second before after harts steps end
+  run_of first second w told_a told_b one_a one_b =
+      let moved_a = All-append (λ r. is_board r.event ≡ false) copier heard_a
+      (none_of_copier 1 policy copier carried.of_copier) (none_of_receiver 1 heard_a carried.of_first) in
+      let a = guest_of_one first at_a (copier ++ heard_a) told_a one_a moved_a in
+      let b = guest_of_one second at_b heard_b told_b one_b (none_of_receiver 0 heard_b carried.of_second) in
+      record {
+        calls = run.calls;
+        of_first = a ∙ ap called_of_guest run.first;
+        of_second = b ∙ ap called_of_guest run.second;
+        only = run.only;
+        turned = run.turned;
+        written = run.written w;
+        ends = run.ends;
+      }

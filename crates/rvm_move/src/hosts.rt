@@ -1,7 +1,7 @@
 //! The two hosts of a move.
 
 ghost use Rattle.std.specs.Prelude.{◌≡◌, ◌≤◌, [], ◌++◌, true, None, vec_len, IfOk};
-ghost use Rattle.rvm_move.specs.Hosts.{AreAll, IsEnd};
+ghost use Rattle.rvm_move.specs.Hosts.{AreAll};
 
 use rvm_cell::{CloseKind, Receipt, Seat, Seating, ShareError, SharedHost, close, share};
 use rvm_journal::Recorded;
@@ -18,8 +18,7 @@ pub struct Links<K: Link + Drop> {
     pub receiving: K,
 }
 
-/// A host behind a move, and why it was not closed, if it was not. Where it was, each entry of its journal
-/// has exactly one receipt.
+/// A host behind a move, and why it was not closed, if it was not.
 #[derive(Drop)]
 pub struct HostEnd<M: PagedMemory + Drop> {
     pub recorded: Recorded<M>,
@@ -107,7 +106,6 @@ pub(crate) fn close_host<L: Seating, M: PagedMemory + Drop, K: Link + Drop, R: W
     returned: Returned<L>,
 ) -> HostEnd<M>
     requires { L.seats ≡ L.parts }
-    ensures end { IsEnd result.fault result.recorded.journal.entries }
     ensures opening { result.recorded.journal.opening ≡ L.opening }
     ensures told { result.fault ≡ None → (returned.is_whole ≡ true)
         × AreAll result.recorded.journal.entries returned.receipts.items }

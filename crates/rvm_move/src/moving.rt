@@ -1,9 +1,9 @@
 //! A move from its beginning to its end.
 
-ghost use Rattle.std.specs.Prelude.{◌≡◌, ◌≢◌, [], None, Err, vec_len, IfOk};
+ghost use Rattle.std.specs.Prelude.{◌≡◌, ◌≢◌, ◌++◌, [], None, Err, vec_len, IfOk};
 ghost use Rattle.rvm_hart_worker.specs.Calls.{IsRun};
-ghost use Rattle.rvm_move.specs.Hosts.{IsEnd};
-ghost use Rattle.rvm_move.specs.Runs.{AreOfOne, IsEndRun, called_of_guest, of_guest};
+ghost use Rattle.rvm_move.specs.Hosts.{AreAll, AreCarried, IsAskedOfFirst, IsAskedOfSecond, IsEnd};
+ghost use Rattle.rvm_move.specs.Runs.{AreOfOne, IsEndRun};
 ghost use Rattle.rvm_worker.specs.declared.end.WorkEnd.TheVariants.{LinkFault};
 
 use crate::ends::Ends;
@@ -66,8 +66,8 @@ pub fn move_guest<
     requires opening { (recorded.0.journal.opening ≡ L.opening) × (recorded.1.journal.opening ≡ N.opening) }
     ensures opening { IfOk result (λ m. (m.a.recorded.journal.opening ≡ recorded.0.journal.opening)
         × (m.b.recorded.journal.opening ≡ recorded.1.journal.opening)) }
-    ensures a { IfOk result (λ m. IsEnd m.a.fault m.a.recorded.journal.entries) }
-    ensures b { IfOk result (λ m. IsEnd m.b.fault m.b.recorded.journal.entries) }
+    ensures a { IfOk result (λ m. IsEnd (IsAskedOfFirst plan.now.policy) m.a.fault m.a.recorded.journal.entries) }
+    ensures b { IfOk result (λ m. IsEnd IsAskedOfSecond m.b.fault m.b.recorded.journal.entries) }
     ensures run { IfOk result (λ m. IsEndRun m.ends m.a.fault m.b.fault m.a.recorded.journal.entries
         m.b.recorded.journal.entries (W.contents writer.old) (W.contents writer.new) plan.now.harts plan.now.steps) }
 {
@@ -126,6 +126,8 @@ fn seat_and_work<
     ensures run { IsRun result.1.receipts.0.items result.1.receipts.1.items (W.contents writer.old)
         (W.contents writer.new) (result.1.end ≢ Err LinkFault) plan.now.harts plan.now.steps result.1.end }
     ensures one { AreOfOne result.1.receipts.0.items × AreOfOne result.1.receipts.1.items }
+    ensures carried { AreCarried plan.now.policy result.0.copier.receipts.items result.0.at_a.receipts.items
+        result.0.at_b.receipts.items }
 {
     let (mut seats_a, mut seats_b) = (seats_a, seats_b);
     let (Some(receiver_a), Some(copier), Some(harts_a)) = (
@@ -165,7 +167,7 @@ fn seat_and_work<
 }
 
 /// Closes both hosts, with what their workers gave back.
-#[tactic(auto, using(crate::proofs::Told::guest_of_two))]
+#[tactic(auto, using(crate::proofs::Told::all_of_three, crate::proofs::Told::all_of_two))]
 fn close_both<L: Seating, N: Seating, M: PagedMemory + Drop, K: Link + Drop, R: Wait>(
     rt: &R,
     alloc: Global,
@@ -175,15 +177,12 @@ fn close_both<L: Seating, N: Seating, M: PagedMemory + Drop, K: Link + Drop, R: 
     turned: HartsWorked<L, N>,
 ) -> Moved<M>
     requires seats { (L.seats ≡ L.parts) × (N.seats ≡ N.parts) }
-    requires one { AreOfOne turned.receipts.0.items × AreOfOne turned.receipts.1.items }
     ensures opening { (result.a.recorded.journal.opening ≡ L.opening) × (result.b.recorded.journal.opening ≡ N.opening) }
-    ensures a { IsEnd result.a.fault result.a.recorded.journal.entries }
-    ensures b { IsEnd result.b.fault result.b.recorded.journal.entries }
     ensures harts { result.ends.harts ≡ turned.end }
-    ensures told_a { result.a.fault ≡ None
-        → of_guest result.a.recorded.journal.entries ≡ called_of_guest turned.receipts.0.items }
-    ensures told_b { result.b.fault ≡ None
-        → of_guest result.b.recorded.journal.entries ≡ called_of_guest turned.receipts.1.items }
+    ensures told_a { result.a.fault ≡ None → AreAll result.a.recorded.journal.entries
+        (turned.receipts.0.items ++ (carried.copier.receipts.items ++ carried.at_a.receipts.items)) }
+    ensures told_b { result.b.fault ≡ None → AreAll result.b.recorded.journal.entries
+        (turned.receipts.1.items ++ carried.at_b.receipts.items) }
 {
     let Carried { copier, at_a, at_b } = carried;
     let HartsWorked {

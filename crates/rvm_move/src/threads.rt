@@ -2,7 +2,9 @@
 
 ghost use Rattle.std.specs.Prelude.{◌≢◌, Err};
 ghost use Rattle.rvm_hart_worker.specs.Calls.{IsRun};
+ghost use Rattle.rvm_move.specs.Hosts.{AreCarried};
 ghost use Rattle.rvm_move.specs.Runs.{AreOfOne};
+ghost use Rattle.rvm_worker.specs.Work.{AreOfCopier, AreOfReceiver};
 ghost use Rattle.rvm_worker.specs.declared.end.WorkEnd.TheVariants.{LinkFault};
 
 use crate::beside::{beside, take_back};
@@ -67,7 +69,9 @@ fn copy<L: Seating, M: PagedMemory + Drop, K: Link + Drop, G: Gate, R: Wait + Cl
     seat: Seat<L>,
     gate: &G,
     policy: Policy,
-) -> Worked<L> {
+) -> Worked<L>
+    ensures { AreOfCopier 1 policy result.receipts.items }
+{
     copier_worker(rt, alloc, &Side { host, outgoing }, seat, gate, B, policy)
 }
 
@@ -83,7 +87,9 @@ fn hear<L: Seating, M: PagedMemory + Drop, K: Link + Drop, G: Gate, R: Wait>(
     worker: Worker,
     from: u8,
     receiving: K,
-) -> Worked<L> {
+) -> Worked<L>
+    ensures { AreOfReceiver from result.receipts.items }
+{
     let mut link = receiving;
     let side = Side { host, outgoing };
     receiver_worker(rt, alloc, &side, seat, gate, worker, from, &mut link)
@@ -105,12 +111,19 @@ fn copy_and_hear<
     gate: &G,
     policy: Policy,
     receiving: K,
-) -> (Worked<L>, Worked<L>) {
+) -> (Worked<L>, Worked<L>)
+    ensures copier { AreOfCopier 1 policy result.0.receipts.items }
+    ensures receiver { AreOfReceiver 1 result.1.receipts.items }
+{
     let (copier, receiver) = seats;
     thread::join(
         rt,
-        move || copy(rt, alloc, host, outgoing, copier, gate, policy),
-        move || {
+        move || -> Worked<L>
+            ensures { AreOfCopier 1 policy result.receipts.items }
+        { copy(rt, alloc, host, outgoing, copier, gate, policy) },
+        move || -> Worked<L>
+            ensures { AreOfReceiver 1 result.receipts.items }
+        {
             hear(
                 rt,
                 alloc,
@@ -140,7 +153,10 @@ fn work_at_a<
     outgoing: &Outgoing<K>,
     taken: TakenAtA<L, K>,
     gate: &G,
-) -> (Worked<L>, Worked<L>) {
+) -> (Worked<L>, Worked<L>)
+    ensures copier { AreOfCopier 1 taken.policy result.0.receipts.items }
+    ensures receiver { AreOfReceiver 1 result.1.receipts.items }
+{
     let TakenAtA {
         copier,
         receiver,
@@ -161,7 +177,9 @@ fn work_at_b<L: Seating, M: PagedMemory + Drop, K: Link + Drop, G: Gate, R: Wait
     outgoing: &Outgoing<K>,
     taken: TakenAtB<L, K>,
     gate: &G,
-) -> Worked<L> {
+) -> Worked<L>
+    ensures { AreOfReceiver 0 result.receipts.items }
+{
     let TakenAtB {
         receiver,
         receiving,
@@ -196,14 +214,23 @@ fn work_at_both<
     outgoing: (&Outgoing<K>, &Outgoing<K>),
     taken: Taken<L, N, K>,
     gate: &G,
-) -> ((Worked<L>, Worked<L>), Worked<N>) {
+) -> ((Worked<L>, Worked<L>), Worked<N>)
+    ensures copier { AreOfCopier 1 taken.at_a.policy result.0.0.receipts.items }
+    ensures at_a { AreOfReceiver 1 result.0.1.receipts.items }
+    ensures at_b { AreOfReceiver 0 result.1.receipts.items }
+{
     let Taken { at_a, at_b } = taken;
     let (host_a, host_b) = hosts;
     let (to_b, to_a) = outgoing;
     thread::join(
         rt,
-        move || work_at_a(rt, alloc, host_a, to_b, at_a, gate),
-        move || work_at_b(rt, alloc, host_b, to_a, at_b, gate),
+        move || -> (Worked<L>, Worked<L>)
+            ensures copier { AreOfCopier 1 at_a.policy result.0.receipts.items }
+            ensures receiver { AreOfReceiver 1 result.1.receipts.items }
+        { work_at_a(rt, alloc, host_a, to_b, at_a, gate) },
+        move || -> Worked<N>
+            ensures { AreOfReceiver 0 result.receipts.items }
+        { work_at_b(rt, alloc, host_b, to_a, at_b, gate) },
     )
 }
 
@@ -222,7 +249,10 @@ fn carry<
     outgoing: (&Outgoing<K>, &Outgoing<K>),
     taken: Taken<L, N, K>,
     gate: &G,
-) -> Carried<L, N> {
+) -> Carried<L, N>
+    ensures { AreCarried taken.at_a.policy result.copier.receipts.items result.at_a.receipts.items
+        result.at_b.receipts.items }
+{
     let ((copier, at_a), at_b) = work_at_both(rt, alloc, hosts, outgoing, taken, gate);
     Carried { copier, at_a, at_b }
 }
@@ -251,6 +281,8 @@ pub(crate) fn work<
     ensures run { IsRun result.1.receipts.0.items result.1.receipts.1.items (W.contents writer.old)
         (W.contents writer.new) (result.1.end ≢ Err LinkFault) plan.now.harts plan.now.steps result.1.end }
     ensures one { AreOfOne result.1.receipts.0.items × AreOfOne result.1.receipts.1.items }
+    ensures carried { AreCarried taken.at_a.policy result.0.copier.receipts.items result.0.at_a.receipts.items
+        result.0.at_b.receipts.items }
 {
     let turns = Turns {
         rt,
@@ -266,7 +298,10 @@ pub(crate) fn work<
     };
     let (carried, (turned, writer)) = beside(
         rt,
-        move || carry(rt, alloc, hosts, outgoing, taken, gate),
+        move || -> Carried<L, N>
+            ensures { AreCarried taken.at_a.policy result.copier.receipts.items result.at_a.receipts.items
+                result.at_b.receipts.items }
+        { carry(rt, alloc, hosts, outgoing, taken, gate) },
         turns,
     );
     take_back(writer);

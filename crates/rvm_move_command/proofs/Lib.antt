@@ -2,3 +2,5 @@ pub mod Examples
 pub mod Sends
 pub mod Moved
 pub mod Orders
+pub mod Failed
+pub mod Unordered

@@ -11,24 +11,18 @@ use Rattle.rvm_core.specs.Hosts.{PlainHost}
 use Rattle.rvm_journal.specs.Entries.{PlainEntry}
 use Rattle.rvm_journal.specs.History.{History, Recording}
 use Rattle.rvm_move.specs.declared.ends.Ends.{Ends}
-use Rattle.rvm_move.specs.Hosts.{IsEnd, IsTold}
+use Rattle.rvm_move.specs.Hosts.{IsAskedOfFirst, IsAskedOfSecond, IsEnd}
 use Rattle.rvm_move.specs.Ends.{failure_of_turns}
 use Rattle.rvm_move.specs.Runs.{IsEndRun, IsRunOf}
-use Rattle.rvm_move_command.specs.Ended.{IsMoved, IsSound, IsToldOf}
+use Rattle.rvm_move_command.specs.Ended.{IsMade, IsMoved, IsSound, IsToldOf}
 use Rattle.rvm_move_command.specs.Hosts.{AreOpened, HasValidGuest, IsFirstHost, IsSecondHost}
+use Rattle.rvm_move_command.specs.Plans.{plan_of}
 use Rattle.rvm_worker.specs.declared.end.WorkEnd.{WorkEnd}
 use Rattle.rvm_worker.specs.declared.end.WorkEnd.TheVariants.{LinkFault}
 
 pub if_ok : {X E : Type 0} (r : Result X E) (P Q : X → Type 0) → ((x : X) → P x → Q x) → IfOk r P → IfOk r Q
 if_ok (Ok x) P Q f p = f x p
 if_ok (Err e) P Q f p = tt
-
--- each host of a sound move was closed
-pub first_told : (ends : Ends) → (a b : Option CloseKind) → (first : List PlainEntry) → IsEnd a first → IsSound ends a b → IsTold first
-first_told ends a b first end sound = end sound.1
-
-pub second_told : (ends : Ends) → (a b : Option CloseKind) → (second : List PlainEntry) → IsEnd b second → IsSound ends a b → IsTold second
-second_told ends a b second end sound = end sound.2
 
 -- the turns of a sound move came to their end
 turned : (P : Result TurnsEnd WorkEnd → Type 0) (harts : Result TurnsEnd WorkEnd) (rest : Option WorkEnd)
@@ -47,26 +41,34 @@ opened a file first second at_a at_b loadable valid has_guest has_none same_a sa
   has_none = same_b ∙ ap (λ r. r.journal.opening) has_none;
 }
 
--- where that was told, it was a move
-pub moved : (arguments : MoveArguments) (file : List ℕ) (ends : Ends) (a b : Option CloseKind) (first second : History)
-    (before after output_before output_after : Option (List ℕ)) → AreOpened arguments file first.opening second.opening
-    → IsEnd a first.entries → IsEnd b second.entries
-    → IsEndRun ends a b first.entries second.entries output_before output_after arguments.guest.harts arguments.steps
-    → IsToldOf ends a b first second before after → IsMoved arguments file before after output_before output_after
-moved arguments file ends a b first second before after output_before output_after opened end_a end_b run told =
-    let all = turned (IsRunOf first.entries second.entries output_before output_after arguments.guest.harts arguments.steps)
-    ends.harts _ told.sound.0 (λ works. run works told.sound.1 told.sound.2) in record {
-      first = first;
-      second = second;
-      opened = opened;
-      first_replays = told.first_replays;
-      second_replays = told.second_replays;
-      first_told = end_a told.sound.1;
-      second_told = end_b told.sound.2;
-      written = told.written;
+-- what stands in the journals of a sound move
+pub made : (a : MoveArguments) (ends : Ends) (fault_a fault_b : Option CloseKind) (first second : List PlainEntry)
+    (before after : Option (List ℕ)) → IsEnd (IsAskedOfFirst (plan_of a).policy) fault_a first → IsEnd IsAskedOfSecond fault_b second
+    → IsEndRun ends fault_a fault_b first second before after a.guest.harts a.steps → IsSound ends fault_a fault_b
+    → IsMade a first second before after
+made a ends fault_a fault_b first second before after end_a end_b run sound =
+    let all = turned (IsRunOf first second before after a.guest.harts a.steps) ends.harts _ sound.0
+    (λ works. run works sound.1 sound.2) in record {
+      asked = record { of_first = end_a sound.1; of_second = end_b sound.2 };
       end = all.0;
       run = all.1;
     }
+
+-- where that was told, it was a move
+pub moved : (arguments : MoveArguments) (file : List ℕ) (ends : Ends) (a b : Option CloseKind) (first second : History)
+    (before after output_before output_after : Option (List ℕ)) → AreOpened arguments file first.opening second.opening
+    → IsEnd (IsAskedOfFirst (plan_of arguments).policy) a first.entries → IsEnd IsAskedOfSecond b second.entries
+    → IsEndRun ends a b first.entries second.entries output_before output_after arguments.guest.harts arguments.steps
+    → IsToldOf ends a b first second before after → IsMoved arguments file before after output_before output_after
+moved arguments file ends a b first second before after output_before output_after opened end_a end_b run told = record {
+  first = first;
+  second = second;
+  opened = opened;
+  first_replays = told.first_replays;
+  second_replays = told.second_replays;
+  made = made arguments ends a b first.entries second.entries output_before output_after end_a end_b run told.sound;
+  written = told.written;
+}
 
 -- the same of what a call answers
 pub moved_told : {X E F : Type 0} (r : Result ℕ F) (m : Result X E) (opened end_a end_b output told : X → Type 0) (Z : Type 0)

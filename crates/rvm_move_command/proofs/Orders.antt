@@ -1,4 +1,5 @@
 -- What an audit leaves.
+use Rattle.std.proofs.Common.{refl, subst, sym}
 use Rattle.std.specs.Prelude.{◌≡◌, ◌↔◌, true, List, [], Option, None, Some, Result, Ok, Err, ℕ, IfOk, IfSome, IsSome}
 use Rattle.std.specs.Io.KnownBytes.{Appends}
 use Rattle.rvm_arguments.specs.declared.arguments.MoveArguments.{MoveArguments}
@@ -10,8 +11,8 @@ use Rattle.rvm_debug.specs.Guest.{GuestState}
 use Rattle.rvm_guest.proofs.TheGuest.{board}
 use Rattle.rvm_guest.specs.Valid.{is_valid}
 use Rattle.rvm_journal.specs.History.{History, Recording}
-use Rattle.rvm_move.specs.Hosts.{IsTold}
 use Rattle.rvm_event_line.specs.EventLines.{event_lines}
+use Rattle.rvm_move_command.specs.Ended.{IsMade, IsSound}
 use Rattle.rvm_move_command.specs.Hosts.{AreOpened, guest_in, host_before}
 use Rattle.rvm_move_command.specs.Orders.{IsAudited, IsWritten, NeverMoves}
 use Rattle.rvm_protocol.specs.World.{new_world}
@@ -46,19 +47,34 @@ never_moves a file first second events opened order law =
 pub audited : (a : MoveArguments) (file : List ℕ) (status : ℕ) (hosts : Option (Recording × Recording))
     (before after : Option (List ℕ)) → status ≡ 0 ↔ IsSome hosts
     → IfSome hosts (λ h. AreOpened a file h.0.journal.opening h.1.journal.opening)
-    → IfSome hosts (λ h. IsTold h.0.journal.entries × IsTold h.1.journal.entries)
+    → IfSome hosts (λ h. IsMade a h.0.journal.entries h.1.journal.entries None None)
     → IfSome hosts (λ h. IsWritten h.0.journal h.1.journal before after)
     → ((version : ℕ) (g : GuestState) (limits : ℕ → ℕ) (a b : History) (events : List Event)
     → is_valid g.guest ≡ true → AreNew version g limits a.opening b.opening → IsOrder a b events
     → IsWorldRun (new_world board version g.guest 2 limits) g.guest a b events)
     → status ≡ 0 → IsAudited a file before after
-audited a file status None before after are opened told order law is = absurd (nothing (Recording × Recording) (are.0 is))
-audited a file status (Some h) before after are opened told order law is = record {
+audited a file status None before after are opened made order law is = absurd (nothing (Recording × Recording) (are.0 is))
+audited a file status (Some h) before after are opened made order law is = record {
   first = h.0.journal;
   second = h.1.journal;
   opened = opened;
-  first_told = told.0;
-  second_told = told.1;
+  made = made;
   order = order;
   never_moves = never_moves a file h.0.journal h.1.journal order.events opened order.merge.order law;
 }
+
+-- what is so of two hosts is so of those that are handed out, if any are
+pub of_hosts : (P : Recording → Recording → Type 0) (first second : Recording) (hosts : Option (Recording × Recording))
+    → (IsSome hosts → P first second) → IfSome hosts (λ h. (h.0 ≡ first) × (h.1 ≡ second)) → IfSome hosts (λ h. P h.0 h.1)
+of_hosts P first second None so same = tt
+of_hosts P first second (Some h) so same =
+    subst (λ x. P x h.1) (sym same.0) (subst (λ y. P first y) (sym same.1) (so refl))
+
+-- the same of what a call answers, where that has hosts exactly where its status is 0
+pub of_answer : {X F : Type 0} (r : Result X F) (status : X → ℕ) (hosts : X → Option (Recording × Recording)) (sound : Type 0)
+    (P : Recording → Recording → Type 0) (first second : Recording) → (sound → P first second)
+    → IfOk r (λ x. status x ≡ 0 ↔ IsSome (hosts x)) → IfOk r (λ x. status x ≡ 0 → sound)
+    → IfOk r (λ x. IfSome (hosts x) (λ h. (h.0 ≡ first) × (h.1 ≡ second))) → IfOk r (λ x. IfSome (hosts x) (λ h. P h.0 h.1))
+of_answer (Ok x) status hosts sound P first second so are is same =
+    of_hosts P first second (hosts x) (λ some. so (is (are.1 some))) same
+of_answer (Err e) status hosts sound P first second so are is same = tt

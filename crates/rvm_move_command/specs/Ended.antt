@@ -1,18 +1,25 @@
 -- How a move ended, as it is told.
-use Rattle.std.specs.Prelude.{◌≡◌, ℕ, List, ◌++◌, Option, None, Some, Ok, option_map, codes}
+use Rattle.std.specs.Prelude.{◌≡◌, ◌⊎◌, ℕ, List, ◌++◌, Option, None, Some, Ok, IfSome, option_map, codes}
 use Rattle.std.specs.Io.KnownBytes.{Appends}
+use Rattle.std.specs.List.{All}
 use Rattle.rvm_arguments.specs.declared.arguments.MoveArguments.{MoveArguments}
 use Rattle.rvm_cell.specs.Closing.{close_refusal}
 use Rattle.rvm_cell.specs.declared.closing.CloseKind.{CloseKind}
+use Rattle.rvm_command.specs.declared.refused.Refused.{Refused}
+use Rattle.rvm_command.specs.Command.{image_of}
+use Rattle.rvm_command.specs.Ends.{IsLoadRefusal}
+use Rattle.rvm_command.specs.Refusals.{IsTold, refused}
 use Rattle.rvm_hart_worker.specs.declared.harts.TurnsEnd.{TurnsEnd}
+use Rattle.rvm_journal.specs.Entries.{PlainEntry}
 use Rattle.rvm_journal.specs.History.{History}
 use Rattle.rvm_journal.specs.Replay.{IsReplay}
 use Rattle.rvm_move.specs.declared.ends.Ends.{Ends}
 use Rattle.rvm_move.specs.Ends.{failure}
-use Rattle.rvm_move.specs.Hosts.{IsTold}
+use Rattle.rvm_move.specs.Hosts.{IsAskedOfFirst, IsAskedOfSecond}
 use Rattle.rvm_move.specs.Runs.{IsRunOf}
 use Rattle.rvm_move_command.specs.Answers.{answers_text}
 use Rattle.rvm_move_command.specs.Hosts.{AreOpened}
+use Rattle.rvm_move_command.specs.Plans.{plan_of}
 use Rattle.rvm_refusal.specs.declared.refusal.Refusal.{Refusal}
 use Rattle.rvm_refusal.specs.declared.refusal.Refusal.TheVariants as refusal
 use Rattle.rvm_refusal.specs.Refusal.{text_of}
@@ -60,9 +67,22 @@ pub record IsToldOf (ends : Ends) (a b : Option CloseKind) (first second : Histo
   pub second_replays : IsReplay second.opening second.entries
   pub written : Appends before after (answers_text first.entries ++ answers_text second.entries)
 
+-- what was asked of the two hosts of a move: of the first its guest's turns and the move of it to the second, with the policy
+-- that the arguments name, and frames from there; of the second the guest's turns and frames from the first
+pub record AreAsked (a : MoveArguments) (first second : List PlainEntry) : Type 0 where
+  pub of_first : All (λ e. IsAskedOfFirst (plan_of a).policy e.event) first
+  pub of_second : All (λ e. IsAskedOfSecond e.event) second
+
+-- what stands in the journals of a move that did not fail: nothing else was asked; the guest's turns came to this end, in the
+-- one or the other, and the output is all that drains took of it, the last of which found nothing
+pub record IsMade (a : MoveArguments) (first second : List PlainEntry) (output_before output_after : Option (List ℕ))
+    : Type 0 where
+  pub asked : AreAsked a first second
+  pub end : TurnsEnd
+  pub run : IsRunOf first second output_before output_after a.guest.harts a.steps (Ok end)
+
 -- a move of a file: what two hosts answered was told, of which the first began with the guest of the file. Each answer is
--- the law's, and receipts tell all of them. The guest's turns came to this end, in the one journal or the other, and the
--- output is all that drains took of it, the last of which found nothing
+-- the law's
 pub record IsMoved (a : MoveArguments) (file : List ℕ) (before after output_before output_after : Option (List ℕ))
     : Type 0 where
   pub first : History
@@ -70,8 +90,38 @@ pub record IsMoved (a : MoveArguments) (file : List ℕ) (before after output_be
   pub opened : AreOpened a file first.opening second.opening
   pub first_replays : IsReplay first.opening first.entries
   pub second_replays : IsReplay second.opening second.entries
-  pub first_told : IsTold first.entries
-  pub second_told : IsTold second.entries
+  pub made : IsMade a first.entries second.entries output_before output_after
   pub written : Appends before after (answers_text first.entries ++ answers_text second.entries)
-  pub end : TurnsEnd
-  pub run : IsRunOf first.entries second.entries output_before output_after a.guest.harts a.steps (Ok end)
+
+-- of a move that failed, what both hosts answered was told, and behind it the refusal of the list with which it failed, if it
+-- is one
+pub record IsFailureOf (ends : Ends) (a b : Option CloseKind) (first second : History) (before after : Option (List ℕ))
+    : Type 0 where
+  pub failed : IsSound ends a b → ⊥
+  pub told : IfSome (refusal_of_failure ends a b) (λ r.
+      Appends before after (answers_text first.entries ++ (answers_text second.entries ++ line_of r)))
+
+-- why a move does not begin: for its file, or since there is no connection or no memory
+abbrev pub IsMoveRefusal : MoveArguments → (file : List ℕ) → Refused → Type 0
+IsMoveRefusal a file r =
+    IsLoadRefusal (image_of a.guest.raw file) a.guest.pages r
+    ⊎ ((r ≡ refused refusal.LinkFault) ⊎ (r ≡ refused refusal.OutOfMemory))
+
+-- a move did not begin, and why was told
+pub record IsNotBegun (a : MoveArguments) (file : List ℕ) (before after : Option (List ℕ)) : Type 0 where
+  pub why : Refused
+  pub reason : IsMoveRefusal a file why
+  pub told : IsTold why before after
+
+-- a move failed, and how was told
+pub record IsFailed (before after : Option (List ℕ)) : Type 0 where
+  pub ends : Ends
+  pub a : Option CloseKind
+  pub b : Option CloseKind
+  pub first : History
+  pub second : History
+  pub failure : IsFailureOf ends a b first second before after
+
+-- the guest did not go through a move to its end
+abbrev pub IsNotMoved : MoveArguments → (file : List ℕ) → (before after : Option (List ℕ)) → Type 0
+IsNotMoved a file before after = IsNotBegun a file before after ⊎ IsFailed before after

@@ -1,7 +1,9 @@
 //! `rvmove audit`: one order of what both hosts of a move did, as a script.
 
 ghost use Rattle.std.specs.Prelude.{◌≡◌, ◌⊎◌, IfOk};
-ghost use Rattle.rvm_move_command.specs.Orders.{IsAudited};
+ghost use Rattle.rvm_command.specs.Command.{image_of};
+ghost use Rattle.rvm_command.specs.Ends.{IsLoadable};
+ghost use Rattle.rvm_move_command.specs.Orders.{IsAudited, IsNotAudited};
 
 use crate::audit_over::audit_over;
 use rvm_arguments::MoveArguments;
@@ -39,6 +41,11 @@ where
     ensures status { IfOk result (λ status. (status ≡ 0) ⊎ (status ≡ 1)) }
     ensures order { IfOk result (λ status. status ≡ 0
         → IsAudited arguments.now image.now (O.contents output.old) (O.contents output.new)) }
+    ensures silent { IfOk result (λ status. status ≡ 0 → E.contents errors.new ≡ E.contents errors.old) }
+    ensures failed { IfOk result (λ status. status ≡ 1
+        → IsNotAudited arguments.now image.now (E.contents errors.old) (E.contents errors.new)) }
+    ensures unloadable { IsLoadable (image_of arguments.now.guest.raw image.now) arguments.now.guest.pages
+        ⊎ (O.contents output.new ≡ O.contents output.old) }
 {
     let audited = audit_over::<M, O, E, R>(rt, alloc, arguments, image, output, errors)?;
     let status = audited.status;

@@ -1,9 +1,12 @@
 //! An audit of a move, with both hosts behind it.
 
-ghost use Rattle.std.specs.Prelude.{◌≡◌, ◌⊎◌, ◌↔◌, IfOk, IfSome, IsSome};
-ghost use Rattle.rvm_move.specs.Hosts.{IsEnd, IsTold};
+ghost use Rattle.std.specs.Prelude.{◌≡◌, ◌⊎◌, ◌↔◌, None, IfOk, IfSome, IsSome, OnOk};
+ghost use Rattle.rvm_command.specs.Command.{image_of};
+ghost use Rattle.rvm_command.specs.Ends.{IsLoadable};
+ghost use Rattle.rvm_command.specs.Refusals.{IsTold};
+ghost use Rattle.rvm_move_command.specs.Ended.{IsMade, IsSound};
 ghost use Rattle.rvm_move_command.specs.Hosts.{AreOpened};
-ghost use Rattle.rvm_move_command.specs.Orders.{IsWritten};
+ghost use Rattle.rvm_move_command.specs.Orders.{HasNoOrder, IsNotAudited, IsWritten};
 
 use crate::ended::tell_failure;
 use crate::move_command::move_image;
@@ -29,8 +32,8 @@ pub struct Audited<M: PagedMemory + Drop> {
     pub hosts: Option<(Recorded<M>, Recorded<M>)>,
 }
 
-/// Does what `audit_command` does, and hands out both hosts, closed, where the status is 0: each entry of
-/// their journals has exactly one receipt, and the order that was written is theirs.
+/// Does what `audit_command` does, and hands out both hosts, closed, where the status is 0: the order that was
+/// written is that of their journals.
 pub fn audit_over<
     M: PagedMemory + Drop + Send,
     O: Write,
@@ -50,10 +53,15 @@ where
     ensures hosts { IfOk result (λ a. a.status ≡ 0 ↔ IsSome a.hosts) }
     ensures opened { IfOk result (λ a. IfSome a.hosts (λ h.
         AreOpened arguments.now image.now h.0.journal.opening h.1.journal.opening)) }
-    ensures told { IfOk result (λ a. IfSome a.hosts (λ h.
-        IsTold h.0.journal.entries × IsTold h.1.journal.entries)) }
+    ensures made { IfOk result (λ a. IfSome a.hosts (λ h.
+        IsMade arguments.now h.0.journal.entries h.1.journal.entries None None)) }
     ensures order { IfOk result (λ a. IfSome a.hosts (λ h.
         IsWritten h.0.journal h.1.journal (O.contents output.old) (O.contents output.new))) }
+    ensures silent { IfOk result (λ a. a.status ≡ 0 → E.contents errors.new ≡ E.contents errors.old) }
+    ensures failed { IfOk result (λ a. a.status ≡ 1
+        → IsNotAudited arguments.now image.now (E.contents errors.old) (E.contents errors.new)) }
+    ensures unloadable { IsLoadable (image_of arguments.now.guest.raw image.now) arguments.now.guest.pages
+        ⊎ (O.contents output.new ≡ O.contents output.old) }
 {
     match move_image::<M, _, R>(rt, alloc, arguments, image, &mut io::sink()) {
         Ok(moved) => audit_moved(alloc, moved, output, errors),
@@ -66,7 +74,8 @@ fn no_hosts<M: PagedMemory + Drop, E: Write>(
     refused: Refused,
     errors: &mut E,
 ) -> Result<Audited<M>, LinkFault>
-    ensures { IfOk result (λ a. (a.status ≡ 1) × (a.hosts ≡ None)) }
+    ensures none { IfOk result (λ a. (a.status ≡ 1) × (a.hosts ≡ None)) }
+    ensures told { OnOk result (IsTold refused (E.contents errors.old) (E.contents errors.new)) }
 {
     let status = tell(refused, errors)?;
     Ok(Audited {
@@ -82,16 +91,15 @@ fn audit_moved<M: PagedMemory + Drop, O: Write, E: Write>(
     output: &mut O,
     errors: &mut E,
 ) -> Result<Audited<M>, LinkFault>
-    requires a { IsEnd moved.a.fault moved.a.recorded.journal.entries }
-    requires b { IsEnd moved.b.fault moved.b.recorded.journal.entries }
     ensures status { IfOk result (λ a. (a.status ≡ 0) ⊎ (a.status ≡ 1)) }
     ensures hosts { IfOk result (λ a. a.status ≡ 0 ↔ IsSome a.hosts) }
-    ensures same { IfOk result (λ a. IfSome a.hosts (λ h. (h.0.journal.opening ≡ moved.a.recorded.journal.opening)
-        × (h.1.journal.opening ≡ moved.b.recorded.journal.opening))) }
-    ensures told { IfOk result (λ a. IfSome a.hosts (λ h.
-        IsTold h.0.journal.entries × IsTold h.1.journal.entries)) }
+    ensures same { IfOk result (λ a. IfSome a.hosts (λ h. (h.0 ≡ moved.a.recorded) × (h.1 ≡ moved.b.recorded))) }
+    ensures sound { IfOk result (λ a. a.status ≡ 0 → IsSound moved.ends moved.a.fault moved.b.fault) }
     ensures order { IfOk result (λ a. IfSome a.hosts (λ h.
         IsWritten h.0.journal h.1.journal (O.contents output.old) (O.contents output.new))) }
+    ensures silent { IfOk result (λ a. a.status ≡ 0 → E.contents errors.new ≡ E.contents errors.old) }
+    ensures failed { IfOk result (λ a. a.status ≡ 1 → HasNoOrder moved.ends moved.a.fault moved.b.fault
+        moved.a.recorded.journal moved.b.recorded.journal (E.contents errors.old) (E.contents errors.new)) }
 {
     match write_audit(alloc, &moved, output, errors) {
         Ok(0) => Ok(Audited {
@@ -114,18 +122,19 @@ fn audit_moved<M: PagedMemory + Drop, O: Write, E: Write>(
 
 /// Tells with what a move failed, if it did; else writes the order of what both hosts did, or tells that
 /// there is none.
-#[tactic(auto, using(crate::proofs::Moved::first_told, crate::proofs::Moved::second_told))]
 fn write_audit<M: PagedMemory + Drop, O: Write, E: Write>(
     alloc: Global,
     moved: &Moved<M>,
     output: &mut O,
     errors: &mut E,
 ) -> Result<u8, LinkFault>
-    requires a { IsEnd moved.now.a.fault moved.now.a.recorded.journal.entries }
-    requires b { IsEnd moved.now.b.fault moved.now.b.recorded.journal.entries }
     ensures status { IfOk result (λ status. (status ≡ 0) ⊎ (status ≡ 1)) }
-    ensures a { IfOk result (λ status. status ≡ 0 → IsTold moved.now.a.recorded.journal.entries) }
-    ensures b { IfOk result (λ status. status ≡ 0 → IsTold moved.now.b.recorded.journal.entries) }
+    ensures sound { IfOk result (λ status. status ≡ 0
+        → IsSound moved.now.ends moved.now.a.fault moved.now.b.fault) }
+    ensures silent { IfOk result (λ status. status ≡ 0 → E.contents errors.new ≡ E.contents errors.old) }
+    ensures failed { IfOk result (λ status. status ≡ 1 → HasNoOrder moved.now.ends moved.now.a.fault
+        moved.now.b.fault moved.now.a.recorded.journal moved.now.b.recorded.journal
+        (E.contents errors.old) (E.contents errors.new)) }
     ensures order { IfOk result (λ status. status ≡ 0
         → IsWritten moved.now.a.recorded.journal moved.now.b.recorded.journal
         (O.contents output.old) (O.contents output.new)) }

@@ -4,7 +4,7 @@ ghost use Rattle.std.specs.Prelude.{◌≡◌, ◌⊎◌, ◌↔◌, ◌++◌, N
 ghost use Rattle.std.specs.Io.KnownBytes.{Appends};
 ghost use Rattle.rvm_journal.specs.Replay.{IsReplay};
 ghost use Rattle.rvm_move_command.specs.Answers.{answers_text};
-ghost use Rattle.rvm_move_command.specs.Ended.{IsSound, first_fault, line_of, refusal_of_end, refusal_of_failure};
+ghost use Rattle.rvm_move_command.specs.Ended.{IsFailureOf, IsSound, first_fault, line_of, refusal_of_end, refusal_of_failure};
 
 use crate::answers::write_answers;
 use rvm_cell::CloseKind;
@@ -92,6 +92,9 @@ pub(crate) fn tell_moved<M: PagedMemory + Drop, E: Write>(
     ensures told { IfOk result (λ status. status ≡ 0 → Appends (E.contents errors.old) (E.contents errors.new)
         (answers_text moved.now.a.recorded.journal.entries
         ++ answers_text moved.now.b.recorded.journal.entries)) }
+    ensures failed { IfOk result (λ status. status ≡ 1
+        → IsFailureOf moved.now.ends moved.now.a.fault moved.now.b.fault moved.now.a.recorded.journal
+        moved.now.b.recorded.journal (E.contents errors.old) (E.contents errors.new)) }
     ensures replay { OnOk result
         (IsReplay moved.now.a.recorded.journal.opening moved.now.a.recorded.journal.entries
         × IsReplay moved.now.b.recorded.journal.opening moved.now.b.recorded.journal.entries) }

@@ -1,12 +1,14 @@
 //! `rvmove move`: a guest moves between two hosts in this process, over TCP.
 
-ghost use Rattle.std.specs.Prelude.{◌≡◌, ◌⊎◌, IfOk};
+ghost use Rattle.std.specs.Prelude.{◌≡◌, ◌⊎◌, IfErr, IfOk};
 ghost use Rattle.rvm_command.specs.Command.{image_of};
 ghost use Rattle.rvm_command.specs.Ends.{IsLoadable};
-ghost use Rattle.rvm_move.specs.Hosts.{IsEnd};
+ghost use Rattle.rvm_move.specs.Hosts.{IsAskedOfFirst, IsAskedOfSecond, IsEnd};
 ghost use Rattle.rvm_move.specs.Runs.{IsEndRun};
-ghost use Rattle.rvm_move_command.specs.Ended.{IsMoved};
+ghost use Rattle.rvm_move_command.specs.Ended.{IsMoveRefusal, IsMoved, IsNotMoved};
 ghost use Rattle.rvm_move_command.specs.Hosts.{AreOpened};
+ghost use Rattle.rvm_move_command.specs.Plans.{plan_of};
+ghost use Rattle.rvm_refusal.specs.declared.refusal.Refusal.TheVariants as refusal;
 
 use crate::hosts::new_hosts;
 use crate::move_over::{move_recorded, plan_of, tell_end};
@@ -56,6 +58,8 @@ where
     ensures status { IfOk result (λ status. (status ≡ 0) ⊎ (status ≡ 1)) }
     ensures moved { IfOk result (λ status. status ≡ 0 → IsMoved arguments.now image.now
         (E.contents errors.old) (E.contents errors.new) (O.contents output.old) (O.contents output.new)) }
+    ensures failed { IfOk result (λ status. status ≡ 1
+        → IsNotMoved arguments.now image.now (E.contents errors.old) (E.contents errors.new)) }
     ensures unloadable { IsLoadable (image_of arguments.now.guest.raw image.now) arguments.now.guest.pages
         ⊎ (O.contents output.new ≡ O.contents output.old) }
 {
@@ -80,11 +84,13 @@ where
     R::Stream: Send,
     ensures opened { IfOk result (λ m. AreOpened arguments.now image.now
         m.a.recorded.journal.opening m.b.recorded.journal.opening) }
-    ensures a { IfOk result (λ m. IsEnd m.a.fault m.a.recorded.journal.entries) }
-    ensures b { IfOk result (λ m. IsEnd m.b.fault m.b.recorded.journal.entries) }
+    ensures a { IfOk result (λ m. IsEnd (IsAskedOfFirst (plan_of arguments.now).policy) m.a.fault
+        m.a.recorded.journal.entries) }
+    ensures b { IfOk result (λ m. IsEnd IsAskedOfSecond m.b.fault m.b.recorded.journal.entries) }
     ensures run { IfOk result (λ m. IsEndRun m.ends m.a.fault m.b.fault m.a.recorded.journal.entries
         m.b.recorded.journal.entries (O.contents output.old) (O.contents output.new)
         arguments.now.guest.harts arguments.now.steps) }
+    ensures refused { IfErr result (IsMoveRefusal arguments.now image.now) }
     ensures unloadable { IsLoadable (image_of arguments.now.guest.raw image.now) arguments.now.guest.pages
         ⊎ (O.contents output.new ≡ O.contents output.old) }
 {
@@ -106,7 +112,9 @@ where
 pub fn connect_both<R: Net>(
     rt: &R,
     alloc: Global,
-) -> Result<(Links<Socket<R::Stream>>, Links<Socket<R::Stream>>), Refusal> {
+) -> Result<(Links<Socket<R::Stream>>, Links<Socket<R::Stream>>), Refusal>
+    ensures { IfErr result (λ r. (r ≡ refusal.LinkFault) ⊎ (r ≡ refusal.OutOfMemory)) }
+{
     let (from_a, to_b) = connect(rt, alloc)?;
     let (from_b, to_a) = connect(rt, alloc)?;
     Ok((

@@ -1,12 +1,14 @@
 //! A move over links that are handed in.
 
-ghost use Rattle.std.specs.Prelude.{◌≡◌, ◌⊎◌, [], IfOk};
+ghost use Rattle.std.specs.Prelude.{◌≡◌, ◌⊎◌, [], IfErr, IfOk};
 ghost use Rattle.std.specs.Result.{IsOkAnd};
 ghost use Rattle.rvm_command.specs.Command.{image_of};
 ghost use Rattle.rvm_command.specs.Ends.{IsLoadable};
-ghost use Rattle.rvm_move.specs.Hosts.{IsEnd};
+ghost use Rattle.rvm_command.specs.Refusals.{IsTold, refused};
+ghost use Rattle.rvm_refusal.specs.declared.refusal.Refusal.TheVariants as refusal;
+ghost use Rattle.rvm_move.specs.Hosts.{IsAskedOfFirst, IsAskedOfSecond, IsEnd};
 ghost use Rattle.rvm_move.specs.Runs.{IsEndRun};
-ghost use Rattle.rvm_move_command.specs.Ended.{IsMoved, IsToldOf};
+ghost use Rattle.rvm_move_command.specs.Ended.{IsFailureOf, IsMoved, IsNotMoved, IsToldOf};
 ghost use Rattle.rvm_move_command.specs.Plans.{plan_of};
 
 use crate::ended::tell_moved;
@@ -56,6 +58,8 @@ pub fn move_over<
     ensures status { IfOk result (λ status. (status ≡ 0) ⊎ (status ≡ 1)) }
     ensures moved { IfOk result (λ status. status ≡ 0 → IsMoved arguments.now image.now
         (E.contents errors.old) (E.contents errors.new) (O.contents output.old) (O.contents output.new)) }
+    ensures failed { IfOk result (λ status. status ≡ 1
+        → IsNotMoved arguments.now image.now (E.contents errors.old) (E.contents errors.new)) }
     ensures unloadable { IsLoadable (image_of arguments.now.guest.raw image.now) arguments.now.guest.pages
         ⊎ (O.contents output.new ≡ O.contents output.old) }
 {
@@ -94,6 +98,10 @@ pub(crate) fn tell_end<M: PagedMemory + Drop + Send, E: Write, R: Threads>(
     ensures status { IfOk result (λ status. (status ≡ 0) ⊎ (status ≡ 1)) }
     ensures told { IfOk result (λ status. status ≡ 0 → IsOkAnd moved (λ m. IsToldOf m.ends m.a.fault m.b.fault
         m.a.recorded.journal m.b.recorded.journal (E.contents errors.old) (E.contents errors.new))) }
+    ensures failed { IfOk result (λ status. IfOk moved (λ m. status ≡ 1 → IsFailureOf m.ends m.a.fault m.b.fault
+        m.a.recorded.journal m.b.recorded.journal (E.contents errors.old) (E.contents errors.new))) }
+    ensures refused { IfOk result (λ status. IfErr moved (λ r.
+        IsTold r (E.contents errors.old) (E.contents errors.new))) }
 {
     match moved {
         Ok(moved) => {
@@ -130,10 +138,11 @@ pub(crate) fn move_recorded<
     requires { (recorded.0.journal.entries ≡ []) × (recorded.1.journal.entries ≡ []) }
     ensures opening { IfOk result (λ m. (m.a.recorded.journal.opening ≡ recorded.0.journal.opening)
         × (m.b.recorded.journal.opening ≡ recorded.1.journal.opening)) }
-    ensures a { IfOk result (λ m. IsEnd m.a.fault m.a.recorded.journal.entries) }
-    ensures b { IfOk result (λ m. IsEnd m.b.fault m.b.recorded.journal.entries) }
+    ensures a { IfOk result (λ m. IsEnd (IsAskedOfFirst plan.now.policy) m.a.fault m.a.recorded.journal.entries) }
+    ensures b { IfOk result (λ m. IsEnd IsAskedOfSecond m.b.fault m.b.recorded.journal.entries) }
     ensures run { IfOk result (λ m. IsEndRun m.ends m.a.fault m.b.fault m.a.recorded.journal.entries
         m.b.recorded.journal.entries (O.contents output.old) (O.contents output.new) plan.now.harts plan.now.steps) }
+    ensures refused { IfErr result (λ r. r ≡ refused refusal.OutOfMemory) }
 {
     let blanks = (Blank::new(3), Blank::new(2));
     match move_guest::<Brand, Brand, M, K, G, O, R>(

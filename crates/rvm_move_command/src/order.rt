@@ -3,7 +3,7 @@
 ghost use Rattle.std.specs.Prelude.{◌≡◌, ◌⊎◌, IfOk, OnOk};
 ghost use Rattle.std.specs.Io.KnownBytes.{Appends};
 ghost use Rattle.rvm_event_line.specs.EventLines.{event_lines};
-ghost use Rattle.rvm_move_command.specs.Orders.{IsWritten};
+ghost use Rattle.rvm_move_command.specs.Orders.{IsUnordered, IsWritten};
 
 use rvm_audit::audit;
 use rvm_command::flush::flush;
@@ -17,7 +17,7 @@ use std::alloc::Global;
 use std::io::Write;
 
 /// Writes an order of two journals, or tells that there is none.
-#[tactic(auto, using(crate::proofs::Orders::written))]
+#[tactic(auto, using(crate::proofs::Orders::written, crate::proofs::Unordered::no_write, crate::proofs::Unordered::no_order))]
 pub(crate) fn write_order<M: PagedMemory + Drop, O: Write, E: Write>(
     alloc: Global,
     first: &Journal<M>,
@@ -28,6 +28,9 @@ pub(crate) fn write_order<M: PagedMemory + Drop, O: Write, E: Write>(
     ensures status { IfOk result (λ status. (status ≡ 0) ⊎ (status ≡ 1)) }
     ensures order { IfOk result (λ status. status ≡ 0
         → IsWritten first.now second.now (O.contents output.old) (O.contents output.new)) }
+    ensures silent { IfOk result (λ status. status ≡ 0 → E.contents errors.new ≡ E.contents errors.old) }
+    ensures failed { IfOk result (λ status. status ≡ 1
+        → IsUnordered first.now second.now (E.contents errors.old) (E.contents errors.new)) }
 {
     match audit(alloc, first, second) {
         Ok(events) => match write_whole(output, events.as_slice()) {

@@ -1,7 +1,8 @@
 //! Links over TCP.
 
-ghost use Rattle.std.specs.Prelude.{◌≡◌, []};
-ghost use Rattle.std.specs.Io.Buffered.{writer_buffer};
+ghost use Rattle.std.specs.Prelude.{◌≡◌, ◌⊎◌, [], IfErr};
+ghost use Rattle.std.specs.Io.Buffered.{writer_buffer, writer_contents, writer_inner};
+ghost use Rattle.rvm_refusal.specs.declared.refusal.Refusal.TheVariants as refusal;
 
 use rvm_link::{Link, LinkRead};
 use rvm_refusal::{LinkFault, Refusal};
@@ -9,7 +10,7 @@ use std::alloc::Global;
 use std::io::{BufWriter, ErrorKind, Read, Write};
 use std::net::{Ipv4Addr, Net, OpenListener, OpenStream, TcpListener, TcpStream};
 
-/// How many bytes go out together: eight pages.
+/// How many bytes go out together at most: those of eight pages.
 const TOGETHER: usize = 1 << 15;
 
 /// One direction of a TCP connection. What is sent waits until `TOGETHER` bytes can go out, or until it is
@@ -20,7 +21,11 @@ pub struct Socket<S: Read + Write + Drop> {
 }
 
 impl<S: Read + Write + Drop> Link for Socket<S> {
+    ghost contents = { λ s. writer_contents S.contents s.stream };
+
     ghost is_flushed = { λ s. writer_buffer s.stream ≡ [] };
+
+    ghost remaining = { λ s. S.remaining (writer_inner s.stream) };
 
     fn send(&mut self, bytes: &[u8]) -> Result<(), LinkFault> {
         self.stream.write_all(bytes)?;
@@ -53,7 +58,9 @@ fn link_over<S: Read + Write + Drop>(
     alloc: Global,
     stream: S,
     most: usize,
-) -> Result<Socket<S>, Refusal> {
+) -> Result<Socket<S>, Refusal>
+    ensures { IfErr result (λ r. r ≡ refusal.OutOfMemory) }
+{
     match BufWriter::with_capacity(alloc, most, stream) {
         Ok(stream) => Ok(Socket { stream }),
         Err(_) => Err(Refusal::OutOfMemory),
@@ -78,7 +85,9 @@ fn connect_streams<R: Net>(rt: &R) -> Result<(R::Stream, R::Stream), LinkFault> 
 pub(crate) fn connect<R: Net>(
     rt: &R,
     alloc: Global,
-) -> Result<(Socket<R::Stream>, Socket<R::Stream>), Refusal> {
+) -> Result<(Socket<R::Stream>, Socket<R::Stream>), Refusal>
+    ensures { IfErr result (λ r. (r ≡ refusal.LinkFault) ⊎ (r ≡ refusal.OutOfMemory)) }
+{
     let (sending, receiving) = connect_streams(rt)?;
     Ok((
         link_over(alloc, sending, TOGETHER)?,

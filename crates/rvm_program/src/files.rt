@@ -6,13 +6,11 @@ ghost use Rattle.std.specs.declared.io.ErrorKind.TheVariants as kind;
 ghost use Rattle.rvm_refusal.specs.declared.refusal.Refusal.TheVariants as refusal;
 
 use rvm_refusal::Refusal;
+use rvm_script::MAX_SCRIPT_SIZE;
 use std::fs;
 use std::fs::File;
 use std::io::{Error, ErrorKind, Read};
 use std::rt::Files;
-
-/// How many bytes of a script are read at most: one more than it may have, which is seen then.
-const SCRIPT_BYTES: u64 = 67108865;
 
 /// All bytes of a file. `OutOfMemory` where there is no memory for them, and `LinkFault` where it cannot
 /// be opened or read.
@@ -22,13 +20,14 @@ pub(crate) fn read_file<Rt: Files + AllocGlobal>(rt: &Rt, path: &str) -> Result<
     fs::read(rt, path).map_err(refusal_of)
 }
 
-/// The bytes of a script, as `read_file` reads them, but of an endless one no more than shows that it is too long.
+/// The bytes of a script, as `read_file` reads them, but of an endless one no more than shows that it is too long: one more
+/// than a script may have.
 pub(crate) fn read_script<Rt: Files + AllocGlobal>(rt: &Rt, path: &str) -> Result<Vec<u8>, Refusal>
     ensures { IfErr result (λ r. (r ≡ refusal.OutOfMemory) ⊎ (r ≡ refusal.LinkFault)) }
 {
     let file = File::open(rt, path).map_err(refusal_of)?;
     let mut bytes = Vec::new(rt.alloc());
-    file.take(SCRIPT_BYTES)
+    file.take(MAX_SCRIPT_SIZE as u64 + 1)
         .read_to_end(&mut bytes)
         .map_err(refusal_of)?;
     Ok(bytes)

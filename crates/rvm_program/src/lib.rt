@@ -7,7 +7,9 @@
 //! To be read in this order: `perform`, `commands`, `files`.
 #![tactic(auto)]
 
-ghost use Rattle.std.specs.Prelude.{◌≡◌, ◌⊎◌};
+ghost use Rattle.std.specs.Prelude.{◌≡◌, ◌≢◌, ◌⊎◌};
+ghost use Rattle.clap.specs.Words.{kind_of};
+ghost use Rattle.clap.specs.declared.error.kind.ErrorKind.TheVariants as kind;
 
 mod commands;
 mod files;
@@ -84,9 +86,11 @@ where
     }
 }
 
-/// Writes the text of a command line that has a fault, or that asks for help, where `clap` prints it.
+/// Writes the text of a command line that has a fault, or that asks for help or for the version, where `clap` prints it. The
+/// status of a fault is 2.
 fn explain<O: Write, E: Write>(error: &Error, output: &mut O, errors: &mut E) -> u8
     ensures status { (result ≡ 0) ⊎ (result ≡ 2) }
+    ensures others { kind_of error.now ≢ kind.DisplayHelp → kind_of error.now ≢ kind.DisplayVersion → result ≡ 2 }
     ensures fault { result ≡ 2 → O.contents output.new ≡ O.contents output.old }
 {
     if error.use_stderr() {

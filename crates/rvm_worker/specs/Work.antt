@@ -1,12 +1,14 @@
 -- What the calls of a seat leave.
 use Rattle.std.specs.List.{All}
-use Rattle.std.specs.Prelude.{◌≡◌, ℕ, ◌+◌, ◌-◌, false, List, [], ◌∷◌, ◌++◌, length, IfSome, Some, slice_get}
+use Rattle.std.specs.Prelude.{◌≡◌, ◌⊎◌, ℕ, ◌+◌, ◌-◌, List, [], ◌∷◌, ◌++◌, length, IfSome, Some, slice_get}
 use Rattle.rvm_cell.specs.Calls.{AreOfSeat, IsReceipt}
 use Rattle.rvm_cell.specs.Seats.{PlainSeat, seat_of}
 use Rattle.rvm_cell.specs.Receipts.{PlainReceipt}
-use Rattle.rvm_journal.specs.History.{is_board}
+use Rattle.rvm_message.specs.declared.event.Command.TheVariants as command
 use Rattle.rvm_message.specs.declared.event.HostEvent.{HostEvent}
+use Rattle.rvm_message.specs.declared.event.HostEvent.TheVariants as event
 use Rattle.rvm_message.specs.declared.reply.HostReply.{HostReply}
+use Rattle.rvm_precopy.specs.declared.policy.Policy.{Policy}
 use Rattle.rvm_worker.specs.declared.steps.Steps.{Steps}
 
 -- the receipts are those of the seat's calls since it was at `first`, in order
@@ -15,9 +17,47 @@ pub record IsWork (first seat : PlainSeat) (receipts : List PlainReceipt) : Type
   pub row : (k : ℕ) (r : PlainReceipt) → slice_get receipts k ≡ Some r
       → (r.seat ≡ first.id) × (r.count ≡ first.count + k)
 
--- none of them is of an event of the guest
-abbrev pub AreOfMove : List PlainReceipt → Type 0
-AreOfMove receipts = All (λ r. is_board r.event ≡ false) receipts
+-- what a copier asks of its host: to begin the move to this host with this policy, or what carries it on or gives it up
+abbrev pub IsOfCopier : (to : ℕ) → Policy → HostEvent → Type 0
+IsOfCopier to policy (event.Do (command.Begin x p)) = (x ≡ to) × (p ≡ policy)
+IsOfCopier to policy (event.Do command.Copy) = Unit {0}
+IsOfCopier to policy (event.Do command.Resend) = Unit {0}
+IsOfCopier to policy (event.Do command.Abort) = Unit {0}
+IsOfCopier to policy e = ⊥
+
+-- what a receiver tells its host: a frame of this host came
+abbrev pub IsOfReceiver : (from : ℕ) → HostEvent → Type 0
+IsOfReceiver from (event.Came x frame) = x ≡ from
+IsOfReceiver from e = ⊥
+
+-- each of these calls is one of a copier's
+abbrev pub AreOfCopier : (to : ℕ) → Policy → List PlainReceipt → Type 0
+AreOfCopier to policy receipts = All (λ r. IsOfCopier to policy r.event) receipts
+
+-- each of these calls is one of a receiver's
+abbrev pub AreOfReceiver : (from : ℕ) → List PlainReceipt → Type 0
+AreOfReceiver from receipts = All (λ r. IsOfReceiver from r.event) receipts
+
+-- where a copier moves its guest and with which policy, and where its seat was first
+pub record PlainCopier : Type 0 where
+  pub to : ℕ
+  pub policy : Policy
+  pub start : PlainSeat
+
+-- whose frames a receiver hears, and where its seat was first
+pub record PlainReceiver : Type 0 where
+  pub from : ℕ
+  pub start : PlainSeat
+
+-- one more call, of this event
+pub record IsOneMore (event : HostEvent) (before behind : List PlainReceipt) : Type 0 where
+  pub receipt : PlainReceipt
+  pub of_event : receipt.event ≡ event
+  pub added : behind ≡ before ++ receipt ∷ []
+
+-- a call was made, of this event, or none
+abbrev pub MayHaveAsked : HostEvent → (before behind : List PlainReceipt) → Type 0
+MayHaveAsked event before behind = (behind ≡ before) ⊎ IsOneMore event before behind
 
 -- where a seat was first, where it is, and the receipts between
 pub record PlainCaller : Type 0 where

@@ -1,19 +1,17 @@
 //! The copier: it moves the guest to another host.
 
-ghost use Rattle.std.specs.Prelude.{◌≡◌, false};
-ghost use Rattle.rvm_journal.specs.History.{is_board};
-ghost use Rattle.rvm_message.specs.declared.event.HostEvent.TheVariants.{Do};
-ghost use Rattle.rvm_worker.specs.Work.{IsWork};
+ghost use Rattle.std.specs.Prelude.{◌≡◌};
+ghost use Rattle.rvm_worker.specs.Work.{AreOfCopier, IsWork};
 
+use crate::copying::Copying;
 use crate::end::{WorkEnd, Worked};
 use crate::gate::{Gate, Watch, Worker};
-use crate::mover::Mover;
-use crate::next::{Next, after_copy, is_gone, says_no_move};
-use crate::telling::{Side, tell};
+use crate::next::{LONG_PAUSE, Next, SHORT_PAUSE, after_copy, is_gone, says_no_move};
+use crate::telling::Side;
 use rvm_cell::{Seat, Seating};
 use rvm_link::{Link, SendError};
 use rvm_mem::PagedMemory;
-use rvm_message::{Command, HostEvent};
+use rvm_message::Command;
 use rvm_precopy::Policy;
 use std::alloc::Global;
 use std::sync::Wait;
@@ -23,12 +21,6 @@ use std::time::{Clock, Duration};
 /// How many times in a row the copier waits before it gives up, and how often at most it asks for the
 /// last frame again, or tries to give up the move.
 const TRIES: u32 = 1000;
-
-/// Between two tries to give up the move where memory ran out.
-const SHORT_PAUSE: u32 = 1;
-
-/// Before the last frame is asked for again.
-const LONG_PAUSE: u32 = 10;
 
 /// Sleeps for so many milliseconds.
 fn pause<R: Clock>(rt: &R, millis: u32) {
@@ -47,16 +39,16 @@ pub fn copier_worker<L: Seating, M: PagedMemory + Drop, K: Link + Drop, G: Gate,
     to: u8,
     policy: Policy,
 ) -> Worked<L>
-    ensures { IsWork seat result.seat result.receipts.items }
+    ensures work { IsWork seat result.seat result.receipts.items }
+    ensures asked { AreOfCopier to policy result.receipts.items }
 {
-    let mut mover = Mover::new(alloc, seat);
+    let mut copying = Copying::new(alloc, seat, to, policy);
     let mut watch = Watch::new(gate, Worker::Copier);
-    let begin = Command::Begin { to, policy };
-    let end = move_guest(rt, alloc, side, &mut mover, &mut watch, begin);
+    let end = move_guest(rt, alloc, side, &mut copying, &mut watch);
     if end.is_short_of_room() {
         side.outgoing.close(rt);
     }
-    mover.end(end)
+    copying.end(end)
 }
 
 /// Makes the calls of the copier, from Begin on.
@@ -64,18 +56,16 @@ fn move_guest<L: Seating, M: PagedMemory + Drop, K: Link + Drop, G: Gate, R: Wai
     rt: &R,
     alloc: Global,
     side: &Side<'_, L, M, K>,
-    mover: &mut Mover<L>,
+    copying: &mut Copying<L>,
     watch: &mut Watch<'_, G>,
-    begin: Command,
 ) -> WorkEnd
-    requires { is_board (Do begin) ≡ false }
-    ensures { mover.new.start ≡ mover.old.start }
+    ensures { copying.new ≡ copying.old }
 {
-    match copy_guest(rt, alloc, side, mover, watch, begin) {
+    match copy_guest(rt, alloc, side, copying, watch) {
         Ok(Next::Done) => WorkEnd::Done,
-        Ok(Next::Resend) => resend(rt, alloc, side, mover, watch),
-        Ok(_) => give_up(rt, alloc, side, mover, watch),
-        Err(WorkEnd::OutOfMemory) => abort_without_memory(rt, alloc, side, mover, watch),
+        Ok(Next::Resend) => resend(rt, alloc, side, copying, watch),
+        Ok(_) => give_up(rt, alloc, side, copying, watch),
+        Err(WorkEnd::OutOfMemory) => abort_without_memory(rt, alloc, side, copying, watch),
         Err(end) => end,
     }
 }
@@ -85,16 +75,14 @@ fn copy_guest<L: Seating, M: PagedMemory + Drop, K: Link + Drop, G: Gate, R: Wai
     rt: &R,
     alloc: Global,
     side: &Side<'_, L, M, K>,
-    mover: &mut Mover<L>,
+    copying: &mut Copying<L>,
     watch: &mut Watch<'_, G>,
-    begin: Command,
 ) -> Result<Next, WorkEnd>
-    requires { is_board (Do begin) ≡ false }
-    ensures { mover.new.start ≡ mover.old.start }
+    ensures { copying.new ≡ copying.old }
 {
-    let told = tell(rt, alloc, side, mover, watch, HostEvent::Do(begin))?;
+    let told = copying.begin(rt, alloc, side, watch)?;
     match told.sent {
-        Ok(()) => copy_until(rt, alloc, side, mover, watch),
+        Ok(()) => copy_until(rt, alloc, side, copying, watch),
         Err(SendError::OutOfMemory) => Err(WorkEnd::OutOfMemory),
         Err(_) => Ok(Next::GiveUp),
     }
@@ -105,14 +93,14 @@ fn copy_until<L: Seating, M: PagedMemory + Drop, K: Link + Drop, G: Gate, R: Wai
     rt: &R,
     alloc: Global,
     side: &Side<'_, L, M, K>,
-    mover: &mut Mover<L>,
+    copying: &mut Copying<L>,
     watch: &mut Watch<'_, G>,
 ) -> Result<Next, WorkEnd>
-    ensures { mover.new.start ≡ mover.old.start }
+    ensures { copying.new ≡ copying.old }
 {
     let mut pauses = 0;
     for _copy in 0..u64::MAX {
-        match copy(rt, alloc, side, mover, watch)? {
+        match copy(rt, alloc, side, copying, watch)? {
             Next::Copy => pauses = 0,
             Next::Wait(millis) => {
                 pause(rt, millis);
@@ -132,12 +120,12 @@ fn copy<L: Seating, M: PagedMemory + Drop, K: Link + Drop, G: Gate, R: Wait>(
     rt: &R,
     alloc: Global,
     side: &Side<'_, L, M, K>,
-    mover: &mut Mover<L>,
+    copying: &mut Copying<L>,
     watch: &mut Watch<'_, G>,
 ) -> Result<Next, WorkEnd>
-    ensures { mover.new.start ≡ mover.old.start }
+    ensures { copying.new ≡ copying.old }
 {
-    let told = tell(rt, alloc, side, mover, watch, HostEvent::Do(Command::Copy))?;
+    let told = copying.ask(rt, alloc, side, watch, Command::Copy)?;
     match told.sent {
         Ok(()) => Ok(after_copy(&told.reply)),
         Err(SendError::OutOfMemory) => Err(WorkEnd::OutOfMemory),
@@ -150,21 +138,14 @@ fn resend<L: Seating, M: PagedMemory + Drop, K: Link + Drop, G: Gate, R: Wait + 
     rt: &R,
     alloc: Global,
     side: &Side<'_, L, M, K>,
-    mover: &mut Mover<L>,
+    copying: &mut Copying<L>,
     watch: &mut Watch<'_, G>,
 ) -> WorkEnd
-    ensures { mover.new.start ≡ mover.old.start }
+    ensures { copying.new ≡ copying.old }
 {
     for _try in 0..TRIES {
         pause(rt, LONG_PAUSE);
-        match tell(
-            rt,
-            alloc,
-            side,
-            mover,
-            watch,
-            HostEvent::Do(Command::Resend),
-        ) {
+        match copying.ask(rt, alloc, side, watch, Command::Resend) {
             Err(end) => return end,
             Ok(told) => {
                 if says_no_move(&told.reply) {
@@ -181,17 +162,17 @@ fn give_up<L: Seating, M: PagedMemory + Drop, K: Link + Drop, G: Gate, R: Wait +
     rt: &R,
     alloc: Global,
     side: &Side<'_, L, M, K>,
-    mover: &mut Mover<L>,
+    copying: &mut Copying<L>,
     watch: &mut Watch<'_, G>,
 ) -> WorkEnd
-    ensures { mover.new.start ≡ mover.old.start }
+    ensures { copying.new ≡ copying.old }
 {
-    match tell(rt, alloc, side, mover, watch, HostEvent::Do(Command::Abort)) {
-        Err(WorkEnd::OutOfMemory) => abort_without_memory(rt, alloc, side, mover, watch),
+    match copying.ask(rt, alloc, side, watch, Command::Abort) {
+        Err(WorkEnd::OutOfMemory) => abort_without_memory(rt, alloc, side, copying, watch),
         Err(end) => end,
         Ok(told) => {
             if is_gone(&told.reply) {
-                resend(rt, alloc, side, mover, watch)
+                resend(rt, alloc, side, copying, watch)
             } else {
                 WorkEnd::GivenUp
             }
@@ -210,14 +191,14 @@ fn abort_without_memory<
     rt: &R,
     alloc: Global,
     side: &Side<'_, L, M, K>,
-    mover: &mut Mover<L>,
+    copying: &mut Copying<L>,
     watch: &mut Watch<'_, G>,
 ) -> WorkEnd
     ensures end { result ≡ WorkEnd.OutOfMemory }
-    ensures start { mover.new.start ≡ mover.old.start }
+    ensures start { copying.new ≡ copying.old }
 {
     for _try in 0..TRIES {
-        match tell(rt, alloc, side, mover, watch, HostEvent::Do(Command::Abort)) {
+        match copying.ask(rt, alloc, side, watch, Command::Abort) {
             Err(WorkEnd::OutOfMemory) => pause(rt, SHORT_PAUSE),
             _ => return WorkEnd::OutOfMemory,
         }

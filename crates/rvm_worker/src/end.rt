@@ -2,7 +2,6 @@
 
 ghost use Rattle.std.specs.Prelude.{◌≡◌};
 ghost use Rattle.rvm_worker.specs.Ends.{is_short_of_room, of_frame, of_record, of_send, of_slice};
-ghost use Rattle.rvm_worker.specs.Work.{AreOfMove};
 
 use rvm_cell::{Receipt, Seat, Seating};
 use rvm_frame::FrameFault;
@@ -106,11 +105,10 @@ impl From<SendError> for WorkEnd {
 }
 
 /// What a worker that moves the guest gives back: its seat at one host, the receipts of its calls in order,
-/// and how it ended. No call was an event of the guest.
+/// and how it ended.
 #[derive(Drop)]
 pub struct Worked<L: Seating> {
     pub seat: Seat<L>,
     pub receipts: Vec<Receipt>,
     pub end: WorkEnd,
-    ghost moved: { AreOfMove receipts.items },
 }

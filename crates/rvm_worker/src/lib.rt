@@ -5,16 +5,17 @@
 //! Stands on `rvm_cell` and `rvm_link`, and knows nothing of sockets, of how workers are started, or of
 //! what becomes of their receipts.
 //!
-//! To be read in this order: `gate`, `end`, `steps`, `heap`, `caller`, `mover`, `telling`, `next`, `copier`,
-//! `receiver`.
+//! To be read in this order: `gate`, `end`, `steps`, `heap`, `caller`, `telling`, `next`, `copying`, `copier`,
+//! `hearing`, `receiver`.
 #![tactic(auto)]
 
 mod caller;
 mod copier;
+mod copying;
 mod end;
 mod gate;
 mod heap;
-mod mover;
+mod hearing;
 mod next;
 mod receiver;
 mod steps;

@@ -5,6 +5,13 @@ ghost use Rattle.rvm_worker.specs.Next.{after_copy, after_refusal, ends_hearing,
 
 use rvm_message::{HostRefusal, HostReply};
 
+/// How many milliseconds the copier waits before it asks once more for what could not be done yet.
+pub(crate) const SHORT_PAUSE: u32 = 1;
+
+/// How many milliseconds it waits for the other side: for its answer to the state, and before the last
+/// frame is asked for again.
+pub(crate) const LONG_PAUSE: u32 = 10;
+
 /// What the copier does next.
 #[derive(Clone, Copy, Debug, PartialEq, Eq)]
 pub enum Next {
@@ -25,19 +32,19 @@ fn after_refusal(why: HostRefusal) -> Next
     ensures { result ≡ after_refusal why }
 {
     match why {
-        HostRefusal::Busy => Next::Wait(1),
+        HostRefusal::Busy => Next::Wait(SHORT_PAUSE),
         HostRefusal::NotHere => Next::Resend,
         HostRefusal::NoMove => Next::Done,
         _ => Next::GiveUp,
     }
 }
 
-/// What the copier does after a copy. While the state is under way it waits for ten milliseconds.
+/// What the copier does after a copy.
 pub(crate) fn after_copy(reply: &HostReply) -> Next
     ensures { result ≡ after_copy reply.now }
 {
     match reply {
-        HostReply::StateSent | HostReply::PartSent { .. } => Next::Wait(10),
+        HostReply::StateSent | HostReply::PartSent { .. } => Next::Wait(LONG_PAUSE),
         HostReply::Refused(why) => after_refusal(*why),
         _ => Next::Copy,
     }

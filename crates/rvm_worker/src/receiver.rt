@@ -1,18 +1,18 @@
 //! Receivers: each hears the frames of the other side.
 
 ghost use Rattle.std.specs.Prelude.{◌≡◌, if◌then◌else◌};
-ghost use Rattle.rvm_worker.specs.Work.{IsWork};
+ghost use Rattle.rvm_worker.specs.Work.{AreOfReceiver, IsWork};
 
 use crate::end::{WorkEnd, Worked};
 use crate::gate::{Gate, Watch, Worker};
-use crate::mover::Mover;
+use crate::hearing::Hearing;
 use crate::next::ends_hearing;
-use crate::telling::{Side, tell};
+use crate::telling::Side;
 use rvm_cell::{Seat, Seating};
 use rvm_frame::{Frame, FrameReader};
 use rvm_link::{Link, LinkRead};
 use rvm_mem::PagedMemory;
-use rvm_message::{HostEvent, Shared};
+use rvm_message::Shared;
 use std::alloc::Global;
 use std::sync::Wait;
 
@@ -53,15 +53,16 @@ pub fn receiver_worker<
     from: u8,
     link: &mut I,
 ) -> Worked<L>
-    ensures { IsWork seat result.seat result.receipts.items }
+    ensures work { IsWork seat result.seat result.receipts.items }
+    ensures heard { AreOfReceiver from result.receipts.items }
 {
-    let mut mover = Mover::new(alloc, seat);
+    let mut hearing = Hearing::new(alloc, seat, from);
     let mut watch = Watch::new(gate, worker);
-    let end = hear(rt, alloc, side, &mut mover, &mut watch, from, link);
+    let end = hear(rt, alloc, side, &mut hearing, &mut watch, link);
     if end.is_short_of_room() {
         side.outgoing.close(rt);
     }
-    mover.end(end)
+    hearing.end(end)
 }
 
 /// Reads a link until the receiver ends.
@@ -69,12 +70,11 @@ fn hear<L: Seating, M: PagedMemory + Drop, K: Link + Drop, I: Link, G: Gate, R: 
     rt: &R,
     alloc: Global,
     side: &Side<'_, L, M, K>,
-    mover: &mut Mover<L>,
+    hearing: &mut Hearing<L>,
     watch: &mut Watch<'_, G>,
-    from: u8,
     link: &mut I,
 ) -> WorkEnd
-    ensures { mover.new.start ≡ mover.old.start }
+    ensures { hearing.new ≡ hearing.old }
 {
     let mut stream = Stream {
         reader: FrameReader::new(alloc),
@@ -88,7 +88,7 @@ fn hear<L: Seating, M: PagedMemory + Drop, K: Link + Drop, I: Link, G: Gate, R: 
             Read::Nothing => idle += 1,
             Read::Bytes(piece) => {
                 idle = 0;
-                if let Err(end) = take(rt, alloc, side, mover, watch, from, &mut stream, piece) {
+                if let Err(end) = take(rt, alloc, side, hearing, watch, &mut stream, piece) {
                     return end;
                 }
             }
@@ -136,13 +136,12 @@ fn take<L: Seating, M: PagedMemory + Drop, K: Link + Drop, G: Gate, R: Wait>(
     rt: &R,
     alloc: Global,
     side: &Side<'_, L, M, K>,
-    mover: &mut Mover<L>,
+    hearing: &mut Hearing<L>,
     watch: &mut Watch<'_, G>,
-    from: u8,
     stream: &mut Stream,
     piece: &[u8],
 ) -> Result<(), WorkEnd>
-    ensures { mover.new.start ≡ mover.old.start }
+    ensures { hearing.new ≡ hearing.old }
 {
     let mut rest = piece;
     for _turn in 0..piece.len() {
@@ -153,7 +152,7 @@ fn take<L: Seating, M: PagedMemory + Drop, K: Link + Drop, G: Gate, R: Wait>(
         rest = &rest[taken..];
         stream.is_inside = received.is_none();
         if let Some((_hosts, frame)) = received {
-            came(rt, alloc, side, mover, watch, from, frame)?;
+            came(rt, alloc, side, hearing, watch, frame)?;
         }
     }
     Ok(())
@@ -164,12 +163,11 @@ fn came<L: Seating, M: PagedMemory + Drop, K: Link + Drop, G: Gate, R: Wait>(
     rt: &R,
     alloc: Global,
     side: &Side<'_, L, M, K>,
-    mover: &mut Mover<L>,
+    hearing: &mut Hearing<L>,
     watch: &mut Watch<'_, G>,
-    from: u8,
     frame: Frame,
 ) -> Result<(), WorkEnd>
-    ensures { mover.new.start ≡ mover.old.start }
+    ensures { hearing.new ≡ hearing.old }
 {
     if is_hello(&frame) {
         return Ok(());
@@ -177,7 +175,7 @@ fn came<L: Seating, M: PagedMemory + Drop, K: Link + Drop, G: Gate, R: Wait>(
     let Ok(frame) = Shared::new(alloc, frame) else {
         return Err(WorkEnd::OutOfMemory);
     };
-    let told = tell(rt, alloc, side, mover, watch, HostEvent::Came(from, frame))?;
+    let told = hearing.came(rt, alloc, side, watch, frame)?;
     told.sent?;
     if ends_hearing(&told.reply) {
         return Err(WorkEnd::Done);

@@ -1,11 +1,11 @@
 //! A call at a gate, with the frame that it makes.
 
-ghost use Rattle.std.specs.Prelude.{◌≡◌, false};
-ghost use Rattle.rvm_journal.specs.History.{is_board};
+ghost use Rattle.std.specs.Prelude.{◌≡◌};
+ghost use Rattle.rvm_worker.specs.Work.{MayHaveAsked};
 
+use crate::caller::Caller;
 use crate::end::WorkEnd;
 use crate::gate::{Gate, Watch};
-use crate::mover::Mover;
 use rvm_cell::{Seating, SharedHost};
 use rvm_frame::Addressed;
 use rvm_link::{Link, Outgoing, SendError};
@@ -33,15 +33,15 @@ pub(crate) fn tell<L: Seating, M: PagedMemory + Drop, K: Link + Drop, G: Gate, R
     rt: &R,
     alloc: Global,
     side: &Side<'_, L, M, K>,
-    mover: &mut Mover<L>,
+    caller: &mut Caller<L>,
     watch: &mut Watch<'_, G>,
     event: HostEvent,
 ) -> Result<Called, WorkEnd>
-    requires { is_board event ≡ false }
-    ensures { mover.new.start ≡ mover.old.start }
+    ensures start { caller.new.start ≡ caller.old.start }
+    ensures asked { MayHaveAsked event caller.old.receipts caller.new.receipts }
 {
     watch.before()?;
-    let (reply, frame) = mover.call(rt, alloc, side.host, event)?;
+    let (reply, frame) = caller.call(rt, alloc, side.host, event)?;
     let sent = send(rt, side.outgoing, frame);
     watch.after();
     Ok(Called { reply, sent })

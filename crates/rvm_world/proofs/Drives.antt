@@ -1,15 +1,13 @@
 -- Events of one kind, one after the other, and the parts of a list of events.
-use Rattle.std.proofs.Common.{◌≡◌, ◌&&◌, Bool, true, ℕ, zero, suc, ◌+◌, ◌-◌, ◌<◌, ◌≤◌, List, [], ◌∷◌, ◌++◌, length, refl, sym, ap, ◌∙◌, arith, OnErr, Result, Ok, Err}
-use Rattle.std.specs.List.{list_all}
-use Rattle.std.proofs.lemmas.List.Folds.{list_all-append}
+use Rattle.std.proofs.Common.{◌≡◌, ℕ, zero, suc, ◌+◌, ◌-◌, ◌<◌, ◌≤◌, List, [], ◌∷◌, ◌++◌, length, take, refl, sym, ap, ◌∙◌, subst, arith, OnErr, Result, Ok, Err}
+use Rattle.std.proofs.lemmas.List.{length-append, take-append-le}
 use Rattle.rvm_debug.specs.declared.event.BoardEvent.{BoardEvent}
 use Rattle.rvm_debug.specs.declared.event.BoardReply.{BoardReply}
 use Rattle.rvm_guest.proofs.TheGuest.{board}
 use Rattle.rvm_protocol.specs.Pages.{listed}
 use Rattle.rvm_protocol.specs.Replies.{Reply}
 use Rattle.rvm_protocol.specs.World.{Event, replies, reply_to, run, step}
-use Rattle.rvm_world.specs.Driving.{WasLeft, is_driving}
-use Rattle.rvm_world.specs.Worlds.{BoardWorld}
+use Rattle.rvm_world.specs.Worlds.{BoardWorld, IsPartOf}
 
 -- lists by a function of the place
 pub listed_none : {V : Type 0} (f : ℕ → V) (i : ℕ) → listed f i 0 ≡ []
@@ -103,53 +101,49 @@ replies_next w w' x ys r qs h =
     in
     (both.0, λ is. ap (λ z. replies board z ys) is ∙ both.1)
 
--- some whole events
-pub left_as_it_was : (w w' : BoardWorld) → w' ≡ w → WasLeft w w'
-left_as_it_was w w' is = record { events = []; only = refl; made = is ∙ sym (run_none w) }
+-- the first so many of a list by a function of the place
+pub take_listed : {V : Type 0} (f : ℕ → V) (i k n : ℕ) → k ≤ n → take k (listed f i n) ≡ listed f i k
+unfolding listed
+take_listed f i zero n le = refl
+take_listed f i (suc k) zero le = absurd (omega (arith, le))
+take_listed f i (suc k) (suc n) le = ap (λ z. f i ∷ z) (take_listed f (suc i) k n (omega (arith, le)))
 
-left_by : (w w' : BoardWorld) (es : List (Event BoardEvent)) → list_all is_driving es ≡ true → w' ≡ run board w es
-    → WasLeft w w'
-left_by w w' es only is = record { events = es; only = only; made = is }
-
-both : (a b : Bool) → a ≡ true → b ≡ true → (a && b) ≡ true
-both a b p q = cc
-
-pub left_further : (a b c : BoardWorld) → WasLeft a b → WasLeft b c → WasLeft a c
-left_further a b c h k =
-    record {
-      events = h.events ++ k.events;
-      only =
-          list_all-append is_driving h.events k.events
-          ∙ both (list_all is_driving h.events) (list_all is_driving k.events) h.only k.only;
-      made = k.made ∙ ap (λ z. run board z k.events) h.made ∙ sym (run_append h.events k.events a);
-    }
-
-pub left_once_more : (a b c : BoardWorld) (x : Event BoardEvent) → is_driving x ≡ true → WasLeft a b
-    → c ≡ step board b x → WasLeft a c
-left_once_more a b c x drives h is =
-    left_further a b c h
-    (left_by b c (x ∷ []) (both (is_driving x) true drives refl) (is ∙ sym (run_none (step board b x)) ∙ sym (run_first b x [])))
-
-pub left_unchanged : (a b c : BoardWorld) → WasLeft a b → c ≡ b → WasLeft a c
-left_unchanged a b c h is = left_further a b c h (left_as_it_was b c is)
-
-pub left_at_an_error : {X F : Type 0} (r : Result X F) (w w' : BoardWorld) → WasLeft w w' → OnErr r (WasLeft w w')
-left_at_an_error (Ok x) w w' left = tt
-left_at_an_error (Err e) w w' left = left
+-- a fact of an error
+pub on_err : {X F : Type 0} (r : Result X F) (P : Type 0) → P → OnErr r P
+on_err (Ok x) P p = tt
+on_err (Err e) P p = p
 
 -- so far, and what is left
 pub record Going (f : ℕ → Event BoardEvent) (w0 w : BoardWorld) (i n : ℕ) : Type 0 where
   pub left : run board w (listed f i (n - i)) ≡ run board w0 (listed f 0 n)
-  pub so_far : WasLeft w0 w
+  pub so_far : w ≡ run board w0 (listed f 0 i)
 
+-- before the first event
 pub begins : (f : ℕ → Event BoardEvent) (w : BoardWorld) (n : ℕ) → Going f w w 0 n
 begins f w n =
-    record { left = ap (λ z. run board w (listed f 0 z)) (omega arith); so_far = left_as_it_was w w refl }
+    record {
+      left = ap (λ z. run board w (listed f 0 z)) (omega arith);
+      so_far = sym (ap (run board w) (listed_none f 0) ∙ run_none w);
+    }
 
-pub goes_on : (f : ℕ → Event BoardEvent) → ((p : ℕ) → is_driving (f p) ≡ true) → (w0 w w' : BoardWorld) (i n : ℕ)
-    → Going f w0 w i n → i < n
+-- one event more
+pub one_further : (f : ℕ → Event BoardEvent) (w0 w w' : BoardWorld) (i : ℕ) → w ≡ run board w0 (listed f 0 i)
+    → w' ≡ step board w (f i) → w' ≡ run board w0 (listed f 0 (i + 1))
+one_further f w0 w w' i so_far next =
+    let xs = listed f 0 i in
+    let here : 0 + i ≡ i = omega arith in
+    let one : suc i ≡ i + 1 = omega arith in
+    let all : listed f 0 (i + 1) ≡ xs ++ f i ∷ [] =
+    ap (listed f 0) (sym one) ∙ listed_last f 0 i ∙ ap (λ z. xs ++ f z ∷ []) here
+    in
+    next ∙ ap (λ z. step board z (f i)) so_far
+    ∙ sym (ap (run board w0) all ∙ run_append xs (f i ∷ []) w0 ∙ run_first (run board w0 xs) (f i) []
+    ∙ run_none (step board (run board w0 xs) (f i)))
+
+-- so it goes on
+pub goes_on : (f : ℕ → Event BoardEvent) (w0 w w' : BoardWorld) (i n : ℕ) → Going f w0 w i n → i < n
     → w' ≡ step board w (f i) → Going f w0 w' (i + 1) n
-goes_on f drives w0 w w' i n going lt next =
+goes_on f w0 w w' i n going lt next =
     let k = n - (i + 1) in
     let e : n - i ≡ suc k = omega (arith, lt) in
     let s : suc i ≡ i + 1 = omega arith in
@@ -160,11 +154,61 @@ goes_on f drives w0 w w' i n going lt next =
       left =
           ap (λ z. run board z (listed f (i + 1) k)) next ∙ sym (run_first w (f i) (listed f (i + 1) k))
           ∙ ap (run board w) (sym here) ∙ going.left;
-      so_far = left_once_more w0 w w' (f i) (drives i) going.so_far next;
+      so_far = one_further f w0 w w' i going.so_far next;
     }
 
+-- behind the last event
 pub ends : (f : ℕ → Event BoardEvent) (w0 w : BoardWorld) (i n : ℕ) → Going f w0 w i n → n ≤ i
     → w ≡ run board w0 (listed f 0 n)
 ends f w0 w i n going le =
     let e : n - i ≡ 0 = omega (arith, le) in
     sym (ap (λ z. run board w (listed f i z)) e ∙ ap (run board w) (listed_none f i) ∙ run_none w) ∙ going.left
+
+-- THE FIRST SO MANY EVENTS
+
+-- none of them was made
+pub part_none : (x : Event BoardEvent) (xs : List (Event BoardEvent)) (w new : BoardWorld) → new ≡ w
+    → IsPartOf (x ∷ xs) w new
+part_none x xs w new is = record { made = 0; there = omega arith; leaves = is ∙ sym (run_none w) }
+
+-- one was, and some of those behind it
+pub part_first : (x : Event BoardEvent) (xs : List (Event BoardEvent)) (w mid new : BoardWorld) → mid ≡ step board w x
+    → IsPartOf xs mid new → IsPartOf (x ∷ xs) w new
+part_first x xs w mid new is part =
+    let some = take part.made xs in
+    let fewer = part.there in
+    record {
+      made = suc part.made;
+      there = omega (arith, fewer);
+      leaves = part.leaves ∙ ap (λ z. run board z some) is ∙ sym (run_first w x some);
+    }
+
+-- in the first of two parts
+pub part_before : (xs ys : List (Event BoardEvent)) (w new : BoardWorld) → IsPartOf xs w new → IsPartOf (xs ++ ys) w new
+part_before xs ys w new part =
+    let fewer = part.there in
+    let all = length-append xs ys in
+    record {
+      made = part.made;
+      there = omega (arith, fewer, all);
+      leaves = part.leaves ∙ ap (run board w) (sym (take-append-le part.made xs ys (omega (arith, fewer))));
+    }
+
+-- in the second of two parts
+pub part_behind : (xs ys : List (Event BoardEvent)) (w mid new : BoardWorld) → mid ≡ run board w xs
+    → IsPartOf ys mid new → IsPartOf (xs ++ ys) w new
+part_behind [] ys w mid new is part = subst (λ z. IsPartOf ys z new) (is ∙ run_none w) part
+part_behind (x ∷ xs) ys w mid new is part =
+    part_first x (xs ++ ys) w (step board w x) new refl
+    (part_behind xs ys (step board w x) mid new (is ∙ run_first w x xs) part)
+
+-- in events of one kind
+pub part_of_listed : (f : ℕ → Event BoardEvent) (w new : BoardWorld) (i n : ℕ) → i < n
+    → new ≡ run board w (listed f 0 i) → IsPartOf (listed f 0 n) w new
+part_of_listed f w new i n lt is =
+    let all = listed_length f 0 n in
+    record {
+      made = i;
+      there = omega (arith, lt, all);
+      leaves = is ∙ ap (run board w) (sym (take_listed f 0 i n (omega (arith, lt))));
+    }

@@ -1,5 +1,5 @@
 -- How a move that is driven ends.
-use Rattle.std.proofs.Common.{◌≡◌, ℕ, suc, ◌+◌, ◌*◌, ◌<◌, ◌≤◌, [], ◌∷◌, length, Some, None, Result, Ok, Err, refl, sym, ap, ◌∙◌, arith}
+use Rattle.std.proofs.Common.{◌≡◌, ℕ, suc, ◌+◌, ◌*◌, ◌<◌, ◌≤◌, List, [], ◌∷◌, length, Some, None, Result, Ok, Err, refl, sym, ap, ◌∙◌, subst, arith}
 use Rattle.rvm_debug.specs.declared.event.BoardEvent.{BoardEvent}
 use Rattle.rvm_debug.specs.declared.event.BoardReply.{BoardReply}
 use Rattle.rvm_debug.specs.Guest.{Guest}
@@ -12,10 +12,10 @@ use Rattle.rvm_protocol.specs.Replies.{Accepted, Begun, Declined, MoveDeclined, 
 use Rattle.rvm_protocol.specs.Rounds.{page_count}
 use Rattle.rvm_protocol.specs.World.{At, Deliver, Event, replies, reply_to, run, step}
 use Rattle.rvm_world.specs.declared.drive.Driven.TheVariants as driven
-use Rattle.rvm_world.specs.Driving.{CanBegin, DrivesTo}
-use Rattle.rvm_world.specs.Phases.{IsSent, limit_told, sending, sending_replies}
-use Rattle.rvm_world.specs.Worlds.{BoardWorld, IsReached}
-use Rattle.rvm_world.proofs.Drives.{replies_next, run_first, run_none}
+use Rattle.rvm_world.specs.Driving.{CanBegin, DrivesTo, WasLeft, drive_of}
+use Rattle.rvm_world.specs.Phases.{IsSent, IsSentLeft, limit_told, sending, sending_replies}
+use Rattle.rvm_world.specs.Worlds.{BoardWorld, IsPartOf, IsReached}
+use Rattle.rvm_world.proofs.Drives.{part_first, part_none, replies_next, run_first, run_none}
 use Rattle.rvm_world.proofs.Moves.{arrives, declines, drive_is, drive_length, has_pages, replies_are, runs_valid, some_frame, state_length}
 use Rattle.rvm_world.proofs.Opening.{stays_if_refused}
 
@@ -36,6 +36,10 @@ no_limit limit r told is = let none : None ≡ Some limit = sym (ap limit_told i
 
 limit_is : (limit most : ℕ) (r : Reply BoardReply) → limit_told r ≡ Some limit → r ≡ Declined most → limit ≡ most
 limit_is limit most r told is = some_is limit most (sym told ∙ ap limit_told is)
+
+-- it did not decline
+declines_not : (most : ℕ) (r : Reply BoardReply) → limit_told r ≡ None → r ≡ Declined most → ⊥
+declines_not most r told is = let some : None ≡ Some most = sym told ∙ ap limit_told is in cc
 
 -- how a move begins, its frames being those from k on
 module _ (w0 : BoardWorld) (from to k : ℕ) (p : Policy) (reached : IsReached w0) (place : k ≡ length w0.sent) where
@@ -178,6 +182,88 @@ module _ (w0 : BoardWorld) (from to k : ℕ) (p : Policy) (reached : IsReached w
             absurd (declines_not (w0.limits to) r2 none (reply ∙ (closes w1 e g can large s1).declined));
         refused = λ why told. absurd (not_both number why x is (first.refused why (first.reply ∙ told)));
       }
-    where
-      declines_not : (most : ℕ) (r : Reply BoardReply) → limit_told r ≡ None → r ≡ Declined most → ⊥
-      declines_not most r told is = let some : None ≡ Some most = sym told ∙ ap limit_told is in cc
+
+  -- MEMORY RAN OUT
+
+  -- the first so many events of a move are those of the list that the law has
+  first_moved : (g : Guest) (new : BoardWorld)
+      → IsPartOf (first_event ∷ Deliver k ∷ Deliver (k + 1)
+      ∷ sending from (k + 2) (page_count board g) (state_frames board w0.version g)) w0 new
+      → IsPartOf (drive_of w0 from to p g) w0 new
+  first_moved g new part =
+      let n = page_count board g in
+      let s = state_frames board w0.version g in
+      subst (λ z. IsPartOf z w0 new) (sym (drive_is from to p k n s) ∙ ap (λ z. drive from to p z n s) place) part
+
+  -- and so are those of a move that is declined
+  first_declined : (new : BoardWorld) → IsPartOf (drive_opening from to p k) w0 new
+      → IsPartOf (drive_opening from to p (length w0.sent)) w0 new
+  first_declined new part = subst (λ z. IsPartOf (drive_opening from to p z) w0 new) place part
+
+  -- some of the events up to the target's answer were made, whatever comes behind it; none, where it did not begin
+  left_opening : (new : BoardWorld)
+      → ((rest : List (Event BoardEvent)) → IsPartOf (first_event ∷ Deliver k ∷ Deliver (k + 1) ∷ rest) w0 new)
+      → ((why : HostRefusal) → reply_to board w0 first_event ≡ Refused (refusal_of why) → new ≡ w0)
+      → WasLeft w0 new from to p
+  left_opening new part none =
+      record {
+        moved = λ e g can fits.
+            first_moved g new (part (sending from (k + 2) (page_count board g) (state_frames board w0.version g)));
+        declined = λ e g can large. first_declined new (part []);
+        refused = none;
+      }
+
+  -- it began, so it was not refused
+  not_refused : (new : BoardWorld) (r : Reply BoardReply) (x : Result ℕ HostRefusal) (number : ℕ) → IsBegun r x
+      → x ≡ Ok number → (why : HostRefusal) → reply_to board w0 first_event ≡ Refused (refusal_of why) → new ≡ w0
+  not_refused new r x number first is why told =
+      absurd (not_both number why x is (first.refused why (first.reply ∙ told)))
+
+  -- at the command to begin
+  pub left_at_once : (w1 : BoardWorld) → w1 ≡ w0 → WasLeft w0 w1 from to p
+  left_at_once w1 stays =
+      left_opening w1 (λ rest. part_none first_event (Deliver k ∷ Deliver (k + 1) ∷ rest) w0 w1 stays)
+      (λ why told. stays)
+
+  -- at the offer
+  pub left_offering : (w1 w2 : BoardWorld) (r : Reply BoardReply) (x : Result ℕ HostRefusal) (number : ℕ) → IsBegun r x
+      → x ≡ Ok number → w1 ≡ step board w0 first_event → w2 ≡ w1 → WasLeft w0 w2 from to p
+  left_offering w1 w2 r x number first is s1 stays =
+      left_opening w2
+      (λ rest. part_first first_event (Deliver k ∷ Deliver (k + 1) ∷ rest) w0 w1 w2 s1
+      (part_none (Deliver k) (Deliver (k + 1) ∷ rest) w1 w2 stays)) (not_refused w2 r x number first is)
+
+  -- at its answer
+  pub left_answering : (w1 w2 w3 : BoardWorld) (r : Reply BoardReply) (x : Result ℕ HostRefusal) (number : ℕ)
+      → IsBegun r x → x ≡ Ok number → w1 ≡ step board w0 first_event → w2 ≡ step board w1 (Deliver k) → w3 ≡ w2
+      → WasLeft w0 w3 from to p
+  left_answering w1 w2 w3 r x number first is s1 s2 stays =
+      left_opening w3
+      (λ rest. part_first first_event (Deliver k ∷ Deliver (k + 1) ∷ rest) w0 w1 w3 s1
+      (part_first (Deliver k) (Deliver (k + 1) ∷ rest) w1 w2 w3 s2 (part_none (Deliver (k + 1)) rest w2 w3 stays)))
+      (not_refused w3 r x number first is)
+
+  -- while the guest went
+  pub left_sending : (w1 w2 w3 w4 : BoardWorld) (r r2 : Reply BoardReply) (x : Result ℕ HostRefusal) (number : ℕ)
+      → IsBegun r x → x ≡ Ok number → r2 ≡ reply_to board w1 (Deliver k) → limit_told r2 ≡ None
+      → w1 ≡ step board w0 first_event → w2 ≡ step board w1 (Deliver k) → w3 ≡ step board w2 (Deliver (k + 1))
+      → IsSentLeft w3 w4 from (k + 2) → WasLeft w0 w4 from to p
+  left_sending w1 w2 w3 w4 r r2 x number first is reply none s1 s2 s3 left =
+      record {
+        moved = λ e g can fits.
+            let n = page_count board g in
+            let s = state_frames board w0.version g in
+            let rest = sending from (k + 2) n s in
+            let o = opens w1 w2 w3 e g can fits s1 s2 s3 in
+            let most = (has_pages g (runs_valid w0 from e g reached can.here can.runs)).1 in
+            let part =
+            left w0.version (suc e) n s most (some_frame w0.version g) (state_length w0.version g) o.told
+            in
+            first_moved g w4
+            (part_first first_event (Deliver k ∷ Deliver (k + 1) ∷ rest) w0 w1 w4 s1
+            (part_first (Deliver k) (Deliver (k + 1) ∷ rest) w1 w2 w4 s2
+            (part_first (Deliver (k + 1)) rest w2 w3 w4 s3 part)));
+        declined = λ e g can large.
+            absurd (declines_not (w0.limits to) r2 none (reply ∙ (closes w1 e g can large s1).declined));
+        refused = not_refused w4 r x number first is;
+      }

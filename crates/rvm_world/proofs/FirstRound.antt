@@ -7,10 +7,9 @@ use Rattle.rvm_protocol.specs.Commands.{Copy}
 use Rattle.rvm_protocol.specs.Pages.{listed}
 use Rattle.rvm_protocol.specs.Replies.{Copied, Reply, RoundEnded}
 use Rattle.rvm_protocol.specs.World.{At, Event, replies, reply_to, run, step}
-use Rattle.rvm_world.specs.Driving.{WasLeft}
-use Rattle.rvm_world.specs.Phases.{IsRound, copies, is_copied, round_replies}
+use Rattle.rvm_world.specs.Phases.{IsRound, IsRoundLeft, copies, is_copied, round_replies}
 use Rattle.rvm_world.specs.Worlds.{BoardWorld}
-use Rattle.rvm_world.proofs.Drives.{left_as_it_was, left_once_more, listed_first, listed_none, replies_next, run_first, run_none}
+use Rattle.rvm_world.proofs.Drives.{listed_first, listed_none, one_further, part_of_listed, replies_next, run_first, run_none}
 
 abbrev pub copies_at : (from i n : ℕ) → List (Event BoardEvent)
 copies_at from i n = listed (λ p. At from Copy) i n
@@ -28,7 +27,7 @@ pub record Ahead (from : ℕ) (w0 w : BoardWorld) (i n : ℕ) : Type 0 where
 -- if it is a round at all
 pub record Rounding (from : ℕ) (w0 w : BoardWorld) (i : ℕ) : Type 0 where
   pub counted : (n : ℕ) → n ≤ 4096 → replies board w0 (copies from (n + 1)) ≡ round_replies n → Ahead from w0 w i n
-  pub so_far : WasLeft w0 w
+  pub so_far : w ≡ run board w0 (copies from i)
 
 pub begins : (from : ℕ) (w : BoardWorld) → Rounding from w w 0
 begins from w =
@@ -41,7 +40,7 @@ begins from w =
             told = ap (λ z. replies board w (copies from z)) (sym one) ∙ told;
             leads = ap (λ z. run board w (copies from z)) (sym one);
           };
-      so_far = left_as_it_was w w refl;
+      so_far = sym (ap (run board w) (listed_none (λ p. At from Copy) 0) ∙ run_none w);
     }
 
 not_copied : (r s : Reply BoardReply) → is_copied r ≡ true → r ≡ s → is_copied s ≡ false → ⊥
@@ -89,7 +88,7 @@ goes_on from w0 w w' i r rounding copied reply next =
       counted = λ n most told.
           let a = rounding.counted n most told in
           copied_one from w0 w w' i n a.ahead r a.is a.told a.leads copied reply next;
-      so_far = left_once_more w0 w w' (At from Copy) refl rounding.so_far next;
+      so_far = one_further (λ p. At from Copy) w0 w w' i rounding.so_far next;
     }
 
 -- the round is over
@@ -130,3 +129,10 @@ too_many from w0 w i rounding many =
     let a = rounding.counted n most told in
     let e = a.is in
     absurd (omega (arith, e, most, many))
+
+-- it stopped before its end
+pub stopped : (from : ℕ) (w0 w w' : BoardWorld) (i : ℕ) → Rounding from w0 w i → w' ≡ w → IsRoundLeft w0 w' from
+stopped from w0 w w' i rounding is =
+    λ n most told.
+    let e = (rounding.counted n most told).is in
+    part_of_listed (λ p. At from Copy) w0 w' i (n + 1) (omega (arith, e)) (is ∙ rounding.so_far)

@@ -3,6 +3,7 @@ mod Keeping
 mod Happenings
 mod NewWorlds
 mod Runs
+mod Places
 pub mod Laws
 mod Drives
 mod FirstRound

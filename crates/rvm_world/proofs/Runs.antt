@@ -9,25 +9,31 @@ use Rattle.rvm_protocol.specs.World as protocol
 use Rattle.rvm_protocol.specs.World.{replies, reply_to, run, step}
 use Rattle.rvm_world.specs.Worlds.{BoardWorld, IsPartOf}
 
+-- lists
+drop_nil : {V : Type 0} (i : ℕ) → drop {A = V} i [] ≡ []
+drop_nil zero = refl
+drop_nil (suc i) = refl
+
+pub drop_all : {V : Type 0} (xs : List V) (i : ℕ) → length xs ≤ i → drop i xs ≡ []
+drop_all [] i le = drop_nil i
+drop_all (x ∷ xs) zero le = absurd (omega (arith, le))
+drop_all (x ∷ xs) (suc i) le = drop_all xs i (omega (arith, le))
+
+pub map_pushed : {X Y : Type 0} (f : X → Y) (xs : List X) (y : X) → map f (xs ++ y ∷ []) ≡ map f xs ++ f y ∷ []
+map_pushed f [] y = refl
+map_pushed f (x ∷ xs) y = ap (λ z. f x ∷ z) (map_pushed f xs y)
+
+pub map_length : {X Y : Type 0} (f : X → Y) (xs : List X) → length (map f xs) ≡ length xs
+map_length f [] = refl
+map_length f (x ∷ xs) = ap suc (map_length f xs)
+
+-- events, one after the other
 module _ {S P E A B V R : Type 0} (m : Guest S P E A B) (event : V → protocol.Event E) (reply : R → Reply A) where
   -- the events before i were made, with these replies
   pub record Running (w0 w : protocol.World S P B) (all : List V) (i : ℕ) (said : List R) : Type 0 where
     pub replied : map reply said ++ replies m w (map event (drop i all)) ≡ replies m w0 (map event all)
     pub left : run m w (map event (drop i all)) ≡ run m w0 (map event all)
     pub made : w ≡ run m w0 (take i (map event all))
-
-  drop-nil : (i : ℕ) → drop {A = V} i [] ≡ []
-  drop-nil zero = refl
-  drop-nil (suc i) = refl
-
-  drop-all : (xs : List V) (i : ℕ) → length xs ≤ i → drop i xs ≡ []
-  drop-all [] i le = drop-nil i
-  drop-all (x ∷ xs) zero le = absurd (omega (arith, le))
-  drop-all (x ∷ xs) (suc i) le = drop-all xs i (omega (arith, le))
-
-  map_more : (xs : List R) (y : R) → map reply (xs ++ y ∷ []) ≡ map reply xs ++ reply y ∷ []
-  map_more [] y = refl
-  map_more (x ∷ xs) y = ap (λ z. reply x ∷ z) (map_more xs y)
 
   step_replies : (w : protocol.World S P B) (x : V) (rest : List V)
       → replies m w (map event (x ∷ rest)) ≡ reply_to m w (event x) ∷ replies m (step m w (event x)) (map event rest)
@@ -73,7 +79,7 @@ module _ {S P E A B V R : Type 0} (m : Guest S P E A B) (event : V → protocol.
       record {
         replied =
             ap (λ z. map reply z ++ replies m w' (map event rest)) more
-            ∙ ap (λ z. z ++ replies m w' (map event rest)) (map_more said r)
+            ∙ ap (λ z. z ++ replies m w' (map event rest)) (map_pushed reply said r)
             ∙ append_assoc (map reply said) (reply r ∷ []) (replies m w' (map event rest))
             ∙ ap (λ z. map reply said ++ z) (sym whole)
             ∙ so_far.replied;
@@ -88,17 +94,13 @@ module _ {S P E A B V R : Type 0} (m : Guest S P E A B) (event : V → protocol.
       → length all ≤ i → map reply said ≡ replies m w0 (map event all)
   all_said w0 w all i said so_far le =
       sym (append-nil (map reply said))
-      ∙ ap (λ z. map reply said ++ z) (sym (ap (λ z. replies m w (map event z)) (drop-all all i le) ∙ nothing w))
+      ∙ ap (λ z. map reply said ++ z) (sym (ap (λ z. replies m w (map event z)) (drop_all all i le) ∙ nothing w))
       ∙ so_far.replied
 
   pub all_run : (w0 w : protocol.World S P B) (all : List V) (i : ℕ) (said : List R) → Running w0 w all i said
       → length all ≤ i → w ≡ run m w0 (map event all)
   all_run w0 w all i said so_far le =
-      sym (ap (λ z. run m w (map event z)) (drop-all all i le) ∙ nowhere w) ∙ so_far.left
-
-pub map_length : {X Y : Type 0} (f : X → Y) (xs : List X) → length (map f xs) ≡ length xs
-map_length f [] = refl
-map_length f (x ∷ xs) = ap suc (map_length f xs)
+      sym (ap (λ z. run m w (map event z)) (drop_all all i le) ∙ nowhere w) ∙ so_far.left
 
 -- where it stopped before its end
 part_of : {V : Type 0} (event : V → protocol.Event BoardEvent) (w0 w : BoardWorld) (all : List V) (i : ℕ)

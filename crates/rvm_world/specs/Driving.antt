@@ -1,19 +1,18 @@
 -- A move that is driven: each of its frames comes once, in order, and the guest has no event.
-use Rattle.std.specs.Prelude.{◌≡◌, ℕ, suc, ◌+◌, ◌*◌, ◌^◌, ◌-◌, ◌<◌, ◌≤◌, Bool, true, false, List, length}
-use Rattle.std.specs.List.{list_all}
+use Rattle.std.specs.Prelude.{◌≡◌, ℕ, suc, ◌+◌, ◌*◌, ◌^◌, ◌-◌, ◌<◌, ◌≤◌, true, List, length}
 use Rattle.rvm_debug.specs.declared.event.BoardEvent.{BoardEvent}
 use Rattle.rvm_debug.specs.Guest.{Guest}
 use Rattle.rvm_guest.proofs.TheGuest.{board}
 use Rattle.rvm_message.specs.declared.reply.HostRefusal.{HostRefusal}
 use Rattle.rvm_message.specs.Replies.{refusal_of}
-use Rattle.rvm_protocol.specs.Commands.{Policy, Begin, Copy, is_allowed}
+use Rattle.rvm_protocol.specs.Commands.{Policy, Begin, is_allowed}
 use Rattle.rvm_protocol.specs.DrivenMove.{Arrives, IsDeclined, drive, drive_opening, state_frames}
 use Rattle.rvm_protocol.specs.Host.{is_there}
 use Rattle.rvm_protocol.specs.Modes.{Run}
 use Rattle.rvm_protocol.specs.Replies.{Refused}
 use Rattle.rvm_protocol.specs.Rounds.{page_count}
-use Rattle.rvm_protocol.specs.World.{At, Deliver, Event, mode_at, reply_to, run}
-use Rattle.rvm_world.specs.Worlds.{BoardWorld}
+use Rattle.rvm_protocol.specs.World.{At, Event, mode_at, reply_to, run}
+use Rattle.rvm_world.specs.Worlds.{BoardWorld, IsPartOf}
 use Rattle.rvm_world.specs.declared.drive.Driven.{Driven}
 use Rattle.rvm_world.specs.declared.drive.Driven.TheVariants as driven
 
@@ -57,15 +56,11 @@ pub record DrivesTo (d : Driven) (old new : BoardWorld) (from to : ℕ) (policy 
   pub refused : (why : HostRefusal)
       → reply_to board old (At from (Begin to policy)) ≡ Refused (refusal_of why) → IsRefused d old new why
 
--- an event of a move that is driven: it begins, a copy is made, or a frame comes; none of the guest, and it is not given up
-abbrev pub is_driving : Event BoardEvent → Bool
-is_driving (At x (Begin to p)) = true
-is_driving (At x Copy) = true
-is_driving (Deliver k) = true
-is_driving e = false
-
--- some whole events of a move that is driven made the world `new` of the world `old`
-pub record WasLeft (old new : BoardWorld) : Type 0 where
-  pub events : List (Event BoardEvent)
-  pub only : list_all is_driving events ≡ true
-  pub made : new ≡ run board old events
+-- memory ran out in a move that is driven: its first events were made, so many as it came to
+pub record WasLeft (old new : BoardWorld) (from to : ℕ) (policy : Policy) : Type 0 where
+  pub moved : (e : ℕ) (g : Guest) → CanBegin old from to policy e g → page_count board g ≤ old.limits to
+      → IsPartOf (drive_of old from to policy g) old new
+  pub declined : (e : ℕ) (g : Guest) → CanBegin old from to policy e g → old.limits to < page_count board g
+      → IsPartOf (drive_opening from to policy (length old.sent)) old new
+  pub refused : (why : HostRefusal)
+      → reply_to board old (At from (Begin to policy)) ≡ Refused (refusal_of why) → new ≡ old

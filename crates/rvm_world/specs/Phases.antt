@@ -8,7 +8,7 @@ use Rattle.rvm_protocol.specs.DrivenMove.{arrival_replies, state_replies}
 use Rattle.rvm_protocol.specs.Pages.{listed}
 use Rattle.rvm_protocol.specs.Replies.{Reply, Begun, Copied, RoundEnded, Stopping, PartSent, Declined, Stored, Noted, Committed, StartedHere, Finished, Refused}
 use Rattle.rvm_protocol.specs.World.{At, Deliver, Event, replies, run}
-use Rattle.rvm_world.specs.Worlds.{BoardWorld}
+use Rattle.rvm_world.specs.Worlds.{BoardWorld, IsPartOf}
 
 -- so many copies at a host; the frames that were sent, so many from a place on
 abbrev pub copies : (from n : ℕ) → List (Event BoardEvent)
@@ -74,3 +74,22 @@ IsSent events old new from first =
     (version move n s : ℕ) → n ≤ 4096 → 0 < s → length (state_replies {A = BoardReply} version s) ≡ s
     → replies board old (sending from first n s) ≡ sending_replies version move n s
     → (events ≡ 2 * n + 6 + 2 * s) × (new ≡ run board old (sending from first n s))
+
+-- where the replies are those of a first round of n pages, memory ran out in it, and the first so many copies were made
+abbrev pub IsRoundLeft : (old new : BoardWorld) → (from : ℕ) → Type 0
+IsRoundLeft old new from =
+    (n : ℕ) → n ≤ 4096 → replies board old (copies from (n + 1)) ≡ round_replies n
+    → IsPartOf (copies from (n + 1)) old new
+
+-- where they are those of a state, in that state
+abbrev pub IsStateLeft : (old new : BoardWorld) → (from : ℕ) → Type 0
+IsStateLeft old new from =
+    (version s : ℕ) → 0 < s → replies board old (copies from s) ≡ state_replies version s
+    → IsPartOf (copies from s) old new
+
+-- where they are those of a guest that goes, while it went
+abbrev pub IsSentLeft : (old new : BoardWorld) → (from first : ℕ) → Type 0
+IsSentLeft old new from first =
+    (version move n s : ℕ) → n ≤ 4096 → 0 < s → length (state_replies {A = BoardReply} version s) ≡ s
+    → replies board old (sending from first n s) ≡ sending_replies version move n s
+    → IsPartOf (sending from first n s) old new

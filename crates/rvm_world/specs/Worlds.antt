@@ -113,6 +113,13 @@ asks_memory e = true
 abbrev pub place_of : (before after : ℕ) → Option ℕ
 place_of before after = if nat_lt before after then Some before else None
 
+-- the place of the frame that each of some events makes, if it makes one
+unfoldable pub places_of : BoardWorld → List (protocol.Event BoardEvent) → List (Option ℕ)
+places_of w [] = []
+places_of w (e ∷ es) =
+    let v = protocol.step board w e in
+    place_of (length w.sent) (length v.sent) ∷ places_of v es
+
 -- hosts that each take 1 to 4096 pages, and a version of the stream that they can speak
 abbrev pub is_sized : (version : ℕ) → (limits : List ℕ) → Bool
 is_sized version limits = is_spoken version (length limits) && list_all (within 1 4096) limits

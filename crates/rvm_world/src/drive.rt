@@ -7,8 +7,8 @@ ghost use Rattle.rvm_precopy.specs.Policies.{policy_of};
 ghost use Rattle.rvm_protocol.specs.Replies.{Begun, Refused};
 ghost use Rattle.rvm_protocol.specs.World.{run};
 ghost use Rattle.rvm_world.specs.Driving.{DrivesTo, WasLeft};
-ghost use Rattle.rvm_world.specs.Phases.{IsRound, IsSent, IsState, begins_or_not, copies, deliveries, frames_told, is_copied, limit_told};
-ghost use Rattle.rvm_world.specs.Worlds.{world_of};
+ghost use Rattle.rvm_world.specs.Phases.{IsRound, IsRoundLeft, IsSent, IsSentLeft, IsState, IsStateLeft, begins_or_not, copies, deliveries, frames_told, is_copied, limit_told};
+ghost use Rattle.rvm_world.specs.Worlds.{IsPartOf, world_of};
 
 use crate::event::Event;
 use crate::world::World;
@@ -47,7 +47,7 @@ pub fn drive_move<M: PagedMemory + Drop>(
     policy: Policy,
 ) -> Result<Driven, AllocError>
     ensures ends { IfOk result (λ d. DrivesTo d (world_of world.old) (world_of world.new) from to (policy_of policy)) }
-    ensures err { OnErr result (WasLeft (world_of world.old) (world_of world.new)) }
+    ensures err { OnErr result (WasLeft (world_of world.old) (world_of world.new) from to (policy_of policy)) }
 {
     world.reached();
     let first = world.sent() as u64;
@@ -76,7 +76,7 @@ fn send_guest<M: PagedMemory + Drop>(
     requires { first < 2 ^ 63 + 2 }
     ensures sent { IfOk result (λ events. IsSent events (world_of world.old) (world_of world.new) from first) }
     ensures most { IfOk result (λ events. events < 2 ^ 16) }
-    ensures left { WasLeft (world_of world.old) (world_of world.new) }
+    ensures left { OnErr result (IsSentLeft (world_of world.old) (world_of world.new) from first) }
 {
     let round = copy_round(alloc, world, from)?;
     deliver_all(alloc, world, first, round)?;
@@ -95,7 +95,7 @@ fn copy_round<M: PagedMemory + Drop>(
 ) -> Result<u32, AllocError>
     ensures round { IfOk result (λ frames. IsRound frames (world_of world.old) (world_of world.new) from) }
     ensures most { IfOk result (λ frames. frames ≤ 4097) }
-    ensures left { WasLeft (world_of world.old) (world_of world.new) }
+    ensures left { OnErr result (IsRoundLeft (world_of world.old) (world_of world.new) from) }
 {
     for pages in 0..=MAX_PAGES {
         let copied = world.apply(alloc, &Event::At(from, Command::Copy))?;
@@ -114,7 +114,7 @@ fn send_state<M: PagedMemory + Drop>(
 ) -> Result<u32, AllocError>
     ensures state { IfOk result (λ frames. IsState frames (world_of world.old) (world_of world.new) from) }
     ensures most { IfOk result (λ frames. frames < 256) }
-    ensures left { WasLeft (world_of world.old) (world_of world.new) }
+    ensures left { OnErr result (IsStateLeft (world_of world.old) (world_of world.new) from) }
 {
     let sent = world.apply(alloc, &Event::At(from, Command::Copy))?;
     let frames = frames_told(&sent.reply) as u32;
@@ -130,7 +130,7 @@ fn copy_all<M: PagedMemory + Drop>(
     count: u32,
 ) -> Result<(), AllocError>
     ensures made { OnOk result (world_of world.new ≡ run board (world_of world.old) (copies from count)) }
-    ensures left { WasLeft (world_of world.old) (world_of world.new) }
+    ensures left { OnErr result (IsPartOf (copies from count) (world_of world.old) (world_of world.new)) }
 {
     for _ in 0..count {
         world.apply(alloc, &Event::At(from, Command::Copy))?;
@@ -147,7 +147,7 @@ fn deliver_all<M: PagedMemory + Drop>(
 ) -> Result<(), AllocError>
     requires { first + count < 2 ^ 64 }
     ensures made { OnOk result (world_of world.new ≡ run board (world_of world.old) (deliveries first count)) }
-    ensures left { WasLeft (world_of world.old) (world_of world.new) }
+    ensures left { OnErr result (IsPartOf (deliveries first count) (world_of world.old) (world_of world.new)) }
 {
     for place in 0..count {
         world.apply(alloc, &Event::Deliver(first + place as u64))?;

@@ -8,7 +8,7 @@ ghost use Rattle.rvm_protocol.specs.Shown.{Shown};
 ghost use Rattle.rvm_protocol.specs.Told.{Told};
 ghost use Rattle.rvm_protocol.specs.World.{history, new_world, replies, run};
 ghost use Rattle.rvm_world.specs.NeverMoved.{FramesAreTrue, NeverMoved};
-ghost use Rattle.rvm_world.specs.Worlds.{IsPartOf, meant, said, world_of};
+ghost use Rattle.rvm_world.specs.Worlds.{IsPartOf, meant, places_of, said, world_of};
 
 use crate::event::{Event, WorldReply};
 use crate::world::World;
@@ -27,6 +27,9 @@ pub fn run_world<M: PagedMemory + Drop>(
     ensures replies { IfOk result (λ rs. map said rs.items
         ≡ replies board (world_of world.old) (map meant events.now)) }
     ensures world { OnOk result (world_of world.new ≡ run board (world_of world.old) (map meant events.now)) }
+    // The place of the frame that each event made.
+    ensures places { IfOk result (λ rs. map (λ r. r.frame) rs.items
+        ≡ places_of (world_of world.old) (map meant events.now)) }
     // The guest never moved.
     ensures never_moved { OnOk result ((t : Told Guest) → Shown (world_of world.old).hosts t
         → NeverMoved t (world_of world.new) (history board (world_of world.old) (map meant events.now))) }

@@ -18,6 +18,7 @@ use Rattle.rvm_world.specs.declared.error.WorldError.{WorldError}
 use Rattle.rvm_world.specs.declared.error.WorldError.TheVariants as world
 use Rattle.rvm_world_command.specs.Ends.{IsWorldRefusal, IsWorldScriptEnd, IsWorldScriptEndOf}
 use Rattle.rvm_world_command.specs.FirstWorld.{at_first, limits_of}
+use Rattle.rvm_world_script.proofs.Spending.{line_asks}
 use Rattle.rvm_world_script.specs.declared.script.WorldScriptError.{WorldScriptError}
 use Rattle.rvm_world_script.specs.declared.script.WorldScriptError.TheVariants as script
 use Rattle.rvm_world_script.specs.Runs.{IsWorldRun, standing}
@@ -44,9 +45,12 @@ ended_run text s (Err (script.BadToken n)) new before mid after long run kept =
 ended_run text s (Err (script.LineOutOfMemory n)) new before mid after long run kept =
     record {
       done = run.done;
-      left = run.line ∷ run.left;
+      line = run.line;
+      left = run.left;
       whole = run.whole;
       number = run.number;
+      on = run.on;
+      asks = line_asks run.line (world_script_of run.done 1 s).standing new run.spent;
       text = appends_kept before mid after (world_script_of run.done 1 s).text run.text kept;
     }
 ended_run text s (Err script.TooLong) new before mid after long run kept =

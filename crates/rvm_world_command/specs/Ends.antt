@@ -1,5 +1,5 @@
 -- How `script` ends, what it wrote to its output until then, and what it answers.
-use Rattle.std.specs.Prelude.{◌≡◌, ◌⊎◌, ℕ, ◌+◌, ◌^◌, ◌<◌, true, false, List, ◌++◌, length, Option, Some, None, Result, Ok, Err, IfOk, IfSome}
+use Rattle.std.specs.Prelude.{◌≡◌, ◌⊎◌, ℕ, ◌+◌, ◌^◌, ◌<◌, true, false, List, ◌∷◌, ◌++◌, length, Option, Some, None, Result, Ok, Err, IfOk, IfSome}
 use Rattle.std.specs.Io.KnownBytes.{Appends, Keeps}
 use Rattle.rvm_arguments.specs.declared.arguments.ScriptArguments.{ScriptArguments}
 use Rattle.rvm_command.specs.declared.refused.Refused.{Refused}
@@ -13,6 +13,7 @@ use Rattle.rvm_world_command.specs.FirstWorld.{at_first, limits_of, version_aske
 use Rattle.rvm_world_command.specs.Refusals.{refused_of_world_script}
 use Rattle.rvm_world_script.specs.declared.script.WorldScriptError.{WorldScriptError}
 use Rattle.rvm_world_script.specs.declared.script.WorldScriptError.TheVariants as script
+use Rattle.rvm_world_script.specs.Runs.{AsksMemoryIn}
 use Rattle.rvm_world_script.specs.WorldScript.{Standing, world_script_of}
 
 -- there is no world: so many hosts do not speak this version, or memory ran out
@@ -27,16 +28,20 @@ IsBeginRefusal a file r =
     IsLoadRefusal (image_of a.guest.raw file) a.guest.pages r
     ⊎ (IsLoadable (image_of a.guest.raw file) a.guest.pages × IsWorldRefusal (version_asked a) a.hosts r)
 
--- what the lines before this one answer was written
+-- memory ran out in the line with this number, which is one that asks for it; those before it were done, and what they
+-- answered was written
 pub record IsCutShort (n : ℕ) (lines : List (List ℕ)) (s : Standing) (before after : Option (List ℕ)) : Type 0 where
   pub done : List (List ℕ)
+  pub line : List ℕ
   pub left : List (List ℕ)
-  pub whole : done ++ left ≡ lines
+  pub whole : done ++ line ∷ left ≡ lines
   pub number : length done + 1 ≡ n
+  pub on : (world_script_of done 1 s).end ≡ None
+  pub asks : AsksMemoryIn line (world_script_of done 1 s).standing
   pub text : Appends before after (world_script_of done 1 s).text
 
--- lines are answered to their end, to the one that is none, or to the one that found no memory; or nothing is answered, since
--- there are too many bytes or no memory; or a read or a write failed
+-- lines are answered to their end, to the one that is none, or to the one that found no memory; or nothing is answered,
+-- since there are too many bytes or no memory; or a read or a write failed
 abbrev pub IsWorldScriptEnd : (text : List ℕ) → Standing → Result (Unit {0}) WorldScriptError
     → (before after : Option (List ℕ)) → Type 0
 IsWorldScriptEnd text s (Ok done) before after =

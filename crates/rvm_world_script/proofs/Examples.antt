@@ -1,13 +1,16 @@
--- Scripts that make no event, and whom moves without a target go to.
-use Rattle.std.proofs.Common.{◌≡◌, [], None, Some, codes, refl}
+-- Scripts that make no event, whom moves without a target go to, and lines that ask for memory.
+use Rattle.std.proofs.Common.{◌≡◌, ℕ, List, [], Option, None, Some, codes, refl, arith}
 use Rattle.rvm_debug.specs.Guest.{Guest}
 use Rattle.rvm_guest.proofs.TheGuest.{board}
 use Rattle.rvm_protocol.specs.Told.{at_start}
 use Rattle.rvm_protocol.specs.World.{new_world}
+use Rattle.rvm_script.specs.Lines.{command_of}
 use Rattle.rvm_script.specs.Words.{lines, lines_from, words_from}
-use Rattle.rvm_world_line.specs.WorldLines.{world_line_of}
-use Rattle.rvm_world_script.specs.Runs.{standing}
+use Rattle.rvm_world.specs.Worlds.{BoardWorld}
+use Rattle.rvm_world_line.specs.WorldLines.{world_command_of, world_line_of}
+use Rattle.rvm_world_script.specs.Runs.{AsksMemoryIn, IsSpent, standing}
 use Rattle.rvm_world_script.specs.WorldScript.{Standing, host_in, target, world_script_of}
+use Rattle.rvm_world_script.proofs.Spending.{spent_before_the_end}
 
 -- two hosts, the first of which has the guest
 start : Guest → Standing
@@ -34,3 +37,23 @@ the_third_line_is_none : (g : Guest)
     ≡ record { standing = start g; text = []; end = Some 3 }
 unfolding start world_script_of world_line_of lines_from words_from
 the_third_line_is_none g = refl
+
+a_comment_asks_for_no_memory : (g : Guest) → AsksMemoryIn (codes "# a") (start g) → ⊥
+unfolding start world_line_of words_from
+a_comment_asks_for_no_memory g asks = asks
+
+a_step_of_the_guest_asks_for_none : (g : Guest) → AsksMemoryIn (codes "B step 0") (start g) → ⊥
+unfolding start world_line_of words_from world_command_of command_of
+a_step_of_the_guest_asks_for_none g asks = asks
+
+a_frame_that_comes_asks_for_memory : (g : Guest) → AsksMemoryIn (codes "deliver 0") (start g)
+unfolding start world_line_of words_from
+a_frame_that_comes_asks_for_memory g = tt
+
+-- the first line is none, so that the second is not the one that found no memory
+nothing_runs_out_behind_a_line_that_is_none : (g : Guest) (new : BoardWorld) (before after : Option (List ℕ))
+    → IsSpent 2 (lines (codes "C copy\ncopy\n")) (start g) new before after → ⊥
+unfolding start world_script_of world_line_of lines_from words_from
+nothing_runs_out_behind_a_line_that_is_none g new before after spent =
+    let far = spent_before_the_end 2 1 (lines (codes "C copy\ncopy\n")) (start g) new before after spent refl in
+    absurd (omega (arith, far))

@@ -2,5 +2,6 @@ mod Faults
 mod Making
 mod Stepping
 mod Running
+pub mod Spending
 mod Moving
 mod Examples

@@ -1,6 +1,5 @@
 -- A line makes whole events, and each of them keeps what the modes show.
 use Rattle.std.proofs.Common.{◌≡◌, ℕ, zero, suc, ◌+◌, Bool, true, false, cond, List, [], ◌∷◌, ◌++◌, Option, Some, None, refl, ap, sym, ◌∙◌, subst}
-use Rattle.std.specs.List.{list_all}
 use Rattle.rvm_debug.specs.declared.event.BoardEvent.{BoardEvent}
 use Rattle.rvm_debug.specs.declared.event.BoardEvent.TheVariants as event
 use Rattle.rvm_debug.specs.declared.event.BoardReply.{BoardReply}
@@ -20,14 +19,12 @@ use Rattle.rvm_protocol.specs.Told.{told}
 use Rattle.rvm_protocol.specs.World.{At, Deliver, Event, entry_of, history, meaning, run}
 use Rattle.rvm_script.specs.declared.line.Line.{Line}
 use Rattle.rvm_script.specs.declared.line.Line.TheVariants as line
-use Rattle.rvm_world.specs.Driving.{is_driving}
 use Rattle.rvm_world.specs.Worlds.{BoardWorld, IsReached}
 use Rattle.rvm_world_line.specs.declared.line.Asked.{Asked}
 use Rattle.rvm_world_line.specs.declared.line.Asked.TheVariants as asked
 use Rattle.rvm_world_line.specs.declared.line.WorldLine.{WorldLine}
 use Rattle.rvm_world_line.specs.declared.line.WorldLine.TheVariants as lines
 use Rattle.rvm_world_line.specs.WorldLines.{world_line_of}
-use Rattle.rvm_world_script.specs.Runs.{IsBegun}
 use Rattle.rvm_world_script.specs.WorldScript.{Answers, Replied, Standing, Stepping, after, after_all, answers_by, asked_done, done_by, guest_done, host_in, inputs, moved_if, moved_with, reply_in, stepping, target, world_script_of}
 
 pub after_none : (s : Standing) → after_all s [] ≡ s
@@ -73,12 +70,6 @@ shown_after_all s es r shown =
     in
     subst (λ t. Shown (after_all s es).world.hosts t) (sym (after_told s es))
     (subst (λ w. Shown w.hosts (told board s.told (history board s.world es))) (sym (after_run s es)) here)
-
--- just these events were made
-pub events_begun : (s : Standing) (new : BoardWorld) (es : List (Event BoardEvent)) → list_all is_driving es ≡ true
-    → new ≡ run board s.world es
-    → IsBegun s new
-events_begun s new es only made = record { events = es; only = only; world = made ∙ sym (after_run s es) }
 
 -- some events lead from one standing to another
 pub record Made (s t : Standing) : Type 0 where

@@ -17,7 +17,7 @@ use Rattle.rvm_world_script.specs.Runs.{IsLineRun, IsPartWay, IsSpentIn, IsWorld
 use Rattle.rvm_world_script.specs.WorldScript.{Answers, Standing, answers_by, behind, done_by, world_script_of}
 use Rattle.rvm_world_script.proofs.Making.{made_shown, script_made}
 
-line_first : (b : List ℕ) (bs : List (List ℕ)) (n : ℕ) (s : Standing)
+pub line_first : (b : List ℕ) (bs : List (List ℕ)) (n : ℕ) (s : Standing)
     → world_script_of (b ∷ bs) n s ≡ answers_by (world_line_of s.world.count b) n s (world_script_of bs (n + 1))
 unfolding world_script_of
 line_first b bs n s = refl
@@ -47,7 +47,7 @@ line_both (Some l) ls more n s others on =
     ∙ behind_both r.text d.text (world_script_of more (n + 1 + length ls) d.standing)
     ∙ ap (λ k. behind (r.text ++ d.text) (world_script_of more k d.standing)) count
 
-script_both : (ls more : List (List ℕ)) (n : ℕ) (s : Standing) → (world_script_of ls n s).end ≡ None
+pub script_both : (ls more : List (List ℕ)) (n : ℕ) (s : Standing) → (world_script_of ls n s).end ≡ None
     → world_script_of (ls ++ more) n s
     ≡ behind (world_script_of ls n s).text (world_script_of more (n + length ls) (world_script_of ls n s).standing)
 unfolding world_script_of
@@ -172,6 +172,7 @@ one_refused all left bs b number k start old new before mid after LinkFault (Som
       done = p.done ++ b ∷ [];
       left = bs;
       whole = line_next p.done bs b left all more p.whole;
+      on = ap (λ (a : Answers). a.end) told;
       world = run ∙ ap (λ (a : Answers). a.standing.world) (sym told);
     }
 one_refused all left bs b number k start old new before mid after (LineOutOfMemory j) None p is same more run =
@@ -184,6 +185,7 @@ one_refused all left bs b number k start old new before mid after (LineOutOfMemo
       left = bs;
       whole = ap (λ ls. p.done ++ ls) (sym more) ∙ p.whole;
       number = omega (arith, run.0, same, p.counted);
+      on = p.on;
       spent = subst (λ o. IsSpentIn o d.standing new) (sym is) run.1.0;
       text = subst (λ out. Appends before out d.text) (sym run.1.1) p.text;
     }
@@ -220,7 +222,7 @@ empty_done l s out is = rw is (refl, appends_none out)
 -- a script that can't be read
 unread : (lines : List (List ℕ)) (s : Standing) → IsPartWay lines s s.world
 unfolding world_script_of
-unread lines s = record { done = []; left = lines; whole = refl; world = refl }
+unread lines s = record { done = []; left = lines; whole = refl; on = refl; world = refl }
 
 pub unread_script : (script : Option (List ℕ)) (w : BoardWorld)
     → IfSome script (λ bytes. (t : Told Guest) → Shown w.hosts t → IsPartWay (lines bytes) (standing w t) w)

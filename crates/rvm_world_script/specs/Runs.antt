@@ -1,16 +1,14 @@
 -- How a world's script ended, and what stands then.
-use Rattle.std.specs.Prelude.{◌≡◌, ℕ, ◌+◌, true, List, ◌∷◌, ◌++◌, length, codes, Option, Some, None, Result, Ok, Err}
+use Rattle.std.specs.Prelude.{◌≡◌, ℕ, ◌+◌, List, ◌∷◌, ◌++◌, length, codes, Option, Some, None, Result, Ok, Err}
 use Rattle.std.specs.Io.KnownBytes.{Appends}
-use Rattle.std.specs.List.{list_all}
 use Rattle.std.specs.Fmt.{decimal}
-use Rattle.rvm_debug.specs.declared.event.BoardEvent.{BoardEvent}
 use Rattle.rvm_debug.specs.declared.event.BoardReply.{BoardReply}
 use Rattle.rvm_debug.specs.Guest.{Guest}
 use Rattle.rvm_message.specs.Replies.{refusal_of}
+use Rattle.rvm_precopy.specs.Policies.{policy_of}
 use Rattle.rvm_protocol.specs.Replies.{Refused, Reply}
 use Rattle.rvm_protocol.specs.Told.{Told}
-use Rattle.rvm_protocol.specs.World.{Event}
-use Rattle.rvm_world.specs.Driving.{is_driving}
+use Rattle.rvm_world.specs.Driving.{WasLeft}
 use Rattle.rvm_world.specs.declared.drive.Driven.{Driven}
 use Rattle.rvm_world.specs.declared.drive.Driven.TheVariants as driven
 use Rattle.rvm_world.specs.Worlds.{BoardWorld}
@@ -24,36 +22,43 @@ use Rattle.rvm_world_script.specs.declared.lines.LineFault.{LineFault}
 use Rattle.rvm_world_script.specs.declared.lines.LineFault.TheVariants as fault
 use Rattle.rvm_world_script.specs.declared.script.WorldScriptError.{WorldScriptError}
 use Rattle.rvm_world_script.specs.declared.script.WorldScriptError.TheVariants.{OutOfMemory, LineOutOfMemory, TooLong, BadToken, LinkFault}
-use Rattle.rvm_world_script.specs.WorldScript.{Replied, Standing, after_all, done_by, world_script_of}
+use Rattle.rvm_world_script.specs.WorldScript.{Replied, Standing, done_by, host_in, target, world_script_of}
 
--- some whole events of a move that is driven were made
-pub record IsBegun (s : Standing) (new : BoardWorld) : Type 0 where
-  pub events : List (Event BoardEvent)
-  pub only : list_all is_driving events ≡ true
-  pub world : new ≡ (after_all s events).world
-
--- memory ran out where this was asked: of a whole move some events were made, of another command none was, and a line
--- for the guest takes no memory
-abbrev pub IsSpentAsking : Asked → (s : Standing) → (new : BoardWorld) → Type 0
-IsSpentAsking (asked.Guest l) s new = ⊥
-IsSpentAsking (asked.Begin to p) s new = new ≡ s.world
-IsSpentAsking (asked.Move to p) s new = IsBegun s new
-IsSpentAsking asked.Copy s new = new ≡ s.world
-IsSpentAsking asked.Resend s new = new ≡ s.world
-IsSpentAsking asked.Abort s new = new ≡ s.world
+-- memory ran out where host x was asked: of a whole move its first events were made, of another command none was, and
+-- a line for the guest takes no memory
+abbrev pub IsSpentAsking : (x : ℕ) → Asked → (s : Standing) → (new : BoardWorld) → Type 0
+IsSpentAsking x (asked.Guest l) s new = ⊥
+IsSpentAsking x (asked.Begin to p) s new = new ≡ s.world
+IsSpentAsking x (asked.Move to p) s new = WasLeft s.world new x (target x to) (policy_of p)
+IsSpentAsking x asked.Copy s new = new ≡ s.world
+IsSpentAsking x asked.Resend s new = new ≡ s.world
+IsSpentAsking x asked.Abort s new = new ≡ s.world
 
 -- memory ran out in this line
 abbrev pub IsSpentIn : Option WorldLine → (s : Standing) → (new : BoardWorld) → Type 0
 IsSpentIn None s new = ⊥
 IsSpentIn (Some lines.Empty) s new = ⊥
-IsSpentIn (Some (lines.Host host a)) s new = IsSpentAsking a s new
+IsSpentIn (Some (lines.Host host a)) s new = IsSpentAsking (host_in host s) a s new
 IsSpentIn (Some (lines.Deliver k)) s new = new ≡ s.world
+
+-- a line that may find no memory: an empty one and one for the guest take none
+abbrev pub AsksMemory : Option WorldLine → Type 0
+AsksMemory None = ⊥
+AsksMemory (Some lines.Empty) = ⊥
+AsksMemory (Some (lines.Host host (asked.Guest l))) = ⊥
+AsksMemory (Some (lines.Host host a)) = Unit {0}
+AsksMemory (Some (lines.Deliver k)) = Unit {0}
+
+-- the same of the bytes of a line, where a script stands so
+abbrev pub AsksMemoryIn : (line : List ℕ) → Standing → Type 0
+AsksMemoryIn line s = AsksMemory (world_line_of s.world.count line)
 
 -- some of the first lines were done, each to its end, and none of the others was begun
 pub record IsPartWay (lines : List (List ℕ)) (s : Standing) (new : BoardWorld) : Type 0 where
   pub done : List (List ℕ)
   pub left : List (List ℕ)
   pub whole : done ++ left ≡ lines
+  pub on : (world_script_of done 1 s).end ≡ None
   pub world : new ≡ (world_script_of done 1 s).standing.world
 
 -- memory ran out in the line with this number; those before it were done, and what they answered was written
@@ -64,6 +69,7 @@ pub record IsSpent (n : ℕ) (lines : List (List ℕ)) (s : Standing) (new : Boa
   pub left : List (List ℕ)
   pub whole : done ++ line ∷ left ≡ lines
   pub number : length done + 1 ≡ n
+  pub on : (world_script_of done 1 s).end ≡ None
   pub spent : let d = (world_script_of done 1 s).standing in IsSpentIn (world_line_of d.world.count line) d new
   pub text : Appends before after (world_script_of done 1 s).text
 

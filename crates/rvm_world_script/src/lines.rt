@@ -7,15 +7,17 @@ ghost use Rattle.rvm_debug.specs.declared.event.BoardReply.TheVariants as answer
 ghost use Rattle.rvm_guest.proofs.TheGuest.{board};
 ghost use Rattle.rvm_message.specs.Events.{command_of};
 ghost use Rattle.rvm_message.specs.Replies.{reply_of};
+ghost use Rattle.rvm_precopy.specs.Policies.{policy_of};
 ghost use Rattle.rvm_protocol.specs.Commands as commands;
 ghost use Rattle.rvm_protocol.specs.Replies.{Answered};
 ghost use Rattle.rvm_protocol.specs.Shown.{Shown};
 ghost use Rattle.rvm_protocol.specs.Told.{Told};
 ghost use Rattle.rvm_protocol.specs.World as protocol;
 ghost use Rattle.rvm_protocol.specs.World.{reply_to, step};
+ghost use Rattle.rvm_world.specs.Driving.{WasLeft};
 ghost use Rattle.rvm_world.specs.Worlds.{meant, world_of};
 ghost use Rattle.rvm_world_script.specs.declared.lines.LineFault.TheVariants as fault;
-ghost use Rattle.rvm_world_script.specs.Runs.{IsBegun, IsDone, IsInput, IsSpentAsking, IsSpentIn, driven_text, standing};
+ghost use Rattle.rvm_world_script.specs.Runs.{IsDone, IsInput, IsSpentAsking, IsSpentIn, driven_text, standing};
 ghost use Rattle.rvm_world_script.specs.WorldScript.{asked_done, done_by, guest_done, host_in, inputs, is_taken, moved, replied, target};
 
 use rvm_debug::{BoardEvent, BoardReply};
@@ -106,7 +108,7 @@ fn do_asked<M: PagedMemory + Drop, W: Write>(
     writer: &mut W,
 ) -> Result<(), LineFault>
     ensures { (t : Told Guest) → IsDone result (asked_done host asked.entry (standing (world_of world.old) t))
-        (IsSpentAsking asked.entry (standing (world_of world.old) t) (world_of world.new)) (world_of world.new)
+        (IsSpentAsking host asked.entry (standing (world_of world.old) t) (world_of world.new)) (world_of world.new)
         (W.contents writer.old) (W.contents writer.new) }
 {
     match asked {
@@ -166,7 +168,7 @@ fn do_move<M: PagedMemory + Drop, W: Write>(
     writer: &mut W,
 ) -> Result<(), LineFault>
     ensures { (t : Told Guest) → IsDone result (moved from to policy (standing (world_of world.old) t))
-        (IsBegun (standing (world_of world.old) t) (world_of world.new)) (world_of world.new)
+        (WasLeft (world_of world.old) (world_of world.new) from to (policy_of policy)) (world_of world.new)
         (W.contents writer.old) (W.contents writer.new) }
 {
     world.reached();

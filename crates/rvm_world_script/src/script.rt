@@ -46,7 +46,7 @@ pub enum WorldScriptError {
 /// `TooLong` for more than 2^26 bytes and `OutOfMemory`: then nothing was written, and the world is as
 /// it was. `BadToken` at the first line that is not in the grammar: what the lines before it answered is
 /// written, and the world is as they left it. `LineOutOfMemory` at a line that found no memory: the
-/// same, but some events of a whole move may have been made; a line for the guest takes no memory.
+/// same, but the first events of a whole move may have been made; a line for the guest takes no memory.
 /// `LinkFault` where a read or a write failed: then the world is as some of the first lines left it, each
 /// of which was done to its end, the last too, whose answer was not written; none was done where a read
 /// failed.

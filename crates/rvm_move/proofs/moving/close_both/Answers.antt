@@ -1,4 +1,4 @@
-use Rattle.rvm_move.proofs.Told.{guest_of_three}
+use Rattle.rvm_move.proofs.Told.{all_of_three}
 use Rattle.rvm_move.proofs.moving.close_both.Goals as goal
 
 pub returns-clause-told_a : goal.returns-clause-told_a
@@ -7,6 +7,5 @@ returns-clause-told_a g c closed =
     let third = c.add-3.ensures told.0 in
     let second = c.add-2.ensures third.0 in
     let first = c.add.ensures second.0 in
-    guest_of_three c.close_host.result.recorded.journal.entries c.new-from_a.result.receipts.items c.args.turned.receipts.0.items
-    _ _ _ _ _ c.new-from_a.ensures first.1 second.1 third.1 told.1 c.requires.one.0
-    c.args.carried.copier.moved c.args.carried.at_a.moved
+    all_of_three c.close_host.result.recorded.journal.entries c.new-from_a.result.receipts.items c.args.turned.receipts.0.items
+    _ _ _ _ _ c.new-from_a.ensures first.1 second.1 third.1 told.1

@@ -1,7 +1,9 @@
-use Rattle.rvm_move.specs.Hosts.{IsEnd}
+use Rattle.rvm_move.specs.Hosts.{IsAskedOfFirst, IsAskedOfSecond, IsEnd}
 use Rattle.rvm_move.specs.Runs.{IsEndRun}
-use Rattle.rvm_move_command.specs.Ended.{IsMoved, IsToldOf}
+use Rattle.rvm_move_command.specs.Ended.{IsFailureOf, IsMoved, IsToldOf}
 use Rattle.rvm_move_command.specs.Hosts.{AreOpened}
+use Rattle.rvm_move_command.specs.Plans.{plan_of}
+use Rattle.rvm_move_command.proofs.Failed.{failed_of, not_moved}
 use Rattle.rvm_move_command.proofs.Moved.{moved, moved_told}
 use Rattle.rvm_move_command.proofs.move_command.move_command.Goals as goal
 
@@ -13,10 +15,20 @@ returns-clause-moved g c =
     let output_after = g.O.Write.contents c.move_image-moved.new.output in
     moved_told c.tell_end.result c.move_image-moved.result
     (λ m. AreOpened c.args.arguments.now c.args.image.now m.a.recorded.journal.opening m.b.recorded.journal.opening)
-    (λ m. IsEnd m.a.fault m.a.recorded.journal.entries) (λ m. IsEnd m.b.fault m.b.recorded.journal.entries)
+    (λ m. IsEnd (IsAskedOfFirst (plan_of c.args.arguments.now).policy) m.a.fault m.a.recorded.journal.entries)
+    (λ m. IsEnd IsAskedOfSecond m.b.fault m.b.recorded.journal.entries)
     (λ m. IsEndRun m.ends m.a.fault m.b.fault m.a.recorded.journal.entries m.b.recorded.journal.entries output_before output_after
     c.args.arguments.now.guest.harts c.args.arguments.now.steps)
     (λ m. IsToldOf m.ends m.a.fault m.b.fault m.a.recorded.journal m.b.recorded.journal before after)
     (IsMoved c.args.arguments.now c.args.image.now before after output_before output_after)
     (λ m. moved c.args.arguments.now c.args.image.now m.ends m.a.fault m.b.fault m.a.recorded.journal m.b.recorded.journal before after output_before output_after)
     c.move_image-moved.ensures.opened c.move_image-moved.ensures.a c.move_image-moved.ensures.b c.move_image-moved.ensures.run c.tell_end.ensures.told
+
+pub returns-clause-failed : goal.returns-clause-failed
+returns-clause-failed g c =
+    let before = g.E.Write.contents c.args.errors.now in
+    let after = g.E.Write.contents c.tell_end.new.errors in
+    not_moved c.tell_end.result c.move_image-moved.result c.args.arguments.now c.args.image.now before after
+    (λ m. IsFailureOf m.ends m.a.fault m.b.fault m.a.recorded.journal m.b.recorded.journal before after)
+    (λ m. failed_of m.ends m.a.fault m.b.fault m.a.recorded.journal m.b.recorded.journal before after)
+    c.move_image-moved.ensures.refused c.tell_end.ensures.refused c.tell_end.ensures.failed

@@ -1,9 +1,11 @@
 use Rattle.std.proofs.Common.{subst}
 use Rattle.std.specs.Prelude.{IfOk}
-use Rattle.rvm_move.specs.Hosts.{IsEnd}
+use Rattle.rvm_move.specs.Hosts.{IsAskedOfFirst, IsAskedOfSecond, IsEnd}
 use Rattle.rvm_move.specs.Runs.{IsEndRun}
-use Rattle.rvm_move_command.specs.Ended.{IsMoved, IsToldOf}
+use Rattle.rvm_move_command.specs.Ended.{IsFailureOf, IsMoved, IsToldOf}
 use Rattle.rvm_move_command.specs.Hosts.{AreOpened}
+use Rattle.rvm_move_command.specs.Plans.{plan_of}
+use Rattle.rvm_move_command.proofs.Failed.{failed_of, for_memory, not_moved}
 use Rattle.rvm_move_command.proofs.Moved.{if_ok, moved, moved_told, opened}
 use Rattle.rvm_move_command.proofs.move_over.move_over.Goals as goal
 
@@ -18,12 +20,25 @@ returns-in-Ok-clause-moved g c =
     c.in-Ok.ensures.loadable c.in-Ok.ensures.valid c.in-Ok.ensures.first c.in-Ok.ensures.second same.0 same.1) c.move_recorded-moved.ensures.opening in
     let run = subst (λ plan. IfOk c.move_recorded-moved.result (λ m. IsEndRun m.ends m.a.fault m.b.fault m.a.recorded.journal.entries
     m.b.recorded.journal.entries output_before output_after plan.harts plan.steps)) c.plan_of-plan.ensures c.move_recorded-moved.ensures.run in
+    let end_a = subst (λ plan. IfOk c.move_recorded-moved.result (λ m. IsEnd (IsAskedOfFirst plan.policy) m.a.fault m.a.recorded.journal.entries))
+    c.plan_of-plan.ensures c.move_recorded-moved.ensures.a in
     moved_told c.tell_end.result c.move_recorded-moved.result
     (λ m. AreOpened c.args.arguments.now c.args.image.now m.a.recorded.journal.opening m.b.recorded.journal.opening)
-    (λ m. IsEnd m.a.fault m.a.recorded.journal.entries) (λ m. IsEnd m.b.fault m.b.recorded.journal.entries)
+    (λ m. IsEnd (IsAskedOfFirst (plan_of c.args.arguments.now).policy) m.a.fault m.a.recorded.journal.entries)
+    (λ m. IsEnd IsAskedOfSecond m.b.fault m.b.recorded.journal.entries)
     (λ m. IsEndRun m.ends m.a.fault m.b.fault m.a.recorded.journal.entries m.b.recorded.journal.entries output_before output_after
     c.args.arguments.now.guest.harts c.args.arguments.now.steps)
     (λ m. IsToldOf m.ends m.a.fault m.b.fault m.a.recorded.journal m.b.recorded.journal before after)
     (IsMoved c.args.arguments.now c.args.image.now before after output_before output_after)
     (λ m. moved c.args.arguments.now c.args.image.now m.ends m.a.fault m.b.fault m.a.recorded.journal m.b.recorded.journal before after output_before output_after)
-    begun c.move_recorded-moved.ensures.a c.move_recorded-moved.ensures.b run c.tell_end.ensures.told
+    begun end_a c.move_recorded-moved.ensures.b run c.tell_end.ensures.told
+
+pub returns-in-Ok-clause-failed : goal.returns-in-Ok-clause-failed
+returns-in-Ok-clause-failed g c =
+    let before = g.E.Write.contents c.args.errors.now in
+    let after = g.E.Write.contents c.tell_end.new.errors in
+    not_moved c.tell_end.result c.move_recorded-moved.result c.args.arguments.now c.args.image.now before after
+    (λ m. IsFailureOf m.ends m.a.fault m.b.fault m.a.recorded.journal m.b.recorded.journal before after)
+    (λ m. failed_of m.ends m.a.fault m.b.fault m.a.recorded.journal m.b.recorded.journal before after)
+    (for_memory c.move_recorded-moved.result c.args.arguments.now c.args.image.now c.move_recorded-moved.ensures.refused)
+    c.tell_end.ensures.refused c.tell_end.ensures.failed

@@ -2,4 +2,4 @@ use Rattle.std.proofs.Common.{◌≡◌}
 use Rattle.rvm_worker.proofs.copier.abort_without_memory.Given as goal
 
 abbrev pub invariant-loop-try : goal.invariant-loop-try
-invariant-loop-try g l = l.mover.start ≡ l.fn.mover.start
+invariant-loop-try g l = l.copying ≡ l.fn.copying

@@ -3,6 +3,6 @@ use Rattle.rvm_worker.proofs.receiver.hear.Given as goal
 
 abbrev pub invariant-loop-read : goal.invariant-loop-read
 invariant-loop-read g l = record {
-  same : l.mover.start ≡ l.fn.mover.start;
+  same : l.hearing ≡ l.fn.hearing;
   few : l.idle < 1000;
 }

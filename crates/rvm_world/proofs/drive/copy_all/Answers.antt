@@ -1,8 +1,9 @@
-use Rattle.std.proofs.Common.{ℕ, ap, refl}
+use Rattle.std.proofs.Common.{ℕ, ◌∙◌, ap}
 use Rattle.rvm_protocol.specs.Commands.{Copy}
 use Rattle.rvm_protocol.specs.World.{At}
-use Rattle.rvm_world.specs.Worlds.{world_of}
-use Rattle.rvm_world.proofs.Drives.{begins, ends, goes_on, left_unchanged}
+use Rattle.rvm_world.specs.Phases.{copies}
+use Rattle.rvm_world.specs.Worlds.{IsPartOf, world_of}
+use Rattle.rvm_world.proofs.Drives.{begins, ends, goes_on, on_err, part_of_listed}
 use Rattle.rvm_world.proofs.drive.copy_all.Goals as goal
 
 pub loop-init : goal.loop-init
@@ -10,7 +11,7 @@ loop-init g c = begins (λ (p : ℕ). At c.args.from Copy) (world_of c.args.worl
 
 pub loop-preserved : goal.loop-preserved
 loop-preserved g c =
-    goes_on (λ (p : ℕ). At c.args.from Copy) (λ p. refl) (world_of c.args.world.now) (world_of c.loop.world)
+    goes_on (λ (p : ℕ). At c.args.from Copy) (world_of c.args.world.now) (world_of c.loop.world)
     (world_of c.apply.new.self) c.loop.counter c.args.count c.loop.invariant c.loop-test.true
     c.in_ok-apply.ensures.next
 
@@ -19,10 +20,10 @@ returns-clause-made g c =
     ends (λ (p : ℕ). At c.args.from Copy) (world_of c.args.world.now) (world_of c.loop.world) c.loop.counter
     c.args.count c.loop.invariant c.loop-test.false
 
-pub returns-clause-left : goal.returns-clause-left
-returns-clause-left g c = c.loop.invariant.so_far
-
 pub returns-in_err-apply-clause-left : goal.returns-in_err-apply-clause-left
 returns-in_err-apply-clause-left g c =
-    left_unchanged (world_of c.args.world.now) (world_of c.loop.world) (world_of c.apply.new.self)
-    c.loop.invariant.so_far (ap world_of c.in_err-apply.ensures.err)
+    let old = world_of c.args.world.now in
+    let new = world_of c.apply.new.self in
+    on_err c.from_residual.result (IsPartOf (copies c.args.from c.args.count) old new)
+    (part_of_listed (λ (p : ℕ). At c.args.from Copy) old new c.loop.counter c.args.count c.loop-test.true
+    (ap world_of c.in_err-apply.ensures.err ∙ c.loop.invariant.so_far))

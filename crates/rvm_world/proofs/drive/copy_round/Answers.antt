@@ -1,10 +1,9 @@
-use Rattle.std.proofs.Common.{◌∙◌, sym, refl}
+use Rattle.std.proofs.Common.{◌∙◌, ap, sym}
 use Rattle.rvm_message.specs.Replies.{reply_of}
-use Rattle.rvm_protocol.specs.Commands.{Copy}
-use Rattle.rvm_protocol.specs.World.{At}
+use Rattle.rvm_world.specs.Phases.{IsRoundLeft}
 use Rattle.rvm_world.specs.Worlds.{world_of}
-use Rattle.rvm_world.proofs.Drives.{left_once_more}
-use Rattle.rvm_world.proofs.FirstRound.{begins, ends, goes_on}
+use Rattle.rvm_world.proofs.Drives.{on_err}
+use Rattle.rvm_world.proofs.FirstRound.{begins, ends, goes_on, stopped}
 use Rattle.rvm_world.proofs.drive.copy_round.Goals as goal
 
 pub loop-pages-init : goal.loop-pages-init
@@ -22,7 +21,10 @@ returns-then-not-is_copied-clause-round g c =
     c.loop-pages.pages (reply_of c.in_ok-copied.copied.reply) c.loop-pages.invariant
     (sym c.is_copied.ensures ∙ c.if-not-is_copied.true) c.in_ok-copied.ensures.reply c.in_ok-copied.ensures.next
 
-pub returns-then-not-is_copied-clause-left : goal.returns-then-not-is_copied-clause-left
-returns-then-not-is_copied-clause-left g c =
-    left_once_more (world_of c.args.world.now) (world_of c.loop-pages.world) (world_of c.apply.new.self)
-    (At c.args.from Copy) refl c.loop-pages.invariant.so_far c.in_ok-copied.ensures.next
+pub returns-in_err-copied-clause-left : goal.returns-in_err-copied-clause-left
+returns-in_err-copied-clause-left g c =
+    let old = world_of c.args.world.now in
+    let new = world_of c.apply.new.self in
+    on_err c.from_residual.result (IsRoundLeft old new c.args.from)
+    (stopped c.args.from old (world_of c.loop-pages.world) new c.loop-pages.pages c.loop-pages.invariant
+    (ap world_of c.in_err-copied.ensures.err))

@@ -1,8 +1,11 @@
 use Rattle.rvm_guest.proofs.TheGuest.{board}
 use Rattle.rvm_world.specs.Worlds.{meant, said, world_of}
+use Rattle.rvm_world.proofs.Places.{Placing}
 use Rattle.rvm_world.proofs.Runs.{Running}
 use Rattle.rvm_world.proofs.run.run_world.Given as goal
 
 abbrev pub invariant-loop-event : goal.invariant-loop-event
-invariant-loop-event g l =
-    Running board meant said (world_of l.initial.world) (world_of l.world) l.events l.event-index l.replies.items
+invariant-loop-event g l = record {
+  runs : Running board meant said (world_of l.initial.world) (world_of l.world) l.events l.event-index l.replies.items;
+  places : Placing (world_of l.initial.world) (world_of l.world) l.events l.event-index l.replies.items;
+}

@@ -3,7 +3,6 @@ use Rattle.std.specs.Io.KnownBytes.{Appends}
 use Rattle.rvm_world.specs.Worlds.{world_of}
 use Rattle.rvm_world_script.specs.Runs.{standing}
 use Rattle.rvm_world_script.proofs.Faults.{link_failed, memory_ran_out}
-use Rattle.rvm_world_script.proofs.Making.{events_begun}
 use Rattle.rvm_world_script.proofs.Moving.{moved_as}
 use Rattle.rvm_world_script.specs.WorldScript.{moved}
 use Rattle.rvm_world_script.proofs.lines.do_move.Goals as goal
@@ -33,5 +32,4 @@ returns-in_err-driven g c = λ t.
     memory_ran_out c.from_residual.result
     (moved c.args.from c.args.to c.args.policy (standing (world_of c.args.world.now) t)) _
     (world_of c.drive_move.new.world) (g.W.Write.contents c.args.writer.now) c.from_residual.ensures.1
-    (events_begun (standing (world_of c.args.world.now) t) (world_of c.drive_move.new.world) c.in_err-driven.ensures.err.events
-    c.in_err-driven.ensures.err.only c.in_err-driven.ensures.err.made)
+    c.in_err-driven.ensures.err

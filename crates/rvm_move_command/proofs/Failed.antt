@@ -1,0 +1,67 @@
+-- What a move leaves that did not begin, or failed.
+use Rattle.std.proofs.Common.{◌≡◌, ℕ, List, ◌++◌, Option, None, Some, Result, Ok, Err, arith, inl, inr}
+use Rattle.std.proofs.KnownBytes.{Appends-trans}
+use Rattle.std.specs.Io.KnownBytes.{Appends}
+use Rattle.std.specs.Prelude.{◌⊎◌, ◌↔◌, IfErr, IfOk, IfSome, OnOk}
+use Rattle.rvm_arguments.specs.declared.arguments.MoveArguments.{MoveArguments}
+use Rattle.rvm_cell.specs.declared.closing.CloseKind.{CloseKind}
+use Rattle.rvm_command.specs.declared.refused.Refused.{Refused}
+use Rattle.rvm_command.specs.Refusals.{IsTold, refused}
+use Rattle.rvm_journal.specs.History.{History}
+use Rattle.rvm_move.specs.declared.ends.Ends.{Ends}
+use Rattle.rvm_move_command.specs.Answers.{answers_text}
+use Rattle.rvm_move_command.specs.Ended.{IsFailed, IsFailureOf, IsMoveRefusal, IsNotBegun, IsNotMoved, IsSound, line_of, refusal_of_failure}
+use Rattle.rvm_refusal.specs.declared.refusal.Refusal.{Refusal}
+use Rattle.rvm_refusal.specs.declared.refusal.Refusal.TheVariants as refusal
+
+if_some : {X : Type 0} (o : Option X) (P Q : X → Type 0) → ((x : X) → P x → Q x) → IfSome o P → IfSome o Q
+if_some None P Q f p = tt
+if_some (Some x) P Q f p = f x p
+
+-- the answers of both hosts, and the line behind them
+pub failure_told : (ends : Ends) (a b : Option CloseKind) (first second : History) (before one two after : Option (List ℕ))
+    → Appends before one (answers_text first.entries) → Appends one two (answers_text second.entries)
+    → IfSome (refusal_of_failure ends a b) (λ r. Appends two after (line_of r)) → (IsSound ends a b → ⊥)
+    → IsFailureOf ends a b first second before after
+failure_told ends a b first second before one two after of_first of_second line failed = record {
+  failed = failed;
+  told = if_some (refusal_of_failure ends a b) (λ r. Appends two after (line_of r)) _
+      (λ r it. Appends-trans before one after (answers_text first.entries) (answers_text second.entries ++ line_of r) of_first
+      (Appends-trans one two after (answers_text second.entries) (line_of r) of_second it)) line;
+}
+
+-- the same of the call that tells the line
+pub failure_answered : {F : Type 0} (r : Result ℕ F) (ends : Ends) (a b : Option CloseKind) (first second : History)
+    (before one two after : Option (List ℕ)) → Appends before one (answers_text first.entries)
+    → Appends one two (answers_text second.entries) → IfOk r (λ s. s ≡ 0 ↔ IsSound ends a b)
+    → OnOk r (IfSome (refusal_of_failure ends a b) (λ why. Appends two after (line_of why)))
+    → IfOk r (λ s. s ≡ 1 → IsFailureOf ends a b first second before after)
+failure_answered (Ok s) ends a b first second before one two after of_first of_second sound line =
+    λ is. failure_told ends a b first second before one two after of_first of_second line
+    (λ it. (let zero = sound.1 it in absurd (omega (arith, zero, is))))
+failure_answered (Err e) ends a b first second before one two after of_first of_second sound line = tt
+
+if_err : {X F : Type 0} (r : Result X F) (P Q : F → Type 0) → ((e : F) → P e → Q e) → IfErr r P → IfErr r Q
+if_err (Ok x) P Q f p = tt
+if_err (Err e) P Q f p = f e p
+
+-- want of memory is a reason
+pub for_memory : {X : Type 0} (m : Result X Refused) (a : MoveArguments) (file : List ℕ)
+    → IfErr m (λ r. r ≡ refused refusal.OutOfMemory) → IfErr m (IsMoveRefusal a file)
+for_memory m a file why = if_err m (λ r. r ≡ refused refusal.OutOfMemory) (IsMoveRefusal a file) (λ r is. inr (inr is)) why
+
+-- what a call answers that tells it
+pub not_moved : {X F : Type 0} (r : Result ℕ F) (m : Result X Refused) (a : MoveArguments) (file : List ℕ)
+    (before after : Option (List ℕ)) (failure : X → Type 0) → ((x : X) → failure x → IsFailed before after)
+    → IfErr m (IsMoveRefusal a file) → IfOk r (λ s. IfErr m (λ why. IsTold why before after))
+    → IfOk r (λ s. IfOk m (λ x. s ≡ 1 → failure x)) → IfOk r (λ s. s ≡ 1 → IsNotMoved a file before after)
+not_moved (Ok s) (Ok x) a file before after failure f reason told failed = λ is. inr (f x (failed is))
+not_moved (Ok s) (Err why) a file before after failure f reason told failed =
+    λ is. inl (record { why = why; reason = reason; told = told })
+not_moved (Err e) m a file before after failure f reason told failed = tt
+
+-- of two hosts
+pub failed_of : (ends : Ends) (a b : Option CloseKind) (first second : History) (before after : Option (List ℕ))
+    → IsFailureOf ends a b first second before after → IsFailed before after
+failed_of ends a b first second before after failure =
+    record { ends = ends; a = a; b = b; first = first; second = second; failure = failure }

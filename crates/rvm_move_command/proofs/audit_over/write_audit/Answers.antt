@@ -1,0 +1,9 @@
+use Rattle.rvm_move_command.proofs.Unordered.{has_failed}
+use Rattle.rvm_move_command.proofs.audit_over.write_audit.Goals as goal
+
+pub returns-then-status-ne0-clause-failed : goal.returns-then-status-ne0-clause-failed
+returns-then-status-ne0-clause-failed g c =
+    let m = c.args.moved.now in
+    has_failed c.in_ok-status.status m.ends m.a.fault m.b.fault m.a.recorded.journal m.b.recorded.journal
+    (g.E.Write.contents c.args.errors.now) (g.E.Write.contents c.tell_failure.new.errors) c.in_ok-status.ensures.sound
+    c.in_ok-status.ensures.told

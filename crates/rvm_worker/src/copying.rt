@@ -1,0 +1,101 @@
+//! The calls of a copier.
+
+ghost use Rattle.std.specs.Prelude.{◌≡◌};
+ghost use Rattle.rvm_message.specs.declared.event.HostEvent.TheVariants.{Do};
+ghost use Rattle.rvm_worker.specs.Work.{AreOfCopier, IsOfCopier, IsWork};
+
+use crate::caller::Caller;
+use crate::end::{WorkEnd, Worked};
+use crate::gate::{Gate, Watch};
+use crate::telling::{Called, Side, tell};
+use rvm_cell::{Seat, Seating};
+use rvm_link::Link;
+use rvm_mem::PagedMemory;
+use rvm_message::{Command, HostEvent};
+use rvm_precopy::Policy;
+use std::alloc::Global;
+use std::marker::Model;
+use std::sync::Wait;
+
+/// A copier's seat, and its receipts: it asks for the commands of one move, and for nothing else.
+#[derive(Drop)]
+pub(crate) struct Copying<L: Seating> {
+    caller: Caller<L>,
+    to: u8,
+    policy: Policy,
+}
+
+impl<L: Seating> Model for Copying<L> {
+    ghost use Rattle.rvm_worker.specs.Work.{AreOfCopier, PlainCopier};
+
+    ghost Value = { PlainCopier };
+
+    ghost view = { λ c. record { to = c.to; policy = c.policy; start = c.caller.start } };
+
+    ghost invariant = { λ c. AreOfCopier c.to c.policy c.caller.receipts };
+}
+
+impl<L: Seating> Copying<L> {
+    /// Before the first call of a move to this host.
+    pub(crate) fn new(alloc: Global, seat: Seat<L>, to: u8, policy: Policy) -> Copying<L>
+        ensures { result ≡ record { to = to; policy = policy; start = seat } }
+    {
+        Copying {
+            caller: Caller::new(alloc, seat),
+            to,
+            policy,
+        }
+    }
+
+    /// Begins the move.
+    pub(crate) fn begin<M: PagedMemory + Drop, K: Link + Drop, G: Gate, R: Wait>(
+        &mut self,
+        rt: &R,
+        alloc: Global,
+        side: &Side<'_, L, M, K>,
+        watch: &mut Watch<'_, G>,
+    ) -> Result<Called, WorkEnd>
+        ensures { self.new ≡ self.old }
+    {
+        let begin = Command::Begin {
+            to: self.to,
+            policy: self.policy,
+        };
+        self.ask(rt, alloc, side, watch, begin)
+    }
+
+    /// Asks for a command of the move.
+    pub(crate) fn ask<M: PagedMemory + Drop, K: Link + Drop, G: Gate, R: Wait>(
+        &mut self,
+        rt: &R,
+        alloc: Global,
+        side: &Side<'_, L, M, K>,
+        watch: &mut Watch<'_, G>,
+        command: Command,
+    ) -> Result<Called, WorkEnd>
+        requires { IsOfCopier self.old.to self.old.policy (Do command) }
+        ensures { self.new ≡ self.old }
+    {
+        tell(
+            rt,
+            alloc,
+            side,
+            &mut self.caller,
+            watch,
+            HostEvent::Do(command),
+        )
+    }
+
+    /// What the copier gives back that ended so.
+    pub(crate) fn end(self, end: WorkEnd) -> Worked<L>
+        ensures work { IsWork self.start result.seat result.receipts.items }
+        ensures asked { AreOfCopier self.to self.policy result.receipts.items }
+    {
+        let (seat, receipts) = self.caller.into_parts();
+        Worked {
+            seat,
+            receipts,
+            end,
+        }
+    }
+}
