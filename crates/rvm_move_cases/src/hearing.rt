@@ -4,7 +4,7 @@ ghost use Rattle.std.specs.Prelude.{◌≡◌, [], IfSome};
 
 use rvm_cell::{Seat, Seating, SharedHost, share};
 use rvm_core::Host;
-use rvm_journal::Recorded;
+use rvm_journal::{MAX_CAPACITY, Recorded};
 use rvm_link::{Link, LinkRead, Outgoing};
 use rvm_move_command::OpenGate;
 use rvm_paged::PagedRam;
@@ -69,10 +69,12 @@ const LINKS: [(&str, &[u8], u32, bool); 10] = [
 ];
 
 /// A link that takes all bytes, and gives those of a stream, at most so many a read. Before each read that
-/// gives bytes, and before the end, so many give nothing. In place of the end it may fail.
+/// gives bytes, and before the end, so many give nothing. In place of the end it may fail, or give other bytes
+/// again and again.
 #[derive(Drop)]
 struct Given<'s> {
     stream: &'s [u8],
+    again: &'s [u8],
     at_once: usize,
     pauses: u32,
     paused: u32,
@@ -84,6 +86,7 @@ impl<'s> Given<'s> {
     fn new(stream: &'s [u8], at_once: usize) -> Given<'s> {
         Given {
             stream,
+            again: &[],
             at_once,
             pauses: 0,
             paused: 0,
@@ -108,6 +111,9 @@ impl Link for Given<'_> {
         }
         self.paused = 0;
         if self.stream.is_empty() {
+            self.stream = self.again;
+        }
+        if self.stream.is_empty() {
             return if self.fails {
                 LinkRead::LinkFault
             } else {
@@ -126,7 +132,16 @@ impl Link for Given<'_> {
 pub fn hear_links<R: AllocGlobal + Print + Wait>(rt: &R) -> anyhow::Result<()> {
     let is_cut_well = ends_at_each_cut(rt, 1) && ends_at_each_cut(rt, STREAM.len());
     println!(rt; "a stream cut at each of its 67 bytes: ends as it must {is_cut_well}")?;
-    hear_each(rt, LINKS.as_slice())
+    hear_each(rt, LINKS.as_slice())?;
+    print_end(rt, "Ready without end", end_without_end(rt))
+}
+
+/// How a receiver ends that hears the stream, and then its last frame again and again.
+fn end_without_end<R: AllocGlobal + Wait>(rt: &R) -> WorkEnd {
+    let stream = STREAM;
+    let mut given = Given::new(&stream, 1);
+    given.again = &stream[WHOLE[3]..];
+    hear(rt, given)
 }
 
 /// Hears links of all kinds, and prints how the receivers end.
@@ -179,7 +194,7 @@ fn recorded(alloc: Global) -> Option<Recorded<PagedRam>>
     ensures { IfSome result (λ r. r.journal.entries ≡ []) }
 {
     let host = Host::with_version(None, 1, 2, 4096, 1).ok()?;
-    Recorded::new(alloc, host, 100).ok()
+    Recorded::new(alloc, host, MAX_CAPACITY).ok()
 }
 
 /// How a receiver at this host ends.
