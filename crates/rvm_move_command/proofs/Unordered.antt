@@ -1,6 +1,6 @@
 -- What an audit leaves that wrote no order.
 use Rattle.std.proofs.Common.{◌≡◌, ℕ, List, Option, Result, Ok, Err, arith, inl, inr, refl, subst, sym}
-use Rattle.std.specs.Prelude.{◌⊎◌, ◌↔◌, IfOk, IfSome, OnOk}
+use Rattle.std.specs.Prelude.{◌⊎◌, ◌↔◌, IfOk, OnOk}
 use Rattle.std.specs.Io.KnownBytes.{Appends}
 use Rattle.rvm_arguments.specs.declared.arguments.MoveArguments.{MoveArguments}
 use Rattle.rvm_audit.specs.declared.error.AuditError.{AuditError}
@@ -11,7 +11,8 @@ use Rattle.rvm_command.specs.declared.refused.Refused.{Refused}
 use Rattle.rvm_command.specs.Refusals.{IsTold, refused}
 use Rattle.rvm_journal.specs.History.{History}
 use Rattle.rvm_move.specs.declared.ends.Ends.{Ends}
-use Rattle.rvm_move_command.specs.Ended.{IsMoveRefusal, IsNotBegun, IsSound, line_of, refusal_of_failure}
+use Rattle.rvm_move_command.specs.Ended.{IsMoveRefusal, IsNotBegun, IsSound, failure_line}
+use Rattle.rvm_move_command.specs.Hosts.{AreOpened}
 use Rattle.rvm_move_command.specs.Orders.{HasFailed, HasNoOrder, IsNotAudited, IsOrderRefusal, IsUnaudited, IsUnordered}
 use Rattle.rvm_refusal.specs.declared.refusal.Refusal.TheVariants as refusal
 
@@ -33,7 +34,7 @@ no_write first second r before after is told = record { why = r; reason = inr (i
 
 -- the move failed
 pub has_failed : (status : ℕ) (ends : Ends) (a b : Option CloseKind) (first second : History) (before after : Option (List ℕ))
-    → status ≡ 0 ↔ IsSound ends a b → IfSome (refusal_of_failure ends a b) (λ why. Appends before after (line_of why))
+    → status ≡ 0 ↔ IsSound ends a b → Appends before after (failure_line ends a b)
     → status ≡ 1 → HasNoOrder ends a b first second before after
 has_failed status ends a b first second before after sound told is =
     inl (record { failed = λ it. (let zero = sound.1 it in absurd (omega (arith, zero, is))); told = told })
@@ -49,8 +50,15 @@ not_begun (Err e) status a file why before after reason told = tt
 -- what a call answers behind it
 pub not_audited : {X F : Type 0} (r : Result X F) (status : X → ℕ) (arguments : MoveArguments) (file : List ℕ) (ends : Ends)
     (a b : Option CloseKind) (first second : History) (before after : Option (List ℕ))
-    → IfOk r (λ x. status x ≡ 1 → HasNoOrder ends a b first second before after)
+    → AreOpened arguments file first.opening second.opening → IfOk r (λ x. status x ≡ 1 → HasNoOrder ends a b first second before after)
     → IfOk r (λ x. status x ≡ 1 → IsNotAudited arguments file before after)
-not_audited (Ok x) status arguments file ends a b first second before after none =
-    λ is. inr (record { ends = ends; a = a; b = b; first = first; second = second; none = none is })
-not_audited (Err e) status arguments file ends a b first second before after none = tt
+not_audited (Ok x) status arguments file ends a b first second before after opened none = λ is. inr (record {
+  ends = ends;
+  fault_a = a;
+  fault_b = b;
+  first = first;
+  second = second;
+  opened = opened;
+  none = none is;
+})
+not_audited (Err e) status arguments file ends a b first second before after opened none = tt

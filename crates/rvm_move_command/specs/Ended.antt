@@ -1,5 +1,5 @@
 -- How a move ended, as it is told.
-use Rattle.std.specs.Prelude.{◌≡◌, ◌⊎◌, ℕ, List, ◌++◌, Option, None, Some, Ok, IfSome, option_map, codes}
+use Rattle.std.specs.Prelude.{◌≡◌, ◌⊎◌, ℕ, List, [], ◌++◌, Option, None, Some, Ok, codes}
 use Rattle.std.specs.Io.KnownBytes.{Appends}
 use Rattle.std.specs.List.{All}
 use Rattle.rvm_arguments.specs.declared.arguments.MoveArguments.{MoveArguments}
@@ -37,23 +37,34 @@ refusal_of_end e.TooLong = Some refusal.TooLong
 refusal_of_end e.Failed = Some refusal.Failed
 refusal_of_end end = None
 
--- of a worker's end, or else of a host's fault
-abbrev pub told_first : Option WorkEnd → Option CloseKind → Option Refusal
-told_first (Some end) fault = refusal_of_end end
-told_first None fault = option_map close_refusal fault
+-- the words of an end that is none: the guest stopped, or the worker was stopped at its gate
+abbrev pub words_of : WorkEnd → List ℕ
+words_of e.GuestStopped = codes "guest stopped between hosts"
+words_of end = codes "the gate let no further call pass"
 
 -- the line of a refusal
 abbrev pub line_of : Refusal → List ℕ
 line_of r = text_of r ++ codes "\n"
+
+-- the line of a refusal, if there is one, or else these words
+abbrev pub line_or : Option Refusal → (words : List ℕ) → List ℕ
+line_or (Some r) words = line_of r
+line_or None words = words ++ codes "\n"
+
+-- the line of a worker's end, or else of a host's fault, if there is one
+abbrev pub line_first : Option WorkEnd → Option CloseKind → List ℕ
+line_first (Some end) fault = line_or (refusal_of_end end) (words_of end)
+line_first None (Some kind) = line_of (close_refusal kind)
+line_first None None = []
 
 -- the first of two faults
 abbrev pub first_fault : (a b : Option CloseKind) → Option CloseKind
 first_fault (Some kind) b = Some kind
 first_fault None b = b
 
--- with which refusal of the list a move failed: that of the first worker that failed, else the first host's
-abbrev pub refusal_of_failure : Ends → (a b : Option CloseKind) → Option Refusal
-refusal_of_failure ends a b = told_first (failure ends) (first_fault a b)
+-- with which line a move failed: that of the first worker that failed, else the first host's
+abbrev pub failure_line : Ends → (a b : Option CloseKind) → List ℕ
+failure_line ends a b = line_first (failure ends) (first_fault a b)
 
 -- no worker failed, and both hosts were closed
 abbrev pub IsSound : Ends → (a b : Option CloseKind) → Type 0
@@ -93,13 +104,14 @@ pub record IsMoved (a : MoveArguments) (file : List ℕ) (before after output_be
   pub made : IsMade a first.entries second.entries output_before output_after
   pub written : Appends before after (answers_text first.entries ++ answers_text second.entries)
 
--- of a move that failed, what both hosts answered was told, and behind it the refusal of the list with which it failed, if it
--- is one
+-- of a move that failed, what both hosts answered was told, and behind it the line with which it failed; each answer is the
+-- law's
 pub record IsFailureOf (ends : Ends) (a b : Option CloseKind) (first second : History) (before after : Option (List ℕ))
     : Type 0 where
   pub failed : IsSound ends a b → ⊥
-  pub told : IfSome (refusal_of_failure ends a b) (λ r.
-      Appends before after (answers_text first.entries ++ (answers_text second.entries ++ line_of r)))
+  pub first_replays : IsReplay first.opening first.entries
+  pub second_replays : IsReplay second.opening second.entries
+  pub told : Appends before after (answers_text first.entries ++ (answers_text second.entries ++ failure_line ends a b))
 
 -- why a move does not begin: for its file, or since there is no connection or no memory
 abbrev pub IsMoveRefusal : MoveArguments → (file : List ℕ) → Refused → Type 0
@@ -113,15 +125,16 @@ pub record IsNotBegun (a : MoveArguments) (file : List ℕ) (before after : Opti
   pub reason : IsMoveRefusal a file why
   pub told : IsTold why before after
 
--- a move failed, and how was told
-pub record IsFailed (before after : Option (List ℕ)) : Type 0 where
+-- a move failed, of two hosts of which the first began with the guest of the file, and how was told
+pub record IsFailed (a : MoveArguments) (file : List ℕ) (before after : Option (List ℕ)) : Type 0 where
   pub ends : Ends
-  pub a : Option CloseKind
-  pub b : Option CloseKind
+  pub fault_a : Option CloseKind
+  pub fault_b : Option CloseKind
   pub first : History
   pub second : History
-  pub failure : IsFailureOf ends a b first second before after
+  pub opened : AreOpened a file first.opening second.opening
+  pub failure : IsFailureOf ends fault_a fault_b first second before after
 
 -- the guest did not go through a move to its end
 abbrev pub IsNotMoved : MoveArguments → (file : List ℕ) → (before after : Option (List ℕ)) → Type 0
-IsNotMoved a file before after = IsNotBegun a file before after ⊎ IsFailed before after
+IsNotMoved a file before after = IsNotBegun a file before after ⊎ IsFailed a file before after

@@ -1,5 +1,5 @@
 -- An order of two journals, as it is written.
-use Rattle.std.specs.Prelude.{◌≡◌, ◌⊎◌, ℕ, List, Option, None, IfOk, IfSome}
+use Rattle.std.specs.Prelude.{◌≡◌, ◌⊎◌, ℕ, List, Option, None, IfOk}
 use Rattle.std.specs.Io.KnownBytes.{Appends}
 use Rattle.rvm_arguments.specs.declared.arguments.MoveArguments.{MoveArguments}
 use Rattle.rvm_audit.specs.Orders.{IsDeadEnd, IsMerge}
@@ -12,7 +12,7 @@ use Rattle.rvm_event_line.specs.EventLines.{event_lines}
 use Rattle.rvm_guest.proofs.TheGuest.{board}
 use Rattle.rvm_journal.specs.History.{History}
 use Rattle.rvm_move.specs.declared.ends.Ends.{Ends}
-use Rattle.rvm_move_command.specs.Ended.{IsMade, IsNotBegun, IsSound, line_of, refusal_of_failure}
+use Rattle.rvm_move_command.specs.Ended.{IsMade, IsNotBegun, IsSound, failure_line}
 use Rattle.rvm_move_command.specs.Hosts.{AreOpened, guest_in}
 use Rattle.rvm_protocol.specs.World.{new_world}
 use Rattle.rvm_refusal.specs.declared.refusal.Refusal.TheVariants as refusal
@@ -53,24 +53,25 @@ pub record IsUnordered (first second : History) (before after : Option (List ℕ
   pub reason : IsOrderRefusal first second why
   pub told : IsTold why before after
 
--- a move failed, and with which refusal of the list was told, if it is one
+-- a move failed, and with which line was told
 pub record HasFailed (ends : Ends) (a b : Option CloseKind) (before after : Option (List ℕ)) : Type 0 where
   pub failed : IsSound ends a b → ⊥
-  pub told : IfSome (refusal_of_failure ends a b) (λ r. Appends before after (line_of r))
+  pub told : Appends before after (failure_line ends a b)
 
 -- behind the move of these hosts there was nothing to audit, or it has no order
 abbrev pub HasNoOrder : Ends → (a b : Option CloseKind) → (first second : History) → (before after : Option (List ℕ)) → Type 0
 HasNoOrder ends a b first second before after = HasFailed ends a b before after ⊎ IsUnordered first second before after
 
--- of some move
-pub record IsUnaudited (before after : Option (List ℕ)) : Type 0 where
+-- of a move of two hosts of which the first began with the guest of the file
+pub record IsUnaudited (a : MoveArguments) (file : List ℕ) (before after : Option (List ℕ)) : Type 0 where
   pub ends : Ends
-  pub a : Option CloseKind
-  pub b : Option CloseKind
+  pub fault_a : Option CloseKind
+  pub fault_b : Option CloseKind
   pub first : History
   pub second : History
-  pub none : HasNoOrder ends a b first second before after
+  pub opened : AreOpened a file first.opening second.opening
+  pub none : HasNoOrder ends fault_a fault_b first second before after
 
 -- no order was written: the move did not begin, or it failed, or has none
 abbrev pub IsNotAudited : MoveArguments → (file : List ℕ) → (before after : Option (List ℕ)) → Type 0
-IsNotAudited a file before after = IsNotBegun a file before after ⊎ IsUnaudited before after
+IsNotAudited a file before after = IsNotBegun a file before after ⊎ IsUnaudited a file before after

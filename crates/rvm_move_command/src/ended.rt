@@ -1,10 +1,10 @@
 //! How a move ended, as it is told.
 
-ghost use Rattle.std.specs.Prelude.{◌≡◌, ◌⊎◌, ◌↔◌, ◌++◌, None, IfOk, IfSome, OnOk};
+ghost use Rattle.std.specs.Prelude.{◌≡◌, ◌⊎◌, ◌↔◌, ◌++◌, None, IfOk, OnOk};
 ghost use Rattle.std.specs.Io.KnownBytes.{Appends};
 ghost use Rattle.rvm_journal.specs.Replay.{IsReplay};
 ghost use Rattle.rvm_move_command.specs.Answers.{answers_text};
-ghost use Rattle.rvm_move_command.specs.Ended.{IsFailureOf, IsSound, first_fault, line_of, refusal_of_end, refusal_of_failure};
+ghost use Rattle.rvm_move_command.specs.Ended.{IsFailureOf, IsSound, failure_line, first_fault, line_or, refusal_of_end, words_of};
 
 use crate::answers::write_answers;
 use rvm_cell::CloseKind;
@@ -30,14 +30,25 @@ fn refusal_of_end(end: WorkEnd) -> Option<Refusal>
     }
 }
 
+/// The words of a worker's end that is no refusal of the list: the guest stopped, or the worker was stopped
+/// at its gate.
+fn words_of(end: WorkEnd) -> &'static str
+    ensures { result.now ≡ words_of end }
+{
+    match end {
+        WorkEnd::GuestStopped => "guest stopped between hosts",
+        _ => "the gate let no further call pass",
+    }
+}
+
 /// Writes with what a worker failed: a refusal of the list, or in words.
 fn write_end<E: Write>(errors: &mut E, end: WorkEnd) -> Result<(), LinkFault>
-    ensures { OnOk result (IfSome (refusal_of_end end) (λ refusal.
-        Appends (E.contents errors.old) (E.contents errors.new) (line_of refusal))) }
+    ensures { OnOk result (Appends (E.contents errors.old) (E.contents errors.new)
+        (line_or (refusal_of_end end) (words_of end))) }
 {
     match refusal_of_end(end) {
         Some(refusal) => writeln!(errors, "{refusal}")?,
-        None => writeln!(errors, "{end}")?,
+        None => writeln!(errors, "{}", words_of(end))?,
     }
     Ok(())
 }
@@ -53,8 +64,8 @@ pub(crate) fn tell_failure<M: PagedMemory + Drop, E: Write>(
     ensures sound { IfOk result (λ status. status ≡ 0
         ↔ IsSound moved.now.ends moved.now.a.fault moved.now.b.fault) }
     ensures silent { IfOk result (λ status. status ≡ 0 → E.contents errors.new ≡ E.contents errors.old) }
-    ensures told { OnOk result (IfSome (refusal_of_failure moved.now.ends moved.now.a.fault moved.now.b.fault)
-        (λ refusal. Appends (E.contents errors.old) (E.contents errors.new) (line_of refusal))) }
+    ensures told { OnOk result (Appends (E.contents errors.old) (E.contents errors.new)
+        (failure_line moved.now.ends moved.now.a.fault moved.now.b.fault)) }
 {
     if let Some(end) = moved.ends.failure() {
         write_end(errors, end)?;

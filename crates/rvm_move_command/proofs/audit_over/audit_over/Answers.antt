@@ -20,7 +20,7 @@ returns-in-Ok-clause-failed g c =
     let m = c.in-Ok.moved in
     not_audited c.audit_moved.result (λ a. a.status) c.args.arguments.now c.args.image.now m.ends m.a.fault m.b.fault
     m.a.recorded.journal m.b.recorded.journal (g.E.Write.contents c.args.errors.now) (g.E.Write.contents c.audit_moved.new.errors)
-    c.audit_moved.ensures.failed
+    c.in-Ok.ensures.opened c.audit_moved.ensures.failed
 
 pub returns-in-Err-clause-failed : goal.returns-in-Err-clause-failed
 returns-in-Err-clause-failed g c =

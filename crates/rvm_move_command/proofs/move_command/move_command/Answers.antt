@@ -29,6 +29,7 @@ returns-clause-failed g c =
     let before = g.E.Write.contents c.args.errors.now in
     let after = g.E.Write.contents c.tell_end.new.errors in
     not_moved c.tell_end.result c.move_image-moved.result c.args.arguments.now c.args.image.now before after
+    (λ m. AreOpened c.args.arguments.now c.args.image.now m.a.recorded.journal.opening m.b.recorded.journal.opening)
     (λ m. IsFailureOf m.ends m.a.fault m.b.fault m.a.recorded.journal m.b.recorded.journal before after)
-    (λ m. failed_of m.ends m.a.fault m.b.fault m.a.recorded.journal m.b.recorded.journal before after)
-    c.move_image-moved.ensures.refused c.tell_end.ensures.refused c.tell_end.ensures.failed
+    (λ m. failed_of c.args.arguments.now c.args.image.now m.ends m.a.fault m.b.fault m.a.recorded.journal m.b.recorded.journal before after)
+    c.move_image-moved.ensures.opened c.move_image-moved.ensures.refused c.tell_end.ensures.refused c.tell_end.ensures.failed

@@ -37,8 +37,13 @@ pub returns-in-Ok-clause-failed : goal.returns-in-Ok-clause-failed
 returns-in-Ok-clause-failed g c =
     let before = g.E.Write.contents c.args.errors.now in
     let after = g.E.Write.contents c.tell_end.new.errors in
+    let begun = if_ok c.move_recorded-moved.result _ _ (λ m same. opened c.args.arguments.now c.args.image.now
+    c.in-Ok.recorded.0 c.in-Ok.recorded.1 m.a.recorded.journal.opening m.b.recorded.journal.opening
+    c.in-Ok.ensures.loadable c.in-Ok.ensures.valid c.in-Ok.ensures.first c.in-Ok.ensures.second same.0 same.1) c.move_recorded-moved.ensures.opening in
     not_moved c.tell_end.result c.move_recorded-moved.result c.args.arguments.now c.args.image.now before after
+    (λ m. AreOpened c.args.arguments.now c.args.image.now m.a.recorded.journal.opening m.b.recorded.journal.opening)
     (λ m. IsFailureOf m.ends m.a.fault m.b.fault m.a.recorded.journal m.b.recorded.journal before after)
-    (λ m. failed_of m.ends m.a.fault m.b.fault m.a.recorded.journal m.b.recorded.journal before after)
+    (λ m. failed_of c.args.arguments.now c.args.image.now m.ends m.a.fault m.b.fault m.a.recorded.journal m.b.recorded.journal before after)
+    begun
     (for_memory c.move_recorded-moved.result c.args.arguments.now c.args.image.now c.move_recorded-moved.ensures.refused)
     c.tell_end.ensures.refused c.tell_end.ensures.failed
