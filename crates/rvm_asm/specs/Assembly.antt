@@ -79,11 +79,12 @@ IsImage lines names places image = IsImageTo lines (length lines) names places i
 abbrev pub AreRead : List (List ℕ) → List (List Lexeme) → Type 0
 AreRead texts lines = map (λ text. lexemes text) texts ≡ map (λ line. Some line) lines
 
--- where a program begins: at `_start`, if it is defined
+-- the value of a name, or the address of RAM's first byte where it has none
 abbrev pub value_or_start : Option ℕ → ℕ
 value_or_start None = 2 ^ 31
 value_or_start (Some v) = v
 
+-- where a program begins: at `_start`, if it is defined
 abbrev pub entry_of : Names → ℕ
 entry_of names = value_or_start (names (codes "_start"))
 

@@ -64,11 +64,12 @@ HasBytesFault all i fault =
 abbrev pub HasFault : List (List Lexeme) → ℕ → Fault → Type 0
 HasFault all i fault = (i < length all) × (HasPlacingFault all i fault ⊎ HasBytesFault all i fault)
 
--- how many bytes a line has at a place
+-- how many bytes a statement has; one with a fault has none
 abbrev pub length_of : Result (List ℕ) Fault → ℕ
 length_of (Ok bs) = length bs
 length_of (Err fault) = 0
 
+-- how many bytes a line has at a place, under names
 abbrev pub count_at : Names → (place : ℕ) → List Lexeme → ℕ
 count_at names place line = length_of (bytes_at names place (statement_of place line))
 

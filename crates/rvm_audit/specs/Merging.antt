@@ -19,6 +19,7 @@ use Rattle.rvm_audit.specs.Pairs.{HasBytes, number_of, other}
 abbrev pub Places : Type 0
 Places = List ℕ → Option ℕ
 
+-- the places that a map keeps, by the bytes of frames
 unfoldable pub places_of : {A : Type 0} → BTreeMap (Vec ℕ A) ℕ → Places
 places_of map bytes = get_by (λ key. slice_cmp nat_cmp bytes key.items) map
 
@@ -78,9 +79,11 @@ pub record IsTaken (old new : Merge) (event : Event) (frame : Option (List ℕ))
   pub events : new.events.items ≡ old.events.items ++ event ∷ []
   pub frames : IsNoted old new frame mine yours
 
+-- the places of the frames that the first host made
 abbrev pub first_places : Merge → Places
 first_places m = places_of m.first
 
+-- the places of the frames that the second host made
 abbrev pub second_places : Merge → Places
 second_places m = places_of m.second
 

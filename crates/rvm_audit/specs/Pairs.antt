@@ -14,6 +14,7 @@ use Rattle.rvm_world.specs.declared.event.Event.TheVariants.{At, Deliver}
 use Rattle.rvm_audit.specs.declared.side.Side.{Side}
 use Rattle.rvm_audit.specs.declared.side.Side.TheVariants.{First, Second}
 
+-- the other one of two sides
 abbrev pub other : Side → Side
 other First = Second
 other Second = First
@@ -33,6 +34,7 @@ pub record Pair : Type 0 where
   pub second : LawHost
   pub made : List Made
 
+-- the host of one side, as the law has it
 abbrev pub host_at : Side → Pair → LawHost
 host_at First w = w.first
 host_at Second w = w.second
@@ -51,10 +53,12 @@ pub record HasBytes (version : ℕ) (x : Side) (f : Frame) (bytes : List ℕ) : 
   pub spelled : HasSpelling (sent version (coming x f))
   pub bytes_are : bytes ≡ spelling (sent version (coming x f))
 
+-- the bytes of the frame that a host made, if it made one, with that host
 abbrev pub made_more : Side → Option (List ℕ) → List Made
 made_more x None = []
 made_more x (Some bytes) = (x, bytes) ∷ []
 
+-- an entry before the others of a host, if it is that host's own
 abbrev pub put : Side → Side → PlainEntry → List PlainEntry → List PlainEntry
 put First First e es = e ∷ es
 put First Second e es = es
@@ -68,6 +72,7 @@ entries_at x (s ∷ ss) = put x s.0 s.1 (entries_at x ss)
 
 -- from these opening hosts
 module _ (a b : PlainHost) where
+  -- both hosts as they open, before any frame is made
   abbrev pub opened : Pair
   opened = record { first = host_of a; second = host_of b; made = [] }
 
@@ -107,6 +112,7 @@ module _ (a b : PlainHost) where
   IsRun w (e ∷ es) [] = ⊥
   IsRun w (e ∷ es) (s ∷ ss) = Makes w e s.0 s.1 × IsRun (after w s.0 s.1) es ss
 
+  -- the pair after a list of entries, each at its own host
   abbrev pub after_all : Pair → List (Side × PlainEntry) → Pair
   after_all w [] = w
   after_all w (s ∷ ss) = after_all (after w s.0 s.1) ss
@@ -116,6 +122,7 @@ module _ (a b : PlainHost) where
   IsLowestAt w (At h c) = Unit {0}
   IsLowestAt w (Deliver k) = (j : ℕ) → j < k → slice_get w.made j ≡ slice_get w.made k → ⊥
 
+  -- each frame that comes in a run is the lowest one of its bytes
   abbrev pub AllLowest : Pair → List Event → List (Side × PlainEntry) → Type 0
   AllLowest w [] ss = Unit {0}
   AllLowest w (e ∷ es) [] = Unit {0}

@@ -60,15 +60,18 @@ pub record Stepping : Type 0 where
   pub pages : List ℕ
   pub answer : Stepped
 
+-- what a step of a hart leaves, put back into the board
 abbrev pub after : ℕ → After → Board → Stepping
 after h a b = record { board = with_machine h a.machine b; pages = a.pages; answer = a.answer }
 
+-- a step of the hart with this number
 abbrev pub stepped : ℕ → Board → Stepping
 stepped h b = after h (step (machine_at h b)) b
 
--- the board with other bytes waiting for the guest, and for the console
+-- the board with other bytes waiting for the guest
 abbrev pub with_input : List ℕ → Board → Board
 with_input bytes b = record b { shared = record b.shared { devices = record b.shared.devices { input = bytes } } }
 
+-- the board with other bytes waiting for the console
 abbrev pub with_output : List ℕ → Board → Board
 with_output bytes b = record b { shared = record b.shared { devices = record b.shared.devices { output = bytes } } }

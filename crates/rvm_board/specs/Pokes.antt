@@ -13,6 +13,7 @@ register_poked h r v b = record b { harts = slice_set b.harts h (hart.register_p
 abbrev pub is_view : (address count : ℕ) → Board → Bool
 is_view a n b = nat_lt 0 n && nat_le n 256 && in_ram n a b.shared.bytes
 
+-- the bus that the harts of a board share
 abbrev pub bus_of : BoardState → BusState
 bus_of b = record { shared = b.plain.shared; dirty = b.dirty }
 

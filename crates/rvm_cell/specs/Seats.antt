@@ -10,6 +10,7 @@ pub record PlainSeat : Type 0 where
   pub id : ℕ
   pub count : ℕ
 
+-- the seat of a number, with so many calls made
 abbrev pub seat_of : (id count : ℕ) → PlainSeat
 seat_of id count = record { id = id; count = count }
 

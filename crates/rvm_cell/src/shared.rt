@@ -11,7 +11,7 @@ use crate::locked::Locked;
 use crate::receipt::Receipt;
 use crate::seat::{Seat, Seating};
 use rvm_frame::Addressed;
-use rvm_journal::{RecordError, Recorded, SliceError, is_slice_in_range};
+use rvm_journal::{MAX_SLICE, RecordError, Recorded, SliceError, is_slice_in_range};
 use rvm_mem::PagedMemory;
 use rvm_message::HostEvent;
 use rvm_refusal::Refusal;
@@ -160,7 +160,7 @@ impl<L: Seating, M: PagedMemory + Drop> SharedHost<L, M> {
         if !is_slice_in_range(harts, n) {
             return Err(SliceError::OutOfRange);
         }
-        let Ok(receipts) = Vec::with_capacity(alloc, 64) else {
+        let Ok(receipts) = Vec::with_capacity(alloc, MAX_SLICE as usize) else {
             return Err(SliceError::OutOfMemory);
         };
         self.lock

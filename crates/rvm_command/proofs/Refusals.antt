@@ -37,6 +37,12 @@ pub file_not_loaded : (i : FileImage) (pages : ℕ) (r : Refused) → IsFileRefu
 file_not_loaded (Err e) pages r h = h
 file_not_loaded (Ok x) pages r h = inl h
 
+-- why a guest is refused stands at no line
+pub not_loaded_at_no_line : (i : FileImage) (pages : ℕ) (r : Refused) → IsLoadRefusal i pages r → r.line ≡ None
+not_loaded_at_no_line (Err e) pages r h = ap (λ (r : Refused). r.line) h
+not_loaded_at_no_line (Ok x) pages r (inl h) = ap (λ (r : Refused). r.line) h
+not_loaded_at_no_line (Ok x) pages r (inr h) = ap (λ (r : Refused). r.line) h.0
+
 -- bytes that went out and stay
 appends_kept : (a b c : Option (List ℕ)) (bs : List ℕ) → Appends a b bs → Keeps b c → Appends a c bs
 appends_kept None b c bs h k = tt

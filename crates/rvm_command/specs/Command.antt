@@ -38,11 +38,12 @@ abbrev pub end_text : Ended → List ℕ
 end_text (HaltedWith s) = codes "halted " ++ decimal s
 end_text StepsSpent = codes "steps spent"
 
--- `line L: refused N NAME`, or `refused N NAME` where it stands at no line
+-- `line L: `, or nothing where a refusal stands at no line
 abbrev pub at_line : Option ℕ → List ℕ
 at_line None = []
 at_line (Some l) = codes "line " ++ decimal l ++ codes ": "
 
+-- `line L: refused N NAME`, or `refused N NAME` where it stands at no line
 abbrev pub refused_text : Refused → List ℕ
 refused_text r = at_line r.line ++ text_of r.refusal
 

@@ -4,3 +4,4 @@ pub mod Command
 pub mod Assembled
 pub mod Refusals
 pub mod Ends
+pub mod Flushed

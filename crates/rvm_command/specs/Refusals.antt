@@ -15,6 +15,7 @@ use Rattle.rvm_command.specs.Command.{refused_text}
 abbrev pub refused : Refusal → Refused
 refused r = record { line = None; refusal = r }
 
+-- a refusal at a line, by its number
 abbrev pub refused_at : ℕ → Refusal → Refused
 refused_at n r = record { line = Some n; refusal = r }
 

@@ -89,6 +89,7 @@ pub record Ran : Type 0 where
   pub written : List ℕ
   pub ended : Ended
 
+-- what is left of a guest that ran with this input, for at most so many turns
 abbrev pub ran : (steps : ℕ) → (input : List ℕ) → Guest → Ran
 ran steps input g =
     let run = run_from steps 0 input g in

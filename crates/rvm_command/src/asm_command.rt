@@ -1,9 +1,10 @@
 //! `rvmove asm`: from assembly text to an ELF file.
 
-ghost use Rattle.std.specs.Prelude.{◌≡◌, ◌==◌, ◌≤◌, ◌⊎◌, List, ℕ, IfOk, IfErr, count_by, length};
+ghost use Rattle.std.specs.Prelude.{◌≡◌, ◌==◌, ◌≤◌, ◌⊎◌, List, ℕ, Result, IfOk, IfErr, count_by, length};
 ghost use Rattle.rvm_image.specs.Images.{pieces_of};
 ghost use Rattle.rvm_elf.specs.Spelling.{file_of};
 ghost use Rattle.rvm_refusal.specs.declared.refusal.Refusal.TheVariants.{BadToken};
+ghost use Rattle.rvm_command.specs.declared.refused.Refused.{Refused};
 ghost use Rattle.rvm_command.specs.Assembled.{IsFileOf};
 ghost use Rattle.rvm_command.specs.Ends.{HasStatus, IsAsmEnd, IsTextRefusal, IsUnwritable, line_of_byte};
 ghost use Rattle.rvm_command.specs.Refusals.{refused_at};
@@ -31,6 +32,8 @@ pub fn asm_command<O: Write, E: Write>(
     ensures status { IfOk result (λ status. HasStatus status
         (λ end. IsAsmEnd source.now end (O.contents output.old) (O.contents output.new))
         (E.contents errors.old) (E.contents errors.new)) }
+    ensures output { (end : Result (Unit {0}) Refused) × IsAsmEnd source.now end
+        (O.contents output.old) (O.contents output.new) }
     ensures refused { (O.contents output.new ≡ O.contents output.old)
         ⊎ ((file : List ℕ) × IsFileOf source.now file) }
 {

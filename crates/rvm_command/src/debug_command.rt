@@ -1,9 +1,15 @@
 //! `rvmove debug`: the answers to a debugger's script.
 
-ghost use Rattle.std.specs.Prelude.{◌≡◌, ◌*◌, IfOk, IsErr, false};
+ghost use Rattle.std.specs.Prelude.{◌≡◌, ◌⊎◌, ◌*◌, None, Result, IfOk, IfErr, IsErr, OnOk, false};
+ghost use Rattle.std.specs.Io.Buffered.{writer_contents};
 ghost use Rattle.rvm_elf.specs.Load.{fits};
+ghost use Rattle.rvm_command.specs.declared.refused.Refused.{Refused};
 ghost use Rattle.rvm_command.specs.Command.{image_of};
 ghost use Rattle.rvm_command.specs.Ends.{HasStatus, IsDebugEnd, IsScriptEndOf};
+ghost use Rattle.rvm_command.specs.Flushed.{is_flushed};
+ghost use Rattle.rvm_command.specs.Refusals.{IsTold, refused};
+ghost use Rattle.rvm_refusal.specs.declared.refusal.Refusal.{Refusal};
+ghost use Rattle.rvm_script.specs.declared.script.ScriptError.TheVariants as script;
 
 use crate::flush::flush;
 use crate::guest::load_guest;
@@ -14,7 +20,7 @@ use rvm_mem::{Memory, PagedMemory};
 use rvm_refusal::LinkFault;
 use rvm_script::{ScriptError, run_script};
 use std::alloc::Global;
-use std::io::{Read, Write};
+use std::io::{BufWriter, Read, Write};
 
 /// Loads the guest whose file `image` is, does what each line of the script in `reader` asks for,
 /// and writes the answers to `output`. Answers the status: 0, or 1 where it was refused; then
@@ -23,23 +29,31 @@ use std::io::{Read, Write};
 /// `OutOfMemory`, which leave `output` as it was; `BadToken` with its line where one is not in the
 /// grammar, after the answers to the lines before it; and `LinkFault` where a read or a write to
 /// `output` failed, of which a part may have gone out. Whether a reader or a writer fails is not
-/// said. `LinkFault` as the answer: a write to `errors` failed.
-pub fn debug_command<M: PagedMemory + Drop, R: Read, O: Write, E: Write>(
+/// said. With the status 0, and where it was refused at a line, `output` holds nothing back.
+/// `LinkFault` as the answer: a write to `errors` failed.
+pub fn debug_command<M: PagedMemory + Drop, R: Read, O: Write + Drop, E: Write>(
     alloc: Global,
     arguments: &GuestArguments,
     image: &[u8],
     reader: &mut R,
-    output: &mut O,
+    output: &mut BufWriter<O>,
     errors: &mut E,
 ) -> Result<u8, LinkFault>
     ensures status { IfOk result (λ status. HasStatus status
-        (λ end. IsDebugEnd arguments.now image.now (R.remaining reader.old) end (O.contents output.old) (O.contents output.new))
+        (λ end. IsDebugEnd arguments.now image.now (R.remaining reader.old) end
+        (writer_contents O.contents output.old) (writer_contents O.contents output.new))
         (E.contents errors.old) (E.contents errors.new)) }
+    ensures out { IfOk result (λ status. status ≡ 0 → is_flushed output.new) }
+    ensures lines { IfOk result (λ status. status ≡ 1 → is_flushed output.new
+        ⊎ ((r : Refusal) × IsTold (refused r) (E.contents errors.old) (E.contents errors.new))) }
+    ensures output { (end : Result (Unit {0}) Refused)
+        × IsDebugEnd arguments.now image.now (R.remaining reader.old) end
+        (writer_contents O.contents output.old) (writer_contents O.contents output.new) }
     ensures fault { IsErr (image_of arguments.now.raw image.now)
-        → O.contents output.new ≡ O.contents output.old }
+        → writer_contents O.contents output.new ≡ writer_contents O.contents output.old }
     ensures outside { IfOk (image_of arguments.now.raw image.now) (λ i.
         fits i.0 i.1 (4096 * arguments.now.pages) ≡ false
-        → O.contents output.new ≡ O.contents output.old) }
+        → writer_contents O.contents output.new ≡ writer_contents O.contents output.old) }
 {
     match debug::<M, R, O>(alloc, arguments, image, reader, output) {
         Ok(()) => Ok(0),
@@ -48,20 +62,23 @@ pub fn debug_command<M: PagedMemory + Drop, R: Read, O: Write, E: Write>(
 }
 
 /// The script itself.
-fn debug<M: PagedMemory + Drop, R: Read, O: Write>(
+#[tactic(auto, using(crate::proofs::Refusals::not_loaded_at_no_line))]
+fn debug<M: PagedMemory + Drop, R: Read, O: Write + Drop>(
     alloc: Global,
     arguments: &GuestArguments,
     image: &[u8],
     reader: &mut R,
-    output: &mut O,
+    output: &mut BufWriter<O>,
 ) -> Result<(), Refused>
     ensures end { IsDebugEnd arguments.now image.now (R.remaining reader.old) result
-        (O.contents output.old) (O.contents output.new) }
+        (writer_contents O.contents output.old) (writer_contents O.contents output.new) }
+    ensures out { OnOk result (is_flushed output.new) }
+    ensures lines { IfErr result (λ r. is_flushed output.new ⊎ (r.line ≡ None)) }
     ensures fault { IsErr (image_of arguments.now.raw image.now)
-        → O.contents output.new ≡ O.contents output.old }
+        → writer_contents O.contents output.new ≡ writer_contents O.contents output.old }
     ensures outside { IfOk (image_of arguments.now.raw image.now) (λ i.
         fits i.0 i.1 (4096 * arguments.now.pages) ≡ false
-        → O.contents output.new ≡ O.contents output.old) }
+        → writer_contents O.contents output.new ≡ writer_contents O.contents output.old) }
 {
     let mut guest = load_guest::<M>(alloc, arguments, image)?;
     answer(alloc, &mut guest, reader, output)?;
@@ -70,14 +87,16 @@ fn debug<M: PagedMemory + Drop, R: Read, O: Write>(
 
 /// Answers a script, and writes what the writer held back.
 #[tactic(auto, using(crate::proofs::Refusals::script_ended, crate::proofs::Refusals::link_failed))]
-fn answer<M: Memory, R: Read, O: Write>(
+fn answer<M: Memory, R: Read, O: Write + Drop>(
     alloc: Global,
     guest: &mut Debugged<M>,
     reader: &mut R,
-    output: &mut O,
+    output: &mut BufWriter<O>,
 ) -> Result<(), ScriptError>
-    ensures { IsScriptEndOf (R.remaining reader.old) guest.old.guest result
-        (O.contents output.old) (O.contents output.new) }
+    ensures end { IsScriptEndOf (R.remaining reader.old) guest.old.guest result
+        (writer_contents O.contents output.old) (writer_contents O.contents output.new) }
+    ensures out { OnOk result (is_flushed output.new) }
+    ensures lines { IfErr result (λ e. is_flushed output.new ⊎ (e ≡ script.LinkFault)) }
 {
     let answered = run_script(alloc, guest, reader, output);
     match flush(output) {

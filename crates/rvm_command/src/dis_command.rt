@@ -1,11 +1,14 @@
 //! `rvmove dis`: the lines of an image's words.
 
-ghost use Rattle.std.specs.Prelude.{◌≡◌, ◌+◌, ◌%◌, ◌^◌, ◌++◌, codes, IfOk, IsErr, OnOk, drop};
+ghost use Rattle.std.specs.Prelude.{◌≡◌, ◌+◌, ◌%◌, ◌^◌, ◌++◌, codes, Result, IfOk, IsErr, OnOk, drop};
+ghost use Rattle.std.specs.Io.Buffered.{writer_contents};
 ghost use Rattle.std.specs.Io.KnownBytes.{Appends};
 ghost use Rattle.rvm_image.specs.Images.{pieces_of};
 ghost use Rattle.rvm_dis.specs.Disassembly.{line_at};
+ghost use Rattle.rvm_command.specs.declared.refused.Refused.{Refused};
 ghost use Rattle.rvm_command.specs.Command.{before_word, image_of, listing, word_lines};
 ghost use Rattle.rvm_command.specs.Ends.{HasStatus, IsListEnd};
+ghost use Rattle.rvm_command.specs.Flushed.{is_flushed};
 
 use crate::flush::flush;
 use crate::guest::read_file;
@@ -16,26 +19,30 @@ use rvm_dis::write_line;
 use rvm_image::Segment;
 use rvm_refusal::LinkFault;
 use std::alloc::Global;
-use std::io::Write;
+use std::io::{BufWriter, Write};
 
 /// Writes a line for each whole aligned word of the image's segments, one segment after the other:
 /// its address, the word, and the text of its instruction. Answers the status: 0, or 1 where it was
 /// refused; then `errors` gets the refusal in one line, and else nothing: that of the file and
 /// `OutOfMemory`, which leave `output` as it was, or `LinkFault` where a write to `output` failed, of
-/// which a part may have gone out. Whether a writer fails is not said. `LinkFault` as the answer: a
-/// write to `errors` failed.
-pub fn dis_command<O: Write, E: Write>(
+/// which a part may have gone out. Whether a writer fails is not said. With the status 0 `output` holds
+/// nothing back. `LinkFault` as the answer: a write to `errors` failed.
+pub fn dis_command<O: Write + Drop, E: Write>(
     alloc: Global,
     arguments: &DisArguments,
     image: &[u8],
-    output: &mut O,
+    output: &mut BufWriter<O>,
     errors: &mut E,
 ) -> Result<u8, LinkFault>
     ensures status { IfOk result (λ status. HasStatus status
-        (λ end. IsListEnd (image_of arguments.now.raw image.now) end (O.contents output.old) (O.contents output.new))
+        (λ end. IsListEnd (image_of arguments.now.raw image.now) end
+        (writer_contents O.contents output.old) (writer_contents O.contents output.new))
         (E.contents errors.old) (E.contents errors.new)) }
+    ensures out { IfOk result (λ status. status ≡ 0 → is_flushed output.new) }
+    ensures output { (end : Result (Unit {0}) Refused) × IsListEnd (image_of arguments.now.raw image.now) end
+        (writer_contents O.contents output.old) (writer_contents O.contents output.new) }
     ensures fault { IsErr (image_of arguments.now.raw image.now)
-        → O.contents output.new ≡ O.contents output.old }
+        → writer_contents O.contents output.new ≡ writer_contents O.contents output.old }
 {
     match dis(alloc, arguments, image, output) {
         Ok(()) => Ok(0),
@@ -44,16 +51,17 @@ pub fn dis_command<O: Write, E: Write>(
 }
 
 /// The lines themselves.
-fn dis<O: Write>(
+fn dis<O: Write + Drop>(
     alloc: Global,
     arguments: &DisArguments,
     image: &[u8],
-    output: &mut O,
+    output: &mut BufWriter<O>,
 ) -> Result<(), Refused>
     ensures end { IsListEnd (image_of arguments.now.raw image.now) result
-        (O.contents output.old) (O.contents output.new) }
+        (writer_contents O.contents output.old) (writer_contents O.contents output.new) }
+    ensures out { OnOk result (is_flushed output.new) }
     ensures fault { IsErr (image_of arguments.now.raw image.now)
-        → O.contents output.new ≡ O.contents output.old }
+        → writer_contents O.contents output.new ≡ writer_contents O.contents output.old }
 {
     let program = read_file(alloc, arguments.raw, image)?;
     list(&program.segments, output)?;

@@ -1,8 +1,10 @@
 //! `rvmove run`: from the bytes of an image to what the guest sends and how it ends.
 
-ghost use Rattle.std.specs.Prelude.{◌≡◌, ◌*◌, ◌++◌, IfOk, IsErr, codes, false};
+ghost use Rattle.std.specs.Prelude.{◌≡◌, ◌*◌, ◌++◌, Result, IfOk, IsErr, codes, false};
 ghost use Rattle.std.specs.Io.KnownBytes.{Appends};
 ghost use Rattle.rvm_elf.specs.Load.{fits};
+ghost use Rattle.rvm_command.specs.declared.refused.Refused.{Refused};
+ghost use Rattle.rvm_command.specs.declared.run.Ended.{Ended};
 ghost use Rattle.rvm_command.specs.Command.{end_text, image_of};
 ghost use Rattle.rvm_command.specs.Ends.{IsRunEnd, RunHasStatus};
 
@@ -48,6 +50,8 @@ pub fn run_command<M: PagedMemory + Drop, O: Write, E: Write>(
     ensures status { IfOk result (λ status. RunHasStatus status
         (λ end. IsRunEnd arguments.now image.now input.now end (O.contents output.old) (O.contents output.new))
         (E.contents errors.old) (E.contents errors.new)) }
+    ensures output { (end : Result Ended Refused) × IsRunEnd arguments.now image.now input.now end
+        (O.contents output.old) (O.contents output.new) }
     ensures fault { IsErr (image_of arguments.now.guest.raw image.now)
         → O.contents output.new ≡ O.contents output.old }
     ensures outside { IfOk (image_of arguments.now.guest.raw image.now) (λ i.

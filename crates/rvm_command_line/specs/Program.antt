@@ -1,9 +1,12 @@
 -- The words that the program takes, as `clap` reads them.
-use Rattle.std.specs.Prelude.{ℕ, true, [], ◌∷◌, Some, pos, codes}
+use Rattle.std.specs.Prelude.{ℕ, true, List, [], ◌∷◌, Some, pos, codes}
+use Rattle.clap.specs.Faults.{fault_of}
+use Rattle.clap.specs.Kinds.{Kinds, or_else}
 use Rattle.clap.specs.Simple.{App, new_app, new_rule, on_top, with_rule, with_subcommand}
 use Rattle.clap.specs.Walk.{Rule, Text}
 use Rattle.clap.specs.declared.builder.action.ArgAction.TheVariants.{SetTrue}
 use Rattle.clap.specs.declared.builder.value_parser.ValueParser.TheVariants as parser
+use Rattle.clap.specs.declared.error.kind.ErrorKind.TheVariants as kind
 
 -- a word that must be there
 abbrev pub needed : Text → Rule
@@ -65,21 +68,27 @@ run =
     (with_rule (with_guest (new_app (codes "run"))) (number (codes "steps") (codes "1000000") 1000000000))
     (option (codes "input"))
 
+-- the command that makes an ELF file of an assembly text
 abbrev pub asm : App
 asm = with_rule (with_rule (new_app (codes "asm")) (needed (codes "source"))) (needed (codes "output"))
 
+-- the command that writes a line for each word of an image
 abbrev pub dis : App
 dis = with_guest (new_app (codes "dis"))
 
+-- the command that does the lines of standard input to a guest
 abbrev pub debug : App
 debug = with_guest (new_app (codes "debug"))
 
+-- the command that does the lines of a file to a world of hosts
 abbrev pub script : App
 script = with_rule (with_world (new_app (codes "script"))) (needed (codes "script"))
 
+-- the command that moves a guest to another host while it runs
 abbrev pub move : App
 move = with_move (new_app (codes "move"))
 
+-- the command that makes such a move and writes an order of both hosts' journals
 abbrev pub audit : App
 audit = with_move (new_app (codes "audit"))
 
@@ -89,6 +98,7 @@ top =
     on_top (λ s. record s { has_version = true; arg_required_else_help = true; subcommand_required = true })
     (new_app (codes "rvmove"))
 
+-- the program with all its commands
 abbrev pub program : App
 program =
     with_subcommand
@@ -96,3 +106,8 @@ program =
     (with_subcommand
     (with_subcommand (with_subcommand (with_subcommand (with_subcommand top run.top) asm.top) dis.top)
     debug.top) script.top) move.top) audit.top
+
+-- of which kinds the fault of a command line is: what `clap` finds in its words, or else a value that `clap` takes and
+-- the program does not
+abbrev pub faults_of : (words : List Text) → Kinds
+faults_of words = or_else (fault_of program words) (kind.ValueValidation ∷ [])

@@ -1,10 +1,12 @@
 //! The words that the program takes, as `clap` is told of them.
 
-ghost use Rattle.std.specs.Prelude.{◌≡◌, false, codes, IfOk};
+ghost use Rattle.std.specs.Prelude.{◌≡◌, false, codes, IfErr, IfOk};
 ghost use Rattle.std.specs.Result.{IsOkAnd};
 ghost use Rattle.clap.specs.Simple.{app_of, with_subcommand};
 ghost use Rattle.clap.specs.Walk.{rule_of};
+ghost use Rattle.clap.specs.Words.{kind_of};
 ghost use Rattle.clap.specs.declared.builder.command.Command.TheViews.{out-Command as fields_of};
+ghost use Rattle.clap.specs.declared.error.kind.ErrorKind.TheVariants as kind;
 ghost use Rattle.rvm_command_line.specs.Program.{asm, audit, bounded, debug, dis, flag, move, needed, number, option, program, run, script, top, with_default, with_guest, with_move, with_policy, with_world};
 
 use clap::{Arg, ArgAction, Command, Error, value_parser};
@@ -86,7 +88,8 @@ F times its pages.";
 
 /// The command line that the program takes.
 pub(crate) fn program<'a>(alloc: Global) -> Result<Command<'a>, Error>
-    ensures { IfOk result (λ c. app_of c ≡ program) }
+    ensures app { IfOk result (λ c. app_of c ≡ program) }
+    ensures memory { IfErr result (λ e. kind_of e ≡ kind.OutOfMemory) }
 {
     let program = with_command(bare_program(alloc), run_command(alloc))?;
     let program = with_command(program, asm_command(alloc))?;
@@ -102,8 +105,10 @@ fn with_command<'a>(
     program: Command<'a>,
     command: Result<Command<'a>, Error>,
 ) -> Result<Command<'a>, Error>
-    ensures { IfOk result (λ c. IsOkAnd command.entry (λ m. (fields_of m).has_globals ≡ false
+    ensures app { IfOk result (λ c. IsOkAnd command.entry (λ m. (fields_of m).has_globals ≡ false
         → app_of c ≡ with_subcommand (app_of program.entry) (app_of m).top)) }
+    ensures memory { IfErr command.entry (λ e. kind_of e ≡ kind.OutOfMemory)
+        → IfErr result (λ e. kind_of e ≡ kind.OutOfMemory) }
 {
     Ok(program.subcommand(command?)?)
 }
@@ -319,6 +324,7 @@ fn guest_command<'a>(command: Command<'a>, alloc: Global) -> Result<Command<'a>,
     ensures app { IfOk result (λ c. app_of c ≡ with_guest (app_of command.entry)) }
     ensures local { (fields_of command.entry).has_globals ≡ false
         → IfOk result (λ c. (fields_of c).has_globals ≡ false) }
+    ensures memory { IfErr result (λ e. kind_of e ≡ kind.OutOfMemory) }
 {
     Ok(
         command
@@ -334,6 +340,7 @@ fn world_command<'a>(command: Command<'a>, alloc: Global) -> Result<Command<'a>,
     ensures app { IfOk result (λ c. app_of c ≡ with_world (app_of command.entry)) }
     ensures local { (fields_of command.entry).has_globals ≡ false
         → IfOk result (λ c. (fields_of c).has_globals ≡ false) }
+    ensures memory { IfErr result (λ e. kind_of e ≡ kind.OutOfMemory) }
 {
     Ok(
         guest_command(command, alloc)?
@@ -347,6 +354,7 @@ fn policy_command<'a>(command: Command<'a>, alloc: Global) -> Result<Command<'a>
     ensures app { IfOk result (λ c. app_of c ≡ with_policy (app_of command.entry)) }
     ensures local { (fields_of command.entry).has_globals ≡ false
         → IfOk result (λ c. (fields_of c).has_globals ≡ false) }
+    ensures memory { IfErr result (λ e. kind_of e ≡ kind.OutOfMemory) }
 {
     Ok(
         command
@@ -361,6 +369,7 @@ fn moving_command<'a>(command: Command<'a>, alloc: Global) -> Result<Command<'a>
     ensures app { IfOk result (λ c. app_of c ≡ with_move (app_of command.entry)) }
     ensures local { (fields_of command.entry).has_globals ≡ false
         → IfOk result (λ c. (fields_of c).has_globals ≡ false) }
+    ensures memory { IfErr result (λ e. kind_of e ≡ kind.OutOfMemory) }
 {
     let guest = guest_command(command, alloc)?.arg(move_steps_argument(alloc))?;
     Ok(policy_command(guest, alloc)?.arg(move_stream_argument(alloc))?)
@@ -370,6 +379,7 @@ fn moving_command<'a>(command: Command<'a>, alloc: Global) -> Result<Command<'a>
 fn run_command<'a>(alloc: Global) -> Result<Command<'a>, Error>
     ensures app { IfOk result (λ c. app_of c ≡ run) }
     ensures local { IfOk result (λ c. (fields_of c).has_globals ≡ false) }
+    ensures memory { IfErr result (λ e. kind_of e ≡ kind.OutOfMemory) }
 {
     let run = Command::new(alloc, "run")
         .about("Runs a guest, and writes what it sends")
@@ -385,6 +395,7 @@ fn run_command<'a>(alloc: Global) -> Result<Command<'a>, Error>
 fn asm_command<'a>(alloc: Global) -> Result<Command<'a>, Error>
     ensures app { IfOk result (λ c. app_of c ≡ asm) }
     ensures local { IfOk result (λ c. (fields_of c).has_globals ≡ false) }
+    ensures memory { IfErr result (λ e. kind_of e ≡ kind.OutOfMemory) }
 {
     Ok(
         Command::new(alloc, "asm")
@@ -399,6 +410,7 @@ fn asm_command<'a>(alloc: Global) -> Result<Command<'a>, Error>
 fn dis_command<'a>(alloc: Global) -> Result<Command<'a>, Error>
     ensures app { IfOk result (λ c. app_of c ≡ dis) }
     ensures local { IfOk result (λ c. (fields_of c).has_globals ≡ false) }
+    ensures memory { IfErr result (λ e. kind_of e ≡ kind.OutOfMemory) }
 {
     let dis = Command::new(alloc, "dis")
         .about("Writes the instructions of an image")
@@ -410,6 +422,7 @@ fn dis_command<'a>(alloc: Global) -> Result<Command<'a>, Error>
 fn debug_command<'a>(alloc: Global) -> Result<Command<'a>, Error>
     ensures app { IfOk result (λ c. app_of c ≡ debug) }
     ensures local { IfOk result (λ c. (fields_of c).has_globals ≡ false) }
+    ensures memory { IfErr result (λ e. kind_of e ≡ kind.OutOfMemory) }
 {
     let debug = Command::new(alloc, "debug")
         .about("Answers the lines of a debugger's script from standard input")
@@ -421,6 +434,7 @@ fn debug_command<'a>(alloc: Global) -> Result<Command<'a>, Error>
 fn script_command<'a>(alloc: Global) -> Result<Command<'a>, Error>
     ensures app { IfOk result (λ c. app_of c ≡ script) }
     ensures local { IfOk result (λ c. (fields_of c).has_globals ≡ false) }
+    ensures memory { IfErr result (λ e. kind_of e ≡ kind.OutOfMemory) }
 {
     let script = Command::new(alloc, "script")
         .about("Answers the lines of a script for hosts between which a guest moves")
@@ -432,6 +446,7 @@ fn script_command<'a>(alloc: Global) -> Result<Command<'a>, Error>
 fn move_command<'a>(alloc: Global) -> Result<Command<'a>, Error>
     ensures app { IfOk result (λ c. app_of c ≡ move) }
     ensures local { IfOk result (λ c. (fields_of c).has_globals ≡ false) }
+    ensures memory { IfErr result (λ e. kind_of e ≡ kind.OutOfMemory) }
 {
     let command = Command::new(alloc, "move")
         .about("Moves a guest from one host to another while it runs, and writes what it sends")
@@ -443,6 +458,7 @@ fn move_command<'a>(alloc: Global) -> Result<Command<'a>, Error>
 fn audit_command<'a>(alloc: Global) -> Result<Command<'a>, Error>
     ensures app { IfOk result (λ c. app_of c ≡ audit) }
     ensures local { IfOk result (λ c. (fields_of c).has_globals ≡ false) }
+    ensures memory { IfErr result (λ e. kind_of e ≡ kind.OutOfMemory) }
 {
     let audit = Command::new(alloc, "audit")
         .about("Moves a guest as `move` does, and writes one order of what both hosts did")

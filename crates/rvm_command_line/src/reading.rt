@@ -1,11 +1,13 @@
 //! From words to arguments.
 
-ghost use Rattle.std.specs.Prelude.{◌≡◌, ◌≤◌, ◌&&◌, nat_le, if◌then◌else◌, Some, IfOk, IfSome, codes, map, option_map};
+ghost use Rattle.std.specs.Prelude.{◌≡◌, ◌≤◌, ◌&&◌, nat_le, if◌then◌else◌, [], Some, IfErr, IfOk, IfSome, codes, map, option_map};
+ghost use Rattle.clap.specs.Faults.{fault_of};
+ghost use Rattle.clap.specs.Kinds.{HasKind};
 ghost use Rattle.clap.specs.Matches.{found_of};
 ghost use Rattle.clap.specs.Simple.{app_of, subcommand_of, subcommand_rows_of};
 ghost use Rattle.clap.specs.Walk.{first_of, one_of, rows_of};
 ghost use Rattle.rvm_command_line.specs.Given.{Gives, IsAsked, IsFlag, IsGuest, IsMove, IsNumber, IsOptionalNumber};
-ghost use Rattle.rvm_command_line.specs.Program.{program};
+ghost use Rattle.rvm_command_line.specs.Program.{faults_of, program};
 
 use crate::program::program;
 use clap::error::ErrorKind;
@@ -42,7 +44,9 @@ const MAX_FACTOR: u32 = 100;
 /// Reads the command line, whose first word is the program's name. The error has `clap`'s text, and
 /// `exit_code` says what the program ends with.
 pub fn parse_args<'a, S: AsStr>(alloc: Global, words: &'a [S]) -> Result<Arguments<'a>, Error>
-    ensures { IfOk result (IsAsked (subcommand_of program (map S.text words.now))) }
+    ensures asked { IfOk result (IsAsked (subcommand_of program (map S.text words.now))) }
+    ensures taken { IfOk result (λ a. fault_of program (map S.text words.now) ≡ []) }
+    ensures fault { IfErr result (HasKind (faults_of (map S.text words.now))) }
 {
     let mut command = program(alloc)?;
     read_words(&mut command, words)
@@ -54,7 +58,9 @@ fn read_words<'a, S: AsStr>(
     words: &'a [S],
 ) -> Result<Arguments<'a>, Error>
     requires { app_of command.old ≡ program }
-    ensures { IfOk result (IsAsked (subcommand_of program (map S.text words.now))) }
+    ensures asked { IfOk result (IsAsked (subcommand_of program (map S.text words.now))) }
+    ensures taken { IfOk result (λ a. fault_of program (map S.text words.now) ≡ []) }
+    ensures fault { IfErr result (HasKind (faults_of (map S.text words.now))) }
 {
     let matches = command.try_get_matches_from_mut(words)?;
     match read_matches(&matches) {

@@ -43,6 +43,7 @@ came_body (Ready n) = Some 0
 came_body (Go n) = Some 0
 came_body f = None
 
+-- of the frame that an event makes
 abbrev pub event_body : PlainHost → BoardHostEvent → Option ℕ
 event_body h (Do c) = command_body h.version h.mode c
 event_body h (Came from f) = came_body f

@@ -13,8 +13,8 @@ use Rattle.rvm_protocol.specs.Host as protocol
 use Rattle.rvm_protocol.specs.Host.{host_step, partner_then}
 use Rattle.rvm_core.specs.Modes.{PlainMode, Empty, Run, mode_of}
 
--- its mode; the other party of the highest move that it has begun or staged; its own number among so many hosts; how many
--- pages it takes; the version of its streams
+-- its mode; the other party of the highest move that it has begun or staged; its own number among so many hosts; how
+-- many pages it takes; the version of its streams
 pub record PlainHost : Type 0 where
   pub mode : PlainMode
   pub partner : ℕ
@@ -60,6 +60,7 @@ abbrev pub first_mode : Option GuestState → PlainMode
 first_mode None = Empty 0
 first_mode (Some g) = Run 0 g.guest
 
+-- a host before any move, with this guest or none
 abbrev pub new_host : Option GuestState → (id count limit version : ℕ) → PlainHost
 new_host g id count limit version =
     record { mode = first_mode g; partner = id; id = id; count = count; limit = limit; version = version }

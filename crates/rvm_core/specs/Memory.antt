@@ -23,6 +23,7 @@ takes_memory (State n numbers state) = true
 takes_memory (Part n stamp part parts bytes) = true
 takes_memory f = false
 
+-- an event of a host, of either kind
 abbrev pub needs_memory : BoardHostEvent → Bool
 needs_memory (Do c) = asks_memory c
 needs_memory (Came from f) = takes_memory f

@@ -10,6 +10,7 @@ use Rattle.rvm_source.specs.Sources.{PlainSource}
 use Rattle.rvm_core.specs.declared.mode.Mode.{Mode}
 use Rattle.rvm_core.specs.declared.mode.Mode.TheVariants as code
 
+-- what a host has of a guest, and where it stands in the highest move that it has begun or staged
 pub data PlainMode : Type 0 where
   Empty : (move : ℕ) → PlainMode
   Run : (move : ℕ) → (guest : Guest) → PlainMode

@@ -10,7 +10,7 @@ ghost use Rattle.rvm_guest.proofs.TheGuest.{board};
 ghost use Rattle.rvm_protocol.specs.Commands as commands;
 ghost use Rattle.rvm_protocol.specs.Frames.{plain, posted};
 ghost use Rattle.rvm_protocol.specs.Host.{is_heard, is_offer_above, is_there};
-ghost use Rattle.rvm_core.specs.Bounds.{CanBePosted, IsHost, addressed, frame_bound};
+ghost use Rattle.rvm_core.specs.Bounds.{CanBePosted, addressed, frame_bound};
 ghost use Rattle.rvm_core.specs.Hosts.{Steps, host_of, is_sized, new_host, partner_of, step_of, version_of};
 ghost use Rattle.rvm_core.specs.Memory.{asks_memory, is_ignored, needs_memory, takes_memory};
 ghost use Rattle.rvm_core.specs.Turns.{HasLog, turned};
@@ -248,13 +248,6 @@ impl<M: PagedMemory + Drop> Host<M> {
             ≡ frame_bound self.now (commands.Came from (frame_heard frame.now)) }
     {
         with_header(self.version, came_body(frame))
-    }
-
-    /// It is one of so many hosts, and its move, if any, is with another of them.
-    pub fn is_host(&self)
-        ensures { IsHost self.now }
-    {
-        let _mode = &self.mode;
     }
 
     /// Whether a number is that of another host.

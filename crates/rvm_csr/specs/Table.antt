@@ -21,7 +21,7 @@ one number csr = record { first = number; last = number; csr = csr }
 abbrev pub many : ℕ → ℕ → Csr → Row
 many first last csr = record { first = first; last = last; csr = csr }
 
--- the profile's registers
+-- the registers of a hart
 unfoldable pub table : List Row
 table =
     one 0x300 Mstatus ∷

@@ -117,7 +117,7 @@ impl CsrFile {
     }
 
     /// The value that an instruction reads from the register of a number; `mip` is what is pending
-    /// at the hart now. None where the profile has no such register.
+    /// at the hart now. None where the hart has no such register.
     #[inline]
     pub fn read(&self, number: u32, mip: Interrupts) -> Option<u32>
         ensures { result ≡ csr_read number mip self.now }
@@ -126,8 +126,8 @@ impl CsrFile {
         Some(self.value_of(csr, mip))
     }
 
-    /// Writes the register of a number. None, and nothing changes, where the profile has no such
-    /// register or its number says that it is read-only.
+    /// Writes the register of a number. None, and nothing changes, where the hart has no such register or
+    /// its number says that it is read-only.
     #[inline]
     pub fn write(&mut self, number: u32, value: u32) -> Option<()>
         ensures file { self.new ≡ unwrap_or (csr_write number value self.old) self.old }

@@ -3,7 +3,7 @@
 ghost use Rattle.std.specs.Prelude.{◌≡◌};
 ghost use Rattle.rvm_csr.specs.Table.{csr_at, is_read_only};
 
-/// A register of the profile, by its name in the manual. Where the manual has a row of registers
+/// A register of a hart, by its name in the manual. Where the manual has a row of registers
 /// of one kind (`mhpmcounter3` to `mhpmcounter31`), one name stands for the row.
 #[derive(Clone, Copy, Debug, PartialEq, Eq)]
 pub enum Csr {
@@ -33,7 +33,7 @@ pub enum Csr {
 }
 
 impl Csr {
-    /// The register of a number, if the profile has one there.
+    /// The register of a number, if a hart has one there.
     #[inline(always)]
     #[tactic(auto, unfolding(crate::specs::Table::table, crate::specs::Table::csr_at))]
     pub fn at(number: u32) -> Option<Csr>

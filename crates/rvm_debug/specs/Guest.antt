@@ -19,10 +19,11 @@ pub record GuestState : Type 0 where
 abbrev pub is_in : ℕ → List ℕ → Bool
 is_in a bs = list_any (λ b. b == a) bs
 
--- a rising list with an address more, and without one
+-- a rising list with an address more
 abbrev pub with : ℕ → List ℕ → List ℕ
 with a bs = filter (λ b. nat_lt b a) bs ++ (a ∷ filter (λ b. nat_lt a b) bs)
 
+-- a rising list without an address
 abbrev pub without : ℕ → List ℕ → List ℕ
 without a bs = filter (λ b. not (b == a)) bs
 

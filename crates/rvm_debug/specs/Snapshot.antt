@@ -2,6 +2,7 @@
 use Rattle.rvm_debug.specs.declared.snapshot.Snapshot.{Snapshot}
 use Rattle.rvm_debug.specs.State.{State}
 
+-- the state that a snapshot holds
 abbrev pub state_in : Snapshot → State
 state_in s =
     record {

@@ -12,21 +12,28 @@ abbrev pub field : (n at : ℕ) → List ℕ → ℕ
 field n at file = little_number n (drop at file)
 
 -- fields of the ELF header
+
+-- the type of the object file (ELF, `e_type`)
 abbrev pub e_type : List ℕ → ℕ
 e_type file = field 2 16 file
 
+-- the architecture that the file is for (ELF, `e_machine`)
 abbrev pub e_machine : List ℕ → ℕ
 e_machine file = field 2 18 file
 
+-- the address at which the program begins (ELF, `e_entry`)
 abbrev pub e_entry : List ℕ → ℕ
 e_entry file = field 4 24 file
 
+-- the place in the file at which the program headers begin (ELF, `e_phoff`)
 abbrev pub e_phoff : List ℕ → ℕ
 e_phoff file = field 4 28 file
 
+-- how many bytes a program header has (ELF, `e_phentsize`)
 abbrev pub e_phentsize : List ℕ → ℕ
 e_phentsize file = field 2 42 file
 
+-- how many program headers there are (ELF, `e_phnum`)
 abbrev pub e_phnum : List ℕ → ℕ
 e_phnum file = field 2 44 file
 

@@ -15,6 +15,7 @@ is_within n a count = nat_le ram_base a && nat_le (a + n) (ram_base + count)
 abbrev pub piece_fits : Piece → (count : ℕ) → Bool
 piece_fits p count = size p == 0 || is_within (size p) p.address count
 
+-- each piece has no byte, or lies in RAM
 unfoldable pub pieces_fit : List Piece → (count : ℕ) → Bool
 pieces_fit [] count = true
 pieces_fit (p ∷ ps) count = piece_fits p count && pieces_fit ps count

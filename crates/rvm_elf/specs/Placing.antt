@@ -6,10 +6,11 @@ use Rattle.rvm_hart.specs.Bus.{ram_base}
 use Rattle.rvm_board.specs.Board.{BoardState}
 use Rattle.rvm_image.specs.Images.{Piece}
 
--- the board with other bytes in RAM, and with other harts
+-- the board with other bytes in RAM
 abbrev pub with_ram : List ℕ → BoardState → BoardState
 with_ram bytes b = record b { plain = record b.plain { shared = record b.plain.shared { bytes = bytes } } }
 
+-- the board with other harts
 abbrev pub with_harts : List HartState → BoardState → BoardState
 with_harts harts b = record b { plain = record b.plain { harts = harts } }
 

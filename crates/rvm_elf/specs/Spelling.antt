@@ -14,6 +14,7 @@ all_bytes (p ∷ ps) = p.bytes ++ all_bytes ps
 abbrev pub is_small : Piece → Bool
 is_small p = nat_lt (size p) (2 ^ 32)
 
+-- the size of each piece fits its field
 unfoldable pub are_small : List Piece → Bool
 are_small [] = true
 are_small (p ∷ ps) = is_small p && are_small ps

@@ -6,7 +6,7 @@ ghost use Rattle.rvm_elf.specs.declared.error.ReadError.TheVariants as read;
 ghost use Rattle.rvm_elf.specs.declared.error.WriteError.TheVariants as write;
 
 use rvm_refusal::Refusal;
-use std::alloc::{AllocError, AllocFailed};
+use std::alloc::AllocError;
 use thiserror::Error;
 
 /// Why a file has no image.

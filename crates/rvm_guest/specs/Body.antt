@@ -16,6 +16,7 @@ use Rattle.rvm_guest.specs.Values.{values}
 abbrev pub has_bytes : Guest → Bool
 has_bytes g = (state (size_of g)).fits (state_of g)
 
+-- the state of a guest as it is sent
 unfoldable pub body_of : Guest → List ℕ
 body_of g = if has_bytes g then spelling g else 256 ∷ values.write (state_of g)
 
@@ -27,6 +28,7 @@ read_body size body = if get_or body 0 0 == 256 then values.read (drop 1 body) e
 abbrev pub guest_if : (harts : ℕ) → (ram : List ℕ) → State → Option Guest
 guest_if harts ram s = if length s.harts == harts then Some (guest_of ram s) else None
 
+-- the guest of so many harts that a state as it is sent and pages make, if they make one
 unfoldable pub build : (harts : ℕ) → List ℕ → List (List ℕ) → Option Guest
 build harts body pages =
     let ram = joined pages in

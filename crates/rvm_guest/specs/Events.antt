@@ -9,15 +9,17 @@ use Rattle.rvm_debug.specs.Guest.{Guest}
 use Rattle.rvm_debug.specs.Events.{answered}
 use Rattle.rvm_debug.specs.Turns.{AfterTurns, next_hart, stop_in}
 
--- the guest that events leave, the pages that they write, and the answers to them
+-- the guest that events leave
 unfoldable pub after_all : Guest → List BoardEvent → Guest
 after_all g [] = g
 after_all g (e ∷ es) = after_all (answered e g).guest es
 
+-- the pages that events write, in their order
 unfoldable pub written : Guest → List BoardEvent → List ℕ
 written g [] = []
 written g (e ∷ es) = (answered e g).pages ++ written (answered e g).guest es
 
+-- the answers to events
 unfoldable pub answers : Guest → List BoardEvent → List BoardReply
 answers g [] = []
 answers g (e ∷ es) = (answered e g).reply ∷ answers (answered e g).guest es

@@ -7,10 +7,11 @@ use Rattle.rvm_debug.specs.declared.event.BoardEvent.{BoardEvent}
 use Rattle.rvm_debug.specs.Guest.{Guest}
 use Rattle.rvm_debug.specs.Events.{answered}
 
--- how many bytes and how many pages its RAM has
+-- how many bytes a guest's RAM has
 abbrev pub size_of : Guest → ℕ
 size_of g = length g.board.shared.bytes
 
+-- how many pages a guest's RAM has
 abbrev pub count_of : Guest → ℕ
 count_of g = size_of g / 4096
 
@@ -19,10 +20,11 @@ unfoldable pub pages_at : (count : ℕ) → List ℕ → List (List ℕ)
 pages_at zero bytes = []
 pages_at (suc n) bytes = take 4096 bytes ∷ pages_at n (drop 4096 bytes)
 
--- all pages of bytes, and of a guest
+-- all pages of bytes
 abbrev pub pages_in : List ℕ → List (List ℕ)
 pages_in bytes = pages_at (length bytes / 4096) bytes
 
+-- all pages of a guest
 abbrev pub pages_of : Guest → List (List ℕ)
 pages_of g = pages_in g.board.shared.bytes
 

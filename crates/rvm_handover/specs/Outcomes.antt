@@ -13,6 +13,7 @@ use Rattle.rvm_handover.specs.declared.not_ready.NotReady.{NotReady}
 use Rattle.rvm_handover.specs.declared.not_ready.NotReady.TheVariants as reasons
 use Rattle.rvm_handover.specs.Stages.{PlainStage, stage_of}
 
+-- what a frame gives: a reply, a frame if one is made, and the mode after it
 abbrev pub BoardOutcome : Type 0
 BoardOutcome = Outcome Guest (List ℕ) BoardReply (List ℕ)
 

@@ -13,10 +13,11 @@ use Rattle.rvm_handover.specs.declared.not_ready.NotReady.TheVariants as ready
 use Rattle.rvm_handover.specs.Outcomes.{BoardOutcome}
 use Rattle.rvm_handover.specs.Stages.{PlainStage, stage_of}
 
--- with a piece; a higher stamp drops the pieces kept
+-- the pieces that stay beside a new one: those kept, or none where its stamp is higher
 abbrev pub pieces_before : (stamp : ℕ) → PlainStage → List (Option (List ℕ))
 pieces_before stamp s = if nat_lt s.stamp stamp then replicate 6 None else s.pieces
 
+-- a stage that keeps this piece too, with its stamp and its count of parts
 abbrev pub with_piece : (stamp part parts : ℕ) → List ℕ → PlainStage → PlainStage
 with_piece stamp part parts bytes s =
     record s { stamp = stamp; parts = parts; pieces = slice_set (pieces_before stamp s) part (Some bytes) }
@@ -35,7 +36,8 @@ is_partial (Refused replies.Ignored) = true
 is_partial (replies.Kept part parts) = true
 is_partial reply = false
 
--- no guest was made of a piece for this reason, and this stage is left: memory lacks only of the piece with which all are there
+-- no guest was made of a piece for this reason, and this stage is left: memory lacks only of the piece with which all
+-- are there
 abbrev pub IsPartLeft : (move part parts : ℕ) → NotJoined → PlainStage → BoardOutcome → Type 0
 IsPartLeft move part parts reasons.Ignored s o = o ≡ ignores (Staging move (stage_of s))
 IsPartLeft move part parts reasons.Kept s o = o ≡ says (replies.Kept part parts) (Staging move (stage_of s))

@@ -21,11 +21,11 @@ in_ram n a bytes = nat_le ram_base a && nat_le (a + n) (ram_base + length bytes)
 abbrev pub ram_load : (n address : ℕ) → List ℕ → Option ℕ
 ram_load n a bytes = if in_ram n a bytes then Some (load n (a - ram_base) bytes) else None
 
--- the word at an address, of RAM or a device; and what the harts share after it is loaded, since a device may
--- consume it
+-- the word at an address, of RAM or a device
 abbrev pub word_loaded : ℕ → Shared → Option ℕ
 word_loaded a r = if in_ram 4 a r.bytes then Some (load 4 (a - ram_base) r.bytes) else dev.value_loaded a r.devices
 
+-- what the harts share after the word is loaded, since a device may consume it
 abbrev pub after_word_load : ℕ → Shared → Shared
 after_word_load a r = if in_ram 4 a r.bytes then r else record r { devices = dev.loaded a r.devices }
 
@@ -45,6 +45,7 @@ in_ram_stored n hart a v r =
       wrote = Other;
     }
 
+-- a store of a hart, if the n bytes from the address are in RAM
 abbrev pub ram_stored : (n hart address value : ℕ) → Shared → Option Stored
 ram_stored n hart a v r = if in_ram n a r.bytes then Some (in_ram_stored n hart a v r) else None
 
@@ -52,6 +53,7 @@ ram_stored n hart a v r = if in_ram n a r.bytes then Some (in_ram_stored n hart 
 abbrev pub wrote_of : (address value : ℕ) → Written
 wrote_of a v = if a == 0x100000 then Halt (v % 2 ^ 8) else if a == 0x200BFF8 || a == 0x200BFFC then Mtime else Other
 
+-- a store of a word to a device, if one has a word at the address
 abbrev pub device_stored : (address value : ℕ) → Shared → Option Stored
 device_stored a v r =
     option_map (λ d. record { shared = record r { devices = d }; pages = []; wrote = wrote_of a v }) (dev.stored a v r.devices)

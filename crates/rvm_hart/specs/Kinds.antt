@@ -50,6 +50,7 @@ value_of op.Divu a b = unsigned_quotient a b
 value_of op.Rem a b = remainder a b
 value_of op.Remu a b = unsigned_remainder a b
 
+-- rd gets the value of an operation on two words
 abbrev pub arithmetic : Operation → (rd a b : ℕ) → Machine → Outcome
 arithmetic o rd a b m = done_with rd (value_of o a b) m
 
@@ -76,12 +77,14 @@ holds test.Ge a b = not (int_lt (signed a) (signed b))
 holds test.Ltu a b = nat_lt a b
 holds test.Geu a b = not (nat_lt a b)
 
+-- a jump by the offset if the branch is taken, else on to the next instruction
 abbrev pub branch : (taken : Bool) → (offset : ℤ) → Machine → Outcome
 branch taken offset m = if taken then jump 0 (sum m.hart.pc offset) m else done m
 
 -- LOADS (Unprivileged ISA, "Load and Store Instructions"): alignment is looked at first, then whether something is
 -- there
 
+-- rd gets the value; where nothing is there, the load traps
 abbrev pub load_outcome : (rd : ℕ) → (value : Option ℕ) → (address : ℕ) → Machine → Outcome
 load_outcome rd (Some v) a m = done_with rd v m
 load_outcome rd None a m = Traps LoadAccessFault a
@@ -104,14 +107,16 @@ load_word rd a m =
 
 -- STORES (Unprivileged ISA, "Load and Store Instructions")
 
+-- what the store left; where nothing is there, the store traps
 abbrev pub store_outcome : Option Stored → (address : ℕ) → Machine → Outcome
 store_outcome (Some s) a m = Done (record { hart = at_next m.hart; shared = s.shared }) s.pages s.wrote
 store_outcome None a m = Traps StoreAccessFault a
 
--- the low bits of a register's value, to RAM
+-- the low byte of a register's value, to RAM
 abbrev pub store_byte : (address value : ℕ) → Machine → Outcome
 store_byte a v m = store_outcome (ram_stored 1 (number_of m) a (v % 2 ^ 8) m.shared) a m
 
+-- the low two bytes of a register's value, to RAM
 abbrev pub store_half : (address value : ℕ) → Machine → Outcome
 store_half a v m =
     if a % 2 == 0 then store_outcome (ram_stored 2 (number_of m) a (v % 2 ^ 16) m.shared) a m
@@ -157,7 +162,7 @@ store_conditional rd a v m =
     else Traps StoreAccessFault a)
     else Traps StoreAddressMisaligned a
 
--- the lesser and the greater of two words, as signed numbers and as they are
+-- the new word of an AMO, of the old one and the value of rs2 (Unprivileged ISA, "A" Extension for Atomic Instructions)
 abbrev pub atomic_value : Amo → (old value : ℕ) → ℕ
 atomic_value amo.Swap old v = v
 atomic_value amo.Add old v = (old + v) % 2 ^ 32
@@ -174,6 +179,7 @@ abbrev pub atomic_outcome : Amo → (rd address value : ℕ) → Option ℕ → 
 atomic_outcome op rd a v (Some old) m = exchange_outcome rd old (ram_stored 4 (number_of m) a (atomic_value op old v) m.shared) a m
 atomic_outcome op rd a v None m = Traps StoreAccessFault a
 
+-- an AMO at an address, whose alignment is looked at first
 abbrev pub atomic : Amo → (rd address value : ℕ) → Machine → Outcome
 atomic op rd a v m =
     if a % 4 == 0 then atomic_outcome op rd a v (ram_load 4 a m.shared.bytes) m else Traps StoreAddressMisaligned a
@@ -192,6 +198,7 @@ wrote_csr n =
     if n == 0xB00 then Mcycle else if n == 0xB80 then Mcycle else
     if n == 0xB02 then Minstret else if n == 0xB82 then Minstret else Other
 
+-- rd gets the old value, and the registers are left as written; one that is read-only is illegal
 abbrev pub csr_write_outcome : (word rd number old : ℕ) → Option CsrState → Machine → Outcome
 csr_write_outcome word rd n old (Some s) m =
     Done (record m { hart = record (with_result rd old m.hart) { csrs = s } }) [] (wrote_csr n)
@@ -206,6 +213,7 @@ abbrev pub csr_read_outcome : (word rd : ℕ) → Option ℕ → Machine → Out
 csr_read_outcome word rd (Some value) m = done_with rd value m
 csr_read_outcome word rd None m = Traps IllegalInstruction word
 
+-- an instruction that only reads the register of this number
 abbrev pub read_csr : (word rd number : ℕ) → Machine → Outcome
 read_csr word rd n m = csr_read_outcome word rd (csr_value n m) m
 
@@ -214,6 +222,7 @@ abbrev pub csr_change_outcome : (word rd number : ℕ) → CsrChange → (source
 csr_change_outcome word rd n c s (Some old) m = csr_write_outcome word rd n old (csr_write n (changed_value c old s) m.hart.csrs) m
 csr_change_outcome word rd n c s None m = Traps IllegalInstruction word
 
+-- an instruction that reads the register of this number and writes it
 abbrev pub change_csr : (word rd number : ℕ) → CsrChange → (source : ℕ) → Machine → Outcome
 change_csr word rd n c s m = csr_change_outcome word rd n c s (csr_value n m) m
 
@@ -223,5 +232,6 @@ writes change.Write f = true
 writes change.Set f = not (f == 0)
 writes change.Clear f = not (f == 0)
 
+-- a CSR instruction, which writes the register or only reads it
 abbrev pub access_csr : (word rd number : ℕ) → CsrChange → (field source : ℕ) → Machine → Outcome
 access_csr word rd n c field source m = if writes c field then change_csr word rd n c source m else read_csr word rd n m

@@ -25,13 +25,15 @@ pub record BusState : Type 0 where
   pub shared : Shared
   pub dirty : List Bool
 
--- a bus with other devices, and with other reservations
+-- a bus with other devices
 abbrev pub with_devices : DeviceState → BusState → BusState
 with_devices d b = record b { shared = record b.shared { devices = d } }
 
+-- a bus with other reservations
 abbrev pub with_reservations : List (Option ℕ) → BusState → BusState
 with_reservations words b = record b { shared = record b.shared { reservations = words } }
 
+-- a hart on a bus: what its step sees and changes
 abbrev pub machine : HartState → BusState → Machine
 machine h b = record { hart = h; shared = b.shared }
 
@@ -39,9 +41,10 @@ machine h b = record { hart = h; shared = b.shared }
 abbrev pub number_of : Machine → ℕ
 number_of m = m.hart.csrs.hart
 
--- what no step changes: the hart's number, the size of RAM, and for how many harts reservations and devices are
+-- the sizes that no step changes: that of RAM, and for how many harts reservations and devices are
 abbrev pub shared_shape : Shared → List ℕ
 shared_shape r = length r.bytes ∷ length r.reservations ∷ length r.devices.msip ∷ length r.devices.mtimecmp ∷ []
 
+-- what no step changes: the hart's number, and these sizes
 abbrev pub shape : Machine → List ℕ
 shape m = number_of m ∷ shared_shape m.shared

@@ -15,10 +15,11 @@ use Rattle.rvm_hart.specs.Machine.{Machine}
 use Rattle.rvm_hart.specs.Outcome.{Outcome, Done, Traps, reg, done_with, done}
 use Rattle.rvm_hart.specs.Kinds as kind
 
--- a byte or a half, sign-extended to a word
+-- a byte, sign-extended to a word
 abbrev pub sign_extended_byte : ℕ → ℕ
 sign_extended_byte v = modulo 32 (signed_value 8 v)
 
+-- a half, sign-extended to a word
 abbrev pub sign_extended_half : ℕ → ℕ
 sign_extended_half v = modulo 32 (signed_value 16 v)
 

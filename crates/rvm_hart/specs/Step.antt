@@ -18,15 +18,17 @@ use Rattle.rvm_hart.specs.Bus.{ram_load, mip_of}
 use Rattle.rvm_hart.specs.Outcome.{Outcome, Done, Traps}
 use Rattle.rvm_hart.specs.Rows.{effect}
 
--- the word at pc is decoded, and its row's effect is applied; a word without a row is illegal
+-- the effect of a word's row is applied; a word without a row is illegal
 abbrev pub decoded_outcome : (word : ℕ) → Option Ins → Machine → Outcome
 decoded_outcome w (Some i) m = effect w i m
 decoded_outcome w None m = Traps IllegalInstruction w
 
+-- the word at pc is decoded; where no RAM is there, the fetch traps
 abbrev pub fetched_outcome : Option ℕ → Machine → Outcome
 fetched_outcome (Some w) m = decoded_outcome w (decoded w) m
 fetched_outcome None m = Traps InstructionAccessFault m.hart.pc
 
+-- the outcome of the instruction at pc
 abbrev pub execute : Machine → Outcome
 execute m = fetched_outcome (ram_load 4 m.hart.pc m.shared.bytes) m
 
@@ -67,6 +69,7 @@ after_ticks t m =
       shared = record m.shared { devices = record m.shared.devices { mtime = counted t.mtime m.shared.devices.mtime } };
     }
 
+-- what a step answers whose instruction ended without a trap, by what it wrote
 abbrev pub step_answer : Written → Stepped
 step_answer Other = Retired
 step_answer Mcycle = Retired
@@ -84,6 +87,7 @@ pub record After : Type 0 where
 abbrev pub after_trap : Cause → (value : ℕ) → Stepped → Machine → After
 after_trap c v answer m = record { machine = after_ticks none_retired (in_handler c v m); pages = []; answer = answer }
 
+-- what a step leaves, by the outcome of its instruction
 abbrev pub after_outcome : Outcome → Machine → After
 after_outcome (Done after pages wrote) m =
     record { machine = after_ticks (ticks_of wrote) after; pages = pages; answer = step_answer wrote }
@@ -108,5 +112,6 @@ abbrev pub unless_halted : Option ℕ → Machine → After
 unless_halted (Some s) m = record { machine = m; pages = []; answer = Halted s }
 unless_halted None m = unless_pending (pending (mip_of (number_of m) m.shared.devices) m.hart.csrs) m
 
+-- one step of a hart; on a halted board it leaves all as it is
 abbrev pub step : Machine → After
 step m = unless_halted m.shared.devices.halted m

@@ -219,7 +219,7 @@ impl<M: Memory> Bus<M> {
         }
     }
 
-    /// Hart `hart` stores a byte of RAM. None, and nothing changes, where there is no RAM.
+    /// Hart `hart` stores a byte of RAM. False, and nothing changes, where there is no RAM.
     #[inline(always)]
     pub fn ram_store8(&mut self, hart: u32, address: u32, value: u8) -> bool
         requires { hart < length self.old.shared.reservations }

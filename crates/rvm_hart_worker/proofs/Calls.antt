@@ -13,7 +13,7 @@ use Rattle.rvm_message.specs.declared.event.HostEvent.TheVariants as event
 use Rattle.rvm_message.specs.declared.reply.HostReply.{HostReply}
 use Rattle.rvm_worker.specs.declared.end.WorkEnd.{WorkEnd}
 use Rattle.rvm_worker.specs.declared.end.WorkEnd.TheVariants.{LinkFault}
-use Rattle.rvm_worker.specs.declared.steps.Steps.{Steps}
+use Rattle.rvm_worker.specs.declared.steps.SliceSteps.{SliceSteps}
 use Rattle.rvm_worker.specs.Work.{IsCall, IsSliceCall, PlainCaller}
 use Rattle.rvm_hart_worker.specs.Calls.{AtA, AtB, Call, EndsDry, HasRun, Made, Written, IsRun, bytes_in, bytes_of, drained_by, event_in, found_nothing, in_a, in_b, is_of_run, turns_in}
 use Rattle.rvm_hart_worker.specs.Drains.{is_nothing, told_by}
@@ -198,7 +198,7 @@ of_run (r ∷ rs) steps =
     (of_run rs (λ k s there. steps (suc k) s there))
 
 -- a slice
-module _ (old new : PlainCaller) (turn harts made : ℕ) (last : Then) (steps : Steps) (last_is : last ≡ after_step steps.last)
+module _ (old new : PlainCaller) (turn harts made : ℕ) (last : Then) (steps : SliceSteps) (last_is : last ≡ after_step steps.last)
     (made_is : made ≡ turns_of last steps.count) (same : new.start ≡ old.start)
     (c : IsSliceCall old.seat turn harts old.receipts new.seat new.receipts steps) where
   of_step : (k : ℕ) (r : PlainReceipt) → slice_get c.receipts k ≡ Some r

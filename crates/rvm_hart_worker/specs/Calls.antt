@@ -22,11 +22,12 @@ pub data Call : Type 0 where
   AtA : PlainReceipt → Call
   AtB : PlainReceipt → Call
 
--- its receipt, if it was made at the first host, or at the second
+-- its receipt, if it was made at the first host
 abbrev pub in_a : Call → List PlainReceipt
 in_a (AtA r) = r ∷ []
 in_a (AtB r) = []
 
+-- its receipt, if it was made at the second host
 abbrev pub in_b : Call → List PlainReceipt
 in_b (AtA r) = []
 in_b (AtB r) = r ∷ []
@@ -41,6 +42,7 @@ abbrev pub drained_by : HostEvent → HostReply → List ℕ
 drained_by (event.Do (command.Board (asked.Drain n))) r = bytes_of (told_by r)
 drained_by e r = []
 
+-- the bytes that the reply to a call tells, if the call was a drain
 abbrev pub bytes_in : Call → List ℕ
 bytes_in (AtA r) = drained_by r.event r.reply
 bytes_in (AtB r) = drained_by r.event r.reply
@@ -66,6 +68,7 @@ abbrev pub found_nothing : HostEvent → HostReply → Bool
 found_nothing (event.Do (command.Board (asked.Drain (suc n)))) r = is_nothing (told_by r)
 found_nothing e r = false
 
+-- whether a call was a drain of some bytes that found nothing
 abbrev pub is_dry : Call → Bool
 is_dry (AtA r) = found_nothing r.event r.reply
 is_dry (AtB r) = found_nothing r.event r.reply
@@ -82,6 +85,7 @@ abbrev pub given : Option (List ℕ) → List ℕ
 given None = []
 given (Some bs) = bs
 
+-- whether no bytes are there
 abbrev pub has_none : Option (List ℕ) → Bool
 has_none None = true
 has_none (Some bs) = false
@@ -114,8 +118,8 @@ pub record HasRun (old new : PlainCaller × PlainCaller) (before after : Option 
   pub written : Written old new before after (end ≢ Err LinkFault) turns (is_ok end)
 
 -- receipts of calls at two hosts, none but steps and drains, in an order in which the steps are the turns of a run, and
--- of which a writer was given the bytes that drains told, unless it failed; where the run came to its end, the last call
--- is a drain that found nothing
+-- of which a writer was given the bytes that drains told, unless it failed; where the run came to its end, the last
+-- call is a drain that found nothing
 pub record IsRun (at_a at_b : List PlainReceipt) (before after : Option (List ℕ)) (works : Type 0) (harts steps : ℕ)
     (end : Result TurnsEnd WorkEnd) : Type 0 where
   pub calls : List Call

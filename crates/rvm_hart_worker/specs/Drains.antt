@@ -12,11 +12,6 @@ told_by (reply.Board (answer.Bytes [])) = drained.Nothing
 told_by (reply.Board (answer.Bytes (b ∷ bs))) = drained.Bytes (b ∷ bs)
 told_by r = drained.Elsewhere
 
--- whether the guest was elsewhere
-abbrev pub is_refused : Drained → Bool
-is_refused drained.Elsewhere = true
-is_refused d = false
-
 -- whether the guest was there, and had sent nothing more
 abbrev pub is_nothing : Drained → Bool
 is_nothing drained.Nothing = true

@@ -38,9 +38,9 @@ pub struct HartsWorked<A: Seating, B: Seating> {
 /// harts takes a step. What the guest sent is written after each 64 turns, when the board is halted and
 /// at the end. A call that one host refuses, since the guest is not there or paused there, is made at
 /// the other; while both refuse it, it is tried again each millisecond. Each byte that a drain takes is
-/// written once, in order, unless the writer fails, which ends the worker with `LinkFault`. It makes no
-/// event but steps and drains of some bytes. Where the turns come to their end, the last call is a drain
-/// that finds nothing.
+/// written once, in order, unless the writer fails, which ends the worker with `LinkFault`. It asks for
+/// nothing but steps, and drains of at least one byte. Where the turns come to their end, the last call is a
+/// drain that finds nothing.
 pub fn hart_worker<
     A: Seating,
     B: Seating,
@@ -163,8 +163,5 @@ fn write<W: Write>(writer: &mut W, bytes: &[u8]) -> Result<(), WorkEnd>
     ensures written { OnOk result (Appends (W.contents writer.old) (W.contents writer.new) bytes.now) }
     ensures fault { IfErr result (λ e. e ≡ WorkEnd.LinkFault) }
 {
-    match writer.write_all(bytes) {
-        Ok(()) => Ok(()),
-        Err(_) => Err(WorkEnd::LinkFault),
-    }
+    writer.write_all(bytes).map_err(|_| WorkEnd::LinkFault)
 }

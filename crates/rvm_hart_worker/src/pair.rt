@@ -3,7 +3,7 @@
 ghost use Rattle.std.specs.Prelude.{◌≡◌, ◌≢◌, ◌≤◌, false, [], IfOk, OnErr};
 ghost use Rattle.rvm_hart_worker.specs.Calls.{Made, bytes_of, given, has_none};
 ghost use Rattle.rvm_hart_worker.specs.declared.slices.Then.TheVariants.{Elsewhere};
-ghost use Rattle.rvm_hart_worker.specs.Drains.{is_nothing, is_refused, told_by};
+ghost use Rattle.rvm_hart_worker.specs.Drains.{is_nothing, told_by};
 ghost use Rattle.rvm_hart_worker.specs.Turns.{after_turns, turns};
 
 use crate::slices::{Slice, Then, made_by};
@@ -17,8 +17,11 @@ use std::sync::Wait;
 use std::thread;
 use std::time::{Clock, Duration};
 
-/// How many turns in a row may be refused by both hosts.
-const REFUSED_TURNS: u32 = 30000;
+/// How often a turn or a drain that both hosts refuse is tried.
+const TRIES: u32 = 30000;
+
+/// How many milliseconds lie between two tries.
+const PAUSE: u64 = 1;
 
 /// Two hosts, at one of which the guest is.
 #[derive(Drop)]
@@ -163,12 +166,12 @@ impl<A: Seating, B: Seating> Pair<A, B> {
             [] (turns harts turn s.made (after_turns s.then)) false) }
         ensures err { OnErr result (Made (self.old.at_a, self.old.at_b) (self.new.at_a, self.new.at_b) [] [] false) }
     {
-        for _try in 0..REFUSED_TURNS {
+        for _try in 0..TRIES {
             let slice = self.slice_at_either(rt, alloc, hosts, watch, turn, harts, n)?;
             if slice.made > 0 {
                 return Ok(slice);
             }
-            thread::sleep(rt, Duration::from_millis(1));
+            thread::sleep(rt, Duration::from_millis(PAUSE));
         }
         Err(WorkEnd::GuestStopped)
     }
@@ -210,7 +213,7 @@ impl<A: Seating, B: Seating> Pair<A, B> {
         watch.before()?;
         let drained = self.drain(rt, alloc, hosts)?;
         watch.after();
-        if is_refused(&drained) {
+        if matches!(drained, Drained::Elsewhere) {
             self.is_at_a = !self.is_at_a;
         }
         Ok(drained)
@@ -229,11 +232,10 @@ impl<A: Seating, B: Seating> Pair<A, B> {
             (self.new.at_a, self.new.at_b) (bytes_of d) [] (is_nothing d)) }
         ensures err { OnErr result (Made (self.old.at_a, self.old.at_b) (self.new.at_a, self.new.at_b) [] [] false) }
     {
-        let drained = self.drain_at_gate(rt, alloc, hosts, watch)?;
-        if !is_refused(&drained) {
-            return Ok(drained);
+        match self.drain_at_gate(rt, alloc, hosts, watch)? {
+            Drained::Elsewhere => self.drain_at_gate(rt, alloc, hosts, watch),
+            drained => Ok(drained),
         }
-        self.drain_at_gate(rt, alloc, hosts, watch)
     }
 
     /// The next bytes that the guest sent, if there are any. While both hosts refuse the drain it is
@@ -250,23 +252,13 @@ impl<A: Seating, B: Seating> Pair<A, B> {
             (self.new.at_a, self.new.at_b) (given o) [] (has_none o)) }
         ensures err { OnErr result (Made (self.old.at_a, self.old.at_b) (self.new.at_a, self.new.at_b) [] [] false) }
     {
-        for _try in 0..REFUSED_TURNS {
+        for _try in 0..TRIES {
             match self.drain_at_either(rt, alloc, hosts, watch)? {
                 Drained::Bytes(bytes) => return Ok(Some(bytes)),
                 Drained::Nothing => return Ok(None),
-                Drained::Elsewhere => thread::sleep(rt, Duration::from_millis(1)),
+                Drained::Elsewhere => thread::sleep(rt, Duration::from_millis(PAUSE)),
             }
         }
         Err(WorkEnd::GuestStopped)
-    }
-}
-
-/// Whether the guest was elsewhere.
-fn is_refused(drained: &Drained) -> bool
-    ensures { result ≡ is_refused drained.now }
-{
-    match drained {
-        Drained::Elsewhere => true,
-        _ => false,
     }
 }

@@ -1,12 +1,12 @@
 //! Slices of turns.
 
 ghost use Rattle.std.specs.Prelude.{◌≡◌, ◌≢◌, ◌≤◌, ◌<◌, ◌+◌, ◌-◌, ◌%◌, min};
-ghost use Rattle.rvm_hart_worker.specs.Turns.{after_answer, after_step, is_elsewhere, turns_of};
+ghost use Rattle.rvm_hart_worker.specs.Turns.{after_answer, after_step, turns_of};
 ghost use Rattle.rvm_hart_worker.specs.declared.slices.Then.TheVariants.{Elsewhere};
 
 use rvm_debug::{BoardReply, DRAIN_EVERY};
 use rvm_message::{HostRefusal, HostReply};
-use rvm_worker::Steps;
+use rvm_worker::SliceSteps;
 
 /// What comes after a turn.
 #[derive(Clone, Copy, Debug, PartialEq, Eq)]
@@ -46,40 +46,20 @@ fn after_answer(answer: &BoardReply) -> Then
     }
 }
 
-/// Whether the guest is not here, or paused here.
-fn is_elsewhere(why: HostRefusal) -> bool
-    ensures { result ≡ is_elsewhere why }
-{
-    match why {
-        HostRefusal::NotHere | HostRefusal::Paused => true,
-        _ => false,
-    }
-}
-
-/// What comes after a refused step.
-fn after_refused(why: HostRefusal) -> Then
-    ensures { result ≡ after_step (HostReply.Refused why) }
-{
-    if is_elsewhere(why) {
-        Then::Elsewhere
-    } else {
-        Then::GoOn
-    }
-}
-
-/// What comes after the reply to a step.
+/// What comes after the reply to a step. One that is refused since the guest is not here, or paused here, is
+/// the other host's.
 pub(crate) fn after_step(reply: &HostReply) -> Then
     ensures { result ≡ after_step reply.now }
 {
     match reply {
         HostReply::Board(answer) => after_answer(answer),
-        HostReply::Refused(why) => after_refused(*why),
+        HostReply::Refused(HostRefusal::NotHere | HostRefusal::Paused) => Then::Elsewhere,
         _ => Then::GoOn,
     }
 }
 
 /// What a slice of these steps did. A last step that the other host is to make was no turn.
-pub(crate) fn made_by(steps: &Steps) -> Slice
+pub(crate) fn made_by(steps: &SliceSteps) -> Slice
     ensures then { result.then ≡ after_step steps.now.last }
     ensures made { result.made ≡ turns_of result.then steps.now.count }
     ensures within { result.made ≤ steps.now.count }

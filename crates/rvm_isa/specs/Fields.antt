@@ -7,16 +7,21 @@ use Rattle.rvm_word.specs.Word.{signed_value, modulo}
 abbrev pub part : (low width : ℕ) → ℕ → ℕ
 part low width w = w / 2 ^ low % 2 ^ width
 
--- the fixed parts of a word, by which its row is found: bits 6 to 0, 14 to 12, 31 to 25, 31 to 27
+-- the fixed parts of a word, by which its row is found
+
+-- the opcode, bits 6 to 0
 abbrev pub opcode : ℕ → ℕ
 opcode w = w % 2 ^ 7
 
+-- the function field of three bits, 14 to 12
 abbrev pub funct3 : ℕ → ℕ
 funct3 w = part 12 3 w
 
+-- the function field of seven bits, 31 to 25
 abbrev pub funct7 : ℕ → ℕ
 funct7 w = part 25 7 w
 
+-- the function field of an atomic instruction, bits 31 to 27
 abbrev pub funct5 : ℕ → ℕ
 funct5 w = part 27 5 w
 
@@ -68,15 +73,19 @@ j_bits w = 2 * part 21 10 w + 2 ^ 11 * part 20 1 w + 2 ^ 12 * part 12 8 w + 2 ^ 
 
 -- the immediates themselves: the topmost bit is the sign
 
+-- I: the immediate, a signed number of 12 bits
 abbrev pub i_imm : ℕ → ℤ
 i_imm w = signed_value 12 (i_bits w)
 
+-- S: the immediate, a signed number of 12 bits
 abbrev pub s_imm : ℕ → ℤ
 s_imm w = signed_value 12 (s_bits w)
 
+-- B: a branch's offset, an even signed number of 13 bits
 abbrev pub b_offset : ℕ → ℤ
 b_offset w = signed_value 13 (b_bits w)
 
+-- J: a jump's offset, an even signed number of 21 bits
 abbrev pub j_offset : ℕ → ℤ
 j_offset w = signed_value 21 (j_bits w)
 

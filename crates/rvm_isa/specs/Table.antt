@@ -52,6 +52,7 @@ pub record Row : Type 0 where
   pub bits : ℕ
   pub shape : Shape
 
+-- the row with a mask, the bits under it, and a shape
 abbrev pub row : ℕ → ℕ → Shape → Row
 row mask bits shape = record { mask = mask; bits = bits; shape = shape }
 

@@ -28,29 +28,32 @@ i_word bits rd rs1 imm = r_word bits rd rs1 (modulo 12 imm)
 abbrev u_word : (bits rd imm : ℕ) → ℕ
 u_word bits rd imm = bits + 2 ^ 7 * rd + 2 ^ 12 * imm
 
--- J: rd and a jump's offset, first by its bits
+-- J: rd and a jump's offset, by its bits
 abbrev j_bits_word : (bits rd o : ℕ) → ℕ
 j_bits_word bits rd o =
     bits + 2 ^ 7 * rd + 2 ^ 12 * (o / 2 ^ 12 % 2 ^ 8) + 2 ^ 20 * (o / 2 ^ 11 % 2)
     + 2 ^ 21 * (o / 2 % 2 ^ 10) + 2 ^ 31 * (o / 2 ^ 20)
 
+-- J: rd and a jump's signed offset
 abbrev j_word : (bits rd : ℕ) → ℤ → ℕ
 j_word bits rd offset = j_bits_word bits rd (modulo 21 offset)
 
--- B: two sources and a branch's offset
+-- B: two sources and a branch's offset, by its bits
 abbrev b_bits_word : (bits rs1 rs2 o : ℕ) → ℕ
 b_bits_word bits rs1 rs2 o =
     bits + 2 ^ 7 * (o / 2 ^ 11 % 2) + 2 ^ 8 * (o / 2 % 2 ^ 4) + 2 ^ 15 * rs1 + 2 ^ 20 * rs2
     + 2 ^ 25 * (o / 2 ^ 5 % 2 ^ 6) + 2 ^ 31 * (o / 2 ^ 12)
 
+-- B: two sources and a branch's signed offset
 abbrev b_word : (bits rs1 rs2 : ℕ) → ℤ → ℕ
 b_word bits rs1 rs2 offset = b_bits_word bits rs1 rs2 (modulo 13 offset)
 
--- S: two sources and a signed immediate
+-- S: two sources and an immediate, by its bits
 abbrev s_bits_word : (bits rs1 rs2 imm : ℕ) → ℕ
 s_bits_word bits rs1 rs2 imm =
     bits + 2 ^ 7 * (imm % 2 ^ 5) + 2 ^ 15 * rs1 + 2 ^ 20 * rs2 + 2 ^ 25 * (imm / 2 ^ 5)
 
+-- S: two sources and a signed immediate
 abbrev s_word : (bits rs1 rs2 : ℕ) → ℤ → ℕ
 s_word bits rs1 rs2 imm = s_bits_word bits rs1 rs2 (modulo 12 imm)
 

@@ -1,5 +1,5 @@
 -- Worked values.
-use Rattle.std.proofs.Common.{◌≡◌, [], ◌∷◌, ◌++◌, refl}
+use Rattle.std.proofs.Common.{◌≡◌, [], ◌∷◌, refl}
 use Rattle.rvm_frame.specs.Pages.{zeros}
 use Rattle.rvm_journal.specs.Keeping.{told}
 

@@ -10,6 +10,7 @@ pub record PlainEntry : Type 0 where
   pub reply : HostReply
   pub frame : Option (List ℕ)
 
+-- the exchange of an entry, without the frame
 abbrev pub exchange_of : PlainEntry → PlainExchange
 exchange_of x = record { event = x.event; reply = x.reply }
 

@@ -7,10 +7,12 @@ use Rattle.rvm_journal.specs.declared.error.SliceError.TheVariants as slice_erro
 use Rattle.rvm_refusal.specs.declared.refusal.Refusal.{Refusal}
 use Rattle.rvm_refusal.specs.declared.refusal.Refusal.TheVariants.{OutOfMemory, OutOfRange, RecorderFull}
 
+-- the number of each refusal of an event, or of room for more
 abbrev pub record_refusal : RecordError → Refusal
 record_refusal record_error.OutOfMemory = OutOfMemory
 record_refusal (record_error.RecorderFull n) = RecorderFull
 
+-- the number of each refusal of a slice
 abbrev pub slice_refusal : SliceError → Refusal
 slice_refusal slice_error.OutOfRange = OutOfRange
 slice_refusal slice_error.OutOfMemory = OutOfMemory
@@ -30,7 +32,8 @@ IsReserveError (record_error.RecorderFull c) count n capacity = (c ≡ capacity)
 abbrev pub IsSized : (harts n : ℕ) → Type 0
 IsSized harts n = (1 ≤ harts) × (harts ≤ 8) × (1 ≤ n) × (n ≤ 64)
 
--- a slice is out of range exactly where it has not 1 to 64 steps of 1 to 8 harts, else full exactly where no place is free
+-- a slice is out of range exactly where it has not 1 to 64 steps of 1 to 8 harts, else full exactly where no place is
+-- free
 abbrev pub IsSliceError : SliceError → (harts n count capacity : ℕ) → Type 0
 IsSliceError slice_error.OutOfRange harts n count capacity = IsSized harts n → ⊥
 IsSliceError slice_error.OutOfMemory harts n count capacity = IsSized harts n × (count < capacity)

@@ -18,4 +18,4 @@ pub use error::{RecordError, SliceError};
 pub use frame_bytes::FrameBytes;
 pub use journal::Journal;
 pub use recorded::{MAX_CAPACITY, Recorded};
-pub use slice::{hart_of_turn, is_slice_in_range};
+pub use slice::{MAX_SLICE, hart_of_turn, is_slice_in_range};

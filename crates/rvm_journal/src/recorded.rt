@@ -1,10 +1,9 @@
 //! A host with its journal.
 
 ghost use Rattle.std.specs.Prelude.{◌≡◌, ◌⊎◌, ◌↔◌, ◌+◌, ◌-◌, ◌∷◌, ◌<◌, ◌≤◌, [], true, IfOk, IfErr, IsErr, IsOk, OnErr, OnOk, Some, vec_capacity, vec_len};
-ghost use Rattle.rvm_core.specs.Hosts.{host_of};
 ghost use Rattle.rvm_journal.specs.Entries.{silent};
 ghost use Rattle.rvm_journal.specs.Errors.{IsRecordError, IsReserveError};
-ghost use Rattle.rvm_journal.specs.History.{IsRecorded, bytes_of, count_of, host_now, is_board, with_entries, with_room};
+ghost use Rattle.rvm_journal.specs.History.{IsRecorded, bytes_of, count_of, is_board, with_entries, with_room};
 ghost use Rattle.rvm_journal.specs.Keeping.{CanBeKept};
 ghost use Rattle.rvm_message.specs.Exchanges.{exchange, step_of_hart};
 ghost use Rattle.rvm_message.specs.Steps.{reply_to_step};
@@ -88,23 +87,6 @@ impl<M: PagedMemory + Drop> Recorded<M> {
         ensures { result ≡ self.now.capacity }
     {
         self.capacity
-    }
-
-    /// The host, where its journal leads, with the numbers of the host that opened it, and the journal.
-    pub fn into_parts(self) -> (Host<M>, Journal<M>)
-        ensures host { host_of result.0 ≡ host_now self }
-        ensures numbers { result.0 ≡ record self.journal.opening {
-          mode = result.0.mode;
-          partner = result.0.partner;
-        } }
-        ensures journal { result.1 ≡ self.journal }
-    {
-        let Recorded {
-            host,
-            journal,
-            capacity: _,
-        } = self;
-        (host, journal)
     }
 
     /// Applies one event, and keeps it with its reply and the bytes of its frame: its place in the

@@ -14,7 +14,7 @@ use rvm_message::StepReply;
 use std::alloc::Global;
 
 /// The most steps of a slice.
-const MOST: u32 = 64;
+pub const MAX_SLICE: u32 = 64;
 
 impl<M: PagedMemory + Drop> Recorded<M> {
     /// Records the steps of harts in turn, from a turn on, as if each were recorded by itself: at most n
@@ -45,14 +45,14 @@ impl<M: PagedMemory + Drop> Recorded<M> {
             return Err(SliceError::RecorderFull(capacity));
         }
         let most = n.min(capacity - place);
-        let replies = self.make_room(alloc, most)?;
+        let replies = self.room_for_steps(alloc, most)?;
         let replies = self.record_steps(turn, harts, most, replies);
         Ok((place, replies))
     }
 
     /// Makes room for so many steps: the vector that takes their replies. Where a growth is refused
     /// nothing has changed.
-    fn make_room(&mut self, alloc: Global, most: u32) -> Result<Vec<StepReply>, SliceError>
+    fn room_for_steps(&mut self, alloc: Global, most: u32) -> Result<Vec<StepReply>, SliceError>
         requires free { count_of self.old + most ≤ self.old.capacity }
         ensures room { OnOk result (self.new ≡ with_room self.old most) }
         ensures replies { IfOk result (λ r. (r.items ≡ []) × (most ≤ vec_capacity r)) }
@@ -98,7 +98,7 @@ impl<M: PagedMemory + Drop> Recorded<M> {
 pub fn is_slice_in_range(harts: u32, n: u32) -> bool
     ensures { IsTrue result ↔ IsSized harts n }
 {
-    1 <= harts && harts <= MAX_HARTS && 1 <= n && n <= MOST
+    1 <= harts && harts <= MAX_HARTS && 1 <= n && n <= MAX_SLICE
 }
 
 /// The hart whose turn it is so many turns behind a turn, where the harts step in turn.

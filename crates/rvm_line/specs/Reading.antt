@@ -8,8 +8,8 @@ use Rattle.rvm_text.specs.Tokens.{is_name}
 use Rattle.rvm_line.specs.declared.faults.Fault.{Fault}
 use Rattle.rvm_line.specs.declared.faults.Fault.TheVariants.{BadToken}
 
--- what follows of a value, unless there is a fault
 infixl 10 ◌>>=◌
+-- what follows of a value, unless there is a fault
 abbrev pub ◌>>=◌ : {A B : Type 0} → Result A Fault → (A → Result B Fault) → Result B Fault
 (Ok x) >>= f = f x
 (Err e) >>= f = Err e

@@ -58,12 +58,13 @@ abbrev pub half_of : Half → ℕ → ℕ
 half_of High v = high v
 half_of Low v = low v
 
--- the half whose name stands between '%' and '(', and what is behind the '('
+-- the half with a name
 abbrev pub half_named : List ℕ → Option Half
 half_named w =
     if bytes_eq w (codes "hi") then Some High
     else (if bytes_eq w (codes "lo") then Some Low else None)
 
+-- the half whose name stands between '%' and '(', and what is behind the '('
 abbrev pub half_at : List Lexeme → Option (Half × List Lexeme)
 half_at (Mark m ∷ Word w ∷ Mark p ∷ ts) =
     if m == 37 && p == 40 then option_map (λ h. (h, ts)) (half_named w) else None

@@ -13,7 +13,7 @@ use rvm_spelling::has_spelling;
 use std::alloc::Global;
 use std::sync::{Mutex, Wait};
 
-/// A link, until it fails or is closed.
+/// What lies under the lock of an `Outgoing`: a link, until it fails or is closed.
 #[derive(Drop)]
 struct SendingEnd<K: Link + Drop> {
     link: Option<K>,
@@ -70,6 +70,7 @@ impl<K: Link + Drop> Outgoing<K> {
     pub fn open(alloc: Global, link: K, version: u32) -> Result<Outgoing<K>, SendError>
         ensures { IfOk result (λ o. o.version ≡ version) }
     {
+        // Hello is written without the hosts that it goes between.
         let hello = Addressed {
             from: 0,
             to: 1,

@@ -10,9 +10,11 @@ use Rattle.rvm_message.specs.declared.reply.HostReply.{HostReply}
 use Rattle.rvm_message.specs.Frames.{frame_made}
 use Rattle.rvm_message.specs.Replies.{reply_of}
 
+-- a mode of the law, for the guest `board`
 abbrev pub BoardMode : Type 0
 BoardMode = Mode Guest (List ℕ)
 
+-- an outcome of the law, for the guest `board`
 abbrev pub BoardOutcome : Type 0
 BoardOutcome = Outcome Guest (List ℕ) BoardReply (List ℕ)
 

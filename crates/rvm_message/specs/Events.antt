@@ -9,9 +9,11 @@ use Rattle.rvm_message.specs.declared.event.HostEvent.{HostEvent}
 use Rattle.rvm_message.specs.declared.event.HostEvent.TheVariants as event
 use Rattle.rvm_message.specs.Frames.{frame_heard}
 
+-- an event of a host in the law, for the guest `board`
 abbrev pub BoardHostEvent : Type 0
 BoardHostEvent = protocol.HostEvent (List ℕ) BoardEvent (List ℕ)
 
+-- a command as the law has it
 abbrev pub command_of : Command → protocol.Command BoardEvent
 command_of (command.Board e) = protocol.Board e
 command_of (command.Begin to p) = protocol.Begin to (policy_of p)
@@ -19,6 +21,7 @@ command_of command.Copy = protocol.Copy
 command_of command.Resend = protocol.Resend
 command_of command.Abort = protocol.AbortMove
 
+-- an event of a host as the law has it
 abbrev pub event_of : HostEvent → BoardHostEvent
 event_of (event.Do c) = protocol.Do (command_of c)
 event_of (event.Came from f) = protocol.Came from (frame_heard f)

@@ -15,10 +15,12 @@ use Rattle.rvm_message.specs.declared.reply.HostReply.TheVariants.{Copied, Store
 use Rattle.rvm_message.specs.declared.step.StepReply.{StepReply}
 use Rattle.rvm_message.specs.Steps.{reply_to_step}
 
+-- an exchange as contracts see it
 pub record PlainExchange : Type 0 where
   pub event : HostEvent
   pub reply : HostReply
 
+-- of an event and the reply to it
 abbrev pub exchange : HostEvent → HostReply → PlainExchange
 exchange e r = record { event = e; reply = r }
 

@@ -6,6 +6,7 @@ use Rattle.rvm_frame.specs.declared.frame.Frame.{Frame}
 use Rattle.rvm_frame.specs.declared.frame.Frame.TheVariants as frame
 use Rattle.rvm_frame.specs.Kinds.{move_of}
 
+-- a frame of the law, whose pages and states are lists of bytes
 abbrev pub BoardFrame : Type 0
 BoardFrame = protocol.Frame (List ℕ) (List ℕ)
 
@@ -49,9 +50,11 @@ abbrev pub frame_made : Option Frame → Option BoardFrame
 frame_made None = None
 frame_made (Some f) = Some (frame_of f)
 
+-- a frame with the hosts that it goes between
 abbrev pub addressed_of : Addressed → protocol.Addressed (List ℕ) (List ℕ)
 addressed_of a = record { from = a.from; to = a.to; frame = frame_of a.frame }
 
+-- a frame that was made, if any, with the hosts that it goes between
 abbrev pub addressed_made : Option Addressed → Option (protocol.Addressed (List ℕ) (List ℕ))
 addressed_made None = None
 addressed_made (Some a) = Some (addressed_of a)

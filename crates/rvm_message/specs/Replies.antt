@@ -8,6 +8,7 @@ use Rattle.rvm_message.specs.declared.reply.HostRefusal.TheVariants as refusal
 use Rattle.rvm_message.specs.declared.reply.HostReply.{HostReply}
 use Rattle.rvm_message.specs.declared.reply.HostReply.TheVariants as reply
 
+-- a refusal as the law has it
 abbrev pub refusal_of : HostRefusal → protocol.Refusal
 refusal_of refusal.BadSize = protocol.BadSize
 refusal_of refusal.BadState = protocol.BadState
@@ -21,6 +22,7 @@ refusal_of refusal.Ignored = protocol.Ignored
 refusal_of refusal.NoFrame = protocol.NoFrame
 refusal_of refusal.BadHost = protocol.BadHost
 
+-- a reply as the law has it
 abbrev pub reply_of : HostReply → protocol.Reply BoardReply
 reply_of (reply.Board answer) = protocol.Answered answer
 reply_of (reply.Begun n) = protocol.Begun n

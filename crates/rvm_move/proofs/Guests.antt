@@ -20,10 +20,10 @@ use Rattle.rvm_worker.specs.Work.{IsWork}
 -- WHAT IS IN A LIST
 
 module _ {X : Type 0} where
-  head_in : (x : X) (xs : List X) → Contains (x ∷ xs) x
+  pub head_in : (x : X) (xs : List X) → Contains (x ∷ xs) x
   head_in x xs = (zero, omega arith, refl)
 
-  tail_in : (y x : X) (xs : List X) → Contains xs x → Contains (y ∷ xs) x
+  pub tail_in : (y x : X) (xs : List X) → Contains xs x → Contains (y ∷ xs) x
   tail_in y x xs h = let lt = h.1 in (suc h.0, omega arith, h.2)
 
   in_cases : (y x : X) (xs : List X) → Contains (y ∷ xs) x → (y ≡ x) ⊎ Contains xs x

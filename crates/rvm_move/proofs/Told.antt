@@ -2,7 +2,6 @@
 use Rattle.std.proofs.Common.{◌≡◌, ◌∙◌, ℕ, true, false, List, [], ◌∷◌, ◌++◌, append_assoc, None, Option, Result, ap, inl, inr, refl, subst, sym}
 use Rattle.std.proofs.lemmas.List.Elements.{All-append, All-cons, All-head, All-nil, All-tail, All-weaker}
 use Rattle.std.specs.List.{All, flat_map}
-use Rattle.std.specs.Prelude.{◌⊎◌}
 use Rattle.rvm_cell.specs.declared.closing.CloseKind.{CloseKind}
 use Rattle.rvm_cell.specs.Receipts.{PlainReceipt}
 use Rattle.rvm_cell.specs.Seats.{PlainSeat}
@@ -15,7 +14,7 @@ use Rattle.rvm_message.specs.declared.event.HostEvent.{HostEvent}
 use Rattle.rvm_message.specs.declared.event.HostEvent.TheVariants as event
 use Rattle.rvm_move.proofs.Guests.{AreNoneOfGuest, all_asked, guest_of_one}
 use Rattle.rvm_move.specs.Hosts.{AreAll, AreCarried, IsAskedOfFirst, IsAskedOfSecond, IsEnd}
-use Rattle.rvm_move.specs.Runs.{AreOfOne, IsRunOf, called_of_guest, of_guest}
+use Rattle.rvm_move.specs.Runs.{AreOfOne, IsRunOf, called_of_guest}
 use Rattle.rvm_precopy.specs.declared.policy.Policy.{Policy}
 use Rattle.rvm_worker.specs.Work.{AreOfCopier, AreOfReceiver, IsOfCopier, IsOfReceiver, IsWork}
 use Rattle.rvm_worker.specs.declared.end.WorkEnd.{WorkEnd}
@@ -80,9 +79,9 @@ run_at_b (AtB r ∷ cs) all = All-cons IsOfRun r (flat_map in_b cs) (All-head Is
 
 -- WHAT WAS ASKED OF EACH HOST
 
-module _ (policy : Policy) (copier heard_a heard_b : List PlainReceipt) (carried : AreCarried policy copier heard_a heard_b)
-    (at_a at_b : List PlainReceipt) (before after : Option (List ℕ)) (works : Type 0) (harts steps : ℕ)
-    (end : Result TurnsEnd WorkEnd) (run : IsRun at_a at_b before after works harts steps end) where
+module _ (policy : Policy) (copied : WorkEnd) (copier heard_a heard_b : List PlainReceipt)
+    (carried : AreCarried policy copied copier heard_a heard_b) (at_a at_b : List PlainReceipt)
+    (before after : Option (List ℕ)) (works : Type 0) (harts steps : ℕ) (end : Result TurnsEnd WorkEnd) (run : IsRun at_a at_b before after works harts steps end) where
   pub asked_of_first : (fault : Option CloseKind) (entries : List PlainEntry)
       → (fault ≡ None → AreAll entries (at_a ++ (copier ++ heard_a))) → IsEnd (IsAskedOfFirst policy) fault entries
   asked_of_first fault entries told closed =
@@ -91,7 +90,7 @@ module _ (policy : Policy) (copier heard_a heard_b : List PlainReceipt) (carried
       all_asked (IsAskedOfFirst policy) entries (at_a ++ (copier ++ heard_a)) (told closed)
       (All-append P at_a (copier ++ heard_a) (All-weaker IsOfRun P (λ r is. inl is) at_a turns)
       (All-append P copier heard_a
-      (All-weaker (λ r. IsOfCopier 1 policy r.event) P (λ r is. inr (inl is)) copier carried.of_copier)
+      (All-weaker (λ r. IsOfCopier 1 policy r.event) P (λ r is. inr (inl is)) copier carried.of_copier.asked)
       (All-weaker (λ r. IsOfReceiver 1 r.event) P (λ r is. inr (inr is)) heard_a carried.of_first)))
 
   pub asked_of_second : (fault : Option CloseKind) (entries : List PlainEntry)
@@ -108,7 +107,7 @@ module _ (policy : Policy) (copier heard_a heard_b : List PlainReceipt) (carried
       → AreOfOne at_a → AreOfOne at_b → IsRunOf first second before after harts steps end
   run_of first second w told_a told_b one_a one_b =
       let moved_a = All-append (λ r. is_board r.event ≡ false) copier heard_a
-      (none_of_copier 1 policy copier carried.of_copier) (none_of_receiver 1 heard_a carried.of_first) in
+      (none_of_copier 1 policy copier carried.of_copier.asked) (none_of_receiver 1 heard_a carried.of_first) in
       let a = guest_of_one first at_a (copier ++ heard_a) told_a one_a moved_a in
       let b = guest_of_one second at_b heard_b told_b one_b (none_of_receiver 0 heard_b carried.of_second) in
       record {

@@ -1,3 +1,3 @@
-pub mod Hosts
 pub mod Ends
+pub mod Hosts
 pub mod Runs

@@ -11,8 +11,8 @@ use rvm_worker::WorkEnd;
 pub struct Ends {
     pub harts: Result<TurnsEnd, WorkEnd>,
     pub copier: WorkEnd,
-    pub at_a: WorkEnd,
-    pub at_b: WorkEnd,
+    pub receiver_a: WorkEnd,
+    pub receiver_b: WorkEnd,
 }
 
 impl Ends {
@@ -28,11 +28,11 @@ impl Ends {
         if fails_copying(self.copier) {
             return Some(self.copier);
         }
-        if fails_hearing(self.at_a) {
-            return Some(self.at_a);
+        if fails_hearing(self.receiver_a) {
+            return Some(self.receiver_a);
         }
-        if fails_hearing(self.at_b) {
-            return Some(self.at_b);
+        if fails_hearing(self.receiver_b) {
+            return Some(self.receiver_b);
         }
         None
     }

@@ -18,7 +18,7 @@ pub struct Links<K: Link + Drop> {
     pub receiving: K,
 }
 
-/// A host behind a move, and why it was not closed, if it was not.
+/// A host after a move, and why it was not closed, if it was not.
 #[derive(Drop)]
 pub struct HostEnd<M: PagedMemory + Drop> {
     pub recorded: Recorded<M>,
@@ -30,13 +30,6 @@ pub struct HostEnd<M: PagedMemory + Drop> {
 pub(crate) struct OpenHost<L: Seating, M: PagedMemory + Drop, K: Link + Drop> {
     pub(crate) host: SharedHost<L, M>,
     pub(crate) outgoing: Outgoing<K>,
-}
-
-/// Both hosts of a move.
-#[derive(Drop)]
-pub(crate) struct OpenHosts<'h, L: Seating, N: Seating, M: PagedMemory + Drop, K: Link + Drop> {
-    pub(crate) a: &'h OpenHost<L, M, K>,
-    pub(crate) b: &'h OpenHost<N, M, K>,
 }
 
 /// Shares a host and opens its stream: the host and its seats.

@@ -2,12 +2,12 @@
 
 ghost use Rattle.std.specs.Prelude.{◌≡◌, ◌≢◌, ◌++◌, [], None, Err, vec_len, IfOk};
 ghost use Rattle.rvm_hart_worker.specs.Calls.{IsRun};
-ghost use Rattle.rvm_move.specs.Hosts.{AreAll, AreCarried, IsAskedOfFirst, IsAskedOfSecond, IsEnd};
+ghost use Rattle.rvm_move.specs.Hosts.{AreAll, AreCarried, IsAskedOfSecond, IsEnd, IsFirstEnd};
 ghost use Rattle.rvm_move.specs.Runs.{AreOfOne, IsEndRun};
 ghost use Rattle.rvm_worker.specs.declared.end.WorkEnd.TheVariants.{LinkFault};
 
 use crate::ends::Ends;
-use crate::hosts::{HostEnd, Links, OpenHost, OpenHosts, Returned, close_host, open_host};
+use crate::hosts::{HostEnd, Links, OpenHost, Returned, close_host, open_host};
 use crate::plan::Plan;
 use crate::threads::{Carried, Taken, TakenAtA, TakenAtB, work};
 use rvm_cell::{Seat, Seating};
@@ -24,12 +24,12 @@ use std::thread::Threads;
 use std::time::Clock;
 
 /// How many workers have a seat at host A.
-const SEATS_AT_A: u32 = 3;
+pub const SEATS_AT_A: u32 = 3;
 
 /// How many workers have a seat at host B.
-const SEATS_AT_B: u32 = 2;
+pub const SEATS_AT_B: u32 = 2;
 
-/// What stands behind a move: both hosts, and how the workers ended.
+/// What a move leaves: both hosts, and how its workers ended.
 #[derive(Drop)]
 pub struct Moved<M: PagedMemory + Drop> {
     pub a: HostEnd<M>,
@@ -39,8 +39,8 @@ pub struct Moved<M: PagedMemory + Drop> {
 
 /// Moves the guest of the first host to the second one while it runs. What the guest sends goes to
 /// `writer`. It ends when all workers have ended: the one that makes the turns, the copier, and a receiver
-/// at each host. Refused, before anything was sent but a Hello, where a growth is. It may wait for other
-/// threads, and starts three.
+/// at each host. `AllocError` where a growth is refused; until then nothing was sent but Hello. It may wait
+/// for other threads, and starts three.
 pub fn move_guest<
     L: Seating + Send + Sync,
     N: Seating + Send + Sync,
@@ -66,7 +66,7 @@ pub fn move_guest<
     requires opening { (recorded.0.journal.opening ≡ L.opening) × (recorded.1.journal.opening ≡ N.opening) }
     ensures opening { IfOk result (λ m. (m.a.recorded.journal.opening ≡ recorded.0.journal.opening)
         × (m.b.recorded.journal.opening ≡ recorded.1.journal.opening)) }
-    ensures a { IfOk result (λ m. IsEnd (IsAskedOfFirst plan.now.policy) m.a.fault m.a.recorded.journal.entries) }
+    ensures a { IfOk result (λ m. IsFirstEnd plan.now.policy m.ends.copier m.a.fault m.a.recorded.journal.entries) }
     ensures b { IfOk result (λ m. IsEnd IsAskedOfSecond m.b.fault m.b.recorded.journal.entries) }
     ensures run { IfOk result (λ m. IsEndRun m.ends m.a.fault m.b.fault m.a.recorded.journal.entries
         m.b.recorded.journal.entries (W.contents writer.old) (W.contents writer.new) plan.now.harts plan.now.steps) }
@@ -91,13 +91,17 @@ pub fn move_guest<
         version,
         links_b.sending,
     )?;
-    let hosts = OpenHosts {
-        a: &open_a,
-        b: &open_b,
-    };
     let receiving = (links_a.receiving, links_b.receiving);
     let (carried, turned) = seat_and_work(
-        rt, alloc, &hosts, seats_a, seats_b, receiving, gate, plan, writer,
+        rt,
+        alloc,
+        (&open_a, &open_b),
+        seats_a,
+        seats_b,
+        receiving,
+        gate,
+        plan,
+        writer,
     );
     Ok(close_both(rt, alloc, open_a, open_b, carried, turned))
 }
@@ -114,7 +118,7 @@ fn seat_and_work<
 >(
     rt: &R,
     alloc: Global,
-    hosts: &OpenHosts<'_, L, N, M, K>,
+    hosts: (&OpenHost<L, M, K>, &OpenHost<N, M, K>),
     seats_a: Vec<Seat<L>>,
     seats_b: Vec<Seat<N>>,
     receiving: (K, K),
@@ -126,8 +130,8 @@ fn seat_and_work<
     ensures run { IsRun result.1.receipts.0.items result.1.receipts.1.items (W.contents writer.old)
         (W.contents writer.new) (result.1.end ≢ Err LinkFault) plan.now.harts plan.now.steps result.1.end }
     ensures one { AreOfOne result.1.receipts.0.items × AreOfOne result.1.receipts.1.items }
-    ensures carried { AreCarried plan.now.policy result.0.copier.receipts.items result.0.at_a.receipts.items
-        result.0.at_b.receipts.items }
+    ensures carried { AreCarried plan.now.policy result.0.copier.end result.0.copier.receipts.items
+        result.0.receiver_a.receipts.items result.0.receiver_b.receipts.items }
 {
     let (mut seats_a, mut seats_b) = (seats_a, seats_b);
     let (Some(receiver_a), Some(copier), Some(harts_a)) = (
@@ -141,6 +145,7 @@ fn seat_and_work<
         unreachable!()
     };
     let (from_b, from_a) = receiving;
+    let (host_a, host_b) = hosts;
     let taken = Taken {
         at_a: TakenAtA {
             copier,
@@ -156,8 +161,8 @@ fn seat_and_work<
     work(
         rt,
         alloc,
-        (&hosts.a.host, &hosts.b.host),
-        (&hosts.a.outgoing, &hosts.b.outgoing),
+        (&host_a.host, &host_b.host),
+        (&host_a.outgoing, &host_b.outgoing),
         taken,
         (harts_a, harts_b),
         gate,
@@ -179,12 +184,17 @@ fn close_both<L: Seating, N: Seating, M: PagedMemory + Drop, K: Link + Drop, R: 
     requires seats { (L.seats ≡ L.parts) × (N.seats ≡ N.parts) }
     ensures opening { (result.a.recorded.journal.opening ≡ L.opening) × (result.b.recorded.journal.opening ≡ N.opening) }
     ensures harts { result.ends.harts ≡ turned.end }
+    ensures copier { result.ends.copier ≡ carried.copier.end }
     ensures told_a { result.a.fault ≡ None → AreAll result.a.recorded.journal.entries
-        (turned.receipts.0.items ++ (carried.copier.receipts.items ++ carried.at_a.receipts.items)) }
+        (turned.receipts.0.items ++ (carried.copier.receipts.items ++ carried.receiver_a.receipts.items)) }
     ensures told_b { result.b.fault ≡ None → AreAll result.b.recorded.journal.entries
-        (turned.receipts.1.items ++ carried.at_b.receipts.items) }
+        (turned.receipts.1.items ++ carried.receiver_b.receipts.items) }
 {
-    let Carried { copier, at_a, at_b } = carried;
+    let Carried {
+        copier,
+        receiver_a,
+        receiver_b,
+    } = carried;
     let HartsWorked {
         seats: (harts_a, harts_b),
         receipts: (turns_at_a, turns_at_b),
@@ -193,16 +203,16 @@ fn close_both<L: Seating, N: Seating, M: PagedMemory + Drop, K: Link + Drop, R: 
     let ends = Ends {
         harts: end,
         copier: copier.end,
-        at_a: at_a.end,
-        at_b: at_b.end,
+        receiver_a: receiver_a.end,
+        receiver_b: receiver_b.end,
     };
     let mut from_a = Returned::new(alloc);
     from_a.add(harts_a, turns_at_a);
     from_a.add(copier.seat, copier.receipts);
-    from_a.add(at_a.seat, at_a.receipts);
+    from_a.add(receiver_a.seat, receiver_a.receipts);
     let mut from_b = Returned::new(alloc);
     from_b.add(harts_b, turns_at_b);
-    from_b.add(at_b.seat, at_b.receipts);
+    from_b.add(receiver_b.seat, receiver_b.receipts);
     Moved {
         a: close_host(rt, alloc, open_a, from_a),
         b: close_host(rt, alloc, open_b, from_b),

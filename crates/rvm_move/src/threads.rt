@@ -4,7 +4,8 @@ ghost use Rattle.std.specs.Prelude.{◌≢◌, Err};
 ghost use Rattle.rvm_hart_worker.specs.Calls.{IsRun};
 ghost use Rattle.rvm_move.specs.Hosts.{AreCarried};
 ghost use Rattle.rvm_move.specs.Runs.{AreOfOne};
-ghost use Rattle.rvm_worker.specs.Work.{AreOfCopier, AreOfReceiver};
+ghost use Rattle.rvm_worker.specs.Endings.{IsCopied};
+ghost use Rattle.rvm_worker.specs.Work.{AreOfReceiver};
 ghost use Rattle.rvm_worker.specs.declared.end.WorkEnd.TheVariants.{LinkFault};
 
 use crate::beside::{beside, take_back};
@@ -56,8 +57,8 @@ pub(crate) struct Taken<L: Seating, N: Seating, K: Link + Drop> {
 #[derive(Drop)]
 pub(crate) struct Carried<L: Seating, N: Seating> {
     pub(crate) copier: Worked<L>,
-    pub(crate) at_a: Worked<L>,
-    pub(crate) at_b: Worked<N>,
+    pub(crate) receiver_a: Worked<L>,
+    pub(crate) receiver_b: Worked<N>,
 }
 
 /// Copies the guest of a host.
@@ -70,7 +71,7 @@ fn copy<L: Seating, M: PagedMemory + Drop, K: Link + Drop, G: Gate, R: Wait + Cl
     gate: &G,
     policy: Policy,
 ) -> Worked<L>
-    ensures { AreOfCopier 1 policy result.receipts.items }
+    ensures { IsCopied 1 policy result.end result.receipts.items }
 {
     copier_worker(rt, alloc, &Side { host, outgoing }, seat, gate, B, policy)
 }
@@ -112,14 +113,14 @@ fn copy_and_hear<
     policy: Policy,
     receiving: K,
 ) -> (Worked<L>, Worked<L>)
-    ensures copier { AreOfCopier 1 policy result.0.receipts.items }
+    ensures copier { IsCopied 1 policy result.0.end result.0.receipts.items }
     ensures receiver { AreOfReceiver 1 result.1.receipts.items }
 {
     let (copier, receiver) = seats;
     thread::join(
         rt,
         move || -> Worked<L>
-            ensures { AreOfCopier 1 policy result.receipts.items }
+            ensures { IsCopied 1 policy result.end result.receipts.items }
         { copy(rt, alloc, host, outgoing, copier, gate, policy) },
         move || -> Worked<L>
             ensures { AreOfReceiver 1 result.receipts.items }
@@ -139,7 +140,7 @@ fn copy_and_hear<
     )
 }
 
-/// Works at host A. Nothing is sent behind the end of both workers.
+/// Works at host A. Nothing is sent once both workers have ended.
 fn work_at_a<
     L: Seating + Send + Sync,
     M: PagedMemory + Drop + Send,
@@ -154,7 +155,7 @@ fn work_at_a<
     taken: TakenAtA<L, K>,
     gate: &G,
 ) -> (Worked<L>, Worked<L>)
-    ensures copier { AreOfCopier 1 taken.policy result.0.receipts.items }
+    ensures copier { IsCopied 1 taken.policy result.0.end result.0.receipts.items }
     ensures receiver { AreOfReceiver 1 result.1.receipts.items }
 {
     let TakenAtA {
@@ -169,7 +170,7 @@ fn work_at_a<
     worked
 }
 
-/// Hears host A at host B. Nothing is sent behind the end.
+/// Hears host A at host B. Nothing is sent once it has ended.
 fn work_at_b<L: Seating, M: PagedMemory + Drop, K: Link + Drop, G: Gate, R: Wait>(
     rt: &R,
     alloc: Global,
@@ -199,41 +200,6 @@ fn work_at_b<L: Seating, M: PagedMemory + Drop, K: Link + Drop, G: Gate, R: Wait
     worked
 }
 
-/// Works at both hosts side by side.
-fn work_at_both<
-    L: Seating + Send + Sync,
-    N: Seating + Send + Sync,
-    M: PagedMemory + Drop + Send,
-    K: Link + Drop + Send,
-    G: Gate + Sync,
-    R: Threads + Wait + Clock + Sync,
->(
-    rt: &R,
-    alloc: Global,
-    hosts: (&SharedHost<L, M>, &SharedHost<N, M>),
-    outgoing: (&Outgoing<K>, &Outgoing<K>),
-    taken: Taken<L, N, K>,
-    gate: &G,
-) -> ((Worked<L>, Worked<L>), Worked<N>)
-    ensures copier { AreOfCopier 1 taken.at_a.policy result.0.0.receipts.items }
-    ensures at_a { AreOfReceiver 1 result.0.1.receipts.items }
-    ensures at_b { AreOfReceiver 0 result.1.receipts.items }
-{
-    let Taken { at_a, at_b } = taken;
-    let (host_a, host_b) = hosts;
-    let (to_b, to_a) = outgoing;
-    thread::join(
-        rt,
-        move || -> (Worked<L>, Worked<L>)
-            ensures copier { AreOfCopier 1 at_a.policy result.0.receipts.items }
-            ensures receiver { AreOfReceiver 1 result.1.receipts.items }
-        { work_at_a(rt, alloc, host_a, to_b, at_a, gate) },
-        move || -> Worked<N>
-            ensures { AreOfReceiver 0 result.receipts.items }
-        { work_at_b(rt, alloc, host_b, to_a, at_b, gate) },
-    )
-}
-
 /// Moves the guest, by three threads.
 fn carry<
     L: Seating + Send + Sync,
@@ -250,11 +216,27 @@ fn carry<
     taken: Taken<L, N, K>,
     gate: &G,
 ) -> Carried<L, N>
-    ensures { AreCarried taken.at_a.policy result.copier.receipts.items result.at_a.receipts.items
-        result.at_b.receipts.items }
+    ensures { AreCarried taken.at_a.policy result.copier.end result.copier.receipts.items
+        result.receiver_a.receipts.items result.receiver_b.receipts.items }
 {
-    let ((copier, at_a), at_b) = work_at_both(rt, alloc, hosts, outgoing, taken, gate);
-    Carried { copier, at_a, at_b }
+    let Taken { at_a, at_b } = taken;
+    let (host_a, host_b) = hosts;
+    let (to_b, to_a) = outgoing;
+    let ((copier, receiver_a), receiver_b) = thread::join(
+        rt,
+        move || -> (Worked<L>, Worked<L>)
+            ensures copier { IsCopied 1 at_a.policy result.0.end result.0.receipts.items }
+            ensures receiver { AreOfReceiver 1 result.1.receipts.items }
+        { work_at_a(rt, alloc, host_a, to_b, at_a, gate) },
+        move || -> Worked<N>
+            ensures { AreOfReceiver 0 result.receipts.items }
+        { work_at_b(rt, alloc, host_b, to_a, at_b, gate) },
+    );
+    Carried {
+        copier,
+        receiver_a,
+        receiver_b,
+    }
 }
 
 /// Makes the turns of the guest's harts in this thread, and moves the guest in three more.
@@ -281,8 +263,8 @@ pub(crate) fn work<
     ensures run { IsRun result.1.receipts.0.items result.1.receipts.1.items (W.contents writer.old)
         (W.contents writer.new) (result.1.end ≢ Err LinkFault) plan.now.harts plan.now.steps result.1.end }
     ensures one { AreOfOne result.1.receipts.0.items × AreOfOne result.1.receipts.1.items }
-    ensures carried { AreCarried taken.at_a.policy result.0.copier.receipts.items result.0.at_a.receipts.items
-        result.0.at_b.receipts.items }
+    ensures carried { AreCarried taken.at_a.policy result.0.copier.end result.0.copier.receipts.items
+        result.0.receiver_a.receipts.items result.0.receiver_b.receipts.items }
 {
     let turns = Turns {
         rt,
@@ -299,8 +281,8 @@ pub(crate) fn work<
     let (carried, (turned, writer)) = beside(
         rt,
         move || -> Carried<L, N>
-            ensures { AreCarried taken.at_a.policy result.copier.receipts.items result.at_a.receipts.items
-                result.at_b.receipts.items }
+            ensures { AreCarried taken.at_a.policy result.copier.end result.copier.receipts.items
+                result.receiver_a.receipts.items result.receiver_b.receipts.items }
         { carry(rt, alloc, hosts, outgoing, taken, gate) },
         turns,
     );

@@ -5,7 +5,10 @@ ghost use Rattle.std.specs.Prelude.{◌≤◌};
 use rvm_arguments::{GuestArguments, MoveArguments, RunArguments, ScriptArguments};
 
 /// How many turns each guest makes at most.
-const STEPS: u32 = 20000;
+pub const STEPS: u32 = 20000;
+
+/// How many turns the guest makes whose move is audited.
+pub const AUDIT_STEPS: u32 = 1000;
 
 /// Prints `Hi` and halts its board: the words 100002B7 04800313 0062A023 06900313 0062A023 00A00313 0062A023
 /// 001003B7 0003A023.
@@ -33,13 +36,14 @@ fn guest() -> GuestArguments<'static> {
     }
 }
 
-/// A move by streams of this version.
-pub fn to_move(stream: u32) -> MoveArguments<'static>
-    requires { (1 ≤ stream) × (stream ≤ 3) }
+/// A move by streams of this version, of a guest that makes so many turns.
+pub fn to_move(steps: u32, stream: u32) -> MoveArguments<'static>
+    requires steps { (1 ≤ steps) × (steps ≤ 100000) }
+    requires stream { (1 ≤ stream) × (stream ≤ 3) }
 {
     MoveArguments {
         guest: guest(),
-        steps: STEPS,
+        steps,
         rounds: 3,
         left: 1,
         factor: 3,
@@ -53,18 +57,6 @@ pub fn to_run() -> RunArguments<'static> {
         guest: guest(),
         input: None,
         steps: STEPS,
-    }
-}
-
-/// A move that is audited.
-pub fn to_audit() -> MoveArguments<'static> {
-    MoveArguments {
-        guest: guest(),
-        steps: 1000,
-        rounds: 3,
-        left: 1,
-        factor: 3,
-        stream: 1,
     }
 }
 

@@ -1,6 +1,6 @@
 //! The order that an audit prints, played as a script.
 
-use crate::asked::{LOOP, to_audit, to_script};
+use crate::asked::{AUDIT_STEPS, LOOP, to_move, to_script};
 use rvm_audit::audit;
 use rvm_journal::Entry;
 use rvm_message::{Command, ExchangeRef, HostEvent};
@@ -11,6 +11,8 @@ use rvm_world::Event;
 use rvm_world_command::script_command::script_command;
 use rvm_world_line::{write_guest_reply, write_move_reply, write_steps_reply};
 use std::alloc::Global;
+use std::io;
+use std::io::BufWriter;
 use std::net::Net;
 use std::sync::Wait;
 use std::thread::Threads;
@@ -87,8 +89,9 @@ fn answers(alloc: Global, unplayed: Unplayed, events: &[Event]) -> Option<Vec<u8
 }
 
 /// Whether a script with the guest of the move is answered so.
-fn is_played(alloc: Global, script: &[u8], told: &[u8]) -> bool {
-    let (mut played, mut errors) = (Vec::new(alloc), Vec::new(alloc));
+fn is_played(alloc: Global, script: &[u8], told: &[u8]) -> io::Result<bool> {
+    let mut played = BufWriter::new(alloc, Vec::new(alloc))?;
+    let mut errors = Vec::new(alloc);
     let mut lines = script;
     let status = script_command::<PagedRam, _, _, _>(
         alloc,
@@ -98,7 +101,7 @@ fn is_played(alloc: Global, script: &[u8], told: &[u8]) -> bool {
         &mut played,
         &mut errors,
     );
-    status == Ok(0) && played.as_slice() == told
+    Ok(status == Ok(0) && played.get_ref().as_slice() == told)
 }
 
 /// What both hosts of an audit answered, in the order that it found.
@@ -116,14 +119,15 @@ fn told(alloc: Global, audited: &Audited<PagedRam>) -> Option<Vec<u8>> {
 /// Audits a move: what both hosts answered, if it did not fail. The order that is printed goes to `script`.
 fn audit_move<R: AllocGlobal + Net + Threads + Wait + Clock + Sync>(
     rt: &R,
-    script: &mut Vec<u8>,
+    script: &mut BufWriter<Vec<u8>>,
 ) -> Option<Vec<u8>>
 where
     R::Stream: Send,
 {
     let alloc = rt.alloc();
     let mut errors = Vec::new(alloc);
-    match audit_over::<PagedRam, _, _, _>(rt, alloc, &to_audit(), LOOP, script, &mut errors) {
+    let arguments = to_move(AUDIT_STEPS, 1);
+    match audit_over::<PagedRam, _, _, _>(rt, alloc, &arguments, LOOP, script, &mut errors) {
         Ok(audited) => {
             let told = told(alloc, &audited);
             drop(audited);
@@ -135,14 +139,17 @@ where
 
 /// Whether a move did not fail, and the order that its audit printed, played with the same guest, answers as
 /// both hosts did.
-fn is_audited_and_played<R: AllocGlobal + Net + Threads + Wait + Clock + Sync>(rt: &R) -> bool
+fn is_audited_and_played<R: AllocGlobal + Net + Threads + Wait + Clock + Sync>(
+    rt: &R,
+) -> io::Result<bool>
 where
     R::Stream: Send,
 {
-    let mut script = Vec::new(rt.alloc());
+    let alloc = rt.alloc();
+    let mut script = BufWriter::new(alloc, Vec::new(alloc))?;
     match audit_move(rt, &mut script) {
-        Some(told) => is_played(rt.alloc(), script.as_slice(), told.as_slice()),
-        None => false,
+        Some(told) => is_played(alloc, script.get_ref().as_slice(), told.as_slice()),
+        None => Ok(false),
     }
 }
 
@@ -153,7 +160,7 @@ pub fn play_order<R: AllocGlobal + Print + Net + Threads + Wait + Clock + Sync>(
 where
     R::Stream: Send,
 {
-    let is_played = is_audited_and_played(rt);
+    let is_played = is_audited_and_played(rt)?;
     println!(rt; "an order played as a script answers as both journals {is_played}")?;
     Ok(())
 }

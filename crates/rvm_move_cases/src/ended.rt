@@ -1,54 +1,83 @@
 //! What became of a move.
 
-use crate::asked::{to_move, to_run};
+ghost use Rattle.std.specs.Prelude.{◌≤◌};
+
+use crate::asked::{STEPS, to_move, to_run};
 use rvm_command::run_command::run_command;
 use rvm_link::Link;
 use rvm_move::Links;
+use rvm_move_command::move_command::move_command;
 use rvm_move_command::move_over::move_over;
 use rvm_paged::PagedRam;
 use rvm_refusal::LinkFault;
 use rvm_worker::Gate;
 use std::alloc::Global;
+use std::net::Net;
 use std::sync::Wait;
 use std::thread::Threads;
 use std::time::Clock;
 
 /// What a move answered and wrote.
 #[derive(Drop)]
-pub struct Ended {
+pub struct MoveResult {
     pub status: Result<u8, LinkFault>,
     pub output: Vec<u8>,
     pub errors: Vec<u8>,
 }
 
-impl Ended {
-    /// Before the move.
-    pub fn new(alloc: Global) -> Ended {
-        Ended {
-            status: Ok(0),
-            output: Vec::new(alloc),
-            errors: Vec::new(alloc),
-        }
-    }
-
+impl MoveResult {
     /// What became of a guest that is moved by a stream of version 1, over these links and past a gate.
-    pub fn of_move<
+    pub fn over_links<
         K: Link + Drop + Send,
         G: Gate + Sync,
         R: AllocGlobal + Threads + Wait + Clock + Sync,
-    >(rt: &R, image: &[u8], links: (Links<K>, Links<K>), gate: &G) -> Ended {
-        let mut ended = Ended::new(rt.alloc());
-        ended.status = move_over::<PagedRam, _, _, _, _, _>(
+    >(rt: &R, image: &[u8], links: (Links<K>, Links<K>), gate: &G) -> MoveResult {
+        let alloc = rt.alloc();
+        let (mut output, mut errors) = (Vec::new(alloc), Vec::new(alloc));
+        let arguments = to_move(STEPS, 1);
+        let status = move_over::<PagedRam, _, _, _, _, _>(
             rt,
-            rt.alloc(),
-            &to_move(1),
+            alloc,
+            &arguments,
             image,
             links,
             gate,
-            &mut ended.output,
-            &mut ended.errors,
+            &mut output,
+            &mut errors,
         );
-        ended
+        MoveResult {
+            status,
+            output,
+            errors,
+        }
+    }
+
+    /// What became of a guest that is moved by a stream of this version, over TCP.
+    pub fn over_tcp<R: AllocGlobal + Net + Threads + Wait + Clock + Sync>(
+        rt: &R,
+        image: &[u8],
+        stream: u32,
+    ) -> MoveResult
+    where
+        R::Stream: Send,
+        requires { (1 ≤ stream) × (stream ≤ 3) }
+    {
+        let alloc = rt.alloc();
+        let (mut output, mut errors) = (Vec::new(alloc), Vec::new(alloc));
+        let arguments = to_move(STEPS, stream);
+        let status = move_command::<PagedRam, _, _, _>(
+            rt,
+            alloc,
+            &arguments,
+            image,
+            &mut output,
+            &mut errors,
+        );
+        MoveResult {
+            status,
+            output,
+            errors,
+        }
     }
 
     /// Whether a host answered this line.

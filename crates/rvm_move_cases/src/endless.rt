@@ -1,7 +1,7 @@
 //! A link that gives frames without end, a byte a read, and none of them ends a receiver.
 
 use crate::asked::HELLO;
-use crate::ended::{Ended, print_no_connection};
+use crate::ended::{MoveResult, print_no_connection};
 use rvm_link::{Link, LinkRead};
 use rvm_move::Links;
 use rvm_move_command::{OpenGate, connect_both};
@@ -53,7 +53,7 @@ impl<K: Link + Drop> Link for Endless<K> {
 }
 
 /// Links of which the receiving one may be endless.
-fn with_noise<K: Link + Drop>(links: Links<K>, is_endless: bool) -> Links<Endless<K>> {
+fn endless_links<K: Link + Drop>(links: Links<K>, is_endless: bool) -> Links<Endless<K>> {
     let Links { sending, receiving } = links;
     Links {
         sending: Endless {
@@ -78,8 +78,8 @@ where
 {
     match connect_both(rt, rt.alloc()) {
         Ok((a, b)) => {
-            let links = (with_noise(a, false), with_noise(b, true));
-            let ended = Ended::of_move(rt, HELLO, links, &OpenGate);
+            let links = (endless_links(a, false), endless_links(b, true));
+            let ended = MoveResult::over_links(rt, HELLO, links, &OpenGate);
             print_end(rt, &ended)
         }
         Err(_) => print_no_connection(rt),
@@ -87,7 +87,7 @@ where
 }
 
 /// Prints what became of the move.
-fn print_end<R: AllocGlobal + Print>(rt: &R, ended: &Ended) -> anyhow::Result<()> {
+fn print_end<R: AllocGlobal + Print>(rt: &R, ended: &MoveResult) -> anyhow::Result<()> {
     let good = ended.status == Ok(0);
     let moved = ended.has("started");
     let is_as_run = ended.is_as_run(rt.alloc(), HELLO);

@@ -1,7 +1,7 @@
 //! Links that fail.
 
 use crate::asked::LOOP;
-use crate::ended::Ended;
+use crate::ended::MoveResult;
 use rvm_link::{Link, LinkRead};
 use rvm_move::Links;
 use rvm_move_command::{OpenGate, connect_both};
@@ -38,7 +38,7 @@ impl<K: Link + Drop> Link for Failing<K> {
 }
 
 /// Links of which the sending one fails behind so many sends.
-fn that_fail<K: Link + Drop>(links: Links<K>, left: u32) -> Links<Failing<K>> {
+fn failing_links<K: Link + Drop>(links: Links<K>, left: u32) -> Links<Failing<K>> {
     let Links { sending, receiving } = links;
     Links {
         sending: Failing {
@@ -67,7 +67,7 @@ where
 }
 
 /// Moves a guest while A sends at most so many times, and B, and prints of the side that fails whether the
-/// end is one that may be.
+/// end is allowed.
 fn break_link<R: AllocGlobal + Print + Net + Threads + Wait + Clock + Sync>(
     rt: &R,
     side: &str,
@@ -78,26 +78,26 @@ fn break_link<R: AllocGlobal + Print + Net + Threads + Wait + Clock + Sync>(
 where
     R::Stream: Send,
 {
-    let is_allowed = match connect_both(rt, rt.alloc()) {
+    let allowed = match connect_both(rt, rt.alloc()) {
         Ok((a, b)) => {
-            let links = (that_fail(a, at_a), that_fail(b, at_b));
-            let ended = Ended::of_move(rt, LOOP, links, &OpenGate);
-            may_be(rt.alloc(), &ended)
+            let links = (failing_links(a, at_a), failing_links(b, at_b));
+            let ended = MoveResult::over_links(rt, LOOP, links, &OpenGate);
+            is_allowed(rt.alloc(), &ended)
         }
         Err(_) => false,
     };
-    print_end(rt, side, k, is_allowed)
+    print_end(rt, side, k, allowed)
 }
 
-/// Prints whether the end is one that may be, where a side sends so many times.
-fn print_end<R: Print>(rt: &R, side: &str, k: u32, is_allowed: bool) -> anyhow::Result<()> {
-    println!(rt; "{side} sends {k} times: an end that may be {is_allowed}")?;
+/// Prints whether the end is allowed, where a side sends so many times.
+fn print_end<R: Print>(rt: &R, side: &str, k: u32, allowed: bool) -> anyhow::Result<()> {
+    println!(rt; "{side} sends {k} times, then fails: end allowed {allowed}")?;
     Ok(())
 }
 
-/// Whether an end is one that may be: no commit and no start, the output of a run and the status 0; a
+/// Whether an end is allowed: no commit and no start, the output of a run and the status 0; a
 /// commit, a start and that output; or a commit alone and the status 1.
-fn may_be(alloc: Global, ended: &Ended) -> bool {
+fn is_allowed(alloc: Global, ended: &MoveResult) -> bool {
     let is_started = ended.has("started");
     let is_as_run = ended.is_as_run(alloc, LOOP);
     if !ended.has("committed 1") {

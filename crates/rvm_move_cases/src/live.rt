@@ -2,10 +2,8 @@
 
 ghost use Rattle.std.specs.Prelude.{◌≤◌};
 
-use crate::asked::{HELLO, WRITER, to_move};
-use crate::ended::Ended;
-use rvm_move_command::move_command::move_command;
-use rvm_paged::PagedRam;
+use crate::asked::{HELLO, WRITER};
+use crate::ended::MoveResult;
 use std::net::Net;
 use std::sync::Wait;
 use std::thread::Threads;
@@ -36,15 +34,7 @@ where
     R::Stream: Send,
     requires { (1 ≤ stream) × (stream ≤ 3) }
 {
-    let mut ended = Ended::new(rt.alloc());
-    ended.status = move_command::<PagedRam, _, _, _>(
-        rt,
-        rt.alloc(),
-        &to_move(stream),
-        image,
-        &mut ended.output,
-        &mut ended.errors,
-    );
+    let ended = MoveResult::over_tcp(rt, image, stream);
     print_end(rt, name, stream, image, &ended)
 }
 
@@ -54,7 +44,7 @@ fn print_end<R: AllocGlobal + Print>(
     name: &str,
     stream: u32,
     image: &[u8],
-    ended: &Ended,
+    ended: &MoveResult,
 ) -> anyhow::Result<()> {
     let moved = ended.has("committed 1") && ended.has("started") && ended.has("finished");
     let is_as_run = ended.is_as_run(rt.alloc(), image);

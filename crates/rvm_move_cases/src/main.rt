@@ -1,6 +1,8 @@
 //! Moves guests over TCP, past a gate at which two workers meet, over a link without end, and over links that
 //! fail, and prints what became of each; plays the order of a move as a script; and prints how receivers end,
 //! by what their links give.
+//!
+//! To be read in this order: `asked`, `ended`, `live`, `meeting`, `audited`, `endless`, `hearing`, `failing`.
 #![tactic(auto)]
 
 mod asked;

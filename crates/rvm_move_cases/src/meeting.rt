@@ -1,7 +1,7 @@
 //! Two workers that wait for one another.
 
 use crate::asked::LOOP;
-use crate::ended::{Ended, print_no_connection};
+use crate::ended::{MoveResult, print_no_connection};
 use rvm_move_command::connect_both;
 use rvm_worker::{Gate, Worker};
 use std::net::Net;
@@ -72,13 +72,13 @@ where
         copier: AtomicBool::new(false),
     };
     match connect_both(rt, rt.alloc()) {
-        Ok(links) => print_end(rt, &Ended::of_move(rt, LOOP, links, &gate)),
+        Ok(links) => print_end(rt, &MoveResult::over_links(rt, LOOP, links, &gate)),
         Err(_) => print_no_connection(rt),
     }
 }
 
 /// Prints what became of the move.
-fn print_end<R: Print>(rt: &R, ended: &Ended) -> anyhow::Result<()> {
+fn print_end<R: Print>(rt: &R, ended: &MoveResult) -> anyhow::Result<()> {
     let good = ended.status == Ok(0);
     let moved = ended.has("finished");
     println!(rt; "two workers meet: status 0 {good}, moved {moved}")?;

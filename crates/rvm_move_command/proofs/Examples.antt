@@ -15,15 +15,15 @@ use Rattle.rvm_worker.specs.declared.end.WorkEnd.TheVariants as end
 use Rattle.rvm_move_command.specs.Ended.{IsSound, failure_line, first_fault, line_first, line_of, line_or, refusal_of_end, words_of}
 
 -- a worker's failure is told before a host's fault
-the_copier_failed_first : failure_line (record { harts = Ok StepsSpent; copier = end.RecorderFull 5; at_a = end.Done; at_b = end.OutOfMemory }) (Some (Mismatch 0)) None
+the_copier_failed_first : failure_line (record { harts = Ok StepsSpent; copier = end.RecorderFull 5; receiver_a = end.Done; receiver_b = end.OutOfMemory }) (Some (Mismatch 0)) None
     ≡ line_of refusal.RecorderFull
 the_copier_failed_first = refl
 
-the_second_host_was_not_closed : failure_line (record { harts = Ok StepsSpent; copier = end.Done; at_a = end.Done; at_b = end.Done }) None (Some (Mismatch 4))
+the_second_host_was_not_closed : failure_line (record { harts = Ok StepsSpent; copier = end.Done; receiver_a = end.Done; receiver_b = end.Done }) None (Some (Mismatch 4))
     ≡ line_of refusal.Mismatch
 the_second_host_was_not_closed = refl
 
-a_move_that_is_given_up_has_not_failed : failure_line (record { harts = Ok (Halted 0); copier = end.GivenUp; at_a = end.Done; at_b = end.LinkFault }) None None ≡ []
+a_move_that_is_given_up_has_not_failed : failure_line (record { harts = Ok (Halted 0); copier = end.GivenUp; receiver_a = end.Done; receiver_b = end.LinkFault }) None None ≡ []
 a_move_that_is_given_up_has_not_failed = refl
 
 a_full_journal_has_a_line : line_of refusal.RecorderFull ≡ codes "refused 29 RecorderFull\n"
@@ -31,7 +31,7 @@ unfolding digits
 a_full_journal_has_a_line = refl
 
 -- where the guest's turns stop between the hosts, the line is in words
-a_guest_that_stopped_has_words : failure_line (record { harts = Err end.GuestStopped; copier = end.Done; at_a = end.Done; at_b = end.Done }) None None
+a_guest_that_stopped_has_words : failure_line (record { harts = Err end.GuestStopped; copier = end.Done; receiver_a = end.Done; receiver_b = end.Done }) None None
     ≡ codes "guest stopped between hosts\n"
 a_guest_that_stopped_has_words = refl
 

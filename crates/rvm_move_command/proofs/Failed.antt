@@ -1,8 +1,8 @@
 -- What a move leaves that did not begin, or failed.
-use Rattle.std.proofs.Common.{◌≡◌, ℕ, List, ◌++◌, Option, None, Some, Result, Ok, Err, arith, inl, inr}
+use Rattle.std.proofs.Common.{◌≡◌, ℕ, List, ◌++◌, Option, Result, Ok, Err, arith, inl, inr}
 use Rattle.std.proofs.KnownBytes.{Appends-trans}
 use Rattle.std.specs.Io.KnownBytes.{Appends}
-use Rattle.std.specs.Prelude.{◌⊎◌, ◌↔◌, IfErr, IfOk, IfSome, OnOk}
+use Rattle.std.specs.Prelude.{◌↔◌, IfErr, IfOk, OnOk}
 use Rattle.rvm_arguments.specs.declared.arguments.MoveArguments.{MoveArguments}
 use Rattle.rvm_cell.specs.declared.closing.CloseKind.{CloseKind}
 use Rattle.rvm_command.specs.declared.refused.Refused.{Refused}
@@ -11,7 +11,7 @@ use Rattle.rvm_journal.specs.History.{History}
 use Rattle.rvm_move.specs.declared.ends.Ends.{Ends}
 use Rattle.rvm_journal.specs.Replay.{IsReplay}
 use Rattle.rvm_move_command.specs.Answers.{answers_text}
-use Rattle.rvm_move_command.specs.Ended.{IsFailed, IsFailureOf, IsMoveRefusal, IsNotBegun, IsNotMoved, IsSound, failure_line}
+use Rattle.rvm_move_command.specs.Ended.{IsFailed, IsFailureOf, IsMoveRefusal, IsNotMoved, IsSound, failure_line}
 use Rattle.rvm_move_command.specs.Hosts.{AreOpened}
 use Rattle.rvm_refusal.specs.declared.refusal.Refusal.TheVariants as refusal
 

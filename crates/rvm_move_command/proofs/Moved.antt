@@ -1,6 +1,6 @@
 -- What a sound move leaves.
-use Rattle.std.proofs.Common.{◌∙◌, ap}
-use Rattle.std.specs.Prelude.{◌≡◌, ◌≢◌, ℕ, List, Option, None, Result, Ok, Err, IfOk}
+use Rattle.std.proofs.Common.{◌∙◌, Bool, true, false, ap, refl}
+use Rattle.std.specs.Prelude.{◌≡◌, ◌≢◌, ℕ, List, Option, None, Some, Result, Ok, Err, IfOk, if◌then◌else◌}
 use Rattle.std.specs.Result.{IsOkAnd}
 use Rattle.rvm_arguments.specs.declared.arguments.MoveArguments.{MoveArguments}
 use Rattle.rvm_cell.specs.declared.closing.CloseKind.{CloseKind}
@@ -11,8 +11,8 @@ use Rattle.rvm_core.specs.Hosts.{PlainHost}
 use Rattle.rvm_journal.specs.Entries.{PlainEntry}
 use Rattle.rvm_journal.specs.History.{History, Recording}
 use Rattle.rvm_move.specs.declared.ends.Ends.{Ends}
-use Rattle.rvm_move.specs.Hosts.{IsAskedOfFirst, IsAskedOfSecond, IsEnd}
-use Rattle.rvm_move.specs.Ends.{failure_of_turns}
+use Rattle.rvm_move.specs.Hosts.{IsAskedOfSecond, IsEnd, IsFirstEnd}
+use Rattle.rvm_move.specs.Ends.{failure_of_turns, fails_copying}
 use Rattle.rvm_move.specs.Runs.{IsEndRun, IsRunOf}
 use Rattle.rvm_move_command.specs.Ended.{IsMade, IsMoved, IsSound, IsToldOf}
 use Rattle.rvm_move_command.specs.Hosts.{AreOpened, HasValidGuest, IsFirstHost, IsSecondHost}
@@ -30,6 +30,16 @@ turned : (P : Result TurnsEnd WorkEnd → Type 0) (harts : Result TurnsEnd WorkE
 turned P (Ok end) rest none run = (end, run (λ is. absurd cc))
 turned P (Err end) rest none run = absurd cc
 
+unfailed : (b : Bool) (copier : WorkEnd) (rest : Option WorkEnd) → (if b then Some copier else rest) ≡ None → b ≡ false
+unfailed false copier rest none = refl
+unfailed true copier rest none = absurd cc
+
+-- the copier of a sound move came to its end with it
+copied : (harts : Result TurnsEnd WorkEnd) (copier : WorkEnd) (rest : Option WorkEnd)
+    → failure_of_turns harts (if fails_copying copier then Some copier else rest) ≡ None → fails_copying copier ≡ false
+copied (Err end) copier rest none = absurd cc
+copied (Ok end) copier rest none = unfailed (fails_copying copier) copier rest none
+
 -- hosts whose journals begin as two new hosts did
 pub opened : (a : MoveArguments) (file : List ℕ) (first second : Recording) (at_a at_b : PlainHost)
     → IsLoadable (image_of a.guest.raw file) a.guest.pages → HasValidGuest a file → IsFirstHost a file first
@@ -43,13 +53,14 @@ opened a file first second at_a at_b loadable valid has_guest has_none same_a sa
 
 -- what stands in the journals of a sound move
 pub made : (a : MoveArguments) (ends : Ends) (fault_a fault_b : Option CloseKind) (first second : List PlainEntry)
-    (before after : Option (List ℕ)) → IsEnd (IsAskedOfFirst (plan_of a).policy) fault_a first → IsEnd IsAskedOfSecond fault_b second
+    (before after : Option (List ℕ)) → IsFirstEnd (plan_of a).policy ends.copier fault_a first → IsEnd IsAskedOfSecond fault_b second
     → IsEndRun ends fault_a fault_b first second before after a.guest.harts a.steps → IsSound ends fault_a fault_b
     → IsMade a first second before after
 made a ends fault_a fault_b first second before after end_a end_b run sound =
     let all = turned (IsRunOf first second before after a.guest.harts a.steps) ends.harts _ sound.0
     (λ works. run works sound.1 sound.2) in record {
-      asked = record { of_first = end_a sound.1; of_second = end_b sound.2 };
+      asked = record { of_first = end_a.0 sound.1; of_second = end_b sound.2 };
+      over = end_a.1 (copied ends.harts ends.copier _ sound.0) sound.1;
       end = all.0;
       run = all.1;
     }
@@ -57,7 +68,7 @@ made a ends fault_a fault_b first second before after end_a end_b run sound =
 -- where that was told, it was a move
 pub moved : (arguments : MoveArguments) (file : List ℕ) (ends : Ends) (a b : Option CloseKind) (first second : History)
     (before after output_before output_after : Option (List ℕ)) → AreOpened arguments file first.opening second.opening
-    → IsEnd (IsAskedOfFirst (plan_of arguments).policy) a first.entries → IsEnd IsAskedOfSecond b second.entries
+    → IsFirstEnd (plan_of arguments).policy ends.copier a first.entries → IsEnd IsAskedOfSecond b second.entries
     → IsEndRun ends a b first.entries second.entries output_before output_after arguments.guest.harts arguments.steps
     → IsToldOf ends a b first second before after → IsMoved arguments file before after output_before output_after
 moved arguments file ends a b first second before after output_before output_after opened end_a end_b run told = record {

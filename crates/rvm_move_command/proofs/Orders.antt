@@ -12,7 +12,7 @@ use Rattle.rvm_guest.proofs.TheGuest.{board}
 use Rattle.rvm_guest.specs.Valid.{is_valid}
 use Rattle.rvm_journal.specs.History.{History, Recording}
 use Rattle.rvm_event_line.specs.EventLines.{event_lines}
-use Rattle.rvm_move_command.specs.Ended.{IsMade, IsSound}
+use Rattle.rvm_move_command.specs.Ended.{IsMade}
 use Rattle.rvm_move_command.specs.Hosts.{AreOpened, guest_in, host_before}
 use Rattle.rvm_move_command.specs.Orders.{IsAudited, IsWritten, NeverMoves}
 use Rattle.rvm_protocol.specs.World.{new_world}

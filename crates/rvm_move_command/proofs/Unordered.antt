@@ -1,6 +1,6 @@
 -- What an audit leaves that wrote no order.
 use Rattle.std.proofs.Common.{◌≡◌, ℕ, List, Option, Result, Ok, Err, arith, inl, inr, refl, subst, sym}
-use Rattle.std.specs.Prelude.{◌⊎◌, ◌↔◌, IfOk, OnOk}
+use Rattle.std.specs.Prelude.{◌↔◌, IfOk, OnOk}
 use Rattle.std.specs.Io.KnownBytes.{Appends}
 use Rattle.rvm_arguments.specs.declared.arguments.MoveArguments.{MoveArguments}
 use Rattle.rvm_audit.specs.declared.error.AuditError.{AuditError}
@@ -11,9 +11,9 @@ use Rattle.rvm_command.specs.declared.refused.Refused.{Refused}
 use Rattle.rvm_command.specs.Refusals.{IsTold, refused}
 use Rattle.rvm_journal.specs.History.{History}
 use Rattle.rvm_move.specs.declared.ends.Ends.{Ends}
-use Rattle.rvm_move_command.specs.Ended.{IsMoveRefusal, IsNotBegun, IsSound, failure_line}
+use Rattle.rvm_move_command.specs.Ended.{IsMoveRefusal, IsSound, failure_line}
 use Rattle.rvm_move_command.specs.Hosts.{AreOpened}
-use Rattle.rvm_move_command.specs.Orders.{HasFailed, HasNoOrder, IsNotAudited, IsOrderRefusal, IsUnaudited, IsUnordered}
+use Rattle.rvm_move_command.specs.Orders.{HasNoOrder, IsNotAudited, IsOrderRefusal, IsUnordered}
 use Rattle.rvm_refusal.specs.declared.refusal.Refusal.TheVariants as refusal
 
 reason_of : (first second : History) (why : AuditError) → IsAuditError why first second

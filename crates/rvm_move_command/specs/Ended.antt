@@ -14,7 +14,7 @@ use Rattle.rvm_journal.specs.Entries.{PlainEntry}
 use Rattle.rvm_journal.specs.History.{History}
 use Rattle.rvm_journal.specs.Replay.{IsReplay}
 use Rattle.rvm_move.specs.declared.ends.Ends.{Ends}
-use Rattle.rvm_move.specs.Ends.{failure}
+use Rattle.rvm_move.specs.Ends.{TellsEnd, failure}
 use Rattle.rvm_move.specs.Hosts.{IsAskedOfFirst, IsAskedOfSecond}
 use Rattle.rvm_move.specs.Runs.{IsRunOf}
 use Rattle.rvm_move_command.specs.Answers.{answers_text}
@@ -84,11 +84,13 @@ pub record AreAsked (a : MoveArguments) (first second : List PlainEntry) : Type 
   pub of_first : All (λ e. IsAskedOfFirst (plan_of a).policy e.event) first
   pub of_second : All (λ e. IsAskedOfSecond e.event) second
 
--- what stands in the journals of a move that did not fail: nothing else was asked; the guest's turns came to this end, in the
--- one or the other, and the output is all that drains took of it, the last of which found nothing
+-- what stands in the journals of a move that did not fail: nothing else was asked; the first host answered that the move is
+-- over; the guest's turns came to this end, in the one or the other, and the output is all that drains took of it, the last
+-- of which found nothing
 pub record IsMade (a : MoveArguments) (first second : List PlainEntry) (output_before output_after : Option (List ℕ))
     : Type 0 where
   pub asked : AreAsked a first second
+  pub over : TellsEnd first
   pub end : TurnsEnd
   pub run : IsRunOf first second output_before output_after a.guest.harts a.steps (Ok end)
 

@@ -1,8 +1,10 @@
 //! `rvmove audit`: one order of what both hosts of a move did, as a script.
 
 ghost use Rattle.std.specs.Prelude.{◌≡◌, ◌⊎◌, IfOk};
+ghost use Rattle.std.specs.Io.Buffered.{writer_contents};
 ghost use Rattle.rvm_command.specs.Command.{image_of};
 ghost use Rattle.rvm_command.specs.Ends.{IsLoadable};
+ghost use Rattle.rvm_command.specs.Flushed.{is_flushed};
 ghost use Rattle.rvm_move_command.specs.Orders.{IsAudited, IsNotAudited};
 
 use crate::audit_over::audit_over;
@@ -11,7 +13,7 @@ use rvm_audit::the_guest_of_an_order_never_moves;
 use rvm_mem::PagedMemory;
 use rvm_refusal::LinkFault;
 use std::alloc::Global;
-use std::io::Write;
+use std::io::{BufWriter, Write};
 use std::net::Net;
 use std::sync::Wait;
 use std::thread::Threads;
@@ -20,12 +22,12 @@ use std::time::Clock;
 /// Moves the guest of an image as `move_command` does, and writes one order of what both hosts did to
 /// `output`: a script that `rvmove script` takes with the same image. What the guest sends is written
 /// nowhere. Answers the status: 0, or 1 where the image was refused, the move failed, or there is no order;
-/// then `errors` says with what, and else nothing is written to it. `LinkFault` is told where a write to
-/// `output` failed or no connection can be made; as the answer, that a write to `errors` failed. It may
-/// wait for other threads, and starts three.
+/// then `errors` says why; else nothing is written to it, and `output` holds nothing back. `LinkFault` is
+/// told where a write to `output` failed or no connection can be made; as the answer, that a write to
+/// `errors` failed. It may wait for other threads, and starts three.
 pub fn audit_command<
     M: PagedMemory + Drop + Send,
-    O: Write,
+    O: Write + Drop,
     E: Write,
     R: Net + Threads + Wait + Clock + Sync,
 >(
@@ -33,19 +35,20 @@ pub fn audit_command<
     alloc: Global,
     arguments: &MoveArguments,
     image: &[u8],
-    output: &mut O,
+    output: &mut BufWriter<O>,
     errors: &mut E,
 ) -> Result<u8, LinkFault>
 where
     R::Stream: Send,
     ensures status { IfOk result (λ status. (status ≡ 0) ⊎ (status ≡ 1)) }
-    ensures order { IfOk result (λ status. status ≡ 0
-        → IsAudited arguments.now image.now (O.contents output.old) (O.contents output.new)) }
+    ensures order { IfOk result (λ status. status ≡ 0 → IsAudited arguments.now image.now
+        (writer_contents O.contents output.old) (writer_contents O.contents output.new)) }
+    ensures out { IfOk result (λ status. status ≡ 0 → is_flushed output.new) }
     ensures silent { IfOk result (λ status. status ≡ 0 → E.contents errors.new ≡ E.contents errors.old) }
     ensures failed { IfOk result (λ status. status ≡ 1
         → IsNotAudited arguments.now image.now (E.contents errors.old) (E.contents errors.new)) }
     ensures unloadable { IsLoadable (image_of arguments.now.guest.raw image.now) arguments.now.guest.pages
-        ⊎ (O.contents output.new ≡ O.contents output.old) }
+        ⊎ (writer_contents O.contents output.new ≡ writer_contents O.contents output.old) }
 {
     let audited = audit_over::<M, O, E, R>(rt, alloc, arguments, image, output, errors)?;
     let status = audited.status;

@@ -1,8 +1,10 @@
-//! An audit of a move, with both hosts behind it.
+//! An audit of a move, which also hands out both hosts.
 
 ghost use Rattle.std.specs.Prelude.{◌≡◌, ◌⊎◌, ◌↔◌, None, IfOk, IfSome, IsSome, OnOk};
+ghost use Rattle.std.specs.Io.Buffered.{writer_contents};
 ghost use Rattle.rvm_command.specs.Command.{image_of};
 ghost use Rattle.rvm_command.specs.Ends.{IsLoadable};
+ghost use Rattle.rvm_command.specs.Flushed.{is_flushed};
 ghost use Rattle.rvm_command.specs.Refusals.{IsTold};
 ghost use Rattle.rvm_move_command.specs.Ended.{IsMade, IsSound};
 ghost use Rattle.rvm_move_command.specs.Hosts.{AreOpened};
@@ -19,7 +21,7 @@ use rvm_move::Moved;
 use rvm_refusal::LinkFault;
 use std::alloc::Global;
 use std::io;
-use std::io::Write;
+use std::io::{BufWriter, Write};
 use std::net::Net;
 use std::sync::Wait;
 use std::thread::Threads;
@@ -36,7 +38,7 @@ pub struct Audited<M: PagedMemory + Drop> {
 /// written is that of their journals.
 pub fn audit_over<
     M: PagedMemory + Drop + Send,
-    O: Write,
+    O: Write + Drop,
     E: Write,
     R: Net + Threads + Wait + Clock + Sync,
 >(
@@ -44,7 +46,7 @@ pub fn audit_over<
     alloc: Global,
     arguments: &MoveArguments,
     image: &[u8],
-    output: &mut O,
+    output: &mut BufWriter<O>,
     errors: &mut E,
 ) -> Result<Audited<M>, LinkFault>
 where
@@ -56,12 +58,14 @@ where
     ensures made { IfOk result (λ a. IfSome a.hosts (λ h.
         IsMade arguments.now h.0.journal.entries h.1.journal.entries None None)) }
     ensures order { IfOk result (λ a. IfSome a.hosts (λ h.
-        IsWritten h.0.journal h.1.journal (O.contents output.old) (O.contents output.new))) }
+        IsWritten h.0.journal h.1.journal (writer_contents O.contents output.old)
+        (writer_contents O.contents output.new))) }
+    ensures out { IfOk result (λ a. a.status ≡ 0 → is_flushed output.new) }
     ensures silent { IfOk result (λ a. a.status ≡ 0 → E.contents errors.new ≡ E.contents errors.old) }
     ensures failed { IfOk result (λ a. a.status ≡ 1
         → IsNotAudited arguments.now image.now (E.contents errors.old) (E.contents errors.new)) }
     ensures unloadable { IsLoadable (image_of arguments.now.guest.raw image.now) arguments.now.guest.pages
-        ⊎ (O.contents output.new ≡ O.contents output.old) }
+        ⊎ (writer_contents O.contents output.new ≡ writer_contents O.contents output.old) }
 {
     match move_image::<M, _, R>(rt, alloc, arguments, image, &mut io::sink()) {
         Ok(moved) => audit_moved(alloc, moved, output, errors),
@@ -85,10 +89,10 @@ fn no_hosts<M: PagedMemory + Drop, E: Write>(
 }
 
 /// Writes the order of what both hosts of a move did, and hands both out, unless it failed.
-fn audit_moved<M: PagedMemory + Drop, O: Write, E: Write>(
+fn audit_moved<M: PagedMemory + Drop, O: Write + Drop, E: Write>(
     alloc: Global,
     moved: Moved<M>,
-    output: &mut O,
+    output: &mut BufWriter<O>,
     errors: &mut E,
 ) -> Result<Audited<M>, LinkFault>
     ensures status { IfOk result (λ a. (a.status ≡ 0) ⊎ (a.status ≡ 1)) }
@@ -96,7 +100,9 @@ fn audit_moved<M: PagedMemory + Drop, O: Write, E: Write>(
     ensures same { IfOk result (λ a. IfSome a.hosts (λ h. (h.0 ≡ moved.a.recorded) × (h.1 ≡ moved.b.recorded))) }
     ensures sound { IfOk result (λ a. a.status ≡ 0 → IsSound moved.ends moved.a.fault moved.b.fault) }
     ensures order { IfOk result (λ a. IfSome a.hosts (λ h.
-        IsWritten h.0.journal h.1.journal (O.contents output.old) (O.contents output.new))) }
+        IsWritten h.0.journal h.1.journal (writer_contents O.contents output.old)
+        (writer_contents O.contents output.new))) }
+    ensures out { IfOk result (λ a. a.status ≡ 0 → is_flushed output.new) }
     ensures silent { IfOk result (λ a. a.status ≡ 0 → E.contents errors.new ≡ E.contents errors.old) }
     ensures failed { IfOk result (λ a. a.status ≡ 1 → HasNoOrder moved.ends moved.a.fault moved.b.fault
         moved.a.recorded.journal moved.b.recorded.journal (E.contents errors.old) (E.contents errors.new)) }
@@ -120,12 +126,12 @@ fn audit_moved<M: PagedMemory + Drop, O: Write, E: Write>(
     }
 }
 
-/// Tells with what a move failed, if it did; else writes the order of what both hosts did, or tells that
+/// Tells why a move failed, if it did; else writes the order of what both hosts did, or tells that
 /// there is none.
-fn write_audit<M: PagedMemory + Drop, O: Write, E: Write>(
+fn write_audit<M: PagedMemory + Drop, O: Write + Drop, E: Write>(
     alloc: Global,
     moved: &Moved<M>,
-    output: &mut O,
+    output: &mut BufWriter<O>,
     errors: &mut E,
 ) -> Result<u8, LinkFault>
     ensures status { IfOk result (λ status. (status ≡ 0) ⊎ (status ≡ 1)) }
@@ -137,7 +143,8 @@ fn write_audit<M: PagedMemory + Drop, O: Write, E: Write>(
         (E.contents errors.old) (E.contents errors.new)) }
     ensures order { IfOk result (λ status. status ≡ 0
         → IsWritten moved.now.a.recorded.journal moved.now.b.recorded.journal
-        (O.contents output.old) (O.contents output.new)) }
+        (writer_contents O.contents output.old) (writer_contents O.contents output.new)) }
+    ensures out { IfOk result (λ status. status ≡ 0 → is_flushed output.new) }
 {
     let status = tell_failure(moved, errors)?;
     if status != 0 {

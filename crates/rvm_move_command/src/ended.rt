@@ -41,7 +41,7 @@ fn words_of(end: WorkEnd) -> &'static str
     }
 }
 
-/// Writes with what a worker failed: a refusal of the list, or in words.
+/// Writes why a worker failed: a refusal of the list, or in words.
 fn write_end<E: Write>(errors: &mut E, end: WorkEnd) -> Result<(), LinkFault>
     ensures { OnOk result (Appends (E.contents errors.old) (E.contents errors.new)
         (line_or (refusal_of_end end) (words_of end))) }
@@ -53,7 +53,7 @@ fn write_end<E: Write>(errors: &mut E, end: WorkEnd) -> Result<(), LinkFault>
     Ok(())
 }
 
-/// Tells with what the move failed, if it did: the first end of a worker with which it fails, else the
+/// Tells why the move failed, if it did: the first end of a worker with which it fails, else the
 /// first host's fault, else the second's. Answers the status: 0, or 1 where it failed. `LinkFault` where
 /// it cannot be told.
 pub(crate) fn tell_failure<M: PagedMemory + Drop, E: Write>(
@@ -91,7 +91,7 @@ fn first_fault(a: Option<CloseKind>, b: Option<CloseKind>) -> Option<CloseKind>
     }
 }
 
-/// Tells what both hosts answered, the first one's before the second's, and with what the move failed, if
+/// Tells what both hosts answered, the first one's before the second's, and why the move failed, if
 /// it did. Answers the status, as `tell_failure` does.
 pub(crate) fn tell_moved<M: PagedMemory + Drop, E: Write>(
     moved: &Moved<M>,

@@ -3,7 +3,7 @@
 ghost use Rattle.std.specs.Prelude.{◌≡◌, ◌⊎◌, IfErr, IfOk};
 ghost use Rattle.rvm_command.specs.Command.{image_of};
 ghost use Rattle.rvm_command.specs.Ends.{IsLoadable};
-ghost use Rattle.rvm_move.specs.Hosts.{IsAskedOfFirst, IsAskedOfSecond, IsEnd};
+ghost use Rattle.rvm_move.specs.Hosts.{IsAskedOfSecond, IsEnd, IsFirstEnd};
 ghost use Rattle.rvm_move.specs.Runs.{IsEndRun};
 ghost use Rattle.rvm_move_command.specs.Ended.{IsMoveRefusal, IsMoved, IsNotMoved};
 ghost use Rattle.rvm_move_command.specs.Hosts.{AreOpened};
@@ -67,7 +67,7 @@ where
     tell_end(rt, moved, errors)
 }
 
-/// Moves the guest of an image over TCP: both hosts behind the move.
+/// Moves the guest of an image over TCP: both hosts, and how its workers ended.
 #[tactic(auto, using(crate::proofs::Moved::opened))]
 pub(crate) fn move_image<
     M: PagedMemory + Drop + Send,
@@ -84,7 +84,7 @@ where
     R::Stream: Send,
     ensures opened { IfOk result (λ m. AreOpened arguments.now image.now
         m.a.recorded.journal.opening m.b.recorded.journal.opening) }
-    ensures a { IfOk result (λ m. IsEnd (IsAskedOfFirst (plan_of arguments.now).policy) m.a.fault
+    ensures a { IfOk result (λ m. IsFirstEnd (plan_of arguments.now).policy m.ends.copier m.a.fault
         m.a.recorded.journal.entries) }
     ensures b { IfOk result (λ m. IsEnd IsAskedOfSecond m.b.fault m.b.recorded.journal.entries) }
     ensures run { IfOk result (λ m. IsEndRun m.ends m.a.fault m.b.fault m.a.recorded.journal.entries

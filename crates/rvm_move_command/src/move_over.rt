@@ -6,7 +6,7 @@ ghost use Rattle.rvm_command.specs.Command.{image_of};
 ghost use Rattle.rvm_command.specs.Ends.{IsLoadable};
 ghost use Rattle.rvm_command.specs.Refusals.{IsTold, refused};
 ghost use Rattle.rvm_refusal.specs.declared.refusal.Refusal.TheVariants as refusal;
-ghost use Rattle.rvm_move.specs.Hosts.{IsAskedOfFirst, IsAskedOfSecond, IsEnd};
+ghost use Rattle.rvm_move.specs.Hosts.{IsAskedOfSecond, IsEnd, IsFirstEnd};
 ghost use Rattle.rvm_move.specs.Runs.{IsEndRun};
 ghost use Rattle.rvm_move_command.specs.Ended.{IsFailureOf, IsMoved, IsNotMoved, IsToldOf};
 ghost use Rattle.rvm_move_command.specs.Plans.{plan_of};
@@ -18,7 +18,7 @@ use rvm_command::refused::{Refused, tell};
 use rvm_journal::Recorded;
 use rvm_link::Link;
 use rvm_mem::PagedMemory;
-use rvm_move::{Links, Moved, Plan, move_guest};
+use rvm_move::{Links, Moved, Plan, SEATS_AT_A, SEATS_AT_B, move_guest};
 use rvm_precopy::Policy;
 use rvm_refusal::{LinkFault, Refusal};
 use rvm_worker::Gate;
@@ -35,9 +35,9 @@ use std::time::Clock;
 /// has a link that its frames go out by, and one that the other side's come by. What the guest sends goes
 /// to `output`; what both hosts answered to the commands of the move and to frames goes to `errors` when
 /// all is over, the first one's before the second's. Answers the status: 0, or 1 where the image was
-/// refused, which leaves `output` as it was, or the move failed; then the last line of `errors` says with
-/// what. `LinkFault` as the answer: a write to `errors` failed. It may wait for other threads: it starts
-/// three, and behind them one that gives back what a host keeps.
+/// refused, which leaves `output` as it was, or the move failed; then the last line of `errors` says why.
+/// `LinkFault` as the answer: a write to `errors` failed. It may wait for other threads: it starts three,
+/// and when these have ended one that gives back what a host keeps.
 pub fn move_over<
     M: PagedMemory + Drop + Send,
     K: Link + Drop + Send,
@@ -138,13 +138,16 @@ pub(crate) fn move_recorded<
     requires { (recorded.0.journal.entries ≡ []) × (recorded.1.journal.entries ≡ []) }
     ensures opening { IfOk result (λ m. (m.a.recorded.journal.opening ≡ recorded.0.journal.opening)
         × (m.b.recorded.journal.opening ≡ recorded.1.journal.opening)) }
-    ensures a { IfOk result (λ m. IsEnd (IsAskedOfFirst plan.now.policy) m.a.fault m.a.recorded.journal.entries) }
+    ensures a { IfOk result (λ m. IsFirstEnd plan.now.policy m.ends.copier m.a.fault m.a.recorded.journal.entries) }
     ensures b { IfOk result (λ m. IsEnd IsAskedOfSecond m.b.fault m.b.recorded.journal.entries) }
     ensures run { IfOk result (λ m. IsEndRun m.ends m.a.fault m.b.fault m.a.recorded.journal.entries
         m.b.recorded.journal.entries (O.contents output.old) (O.contents output.new) plan.now.harts plan.now.steps) }
     ensures refused { IfErr result (λ r. r ≡ refused refusal.OutOfMemory) }
 {
-    let blanks = (Blank::new(3), Blank::new(2));
+    let blanks = (
+        Blank::new(u64::from(SEATS_AT_A)),
+        Blank::new(u64::from(SEATS_AT_B)),
+    );
     match move_guest::<Brand, Brand, M, K, G, O, R>(
         rt, alloc, blanks, recorded, links, gate, plan, output,
     ) {

@@ -2,6 +2,8 @@
 
 ghost use Rattle.std.specs.Prelude.{◌≡◌, ◌⊎◌, IfOk, OnOk};
 ghost use Rattle.std.specs.Io.KnownBytes.{Appends};
+ghost use Rattle.std.specs.Io.Buffered.{writer_contents};
+ghost use Rattle.rvm_command.specs.Flushed.{is_flushed};
 ghost use Rattle.rvm_event_line.specs.EventLines.{event_lines};
 ghost use Rattle.rvm_move_command.specs.Orders.{IsUnordered, IsWritten};
 
@@ -14,20 +16,21 @@ use rvm_mem::PagedMemory;
 use rvm_refusal::{LinkFault, Refusal};
 use rvm_world::Event;
 use std::alloc::Global;
-use std::io::Write;
+use std::io::{BufWriter, Write};
 
 /// Writes an order of two journals, or tells that there is none.
 #[tactic(auto, using(crate::proofs::Orders::written, crate::proofs::Unordered::no_write, crate::proofs::Unordered::no_order))]
-pub(crate) fn write_order<M: PagedMemory + Drop, O: Write, E: Write>(
+pub(crate) fn write_order<M: PagedMemory + Drop, O: Write + Drop, E: Write>(
     alloc: Global,
     first: &Journal<M>,
     second: &Journal<M>,
-    output: &mut O,
+    output: &mut BufWriter<O>,
     errors: &mut E,
 ) -> Result<u8, LinkFault>
     ensures status { IfOk result (λ status. (status ≡ 0) ⊎ (status ≡ 1)) }
-    ensures order { IfOk result (λ status. status ≡ 0
-        → IsWritten first.now second.now (O.contents output.old) (O.contents output.new)) }
+    ensures order { IfOk result (λ status. status ≡ 0 → IsWritten first.now second.now
+        (writer_contents O.contents output.old) (writer_contents O.contents output.new)) }
+    ensures out { IfOk result (λ status. status ≡ 0 → is_flushed output.new) }
     ensures silent { IfOk result (λ status. status ≡ 0 → E.contents errors.new ≡ E.contents errors.old) }
     ensures failed { IfOk result (λ status. status ≡ 1
         → IsUnordered first.now second.now (E.contents errors.old) (E.contents errors.new)) }
@@ -42,8 +45,13 @@ pub(crate) fn write_order<M: PagedMemory + Drop, O: Write, E: Write>(
 }
 
 /// Writes events, and what the writer held back.
-fn write_whole<O: Write>(output: &mut O, events: &[Event]) -> Result<(), LinkFault>
-    ensures { OnOk result (Appends (O.contents output.old) (O.contents output.new) (event_lines events.now)) }
+fn write_whole<O: Write + Drop>(
+    output: &mut BufWriter<O>,
+    events: &[Event],
+) -> Result<(), LinkFault>
+    ensures written { OnOk result (Appends (writer_contents O.contents output.old)
+        (writer_contents O.contents output.new) (event_lines events.now)) }
+    ensures out { OnOk result (is_flushed output.new) }
 {
     write_events(output, events)?;
     flush(output)

@@ -4,6 +4,7 @@ use Rattle.rvm_refusal.specs.declared.refusal.Refusal.TheVariants as refusal
 use Rattle.rvm_paged.specs.declared.paged_ram.PagedError.{PagedError}
 use Rattle.rvm_paged.specs.declared.paged_ram.PagedError.TheVariants as why
 
+-- of a memory that was not made
 abbrev pub refusal_of : PagedError → Refusal
 refusal_of why.BadSize = refusal.BadSize
 refusal_of why.OutOfMemory = refusal.OutOfMemory

@@ -1,10 +1,13 @@
 //! Each command over files: those that the command line names are read or opened in its order, and then
-//! the command over values is called. The answer is the status. A refusal is answered where a file cannot
-//! be had or a buffer finds no memory; all other refusals are told by the command over values.
+//! the command over values is called. The answer is that command's. A refusal is answered where a file
+//! cannot be had or a buffer finds no memory; all other refusals are told by the command over values.
 
-ghost use Rattle.std.specs.Prelude.{◌≡◌, ◌⊎◌, IfOk};
+ghost use Rattle.std.specs.Prelude.{◌≡◌, ◌⊎◌, IfErr, IfOk};
+ghost use Rattle.std.specs.Io.Buffered.{writer_contents};
+ghost use Rattle.rvm_program.specs.Ended.{AsmEnded, AuditEnded, DebugEnded, DisEnded, MoveEnded, RunEnded, ScriptEnded, written};
+ghost use Rattle.rvm_program.specs.Files.{IsFileRefusal};
 
-use crate::files::{read_file, read_script, refusal_of};
+use crate::files::{NamedFiles, read_file, refusal_of};
 use rvm_arguments::{
     AsmArguments, DisArguments, GuestArguments, MoveArguments, RunArguments, ScriptArguments,
 };
@@ -15,153 +18,172 @@ use rvm_command::run_command::run_command;
 use rvm_mem::PagedMemory;
 use rvm_move_command::audit_command::audit_command;
 use rvm_move_command::move_command::move_command;
-use rvm_refusal::Refusal;
+use rvm_refusal::{LinkFault, Refusal};
 use rvm_world_command::script_command::script_command;
-use std::fs::File;
+use std::alloc::Global;
 use std::io::{BufWriter, Read, Write};
 use std::net::Net;
-use std::rt::Files;
 use std::sync::Wait;
 use std::thread::Threads;
 use std::time::Clock;
 
-/// The status where a write to standard error failed, so that it is not told how the command ended.
-pub(crate) const UNTOLD: u8 = 1;
+/// What a command over values answers: its status, or `LinkFault` where a write to standard error failed, so
+/// that it is not told how the command ended.
+pub(crate) type Told = Result<u8, LinkFault>;
 
 /// Reads the image and the bytes for the console, and runs.
-pub(crate) fn run<M: PagedMemory + Drop, Rt: Files + AllocGlobal, O: Write, E: Write>(
-    rt: &Rt,
+pub(crate) fn run<M: PagedMemory + Drop, F: NamedFiles, O: Write, E: Write>(
+    alloc: Global,
+    files: &F,
     arguments: &RunArguments,
     output: &mut O,
     errors: &mut E,
-) -> Result<u8, Refusal>
-    ensures { IfOk result (λ status. (status ≡ 0) ⊎ (status ≡ 1)) }
+) -> Result<Told, Refusal>
+    ensures ended { IfOk result (λ told. IfOk told (λ status. RunEnded (F.bytes_of files.now) arguments.now status
+        (written (O.contents output.old) (O.contents output.new))
+        (written (E.contents errors.old) (E.contents errors.new)))) }
+    ensures unbegun { IfErr result (λ r. IsFileRefusal r × (O.contents output.new ≡ O.contents output.old)
+        × (E.contents errors.new ≡ E.contents errors.old)) }
 {
-    let image = read_file(rt, arguments.guest.image)?;
+    let image = read_file(files, alloc, arguments.guest.image)?;
     let input = match arguments.input {
-        Some(file) => read_file(rt, file)?,
-        None => Vec::new(rt.alloc()),
+        Some(file) => read_file(files, alloc, file)?,
+        None => Vec::new(alloc),
     };
-    let ended = run_command::<M, O, E>(rt.alloc(), arguments, &image, &input, output, errors);
-    Ok(ended.unwrap_or(UNTOLD))
+    Ok(run_command::<M, O, E>(alloc, arguments, &image, &input, output, errors))
 }
 
 /// Reads the text, opens the file that is written, and assembles.
-pub(crate) fn asm<Rt: Files + AllocGlobal, E: Write>(
-    rt: &Rt,
+pub(crate) fn asm<F: NamedFiles, E: Write>(
+    alloc: Global,
+    files: &F,
     arguments: &AsmArguments,
     errors: &mut E,
-) -> Result<u8, Refusal>
-    ensures { IfOk result (λ status. (status ≡ 0) ⊎ (status ≡ 1)) }
+) -> Result<Told, Refusal>
+    ensures ended { IfOk result (λ told. IfOk told (λ status. AsmEnded (F.bytes_of files.now) arguments.now status
+        (written (E.contents errors.old) (E.contents errors.new)))) }
+    ensures unbegun { IfErr result (λ r. IsFileRefusal r × (E.contents errors.new ≡ E.contents errors.old)) }
 {
-    let source = read_file(rt, arguments.source)?;
-    let mut file = File::create(rt, arguments.output).map_err(refusal_of)?;
-    let ended = asm_command(rt.alloc(), &source, &mut file, errors);
-    Ok(ended.unwrap_or(UNTOLD))
+    let source = read_file(files, alloc, arguments.source)?;
+    let mut file = files.create(arguments.output)?;
+    Ok(asm_command(alloc, &source, &mut file, errors))
 }
 
 /// Reads the image, and writes its lines.
-pub(crate) fn dis<Rt: Files + AllocGlobal, O: Write, E: Write>(
-    rt: &Rt,
+pub(crate) fn dis<F: NamedFiles, O: Write, E: Write>(
+    alloc: Global,
+    files: &F,
     arguments: &DisArguments,
     output: &mut O,
     errors: &mut E,
-) -> Result<u8, Refusal>
-    ensures { IfOk result (λ status. (status ≡ 0) ⊎ (status ≡ 1)) }
+) -> Result<Told, Refusal>
+    ensures ended { IfOk result (λ told. IfOk told (λ status. DisEnded (F.bytes_of files.now) arguments.now status
+        (O.contents output.old) (written (E.contents errors.old) (E.contents errors.new)))) }
+    ensures unbegun { IfErr result (λ r. IsFileRefusal r × (E.contents errors.new ≡ E.contents errors.old)) }
 {
-    let image = read_file(rt, arguments.image)?;
-    let mut output = BufWriter::new(rt.alloc(), output).map_err(refusal_of)?;
-    let ended = dis_command(rt.alloc(), arguments, &image, &mut output, errors);
-    Ok(ended.unwrap_or(UNTOLD))
+    let image = read_file(files, alloc, arguments.image)?;
+    let mut output = buffered(alloc, output)?;
+    Ok(dis_command(alloc, arguments, &image, &mut output, errors))
 }
 
 /// Reads the image, and answers the script that standard input gives.
-pub(crate) fn debug<M: PagedMemory + Drop, Rt: Files + AllocGlobal, I: Read, O: Write, E: Write>(
-    rt: &Rt,
+pub(crate) fn debug<M: PagedMemory + Drop, F: NamedFiles, I: Read, O: Write, E: Write>(
+    alloc: Global,
+    files: &F,
     arguments: &GuestArguments,
     input: &mut I,
     output: &mut O,
     errors: &mut E,
-) -> Result<u8, Refusal>
-    ensures { IfOk result (λ status. (status ≡ 0) ⊎ (status ≡ 1)) }
+) -> Result<Told, Refusal>
+    ensures ended { IfOk result (λ told. IfOk told (λ status. DebugEnded (F.bytes_of files.now) arguments.now status
+        (I.remaining input.old) (O.contents output.old) (written (E.contents errors.old) (E.contents errors.new)))) }
+    ensures unbegun { IfErr result (λ r. IsFileRefusal r × (E.contents errors.new ≡ E.contents errors.old)) }
 {
-    let image = read_file(rt, arguments.image)?;
-    let mut output = BufWriter::new(rt.alloc(), output).map_err(refusal_of)?;
-    let ended = debug_command::<M, _, _, E>(
-        rt.alloc(),
-        arguments,
-        &image,
-        input,
-        &mut output,
-        errors,
-    );
-    Ok(ended.unwrap_or(UNTOLD))
+    let image = read_file(files, alloc, arguments.image)?;
+    let mut output = buffered(alloc, output)?;
+    Ok(debug_command::<M, _, _, E>(alloc, arguments, &image, input, &mut output, errors))
 }
 
-/// Reads the image and the script, and answers the script.
-pub(crate) fn script<M: PagedMemory + Drop, Rt: Files + AllocGlobal, O: Write, E: Write>(
-    rt: &Rt,
+/// Reads the image, opens the script, and answers it.
+pub(crate) fn script<M: PagedMemory + Drop, F: NamedFiles, O: Write, E: Write>(
+    alloc: Global,
+    files: &F,
     arguments: &ScriptArguments,
     output: &mut O,
     errors: &mut E,
-) -> Result<u8, Refusal>
-    ensures { IfOk result (λ status. (status ≡ 0) ⊎ (status ≡ 1)) }
+) -> Result<Told, Refusal>
+    ensures ended { IfOk result (λ told. IfOk told (λ status. ScriptEnded (F.bytes_of files.now) arguments.now status
+        (O.contents output.old) (written (E.contents errors.old) (E.contents errors.new)))) }
+    ensures unbegun { IfErr result (λ r. IsFileRefusal r × (E.contents errors.new ≡ E.contents errors.old)) }
 {
-    let image = read_file(rt, arguments.guest.image)?;
-    let script = read_script(rt, arguments.script)?;
-    let mut output = BufWriter::new(rt.alloc(), output).map_err(refusal_of)?;
-    let mut lines = script.as_slice();
-    let ended = script_command::<M, _, _, E>(
-        rt.alloc(),
-        arguments,
-        &image,
-        &mut lines,
-        &mut output,
-        errors,
-    );
-    Ok(ended.unwrap_or(UNTOLD))
+    let image = read_file(files, alloc, arguments.guest.image)?;
+    let mut script = files.open(arguments.script)?;
+    let mut output = buffered(alloc, output)?;
+    Ok(script_command::<M, _, _, E>(alloc, arguments, &image, &mut script, &mut output, errors))
 }
 
 /// Reads the image, and moves its guest. What is told of the move goes out in pieces.
 pub(crate) fn move_guest<
     M: PagedMemory + Drop + Send,
-    Rt: Files + AllocGlobal + Net + Threads + Wait + Clock + Sync,
+    Rt: AllocGlobal + Net + Threads + Wait + Clock + Sync,
+    F: NamedFiles,
     O: Write,
     E: Write,
->(rt: &Rt, arguments: &MoveArguments, output: &mut O, errors: &mut E) -> Result<u8, Refusal>
+>(
+    rt: &Rt,
+    files: &F,
+    arguments: &MoveArguments,
+    output: &mut O,
+    errors: &mut E,
+) -> Result<Told, Refusal>
 where
     Rt::Stream: Send,
-    ensures { IfOk result (λ status. (status ≡ 0) ⊎ (status ≡ 1)) }
+    ensures ended { IfOk result (λ told. IfOk told (λ status. MoveEnded (F.bytes_of files.now) arguments.now status
+        (written (O.contents output.old) (O.contents output.new)) (E.contents errors.old))) }
+    ensures unbegun { IfErr result (λ r. IsFileRefusal r × (O.contents output.new ≡ O.contents output.old)) }
 {
-    let image = read_file(rt, arguments.guest.image)?;
-    let mut lines = BufWriter::new(rt.alloc(), errors).map_err(refusal_of)?;
-    let ended = move_command::<M, O, _, Rt>(rt, rt.alloc(), arguments, &image, output, &mut lines);
+    let image = read_file(files, rt.alloc(), arguments.guest.image)?;
+    let mut lines = buffered(rt.alloc(), errors)?;
+    let told = move_command::<M, O, _, Rt>(rt, rt.alloc(), arguments, &image, output, &mut lines);
     match lines.flush() {
-        Ok(()) => Ok(ended.unwrap_or(UNTOLD)),
-        Err(_) => Ok(UNTOLD),
+        Ok(()) => Ok(told),
+        Err(_) => Ok(Err(LinkFault)),
     }
 }
 
 /// Reads the image, moves its guest, and writes an order of what both hosts did.
 pub(crate) fn audit<
     M: PagedMemory + Drop + Send,
-    Rt: Files + AllocGlobal + Net + Threads + Wait + Clock + Sync,
+    Rt: AllocGlobal + Net + Threads + Wait + Clock + Sync,
+    F: NamedFiles,
     O: Write,
     E: Write,
->(rt: &Rt, arguments: &MoveArguments, output: &mut O, errors: &mut E) -> Result<u8, Refusal>
+>(
+    rt: &Rt,
+    files: &F,
+    arguments: &MoveArguments,
+    output: &mut O,
+    errors: &mut E,
+) -> Result<Told, Refusal>
 where
     Rt::Stream: Send,
-    ensures { IfOk result (λ status. (status ≡ 0) ⊎ (status ≡ 1)) }
+    ensures ended { IfOk result (λ told. IfOk told (λ status. AuditEnded (F.bytes_of files.now) arguments.now status
+        (O.contents output.old) (written (E.contents errors.old) (E.contents errors.new)))) }
+    ensures unbegun { IfErr result (λ r. IsFileRefusal r × (E.contents errors.new ≡ E.contents errors.old)) }
 {
-    let image = read_file(rt, arguments.guest.image)?;
-    let mut output = BufWriter::new(rt.alloc(), output).map_err(refusal_of)?;
-    let ended = audit_command::<M, _, E, Rt>(
-        rt,
-        rt.alloc(),
-        arguments,
-        &image,
-        &mut output,
-        errors,
-    );
-    Ok(ended.unwrap_or(UNTOLD))
+    let image = read_file(files, rt.alloc(), arguments.guest.image)?;
+    let mut output = buffered(rt.alloc(), output)?;
+    Ok(audit_command::<M, _, E, Rt>(rt, rt.alloc(), arguments, &image, &mut output, errors))
+}
+
+/// A buffer in front of a writer, with nothing in it.
+#[tactic(auto, using(crate::proofs::Buffers::nothing_held))]
+fn buffered<W: Write + Drop>(alloc: Global, writer: W) -> Result<BufWriter<W>, Refusal>
+    ensures empty { IfOk result (λ b. writer_contents W.contents b ≡ W.contents writer) }
+    ensures refused { IfErr result IsFileRefusal }
+{
+    match BufWriter::new(alloc, writer) {
+        Ok(buffer) => Ok(buffer),
+        Err(error) => Err(refusal_of(error)),
+    }
 }

@@ -1,24 +1,31 @@
 //! The program as a function: the words of a command line, the files that they name, and the command.
 //! It prints to the writers that it is given, and answers the status.
 //!
-//! Stands on the commands and `clap`, and reaches files through the runtime alone, so that another
-//! program can call what `rvmove` does.
+//! Stands on the commands and `clap`, and reaches files through the runtime or another `NamedFiles` alone,
+//! so that another program can call what `rvmove` does.
 //!
 //! To be read in this order: `perform`, `commands`, `files`.
 #![tactic(auto)]
 
-ghost use Rattle.std.specs.Prelude.{◌≡◌, ◌≢◌, ◌⊎◌};
+ghost use Rattle.std.specs.Prelude.{◌≡◌, ◌≢◌, ◌⊎◌, None, IfErr, IfOk, map};
 ghost use Rattle.clap.specs.Words.{kind_of};
 ghost use Rattle.clap.specs.declared.error.kind.ErrorKind.TheVariants as kind;
+ghost use Rattle.rvm_program.specs.Ended.{HasEnded, IsSilent, IsUnbegun, written};
+ghost use Rattle.rvm_program.specs.Files.{IsFileRefusal};
+ghost use Rattle.rvm_program.specs.Performed.{AreFaulty, IsDone, IsShown};
 
 mod commands;
 mod files;
 
 use clap::Error;
+use commands::Told;
+use files::HostFiles;
+pub use files::NamedFiles;
 use rvm_arguments::Arguments;
 use rvm_command::refused::{Refused, tell};
 use rvm_command_line::parse_args;
 use rvm_mem::PagedMemory;
+use rvm_refusal::Refusal;
 use std::convert::AsStr;
 use std::io::{Read, Write};
 use std::net::Net;
@@ -27,10 +34,14 @@ use std::sync::Wait;
 use std::thread::Threads;
 use std::time::Clock;
 
+/// The status where a write to standard error failed, so that it is not told how the command ended.
+const UNTOLD: u8 = 1;
+
 /// Does what the words of a command line ask for, of which the first is the program's name, and answers
 /// the status: 0, 1 where it was refused, or 2 for a fault of the command line, which writes nothing to
 /// `output`. `input` stands for standard input, `output` and `errors` for standard output and standard
-/// error. Each guest's memory is an `M`. A guest that moves does so by threads, which may wait for one another, and over TCP.
+/// error. Each guest's memory is an `M`. A guest that moves does so by threads, which may wait for one
+/// another, and over TCP. The files are those of the runtime.
 pub fn perform<
     M: PagedMemory + Drop + Send,
     Rt: Files + AllocGlobal + Net + Threads + Wait + Clock + Sync,
@@ -43,55 +54,165 @@ where
     Rt::Stream: Send,
     ensures status { (result ≡ 0) ⊎ ((result ≡ 1) ⊎ (result ≡ 2)) }
     ensures fault { result ≡ 2 → O.contents output.new ≡ O.contents output.old }
+    ensures done { result ≡ 0 → IsShown (map S.text words.now) (written (E.contents errors.old) (E.contents errors.new))
+        ⊎ IsDone (λ name. None) (map S.text words.now) (I.remaining input.old)
+        (written (O.contents output.old) (O.contents output.new))
+        (written (E.contents errors.old) (E.contents errors.new)) }
+    ensures faulty { AreFaulty (map S.text words.now) → result ≡ 2 }
+{
+    perform_over::<M, Rt, HostFiles<'_, Rt>, S, I, O, E>(
+        rt,
+        &HostFiles { rt },
+        words,
+        input,
+        output,
+        errors,
+    )
+}
+
+/// Does what `perform` does, over any files.
+pub fn perform_over<
+    M: PagedMemory + Drop + Send,
+    Rt: AllocGlobal + Net + Threads + Wait + Clock + Sync,
+    F: NamedFiles,
+    S: AsStr,
+    I: Read,
+    O: Write,
+    E: Write,
+>(rt: &Rt, files: &F, words: &[S], input: &mut I, output: &mut O, errors: &mut E) -> u8
+where
+    Rt::Stream: Send,
+    ensures status { (result ≡ 0) ⊎ ((result ≡ 1) ⊎ (result ≡ 2)) }
+    ensures fault { result ≡ 2 → O.contents output.new ≡ O.contents output.old }
+    ensures done { result ≡ 0 → IsShown (map S.text words.now) (written (E.contents errors.old) (E.contents errors.new))
+        ⊎ IsDone (F.bytes_of files.now) (map S.text words.now) (I.remaining input.old)
+        (written (O.contents output.old) (O.contents output.new))
+        (written (E.contents errors.old) (E.contents errors.new)) }
+    ensures faulty { AreFaulty (map S.text words.now) → result ≡ 2 }
 {
     match parse_args(rt.alloc(), words) {
-        Ok(arguments) => do_command::<M, Rt, I, O, E>(rt, &arguments, input, output, errors),
+        Ok(arguments) => do_command::<M, Rt, F, I, O, E>(
+            rt, files, &arguments, input, output, errors,
+        ),
         Err(error) => explain(&error, output, errors),
     }
 }
 
-/// Does what a command line asks for, and answers the status: 0, or 1 where it was refused. A refusal that the
-/// command has not told itself is told here.
+/// Does what a command line asks for, and answers the status: 0, or 1 where it was refused.
 fn do_command<
     M: PagedMemory + Drop + Send,
-    Rt: Files + AllocGlobal + Net + Threads + Wait + Clock + Sync,
+    Rt: AllocGlobal + Net + Threads + Wait + Clock + Sync,
+    F: NamedFiles,
     I: Read,
     O: Write,
     E: Write,
->(rt: &Rt, arguments: &Arguments, input: &mut I, output: &mut O, errors: &mut E) -> u8
+>(rt: &Rt, files: &F, arguments: &Arguments, input: &mut I, output: &mut O, errors: &mut E) -> u8
 where
     Rt::Stream: Send,
-    ensures { (result ≡ 0) ⊎ (result ≡ 1) }
+    ensures status { (result ≡ 0) ⊎ (result ≡ 1) }
+    ensures done { result ≡ 0 → HasEnded (F.bytes_of files.now) arguments.now 0 (I.remaining input.old)
+        (written (O.contents output.old) (O.contents output.new))
+        (written (E.contents errors.old) (E.contents errors.new)) }
 {
-    let done = match arguments {
-        Arguments::Run(arguments) => commands::run::<M, Rt, O, E>(rt, arguments, output, errors),
-        Arguments::Asm(arguments) => commands::asm(rt, arguments, errors),
-        Arguments::Dis(arguments) => commands::dis(rt, arguments, output, errors),
-        Arguments::Debug(arguments) => commands::debug::<M, Rt, I, O, E>(
-            rt, arguments, input, output, errors,
-        ),
-        Arguments::Script(arguments) => commands::script::<M, Rt, O, E>(
-            rt, arguments, output, errors,
-        ),
-        Arguments::Move(arguments) => commands::move_guest::<M, Rt, O, E>(
-            rt, arguments, output, errors,
-        ),
-        Arguments::Audit(arguments) => commands::audit::<M, Rt, O, E>(
-            rt, arguments, output, errors,
-        ),
-    };
-    match done {
-        Ok(status) => status,
-        Err(refusal) => tell(Refused::from(refusal), errors).unwrap_or(commands::UNTOLD),
+    status_of(tell_end::<M, Rt, F, I, O, E>(rt, files, arguments, input, output, errors))
+}
+
+/// The status of a command, or that of one that did not tell how it ended.
+fn status_of(told: Told) -> u8
+    ensures told { IfOk told (λ status. result ≡ status) }
+    ensures untold { IfErr told (λ fault. result ≡ 1) }
+{
+    told.unwrap_or(UNTOLD)
+}
+
+/// Does what a command line asks for. A refusal that the command has not told itself is told here.
+fn tell_end<
+    M: PagedMemory + Drop + Send,
+    Rt: AllocGlobal + Net + Threads + Wait + Clock + Sync,
+    F: NamedFiles,
+    I: Read,
+    O: Write,
+    E: Write,
+>(rt: &Rt, files: &F, arguments: &Arguments, input: &mut I, output: &mut O, errors: &mut E) -> Told
+where
+    Rt::Stream: Send,
+    ensures { IfOk result (λ status. HasEnded (F.bytes_of files.now) arguments.now status (I.remaining input.old)
+        (written (O.contents output.old) (O.contents output.new))
+        (written (E.contents errors.old) (E.contents errors.new))
+        ⊎ IsUnbegun arguments.now status (written (E.contents errors.old) (E.contents errors.new))) }
+{
+    match begin::<M, Rt, F, I, O, E>(rt, files, arguments, input, output, errors) {
+        Ok(told) => told,
+        Err(refusal) => tell(Refused::from(refusal), errors),
     }
 }
 
-/// Writes the text of a command line that has a fault, or that asks for help or for the version, where `clap` prints it. The
-/// status of a fault is 2.
+/// Calls the command of a command line. It is refused where a file or a buffer cannot be had.
+fn begin<
+    M: PagedMemory + Drop + Send,
+    Rt: AllocGlobal + Net + Threads + Wait + Clock + Sync,
+    F: NamedFiles,
+    I: Read,
+    O: Write,
+    E: Write,
+>(
+    rt: &Rt,
+    files: &F,
+    arguments: &Arguments,
+    input: &mut I,
+    output: &mut O,
+    errors: &mut E,
+) -> Result<Told, Refusal>
+where
+    Rt::Stream: Send,
+    ensures ended { IfOk result (λ told. IfOk told (λ status. HasEnded (F.bytes_of files.now) arguments.now status
+        (I.remaining input.old) (written (O.contents output.old) (O.contents output.new))
+        (written (E.contents errors.old) (E.contents errors.new)))) }
+    ensures unbegun { IfErr result (λ r. IsFileRefusal r
+        × IsSilent arguments.now (written (E.contents errors.old) (E.contents errors.new))) }
+{
+    match arguments {
+        Arguments::Run(arguments) => commands::run::<M, F, O, E>(
+            rt.alloc(),
+            files,
+            arguments,
+            output,
+            errors,
+        ),
+        Arguments::Asm(arguments) => commands::asm(rt.alloc(), files, arguments, errors),
+        Arguments::Dis(arguments) => commands::dis(rt.alloc(), files, arguments, output, errors),
+        Arguments::Debug(arguments) => commands::debug::<M, F, I, O, E>(
+            rt.alloc(),
+            files,
+            arguments,
+            input,
+            output,
+            errors,
+        ),
+        Arguments::Script(arguments) => commands::script::<M, F, O, E>(
+            rt.alloc(),
+            files,
+            arguments,
+            output,
+            errors,
+        ),
+        Arguments::Move(arguments) => commands::move_guest::<M, Rt, F, O, E>(
+            rt, files, arguments, output, errors,
+        ),
+        Arguments::Audit(arguments) => commands::audit::<M, Rt, F, O, E>(
+            rt, files, arguments, output, errors,
+        ),
+    }
+}
+
+/// Writes the text of a command line that has a fault, or that asks for help or for the version, where
+/// `clap` prints it. The status of a fault is 2.
 fn explain<O: Write, E: Write>(error: &Error, output: &mut O, errors: &mut E) -> u8
     ensures status { (result ≡ 0) ⊎ (result ≡ 2) }
+    ensures shown { (kind_of error.now ≡ kind.DisplayHelp) ⊎ (kind_of error.now ≡ kind.DisplayVersion) → result ≡ 0 }
     ensures others { kind_of error.now ≢ kind.DisplayHelp → kind_of error.now ≢ kind.DisplayVersion → result ≡ 2 }
     ensures fault { result ≡ 2 → O.contents output.new ≡ O.contents output.old }
+    ensures quiet { result ≡ 0 → E.contents errors.new ≡ E.contents errors.old }
 {
     if error.use_stderr() {
         let _ = write!(errors, "{error}");

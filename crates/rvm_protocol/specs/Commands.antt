@@ -15,6 +15,7 @@ is_allowed r =
     nat_le 1 r.max_rounds && nat_le r.max_rounds 1000 && nat_le 1 r.min_left
     && nat_le r.min_left 4096 && nat_le 1 r.factor && nat_le r.factor 100
 
+-- a command at a host: an event of the guest, or a command of a move
 pub data Command (E : Type 0) : Type 0 where
   -- an event of the guest
   Board : (event : E) → Command E
@@ -27,6 +28,7 @@ pub data Command (E : Type 0) : Type 0 where
   -- give the move up
   AbortMove : Command E
 
+-- an event of a host: a command, or a frame that comes, with the host that sent it
 pub data HostEvent (P E B : Type 0) : Type 0 where
   Do : (command : Command E) → HostEvent P E B
   Came : (from : ℕ) → (frame : Frame P B) → HostEvent P E B

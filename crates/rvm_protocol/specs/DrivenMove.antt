@@ -26,11 +26,12 @@ module _ {E : Type 0} where
       ++ Deliver (k + 3 + n + s) ∷ Deliver (k + 4 + n + s) ∷ Deliver (k + 5 + n + s) ∷ []
 
 module _ {A : Type 0} where
-  -- the replies to the copies of a state of s frames, and to its frames
+  -- the replies to the copies of a state of s frames
   abbrev pub state_replies : (version s : ℕ) → List (Reply A)
   state_replies version s =
       if is_compact version then listed (λ i. PartSent i s) 0 s else StateSent ∷ []
 
+  -- the replies to these frames at the target, the last one ReadySent
   abbrev pub arrival_replies : (version s : ℕ) → List (Reply A)
   arrival_replies version s =
       if is_compact version then listed (λ i. Kept i s) 0 (s - 1) ++ ReadySent ∷ []

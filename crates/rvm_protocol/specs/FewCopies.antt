@@ -11,6 +11,7 @@ module _ {S P E A B : Type 0} (m : Guest S P E A B) where
   FewCopies (Copying n r) = r.copies ≤ r.policy.max_rounds * page_count m r.guest
   FewCopies mode = Unit {0}
 
+  -- at each host, after any run of a world, pre-copy has made no more copies than that
   unfoldable pub CopiesAreBounded : Type 0
   CopiesAreBounded =
       (g : S) (version count : ℕ) (limits : ℕ → ℕ) (events : List (Event E)) (x : ℕ)

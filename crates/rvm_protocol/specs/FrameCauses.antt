@@ -37,12 +37,15 @@ module _ {P E A B : Type 0} where
   says_started n (Came from (Go k)) StartedHere = k ≡ n
   says_started n e r = ⊥
 
+  -- an entry tells that the state of move n was answered ReadySent
   abbrev pub WasReady : List (Entry P E A B) → ℕ → Type 0
   WasReady past n = Somewhere (λ (x : Entry P E A B). says_ready n x.event x.reply) past
 
+  -- an entry tells that move n was committed
   abbrev pub WasCommitted : List (Entry P E A B) → ℕ → Type 0
   WasCommitted past n = Somewhere (λ (x : Entry P E A B). says_committed n x.reply) past
 
+  -- an entry tells that Go of move n was answered Started
   abbrev pub WasStarted : List (Entry P E A B) → ℕ → Type 0
   WasStarted past n = Somewhere (λ (x : Entry P E A B). says_started n x.event x.reply) past
 

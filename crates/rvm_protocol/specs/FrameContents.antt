@@ -24,6 +24,7 @@ module _ {S P E A B : Type 0} (m : Guest S P E A B) where
     pub inside : part < parts
     pub piece : bytes ≡ get_or (m.cut numbers (m.body g)) part []
 
+  -- a Page or Zero carries the page as g has it, a State the state of g, a Part one of its pieces
   abbrev pub Carries : S → Frame P B → Type 0
   Carries g (Page n p k b) = b ≡ page_of m g p
   Carries g (Zero n p k) = page_of m g p ≡ m.zeros

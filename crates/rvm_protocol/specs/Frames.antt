@@ -4,6 +4,7 @@ use Rattle.std.specs.declared.option.Option.{Option}
 use Rattle.std.specs.declared.option.Option.TheVariants.{Some, None}
 use Rattle.rvm_protocol.specs.Guest.{Guest}
 
+-- one message between hosts, with the number of its move
 pub data Frame (P B : Type 0) : Type 0 where
   -- the source asks to move a guest of this size
   Offer : (move pages processors : ℕ) → Frame P B
@@ -53,6 +54,7 @@ module _ {S P E A B : Type 0} (m : Guest S P E A B) where
       if is_compact version && m.is_zeros b then Zero n p k else Page n p k b
   written version f = f
 
+  -- the frame that a host made, if any, as it is sent
   abbrev pub made_as : (version : ℕ) → Option (Frame P B) → Option (Frame P B)
   made_as version None = None
   made_as version (Some f) = Some (written version f)

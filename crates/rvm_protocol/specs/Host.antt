@@ -15,6 +15,7 @@ pub record Host (S P : Type 0) : Type 0 where
   pub mode : Mode S P
   pub partner : ℕ
 
+-- what an event gives at a host: a reply, a frame with its address if one is made, and the host after it
 pub record Result (S P A B : Type 0) : Type 0 where
   pub reply : Reply A
   pub made : Option (Addressed P B)
@@ -52,15 +53,18 @@ module _ {S P E A B : Type 0} (m : Guest S P E A B) where
       if is_there self count to then begin m p (Run n g) else refuses BadHost (Run n g)
   obey_at version self count c mode = obey m version c mode
 
+  -- what a frame that comes does; one that is not heard is ignored
   abbrev pub came_at : (self count limit from : ℕ) → Frame P B → Host S P → Outcome S P A B
   came_at self count limit from f h =
       if is_heard self count from f h then came m limit f h.mode else ignores h.mode
 
+  -- the reply, the frame and the mode that an event gives at a host
   abbrev pub outcome : (version self count limit : ℕ) → HostEvent P E B → Host S P
       → Outcome S P A B
   outcome version self count limit (Do c) h = obey_at version self count c h.mode
   outcome version self count limit (Came from f) h = came_at self count limit from (plain m f) h
 
+  -- an outcome as a result: its frame gets an address and is written for the stream, its reply settles the partner
   abbrev pub settled : (version self : ℕ) → HostEvent P E B → ℕ → Outcome S P A B
       → Result S P A B
   settled version self e partner o =

@@ -8,6 +8,7 @@ use Rattle.rvm_protocol.specs.Replies.{Refusal, Ignored, Reply, Refused}
 use Rattle.rvm_protocol.specs.Rounds.{Rounds, Last}
 use Rattle.rvm_protocol.specs.Staging.{Stage}
 
+-- what a host has of a guest, and where it stands in a move
 pub data Mode (S P : Type 0) : Type 0 where
   -- no guest
   Empty : (seen : ℕ) → Mode S P
@@ -32,6 +33,7 @@ pub record Outcome (S P A B : Type 0) : Type 0 where
   pub made : Option (Frame P B)
   pub next : Mode S P
 
+-- the highest number of a move that the host has begun or staged
 abbrev pub move_of : {S P : Type 0} → Mode S P → ℕ
 move_of (Empty n) = n
 move_of (Run n g) = n
@@ -62,8 +64,10 @@ module _ {S P A B : Type 0} where
   abbrev pub sends : Reply A → Frame P B → Mode S P → Outcome S P A B
   sends r f mode = record { reply = r; made = Some f; next = mode }
 
+  -- a refusal, with no frame
   abbrev pub refuses : Refusal → Mode S P → Outcome S P A B
   refuses why mode = record { reply = Refused why; made = None; next = mode }
 
+  -- a frame that came is ignored
   abbrev pub ignores : Mode S P → Outcome S P A B
   ignores mode = refuses Ignored mode

@@ -5,15 +5,18 @@ use Rattle.rvm_protocol.specs.Commands.{Board, HostEvent, Do}
 use Rattle.rvm_protocol.specs.Replies.{Reply, Answered}
 use Rattle.rvm_protocol.specs.World.{Entry}
 
+-- a reply is the guest's answer to an event of its own
 abbrev pub is_answer : {A : Type 0} → Reply A → Bool
 is_answer (Answered a) = true
 is_answer r = false
 
 module _ {P E A B : Type 0} where
+  -- the guest's event that was answered, if this is one
   abbrev pub accepted_here : HostEvent P E B → Reply A → List E
   accepted_here (Do (Board e)) (Answered a) = e ∷ []
   accepted_here e r = []
 
+  -- its answer, if it was answered
   abbrev pub answered_here : HostEvent P E B → Reply A → List A
   answered_here (Do (Board e)) (Answered a) = a ∷ []
   answered_here e r = []

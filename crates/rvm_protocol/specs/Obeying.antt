@@ -27,9 +27,11 @@ module _ {S P E A B : Type 0} (m : Guest S P E A B) where
   board e (Staging n s) = refuses NotHere (Staging n s)
   board e (Held n g) = refuses Paused (Held n g)
 
+  -- the offer of move n, with the guest's size
   abbrev pub offer_frame : ℕ → S → Frame P B
   offer_frame n g = Offer n (page_count m g) (m.processors g)
 
+  -- a move begins under the next number: its offer is sent, and the guest runs on
   abbrev pub begun : Policy → ℕ → S → Outcome S P A B
   begun p n g = sends (Begun (suc n)) (offer_frame (suc n) g) (Offering (suc n) g p)
 
@@ -37,6 +39,7 @@ module _ {S P E A B : Type 0} (m : Guest S P E A B) where
   abbrev pub begin_allowed : Policy → ℕ → S → Outcome S P A B
   begin_allowed p n g = if n == 2 ^ 64 - 1 then refuses EpochsSpent (Run n g) else begun p n g
 
+  -- only a host whose guest runs, with no move going on, begins one
   abbrev pub begin : Policy → Mode S P → Outcome S P A B
   begin p (Empty n) = refuses NotHere (Empty n)
   begin p (Run n g) = if is_allowed p then begin_allowed p n g else refuses BadSize (Run n g)
@@ -47,6 +50,7 @@ module _ {S P E A B : Type 0} (m : Guest S P E A B) where
   begin p (Staging n s) = refuses NotHere (Staging n s)
   begin p (Held n g) = refuses NotHere (Held n g)
 
+  -- page p of the running guest is sent as the move's next copy
   abbrev pub sends_page : ℕ → Rounds S → ℕ → Outcome S P A B
   sends_page n r p =
       sends (Copied p (suc r.copies)) (Page n p (suc r.copies) (page_of m r.guest p))
@@ -64,6 +68,7 @@ module _ {S P E A B : Type 0} (m : Guest S P E A B) where
       (RoundEnd n r.round r.sent (total - r.sent) left)
       (Copying n (if stops m r then round_over m r else next_round m r))
 
+  -- page p of the paused guest is sent as the move's next copy
   abbrev pub sends_last : ℕ → Last S → ℕ → Outcome S P A B
   sends_last n l p =
       sends (Copied p (suc l.copies)) (Page n p (suc l.copies) (page_of m l.guest p))
@@ -91,6 +96,7 @@ module _ {S P E A B : Type 0} (m : Guest S P E A B) where
   copy_last version n l None =
       sends_state version StateSent (PartSent l.turn (length (pieces_of m l))) n l
 
+  -- copies in rounds; once the stop rule said yes, the guest is paused, and the last pages and the state go out
   abbrev pub copy : (version : ℕ) → Mode S P → Outcome S P A B
   copy version (Empty n) = refuses NotHere (Empty n)
   copy version (Run n g) = refuses NoMove (Run n g)
@@ -102,10 +108,12 @@ module _ {S P E A B : Type 0} (m : Guest S P E A B) where
   copy version (Staging n s) = refuses NotHere (Staging n s)
   copy version (Held n g) = refuses NotHere (Held n g)
 
+  -- the state is sent again where no page of the paused guest is left to be copied
   abbrev pub resend_last : (version : ℕ) → ℕ → Last S → Option ℕ → Outcome S P A B
   resend_last version n l (Some p) = refuses NoMove (Stopped n l)
   resend_last version n l None = sends_state version Resent Resent n l
 
+  -- what the other party may not have heard is sent again: the offer, the state, Ready or Go
   abbrev pub resend : (version : ℕ) → Mode S P → Outcome S P A B
   resend version (Empty n) = refuses NoMove (Empty n)
   resend version (Run n g) = refuses NoMove (Run n g)
@@ -127,6 +135,7 @@ module _ {S P E A B : Type 0} (m : Guest S P E A B) where
   abort (Staging n s) = refuses NotHere (Staging n s)
   abort (Held n g) = refuses NotHere (Held n g)
 
+  -- what a command does in a mode
   abbrev pub obey : (version : ℕ) → Command E → Mode S P → Outcome S P A B
   obey version (Board e) mode = board e mode
   obey version (Begin to p) mode = begin p mode

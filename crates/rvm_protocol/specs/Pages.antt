@@ -7,9 +7,11 @@ use Rattle.std.specs.declared.option.Option.TheVariants.{Some, None}
 abbrev pub Pages : Type 0
 Pages = ℕ → Bool
 
+-- no page
 abbrev pub none : Pages
 none p = false
 
+-- every page
 abbrev pub all : Pages
 all p = true
 

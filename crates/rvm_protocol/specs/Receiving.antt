@@ -16,6 +16,7 @@ module _ {S P E A B : Type 0} (m : Guest S P E A B) where
   abbrev pub of_this_move : ℕ → ℕ → Outcome S P A B → Mode S P → Outcome S P A B
   of_this_move n k o mode = if n == k then o else ignores mode
 
+  -- a guest of more pages than the host takes is declined, any other is staged
   abbrev pub offered : (limit n pages processors : ℕ) → Mode S P → Outcome S P A B
   offered limit n pages processors mode =
       if nat_lt limit pages then sends (Declined limit) (Refuse n limit) mode
@@ -47,11 +48,13 @@ module _ {S P E A B : Type 0} (m : Guest S P E A B) where
       then sends (Lacking count) (Lost n (members missing 0 (length s.pages))) (Staging n s)
       else guest_read n old (m.build s.processors body s.pages)
 
+  -- a state that does not number each page of the stage is bad
   abbrev pub state_came : ℕ → (old s : Stage P) → List ℕ → B → Outcome S P A B
   state_came n old s numbers body =
       if length numbers == length s.pages then state_compared n old s numbers body
       else refuses BadState (Staging n old)
 
+  -- pieces that join to no state are bad
   abbrev pub pieces_joined : ℕ → (old s : Stage P) → Option (List ℕ × B) → Outcome S P A B
   pieces_joined n old s None = refuses BadState (Staging n old)
   pieces_joined n old s (Some state) = state_came n old s state.0 state.1
@@ -62,6 +65,7 @@ module _ {S P E A B : Type 0} (m : Guest S P E A B) where
   part_kept n old s part parts None = says (Kept part parts) (Staging n s)
   part_kept n old s part parts (Some pieces) = pieces_joined n old s (m.join pieces)
 
+  -- a piece is put to the others where the stage takes it
   abbrev pub part_came : ℕ → Stage P → (stamp part parts : ℕ) → List ℕ → Outcome S P A B
   part_came n s stamp part parts bytes =
       if takes_part s stamp part parts
@@ -79,6 +83,7 @@ module _ {S P E A B : Type 0} (m : Guest S P E A B) where
         to_fix = λ p. l.to_fix p || (is_in ps p && nat_lt p (page_count m l.guest));
       }))
 
+  -- what a frame does in a mode of a host that takes guests of at most limit pages
   abbrev pub came : ℕ → Frame P B → Mode S P → Outcome S P A B
   came limit (Offer k pages processors) (Empty n) =
       offer_above n limit k pages processors (Empty n)

@@ -1,6 +1,7 @@
 -- What a host answers to an event.
 use Rattle.std.specs.Prelude.{ℕ}
 
+-- why an event was refused
 pub data Refusal : Type 0 where
   -- a policy out of its limits
   BadSize : Refusal
@@ -25,6 +26,7 @@ pub data Refusal : Type 0 where
   -- no such other host
   BadHost : Refusal
 
+-- the reply of a host: the guest's answer to its event, or how a move goes on
 pub data Reply (A : Type 0) : Type 0 where
   -- the guest's answer to an event of its own
   Answered : (answer : A) → Reply A

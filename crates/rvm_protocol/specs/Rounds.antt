@@ -47,9 +47,11 @@ is_skipped r p =
     if not (r.scan % 64 == 0) && (p / 64 == r.scan / 64) then r.to_skip p else r.log p
 
 module _ {S P E A B : Type 0} (m : Guest S P E A B) where
+  -- how many pages a guest has
   abbrev pub page_count : S → ℕ
   page_count g = length (m.pages g)
 
+  -- page p of a guest, zeros past the last one
   abbrev pub page_of : S → ℕ → P
   page_of g p = get_or (m.pages g) p m.zeros
 
@@ -82,6 +84,7 @@ module _ {S P E A B : Type 0} (m : Guest S P E A B) where
       || nat_lt (size r.log (page_count r.guest)) r.policy.min_left
       || nat_lt (r.policy.factor * page_count r.guest) r.copies
 
+  -- page p is sent: its copy gets the next number, and the scan goes on behind it
   abbrev pub page_copied : Rounds S → ℕ → Rounds S
   page_copied r p =
       record r {
@@ -124,6 +127,7 @@ module _ {S P E A B : Type 0} (m : Guest S P E A B) where
   abbrev pub to_copy : Last S → Option ℕ
   to_copy l = least (λ p. l.to_send p || l.to_fix p) 0 (page_count l.guest)
 
+  -- page p of the paused guest is sent: nothing of it is left to copy, and the first piece of the state is due again
   abbrev pub last_copied : Last S → ℕ → Last S
   last_copied l p =
       record l {

@@ -7,11 +7,13 @@ use Rattle.rvm_protocol.specs.Host.{Host}
 use Rattle.rvm_protocol.specs.Told.{Told}
 
 module _ {S P : Type 0} where
+  -- the guest is here and paused: stopped at its source, or held at its target
   abbrev pub is_paused : Mode S P → Bool
   is_paused (Stopped n l) = true
   is_paused (Held n g) = true
   is_paused mode = false
 
+  -- the whole guest is here, and waits for the commit
   abbrev pub is_held : Mode S P → Bool
   is_held (Held n g) = true
   is_held mode = false
@@ -31,6 +33,7 @@ module _ {S P : Type 0} where
   holds_current partner c (Held n g) = has_given n partner.mode × (partner.partner ≡ c)
   holds_current partner c mode = ⊥
 
+  -- host c is the current host, by its own mode and its partner's
   abbrev pub IsCurrent : (ℕ → Host S P) → ℕ → Type 0
   IsCurrent hosts c = holds_current (hosts (hosts c).partner) c (hosts c).mode
 
@@ -41,6 +44,7 @@ module _ {S P : Type 0} where
   IsTarget targets d (Stopped n l) = targets n ≡ d
   IsTarget targets d mode = Unit {0}
 
+  -- what the replies told is what the modes show
   pub record Shown (hosts : ℕ → Host S P) (t : Told S) : Type 0 where
     pub current : IsCurrent hosts t.current
     pub guest : guest_in (hosts t.current).mode ≡ Some t.guest

@@ -5,6 +5,7 @@ use Rattle.std.specs.declared.option.Option.{Option}
 use Rattle.std.specs.declared.option.Option.TheVariants.{Some, None}
 use Rattle.rvm_protocol.specs.Pages.{Pages, put}
 
+-- what a target keeps of a guest that comes: its pages, and the pieces of its state
 pub record Stage (P : Type 0) : Type 0 where
   pub pages : List P
   -- the number of each page's copy that is staged, 0 for none

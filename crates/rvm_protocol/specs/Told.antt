@@ -7,6 +7,7 @@ use Rattle.rvm_protocol.specs.Replies.{NotHere, Paused, BadHost, Reply, Answered
 use Rattle.rvm_protocol.specs.Pages.{put}
 use Rattle.rvm_protocol.specs.World.{Entry}
 
+-- what the replies so far told of the guest and its moves
 pub record Told (S : Type 0) : Type 0 where
   pub current : ℕ
   pub paused : Bool
@@ -21,6 +22,7 @@ abbrev pub reply_current : {A : Type 0} → Reply A → (ℕ → ℕ) → ℕ �
 reply_current (Committed n) targets x = targets n
 reply_current r targets x = x
 
+-- Begun gives its move the target that Begin named
 abbrev pub reply_targets : {P E A B : Type 0} → HostEvent P E B → Reply A → (ℕ → ℕ) → ℕ → ℕ
 reply_targets (Do (Begin to p)) (Begun n) targets = put targets n to
 reply_targets e r targets = targets
@@ -57,6 +59,7 @@ module _ {S P E A B : Type 0} (m : Guest S P E A B) where
   reply_guest (Do (Board e)) (Answered a) g = m.next g e
   reply_guest e r g = g
 
+  -- what is told after one more reply, to an event at host x
   abbrev pub told_reply : ℕ → HostEvent P E B → Reply A → Told S → Told S
   told_reply x e r t =
       record {
@@ -67,6 +70,7 @@ module _ {S P E A B : Type 0} (m : Guest S P E A B) where
         guest = reply_guest e r t.guest;
       }
 
+  -- what is told after the entries of a run
   unfoldable pub told : Told S → List (Entry P E A B) → Told S
   told t [] = t
   told t (e ∷ es) = told (told_reply e.host e.event e.reply t) es

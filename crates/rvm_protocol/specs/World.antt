@@ -11,6 +11,7 @@ use Rattle.rvm_protocol.specs.Pages.{put}
 use Rattle.rvm_protocol.specs.Modes.{Mode, Empty, Run}
 use Rattle.rvm_protocol.specs.Host.{Host, Result, host_step}
 
+-- hosts by number, and all frames that were sent
 pub record World (S P B : Type 0) : Type 0 where
   -- the version of its streams: 1, 2 or 3
   pub version : ℕ
@@ -22,6 +23,7 @@ pub record World (S P B : Type 0) : Type 0 where
   -- each frame ever sent, oldest first
   pub sent : List (Addressed P B)
 
+-- an event of a world: a command at a host, or a frame that is delivered
 pub data Event (E : Type 0) : Type 0 where
   -- a command at a host
   At : (host : ℕ) → (command : Command E) → Event E
@@ -39,15 +41,18 @@ unfoldable pub Has : {X : Type 0} → List X → X → Type 0
 Has [] x = ⊥
 Has (y ∷ ys) x = (y ≡ x) ⊎ Has ys x
 
+-- the frames that were sent, and behind them the one that was made, if any
 abbrev pub and_sent : {P B : Type 0} → List (Addressed P B) → Option (Addressed P B)
     → List (Addressed P B)
 and_sent sent None = sent
 and_sent sent (Some f) = sent ++ f ∷ []
 
 module _ {S P E A B : Type 0} (m : Guest S P E A B) where
+  -- the mode of host x
   abbrev pub mode_at : World S P B → ℕ → Mode S P
   mode_at w x = (w.hosts x).mode
 
+  -- what an event gives at host x
   abbrev pub result_at : World S P B → ℕ → HostEvent P E B → Result S P A B
   result_at w x e = host_step m w.version x w.count (w.limits x) e (w.hosts x)
 
@@ -57,6 +62,7 @@ module _ {S P E A B : Type 0} (m : Guest S P E A B) where
       let o = result_at w x e in
       record w { hosts = put w.hosts x o.next; sent = and_sent w.sent o.made }
 
+  -- a frame that comes, if there is one: the host that it is for, and its event there
   abbrev pub frame_for : Option (Addressed P B) → Option (ℕ × HostEvent P E B)
   frame_for None = None
   frame_for (Some f) = Some (f.to, Came f.from f.frame)
@@ -66,15 +72,18 @@ module _ {S P E A B : Type 0} (m : Guest S P E A B) where
   meaning w (At x c) = if nat_lt x w.count then Some (x, Do c) else None
   meaning w (Deliver k) = frame_for (slice_get w.sent k)
 
+  -- the world after what happened at a host, unchanged where nothing did
   abbrev pub happened : World S P B → Option (ℕ × HostEvent P E B) → World S P B
   happened w None = w
   happened w (Some e) = world_at w e.0 e.1
 
+  -- what is seen of what happened at a host, nothing where nothing did
   abbrev pub entry_of : World S P B → Option (ℕ × HostEvent P E B) → List (Entry P E A B)
   entry_of w None = []
   entry_of w (Some e) =
       record { host = e.0; event = e.1; reply = (result_at w e.0 e.1).reply } ∷ []
 
+  -- the reply to what happened at a host, or r where nothing did
   abbrev pub reply_or : World S P B → Reply A → Option (ℕ × HostEvent P E B) → Reply A
   reply_or w r None = r
   reply_or w r (Some e) = (result_at w e.0 e.1).reply
@@ -107,6 +116,7 @@ module _ {S P E A B : Type 0} (m : Guest S P E A B) where
   abbrev pub new_host : S → ℕ → Host S P
   new_host g x = record { mode = if x == 0 then Run 0 g else Empty 0; partner = x }
 
+  -- a world at its start: the guest runs at host 0, and no frame was sent
   abbrev pub new_world : (version : ℕ) → S → (count : ℕ) → (limits : ℕ → ℕ) → World S P B
   new_world version g count limits =
       record {

@@ -8,7 +8,7 @@ use rvm_paged::PagedRam;
 use rvm_refusal::LinkFault;
 use std::alloc::{AllocError, Global};
 use std::io;
-use std::io::Write;
+use std::io::{BufWriter, Write};
 use std::test::Fail;
 
 /// Sends A without end: lui t0, 0x10000; addi t1, a0, 65; sw t1, 0(t0); jal zero, -4.
@@ -109,18 +109,22 @@ fn a_failed_write_of_a_run_is_told(rt: HostRuntime) -> Result<(), Fail> {
 fn a_failed_write_of_an_answer_is_told(rt: HostRuntime) -> Result<(), Fail> {
     let alloc = rt.alloc();
     let image = bytes_of(alloc, &LETTERS)?;
-    let (mut output, mut errors) = (Narrow { room: 10 }, Vec::new(alloc));
-    let mut reader = "regs 0\n".as_bytes();
-    let status = debug_command::<PagedRam, _, _, _>(
-        alloc,
-        &guest(),
-        &image,
-        &mut reader,
-        &mut output,
-        &mut errors,
-    );
-    assert_eq!(rt; errors.as_slice(), REFUSAL.as_bytes());
-    assert_eq!(rt; status, Ok(1));
+    // The output fails while answers are written, or only when those that were held back go out.
+    for capacity in [0, 8192] {
+        let mut output = BufWriter::with_capacity(alloc, capacity, Narrow { room: 10 })?;
+        let mut errors = Vec::new(alloc);
+        let mut reader = "regs 0\n".as_bytes();
+        let status = debug_command::<PagedRam, _, _, _>(
+            alloc,
+            &guest(),
+            &image,
+            &mut reader,
+            &mut output,
+            &mut errors,
+        );
+        assert_eq!(rt; errors.as_slice(), REFUSAL.as_bytes());
+        assert_eq!(rt; status, Ok(1));
+    }
     Ok(())
 }
 

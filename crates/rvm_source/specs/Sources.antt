@@ -12,6 +12,7 @@ use Rattle.rvm_protocol.specs.Rounds.{page_count}
 use Rattle.rvm_source.specs.declared.phase.Phase.{Phase}
 use Rattle.rvm_source.specs.declared.phase.Phase.TheVariants as phases
 
+-- the number of its move; its guest with the dirty log; its plan; its phase
 pub record PlainSource : Type 0 where
   pub move_number : ℕ
   pub guest : GuestState
@@ -31,6 +32,7 @@ mode_in n g r phases.Offering = protocol.Offering n g.guest r.policy
 mode_in n g r phases.Copying = protocol.Copying n (rounds_of g.guest g.dirty r)
 mode_in n g r (phases.Stopped turn) = protocol.Stopped n (last_of g.guest turn r)
 
+-- the mode in which a source is, by the law
 abbrev pub mode_of : PlainSource → BoardMode
 mode_of s = mode_in s.move_number s.guest s.plan s.phase
 
@@ -50,6 +52,7 @@ abbrev pub is_offering : (move : ℕ) → BoardMode → Bool
 is_offering k (protocol.Offering n g p) = k == n
 is_offering k mode = false
 
+-- a guest is paused for this move
 abbrev pub is_stopped : (move : ℕ) → BoardMode → Bool
 is_stopped k (protocol.Stopped n l) = k == n
 is_stopped k mode = false

@@ -31,5 +31,6 @@ turned_in phases.Offering h n s = turns_on (guest_turned h n s.guest.guest) s
 turned_in phases.Copying h n s = turns_on (guest_turned h n s.guest.guest) s
 turned_in (phases.Stopped turn) h n s = stays s
 
+-- at most n turns of hart h, in the phase of the source
 abbrev pub source_turned : (h n : ℕ) → PlainSource → SourceTurned
 source_turned h n s = turned_in s.phase h n s

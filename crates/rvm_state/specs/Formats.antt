@@ -22,6 +22,7 @@ aligned = only (any 4) (λ n. n % 4 == 0)
 abbrev pub enables_of : ℕ → Bool × Bool
 enables_of n = (is_set 3 n, is_set 7 n)
 
+-- mstatus with MIE and MPIE, and no other bit
 abbrev pub enable_bits : Bool × Bool → ℕ
 enable_bits x = bit (2 ^ 3) x.0 + bit (2 ^ 7) x.1
 
@@ -41,6 +42,7 @@ mtvec = only (any 4) (λ n. n / 2 % 2 == 0)
 abbrev pub CsrParts : Type 0
 CsrParts = (Bool × Bool) × (Interrupts × (ℕ × (ℕ × (ℕ × (ℕ × (ℕ × (ℕ × ℕ)))))))
 
+-- the control and status registers that these parts make
 abbrev pub csrs_of : CsrParts → CsrFields
 csrs_of t =
     record {
@@ -56,10 +58,12 @@ csrs_of t =
       minstret = t.1.1.1.1.1.1.1.1;
     }
 
+-- the parts of the control and status registers of a hart
 abbrev pub csr_parts : CsrFields → CsrParts
 csr_parts c =
     ((c.interrupts_enabled, c.enabled_before), (c.mie, (c.mtvec, (c.mscratch, (c.mepc, (c.mcause, (c.mtval, (c.mcycle, c.minstret))))))))
 
+-- the control and status registers of a hart
 unfoldable pub csrs : Codec CsrFields
 csrs =
     as_type
@@ -72,6 +76,7 @@ csrs =
 abbrev pub HartParts : Type 0
 HartParts = ℕ × (List ℕ × (CsrFields × (Bool × (ℕ × (Option ℕ × Bool)))))
 
+-- the hart that these parts make
 abbrev pub hart_of : HartParts → HartPart
 hart_of t =
     record {
@@ -82,6 +87,7 @@ hart_of t =
       stopped = t.1.1.1.1.1.1;
     }
 
+-- the parts of a hart
 abbrev pub hart_parts : HartPart → HartParts
 hart_parts p =
     (p.fields.pc, (p.fields.registers, (p.fields.csrs, (p.msip, (p.mtimecmp, (p.reserved, p.stopped))))))
@@ -103,12 +109,15 @@ anything n = true
 abbrev pub SharedParts : Type 0
 SharedParts = Option ℕ × (Bool × (Bool × ℕ))
 
+-- what the devices keep that all harts share, made of its parts
 abbrev pub shared_of : SharedParts → DeviceFields
 shared_of t = record { mtime = t.1.1.1; interrupt_enable = t.1.1.0; overrun = t.1.0; halted = t.0 }
 
+-- the parts of what the devices keep that all harts share
 abbrev pub shared_parts : DeviceFields → SharedParts
 shared_parts f = (f.halted, (f.overrun, (f.interrupt_enable, f.mtime)))
 
+-- what the devices keep that all harts share
 unfoldable pub shared : Codec DeviceFields
 shared = as_type (both (optional (any 1) anything) (both flag (both flag (any 8)))) shared_of shared_parts
 
@@ -124,13 +133,16 @@ breakpoints = only (counted_each 1 (within 0 64) (any 4)) (rise_from 0)
 abbrev pub StateParts : Type 0
 StateParts = ((ℕ × DeviceFields) × List HartPart) × (List ℕ × (List ℕ × List ℕ))
 
+-- the state that these parts make
 abbrev pub whole_of : StateParts → State
 whole_of t =
     record { harts = t.0.1; shared = t.0.0.1; input = t.1.0; output = t.1.1.0; breakpoints = t.1.1.1 }
 
+-- the parts of a state, with the number of its harts
 abbrev pub whole_parts : State → StateParts
 whole_parts s = (((length s.harts, s.shared), s.harts), (s.input, (s.output, s.breakpoints)))
 
+-- as many harts as the head says, at most 16 bytes of input and 4096 of output, and the breakpoints
 unfoldable pub parts : (size : ℕ) → Codec StateParts
 parts size =
     both (then_each head (λ h. h.0) (hart size))

@@ -1,5 +1,5 @@
 //! The words of a line of assembly text: its tokens, each a part of the line, and what a word
-//! spells. It stands on nothing, and knows neither instructions nor what a line means.
+//! spells. It stands on the numbered refusals, and knows neither instructions nor what a line means.
 //!
 //! `token` takes a line apart; `numbers`, `registers` and `strings` read a number, the name of a
 //! register and the text of a string.

@@ -38,9 +38,10 @@ quotient a b = if b == 0 then 2 ^ 32 - 1 else modulo 32 (int_div (signed a) (sig
 abbrev pub remainder : ℕ → ℕ → ℕ
 remainder a b = if b == 0 then a else modulo 32 (int_rem (signed a) (signed b))
 
--- the unsigned quotient and remainder, which by zero are all ones and the dividend
+-- the unsigned quotient of two words; by zero all bits are ones
 abbrev pub unsigned_quotient : ℕ → ℕ → ℕ
 unsigned_quotient a b = if b == 0 then 2 ^ 32 - 1 else a / b
 
+-- the remainder of that unsigned quotient; by zero it is the dividend
 abbrev pub unsigned_remainder : ℕ → ℕ → ℕ
 unsigned_remainder a b = if b == 0 then a else a % b

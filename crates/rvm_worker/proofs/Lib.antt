@@ -1,2 +1,4 @@
 pub mod Sends
 pub mod Works
+pub mod Endings
+pub mod Heard

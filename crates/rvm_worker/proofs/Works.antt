@@ -1,14 +1,20 @@
 -- Receipts behind those that are there.
-use Rattle.std.proofs.Common.{◌≡◌, ◌∙◌, ℕ, zero, suc, ◌+◌, List, [], ◌∷◌, ◌++◌, length, length-append, Some, ap, sym, subst, arith, inl, inr}
+use Rattle.std.proofs.Common.{◌≡◌, ◌∙◌, ℕ, zero, suc, ◌+◌, ◌-◌, List, [], ◌∷◌, ◌++◌, append-nil, length, length-append, Some, Result, Ok, Err, ap, refl, sym, subst, arith, inl, inr}
 use Rattle.std.proofs.lemmas.List.Elements.{All-push}
+use Rattle.std.proofs.lemmas.List.Concat.{flat_map-append}
 use Rattle.std.specs.List.{All}
-use Rattle.std.specs.Prelude.{slice_get, ◌⊎◌}
+use Rattle.std.specs.Prelude.{slice_get, ◌⊎◌, IfOk, OnErr, option_map}
 use Rattle.rvm_cell.specs.Receipts.{PlainReceipt}
 use Rattle.rvm_cell.specs.Calls.{AreOfSeat}
 use Rattle.rvm_cell.specs.Seats.{PlainSeat, seat_of}
 use Rattle.rvm_message.specs.declared.event.HostEvent.{HostEvent}
+use Rattle.rvm_message.specs.declared.reply.HostReply.{HostReply}
+use Rattle.rvm_message.specs.Exchanges.{exchange}
 use Rattle.rvm_precopy.specs.declared.policy.Policy.{Policy}
-use Rattle.rvm_worker.specs.Work.{AreOfCopier, AreOfReceiver, IsOfCopier, IsOfReceiver, IsWork, MayHaveAsked}
+use Rattle.rvm_worker.specs.declared.end.WorkEnd.{WorkEnd}
+use Rattle.rvm_worker.specs.Endings.{last_of}
+use Rattle.rvm_worker.specs.Heard.{frame_in, frames_in}
+use Rattle.rvm_worker.specs.Work.{AreOfCopier, AreOfReceiver, IsCall, IsOfCopier, IsOfReceiver, IsWork, PlainCaller}
 
 -- what stands in two lists stands in the first, or in the second
 got_either : {X : Type 0} (xs ys : List X) (b : X) (k : ℕ) → slice_get (xs ++ ys) k ≡ Some b
@@ -39,22 +45,49 @@ work_slice first seat new turn harts before slice work are is =
       ]);
     }
 
--- all receipts are of such events where one more is of one
-all_more : (P : HostEvent → Type 0) (e : HostEvent) (before behind : List PlainReceipt) → All (λ r. P r.event) before → P e
-    → MayHaveAsked e before behind → All (λ r. P r.event) behind
-all_more P e before behind all here asked = elim asked [
-  | inl same ↦ subst (λ l. All (λ r. P r.event) l) (sym same) all
-  | inr more ↦
-      subst (λ l. All (λ r. P r.event) l) (sym more.added)
-      (All-push (λ r. P r.event) before more.receipt all (subst P (sym more.of_event) here))
-]
+-- what stands behind others is the last
+got_last : {X : Type 0} (xs : List X) (x : X) → slice_get (xs ++ x ∷ []) (length xs) ≡ Some x
+got_last [] x = refl
+got_last (y ∷ xs) x = got_last xs x
+
+-- the last of some calls is the one that was made last
+pub last_called : (old new : PlainSeat) (e : HostEvent) (before behind : List PlainReceipt) (reply : HostReply)
+    → IsCall old e before new behind reply → last_of behind ≡ Some (exchange e reply)
+last_called old new e before behind reply call =
+    let r = call.receipt in
+    let len : length (before ++ r ∷ []) - 1 ≡ length before = omega (arith, length-append before (r ∷ [])) in
+    let here = subst (λ n. slice_get (before ++ r ∷ []) n ≡ Some r) (sym len) (got_last before r) in
+    let got = subst (λ l. slice_get l (length l - 1) ≡ Some r) (sym call.added) here in
+    ap (option_map (λ s. exchange s.event s.reply)) got ∙ (λ i. Some (exchange (call.of_event.event_is i) (call.answered i)))
+
+-- the frame that came with a call is the last one that came
+pub heard_called : (old new : PlainSeat) (e : HostEvent) (before behind : List PlainReceipt) (reply : HostReply)
+    → IsCall old e before new behind reply → frames_in behind ≡ frames_in before ++ frame_in e
+heard_called old new e before behind reply call =
+    let r = call.receipt in
+    ap frames_in call.added ∙ flat_map-append (λ s. frame_in s.event) before (r ∷ [])
+    ∙ ap (λ l. frames_in before ++ l) (append-nil (frame_in r.event) ∙ ap frame_in call.of_event.event_is)
+
+-- all calls are of such events where one more is of one, or none was made
+all_called : {A : Type 0} (P : HostEvent → Type 0) (e : HostEvent) (old new : PlainCaller) (reply : A → HostReply)
+    (result : Result A WorkEnd) → All (λ r. P r.event) old.receipts → P e
+    → IfOk result (λ c. IsCall old.seat e old.receipts new.seat new.receipts (reply c)) → OnErr result (new ≡ old)
+    → All (λ r. P r.event) new.receipts
+all_called P e old new reply (Ok c) all here call same =
+    subst (λ l. All (λ r. P r.event) l) (sym call.added)
+    (All-push (λ r. P r.event) old.receipts call.receipt all (subst P (sym call.of_event.event_is) here))
+all_called P e old new reply (Err end) all here call same = subst (λ c. All (λ r. P r.event) c.receipts) (sym same) all
 
 -- a copier makes one more of its calls, or none
-pub copier_more : (to : ℕ) (policy : Policy) (e : HostEvent) (before behind : List PlainReceipt)
-    → AreOfCopier to policy before → IsOfCopier to policy e → MayHaveAsked e before behind → AreOfCopier to policy behind
-copier_more to policy = all_more (IsOfCopier to policy)
+pub copier_more : {A : Type 0} (to : ℕ) (policy : Policy) (e : HostEvent) (old new : PlainCaller) (reply : A → HostReply)
+    (result : Result A WorkEnd) → AreOfCopier to policy old.receipts → IsOfCopier to policy e
+    → IfOk result (λ c. IsCall old.seat e old.receipts new.seat new.receipts (reply c)) → OnErr result (new ≡ old)
+    → AreOfCopier to policy new.receipts
+copier_more to policy = all_called (IsOfCopier to policy)
 
 -- a receiver does
-pub receiver_more : (from : ℕ) (e : HostEvent) (before behind : List PlainReceipt)
-    → AreOfReceiver from before → IsOfReceiver from e → MayHaveAsked e before behind → AreOfReceiver from behind
-receiver_more from = all_more (IsOfReceiver from)
+pub receiver_more : {A : Type 0} (from : ℕ) (e : HostEvent) (old new : PlainCaller) (reply : A → HostReply)
+    (result : Result A WorkEnd) → AreOfReceiver from old.receipts → IsOfReceiver from e
+    → IfOk result (λ c. IsCall old.seat e old.receipts new.seat new.receipts (reply c)) → OnErr result (new ≡ old)
+    → AreOfReceiver from new.receipts
+receiver_more from = all_called (IsOfReceiver from)

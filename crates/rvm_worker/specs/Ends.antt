@@ -11,21 +11,25 @@ use Rattle.rvm_link.specs.declared.error.SendError.TheVariants as send_error
 use Rattle.rvm_worker.specs.declared.end.WorkEnd.{WorkEnd}
 use Rattle.rvm_worker.specs.declared.end.WorkEnd.TheVariants.{BadFrame, Failed, LinkFault, OutOfMemory, OutOfRange, RecorderFull, TooLong}
 
+-- how a worker ends whose call was not recorded
 abbrev pub of_record : RecordError → WorkEnd
 of_record record_error.OutOfMemory = OutOfMemory
 of_record (record_error.RecorderFull n) = RecorderFull n
 
+-- how a worker ends whose slice was refused
 abbrev pub of_slice : SliceError → WorkEnd
 of_slice slice_error.OutOfRange = OutOfRange
 of_slice slice_error.OutOfMemory = OutOfMemory
 of_slice (slice_error.RecorderFull n) = RecorderFull n
 
+-- how a worker ends that could not read a frame
 abbrev pub of_frame : FrameFault → WorkEnd
 of_frame fault.OutOfMemory = OutOfMemory
 of_frame fault.BadFrame = BadFrame
 of_frame fault.TooLong = TooLong
 of_frame fault.Failed = Failed
 
+-- how a worker ends that could not send a frame
 abbrev pub of_send : SendError → WorkEnd
 of_send send_error.OutOfMemory = OutOfMemory
 of_send send_error.LinkFault = LinkFault

@@ -2,3 +2,5 @@ pub mod Workers
 pub mod Ends
 pub mod Work
 pub mod Next
+pub mod Endings
+pub mod Heard

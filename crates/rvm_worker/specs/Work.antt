@@ -1,15 +1,17 @@
 -- What the calls of a seat leave.
 use Rattle.std.specs.List.{All}
-use Rattle.std.specs.Prelude.{◌≡◌, ◌⊎◌, ℕ, ◌+◌, ◌-◌, List, [], ◌∷◌, ◌++◌, length, IfSome, Some, slice_get}
+use Rattle.std.specs.Prelude.{◌≡◌, ℕ, ◌+◌, ◌-◌, List, [], ◌∷◌, ◌++◌, length, IfSome, Option, Some, slice_get}
 use Rattle.rvm_cell.specs.Calls.{AreOfSeat, IsReceipt}
 use Rattle.rvm_cell.specs.Seats.{PlainSeat, seat_of}
 use Rattle.rvm_cell.specs.Receipts.{PlainReceipt}
+use Rattle.rvm_frame.specs.declared.frame.Frame.{Frame}
 use Rattle.rvm_message.specs.declared.event.Command.TheVariants as command
 use Rattle.rvm_message.specs.declared.event.HostEvent.{HostEvent}
 use Rattle.rvm_message.specs.declared.event.HostEvent.TheVariants as event
 use Rattle.rvm_message.specs.declared.reply.HostReply.{HostReply}
+use Rattle.rvm_message.specs.Exchanges.{PlainExchange}
 use Rattle.rvm_precopy.specs.declared.policy.Policy.{Policy}
-use Rattle.rvm_worker.specs.declared.steps.Steps.{Steps}
+use Rattle.rvm_worker.specs.declared.steps.SliceSteps.{SliceSteps}
 
 -- the receipts are those of the seat's calls since it was at `first`, in order
 pub record IsWork (first seat : PlainSeat) (receipts : List PlainReceipt) : Type 0 where
@@ -38,26 +40,19 @@ AreOfCopier to policy receipts = All (λ r. IsOfCopier to policy r.event) receip
 abbrev pub AreOfReceiver : (from : ℕ) → List PlainReceipt → Type 0
 AreOfReceiver from receipts = All (λ r. IsOfReceiver from r.event) receipts
 
--- where a copier moves its guest and with which policy, and where its seat was first
+-- where a copier moves its guest and with which policy, where its seat was first, and its last call
 pub record PlainCopier : Type 0 where
   pub to : ℕ
   pub policy : Policy
   pub start : PlainSeat
+  pub last : Option PlainExchange
 
--- whose frames a receiver hears, and where its seat was first
+-- whose frames a receiver hears, where its seat was first, the frames that came, and its last call
 pub record PlainReceiver : Type 0 where
   pub from : ℕ
   pub start : PlainSeat
-
--- one more call, of this event
-pub record IsOneMore (event : HostEvent) (before behind : List PlainReceipt) : Type 0 where
-  pub receipt : PlainReceipt
-  pub of_event : receipt.event ≡ event
-  pub added : behind ≡ before ++ receipt ∷ []
-
--- a call was made, of this event, or none
-abbrev pub MayHaveAsked : HostEvent → (before behind : List PlainReceipt) → Type 0
-MayHaveAsked event before behind = (behind ≡ before) ⊎ IsOneMore event before behind
+  pub heard : List Frame
+  pub last : Option PlainExchange
 
 -- where a seat was first, where it is, and the receipts between
 pub record PlainCaller : Type 0 where
@@ -75,15 +70,15 @@ pub record IsCall (old : PlainSeat) (event : HostEvent) (before : List PlainRece
   pub counted : new ≡ seat_of old.id (old.count + 1)
 
 -- the receipts of a slice tell its steps
-pub record AreSteps (receipts : List PlainReceipt) (steps : Steps) : Type 0 where
+pub record AreSliceSteps (receipts : List PlainReceipt) (steps : SliceSteps) : Type 0 where
   pub count : steps.count ≡ length receipts
   pub last : IfSome (slice_get receipts (length receipts - 1)) (λ r. r.reply ≡ steps.last)
 
 -- one slice: the receipts of its steps stand behind the others
 pub record IsSliceCall (old : PlainSeat) (turn harts : ℕ) (before : List PlainReceipt) (new : PlainSeat)
-    (behind : List PlainReceipt) (steps : Steps) : Type 0 where
+    (behind : List PlainReceipt) (steps : SliceSteps) : Type 0 where
   pub receipts : List PlainReceipt
   pub of_seat : AreOfSeat old turn harts receipts
-  pub told : AreSteps receipts steps
+  pub told : AreSliceSteps receipts steps
   pub added : behind ≡ before ++ receipts
   pub counted : new ≡ seat_of old.id (old.count + length receipts)

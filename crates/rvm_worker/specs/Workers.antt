@@ -3,6 +3,7 @@ use Rattle.std.specs.Prelude.{ℕ}
 use Rattle.rvm_worker.specs.declared.gate.Worker.{Worker}
 use Rattle.rvm_worker.specs.declared.gate.Worker.TheVariants.{Harts, Copier, ReceiverAtA, ReceiverAtB}
 
+-- the number of each worker, from 0
 abbrev pub number_of : Worker → ℕ
 number_of Harts = 0
 number_of Copier = 1

@@ -1,11 +1,12 @@
 //! A worker's seat.
 
-ghost use Rattle.std.specs.Prelude.{◌≡◌, ◌≤◌, [], IfOk, OnErr};
+ghost use Rattle.std.specs.Prelude.{◌≡◌, ◌≤◌, [], true, IfErr, IfOk, OnErr};
+ghost use Rattle.rvm_worker.specs.Ends.{is_short_of_room};
 ghost use Rattle.rvm_worker.specs.Work.{IsCall, IsSliceCall, IsWork};
 
-use crate::end::WorkEnd;
+use crate::end::{WorkEnd, Worked};
 use crate::heap;
-use crate::steps::{Steps, steps_of};
+use crate::steps::{SliceSteps, steps_of};
 use rvm_cell::{Receipt, Seat, Seating, SharedHost};
 use rvm_frame::Addressed;
 use rvm_mem::PagedMemory;
@@ -64,6 +65,20 @@ impl<L: Seating> Caller<L> {
         (seat, receipts)
     }
 
+    /// What a worker gives back that ended so.
+    pub(crate) fn end(self, end: WorkEnd) -> Worked<L>
+        ensures work { IsWork self.start result.seat result.receipts.items }
+        ensures receipts { result.receipts.items ≡ self.receipts }
+        ensures end { result.end ≡ end }
+    {
+        let (seat, receipts) = self.into_parts();
+        Worked {
+            seat,
+            receipts,
+            end,
+        }
+    }
+
     /// Makes a call, whose receipt is kept: the reply, and the frame that the host made.
     pub fn call<M: PagedMemory + Drop, R: Wait>(
         &mut self,
@@ -76,6 +91,7 @@ impl<L: Seating> Caller<L> {
         ensures call { IfOk result (λ r. IsCall self.old.seat event self.old.receipts
             self.new.seat self.new.receipts r.0) }
         ensures err { OnErr result (self.new ≡ self.old) }
+        ensures room { IfErr result (λ e. is_short_of_room e ≡ true) }
     {
         if self.receipts.len() % heap::CALLS_PER_BLOCK == 0 {
             heap::grow(alloc);
@@ -102,7 +118,7 @@ impl<L: Seating> Caller<L> {
         turn: u32,
         harts: u32,
         n: u32,
-    ) -> Result<Steps, WorkEnd>
+    ) -> Result<SliceSteps, WorkEnd>
         ensures start { self.new.start ≡ self.old.start }
         ensures slice { IfOk result (λ s. IsSliceCall self.old.seat turn harts self.old.receipts
             self.new.seat self.new.receipts s) }

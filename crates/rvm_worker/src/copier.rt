@@ -1,7 +1,8 @@
 //! The copier: it moves the guest to another host.
 
-ghost use Rattle.std.specs.Prelude.{◌≡◌};
-ghost use Rattle.rvm_worker.specs.Work.{AreOfCopier, IsWork};
+ghost use Rattle.std.specs.Prelude.{◌≡◌, true, Ok, IfErr, IsSomeAnd};
+ghost use Rattle.rvm_worker.specs.Endings.{IsCopied, IsCopierEnd, is_uncalled, tells_done};
+ghost use Rattle.rvm_worker.specs.Work.{IsWork};
 
 use crate::copying::Copying;
 use crate::end::{WorkEnd, Worked};
@@ -40,7 +41,7 @@ pub fn copier_worker<L: Seating, M: PagedMemory + Drop, K: Link + Drop, G: Gate,
     policy: Policy,
 ) -> Worked<L>
     ensures work { IsWork seat result.seat result.receipts.items }
-    ensures asked { AreOfCopier to policy result.receipts.items }
+    ensures copied { IsCopied to policy result.end result.receipts.items }
 {
     let mut copying = Copying::new(alloc, seat, to, policy);
     let mut watch = Watch::new(gate, Worker::Copier);
@@ -52,6 +53,7 @@ pub fn copier_worker<L: Seating, M: PagedMemory + Drop, K: Link + Drop, G: Gate,
 }
 
 /// Makes the calls of the copier, from Begin on.
+#[tactic(auto, using(crate::proofs::Endings::uncalled_copier))]
 fn move_guest<L: Seating, M: PagedMemory + Drop, K: Link + Drop, G: Gate, R: Wait + Clock>(
     rt: &R,
     alloc: Global,
@@ -59,7 +61,8 @@ fn move_guest<L: Seating, M: PagedMemory + Drop, K: Link + Drop, G: Gate, R: Wai
     copying: &mut Copying<L>,
     watch: &mut Watch<'_, G>,
 ) -> WorkEnd
-    ensures { copying.new ≡ copying.old }
+    ensures same { copying.new ≡ record copying.old { last = copying.new.last } }
+    ensures end { IsCopierEnd result copying.new.last }
 {
     match copy_guest(rt, alloc, side, copying, watch) {
         Ok(Next::Done) => WorkEnd::Done,
@@ -78,7 +81,9 @@ fn copy_guest<L: Seating, M: PagedMemory + Drop, K: Link + Drop, G: Gate, R: Wai
     copying: &mut Copying<L>,
     watch: &mut Watch<'_, G>,
 ) -> Result<Next, WorkEnd>
-    ensures { copying.new ≡ copying.old }
+    ensures same { copying.new ≡ record copying.old { last = copying.new.last } }
+    ensures done { result ≡ Ok Next.Done → IsSomeAnd copying.new.last (λ x. tells_done x ≡ true) }
+    ensures uncalled { IfErr result (λ e. is_uncalled e ≡ true) }
 {
     let told = copying.begin(rt, alloc, side, watch)?;
     match told.sent {
@@ -96,7 +101,9 @@ fn copy_until<L: Seating, M: PagedMemory + Drop, K: Link + Drop, G: Gate, R: Wai
     copying: &mut Copying<L>,
     watch: &mut Watch<'_, G>,
 ) -> Result<Next, WorkEnd>
-    ensures { copying.new ≡ copying.old }
+    ensures same { copying.new ≡ record copying.old { last = copying.new.last } }
+    ensures done { result ≡ Ok Next.Done → IsSomeAnd copying.new.last (λ x. tells_done x ≡ true) }
+    ensures uncalled { IfErr result (λ e. is_uncalled e ≡ true) }
 {
     let mut pauses = 0;
     for _copy in 0..u64::MAX {
@@ -123,7 +130,9 @@ fn copy<L: Seating, M: PagedMemory + Drop, K: Link + Drop, G: Gate, R: Wait>(
     copying: &mut Copying<L>,
     watch: &mut Watch<'_, G>,
 ) -> Result<Next, WorkEnd>
-    ensures { copying.new ≡ copying.old }
+    ensures same { copying.new ≡ record copying.old { last = copying.new.last } }
+    ensures done { result ≡ Ok Next.Done → IsSomeAnd copying.new.last (λ x. tells_done x ≡ true) }
+    ensures uncalled { IfErr result (λ e. is_uncalled e ≡ true) }
 {
     let told = copying.ask(rt, alloc, side, watch, Command::Copy)?;
     match told.sent {
@@ -134,6 +143,7 @@ fn copy<L: Seating, M: PagedMemory + Drop, K: Link + Drop, G: Gate, R: Wait>(
 }
 
 /// Has the last frame sent again, until no move is left here.
+#[tactic(auto, using(crate::proofs::Endings::uncalled_copier))]
 fn resend<L: Seating, M: PagedMemory + Drop, K: Link + Drop, G: Gate, R: Wait + Clock>(
     rt: &R,
     alloc: Global,
@@ -141,7 +151,8 @@ fn resend<L: Seating, M: PagedMemory + Drop, K: Link + Drop, G: Gate, R: Wait + 
     copying: &mut Copying<L>,
     watch: &mut Watch<'_, G>,
 ) -> WorkEnd
-    ensures { copying.new ≡ copying.old }
+    ensures same { copying.new ≡ record copying.old { last = copying.new.last } }
+    ensures end { IsCopierEnd result copying.new.last }
 {
     for _try in 0..TRIES {
         pause(rt, LONG_PAUSE);
@@ -158,6 +169,7 @@ fn resend<L: Seating, M: PagedMemory + Drop, K: Link + Drop, G: Gate, R: Wait + 
 }
 
 /// Gives up the move, unless the guest was given up in the meantime.
+#[tactic(auto, using(crate::proofs::Endings::uncalled_copier))]
 fn give_up<L: Seating, M: PagedMemory + Drop, K: Link + Drop, G: Gate, R: Wait + Clock>(
     rt: &R,
     alloc: Global,
@@ -165,7 +177,8 @@ fn give_up<L: Seating, M: PagedMemory + Drop, K: Link + Drop, G: Gate, R: Wait +
     copying: &mut Copying<L>,
     watch: &mut Watch<'_, G>,
 ) -> WorkEnd
-    ensures { copying.new ≡ copying.old }
+    ensures same { copying.new ≡ record copying.old { last = copying.new.last } }
+    ensures end { IsCopierEnd result copying.new.last }
 {
     match copying.ask(rt, alloc, side, watch, Command::Abort) {
         Err(WorkEnd::OutOfMemory) => abort_without_memory(rt, alloc, side, copying, watch),
@@ -195,7 +208,7 @@ fn abort_without_memory<
     watch: &mut Watch<'_, G>,
 ) -> WorkEnd
     ensures end { result ≡ WorkEnd.OutOfMemory }
-    ensures start { copying.new ≡ copying.old }
+    ensures same { copying.new ≡ record copying.old { last = copying.new.last } }
 {
     for _try in 0..TRIES {
         match copying.ask(rt, alloc, side, watch, Command::Abort) {

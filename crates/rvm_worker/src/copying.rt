@@ -1,7 +1,9 @@
 //! The calls of a copier.
 
-ghost use Rattle.std.specs.Prelude.{◌≡◌};
+ghost use Rattle.std.specs.Prelude.{◌≡◌, true, None, Some, IfErr, IfOk, OnErr};
 ghost use Rattle.rvm_message.specs.declared.event.HostEvent.TheVariants.{Do};
+ghost use Rattle.rvm_message.specs.Exchanges.{exchange};
+ghost use Rattle.rvm_worker.specs.Endings.{is_uncalled, last_of};
 ghost use Rattle.rvm_worker.specs.Work.{AreOfCopier, IsOfCopier, IsWork};
 
 use crate::caller::Caller;
@@ -26,11 +28,17 @@ pub(crate) struct Copying<L: Seating> {
 }
 
 impl<L: Seating> Model for Copying<L> {
+    ghost use Rattle.rvm_worker.specs.Endings.{last_of};
     ghost use Rattle.rvm_worker.specs.Work.{AreOfCopier, PlainCopier};
 
     ghost Value = { PlainCopier };
 
-    ghost view = { λ c. record { to = c.to; policy = c.policy; start = c.caller.start } };
+    ghost view = { λ c. record {
+      to = c.to;
+      policy = c.policy;
+      start = c.caller.start;
+      last = last_of c.caller.receipts;
+    } };
 
     ghost invariant = { λ c. AreOfCopier c.to c.policy c.caller.receipts };
 }
@@ -38,7 +46,7 @@ impl<L: Seating> Model for Copying<L> {
 impl<L: Seating> Copying<L> {
     /// Before the first call of a move to this host.
     pub(crate) fn new(alloc: Global, seat: Seat<L>, to: u8, policy: Policy) -> Copying<L>
-        ensures { result ≡ record { to = to; policy = policy; start = seat } }
+        ensures { result ≡ record { to = to; policy = policy; start = seat; last = None } }
     {
         Copying {
             caller: Caller::new(alloc, seat),
@@ -55,7 +63,8 @@ impl<L: Seating> Copying<L> {
         side: &Side<'_, L, M, K>,
         watch: &mut Watch<'_, G>,
     ) -> Result<Called, WorkEnd>
-        ensures { self.new ≡ self.old }
+        ensures same { self.new ≡ record self.old { last = self.new.last } }
+        ensures uncalled { IfErr result (λ e. is_uncalled e ≡ true) }
     {
         let begin = Command::Begin {
             to: self.to,
@@ -65,6 +74,7 @@ impl<L: Seating> Copying<L> {
     }
 
     /// Asks for a command of the move.
+    #[tactic(auto, using(crate::proofs::Works::last_called))]
     pub(crate) fn ask<M: PagedMemory + Drop, K: Link + Drop, G: Gate, R: Wait>(
         &mut self,
         rt: &R,
@@ -74,7 +84,9 @@ impl<L: Seating> Copying<L> {
         command: Command,
     ) -> Result<Called, WorkEnd>
         requires { IsOfCopier self.old.to self.old.policy (Do command) }
-        ensures { self.new ≡ self.old }
+        ensures last { IfOk result (λ c. self.new ≡ record self.old { last = Some (exchange (Do command) c.reply) }) }
+        ensures err { OnErr result (self.new ≡ self.old) }
+        ensures uncalled { IfErr result (λ e. is_uncalled e ≡ true) }
     {
         tell(
             rt,
@@ -90,12 +102,9 @@ impl<L: Seating> Copying<L> {
     pub(crate) fn end(self, end: WorkEnd) -> Worked<L>
         ensures work { IsWork self.start result.seat result.receipts.items }
         ensures asked { AreOfCopier self.to self.policy result.receipts.items }
+        ensures last { last_of result.receipts.items ≡ self.last }
+        ensures end { result.end ≡ end }
     {
-        let (seat, receipts) = self.caller.into_parts();
-        Worked {
-            seat,
-            receipts,
-            end,
-        }
+        self.caller.end(end)
     }
 }

@@ -21,7 +21,7 @@ pub enum WorkEnd {
     /// The gate let no further call pass.
     #[error("the gate let no further call pass")]
     Stopped,
-    /// Neither host would take a turn of the guest, for as long as the worker waits.
+    /// Neither host would take a turn or a drain of the guest, for as long as the worker waits.
     #[error("guest stopped between hosts")]
     GuestStopped,
     /// A growth was refused.

@@ -1,6 +1,10 @@
 //! The calls of a receiver.
 
-ghost use Rattle.std.specs.Prelude.{◌≡◌};
+ghost use Rattle.std.specs.Prelude.{◌≡◌, [], ◌∷◌, ◌++◌, true, None, Some, IfErr, IfOk, OnErr};
+ghost use Rattle.rvm_message.specs.declared.event.HostEvent.TheVariants.{Came};
+ghost use Rattle.rvm_message.specs.Exchanges.{exchange};
+ghost use Rattle.rvm_worker.specs.Endings.{is_uncalled, last_of};
+ghost use Rattle.rvm_worker.specs.Heard.{frames_in};
 ghost use Rattle.rvm_worker.specs.Work.{AreOfReceiver, IsWork};
 
 use crate::caller::Caller;
@@ -24,11 +28,18 @@ pub(crate) struct Hearing<L: Seating> {
 }
 
 impl<L: Seating> Model for Hearing<L> {
+    ghost use Rattle.rvm_worker.specs.Endings.{last_of};
+    ghost use Rattle.rvm_worker.specs.Heard.{frames_in};
     ghost use Rattle.rvm_worker.specs.Work.{AreOfReceiver, PlainReceiver};
 
     ghost Value = { PlainReceiver };
 
-    ghost view = { λ h. record { from = h.from; start = h.caller.start } };
+    ghost view = { λ h. record {
+      from = h.from;
+      start = h.caller.start;
+      heard = frames_in h.caller.receipts;
+      last = last_of h.caller.receipts;
+    } };
 
     ghost invariant = { λ h. AreOfReceiver h.from h.caller.receipts };
 }
@@ -36,7 +47,7 @@ impl<L: Seating> Model for Hearing<L> {
 impl<L: Seating> Hearing<L> {
     /// Before the first frame of a host.
     pub(crate) fn new(alloc: Global, seat: Seat<L>, from: u8) -> Hearing<L>
-        ensures { result ≡ record { from = from; start = seat } }
+        ensures { result ≡ record { from = from; start = seat; heard = []; last = None } }
     {
         Hearing {
             caller: Caller::new(alloc, seat),
@@ -45,6 +56,7 @@ impl<L: Seating> Hearing<L> {
     }
 
     /// A frame came.
+    #[tactic(auto, using(crate::proofs::Works::last_called, crate::proofs::Works::heard_called))]
     pub(crate) fn came<M: PagedMemory + Drop, K: Link + Drop, G: Gate, R: Wait>(
         &mut self,
         rt: &R,
@@ -53,7 +65,12 @@ impl<L: Seating> Hearing<L> {
         watch: &mut Watch<'_, G>,
         frame: Shared<Frame>,
     ) -> Result<Called, WorkEnd>
-        ensures { self.new ≡ self.old }
+        ensures heard { IfOk result (λ c. self.new ≡ record self.old {
+          heard = self.old.heard ++ frame ∷ [];
+          last = Some (exchange (Came self.old.from frame) c.reply);
+        }) }
+        ensures err { OnErr result (self.new ≡ self.old) }
+        ensures uncalled { IfErr result (λ e. is_uncalled e ≡ true) }
     {
         let event = HostEvent::Came(self.from, frame);
         tell(rt, alloc, side, &mut self.caller, watch, event)
@@ -63,12 +80,10 @@ impl<L: Seating> Hearing<L> {
     pub(crate) fn end(self, end: WorkEnd) -> Worked<L>
         ensures work { IsWork self.start result.seat result.receipts.items }
         ensures heard { AreOfReceiver self.from result.receipts.items }
+        ensures frames { frames_in result.receipts.items ≡ self.heard }
+        ensures last { last_of result.receipts.items ≡ self.last }
+        ensures end { result.end ≡ end }
     {
-        let (seat, receipts) = self.caller.into_parts();
-        Worked {
-            seat,
-            receipts,
-            end,
-        }
+        self.caller.end(end)
     }
 }

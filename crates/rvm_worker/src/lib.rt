@@ -26,5 +26,5 @@ pub use copier::copier_worker;
 pub use end::{WorkEnd, Worked};
 pub use gate::{Gate, Watch, Worker};
 pub use receiver::receiver_worker;
-pub use steps::Steps;
+pub use steps::SliceSteps;
 pub use telling::Side;

@@ -1,6 +1,6 @@
 //! What a worker does after a reply.
 
-ghost use Rattle.std.specs.Prelude.{◌≡◌};
+ghost use Rattle.std.specs.Prelude.{◌≡◌, true};
 ghost use Rattle.rvm_worker.specs.Next.{after_copy, after_refusal, ends_hearing, is_gone, says_no_move};
 
 use rvm_message::{HostRefusal, HostReply};
@@ -29,7 +29,8 @@ pub enum Next {
 
 /// What the copier does after a refused copy.
 fn after_refusal(why: HostRefusal) -> Next
-    ensures { result ≡ after_refusal why }
+    ensures next { result ≡ after_refusal why }
+    ensures done { result ≡ Next.Done → says_no_move (HostReply.Refused why) ≡ true }
 {
     match why {
         HostRefusal::Busy => Next::Wait(SHORT_PAUSE),
@@ -41,7 +42,8 @@ fn after_refusal(why: HostRefusal) -> Next
 
 /// What the copier does after a copy.
 pub(crate) fn after_copy(reply: &HostReply) -> Next
-    ensures { result ≡ after_copy reply.now }
+    ensures next { result ≡ after_copy reply.now }
+    ensures done { result ≡ Next.Done → says_no_move reply.now ≡ true }
 {
     match reply {
         HostReply::StateSent | HostReply::PartSent { .. } => Next::Wait(LONG_PAUSE),
@@ -68,16 +70,7 @@ pub(crate) fn says_no_move(reply: &HostReply) -> bool
     ensures { result ≡ says_no_move reply.now }
 {
     match reply {
-        HostReply::Refused(why) => is_no_move(*why),
-        _ => false,
-    }
-}
-
-fn is_no_move(why: HostRefusal) -> bool
-    ensures { result ≡ says_no_move (HostReply.Refused why) }
-{
-    match why {
-        HostRefusal::NoMove => true,
+        HostReply::Refused(HostRefusal::NoMove) => true,
         _ => false,
     }
 }
@@ -87,16 +80,7 @@ pub(crate) fn is_gone(reply: &HostReply) -> bool
     ensures { result ≡ is_gone reply.now }
 {
     match reply {
-        HostReply::Refused(why) => is_not_here(*why),
-        _ => false,
-    }
-}
-
-fn is_not_here(why: HostRefusal) -> bool
-    ensures { result ≡ is_gone (HostReply.Refused why) }
-{
-    match why {
-        HostRefusal::NotHere => true,
+        HostReply::Refused(HostRefusal::NotHere) => true,
         _ => false,
     }
 }

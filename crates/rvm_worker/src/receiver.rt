@@ -1,6 +1,11 @@
 //! Receivers: each hears the frames of the other side.
 
-ghost use Rattle.std.specs.Prelude.{◌≡◌, if◌then◌else◌};
+ghost use Rattle.std.specs.Prelude.{◌≡◌, ◌<◌, ◌≤◌, ◌∷◌, true, false, [], length, take, None, Some, Ok, Err, IfErr, IfOk, IfSome, IsSomeAnd, MatchOption, if◌then◌else◌};
+ghost use Rattle.std.specs.Io.KnownBytes.{Consumes, IsAtEnd, Keeps};
+ghost use Rattle.rvm_frame.specs.Reader.{at_start};
+ghost use Rattle.rvm_frame.specs.Verdict.{verdict};
+ghost use Rattle.rvm_worker.specs.Endings.{IsReceiverEnd, last_of, tells_over};
+ghost use Rattle.rvm_worker.specs.Heard.{AreHeard, Hears, IsHeard, IsHeardOf, IsHeardUpTo, for_host, frames_in};
 ghost use Rattle.rvm_worker.specs.Work.{AreOfReceiver, IsWork};
 
 use crate::end::{WorkEnd, Worked};
@@ -36,6 +41,7 @@ struct Stream {
 /// the frame that the host makes is sent back. It ends when the move is over, at the end of the stream
 /// between two frames, or where the stream is refused; a link that fails, or ends inside a frame, or
 /// gives nothing for too long, ends it with LinkFault.
+#[tactic(auto, using(crate::proofs::Heard::heard_of))]
 pub fn receiver_worker<
     L: Seating,
     M: PagedMemory + Drop,
@@ -54,7 +60,10 @@ pub fn receiver_worker<
     link: &mut I,
 ) -> Worked<L>
     ensures work { IsWork seat result.seat result.receipts.items }
-    ensures heard { AreOfReceiver from result.receipts.items }
+    ensures of { AreOfReceiver from result.receipts.items }
+    ensures heard { IfSome (I.remaining link.old) (λ bytes.
+        IsHeardOf bytes result.end (frames_in result.receipts.items)) }
+    ensures ended { IsReceiverEnd result.end (last_of result.receipts.items) (I.remaining link.new) }
 {
     let mut hearing = Hearing::new(alloc, seat, from);
     let mut watch = Watch::new(gate, worker);
@@ -66,6 +75,7 @@ pub fn receiver_worker<
 }
 
 /// Reads a link until the receiver ends.
+#[tactic(auto, using(crate::proofs::Heard::hears_none, crate::proofs::Heard::hears_more, crate::proofs::Heard::hears_up_to, crate::proofs::Heard::ends_heard, crate::proofs::Heard::waits_hears,))]
 fn hear<L: Seating, M: PagedMemory + Drop, K: Link + Drop, I: Link, G: Gate, R: Wait>(
     rt: &R,
     alloc: Global,
@@ -74,7 +84,10 @@ fn hear<L: Seating, M: PagedMemory + Drop, K: Link + Drop, I: Link, G: Gate, R: 
     watch: &mut Watch<'_, G>,
     link: &mut I,
 ) -> WorkEnd
-    ensures { hearing.new ≡ hearing.old }
+    ensures same { hearing.new ≡ record hearing.old { heard = hearing.new.heard; last = hearing.new.last } }
+    ensures heard { IfSome (I.remaining link.old) (λ bytes.
+        IsHeardUpTo result at_start bytes hearing.old.heard hearing.new.heard) }
+    ensures end { IsReceiverEnd result hearing.new.last (I.remaining link.new) }
 {
     let mut stream = Stream {
         reader: FrameReader::new(alloc),
@@ -83,16 +96,20 @@ fn hear<L: Seating, M: PagedMemory + Drop, K: Link + Drop, I: Link, G: Gate, R: 
     let mut buffer = [0u8; BUFFER_SIZE];
     let mut idle = 0;
     for _read in 0..READS {
-        match read_link(link, &mut buffer, stream.is_inside) {
-            Read::Ended(end) => return end,
-            Read::Nothing => idle += 1,
-            Read::Bytes(piece) => {
-                idle = 0;
-                if let Err(end) = take(rt, alloc, side, hearing, watch, &mut stream, piece) {
-                    return end;
-                }
-            }
-        }
+        let came = match hear_once(
+            rt,
+            alloc,
+            side,
+            hearing,
+            watch,
+            link,
+            &mut stream,
+            &mut buffer,
+        ) {
+            Ok(came) => came,
+            Err(end) => return end,
+        };
+        idle = if came { 0 } else { idle + 1 };
         if idle >= IDLE_READS {
             return WorkEnd::LinkFault;
         }
@@ -100,23 +117,55 @@ fn hear<L: Seating, M: PagedMemory + Drop, K: Link + Drop, I: Link, G: Gate, R: 
     WorkEnd::LinkFault
 }
 
-/// What a read gave a receiver.
-enum Read<'b> {
-    /// These bytes, which stand at the front of the buffer.
-    Bytes(&'b [u8]),
-    /// Nothing yet.
-    Nothing,
-    /// The receiver ends.
-    Ended(WorkEnd),
+/// Reads a link once, and takes the frames of what came: whether anything did. Else the receiver ends.
+#[tactic(auto, using(crate::proofs::Heard::hears_nothing, crate::proofs::Heard::hears_piece, crate::proofs::Heard::piece_up_to, crate::proofs::Heard::ends_heard,))]
+fn hear_once<L: Seating, M: PagedMemory + Drop, K: Link + Drop, I: Link, G: Gate, R: Wait>(
+    rt: &R,
+    alloc: Global,
+    side: &Side<'_, L, M, K>,
+    hearing: &mut Hearing<L>,
+    watch: &mut Watch<'_, G>,
+    link: &mut I,
+    stream: &mut Stream,
+    buffer: &mut [u8],
+) -> Result<bool, WorkEnd>
+    requires waits { verdict stream.old.reader.version stream.old.reader.bytes ≡ Ok None }
+    requires room { 0 < length buffer.old }
+    ensures same { hearing.new ≡ record hearing.old { heard = hearing.new.heard; last = hearing.new.last } }
+    ensures heard { IfOk result (λ came. Hears (I.remaining link.old) (I.remaining link.new) stream.old.reader
+        hearing.old.heard hearing.new.heard stream.new.reader) }
+    ensures some { IfErr result (λ end. IfSome (I.remaining link.old) (λ bytes.
+        IsHeardUpTo end stream.old.reader bytes hearing.old.heard hearing.new.heard)) }
+    ensures end { IfErr result (λ end. IsReceiverEnd end hearing.new.last (I.remaining link.new)) }
+{
+    match read_link(link, buffer, stream.is_inside)? {
+        None => Ok(false),
+        Some(piece) => {
+            take(rt, alloc, side, hearing, watch, stream, piece)?;
+            Ok(true)
+        }
+    }
 }
 
-/// Reads a link once.
-fn read_link<'b, I: Link>(link: &mut I, buffer: &'b mut [u8], is_inside: bool) -> Read<'b> {
+/// Reads a link once: what came, which stands at the front of the buffer, or nothing yet. Else the receiver
+/// ends.
+fn read_link<'b, I: Link>(
+    link: &mut I,
+    buffer: &'b mut [u8],
+    is_inside: bool,
+) -> Result<Option<&'b [u8]>, WorkEnd>
+    requires { 0 < length buffer.old }
+    ensures bytes { IfOk result (λ o. MatchOption o
+        (Keeps (I.remaining link.old) (I.remaining link.new))
+        (λ piece. Consumes (I.remaining link.old) (I.remaining link.new) piece.now)) }
+    ensures none { IfErr result (λ end. Keeps (I.remaining link.old) (I.remaining link.new)) }
+    ensures end { result ≡ Err WorkEnd.Done → IsAtEnd (I.remaining link.new) }
+{
     match link.recv(buffer) {
-        LinkRead::Bytes(count) => Read::Bytes(&buffer[..count]),
-        LinkRead::Idle => Read::Nothing,
-        LinkRead::End => Read::Ended(end_of_stream(is_inside)),
-        LinkRead::LinkFault => Read::Ended(WorkEnd::LinkFault),
+        LinkRead::Bytes(count) => Ok(Some(&buffer[..count])),
+        LinkRead::Idle => Ok(None),
+        LinkRead::End => Err(end_of_stream(is_inside)),
+        LinkRead::LinkFault => Err(WorkEnd::LinkFault),
     }
 }
 
@@ -141,24 +190,53 @@ fn take<L: Seating, M: PagedMemory + Drop, K: Link + Drop, G: Gate, R: Wait>(
     stream: &mut Stream,
     piece: &[u8],
 ) -> Result<(), WorkEnd>
-    ensures { hearing.new ≡ hearing.old }
+    requires { verdict stream.old.reader.version stream.old.reader.bytes ≡ Ok None }
+    ensures same { hearing.new ≡ record hearing.old { heard = hearing.new.heard; last = hearing.new.last } }
+    ensures all { IfOk result (λ u. AreHeard stream.old.reader piece.now hearing.old.heard hearing.new.heard
+        stream.new.reader) }
+    ensures some { IfErr result (λ end. IsHeardUpTo end stream.old.reader piece.now
+        hearing.old.heard hearing.new.heard) }
+    ensures over { result ≡ Err WorkEnd.Done → IsSomeAnd hearing.new.last (λ x. tells_over x ≡ true) }
 {
     let mut rest = piece;
-    for _turn in 0..piece.len() {
-        if rest.is_empty() {
-            return Ok(());
-        }
-        let (taken, received) = stream.reader.feed(alloc, rest)?;
+    while !rest.is_empty() {
+        let taken = feed(rt, alloc, side, hearing, watch, stream, rest)?;
         rest = &rest[taken..];
-        stream.is_inside = received.is_none();
-        if let Some((_hosts, frame)) = received {
-            came(rt, alloc, side, hearing, watch, frame)?;
-        }
     }
     Ok(())
 }
 
+/// Feeds the reader up to the end of the next frame, which comes to the host: how many bytes it took.
+#[tactic(auto, using(crate::proofs::Endings::unread_is_undone))]
+fn feed<L: Seating, M: PagedMemory + Drop, K: Link + Drop, G: Gate, R: Wait>(
+    rt: &R,
+    alloc: Global,
+    side: &Side<'_, L, M, K>,
+    hearing: &mut Hearing<L>,
+    watch: &mut Watch<'_, G>,
+    stream: &mut Stream,
+    piece: &[u8],
+) -> Result<usize, WorkEnd>
+    requires waits { verdict stream.old.reader.version stream.old.reader.bytes ≡ Ok None }
+    requires some { 0 < length piece.now }
+    ensures same { hearing.new ≡ record hearing.old { heard = hearing.new.heard; last = hearing.new.last } }
+    ensures taken { IfOk result (λ n. (0 < n) × (n ≤ length piece.now)) }
+    ensures all { IfOk result (λ n. AreHeard stream.old.reader (take n piece.now) hearing.old.heard
+        hearing.new.heard stream.new.reader) }
+    ensures some { IfErr result (λ end. IsHeardUpTo end stream.old.reader piece.now
+        hearing.old.heard hearing.new.heard) }
+    ensures over { result ≡ Err WorkEnd.Done → IsSomeAnd hearing.new.last (λ x. tells_over x ≡ true) }
+{
+    let (taken, received) = stream.reader.feed(alloc, piece)?;
+    stream.is_inside = received.is_none();
+    if let Some((_hosts, frame)) = received {
+        came(rt, alloc, side, hearing, watch, frame)?;
+    }
+    Ok(taken)
+}
+
 /// A frame comes to the host, unless it is Hello.
+#[tactic(auto, using(crate::proofs::Endings::uncalled_is_undone, crate::proofs::Endings::unsent_is_undone,))]
 fn came<L: Seating, M: PagedMemory + Drop, K: Link + Drop, G: Gate, R: Wait>(
     rt: &R,
     alloc: Global,
@@ -167,7 +245,9 @@ fn came<L: Seating, M: PagedMemory + Drop, K: Link + Drop, G: Gate, R: Wait>(
     watch: &mut Watch<'_, G>,
     frame: Frame,
 ) -> Result<(), WorkEnd>
-    ensures { hearing.new ≡ hearing.old }
+    ensures same { hearing.new ≡ record hearing.old { heard = hearing.new.heard; last = hearing.new.last } }
+    ensures heard { IsHeard result frame hearing.old.heard hearing.new.heard }
+    ensures over { result ≡ Err WorkEnd.Done → IsSomeAnd hearing.new.last (λ x. tells_over x ≡ true) }
 {
     if is_hello(&frame) {
         return Ok(());
@@ -184,7 +264,10 @@ fn came<L: Seating, M: PagedMemory + Drop, K: Link + Drop, G: Gate, R: Wait>(
 }
 
 /// Whether the frame is the first one of a stream.
-fn is_hello(frame: &Frame) -> bool {
+fn is_hello(frame: &Frame) -> bool
+    ensures yes { result ≡ true → for_host frame.now ≡ [] }
+    ensures no { result ≡ false → for_host frame.now ≡ frame.now ∷ [] }
+{
     match frame {
         Frame::Hello { .. } => true,
         _ => false,

@@ -7,7 +7,7 @@ use rvm_message::HostReply;
 
 /// The steps of a slice: there is at least one.
 #[derive(Drop)]
-pub struct Steps {
+pub struct SliceSteps {
     pub count: u32,
     /// The reply to the last of them.
     pub last: HostReply,
@@ -15,7 +15,7 @@ pub struct Steps {
 }
 
 /// The steps that these receipts of a slice are of.
-pub(crate) fn steps_of(receipts: &[Receipt]) -> Steps
+pub(crate) fn steps_of(receipts: &[Receipt]) -> SliceSteps
     requires some { 1 ≤ length receipts.now }
     requires within { length receipts.now < 2 ^ 32 }
     ensures count { result.count ≡ length receipts.now }
@@ -24,7 +24,7 @@ pub(crate) fn steps_of(receipts: &[Receipt]) -> Steps
     let Some(last) = receipts.last() else {
         unreachable!();
     };
-    Steps {
+    SliceSteps {
         count: receipts.len() as u32,
         last: last.reply(),
     }

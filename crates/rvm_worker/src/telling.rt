@@ -1,7 +1,8 @@
 //! A call at a gate, with the frame that it makes.
 
-ghost use Rattle.std.specs.Prelude.{◌≡◌};
-ghost use Rattle.rvm_worker.specs.Work.{MayHaveAsked};
+ghost use Rattle.std.specs.Prelude.{◌≡◌, true, IfErr, IfOk, OnErr};
+ghost use Rattle.rvm_worker.specs.Endings.{is_uncalled};
+ghost use Rattle.rvm_worker.specs.Work.{IsCall};
 
 use crate::caller::Caller;
 use crate::end::WorkEnd;
@@ -38,7 +39,10 @@ pub(crate) fn tell<L: Seating, M: PagedMemory + Drop, K: Link + Drop, G: Gate, R
     event: HostEvent,
 ) -> Result<Called, WorkEnd>
     ensures start { caller.new.start ≡ caller.old.start }
-    ensures asked { MayHaveAsked event caller.old.receipts caller.new.receipts }
+    ensures call { IfOk result (λ c. IsCall caller.old.seat event caller.old.receipts
+        caller.new.seat caller.new.receipts c.reply) }
+    ensures err { OnErr result (caller.new ≡ caller.old) }
+    ensures uncalled { IfErr result (λ e. is_uncalled e ≡ true) }
 {
     watch.before()?;
     let (reply, frame) = caller.call(rt, alloc, side.host, event)?;

@@ -14,6 +14,7 @@ use Rattle.rvm_world.specs.Worlds.{BoardWorld, IsPartOf}
 abbrev pub copies : (from n : ℕ) → List (Event BoardEvent)
 copies from n = listed (λ p. At from Copy) 0 n
 
+-- the deliveries of so many frames, from a place on
 abbrev pub deliveries : (first n : ℕ) → List (Event BoardEvent)
 deliveries first n = listed (λ p. Deliver (first + p)) 0 n
 
@@ -28,6 +29,7 @@ sending from first n s =
 abbrev pub round_replies : (n : ℕ) → List (Reply BoardReply)
 round_replies n = listed (λ p. Copied p (suc p)) 0 n ++ RoundEnded 1 n 0 0 ∷ []
 
+-- the replies to a guest of n pages that goes, with a state of s frames
 abbrev pub sending_replies : (version move n s : ℕ) → List (Reply BoardReply)
 sending_replies version move n s =
     round_replies n

@@ -38,11 +38,12 @@ pub record PlainWorld : Type 0 where
   pub sent : List Kept
   pub current : ℕ
 
--- the frame that bytes are in a stream of a version
+-- the frame that was read; where none was, one that no host waits for
 abbrev pub frame_or : {F : Type 0} → Result Received F → BoardFrame
 frame_or (Ok x) = frame_heard x.1
 frame_or (Err why) = no_frame
 
+-- the frame that bytes are in a stream; where they are none, one that no host waits for
 abbrev pub frame_in : (version : ℕ) → List ℕ → BoardFrame
 frame_in version bytes = frame_or (one_frame_of (verdict (Some version) bytes))
 
@@ -50,6 +51,7 @@ frame_in version bytes = frame_or (one_frame_of (verdict (Some version) bytes))
 abbrev pub is_frame : (version : ℕ) → List ℕ → Bool
 is_frame version bytes = is_ok (one_frame_of (verdict (Some version) bytes))
 
+-- what was sent, as the law has it: the frame, and the hosts that it goes between
 abbrev pub kept_of : (version : ℕ) → Kept → frames.Addressed (List ℕ) (List ℕ)
 kept_of version k = record { from = k.from; to = k.to; frame = frame_in version k.bytes }
 
@@ -81,6 +83,7 @@ CanBeKept version most places (Some a) = Fits version most places a
 abbrev pub BoardWorld : Type 0
 BoardWorld = protocol.World Guest (List ℕ) (List ℕ)
 
+-- a world as the law has it
 abbrev pub world_of : PlainWorld → BoardWorld
 world_of w =
     record {
@@ -96,6 +99,7 @@ abbrev pub meant : Event → protocol.Event BoardEvent
 meant (event.At x c) = protocol.At x (command_of c)
 meant (event.Deliver k) = protocol.Deliver k
 
+-- a reply in a world, as the law has it
 abbrev pub said : WorldReply → Reply BoardReply
 said r = reply_of r.reply
 

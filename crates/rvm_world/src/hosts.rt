@@ -8,7 +8,10 @@ ghost use Rattle.rvm_world.specs.Worlds.{AreNew, is_sized, limit_at};
 
 use rvm_core::{Host, is_spoken};
 use rvm_debug::Debugged;
-use rvm_mem::PagedMemory;
+use rvm_mem::{MAX_PAGES, PagedMemory};
+
+/// The most pages that a guest can have.
+const MAX_LIMIT: u16 = MAX_PAGES as u16;
 
 /// Whether a world may have hosts with these limits, and streams of this version.
 pub(crate) fn is_sized(version: u32, limits: &[u16]) -> bool
@@ -21,7 +24,9 @@ pub(crate) fn is_sized(version: u32, limits: &[u16]) -> bool
 fn are_limits(limits: &[u16]) -> bool
     ensures { result ≡ list_all (within 1 4096) limits.now }
 {
-    limits.iter().all(|limit| 1 <= *limit && *limit <= 4096)
+    limits
+        .iter()
+        .all(|limit| 1 <= *limit && *limit <= MAX_LIMIT)
 }
 
 /// Adds a host for each limit. The first one has the guest.

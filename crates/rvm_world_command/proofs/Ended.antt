@@ -1,9 +1,11 @@
 -- How scripts end, by cases.
-use Rattle.std.proofs.Common.{◌∷◌, ◌≡◌, ◌∙◌, ℕ, ◌^◌, ◌<◌, List, Option, Some, None, refl, sym, ap, subst, inl, inr, true, false, Bool, ◌≤◌, length, take, replicate}
+use Rattle.std.proofs.Common.{◌≡◌, ◌∙◌, ℕ, ◌^◌, ◌<◌, List, Option, Some, None, refl, sym, ap, subst, inl, inr, true, false, Bool, ◌≤◌, length, take, replicate}
 use Rattle.std.specs.Prelude.{Result, Ok, Err, IfOk, IfSome, ◌↔◌}
 use Rattle.std.specs.Io.KnownBytes.{Appends, Keeps}
 use Rattle.std.proofs.lemmas.List.{length-replicate, take-replicate}
-use Rattle.rvm_command.specs.Command.{FileImage, guest_of}
+use Rattle.rvm_arguments.specs.declared.arguments.ScriptArguments.{ScriptArguments}
+use Rattle.rvm_command.proofs.Refusals.{not_loaded_at_no_line}
+use Rattle.rvm_command.specs.Command.{FileImage, guest_of, image_of}
 use Rattle.rvm_debug.specs.Guest.{Guest}
 use Rattle.rvm_guest.proofs.TheGuest.{board}
 use Rattle.rvm_protocol.specs.Shown.{Shown}
@@ -16,13 +18,19 @@ use Rattle.rvm_world.specs.Refusals.{refusal_of_world}
 use Rattle.rvm_world.specs.Worlds.{BoardWorld, is_sized, limit_at}
 use Rattle.rvm_world.specs.declared.error.WorldError.{WorldError}
 use Rattle.rvm_world.specs.declared.error.WorldError.TheVariants as world
-use Rattle.rvm_world_command.specs.Ends.{IsWorldRefusal, IsWorldScriptEnd, IsWorldScriptEndOf}
+use Rattle.rvm_world_command.specs.Ends.{IsBeginRefusal, IsWorldRefusal, IsWorldScriptEnd, IsWorldScriptEndOf}
 use Rattle.rvm_world_command.specs.FirstWorld.{at_first, limits_of}
 use Rattle.rvm_world_script.proofs.Spending.{line_asks}
 use Rattle.rvm_world_script.specs.declared.script.WorldScriptError.{WorldScriptError}
 use Rattle.rvm_world_script.specs.declared.script.WorldScriptError.TheVariants as script
 use Rattle.rvm_world_script.specs.Runs.{IsWorldRun, standing}
 use Rattle.rvm_world_script.specs.WorldScript.{Standing, world_script_of}
+
+-- why a guest is refused, or a world for it, stands at no line
+pub not_begun_at_no_line : (a : ScriptArguments) (file : List ℕ) (r : Refused) → IsBeginRefusal a file r → r.line ≡ None
+not_begun_at_no_line a file r (inl h) = not_loaded_at_no_line (image_of a.guest.raw file) a.guest.pages r h
+not_begun_at_no_line a file r (inr (begun, inl h)) = ap (λ (r : Refused). r.line) h.0
+not_begun_at_no_line a file r (inr (begun, inr h)) = ap (λ (r : Refused). r.line) h.0
 
 -- bytes that went out and stay
 appends_kept : (a b c : Option (List ℕ)) (bs : List ℕ) → Appends a b bs → Keeps b c → Appends a c bs

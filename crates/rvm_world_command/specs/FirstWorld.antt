@@ -19,6 +19,7 @@ abbrev pub version_if : (given : Option ℕ) → (hosts : ℕ) → ℕ
 version_if (Some version) hosts = version
 version_if None hosts = version_of hosts
 
+-- the version of the stream that the hosts of a script speak
 abbrev pub version_asked : ScriptArguments → ℕ
 version_asked a = version_if a.stream a.hosts
 

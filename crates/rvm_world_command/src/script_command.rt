@@ -1,15 +1,21 @@
 //! `rvmove script`: the answers to a script for hosts between which a guest moves.
 
-ghost use Rattle.std.specs.Prelude.{◌≡◌, ◌*◌, IfOk, IsErr, false};
+ghost use Rattle.std.specs.Prelude.{◌≡◌, ◌⊎◌, ◌*◌, None, Result, IfOk, IfErr, IsErr, OnOk, false};
+ghost use Rattle.std.specs.Io.Buffered.{writer_contents};
+ghost use Rattle.rvm_command.specs.declared.refused.Refused.{Refused};
 ghost use Rattle.rvm_command.specs.Command.{image_of};
 ghost use Rattle.rvm_command.specs.Ends.{HasStatus};
+ghost use Rattle.rvm_command.specs.Flushed.{is_flushed};
+ghost use Rattle.rvm_command.specs.Refusals.{IsTold, refused};
 ghost use Rattle.rvm_debug.specs.Guest.{Guest};
 ghost use Rattle.rvm_elf.specs.Load.{fits};
 ghost use Rattle.rvm_protocol.specs.Shown.{Shown};
 ghost use Rattle.rvm_protocol.specs.Told.{Told};
+ghost use Rattle.rvm_refusal.specs.declared.refusal.Refusal.{Refusal};
 ghost use Rattle.rvm_world.specs.Worlds.{is_sized, world_of};
 ghost use Rattle.rvm_world_command.specs.Ends.{IsScriptEnd, IsWorldScriptEndOf};
 ghost use Rattle.rvm_world_command.specs.FirstWorld.{limits_of, version_asked};
+ghost use Rattle.rvm_world_script.specs.declared.script.WorldScriptError.TheVariants as error;
 ghost use Rattle.rvm_world_script.specs.Runs.{standing};
 
 use crate::first_world::load_world;
@@ -22,7 +28,7 @@ use rvm_refusal::LinkFault;
 use rvm_world::World;
 use rvm_world_script::{WorldScriptError, run_world_script};
 use std::alloc::Global;
-use std::io::{Read, Write};
+use std::io::{BufWriter, Read, Write};
 
 /// Loads the guest whose file `image` is into the first of a world's hosts, does what each line of
 /// `script` asks for, and writes the answers to `output`. Each host takes guests of up to 4096 pages.
@@ -32,26 +38,34 @@ use std::io::{Read, Write};
 /// than 2^26 bytes, and `OutOfMemory`, which leave `output` as it was; `BadToken` with its line where
 /// one is not in the grammar, and `OutOfMemory` with its line where one found no memory, after the
 /// answers to the lines before it; and `LinkFault` where a read or a write to `output` failed, of which
-/// a part may have gone out. Whether a reader or a writer fails is not said. `LinkFault` as the answer:
-/// a write to `errors` failed.
-pub fn script_command<M: PagedMemory + Drop, R: Read, O: Write, E: Write>(
+/// a part may have gone out. Whether a reader or a writer fails is not said. With the status 0, and where
+/// it was refused at a line, `output` holds nothing back. `LinkFault` as the answer: a write to `errors`
+/// failed.
+pub fn script_command<M: PagedMemory + Drop, R: Read, O: Write + Drop, E: Write>(
     alloc: Global,
     arguments: &ScriptArguments,
     image: &[u8],
     script: &mut R,
-    output: &mut O,
+    output: &mut BufWriter<O>,
     errors: &mut E,
 ) -> Result<u8, LinkFault>
     ensures status { IfOk result (λ status. HasStatus status
-        (λ end. IsScriptEnd arguments.now image.now (R.remaining script.old) end (O.contents output.old) (O.contents output.new))
+        (λ end. IsScriptEnd arguments.now image.now (R.remaining script.old) end
+        (writer_contents O.contents output.old) (writer_contents O.contents output.new))
         (E.contents errors.old) (E.contents errors.new)) }
+    ensures out { IfOk result (λ status. status ≡ 0 → is_flushed output.new) }
+    ensures lines { IfOk result (λ status. status ≡ 1 → is_flushed output.new
+        ⊎ ((r : Refusal) × IsTold (refused r) (E.contents errors.old) (E.contents errors.new))) }
+    ensures output { (end : Result (Unit {0}) Refused)
+        × IsScriptEnd arguments.now image.now (R.remaining script.old) end
+        (writer_contents O.contents output.old) (writer_contents O.contents output.new) }
     ensures fault { IsErr (image_of arguments.now.guest.raw image.now)
-        → O.contents output.new ≡ O.contents output.old }
+        → writer_contents O.contents output.new ≡ writer_contents O.contents output.old }
     ensures outside { IfOk (image_of arguments.now.guest.raw image.now) (λ i.
         fits i.0 i.1 (4096 * arguments.now.guest.pages) ≡ false
-        → O.contents output.new ≡ O.contents output.old) }
+        → writer_contents O.contents output.new ≡ writer_contents O.contents output.old) }
     ensures size { is_sized (version_asked arguments.now) (limits_of arguments.now.hosts) ≡ false
-        → O.contents output.new ≡ O.contents output.old }
+        → writer_contents O.contents output.new ≡ writer_contents O.contents output.old }
 {
     match answer_image::<M, R, O>(alloc, arguments, image, script, output) {
         Ok(()) => Ok(0),
@@ -60,23 +74,25 @@ pub fn script_command<M: PagedMemory + Drop, R: Read, O: Write, E: Write>(
 }
 
 /// The script itself.
-#[tactic(auto, using(crate::proofs::Ended::answered_first))]
-fn answer_image<M: PagedMemory + Drop, R: Read, O: Write>(
+#[tactic(auto, using(crate::proofs::Ended::answered_first, crate::proofs::Ended::not_begun_at_no_line))]
+fn answer_image<M: PagedMemory + Drop, R: Read, O: Write + Drop>(
     alloc: Global,
     arguments: &ScriptArguments,
     image: &[u8],
     script: &mut R,
-    output: &mut O,
+    output: &mut BufWriter<O>,
 ) -> Result<(), Refused>
     ensures end { IsScriptEnd arguments.now image.now (R.remaining script.old) result
-        (O.contents output.old) (O.contents output.new) }
+        (writer_contents O.contents output.old) (writer_contents O.contents output.new) }
+    ensures out { OnOk result (is_flushed output.new) }
+    ensures lines { IfErr result (λ r. is_flushed output.new ⊎ (r.line ≡ None)) }
     ensures fault { IsErr (image_of arguments.now.guest.raw image.now)
-        → O.contents output.new ≡ O.contents output.old }
+        → writer_contents O.contents output.new ≡ writer_contents O.contents output.old }
     ensures outside { IfOk (image_of arguments.now.guest.raw image.now) (λ i.
         fits i.0 i.1 (4096 * arguments.now.guest.pages) ≡ false
-        → O.contents output.new ≡ O.contents output.old) }
+        → writer_contents O.contents output.new ≡ writer_contents O.contents output.old) }
     ensures size { is_sized (version_asked arguments.now) (limits_of arguments.now.hosts) ≡ false
-        → O.contents output.new ≡ O.contents output.old }
+        → writer_contents O.contents output.new ≡ writer_contents O.contents output.old }
 {
     let mut world = load_world::<M>(alloc, arguments, image)?;
     match answer(alloc, &mut world, script, output) {
@@ -87,15 +103,17 @@ fn answer_image<M: PagedMemory + Drop, R: Read, O: Write>(
 
 /// Answers a script, and writes what the writer held back.
 #[tactic(auto, using(crate::proofs::Ended::script_ended, crate::proofs::Ended::link_failed))]
-fn answer<M: PagedMemory + Drop, R: Read, O: Write>(
+fn answer<M: PagedMemory + Drop, R: Read, O: Write + Drop>(
     alloc: Global,
     world: &mut World<M>,
     script: &mut R,
-    output: &mut O,
+    output: &mut BufWriter<O>,
 ) -> Result<(), WorldScriptError>
-    ensures { (t : Told Guest) → Shown (world_of world.old).hosts t
+    ensures end { (t : Told Guest) → Shown (world_of world.old).hosts t
         → IsWorldScriptEndOf (R.remaining script.old) (standing (world_of world.old) t) result
-        (O.contents output.old) (O.contents output.new) }
+        (writer_contents O.contents output.old) (writer_contents O.contents output.new) }
+    ensures out { OnOk result (is_flushed output.new) }
+    ensures lines { IfErr result (λ e. is_flushed output.new ⊎ (e ≡ error.LinkFault)) }
 {
     let answered = run_world_script(alloc, world, script, output);
     match flush(output) {

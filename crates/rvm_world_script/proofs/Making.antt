@@ -19,7 +19,7 @@ use Rattle.rvm_protocol.specs.Told.{told}
 use Rattle.rvm_protocol.specs.World.{At, Deliver, Event, entry_of, history, meaning, run}
 use Rattle.rvm_script.specs.declared.line.Line.{Line}
 use Rattle.rvm_script.specs.declared.line.Line.TheVariants as line
-use Rattle.rvm_world.specs.Worlds.{BoardWorld, IsReached}
+use Rattle.rvm_world.specs.Worlds.{IsReached}
 use Rattle.rvm_world_line.specs.declared.line.Asked.{Asked}
 use Rattle.rvm_world_line.specs.declared.line.Asked.TheVariants as asked
 use Rattle.rvm_world_line.specs.declared.line.WorldLine.{WorldLine}

@@ -38,9 +38,11 @@ pub record Standing : Type 0 where
 abbrev pub reply_in : Standing → Event BoardEvent → Reply BoardReply
 reply_in s e = reply_to board s.world e
 
+-- the place of the frame that an event makes, if it makes one
 abbrev pub place_in : Standing → Event BoardEvent → Option ℕ
 place_in s e = place_of (length s.world.sent) (length (step board s.world e).sent)
 
+-- where a script stands after an event
 abbrev pub after : Standing → Event BoardEvent → Standing
 after s e =
     record {
@@ -48,6 +50,7 @@ after s e =
       told = told board s.told (entry_of board s.world (meaning board s.world e));
     }
 
+-- where a script stands after a list of events
 unfoldable pub after_all : Standing → List (Event BoardEvent) → Standing
 after_all s [] = s
 after_all s (e ∷ es) = after_all (after s e) es
@@ -81,6 +84,7 @@ stepping x h (suc left) made last s =
     if ends_steps last then record { standing = s; count = made; reply = last }
     else stepping x h left (made + 1) (reply_in s ev) (after s ev)
 
+-- at most so many steps of hart h at host x
 abbrev pub steps_replied : (x h count : ℕ) → Standing → Replied
 steps_replied x h n s =
     let t = stepping x h n 0 (Answered Retired) s in
@@ -132,6 +136,7 @@ abbrev pub moved_if : (x to : ℕ) → Policy → Reply BoardReply → Standing 
 moved_if x to p (Begun n) s = moved_with x to p (guest_in (mode_at board s.world x)) n s
 moved_if x to p r s = record { standing = s; text = words_of r ++ codes "\n" }
 
+-- a whole move from host x, or why it did not begin
 abbrev pub moved : (x to : ℕ) → Policy → Standing → Replied
 moved x to p s = moved_if x to p (reply_in s (At x (Begin to (policies.policy_of p)))) s
 
@@ -161,6 +166,7 @@ pub record Answers : Type 0 where
   pub text : List ℕ
   pub end : Option ℕ
 
+-- the answers of later lines, behind this text
 abbrev pub behind : (text : List ℕ) → Answers → Answers
 behind text a = record a { text = text ++ a.text }
 

@@ -23,10 +23,10 @@ use thiserror::Error;
 #[derive(Clone, Copy, Debug, PartialEq, Eq, Error)]
 pub enum WorldScriptError {
     /// Memory ran out while the script was read.
-    #[error("memory ran out")]
+    #[error("out of memory")]
     OutOfMemory,
     /// Memory ran out in the line with this number, counted from 1.
-    #[error("memory ran out in line {0}")]
+    #[error("out of memory in line {0}")]
     LineOutOfMemory(usize),
     /// The script has more than 2^26 bytes.
     #[error("the script has more than 2^26 bytes")]

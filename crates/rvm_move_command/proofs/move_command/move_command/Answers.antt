@@ -1,4 +1,4 @@
-use Rattle.rvm_move.specs.Hosts.{IsAskedOfFirst, IsAskedOfSecond, IsEnd}
+use Rattle.rvm_move.specs.Hosts.{IsAskedOfSecond, IsEnd, IsFirstEnd}
 use Rattle.rvm_move.specs.Runs.{IsEndRun}
 use Rattle.rvm_move_command.specs.Ended.{IsFailureOf, IsMoved, IsToldOf}
 use Rattle.rvm_move_command.specs.Hosts.{AreOpened}
@@ -15,7 +15,7 @@ returns-clause-moved g c =
     let output_after = g.O.Write.contents c.move_image-moved.new.output in
     moved_told c.tell_end.result c.move_image-moved.result
     (λ m. AreOpened c.args.arguments.now c.args.image.now m.a.recorded.journal.opening m.b.recorded.journal.opening)
-    (λ m. IsEnd (IsAskedOfFirst (plan_of c.args.arguments.now).policy) m.a.fault m.a.recorded.journal.entries)
+    (λ m. IsFirstEnd (plan_of c.args.arguments.now).policy m.ends.copier m.a.fault m.a.recorded.journal.entries)
     (λ m. IsEnd IsAskedOfSecond m.b.fault m.b.recorded.journal.entries)
     (λ m. IsEndRun m.ends m.a.fault m.b.fault m.a.recorded.journal.entries m.b.recorded.journal.entries output_before output_after
     c.args.arguments.now.guest.harts c.args.arguments.now.steps)

@@ -1,12 +1,12 @@
 use Rattle.std.proofs.Common.{subst}
 use Rattle.std.specs.Prelude.{IfOk}
-use Rattle.rvm_move.specs.Hosts.{IsAskedOfFirst, IsEnd}
+use Rattle.rvm_move.specs.Hosts.{IsFirstEnd}
 use Rattle.rvm_move.specs.Runs.{IsEndRun}
 use Rattle.rvm_move_command.proofs.move_command.move_image.Goals as goal
 
 pub returns-in-Ok-clause-a : goal.returns-in-Ok-clause-a
 returns-in-Ok-clause-a g c =
-    subst (λ plan. IfOk c.move_recorded.result (λ m. IsEnd (IsAskedOfFirst plan.policy) m.a.fault m.a.recorded.journal.entries))
+    subst (λ plan. IfOk c.move_recorded.result (λ m. IsFirstEnd plan.policy m.ends.copier m.a.fault m.a.recorded.journal.entries))
     c.plan_of-plan.ensures c.move_recorded.ensures.a
 
 pub returns-in-Ok-clause-run : goal.returns-in-Ok-clause-run

@@ -1,6 +1,6 @@
 use Rattle.std.proofs.Common.{subst}
 use Rattle.std.specs.Prelude.{IfOk}
-use Rattle.rvm_move.specs.Hosts.{IsAskedOfFirst, IsAskedOfSecond, IsEnd}
+use Rattle.rvm_move.specs.Hosts.{IsAskedOfSecond, IsEnd, IsFirstEnd}
 use Rattle.rvm_move.specs.Runs.{IsEndRun}
 use Rattle.rvm_move_command.specs.Ended.{IsFailureOf, IsMoved, IsToldOf}
 use Rattle.rvm_move_command.specs.Hosts.{AreOpened}
@@ -20,11 +20,11 @@ returns-in-Ok-clause-moved g c =
     c.in-Ok.ensures.loadable c.in-Ok.ensures.valid c.in-Ok.ensures.first c.in-Ok.ensures.second same.0 same.1) c.move_recorded-moved.ensures.opening in
     let run = subst (λ plan. IfOk c.move_recorded-moved.result (λ m. IsEndRun m.ends m.a.fault m.b.fault m.a.recorded.journal.entries
     m.b.recorded.journal.entries output_before output_after plan.harts plan.steps)) c.plan_of-plan.ensures c.move_recorded-moved.ensures.run in
-    let end_a = subst (λ plan. IfOk c.move_recorded-moved.result (λ m. IsEnd (IsAskedOfFirst plan.policy) m.a.fault m.a.recorded.journal.entries))
+    let end_a = subst (λ plan. IfOk c.move_recorded-moved.result (λ m. IsFirstEnd plan.policy m.ends.copier m.a.fault m.a.recorded.journal.entries))
     c.plan_of-plan.ensures c.move_recorded-moved.ensures.a in
     moved_told c.tell_end.result c.move_recorded-moved.result
     (λ m. AreOpened c.args.arguments.now c.args.image.now m.a.recorded.journal.opening m.b.recorded.journal.opening)
-    (λ m. IsEnd (IsAskedOfFirst (plan_of c.args.arguments.now).policy) m.a.fault m.a.recorded.journal.entries)
+    (λ m. IsFirstEnd (plan_of c.args.arguments.now).policy m.ends.copier m.a.fault m.a.recorded.journal.entries)
     (λ m. IsEnd IsAskedOfSecond m.b.fault m.b.recorded.journal.entries)
     (λ m. IsEndRun m.ends m.a.fault m.b.fault m.a.recorded.journal.entries m.b.recorded.journal.entries output_before output_after
     c.args.arguments.now.guest.harts c.args.arguments.now.steps)

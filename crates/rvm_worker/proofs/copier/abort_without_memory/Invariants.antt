@@ -2,4 +2,4 @@ use Rattle.std.proofs.Common.{◌≡◌}
 use Rattle.rvm_worker.proofs.copier.abort_without_memory.Given as goal
 
 abbrev pub invariant-loop-try : goal.invariant-loop-try
-invariant-loop-try g l = l.copying ≡ l.fn.copying
+invariant-loop-try g l = l.copying ≡ record l.fn.copying { last = l.copying.last }

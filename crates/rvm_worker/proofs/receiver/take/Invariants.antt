@@ -1,5 +1,15 @@
-use Rattle.std.proofs.Common.{◌≡◌}
+use Rattle.std.proofs.Common.{◌≡◌, ℕ, List, ◌++◌, length, None, Ok}
+use Rattle.rvm_frame.specs.Verdict.{verdict}
+use Rattle.rvm_worker.specs.Heard.{AreHeard}
 use Rattle.rvm_worker.proofs.receiver.take.Given as goal
 
-abbrev pub invariant-loop-turn : goal.invariant-loop-turn
-invariant-loop-turn g l = l.hearing ≡ l.fn.hearing
+abbrev pub invariant-loop-rest : goal.invariant-loop-rest
+invariant-loop-rest g l = record {
+  same : l.hearing ≡ record l.fn.hearing { heard = l.hearing.heard; last = l.hearing.last };
+  waits : verdict l.stream.reader.version l.stream.reader.bytes ≡ Ok None;
+  heard : (read : List ℕ) × (l.fn.piece ≡ read ++ l.rest)
+      × AreHeard l.fn.stream.reader read l.fn.hearing.heard l.hearing.heard l.stream.reader;
+}
+
+abbrev pub decreases-loop-rest : goal.decreases-loop-rest
+decreases-loop-rest g l = length l.rest

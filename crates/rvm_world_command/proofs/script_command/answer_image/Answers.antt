@@ -1,4 +1,5 @@
 use Rattle.std.proofs.Common.{Ok}
+use Rattle.std.specs.Io.Buffered.{writer_contents}
 use Rattle.rvm_command.specs.Command.{image_of}
 use Rattle.rvm_world.specs.Worlds.{world_of}
 use Rattle.rvm_world_command.specs.FirstWorld.{version_asked}
@@ -12,6 +13,6 @@ returns-in-Ok-clause-end g c =
       (c.in_ok-world.ensures.loadable, c.in_ok-world.ensures.sized),
       answered_first (image_of a.guest.raw c.args.image.now) a.guest.harts a.guest.pages (version_asked a) a.hosts
           (world_of c.in_ok-world.world) (g.R.Read.remaining c.args.script.now) (Ok tt)
-          (g.O.Write.contents c.args.output.now) (g.O.Write.contents c.answer.new.output)
-          c.in_ok-world.ensures.world c.in_ok-world.ensures.shown c.in-Ok.ensures,
+          (writer_contents g.O.Write.contents c.args.output.now) (writer_contents g.O.Write.contents c.answer.new.output)
+          c.in_ok-world.ensures.world c.in_ok-world.ensures.shown c.in-Ok.ensures.end,
     )

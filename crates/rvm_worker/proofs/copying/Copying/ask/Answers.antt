@@ -8,5 +8,5 @@ pub invariant_of-self : goal.invariant_of-self
 invariant_of-self g c =
     let old = c.self.inside in
     let here = subst (λ v. IsOfCopier v.to v.policy (Do c.args.command)) (sym c.self.view_is) c.requires in
-    copier_more old.to old.policy (Do c.args.command) old.caller.receipts c.tell.new.caller.receipts c.self.invariant here
-    c.tell.ensures.asked
+    copier_more old.to old.policy (Do c.args.command) old.caller c.tell.new.caller (λ t. t.reply) c.tell.result c.self.invariant here
+    c.tell.ensures.call c.tell.ensures.err

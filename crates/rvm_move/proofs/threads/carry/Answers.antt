@@ -7,10 +7,10 @@ use Rattle.rvm_link.specs.contracts.outgoing.Outgoing as Outgoing
 use Rattle.rvm_link.proofs.Sends.{outgoing_sync}
 use Rattle.rvm_move.specs.contracts.threads.TakenAtA as TakenAtA
 use Rattle.rvm_move.proofs.Sends.{taken_at_a_send}
-use Rattle.rvm_move.proofs.threads.work_at_both.Goals as goal
+use Rattle.rvm_move.proofs.threads.carry.Goals as goal
 
-pub join-requires-send-F : goal.join-requires-send-F
-join-requires-send-F g c κs within =
+pub join-copier-requires-send-F : goal.join-copier-requires-send-F
+join-copier-requires-send-F g c κs within =
     let host : IsSync (SharedHost.the_row (param 0 g.row.L) (param 2 g.row.M) g.L.Seating g.L.Ledger g.M.Memory) =
     shared_sync (param 0 g.row.L) (param 2 g.row.M) g.L.Seating g.L.Ledger g.M.Memory c.type_bounds.send-M in
     let outgoing : IsSync (Outgoing.the_row (param 3 g.row.K)) = outgoing_sync (param 3 g.row.K) c.type_bounds.send-K in

@@ -1,0 +1,123 @@
+-- How a command ended that was given the files that it names.
+use Rattle.std.specs.Prelude.{◌≡◌, ℕ, zero, suc, List, Option}
+use Rattle.rvm_arguments.specs.declared.arguments.Arguments.{Arguments}
+use Rattle.rvm_arguments.specs.declared.arguments.Arguments.TheVariants.{Run, Asm, Dis, Debug, Script, Move, Audit}
+use Rattle.rvm_arguments.specs.declared.arguments.AsmArguments.{AsmArguments}
+use Rattle.rvm_arguments.specs.declared.arguments.DisArguments.{DisArguments}
+use Rattle.rvm_arguments.specs.declared.arguments.GuestArguments.{GuestArguments}
+use Rattle.rvm_arguments.specs.declared.arguments.MoveArguments.{MoveArguments}
+use Rattle.rvm_arguments.specs.declared.arguments.RunArguments.{RunArguments}
+use Rattle.rvm_arguments.specs.declared.arguments.ScriptArguments.{ScriptArguments}
+use Rattle.rvm_command.specs.Command.{image_of}
+use Rattle.rvm_command.specs.Ends.{HasStatus, IsAsmEnd, IsDebugEnd, IsListEnd, IsRunEnd, RunHasStatus}
+use Rattle.rvm_command.specs.Refusals.{IsTold, refused}
+use Rattle.rvm_move_command.specs.Ended.{IsMoved, IsNotMoved}
+use Rattle.rvm_move_command.specs.Orders.{IsAudited, IsNotAudited}
+use Rattle.rvm_program.specs.Files.{IsFile, IsFileRefusal, IsInput, IsOpened, Named}
+use Rattle.rvm_refusal.specs.declared.refusal.Refusal.{Refusal}
+use Rattle.rvm_world_command.specs.Ends.{IsScriptEnd}
+
+-- what a writer held before a command and behind it, where that is known
+pub record Written : Type 0 where
+  pub before : Option (List ℕ)
+  pub after : Option (List ℕ)
+
+-- these two
+abbrev pub written : (before after : Option (List ℕ)) → Written
+written before after = record { before = before; after = after }
+
+-- `run` was given the image that it names, and the input, if it names one
+pub record RunEnded (files : Named) (a : RunArguments) (status : ℕ) (output errors : Written) : Type 0 where
+  pub image : List ℕ
+  pub input : List ℕ
+  pub image_is : IsFile (files a.guest.image.now) image
+  pub input_is : IsInput files a.input input
+  pub ended : RunHasStatus status (λ end. IsRunEnd a image input end output.before output.after)
+      errors.before errors.after
+
+-- `asm` was given the text that it names, and wrote to a file
+pub record AsmEnded (files : Named) (a : AsmArguments) (status : ℕ) (errors : Written) : Type 0 where
+  pub text : List ℕ
+  pub file : Written
+  pub text_is : IsFile (files a.source.now) text
+  pub ended : HasStatus status (λ end. IsAsmEnd text end file.before file.after) errors.before errors.after
+
+-- `dis` was given the image that it names, and told a buffer in front of the output
+pub record DisEnded (files : Named) (a : DisArguments) (status : ℕ) (output : Option (List ℕ)) (errors : Written)
+    : Type 0 where
+  pub image : List ℕ
+  pub told : Option (List ℕ)
+  pub image_is : IsFile (files a.image.now) image
+  pub ended : HasStatus status (λ end. IsListEnd (image_of a.raw image) end output told) errors.before errors.after
+
+-- `debug` was given the image that it names and a script, and told a buffer in front of the output
+pub record DebugEnded (files : Named) (a : GuestArguments) (status : ℕ) (script output : Option (List ℕ))
+    (errors : Written) : Type 0 where
+  pub image : List ℕ
+  pub told : Option (List ℕ)
+  pub image_is : IsFile (files a.image.now) image
+  pub ended : HasStatus status (λ end. IsDebugEnd a image script end output told) errors.before errors.after
+
+-- `script` was given the image and the script that it names, and told a buffer in front of the output
+pub record ScriptEnded (files : Named) (a : ScriptArguments) (status : ℕ) (output : Option (List ℕ)) (errors : Written)
+    : Type 0 where
+  pub image : List ℕ
+  pub script : Option (List ℕ)
+  pub told : Option (List ℕ)
+  pub image_is : IsFile (files a.guest.image.now) image
+  pub script_is : IsOpened (files a.script.now) script
+  pub ended : HasStatus status (λ end. IsScriptEnd a image script end output told) errors.before errors.after
+
+-- a move was made, or it was not, by its status
+abbrev pub MoveHasStatus : (status : ℕ) → MoveArguments → (image : List ℕ)
+    → (errors told output output' : Option (List ℕ)) → Type 0
+MoveHasStatus zero a image errors told output output' = IsMoved a image errors told output output'
+MoveHasStatus (suc zero) a image errors told output output' = IsNotMoved a image errors told
+MoveHasStatus (suc (suc n)) a image errors told output output' = ⊥
+
+-- `move` was given the image that it names, and told a buffer in front of the errors
+pub record MoveEnded (files : Named) (a : MoveArguments) (status : ℕ) (output : Written) (errors : Option (List ℕ))
+    : Type 0 where
+  pub image : List ℕ
+  pub told : Option (List ℕ)
+  pub image_is : IsFile (files a.guest.image.now) image
+  pub ended : MoveHasStatus status a image errors told output.before output.after
+
+-- an order of a move was written and nothing was told, or there was none, by the status
+abbrev pub AuditHasStatus : (status : ℕ) → MoveArguments → (image : List ℕ)
+    → (output told errors errors' : Option (List ℕ)) → Type 0
+AuditHasStatus zero a image output told errors errors' = IsAudited a image output told × (errors' ≡ errors)
+AuditHasStatus (suc zero) a image output told errors errors' = IsNotAudited a image errors errors'
+AuditHasStatus (suc (suc n)) a image output told errors errors' = ⊥
+
+-- `audit` was given the image that it names, and told a buffer in front of the output
+pub record AuditEnded (files : Named) (a : MoveArguments) (status : ℕ) (output : Option (List ℕ)) (errors : Written)
+    : Type 0 where
+  pub image : List ℕ
+  pub told : Option (List ℕ)
+  pub image_is : IsFile (files a.guest.image.now) image
+  pub ended : AuditHasStatus status a image output told errors.before errors.after
+
+-- what a command line asks for ended with this status
+abbrev pub HasEnded : Named → Arguments → (status : ℕ) → (script : Option (List ℕ)) → (output errors : Written) → Type 0
+HasEnded files (Run a) status script output errors = RunEnded files a status output errors
+HasEnded files (Asm a) status script output errors = AsmEnded files a status errors
+HasEnded files (Dis a) status script output errors = DisEnded files a status output.before errors
+HasEnded files (Debug a) status script output errors = DebugEnded files a status script output.before errors
+HasEnded files (Script a) status script output errors = ScriptEnded files a status output.before errors
+HasEnded files (Move a) status script output errors = MoveEnded files a status output errors.before
+HasEnded files (Audit a) status script output errors = AuditEnded files a status output.before errors
+
+-- nothing was told of a command that did not begin; for `move`, whose lines go through a buffer, that is not known
+abbrev pub IsSilent : Arguments → (errors : Written) → Type 0
+IsSilent (Move a) errors = Unit {0}
+IsSilent other errors = errors.after ≡ errors.before
+
+-- a command did not begin, since a file or a buffer could not be had, and that was told
+pub record IsUnbegun (a : Arguments) (status : ℕ) (errors : Written) : Type 0 where
+  pub why : Refusal
+  pub reason : IsFileRefusal why
+  pub silence : Option (List ℕ)
+  pub silent : IsSilent a (written errors.before silence)
+  pub told : IsTold (refused why) silence errors.after
+  pub status_is : status ≡ 1

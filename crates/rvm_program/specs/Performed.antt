@@ -1,0 +1,38 @@
+-- What words of a command line have come to.
+use Rattle.std.specs.Prelude.{◌≡◌, ◌⊎◌, ℕ, List, [], Option}
+use Rattle.clap.specs.Faults.{fault_of}
+use Rattle.clap.specs.Kinds.{IsAmong}
+use Rattle.clap.specs.Simple.{subcommand_of}
+use Rattle.clap.specs.Walk.{Text}
+use Rattle.clap.specs.declared.error.kind.ErrorKind.TheVariants as kind
+use Rattle.rvm_arguments.specs.declared.arguments.Arguments.{Arguments}
+use Rattle.rvm_command_line.specs.Given.{IsAsked}
+use Rattle.rvm_command_line.specs.Program.{faults_of, program}
+use Rattle.rvm_program.specs.Ended.{HasEnded, Written}
+use Rattle.rvm_program.specs.Files.{Named}
+
+-- words have no fault for `clap`, and what they ask for is done
+pub record IsDone (files : Named) (words : List Text) (script : Option (List ℕ)) (output errors : Written)
+    : Type 0 where
+  pub faultless : fault_of program words ≡ []
+  pub arguments : Arguments
+  pub asked : IsAsked (subcommand_of program words) arguments
+  pub ended : HasEnded files arguments 0 script output errors
+
+-- words may ask for help
+abbrev pub AskHelp : (words : List Text) → Type 0
+AskHelp words = IsAmong kind.DisplayHelp (faults_of words)
+
+-- words may ask for the version
+abbrev pub AskVersion : (words : List Text) → Type 0
+AskVersion words = IsAmong kind.DisplayVersion (faults_of words)
+
+-- words ask for help or for the version, and nothing went to the errors
+abbrev pub IsShown : (words : List Text) → (errors : Written) → Type 0
+IsShown words errors = (AskHelp words ⊎ AskVersion words) × (errors.after ≡ errors.before)
+
+-- words have a fault for `clap`, and ask for neither
+pub record AreFaulty (words : List Text) : Type 0 where
+  pub faulty : fault_of program words ≡ [] → ⊥
+  pub no_help : AskHelp words → ⊥
+  pub no_version : AskVersion words → ⊥

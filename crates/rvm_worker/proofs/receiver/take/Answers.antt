@@ -1,0 +1,36 @@
+use Rattle.std.proofs.Common.{rules, ◌++◌, take, subst, sym}
+use Rattle.rvm_worker.specs.Heard.{AreHeard, IsHeardUpTo}
+use Rattle.rvm_worker.proofs.Heard.{goes_on, heard_more, heard_up_to, waits_heard}
+use Rattle.rvm_worker.proofs.receiver.take.Goals as goal
+
+pub returns-in_err-taken-clause-some : goal.returns-in_err-taken-clause-some
+returns-in_err-taken-clause-some g c =
+    let end = c.in_err-taken.field-0.0 in
+    let reader = c.args.stream.now.reader in
+    let before = c.args.hearing.now.heard in
+    let behind = c.feed.new.hearing.heard in
+    let i = c.loop-rest.invariant.heard in
+    let more : IsHeardUpTo end c.loop-rest.stream.reader c.loop-rest.rest.now c.loop-rest.hearing.heard behind = search rules in
+    let up = subst (λ l. IsHeardUpTo end reader l before behind) (sym i.1)
+    (heard_up_to end reader c.loop-rest.stream.reader i.0 c.loop-rest.rest.now before c.loop-rest.hearing.heard behind i.2 more) in
+    search (up, rules)
+
+pub loop-rest-preserved : goal.loop-rest-preserved
+loop-rest-preserved g c =
+    let reader = c.loop-rest.stream.reader in
+    let new = c.feed.new.stream.reader in
+    let rest = c.loop-rest.rest.now in
+    let n = c.in_ok-taken.taken in
+    let between = c.loop-rest.hearing.heard in
+    let behind = c.feed.new.hearing.heard in
+    let i = c.loop-rest.invariant in
+    let more : AreHeard reader (take n rest) between behind new = search rules in
+    record {
+      same = search rules;
+      waits = waits_heard reader (take n rest) between behind new i.waits more;
+      heard = (
+        i.heard.0 ++ take n rest,
+        goes_on c.args.piece.now i.heard.0 rest n i.heard.1,
+        heard_more c.args.stream.now.reader reader new i.heard.0 (take n rest) c.args.hearing.now.heard between behind i.heard.2 more,
+      );
+    }

@@ -1,0 +1,56 @@
+-- What the last call of a worker tells of how it ended.
+use Rattle.std.specs.Io.KnownBytes.{IsAtEnd}
+use Rattle.std.specs.Prelude.{◌≡◌, ◌⊎◌, ℕ, ◌-◌, Bool, true, false, not, ◌&&◌, List, length, Option, option_map, slice_get, IsSomeAnd}
+use Rattle.rvm_cell.specs.Receipts.{PlainReceipt}
+use Rattle.rvm_message.specs.declared.event.Command.TheVariants as command
+use Rattle.rvm_message.specs.declared.event.HostEvent.{HostEvent}
+use Rattle.rvm_message.specs.declared.event.HostEvent.TheVariants as event
+use Rattle.rvm_message.specs.Exchanges.{PlainExchange, exchange}
+use Rattle.rvm_precopy.specs.declared.policy.Policy.{Policy}
+use Rattle.rvm_worker.specs.declared.end.WorkEnd.{WorkEnd}
+use Rattle.rvm_worker.specs.declared.end.WorkEnd.TheVariants.{Done, GivenUp, Stopped}
+use Rattle.rvm_worker.specs.Ends.{is_short_of_room}
+use Rattle.rvm_worker.specs.Next.{ends_hearing, is_gone, says_no_move}
+use Rattle.rvm_worker.specs.Work.{AreOfCopier}
+
+-- the last of some calls, and the reply to it, if there is one
+abbrev pub last_of : List PlainReceipt → Option PlainExchange
+last_of receipts = option_map (λ r. exchange r.event r.reply) (slice_get receipts (length receipts - 1))
+
+-- a worker ends so whose call was not made: at its gate, or for want of room
+abbrev pub is_uncalled : WorkEnd → Bool
+is_uncalled Stopped = true
+is_uncalled end = is_short_of_room end
+
+-- the host was asked to give up its move
+abbrev pub gives_up : HostEvent → Bool
+gives_up (event.Do command.Abort) = true
+gives_up e = false
+
+-- the host answered that it has no move
+abbrev pub tells_done : PlainExchange → Bool
+tells_done x = says_no_move x.reply
+
+-- the host was asked to give up its move, and its guest was not gone
+abbrev pub tells_given_up : PlainExchange → Bool
+tells_given_up x = gives_up x.event && not (is_gone x.reply)
+
+-- a copier is done, or has given up the move, only where its last call tells so
+abbrev pub IsCopierEnd : WorkEnd → (last : Option PlainExchange) → Type 0
+IsCopierEnd Done last = IsSomeAnd last (λ x. tells_done x ≡ true)
+IsCopierEnd GivenUp last = IsSomeAnd last (λ x. tells_given_up x ≡ true)
+IsCopierEnd end last = Unit {0}
+
+-- the move is over for whoever hears the other side
+abbrev pub tells_over : PlainExchange → Bool
+tells_over x = ends_hearing x.reply
+
+-- a receiver is done only where its last call tells so, or the other side's stream has ended
+abbrev pub IsReceiverEnd : WorkEnd → (last : Option PlainExchange) → (remaining : Option (List ℕ)) → Type 0
+IsReceiverEnd Done last remaining = IsSomeAnd last (λ x. tells_over x ≡ true) ⊎ IsAtEnd remaining
+IsReceiverEnd end last remaining = Unit {0}
+
+-- what a copier leaves that ended so: it made these calls, to move its guest to this host with this policy
+pub record IsCopied (to : ℕ) (policy : Policy) (end : WorkEnd) (receipts : List PlainReceipt) : Type 0 where
+  pub asked : AreOfCopier to policy receipts
+  pub ended : IsCopierEnd end (last_of receipts)
