@@ -1,5 +1,5 @@
 -- The events of a guest in a journal, worked out by hand.
-use Rattle.std.proofs.Common.{◌≡◌, List, [], ◌∷◌, None, codes, refl}
+use Rattle.std.proofs.Common.{◌≡◌, true, false, List, [], ◌∷◌, None, arith, codes, refl}
 use Rattle.rvm_cell.specs.Receipts.{PlainReceipt}
 use Rattle.rvm_debug.specs.declared.event.BoardEvent.TheVariants as asked
 use Rattle.rvm_debug.specs.declared.event.BoardReply.TheVariants as answer
@@ -7,9 +7,11 @@ use Rattle.rvm_journal.specs.Entries.{PlainEntry}
 use Rattle.rvm_message.specs.declared.event.Command.TheVariants as command
 use Rattle.rvm_message.specs.declared.event.HostEvent.{HostEvent}
 use Rattle.rvm_message.specs.declared.event.HostEvent.TheVariants as event
+use Rattle.rvm_message.specs.declared.reply.HostRefusal.TheVariants.{NoMove}
 use Rattle.rvm_message.specs.declared.reply.HostReply.{HostReply}
 use Rattle.rvm_message.specs.declared.reply.HostReply.TheVariants as reply
 use Rattle.rvm_message.specs.Exchanges.{PlainExchange, exchange}
+use Rattle.rvm_move.specs.Ends.{TellsEnd, tells_end}
 use Rattle.rvm_move.specs.Runs.{called_of_guest, of_guest}
 
 abbrev entry : HostEvent → HostReply → PlainEntry
@@ -44,3 +46,21 @@ receipts =
 
 they_are_the_calls_of_one_seat : of_guest journal ≡ called_of_guest receipts
 they_are_the_calls_of_one_seat = refl
+
+-- WHAT TELLS THAT A MOVE IS OVER
+
+no_move_left_tells_it : tells_end (exchange (event.Do command.Resend) (reply.Refused NoMove)) ≡ true
+no_move_left_tells_it = refl
+
+a_move_that_was_given_up_tells_it : tells_end (exchange (event.Do command.Abort) reply.Aborted) ≡ true
+a_move_that_was_given_up_tells_it = refl
+
+a_commit_does_not : tells_end (exchange (event.Do command.Resend) (reply.Committed 1)) ≡ false
+a_commit_does_not = refl
+
+-- the last entry of a journal may tell it
+abbrev ended : List PlainEntry
+ended = entry (event.Do command.Copy) reply.StateSent ∷ entry (event.Do command.Resend) (reply.Refused NoMove) ∷ []
+
+this_journal_tells_it : TellsEnd ended
+this_journal_tells_it = (1, entry (event.Do command.Resend) (reply.Refused NoMove), omega arith, refl, refl)

@@ -2,17 +2,19 @@
 use Rattle.std.proofs.Common.{◌≡◌, ◌∙◌, ℕ, zero, suc, ◌<◌, List, [], ◌∷◌, ◌++◌, ◌-◌, append-nil, append_assoc, length, length-drop, take, drop, Option, None, Some, Ok, ap, refl, sym, subst, arith, inl, inr}
 use Rattle.std.proofs.lemmas.List.{take_all, take-append-drop}
 use Rattle.std.proofs.lemmas.List.Concat.{flat_map-append}
-use Rattle.std.specs.Io.KnownBytes.{Consumes, Keeps}
-use Rattle.std.specs.Prelude.{IfSome, slice_index}
+use Rattle.std.specs.Io.KnownBytes.{Consumes, IsAtEnd, Keeps}
+use Rattle.std.specs.Prelude.{◌⊎◌, IfSome, slice_index}
 use Rattle.rvm_frame.proofs.Streams.{reader_splits}
 use Rattle.rvm_frame.specs.declared.frame.Frame.{Frame}
 use Rattle.rvm_frame.specs.Grammar.{Received}
 use Rattle.rvm_frame.specs.Reader.{Gathered, at_start, next_of}
-use Rattle.rvm_frame.specs.Stream.{Feed, Run, bytes_taken, frames_given, with_frame}
+use Rattle.rvm_frame.specs.Stream.{Feed, Run, Splits, bytes_taken, frames_given, with_frame}
 use Rattle.rvm_frame.specs.Verdict.{Decides, verdict}
+use Rattle.rvm_message.specs.Exchanges.{PlainExchange}
 use Rattle.rvm_worker.specs.declared.end.WorkEnd.{WorkEnd}
 use Rattle.rvm_worker.specs.declared.end.WorkEnd.TheVariants.{BadFrame, Done, Failed, GivenUp, GuestStopped, LinkFault, OutOfMemory, OutOfRange, RecorderFull, Stopped, TooLong}
-use Rattle.rvm_worker.specs.Heard.{AreHeard, Hears, IsAllButLast, IsHeardOf, IsHeardUpTo, all_for_host, for_host}
+use Rattle.rvm_worker.specs.Endings.{TellsOver}
+use Rattle.rvm_worker.specs.Heard.{AreHeard, Hears, IsAllButLast, IsHeardOf, IsHeardUpTo, IsReceiverEnd, IsWholeStream, all_for_host, for_host}
 
 -- each is below 256
 abbrev AreBytes : List ℕ → Type 0
@@ -48,6 +50,21 @@ last_unheard LinkFault heard all last undone is = inr (last, is)
 last_unheard BadFrame heard all last undone is = inr (last, is)
 last_unheard TooLong heard all last undone is = inr (last, is)
 last_unheard Failed heard all last undone is = inr (last, is)
+
+-- what is to be shown of a receiver that is done is all that is
+pub receiver_end : (end : WorkEnd) (last : Option PlainExchange) (bytes : Option (List ℕ)) (heard : List Frame)
+    → (end ≡ Done → TellsOver last ⊎ IfSome bytes (λ all. IsWholeStream all heard)) → IsReceiverEnd end last bytes heard
+receiver_end Done last bytes heard is = is refl
+receiver_end GivenUp last bytes heard is = tt
+receiver_end Stopped last bytes heard is = tt
+receiver_end GuestStopped last bytes heard is = tt
+receiver_end OutOfMemory last bytes heard is = tt
+receiver_end (RecorderFull n) last bytes heard is = tt
+receiver_end OutOfRange last bytes heard is = tt
+receiver_end LinkFault last bytes heard is = tt
+receiver_end BadFrame last bytes heard is = tt
+receiver_end TooLong last bytes heard is = tt
+receiver_end Failed last bytes heard is = tt
 
 -- RUNS OF A READER
 
@@ -269,6 +286,30 @@ ends_heard end (Some l) g heard = heard_no_more end g l heard
 pub waits_hears : (before after : Option (List ℕ)) (first last : List Frame) (g : Gathered) → Hears before after at_start first last g
     → verdict g.version g.bytes ≡ Ok None
 waits_hears before after first last g h = waits_heard at_start h.read first last g refl h.heard
+
+kept_at_end : (before after : Option (List ℕ)) → Keeps before after → IsAtEnd after → IsAtEnd before
+kept_at_end None after same end = tt
+kept_at_end (Some xs) None same end = absurd same
+kept_at_end (Some xs) (Some ys) same end = sym same ∙ end
+
+-- a link that gives nothing and has nothing left had nothing left
+pub kept_end : (before after : Option (List ℕ)) → Keeps before after × IsAtEnd after → IsAtEnd before
+kept_end before after both = kept_at_end before after both.0 both.1
+
+-- where nothing is left behind the last frame, the whole stream was heard
+pub whole_heard : (first last : Option (List ℕ)) (heard : List Frame) (g : Gathered) → Hears first last at_start [] heard g
+    → IsAtEnd last → g.bytes ≡ [] → IfSome first (λ bytes. IsWholeStream bytes heard)
+whole_heard None last heard g h end between = tt
+whole_heard (Some xs) None heard g h end between = let c = h.consumed in absurd c
+whole_heard (Some xs) (Some ys) heard g h end between =
+    let feeds = h.heard.feeds in
+    let all : xs ≡ bytes_taken feeds = h.consumed ∙ ap (λ l. h.read ++ l) end ∙ append-nil h.read ∙ sym h.heard.taken in
+    record {
+      frames = frames_given feeds;
+      stream = subst (λ l. Splits None l (frames_given feeds) []) (sym all)
+          (subst (Splits None (bytes_taken feeds) (frames_given feeds)) between (reader_splits feeds g h.heard.run));
+      told = h.heard.heard;
+    }
 
 -- of the bytes of the whole stream a reader was fed the first ones
 pub heard_of : (bytes : List ℕ) (end : WorkEnd) (heard : List Frame) → IsHeardUpTo end at_start bytes [] heard

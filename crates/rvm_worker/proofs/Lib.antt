@@ -2,3 +2,4 @@ pub mod Sends
 pub mod Works
 pub mod Endings
 pub mod Heard
+pub mod Examples

@@ -1,6 +1,5 @@
 -- What the last call of a worker tells of how it ended.
-use Rattle.std.specs.Io.KnownBytes.{IsAtEnd}
-use Rattle.std.specs.Prelude.{◌≡◌, ◌⊎◌, ℕ, ◌-◌, Bool, true, false, not, ◌&&◌, List, length, Option, option_map, slice_get, IsSomeAnd}
+use Rattle.std.specs.Prelude.{◌≡◌, ℕ, ◌-◌, Bool, true, false, not, ◌&&◌, List, length, Option, option_map, slice_get, IsSomeAnd}
 use Rattle.rvm_cell.specs.Receipts.{PlainReceipt}
 use Rattle.rvm_message.specs.declared.event.Command.TheVariants as command
 use Rattle.rvm_message.specs.declared.event.HostEvent.{HostEvent}
@@ -41,14 +40,9 @@ IsCopierEnd Done last = IsSomeAnd last (λ x. tells_done x ≡ true)
 IsCopierEnd GivenUp last = IsSomeAnd last (λ x. tells_given_up x ≡ true)
 IsCopierEnd end last = Unit {0}
 
--- the move is over for whoever hears the other side
-abbrev pub tells_over : PlainExchange → Bool
-tells_over x = ends_hearing x.reply
-
--- a receiver is done only where its last call tells so, or the other side's stream has ended
-abbrev pub IsReceiverEnd : WorkEnd → (last : Option PlainExchange) → (remaining : Option (List ℕ)) → Type 0
-IsReceiverEnd Done last remaining = IsSomeAnd last (λ x. tells_over x ≡ true) ⊎ IsAtEnd remaining
-IsReceiverEnd end last remaining = Unit {0}
+-- the last call of a receiver tells that the move is over for it
+abbrev pub TellsOver : (last : Option PlainExchange) → Type 0
+TellsOver last = IsSomeAnd last (λ x. ends_hearing x.reply ≡ true)
 
 -- what a copier leaves that ended so: it made these calls, to move its guest to this host with this policy
 pub record IsCopied (to : ℕ) (policy : Policy) (end : WorkEnd) (receipts : List PlainReceipt) : Type 0 where

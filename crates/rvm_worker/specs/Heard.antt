@@ -1,17 +1,19 @@
 -- Which frames a receiver hears: those of the stream that its link gives.
 use Rattle.std.specs.Io.KnownBytes.{Consumes}
 use Rattle.std.specs.List.{flat_map}
-use Rattle.std.specs.Prelude.{◌≡◌, ◌⊎◌, ℕ, List, [], ◌∷◌, ◌++◌, Option, None, Result, Ok, Err}
+use Rattle.std.specs.Prelude.{◌≡◌, ◌⊎◌, ℕ, List, [], ◌∷◌, ◌++◌, Option, None, Result, Ok, Err, IfSome}
 use Rattle.rvm_cell.specs.Receipts.{PlainReceipt}
 use Rattle.rvm_frame.specs.declared.frame.Frame.{Frame}
 use Rattle.rvm_frame.specs.declared.frame.Frame.TheVariants.{Hello}
 use Rattle.rvm_frame.specs.Grammar.{Received}
 use Rattle.rvm_frame.specs.Reader.{Gathered}
 use Rattle.rvm_frame.specs.Stream.{Feed, Run, Splits, bytes_taken, frames_given}
+use Rattle.rvm_message.specs.Exchanges.{PlainExchange}
 use Rattle.rvm_message.specs.declared.event.HostEvent.{HostEvent}
 use Rattle.rvm_message.specs.declared.event.HostEvent.TheVariants.{Came}
 use Rattle.rvm_worker.specs.declared.end.WorkEnd.{WorkEnd}
 use Rattle.rvm_worker.specs.declared.end.WorkEnd.TheVariants.{Done}
+use Rattle.rvm_worker.specs.Endings.{TellsOver}
 
 -- what of a frame comes to a host: Hello does not
 abbrev pub for_host : Frame → List Frame
@@ -45,6 +47,17 @@ pub record IsHeardOf (bytes : List ℕ) (end : WorkEnd) (heard : List Frame) : T
   pub whole : bytes ≡ read ++ rest
   pub stream : Splits None read frames unfinished
   pub told : IsAllButLast end heard (all_for_host frames)
+
+-- the bytes are a whole stream of frames, and all that come to a host were heard
+pub record IsWholeStream (bytes : List ℕ) (heard : List Frame) : Type 0 where
+  pub frames : List Received
+  pub stream : Splits None bytes frames []
+  pub told : heard ≡ all_for_host frames
+
+-- a receiver is done only where its last call tells so, or it heard the whole stream of its link, which has ended
+abbrev pub IsReceiverEnd : WorkEnd → (last : Option PlainExchange) → (bytes : Option (List ℕ)) → (heard : List Frame) → Type 0
+IsReceiverEnd Done last bytes heard = TellsOver last ⊎ IfSome bytes (λ all. IsWholeStream all heard)
+IsReceiverEnd end last bytes heard = Unit {0}
 
 -- a frame of a stream came to a host, if it is to; where that was refused it may not have
 abbrev pub IsHeard : {A : Type 0} → Result A WorkEnd → Frame → (before behind : List Frame) → Type 0

@@ -1,11 +1,11 @@
 //! Receivers: each hears the frames of the other side.
 
-ghost use Rattle.std.specs.Prelude.{◌≡◌, ◌<◌, ◌≤◌, ◌∷◌, true, false, [], length, take, None, Some, Ok, Err, IfErr, IfOk, IfSome, IsSomeAnd, MatchOption, if◌then◌else◌};
+ghost use Rattle.std.specs.Prelude.{◌≡◌, ◌⊎◌, ◌<◌, ◌≤◌, ◌∷◌, true, false, [], length, take, None, Some, Ok, Err, IfErr, IfOk, IfSome, MatchOption, if◌then◌else◌};
 ghost use Rattle.std.specs.Io.KnownBytes.{Consumes, IsAtEnd, Keeps};
 ghost use Rattle.rvm_frame.specs.Reader.{at_start};
 ghost use Rattle.rvm_frame.specs.Verdict.{verdict};
-ghost use Rattle.rvm_worker.specs.Endings.{IsReceiverEnd, last_of, tells_over};
-ghost use Rattle.rvm_worker.specs.Heard.{AreHeard, Hears, IsHeard, IsHeardOf, IsHeardUpTo, for_host, frames_in};
+ghost use Rattle.rvm_worker.specs.Endings.{TellsOver, last_of};
+ghost use Rattle.rvm_worker.specs.Heard.{AreHeard, Hears, IsHeard, IsHeardOf, IsHeardUpTo, IsReceiverEnd, for_host, frames_in};
 ghost use Rattle.rvm_worker.specs.Work.{AreOfReceiver, IsWork};
 
 use crate::end::{WorkEnd, Worked};
@@ -63,7 +63,8 @@ pub fn receiver_worker<
     ensures of { AreOfReceiver from result.receipts.items }
     ensures heard { IfSome (I.remaining link.old) (λ bytes.
         IsHeardOf bytes result.end (frames_in result.receipts.items)) }
-    ensures ended { IsReceiverEnd result.end (last_of result.receipts.items) (I.remaining link.new) }
+    ensures ended { IsReceiverEnd result.end (last_of result.receipts.items) (I.remaining link.old)
+        (frames_in result.receipts.items) }
 {
     let mut hearing = Hearing::new(alloc, seat, from);
     let mut watch = Watch::new(gate, worker);
@@ -84,10 +85,11 @@ fn hear<L: Seating, M: PagedMemory + Drop, K: Link + Drop, I: Link, G: Gate, R: 
     watch: &mut Watch<'_, G>,
     link: &mut I,
 ) -> WorkEnd
+    requires { hearing.old.heard ≡ [] }
     ensures same { hearing.new ≡ record hearing.old { heard = hearing.new.heard; last = hearing.new.last } }
     ensures heard { IfSome (I.remaining link.old) (λ bytes.
-        IsHeardUpTo result at_start bytes hearing.old.heard hearing.new.heard) }
-    ensures end { IsReceiverEnd result hearing.new.last (I.remaining link.new) }
+        IsHeardUpTo result at_start bytes [] hearing.new.heard) }
+    ensures end { IsReceiverEnd result hearing.new.last (I.remaining link.old) hearing.new.heard }
 {
     let mut stream = Stream {
         reader: FrameReader::new(alloc),
@@ -130,13 +132,16 @@ fn hear_once<L: Seating, M: PagedMemory + Drop, K: Link + Drop, I: Link, G: Gate
     buffer: &mut [u8],
 ) -> Result<bool, WorkEnd>
     requires waits { verdict stream.old.reader.version stream.old.reader.bytes ≡ Ok None }
+    requires between { stream.old.is_inside ≡ false → stream.old.reader.bytes ≡ [] }
     requires room { 0 < length buffer.old }
     ensures same { hearing.new ≡ record hearing.old { heard = hearing.new.heard; last = hearing.new.last } }
     ensures heard { IfOk result (λ came. Hears (I.remaining link.old) (I.remaining link.new) stream.old.reader
         hearing.old.heard hearing.new.heard stream.new.reader) }
     ensures some { IfErr result (λ end. IfSome (I.remaining link.old) (λ bytes.
         IsHeardUpTo end stream.old.reader bytes hearing.old.heard hearing.new.heard)) }
-    ensures end { IfErr result (λ end. IsReceiverEnd end hearing.new.last (I.remaining link.new)) }
+    ensures between { IfOk result (λ came. stream.new.is_inside ≡ false → stream.new.reader.bytes ≡ []) }
+    ensures done { result ≡ Err WorkEnd.Done → TellsOver hearing.new.last ⊎ (IsAtEnd (I.remaining link.old)
+        × (hearing.new ≡ hearing.old) × (stream.old.reader.bytes ≡ [])) }
 {
     match read_link(link, buffer, stream.is_inside)? {
         None => Ok(false),
@@ -149,6 +154,7 @@ fn hear_once<L: Seating, M: PagedMemory + Drop, K: Link + Drop, I: Link, G: Gate
 
 /// Reads a link once: what came, which stands at the front of the buffer, or nothing yet. Else the receiver
 /// ends.
+#[tactic(auto, using(crate::proofs::Heard::kept_end))]
 fn read_link<'b, I: Link>(
     link: &mut I,
     buffer: &'b mut [u8],
@@ -159,7 +165,7 @@ fn read_link<'b, I: Link>(
         (Keeps (I.remaining link.old) (I.remaining link.new))
         (λ piece. Consumes (I.remaining link.old) (I.remaining link.new) piece.now)) }
     ensures none { IfErr result (λ end. Keeps (I.remaining link.old) (I.remaining link.new)) }
-    ensures end { result ≡ Err WorkEnd.Done → IsAtEnd (I.remaining link.new) }
+    ensures end { result ≡ Err WorkEnd.Done → IsAtEnd (I.remaining link.old) × (is_inside ≡ false) }
 {
     match link.recv(buffer) {
         LinkRead::Bytes(count) => Ok(Some(&buffer[..count])),
@@ -190,13 +196,15 @@ fn take<L: Seating, M: PagedMemory + Drop, K: Link + Drop, G: Gate, R: Wait>(
     stream: &mut Stream,
     piece: &[u8],
 ) -> Result<(), WorkEnd>
-    requires { verdict stream.old.reader.version stream.old.reader.bytes ≡ Ok None }
+    requires waits { verdict stream.old.reader.version stream.old.reader.bytes ≡ Ok None }
+    requires between { stream.old.is_inside ≡ false → stream.old.reader.bytes ≡ [] }
     ensures same { hearing.new ≡ record hearing.old { heard = hearing.new.heard; last = hearing.new.last } }
     ensures all { IfOk result (λ u. AreHeard stream.old.reader piece.now hearing.old.heard hearing.new.heard
         stream.new.reader) }
+    ensures between { IfOk result (λ u. stream.new.is_inside ≡ false → stream.new.reader.bytes ≡ []) }
     ensures some { IfErr result (λ end. IsHeardUpTo end stream.old.reader piece.now
         hearing.old.heard hearing.new.heard) }
-    ensures over { result ≡ Err WorkEnd.Done → IsSomeAnd hearing.new.last (λ x. tells_over x ≡ true) }
+    ensures over { result ≡ Err WorkEnd.Done → TellsOver hearing.new.last }
 {
     let mut rest = piece;
     while !rest.is_empty() {
@@ -223,9 +231,10 @@ fn feed<L: Seating, M: PagedMemory + Drop, K: Link + Drop, G: Gate, R: Wait>(
     ensures taken { IfOk result (λ n. (0 < n) × (n ≤ length piece.now)) }
     ensures all { IfOk result (λ n. AreHeard stream.old.reader (take n piece.now) hearing.old.heard
         hearing.new.heard stream.new.reader) }
+    ensures between { IfOk result (λ n. stream.new.is_inside ≡ false → stream.new.reader.bytes ≡ []) }
     ensures some { IfErr result (λ end. IsHeardUpTo end stream.old.reader piece.now
         hearing.old.heard hearing.new.heard) }
-    ensures over { result ≡ Err WorkEnd.Done → IsSomeAnd hearing.new.last (λ x. tells_over x ≡ true) }
+    ensures over { result ≡ Err WorkEnd.Done → TellsOver hearing.new.last }
 {
     let (taken, received) = stream.reader.feed(alloc, piece)?;
     stream.is_inside = received.is_none();
@@ -247,7 +256,7 @@ fn came<L: Seating, M: PagedMemory + Drop, K: Link + Drop, G: Gate, R: Wait>(
 ) -> Result<(), WorkEnd>
     ensures same { hearing.new ≡ record hearing.old { heard = hearing.new.heard; last = hearing.new.last } }
     ensures heard { IsHeard result frame hearing.old.heard hearing.new.heard }
-    ensures over { result ≡ Err WorkEnd.Done → IsSomeAnd hearing.new.last (λ x. tells_over x ≡ true) }
+    ensures over { result ≡ Err WorkEnd.Done → TellsOver hearing.new.last }
 {
     if is_hello(&frame) {
         return Ok(());

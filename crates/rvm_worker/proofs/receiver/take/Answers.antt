@@ -21,16 +21,17 @@ loop-rest-preserved g c =
     let new = c.feed.new.stream.reader in
     let rest = c.loop-rest.rest.now in
     let n = c.in_ok-taken.taken in
-    let between = c.loop-rest.hearing.heard in
+    let middle = c.loop-rest.hearing.heard in
     let behind = c.feed.new.hearing.heard in
     let i = c.loop-rest.invariant in
-    let more : AreHeard reader (take n rest) between behind new = search rules in
+    let more : AreHeard reader (take n rest) middle behind new = search rules in
     record {
       same = search rules;
-      waits = waits_heard reader (take n rest) between behind new i.waits more;
+      waits = waits_heard reader (take n rest) middle behind new i.waits more;
+      between = search rules;
       heard = (
         i.heard.0 ++ take n rest,
         goes_on c.args.piece.now i.heard.0 rest n i.heard.1,
-        heard_more c.args.stream.now.reader reader new i.heard.0 (take n rest) c.args.hearing.now.heard between behind i.heard.2 more,
+        heard_more c.args.stream.now.reader reader new i.heard.0 (take n rest) c.args.hearing.now.heard middle behind i.heard.2 more,
       );
     }
