@@ -1,7 +1,7 @@
 /* pages.c MODE: sends 4096 pages over a loopback socket from one thread to another, a page frame at a time, and prints
-   the milliseconds that it took. MODE says what becomes of them: `thrown` away at the target; `put` into memory there
-   that is new, as a host does that gets a guest; `kept`, which is put, and kept once more at both ends in boxes of
-   their own, as journals do. */
+   the milliseconds that it took, until their memory is given back, as at the end of `rvmove move`. MODE says what
+   becomes of them: `thrown` away at the target; `put` into memory there that is new, as a host does that gets a guest;
+   `kept`, which is put, and kept once more at both ends in boxes of their own, as journals do. */
 #include <netinet/in.h>
 #include <pthread.h>
 #include <stdio.h>
@@ -16,21 +16,28 @@ enum { PAGES = 4096, PAGE = 4096, HEAD = 19 };
 static int is_put, is_kept, sending, receiving;
 static char *source, *target;
 
-/* The copy that was kept last: volatile, so that the compiler leaves no copy out. */
-static char *volatile newest;
+/* The boxes at both ends. */
+static char *sent[PAGES], *came[PAGES];
 
-static void keep(const char *page) {
+static void keep(char **box, const char *page) {
     if (!is_kept) return;
-    char *box = malloc(PAGE);
-    if (box == NULL) exit(1);
-    memcpy(box, page, PAGE);
-    newest = box;
+    *box = malloc(PAGE);
+    if (*box == NULL) exit(1);
+    memcpy(*box, page, PAGE);
+}
+
+static void give_back(void) {
+    for (int page = 0; page < PAGES; page++) {
+        free(sent[page]);
+        free(came[page]);
+    }
+    free(target);
 }
 
 static void *send_pages(void *unused) {
     char frame[HEAD + PAGE] = {0};
     for (int page = 0; page < PAGES; page++) {
-        keep(source + page * PAGE);
+        keep(&sent[page], source + page * PAGE);
         memcpy(frame + HEAD, source + page * PAGE, PAGE);
         if (write(sending, frame, sizeof frame) != sizeof frame) exit(1);
     }
@@ -46,7 +53,7 @@ static void *receive_pages(void *unused) {
             if (count <= 0) exit(1);
             have += count;
         }
-        keep(frame + HEAD);
+        keep(&came[page], frame + HEAD);
         if (is_put) memcpy(target + page * PAGE, frame + HEAD, PAGE);
     }
     return unused;
@@ -79,6 +86,7 @@ int main(int count, char **words) {
     pthread_create(&receiver, NULL, receive_pages, NULL);
     pthread_join(sender, NULL);
     pthread_join(receiver, NULL);
+    give_back();
     clock_gettime(CLOCK_MONOTONIC, &ended);
     printf("%.1f\n", (ended.tv_sec - begun.tv_sec) * 1e3 + (ended.tv_nsec - begun.tv_nsec) / 1e6);
 }

@@ -119,7 +119,7 @@ impl Performed {
 /// Does what the words of a command ask for, over a memory. What it wrote to standard error is left out where
 /// it is not wanted.
 fn perform_over<
-    M: PagedMemory + Drop + Send,
+    M: PagedMemory + Drop + Send + 'static,
     R: Files + AllocGlobal + Net + Threads + Wait + Clock + Sync,
 >(rt: &R, words: &[&str], input: &[u8], tells_errors: bool) -> Performed
 where

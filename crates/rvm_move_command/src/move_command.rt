@@ -41,7 +41,7 @@ impl Gate for OpenGate {
 /// Moves the guest of an image as `move_over` does, over two TCP connections of this machine, one in
 /// each direction. `LinkFault` is told where they cannot be made, and nothing was run.
 pub fn move_command<
-    M: PagedMemory + Drop + Send,
+    M: PagedMemory + Drop + Send + 'static,
     O: Write,
     E: Write,
     R: Net + Threads + Wait + Clock + Sync,

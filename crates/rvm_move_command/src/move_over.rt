@@ -37,9 +37,9 @@ use std::time::Clock;
 /// all is over, the first one's before the second's. Answers the status: 0, or 1 where the image was
 /// refused, which leaves `output` as it was, or the move failed; then the last line of `errors` says why.
 /// `LinkFault` as the answer: a write to `errors` failed. It may wait for other threads: it starts three,
-/// and when these have ended one that gives back what a host keeps.
+/// and when these have ended one for which it does not wait, and which gives back what both hosts keep.
 pub fn move_over<
-    M: PagedMemory + Drop + Send,
+    M: PagedMemory + Drop + Send + 'static,
     K: Link + Drop + Send,
     G: Gate + Sync,
     O: Write,
@@ -90,7 +90,7 @@ pub fn plan_of(arguments: &MoveArguments) -> Plan
 }
 
 /// Tells what both hosts of a move answered, or of a refusal.
-pub(crate) fn tell_end<M: PagedMemory + Drop + Send, E: Write, R: Threads>(
+pub(crate) fn tell_end<M: PagedMemory + Drop + Send + 'static, E: Write, R: Threads>(
     rt: &R,
     moved: Result<Moved<M>, Refused>,
     errors: &mut E,
@@ -113,10 +113,13 @@ pub(crate) fn tell_end<M: PagedMemory + Drop + Send, E: Write, R: Threads>(
     }
 }
 
-/// Gives back what both hosts keep, side by side.
-fn give_back<M: PagedMemory + Drop + Send, R: Threads>(rt: &R, moved: Moved<M>) {
+/// Gives back what both hosts keep, in a thread of its own: whoever has the answer need not wait for it.
+fn give_back<M: PagedMemory + Drop + Send + 'static, R: Threads>(rt: &R, moved: Moved<M>) {
     let Moved { a, b, ends: _ } = moved;
-    thread::join(rt, move || drop(a), move || drop(b));
+    drop(thread::spawn(rt, move || {
+        drop(a);
+        drop(b);
+    }));
 }
 
 /// Moves the guest of the first host.

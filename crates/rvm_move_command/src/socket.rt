@@ -10,8 +10,8 @@ use std::alloc::Global;
 use std::io::{BufWriter, ErrorKind, Read, Write};
 use std::net::{Ipv4Addr, Net, OpenListener, OpenStream, TcpListener, TcpStream};
 
-/// How many bytes go out together at most: those of eight pages.
-const TOGETHER: usize = 1 << 15;
+/// How many bytes go out together at most: those of some thirty pages.
+const TOGETHER: usize = 1 << 17;
 
 /// One direction of a TCP connection. What is sent waits until `TOGETHER` bytes can go out, or until it is
 /// flushed.

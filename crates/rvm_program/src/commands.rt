@@ -124,7 +124,7 @@ pub(crate) fn script<M: PagedMemory + Drop, F: NamedFiles, O: Write, E: Write>(
 
 /// Reads the image, and moves its guest. What is told of the move goes out in pieces.
 pub(crate) fn move_guest<
-    M: PagedMemory + Drop + Send,
+    M: PagedMemory + Drop + Send + 'static,
     Rt: AllocGlobal + Net + Threads + Wait + Clock + Sync,
     F: NamedFiles,
     O: Write,

@@ -43,7 +43,7 @@ const UNTOLD: u8 = 1;
 /// error. Each guest's memory is an `M`. A guest that moves does so by threads, which may wait for one
 /// another, and over TCP. The files are those of the runtime.
 pub fn perform<
-    M: PagedMemory + Drop + Send,
+    M: PagedMemory + Drop + Send + 'static,
     Rt: Files + AllocGlobal + Net + Threads + Wait + Clock + Sync,
     S: AsStr,
     I: Read,
@@ -72,7 +72,7 @@ where
 
 /// Does what `perform` does, over any files.
 pub fn perform_over<
-    M: PagedMemory + Drop + Send,
+    M: PagedMemory + Drop + Send + 'static,
     Rt: AllocGlobal + Net + Threads + Wait + Clock + Sync,
     F: NamedFiles,
     S: AsStr,
@@ -100,7 +100,7 @@ where
 
 /// Does what a command line asks for, and answers the status: 0, or 1 where it was refused.
 fn do_command<
-    M: PagedMemory + Drop + Send,
+    M: PagedMemory + Drop + Send + 'static,
     Rt: AllocGlobal + Net + Threads + Wait + Clock + Sync,
     F: NamedFiles,
     I: Read,
@@ -127,7 +127,7 @@ fn status_of(told: Told) -> u8
 
 /// Does what a command line asks for. A refusal that the command has not told itself is told here.
 fn tell_end<
-    M: PagedMemory + Drop + Send,
+    M: PagedMemory + Drop + Send + 'static,
     Rt: AllocGlobal + Net + Threads + Wait + Clock + Sync,
     F: NamedFiles,
     I: Read,
@@ -149,7 +149,7 @@ where
 
 /// Calls the command of a command line. It is refused where a file or a buffer cannot be had.
 fn begin<
-    M: PagedMemory + Drop + Send,
+    M: PagedMemory + Drop + Send + 'static,
     Rt: AllocGlobal + Net + Threads + Wait + Clock + Sync,
     F: NamedFiles,
     I: Read,
