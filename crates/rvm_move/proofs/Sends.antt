@@ -9,7 +9,6 @@ use Rattle.std.specs.declared.sync.ledger.Ledger as Ledger
 use Rattle.rvm_cell.specs.declared.seat.Seating as Seating
 use Rattle.rvm_cell.specs.contracts.seat.Seat as Seat
 use Rattle.rvm_cell.proofs.Sends.{seat_send}
-use Rattle.rvm_precopy.specs.contracts.policy.Policy as Policy
 use Rattle.rvm_move.specs.contracts.threads.Taken as Taken
 use Rattle.rvm_move.specs.contracts.threads.TakenAtA as TakenAtA
 use Rattle.rvm_move.specs.contracts.threads.TakenAtB as TakenAtB
@@ -22,9 +21,6 @@ pub six_send : (name : Sym) (A B C D E F : RattleType)
     → IsSend A → IsSend B → IsSend C → IsSend D → IsSend E → IsSend F
     → IsSend (TupleAt name (A ∷ B ∷ C ∷ D ∷ E ∷ F ∷ []))
 six_send name A B C D E F a b c d e f = search (sendable, crosses) depth 40 fits 10000
-
-pub policy_send : IsSend Policy.the_row
-policy_send = search (sendable, crosses) depth 40 fits 10000
 
 pub taken_at_a_send : (L K : RattleType) (g : Seating.Ghosts L.Denot) (h : Ledger.Ghosts L.Denot)
     → IsSend K → IsSend (TakenAtA.the_row L K g h)

@@ -16,19 +16,26 @@ use rvm_hart_worker::{HartsWorked, Hosts};
 use rvm_link::{Link, Outgoing};
 use rvm_mem::PagedMemory;
 use rvm_precopy::Policy;
-use rvm_worker::{Gate, Side, Worked, Worker, copier_worker, receiver_worker};
+use rvm_worker::{Gate, Side, WorkEnd, Worked, Worker, copier_worker, receiver_worker};
 use std::alloc::Global;
 use std::io::Write;
 use std::sync::Wait;
+use std::sync::atomic::{AtomicBool, Ordering};
 use std::thread;
 use std::thread::Threads;
-use std::time::Clock;
+use std::time::{Clock, Duration};
 
 /// The number of the host from which the guest moves.
 pub(crate) const A: u8 = 0;
 
 /// The number of the host to which it moves.
 pub(crate) const B: u8 = 1;
+
+/// How often it is looked at most whether a thread has begun, without a pause.
+const SOON: u32 = 10_000;
+
+/// How often then, a millisecond apart.
+const LATER: u32 = 2_000;
 
 /// What the workers at host A take with them.
 #[derive(Drop)]
@@ -96,7 +103,8 @@ fn hear<L: Seating, M: PagedMemory + Drop, K: Link + Drop, G: Gate, R: Wait>(
     receiver_worker(rt, alloc, &side, seat, gate, worker, from, &mut link)
 }
 
-/// Copies the guest of host A, and hears host B beside it. The first seat is the copier's.
+/// Copies the guest of host A, and hears host B beside it. The first seat is the copier's. Where no thread can
+/// be made for the receiver, it hears once the copier, whom nobody answers, has given up.
 fn copy_and_hear<
     L: Seating + Send + Sync,
     M: PagedMemory + Drop + Send,
@@ -117,11 +125,8 @@ fn copy_and_hear<
     ensures receiver { AreOfReceiver 1 result.1.receipts.items }
 {
     let (copier, receiver) = seats;
-    thread::join(
+    let (heard, copied) = thread::join(
         rt,
-        move || -> Worked<L>
-            ensures { IsCopied 1 policy result.end result.receipts.items }
-        { copy(rt, alloc, host, outgoing, copier, gate, policy) },
         move || -> Worked<L>
             ensures { AreOfReceiver 1 result.receipts.items }
         {
@@ -137,7 +142,11 @@ fn copy_and_hear<
                 receiving,
             )
         },
-    )
+        move || -> Worked<L>
+            ensures { IsCopied 1 policy result.end result.receipts.items }
+        { copy(rt, alloc, host, outgoing, copier, gate, policy) },
+    );
+    (copied, heard)
 }
 
 /// Works at host A. Nothing is sent once both workers have ended.
@@ -170,14 +179,31 @@ fn work_at_a<
     worked
 }
 
-/// Hears host A at host B. Nothing is sent once it has ended.
-fn work_at_b<L: Seating, M: PagedMemory + Drop, K: Link + Drop, G: Gate, R: Wait>(
+/// Waits until the thread of the workers at host A has begun, and says whether it has in time.
+fn has_begun<R: Clock>(rt: &R, begun: &AtomicBool) -> bool {
+    for look in 0..SOON + LATER {
+        if begun.load(Ordering::Relaxed) {
+            return true;
+        }
+        if look < SOON {
+            thread::yield_now();
+        } else {
+            thread::sleep(rt, Duration::from_millis(1));
+        }
+    }
+    false
+}
+
+/// Hears host A at host B. Nothing is sent once it has ended. It ends with `OutOfMemory`, and hears nothing,
+/// where the workers at host A have no thread to begin in.
+fn work_at_b<L: Seating, M: PagedMemory + Drop, K: Link + Drop, G: Gate, R: Wait + Clock>(
     rt: &R,
     alloc: Global,
     host: &SharedHost<L, M>,
     outgoing: &Outgoing<K>,
     taken: TakenAtB<L, K>,
     gate: &G,
+    begun: &AtomicBool,
 ) -> Worked<L>
     ensures { AreOfReceiver 0 result.receipts.items }
 {
@@ -185,6 +211,14 @@ fn work_at_b<L: Seating, M: PagedMemory + Drop, K: Link + Drop, G: Gate, R: Wait
         receiver,
         receiving,
     } = taken;
+    if !has_begun(rt, begun) {
+        outgoing.close(rt);
+        return Worked {
+            seat: receiver,
+            receipts: Vec::new(alloc),
+            end: WorkEnd::OutOfMemory,
+        };
+    }
     let worked = hear(
         rt,
         alloc,
@@ -200,7 +234,8 @@ fn work_at_b<L: Seating, M: PagedMemory + Drop, K: Link + Drop, G: Gate, R: Wait
     worked
 }
 
-/// Moves the guest, by three threads.
+/// Moves the guest, by three threads. Where `thread::join` can make none for the workers at host A, it calls
+/// them last, and the receiver at host B would wait for their frames for ever.
 fn carry<
     L: Seating + Send + Sync,
     N: Seating + Send + Sync,
@@ -222,15 +257,19 @@ fn carry<
     let Taken { at_a, at_b } = taken;
     let (host_a, host_b) = hosts;
     let (to_b, to_a) = outgoing;
+    let begun = &AtomicBool::new(false);
     let ((copier, receiver_a), receiver_b) = thread::join(
         rt,
         move || -> (Worked<L>, Worked<L>)
             ensures copier { IsCopied 1 at_a.policy result.0.end result.0.receipts.items }
             ensures receiver { AreOfReceiver 1 result.1.receipts.items }
-        { work_at_a(rt, alloc, host_a, to_b, at_a, gate) },
+        {
+            begun.store(true, Ordering::Relaxed);
+            work_at_a(rt, alloc, host_a, to_b, at_a, gate)
+        },
         move || -> Worked<N>
             ensures { AreOfReceiver 0 result.receipts.items }
-        { work_at_b(rt, alloc, host_b, to_a, at_b, gate) },
+        { work_at_b(rt, alloc, host_b, to_a, at_b, gate, begun) },
     );
     Carried {
         copier,

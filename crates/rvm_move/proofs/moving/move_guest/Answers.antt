@@ -1,5 +1,4 @@
-use Rattle.std.proofs.Common.{◌∙◌, ◌≢◌, Err, ap, subst, sym}
-use Rattle.rvm_worker.specs.declared.end.WorkEnd.TheVariants.{LinkFault}
+use Rattle.std.proofs.Common.{◌∙◌, ap, subst, sym}
 use Rattle.rvm_move.proofs.Over.{move_is_over}
 use Rattle.rvm_move.proofs.Told.{asked_of_first, asked_of_second, run_of}
 use Rattle.rvm_move.specs.Ends.{fails_copying}

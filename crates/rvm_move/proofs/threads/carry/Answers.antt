@@ -1,4 +1,4 @@
-use Rattle.std.proofs.Crossing.{send}
+use Rattle.std.proofs.Crossing.{crosses, send}
 use denote.Param.{param}
 use denote.Param.Send.{IsSync, IsSend, sendable}
 use Rattle.rvm_cell.specs.contracts.shared.SharedHost as SharedHost
@@ -19,4 +19,4 @@ join-copier-requires-send-F g c κs within =
     let heap = send in
     let gate = c.type_bounds.sync-G in
     let rt = c.type_bounds.sync-R in
-    search sendable depth 20
+    search (sendable, crosses) depth 40 fits 20000
