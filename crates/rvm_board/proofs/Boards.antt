@@ -11,7 +11,7 @@ use Rattle.rvm_hart.specs.Machine.{HartState, Machine, BusState, shape}
 use Rattle.rvm_hart.specs.Step.{step}
 use Rattle.rvm_hart.proofs.Shape.{step_keeps, length-poked_each}
 use Rattle.rvm_hart.specs.Pokes.{bus_poked, bus_cleared}
-use Rattle.rvm_board.specs.Board.{Board, IsBoard, machine_at, new_hart, stepped}
+use Rattle.rvm_board.specs.Board.{Board, IsBoard, machine_at, new_hart, stepped, with_machine}
 
 -- the parts of a shape that is kept
 record Kept (m n : Machine) : Type 0 where
@@ -30,11 +30,9 @@ number_after harts h k x blank inside same other =
       | inr n ↦ ap (λ (y : HartState). y.csrs.hart) (get_or-set_other harts h k x blank (λ e. n (sym e))) ∙ other
     ]
 
-pub step_is_board : (b : Board) (h : ℕ) → IsBoard b → h < length b.harts → IsBoard (stepped h b).board
-step_is_board b h board inside =
-    let m : Machine = machine_at h b in
-    let after : Machine = (step m).machine in
-    let k : Kept after m = kept after m (step_keeps m) in
+pub machine_is_board : (b : Board) (h : ℕ) (after : Machine) → shape after ≡ shape (machine_at h b) → IsBoard b → h < length b.harts → IsBoard (with_machine h after b)
+machine_is_board b h after same board inside =
+    let k : Kept after (machine_at h b) = kept after (machine_at h b) same in
     let count : length (set b.harts h after.hart) ≡ length b.harts = length-set b.harts h after.hart in
     record {
       some = omega (arith, count, board.some);
@@ -44,6 +42,9 @@ step_is_board b h board inside =
       msip = k.msip ∙ board.msip ∙ sym count;
       ram = omega (arith, k.bytes, board.ram);
     }
+
+pub step_is_board : (b : Board) (h : ℕ) → IsBoard b → h < length b.harts → IsBoard (stepped h b).board
+step_is_board b h board inside = machine_is_board b h (step (machine_at h b)).machine (step_keeps (machine_at h b)) board inside
 
 -- the parts that a board is made of
 pub made_is_board : (n entry : ℕ) (harts : List HartState) (bus : BusState) (bytes : List ℕ) (d : dev.DeviceState) (words : List (Option ℕ)) (dirty : List Bool) → 0 < n → n ≤ 8 → 0 < length bytes

@@ -5,12 +5,13 @@ ghost use Rattle.std.specs.Prelude.{◌≡◌, ◌%◌, ◌*◌, ◌^◌, map, �
 ghost use Rattle.rvm_mem.specs.Bytes.{slice};
 ghost use Rattle.rvm_mem.specs.Pages.{mark_all};
 ghost use Rattle.rvm_hart.specs.Bus.{in_ram, ram_base, ram_load};
+ghost use Rattle.rvm_hart.specs.Straight.{steps};
 ghost use Rattle.rvm_hart.specs.Fields.{CanBeHeld, fields_of, is_in_ram, with_number};
 ghost use Rattle.rvm_board.specs.declared.error.BoardError.TheVariants.{BadSize};
 ghost use Rattle.rvm_board.specs.declared.error.PokeError.TheVariants.{BadHart, OutOfRange};
 ghost use Rattle.rvm_board.specs.Pokes.{cleared, register_poked, memory_poked, is_view};
 ghost use Rattle.rvm_board.specs.Restored.{hart_restored, restored};
-ghost use Rattle.rvm_board.specs.Board.{at_reset, new_hart, hart_at, stepped, with_input, with_output, is_allowed};
+ghost use Rattle.rvm_board.specs.Board.{at_reset, new_hart, hart_at, machine_at, stepped, with_machine, with_input, with_output, is_allowed};
 
 use crate::error::{BoardError, PokeError};
 use rvm_dev::{DeviceFields, Devices, InputFull};
@@ -201,6 +202,22 @@ impl<M: Memory> Board<M> {
     {
         let stepping = &mut self.harts[hart as usize];
         stepping.step(&mut self.bus)
+    }
+
+    /// Steps of a hart, at most `count`, as long as its instructions reach registers and RAM alone and nothing
+    /// interrupts them; says how many are left.
+    #[inline(always)]
+    pub fn run_straight(&mut self, hart: u32, count: u32) -> u32
+        requires { hart < length self.old.plain.harts }
+        ensures left { result ≤ count }
+        ensures board { self.new.plain ≡ with_machine hart
+            (steps (count - result) (machine_at hart self.old.plain)).machine self.old.plain }
+        ensures dirty { self.new.dirty ≡ mark_all
+            (steps (count - result) (machine_at hart self.old.plain)).pages self.old.dirty }
+        ensures retired { (steps (count - result) (machine_at hart self.old.plain)).retired ≡ true }
+    {
+        let stepping = &mut self.harts[hart as usize];
+        stepping.run_straight(&mut self.bus, count)
     }
 
     /// A byte comes to the console; `InputFull`, and nothing changes, where 16 wait.

@@ -1,6 +1,6 @@
 //! The two counters of one hart.
 
-ghost use Rattle.std.specs.Prelude.{◌≡◌};
+ghost use Rattle.std.specs.Prelude.{◌≡◌, ◌+◌, ◌%◌, ◌^◌};
 ghost use Rattle.rvm_csr.specs.Counters.{counted};
 
 use std::marker::Model;
@@ -70,5 +70,16 @@ impl Counters {
         } else if instret {
             self.unretired = self.unretired.wrapping_sub(1);
         }
+    }
+
+    /// Counts so many steps that both count. Both wrap at 2^64.
+    #[inline(always)]
+    pub(crate) fn tick_many(&mut self, steps: u32)
+        ensures { self.new ≡ record {
+          mcycle = (self.old.mcycle + steps) % 2 ^ 64;
+          minstret = (self.old.minstret + steps) % 2 ^ 64;
+        } }
+    {
+        self.cycles = self.cycles.wrapping_add(u64::from(steps));
     }
 }

@@ -1,6 +1,6 @@
 //! The registers of one hart.
 
-ghost use Rattle.std.specs.Prelude.{◌≡◌, ◌%◌, is_some, unwrap_or};
+ghost use Rattle.std.specs.Prelude.{◌≡◌, ◌+◌, ◌%◌, ◌^◌, is_some, unwrap_or};
 ghost use Rattle.rvm_csr.specs.Registers.{at_reset, mstatus_of};
 ghost use Rattle.rvm_csr.specs.Fields.{CanBeHeld, fields_of, with_number};
 ghost use Rattle.rvm_csr.specs.Table.{csr_read, csr_write, value_of, written};
@@ -206,6 +206,25 @@ impl CsrFile {
         ensures { self.new ≡ ticked cycle instret self.old }
     {
         self.counters.tick(cycle, instret);
+    }
+
+    /// Counts so many steps that retired an instruction.
+    #[inline(always)]
+    pub fn tick_many(&mut self, steps: u32)
+        ensures { self.new ≡ record self.old {
+          mcycle = (self.old.mcycle + steps) % 2 ^ 64;
+          minstret = (self.old.minstret + steps) % 2 ^ 64;
+        } }
+    {
+        self.counters.tick_many(steps);
+    }
+
+    /// Whether `mie` has the timer interrupt.
+    #[inline(always)]
+    pub fn timer_is_enabled(&self) -> bool
+        ensures { result ≡ self.now.mie.timer }
+    {
+        self.mie.timer
     }
 
     /// The value that is read from a register; `mip` is what is pending at the hart now.

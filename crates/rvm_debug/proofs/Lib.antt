@@ -2,6 +2,7 @@ pub mod Answering
 pub mod Examples
 pub mod Rising
 pub mod Turning
+pub mod Going
 pub mod Waiting
 pub mod Guests
 pub mod Made

@@ -54,13 +54,13 @@ pub record Turning (all left : AfterTurns) (made : ℕ) (first dirty : List Bool
   pub log : dirty ≡ mark_all pages first
   pub whole : behind pages made left ≡ all
 
-behind_none : (t : AfterTurns) → behind [] 0 t ≡ t
+pub behind_none : (t : AfterTurns) → behind [] 0 t ≡ t
 behind_none t = ap (λ (k : ℕ). record t { made = k }) (omega arith)
 
 pub begins : (order : Order) (n made h : ℕ) (g : Guest) (dirty : List Bool) → made ≡ 0 → Turning (after_turns order n h g) (after_turns order n h g) made dirty dirty
 begins order n made h g dirty e = record { pages = []; log = refl; whole = ap (λ k. behind [] k (after_turns order n h g)) e ∙ behind_none (after_turns order n h g) }
 
-one_more : (order : Order) (n m h : ℕ) (g : Guest) → n ≡ suc m → after_turns order n h g ≡ unless_stopped (stop_in (steps h g).reply) (steps h g) (after_turns order m (next_hart order (length g.board.harts) h) (steps h g).guest)
+pub one_more : (order : Order) (n m h : ℕ) (g : Guest) → n ≡ suc m → after_turns order n h g ≡ unless_stopped (stop_in (steps h g).reply) (steps h g) (after_turns order m (next_hart order (length g.board.harts) h) (steps h g).guest)
 unfolding after_turns
 one_more order n m h g e = rw e refl
 

@@ -1,9 +1,11 @@
 //! Turns of harts, one after another: the loop of a run, and of a script's steps.
 
-ghost use Rattle.std.specs.Prelude.{◌≡◌, ◌<◌, ◌≤◌, ◌-◌, [], false, length, get_or};
+ghost use Rattle.std.specs.Prelude.{◌≡◌, ◌<◌, ◌≤◌, ◌-◌, [], false, true, length, get_or};
 ghost use Rattle.std.specs.List.{list_any};
 ghost use Rattle.rvm_mem.specs.Pages.{mark_all};
-ghost use Rattle.rvm_debug.specs.Events.{reply_of, step_reply, steps};
+ghost use Rattle.rvm_hart.specs.Straight as straight;
+ghost use Rattle.rvm_board.specs.Board.{machine_at, with_machine};
+ghost use Rattle.rvm_debug.specs.Events.{reply_of, step_reply, steps, with_board};
 ghost use Rattle.rvm_debug.specs.Turns.{TakesTurns, after_turns, next_hart, reply_of_stop, stop_in};
 ghost use Rattle.rvm_debug.specs.declared.turns.Order.TheVariants.{Alone, RoundRobin};
 
@@ -99,6 +101,13 @@ impl<M: Memory> Debugged<M> {
     {
         let mut left = count;
         while left > 0 {
+            left = self.straight_turns(left);
+            if left == 0 {
+                return Ended {
+                    left: 0,
+                    stop: None,
+                };
+            }
             left -= 1;
             if let Some(stop) = stop_of(0, Some(self.step_on(0))) {
                 return Ended {
@@ -200,6 +209,26 @@ impl<M: Memory> Debugged<M> {
             left: 0,
             stop: None,
         }
+    }
+
+    /// Turns of hart 0, at most `count`, as long as its instructions reach registers and RAM alone and nothing
+    /// interrupts them; says how many are left.
+    #[inline(always)]
+    fn straight_turns(&mut self, count: u32) -> u32
+        requires { 0 < length self.old.guest.board.harts }
+        ensures left { result ≤ count }
+        ensures guest { self.new.guest ≡ with_board (with_machine 0
+            (straight.steps (count - result) (machine_at 0 self.old.guest.board)).machine self.old.guest.board)
+            self.old.guest }
+        ensures dirty { self.new.dirty ≡ mark_all
+            (straight.steps (count - result) (machine_at 0 self.old.guest.board)).pages self.old.dirty }
+        ensures retired { (straight.steps (count - result) (machine_at 0 self.old.guest.board)).retired
+            ≡ true }
+        ensures harts { length self.new.guest.board.harts ≡ length self.old.guest.board.harts }
+        ensures breakpoints { self.new.guest.breakpoints ≡ self.old.guest.breakpoints }
+        ensures stopped { self.new.guest.stopped ≡ self.old.guest.stopped }
+    {
+        self.board.run_straight(0, count)
     }
 
     /// One step of a hart that cannot stop instead.

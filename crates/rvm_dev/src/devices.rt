@@ -116,6 +116,25 @@ impl Devices {
         self.mtime = self.mtime.wrapping_add(1);
     }
 
+    /// The time is so many steps later; it wraps at 2^64.
+    #[inline(always)]
+    pub fn tick_many(&mut self, steps: u32)
+        ensures { self.new ≡ record self.old { mtime = (self.old.mtime + steps) % 2 ^ 64 } }
+    {
+        self.mtime = self.mtime.wrapping_add(u64::from(steps));
+    }
+
+    /// How many steps, of at most `count`, are made while the time has not reached a hart's mtimecmp.
+    #[inline(always)]
+    pub fn steps_to_timer(&self, hart: u32, count: u32) -> u32
+        requires { hart < length self.now.msip }
+        ensures within { result ≤ count }
+        ensures time { 0 < result → self.now.mtime + result ≤ get_or self.now.mtimecmp hart 0 }
+        ensures range { get_or self.now.mtimecmp hart 0 < 2 ^ 64 }
+    {
+        steps_between(self.mtime, self.mtimecmp(hart), count)
+    }
+
     /// A byte comes to the console.
     pub fn input(&mut self, byte: u8) -> Result<(), InputFull>
         ensures taken { OnOk result
@@ -358,5 +377,20 @@ impl Devices {
         if self.output.try_push_back(byte).is_err() {
             self.overrun = true;
         }
+    }
+}
+
+/// How many steps, of at most `count`, are made from one time to another.
+#[inline(always)]
+fn steps_between(now: u64, then: u64, count: u32) -> u32
+    ensures within { result ≤ count }
+    ensures time { 0 < result → now + result ≤ then }
+    ensures range { then < 2 ^ 64 }
+{
+    let left = then.saturating_sub(now);
+    if left < u64::from(count) {
+        left as u32
+    } else {
+        count
     }
 }

@@ -3,4 +3,6 @@ pub mod Registers
 pub mod Shape
 pub mod Reserved
 pub mod Whole
+pub mod Still
+pub mod Made
 mod Examples

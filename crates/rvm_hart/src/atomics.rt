@@ -31,7 +31,7 @@ pub enum Amo {
 impl Amo {
     /// The new word.
     #[inline]
-    fn of(self, old: u32, source: u32) -> u32
+    pub(crate) fn of(self, old: u32, source: u32) -> u32
         ensures { result ≡ atomic_value self old source }
     {
         match self {

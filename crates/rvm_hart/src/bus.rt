@@ -1,14 +1,17 @@
 //! What a hart reaches: RAM, devices and reservations.
 
-ghost use Rattle.std.specs.Prelude.{◌≡◌, ◌%◌, ◌<◌, ◌^◌, ◌+◌, ◌*◌, ◌-◌, ◌++◌, ◌∷◌, [], ◌↔◌, length, min, take, drop, IfNone, OnOk, OnErr, IsErr, ◌≤◌, false, true, None, get_or, is_some, replicate};
+ghost use Rattle.std.specs.Prelude.{◌≡◌, ◌%◌, ◌<◌, ◌^◌, ◌+◌, ◌*◌, ◌-◌, ◌++◌, ◌∷◌, [], ◌↔◌, length, min, take, drop, IfNone, IfSome, OnOk, OnErr, IsErr, ◌≤◌, false, true, None, get_or, is_some, replicate};
 ghost use Rattle.rvm_mem.specs.Bytes.{slice};
 ghost use Rattle.rvm_res.specs.Reservations as res;
 ghost use Rattle.rvm_dev.specs.Shared.{restored};
+ghost use Rattle.rvm_hart.specs.Kinds.{atomic_value};
 ghost use Rattle.rvm_hart.specs.Machine.{BusState, with_devices, with_reservations};
+ghost use Rattle.rvm_hart.specs.Straight.{based};
 ghost use Rattle.rvm_hart.specs.Pokes.{bus_cleared, bus_poked, poked_each};
 ghost use Rattle.rvm_hart.specs.Fields.{are_in_ram, hart_restored, is_in_ram, is_ram_word};
 ghost use Rattle.rvm_hart.specs.Bus.{in_ram, ram_base, ram_load, word_loaded, after_word_load, ram_stored, word_stored, device_stored, left_by, wrote_by, wrote_of, mip_of};
 
+use crate::atomics::Amo;
 use crate::outcome::Written;
 use rvm_csr::Interrupts;
 use rvm_dev::register::{HALT, MTIME, MTIME_HIGH};
@@ -133,6 +136,27 @@ impl<M: Memory> Bus<M> {
         self.devices.tick();
     }
 
+    /// The time is so many steps later.
+    #[inline(always)]
+    pub fn tick_many(&mut self, steps: u32)
+        ensures { self.new ≡ with_devices
+            (record self.old.shared.devices { mtime = (self.old.shared.devices.mtime + steps) % 2 ^ 64 }) self.old }
+    {
+        self.devices.tick_many(steps);
+    }
+
+    /// How many steps, of at most `count`, are made while the time has not reached a hart's mtimecmp.
+    #[inline(always)]
+    pub fn steps_to_timer(&self, hart: u32, count: u32) -> u32
+        requires { hart < length self.now.shared.devices.msip }
+        ensures within { result ≤ count }
+        ensures time { 0 < result → self.now.shared.devices.mtime + result
+            ≤ get_or self.now.shared.devices.mtimecmp hart 0 }
+        ensures range { get_or self.now.shared.devices.mtimecmp hart 0 < 2 ^ 64 }
+    {
+        self.devices.steps_to_timer(hart, count)
+    }
+
     /// A byte comes to the console; `InputFull`, and nothing changes, where 16 wait.
     pub fn input(&mut self, byte: u8) -> Result<(), InputFull>
         ensures taken { OnOk result (self.new ≡ with_devices
@@ -196,6 +220,20 @@ impl<M: Memory> Bus<M> {
         ensures { result ≡ ram_load 4 address self.now.shared.bytes }
     {
         let at = address.wrapping_sub(RAM_BASE);
+        if at < self.ram.len() {
+            Some(self.ram.load32(at))
+        } else {
+            None
+        }
+    }
+
+    /// The word of RAM at an aligned place, as seen from its first byte.
+    #[inline(always)]
+    #[tactic(auto, unfolding(crate::specs::Straight::based))]
+    pub(crate) fn ram_word(&self, at: u32) -> Option<u32>
+        requires { at % 4 ≡ 0 }
+        ensures { result ≡ ram_load 4 (based at) self.now.shared.bytes }
+    {
         if at < self.ram.len() {
             Some(self.ram.load32(at))
         } else {
@@ -348,6 +386,26 @@ impl<M: Memory> Bus<M> {
     {
         self.devices.store(address, value)?;
         Some(written_by(address, value))
+    }
+
+    /// Hart `hart` stores what an operation makes of the word of RAM at an aligned address, and is given the old one.
+    /// A function of its own, so that it costs other instructions nothing.
+    #[inline(never)]
+    pub(crate) fn exchange(&mut self, hart: u32, operation: Amo, address: u32, source: u32) -> Option<u32>
+        requires aligned { address % 4 ≡ 0 }
+        requires hart { hart < length self.old.shared.reservations }
+        ensures old { result ≡ ram_load 4 address self.old.shared.bytes }
+        ensures bus { IfSome result (λ old. self.new
+            ≡ left_by (ram_stored 4 hart address (atomic_value operation old source) self.old.shared) self.old) }
+        ensures none { IfNone result (self.new ≡ self.old) }
+    {
+        match self.ram_load32(address) {
+            Some(old) => {
+                let _ = self.ram_store32(hart, address, operation.of(old, source));
+                Some(old)
+            }
+            None => None,
+        }
     }
 
     /// Reserves the aligned word of RAM at an address for a hart.

@@ -41,7 +41,7 @@ impl Hart {
 
     /// The interrupt that is taken before the next instruction, if any.
     #[inline(always)]
-    fn pending<M: Memory>(&self, bus: &Bus<M>) -> Option<Interrupt>
+    pub(crate) fn pending<M: Memory>(&self, bus: &Bus<M>) -> Option<Interrupt>
         requires { self.now.csrs.hart < length bus.now.shared.devices.msip }
         ensures { result ≡ pending (mip_of self.now.csrs.hart bus.now.shared.devices) self.now.csrs }
     {

@@ -71,7 +71,7 @@ pub fn s_imm(word: u32) -> Imm12
     ensures value { result ≡ fields.s_imm word }
     ensures bits { modulo 12 result ≡ fields.s_bits word }
 {
-    Imm12::from_bits(word >> 7 & 0x1F | word >> 25 << 5)
+    Imm12::from_bits(((word >> 7 & 0x1F) << 20 | word >> 25 << 25) >> 20)
 }
 
 #[inline(always)]
@@ -80,10 +80,11 @@ pub fn b_offset(word: u32) -> Off13
     ensures bits { modulo 13 result ≡ fields.b_bits word }
 {
     Off13::from_bits(
-        (word >> 8 & 0xF) << 1
-            | (word >> 25 & 0x3F) << 5
-            | (word >> 7 & 1) << 11
-            | word >> 31 << 12,
+        ((word >> 8 & 0xF) << 20
+            | (word >> 25 & 0x3F) << 24
+            | (word >> 7 & 1) << 30
+            | word >> 31 << 31)
+            >> 19,
     )
 }
 
@@ -93,10 +94,11 @@ pub fn j_offset(word: u32) -> Off21
     ensures bits { modulo 21 result ≡ fields.j_bits word }
 {
     Off21::from_bits(
-        (word >> 21 & 0x3FF) << 1
-            | (word >> 20 & 1) << 11
-            | (word >> 12 & 0xFF) << 12
-            | word >> 31 << 20,
+        ((word >> 21 & 0x3FF) << 12
+            | (word >> 20 & 1) << 22
+            | (word >> 12 & 0xFF) << 23
+            | word >> 31 << 31)
+            >> 11,
     )
 }
 

@@ -1,0 +1,44 @@
+use Rattle.std.proofs.Common.{◌≡◌, ℕ, ◌-◌, ◌≤◌, sym, ap, ◌∙◌, arith}
+use Rattle.rvm_mem.specs.Pages.{mark_all}
+use Rattle.rvm_hart.specs.Machine.{Machine, machine}
+use Rattle.rvm_hart.specs.Straight.{Steps}
+use Rattle.rvm_hart.proofs.Made.{made_for, no_steps}
+use Rattle.rvm_hart.proofs.hart.Hart.run_straight.Goals as goal
+
+-- a halted board
+pub returns-then-is_some-clause-machine : goal.returns-then-is_some-clause-machine
+returns-then-is_some-clause-machine g c =
+    ap (λ (s : Steps). s.machine) (sym (no_steps (c.args.count - c.args.count) (machine c.args.self.now c.args.bus.now) (omega arith)))
+
+pub returns-then-is_some-clause-dirty : goal.returns-then-is_some-clause-dirty
+returns-then-is_some-clause-dirty g c =
+    ap (λ (s : Steps). mark_all s.pages c.args.bus.now.dirty) (sym (no_steps (c.args.count - c.args.count) (machine c.args.self.now c.args.bus.now) (omega arith)))
+
+pub returns-then-is_some-clause-retired : goal.returns-then-is_some-clause-retired
+returns-then-is_some-clause-retired g c =
+    ap (λ (s : Steps). s.retired) (no_steps (c.args.count - c.args.count) (machine c.args.self.now c.args.bus.now) (omega arith))
+
+-- all steps that were made
+pub returns-clause-machine : goal.returns-clause-machine
+returns-clause-machine g c =
+    let k : ℕ = c.quiet_steps-quiet.result - c.rows_straight.result in
+    (made_for (c.args.count - (c.args.count - k)) k c.quiet_steps-quiet.result c.halted.result (machine c.args.self.now c.args.bus.now) c.args.bus.now.dirty
+        (machine c.rows_straight.new.self c.rows_straight.new.bus) (machine c.count_steps.new.self c.count_steps.new.bus) c.rows_straight.new.bus.dirty c.count_steps.new.bus.dirty
+        (omega (arith, c.quiet_steps-quiet.ensures.within)) (omega arith) c.halted.ensures (sym c.is_some.ensures ∙ c.if-is_some.false) c.quiet_steps-quiet.ensures.quiet
+        c.rows_straight.ensures.went c.count_steps.ensures.machine c.count_steps.ensures.dirty).left
+
+pub returns-clause-dirty : goal.returns-clause-dirty
+returns-clause-dirty g c =
+    let k : ℕ = c.quiet_steps-quiet.result - c.rows_straight.result in
+    (made_for (c.args.count - (c.args.count - k)) k c.quiet_steps-quiet.result c.halted.result (machine c.args.self.now c.args.bus.now) c.args.bus.now.dirty
+        (machine c.rows_straight.new.self c.rows_straight.new.bus) (machine c.count_steps.new.self c.count_steps.new.bus) c.rows_straight.new.bus.dirty c.count_steps.new.bus.dirty
+        (omega (arith, c.quiet_steps-quiet.ensures.within)) (omega arith) c.halted.ensures (sym c.is_some.ensures ∙ c.if-is_some.false) c.quiet_steps-quiet.ensures.quiet
+        c.rows_straight.ensures.went c.count_steps.ensures.machine c.count_steps.ensures.dirty).marked
+
+pub returns-clause-retired : goal.returns-clause-retired
+returns-clause-retired g c =
+    let k : ℕ = c.quiet_steps-quiet.result - c.rows_straight.result in
+    (made_for (c.args.count - (c.args.count - k)) k c.quiet_steps-quiet.result c.halted.result (machine c.args.self.now c.args.bus.now) c.args.bus.now.dirty
+        (machine c.rows_straight.new.self c.rows_straight.new.bus) (machine c.count_steps.new.self c.count_steps.new.bus) c.rows_straight.new.bus.dirty c.count_steps.new.bus.dirty
+        (omega (arith, c.quiet_steps-quiet.ensures.within)) (omega arith) c.halted.ensures (sym c.is_some.ensures ∙ c.if-is_some.false) c.quiet_steps-quiet.ensures.quiet
+        c.rows_straight.ensures.went c.count_steps.ensures.machine c.count_steps.ensures.dirty).retired

@@ -1,0 +1,1138 @@
+//! Instructions of which the step does nothing else: they reach registers, RAM and reservations alone, and the
+//! counters are left to the caller. `pc` is the hart's, in place of the one that it keeps.
+
+ghost use Rattle.std.specs.Prelude.{◌≡◌, ◌<◌, ◌≤◌, ◌+◌, ◌%◌, ◌^◌, ◌-◌, length, true, IfNone, IfSome};
+ghost use Rattle.rvm_word.specs.Word.{modulo};
+ghost use Rattle.rvm_hart.specs.Outcome.{done, done_with, reg};
+ghost use Rattle.rvm_hart.specs.Kinds.{arithmetic, atomic, branch, even, holds, jump, load_byte, load_half, load_reserved, load_word, store_byte, store_conditional, store_half, store_word, sum};
+ghost use Rattle.rvm_hart.specs.Rows.{effect, sign_extended_byte, sign_extended_half, zero_extended};
+ghost use Rattle.rvm_hart.specs.Straight.{Goes, IsQuiet, at_pc, based, is_straight, stays_in_ram, steps, timed_after, went};
+ghost use Rattle.rvm_hart.specs.Bus.{in_ram};
+ghost use Rattle.rvm_mem.specs.Pages.{mark_all};
+ghost use Rattle.rvm_hart.specs.Step.{execute};
+ghost use Rattle.rvm_hart.specs.Machine.{machine};
+
+use crate::arithmetic::Operation;
+use crate::atomics::Amo;
+use crate::bus::{Bus, RAM_BASE};
+use crate::hart::Hart;
+use crate::jumps::Comparison;
+use rvm_isa::straight::decode_straight;
+use rvm_isa::{Imm12, Ins, Off13, Reg, Shamt};
+use rvm_mem::Memory;
+use rvm_word::{add_signed, sext};
+
+impl Hart {
+    /// Makes steps of such instructions, at most `count`, as long as nothing interrupts them, and says how many are
+    /// left.
+    #[inline(always)]
+    pub fn run_straight<M: Memory>(&mut self, bus: &mut Bus<M>, count: u32) -> u32
+        requires reservation { self.old.csrs.hart < length bus.old.shared.reservations }
+        requires devices { self.old.csrs.hart < length bus.old.shared.devices.msip }
+        ensures left { result ≤ count }
+        ensures machine { machine self.new bus.new
+            ≡ (steps (count - result) (machine self.old bus.old)).machine }
+        ensures dirty { bus.new.dirty
+            ≡ mark_all (steps (count - result) (machine self.old bus.old)).pages bus.old.dirty }
+        ensures retired { (steps (count - result) (machine self.old bus.old)).retired ≡ true }
+    {
+        if bus.halted().is_some() {
+            return count;
+        }
+        let quiet = self.quiet_steps(bus, count);
+        let made = quiet - self.rows_straight(bus, quiet);
+        self.count_steps(bus, made);
+        count - made
+    }
+
+    /// The counters rise by so many steps.
+    #[inline(always)]
+    fn count_steps<M: Memory>(&mut self, bus: &mut Bus<M>, steps: u32)
+        ensures machine { machine self.new bus.new
+            ≡ timed_after steps (machine self.old bus.old) (machine self.old bus.old) }
+        ensures dirty { bus.new.dirty ≡ bus.old.dirty }
+    {
+        if steps == 0 {
+            return;
+        }
+        self.csrs.tick_many(steps);
+        bus.tick_many(steps);
+    }
+
+    /// How many steps, of at most `count`, are made while no interrupt is pending, if the devices change in time
+    /// alone.
+    #[inline(always)]
+    fn quiet_steps<M: Memory>(&self, bus: &Bus<M>, count: u32) -> u32
+        requires { self.now.csrs.hart < length bus.now.shared.devices.msip }
+        ensures within { result ≤ count }
+        ensures quiet { IsQuiet result (machine self.now bus.now) }
+    {
+        if !self.csrs.interrupts_enabled() {
+            return count;
+        }
+        if self.pending(bus).is_some() {
+            return 0;
+        }
+        if !self.csrs.timer_is_enabled() {
+            return count;
+        }
+        bus.steps_to_timer(self.csrs.hart(), count)
+    }
+
+    /// Runs such instructions, at most `count`, and says how many are left. No counter rises.
+    #[inline(always)]
+    fn rows_straight<M: Memory>(&mut self, bus: &mut Bus<M>, count: u32) -> u32
+        requires { self.old.csrs.hart < length bus.old.shared.reservations }
+        ensures left { result ≤ count }
+        ensures went { record { machine = machine self.new bus.new; dirty = bus.new.dirty; plain = true }
+            ≡ went (count - result) (machine self.old bus.old) bus.old.dirty }
+        ensures csrs { self.new.csrs ≡ self.old.csrs }
+        ensures devices { bus.new.shared.devices ≡ bus.old.shared.devices }
+        ensures reservations { length bus.new.shared.reservations ≡ length bus.old.shared.reservations }
+    {
+        let mut left = count;
+        let mut at = offset_of(self.pc);
+        while left > 0 {
+            let Some(next) = self.straight(at, bus) else {
+                break;
+            };
+            at = next;
+            left -= 1;
+        }
+        self.pc = address_of(at);
+        left
+    }
+
+    #[inline]
+    fn put<M: Memory>(&mut self, rd: Reg, value: u32, at: u32, bus: &mut Bus<M>) -> Option<u32>
+        requires at { at % 4 ≡ 0 }
+        requires hart { self.old.csrs.hart < length bus.old.shared.reservations }
+        ensures goes { IfSome result (λ next. Goes (done_with rd value) (based at) self.old bus.old (based next) self.new bus.new) }
+        ensures aligned { IfSome result (λ next. next % 4 ≡ 0) }
+        ensures hart { IfNone result (self.new ≡ self.old) }
+        ensures bus { IfNone result (bus.new ≡ bus.old) }
+        ensures csrs { self.new.csrs ≡ self.old.csrs }
+        ensures devices { bus.new.shared.devices ≡ bus.old.shared.devices }
+        ensures reservations { length bus.new.shared.reservations ≡ length bus.old.shared.reservations }
+    {
+        self.regs[rd.index()] = value;
+        self.regs[0] = 0;
+        Some(next_of(at))
+    }
+
+    #[inline]
+    fn straight_operate<M: Memory>(
+        &mut self,
+        operation: Operation,
+        rd: Reg,
+        rs1: Reg,
+        rs2: Reg,
+        at: u32,
+        bus: &mut Bus<M>,
+    ) -> Option<u32>
+        requires at { at % 4 ≡ 0 }
+        requires hart { self.old.csrs.hart < length bus.old.shared.reservations }
+        ensures goes { IfSome result (λ next. Goes (arithmetic operation rd (reg rs1 self.old) (reg rs2 self.old)) (based at) self.old bus.old (based next) self.new bus.new) }
+        ensures aligned { IfSome result (λ next. next % 4 ≡ 0) }
+        ensures hart { IfNone result (self.new ≡ self.old) }
+        ensures bus { IfNone result (bus.new ≡ bus.old) }
+        ensures csrs { self.new.csrs ≡ self.old.csrs }
+        ensures devices { bus.new.shared.devices ≡ bus.old.shared.devices }
+        ensures reservations { length bus.new.shared.reservations ≡ length bus.old.shared.reservations }
+    {
+        self.put(rd, operation.of(self.get(rs1), self.get(rs2)), at, bus)
+    }
+
+    #[inline]
+    fn straight_immediate<M: Memory>(
+        &mut self,
+        operation: Operation,
+        rd: Reg,
+        rs1: Reg,
+        imm: Imm12,
+        at: u32,
+        bus: &mut Bus<M>,
+    ) -> Option<u32>
+        requires at { at % 4 ≡ 0 }
+        requires hart { self.old.csrs.hart < length bus.old.shared.reservations }
+        ensures goes { IfSome result (λ next. Goes (arithmetic operation rd (reg rs1 self.old) (modulo 32 imm)) (based at) self.old bus.old (based next) self.new bus.new) }
+        ensures aligned { IfSome result (λ next. next % 4 ≡ 0) }
+        ensures hart { IfNone result (self.new ≡ self.old) }
+        ensures bus { IfNone result (bus.new ≡ bus.old) }
+        ensures csrs { self.new.csrs ≡ self.old.csrs }
+        ensures devices { bus.new.shared.devices ≡ bus.old.shared.devices }
+        ensures reservations { length bus.new.shared.reservations ≡ length bus.old.shared.reservations }
+    {
+        self.put(rd, operation.of(self.get(rs1), imm.word()), at, bus)
+    }
+
+    #[inline]
+    fn straight_shift<M: Memory>(
+        &mut self,
+        operation: Operation,
+        rd: Reg,
+        rs1: Reg,
+        amount: Shamt,
+        at: u32,
+        bus: &mut Bus<M>,
+    ) -> Option<u32>
+        requires at { at % 4 ≡ 0 }
+        requires hart { self.old.csrs.hart < length bus.old.shared.reservations }
+        ensures goes { IfSome result (λ next. Goes (arithmetic operation rd (reg rs1 self.old) amount) (based at) self.old bus.old (based next) self.new bus.new) }
+        ensures aligned { IfSome result (λ next. next % 4 ≡ 0) }
+        ensures hart { IfNone result (self.new ≡ self.old) }
+        ensures bus { IfNone result (bus.new ≡ bus.old) }
+        ensures csrs { self.new.csrs ≡ self.old.csrs }
+        ensures devices { bus.new.shared.devices ≡ bus.old.shared.devices }
+        ensures reservations { length bus.new.shared.reservations ≡ length bus.old.shared.reservations }
+    {
+        self.put(rd, operation.of(self.get(rs1), amount.bits()), at, bus)
+    }
+
+    #[inline]
+    fn straight_jump<M: Memory>(
+        &mut self,
+        rd: Reg,
+        target: u32,
+        at: u32,
+        bus: &mut Bus<M>,
+    ) -> Option<u32>
+        requires at { at % 4 ≡ 0 }
+        requires hart { self.old.csrs.hart < length bus.old.shared.reservations }
+        ensures goes { IfSome result (λ next. Goes (jump rd target) (based at) self.old bus.old (based next) self.new bus.new) }
+        ensures aligned { IfSome result (λ next. next % 4 ≡ 0) }
+        ensures hart { IfNone result (self.new ≡ self.old) }
+        ensures bus { IfNone result (bus.new ≡ bus.old) }
+        ensures csrs { self.new.csrs ≡ self.old.csrs }
+        ensures devices { bus.new.shared.devices ≡ bus.old.shared.devices }
+        ensures reservations { length bus.new.shared.reservations ≡ length bus.old.shared.reservations }
+    {
+        if target % 4 != 0 {
+            return None;
+        }
+        self.regs[rd.index()] = address_of(at).wrapping_add(4);
+        self.regs[0] = 0;
+        Some(offset_of(target))
+    }
+
+    #[inline]
+    fn straight_branch<M: Memory>(
+        &mut self,
+        comparison: Comparison,
+        rs1: Reg,
+        rs2: Reg,
+        offset: Off13,
+        at: u32,
+        bus: &mut Bus<M>,
+    ) -> Option<u32>
+        requires at { at % 4 ≡ 0 }
+        requires hart { self.old.csrs.hart < length bus.old.shared.reservations }
+        ensures goes { IfSome result (λ next. Goes (branch (holds comparison (reg rs1 self.old) (reg rs2 self.old)) offset) (based at) self.old bus.old (based next) self.new bus.new) }
+        ensures aligned { IfSome result (λ next. next % 4 ≡ 0) }
+        ensures hart { IfNone result (self.new ≡ self.old) }
+        ensures bus { IfNone result (bus.new ≡ bus.old) }
+        ensures csrs { self.new.csrs ≡ self.old.csrs }
+        ensures devices { bus.new.shared.devices ≡ bus.old.shared.devices }
+        ensures reservations { length bus.new.shared.reservations ≡ length bus.old.shared.reservations }
+    {
+        if !comparison.holds(self.get(rs1), self.get(rs2)) {
+            return Some(next_of(at));
+        }
+        let next = offset_of(add_signed(address_of(at), offset.value()));
+        if next % 4 != 0 {
+            return None;
+        }
+        Some(next)
+    }
+
+    #[inline]
+    fn straight_load_signed_byte<M: Memory>(
+        &mut self,
+        rd: Reg,
+        address: u32,
+        at: u32,
+        bus: &mut Bus<M>,
+    ) -> Option<u32>
+        requires at { at % 4 ≡ 0 }
+        requires hart { self.old.csrs.hart < length bus.old.shared.reservations }
+        ensures goes { IfSome result (λ next. Goes (load_byte sign_extended_byte rd address) (based at) self.old bus.old (based next) self.new bus.new) }
+        ensures aligned { IfSome result (λ next. next % 4 ≡ 0) }
+        ensures hart { IfNone result (self.new ≡ self.old) }
+        ensures bus { IfNone result (bus.new ≡ bus.old) }
+        ensures csrs { self.new.csrs ≡ self.old.csrs }
+        ensures devices { bus.new.shared.devices ≡ bus.old.shared.devices }
+        ensures reservations { length bus.new.shared.reservations ≡ length bus.old.shared.reservations }
+    {
+        match bus.ram_load8(address) {
+            Some(value) => self.put(rd, sext(u32::from(value), 8), at, bus),
+            None => None,
+        }
+    }
+
+    #[inline]
+    fn straight_load_byte<M: Memory>(
+        &mut self,
+        rd: Reg,
+        address: u32,
+        at: u32,
+        bus: &mut Bus<M>,
+    ) -> Option<u32>
+        requires at { at % 4 ≡ 0 }
+        requires hart { self.old.csrs.hart < length bus.old.shared.reservations }
+        ensures goes { IfSome result (λ next. Goes (load_byte zero_extended rd address) (based at) self.old bus.old (based next) self.new bus.new) }
+        ensures aligned { IfSome result (λ next. next % 4 ≡ 0) }
+        ensures hart { IfNone result (self.new ≡ self.old) }
+        ensures bus { IfNone result (bus.new ≡ bus.old) }
+        ensures csrs { self.new.csrs ≡ self.old.csrs }
+        ensures devices { bus.new.shared.devices ≡ bus.old.shared.devices }
+        ensures reservations { length bus.new.shared.reservations ≡ length bus.old.shared.reservations }
+    {
+        match bus.ram_load8(address) {
+            Some(value) => self.put(rd, u32::from(value), at, bus),
+            None => None,
+        }
+    }
+
+    #[inline]
+    fn straight_load_signed_half<M: Memory>(
+        &mut self,
+        rd: Reg,
+        address: u32,
+        at: u32,
+        bus: &mut Bus<M>,
+    ) -> Option<u32>
+        requires at { at % 4 ≡ 0 }
+        requires hart { self.old.csrs.hart < length bus.old.shared.reservations }
+        ensures goes { IfSome result (λ next. Goes (load_half sign_extended_half rd address) (based at) self.old bus.old (based next) self.new bus.new) }
+        ensures aligned { IfSome result (λ next. next % 4 ≡ 0) }
+        ensures hart { IfNone result (self.new ≡ self.old) }
+        ensures bus { IfNone result (bus.new ≡ bus.old) }
+        ensures csrs { self.new.csrs ≡ self.old.csrs }
+        ensures devices { bus.new.shared.devices ≡ bus.old.shared.devices }
+        ensures reservations { length bus.new.shared.reservations ≡ length bus.old.shared.reservations }
+    {
+        if address % 2 != 0 {
+            return None;
+        }
+        match bus.ram_load16(address) {
+            Some(value) => self.put(rd, sext(u32::from(value), 16), at, bus),
+            None => None,
+        }
+    }
+
+    #[inline]
+    fn straight_load_half<M: Memory>(
+        &mut self,
+        rd: Reg,
+        address: u32,
+        at: u32,
+        bus: &mut Bus<M>,
+    ) -> Option<u32>
+        requires at { at % 4 ≡ 0 }
+        requires hart { self.old.csrs.hart < length bus.old.shared.reservations }
+        ensures goes { IfSome result (λ next. Goes (load_half zero_extended rd address) (based at) self.old bus.old (based next) self.new bus.new) }
+        ensures aligned { IfSome result (λ next. next % 4 ≡ 0) }
+        ensures hart { IfNone result (self.new ≡ self.old) }
+        ensures bus { IfNone result (bus.new ≡ bus.old) }
+        ensures csrs { self.new.csrs ≡ self.old.csrs }
+        ensures devices { bus.new.shared.devices ≡ bus.old.shared.devices }
+        ensures reservations { length bus.new.shared.reservations ≡ length bus.old.shared.reservations }
+    {
+        if address % 2 != 0 {
+            return None;
+        }
+        match bus.ram_load16(address) {
+            Some(value) => self.put(rd, u32::from(value), at, bus),
+            None => None,
+        }
+    }
+
+    #[inline]
+    fn straight_load_word<M: Memory>(
+        &mut self,
+        rd: Reg,
+        address: u32,
+        at: u32,
+        bus: &mut Bus<M>,
+    ) -> Option<u32>
+        requires at { at % 4 ≡ 0 }
+        requires hart { self.old.csrs.hart < length bus.old.shared.reservations }
+        ensures goes { IfSome result (λ next. Goes (load_word rd address) (based at) self.old bus.old (based next) self.new bus.new) }
+        ensures stays { IfSome result (λ next. in_ram 4 address bus.old.shared.bytes ≡ true) }
+        ensures aligned { IfSome result (λ next. next % 4 ≡ 0) }
+        ensures hart { IfNone result (self.new ≡ self.old) }
+        ensures bus { IfNone result (bus.new ≡ bus.old) }
+        ensures csrs { self.new.csrs ≡ self.old.csrs }
+        ensures devices { bus.new.shared.devices ≡ bus.old.shared.devices }
+        ensures reservations { length bus.new.shared.reservations ≡ length bus.old.shared.reservations }
+    {
+        if address % 4 != 0 {
+            return None;
+        }
+        match bus.ram_load32(address) {
+            Some(value) => self.put(rd, value, at, bus),
+            None => None,
+        }
+    }
+
+    #[inline]
+    fn straight_store_byte<M: Memory>(
+        &mut self,
+        address: u32,
+        value: u32,
+        at: u32,
+        bus: &mut Bus<M>,
+    ) -> Option<u32>
+        requires at { at % 4 ≡ 0 }
+        requires hart { self.old.csrs.hart < length bus.old.shared.reservations }
+        ensures goes { IfSome result (λ next. Goes (store_byte address value) (based at) self.old bus.old (based next) self.new bus.new) }
+        ensures aligned { IfSome result (λ next. next % 4 ≡ 0) }
+        ensures hart { IfNone result (self.new ≡ self.old) }
+        ensures bus { IfNone result (bus.new ≡ bus.old) }
+        ensures csrs { self.new.csrs ≡ self.old.csrs }
+        ensures devices { bus.new.shared.devices ≡ bus.old.shared.devices }
+        ensures reservations { length bus.new.shared.reservations ≡ length bus.old.shared.reservations }
+    {
+        if !bus.ram_store8(self.csrs.hart(), address, (value & 0xFF) as u8) {
+            return None;
+        }
+        Some(next_of(at))
+    }
+
+    #[inline]
+    fn straight_store_half<M: Memory>(
+        &mut self,
+        address: u32,
+        value: u32,
+        at: u32,
+        bus: &mut Bus<M>,
+    ) -> Option<u32>
+        requires at { at % 4 ≡ 0 }
+        requires hart { self.old.csrs.hart < length bus.old.shared.reservations }
+        ensures goes { IfSome result (λ next. Goes (store_half address value) (based at) self.old bus.old (based next) self.new bus.new) }
+        ensures aligned { IfSome result (λ next. next % 4 ≡ 0) }
+        ensures hart { IfNone result (self.new ≡ self.old) }
+        ensures bus { IfNone result (bus.new ≡ bus.old) }
+        ensures csrs { self.new.csrs ≡ self.old.csrs }
+        ensures devices { bus.new.shared.devices ≡ bus.old.shared.devices }
+        ensures reservations { length bus.new.shared.reservations ≡ length bus.old.shared.reservations }
+    {
+        if address % 2 != 0 {
+            return None;
+        }
+        if !bus.ram_store16(self.csrs.hart(), address, (value & 0xFFFF) as u16) {
+            return None;
+        }
+        Some(next_of(at))
+    }
+
+    #[inline]
+    fn straight_store_word<M: Memory>(
+        &mut self,
+        address: u32,
+        value: u32,
+        at: u32,
+        bus: &mut Bus<M>,
+    ) -> Option<u32>
+        requires at { at % 4 ≡ 0 }
+        requires hart { self.old.csrs.hart < length bus.old.shared.reservations }
+        ensures goes { IfSome result (λ next. Goes (store_word address value) (based at) self.old bus.old (based next) self.new bus.new) }
+        ensures stays { IfSome result (λ next. in_ram 4 address bus.old.shared.bytes ≡ true) }
+        ensures aligned { IfSome result (λ next. next % 4 ≡ 0) }
+        ensures hart { IfNone result (self.new ≡ self.old) }
+        ensures bus { IfNone result (bus.new ≡ bus.old) }
+        ensures csrs { self.new.csrs ≡ self.old.csrs }
+        ensures devices { bus.new.shared.devices ≡ bus.old.shared.devices }
+        ensures reservations { length bus.new.shared.reservations ≡ length bus.old.shared.reservations }
+    {
+        if address % 4 != 0 {
+            return None;
+        }
+        if !bus.ram_store32(self.csrs.hart(), address, value) {
+            return None;
+        }
+        Some(next_of(at))
+    }
+
+    #[inline]
+    fn straight_sb<M: Memory>(
+        &mut self,
+        rs1: Reg,
+        rs2: Reg,
+        imm: Imm12,
+        at: u32,
+        bus: &mut Bus<M>,
+    ) -> Option<u32>
+        requires at { at % 4 ≡ 0 }
+        requires hart { self.old.csrs.hart < length bus.old.shared.reservations }
+        ensures goes { IfSome result (λ next. Goes (store_byte (sum (reg rs1 self.old) imm) (reg rs2 self.old)) (based at) self.old bus.old (based next) self.new bus.new) }
+        ensures aligned { IfSome result (λ next. next % 4 ≡ 0) }
+        ensures hart { IfNone result (self.new ≡ self.old) }
+        ensures bus { IfNone result (bus.new ≡ bus.old) }
+        ensures csrs { self.new.csrs ≡ self.old.csrs }
+        ensures devices { bus.new.shared.devices ≡ bus.old.shared.devices }
+        ensures reservations { length bus.new.shared.reservations ≡ length bus.old.shared.reservations }
+    {
+        let address = self.plus(rs1, imm);
+        let value = self.get(rs2);
+        self.straight_store_byte(address, value, at, bus)
+    }
+
+    #[inline]
+    fn straight_sh<M: Memory>(
+        &mut self,
+        rs1: Reg,
+        rs2: Reg,
+        imm: Imm12,
+        at: u32,
+        bus: &mut Bus<M>,
+    ) -> Option<u32>
+        requires at { at % 4 ≡ 0 }
+        requires hart { self.old.csrs.hart < length bus.old.shared.reservations }
+        ensures goes { IfSome result (λ next. Goes (store_half (sum (reg rs1 self.old) imm) (reg rs2 self.old)) (based at) self.old bus.old (based next) self.new bus.new) }
+        ensures aligned { IfSome result (λ next. next % 4 ≡ 0) }
+        ensures hart { IfNone result (self.new ≡ self.old) }
+        ensures bus { IfNone result (bus.new ≡ bus.old) }
+        ensures csrs { self.new.csrs ≡ self.old.csrs }
+        ensures devices { bus.new.shared.devices ≡ bus.old.shared.devices }
+        ensures reservations { length bus.new.shared.reservations ≡ length bus.old.shared.reservations }
+    {
+        let address = self.plus(rs1, imm);
+        let value = self.get(rs2);
+        self.straight_store_half(address, value, at, bus)
+    }
+
+    #[inline]
+    fn straight_sw<M: Memory>(
+        &mut self,
+        rs1: Reg,
+        rs2: Reg,
+        imm: Imm12,
+        at: u32,
+        bus: &mut Bus<M>,
+    ) -> Option<u32>
+        requires at { at % 4 ≡ 0 }
+        requires hart { self.old.csrs.hart < length bus.old.shared.reservations }
+        ensures goes { IfSome result (λ next. Goes (store_word (sum (reg rs1 self.old) imm) (reg rs2 self.old)) (based at) self.old bus.old (based next) self.new bus.new) }
+        ensures stays { IfSome result (λ next. in_ram 4 (sum (reg rs1 self.old) imm) bus.old.shared.bytes ≡ true) }
+        ensures aligned { IfSome result (λ next. next % 4 ≡ 0) }
+        ensures hart { IfNone result (self.new ≡ self.old) }
+        ensures bus { IfNone result (bus.new ≡ bus.old) }
+        ensures csrs { self.new.csrs ≡ self.old.csrs }
+        ensures devices { bus.new.shared.devices ≡ bus.old.shared.devices }
+        ensures reservations { length bus.new.shared.reservations ≡ length bus.old.shared.reservations }
+    {
+        let address = self.plus(rs1, imm);
+        let value = self.get(rs2);
+        self.straight_store_word(address, value, at, bus)
+    }
+
+    #[inline]
+    fn straight_fence<M: Memory>(&mut self, at: u32, bus: &mut Bus<M>) -> Option<u32>
+        requires at { at % 4 ≡ 0 }
+        requires hart { self.old.csrs.hart < length bus.old.shared.reservations }
+        ensures goes { IfSome result (λ next. Goes (done) (based at) self.old bus.old (based next) self.new bus.new) }
+        ensures aligned { IfSome result (λ next. next % 4 ≡ 0) }
+        ensures hart { IfNone result (self.new ≡ self.old) }
+        ensures bus { IfNone result (bus.new ≡ bus.old) }
+        ensures csrs { self.new.csrs ≡ self.old.csrs }
+        ensures devices { bus.new.shared.devices ≡ bus.old.shared.devices }
+        ensures reservations { length bus.new.shared.reservations ≡ length bus.old.shared.reservations }
+    {
+        Some(next_of(at))
+    }
+
+    #[inline]
+    fn straight_load_reserved<M: Memory>(
+        &mut self,
+        rd: Reg,
+        address: u32,
+        at: u32,
+        bus: &mut Bus<M>,
+    ) -> Option<u32>
+        requires at { at % 4 ≡ 0 }
+        requires hart { self.old.csrs.hart < length bus.old.shared.reservations }
+        ensures goes { IfSome result (λ next. Goes (load_reserved rd address) (based at) self.old bus.old (based next) self.new bus.new) }
+        ensures aligned { IfSome result (λ next. next % 4 ≡ 0) }
+        ensures hart { IfNone result (self.new ≡ self.old) }
+        ensures bus { IfNone result (bus.new ≡ bus.old) }
+        ensures csrs { self.new.csrs ≡ self.old.csrs }
+        ensures devices { bus.new.shared.devices ≡ bus.old.shared.devices }
+        ensures reservations { length bus.new.shared.reservations ≡ length bus.old.shared.reservations }
+    {
+        if address % 4 != 0 {
+            return None;
+        }
+        match bus.ram_load32(address) {
+            Some(value) => {
+                bus.hold(self.csrs.hart(), address);
+                self.regs[rd.index()] = value;
+                self.regs[0] = 0;
+                Some(next_of(at))
+            }
+            None => None,
+        }
+    }
+
+    #[inline]
+    fn straight_store_conditional<M: Memory>(
+        &mut self,
+        rd: Reg,
+        address: u32,
+        value: u32,
+        at: u32,
+        bus: &mut Bus<M>,
+    ) -> Option<u32>
+        requires at { at % 4 ≡ 0 }
+        requires hart { self.old.csrs.hart < length bus.old.shared.reservations }
+        ensures goes { IfSome result (λ next. Goes (store_conditional rd address value) (based at) self.old bus.old (based next) self.new bus.new) }
+        ensures aligned { IfSome result (λ next. next % 4 ≡ 0) }
+        ensures hart { IfNone result (self.new ≡ self.old) }
+        ensures bus { IfNone result (bus.new ≡ bus.old) }
+        ensures csrs { self.new.csrs ≡ self.old.csrs }
+        ensures devices { bus.new.shared.devices ≡ bus.old.shared.devices }
+        ensures reservations { length bus.new.shared.reservations ≡ length bus.old.shared.reservations }
+    {
+        if address % 4 != 0 {
+            return None;
+        }
+        if bus.ram_load32(address).is_none() {
+            return None;
+        }
+        let hart = self.csrs.hart();
+        if !bus.take(hart, address) {
+            self.regs[rd.index()] = 1;
+            self.regs[0] = 0;
+            return Some(next_of(at));
+        }
+        self.regs[rd.index()] = 0;
+        self.regs[0] = 0;
+        let _ = bus.ram_store32(hart, address, value);
+        Some(next_of(at))
+    }
+
+    #[inline]
+    fn straight_exchange<M: Memory>(
+        &mut self,
+        operation: Amo,
+        rd: Reg,
+        address: u32,
+        source: u32,
+        at: u32,
+        bus: &mut Bus<M>,
+    ) -> Option<u32>
+        requires at { at % 4 ≡ 0 }
+        requires hart { self.old.csrs.hart < length bus.old.shared.reservations }
+        ensures goes { IfSome result (λ next. Goes (atomic operation rd address source) (based at) self.old bus.old (based next) self.new bus.new) }
+        ensures aligned { IfSome result (λ next. next % 4 ≡ 0) }
+        ensures hart { IfNone result (self.new ≡ self.old) }
+        ensures bus { IfNone result (bus.new ≡ bus.old) }
+        ensures csrs { self.new.csrs ≡ self.old.csrs }
+        ensures devices { bus.new.shared.devices ≡ bus.old.shared.devices }
+        ensures reservations { length bus.new.shared.reservations ≡ length bus.old.shared.reservations }
+    {
+        if address % 4 != 0 {
+            return None;
+        }
+        match bus.exchange(self.csrs.hart(), operation, address, source) {
+            Some(old) => {
+                self.regs[rd.index()] = old;
+                self.regs[0] = 0;
+                Some(next_of(at))
+            }
+            None => None,
+        }
+    }
+
+    #[inline]
+    fn straight_amo<M: Memory>(
+        &mut self,
+        operation: Amo,
+        rd: Reg,
+        rs1: Reg,
+        rs2: Reg,
+        at: u32,
+        bus: &mut Bus<M>,
+    ) -> Option<u32>
+        requires at { at % 4 ≡ 0 }
+        requires hart { self.old.csrs.hart < length bus.old.shared.reservations }
+        ensures goes { IfSome result (λ next. Goes (atomic operation rd (reg rs1 self.old) (reg rs2 self.old)) (based at) self.old bus.old (based next) self.new bus.new) }
+        ensures aligned { IfSome result (λ next. next % 4 ≡ 0) }
+        ensures hart { IfNone result (self.new ≡ self.old) }
+        ensures bus { IfNone result (bus.new ≡ bus.old) }
+        ensures csrs { self.new.csrs ≡ self.old.csrs }
+        ensures devices { bus.new.shared.devices ≡ bus.old.shared.devices }
+        ensures reservations { length bus.new.shared.reservations ≡ length bus.old.shared.reservations }
+    {
+        let address = self.get(rs1);
+        let source = self.get(rs2);
+        self.straight_exchange(operation, rd, address, source, at, bus)
+    }
+
+    #[inline]
+    fn straight_sc<M: Memory>(
+        &mut self,
+        rd: Reg,
+        rs1: Reg,
+        rs2: Reg,
+        at: u32,
+        bus: &mut Bus<M>,
+    ) -> Option<u32>
+        requires at { at % 4 ≡ 0 }
+        requires hart { self.old.csrs.hart < length bus.old.shared.reservations }
+        ensures goes { IfSome result (λ next. Goes (store_conditional rd (reg rs1 self.old) (reg rs2 self.old)) (based at) self.old bus.old (based next) self.new bus.new) }
+        ensures aligned { IfSome result (λ next. next % 4 ≡ 0) }
+        ensures hart { IfNone result (self.new ≡ self.old) }
+        ensures bus { IfNone result (bus.new ≡ bus.old) }
+        ensures csrs { self.new.csrs ≡ self.old.csrs }
+        ensures devices { bus.new.shared.devices ≡ bus.old.shared.devices }
+        ensures reservations { length bus.new.shared.reservations ≡ length bus.old.shared.reservations }
+    {
+        let address = self.get(rs1);
+        let value = self.get(rs2);
+        self.straight_store_conditional(rd, address, value, at, bus)
+    }
+
+    /// Applies an instruction, which was decoded from `word`.
+    #[inline(always)]
+    #[tactic(auto, unfolding(crate::specs::Rows::effect, crate::specs::Straight::stays_in_ram))]
+    fn apply_straight<M: Memory>(
+        &mut self,
+        word: u32,
+        ins: Ins,
+        at: u32,
+        bus: &mut Bus<M>,
+    ) -> Option<u32>
+        requires at { at % 4 ≡ 0 }
+        requires hart { self.old.csrs.hart < length bus.old.shared.reservations }
+        ensures goes { IfSome result (λ next. Goes (effect word ins) (based at) self.old bus.old (based next) self.new bus.new) }
+        ensures stays { IfSome result (λ next. stays_in_ram ins (machine (at_pc (based at) self.old) bus.old) ≡ true) }
+        ensures aligned { IfSome result (λ next. next % 4 ≡ 0) }
+        ensures hart { IfNone result (self.new ≡ self.old) }
+        ensures bus { IfNone result (bus.new ≡ bus.old) }
+        ensures csrs { self.new.csrs ≡ self.old.csrs }
+        ensures devices { bus.new.shared.devices ≡ bus.old.shared.devices }
+        ensures reservations { length bus.new.shared.reservations ≡ length bus.old.shared.reservations }
+    {
+        match ins {
+            Ins::Lui { rd, imm } => self.put(rd, imm.bits() << 12, at, bus),
+            Ins::Auipc { rd, imm } => self.put(rd, address_of(at).wrapping_add(imm.bits() << 12), at, bus),
+            Ins::Jal { rd, offset } => self.straight_jump(
+                rd,
+                add_signed(address_of(at), offset.value()),
+                at,
+                bus,
+            ),
+            Ins::Jalr { rd, rs1, imm } => self.straight_jump(
+                rd,
+                add_signed(self.get(rs1), imm.value()) & !1,
+                at,
+                bus,
+            ),
+            Ins::Beq { rs1, rs2, offset } => self.straight_branch(
+                Comparison::Eq,
+                rs1,
+                rs2,
+                offset,
+                at,
+                bus,
+            ),
+            Ins::Bne { rs1, rs2, offset } => self.straight_branch(
+                Comparison::Ne,
+                rs1,
+                rs2,
+                offset,
+                at,
+                bus,
+            ),
+            Ins::Blt { rs1, rs2, offset } => self.straight_branch(
+                Comparison::Lt,
+                rs1,
+                rs2,
+                offset,
+                at,
+                bus,
+            ),
+            Ins::Bge { rs1, rs2, offset } => self.straight_branch(
+                Comparison::Ge,
+                rs1,
+                rs2,
+                offset,
+                at,
+                bus,
+            ),
+            Ins::Bltu { rs1, rs2, offset } => self.straight_branch(
+                Comparison::Ltu,
+                rs1,
+                rs2,
+                offset,
+                at,
+                bus,
+            ),
+            Ins::Bgeu { rs1, rs2, offset } => self.straight_branch(
+                Comparison::Geu,
+                rs1,
+                rs2,
+                offset,
+                at,
+                bus,
+            ),
+            Ins::Lb { rd, rs1, imm } => self.straight_load_signed_byte(
+                rd,
+                self.plus(rs1, imm),
+                at,
+                bus,
+            ),
+            Ins::Lh { rd, rs1, imm } => self.straight_load_signed_half(
+                rd,
+                self.plus(rs1, imm),
+                at,
+                bus,
+            ),
+            Ins::Lw { rd, rs1, imm } => self.straight_load_word(rd, self.plus(rs1, imm), at, bus),
+            Ins::Lbu { rd, rs1, imm } => self.straight_load_byte(rd, self.plus(rs1, imm), at, bus),
+            Ins::Lhu { rd, rs1, imm } => self.straight_load_half(rd, self.plus(rs1, imm), at, bus),
+            Ins::Sb { rs1, rs2, imm } => self.straight_sb(rs1, rs2, imm, at, bus),
+            Ins::Sh { rs1, rs2, imm } => self.straight_sh(rs1, rs2, imm, at, bus),
+            Ins::Sw { rs1, rs2, imm } => self.straight_sw(rs1, rs2, imm, at, bus),
+            Ins::Addi { rd, rs1, imm } => self.straight_immediate(
+                Operation::Add,
+                rd,
+                rs1,
+                imm,
+                at,
+                bus,
+            ),
+            Ins::Slti { rd, rs1, imm } => self.straight_immediate(
+                Operation::Slt,
+                rd,
+                rs1,
+                imm,
+                at,
+                bus,
+            ),
+            Ins::Sltiu { rd, rs1, imm } => self.straight_immediate(
+                Operation::Sltu,
+                rd,
+                rs1,
+                imm,
+                at,
+                bus,
+            ),
+            Ins::Xori { rd, rs1, imm } => self.straight_immediate(
+                Operation::Xor,
+                rd,
+                rs1,
+                imm,
+                at,
+                bus,
+            ),
+            Ins::Ori { rd, rs1, imm } => self.straight_immediate(
+                Operation::Or,
+                rd,
+                rs1,
+                imm,
+                at,
+                bus,
+            ),
+            Ins::Andi { rd, rs1, imm } => self.straight_immediate(
+                Operation::And,
+                rd,
+                rs1,
+                imm,
+                at,
+                bus,
+            ),
+            Ins::Slli { rd, rs1, amount } => self.straight_shift(
+                Operation::Sll,
+                rd,
+                rs1,
+                amount,
+                at,
+                bus,
+            ),
+            Ins::Srli { rd, rs1, amount } => self.straight_shift(
+                Operation::Srl,
+                rd,
+                rs1,
+                amount,
+                at,
+                bus,
+            ),
+            Ins::Srai { rd, rs1, amount } => self.straight_shift(
+                Operation::Sra,
+                rd,
+                rs1,
+                amount,
+                at,
+                bus,
+            ),
+            Ins::Add { rd, rs1, rs2 } => self.straight_operate(
+                Operation::Add,
+                rd,
+                rs1,
+                rs2,
+                at,
+                bus,
+            ),
+            Ins::Sub { rd, rs1, rs2 } => self.straight_operate(
+                Operation::Sub,
+                rd,
+                rs1,
+                rs2,
+                at,
+                bus,
+            ),
+            Ins::Sll { rd, rs1, rs2 } => self.straight_operate(
+                Operation::Sll,
+                rd,
+                rs1,
+                rs2,
+                at,
+                bus,
+            ),
+            Ins::Slt { rd, rs1, rs2 } => self.straight_operate(
+                Operation::Slt,
+                rd,
+                rs1,
+                rs2,
+                at,
+                bus,
+            ),
+            Ins::Sltu { rd, rs1, rs2 } => self.straight_operate(
+                Operation::Sltu,
+                rd,
+                rs1,
+                rs2,
+                at,
+                bus,
+            ),
+            Ins::Xor { rd, rs1, rs2 } => self.straight_operate(
+                Operation::Xor,
+                rd,
+                rs1,
+                rs2,
+                at,
+                bus,
+            ),
+            Ins::Srl { rd, rs1, rs2 } => self.straight_operate(
+                Operation::Srl,
+                rd,
+                rs1,
+                rs2,
+                at,
+                bus,
+            ),
+            Ins::Sra { rd, rs1, rs2 } => self.straight_operate(
+                Operation::Sra,
+                rd,
+                rs1,
+                rs2,
+                at,
+                bus,
+            ),
+            Ins::Or { rd, rs1, rs2 } => self.straight_operate(Operation::Or, rd, rs1, rs2, at, bus),
+            Ins::And { rd, rs1, rs2 } => self.straight_operate(
+                Operation::And,
+                rd,
+                rs1,
+                rs2,
+                at,
+                bus,
+            ),
+            Ins::Mul { rd, rs1, rs2 } => self.straight_operate(
+                Operation::Mul,
+                rd,
+                rs1,
+                rs2,
+                at,
+                bus,
+            ),
+            Ins::Mulh { rd, rs1, rs2 } => self.straight_operate(
+                Operation::Mulh,
+                rd,
+                rs1,
+                rs2,
+                at,
+                bus,
+            ),
+            Ins::Mulhsu { rd, rs1, rs2 } => self.straight_operate(
+                Operation::Mulhsu,
+                rd,
+                rs1,
+                rs2,
+                at,
+                bus,
+            ),
+            Ins::Mulhu { rd, rs1, rs2 } => self.straight_operate(
+                Operation::Mulhu,
+                rd,
+                rs1,
+                rs2,
+                at,
+                bus,
+            ),
+            Ins::Div { rd, rs1, rs2 } => self.straight_operate(
+                Operation::Div,
+                rd,
+                rs1,
+                rs2,
+                at,
+                bus,
+            ),
+            Ins::Divu { rd, rs1, rs2 } => self.straight_operate(
+                Operation::Divu,
+                rd,
+                rs1,
+                rs2,
+                at,
+                bus,
+            ),
+            Ins::Rem { rd, rs1, rs2 } => self.straight_operate(
+                Operation::Rem,
+                rd,
+                rs1,
+                rs2,
+                at,
+                bus,
+            ),
+            Ins::Remu { rd, rs1, rs2 } => self.straight_operate(
+                Operation::Remu,
+                rd,
+                rs1,
+                rs2,
+                at,
+                bus,
+            ),
+            Ins::Fence { .. } | Ins::FenceI { .. } => self.straight_fence(at, bus),
+            Ins::LrW { rd, rs1, .. } => self.straight_load_reserved(rd, self.get(rs1), at, bus),
+            Ins::ScW { rd, rs1, rs2, .. } => self.straight_sc(rd, rs1, rs2, at, bus),
+            Ins::AmoswapW { rd, rs1, rs2, .. } => self.straight_amo(
+                Amo::Swap,
+                rd,
+                rs1,
+                rs2,
+                at,
+                bus,
+            ),
+            Ins::AmoaddW { rd, rs1, rs2, .. } => self.straight_amo(
+                Amo::Add,
+                rd,
+                rs1,
+                rs2,
+                at,
+                bus,
+            ),
+            Ins::AmoxorW { rd, rs1, rs2, .. } => self.straight_amo(
+                Amo::Xor,
+                rd,
+                rs1,
+                rs2,
+                at,
+                bus,
+            ),
+            Ins::AmoandW { rd, rs1, rs2, .. } => self.straight_amo(
+                Amo::And,
+                rd,
+                rs1,
+                rs2,
+                at,
+                bus,
+            ),
+            Ins::AmoorW { rd, rs1, rs2, .. } => self.straight_amo(
+                Amo::Or,
+                rd,
+                rs1,
+                rs2,
+                at,
+                bus,
+            ),
+            Ins::AmominW { rd, rs1, rs2, .. } => self.straight_amo(
+                Amo::Min,
+                rd,
+                rs1,
+                rs2,
+                at,
+                bus,
+            ),
+            Ins::AmomaxW { rd, rs1, rs2, .. } => self.straight_amo(
+                Amo::Max,
+                rd,
+                rs1,
+                rs2,
+                at,
+                bus,
+            ),
+            Ins::AmominuW { rd, rs1, rs2, .. } => self.straight_amo(
+                Amo::Minu,
+                rd,
+                rs1,
+                rs2,
+                at,
+                bus,
+            ),
+            Ins::AmomaxuW { rd, rs1, rs2, .. } => self.straight_amo(
+                Amo::Maxu,
+                rd,
+                rs1,
+                rs2,
+                at,
+                bus,
+            ),
+            _ => None,
+        }
+    }
+
+    /// Runs the instruction at `pc`, if it is one of those.
+    #[inline(always)]
+    fn straight<M: Memory>(&mut self, at: u32, bus: &mut Bus<M>) -> Option<u32>
+        requires at { at % 4 ≡ 0 }
+        requires hart { self.old.csrs.hart < length bus.old.shared.reservations }
+        ensures goes { IfSome result (λ next. Goes (execute) (based at) self.old bus.old (based next) self.new bus.new) }
+        ensures stays { IfSome result (λ next. is_straight (machine (at_pc (based at) self.old) bus.old) ≡ true) }
+        ensures aligned { IfSome result (λ next. next % 4 ≡ 0) }
+        ensures hart { IfNone result (self.new ≡ self.old) }
+        ensures bus { IfNone result (bus.new ≡ bus.old) }
+        ensures csrs { self.new.csrs ≡ self.old.csrs }
+        ensures devices { bus.new.shared.devices ≡ bus.old.shared.devices }
+        ensures reservations { length bus.new.shared.reservations ≡ length bus.old.shared.reservations }
+    {
+        let Some(word) = bus.ram_word(at) else {
+            return None;
+        };
+        let Some(ins) = decode_straight(word) else {
+            return None;
+        };
+        self.apply_straight(word, ins, at, bus)
+    }
+}
+
+/// The address of a place in RAM.
+#[inline(always)]
+#[tactic(auto, unfolding(crate::specs::Straight::based))]
+fn address_of(at: u32) -> u32
+    ensures address { result ≡ based at }
+    ensures aligned { at % 4 ≡ 0 → result % 4 ≡ 0 }
+{
+    at.wrapping_add(RAM_BASE)
+}
+
+/// The place of an address, as seen from RAM's first byte.
+#[inline(always)]
+#[tactic(auto, unfolding(crate::specs::Straight::based))]
+fn offset_of(address: u32) -> u32
+    ensures address { based result ≡ address }
+    ensures aligned { result % 4 ≡ address % 4 }
+{
+    address.wrapping_sub(RAM_BASE)
+}
+
+/// The place of the next instruction.
+#[inline(always)]
+#[tactic(auto, unfolding(crate::specs::Straight::based))]
+fn next_of(at: u32) -> u32
+    ensures address { based result ≡ (based at + 4) % 2 ^ 32 }
+    ensures aligned { at % 4 ≡ 0 → result % 4 ≡ 0 }
+{
+    at.wrapping_add(4)
+}
