@@ -1,6 +1,7 @@
 pub mod Merged
 pub mod Spellings
 pub mod Gets
+pub mod Aheads
 pub mod Indexes
 pub mod Runs
 pub mod Dead

@@ -5,7 +5,9 @@ use Rattle.rvm_frame.specs.declared.frame.Frame.{Frame}
 use Rattle.std.specs.Cmp.Lexicographic.{slice_cmp}
 use Rattle.std.specs.Ordering.{nat_cmp}
 use Rattle.std.specs.Str.{bytes_eq}
+use Rattle.rvm_journal.specs.declared.left.Told.{Told}
 use Rattle.rvm_journal.specs.Entries.{PlainEntry}
+use Rattle.rvm_journal.specs.Told.{told_entry}
 use Rattle.rvm_message.specs.declared.event.HostEvent.{HostEvent}
 use Rattle.rvm_message.specs.declared.event.HostEvent.TheVariants.{Do, Came}
 use Rattle.rvm_world.specs.declared.event.Event.{Event}
@@ -65,6 +67,15 @@ IsWaiting version x entries k places =
 abbrev pub IsNext : (version : ℕ) → Side → List PlainEntry → ℕ → Places → Event → Type 0
 IsNext version x entries k places e =
     (n : PlainEntry) × (slice_get entries k ≡ Some n) × Becomes version x n.event places e
+
+-- the same of an entry that is looked at, if there is one
+abbrev pub Waits : (version : ℕ) → Side → Option Told → Places → Type 0
+Waits version x None places = Unit {0}
+Waits version x (Some t) places = IsUnmade version x (told_entry t).event places
+
+abbrev pub Goes : (version : ℕ) → Side → Option Told → Places → Event → Type 0
+Goes version x None places e = ⊥
+Goes version x (Some t) places e = Becomes version x (told_entry t).event places e
 
 -- a frame, if one was made, has a place: among those of its host, `mine`; the other host's stay
 pub record IsNoted (old new : Merge) (frame : Option (List ℕ)) (mine yours : Merge → Places)

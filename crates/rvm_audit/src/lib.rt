@@ -3,9 +3,10 @@
 //!
 //! Stands on `rvm_journal` and on the events of `rvm_world`, and knows nothing of threads or locks.
 //!
-//! To be read in this order: `side`, `error`, `places`, `merge`, `order`.
+//! To be read in this order: `side`, `error`, `places`, `ahead`, `merge`, `order`.
 #![tactic(auto)]
 
+mod ahead;
 mod error;
 mod merge;
 mod order;

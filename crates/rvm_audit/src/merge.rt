@@ -1,7 +1,9 @@
 //! What was put in order.
 
 ghost use Rattle.std.specs.Prelude.{◌≡◌, ◌<◌, ◌^◌, ◌-◌, IfOk, OnOk, MatchOption, [], ℕ, List, Some, None};
-ghost use Rattle.rvm_audit.specs.Merging.{Becomes, IsNext, IsNoted, IsPlaced, IsTaken, IsUnmade, IsUnplaced, IsWaiting, places_at, places_of};
+ghost use Rattle.rvm_audit.specs.Ahead.{frame_of};
+ghost use Rattle.rvm_audit.specs.Merging.{Becomes, Goes, IsNoted, IsPlaced, IsTaken, IsUnmade, IsUnplaced, Waits, places_at, places_of};
+ghost use Rattle.rvm_journal.specs.Told.{told_entry};
 ghost use Rattle.rvm_audit.specs.Pairs.{other};
 ghost use Rattle.rvm_message.specs.declared.event.HostEvent.TheVariants.{Came};
 
@@ -9,7 +11,7 @@ use crate::places::{Places, lookup, note};
 use crate::side::Side;
 use rvm_debug::BoardEvent;
 use rvm_frame::{Addressed, Frame, frame_bytes};
-use rvm_journal::Entry;
+use rvm_journal::{Entry, Told};
 use rvm_message::{Command, Exchange, ExchangeRef, HostEvent, Shared};
 use rvm_spelling::has_spelling;
 use rvm_world::Event;
@@ -47,20 +49,19 @@ impl Merge {
         alloc: Global,
         side: Side,
         version: u32,
-        entries: &[Entry],
-        k: usize,
+        next: Option<Told<'_>>,
     ) -> Result<Option<Event>, AllocError>
         ensures { IfOk result (λ o. MatchOption o
-            (IsWaiting version side entries.now k (places_at (other side) self.now))
-            (λ e. IsNext version side entries.now k (places_at (other side) self.now) e)) }
+            (Waits version side next.entry (places_at (other side) self.now))
+            (λ e. Goes version side next.entry (places_at (other side) self.now) e)) }
     {
         let others = match side {
             Side::First => &self.second,
             Side::Second => &self.first,
         };
-        match entries.get(k) {
+        match next {
             None => Ok(None),
-            Some(entry) => event_of(alloc, side, version, entry.exchange(), others),
+            Some(told) => event_told(alloc, side, version, told, others),
         }
     }
 
@@ -69,18 +70,34 @@ impl Merge {
         &mut self,
         alloc: Global,
         side: Side,
-        entry: &Entry,
+        next: Option<Told<'_>>,
         event: Event,
     ) -> Result<(), AllocError>
         requires { self.old.made < 2 ^ 64 - 1 }
-        ensures { OnOk result (IsTaken self.old self.new event entry.now.frame
+        ensures { OnOk result (IsTaken self.old self.new event (frame_of next.entry)
             (places_at side) (places_at (other side))) }
     {
         self.events.push(event)?;
-        if let Some(frame) = entry.frame() {
-            self.note(side, frame.to_vec(alloc)?)?;
+        let Some(told) = next else {
+            return Ok(());
+        };
+        match told {
+            Told::Step(_) => Ok(()),
+            Told::Entry(entry) => self.note_frame(alloc, side, entry),
         }
-        Ok(())
+    }
+
+    /// Notes where the frame of an entry was made, if it made one.
+    fn note_frame(&mut self, alloc: Global, side: Side, entry: &Entry) -> Result<(), AllocError>
+        requires { self.old.made < 2 ^ 64 - 1 }
+        ensures events { OnOk result (self.new.events ≡ self.old.events) }
+        ensures noted { OnOk result (IsNoted self.old self.new entry.now.frame
+            (places_at side) (places_at (other side))) }
+    {
+        match entry.frame() {
+            None => Ok(()),
+            Some(frame) => self.note(side, frame.to_vec(alloc)?),
+        }
     }
 
     /// Notes where a frame was made.
@@ -96,6 +113,27 @@ impl Merge {
         }
         self.made += 1;
         Ok(())
+    }
+}
+
+/// The event of the world that an entry is, where it can stand.
+fn event_told(
+    alloc: Global,
+    side: Side,
+    version: u32,
+    told: Told<'_>,
+    others: &Places,
+) -> Result<Option<Event>, AllocError>
+    ensures { IfOk result (λ o. MatchOption o
+        (IsUnmade version side (told_entry told.entry).event (places_of others.now))
+        (λ e. Becomes version side (told_entry told.entry).event (places_of others.now) e)) }
+{
+    match told {
+        Told::Step(hart) => {
+            let step = Command::Board(BoardEvent::Step(hart));
+            Ok(Some(Event::At(side.number(), step)))
+        }
+        Told::Entry(entry) => event_of(alloc, side, version, entry.exchange(), others),
     }
 }
 
@@ -115,6 +153,10 @@ fn event_of(
         ExchangeRef::Step { hart, reply: _ } => {
             let step = Command::Board(BoardEvent::Step(hart));
             Ok(Some(Event::At(side.number(), step)))
+        }
+        ExchangeRef::Dry(count) => {
+            let drain = Command::Board(BoardEvent::Drain(count));
+            Ok(Some(Event::At(side.number(), drain)))
         }
         ExchangeRef::Copied { .. } => Ok(Some(Event::At(side.number(), Command::Copy))),
         ExchangeRef::Stored { from, frame, .. } => {

@@ -11,6 +11,7 @@ ghost use Rattle.rvm_audit.specs.Errors.{IsAuditError};
 ghost use Rattle.rvm_audit.specs.Orders.{IsDeadEnd, IsMerge, IsOrder};
 ghost use Rattle.rvm_audit.specs.Worlds.{AreNew, IsWorldRun};
 
+use crate::ahead::Ahead;
 use crate::error::AuditError;
 use crate::merge::Merge;
 use crate::side::Side;
@@ -33,24 +34,32 @@ pub fn audit<M: PagedMemory + Drop, N: PagedMemory + Drop>(
     ensures merge { IfOk result (λ events. IsMerge first.now second.now events.items) }
     ensures none { IfErr result (λ why. IsAuditError why first.now second.now) }
 {
-    let xs = first.entries();
-    let ys = second.entries();
+    let n = first.count() as usize;
+    let m = second.count() as usize;
+    let mut xs = Ahead::new(first.items());
+    let mut ys = Ahead::new(second.items());
     let mut merge = Merge::new(alloc);
-    let mut i = 0;
-    let mut j = 0;
-    while i < xs.len() || j < ys.len() {
-        match merge.next(alloc, Side::First, first.version(), xs, i)? {
+    let mut i: usize = 0;
+    let mut j: usize = 0;
+    while i < n || j < m {
+        let x = xs.next();
+        match merge.next(alloc, Side::First, first.version(), x)? {
             Some(event) => {
-                merge.take(alloc, Side::First, &xs[i], event)?;
+                merge.take(alloc, Side::First, x, event)?;
+                xs.pass();
                 i += 1;
             }
-            None => match merge.next(alloc, Side::Second, second.version(), ys, j)? {
-                Some(event) => {
-                    merge.take(alloc, Side::Second, &ys[j], event)?;
-                    j += 1;
+            None => {
+                let y = ys.next();
+                match merge.next(alloc, Side::Second, second.version(), y)? {
+                    Some(event) => {
+                        merge.take(alloc, Side::Second, y, event)?;
+                        ys.pass();
+                        j += 1;
+                    }
+                    None => return Err(AuditError::NoOrder { i, j }),
                 }
-                None => return Err(AuditError::NoOrder { i, j }),
-            },
+            }
         }
     }
     Ok(merge.events)

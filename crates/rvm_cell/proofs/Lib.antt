@@ -1,3 +1,7 @@
-pub mod Checks
 pub mod Receipts
+pub mod Runs
+pub mod Spans
+pub mod Checks
+pub mod Tellings
 pub mod Sends
+pub mod Flat

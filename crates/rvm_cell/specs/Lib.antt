@@ -1,6 +1,7 @@
 pub mod Seats
 pub mod Receipts
+pub mod Runs
+pub mod Telling
 pub mod Calls
 pub mod Close
-pub mod Checking
 pub mod Closing

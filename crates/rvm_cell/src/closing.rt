@@ -1,18 +1,20 @@
 //! The end of a shared host: its journal is compared with the receipts.
 
-ghost use Rattle.std.specs.Prelude.{◌≡◌, ◌+◌, ◌<◌, ℕ, length, vec_len, IfOk, OnOk, IfErr, IfNone, IfSome, IsTrue, Some, None, sum_by, IsPermutation, false, true};
+ghost use Rattle.std.specs.Prelude.{◌≡◌, ◌+◌, ◌<◌, ◌≤◌, ◌^◌, ℕ, drop, length, vec_len, IfOk, OnOk, IfErr, IfNone, IfSome, Some, None, sum_by, IsPermutation, false, true};
 ghost use Rattle.std.specs.Prelude.{◌≢◌};
 ghost use Rattle.std.specs.BTreeMap.{get};
 ghost use Rattle.std.specs.Ordering.{nat_cmp};
-ghost use Rattle.rvm_cell.specs.Checking.{IsByPlace, Stands};
 ghost use Rattle.rvm_cell.specs.Close.{IsFirstFault, IsJournal};
+ghost use Rattle.rvm_cell.specs.Runs.{all_of, calls_before, seat_in};
+ghost use Rattle.rvm_cell.specs.Telling.{AreRising, Tells, first_place};
+ghost use Rattle.rvm_journal.specs.Items.{all_of as entries_of_all};
 ghost use Rattle.rvm_cell.specs.Closing.{IsClosed, IsCloseError, close_refusal};
 
+use crate::items::ReceiptItem;
 use crate::locked::Locked;
-use crate::receipt::Receipt;
 use crate::seat::{Seat, Seating};
 use crate::shared::SharedHost;
-use rvm_journal::{Entry, Recorded};
+use rvm_journal::{Item, Left, Recorded};
 use rvm_mem::PagedMemory;
 use rvm_refusal::Refusal;
 use std::alloc::{AllocError, Global};
@@ -51,7 +53,7 @@ pub struct CloseError<L: Seating, M: PagedMemory + Drop> {
     pub kind: CloseKind,
     pub opened: Locked<L, M>,
     pub seats: Vec<Seat<L>>,
-    pub receipts: Vec<Receipt>,
+    pub receipts: Vec<ReceiptItem>,
 }
 
 /// The counts of all seats are the book's total.
@@ -70,25 +72,14 @@ fn collect<L: Seating>(book: &mut Book<L>, spare: Share<L>, seats: Vec<Seat<L>>)
     book.audit(&mut all);
 }
 
-/// Whether a receipt tells the entry of its place, and no other receipt is of that place.
-fn stands(receipts: &[Receipt], p: usize, entry: &Entry, lasts: &BTreeMap<u32, u64>) -> bool
-    requires { p < length receipts.now }
-    ensures yes { IsTrue result → Stands receipts.now p entry.now lasts.now }
-    ensures no { result ≡ false → Stands receipts.now p entry.now lasts.now → ⊥ }
+/// Whether the seat's last receipt of lower places was made before these.
+fn is_above(lasts: &BTreeMap<u32, u64>, item: &ReceiptItem) -> bool
+    ensures yes { result ≡ true → (c : ℕ) → get nat_cmp lasts.now (seat_in item.now) ≡ Some c → c < calls_before item.now }
+    ensures no { result ≡ false → (c : ℕ) × (get nat_cmp lasts.now (seat_in item.now) ≡ Some c) × (calls_before item.now ≤ c) }
 {
-    let r = &receipts[p];
-    if r.place as usize != p {
-        return false;
-    }
-    if p + 1 < receipts.len() && receipts[p + 1].place() as usize == p {
-        return false;
-    }
-    if !r.exchange.is_same(entry.exchange()) {
-        return false;
-    }
-    match lasts.get(&r.seat) {
+    match lasts.get(&item.seat()) {
         None => true,
-        Some(c) => *c < r.count,
+        Some(c) => *c < item.calls(),
     }
 }
 
@@ -101,36 +92,90 @@ fn note(lasts: &mut BTreeMap<u32, u64>, seat: u32, count: u64) -> Result<(), All
     Ok(())
 }
 
+/// The place of the first receipt from an item on, if there is one.
+fn first_from(receipts: &[ReceiptItem], k: usize) -> Option<u32>
+    ensures { result ≡ first_place (drop k receipts.now) }
+{
+    Some(receipts.get(k)?.place())
+}
+
+/// Whether a place is so many behind another.
+fn is_at(until: Option<u32>, place: u32, behind: u32) -> bool
+    ensures yes { result ≡ true → until ≡ Some (place + behind) }
+    ensures no { result ≡ false → until ≡ Some (place + behind) → ⊥ }
+{
+    match until {
+        None => false,
+        Some(until) => u64::from(until) == u64::from(place) + u64::from(behind),
+    }
+}
+
+/// How many of the receipts of an item are of the entries that are left, before the place of the item behind it.
+fn tell(item: &ReceiptItem, left: &mut Left<'_>, until: Option<u32>) -> u32
+    ensures { Tells item.now left.old left.new until result }
+{
+    let place = item.place();
+    let len = item.len();
+    let mut told: u32 = 0;
+    while told < len {
+        told += item.skip(told, left, until);
+        if told == len {
+            return told;
+        }
+        if is_at(until, place, told) {
+            return told;
+        }
+        let Some(entry) = left.next() else {
+            return told;
+        };
+        if !item.is_of(told, &entry) {
+            return told;
+        }
+        told += 1;
+    }
+    told
+}
+
 /// The first place that its receipts, which are sorted by place, do not tell.
 fn first_fault(
     alloc: Global,
-    entries: &[Entry],
-    receipts: &[Receipt],
+    items: &[Item],
+    receipts: &[ReceiptItem],
 ) -> Result<Option<usize>, AllocError>
-    requires { IsByPlace receipts.now }
-    ensures none { IfOk result (λ o. IfNone o (IsJournal entries.now receipts.now)) }
-    ensures some { IfOk result (λ o. IfSome o (λ p. IsFirstFault entries.now receipts.now p)) }
+    requires sorted { AreRising receipts.now }
+    requires bound { length (entries_of_all items.now) < 2 ^ 32 }
+    ensures none { IfOk result (λ o. IfNone o (IsJournal (entries_of_all items.now) (all_of receipts.now))) }
+    ensures some { IfOk result (λ o. IfSome o (λ p. IsFirstFault (entries_of_all items.now) (all_of receipts.now) p)) }
 {
     let mut lasts: BTreeMap<u32, u64> = BTreeMap::new(alloc);
-    for (p, entry) in entries.iter().enumerate() {
-        if p >= receipts.len() || !stands(receipts, p, entry, &lasts) {
-            return Ok(Some(p));
+    let mut left = Left::new(items);
+    let mut place: usize = 0;
+    let mut k: usize = 0;
+    while k < receipts.len() {
+        let item = &receipts[k];
+        if item.place() as usize != place || !is_above(&lasts, item) {
+            return Ok(Some(place));
         }
-        let receipt = &receipts[p];
-        note(&mut lasts, receipt.seat, receipt.count)?;
+        let told = tell(item, &mut left, first_from(receipts, k + 1));
+        place += told as usize;
+        if told < item.len() {
+            return Ok(Some(place));
+        }
+        note(&mut lasts, item.seat(), item.last_calls())?;
+        k += 1;
     }
-    if receipts.len() > entries.len() {
-        return Ok(Some(entries.len()));
+    if left.next().is_some() {
+        return Ok(Some(place));
     }
     Ok(None)
 }
 
 /// Sorts receipts by place. Those of one seat come in order, and a stable sort merges such runs.
-fn sort_by_place(receipts: &mut Vec<Receipt>) -> Result<(), AllocError>
-    ensures sorted { OnOk result (IsByPlace receipts.new.items) }
+fn sort_by_place(receipts: &mut Vec<ReceiptItem>) -> Result<(), AllocError>
+    ensures sorted { OnOk result (AreRising receipts.new.items) }
     ensures same { IsPermutation receipts.old.items receipts.new.items }
 {
-    receipts.sort_by_key(|r| r.place())
+    receipts.sort_by_key(|item| item.place())
 }
 
 /// What keeps a host from being closed, if anything does. The receipts are sorted by place.
@@ -139,15 +184,15 @@ fn fault_of<L: Seating, M: PagedMemory + Drop>(
     locked: &Locked<L, M>,
     want: usize,
     have: usize,
-    receipts: &[Receipt],
+    receipts: &[ReceiptItem],
 ) -> Option<CloseKind>
-    requires { IsByPlace receipts.now }
-    ensures none { IfNone result ((have ≡ want) × IsJournal locked.now.journal.entries receipts.now) }
-    ensures some { IfSome result (λ k. IsCloseError k locked.now.journal.entries want have receipts.now) }
+    requires { AreRising receipts.now }
+    ensures none { IfNone result ((have ≡ want) × IsJournal locked.now.journal.entries (all_of receipts.now)) }
+    ensures some { IfSome result (λ k. IsCloseError k locked.now.journal.entries want have (all_of receipts.now)) }
 {
     let recorded = &locked.recorded;
     let len = recorded.count();
-    match first_fault(alloc, recorded.journal().entries(), receipts) {
+    match first_fault(alloc, recorded.journal().items(), receipts) {
         Err(_) => Some(CloseKind::OutOfMemory),
         Ok(Some(p)) => Some(CloseKind::Mismatch(if p < len as usize { p as u32 } else { len })),
         Ok(None) => {
@@ -161,16 +206,18 @@ fn fault_of<L: Seating, M: PagedMemory + Drop>(
 }
 
 /// What keeps a host from being closed, if anything does. It sorts the receipts by place.
+#[tactic(auto, using(crate::proofs::Flat::all_permuted))]
 fn sort_and_compare<L: Seating, M: PagedMemory + Drop>(
     alloc: Global,
     locked: &Locked<L, M>,
     want: usize,
     have: usize,
-    receipts: &mut Vec<Receipt>,
+    receipts: &mut Vec<ReceiptItem>,
 ) -> Option<CloseKind>
     ensures same { IsPermutation receipts.old.items receipts.new.items }
-    ensures none { IfNone result ((have ≡ want) × IsJournal locked.now.journal.entries receipts.new.items) }
-    ensures some { IfSome result (λ k. IsCloseError k locked.now.journal.entries want have receipts.new.items) }
+    ensures all { IsPermutation (all_of receipts.old.items) (all_of receipts.new.items) }
+    ensures none { IfNone result ((have ≡ want) × IsJournal locked.now.journal.entries (all_of receipts.new.items)) }
+    ensures some { IfSome result (λ k. IsCloseError k locked.now.journal.entries want have (all_of receipts.new.items)) }
 {
     if sort_by_place(receipts).is_err() {
         return Some(CloseKind::OutOfMemory);
@@ -187,14 +234,14 @@ pub fn close<L: Seating, M: PagedMemory + Drop, R: Wait>(
     alloc: Global,
     shared: SharedHost<L, M>,
     seats: Vec<Seat<L>>,
-    receipts: Vec<Receipt>,
+    receipts: Vec<ReceiptItem>,
 ) -> Result<Recorded<M>, CloseError<L, M>>
     requires { L.seats ≡ L.parts }
-    ensures ok { IfOk result (λ r. IsClosed r.journal.entries seats.items receipts.items) }
+    ensures ok { IfOk result (λ r. IsClosed r.journal.entries seats.items (all_of receipts.items)) }
     ensures opening { IfOk result (λ r. r.journal.opening ≡ L.opening) }
     ensures back { IfErr result (λ e. (e.seats.items ≡ seats.items) × IsPermutation receipts.items e.receipts.items) }
     ensures fault { IfErr result (λ e. IsCloseError e.kind e.opened.journal.entries L.seats (vec_len seats)
-        e.receipts.items) }
+        (all_of e.receipts.items)) }
 {
     let SharedHost { lock } = shared;
     let mut receipts = receipts;

@@ -3,17 +3,21 @@
 //!
 //! Stands on `rvm_journal`, and knows nothing of links, workers or the audit.
 //!
-//! To be read in this order: `seat`, `receipt`, `locked`, `shared`, `closing`.
+//! To be read in this order: `seat`, `receipt`, `step_receipts`, `items`, `locked`, `shared`, `closing`.
 #![tactic(auto)]
 
 mod closing;
+mod items;
 mod locked;
 mod receipt;
 mod seat;
 mod shared;
+mod step_receipts;
 
 pub use closing::{CloseError, CloseKind, close};
+pub use items::ReceiptItem;
 pub use locked::Locked;
 pub use receipt::Receipt;
 pub use seat::{Seat, Seating};
 pub use shared::{ShareError, SharedHost, share};
+pub use step_receipts::StepReceipts;

@@ -1,20 +1,23 @@
 //! What lies under the lock of a shared host.
 
-ghost use Rattle.std.specs.Prelude.{◌≡◌, ◌+◌, ◌<◌, ◌≤◌, ◌^◌, [], length, IfOk, IfErr, OnOk, OnErr, vec_capacity};
-ghost use Rattle.rvm_cell.specs.Calls.{AreReceipts, IsCalled, IsReceipt, IsSliceCalled, replies_of};
+ghost use Rattle.std.specs.Prelude.{◌≡◌, ◌+◌, ◌<◌, ◌≤◌, ◌^◌, [], length, IfNone, IfOk, IfErr, IfSome, None, OnOk, OnErr, vec_capacity};
+ghost use Rattle.rvm_cell.specs.Calls.{AreReceipts, IsCalled, IsSliceCalled, replies_of};
+ghost use Rattle.rvm_cell.specs.Runs.{all_of};
 ghost use Rattle.rvm_cell.specs.Seats.{seat_of};
 ghost use Rattle.rvm_journal.specs.Errors.{IsRecordError, IsSized, IsSliceError};
 ghost use Rattle.rvm_journal.specs.History.{count_of};
-ghost use Rattle.rvm_journal.specs.Slices.{replies_to, step_of};
-ghost use Rattle.rvm_message.specs.Steps.{reply_to_step};
+ghost use Rattle.rvm_journal.specs.Items.{replies_of_all};
+ghost use Rattle.rvm_journal.specs.Slices.{replies_to};
+ghost use Rattle.rvm_message.specs.Exchanges.{dry_exchange};
 
+use crate::items::{ReceiptItem, push_run};
 use crate::receipt::Receipt;
 use crate::seat::{Seat, Seating, keep};
 use crate::shared::SharedHost;
 use rvm_frame::Addressed;
-use rvm_journal::{RecordError, Recorded, SliceError, hart_of_turn};
+use rvm_journal::{RecordError, Recorded, SliceError, StepRun};
 use rvm_mem::PagedMemory;
-use rvm_message::{Exchange, ExchangeRoom, HostEvent, StepReply};
+use rvm_message::{Exchange, ExchangeRoom, HostEvent};
 use std::alloc::Global;
 use std::marker::Model;
 use std::sync::Mutex;
@@ -105,6 +108,37 @@ impl<L: Seating, M: PagedMemory + Drop> Locked<L, M> {
         }
     }
 
+    /// Records a drain of at most so many bytes for a seat, as `Recorded::record_dry` has it.
+    pub(crate) fn call_dry(&mut self, seat: &mut Seat<L>, bytes: u32) -> Option<Receipt>
+        ensures called { IfSome result (λ r. IsCalled self.old seat.old (dry_exchange bytes).event (r, None) self.new) }
+        ensures reply { IfSome result (λ r. r.reply ≡ (dry_exchange bytes).reply) }
+        ensures seat { IfSome result (λ r. seat.new ≡ seat_of seat.old.id (seat.old.count + 1)) }
+        ensures none { IfNone result ((self.new ≡ self.old) × (seat.new ≡ seat.old)) }
+    {
+        let Locked { recorded, book, .. } = self;
+        let Seat {
+            id,
+            count,
+            share,
+            room: _,
+        } = seat;
+        book.audit(share);
+        match recorded.record_dry(bytes) {
+            None => None,
+            Some(place) => {
+                book.add(share, 1);
+                let receipt = Receipt {
+                    place,
+                    seat: *id,
+                    count: *count,
+                    exchange: Exchange::dry(bytes),
+                };
+                *count += 1;
+                Some(receipt)
+            }
+        }
+    }
+
     /// Records a slice for a seat. `receipts` has room for it.
     pub(crate) fn call_slice(
         &mut self,
@@ -113,11 +147,11 @@ impl<L: Seating, M: PagedMemory + Drop> Locked<L, M> {
         turn: u32,
         harts: u32,
         n: u32,
-        receipts: Vec<Receipt>,
-    ) -> Result<Vec<Receipt>, SliceError>
+        receipts: Vec<ReceiptItem>,
+    ) -> Result<Vec<ReceiptItem>, SliceError>
         requires { (receipts.items ≡ []) × (64 ≤ vec_capacity receipts) }
-        ensures called { IfOk result (λ v. IsSliceCalled self.old seat.old turn harts n v.items self.new) }
-        ensures seat { IfOk result (λ v. seat.new ≡ seat_of seat.old.id (seat.old.count + length v.items)) }
+        ensures called { IfOk result (λ v. IsSliceCalled self.old seat.old turn harts n (all_of v.items) self.new) }
+        ensures seat { IfOk result (λ v. seat.new ≡ seat_of seat.old.id (seat.old.count + length (all_of v.items))) }
         ensures err { OnErr result ((self.new ≡ self.old) × (seat.new ≡ seat.old)) }
         ensures fault { IfErr result (λ e. IsSliceError e harts n (count_of self.old) self.old.capacity) }
         ensures sized { OnOk result (IsSized harts n) }
@@ -130,13 +164,28 @@ impl<L: Seating, M: PagedMemory + Drop> Locked<L, M> {
             ..
         } = seat;
         book.audit(share);
-        let (place, replies) = recorded.record_slice(alloc, turn, harts, n)?;
-        let steps = replies.len() as u64;
+        let (place, runs) = recorded.record_slice(alloc, turn, harts, n)?;
+        let steps = u64::from(steps_in(runs.as_slice()));
         book.add(share, steps);
-        let receipts = slice_receipts(place, *id, *count, turn, harts, replies, receipts);
+        let receipts = slice_receipts(place, *id, *count, turn, harts, runs, receipts);
         *count += steps;
         Ok(receipts)
     }
+}
+
+/// How many steps runs have.
+fn steps_in(runs: &[StepRun]) -> u32
+    requires { length (replies_of_all runs.now) ≤ 64 }
+    ensures { result ≡ length (replies_of_all runs.now) }
+{
+    let mut steps: u32 = 0;
+    let mut k = 0;
+    while k < runs.len() {
+        let run = runs[k];
+        steps += run.count();
+        k += 1;
+    }
+    steps
 }
 
 /// A receipt for each reply of a slice from a place and a turn on.
@@ -146,50 +195,32 @@ fn slice_receipts(
     count: u64,
     turn: u32,
     harts: u32,
-    replies: Vec<StepReply>,
-    receipts: Vec<Receipt>,
-) -> Vec<Receipt>
+    runs: Vec<StepRun>,
+    receipts: Vec<ReceiptItem>,
+) -> Vec<ReceiptItem>
     requires harts { 1 ≤ harts }
     requires empty { receipts.items ≡ [] }
-    requires room { length replies.items ≤ vec_capacity receipts }
-    requires few { length replies.items ≤ 64 }
-    requires places { place + length replies.items < 2 ^ 32 }
-    requires counts { count + length replies.items < 2 ^ 64 }
-    ensures receipts { AreReceipts (seat_of seat count) place turn harts result.items }
-    ensures replies { replies_of result.items ≡ replies_to replies.items }
-    ensures count { length result.items ≡ length replies.items }
+    requires room { length (replies_of_all runs.items) ≤ vec_capacity receipts }
+    requires few { length (replies_of_all runs.items) ≤ 64 }
+    requires places { place + length (replies_of_all runs.items) < 2 ^ 32 }
+    requires counts { count + length (replies_of_all runs.items) < 2 ^ 64 }
+    ensures receipts { AreReceipts (seat_of seat count) place turn harts (all_of result.items) }
+    ensures replies { replies_of (all_of result.items) ≡ replies_to (replies_of_all runs.items) }
+    ensures count { length (all_of result.items) ≡ length (replies_of_all runs.items) }
 {
     let mut receipts = receipts;
     let mut behind: u32 = 0;
-    for reply in replies {
-        receipts.push_reserved(receipt_of_step(place, seat, count, turn, harts, behind, reply));
-        behind += 1;
+    for run in runs {
+        push_run(
+            &mut receipts,
+            place + behind,
+            seat,
+            count + u64::from(behind),
+            u64::from(turn) + u64::from(behind),
+            harts,
+            run,
+        );
+        behind += run.count();
     }
     receipts
-}
-
-/// The receipt of the step so many turns behind the first of a slice.
-#[inline(always)]
-fn receipt_of_step(
-    place: u32,
-    seat: u32,
-    count: u64,
-    turn: u32,
-    harts: u32,
-    behind: u32,
-    reply: StepReply,
-) -> Receipt
-    requires harts { 1 ≤ harts }
-    requires places { place + behind < 2 ^ 32 }
-    requires counts { count + behind < 2 ^ 64 }
-    ensures place { result.place ≡ place + behind }
-    ensures receipt { IsReceipt (seat_of seat (count + behind)) (step_of (turn + behind) harts) result }
-    ensures reply { result.reply ≡ reply_to_step reply }
-{
-    Receipt {
-        place: place + behind,
-        seat,
-        count: count + u64::from(behind),
-        exchange: Exchange::of_step(hart_of_turn(turn, behind, harts), reply),
-    }
 }

@@ -89,7 +89,7 @@ pub(crate) fn keep(
 {
     if Exchange::is_small(&event, &reply) {
         *spare = Some(room);
-        return Exchange::small(event, reply);
+        return Exchange::small(event, &reply);
     }
     Exchange::new(room, event, reply)
 }

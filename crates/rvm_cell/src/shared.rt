@@ -1,12 +1,15 @@
 //! A recorded host under a lock.
 
-ghost use Rattle.std.specs.Prelude.{◌≡◌, ◌⊎◌, ◌↔◌, ◌+◌, ◌<◌, ◌≤◌, ℕ, [], length, IfOk, IfErr, OnOk, OnErr, Some, slice_get, vec_len, vec_capacity};
+ghost use Rattle.std.specs.Prelude.{◌≡◌, ◌⊎◌, ◌↔◌, ◌+◌, ◌<◌, ◌≤◌, ℕ, [], length, IfNone, IfOk, IfErr, IfSome, OnOk, OnErr, Some, slice_get, vec_len, vec_capacity};
 ghost use Rattle.rvm_cell.specs.Calls.{AreOfSeat, IsReceipt};
 ghost use Rattle.rvm_cell.specs.declared.shared.ShareError.TheVariants.{BadSize};
+ghost use Rattle.rvm_cell.specs.Runs.{all_of};
 ghost use Rattle.rvm_cell.specs.Seats.{seat_of, share_refusal};
 ghost use Rattle.rvm_journal.specs.declared.error.SliceError.TheVariants.{OutOfRange};
 ghost use Rattle.rvm_journal.specs.Errors.{IsSized};
+ghost use Rattle.rvm_message.specs.Exchanges.{dry_exchange};
 
+use crate::items::ReceiptItem;
 use crate::locked::Locked;
 use crate::receipt::Receipt;
 use crate::seat::{Seat, Seating};
@@ -139,6 +142,18 @@ impl<L: Seating, M: PagedMemory + Drop> SharedHost<L, M> {
         self.lock.lock(rt).call(alloc, seat, event, copy, room)
     }
 
+    /// Records a drain of at most so many bytes, under the lock, where it finds none at a guest that runs
+    /// here: a receipt. Where the journal is full or memory lacks, too, nothing is recorded. It may wait for
+    /// another thread.
+    pub fn call_dry<R: Wait>(&self, rt: &R, seat: &mut Seat<L>, bytes: u32) -> Option<Receipt>
+        ensures receipt { IfSome result (λ r. IsReceipt seat.old (dry_exchange bytes).event r) }
+        ensures reply { IfSome result (λ r. r.reply ≡ (dry_exchange bytes).reply) }
+        ensures seat { IfSome result (λ r. seat.new ≡ seat_of seat.old.id (seat.old.count + 1)) }
+        ensures none { IfNone result (seat.new ≡ seat.old) }
+    {
+        self.lock.lock(rt).call_dry(seat, bytes)
+    }
+
     /// Records a slice of at most n steps, 1 to 64, under one hold of the lock, as `Recorded::record_slice`
     /// has it: a receipt for each step. It may wait for another thread. Memory is asked for only where the
     /// slice is in range.
@@ -150,10 +165,10 @@ impl<L: Seating, M: PagedMemory + Drop> SharedHost<L, M> {
         turn: u32,
         harts: u32,
         n: u32,
-    ) -> Result<Vec<Receipt>, SliceError>
-        ensures receipts { IfOk result (λ v. AreOfSeat seat.old turn harts v.items) }
-        ensures steps { IfOk result (λ v. (1 ≤ length v.items) × (length v.items ≤ n)) }
-        ensures seat { IfOk result (λ v. seat.new ≡ seat_of seat.old.id (seat.old.count + length v.items)) }
+    ) -> Result<Vec<ReceiptItem>, SliceError>
+        ensures receipts { IfOk result (λ v. AreOfSeat seat.old turn harts (all_of v.items)) }
+        ensures steps { IfOk result (λ v. (1 ≤ length (all_of v.items)) × (length (all_of v.items) ≤ n)) }
+        ensures seat { IfOk result (λ v. seat.new ≡ seat_of seat.old.id (seat.old.count + length (all_of v.items))) }
         ensures err { OnErr result (seat.new ≡ seat.old) }
         ensures range { (result ≡ Err OutOfRange) ↔ (IsSized harts n → ⊥) }
     {

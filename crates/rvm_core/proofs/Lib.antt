@@ -4,3 +4,6 @@ mod Settling
 mod Sendings
 mod Moves
 mod Postings
+pub mod Running
+pub mod Retiring
+pub mod Drying

@@ -4,3 +4,4 @@ pub mod Memory
 pub mod Bounds
 pub mod Spelled
 pub mod Turns
+pub mod Retiring

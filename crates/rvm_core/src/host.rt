@@ -2,7 +2,7 @@
 
 ghost use Rattle.std.specs.Prelude.{◌≡◌, ◌↔◌, ℕ, true, false, IfOk, IfErr, IsErr, OnErr, None};
 ghost use Rattle.rvm_message.specs.Events.{command_of, event_of};
-ghost use Rattle.rvm_message.specs.Exchanges.{step_of_hart};
+ghost use Rattle.rvm_message.specs.Exchanges.{dry_exchange, step_of_hart};
 ghost use Rattle.rvm_message.specs.Steps.{reply_to_step};
 ghost use Rattle.rvm_message.specs.Frames.{BoardFrame, addressed_made, frame_heard, frame_made};
 ghost use Rattle.rvm_precopy.specs.Policies.{policy_of};
@@ -13,12 +13,13 @@ ghost use Rattle.rvm_protocol.specs.Host.{is_heard, is_offer_above, is_there};
 ghost use Rattle.rvm_core.specs.Bounds.{CanBePosted, addressed, frame_bound};
 ghost use Rattle.rvm_core.specs.Hosts.{Steps, host_of, is_sized, new_host, partner_of, step_of, version_of};
 ghost use Rattle.rvm_core.specs.Memory.{asks_memory, is_ignored, needs_memory, takes_memory};
+ghost use Rattle.rvm_core.specs.Retiring.{HostRetires};
 ghost use Rattle.rvm_core.specs.Turns.{HasLog, turned};
 
 use crate::bound::{came_body, with_header};
 use crate::limits::{BadSize, is_spoken, version_of};
 use crate::mode::Mode;
-use rvm_debug::{Debugged, Turns};
+use rvm_debug::{Debugged, Retired, Turns};
 use rvm_frame::{Addressed, Frame};
 use rvm_mem::PagedMemory;
 use rvm_message::{Command, HostEvent, HostRefusal, HostReply, StepReply, can_come};
@@ -169,6 +170,14 @@ impl<M: PagedMemory + Drop> Host<M> {
         self.mode.step(hart)
     }
 
+    /// Whether a drain of at most so many bytes finds none at a guest that runs here: then it changes nothing.
+    pub fn finds_nothing(&self, count: u32) -> bool
+        ensures { result ≡ true → Steps self.now (event_of (dry_exchange count).event)
+            ((dry_exchange count).reply, None) self.now }
+    {
+        self.mode.finds_nothing(count)
+    }
+
     /// Makes turns of a hart, at most `count`, as `Debugged::turns` does, where the guest runs here and the
     /// hart is there; else none. Takes no memory.
     pub fn turns(&mut self, hart: u32, count: u32) -> Turns
@@ -178,6 +187,14 @@ impl<M: PagedMemory + Drop> Host<M> {
         ensures log { HasLog self.old.mode }
     {
         self.mode.turns(hart, count)
+    }
+
+    /// Makes steps of so many harts in turn, at most `count`, from turn `turn` on, as long as each retires an
+    /// instruction; the first that does not is the last. It may make none. Takes no memory.
+    pub fn retire(&mut self, turn: u64, harts: u32, count: u32) -> Retired
+        ensures { HostRetires harts turn count self.old self.new result }
+    {
+        self.mode.retire(turn, harts, count)
     }
 
     /// A move to a host begins.

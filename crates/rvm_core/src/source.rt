@@ -1,23 +1,27 @@
 //! The commands of a host, and the frames that come to the source of a move.
 
-ghost use Rattle.std.specs.Prelude.{◌≡◌, ◌<◌, ℕ, false, IfOk, OnErr, None, Some};
+ghost use Rattle.std.specs.Prelude.{◌≡◌, ◌<◌, ℕ, true, false, [], IfOk, OnErr, None, Some};
 ghost use Rattle.rvm_guest.proofs.TheGuest.{board};
 ghost use Rattle.rvm_message.specs.Answers.{Answers};
 ghost use Rattle.rvm_message.specs.Sendable.{CanBeSent};
 ghost use Rattle.rvm_message.specs.Steps.{reply_to_step};
-ghost use Rattle.rvm_debug.specs.declared.event.BoardEvent.TheVariants.{Step};
+ghost use Rattle.rvm_message.specs.Exchanges.{dry_exchange};
+ghost use Rattle.rvm_debug.specs.declared.event.BoardEvent.TheVariants.{Drain, Step};
+ghost use Rattle.rvm_debug.specs.Events.{answered, leaves};
 ghost use Rattle.rvm_precopy.specs.Policies.{policy_of};
 ghost use Rattle.rvm_protocol.specs.Frames as frames;
 ghost use Rattle.rvm_protocol.specs.Modes as protocol;
 ghost use Rattle.rvm_protocol.specs.Obeying as obeying;
 ghost use Rattle.rvm_protocol.specs.Receiving as receiving;
+ghost use Rattle.rvm_source.specs.Sources as sources;
 ghost use Rattle.rvm_core.specs.Bounds.{HasNumber, copy_body, resend_body};
 ghost use Rattle.rvm_core.specs.Memory.{is_ignored};
 ghost use Rattle.rvm_core.specs.Modes.{mode_of, plain_of};
+ghost use Rattle.rvm_core.specs.Retiring.{ModeRetires};
 ghost use Rattle.rvm_core.specs.Turns.{HasLog, turned};
 
 use crate::mode::Mode;
-use rvm_debug::{BoardEvent, Debugged, Turns};
+use rvm_debug::{BoardEvent, BoardReply, DRAIN_SIZE, Debugged, NO_STEPS, Retired, Turns};
 use rvm_frame::Frame;
 use rvm_mem::PagedMemory;
 use rvm_message::{
@@ -60,6 +64,20 @@ impl<M: PagedMemory + Drop> Mode<M> {
         }
     }
 
+    /// Whether the guest runs here, and a drain of at most so many bytes finds none.
+    #[tactic(auto, using(crate::proofs::Drying::run_dry))]
+    pub(crate) fn finds_nothing(&self, count: u32) -> bool
+        ensures { result ≡ true → (version : ℕ) → Answers version
+            (obeying.board board (Drain count) (mode_of (plain_of self.now)))
+            ((dry_exchange count).reply, None) (mode_of (plain_of self.now)) }
+    {
+        match self {
+            Mode::Run { guest, .. } => is_dry(guest, count),
+            Mode::Leaving(source) => is_dry_source(source, count),
+            _ => false,
+        }
+    }
+
     /// Makes turns of a hart, at most `count`, where the guest runs; else none. Takes no memory.
     pub(crate) fn turns(&mut self, hart: u32, count: u32) -> Turns
         ensures mode { plain_of self.new ≡ (turned hart count (plain_of self.old)).mode }
@@ -71,6 +89,21 @@ impl<M: PagedMemory + Drop> Mode<M> {
             Mode::Run { guest, .. } => turn_guest(guest, hart, count),
             Mode::Leaving(source) => source.turns(hart, count),
             _ => NO_TURNS,
+        }
+    }
+
+    /// Makes steps of so many harts in turn, where the guest runs, as `Debugged::retire` does; else none.
+    /// Takes no memory.
+    pub(crate) fn retire(&mut self, turn: u64, harts: u32, count: u32) -> Retired
+        ensures { ModeRetires harts turn count (plain_of self.old) (plain_of self.new) result }
+    {
+        match self {
+            Mode::Run { guest, .. } => guest.retire(turn, harts, count),
+            Mode::Leaving(source) => source.retire(turn, harts, count),
+            Mode::Empty { .. }
+            | Mode::Given { .. }
+            | Mode::Staging { .. }
+            | Mode::Held { .. } => NO_STEPS,
         }
     }
 
@@ -281,4 +314,22 @@ impl<M: PagedMemory + Drop> Mode<M> {
             _ => HostReply::Refused(HostRefusal::Ignored),
         }
     }
+}
+
+/// Whether a drain of at most so many bytes finds none, and leaves the guest as it is.
+#[tactic(auto, using(crate::proofs::Drying::dry_guest))]
+fn is_dry<M: PagedMemory>(guest: &Debugged<M>, count: u32) -> bool
+    ensures { result ≡ true → answered (Drain count) guest.now.guest
+        ≡ leaves guest.now.guest (BoardReply.Bytes []) }
+{
+    count <= DRAIN_SIZE && guest.waiting() == 0
+}
+
+/// The same of a guest whose move is going on.
+fn is_dry_source<M: PagedMemory>(from: &Source<M>, count: u32) -> bool
+    ensures { result ≡ true → (version : ℕ) → Answers version
+        (obeying.board board (Drain count) (sources.mode_of from.now))
+        ((dry_exchange count).reply, None) (sources.mode_of from.now) }
+{
+    count <= DRAIN_SIZE && from.is_quiet()
 }

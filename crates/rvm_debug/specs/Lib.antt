@@ -4,6 +4,7 @@ pub mod Kept
 pub mod Parts
 pub mod Turns
 pub mod WhileFull
+pub mod Retiring
 pub mod Refusals
 pub mod State
 pub mod Snapshot

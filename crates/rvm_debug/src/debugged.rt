@@ -235,10 +235,13 @@ impl<M: Memory> Debugged<M> {
         ensures dirty { self.new.dirty ≡ self.old.dirty }
         ensures reply { result ≡ (drains count self.old.guest).reply }
     {
-        let mut bytes = [0; VIEW_SIZE];
         if count as usize > VIEW_SIZE {
             return BoardReply::Refused(BoardRefusal::OutOfRange);
         }
+        if self.board.waiting() == 0 {
+            return BoardReply::Bytes(View::empty());
+        }
+        let mut bytes = [0; VIEW_SIZE];
         let taken = self.board.drain(&mut bytes[..count as usize]);
         BoardReply::Bytes(View::of(&bytes[..taken]))
     }

@@ -233,7 +233,7 @@ impl<M: Memory> Debugged<M> {
 
     /// One step of a hart that cannot stop instead.
     #[inline(always)]
-    fn step_on(&mut self, hart: u32) -> Stepped
+    pub(crate) fn step_on(&mut self, hart: u32) -> Stepped
         requires hart { hart < length self.old.guest.board.harts }
         requires breakpoints { self.old.guest.breakpoints ≡ [] }
         requires stopped { get_or self.old.guest.stopped hart false ≡ false }
@@ -289,7 +289,7 @@ pub(crate) fn stop_of(pc: u32, step: Option<Stepped>) -> Option<Stop>
 }
 
 /// Whether any of these is true.
-fn any(flags: &[bool]) -> bool
+pub(crate) fn any(flags: &[bool]) -> bool
     ensures { result ≡ list_any (λ flag. flag) flags.now }
 {
     flags.iter().any(|flag| *flag)

@@ -1,6 +1,6 @@
 //! Bytes of RAM or of the console, in place.
 
-ghost use Rattle.std.specs.Prelude.{◌≡◌, ◌<◌, ◌≤◌, ◌↔◌, length, nat_eq, IfSome, IsNone};
+ghost use Rattle.std.specs.Prelude.{◌≡◌, [], ◌<◌, ◌≤◌, ◌↔◌, length, nat_eq, IfSome, IsNone};
 ghost use Rattle.std.specs.Cmp.{partial_equiv_from_equiv};
 ghost use Rattle.std.specs.Cmp.Lexicographic.{nat_list_eq_equiv, pointwise};
 
@@ -34,6 +34,15 @@ impl View {
             return None;
         };
         Some(View { bytes })
+    }
+
+    /// No bytes.
+    pub fn empty() -> View
+        ensures { result ≡ [] }
+    {
+        View {
+            bytes: ArrayVec::new(),
+        }
     }
 
     /// These bytes, which are at most 256.

@@ -11,6 +11,7 @@ use Rattle.rvm_debug.specs.declared.event.BoardEvent.TheVariants as asked
 use Rattle.rvm_message.specs.declared.event.Command.TheVariants as command
 use Rattle.rvm_message.specs.declared.event.HostEvent.TheVariants as event
 use Rattle.rvm_message.specs.declared.reply.HostReply.{HostReply}
+use Rattle.rvm_message.specs.Exchanges.{dry_exchange}
 use Rattle.rvm_worker.specs.declared.end.WorkEnd.{WorkEnd}
 use Rattle.rvm_worker.specs.declared.end.WorkEnd.TheVariants.{LinkFault}
 use Rattle.rvm_worker.specs.declared.steps.SliceSteps.{SliceSteps}
@@ -149,6 +150,25 @@ made_drain_at_b a old new n reply same c = record {
     dry = ap (λ e. found_nothing e c.receipt.reply) c.of_event.event_is ∙ ap (λ r. is_nothing (told_by r)) c.answered ∙ is;
   };
 }
+
+-- a drain that found nothing, if it was made
+pub made_dry_at_a : (old new b : PlainCaller) (made : Bool) → new.start ≡ old.start
+    → (made ≡ true → IsCall old.seat (dry_exchange 256).event old.receipts new.seat new.receipts (dry_exchange 256).reply)
+    → made ≡ true → Made (old, b) (new, b) [] [] true
+made_dry_at_a old new b made same call is = made_drain_at_a old new b 255 (dry_exchange 256).reply same (call is)
+
+pub made_dry_at_b : (a old new : PlainCaller) (made : Bool) → new.start ≡ old.start
+    → (made ≡ true → IsCall old.seat (dry_exchange 256).event old.receipts new.seat new.receipts (dry_exchange 256).reply)
+    → made ≡ true → Made (a, old) (a, new) [] [] true
+made_dry_at_b a old new made same call is = made_drain_at_b a old new 255 (dry_exchange 256).reply same (call is)
+
+pub made_none_at_a : (old new b : PlainCaller) (made : Bool) → (made ≡ false → new ≡ old) → made ≡ false
+    → Made (old, b) (new, b) [] [] false
+made_none_at_a old new b made same is = subst (λ x. Made (old, b) (x, b) [] [] false) (sym (same is)) (made_none (old, b))
+
+pub made_none_at_b : (a old new : PlainCaller) (made : Bool) → (made ≡ false → new ≡ old) → made ≡ false
+    → Made (a, old) (a, new) [] [] false
+made_none_at_b a old new made same is = subst (λ x. Made (a, old) (a, x) [] [] false) (sym (same is)) (made_none (a, old))
 
 -- calls at one host
 a_in_a : (rs : List PlainReceipt) → flat_map in_a (map AtA rs) ≡ rs

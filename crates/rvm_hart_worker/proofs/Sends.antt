@@ -6,7 +6,7 @@ use Rattle.std.specs.declared.sync.ledger.Ledger as Ledger
 use Rattle.rvm_cell.specs.declared.seat.Seating as Seating
 use Rattle.rvm_cell.specs.contracts.seat.Seat as Seat
 use Rattle.rvm_cell.proofs.Sends.{seat_send}
-use Rattle.rvm_worker.proofs.Sends.{receipt_send}
+use Rattle.rvm_worker.proofs.Sends.{item_send}
 use Rattle.rvm_hart_worker.specs.contracts.harts.HartsWorked as HartsWorked
 
 pub harts_worked_send : (A B : RattleType) (a : Seating.Ghosts A.Denot) (k : Ledger.Ghosts A.Denot)
@@ -14,4 +14,4 @@ pub harts_worked_send : (A B : RattleType) (a : Seating.Ghosts A.Denot) (k : Led
 harts_worked_send A B a k b l =
     let at_a : IsSend (Seat.the_row A a k) = seat_send A a k in
     let at_b : IsSend (Seat.the_row B b l) = seat_send B b l in
-    search (receipt_send, sendable, crosses) depth 40 fits 10000
+    search (item_send, sendable, crosses) depth 40 fits 10000

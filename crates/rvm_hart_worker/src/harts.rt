@@ -2,12 +2,13 @@
 
 ghost use Rattle.std.specs.Prelude.{◌≡◌, ◌≢◌, true, false, [], OnOk, IfOk, IfErr, Ok, Err, ⊤};
 ghost use Rattle.std.specs.Io.KnownBytes.{Appends};
+ghost use Rattle.rvm_cell.specs.Runs.{all_of};
 ghost use Rattle.rvm_worker.specs.Work.{IsWork};
 ghost use Rattle.rvm_hart_worker.specs.Calls.{HasRun, IsRun, Written};
 
 use crate::pair::{Hosts, Pair};
 use crate::slices::{Then, until_drain};
-use rvm_cell::{Receipt, Seat, Seating};
+use rvm_cell::{ReceiptItem, Seat, Seating};
 use rvm_debug::DRAIN_EVERY;
 use rvm_mem::PagedMemory;
 use rvm_worker::{Caller, Gate, Watch, WorkEnd, Worker};
@@ -30,7 +31,7 @@ pub enum TurnsEnd {
 #[derive(Drop)]
 pub struct HartsWorked<A: Seating, B: Seating> {
     pub seats: (Seat<A>, Seat<B>),
-    pub receipts: (Vec<Receipt>, Vec<Receipt>),
+    pub receipts: (Vec<ReceiptItem>, Vec<ReceiptItem>),
     pub end: Result<TurnsEnd, WorkEnd>,
 }
 
@@ -58,9 +59,9 @@ pub fn hart_worker<
     harts: u32,
     steps: u32,
 ) -> HartsWorked<A, B>
-    ensures at_a { IsWork seats.0 result.seats.0 result.receipts.0.items }
-    ensures at_b { IsWork seats.1 result.seats.1 result.receipts.1.items }
-    ensures run { IsRun result.receipts.0.items result.receipts.1.items (W.contents writer.old)
+    ensures at_a { IsWork seats.0 result.seats.0 (all_of result.receipts.0.items) }
+    ensures at_b { IsWork seats.1 result.seats.1 (all_of result.receipts.1.items) }
+    ensures run { IsRun (all_of result.receipts.0.items) (all_of result.receipts.1.items) (W.contents writer.old)
         (W.contents writer.new) (result.end ≢ Err WorkEnd.LinkFault) harts steps result.end }
 {
     let (a, b) = seats;
@@ -81,9 +82,10 @@ fn give_back<A: Seating, B: Seating>(
     pair: Pair<A, B>,
     end: Result<TurnsEnd, WorkEnd>,
 ) -> HartsWorked<A, B>
-    ensures at_a { IsWork pair.at_a.start result.seats.0 result.receipts.0.items }
-    ensures at_b { IsWork pair.at_b.start result.seats.1 result.receipts.1.items }
-    ensures receipts { (result.receipts.0.items ≡ pair.at_a.receipts) × (result.receipts.1.items ≡ pair.at_b.receipts) }
+    ensures at_a { IsWork pair.at_a.start result.seats.0 (all_of result.receipts.0.items) }
+    ensures at_b { IsWork pair.at_b.start result.seats.1 (all_of result.receipts.1.items) }
+    ensures receipts { (all_of result.receipts.0.items ≡ pair.at_a.receipts)
+        × (all_of result.receipts.1.items ≡ pair.at_b.receipts) }
     ensures end { result.end ≡ end }
 {
     let Pair {

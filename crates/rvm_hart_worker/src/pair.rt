@@ -1,6 +1,6 @@
 //! The guest's host, of two.
 
-ghost use Rattle.std.specs.Prelude.{◌≡◌, ◌≢◌, ◌≤◌, false, [], IfOk, OnErr};
+ghost use Rattle.std.specs.Prelude.{◌≡◌, ◌≢◌, ◌≤◌, true, false, [], IfOk, OnErr};
 ghost use Rattle.rvm_hart_worker.specs.Calls.{Made, bytes_of, given, has_none};
 ghost use Rattle.rvm_hart_worker.specs.declared.slices.Then.TheVariants.{Elsewhere};
 ghost use Rattle.rvm_hart_worker.specs.Drains.{is_nothing, told_by};
@@ -176,9 +176,26 @@ impl<A: Seating, B: Seating> Pair<A, B> {
         Err(WorkEnd::GuestStopped)
     }
 
-    /// Drains where the guest was met last.
+    /// Drains where the guest was met last, where the drain finds nothing, and says whether it did.
+    #[tactic(auto, using(crate::proofs::Calls::made_dry_at_a, crate::proofs::Calls::made_dry_at_b, crate::proofs::Calls::made_none_at_a, crate::proofs::Calls::made_none_at_b))]
+    fn finds_nothing<M: PagedMemory + Drop, R: Wait>(
+        &mut self,
+        rt: &R,
+        hosts: &Hosts<'_, A, B, M>,
+    ) -> bool
+        ensures dry { result ≡ true → Made (self.old.at_a, self.old.at_b) (self.new.at_a, self.new.at_b) [] [] true }
+        ensures none { result ≡ false → Made (self.old.at_a, self.old.at_b) (self.new.at_a, self.new.at_b) [] [] false }
+    {
+        if self.is_at_a {
+            self.at_a.dry(rt, hosts.a, DRAIN_SIZE)
+        } else {
+            self.at_b.dry(rt, hosts.b, DRAIN_SIZE)
+        }
+    }
+
+    /// Drains where the guest was met last, whatever the drain finds.
     #[tactic(auto, using(crate::proofs::Calls::made_drain_at_a, crate::proofs::Calls::made_drain_at_b, crate::proofs::Calls::made_none))]
-    fn drain<M: PagedMemory + Drop, R: Wait>(
+    fn drain_any<M: PagedMemory + Drop, R: Wait>(
         &mut self,
         rt: &R,
         alloc: Global,
@@ -195,6 +212,24 @@ impl<A: Seating, B: Seating> Pair<A, B> {
             self.at_b.call(rt, alloc, hosts.b, event)?
         };
         Ok(told_by(reply))
+    }
+
+    /// Drains where the guest was met last.
+    #[tactic(auto, using(crate::proofs::Calls::made_behind, crate::proofs::Calls::made_behind_err))]
+    fn drain<M: PagedMemory + Drop, R: Wait>(
+        &mut self,
+        rt: &R,
+        alloc: Global,
+        hosts: &Hosts<'_, A, B, M>,
+    ) -> Result<Drained, WorkEnd>
+        ensures made { IfOk result (λ d. Made (self.old.at_a, self.old.at_b)
+            (self.new.at_a, self.new.at_b) (bytes_of d) [] (is_nothing d)) }
+        ensures err { OnErr result (Made (self.old.at_a, self.old.at_b) (self.new.at_a, self.new.at_b) [] [] false) }
+    {
+        if self.finds_nothing(rt, hosts) {
+            return Ok(Drained::Nothing);
+        }
+        self.drain_any(rt, alloc, hosts)
     }
 
     /// Drains at the gate. Where the guest is elsewhere, the other host is asked next.

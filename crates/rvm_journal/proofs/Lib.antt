@@ -1,4 +1,7 @@
+pub mod Items
+pub mod Spans
 pub mod Replays
+pub mod Retired
 pub mod Slices
 pub mod Sends
 pub mod Kept

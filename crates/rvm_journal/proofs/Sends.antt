@@ -84,7 +84,7 @@ pair_send : IsSend (Struct (struct.shape Pair.the_type))
 pair_send = search (event_send, reply_send, sendable, crosses) depth 40 fits 10000
 
 kept_send : IsSend (Enum (shape Kept.the_type))
-kept_send = search (step_reply_send, pair_send, sendable, crosses) depth 40 fits 10000
+kept_send = search (step_reply_send, pair_send, sendable, crosses) depth 60 fits 20000
 
 exchange_send : IsSend Exchange.the_row
 exchange_send = search (kept_send, sendable, crosses) depth 40 fits 10000

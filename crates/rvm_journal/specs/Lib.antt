@@ -1,4 +1,6 @@
 pub mod Entries
+pub mod Items
+pub mod Told
 pub mod Replay
 pub mod History
 pub mod Keeping

@@ -2,7 +2,7 @@
 
 ghost use Rattle.std.specs.Prelude.{◌≡◌, None};
 ghost use Rattle.rvm_journal.specs.Entries.{exchange_of, silent};
-ghost use Rattle.rvm_message.specs.Exchanges.{step_of_hart};
+ghost use Rattle.rvm_message.specs.Exchanges.{dry_exchange, step_of_hart};
 ghost use Rattle.rvm_message.specs.Steps.{reply_to_step};
 
 use crate::frame_bytes::FrameBytes;
@@ -31,6 +31,16 @@ impl Entry {
     {
         Entry {
             exchange: Exchange::of_step(hart, reply),
+            frame: None,
+        }
+    }
+
+    /// A drain of at most so many bytes that found none. Takes no memory.
+    pub(crate) fn of_dry(count: u32) -> Entry
+        ensures { result ≡ silent (dry_exchange count).event (dry_exchange count).reply }
+    {
+        Entry {
+            exchange: Exchange::dry(count),
             frame: None,
         }
     }

@@ -1,9 +1,10 @@
 //! A journal.
 
 ghost use Rattle.std.specs.Prelude.{◌≡◌, ◌+◌, ◌<◌, ◌≤◌, ◌^◌, [], length, IsOk, OnOk, vec_capacity, vec_len};
+ghost use Rattle.rvm_journal.specs.Items.{all_of};
 ghost use Rattle.rvm_journal.specs.Replay.{IsReplay};
 
-use crate::entry::Entry;
+use crate::item::Item;
 use rvm_core::Host;
 use rvm_mem::PagedMemory;
 use rvm_message::ExchangeRoom;
@@ -18,7 +19,9 @@ pub struct Journal<M: PagedMemory + Drop> {
     pub(crate) opening: Snapshot<Host<M>>,
     /// The version of the host's streams.
     pub(crate) version: u32,
-    pub(crate) entries: Vec<Entry>,
+    pub(crate) items: Vec<Item>,
+    /// How many entries they are.
+    pub(crate) count: u32,
     /// For so many more entries room was made.
     pub(crate) reserved: u32,
     /// Room for the exchanges of as many entries, and more.
@@ -26,16 +29,18 @@ pub struct Journal<M: PagedMemory + Drop> {
 }
 
 impl<M: PagedMemory + Drop> Model for Journal<M> {
-    ghost use Rattle.std.specs.Prelude.{◌≡◌, ◌+◌, ◌≤◌, vec_len, vec_capacity};
+    ghost use Rattle.std.specs.Prelude.{◌≡◌, ◌+◌, ◌≤◌, length, vec_len, vec_capacity};
     ghost use Rattle.rvm_journal.specs.History.{History};
+    ghost use Rattle.rvm_journal.specs.Items.{all_of};
     ghost use Rattle.rvm_journal.specs.Replay.{IsReplay};
 
     ghost Value = { History };
 
-    ghost view = { λ j. record { opening = j.opening.value; entries = j.entries.items; reserved = j.reserved } };
+    ghost view = { λ j. record { opening = j.opening.value; entries = all_of j.items.items; reserved = j.reserved } };
 
-    ghost invariant = { λ j. IsReplay j.opening.value j.entries.items × (j.version ≡ j.opening.value.version)
-        × (vec_len j.entries + j.reserved ≤ vec_capacity j.entries) × (j.reserved ≤ vec_len j.rooms) };
+    ghost invariant = { λ j. IsReplay j.opening.value (all_of j.items.items) × (j.version ≡ j.opening.value.version)
+        × (vec_len j.items + j.reserved ≤ vec_capacity j.items) × (j.reserved ≤ vec_len j.rooms)
+        × (j.count ≡ length (all_of j.items.items)) };
 }
 
 impl<M: PagedMemory + Drop> Journal<M> {
@@ -46,7 +51,8 @@ impl<M: PagedMemory + Drop> Journal<M> {
         Journal {
             opening: Snapshot::of(host),
             version: host.version(),
-            entries: Vec::new(alloc),
+            items: Vec::new(alloc),
+            count: 0,
             reserved: 0,
             rooms: Vec::new(alloc),
         }
@@ -59,31 +65,38 @@ impl<M: PagedMemory + Drop> Journal<M> {
         self.version
     }
 
-    /// The entries, oldest first. Each reply and frame is the law's at its place.
-    pub fn entries(&self) -> &[Entry]
-        ensures entries { result.now ≡ self.now.entries }
+    /// The entries, oldest first, in items. Each reply and frame is the law's at its place.
+    pub fn items(&self) -> &[Item]
+        ensures items { all_of result.now ≡ self.now.entries }
         ensures replay { IsReplay self.now.opening self.now.entries }
         ensures count { length result.now < 2 ^ 63 }
     {
-        self.entries.as_slice()
+        self.items.as_slice()
+    }
+
+    /// How many entries there are.
+    pub fn count(&self) -> u32
+        ensures { result ≡ length self.now.entries }
+    {
+        self.count
     }
 }
 
-/// Makes room for so many more entries and their exchanges. After a refused growth there may be room for
+/// Makes room for so many more items and their exchanges. After a refused growth there may be room for
 /// some of them.
 pub(crate) fn make_room(
     alloc: Global,
-    entries: &mut Vec<Entry>,
+    items: &mut Vec<Item>,
     rooms: &mut Vec<ExchangeRoom>,
     n: usize,
 ) -> Result<(), AllocError>
-    ensures same { entries.new.items ≡ entries.old.items }
-    ensures capacity { vec_capacity entries.old ≤ vec_capacity entries.new }
+    ensures same { items.new.items ≡ items.old.items }
+    ensures capacity { vec_capacity items.old ≤ vec_capacity items.new }
     ensures more { vec_len rooms.old ≤ vec_len rooms.new }
-    ensures room { OnOk result ((vec_len entries.new + n ≤ vec_capacity entries.new) × (n ≤ vec_len rooms.new)) }
-    ensures ready { vec_len entries.old + n ≤ vec_capacity entries.old → n ≤ vec_len rooms.old → IsOk result }
+    ensures room { OnOk result ((vec_len items.new + n ≤ vec_capacity items.new) × (n ≤ vec_len rooms.new)) }
+    ensures ready { vec_len items.old + n ≤ vec_capacity items.old → n ≤ vec_len rooms.old → IsOk result }
 {
-    entries.reserve(n)?;
+    items.reserve(n)?;
     for _room in rooms.len()..n {
         rooms.push(ExchangeRoom::new(alloc)?)?;
     }

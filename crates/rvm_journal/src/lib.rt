@@ -3,19 +3,27 @@
 //!
 //! Stands on `rvm_core`, and knows nothing of threads, locks or links.
 //!
-//! To be read in this order: `frame_bytes`, `entry`, `journal`, `error`, `recorded`, `slice`.
+//! To be read in this order: `frame_bytes`, `entry`, `steps`, `item`, `left`, `run`, `journal`, `error`, `recorded`, `slice`.
 #![tactic(auto)]
 
 mod entry;
 mod error;
 mod frame_bytes;
+mod item;
 mod journal;
+mod left;
 mod recorded;
+mod run;
 mod slice;
+mod steps;
 
 pub use entry::Entry;
 pub use error::{RecordError, SliceError};
 pub use frame_bytes::FrameBytes;
+pub use item::{Item, ItemRef};
 pub use journal::Journal;
+pub use left::{Left, Told, hart_behind};
 pub use recorded::{MAX_CAPACITY, Recorded};
+pub use run::StepRun;
 pub use slice::{MAX_SLICE, hart_of_turn, is_slice_in_range};
+pub use steps::Steps;

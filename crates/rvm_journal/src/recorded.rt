@@ -1,17 +1,21 @@
 //! A host with its journal.
 
-ghost use Rattle.std.specs.Prelude.{◌≡◌, ◌⊎◌, ◌↔◌, ◌+◌, ◌-◌, ◌∷◌, ◌<◌, ◌≤◌, [], true, IfOk, IfErr, IsErr, IsOk, OnErr, OnOk, Some, vec_capacity, vec_len};
+ghost use Rattle.std.specs.Prelude.{◌≡◌, ◌⊎◌, ◌↔◌, ◌+◌, ◌-◌, ◌%◌, ◌∷◌, ◌++◌, ◌<◌, ◌≤◌, [], true, IfOk, IfErr, IfNone, IfSome, IsErr, IsOk, None, OnErr, OnOk, Some, vec_capacity, vec_len};
 ghost use Rattle.rvm_journal.specs.Entries.{silent};
 ghost use Rattle.rvm_journal.specs.Errors.{IsRecordError, IsReserveError};
 ghost use Rattle.rvm_journal.specs.History.{IsRecorded, bytes_of, count_of, is_board, with_entries, with_room};
+ghost use Rattle.rvm_journal.specs.Items.{all_of, entries_in, last_of, one_if, steps_in_turn, steps_of};
 ghost use Rattle.rvm_journal.specs.Keeping.{CanBeKept};
-ghost use Rattle.rvm_message.specs.Exchanges.{exchange, step_of_hart};
+ghost use Rattle.rvm_message.specs.Exchanges.{dry_exchange, exchange, step_of_hart};
 ghost use Rattle.rvm_message.specs.Steps.{reply_to_step};
 
 use crate::entry::Entry;
 use crate::error::RecordError;
 use crate::frame_bytes::FrameBytes;
+use crate::item::{Item, push_steps};
 use crate::journal::{Journal, make_room};
+use crate::run::StepRun;
+use crate::steps::Steps;
 use rvm_core::{BadSize, Host};
 use rvm_frame::Addressed;
 use rvm_mem::PagedMemory;
@@ -79,7 +83,7 @@ impl<M: PagedMemory + Drop> Recorded<M> {
         ensures bound { result ≤ self.now.capacity }
     {
         let _capacity = self.capacity;
-        self.journal.entries.len() as u32
+        self.journal.count()
     }
 
     /// How many entries its journal takes.
@@ -109,12 +113,12 @@ impl<M: PagedMemory + Drop> Recorded<M> {
             journal,
             capacity,
         } = self;
-        let place = journal.entries.len();
+        let place = journal.count;
         let left = journal.reserved.saturating_sub(1);
-        if place >= *capacity as usize {
+        if place >= *capacity {
             return Err((RecordError::RecorderFull(*capacity), event));
         }
-        if make_room(alloc, &mut journal.entries, &mut journal.rooms, 1).is_err() {
+        if make_room(alloc, &mut journal.items, &mut journal.rooms, 1).is_err() {
             return Err((RecordError::OutOfMemory, event));
         }
         let Ok(room) = FrameBytes::room(alloc, host.frame_bound(&event)) else {
@@ -131,9 +135,10 @@ impl<M: PagedMemory + Drop> Recorded<M> {
             &frame,
             room,
         );
-        journal.entries.push_reserved(entry);
+        journal.items.push_reserved(Item::of_entry(entry));
+        journal.count += 1;
         journal.reserved = left;
-        Ok((place as u32, reply, frame))
+        Ok((place, reply, frame))
     }
 
     /// Makes a step of a hart and records it, where there is room for it: the reply. Takes no memory.
@@ -148,9 +153,66 @@ impl<M: PagedMemory + Drop> Recorded<M> {
             capacity: _,
         } = self;
         let reply = host.step(hart);
-        journal.entries.push_reserved(Entry::of_step(hart, reply));
+        journal
+            .items
+            .push_reserved(Item::of_entry(Entry::of_step(hart, reply)));
+        journal.count += 1;
         journal.reserved -= 1;
         reply
+    }
+
+    /// Records a drain of at most so many bytes where it finds none at a guest that runs here: its place in
+    /// the journal. Where the journal is full or memory lacks, too, nothing is recorded.
+    pub fn record_dry(&mut self, count: u32) -> Option<u32>
+        ensures recorded { IfSome result (λ place. IsRecorded self.old (dry_exchange count).event
+            (place, (dry_exchange count).reply, None) self.new) }
+        ensures none { IfNone result (self.new ≡ self.old) }
+    {
+        let Recorded {
+            host,
+            journal,
+            capacity,
+        } = self;
+        let place = journal.count;
+        let left = journal.reserved.saturating_sub(1);
+        if place >= *capacity || !host.finds_nothing(count) {
+            return None;
+        }
+        if journal.items.reserve(1).is_err() {
+            return None;
+        }
+        journal
+            .items
+            .push_reserved(Item::of_entry(Entry::of_dry(count)));
+        journal.count += 1;
+        journal.reserved = left;
+        Some(place)
+    }
+
+    /// Makes steps of harts in turn and records them, where there is room for them, as long as each retires
+    /// an instruction; the first that does not is the last. It may make none. Takes no memory.
+    pub(crate) fn retire(&mut self, turn: u64, harts: u32, most: u32) -> StepRun
+        requires harts { 1 ≤ harts }
+        requires room { most ≤ self.old.journal.reserved }
+        ensures recorded { self.new ≡ with_entries self.old (entries_in turn harts result)
+            (self.old.journal.reserved - steps_of result) }
+        ensures few { steps_of result ≤ most }
+    {
+        let Recorded {
+            host,
+            journal,
+            capacity: _,
+        } = self;
+        let made = StepRun::of(host.retire(turn, harts, most));
+        let steps = Steps {
+            turn,
+            harts,
+            count: made.retired,
+        };
+        push_run(&mut journal.items, steps, made.last);
+        journal.count += made.count();
+        journal.reserved -= made.count();
+        made
     }
 
     /// Makes room for n more entries, so that as many events of the guest take no memory. Where fewer
@@ -166,16 +228,43 @@ impl<M: PagedMemory + Drop> Recorded<M> {
             journal,
             capacity,
         } = self;
-        let place = journal.entries.len();
-        if (*capacity as usize) - place < n as usize {
+        let place = journal.count;
+        if *capacity - place < n {
             return Err(RecordError::RecorderFull(*capacity));
         }
-        if make_room(alloc, &mut journal.entries, &mut journal.rooms, n as usize).is_err() {
+        if make_room(alloc, &mut journal.items, &mut journal.rooms, n as usize).is_err() {
             return Err(RecordError::OutOfMemory);
         }
         journal.reserved = journal.reserved.max(n);
         Ok(())
     }
+}
+
+/// Puts steps behind items, and one more with another reply, in room that is there.
+fn push_run(items: &mut Vec<Item>, steps: Steps, last: Option<StepReply>)
+    requires harts { 1 ≤ steps.harts }
+    requires room { vec_len items.old + (steps.count + one_if last) ≤ vec_capacity items.old }
+    ensures items { all_of items.new.items ≡ all_of items.old.items
+        ++ (steps_in_turn steps.turn steps.harts steps.count ++ last_of (steps.turn + steps.count) steps.harts last) }
+    ensures few { vec_len items.new ≤ vec_len items.old + (steps.count + one_if last) }
+    ensures capacity { vec_capacity items.old ≤ vec_capacity items.new }
+{
+    if steps.count > 0 {
+        push_steps(items, steps);
+    }
+    if let Some(reply) = last {
+        let hart = hart_behind(steps);
+        items.push_reserved(Item::of_entry(Entry::of_step(hart, reply)));
+    }
+}
+
+/// The hart whose turn it is behind steps.
+fn hart_behind(steps: Steps) -> u32
+    requires { 1 ≤ steps.harts }
+    ensures { result ≡ (steps.turn + steps.count) % steps.harts }
+{
+    let harts = u64::from(steps.harts);
+    ((steps.turn % harts + u64::from(steps.count)) % harts) as u32
 }
 
 /// The entry of an event, with the bytes of its frame in room that is there. At most one of the rooms is
@@ -199,24 +288,24 @@ fn keep(
     ensures rooms { vec_len rooms.old ≤ vec_len rooms.new + 1 }
 {
     Entry {
-        exchange: keep_exchange(rooms, event, reply.copy()),
+        exchange: keep_exchange(rooms, event, reply),
         frame: spell(version, frame, room),
     }
 }
 
 /// An event and the reply to it. Where they do not fit in a few bytes, one of the rooms is taken.
-fn keep_exchange(rooms: &mut Vec<ExchangeRoom>, event: HostEvent, reply: HostReply) -> Exchange
+fn keep_exchange(rooms: &mut Vec<ExchangeRoom>, event: HostEvent, reply: &HostReply) -> Exchange
     requires room { 0 < vec_len rooms.old }
-    ensures exchange { result ≡ exchange event reply }
+    ensures exchange { result ≡ exchange event reply.now }
     ensures rooms { vec_len rooms.old ≤ vec_len rooms.new + 1 }
 {
-    if Exchange::is_small(&event, &reply) {
+    if Exchange::is_small(&event, reply) {
         return Exchange::small(event, reply);
     }
     let Some(room) = rooms.pop() else {
         unreachable!();
     };
-    Exchange::new(room, event, reply)
+    Exchange::new(room, event, reply.copy())
 }
 
 /// The bytes of a frame, if one was made, in room that is there.

@@ -1,16 +1,17 @@
 //! Slices of steps.
 
-ghost use Rattle.std.specs.Prelude.{◌≡◌, ◌↔◌, ◌+◌, ◌%◌, ◌<◌, ◌≤◌, ◌^◌, [], length, IfOk, IfErr, IsTrue, OnErr, OnOk, vec_capacity};
+ghost use Rattle.std.specs.Prelude.{◌≡◌, ◌↔◌, ◌+◌, ◌-◌, ◌%◌, ◌<◌, ◌≤◌, ◌^◌, [], length, IfOk, IfErr, IsTrue, None, OnErr, OnOk, vec_capacity};
 ghost use Rattle.rvm_journal.specs.declared.error.SliceError.TheVariants.{OutOfMemory};
 ghost use Rattle.rvm_journal.specs.Errors.{IsSized, IsSliceError};
-ghost use Rattle.rvm_journal.specs.History.{count_of, with_room};
+ghost use Rattle.rvm_journal.specs.History.{count_of, with_entries, with_room};
+ghost use Rattle.rvm_journal.specs.Items.{entries_in, replies_of_all, steps_of};
 ghost use Rattle.rvm_journal.specs.Slices.{IsSliceRecorded, IsSteps, replies_to};
 
 use crate::error::SliceError;
 use crate::recorded::Recorded;
+use crate::run::StepRun;
 use rvm_board::MAX_HARTS;
 use rvm_mem::PagedMemory;
-use rvm_message::StepReply;
 use std::alloc::Global;
 
 /// The most steps of a slice.
@@ -28,13 +29,14 @@ impl<M: PagedMemory + Drop> Recorded<M> {
         turn: u32,
         harts: u32,
         n: u32,
-    ) -> Result<(u32, Vec<StepReply>), SliceError>
-        ensures slice { IfOk result (λ r. IsSliceRecorded self.old turn harts n (r.0, replies_to r.1.items) self.new) }
+    ) -> Result<(u32, Vec<StepRun>), SliceError>
+        ensures slice { IfOk result (λ r. IsSliceRecorded self.old turn harts n
+            (r.0, replies_to (replies_of_all r.1.items)) self.new) }
         ensures err { OnErr result (self.new ≡ self.old) }
         ensures fault { IfErr result (λ e. IsSliceError e harts n (count_of self.old) self.old.capacity) }
         ensures sized { OnOk result (IsSized harts n) }
-        ensures few { IfOk result (λ r. length r.1.items ≤ 64) }
-        ensures places { IfOk result (λ r. r.0 + length r.1.items < 2 ^ 32) }
+        ensures few { IfOk result (λ r. length (replies_of_all r.1.items) ≤ 64) }
+        ensures places { IfOk result (λ r. r.0 + length (replies_of_all r.1.items) < 2 ^ 32) }
     {
         if !is_slice_in_range(harts, n) {
             return Err(SliceError::OutOfRange);
@@ -52,7 +54,7 @@ impl<M: PagedMemory + Drop> Recorded<M> {
 
     /// Makes room for so many steps: the vector that takes their replies. Where a growth is refused
     /// nothing has changed.
-    fn room_for_steps(&mut self, alloc: Global, most: u32) -> Result<Vec<StepReply>, SliceError>
+    fn room_for_steps(&mut self, alloc: Global, most: u32) -> Result<Vec<StepRun>, SliceError>
         requires free { count_of self.old + most ≤ self.old.capacity }
         ensures room { OnOk result (self.new ≡ with_room self.old most) }
         ensures replies { IfOk result (λ r. (r.items ≡ []) × (most ≤ vec_capacity r)) }
@@ -74,23 +76,49 @@ impl<M: PagedMemory + Drop> Recorded<M> {
         turn: u32,
         harts: u32,
         most: u32,
-        replies: Vec<StepReply>,
-    ) -> Vec<StepReply>
+        replies: Vec<StepRun>,
+    ) -> Vec<StepRun>
         requires harts { 1 ≤ harts }
         requires some { 1 ≤ most }
         requires room { most ≤ self.old.journal.reserved }
         requires replies { (replies.items ≡ []) × (most ≤ vec_capacity replies) }
-        ensures { IsSteps self.old turn harts most (replies_to result.items) self.new }
+        ensures { IsSteps self.old turn harts most (replies_to (replies_of_all result.items)) self.new }
     {
         let mut replies = replies;
-        for step in 0..most {
-            let reply = self.record_step(hart_of_turn(turn, step, harts));
-            replies.push_reserved(reply);
-            if reply.ends_steps() {
+        let mut made = 0;
+        while made < most {
+            let run = self.record_run(u64::from(turn) + u64::from(made), harts, most - made);
+            made += run.count();
+            replies.push_reserved(run);
+            if run.ends_steps() {
                 return replies;
             }
         }
         replies
+    }
+
+    /// Records steps of harts in turn, at most so many, up to the first that does not retire an instruction.
+    fn record_run(&mut self, turn: u64, harts: u32, most: u32) -> StepRun
+        requires harts { 1 ≤ harts }
+        requires some { 1 ≤ most }
+        requires turn { turn < 2 ^ 33 }
+        requires room { most ≤ self.old.journal.reserved }
+        ensures recorded { self.new ≡ with_entries self.old (entries_in turn harts result)
+            (self.old.journal.reserved - steps_of result) }
+        ensures some { 1 ≤ steps_of result }
+        ensures few { steps_of result ≤ most }
+        ensures all { result.last ≡ None → result.retired ≡ most }
+    {
+        let run = self.retire(turn, harts, most);
+        if run.last.is_some() || run.retired == most {
+            return run;
+        }
+        let behind = turn + u64::from(run.retired);
+        let reply = self.record_step((behind % u64::from(harts)) as u32);
+        StepRun {
+            retired: run.retired,
+            last: Some(reply),
+        }
     }
 }
 

@@ -3,7 +3,9 @@
 ghost use Rattle.std.specs.Prelude.{◌≡◌, []};
 
 use crate::asked::{board, recorded};
-use rvm_cell::{CloseError, CloseKind, Receipt, Seat, Seating, SharedHost, close, share};
+use rvm_cell::{
+    CloseError, CloseKind, Receipt, ReceiptItem, Seat, Seating, SharedHost, close, share,
+};
 use rvm_debug::{BoardEvent, BoardReply};
 use rvm_frame::Addressed;
 use rvm_journal::{RecordError, Recorded};
@@ -191,12 +193,12 @@ fn close_with<L: Seating, R: AllocGlobal + Print + Wait>(
 }
 
 /// Receipts, and one more.
-fn with_one_more(receipts: Vec<Receipt>, receipt: Receipt) -> Option<Vec<Receipt>> {
+fn with_one_more(receipts: Vec<ReceiptItem>, receipt: Receipt) -> Option<Vec<ReceiptItem>> {
     let mut receipts = receipts;
     if receipts.reserve(1).is_err() {
         receipts.reserve(1).ok()?;
     }
-    receipts.push_reserved(receipt);
+    receipts.push_reserved(ReceiptItem::One(receipt));
     Some(receipts)
 }
 
@@ -205,7 +207,7 @@ fn tell_closed<L: Seating, R: AllocGlobal + Print + Wait>(
     rt: &R,
     host: SharedHost<L, PagedRam>,
     seats: Vec<Seat<L>>,
-    receipts: Vec<Receipt>,
+    receipts: Vec<ReceiptItem>,
 ) -> Option<()>
     requires { L.seats ≡ L.parts }
 {
@@ -285,7 +287,7 @@ fn close_again<L: Seating, R: AllocGlobal + Wait>(
     rt: &R,
     host: SharedHost<L, PagedRam>,
     seats: Vec<Seat<L>>,
-    receipts: Vec<Receipt>,
+    receipts: Vec<ReceiptItem>,
 ) -> Result<Recorded<PagedRam>, CloseError<L, PagedRam>>
     requires { L.seats ≡ L.parts }
 {

@@ -5,7 +5,7 @@ ghost use Rattle.std.specs.Prelude.{◌≤◌};
 use crate::asked::{again, board, record, recorded};
 use rvm_debug::BoardEvent;
 use rvm_hart::Stepped;
-use rvm_journal::{RecordError, Recorded, SliceError};
+use rvm_journal::{RecordError, Recorded, SliceError, StepRun};
 use rvm_message::StepReply;
 use rvm_paged::PagedRam;
 use std::alloc::Global;
@@ -78,14 +78,40 @@ fn answered(
     turn: u32,
     harts: u32,
     wanted: StepReply,
-) -> Option<(u32, usize, bool)> {
-    let (place, replies) = again!(host.record_slice(alloc, turn, harts, 64));
-    Some((place, replies.len(), are_all(replies.as_slice(), wanted)))
+) -> Option<(u32, u64, bool)> {
+    let (place, runs) = again!(host.record_slice(alloc, turn, harts, 64));
+    Some((
+        place,
+        count_of(runs.as_slice()),
+        are_all(runs.as_slice(), wanted),
+    ))
+}
+
+/// How many replies there are.
+fn count_of(runs: &[StepRun]) -> u64 {
+    let mut count: u64 = 0;
+    for run in runs {
+        count = count.wrapping_add(u64::from(run.retired));
+        if run.last.is_some() {
+            count = count.wrapping_add(1);
+        }
+    }
+    count
 }
 
 /// Whether each reply is this one.
-fn are_all(replies: &[StepReply], wanted: StepReply) -> bool {
-    replies.iter().all(|reply| *reply == wanted)
+fn are_all(runs: &[StepRun], wanted: StepReply) -> bool {
+    runs.iter().all(|run| is_all(run, wanted))
+}
+
+/// Whether each reply of a run is this one.
+fn is_all(run: &StepRun, wanted: StepReply) -> bool {
+    let is_retired = run.retired == 0 || wanted == StepReply::Stepped(Stepped::Retired);
+    let is_last = match run.last {
+        None => true,
+        Some(reply) => reply == wanted,
+    };
+    is_retired && is_last
 }
 
 /// A slice ends behind a breakpoint.

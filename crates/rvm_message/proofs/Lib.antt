@@ -1,3 +1,4 @@
 pub mod Derived
 pub mod Logs
 pub mod Same
+pub mod Dry

@@ -1,6 +1,7 @@
 -- Exchanges: an event of a host and the reply to it.
-use Rattle.std.specs.Prelude.{ℕ, Bool, true, false}
+use Rattle.std.specs.Prelude.{ℕ, Bool, true, false, List, [], length, ◌==◌}
 use Rattle.rvm_debug.specs.declared.event.BoardEvent.TheVariants as board
+use Rattle.rvm_debug.specs.declared.event.BoardReply.TheVariants as answer
 use Rattle.rvm_frame.specs.declared.frame.Frame.{Frame}
 use Rattle.rvm_message.specs.declared.event.Command.TheVariants.{Board, Copy}
 use Rattle.rvm_message.specs.declared.event.HostEvent.{HostEvent}
@@ -11,7 +12,7 @@ use Rattle.rvm_message.specs.declared.exchange.Kept.{Kept}
 use Rattle.rvm_message.specs.declared.exchange.Kept.TheVariants as kept
 use Rattle.rvm_message.specs.declared.exchange.Pair.{Pair}
 use Rattle.rvm_message.specs.declared.reply.HostReply.{HostReply}
-use Rattle.rvm_message.specs.declared.reply.HostReply.TheVariants.{Copied, Stored}
+use Rattle.rvm_message.specs.declared.reply.HostReply.TheVariants.{Board as Answered, Copied, Stored}
 use Rattle.rvm_message.specs.declared.step.StepReply.{StepReply}
 use Rattle.rvm_message.specs.Steps.{reply_to_step}
 
@@ -40,9 +41,19 @@ copied_exchange p n = exchange (Do Copy) (Copied p n)
 abbrev pub stored_exchange : (from : ℕ) → Frame → (page copy_number : ℕ) → PlainExchange
 stored_exchange h f p n = exchange (Came h f) (Stored p n)
 
--- whether an event and the reply to it are one of these two
+-- of a drain of at most so many bytes that found none
+abbrev pub dry_exchange : (count : ℕ) → PlainExchange
+dry_exchange n = exchange (Do (Board (board.Drain n))) (Answered (answer.Bytes []))
+
+-- whether a reply has bytes, and none
+abbrev pub tells_nothing : HostReply → Bool
+tells_nothing (Answered (answer.Bytes bytes)) = length bytes == 0
+tells_nothing r = false
+
+-- whether an event and the reply to it are one of these three
 abbrev pub is_small : HostEvent → HostReply → Bool
 is_small (Do Copy) (Copied p n) = true
+is_small (Do (Board (board.Drain n))) r = tells_nothing r
 is_small (Came h f) (Stored p n) = true
 is_small e r = false
 
@@ -54,6 +65,7 @@ pair_exchange p = exchange p.event p.reply
 abbrev pub plain_of : Kept → PlainExchange
 plain_of (kept.Step h r) = step_exchange h r
 plain_of (kept.Copied p n) = copied_exchange p n
+plain_of (kept.Dry n) = dry_exchange n
 plain_of (kept.Stored h p n f) = stored_exchange h f p n
 plain_of (kept.Other p) = pair_exchange p.value
 
@@ -61,5 +73,6 @@ plain_of (kept.Other p) = pair_exchange p.value
 abbrev pub exchange_in : ExchangeRef → PlainExchange
 exchange_in (look.Step h r) = step_exchange h r
 exchange_in (look.Copied p n) = copied_exchange p n
+exchange_in (look.Dry n) = dry_exchange n
 exchange_in (look.Stored h f p n) = stored_exchange h f.now p n
 exchange_in (look.Other e r) = exchange e.now r.now

@@ -1,20 +1,21 @@
 //! An event of a host and the reply to it.
 
-ghost use Rattle.std.specs.Prelude.{◌≡◌, ◌↔◌, true};
+ghost use Rattle.std.specs.Prelude.{◌≡◌, ◌↔◌, [], true};
 ghost use Rattle.rvm_message.specs.declared.event.HostEvent.TheVariants.{Came, Do};
-ghost use Rattle.rvm_message.specs.Exchanges.{copied_exchange, exchange, exchange_in, is_small, pair_exchange, plain_of, step_exchange, stored_exchange};
+ghost use Rattle.rvm_message.specs.Exchanges.{copied_exchange, dry_exchange, exchange, exchange_in, is_small, pair_exchange, plain_of, step_exchange, stored_exchange, tells_nothing};
 
 use crate::event::{Command, HostEvent};
 use crate::reply::HostReply;
 use crate::shared::Shared;
 use crate::step::StepReply;
-use rvm_debug::BoardEvent;
+use rvm_debug::{BoardEvent, BoardReply, View};
 use rvm_frame::Frame;
 use std::alloc::{AllocError, Global};
 use std::marker::Model;
 
 /// An event of a host and the reply to it. What hosts are told most is kept in a few bytes: a step of a
-/// hart, a copy of a page, and a copy that came and was stored. Any other event is kept in a box.
+/// hart, a drain that found nothing, a copy of a page, and a copy that came and was stored. Any other event is
+/// kept in a box.
 #[derive(Drop)]
 pub struct Exchange {
     kept: Kept,
@@ -27,6 +28,8 @@ enum Kept {
         hart: u32,
         reply: StepReply,
     },
+    /// A drain of at most so many bytes, which found none.
+    Dry(u32),
     /// The reply to Copy.
     Copied {
         page: u16,
@@ -63,6 +66,8 @@ pub enum ExchangeRef<'a> {
         hart: u32,
         reply: StepReply,
     },
+    /// A drain of at most so many bytes found none.
+    Dry(u32),
     /// A page was copied.
     Copied {
         page: u16,
@@ -116,25 +121,33 @@ impl Exchange {
         }
     }
 
+    /// A drain of at most so many bytes that found none. Takes no memory.
+    pub fn dry(count: u32) -> Exchange
+        ensures { result ≡ dry_exchange count }
+    {
+        Exchange {
+            kept: Kept::Dry(count),
+        }
+    }
+
     /// Whether an event and the reply to it are kept in a few bytes, and need no room.
     pub fn is_small(event: &HostEvent, reply: &HostReply) -> bool
         ensures { result ≡ is_small event.now reply.now }
     {
-        match (event, reply) {
-            (HostEvent::Do(Command::Copy), HostReply::Copied { .. }) => true,
-            (HostEvent::Came(_, _), HostReply::Stored { .. }) => true,
-            _ => false,
+        match event {
+            HostEvent::Do(command) => is_small_command(command, reply),
+            HostEvent::Came(_, _) => matches!(reply, HostReply::Stored { .. }),
         }
     }
 
     /// An event and the reply to it, in a few bytes. Takes no memory.
-    pub fn small(event: HostEvent, reply: HostReply) -> Exchange
-        requires { is_small event reply ≡ true }
-        ensures { result ≡ exchange event reply }
+    pub fn small(event: HostEvent, reply: &HostReply) -> Exchange
+        requires { is_small event reply.now ≡ true }
+        ensures { result ≡ exchange event reply.now }
     {
         let kept = match event {
-            HostEvent::Do(_) => kept_copy(&reply),
-            HostEvent::Came(from, frame) => kept_store(from, frame, &reply),
+            HostEvent::Do(command) => kept_command(&command, reply),
+            HostEvent::Came(from, frame) => kept_store(from, frame, reply),
         };
         Exchange { kept }
     }
@@ -144,7 +157,7 @@ impl Exchange {
         ensures { result ≡ exchange event reply }
     {
         if Exchange::is_small(&event, &reply) {
-            return Exchange::small(event, reply);
+            return Exchange::small(event, &reply);
         }
         let mut place = room.place;
         *place = Pair { event, reply };
@@ -162,6 +175,7 @@ impl Exchange {
                 hart: *hart,
                 reply: *reply,
             },
+            Kept::Dry(count) => ExchangeRef::Dry(*count),
             Kept::Copied { page, copy_number } => ExchangeRef::Copied {
                 page: *page,
                 copy_number: *copy_number,
@@ -190,6 +204,7 @@ impl Exchange {
     {
         match &self.kept {
             Kept::Step { hart: _, reply } => reply.reply(),
+            Kept::Dry(_) => nothing_drained(),
             Kept::Copied { page, copy_number } => HostReply::Copied {
                 page: *page,
                 copy_number: *copy_number,
@@ -221,6 +236,7 @@ impl Exchange {
                     reply: other_reply,
                 },
             ) => *hart == *other_hart && *reply == *other_reply,
+            (Kept::Dry(count), Kept::Dry(other)) => *count == *other,
             (
                 Kept::Copied { page, copy_number },
                 Kept::Copied {
@@ -250,6 +266,82 @@ impl Exchange {
             _ => false,
         }
     }
+}
+
+/// The reply to a drain that found nothing.
+fn nothing_drained() -> HostReply
+    ensures { result ≡ HostReply.Board (BoardReply.Bytes []) }
+{
+    HostReply::Board(BoardReply::Bytes(View::empty()))
+}
+
+/// Whether a command and the reply to it are kept in a few bytes.
+fn is_small_command(command: &Command, reply: &HostReply) -> bool
+    ensures { result ≡ is_small (Do command.now) reply.now }
+{
+    match command {
+        Command::Copy => matches!(reply, HostReply::Copied { .. }),
+        Command::Board(event) => is_dry(event, reply),
+        _ => false,
+    }
+}
+
+/// Whether an event of the guest is a drain, and the reply says that it found nothing.
+fn is_dry(event: &BoardEvent, reply: &HostReply) -> bool
+    ensures { result ≡ is_small (Do (Command.Board event.now)) reply.now }
+{
+    match event {
+        BoardEvent::Drain(_) => tells_nothing(reply),
+        _ => false,
+    }
+}
+
+/// Whether a reply has bytes, and none.
+fn tells_nothing(reply: &HostReply) -> bool
+    ensures { result ≡ tells_nothing reply.now }
+{
+    match reply {
+        HostReply::Board(BoardReply::Bytes(bytes)) => bytes.as_slice().is_empty(),
+        _ => false,
+    }
+}
+
+/// What is kept of a command.
+fn kept_command(command: &Command, reply: &HostReply) -> Kept
+    requires { is_small (Do command.now) reply.now ≡ true }
+    ensures { plain_of result ≡ exchange (Do command.now) reply.now }
+{
+    match command {
+        Command::Copy => kept_copy(reply),
+        Command::Board(event) => kept_drain(event, reply),
+        _ => unreachable!(),
+    }
+}
+
+/// What is kept of a drain that found nothing.
+fn kept_drain(event: &BoardEvent, reply: &HostReply) -> Kept
+    requires { is_small (Do (Command.Board event.now)) reply.now ≡ true }
+    ensures { plain_of result ≡ exchange (Do (Command.Board event.now)) reply.now }
+{
+    let BoardEvent::Drain(count) = event else {
+        unreachable!();
+    };
+    know_nothing(reply);
+    Kept::Dry(*count)
+}
+
+/// A reply that tells of no bytes is that one.
+#[tactic(auto, using(crate::proofs::Dry::no_bytes))]
+fn know_nothing(reply: &HostReply)
+    requires { tells_nothing reply.now ≡ true }
+    ensures { reply.now ≡ HostReply.Board (BoardReply.Bytes []) }
+{
+    let HostReply::Board(answer) = reply else {
+        unreachable!();
+    };
+    let BoardReply::Bytes(_bytes) = answer else {
+        unreachable!();
+    };
 }
 
 /// What is kept of Copy, where a page was copied.
@@ -288,6 +380,7 @@ fn is_kept(kept: &Kept, pair: &Pair) -> bool
 {
     match kept {
         Kept::Step { hart, reply } => is_step(pair, *hart, *reply),
+        Kept::Dry(count) => is_dry_pair(pair, *count),
         Kept::Copied { page, copy_number } => is_copied(pair, *page, *copy_number),
         Kept::Stored {
             from,
@@ -305,6 +398,14 @@ fn is_step(pair: &Pair, hart: u32, reply: StepReply) -> bool
 {
     let event = HostEvent::Do(Command::Board(BoardEvent::Step(hart)));
     is_same(&event, &reply.reply(), &pair.event, &pair.reply)
+}
+
+/// Whether a pair is a drain of at most so many bytes that found none.
+fn is_dry_pair(pair: &Pair, count: u32) -> bool
+    ensures { (result ≡ true) ↔ (dry_exchange count ≡ pair_exchange pair.now) }
+{
+    let event = HostEvent::Do(Command::Board(BoardEvent::Drain(count)));
+    is_same(&event, &nothing_drained(), &pair.event, &pair.reply)
 }
 
 /// Whether a pair is a copy of this page.

@@ -1,9 +1,10 @@
 //! The two hosts of a move.
 
 ghost use Rattle.std.specs.Prelude.{◌≡◌, ◌≤◌, [], ◌++◌, true, None, vec_len, IfOk};
+ghost use Rattle.rvm_cell.specs.Runs.{all_of};
 ghost use Rattle.rvm_move.specs.Hosts.{AreAll};
 
-use rvm_cell::{CloseKind, Receipt, Seat, Seating, ShareError, SharedHost, close, share};
+use rvm_cell::{CloseKind, ReceiptItem, Seat, Seating, ShareError, SharedHost, close, share};
 use rvm_journal::Recorded;
 use rvm_link::{Link, Outgoing};
 use rvm_mem::PagedMemory;
@@ -63,14 +64,14 @@ pub(crate) fn open_host<L: Seating, M: PagedMemory + Drop, K: Link + Drop>(
 #[derive(Drop)]
 pub(crate) struct Returned<L: Seating> {
     pub(crate) seats: Vec<Seat<L>>,
-    pub(crate) receipts: Vec<Receipt>,
+    pub(crate) receipts: Vec<ReceiptItem>,
     pub(crate) is_whole: bool,
 }
 
 impl<L: Seating> Returned<L> {
     /// Nothing yet.
     pub(crate) fn new(alloc: Global) -> Returned<L>
-        ensures { result.receipts.items ≡ [] }
+        ensures { all_of result.receipts.items ≡ [] }
     {
         Returned {
             seats: Vec::new(alloc),
@@ -80,15 +81,22 @@ impl<L: Seating> Returned<L> {
     }
 
     /// A worker gave back its seat and its receipts.
-    pub(crate) fn add(&mut self, seat: Seat<L>, receipts: Vec<Receipt>)
+    pub(crate) fn add(&mut self, seat: Seat<L>, receipts: Vec<ReceiptItem>)
         ensures { self.new.is_whole ≡ true → (self.old.is_whole ≡ true)
-            × (self.new.receipts.items ≡ self.old.receipts.items ++ receipts.items) }
+            × (all_of self.new.receipts.items ≡ all_of self.old.receipts.items ++ all_of receipts.items) }
     {
-        let mut receipts = receipts;
         let is_seated = self.seats.push(seat).is_ok();
-        let is_told = self.receipts.append(&mut receipts).is_ok();
+        let is_told = append(&mut self.receipts, receipts);
         self.is_whole = self.is_whole && is_seated && is_told;
     }
+}
+
+/// Puts receipts behind others, unless a growth is refused.
+fn append(all: &mut Vec<ReceiptItem>, more: Vec<ReceiptItem>) -> bool
+    ensures { result ≡ true → all_of all.new.items ≡ all_of all.old.items ++ all_of more.items }
+{
+    let mut more = more;
+    all.append(&mut more).is_ok()
 }
 
 /// Closes a host whose workers have ended.
@@ -101,7 +109,7 @@ pub(crate) fn close_host<L: Seating, M: PagedMemory + Drop, K: Link + Drop, R: W
     requires { L.seats ≡ L.parts }
     ensures opening { result.recorded.journal.opening ≡ L.opening }
     ensures told { result.fault ≡ None → (returned.is_whole ≡ true)
-        × AreAll result.recorded.journal.entries returned.receipts.items }
+        × AreAll result.recorded.journal.entries (all_of returned.receipts.items) }
 {
     let OpenHost { host, outgoing: _ } = open;
     let Returned {

@@ -1,6 +1,7 @@
 //! A move from its beginning to its end.
 
 ghost use Rattle.std.specs.Prelude.{◌≡◌, ◌≢◌, ◌++◌, [], None, Err, vec_len, IfOk};
+ghost use Rattle.rvm_cell.specs.Runs.{all_of};
 ghost use Rattle.rvm_hart_worker.specs.Calls.{IsRun};
 ghost use Rattle.rvm_move.specs.Hosts.{AreAll, AreCarried, IsAskedOfSecond, IsEnd, IsFirstEnd};
 ghost use Rattle.rvm_move.specs.Runs.{AreOfOne, IsEndRun};
@@ -127,11 +128,11 @@ fn seat_and_work<
     writer: &mut W,
 ) -> (Carried<L, N>, HartsWorked<L, N>)
     requires { (vec_len seats_a ≡ 3) × (vec_len seats_b ≡ 2) }
-    ensures run { IsRun result.1.receipts.0.items result.1.receipts.1.items (W.contents writer.old)
+    ensures run { IsRun (all_of result.1.receipts.0.items) (all_of result.1.receipts.1.items) (W.contents writer.old)
         (W.contents writer.new) (result.1.end ≢ Err LinkFault) plan.now.harts plan.now.steps result.1.end }
-    ensures one { AreOfOne result.1.receipts.0.items × AreOfOne result.1.receipts.1.items }
-    ensures carried { AreCarried plan.now.policy result.0.copier.end result.0.copier.receipts.items
-        result.0.receiver_a.receipts.items result.0.receiver_b.receipts.items }
+    ensures one { AreOfOne (all_of result.1.receipts.0.items) × AreOfOne (all_of result.1.receipts.1.items) }
+    ensures carried { AreCarried plan.now.policy result.0.copier.end (all_of result.0.copier.receipts.items)
+        (all_of result.0.receiver_a.receipts.items) (all_of result.0.receiver_b.receipts.items) }
 {
     let (mut seats_a, mut seats_b) = (seats_a, seats_b);
     let (Some(receiver_a), Some(copier), Some(harts_a)) = (
@@ -186,9 +187,9 @@ fn close_both<L: Seating, N: Seating, M: PagedMemory + Drop, K: Link + Drop, R: 
     ensures harts { result.ends.harts ≡ turned.end }
     ensures copier { result.ends.copier ≡ carried.copier.end }
     ensures told_a { result.a.fault ≡ None → AreAll result.a.recorded.journal.entries
-        (turned.receipts.0.items ++ (carried.copier.receipts.items ++ carried.receiver_a.receipts.items)) }
+        (all_of turned.receipts.0.items ++ (all_of carried.copier.receipts.items ++ all_of carried.receiver_a.receipts.items)) }
     ensures told_b { result.b.fault ≡ None → AreAll result.b.recorded.journal.entries
-        (turned.receipts.1.items ++ carried.receiver_b.receipts.items) }
+        (all_of turned.receipts.1.items ++ all_of carried.receiver_b.receipts.items) }
 {
     let Carried {
         copier,

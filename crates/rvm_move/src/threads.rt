@@ -1,6 +1,7 @@
 //! The threads of a move.
 
 ghost use Rattle.std.specs.Prelude.{◌≢◌, Err};
+ghost use Rattle.rvm_cell.specs.Runs.{all_of};
 ghost use Rattle.rvm_hart_worker.specs.Calls.{IsRun};
 ghost use Rattle.rvm_move.specs.Hosts.{AreCarried};
 ghost use Rattle.rvm_move.specs.Runs.{AreOfOne};
@@ -78,7 +79,7 @@ fn copy<L: Seating, M: PagedMemory + Drop, K: Link + Drop, G: Gate, R: Wait + Cl
     gate: &G,
     policy: Policy,
 ) -> Worked<L>
-    ensures { IsCopied 1 policy result.end result.receipts.items }
+    ensures { IsCopied 1 policy result.end (all_of result.receipts.items) }
 {
     copier_worker(rt, alloc, &Side { host, outgoing }, seat, gate, B, policy)
 }
@@ -96,7 +97,7 @@ fn hear<L: Seating, M: PagedMemory + Drop, K: Link + Drop, G: Gate, R: Wait>(
     from: u8,
     receiving: K,
 ) -> Worked<L>
-    ensures { AreOfReceiver from result.receipts.items }
+    ensures { AreOfReceiver from (all_of result.receipts.items) }
 {
     let mut link = receiving;
     let side = Side { host, outgoing };
@@ -121,14 +122,14 @@ fn copy_and_hear<
     policy: Policy,
     receiving: K,
 ) -> (Worked<L>, Worked<L>)
-    ensures copier { IsCopied 1 policy result.0.end result.0.receipts.items }
-    ensures receiver { AreOfReceiver 1 result.1.receipts.items }
+    ensures copier { IsCopied 1 policy result.0.end (all_of result.0.receipts.items) }
+    ensures receiver { AreOfReceiver 1 (all_of result.1.receipts.items) }
 {
     let (copier, receiver) = seats;
     let (heard, copied) = thread::join(
         rt,
         move || -> Worked<L>
-            ensures { AreOfReceiver 1 result.receipts.items }
+            ensures { AreOfReceiver 1 (all_of result.receipts.items) }
         {
             hear(
                 rt,
@@ -143,7 +144,7 @@ fn copy_and_hear<
             )
         },
         move || -> Worked<L>
-            ensures { IsCopied 1 policy result.end result.receipts.items }
+            ensures { IsCopied 1 policy result.end (all_of result.receipts.items) }
         { copy(rt, alloc, host, outgoing, copier, gate, policy) },
     );
     (copied, heard)
@@ -164,8 +165,8 @@ fn work_at_a<
     taken: TakenAtA<L, K>,
     gate: &G,
 ) -> (Worked<L>, Worked<L>)
-    ensures copier { IsCopied 1 taken.policy result.0.end result.0.receipts.items }
-    ensures receiver { AreOfReceiver 1 result.1.receipts.items }
+    ensures copier { IsCopied 1 taken.policy result.0.end (all_of result.0.receipts.items) }
+    ensures receiver { AreOfReceiver 1 (all_of result.1.receipts.items) }
 {
     let TakenAtA {
         copier,
@@ -205,7 +206,7 @@ fn work_at_b<L: Seating, M: PagedMemory + Drop, K: Link + Drop, G: Gate, R: Wait
     gate: &G,
     begun: &AtomicBool,
 ) -> Worked<L>
-    ensures { AreOfReceiver 0 result.receipts.items }
+    ensures { AreOfReceiver 0 (all_of result.receipts.items) }
 {
     let TakenAtB {
         receiver,
@@ -251,8 +252,8 @@ fn carry<
     taken: Taken<L, N, K>,
     gate: &G,
 ) -> Carried<L, N>
-    ensures { AreCarried taken.at_a.policy result.copier.end result.copier.receipts.items
-        result.receiver_a.receipts.items result.receiver_b.receipts.items }
+    ensures { AreCarried taken.at_a.policy result.copier.end (all_of result.copier.receipts.items)
+        (all_of result.receiver_a.receipts.items) (all_of result.receiver_b.receipts.items) }
 {
     let Taken { at_a, at_b } = taken;
     let (host_a, host_b) = hosts;
@@ -261,14 +262,14 @@ fn carry<
     let ((copier, receiver_a), receiver_b) = thread::join(
         rt,
         move || -> (Worked<L>, Worked<L>)
-            ensures copier { IsCopied 1 at_a.policy result.0.end result.0.receipts.items }
-            ensures receiver { AreOfReceiver 1 result.1.receipts.items }
+            ensures copier { IsCopied 1 at_a.policy result.0.end (all_of result.0.receipts.items) }
+            ensures receiver { AreOfReceiver 1 (all_of result.1.receipts.items) }
         {
             begun.store(true, Ordering::Relaxed);
             work_at_a(rt, alloc, host_a, to_b, at_a, gate)
         },
         move || -> Worked<N>
-            ensures { AreOfReceiver 0 result.receipts.items }
+            ensures { AreOfReceiver 0 (all_of result.receipts.items) }
         { work_at_b(rt, alloc, host_b, to_a, at_b, gate, begun) },
     );
     Carried {
@@ -299,11 +300,11 @@ pub(crate) fn work<
     plan: &Plan,
     writer: &mut W,
 ) -> (Carried<L, N>, HartsWorked<L, N>)
-    ensures run { IsRun result.1.receipts.0.items result.1.receipts.1.items (W.contents writer.old)
+    ensures run { IsRun (all_of result.1.receipts.0.items) (all_of result.1.receipts.1.items) (W.contents writer.old)
         (W.contents writer.new) (result.1.end ≢ Err LinkFault) plan.now.harts plan.now.steps result.1.end }
-    ensures one { AreOfOne result.1.receipts.0.items × AreOfOne result.1.receipts.1.items }
-    ensures carried { AreCarried taken.at_a.policy result.0.copier.end result.0.copier.receipts.items
-        result.0.receiver_a.receipts.items result.0.receiver_b.receipts.items }
+    ensures one { AreOfOne (all_of result.1.receipts.0.items) × AreOfOne (all_of result.1.receipts.1.items) }
+    ensures carried { AreCarried taken.at_a.policy result.0.copier.end (all_of result.0.copier.receipts.items)
+        (all_of result.0.receiver_a.receipts.items) (all_of result.0.receiver_b.receipts.items) }
 {
     let turns = Turns {
         rt,
@@ -320,8 +321,8 @@ pub(crate) fn work<
     let (carried, (turned, writer)) = beside(
         rt,
         move || -> Carried<L, N>
-            ensures { AreCarried taken.at_a.policy result.copier.end result.copier.receipts.items
-                result.receiver_a.receipts.items result.receiver_b.receipts.items }
+            ensures { AreCarried taken.at_a.policy result.copier.end (all_of result.copier.receipts.items)
+                (all_of result.receiver_a.receipts.items) (all_of result.receiver_b.receipts.items) }
         { carry(rt, alloc, hosts, outgoing, taken, gate) },
         turns,
     );

@@ -1,6 +1,7 @@
 //! The turns of the guest's harts, as what a thread does beside others.
 
 ghost use Rattle.std.specs.Prelude.{◌≡◌, ◌≢◌, Err, ⊤};
+ghost use Rattle.rvm_cell.specs.Runs.{all_of};
 ghost use Rattle.rvm_hart_worker.specs.Calls.{IsRun};
 ghost use Rattle.rvm_worker.specs.Work.{IsWork};
 ghost use Rattle.rvm_worker.specs.declared.end.WorkEnd.TheVariants.{LinkFault};
@@ -43,9 +44,9 @@ impl<'t, A: Seating, B: Seating, M: PagedMemory + Drop, G: Gate, W: Write, R: Wa
     ghost can_run = { λ _. ⊤ };
 
     ghost gives = { λ t r. (r.1.ghost_name ≡ t.writer.ghost_name)
-        × IsRun r.0.receipts.0.items r.0.receipts.1.items (W.contents t.writer.now) (W.contents r.1.now)
-        (r.0.end ≢ Err LinkFault) t.plan.harts t.plan.steps r.0.end × IsWork t.seats.0 r.0.seats.0 r.0.receipts.0.items
-        × IsWork t.seats.1 r.0.seats.1 r.0.receipts.1.items };
+        × IsRun (all_of r.0.receipts.0.items) (all_of r.0.receipts.1.items) (W.contents t.writer.now) (W.contents r.1.now)
+        (r.0.end ≢ Err LinkFault) t.plan.harts t.plan.steps r.0.end × IsWork t.seats.0 r.0.seats.0 (all_of r.0.receipts.0.items)
+        × IsWork t.seats.1 r.0.seats.1 (all_of r.0.receipts.1.items) };
 
     fn run(self) -> (HartsWorked<A, B>, &'t mut W) {
         let Turns {

@@ -2,8 +2,9 @@
 
 use crate::asked::{AUDIT_STEPS, LOOP, to_move, to_script};
 use rvm_audit::audit;
-use rvm_journal::Entry;
-use rvm_message::{Command, ExchangeRef, HostEvent};
+use rvm_hart::Stepped;
+use rvm_journal::{Entry, Left, Told};
+use rvm_message::{Command, ExchangeRef, HostEvent, StepReply};
 use rvm_move_command::audit_over::{Audited, audit_over};
 use rvm_paged::PagedRam;
 use rvm_refusal::LinkFault;
@@ -21,8 +22,8 @@ use std::time::Clock;
 /// The entries of both hosts that an order has not come to, and who sent each frame.
 #[derive(Drop)]
 struct Unplayed<'a> {
-    first: &'a [Entry],
-    second: &'a [Entry],
+    first: Left<'a>,
+    second: Left<'a>,
     senders: Vec<u8>,
 }
 
@@ -39,20 +40,17 @@ impl<'a> Unplayed<'a> {
     }
 
     /// The next entry of a host, if there is one.
-    fn next(&mut self, host: u8) -> Option<&'a Entry> {
-        let entries = if host == 0 { self.first } else { self.second };
-        let (entry, rest) = entries.split_first()?;
+    fn next(&mut self, host: u8) -> Option<Told<'a>> {
         if host == 0 {
-            self.first = rest;
+            self.first.next()
         } else {
-            self.second = rest;
+            self.second.next()
         }
-        Some(entry)
     }
 
     /// The place of the frame that a host's entry made, if it made one.
-    fn place(&mut self, host: u8, entry: &Entry) -> Option<usize> {
-        if entry.frame().is_none() {
+    fn place(&mut self, host: u8, told: Told<'_>) -> Option<usize> {
+        if !has_frame(told) {
             return None;
         }
         let place = self.senders.len();
@@ -61,10 +59,29 @@ impl<'a> Unplayed<'a> {
     }
 }
 
+/// Whether an entry made a frame.
+fn has_frame(told: Told<'_>) -> bool {
+    match told {
+        Told::Entry(entry) => entry.frame().is_some(),
+        Told::Step(_) => false,
+    }
+}
+
+/// Writes the reply of an entry that is looked at.
+fn write_told(text: &mut Vec<u8>, told: Told<'_>, place: Option<usize>) -> Result<(), LinkFault> {
+    match told {
+        Told::Entry(entry) => write_reply(text, entry, place),
+        Told::Step(hart) => {
+            write_steps_reply(text, hart, 1, &StepReply::Stepped(Stepped::Retired).reply())
+        }
+    }
+}
+
 /// Writes an entry's reply as a script is answered.
 fn write_reply(text: &mut Vec<u8>, entry: &Entry, place: Option<usize>) -> Result<(), LinkFault> {
     match entry.exchange().look() {
         ExchangeRef::Step { hart, reply } => write_steps_reply(text, hart, 1, &reply.reply()),
+        ExchangeRef::Dry(_) => write_guest_reply(text, None, &entry.exchange().reply()),
         ExchangeRef::Copied { .. } | ExchangeRef::Stored { .. } => {
             write_move_reply(text, &entry.exchange().reply(), place)
         }
@@ -83,7 +100,7 @@ fn answers(alloc: Global, unplayed: Unplayed, events: &[Event]) -> Option<Vec<u8
         let host = unplayed.host_of(event)?;
         let entry = unplayed.next(host)?;
         let place = unplayed.place(host, entry);
-        write_reply(&mut text, entry, place).ok()?;
+        write_told(&mut text, entry, place).ok()?;
     }
     Some(text)
 }
@@ -109,8 +126,8 @@ fn told(alloc: Global, audited: &Audited<PagedRam>) -> Option<Vec<u8>> {
     let (a, b) = audited.hosts.as_ref()?;
     let events = audit(alloc, a.journal(), b.journal()).ok()?;
     let unplayed = Unplayed {
-        first: a.journal().entries(),
-        second: b.journal().entries(),
+        first: Left::new(a.journal().items()),
+        second: Left::new(b.journal().items()),
         senders: Vec::new(alloc),
     };
     answers(alloc, unplayed, events.as_slice())

@@ -4,3 +4,4 @@ pub mod Moved
 pub mod Orders
 pub mod Failed
 pub mod Unordered
+pub mod Answered

@@ -110,7 +110,7 @@ pub(crate) fn tell_moved<M: PagedMemory + Drop, E: Write>(
         (IsReplay moved.now.a.recorded.journal.opening moved.now.a.recorded.journal.entries
         × IsReplay moved.now.b.recorded.journal.opening moved.now.b.recorded.journal.entries) }
 {
-    write_answers(errors, moved.a.recorded.journal().entries())?;
-    write_answers(errors, moved.b.recorded.journal().entries())?;
+    write_answers(errors, moved.a.recorded.journal().items())?;
+    write_answers(errors, moved.b.recorded.journal().items())?;
     tell_failure(moved, errors)
 }

@@ -5,6 +5,9 @@ use Rattle.rvm_mem.specs.Pages.{has, mark_all}
 use Rattle.rvm_debug.specs.declared.turns.Turns.{Turns}
 use Rattle.rvm_debug.specs.Guest.{GuestState}
 use Rattle.rvm_debug.specs.Turns.{AfterTurns, TakesTurns}
+use Rattle.rvm_debug.specs.declared.retiring.Retired.{Retired}
+use Rattle.rvm_debug.specs.Retiring.{RetiresThen}
+use Rattle.rvm_debug.proofs.Retirings.{logged}
 use Rattle.rvm_message.proofs.Logs.{has_marked, length_marked}
 use Rattle.rvm_precopy.specs.Coverage.{Covers, CoversLast}
 use Rattle.rvm_precopy.specs.Plans.{IsPlanOf, LastTurn, Plan, Turn, copied_if, found, last_copied, last_found, last_next_of, next_of, peek, stopping, with_found, with_last}
@@ -108,6 +111,22 @@ turns_keep phases.Copying {t} {g} r runs took size c = (
 )
 turns_keep (phases.Stopped turn) r (inl e) took size c = absurd cc
 turns_keep (phases.Stopped turn) r (inr e) took size c = absurd cc
+
+-- and so do steps that retire
+pub retire_keeps : (f : Phase) {harts turn count : ℕ} {g new : GuestState} {told : Retired} (r : Plan)
+    → (f ≡ phases.Offering) ⊎ (f ≡ phases.Copying) → RetiresThen harts turn count g new told
+    → length g.dirty ≡ length r.to_send → IsCovered f g.dirty r
+    → (length new.dirty ≡ length r.to_send) × (HasTurn f new r × IsCovered f new.dirty r)
+retire_keeps phases.Offering {harts} {turn} {count} {g} {new} {told} r runs all size c =
+    let l = logged harts turn count g new told all in
+    (ap length l.log ∙ length_marked l.pages g.dirty ∙ size, (tt, tt))
+retire_keeps phases.Copying {harts} {turn} {count} {g} {new} {told} r runs all size c =
+    let l = logged harts turn count g new told all in (
+      ap length l.log ∙ length_marked l.pages g.dirty ∙ size,
+      (tt, subst (λ d. Covers d r) (sym l.log) (marked_covered l.pages g.dirty r c)),
+    )
+retire_keeps (phases.Stopped turn') r (inl e) all size c = absurd cc
+retire_keeps (phases.Stopped turn') r (inr e) all size c = absurd cc
 
 -- THE GUEST IS PAUSED
 

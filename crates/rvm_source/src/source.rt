@@ -19,12 +19,14 @@ ghost use Rattle.rvm_message.specs.Steps.{reply_to_step};
 ghost use Rattle.rvm_debug.specs.declared.event.BoardEvent.TheVariants.{Step};
 ghost use Rattle.rvm_source.specs.Bounds.{body_bound, is_copied};
 ghost use Rattle.rvm_source.specs.Sources.{HasPages, is_offering, is_stopped, mode_of};
+ghost use Rattle.rvm_source.specs.Quiet.{IsQuiet};
+ghost use Rattle.rvm_source.specs.Retiring.{SourceRetires};
 ghost use Rattle.rvm_source.specs.Turns.{source_turned};
 
 use crate::page::{COPY_BODY, page_frame};
 use crate::phase::Phase;
 use crate::state::{send_state, state_bound};
-use rvm_debug::{BoardEvent, Debugged, Turns};
+use rvm_debug::{BoardEvent, Debugged, NO_STEPS, Retired, Turns};
 use rvm_frame::{Frame, PagePart};
 use rvm_mem::{Memory, PageSet, PagedMemory};
 use rvm_message::{
@@ -180,6 +182,20 @@ impl<M: PagedMemory> Source<M> {
         }
     }
 
+    /// Whether the guest runs, and has sent nothing that was not taken.
+    pub fn is_quiet(&self) -> bool
+        ensures quiet { result ≡ true → IsQuiet self.now.phase
+            (length self.now.guest.guest.board.shared.devices.output) }
+        ensures log { length self.now.guest.dirty ≡ count_of self.now.guest.guest }
+    {
+        let _size = self.guest.memory().len();
+        let waiting = self.guest.waiting();
+        match self.phase {
+            Phase::Stopped { .. } => false,
+            Phase::Offering | Phase::Copying => waiting == 0,
+        }
+    }
+
     /// Makes turns of a hart of the guest, at most `count`, as `Debugged::turns` does, unless the guest is
     /// paused or the hart is not there. Takes no memory.
     pub fn turns(&mut self, hart: u32, count: u32) -> Turns
@@ -192,6 +208,18 @@ impl<M: PagedMemory> Source<M> {
         match self.phase {
             Phase::Stopped { .. } => NO_TURNS,
             Phase::Offering | Phase::Copying => turn_guest(&mut self.guest, hart, count),
+        }
+    }
+
+    /// Makes steps of so many harts of the guest in turn, as `Debugged::retire` does, unless the guest is
+    /// paused. Takes no memory.
+    pub fn retire(&mut self, turn: u64, harts: u32, count: u32) -> Retired
+        ensures { SourceRetires harts turn count self.old self.new result }
+    {
+        let _size = self.guest.memory().len();
+        match self.phase {
+            Phase::Stopped { .. } => NO_STEPS,
+            Phase::Offering | Phase::Copying => self.guest.retire(turn, harts, count),
         }
     }
 

@@ -1,11 +1,17 @@
 -- Receipts behind those that are there.
-use Rattle.std.proofs.Common.{◌≡◌, ◌∙◌, ℕ, zero, suc, ◌+◌, ◌-◌, List, [], ◌∷◌, ◌++◌, append-nil, length, length-append, Some, Result, Ok, Err, ap, refl, sym, subst, arith, inl, inr}
+use Rattle.std.proofs.Common.{◌≡◌, ◌∙◌, ℕ, zero, suc, ◌+◌, ◌-◌, ◌<◌, List, [], ◌∷◌, ◌++◌, append-nil, get_or, length, length-append, Some, Result, Ok, Err, ap, refl, sym, subst, arith, inl, inr}
 use Rattle.std.proofs.lemmas.List.Elements.{All-push}
 use Rattle.std.proofs.lemmas.List.Concat.{flat_map-append}
 use Rattle.std.specs.List.{All}
-use Rattle.std.specs.Prelude.{slice_get, ◌⊎◌, IfOk, OnErr, option_map}
+use Rattle.std.specs.Prelude.{slice_get, ◌⊎◌, IfOk, IfSome, IsOk, OnErr, is_ok, if◌then◌else◌, option_map}
 use Rattle.rvm_cell.specs.Receipts.{PlainReceipt}
-use Rattle.rvm_cell.specs.Calls.{AreOfSeat}
+use Rattle.std.proofs.lemmas.Option.{same_Some, slice_get-get_or}
+use Rattle.rvm_cell.specs.Calls.{AreOfSeat, IsReceipt}
+use Rattle.rvm_cell.specs.declared.items.ReceiptItem.{ReceiptItem}
+use Rattle.rvm_cell.specs.Runs.{all_of, count_in}
+use Rattle.rvm_cell.specs.Telling.{receipt_at}
+use Rattle.rvm_cell.proofs.Runs.{all_append}
+use Rattle.rvm_cell.proofs.Tellings.{last_is}
 use Rattle.rvm_cell.specs.Seats.{PlainSeat, seat_of}
 use Rattle.rvm_message.specs.declared.event.HostEvent.{HostEvent}
 use Rattle.rvm_message.specs.declared.reply.HostReply.{HostReply}
@@ -44,6 +50,49 @@ work_slice first seat new turn harts before slice work are is =
             (each.seat_is ∙ id, omega (arith, each.count, count, behind.1))
       ]);
     }
+
+in_one : (first seat : PlainSeat) (e : HostEvent) (r s : PlainReceipt) (before : List PlainReceipt) (k j : ℕ) → IsReceipt seat e r
+    → seat.id ≡ first.id → seat.count ≡ first.count + length before → k ≡ length before + j → slice_get (r ∷ []) j ≡ Some s
+    → (s.seat ≡ first.id) × (s.count ≡ first.count + k)
+in_one first seat e r s before k zero of id count at is =
+    let r_is : r ≡ s = same_Some r s is in
+    let n = of.count in
+    (ap (λ (x : PlainReceipt). x.seat) (sym r_is) ∙ of.seat_is ∙ id, omega (arith, n, count, at, ap (λ (x : PlainReceipt). x.count) r_is))
+in_one first seat e r s before k (suc j) of id count at is = cc
+
+-- a call is work, behind work
+pub work_call : (first seat new : PlainSeat) (e : HostEvent) (before : List PlainReceipt) (r : PlainReceipt)
+    → IsWork first seat before → IsReceipt seat e r → new ≡ seat_of seat.id (seat.count + 1) → IsWork first new (before ++ r ∷ [])
+work_call first seat new e before r work of is =
+    let id = ap (λ s. s.id) work.seat_is in
+    let count = ap (λ s. s.count) work.seat_is in
+    record {
+      seat_is = is ∙ ap (λ s. seat_of s.id (s.count + 1)) work.seat_is
+          ∙ ap (seat_of first.id) (omega (arith, length-append before (r ∷ [])));
+      row = λ k s h. (elim (got_either before (r ∷ []) s k h) [
+        | inl there ↦ work.row k s there
+        | inr behind ↦ in_one first seat e r s before k behind.0 of id count behind.1 behind.2
+      ]);
+    }
+
+-- items were appended
+pub all_appended : {T E : Type 0} (r : Result T E) (new old more : List ReceiptItem)
+    → new ≡ (if is_ok r then old ++ more else old) → IsOk r → all_of new ≡ all_of old ++ all_of more
+all_appended (Ok x) new old more is ok = ap all_of is ∙ all_append old more
+all_appended (Err e) new old more is ok = absurd cc
+
+-- the last of all receipts is the last of the last item
+pub last_got : (items : List ReceiptItem) (x : ReceiptItem) (reply : HostReply) → Some x ≡ slice_get items (length items - 1)
+    → reply ≡ (receipt_at x (count_in x - 1)).reply
+    → IfSome (slice_get (all_of items) (length (all_of items) - 1)) (λ r. r.reply ≡ reply)
+last_got [] x reply is told = tt
+last_got (y ∷ items) x reply is told =
+    let all = y ∷ items in
+    let some : 0 < length all = omega arith in
+    let within : length all - 1 < length all = omega arith in
+    let got : get_or all (length all - 1) x ≡ x =
+    same_Some (get_or all (length all - 1) x) x (sym (slice_get-get_or all (length all - 1) x within) ∙ sym is) in
+    subst (λ o. IfSome o (λ r. r.reply ≡ reply)) (sym (last_is all x some got)) (sym told)
 
 -- what stands behind others is the last
 got_last : {X : Type 0} (xs : List X) (x : X) → slice_get (xs ++ x ∷ []) (length xs) ≡ Some x

@@ -1,13 +1,15 @@
 //! A worker's seat.
 
-ghost use Rattle.std.specs.Prelude.{◌≡◌, ◌≤◌, [], true, IfErr, IfOk, OnErr};
+ghost use Rattle.std.specs.Prelude.{◌≡◌, ◌+◌, ◌<◌, ◌≤◌, ◌++◌, ◌∷◌, [], true, false, IfErr, IfOk, OnErr, vec_capacity, vec_len};
+ghost use Rattle.rvm_cell.specs.Runs.{all_of};
+ghost use Rattle.rvm_message.specs.Exchanges.{dry_exchange};
 ghost use Rattle.rvm_worker.specs.Ends.{is_short_of_room};
 ghost use Rattle.rvm_worker.specs.Work.{IsCall, IsSliceCall, IsWork};
 
 use crate::end::{WorkEnd, Worked};
 use crate::heap;
 use crate::steps::{SliceSteps, steps_of};
-use rvm_cell::{Receipt, Seat, Seating, SharedHost};
+use rvm_cell::{Receipt, ReceiptItem, Seat, Seating, SharedHost};
 use rvm_frame::Addressed;
 use rvm_mem::PagedMemory;
 use rvm_message::{HostEvent, HostReply};
@@ -22,11 +24,12 @@ use std::sync::Wait;
 pub struct Caller<L: Seating> {
     first: Snapshot<Seat<L>>,
     seat: Seat<L>,
-    receipts: Vec<Receipt>,
+    receipts: Vec<ReceiptItem>,
 }
 
 impl<L: Seating> Model for Caller<L> {
     ghost use Rattle.std.specs.Prelude.{◌≡◌};
+    ghost use Rattle.rvm_cell.specs.Runs.{all_of};
     ghost use Rattle.rvm_worker.specs.Work.{IsWork, PlainCaller};
 
     ghost Value = { PlainCaller };
@@ -34,10 +37,10 @@ impl<L: Seating> Model for Caller<L> {
     ghost view = { λ c. record {
       start = c.first.value;
       seat = c.seat;
-      receipts = c.receipts.items;
+      receipts = all_of c.receipts.items;
     } };
 
-    ghost invariant = { λ c. IsWork c.first.value c.seat c.receipts.items };
+    ghost invariant = { λ c. IsWork c.first.value c.seat (all_of c.receipts.items) };
 }
 
 impl<L: Seating> Caller<L> {
@@ -53,9 +56,9 @@ impl<L: Seating> Caller<L> {
     }
 
     /// The seat, and the receipts in order.
-    pub fn into_parts(self) -> (Seat<L>, Vec<Receipt>)
-        ensures work { IsWork self.start result.0 result.1.items }
-        ensures receipts { result.1.items ≡ self.receipts }
+    pub fn into_parts(self) -> (Seat<L>, Vec<ReceiptItem>)
+        ensures work { IsWork self.start result.0 (all_of result.1.items) }
+        ensures receipts { all_of result.1.items ≡ self.receipts }
     {
         let Caller {
             first: _,
@@ -67,8 +70,8 @@ impl<L: Seating> Caller<L> {
 
     /// What a worker gives back that ended so.
     pub(crate) fn end(self, end: WorkEnd) -> Worked<L>
-        ensures work { IsWork self.start result.seat result.receipts.items }
-        ensures receipts { result.receipts.items ≡ self.receipts }
+        ensures work { IsWork self.start result.seat (all_of result.receipts.items) }
+        ensures receipts { all_of result.receipts.items ≡ self.receipts }
         ensures end { result.end ≡ end }
     {
         let (seat, receipts) = self.into_parts();
@@ -103,13 +106,39 @@ impl<L: Seating> Caller<L> {
             Err((why, _event)) => Err(WorkEnd::from(why)),
             Ok((receipt, frame)) => {
                 let reply = receipt.reply();
-                self.receipts.push_reserved(receipt);
+                push(&mut self.receipts, receipt);
                 Ok((reply, frame))
             }
         }
     }
 
+    /// Makes a drain of at most so many bytes that finds none, whose receipt is kept, and says whether it did.
+    /// Where it would find some, the guest does not run there or memory lacks, no call is made.
+    pub fn dry<M: PagedMemory + Drop, R: Wait>(
+        &mut self,
+        rt: &R,
+        host: &SharedHost<L, M>,
+        bytes: u32,
+    ) -> bool
+        ensures start { self.new.start ≡ self.old.start }
+        ensures call { result ≡ true → IsCall self.old.seat (dry_exchange bytes).event self.old.receipts
+            self.new.seat self.new.receipts (dry_exchange bytes).reply }
+        ensures none { result ≡ false → self.new ≡ self.old }
+    {
+        if self.receipts.reserve(1).is_err() {
+            return false;
+        }
+        match host.call_dry(rt, &mut self.seat, bytes) {
+            None => false,
+            Some(receipt) => {
+                push(&mut self.receipts, receipt);
+                true
+            }
+        }
+    }
+
     /// Makes a slice of at most n turns, whose receipts are kept: the steps that it made.
+    #[tactic(auto, using(rvm_cell::proofs::Tellings::few_items))]
     pub fn slice<M: PagedMemory + Drop, R: Wait>(
         &mut self,
         rt: &R,
@@ -128,11 +157,28 @@ impl<L: Seating> Caller<L> {
         if self.receipts.reserve(n as usize).is_err() {
             return Err(WorkEnd::OutOfMemory);
         }
-        let mut receipts = host.call_slice(rt, alloc, &mut self.seat, turn, harts, n)?;
+        let receipts = host.call_slice(rt, alloc, &mut self.seat, turn, harts, n)?;
         let steps = steps_of(receipts.as_slice());
-        if self.receipts.append(&mut receipts).is_err() {
-            unreachable!();
-        }
+        append(&mut self.receipts, receipts);
         Ok(steps)
+    }
+}
+
+/// Puts a receipt behind others, in room that is there.
+fn push(all: &mut Vec<ReceiptItem>, receipt: Receipt)
+    requires { vec_len all.old < vec_capacity all.old }
+    ensures { all_of all.new.items ≡ all_of all.old.items ++ receipt ∷ [] }
+{
+    all.push_reserved(ReceiptItem::One(receipt));
+}
+
+/// Puts receipts behind others, in room that is there.
+fn append(all: &mut Vec<ReceiptItem>, more: Vec<ReceiptItem>)
+    requires { vec_len all.old + vec_len more ≤ vec_capacity all.old }
+    ensures { all_of all.new.items ≡ all_of all.old.items ++ all_of more.items }
+{
+    let mut more = more;
+    if all.append(&mut more).is_err() {
+        unreachable!();
     }
 }

@@ -1,6 +1,7 @@
 //! The copier: it moves the guest to another host.
 
 ghost use Rattle.std.specs.Prelude.{◌≡◌, true, Ok, IfErr, IsSomeAnd};
+ghost use Rattle.rvm_cell.specs.Runs.{all_of};
 ghost use Rattle.rvm_worker.specs.Endings.{IsCopied, IsCopierEnd, is_uncalled, tells_done};
 ghost use Rattle.rvm_worker.specs.Work.{IsWork};
 
@@ -40,8 +41,8 @@ pub fn copier_worker<L: Seating, M: PagedMemory + Drop, K: Link + Drop, G: Gate,
     to: u8,
     policy: Policy,
 ) -> Worked<L>
-    ensures work { IsWork seat result.seat result.receipts.items }
-    ensures copied { IsCopied to policy result.end result.receipts.items }
+    ensures work { IsWork seat result.seat (all_of result.receipts.items) }
+    ensures copied { IsCopied to policy result.end (all_of result.receipts.items) }
 {
     let mut copying = Copying::new(alloc, seat, to, policy);
     let mut watch = Watch::new(gate, Worker::Copier);

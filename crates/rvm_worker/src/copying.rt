@@ -1,6 +1,7 @@
 //! The calls of a copier.
 
 ghost use Rattle.std.specs.Prelude.{◌≡◌, true, None, Some, IfErr, IfOk, OnErr};
+ghost use Rattle.rvm_cell.specs.Runs.{all_of};
 ghost use Rattle.rvm_message.specs.declared.event.HostEvent.TheVariants.{Do};
 ghost use Rattle.rvm_message.specs.Exchanges.{exchange};
 ghost use Rattle.rvm_worker.specs.Endings.{is_uncalled, last_of};
@@ -100,9 +101,9 @@ impl<L: Seating> Copying<L> {
 
     /// What the copier gives back that ended so.
     pub(crate) fn end(self, end: WorkEnd) -> Worked<L>
-        ensures work { IsWork self.start result.seat result.receipts.items }
-        ensures asked { AreOfCopier self.to self.policy result.receipts.items }
-        ensures last { last_of result.receipts.items ≡ self.last }
+        ensures work { IsWork self.start result.seat (all_of result.receipts.items) }
+        ensures asked { AreOfCopier self.to self.policy (all_of result.receipts.items) }
+        ensures last { last_of (all_of result.receipts.items) ≡ self.last }
         ensures end { result.end ≡ end }
     {
         self.caller.end(end)

@@ -3,7 +3,7 @@
 ghost use Rattle.std.specs.Prelude.{◌≡◌};
 ghost use Rattle.rvm_worker.specs.Ends.{is_short_of_room, of_frame, of_record, of_send, of_slice};
 
-use rvm_cell::{Receipt, Seat, Seating};
+use rvm_cell::{ReceiptItem, Seat, Seating};
 use rvm_frame::FrameFault;
 use rvm_journal::{RecordError, SliceError};
 use rvm_link::SendError;
@@ -109,6 +109,6 @@ impl From<SendError> for WorkEnd {
 #[derive(Drop)]
 pub struct Worked<L: Seating> {
     pub seat: Seat<L>,
-    pub receipts: Vec<Receipt>,
+    pub receipts: Vec<ReceiptItem>,
     pub end: WorkEnd,
 }

@@ -1,6 +1,7 @@
 //! The calls of a receiver.
 
 ghost use Rattle.std.specs.Prelude.{◌≡◌, [], ◌∷◌, ◌++◌, true, None, Some, IfErr, IfOk, OnErr};
+ghost use Rattle.rvm_cell.specs.Runs.{all_of};
 ghost use Rattle.rvm_message.specs.declared.event.HostEvent.TheVariants.{Came};
 ghost use Rattle.rvm_message.specs.Exchanges.{exchange};
 ghost use Rattle.rvm_worker.specs.Endings.{is_uncalled, last_of};
@@ -78,10 +79,10 @@ impl<L: Seating> Hearing<L> {
 
     /// What the receiver gives back that ended so.
     pub(crate) fn end(self, end: WorkEnd) -> Worked<L>
-        ensures work { IsWork self.start result.seat result.receipts.items }
-        ensures heard { AreOfReceiver self.from result.receipts.items }
-        ensures frames { frames_in result.receipts.items ≡ self.heard }
-        ensures last { last_of result.receipts.items ≡ self.last }
+        ensures work { IsWork self.start result.seat (all_of result.receipts.items) }
+        ensures heard { AreOfReceiver self.from (all_of result.receipts.items) }
+        ensures frames { frames_in (all_of result.receipts.items) ≡ self.heard }
+        ensures last { last_of (all_of result.receipts.items) ≡ self.last }
         ensures end { result.end ≡ end }
     {
         self.caller.end(end)

@@ -2,6 +2,7 @@
 
 ghost use Rattle.std.specs.Prelude.{◌≡◌, ◌⊎◌, ◌<◌, ◌≤◌, ◌∷◌, true, false, [], length, take, None, Some, Ok, Err, IfErr, IfOk, IfSome, MatchOption, if◌then◌else◌};
 ghost use Rattle.std.specs.Io.KnownBytes.{Consumes, IsAtEnd, Keeps};
+ghost use Rattle.rvm_cell.specs.Runs.{all_of};
 ghost use Rattle.rvm_frame.specs.Reader.{at_start};
 ghost use Rattle.rvm_frame.specs.Verdict.{verdict};
 ghost use Rattle.rvm_worker.specs.Endings.{TellsOver, last_of};
@@ -59,12 +60,12 @@ pub fn receiver_worker<
     from: u8,
     link: &mut I,
 ) -> Worked<L>
-    ensures work { IsWork seat result.seat result.receipts.items }
-    ensures of { AreOfReceiver from result.receipts.items }
+    ensures work { IsWork seat result.seat (all_of result.receipts.items) }
+    ensures of { AreOfReceiver from (all_of result.receipts.items) }
     ensures heard { IfSome (I.remaining link.old) (λ bytes.
-        IsHeardOf bytes result.end (frames_in result.receipts.items)) }
-    ensures ended { IsReceiverEnd result.end (last_of result.receipts.items) (I.remaining link.old)
-        (frames_in result.receipts.items) }
+        IsHeardOf bytes result.end (frames_in (all_of result.receipts.items))) }
+    ensures ended { IsReceiverEnd result.end (last_of (all_of result.receipts.items)) (I.remaining link.old)
+        (frames_in (all_of result.receipts.items)) }
 {
     let mut hearing = Hearing::new(alloc, seat, from);
     let mut watch = Watch::new(gate, worker);

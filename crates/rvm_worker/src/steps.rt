@@ -1,8 +1,9 @@
 //! The steps of a slice.
 
 ghost use Rattle.std.specs.Prelude.{◌≡◌, ◌-◌, ◌<◌, ◌≤◌, ◌^◌, IfSome, length, slice_get};
+ghost use Rattle.rvm_cell.specs.Runs.{all_of};
 
-use rvm_cell::Receipt;
+use rvm_cell::ReceiptItem;
 use rvm_message::HostReply;
 
 /// The steps of a slice: there is at least one.
@@ -15,17 +16,32 @@ pub struct SliceSteps {
 }
 
 /// The steps that these receipts of a slice are of.
-pub(crate) fn steps_of(receipts: &[Receipt]) -> SliceSteps
-    requires some { 1 ≤ length receipts.now }
-    requires within { length receipts.now < 2 ^ 32 }
-    ensures count { result.count ≡ length receipts.now }
-    ensures last { IfSome (slice_get receipts.now (length receipts.now - 1)) (λ r. r.reply ≡ result.last) }
+pub(crate) fn steps_of(receipts: &[ReceiptItem]) -> SliceSteps
+    requires some { 1 ≤ length (all_of receipts.now) }
+    requires within { length (all_of receipts.now) < 2 ^ 32 }
+    ensures count { result.count ≡ length (all_of receipts.now) }
+    ensures last { IfSome (slice_get (all_of receipts.now) (length (all_of receipts.now) - 1))
+        (λ r. r.reply ≡ result.last) }
 {
     let Some(last) = receipts.last() else {
         unreachable!();
     };
     SliceSteps {
-        count: receipts.len() as u32,
-        last: last.reply(),
+        count: count_of(receipts),
+        last: last.last_reply(),
     }
+}
+
+/// How many receipts there are.
+fn count_of(receipts: &[ReceiptItem]) -> u32
+    requires { length (all_of receipts.now) < 2 ^ 32 }
+    ensures { result ≡ length (all_of receipts.now) }
+{
+    let mut count: u32 = 0;
+    let mut k = 0;
+    while k < receipts.len() {
+        count += receipts[k].len();
+        k += 1;
+    }
+    count
 }

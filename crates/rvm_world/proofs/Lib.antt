@@ -12,5 +12,4 @@ mod Opening
 mod Moves
 mod Endings
 mod Stepping
-mod Running
 mod Turning

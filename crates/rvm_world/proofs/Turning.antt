@@ -36,7 +36,7 @@ use Rattle.rvm_core.specs.Turns.{turned, HasLog}
 use Rattle.rvm_world.specs.Steps.{AreFirst, last_of, step_at, stepping}
 use Rattle.rvm_world.specs.Worlds.{IsWorld, PlainWorld, world_of}
 use Rattle.rvm_world.proofs.Happenings.{Becomes, at_becomes, unchanged, with_host}
-use Rattle.rvm_world.proofs.Running.{IsLogged, Runs, behind_turns, copying_runs, law_step, leaving, offering_runs, run, run_runs, stepped, stepped_logged}
+use Rattle.rvm_core.proofs.Running.{IsLogged, Runs, behind_turns, copying_runs, law_step, leaving, offering_runs, run, run_runs, stepped, stepped_logged}
 use Rattle.rvm_world.proofs.Stepping.{go_on_alike, step_more}
 
 -- ONE TURN

@@ -1,134 +1,131 @@
-use Rattle.std.proofs.Common.{◌<◌, length, refl, arith, ap, subst, inl, inr}
+use Rattle.std.proofs.Common.{◌≡◌, ◌∙◌, ◌+◌, ◌<◌, length, refl, arith, ap, subst, sym, inl, inr}
 use Rattle.std.specs.Prelude.{◌⊎◌}
-use Rattle.std.proofs.lemmas.Option.{MatchOption-at_some, MatchOption-at_none, slice_get_read, slice_get_within}
+use Rattle.std.proofs.lemmas.Option.{MatchOption-at_some, MatchOption-at_none, slice_get_within}
 use Rattle.rvm_audit.specs.declared.side.Side.TheVariants.{First, Second}
-use Rattle.rvm_audit.specs.Merging.{IsWaiting, IsNext, first_places, second_places}
+use Rattle.rvm_audit.specs.Merging.{Goes, IsTaken, IsWaiting, Waits, first_places, second_places}
+use Rattle.rvm_audit.proofs.Aheads.{goes_at, one_passed, waits_at}
 use Rattle.rvm_audit.proofs.Runs.{nothing, took_first, took_second, whole}
 use Rattle.rvm_audit.proofs.Dead.{dead_end}
 use Rattle.rvm_audit.proofs.order.audit.Goals as goal
-use Rattle.rvm_audit.proofs.order.audit.Goals.{then-i-xs, else-i-xs+then-j-ys}
+use Rattle.rvm_audit.proofs.order.audit.Goals.{then-i-n, else-i-n+then-j-m}
 
 pub loop-i-init : goal.loop-i-init
 loop-i-init g c =
     let m = c.new-merge.ensures in
-    nothing c.args.first.now c.args.second.now c.new-merge.result.events.items (first_places c.new-merge.result)
-    (second_places c.new-merge.result) c.new-merge.result.made m.events m.made (m.places First) (m.places Second)
-
-pub bounds-xs-i : goal.bounds-xs-i
-bounds-xs-i g c =
-    let xs = c.entries-xs.result.now in
-    let l = c.loop-i in
-    let next =
-    MatchOption-at_some (IsWaiting c.version.result First xs l.i (second_places l.merge))
-    (IsNext c.version.result First xs l.i (second_places l.merge)) c.in-Some.event c.in-Some.is c.in_ok-event.ensures
-    in
-    slice_get_within xs l.i next.0 next.1
+    record {
+      merged = nothing c.args.first.now c.args.second.now c.new-merge.result.events.items (first_places c.new-merge.result)
+          (second_places c.new-merge.result) c.new-merge.result.made m.events m.made (m.places First) (m.places Second);
+      xs = c.new-xs.ensures ∙ c.items.ensures.items;
+      ys = c.new-ys.ensures ∙ c.items-2.ensures.items;
+    }
 
 pub loop-i-smaller-in-Some : goal.loop-i-smaller-in-Some
 loop-i-smaller-in-Some g c =
-    let xs = c.entries-xs.result.now in
     let l = c.loop-i in
-    let next =
-    MatchOption-at_some (IsWaiting c.version.result First xs l.i (second_places l.merge))
-    (IsNext c.version.result First xs l.i (second_places l.merge)) c.in-Some.event c.in-Some.is c.in_ok-event.ensures
+    let v = c.version.result in
+    let x = c.next-x.result in
+    let goes =
+    MatchOption-at_some (Waits v First x (second_places l.merge)) (Goes v First x (second_places l.merge))
+    c.in-Some.event c.in-Some.is c.in_ok-event.ensures
     in
-    let lt = slice_get_within xs l.i next.0 next.1 in
-    omega arith
+    let at = goes_at v First c.args.first.now.entries l.xs l.i (second_places l.merge) l.invariant.xs c.in-Some.event x c.next-x.ensures goes in
+    let lt = slice_get_within c.args.first.now.entries l.i at.entry at.there in
+    omega (arith, lt, c.count-n.ensures)
 
 pub loop-i-preserved-in-Some : goal.loop-i-preserved-in-Some
 loop-i-preserved-in-Some g c =
-    let xs = c.entries-xs.result.now in
     let l = c.loop-i in
-    let next =
-    MatchOption-at_some (IsWaiting c.version.result First xs l.i (second_places l.merge))
-    (IsNext c.version.result First xs l.i (second_places l.merge)) c.in-Some.event c.in-Some.is c.in_ok-event.ensures
+    let v = c.version.result in
+    let x = c.next-x.result in
+    let a = c.args.first.now in
+    let goes =
+    MatchOption-at_some (Waits v First x (second_places l.merge)) (Goes v First x (second_places l.merge))
+    c.in-Some.event c.in-Some.is c.in_ok-event.ensures
     in
-    let lt = slice_get_within xs l.i next.0 next.1 in
-    let at = slice_get_read xs (length xs) l.i c.index-xs-i.result refl lt c.index-xs-i.is in
-    took_first c.args.first.now c.args.second.now l.i l.j l.merge c.take.new.self l.invariant xs c.version.result next.0
-    c.index-xs-i.result c.in-Some.event c.entries-xs.ensures.replay c.entries-xs.ensures.entries c.version.ensures next.1
-    at next.2 c.in_ok-take-in-Some.ensures
-
-pub bounds-ys-j : goal.bounds-ys-j
-bounds-ys-j g c =
-    let ys = c.entries-ys.result.now in
-    let l = c.loop-i in
-    let v = c.version-in-None.result in
-    let next =
-    MatchOption-at_some (IsWaiting v Second ys l.j (first_places l.merge))
-    (IsNext v Second ys l.j (first_places l.merge)) c.in-Some-2.event c.in-Some-2.is c.in_ok-event-in-None.ensures
-    in
-    slice_get_within ys l.j next.0 next.1
+    let at = goes_at v First a.entries l.xs l.i (second_places l.merge) l.invariant.xs c.in-Some.event x c.next-x.ensures goes in
+    record {
+      merged = took_first a c.args.second.now l.i l.j l.merge c.take.new.self l.invariant.merged a.entries v at.entry at.entry c.in-Some.event
+          c.items.ensures.replay refl c.version.ensures at.there at.there at.becomes
+          (subst (λ f. IsTaken l.merge c.take.new.self c.in-Some.event f first_places second_places) at.frame c.in_ok-take-in-Some.ensures);
+      xs = one_passed a.entries l.xs c.pass.new.self l.i l.invariant.xs c.pass.ensures;
+      ys = l.invariant.ys;
+    }
 
 pub loop-i-smaller : goal.loop-i-smaller
 loop-i-smaller g c =
-    let ys = c.entries-ys.result.now in
     let l = c.loop-i in
     let v = c.version-in-None.result in
-    let next =
-    MatchOption-at_some (IsWaiting v Second ys l.j (first_places l.merge))
-    (IsNext v Second ys l.j (first_places l.merge)) c.in-Some-2.event c.in-Some-2.is c.in_ok-event-in-None.ensures
+    let y = c.next-y.result in
+    let goes =
+    MatchOption-at_some (Waits v Second y (first_places l.merge)) (Goes v Second y (first_places l.merge))
+    c.in-Some-2.event c.in-Some-2.is c.in_ok-event-in-None.ensures
     in
-    let lt = slice_get_within ys l.j next.0 next.1 in
-    omega arith
+    let at = goes_at v Second c.args.second.now.entries l.ys l.j (first_places l.merge) l.invariant.ys c.in-Some-2.event y c.next-y.ensures goes in
+    let lt = slice_get_within c.args.second.now.entries l.j at.entry at.there in
+    omega (arith, lt, c.count-m.ensures)
 
 pub loop-i-preserved : goal.loop-i-preserved
 loop-i-preserved g c =
-    let ys = c.entries-ys.result.now in
     let l = c.loop-i in
+    let u = c.version.result in
     let v = c.version-in-None.result in
-    let next =
-    MatchOption-at_some (IsWaiting v Second ys l.j (first_places l.merge))
-    (IsNext v Second ys l.j (first_places l.merge)) c.in-Some-2.event c.in-Some-2.is c.in_ok-event-in-None.ensures
-    in
-    let xs = c.entries-xs.result.now in
+    let x = c.next-x.result in
+    let y = c.next-y.result in
+    let a = c.args.first.now in
+    let b = c.args.second.now in
     let first =
-    MatchOption-at_none (IsWaiting c.version.result First xs l.i (second_places l.merge))
-    (IsNext c.version.result First xs l.i (second_places l.merge)) c.in-None.is c.in_ok-event.ensures
+    MatchOption-at_none (Waits u First x (second_places l.merge)) (Goes u First x (second_places l.merge))
+    c.in-None.is c.in_ok-event.ensures
     in
-    let waits =
-    subst (λ ws. IsWaiting c.args.first.now.opening.version First ws l.i (second_places l.merge))
-    c.entries-xs.ensures.entries
-    (subst (λ n. IsWaiting n First xs l.i (second_places l.merge)) c.version.ensures first)
+    let waits = subst (λ n. IsWaiting n First a.entries l.i (second_places l.merge)) c.version.ensures
+    (waits_at u First a.entries l.xs l.i (second_places l.merge) l.invariant.xs x c.next-x.ensures first) in
+    let goes =
+    MatchOption-at_some (Waits v Second y (first_places l.merge)) (Goes v Second y (first_places l.merge))
+    c.in-Some-2.event c.in-Some-2.is c.in_ok-event-in-None.ensures
     in
-    let lt = slice_get_within ys l.j next.0 next.1 in
-    let at = slice_get_read ys (length ys) l.j c.index-ys-j.result refl lt c.index-ys-j.is in
-    took_second c.args.first.now c.args.second.now l.i l.j l.merge c.take-in-Some-2.new.self l.invariant ys v next.0
-    c.index-ys-j.result c.in-Some-2.event c.entries-ys.ensures.replay waits c.entries-ys.ensures.entries
-    c.version-in-None.ensures next.1 at next.2 c.in_ok-take-in-Some-2.ensures
+    let at = goes_at v Second b.entries l.ys l.j (first_places l.merge) l.invariant.ys c.in-Some-2.event y c.next-y.ensures goes in
+    record {
+      merged = took_second a b l.i l.j l.merge c.take-in-Some-2.new.self l.invariant.merged b.entries v at.entry at.entry c.in-Some-2.event
+          c.items-2.ensures.replay waits refl c.version-in-None.ensures at.there at.there at.becomes
+          (subst (λ f. IsTaken l.merge c.take-in-Some-2.new.self c.in-Some-2.event f second_places first_places) at.frame c.in_ok-take-in-Some-2.ensures);
+      xs = l.invariant.xs;
+      ys = one_passed b.entries l.ys c.pass-in-Some-2.new.self l.j l.invariant.ys c.pass-in-Some-2.ensures;
+    }
 
 pub returns-in-None-2-clause-none : goal.returns-in-None-2-clause-none
 returns-in-None-2-clause-none g c =
     let l = c.loop-i in
-    let xs = c.entries-xs.result.now in
-    let ys = c.entries-ys.result.now in
-    let rest : (l.i < length xs) ⊎ (l.j < length ys) = elim c.if-i-xs.branch [
-      | then-i-xs w ↦ inl w.if-i-xs.true
-      | else-i-xs+then-j-ys w ↦ inr w.if-j-ys.true
+    let a = c.args.first.now in
+    let b = c.args.second.now in
+    let u = c.version.result in
+    let v = c.version-in-None.result in
+    let x = c.next-x.result in
+    let y = c.next-y.result in
+    let rest : (l.i < length a.entries) ⊎ (l.j < length b.entries) = elim c.if-i-n.branch [
+      | then-i-n w ↦ inl (omega (arith, w.if-i-n.true, c.count-n.ensures))
+      | else-i-n+then-j-m w ↦ inr (omega (arith, w.if-j-m.true, c.count-m.ensures))
     ] in
-    let v = c.version.result in
-    let u = c.version-in-None.result in
     let first =
-    MatchOption-at_none (IsWaiting v First xs l.i (second_places l.merge)) (IsNext v First xs l.i (second_places l.merge))
+    MatchOption-at_none (Waits u First x (second_places l.merge)) (Goes u First x (second_places l.merge))
     c.in-None.is c.in_ok-event.ensures
     in
     let second =
-    MatchOption-at_none (IsWaiting u Second ys l.j (first_places l.merge)) (IsNext u Second ys l.j (first_places l.merge))
+    MatchOption-at_none (Waits v Second y (first_places l.merge)) (Goes v Second y (first_places l.merge))
     c.in-None-2.is c.in_ok-event-in-None.ensures
     in
-    dead_end c.args.first.now c.args.second.now l.i l.j l.merge.events.items (first_places l.merge) (second_places l.merge)
-    l.merge.made l.invariant xs ys c.entries-xs.ensures.entries c.entries-ys.ensures.entries rest
-    (subst (λ n. IsWaiting n First xs l.i (second_places l.merge)) c.version.ensures first)
-    (subst (λ n. IsWaiting n Second ys l.j (first_places l.merge)) c.version-in-None.ensures second)
+    dead_end a b l.i l.j l.merge.events.items (first_places l.merge) (second_places l.merge)
+    l.merge.made l.invariant.merged a.entries b.entries refl refl rest
+    (subst (λ n. IsWaiting n First a.entries l.i (second_places l.merge)) c.version.ensures
+    (waits_at u First a.entries l.xs l.i (second_places l.merge) l.invariant.xs x c.next-x.ensures first))
+    (subst (λ n. IsWaiting n Second b.entries l.j (first_places l.merge)) c.version-in-None.ensures
+    (waits_at v Second b.entries l.ys l.j (first_places l.merge) l.invariant.ys y c.next-y.ensures second))
 
 pub returns-clause-merge : goal.returns-clause-merge
 returns-clause-merge g c =
     let l = c.loop-i in
-    let x_is = ap length c.entries-xs.ensures.entries in
-    let y_is = ap length c.entries-ys.ensures.entries in
-    let i_le = l.invariant.i_le in
-    let j_le = l.invariant.j_le in
-    let i_end = c.if-i-xs.false in
-    let j_end = c.if-j-ys.false in
+    let i_le = l.invariant.merged.i_le in
+    let j_le = l.invariant.merged.j_le in
+    let i_end = c.if-i-n.false in
+    let j_end = c.if-j-m.false in
     whole c.args.first.now c.args.second.now l.i l.j l.merge.events.items (first_places l.merge) (second_places l.merge)
-    l.merge.made l.invariant (omega arith) (omega arith)
+    l.merge.made l.invariant.merged (omega (arith, c.count-n.ensures)) (omega (arith, c.count-m.ensures))

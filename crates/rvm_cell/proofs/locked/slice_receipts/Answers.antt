@@ -1,32 +1,38 @@
-use Rattle.std.proofs.Common.{rules, ◌≡◌, ℕ, ◌∙◌, ◌+◌, ◌++◌, ◌∷◌, length, ap, sym, subst, arith}
-use Rattle.rvm_cell.specs.Calls.{AreReceipts, IsReceipt, replies_of}
+use Rattle.std.proofs.Common.{◌∙◌, ◌+◌, ◌++◌, length, length-append, ap, sym, subst, refl, arith}
+use Rattle.rvm_cell.specs.Calls.{AreReceipts, replies_of}
+use Rattle.rvm_cell.specs.Runs.{all_of, run_receipts}
 use Rattle.rvm_cell.specs.Seats.{seat_of}
-use Rattle.rvm_journal.specs.Slices.{replies_to, step_of}
-use Rattle.rvm_cell.proofs.Receipts.{more_receipts, more_replies}
+use Rattle.rvm_journal.specs.Items.{replies_of_all}
+use Rattle.rvm_journal.specs.Slices.{replies_to}
+use Rattle.rvm_cell.proofs.Runs.{more_run, run_behind, run_length, run_replies, run_step}
 use Rattle.rvm_cell.proofs.locked.slice_receipts.Goals as goal
 
-pub loop-reply-preserved : goal.loop-reply-preserved
-loop-reply-preserved c =
-    let so = c.loop-reply.invariant in
+pub loop-run-preserved : goal.loop-run-preserved
+loop-run-preserved c =
+    let so = c.loop-run.invariant in
     let a = c.args in
-    let rs = c.loop-reply.receipts.items in
+    let rs = all_of c.loop-run.receipts.items in
+    let run = c.in-Some.run' in
     let left = c.next.new.self.rest.items in
-    let made = c.receipt_of_step in
-    let behind : c.loop-reply.behind ≡ length rs = search rules in
+    let rest = c.loop-run.run-iterator.rest.items in
     let steps = c.in-Some.ensures.steps in
-    let now = c.push_reserved.ensures.items in
-    let seat = seat_of a.seat a.count in
-    let is = subst (λ (n : ℕ). IsReceipt (seat_of a.seat (a.count + n)) (step_of (a.turn + n) a.harts) made.result)
-    behind made.ensures.receipt in
+    let behind = c.loop-run.behind in
+    let p = a.place + behind in
+    let n = a.count + c.from.result in
+    let t = c.from-in-loop-run.result + c.from-in-loop-run-2.result in
+    let rr = run_receipts p a.seat n t a.harts run in
+    let now = c.push_run.ensures.receipts in
+    let long = run_length p a.seat n t a.harts run in
+    let many = c.count-behind.ensures in
     record {
-      len = search rules;
-      left = omega (arith, so.left, ap length steps.0);
-      room = search rules;
-      replies = ap (λ xs. replies_of xs ++ replies_to left) now
-          ∙ more_replies rs made.result (replies_to c.loop-reply.reply-iterator.rest.items) (replies_to left)
-          (replies_to a.replies.items) so.replies
-          (ap replies_to steps.0 ∙ ap (λ x. x ∷ replies_to left) (sym made.ensures.reply));
-      are = subst (AreReceipts seat a.place a.turn a.harts) (sym now)
-          (more_receipts seat a.place a.turn a.harts rs made.result so.are
-          (made.ensures.place ∙ ap (λ n. a.place + n) behind) is);
+      len = omega (arith, so.len, c.push_run.ensures.few, many);
+      made = omega (arith, so.made, ap length now, length-append rs rr, long, many);
+      left = omega (arith, so.left, ap (λ xs. length (replies_of_all xs)) steps.0, run_step run left, many);
+      room = omega (arith, so.room, c.push_run.ensures.capacity);
+      replies = ap (λ xs. replies_of xs ++ replies_to (replies_of_all left)) now
+          ∙ more_run rs rr run left rest (replies_to (replies_of_all a.runs.items)) so.replies steps.0
+          (run_replies p a.seat n t a.harts run);
+      are = subst (AreReceipts (seat_of a.seat a.count) a.place a.turn a.harts) (sym now)
+          (run_behind (seat_of a.seat a.count) a.place a.turn a.harts run rs behind p n t so.are so.made refl
+          (ap (λ k. a.count + k) c.from.ensures) (omega (arith, c.from-in-loop-run.ensures, c.from-in-loop-run-2.ensures)));
     }

@@ -1,4 +1,5 @@
 use Rattle.std.proofs.Common.{◌≢◌, Err, ap, subst, sym}
+use Rattle.rvm_cell.specs.Runs.{all_of}
 use Rattle.rvm_worker.specs.declared.end.WorkEnd.TheVariants.{LinkFault}
 use Rattle.rvm_worker.specs.Work.{PlainCaller}
 use Rattle.rvm_hart_worker.specs.Calls.{IsRun}
@@ -14,9 +15,9 @@ returns-clause-run g c =
     let ran = is_run c.run-end.result (c.new.result, c.new-2.result) (new.at_a, new.at_b) before after c.args.harts c.args.steps
     (ap (λ (x : PlainCaller). x.receipts) c.new.ensures) (ap (λ (x : PlainCaller). x.receipts) c.new-2.ensures)
     c.run-end.ensures.run c.run-end.ensures.err in
-    subst (λ end. IsRun c.give_back.result.receipts.0.items c.give_back.result.receipts.1.items before after
+    subst (λ end. IsRun (all_of c.give_back.result.receipts.0.items) (all_of c.give_back.result.receipts.1.items) before after
     (end ≢ Err LinkFault) c.args.harts c.args.steps end) (sym back.end)
-    (subst (λ rs. IsRun rs c.give_back.result.receipts.1.items before after (c.run-end.result ≢ Err LinkFault)
+    (subst (λ rs. IsRun rs (all_of c.give_back.result.receipts.1.items) before after (c.run-end.result ≢ Err LinkFault)
     c.args.harts c.args.steps c.run-end.result) (sym back.receipts.0)
     (subst (λ rs. IsRun new.at_a.receipts rs before after (c.run-end.result ≢ Err LinkFault)
     c.args.harts c.args.steps c.run-end.result) (sym back.receipts.1) ran))

@@ -1,3 +1,4 @@
+use Rattle.rvm_cell.specs.Runs.{all_of}
 use Rattle.rvm_move.proofs.Told.{all_of_three}
 use Rattle.rvm_move.proofs.moving.close_both.Goals as goal
 
@@ -7,5 +8,5 @@ returns-clause-told_a g c closed =
     let third = c.add-3.ensures told.0 in
     let second = c.add-2.ensures third.0 in
     let first = c.add.ensures second.0 in
-    all_of_three c.close_host.result.recorded.journal.entries c.new-from_a.result.receipts.items c.args.turned.receipts.0.items
+    all_of_three c.close_host.result.recorded.journal.entries (all_of c.new-from_a.result.receipts.items) (all_of c.args.turned.receipts.0.items)
     _ _ _ _ _ c.new-from_a.ensures first.1 second.1 third.1 told.1

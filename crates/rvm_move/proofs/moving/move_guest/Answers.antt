@@ -1,4 +1,5 @@
 use Rattle.std.proofs.Common.{◌∙◌, ap, subst, sym}
+use Rattle.rvm_cell.specs.Runs.{all_of}
 use Rattle.rvm_move.proofs.Over.{move_is_over}
 use Rattle.rvm_move.proofs.Told.{asked_of_first, asked_of_second, run_of}
 use Rattle.rvm_move.specs.Ends.{fails_copying}
@@ -10,8 +11,8 @@ returns-clause-a g c = (
   asked_of_first c.args.plan.now.policy _ _ _ _ c.seat_and_work-carried.ensures.carried _ _ _ _ _ _ _ _ c.seat_and_work-carried.ensures.run
       c.close_both.result.a.fault c.close_both.result.a.recorded.journal.entries c.close_both.ensures.told_a,
   λ ends closed. move_is_over c.seat_and_work-carried.result.0.copier.end c.close_both.result.a.recorded.journal.entries
-      c.seat_and_work-carried.result.1.receipts.0.items c.seat_and_work-carried.result.0.copier.receipts.items
-      c.seat_and_work-carried.result.0.receiver_a.receipts.items c.seat_and_work-carried.ensures.carried.of_copier.ended
+      (all_of c.seat_and_work-carried.result.1.receipts.0.items) (all_of c.seat_and_work-carried.result.0.copier.receipts.items)
+      (all_of c.seat_and_work-carried.result.0.receiver_a.receipts.items) c.seat_and_work-carried.ensures.carried.of_copier.ended
       (ap fails_copying (sym c.close_both.ensures.copier) ∙ ends) (c.close_both.ensures.told_a closed),
 )
 

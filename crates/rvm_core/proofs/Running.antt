@@ -35,7 +35,7 @@ abbrev pub IsLogged : GuestState → Type 0
 IsLogged g = length g.dirty ≡ count_of g.guest
 
 -- a step of a hart that is there is that of the event
-there_steps : (h : ℕ) (g : Guest) → h < length g.board.harts → answered (event.Step h) g ≡ steps h g
+pub there_steps : (h : ℕ) (g : Guest) → h < length g.board.harts → answered (event.Step h) g ≡ steps h g
 there_steps h g there =
     ap (λ b. cond b (steps h g) (refuses BadHart g)) (lt-ltb h (length g.board.harts) there)
 

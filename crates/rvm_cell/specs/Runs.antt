@@ -1,0 +1,61 @@
+-- Receipts of steps in turn, as they are kept.
+use Rattle.std.specs.Prelude.{ℕ, zero, suc, ◌+◌, List, [], ◌∷◌, ◌++◌, Option, Some, None}
+use Rattle.rvm_hart.specs.declared.outcome.Stepped.TheVariants.{Retired}
+use Rattle.rvm_cell.specs.declared.items.ReceiptItem.{ReceiptItem}
+use Rattle.rvm_cell.specs.declared.items.ReceiptItem.TheVariants as item
+use Rattle.rvm_cell.specs.Receipts.{PlainReceipt}
+use Rattle.rvm_journal.specs.declared.run.StepRun.{StepRun}
+use Rattle.rvm_journal.specs.Slices.{step_of}
+use Rattle.rvm_message.specs.declared.step.StepReply.TheVariants.{Stepped}
+use Rattle.rvm_message.specs.declared.step.StepReply.{StepReply}
+use Rattle.rvm_message.specs.Steps.{reply_to_step}
+
+-- the receipt of a step of the hart whose turn it is
+abbrev pub step_receipt : (place seat count turn harts : ℕ) → StepReply → PlainReceipt
+step_receipt place seat count turn harts r =
+    record { place = place; seat = seat; count = count; event = step_of turn harts; reply = reply_to_step r }
+
+-- those of n steps of so many harts in turn, each of which retired an instruction
+unfoldable pub steps_receipts : (place seat count turn harts n : ℕ) → List PlainReceipt
+steps_receipts place seat count turn harts zero = []
+steps_receipts place seat count turn harts (suc n) =
+    step_receipt place seat count turn harts (Stepped Retired)
+    ∷ steps_receipts (place + 1) seat (count + 1) (turn + 1) harts n
+
+-- of a step behind others, if one was made
+abbrev pub last_receipt : (place seat count turn harts : ℕ) → Option StepReply → List PlainReceipt
+last_receipt place seat count turn harts None = []
+last_receipt place seat count turn harts (Some r) = step_receipt place seat count turn harts r ∷ []
+
+-- of a run
+abbrev pub run_receipts : (place seat count turn harts : ℕ) → StepRun → List PlainReceipt
+run_receipts place seat count turn harts run =
+    steps_receipts place seat count turn harts run.retired
+    ++ last_receipt (place + run.retired) seat (count + run.retired) (turn + run.retired) harts run.last
+
+-- as they are kept
+abbrev pub receipts_of : ReceiptItem → List PlainReceipt
+receipts_of (item.One r) = r ∷ []
+receipts_of (item.Steps s) = steps_receipts s.place s.seat s.count s.steps.turn s.steps.harts s.steps.count
+
+-- of items, one behind the other
+abbrev pub all_of : List ReceiptItem → List PlainReceipt
+all_of [] = []
+all_of (x ∷ items) = receipts_of x ++ all_of items
+
+-- the place of the first, the seat, how many calls it had made before the first, and how many they are
+abbrev pub place_of : ReceiptItem → ℕ
+place_of (item.One r) = r.place
+place_of (item.Steps s) = s.place
+
+abbrev pub seat_in : ReceiptItem → ℕ
+seat_in (item.One r) = r.seat
+seat_in (item.Steps s) = s.seat
+
+abbrev pub calls_before : ReceiptItem → ℕ
+calls_before (item.One r) = r.count
+calls_before (item.Steps s) = s.count
+
+abbrev pub count_in : ReceiptItem → ℕ
+count_in (item.One r) = 1
+count_in (item.Steps s) = s.steps.count

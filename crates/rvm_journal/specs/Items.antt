@@ -1,0 +1,88 @@
+-- Runs of steps, and the entries and replies that they stand for.
+use Rattle.std.specs.Prelude.{ℕ, zero, suc, ◌+◌, ◌%◌, Bool, false, List, [], ◌∷◌, ◌++◌, replicate, Option, Some, None}
+use Rattle.rvm_hart.specs.declared.outcome.Stepped as outcome
+use Rattle.rvm_hart.specs.declared.outcome.Stepped.TheVariants.{Retired}
+use Rattle.rvm_debug.specs.declared.retiring.Retired as told
+use Rattle.rvm_journal.specs.declared.item.ItemRef.{ItemRef}
+use Rattle.rvm_journal.specs.declared.item.ItemRef.TheVariants as look
+use Rattle.rvm_journal.specs.declared.item.Kind.{Kind}
+use Rattle.rvm_journal.specs.declared.item.Kind.TheVariants as kind
+use Rattle.rvm_journal.specs.declared.run.StepRun.{StepRun}
+use Rattle.rvm_journal.specs.Entries.{PlainEntry, silent}
+use Rattle.rvm_message.specs.declared.step.StepReply.{StepReply}
+use Rattle.rvm_message.specs.declared.step.StepReply.TheVariants.{Stepped}
+use Rattle.rvm_message.specs.Exchanges.{step_of_hart}
+use Rattle.rvm_message.specs.Replies.{ends_steps, reply_of}
+use Rattle.rvm_message.specs.Steps.{reply_to_step}
+
+-- the entry of a step of the hart whose turn it is
+abbrev pub step_entry : (turn harts : ℕ) → StepReply → PlainEntry
+step_entry turn harts r = silent (step_of_hart (turn % harts)) (reply_to_step r)
+
+-- n steps of so many harts in turn, from this turn on, each of which retired an instruction
+unfoldable pub steps_in_turn : (turn harts n : ℕ) → List PlainEntry
+steps_in_turn turn harts zero = []
+steps_in_turn turn harts (suc n) = step_entry turn harts (Stepped Retired) ∷ steps_in_turn (turn + 1) harts n
+
+-- as they are kept
+abbrev pub entries_of : Kind → List PlainEntry
+entries_of (kind.Entry e) = e ∷ []
+entries_of (kind.Steps s) = steps_in_turn s.turn s.harts s.count
+
+-- that are looked at
+abbrev pub entries_at : ItemRef → List PlainEntry
+entries_at (look.Entry e) = e.now ∷ []
+entries_at (look.Steps s) = steps_in_turn s.turn s.harts s.count
+
+-- of items, one behind the other
+abbrev pub all_of : List (List PlainEntry) → List PlainEntry
+all_of [] = []
+all_of (xs ∷ items) = xs ++ all_of items
+
+-- a step behind others, if one was made
+abbrev pub last_of : (turn harts : ℕ) → Option StepReply → List PlainEntry
+last_of turn harts None = []
+last_of turn harts (Some r) = step_entry turn harts r ∷ []
+
+-- the entries of a run from this turn on
+abbrev pub entries_in : (turn harts : ℕ) → StepRun → List PlainEntry
+entries_in turn harts run =
+    steps_in_turn turn harts run.retired ++ last_of (turn + run.retired) harts run.last
+
+-- the reply behind others, if there is one
+abbrev pub last_reply : Option StepReply → List StepReply
+last_reply None = []
+last_reply (Some r) = r ∷ []
+
+-- the replies of a run
+abbrev pub replies_in : StepRun → List StepReply
+replies_in run = replicate run.retired (Stepped Retired) ++ last_reply run.last
+
+-- of runs, one behind the other
+abbrev pub replies_of_all : List StepRun → List StepReply
+replies_of_all [] = []
+replies_of_all (run ∷ runs) = replies_in run ++ replies_of_all runs
+
+-- how many steps a run has
+abbrev pub one_if : Option StepReply → ℕ
+one_if None = 0
+one_if (Some r) = 1
+
+abbrev pub steps_of : StepRun → ℕ
+steps_of run = run.retired + one_if run.last
+
+-- what a host told, as a run
+abbrev pub reply_of_last : Option outcome.Stepped → Option StepReply
+reply_of_last None = None
+reply_of_last (Some s) = Some (Stepped s)
+
+abbrev pub run_of : told.Retired → StepRun
+run_of made = record { retired = made.count; last = reply_of_last made.last }
+
+-- whether a run ends with a reply after which no step is made
+abbrev pub ends_at : Option StepReply → Bool
+ends_at None = false
+ends_at (Some r) = ends_steps (reply_of (reply_to_step r))
+
+abbrev pub ends_run : StepRun → Bool
+ends_run run = ends_at run.last

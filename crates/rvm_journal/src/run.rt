@@ -1,0 +1,51 @@
+//! Runs of steps.
+
+ghost use Rattle.std.specs.Prelude.{◌≡◌, ◌<◌, ◌^◌};
+ghost use Rattle.rvm_journal.specs.Items.{ends_run, run_of, steps_of};
+
+use rvm_debug::Retired;
+use rvm_message::StepReply;
+
+/// Replies to steps, one behind the other: so many that retired an instruction, and behind them another one,
+/// if there is one.
+#[derive(Clone, Copy, Debug, PartialEq, Eq)]
+pub struct StepRun {
+    pub retired: u32,
+    pub last: Option<StepReply>,
+}
+
+impl StepRun {
+    /// What a host told of steps.
+    pub(crate) fn of(made: Retired) -> StepRun
+        ensures { result ≡ run_of made }
+    {
+        StepRun {
+            retired: made.count,
+            last: match made.last {
+                None => None,
+                Some(stepped) => Some(StepReply::Stepped(stepped)),
+            },
+        }
+    }
+
+    /// How many steps it has.
+    pub fn count(self) -> u32
+        requires { steps_of self < 2 ^ 32 }
+        ensures { result ≡ steps_of self }
+    {
+        match self.last {
+            None => self.retired,
+            Some(_) => self.retired + 1,
+        }
+    }
+
+    /// Whether no step is made behind it.
+    pub fn ends_steps(self) -> bool
+        ensures { result ≡ ends_run self }
+    {
+        match self.last {
+            None => false,
+            Some(reply) => reply.ends_steps(),
+        }
+    }
+}

@@ -1,0 +1,35 @@
+-- The answers of items.
+use Rattle.std.proofs.Common.{◌≡◌, ◌∙◌, ℕ, zero, suc, ◌+◌, ◌<◌, List, [], ◌∷◌, ◌++◌, append-nil, append_assoc, get_or, length, take, Option, Some, None, refl, sym, ap}
+use Rattle.std.proofs.lemmas.List.{take_more}
+use Rattle.std.proofs.lemmas.List.Concat.{flat_map-append}
+use Rattle.std.specs.Io.KnownBytes.{Appends}
+use Rattle.rvm_journal.specs.Entries.{PlainEntry}
+use Rattle.rvm_journal.specs.Items.{all_of, steps_in_turn}
+use Rattle.rvm_journal.proofs.Items.{all_push}
+use Rattle.rvm_move_command.specs.Answers.{answer_text, answers_text}
+
+-- one entry
+pub text_of_entry : (e : PlainEntry) → answers_text (e ∷ []) ≡ answer_text e
+text_of_entry e = append-nil (answer_text e)
+
+-- steps have no answer
+pub no_text : (turn harts n : ℕ) → answers_text (steps_in_turn turn harts n) ≡ []
+unfolding steps_in_turn
+no_text turn harts zero = refl
+no_text turn harts (suc n) = no_text (turn + 1) harts n
+
+-- one item more
+pub one_more : (items : List (List PlainEntry)) (i : ℕ) (x : List PlainEntry) → i < length items → get_or items i x ≡ x
+    → answers_text (all_of (take (i + 1) items)) ≡ answers_text (all_of (take i items)) ++ answers_text x
+one_more items i x less is =
+    ap (λ zs. answers_text (all_of zs)) (take_more items i x less)
+    ∙ ap answers_text (all_push (take i items) (get_or items i x))
+    ∙ flat_map-append answer_text (all_of (take i items)) (get_or items i x)
+    ∙ ap (λ z. answers_text (all_of (take i items)) ++ answers_text z) is
+
+-- what was written goes on
+pub appends_on : (a b c : Option (List ℕ)) (xs ys : List ℕ) → Appends a b xs → Appends b c ys → Appends a c (xs ++ ys)
+appends_on None b c xs ys p q = tt
+appends_on (Some xs0) None c xs ys p q = absurd p
+appends_on (Some xs0) (Some ys0) None xs ys p q = absurd q
+appends_on (Some xs0) (Some ys0) (Some zs0) xs ys p q = q ∙ ap (λ (l : List ℕ). l ++ ys) p ∙ append_assoc xs0 xs ys
