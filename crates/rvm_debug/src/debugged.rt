@@ -363,11 +363,11 @@ impl<M: PagedMemory> DirtyLog for Debugged<M> {
     ghost beside_same = { λ d. refl };
 
     fn peek_dirty(&self, first: u32) -> u64 {
-        self.board.memory().peek_dirty(first)
+        PagedMemory::peek_dirty(self.board.memory(), first)
     }
 
     fn dirty_count(&self) -> u32 {
-        self.board.memory().dirty_count()
+        PagedMemory::dirty_count(self.board.memory())
     }
 
     fn take_dirty(&mut self, into: &mut PageSet) {

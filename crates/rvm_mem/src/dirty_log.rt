@@ -1,9 +1,10 @@
 //! What has a dirty log that is looked at and taken: a memory, or a guest with its memory.
 
-ghost use Rattle.std.specs.Prelude.{◌≡◌, ◌%◌, List, Bool, false, length, replicate};
+ghost use Rattle.std.specs.Prelude.{◌≡◌, ◌%◌, List, Bool, false, length, refl, replicate};
 ghost use Rattle.rvm_mem.specs.Pages.{bits, count, window};
 
 use crate::page_set::PageSet;
+use crate::paged::PagedMemory;
 
 /// A dirty log: the set of pages that were written since the log was last taken. Whatever else the
 /// value has is left as it is when the log is taken; `PagedMemory` promises the same of a memory.
@@ -34,4 +35,24 @@ pub trait DirtyLog {
         ensures taken { into.new ≡ log self.old }
         ensures log { log self.new ≡ replicate (length (log self.old)) false }
         ensures rest { beside self.old self.new };
+}
+
+impl<M: PagedMemory> DirtyLog for M {
+    ghost log = { λ m. M.dirty m };
+
+    ghost beside = { λ old new. M.bytes new ≡ M.bytes old };
+
+    ghost beside_same = { λ m. refl };
+
+    fn peek_dirty(&self, first: u32) -> u64 {
+        PagedMemory::peek_dirty(self, first)
+    }
+
+    fn dirty_count(&self) -> u32 {
+        PagedMemory::dirty_count(self)
+    }
+
+    fn take_dirty(&mut self, into: &mut PageSet) {
+        PagedMemory::take_dirty(self, into);
+    }
 }

@@ -30,6 +30,14 @@ pub trait PagedMemory: Memory {
         requires { page < length (Self.dirty self.now) }
         ensures { result.now ≡ page_of page (Self.bytes self.now) };
 
+    /// Copies the bytes of a page into an array.
+    fn copy_page(&self, page: u32, into: &mut [u8; PAGE_SIZE as usize])
+        requires { page < length (Self.dirty self.now) }
+        ensures { into.new ≡ page_of page (Self.bytes self.now) }
+    {
+        *into = *self.page(page);
+    }
+
     /// Writes a page over; the dirty log is left as it was.
     fn put_page(&mut self, page: u32, from: &[u8; PAGE_SIZE as usize])
         requires { page < length (Self.dirty self.old) }
