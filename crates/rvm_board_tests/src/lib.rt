@@ -6,7 +6,7 @@
 //! Stands on the libraries, which have no tests of their own. What it expects comes from the
 //! definitions' worked cases and from the manual's formats, never from this program.
 //!
-//! `memory`, `paged`, `frames`, `state` and `scripts` each test one crate; `boards` makes the boards of the
+//! `memory`, `paged`, `frames`, `state` and `scripts` each test one crate, `limits` what is as long as it may be; `boards` makes the boards of the
 //! last two, `retry` makes a call again.
 #![tactic(auto)]
 
@@ -14,6 +14,8 @@
 mod boards;
 #[cfg(test)]
 mod frames;
+#[cfg(test)]
+mod limits;
 #[cfg(test)]
 mod memory;
 #[cfg(test)]

@@ -51,7 +51,9 @@ fn a_memory_is_made_and_its_dirty_log_is_taken(rt: HostRuntime) -> Result<(), Fa
     assert!(rt; ram.len() == 8192 && ram.pages() == 2 && taken.pages() == 2);
     ram.store8(4097, 5);
     assert_eq!(rt; (ram.peek_dirty(0), ram.dirty_count()), (0b10, 1));
-    let page = *ram.page(1);
+    let mut page = [7; 4096];
+    ram.copy_page(1, &mut page);
+    assert!(rt; page == *ram.page(1));
     assert_eq!(rt; (page[0], page[1], page[4095]), (0, 5, 0));
     ram.put_page(0, &page);
     assert_eq!(rt; (ram.load8(0), ram.load8(1)), (0, 5));

@@ -88,6 +88,14 @@ a_limit_is_told : move_text (reply.MoveDeclined 3) None ≡ codes "move declined
 unfolding digits
 a_limit_is_told = refl
 
+a_limit_of_the_target_is_told : move_text (reply.Declined 3) (Some 1) ≡ codes "declined 3 -> 1\n"
+unfolding digits
+a_limit_of_the_target_is_told = refl
+
+a_part_that_is_kept : move_text (reply.Kept 1 2) None ≡ codes "kept 1 of 2\n"
+unfolding digits
+a_part_that_is_kept = refl
+
 a_move_and_its_frame : move_text (reply.Begun 1) (Some 0) ≡ codes "begun 1 -> 0\n"
 unfolding digits
 a_move_and_its_frame = refl
