@@ -9,6 +9,8 @@ PROGRAM = os.path.join(BUILD, "rvmove")
 TWO_MEMORIES = os.path.join(BUILD, "rvm_bench")
 LONG_JOURNALS = os.path.join(BUILD, "rvm_journal_cases")
 INTERPRETER = os.path.join(BUILD, "interpreter")
+LIMIT_BY_GOTO = os.path.join(BUILD, "limit-goto")
+LIMIT_BY_SWITCH = os.path.join(BUILD, "limit-switch")
 PAGES_PROGRAM = os.path.join(BUILD, "pages")
 
 # Counts x6 down from 4,000,000 and the word at 0x80001000 up, then halts: 20,000,005 steps.
@@ -30,7 +32,18 @@ REPEATED = 240
 
 
 def build_interpreter():
+    """The plain interpreter in C."""
     subprocess.run(["gcc", "-O2", "-o", INTERPRETER, os.path.join(HERE, "interpreter.c")], check=True)
+
+
+def build_limits():
+    """The interpreter in C that is as fast as C can: by computed goto (gcc), and by one switch (the kit's clang)."""
+    source = os.path.join(HERE, "limit.c")
+    subprocess.run(["gcc", "-O3", "-fno-gcse", "-fno-crossjumping", "-o", LIMIT_BY_GOTO, source], check=True)
+    kit = os.path.dirname(subprocess.run(["rt", "doc"], capture_output=True, text=True, check=True).stdout.strip())
+    headers = subprocess.run(["gcc", "-print-file-name=include"], capture_output=True, text=True, check=True)
+    clang = [os.path.join(kit, "toolchain", "bin", "clang"), "-O3", "-isystem", headers.stdout.strip()]
+    subprocess.run([*clang, "-DSWITCH", "-o", LIMIT_BY_SWITCH, source], check=True)
 
 
 def build_pages():
