@@ -17,7 +17,7 @@ use crate::atomics::Amo;
 use crate::bus::{Bus, RAM_BASE};
 use crate::hart::Hart;
 use crate::jumps::Comparison;
-use rvm_isa::straight::decode_straight;
+use rvm_isa::decode_straight;
 use rvm_isa::{Imm12, Ins, Off13, Reg, Shamt};
 use rvm_mem::Memory;
 use rvm_word::{add_signed, sext};
