@@ -167,3 +167,39 @@ pub record NoTurn (h k : ℕ) (g : Guest) : Type 0 where
 pub no_turn : (h k : ℕ) (g : Guest) → k ≡ 0 → NoTurn h k g
 unfolding straight.steps
 no_turn h k g e = subst (λ i. NoTurn h i g) (sym e) (record { guest = gone_none h g; pages = refl })
+
+-- a guest and its log are those that a step of a hart leaves, which retires
+pub record Turned (h : ℕ) (left : Guest) (log : List Bool) (now : GuestState) : Type 0 where
+  pub guest : left ≡ (steps h now.guest).guest
+  pub dirty : log ≡ mark_all (steps h now.guest).pages now.dirty
+  pub reply : reply.Retired ≡ (steps h now.guest).reply
+
+pub turned_once : (h k : ℕ) (g : Guest) (log : List Bool) (b : Board) (dirty : List Bool) (now : GuestState) → record { guest = g; dirty = log } ≡ now
+    → h < length now.guest.board.harts → is_in (pc_of h now.guest) now.guest.breakpoints ≡ false → get_or now.guest.stopped h false ≡ false → k ≡ 1
+    → b ≡ with_machine h (straight.steps k (machine_at h g.board)).machine g.board → dirty ≡ mark_all (straight.steps k (machine_at h g.board)).pages log
+    → (straight.steps k (machine_at h g.board)).retired ≡ true → Turned h (with_board b g) dirty now
+turned_once h k g log b dirty now view inside no_breakpoint none one left marked retired =
+    subst (λ (s : GuestState). h < length s.guest.board.harts → is_in (pc_of h s.guest) s.guest.breakpoints ≡ false → get_or s.guest.stopped h false ≡ false → Turned h (with_board b g) dirty s) view
+    (λ within at stands.
+    let o : OneTurn h g = one_turn h g within at stands (subst (λ i. (straight.steps i (machine_at h g.board)).retired ≡ true) one retired) in
+    record {
+      guest = ap (λ (x : Board). with_board x g) left ∙ ap (λ i. gone h i g) one ∙ o.guest;
+      dirty = marked ∙ ap (λ i. mark_all (straight.steps i (machine_at h g.board)).pages log) one ∙ ap (λ ps. mark_all ps log) o.pages;
+      reply = o.reply;
+    })
+    inside no_breakpoint none
+
+-- a guest and its log are as they were
+pub record Same (left : Guest) (log : List Bool) (now : GuestState) : Type 0 where
+  pub guest : left ≡ now.guest
+  pub dirty : log ≡ now.dirty
+
+pub not_turned : (h k : ℕ) (g : Guest) (log : List Bool) (b : Board) (dirty : List Bool) (now : GuestState) → record { guest = g; dirty = log } ≡ now → k ≡ 0
+    → b ≡ with_machine h (straight.steps k (machine_at h g.board)).machine g.board → dirty ≡ mark_all (straight.steps k (machine_at h g.board)).pages log
+    → Same (with_board b g) dirty now
+not_turned h k g log b dirty now view none left marked =
+    let still : NoTurn h k g = no_turn h k g none in
+    record {
+      guest = ap (λ (x : Board). with_board x g) left ∙ still.guest ∙ ap (λ (s : GuestState). s.guest) view;
+      dirty = marked ∙ ap (λ ps. mark_all ps log) still.pages ∙ ap (λ (s : GuestState). s.dirty) view;
+    }

@@ -45,14 +45,14 @@ all_marked (b ∷ bs) a marks size e =
     (λ later. all_marked bs a (marked b marks) more later)
 
 contrary : (p q : Bool) → (p ≡ true → q ≡ true) → q ≡ false → p ≡ false
-contrary false q implies no = refl
-contrary true q implies no = sym (implies refl) ∙ no
+contrary false q implies never = refl
+contrary true q implies never = sym (implies refl) ∙ never
 
 -- an address with no mark is none of those
 pub not_in : (a : ℕ) (xs : List ℕ) → is_marked a (marks_of xs) ≡ false → is_in a xs ≡ false
 unfolding marks_of
-not_in a xs no =
-    contrary (is_in a xs) (is_marked a (marks_of xs)) (λ is. all_marked xs a (replicate 1024 false) (length-replicate 1024 false) is) no
+not_in a xs unmarked =
+    contrary (is_in a xs) (is_marked a (marks_of xs)) (λ is. all_marked xs a (replicate 1024 false) (length-replicate 1024 false) is) unmarked
 
 not_so : (b : Bool) → not b ≡ true → b ≡ false
 not_so false e = refl

@@ -110,8 +110,9 @@ some_more : (k n turn : ℕ) (old between : GuestState) → Retire 1 n turn old 
     → Retire 1 (n + k) turn old (gone_on k between)
 unfolding straight.steps
 some_more zero n turn old between are inside stand stops retired =
-    subst (λ i. Retire 1 i turn old (gone_on 0 between)) (omega arith)
-    (subst (λ x. Retire 1 n turn old x) (λ i. record { guest = sym (gone_none 0 between.guest) i; dirty = between.dirty }) are)
+    let same : between ≡ gone_on 0 between = λ i. record { guest = sym (gone_none 0 between.guest) i; dirty = between.dirty } in
+    let all : n ≡ n + 0 = omega arith in
+    subst (λ i. Retire 1 i turn old (gone_on 0 between)) all (subst (λ (x : GuestState). Retire 1 n turn old x) same are)
 some_more (suc k) n turn old between are inside stand stops retired =
     let s : Steps = straight.steps k (machine_at 0 between.guest.board) in
     let none : get_or between.guest.stopped 0 false ≡ false = stand (omega arith) in
@@ -120,7 +121,8 @@ some_more (suc k) n turn old between are inside stand stops retired =
     let to : gone_on (suc k) between ≡ stepped 0 (gone_on k between) =
     ap (λ (d : List Bool). record { guest = gone 0 (suc k) between.guest; dirty = d }) (mark_more s.pages (step s.machine).pages between.dirty)
     ∙ sym (ap (λ (t : Answered). record { guest = t.guest; dirty = mark_all t.pages (mark_all s.pages between.dirty) }) last.turned) in
-    subst (λ i. Retire 1 i turn old (gone_on (suc k) between)) (omega arith)
+    let all : suc (n + k) ≡ n + suc k = omega arith in
+    subst (λ i. Retire 1 i turn old (gone_on (suc k) between)) all
     (retire_more 1 (n + k) turn 0 old (gone_on k between) (gone_on (suc k) between) so_far (next_of_one (turn + (n + k)))
     (omega (arith, inside, length-set between.guest.board.harts 0 s.machine.hart)) (ap (λ (t : Answered). t.reply) last.turned) to)
 
@@ -131,6 +133,6 @@ pub retire_straight : (k n m turn : ℕ) (old between new : GuestState) → Reti
     → new.guest ≡ gone 0 k between.guest → new.dirty ≡ mark_all (straight.steps k (machine_at 0 between.guest.board)).pages between.dirty
     → n + k ≡ m → Retire 1 m turn old new
 retire_straight k n m turn old between new are inside stand stops retired left marked all =
+    let is : gone_on k between ≡ new = λ i. record { guest = sym left i; dirty = sym marked i } in
     subst (λ i. Retire 1 i turn old new) all
-    (subst (λ x. Retire 1 (n + k) turn old x) (λ i. record { guest = sym left i; dirty = sym marked i })
-    (some_more k n turn old between are inside stand stops retired))
+    (subst (λ (x : GuestState). Retire 1 (n + k) turn old x) is (some_more k n turn old between are inside stand stops retired))

@@ -42,7 +42,7 @@ impl Breakpoints {
     {
         Breakpoints {
             addresses: ArrayVec::new(),
-            marks: Marks::new(),
+            marks: marks_for(&[]),
         }
     }
 
