@@ -5,7 +5,7 @@ ghost use Rattle.std.specs.Prelude.{◌≡◌, ◌%◌, ◌*◌, ◌^◌, map, �
 ghost use Rattle.rvm_mem.specs.Bytes.{slice};
 ghost use Rattle.rvm_mem.specs.Pages.{mark_all};
 ghost use Rattle.rvm_hart.specs.Bus.{in_ram, ram_base, ram_load};
-ghost use Rattle.rvm_hart.specs.Straight.{steps};
+ghost use Rattle.rvm_hart.specs.Straight.{all_pass, input_stays, steps};
 ghost use Rattle.rvm_hart.specs.Fields.{CanBeHeld, fields_of, is_in_ram, with_number};
 ghost use Rattle.rvm_board.specs.declared.error.BoardError.TheVariants.{BadSize};
 ghost use Rattle.rvm_board.specs.declared.error.PokeError.TheVariants.{BadHart, OutOfRange};
@@ -15,7 +15,7 @@ ghost use Rattle.rvm_board.specs.Board.{at_reset, new_hart, hart_at, machine_at,
 
 use crate::error::{BoardError, PokeError};
 use rvm_dev::{DeviceFields, Devices, InputFull};
-use rvm_hart::{Bus, Hart, HartFields, PC, Stepped};
+use rvm_hart::{Bus, Hart, HartFields, Marks, PC, Stepped};
 use rvm_mem::{Memory, PageSet, PagedMemory};
 use rvm_res::Reservations;
 use std::alloc::{AllocError, Global};
@@ -204,10 +204,11 @@ impl<M: Memory> Board<M> {
         stepping.step(&mut self.bus)
     }
 
-    /// Steps of a hart, at most `count`, as long as its instructions reach registers and RAM alone and nothing
-    /// interrupts them; says how many are left.
+    /// Makes steps of a hart on the straight path, at most `count`: up to the first whose instruction
+    /// reaches more than registers, RAM and reservations, is interrupted, or, if `watched`, begins at a
+    /// mark. Returns how many are left.
     #[inline(always)]
-    pub fn run_straight(&mut self, hart: u32, count: u32) -> u32
+    pub fn run_straight(&mut self, hart: u32, count: u32, marks: &Marks, watched: bool) -> u32
         requires { hart < length self.old.plain.harts }
         ensures left { result ≤ count }
         ensures board { self.new.plain ≡ with_machine hart
@@ -215,9 +216,12 @@ impl<M: Memory> Board<M> {
         ensures dirty { self.new.dirty ≡ mark_all
             (steps (count - result) (machine_at hart self.old.plain)).pages self.old.dirty }
         ensures retired { (steps (count - result) (machine_at hart self.old.plain)).retired ≡ true }
+        ensures pass { all_pass watched marks.now (count - result) (machine_at hart self.old.plain)
+            ≡ true }
+        ensures input { input_stays (count - result) (machine_at hart self.old.plain) ≡ true }
     {
         let stepping = &mut self.harts[hart as usize];
-        stepping.run_straight(&mut self.bus, count)
+        stepping.run_straight(&mut self.bus, count, marks, watched)
     }
 
     /// A byte comes to the console; `InputFull`, and nothing changes, where 16 wait.

@@ -6,8 +6,8 @@
 //! Stands on the libraries, which have no tests of their own. What it expects comes from the
 //! definitions' worked cases and from the manual's formats, never from this program.
 //!
-//! `memory`, `paged`, `frames`, `state` and `scripts` each test one crate, `limits` what is as long as it may be; `boards` makes the boards of the
-//! last two, `retry` makes a call again.
+//! `memory`, `paged`, `frames`, `state`, `scripts` and `straight` each test one crate, and `limits` what is as long
+//! as it may be; `boards` makes the boards of `state`, `scripts` and `straight`, `retry` makes a call again.
 #![tactic(auto)]
 
 #[cfg(test)]
@@ -26,3 +26,5 @@ mod retry;
 mod scripts;
 #[cfg(test)]
 mod state;
+#[cfg(test)]
+mod straight;

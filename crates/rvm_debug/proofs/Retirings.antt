@@ -1,13 +1,20 @@
 -- Steps of harts in turn, one by one.
-use Rattle.std.proofs.Common.{List, [], ◌++◌, Bool, ◌≡◌, ◌∙◌, ℕ, zero, suc, ◌+◌, ◌%◌, ◌<◌, length, Option, Some, None, refl, sym, ap, subst, arith}
+use Rattle.std.proofs.Common.{List, [], ◌++◌, Bool, true, false, ◌≡◌, ◌∙◌, ℕ, zero, suc, ◌+◌, ◌%◌, ◌<◌, length, get_or, Option, Some, None, refl, sym, ap, subst, arith}
+use Rattle.std.proofs.lemmas.List.{length-set}
 use Rattle.rvm_hart.specs.declared.outcome.Stepped.{Stepped}
 use Rattle.rvm_debug.specs.declared.event.BoardReply.TheVariants as reply
 use Rattle.rvm_debug.specs.declared.retiring.Retired.{Retired}
 use Rattle.rvm_debug.specs.Guest.{GuestState}
-use Rattle.rvm_debug.specs.Events.{reply_of, steps}
+use Rattle.rvm_debug.specs.Events.{Answered, reply_of, steps}
+use Rattle.rvm_debug.specs.Marks.{gone, none_stops}
 use Rattle.rvm_debug.specs.Retiring.{Ends, Retire, RetiresThen, stepped}
 use Rattle.std.proofs.Math.Nat.{mod-add-mod, mod-lt}
 use Rattle.rvm_mem.specs.Pages.{mark_all}
+use Rattle.rvm_hart.specs.Step.{step}
+use Rattle.rvm_hart.specs.Straight.{Steps}
+use Rattle.rvm_hart.specs.Straight as straight
+use Rattle.rvm_board.specs.Board.{machine_at}
+use Rattle.rvm_debug.proofs.Going.{Last, gone_none, last_of}
 use Rattle.rvm_debug.proofs.Turning.{mark_more}
 
 -- one more
@@ -89,3 +96,43 @@ pub next_of : (harts turn n h : ℕ) → h ≡ (turn + n) % harts → (h + 1) % 
 next_of harts turn n h is =
     let one : turn + n + 1 ≡ turn + suc n = omega arith in
     ap (λ k. (k + 1) % harts) is ∙ mod-add-mod (turn + n) harts 1 ∙ ap (λ k. k % harts) one
+
+-- a guest and its dirty log after k steps of hart 0
+abbrev gone_on : ℕ → GuestState → GuestState
+gone_on k g =
+    record { guest = gone 0 k g.guest; dirty = mark_all (straight.steps k (machine_at 0 g.guest.board)).pages g.dirty }
+
+-- k more of hart 0
+some_more : (k n turn : ℕ) (old between : GuestState) → Retire 1 n turn old between → 0 < length between.guest.board.harts
+    → (0 < k → get_or between.guest.stopped 0 false ≡ false)
+    → none_stops between.guest.breakpoints k (machine_at 0 between.guest.board) ≡ true
+    → (straight.steps k (machine_at 0 between.guest.board)).retired ≡ true
+    → Retire 1 (n + k) turn old (gone_on k between)
+unfolding straight.steps
+some_more zero n turn old between are inside stand stops retired =
+    let same : between ≡ gone_on 0 between = λ i. record { guest = sym (gone_none 0 between.guest) i; dirty = between.dirty } in
+    let all : n ≡ n + 0 = omega arith in
+    subst (λ i. Retire 1 i turn old (gone_on 0 between)) all (subst (λ (x : GuestState). Retire 1 n turn old x) same are)
+some_more (suc k) n turn old between are inside stand stops retired =
+    let s : Steps = straight.steps k (machine_at 0 between.guest.board) in
+    let none : get_or between.guest.stopped 0 false ≡ false = stand (omega arith) in
+    let last : Last k 0 between.guest = last_of k 0 between.guest inside none retired stops in
+    let so_far : Retire 1 (n + k) turn old (gone_on k between) = some_more k n turn old between are inside (λ some. none) last.stops last.retired in
+    let to : gone_on (suc k) between ≡ stepped 0 (gone_on k between) =
+    ap (λ (d : List Bool). record { guest = gone 0 (suc k) between.guest; dirty = d }) (mark_more s.pages (step s.machine).pages between.dirty)
+    ∙ sym (ap (λ (t : Answered). record { guest = t.guest; dirty = mark_all t.pages (mark_all s.pages between.dirty) }) last.turned) in
+    let all : suc (n + k) ≡ n + suc k = omega arith in
+    subst (λ i. Retire 1 i turn old (gone_on (suc k) between)) all
+    (retire_more 1 (n + k) turn 0 old (gone_on k between) (gone_on (suc k) between) so_far (next_of_one (turn + (n + k)))
+    (omega (arith, inside, length-set between.guest.board.harts 0 s.machine.hart)) (ap (λ (t : Answered). t.reply) last.turned) to)
+
+pub retire_straight : (k n m turn : ℕ) (old between new : GuestState) → Retire 1 n turn old between → 0 < length between.guest.board.harts
+    → (0 < k → get_or between.guest.stopped 0 false ≡ false)
+    → none_stops between.guest.breakpoints k (machine_at 0 between.guest.board) ≡ true
+    → (straight.steps k (machine_at 0 between.guest.board)).retired ≡ true
+    → new.guest ≡ gone 0 k between.guest → new.dirty ≡ mark_all (straight.steps k (machine_at 0 between.guest.board)).pages between.dirty
+    → n + k ≡ m → Retire 1 m turn old new
+retire_straight k n m turn old between new are inside stand stops retired left marked all =
+    let is : gone_on k between ≡ new = λ i. record { guest = sym left i; dirty = sym marked i } in
+    subst (λ i. Retire 1 i turn old new) all
+    (subst (λ (x : GuestState). Retire 1 (n + k) turn old x) is (some_more k n turn old between are inside stand stops retired))

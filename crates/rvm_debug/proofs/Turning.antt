@@ -39,14 +39,31 @@ mark_more [] qs dirty = refl
 mark_more (p ∷ ps) qs dirty = mark_more ps qs (mark p dirty)
 
 -- of one hart, each order is the same
-pub one_hart : (order : Order) (n : ℕ) (g : Guest) → length g.board.harts ≡ 1 → after_turns order n 0 g ≡ after_turns Alone n 0 g
+hart_0 : (order : Order) (n : ℕ) (g : Guest) → length g.board.harts ≡ 1 → after_turns order n 0 g ≡ after_turns Alone n 0 g
 unfolding after_turns
-one_hart Alone n g one = refl
-one_hart RoundRobin zero g one = refl
-one_hart RoundRobin (suc n) g one =
+hart_0 Alone n g one = refl
+hart_0 RoundRobin zero g one = refl
+hart_0 RoundRobin (suc n) g one =
     let s : Answered = steps 0 g in
     ap (λ k. unless_stopped (stop_in s.reply) s (after_turns RoundRobin n (1 % k) s.guest)) one
-    ∙ ap (unless_stopped (stop_in s.reply) s) (one_hart RoundRobin n s.guest (steps_count 0 g ∙ one))
+    ∙ ap (unless_stopped (stop_in s.reply) s) (hart_0 RoundRobin n s.guest (steps_count 0 g ∙ one))
+
+pub one_hart : (order : Order) (n h : ℕ) (g : Guest) → length g.board.harts ≡ 1 → h < length g.board.harts → after_turns order n h g ≡ after_turns Alone n h g
+one_hart order n h g one inside =
+    let first : h ≡ 0 = omega (arith, one, inside) in
+    rw first (hart_0 order n g one)
+
+-- no step changes the breakpoints
+steps_on_breaks : (h : ℕ) (g : Guest) (stop : Bool) → (cond stop (leaves (with_stopped h true g) (Break (pc_of h g))) (takes_step h g)).guest.breakpoints ≡ g.breakpoints
+steps_on_breaks h g true = refl
+steps_on_breaks h g false = refl
+
+halted_breaks : (h : ℕ) (g : Guest) (halted : Option ℕ) → (events.unless_halted halted h g).guest.breakpoints ≡ g.breakpoints
+halted_breaks h g None = steps_on_breaks h g (stops h g)
+halted_breaks h g (Some status) = refl
+
+pub steps_breaks : (h : ℕ) (g : Guest) → (steps h g).guest.breakpoints ≡ g.breakpoints
+steps_breaks h g = halted_breaks h g g.board.shared.devices.halted
 
 -- the turns that were made, and those that are left, are all
 pub record Turning (all left : AfterTurns) (made : ℕ) (first dirty : List Bool) : Type 0 where

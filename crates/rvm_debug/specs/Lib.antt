@@ -1,5 +1,6 @@
 pub mod Guest
 pub mod Events
+pub mod Marks
 pub mod Kept
 pub mod Parts
 pub mod Turns

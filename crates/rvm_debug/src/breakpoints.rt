@@ -2,8 +2,10 @@
 
 ghost use Rattle.std.specs.Prelude.{◌≡◌, ◌≤◌, ◌↔◌, [], length, OnOk, OnErr, IsErr, false, count_by, nat_lt, if◌then◌else◌, IsTrue};
 ghost use Rattle.rvm_debug.specs.Guest.{AreRising, is_in, with, without};
+ghost use Rattle.rvm_debug.specs.Marks.{marks_of};
 
 use arrayvec::ArrayVec;
+use rvm_hart::Marks;
 use std::marker::Model;
 
 /// The most breakpoints that are set at once.
@@ -13,21 +15,24 @@ pub const MAX_BREAKPOINTS: usize = 64;
 #[derive(Drop)]
 pub(crate) struct Full;
 
-/// At most 64 addresses, rising.
+/// At most 64 addresses, rising, each of which is marked: most other addresses need no search.
 #[derive(Drop)]
 pub(crate) struct Breakpoints {
     addresses: ArrayVec<u32, MAX_BREAKPOINTS>,
+    marks: Marks,
 }
 
 impl Model for Breakpoints {
-    ghost use Rattle.std.specs.Prelude.{List, ℕ, ◌≤◌, length};
+    ghost use Rattle.std.specs.Prelude.{List, ℕ, ◌≡◌, ◌≤◌, length};
     ghost use Rattle.rvm_debug.specs.Guest.{AreRising};
+    ghost use Rattle.rvm_debug.specs.Marks.{marks_of};
 
     ghost Value = { List ℕ };
 
     ghost view = { λ b. b.addresses.items };
 
-    ghost invariant = { λ b. (length b.addresses.items ≤ 64) × AreRising b.addresses.items };
+    ghost invariant = { λ b. (length b.addresses.items ≤ 64) × AreRising b.addresses.items
+        × (b.marks ≡ marks_of b.addresses.items) };
 }
 
 impl Breakpoints {
@@ -37,6 +42,7 @@ impl Breakpoints {
     {
         Breakpoints {
             addresses: ArrayVec::new(),
+            marks: marks_for(&[]),
         }
     }
 
@@ -51,6 +57,7 @@ impl Breakpoints {
         prove!(fits);
         Breakpoints {
             addresses: breakpoints,
+            marks: marks_for(addresses),
         }
     }
 
@@ -72,6 +79,23 @@ impl Breakpoints {
         ensures { IsTrue result ↔ (self.now ≡ []) }
     {
         self.addresses.is_empty()
+    }
+
+    /// A mark for each of them.
+    #[inline(always)]
+    pub(crate) fn marks(&self) -> &Marks
+        ensures { result.now ≡ marks_of self.now }
+    {
+        &self.marks
+    }
+
+    /// Whether one may be set at an address: a quick test.
+    #[inline(always)]
+    #[tactic(auto, using(crate::proofs::Marking::not_in))]
+    pub(crate) fn may_have(&self, address: u32) -> bool
+        ensures { result ≡ false → is_in address self.now ≡ false }
+    {
+        self.marks.has(address)
     }
 
     /// Whether one is set at an address.
@@ -97,6 +121,7 @@ impl Breakpoints {
         }
         let index = count_below(&self.addresses, address);
         self.addresses.insert(index, address);
+        self.marks = marks_for(&self.addresses);
         Ok(())
     }
 
@@ -107,6 +132,7 @@ impl Breakpoints {
         let index = count_below(&self.addresses, address);
         if self.has(address) {
             self.addresses.remove(index);
+            self.marks = marks_for(&self.addresses);
         }
     }
 }
@@ -116,4 +142,16 @@ fn count_below(addresses: &[u32], address: u32) -> usize
     ensures { result ≡ count_by (λ b. nat_lt b address) addresses.now }
 {
     addresses.iter().filter(|set| **set < address).count()
+}
+
+/// A mark for each of some addresses.
+#[tactic(auto, unfolding(crate::specs::Marks::marks_of))]
+fn marks_for(addresses: &[u32]) -> Marks
+    ensures { result ≡ marks_of addresses.now }
+{
+    let mut marks = Marks::new();
+    for address in addresses {
+        marks.add(*address);
+    }
+    marks
 }

@@ -3,7 +3,7 @@
 ghost use Rattle.std.specs.Prelude.{◌≡◌, ◌<◌, ◌≤◌, ◌++◌, ◌∷◌, [], ◌↔◌, false, length, min, take, drop, replicate, OnOk, OnErr, IsErr, get_or, MatchOption, refl};
 ghost use Rattle.rvm_mem.specs.Pages.{mark_all};
 ghost use Rattle.rvm_board.specs.Board.{hart_at, with_input, with_output};
-ghost use Rattle.rvm_debug.specs.Guest.{fresh};
+ghost use Rattle.rvm_debug.specs.Guest.{fresh, is_in};
 ghost use Rattle.rvm_debug.specs.Events.{answered, clears_breakpoint, drains, pc_of, sets_breakpoint, sets_register, step_reply, steps, steps_if_there, stops, takes_input, tells_bytes, tells_line, tells_registers, with_board, with_stopped, writes_bytes};
 
 use crate::breakpoints::Breakpoints;
@@ -106,12 +106,13 @@ impl<M: Memory> Debugged<M> {
 
     /// Whether a hart may stop instead of its next step, or stands at a breakpoint.
     #[inline(always)]
-    fn may_stop(&self, hart: u32) -> bool
+    pub(crate) fn may_stop(&self, hart: u32) -> bool
         requires { hart < length self.now.guest.board.harts }
-        ensures { result ≡ false → (self.now.guest.breakpoints ≡ [])
+        ensures { result ≡ false
+            → (is_in (pc_of hart self.now.guest) self.now.guest.breakpoints ≡ false)
             × (get_or self.now.guest.stopped hart false ≡ false) }
     {
-        !self.breakpoints.is_empty() || self.stopped[hart as usize]
+        self.breakpoints.may_have(self.board.pc(hart)) || self.stopped[hart as usize]
     }
 
     /// Whether a hart of a board that is not halted stops instead of its next step; then it stands

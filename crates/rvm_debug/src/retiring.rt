@@ -52,6 +52,10 @@ impl<M: Memory> Debugged<M> {
     {
         let mut left = count;
         while left > 0 {
+            left -= self.straight_turns(0, left, false);
+            if left == 0 {
+                return Retired { count, last: None };
+            }
             left -= 1;
             let stepped = self.step_on(0);
             if !has_retired(stepped) {
@@ -76,7 +80,7 @@ impl<M: Memory> Debugged<M> {
         let mut left = count;
         while left > 0 {
             left -= 1;
-            let stepped = self.step_on(hart);
+            let stepped = self.turn_of(hart);
             if !has_retired(stepped) {
                 return Retired {
                     count: count - left - 1,

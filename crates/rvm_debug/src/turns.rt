@@ -4,8 +4,10 @@ ghost use Rattle.std.specs.Prelude.{◌≡◌, ◌<◌, ◌≤◌, ◌-◌, [], 
 ghost use Rattle.std.specs.List.{list_any};
 ghost use Rattle.rvm_mem.specs.Pages.{mark_all};
 ghost use Rattle.rvm_hart.specs.Straight as straight;
-ghost use Rattle.rvm_board.specs.Board.{machine_at, with_machine};
-ghost use Rattle.rvm_debug.specs.Events.{reply_of, step_reply, steps, with_board};
+ghost use Rattle.rvm_board.specs.Board.{machine_at};
+ghost use Rattle.rvm_debug.specs.Events.{pc_of, reply_of, step_reply, steps};
+ghost use Rattle.rvm_debug.specs.Guest.{is_in};
+ghost use Rattle.rvm_debug.specs.Marks.{gone, none_stops};
 ghost use Rattle.rvm_debug.specs.Turns.{TakesTurns, after_turns, next_hart, reply_of_stop, stop_in};
 ghost use Rattle.rvm_debug.specs.declared.turns.Order.TheVariants.{Alone, RoundRobin};
 
@@ -79,29 +81,48 @@ impl<M: Memory> Debugged<M> {
             (record { made = count - result.left; stop = result.stop }) }
         ensures left { result.left ≤ count }
     {
-        if !self.breakpoints.is_empty() || any(&self.stopped) {
-            return self.turns_or_stops(order, first, count);
-        }
         match order {
-            Order::RoundRobin if self.harts() > 1 => self.turns_in_rounds(first, count),
-            _ if first == 0 => self.turns_of_hart_0(count),
-            _ => self.turns_or_stops(order, first, count),
+            Order::RoundRobin if self.harts() > 1 => self.turns_of_harts(first, count),
+            _ if self.breakpoints.is_empty() => self.turns_unwatched(first, count),
+            _ => self.turns_watched(first, count),
         }
     }
 
-    /// Turns of hart 0 alone, where none can stop: its place is found once.
+    /// Turns of one hart of a guest without breakpoints.
     #[inline(never)]
-    fn turns_of_hart_0(&mut self, count: u32) -> Ended
-        requires hart { 0 < length self.old.guest.board.harts }
+    fn turns_unwatched(&mut self, hart: u32, count: u32) -> Ended
+        requires hart { hart < length self.old.guest.board.harts }
         requires breakpoints { self.old.guest.breakpoints ≡ [] }
-        requires stopped { list_any (λ s. s) self.old.guest.stopped ≡ false }
-        ensures turns { TakesTurns (after_turns Alone count 0 self.old.guest) self.old self.new
+        ensures turns { TakesTurns (after_turns Alone count hart self.old.guest) self.old self.new
+            (record { made = count - result.left; stop = result.stop }) }
+        ensures left { result.left ≤ count }
+    {
+        self.turns_of_hart(hart, count, false)
+    }
+
+    /// Turns of one hart of a guest with breakpoints.
+    #[inline(never)]
+    fn turns_watched(&mut self, hart: u32, count: u32) -> Ended
+        requires { hart < length self.old.guest.board.harts }
+        ensures turns { TakesTurns (after_turns Alone count hart self.old.guest) self.old self.new
+            (record { made = count - result.left; stop = result.stop }) }
+        ensures left { result.left ≤ count }
+    {
+        self.turns_of_hart(hart, count, true)
+    }
+
+    /// Turns of one hart: as many as there are on the straight path, then one that is not, and so on.
+    #[inline(always)]
+    fn turns_of_hart(&mut self, hart: u32, count: u32, watched: bool) -> Ended
+        requires hart { hart < length self.old.guest.board.harts }
+        requires watched { watched ≡ false → self.old.guest.breakpoints ≡ [] }
+        ensures turns { TakesTurns (after_turns Alone count hart self.old.guest) self.old self.new
             (record { made = count - result.left; stop = result.stop }) }
         ensures left { result.left ≤ count }
     {
         let mut left = count;
         while left > 0 {
-            left = self.straight_turns(left);
+            left -= self.straight_turns(hart, left, watched);
             if left == 0 {
                 return Ended {
                     left: 0,
@@ -109,7 +130,8 @@ impl<M: Memory> Debugged<M> {
                 };
             }
             left -= 1;
-            if let Some(stop) = stop_of(0, Some(self.step_on(0))) {
+            let pc = self.pc(hart);
+            if let Some(stop) = stop_of(pc, self.step_or_stop(hart, watched)) {
                 return Ended {
                     left,
                     stop: Some(stop),
@@ -120,6 +142,37 @@ impl<M: Memory> Debugged<M> {
             left: 0,
             stop: None,
         }
+    }
+
+    /// A turn of a hart off the straight path: its step, or a stop at a breakpoint instead, if that is
+    /// `watched`.
+    #[inline(always)]
+    fn step_or_stop(&mut self, hart: u32, watched: bool) -> Option<Stepped>
+        requires hart { hart < length self.old.guest.board.harts }
+        requires watched { watched ≡ false → self.old.guest.breakpoints ≡ [] }
+        ensures guest { self.new.guest ≡ (steps hart self.old.guest).guest }
+        ensures dirty { self.new.dirty ≡ mark_all (steps hart self.old.guest).pages self.old.dirty }
+        ensures answer { step_reply (pc_of hart self.old.guest) result
+            ≡ (steps hart self.old.guest).reply }
+    {
+        if watched || self.stopped[hart as usize] {
+            return self.step(hart);
+        }
+        Some(self.step_on(hart))
+    }
+
+    /// Turns of the harts in their order.
+    #[inline]
+    fn turns_of_harts(&mut self, first: u32, count: u32) -> Ended
+        requires { first < length self.old.guest.board.harts }
+        ensures turns { TakesTurns (after_turns RoundRobin count first self.old.guest) self.old self.new
+            (record { made = count - result.left; stop = result.stop }) }
+        ensures left { result.left ≤ count }
+    {
+        if !self.breakpoints.is_empty() || any(&self.stopped) {
+            return self.turns_or_stops(first, count);
+        }
+        self.turns_in_rounds(first, count)
     }
 
     /// Turns of the harts in their order, where none can stop: up to the last, and again from hart 0 on.
@@ -168,7 +221,7 @@ impl<M: Memory> Debugged<M> {
     {
         let mut hart = first;
         while hart < end {
-            if let Some(stop) = stop_of(0, Some(self.step_on(hart))) {
+            if let Some(stop) = stop_of(0, Some(self.turn_of(hart))) {
                 return Ended {
                     left: end - hart - 1,
                     stop: Some(stop),
@@ -182,12 +235,12 @@ impl<M: Memory> Debugged<M> {
         }
     }
 
-    /// Turns where a hart may stop.
+    /// Turns of the harts in their order, where one may stop.
     #[cold]
     #[inline(never)]
-    fn turns_or_stops(&mut self, order: Order, first: u32, count: u32) -> Ended
+    fn turns_or_stops(&mut self, first: u32, count: u32) -> Ended
         requires { first < length self.old.guest.board.harts }
-        ensures turns { TakesTurns (after_turns order count first self.old.guest) self.old self.new
+        ensures turns { TakesTurns (after_turns RoundRobin count first self.old.guest) self.old self.new
             (record { made = count - result.left; stop = result.stop }) }
         ensures left { result.left ≤ count }
     {
@@ -197,13 +250,13 @@ impl<M: Memory> Debugged<M> {
         while left > 0 {
             left -= 1;
             let pc = self.pc(hart);
-            if let Some(stop) = stop_of(pc, self.step(hart)) {
+            if let Some(stop) = stop_of(pc, self.turn_or_stop(hart)) {
                 return Ended {
                     left,
                     stop: Some(stop),
                 };
             }
-            hart = order.next(hart, harts);
+            hart = Order::RoundRobin.next(hart, harts);
         }
         Ended {
             left: 0,
@@ -211,31 +264,69 @@ impl<M: Memory> Debugged<M> {
         }
     }
 
-    /// Turns of hart 0, at most `count`, as long as its instructions reach registers and RAM alone and nothing
-    /// interrupts them; says how many are left.
+    /// Turns of a hart on the straight path, at most `count`: up to one at which it may stop, if that is
+    /// `watched`. Returns how many were made, none if the hart stands at a breakpoint.
     #[inline(always)]
-    fn straight_turns(&mut self, count: u32) -> u32
-        requires { 0 < length self.old.guest.board.harts }
-        ensures left { result ≤ count }
-        ensures guest { self.new.guest ≡ with_board (with_machine 0
-            (straight.steps (count - result) (machine_at 0 self.old.guest.board)).machine self.old.guest.board)
-            self.old.guest }
+    #[tactic(auto, using(crate::proofs::Marking::none_at_a_mark))]
+    pub(crate) fn straight_turns(&mut self, hart: u32, count: u32, watched: bool) -> u32
+        requires hart { hart < length self.old.guest.board.harts }
+        requires watched { watched ≡ false → self.old.guest.breakpoints ≡ [] }
+        ensures made { result ≤ count }
+        ensures stand { 0 < result → get_or self.old.guest.stopped hart false ≡ false }
+        ensures guest { self.new.guest ≡ gone hart result self.old.guest }
         ensures dirty { self.new.dirty ≡ mark_all
-            (straight.steps (count - result) (machine_at 0 self.old.guest.board)).pages self.old.dirty }
-        ensures retired { (straight.steps (count - result) (machine_at 0 self.old.guest.board)).retired
-            ≡ true }
-        ensures harts { length self.new.guest.board.harts ≡ length self.old.guest.board.harts }
+            (straight.steps result (machine_at hart self.old.guest.board)).pages self.old.dirty }
+        ensures retired { (straight.steps result (machine_at hart self.old.guest.board)).retired ≡ true }
+        ensures stops { none_stops self.old.guest.breakpoints result
+            (machine_at hart self.old.guest.board) ≡ true }
+    {
+        let stands = self.stopped[hart as usize];
+        let most = if stands { 0 } else { count };
+        let marks = self.breakpoints.marks();
+        let left = self.board.run_straight(hart, most, marks, watched);
+        most - left
+    }
+
+    /// A turn of a hart: its step, or a stop at a breakpoint instead.
+    #[inline(always)]
+    pub(crate) fn turn_or_stop(&mut self, hart: u32) -> Option<Stepped>
+        requires { hart < length self.old.guest.board.harts }
+        ensures guest { self.new.guest ≡ (steps hart self.old.guest).guest }
+        ensures dirty { self.new.dirty ≡ mark_all (steps hart self.old.guest).pages self.old.dirty }
+        ensures answer { step_reply (pc_of hart self.old.guest) result
+            ≡ (steps hart self.old.guest).reply }
+    {
+        if self.may_stop(hart) {
+            return self.step(hart);
+        }
+        Some(self.turn_of(hart))
+    }
+
+    /// One step of a hart that cannot stop instead, on the straight path if it can be made there.
+    #[inline(always)]
+    pub(crate) fn turn_of(&mut self, hart: u32) -> Stepped
+        requires hart { hart < length self.old.guest.board.harts }
+        requires breakpoints { is_in (pc_of hart self.old.guest) self.old.guest.breakpoints ≡ false }
+        requires stopped { get_or self.old.guest.stopped hart false ≡ false }
+        ensures guest { self.new.guest ≡ (steps hart self.old.guest).guest }
+        ensures dirty { self.new.dirty ≡ mark_all (steps hart self.old.guest).pages self.old.dirty }
+        ensures answer { reply_of result ≡ (steps hart self.old.guest).reply }
         ensures breakpoints { self.new.guest.breakpoints ≡ self.old.guest.breakpoints }
         ensures stopped { self.new.guest.stopped ≡ self.old.guest.stopped }
     {
-        self.board.run_straight(0, count)
+        let marks = self.breakpoints.marks();
+        let left = self.board.run_straight(hart, 1, marks, false);
+        if left == 0 {
+            return Stepped::Retired;
+        }
+        self.step_on(hart)
     }
 
     /// One step of a hart that cannot stop instead.
     #[inline(always)]
     pub(crate) fn step_on(&mut self, hart: u32) -> Stepped
         requires hart { hart < length self.old.guest.board.harts }
-        requires breakpoints { self.old.guest.breakpoints ≡ [] }
+        requires breakpoints { is_in (pc_of hart self.old.guest) self.old.guest.breakpoints ≡ false }
         requires stopped { get_or self.old.guest.stopped hart false ≡ false }
         ensures guest { self.new.guest ≡ (steps hart self.old.guest).guest }
         ensures dirty { self.new.dirty ≡ mark_all (steps hart self.old.guest).pages self.old.dirty }

@@ -23,7 +23,7 @@ impl<M: Memory> Debugged<M> {
         while left > 0 {
             left -= 1;
             let pc = self.pc(hart);
-            if let Some(stop) = stop_of(pc, self.step(hart)) {
+            if let Some(stop) = stop_of(pc, self.turn_or_stop(hart)) {
                 return Turns {
                     made: count - left,
                     stop: Some(stop),

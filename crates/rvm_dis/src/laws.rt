@@ -5,7 +5,7 @@ ghost use Rattle.rvm_line.specs.Values.{Names};
 ghost use Rattle.rvm_dis.specs.Assembles.{Assembles};
 ghost use Rattle.rvm_dis.specs.Disassembly.{text_at};
 
-use rvm_isa::decode::decode;
+use rvm_isa::decode;
 
 /// The text of a word at an address that is a multiple of four is one line of assembly, and where it
 /// stands there, it is the word again: without a label or the definition of a name, four bytes long,

@@ -10,7 +10,7 @@ use crate::shapes::{
     registers, shift, upper, whole, word_as_data,
 };
 use rvm_isa::Ins;
-use rvm_isa::decode::decode;
+use rvm_isa::decode;
 use rvm_refusal::LinkFault;
 use std::io::Write;
 

@@ -1,5 +1,5 @@
 -- Straight instructions, one after another, and the steps that make them.
-use Rattle.std.proofs.Common.{◌≡◌, ℕ, zero, suc, ◌+◌, ◌-◌, ◌%◌, ◌^◌, ◌<◌, ◌≤◌, Bool, true, false, ◌&&◌, cond, List, [], ◌∷◌, ◌++◌, Option, Some, None, refl, sym, ap, ◌∙◌, subst, arith, nat_le, get_or, is_some}
+use Rattle.std.proofs.Common.{◌≡◌, ◌==◌, length, ℕ, zero, suc, ◌+◌, ◌-◌, ◌%◌, ◌^◌, ◌<◌, ◌≤◌, Bool, true, false, ◌&&◌, cond, List, [], ◌∷◌, ◌++◌, Option, Some, None, refl, sym, ap, ◌∙◌, subst, arith, nat_le, get_or, is_some}
 use Rattle.std.proofs.lemmas.Bool.Decides.{nat_tests}
 use Rattle.std.proofs.Math.Nat.{mod-add-mod, mod-eq_of_lt}
 use Rattle.rvm_mem.specs.Pages.{mark, mark_all}
@@ -17,7 +17,8 @@ use Rattle.rvm_hart.specs.Machine.{Machine, HartState, BusState, machine, number
 use Rattle.rvm_hart.specs.Bus.{mip_of}
 use Rattle.rvm_hart.specs.Outcome.{Outcome, Done, Traps, machine_after}
 use Rattle.rvm_hart.specs.Step.{After, after_outcome, execute, step, unless_halted, unless_pending}
-use Rattle.rvm_hart.specs.Straight.{IsQuiet, Steps, Went, at_time, is_other, is_plain, is_retired, is_straight, pages_of, risen, steps, steps_on, timed, timed_after, went, went_on}
+use Rattle.rvm_hart.specs.Marks.{passes}
+use Rattle.rvm_hart.specs.Straight.{IsQuiet, Steps, Went, all_pass, at_time, input_stays, is_other, is_plain, is_retired, is_straight, pages_of, risen, steps, steps_on, timed, timed_after, went, went_on}
 use Rattle.rvm_hart.proofs.Shape.{step_keeps}
 use Rattle.rvm_hart.proofs.Still.{Still, execute_still, timed_outcome}
 
@@ -57,44 +58,57 @@ plain_cases c i t (Done after pages w) m plain = written_plain c i t after pages
 plain_cases c i t (Traps e v) m plain = absurd cc
 
 -- the steps so far are the instructions so far, and the counters rose by their number
-pub record Agrees (n : ℕ) (m : Machine) (d : List Bool) : Type 0 where
-  pub left : (steps n m).machine ≡ timed_after n m (went n m d).machine
-  pub dirty : (went n m d).dirty ≡ mark_all (steps n m).pages d
+pub record Agrees (w : Bool) (ms : List Bool) (n : ℕ) (m : Machine) (d : List Bool) : Type 0 where
+  pub left : (steps n m).machine ≡ timed_after n m (went w ms n m d).machine
+  pub dirty : (went w ms n m d).dirty ≡ mark_all (steps n m).pages d
   pub retired : (steps n m).retired ≡ true
-  pub csrs : (went n m d).machine.hart.csrs ≡ m.hart.csrs
-  pub devices : (went n m d).machine.shared.devices ≡ m.shared.devices
+  pub csrs : (went w ms n m d).machine.hart.csrs ≡ m.hart.csrs
+  pub devices : (went w ms n m d).machine.shared.devices ≡ m.shared.devices
+  pub pass : all_pass w ms n m ≡ true
+  pub input : input_stays n m ≡ true
 
-pub agrees : (n : ℕ) (m : Machine) (d : List Bool) → (went n m d).plain ≡ true → m.shared.devices.halted ≡ None → IsQuiet n m → Agrees n m d
-unfolding steps
-agrees zero m d plain on quiet = record { left = refl; dirty = refl; retired = refl; csrs = refl; devices = refl }
-agrees (suc n) m d plain on quiet =
-    let was : Went = went n m d in
-    let w : Machine = was.machine in
-    let o : Outcome = execute w in
+-- a number is itself
+same_number : (n : ℕ) → (n == n) ≡ true
+same_number n = grind (arith, nat_tests)
+
+pub agrees : (w : Bool) (ms : List Bool) (n : ℕ) (m : Machine) (d : List Bool) → (went w ms n m d).plain ≡ true → m.shared.devices.halted ≡ None → IsQuiet n m → Agrees w ms n m d
+unfolding steps all_pass input_stays
+agrees w ms zero m d plain on quiet = record { left = refl; dirty = refl; retired = refl; csrs = refl; devices = refl; pass = refl; input = refl }
+agrees w ms (suc n) m d plain on quiet =
+    let was : Went = went w ms n m d in
+    let x : Machine = was.machine in
+    let o : Outcome = execute x in
     let c : ℕ = risen n m.hart.csrs.mcycle in
     let i : ℕ = risen n m.hart.csrs.minstret in
     let t : ℕ = risen n m.shared.devices.mtime in
     let s : Steps = steps n m in
-    let outer : Both (was.plain && is_plain o) (is_straight w) = both (was.plain && is_plain o) (is_straight w) plain in
+    let outer : Both (was.plain && is_plain o) (is_straight x && passes w ms x.hart.pc) = both (was.plain && is_plain o) (is_straight x && passes w ms x.hart.pc) plain in
     let inner : Both was.plain (is_plain o) = both was.plain (is_plain o) outer.first in
-    let so_far : Agrees n m d = agrees n m d inner.first on (λ k below. quiet k (omega arith)) in
-    let still : Still w o (λ c i t. execute (timed c i t w)) = execute_still w outer.second in
-    let not_halted : (timed c i t w).shared.devices.halted ≡ None = ap (λ (x : DeviceState). x.halted) so_far.devices ∙ on in
-    let none : pending (mip_of (number_of (timed c i t w)) (timed c i t w).shared.devices) (timed c i t w).hart.csrs ≡ None =
-    ap (λ (x : CsrState). pending (mip_of x.hart (at_time t w.shared.devices)) x) so_far.csrs
-    ∙ ap (λ (x : DeviceState). pending (mip_of m.hart.csrs.hart (at_time t x)) m.hart.csrs) so_far.devices
+    let path : Both (is_straight x) (passes w ms x.hart.pc) = both (is_straight x) (passes w ms x.hart.pc) outer.second in
+    let so_far : Agrees w ms n m d = agrees w ms n m d inner.first on (λ k below. quiet k (omega arith)) in
+    let still : Still x o (λ c i t. execute (timed c i t x)) = execute_still x path.first in
+    let not_halted : (timed c i t x).shared.devices.halted ≡ None = ap (λ (y : DeviceState). y.halted) so_far.devices ∙ on in
+    let none : pending (mip_of (number_of (timed c i t x)) (timed c i t x).shared.devices) (timed c i t x).hart.csrs ≡ None =
+    ap (λ (y : CsrState). pending (mip_of y.hart (at_time t x.shared.devices)) y) so_far.csrs
+    ∙ ap (λ (y : DeviceState). pending (mip_of m.hart.csrs.hart (at_time t y)) m.hart.csrs) so_far.devices
     ∙ quiet n (omega arith) in
-    let made : step s.machine ≡ plain_after c i t o w =
+    let made : step s.machine ≡ plain_after c i t o x =
     ap step so_far.left
-    ∙ step_on (timed c i t w) not_halted none
-    ∙ ap (λ x. after_outcome x (timed c i t w)) (still.any c i t)
-    ∙ plain_cases c i t o w inner.second in
+    ∙ step_on (timed c i t x) not_halted none
+    ∙ ap (λ y. after_outcome y (timed c i t x)) (still.any c i t)
+    ∙ plain_cases c i t o x inner.second in
+    let waiting : DeviceState → Bool = λ y. length y.input == length m.shared.devices.input in
     record {
       left = ap (λ (a : After). a.machine) made;
-      dirty = ap (λ x. mark_all (pages_of o) x) so_far.dirty ∙ sym (mark_more s.pages (pages_of o) d) ∙ ap (λ (a : After). mark_all (s.pages ++ a.pages) d) (sym made);
+      dirty = ap (λ y. mark_all (pages_of o) y) so_far.dirty ∙ sym (mark_more s.pages (pages_of o) d) ∙ ap (λ (a : After). mark_all (s.pages ++ a.pages) d) (sym made);
       retired = ap (λ b. b && is_retired (step s.machine).answer) so_far.retired ∙ ap (λ (a : After). is_retired a.answer) made;
       csrs = still.csrs ∙ so_far.csrs;
       devices = still.devices ∙ so_far.devices;
+      pass = ap (λ b. b && passes w ms s.machine.hart.pc) so_far.pass ∙ ap (λ (y : Machine). passes w ms y.hart.pc) so_far.left ∙ path.second;
+      input = ap (λ b. b && waiting (step s.machine).machine.shared.devices) so_far.input
+          ∙ ap (λ (a : After). waiting a.machine.shared.devices) made
+          ∙ ap waiting (still.devices ∙ so_far.devices)
+          ∙ same_number (length m.shared.devices.input);
     }
 
 -- COUNTERS
@@ -185,25 +199,38 @@ counts k m some =
 pub counts_none : (k : ℕ) (m : Machine) → k ≡ 0 → m ≡ timed_after k m m
 counts_none k m e = ap (λ i. timed_after i m m) (sym e)
 
--- a machine and its dirty log are those that k steps leave, all of which retired
-pub record MadeSteps (k : ℕ) (old : Machine) (log : List Bool) (new : Machine) (dirty : List Bool) : Type 0 where
+-- what holds of no steps
+pub none_pass : (w : Bool) (ms : List Bool) (n : ℕ) (m : Machine) → n ≡ 0 → all_pass w ms n m ≡ true
+unfolding all_pass
+none_pass w ms n m e = rw e refl
+
+pub none_input : (n : ℕ) (m : Machine) → n ≡ 0 → input_stays n m ≡ true
+unfolding input_stays
+none_input n m e = rw e refl
+
+-- a machine and its dirty log are those that k steps leave, all of which retired on the path
+pub record MadeSteps (w : Bool) (ms : List Bool) (k : ℕ) (old : Machine) (log : List Bool) (new : Machine) (dirty : List Bool) : Type 0 where
   pub left : new ≡ (steps k old).machine
   pub marked : dirty ≡ mark_all (steps k old).pages log
   pub retired : (steps k old).retired ≡ true
+  pub pass : all_pass w ms k old ≡ true
+  pub input : input_stays k old ≡ true
 
-pub made_steps : (k : ℕ) (old : Machine) (log : List Bool) (x new : Machine) (dirty : List Bool) → record { machine = x; dirty = dirty; plain = true } ≡ went k old log
-    → old.shared.devices.halted ≡ None → IsQuiet k old → new ≡ timed_after k x x → MadeSteps k old log new dirty
-made_steps k old log x new dirty same on quiet counted_on =
-    let a : Agrees k old log = agrees k old log (ap (λ (w : Went). w.plain) (sym same)) on quiet in
-    let is : x ≡ (went k old log).machine = ap (λ (w : Went). w.machine) same in
+pub made_steps : (w : Bool) (ms : List Bool) (k : ℕ) (old : Machine) (log : List Bool) (x new : Machine) (dirty : List Bool) → record { machine = x; dirty = dirty; plain = true } ≡ went w ms k old log
+    → old.shared.devices.halted ≡ None → IsQuiet k old → new ≡ timed_after k x x → MadeSteps w ms k old log new dirty
+made_steps w ms k old log x new dirty same on quiet counted_on =
+    let a : Agrees w ms k old log = agrees w ms k old log (ap (λ (y : Went). y.plain) (sym same)) on quiet in
+    let is : x ≡ (went w ms k old log).machine = ap (λ (y : Went). y.machine) same in
     record {
       left = counted_on
           ∙ ap (λ (s : CsrState). timed (risen k s.mcycle) (risen k s.minstret) (risen k x.shared.devices.mtime) x) (ap (λ (m : Machine). m.hart.csrs) is ∙ a.csrs)
           ∙ ap (λ (v : DeviceState). timed (risen k old.hart.csrs.mcycle) (risen k old.hart.csrs.minstret) (risen k v.mtime) x) (ap (λ (m : Machine). m.shared.devices) is ∙ a.devices)
           ∙ ap (timed_after k old) is
           ∙ sym a.left;
-      marked = ap (λ (w : Went). w.dirty) same ∙ a.dirty;
+      marked = ap (λ (y : Went). y.dirty) same ∙ a.dirty;
       retired = a.retired;
+      pass = a.pass;
+      input = a.input;
     }
 
 none_of_some : (o : Option Interrupt) → is_some o ≡ false → o ≡ None
@@ -219,8 +246,8 @@ no_status : (o : Option ℕ) → is_some o ≡ false → o ≡ None
 no_status None e = refl
 no_status (Some s) e = absurd cc
 
-pub made_for : (n k quiet : ℕ) (o : Option ℕ) (old : Machine) (log : List Bool) (x new : Machine) (dirty left : List Bool) → n ≡ k → k ≤ quiet → o ≡ old.shared.devices.halted → is_some o ≡ false → IsQuiet quiet old
-    → record { machine = x; dirty = dirty; plain = true } ≡ went k old log → new ≡ timed_after k x x → left ≡ dirty → MadeSteps n old log new left
-made_for n k quiet o old log x new dirty left counted_so within halted on none same timed_so log_so =
-    let made : MadeSteps k old log new dirty = made_steps k old log x new dirty same (sym halted ∙ no_status o on) (λ i below. none i (omega (arith, below, within))) timed_so in
-    subst (λ i. MadeSteps i old log new left) (sym counted_so) (subst (λ d. MadeSteps k old log new d) (sym log_so) made)
+pub made_for : (w : Bool) (ms : List Bool) (n k quiet : ℕ) (o : Option ℕ) (old : Machine) (log : List Bool) (x new : Machine) (dirty left : List Bool) → n ≡ k → k ≤ quiet → o ≡ old.shared.devices.halted → is_some o ≡ false → IsQuiet quiet old
+    → record { machine = x; dirty = dirty; plain = true } ≡ went w ms k old log → new ≡ timed_after k x x → left ≡ dirty → MadeSteps w ms n old log new left
+made_for w ms n k quiet o old log x new dirty left counted_so within halted on none same timed_so log_so =
+    let made : MadeSteps w ms k old log new dirty = made_steps w ms k old log x new dirty same (sym halted ∙ no_status o on) (λ i below. none i (omega (arith, below, within))) timed_so in
+    subst (λ i. MadeSteps w ms i old log new left) (sym counted_so) (subst (λ d. MadeSteps w ms k old log new d) (sym log_so) made)

@@ -1,5 +1,5 @@
 -- Instructions that reach registers, RAM and reservations alone, and steps that make them.
-use Rattle.std.specs.Prelude.{◌≡◌, ℕ, zero, suc, ◌+◌, ◌%◌, ◌^◌, ◌<◌, Bool, true, false, ◌&&◌, List, [], ◌++◌, Option, Some, None}
+use Rattle.std.specs.Prelude.{◌≡◌, ◌==◌, ℕ, zero, suc, ◌+◌, ◌%◌, ◌^◌, ◌<◌, Bool, true, false, ◌&&◌, List, [], ◌++◌, length, Option, Some, None}
 use Rattle.rvm_mem.specs.Pages.{mark_all}
 use Rattle.rvm_isa.specs.declared.ins.Ins.{Ins}
 use Rattle.rvm_isa.specs.declared.ins.Ins.TheVariants.{Lui, Auipc, Jal, Jalr, Beq, Bne, Blt, Bge, Bltu, Bgeu, Lb, Lh, Lw, Lbu, Lhu, Sb, Sh, Sw, Addi, Slti, Sltiu, Xori, Ori, Andi, Slli, Srli, Srai, Add, Sub, Sll, Slt, Sltu, Xor, Srl, Sra, Or, And, Mul, Mulh, Mulhsu, Mulhu, Div, Divu, Rem, Remu, Fence, FenceI, Ecall, Ebreak, Mret, Wfi, Csrrw, Csrrs, Csrrc, Csrrwi, Csrrsi, Csrrci, LrW, ScW, AmoswapW, AmoaddW, AmoxorW, AmoandW, AmoorW, AmominW, AmomaxW, AmominuW, AmomaxuW}
@@ -16,6 +16,7 @@ use Rattle.rvm_hart.specs.Bus.{in_ram, ram_load, mip_of}
 use Rattle.rvm_hart.specs.Kinds.{sum}
 use Rattle.rvm_hart.specs.Outcome.{Outcome, Done, Traps, machine_after, reg}
 use Rattle.rvm_hart.specs.Step.{After, execute, step}
+use Rattle.rvm_hart.specs.Marks.{passes}
 
 -- a hart with another pc
 abbrev pub at_pc : ℕ → HartState → HartState
@@ -142,7 +143,7 @@ pub record Went : Type 0 where
   pub dirty : List Bool
   pub plain : Bool
 
--- one more, of whose machine it is known whether it is straight
+-- one more, of whose machine it is known whether it is straight and at no mark
 abbrev pub went_on : Outcome → (straight : Bool) → Went → Went
 went_on o straight w =
     record {
@@ -151,10 +152,13 @@ went_on o straight w =
       plain = w.plain && is_plain o && straight;
     }
 
--- what n instructions leave, the counters apart
-abbrev pub went : (n : ℕ) → Machine → List Bool → Went
-went zero m d = record { machine = m; dirty = d; plain = true }
-went (suc n) m d = went_on (execute (went n m d).machine) (is_straight (went n m d).machine) (went n m d)
+-- what n instructions leave, the counters apart; plain says also that none of them is at a mark that is watched
+abbrev pub went : (watched : Bool) → (marks : List Bool) → (n : ℕ) → Machine → List Bool → Went
+went watched marks zero m d = record { machine = m; dirty = d; plain = true }
+went watched marks (suc n) m d =
+    went_on (execute (went watched marks n m d).machine)
+    (is_straight (went watched marks n m d).machine && passes watched marks (went watched marks n m d).machine.hart.pc)
+    (went watched marks n m d)
 
 -- a counter after so many steps that it counts
 abbrev pub risen : (steps : ℕ) → ℕ → ℕ
@@ -204,3 +208,14 @@ steps_on a s =
 unfoldable pub steps : (n : ℕ) → Machine → Steps
 steps zero m = record { machine = m; pages = []; retired = true }
 steps (suc n) m = steps_on (step (steps n m).machine) (steps n m)
+
+-- none of the first n steps begins at a mark that is watched
+unfoldable pub all_pass : (watched : Bool) → (marks : List Bool) → (n : ℕ) → Machine → Bool
+all_pass watched marks zero m = true
+all_pass watched marks (suc n) m = all_pass watched marks n m && passes watched marks (steps n m).machine.hart.pc
+
+-- as many bytes wait for the guest after each of the first n steps as before them
+unfoldable pub input_stays : (n : ℕ) → Machine → Bool
+input_stays zero m = true
+input_stays (suc n) m =
+    input_stays n m && length (steps (suc n) m).machine.shared.devices.input == length m.shared.devices.input

@@ -391,7 +391,13 @@ impl<M: Memory> Bus<M> {
     /// Hart `hart` stores what an operation makes of the word of RAM at an aligned address, and is given the old one.
     /// A function of its own, so that it costs other instructions nothing.
     #[inline(never)]
-    pub(crate) fn exchange(&mut self, hart: u32, operation: Amo, address: u32, source: u32) -> Option<u32>
+    pub(crate) fn exchange(
+        &mut self,
+        hart: u32,
+        operation: Amo,
+        address: u32,
+        source: u32,
+    ) -> Option<u32>
         requires aligned { address % 4 ≡ 0 }
         requires hart { hart < length self.old.shared.reservations }
         ensures old { result ≡ ram_load 4 address self.old.shared.bytes }

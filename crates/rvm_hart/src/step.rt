@@ -13,7 +13,7 @@ use crate::bus::Bus;
 use crate::hart::Hart;
 use crate::outcome::{Stepped, Written};
 use rvm_csr::{Cause, Exception, Interrupt};
-use rvm_isa::decode::decode;
+use rvm_isa::decode;
 use rvm_mem::Memory;
 
 impl Hart {

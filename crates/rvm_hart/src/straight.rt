@@ -1,12 +1,12 @@
-//! Instructions of which the step does nothing else: they reach registers, RAM and reservations alone, and the
-//! counters are left to the caller. `pc` is the hart's, in place of the one that it keeps.
+//! The straight path: steps whose instructions reach registers, RAM and reservations alone. One loop makes them, and
+//! the counters rise once after it. `at` is the place of pc in RAM, in place of the pc that the hart keeps.
 
 ghost use Rattle.std.specs.Prelude.{◌≡◌, ◌<◌, ◌≤◌, ◌+◌, ◌%◌, ◌^◌, ◌-◌, length, true, IfNone, IfSome};
 ghost use Rattle.rvm_word.specs.Word.{modulo};
 ghost use Rattle.rvm_hart.specs.Outcome.{done, done_with, reg};
 ghost use Rattle.rvm_hart.specs.Kinds.{arithmetic, atomic, branch, even, holds, jump, load_byte, load_half, load_reserved, load_word, store_byte, store_conditional, store_half, store_word, sum};
 ghost use Rattle.rvm_hart.specs.Rows.{effect, sign_extended_byte, sign_extended_half, zero_extended};
-ghost use Rattle.rvm_hart.specs.Straight.{Goes, IsQuiet, at_pc, based, is_straight, stays_in_ram, steps, timed_after, went};
+ghost use Rattle.rvm_hart.specs.Straight.{Goes, IsQuiet, all_pass, at_pc, based, input_stays, is_straight, stays_in_ram, steps, timed_after, went};
 ghost use Rattle.rvm_hart.specs.Bus.{in_ram};
 ghost use Rattle.rvm_mem.specs.Pages.{mark_all};
 ghost use Rattle.rvm_hart.specs.Step.{execute};
@@ -17,16 +17,22 @@ use crate::atomics::Amo;
 use crate::bus::{Bus, RAM_BASE};
 use crate::hart::Hart;
 use crate::jumps::Comparison;
-use rvm_isa::straight::decode_straight;
-use rvm_isa::{Imm12, Ins, Off13, Reg, Shamt};
+use crate::marks::Marks;
+use rvm_isa::{Imm12, Ins, Off13, Reg, Shamt, decode_straight};
 use rvm_mem::Memory;
 use rvm_word::{add_signed, sext};
 
 impl Hart {
-    /// Makes steps of such instructions, at most `count`, as long as nothing interrupts them, and says how many are
-    /// left.
+    /// Makes steps on the straight path, at most `count`: up to the first that leaves the path, is interrupted, or,
+    /// if `watched`, begins at a mark. Returns how many are left.
     #[inline(always)]
-    pub fn run_straight<M: Memory>(&mut self, bus: &mut Bus<M>, count: u32) -> u32
+    pub fn run_straight<M: Memory>(
+        &mut self,
+        bus: &mut Bus<M>,
+        count: u32,
+        marks: &Marks,
+        watched: bool,
+    ) -> u32
         requires reservation { self.old.csrs.hart < length bus.old.shared.reservations }
         requires devices { self.old.csrs.hart < length bus.old.shared.devices.msip }
         ensures left { result ≤ count }
@@ -35,12 +41,14 @@ impl Hart {
         ensures dirty { bus.new.dirty
             ≡ mark_all (steps (count - result) (machine self.old bus.old)).pages bus.old.dirty }
         ensures retired { (steps (count - result) (machine self.old bus.old)).retired ≡ true }
+        ensures pass { all_pass watched marks.now (count - result) (machine self.old bus.old) ≡ true }
+        ensures input { input_stays (count - result) (machine self.old bus.old) ≡ true }
     {
         if bus.halted().is_some() {
             return count;
         }
         let quiet = self.quiet_steps(bus, count);
-        let made = quiet - self.rows_straight(bus, quiet);
+        let made = quiet - self.rows_straight(bus, quiet, marks, watched);
         self.count_steps(bus, made);
         count - made
     }
@@ -79,13 +87,20 @@ impl Hart {
         bus.steps_to_timer(self.csrs.hart(), count)
     }
 
-    /// Runs such instructions, at most `count`, and says how many are left. No counter rises.
+    /// Runs instructions of the path, at most `count`, up to one that leaves it or is at a mark that is watched.
+    /// Returns how many are left. No counter rises.
     #[inline(always)]
-    fn rows_straight<M: Memory>(&mut self, bus: &mut Bus<M>, count: u32) -> u32
+    fn rows_straight<M: Memory>(
+        &mut self,
+        bus: &mut Bus<M>,
+        count: u32,
+        marks: &Marks,
+        watched: bool,
+    ) -> u32
         requires { self.old.csrs.hart < length bus.old.shared.reservations }
         ensures left { result ≤ count }
         ensures went { record { machine = machine self.new bus.new; dirty = bus.new.dirty; plain = true }
-            ≡ went (count - result) (machine self.old bus.old) bus.old.dirty }
+            ≡ went watched marks.now (count - result) (machine self.old bus.old) bus.old.dirty }
         ensures csrs { self.new.csrs ≡ self.old.csrs }
         ensures devices { bus.new.shared.devices ≡ bus.old.shared.devices }
         ensures reservations { length bus.new.shared.reservations ≡ length bus.old.shared.reservations }
@@ -93,6 +108,9 @@ impl Hart {
         let mut left = count;
         let mut at = offset_of(self.pc);
         while left > 0 {
+            if watched && marks.has(address_of(at)) {
+                break;
+            }
             let Some(next) = self.straight(at, bus) else {
                 break;
             };
@@ -716,7 +734,12 @@ impl Hart {
     {
         match ins {
             Ins::Lui { rd, imm } => self.put(rd, imm.bits() << 12, at, bus),
-            Ins::Auipc { rd, imm } => self.put(rd, address_of(at).wrapping_add(imm.bits() << 12), at, bus),
+            Ins::Auipc { rd, imm } => self.put(
+                rd,
+                address_of(at).wrapping_add(imm.bits() << 12),
+                at,
+                bus,
+            ),
             Ins::Jal { rd, offset } => self.straight_jump(
                 rd,
                 add_signed(address_of(at), offset.value()),
@@ -1015,54 +1038,12 @@ impl Hart {
                 at,
                 bus,
             ),
-            Ins::AmoaddW { rd, rs1, rs2, .. } => self.straight_amo(
-                Amo::Add,
-                rd,
-                rs1,
-                rs2,
-                at,
-                bus,
-            ),
-            Ins::AmoxorW { rd, rs1, rs2, .. } => self.straight_amo(
-                Amo::Xor,
-                rd,
-                rs1,
-                rs2,
-                at,
-                bus,
-            ),
-            Ins::AmoandW { rd, rs1, rs2, .. } => self.straight_amo(
-                Amo::And,
-                rd,
-                rs1,
-                rs2,
-                at,
-                bus,
-            ),
-            Ins::AmoorW { rd, rs1, rs2, .. } => self.straight_amo(
-                Amo::Or,
-                rd,
-                rs1,
-                rs2,
-                at,
-                bus,
-            ),
-            Ins::AmominW { rd, rs1, rs2, .. } => self.straight_amo(
-                Amo::Min,
-                rd,
-                rs1,
-                rs2,
-                at,
-                bus,
-            ),
-            Ins::AmomaxW { rd, rs1, rs2, .. } => self.straight_amo(
-                Amo::Max,
-                rd,
-                rs1,
-                rs2,
-                at,
-                bus,
-            ),
+            Ins::AmoaddW { rd, rs1, rs2, .. } => self.straight_amo(Amo::Add, rd, rs1, rs2, at, bus),
+            Ins::AmoxorW { rd, rs1, rs2, .. } => self.straight_amo(Amo::Xor, rd, rs1, rs2, at, bus),
+            Ins::AmoandW { rd, rs1, rs2, .. } => self.straight_amo(Amo::And, rd, rs1, rs2, at, bus),
+            Ins::AmoorW { rd, rs1, rs2, .. } => self.straight_amo(Amo::Or, rd, rs1, rs2, at, bus),
+            Ins::AmominW { rd, rs1, rs2, .. } => self.straight_amo(Amo::Min, rd, rs1, rs2, at, bus),
+            Ins::AmomaxW { rd, rs1, rs2, .. } => self.straight_amo(Amo::Max, rd, rs1, rs2, at, bus),
             Ins::AmominuW { rd, rs1, rs2, .. } => self.straight_amo(
                 Amo::Minu,
                 rd,

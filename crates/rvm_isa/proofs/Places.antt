@@ -1,5 +1,5 @@
 -- The place of a word's kind, and what lies there.
-use Rattle.std.proofs.Common.{◌≡◌, ℕ, zero, suc, ◌+◌, ◌*◌, ◌/◌, ◌%◌, ◌^◌, ◌<◌, Bool, true, ◌&&◌, eqb, List, [], ◌∷◌, get_or, bit_and, refl, subst, arith}
+use Rattle.std.proofs.Common.{◌≡◌, ℕ, zero, suc, ◌+◌, ◌*◌, ◌/◌, ◌%◌, ◌^◌, Bool, true, ◌&&◌, eqb, List, [], ◌∷◌, get_or, bit_and, refl, subst, arith}
 use Rattle.std.proofs.lemmas.Bool.Decides.{nat_tests}
 use Rattle.rvm_isa.proofs.Rows.{mask_707F}
 use Rattle.rvm_isa.specs.Fields.{opcode, funct3}

@@ -81,28 +81,15 @@ fences = kind.Fence ∷ kind.FenceI ∷ kind.Other ∷ kind.Other ∷ kind.Other
 abbrev atomics : List Kind
 atomics = kind.Other ∷ kind.Other ∷ kind.Amo ∷ kind.Other ∷ kind.Other ∷ kind.Other ∷ kind.Other ∷ kind.Other ∷ []
 
--- lists of kinds, one after another
-abbrev flat : List (List Kind) → List Kind
-flat [] = []
-flat (ks ∷ rest) = ks ++ flat rest
+-- lists of kinds, each behind those of three opcodes that have no rows, since they end in 00, 01 and 10
+abbrev by_opcode : List (List Kind) → List Kind
+by_opcode [] = []
+by_opcode (ks ∷ rest) = none ++ none ++ none ++ ks ++ by_opcode rest
 
 -- the kinds of each opcode, by funct3
 unfoldable pub kinds : List Kind
-kinds = flat (
-    none ∷ none ∷ none ∷ loads ∷ none ∷ none ∷ none ∷ none ∷
-    none ∷ none ∷ none ∷ none ∷ none ∷ none ∷ none ∷ fences ∷
-    none ∷ none ∷ none ∷ immediates ∷ none ∷ none ∷ none ∷ auipcs ∷
+kinds = by_opcode (
+    loads ∷ none ∷ none ∷ fences ∷ immediates ∷ auipcs ∷ none ∷ none ∷
+    stores ∷ none ∷ none ∷ atomics ∷ operations ∷ luis ∷ none ∷ none ∷
     none ∷ none ∷ none ∷ none ∷ none ∷ none ∷ none ∷ none ∷
-    none ∷ none ∷ none ∷ stores ∷ none ∷ none ∷ none ∷ none ∷
-    none ∷ none ∷ none ∷ none ∷ none ∷ none ∷ none ∷ atomics ∷
-    none ∷ none ∷ none ∷ operations ∷ none ∷ none ∷ none ∷ luis ∷
-    none ∷ none ∷ none ∷ none ∷ none ∷ none ∷ none ∷ none ∷
-    none ∷ none ∷ none ∷ none ∷ none ∷ none ∷ none ∷ none ∷
-    none ∷ none ∷ none ∷ none ∷ none ∷ none ∷ none ∷ none ∷
-    none ∷ none ∷ none ∷ none ∷ none ∷ none ∷ none ∷ none ∷
-    none ∷ none ∷ none ∷ none ∷ none ∷ none ∷ none ∷ none ∷
-    none ∷ none ∷ none ∷ branches ∷ none ∷ none ∷ none ∷ jalrs ∷
-    none ∷ none ∷ none ∷ none ∷ none ∷ none ∷ none ∷ jals ∷
-    none ∷ none ∷ none ∷ none ∷ none ∷ none ∷ none ∷ none ∷
-    none ∷ none ∷ none ∷ none ∷ none ∷ none ∷ none ∷ none ∷
-    [])
+    branches ∷ jalrs ∷ none ∷ jals ∷ none ∷ none ∷ none ∷ none ∷ [])

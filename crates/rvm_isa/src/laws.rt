@@ -5,8 +5,8 @@ ghost use Rattle.rvm_isa.specs.Laws.{IsDecodedByItsRow, NoWordHasTwoRows};
 ghost use Rattle.rvm_isa.specs.Table.{decoded};
 ghost use Rattle.rvm_isa.specs.Words.{word_of};
 
-use crate::decode::decode;
-use crate::encode::encode;
+use crate::decoding::decode;
+use crate::encoding::encode;
 use crate::ins::Ins;
 
 /// No word has the bits of two rows of the table under their masks.

@@ -1,18 +1,22 @@
-//! Words of the instructions that reach neither devices nor control and status registers: one jump
-//! tells them apart.
+//! A decoder of the rows that reach registers and RAM alone, for the straight path of a step. One
+//! product finds a word's place in a table of kinds, and one jump the arm of its kind.
+//!
+//! An arm reads the fields of its own format. Read before the jump, they would be read at every step.
 
-ghost use Rattle.std.specs.Prelude.{◌≡◌, ◌==◌, ◌+◌, ◌*◌, IfSome, Some};
-ghost use Rattle.rvm_isa.specs.Fields.{funct3, funct7, opcode};
+ghost use Rattle.std.specs.Prelude.{◌≡◌, ◌+◌, ◌*◌, IfSome, Some};
+ghost use Rattle.rvm_isa.specs.Fields.{funct3, opcode};
 ghost use Rattle.rvm_isa.specs.Straight.{Fits, kinds};
 ghost use Rattle.rvm_isa.specs.Table.{decoded};
 
 use crate::ins::Ins;
-use crate::read::{aq, b_offset, funct5, i_imm, imm20, j_offset, rd, rl, rs1, rs2, s_imm, shamt};
+use crate::read::{
+    aq, b_offset, funct5, funct7, i_imm, imm20, j_offset, rd, rl, rs1, rs2, s_imm, shamt,
+};
 
 /// What the opcode and funct3 of a word tell of its row.
 #[derive(Clone, Copy)]
-pub enum Kind {
-    /// No row, or one that is not here.
+enum Kind {
+    /// No row, or a row that this decoder leaves to `decode`.
     Other,
     Lui,
     Auipc,
@@ -37,1051 +41,135 @@ pub enum Kind {
     Slti,
     Sltiu,
     Xori,
+    /// Srli or Srai.
     ShiftRightI,
     Ori,
     Andi,
+    /// Add, Sub or Mul.
     Add,
+    /// Sll or Mulh.
     Sll,
+    /// Slt or Mulhsu.
     Slt,
+    /// Sltu or Mulhu.
     Sltu,
+    /// Xor or Div.
     Xor,
+    /// Srl, Sra or Divu.
     ShiftRight,
+    /// Or or Rem.
     Or,
+    /// And or Remu.
     And,
     Fence,
     FenceI,
+    /// Lr, Sc or an AMO.
     Amo,
 }
 
-/// The kind of each opcode and funct3: eight of them, by funct3, for each opcode.
-static KINDS: [Kind; 1024] = [
-    Kind::Other,
-    Kind::Other,
-    Kind::Other,
-    Kind::Other,
-    Kind::Other,
-    Kind::Other,
-    Kind::Other,
-    Kind::Other,
-    Kind::Other,
-    Kind::Other,
-    Kind::Other,
-    Kind::Other,
-    Kind::Other,
-    Kind::Other,
-    Kind::Other,
-    Kind::Other,
-    Kind::Other,
-    Kind::Other,
-    Kind::Other,
-    Kind::Other,
-    Kind::Other,
-    Kind::Other,
-    Kind::Other,
-    Kind::Other,
-    Kind::Lb,
-    Kind::Lh,
-    Kind::Lw,
-    Kind::Other,
-    Kind::Lbu,
-    Kind::Lhu,
-    Kind::Other,
-    Kind::Other,
-    Kind::Other,
-    Kind::Other,
-    Kind::Other,
-    Kind::Other,
-    Kind::Other,
-    Kind::Other,
-    Kind::Other,
-    Kind::Other,
-    Kind::Other,
-    Kind::Other,
-    Kind::Other,
-    Kind::Other,
-    Kind::Other,
-    Kind::Other,
-    Kind::Other,
-    Kind::Other,
-    Kind::Other,
-    Kind::Other,
-    Kind::Other,
-    Kind::Other,
-    Kind::Other,
-    Kind::Other,
-    Kind::Other,
-    Kind::Other,
-    Kind::Other,
-    Kind::Other,
-    Kind::Other,
-    Kind::Other,
-    Kind::Other,
-    Kind::Other,
-    Kind::Other,
-    Kind::Other,
-    Kind::Other,
-    Kind::Other,
-    Kind::Other,
-    Kind::Other,
-    Kind::Other,
-    Kind::Other,
-    Kind::Other,
-    Kind::Other,
-    Kind::Other,
-    Kind::Other,
-    Kind::Other,
-    Kind::Other,
-    Kind::Other,
-    Kind::Other,
-    Kind::Other,
-    Kind::Other,
-    Kind::Other,
-    Kind::Other,
-    Kind::Other,
-    Kind::Other,
-    Kind::Other,
-    Kind::Other,
-    Kind::Other,
-    Kind::Other,
-    Kind::Other,
-    Kind::Other,
-    Kind::Other,
-    Kind::Other,
-    Kind::Other,
-    Kind::Other,
-    Kind::Other,
-    Kind::Other,
-    Kind::Other,
-    Kind::Other,
-    Kind::Other,
-    Kind::Other,
-    Kind::Other,
-    Kind::Other,
-    Kind::Other,
-    Kind::Other,
-    Kind::Other,
-    Kind::Other,
-    Kind::Other,
-    Kind::Other,
-    Kind::Other,
-    Kind::Other,
-    Kind::Other,
-    Kind::Other,
-    Kind::Other,
-    Kind::Other,
-    Kind::Other,
-    Kind::Other,
-    Kind::Other,
-    Kind::Other,
-    Kind::Other,
-    Kind::Other,
-    Kind::Fence,
-    Kind::FenceI,
-    Kind::Other,
-    Kind::Other,
-    Kind::Other,
-    Kind::Other,
-    Kind::Other,
-    Kind::Other,
-    Kind::Other,
-    Kind::Other,
-    Kind::Other,
-    Kind::Other,
-    Kind::Other,
-    Kind::Other,
-    Kind::Other,
-    Kind::Other,
-    Kind::Other,
-    Kind::Other,
-    Kind::Other,
-    Kind::Other,
-    Kind::Other,
-    Kind::Other,
-    Kind::Other,
-    Kind::Other,
-    Kind::Other,
-    Kind::Other,
-    Kind::Other,
-    Kind::Other,
-    Kind::Other,
-    Kind::Other,
-    Kind::Other,
-    Kind::Other,
-    Kind::Addi,
-    Kind::Slli,
-    Kind::Slti,
-    Kind::Sltiu,
-    Kind::Xori,
-    Kind::ShiftRightI,
-    Kind::Ori,
-    Kind::Andi,
-    Kind::Other,
-    Kind::Other,
-    Kind::Other,
-    Kind::Other,
-    Kind::Other,
-    Kind::Other,
-    Kind::Other,
-    Kind::Other,
-    Kind::Other,
-    Kind::Other,
-    Kind::Other,
-    Kind::Other,
-    Kind::Other,
-    Kind::Other,
-    Kind::Other,
-    Kind::Other,
-    Kind::Other,
-    Kind::Other,
-    Kind::Other,
-    Kind::Other,
-    Kind::Other,
-    Kind::Other,
-    Kind::Other,
-    Kind::Other,
-    Kind::Auipc,
-    Kind::Auipc,
-    Kind::Auipc,
-    Kind::Auipc,
-    Kind::Auipc,
-    Kind::Auipc,
-    Kind::Auipc,
-    Kind::Auipc,
-    Kind::Other,
-    Kind::Other,
-    Kind::Other,
-    Kind::Other,
-    Kind::Other,
-    Kind::Other,
-    Kind::Other,
-    Kind::Other,
-    Kind::Other,
-    Kind::Other,
-    Kind::Other,
-    Kind::Other,
-    Kind::Other,
-    Kind::Other,
-    Kind::Other,
-    Kind::Other,
-    Kind::Other,
-    Kind::Other,
-    Kind::Other,
-    Kind::Other,
-    Kind::Other,
-    Kind::Other,
-    Kind::Other,
-    Kind::Other,
-    Kind::Other,
-    Kind::Other,
-    Kind::Other,
-    Kind::Other,
-    Kind::Other,
-    Kind::Other,
-    Kind::Other,
-    Kind::Other,
-    Kind::Other,
-    Kind::Other,
-    Kind::Other,
-    Kind::Other,
-    Kind::Other,
-    Kind::Other,
-    Kind::Other,
-    Kind::Other,
-    Kind::Other,
-    Kind::Other,
-    Kind::Other,
-    Kind::Other,
-    Kind::Other,
-    Kind::Other,
-    Kind::Other,
-    Kind::Other,
-    Kind::Other,
-    Kind::Other,
-    Kind::Other,
-    Kind::Other,
-    Kind::Other,
-    Kind::Other,
-    Kind::Other,
-    Kind::Other,
-    Kind::Other,
-    Kind::Other,
-    Kind::Other,
-    Kind::Other,
-    Kind::Other,
-    Kind::Other,
-    Kind::Other,
-    Kind::Other,
-    Kind::Other,
-    Kind::Other,
-    Kind::Other,
-    Kind::Other,
-    Kind::Other,
-    Kind::Other,
-    Kind::Other,
-    Kind::Other,
-    Kind::Other,
-    Kind::Other,
-    Kind::Other,
-    Kind::Other,
-    Kind::Other,
-    Kind::Other,
-    Kind::Other,
-    Kind::Other,
-    Kind::Other,
-    Kind::Other,
-    Kind::Other,
-    Kind::Other,
-    Kind::Other,
-    Kind::Other,
-    Kind::Other,
-    Kind::Other,
-    Kind::Sb,
-    Kind::Sh,
-    Kind::Sw,
-    Kind::Other,
-    Kind::Other,
-    Kind::Other,
-    Kind::Other,
-    Kind::Other,
-    Kind::Other,
-    Kind::Other,
-    Kind::Other,
-    Kind::Other,
-    Kind::Other,
-    Kind::Other,
-    Kind::Other,
-    Kind::Other,
-    Kind::Other,
-    Kind::Other,
-    Kind::Other,
-    Kind::Other,
-    Kind::Other,
-    Kind::Other,
-    Kind::Other,
-    Kind::Other,
-    Kind::Other,
-    Kind::Other,
-    Kind::Other,
-    Kind::Other,
-    Kind::Other,
-    Kind::Other,
-    Kind::Other,
-    Kind::Other,
-    Kind::Other,
-    Kind::Other,
-    Kind::Other,
-    Kind::Other,
-    Kind::Other,
-    Kind::Other,
-    Kind::Other,
-    Kind::Other,
-    Kind::Other,
-    Kind::Other,
-    Kind::Other,
-    Kind::Other,
-    Kind::Other,
-    Kind::Other,
-    Kind::Other,
-    Kind::Other,
-    Kind::Other,
-    Kind::Other,
-    Kind::Other,
-    Kind::Other,
-    Kind::Other,
-    Kind::Other,
-    Kind::Other,
-    Kind::Other,
-    Kind::Other,
-    Kind::Other,
-    Kind::Other,
-    Kind::Other,
-    Kind::Other,
-    Kind::Other,
-    Kind::Other,
-    Kind::Other,
-    Kind::Other,
-    Kind::Other,
-    Kind::Other,
-    Kind::Other,
-    Kind::Other,
-    Kind::Other,
-    Kind::Other,
-    Kind::Other,
-    Kind::Other,
-    Kind::Other,
-    Kind::Other,
-    Kind::Other,
-    Kind::Other,
-    Kind::Other,
-    Kind::Other,
-    Kind::Other,
-    Kind::Other,
-    Kind::Other,
-    Kind::Other,
-    Kind::Other,
-    Kind::Other,
-    Kind::Other,
-    Kind::Other,
-    Kind::Other,
-    Kind::Other,
-    Kind::Other,
-    Kind::Other,
-    Kind::Other,
-    Kind::Other,
-    Kind::Other,
-    Kind::Other,
-    Kind::Other,
-    Kind::Other,
-    Kind::Other,
-    Kind::Amo,
-    Kind::Other,
-    Kind::Other,
-    Kind::Other,
-    Kind::Other,
-    Kind::Other,
-    Kind::Other,
-    Kind::Other,
-    Kind::Other,
-    Kind::Other,
-    Kind::Other,
-    Kind::Other,
-    Kind::Other,
-    Kind::Other,
-    Kind::Other,
-    Kind::Other,
-    Kind::Other,
-    Kind::Other,
-    Kind::Other,
-    Kind::Other,
-    Kind::Other,
-    Kind::Other,
-    Kind::Other,
-    Kind::Other,
-    Kind::Other,
-    Kind::Other,
-    Kind::Other,
-    Kind::Other,
-    Kind::Other,
-    Kind::Other,
-    Kind::Add,
-    Kind::Sll,
-    Kind::Slt,
-    Kind::Sltu,
-    Kind::Xor,
-    Kind::ShiftRight,
-    Kind::Or,
-    Kind::And,
-    Kind::Other,
-    Kind::Other,
-    Kind::Other,
-    Kind::Other,
-    Kind::Other,
-    Kind::Other,
-    Kind::Other,
-    Kind::Other,
-    Kind::Other,
-    Kind::Other,
-    Kind::Other,
-    Kind::Other,
-    Kind::Other,
-    Kind::Other,
-    Kind::Other,
-    Kind::Other,
-    Kind::Other,
-    Kind::Other,
-    Kind::Other,
-    Kind::Other,
-    Kind::Other,
-    Kind::Other,
-    Kind::Other,
-    Kind::Other,
-    Kind::Lui,
-    Kind::Lui,
-    Kind::Lui,
-    Kind::Lui,
-    Kind::Lui,
-    Kind::Lui,
-    Kind::Lui,
-    Kind::Lui,
-    Kind::Other,
-    Kind::Other,
-    Kind::Other,
-    Kind::Other,
-    Kind::Other,
-    Kind::Other,
-    Kind::Other,
-    Kind::Other,
-    Kind::Other,
-    Kind::Other,
-    Kind::Other,
-    Kind::Other,
-    Kind::Other,
-    Kind::Other,
-    Kind::Other,
-    Kind::Other,
-    Kind::Other,
-    Kind::Other,
-    Kind::Other,
-    Kind::Other,
-    Kind::Other,
-    Kind::Other,
-    Kind::Other,
-    Kind::Other,
-    Kind::Other,
-    Kind::Other,
-    Kind::Other,
-    Kind::Other,
-    Kind::Other,
-    Kind::Other,
-    Kind::Other,
-    Kind::Other,
-    Kind::Other,
-    Kind::Other,
-    Kind::Other,
-    Kind::Other,
-    Kind::Other,
-    Kind::Other,
-    Kind::Other,
-    Kind::Other,
-    Kind::Other,
-    Kind::Other,
-    Kind::Other,
-    Kind::Other,
-    Kind::Other,
-    Kind::Other,
-    Kind::Other,
-    Kind::Other,
-    Kind::Other,
-    Kind::Other,
-    Kind::Other,
-    Kind::Other,
-    Kind::Other,
-    Kind::Other,
-    Kind::Other,
-    Kind::Other,
-    Kind::Other,
-    Kind::Other,
-    Kind::Other,
-    Kind::Other,
-    Kind::Other,
-    Kind::Other,
-    Kind::Other,
-    Kind::Other,
-    Kind::Other,
-    Kind::Other,
-    Kind::Other,
-    Kind::Other,
-    Kind::Other,
-    Kind::Other,
-    Kind::Other,
-    Kind::Other,
-    Kind::Other,
-    Kind::Other,
-    Kind::Other,
-    Kind::Other,
-    Kind::Other,
-    Kind::Other,
-    Kind::Other,
-    Kind::Other,
-    Kind::Other,
-    Kind::Other,
-    Kind::Other,
-    Kind::Other,
-    Kind::Other,
-    Kind::Other,
-    Kind::Other,
-    Kind::Other,
-    Kind::Other,
-    Kind::Other,
-    Kind::Other,
-    Kind::Other,
-    Kind::Other,
-    Kind::Other,
-    Kind::Other,
-    Kind::Other,
-    Kind::Other,
-    Kind::Other,
-    Kind::Other,
-    Kind::Other,
-    Kind::Other,
-    Kind::Other,
-    Kind::Other,
-    Kind::Other,
-    Kind::Other,
-    Kind::Other,
-    Kind::Other,
-    Kind::Other,
-    Kind::Other,
-    Kind::Other,
-    Kind::Other,
-    Kind::Other,
-    Kind::Other,
-    Kind::Other,
-    Kind::Other,
-    Kind::Other,
-    Kind::Other,
-    Kind::Other,
-    Kind::Other,
-    Kind::Other,
-    Kind::Other,
-    Kind::Other,
-    Kind::Other,
-    Kind::Other,
-    Kind::Other,
-    Kind::Other,
-    Kind::Other,
-    Kind::Other,
-    Kind::Other,
-    Kind::Other,
-    Kind::Other,
-    Kind::Other,
-    Kind::Other,
-    Kind::Other,
-    Kind::Other,
-    Kind::Other,
-    Kind::Other,
-    Kind::Other,
-    Kind::Other,
-    Kind::Other,
-    Kind::Other,
-    Kind::Other,
-    Kind::Other,
-    Kind::Other,
-    Kind::Other,
-    Kind::Other,
-    Kind::Other,
-    Kind::Other,
-    Kind::Other,
-    Kind::Other,
-    Kind::Other,
-    Kind::Other,
-    Kind::Other,
-    Kind::Other,
-    Kind::Other,
-    Kind::Other,
-    Kind::Other,
-    Kind::Other,
-    Kind::Other,
-    Kind::Other,
-    Kind::Other,
-    Kind::Other,
-    Kind::Other,
-    Kind::Other,
-    Kind::Other,
-    Kind::Other,
-    Kind::Other,
-    Kind::Other,
-    Kind::Other,
-    Kind::Other,
-    Kind::Other,
-    Kind::Other,
-    Kind::Other,
-    Kind::Other,
-    Kind::Other,
-    Kind::Other,
-    Kind::Other,
-    Kind::Other,
-    Kind::Other,
-    Kind::Other,
-    Kind::Other,
-    Kind::Other,
-    Kind::Other,
-    Kind::Other,
-    Kind::Other,
-    Kind::Other,
-    Kind::Other,
-    Kind::Other,
-    Kind::Other,
-    Kind::Other,
-    Kind::Other,
-    Kind::Other,
-    Kind::Other,
-    Kind::Other,
-    Kind::Other,
-    Kind::Other,
-    Kind::Other,
-    Kind::Other,
-    Kind::Other,
-    Kind::Other,
-    Kind::Other,
-    Kind::Other,
-    Kind::Other,
-    Kind::Other,
-    Kind::Other,
-    Kind::Other,
-    Kind::Other,
-    Kind::Other,
-    Kind::Other,
-    Kind::Other,
-    Kind::Other,
-    Kind::Other,
-    Kind::Other,
-    Kind::Other,
-    Kind::Other,
-    Kind::Other,
-    Kind::Other,
-    Kind::Other,
-    Kind::Other,
-    Kind::Other,
-    Kind::Other,
-    Kind::Other,
-    Kind::Other,
-    Kind::Other,
-    Kind::Other,
-    Kind::Other,
-    Kind::Other,
-    Kind::Other,
-    Kind::Other,
-    Kind::Other,
-    Kind::Other,
-    Kind::Other,
-    Kind::Other,
-    Kind::Other,
-    Kind::Other,
-    Kind::Other,
-    Kind::Other,
-    Kind::Other,
-    Kind::Other,
-    Kind::Other,
-    Kind::Other,
-    Kind::Other,
-    Kind::Other,
-    Kind::Other,
-    Kind::Other,
-    Kind::Other,
-    Kind::Other,
-    Kind::Other,
-    Kind::Other,
-    Kind::Other,
-    Kind::Other,
-    Kind::Other,
-    Kind::Other,
-    Kind::Other,
-    Kind::Other,
-    Kind::Other,
-    Kind::Other,
-    Kind::Other,
-    Kind::Other,
-    Kind::Other,
-    Kind::Other,
-    Kind::Other,
-    Kind::Other,
-    Kind::Other,
-    Kind::Other,
-    Kind::Other,
-    Kind::Other,
-    Kind::Other,
-    Kind::Other,
-    Kind::Other,
-    Kind::Other,
-    Kind::Other,
-    Kind::Other,
-    Kind::Other,
-    Kind::Other,
-    Kind::Other,
-    Kind::Other,
-    Kind::Other,
-    Kind::Other,
-    Kind::Other,
-    Kind::Other,
-    Kind::Other,
-    Kind::Other,
-    Kind::Other,
-    Kind::Other,
-    Kind::Other,
-    Kind::Other,
-    Kind::Other,
-    Kind::Other,
-    Kind::Other,
-    Kind::Other,
-    Kind::Other,
-    Kind::Other,
-    Kind::Other,
-    Kind::Other,
-    Kind::Other,
-    Kind::Other,
-    Kind::Other,
-    Kind::Other,
-    Kind::Other,
-    Kind::Other,
-    Kind::Other,
-    Kind::Other,
-    Kind::Other,
-    Kind::Other,
-    Kind::Other,
-    Kind::Other,
-    Kind::Other,
-    Kind::Other,
-    Kind::Other,
-    Kind::Other,
-    Kind::Other,
-    Kind::Other,
-    Kind::Other,
-    Kind::Other,
-    Kind::Other,
-    Kind::Other,
-    Kind::Other,
-    Kind::Other,
-    Kind::Other,
-    Kind::Other,
-    Kind::Other,
-    Kind::Other,
-    Kind::Other,
-    Kind::Other,
-    Kind::Other,
-    Kind::Other,
-    Kind::Other,
-    Kind::Other,
-    Kind::Other,
-    Kind::Other,
-    Kind::Other,
-    Kind::Other,
-    Kind::Other,
-    Kind::Other,
-    Kind::Other,
-    Kind::Other,
-    Kind::Other,
-    Kind::Other,
-    Kind::Other,
-    Kind::Other,
-    Kind::Other,
-    Kind::Other,
-    Kind::Other,
-    Kind::Beq,
-    Kind::Bne,
-    Kind::Other,
-    Kind::Other,
-    Kind::Blt,
-    Kind::Bge,
-    Kind::Bltu,
-    Kind::Bgeu,
-    Kind::Other,
-    Kind::Other,
-    Kind::Other,
-    Kind::Other,
-    Kind::Other,
-    Kind::Other,
-    Kind::Other,
-    Kind::Other,
-    Kind::Other,
-    Kind::Other,
-    Kind::Other,
-    Kind::Other,
-    Kind::Other,
-    Kind::Other,
-    Kind::Other,
-    Kind::Other,
-    Kind::Other,
-    Kind::Other,
-    Kind::Other,
-    Kind::Other,
-    Kind::Other,
-    Kind::Other,
-    Kind::Other,
-    Kind::Other,
-    Kind::Jalr,
-    Kind::Other,
-    Kind::Other,
-    Kind::Other,
-    Kind::Other,
-    Kind::Other,
-    Kind::Other,
-    Kind::Other,
-    Kind::Other,
-    Kind::Other,
-    Kind::Other,
-    Kind::Other,
-    Kind::Other,
-    Kind::Other,
-    Kind::Other,
-    Kind::Other,
-    Kind::Other,
-    Kind::Other,
-    Kind::Other,
-    Kind::Other,
-    Kind::Other,
-    Kind::Other,
-    Kind::Other,
-    Kind::Other,
-    Kind::Other,
-    Kind::Other,
-    Kind::Other,
-    Kind::Other,
-    Kind::Other,
-    Kind::Other,
-    Kind::Other,
-    Kind::Other,
-    Kind::Other,
-    Kind::Other,
-    Kind::Other,
-    Kind::Other,
-    Kind::Other,
-    Kind::Other,
-    Kind::Other,
-    Kind::Other,
-    Kind::Other,
-    Kind::Other,
-    Kind::Other,
-    Kind::Other,
-    Kind::Other,
-    Kind::Other,
-    Kind::Other,
-    Kind::Other,
-    Kind::Other,
-    Kind::Other,
-    Kind::Other,
-    Kind::Other,
-    Kind::Other,
-    Kind::Other,
-    Kind::Other,
-    Kind::Other,
-    Kind::Other,
-    Kind::Other,
-    Kind::Other,
-    Kind::Other,
-    Kind::Other,
-    Kind::Other,
-    Kind::Other,
-    Kind::Other,
-    Kind::Jal,
-    Kind::Jal,
-    Kind::Jal,
-    Kind::Jal,
-    Kind::Jal,
-    Kind::Jal,
-    Kind::Jal,
-    Kind::Jal,
-    Kind::Other,
-    Kind::Other,
-    Kind::Other,
-    Kind::Other,
-    Kind::Other,
-    Kind::Other,
-    Kind::Other,
-    Kind::Other,
-    Kind::Other,
-    Kind::Other,
-    Kind::Other,
-    Kind::Other,
-    Kind::Other,
-    Kind::Other,
-    Kind::Other,
-    Kind::Other,
-    Kind::Other,
-    Kind::Other,
-    Kind::Other,
-    Kind::Other,
-    Kind::Other,
-    Kind::Other,
-    Kind::Other,
-    Kind::Other,
-    Kind::Other,
-    Kind::Other,
-    Kind::Other,
-    Kind::Other,
-    Kind::Other,
-    Kind::Other,
-    Kind::Other,
-    Kind::Other,
-    Kind::Other,
-    Kind::Other,
-    Kind::Other,
-    Kind::Other,
-    Kind::Other,
-    Kind::Other,
-    Kind::Other,
-    Kind::Other,
-    Kind::Other,
-    Kind::Other,
-    Kind::Other,
-    Kind::Other,
-    Kind::Other,
-    Kind::Other,
-    Kind::Other,
-    Kind::Other,
-    Kind::Other,
-    Kind::Other,
-    Kind::Other,
-    Kind::Other,
-    Kind::Other,
-    Kind::Other,
-    Kind::Other,
-    Kind::Other,
-    Kind::Other,
-    Kind::Other,
-    Kind::Other,
-    Kind::Other,
-    Kind::Other,
-    Kind::Other,
-    Kind::Other,
-    Kind::Other,
-    Kind::Other,
-    Kind::Other,
-    Kind::Other,
-    Kind::Other,
-    Kind::Other,
-    Kind::Other,
-    Kind::Other,
-    Kind::Other,
-    Kind::Other,
-    Kind::Other,
-    Kind::Other,
-    Kind::Other,
-    Kind::Other,
-    Kind::Other,
-    Kind::Other,
-    Kind::Other,
-    Kind::Other,
-    Kind::Other,
-    Kind::Other,
-    Kind::Other,
-    Kind::Other,
-    Kind::Other,
-    Kind::Other,
-    Kind::Other,
-    Kind::Other,
-    Kind::Other,
-    Kind::Other,
-    Kind::Other,
-    Kind::Other,
-    Kind::Other,
-    Kind::Other,
-    Kind::Other,
-    Kind::Other,
-    Kind::Other,
-    Kind::Other,
-    Kind::Other,
-    Kind::Other,
-    Kind::Other,
-    Kind::Other,
-    Kind::Other,
-    Kind::Other,
-    Kind::Other,
-    Kind::Other,
-    Kind::Other,
-    Kind::Other,
-    Kind::Other,
-    Kind::Other,
-    Kind::Other,
-    Kind::Other,
-    Kind::Other,
-    Kind::Other,
-    Kind::Other,
-    Kind::Other,
-    Kind::Other,
-    Kind::Other,
-    Kind::Other,
-    Kind::Other,
-    Kind::Other,
-    Kind::Other,
-    Kind::Other,
-    Kind::Other,
-    Kind::Other,
-    Kind::Other,
-    Kind::Other,
-];
+/// One kind by its name, `_` for none.
+macro_rules! kind {
+    (_) => { Kind::Other };
+    ($name:ident) => { Kind::$name };
+}
 
-/// The place of a word's kind. One product moves both fields to where they are wanted.
+/// The table of kinds. Each line is an opcode whose last two bits are 11: its kinds by funct3. The
+/// three opcodes before it have no rows.
+macro_rules! kinds_by_opcode {
+    ($($a:tt $b:tt $c:tt $d:tt $e:tt $f:tt $g:tt $h:tt;)*) => {
+        [$(
+            kind!(_), kind!(_), kind!(_), kind!(_), kind!(_), kind!(_), kind!(_), kind!(_),
+            kind!(_), kind!(_), kind!(_), kind!(_), kind!(_), kind!(_), kind!(_), kind!(_),
+            kind!(_), kind!(_), kind!(_), kind!(_), kind!(_), kind!(_), kind!(_), kind!(_),
+            kind!($a), kind!($b), kind!($c), kind!($d), kind!($e), kind!($f), kind!($g), kind!($h),
+        )*]
+    };
+}
+
+/// The kind of each opcode and funct3. A nested table costs each step four host instructions more.
+static KINDS: [Kind; 1024] = kinds_by_opcode! {
+    Lb Lh Lw _ Lbu Lhu _ _; // LOAD
+    _ _ _ _ _ _ _ _;
+    _ _ _ _ _ _ _ _;
+    Fence FenceI _ _ _ _ _ _; // MISC-MEM
+    Addi Slli Slti Sltiu Xori ShiftRightI Ori Andi; // OP-IMM
+    Auipc Auipc Auipc Auipc Auipc Auipc Auipc Auipc; // AUIPC
+    _ _ _ _ _ _ _ _;
+    _ _ _ _ _ _ _ _;
+    Sb Sh Sw _ _ _ _ _; // STORE
+    _ _ _ _ _ _ _ _;
+    _ _ _ _ _ _ _ _;
+    _ _ Amo _ _ _ _ _; // AMO
+    Add Sll Slt Sltu Xor ShiftRight Or And; // OP
+    Lui Lui Lui Lui Lui Lui Lui Lui; // LUI
+    _ _ _ _ _ _ _ _;
+    _ _ _ _ _ _ _ _;
+    _ _ _ _ _ _ _ _;
+    _ _ _ _ _ _ _ _;
+    _ _ _ _ _ _ _ _;
+    _ _ _ _ _ _ _ _;
+    _ _ _ _ _ _ _ _;
+    _ _ _ _ _ _ _ _;
+    _ _ _ _ _ _ _ _;
+    _ _ _ _ _ _ _ _;
+    Beq Bne _ _ Blt Bge Bltu Bgeu; // BRANCH
+    Jalr _ _ _ _ _ _ _; // JALR
+    _ _ _ _ _ _ _ _;
+    Jal Jal Jal Jal Jal Jal Jal Jal; // JAL
+    _ _ _ _ _ _ _ _; // SYSTEM
+    _ _ _ _ _ _ _ _;
+    _ _ _ _ _ _ _ _;
+    _ _ _ _ _ _ _ _;
+};
+
+/// The instruction of a row with the fields of a word. The first word is the row's format.
+macro_rules! ins {
+    (R $row:ident $word:ident) => {
+        Some(Ins::$row { rd: rd($word), rs1: rs1($word), rs2: rs2($word) })
+    };
+    (I $row:ident $word:ident) => {
+        Some(Ins::$row { rd: rd($word), rs1: rs1($word), imm: i_imm($word) })
+    };
+    (Shift $row:ident $word:ident) => {
+        Some(Ins::$row { rd: rd($word), rs1: rs1($word), amount: shamt($word) })
+    };
+    (S $row:ident $word:ident) => {
+        Some(Ins::$row { rs1: rs1($word), rs2: rs2($word), imm: s_imm($word) })
+    };
+    (B $row:ident $word:ident) => {
+        Some(Ins::$row { rs1: rs1($word), rs2: rs2($word), offset: b_offset($word) })
+    };
+    (U $row:ident $word:ident) => {
+        Some(Ins::$row { rd: rd($word), imm: imm20($word) })
+    };
+    (J $row:ident $word:ident) => {
+        Some(Ins::$row { rd: rd($word), offset: j_offset($word) })
+    };
+    (Amo $row:ident $word:ident) => {
+        Some(Ins::$row {
+            rd: rd($word),
+            rs1: rs1($word),
+            rs2: rs2($word),
+            aq: aq($word),
+            rl: rl($word),
+        })
+    };
+}
+
+/// The instruction of a word whose row only funct7 tells: a row for each funct7, the most frequent
+/// first.
+macro_rules! by_funct7 {
+    ($format:ident $word:ident) => { None };
+    ($format:ident $word:ident $funct7:literal $row:ident $($rest:tt)*) => {
+        if funct7($word) == $funct7 {
+            ins!($format $row $word)
+        } else {
+            by_funct7!($format $word $($rest)*)
+        }
+    };
+}
+
+/// The place of a word's kind in the table. The product moves opcode and funct3 to the top.
 #[inline(always)]
 #[tactic(auto, using(crate::proofs::Places::moved))]
 fn place(word: u32) -> u32
@@ -1090,7 +178,7 @@ fn place(word: u32) -> u32
     (word & 0x707F).wrapping_mul(0x0200_0480) >> 22
 }
 
-/// Those kinds.
+/// The table, for a contract to name.
 #[inline(always)]
 #[tactic(auto, unfolding(crate::specs::Straight::kinds))]
 fn table() -> &'static [Kind; 1024]
@@ -1109,409 +197,55 @@ fn kind_of(word: u32) -> Kind
     table()[place as usize]
 }
 
-/// Whether funct7 is 0: LLVM makes one test of it.
-#[inline(always)]
-fn no_funct7(word: u32) -> bool
-    ensures { result ≡ (funct7 word == 0) }
-{
-    word < 0x0200_0000
-}
-
-/// The instruction of a word, if it is one of those.
+/// The instruction of a word, if it is of a row that reaches registers and RAM alone.
 #[inline(always)]
 #[tactic(auto, using(crate::proofs::Rows::opcodes), unfolding(crate::specs::Table::table, crate::specs::Opcodes::with_opcode))]
 pub fn decode_straight(word: u32) -> Option<Ins>
     ensures { IfSome result (λ i. decoded word ≡ Some i) }
 {
     match kind_of(word) {
-        Kind::Lui => Some(Ins::Lui {
-            rd: rd(word),
-            imm: imm20(word),
-        }),
-        Kind::Auipc => Some(Ins::Auipc {
-            rd: rd(word),
-            imm: imm20(word),
-        }),
-        Kind::Jal => Some(Ins::Jal {
-            rd: rd(word),
-            offset: j_offset(word),
-        }),
-        Kind::Jalr => Some(Ins::Jalr {
-            rd: rd(word),
-            rs1: rs1(word),
-            imm: i_imm(word),
-        }),
-        Kind::Beq => Some(Ins::Beq {
-            rs1: rs1(word),
-            rs2: rs2(word),
-            offset: b_offset(word),
-        }),
-        Kind::Bne => Some(Ins::Bne {
-            rs1: rs1(word),
-            rs2: rs2(word),
-            offset: b_offset(word),
-        }),
-        Kind::Blt => Some(Ins::Blt {
-            rs1: rs1(word),
-            rs2: rs2(word),
-            offset: b_offset(word),
-        }),
-        Kind::Bge => Some(Ins::Bge {
-            rs1: rs1(word),
-            rs2: rs2(word),
-            offset: b_offset(word),
-        }),
-        Kind::Bltu => Some(Ins::Bltu {
-            rs1: rs1(word),
-            rs2: rs2(word),
-            offset: b_offset(word),
-        }),
-        Kind::Bgeu => Some(Ins::Bgeu {
-            rs1: rs1(word),
-            rs2: rs2(word),
-            offset: b_offset(word),
-        }),
-        Kind::Lb => Some(Ins::Lb {
-            rd: rd(word),
-            rs1: rs1(word),
-            imm: i_imm(word),
-        }),
-        Kind::Lh => Some(Ins::Lh {
-            rd: rd(word),
-            rs1: rs1(word),
-            imm: i_imm(word),
-        }),
-        Kind::Lw => Some(Ins::Lw {
-            rd: rd(word),
-            rs1: rs1(word),
-            imm: i_imm(word),
-        }),
-        Kind::Lbu => Some(Ins::Lbu {
-            rd: rd(word),
-            rs1: rs1(word),
-            imm: i_imm(word),
-        }),
-        Kind::Lhu => Some(Ins::Lhu {
-            rd: rd(word),
-            rs1: rs1(word),
-            imm: i_imm(word),
-        }),
-        Kind::Sb => Some(Ins::Sb {
-            rs1: rs1(word),
-            rs2: rs2(word),
-            imm: s_imm(word),
-        }),
-        Kind::Sh => Some(Ins::Sh {
-            rs1: rs1(word),
-            rs2: rs2(word),
-            imm: s_imm(word),
-        }),
-        Kind::Sw => Some(Ins::Sw {
-            rs1: rs1(word),
-            rs2: rs2(word),
-            imm: s_imm(word),
-        }),
-        Kind::Addi => Some(Ins::Addi {
-            rd: rd(word),
-            rs1: rs1(word),
-            imm: i_imm(word),
-        }),
-        Kind::Slli => slli(word),
-        Kind::Slti => Some(Ins::Slti {
-            rd: rd(word),
-            rs1: rs1(word),
-            imm: i_imm(word),
-        }),
-        Kind::Sltiu => Some(Ins::Sltiu {
-            rd: rd(word),
-            rs1: rs1(word),
-            imm: i_imm(word),
-        }),
-        Kind::Xori => Some(Ins::Xori {
-            rd: rd(word),
-            rs1: rs1(word),
-            imm: i_imm(word),
-        }),
-        Kind::ShiftRightI => shift_right_i(word),
-        Kind::Ori => Some(Ins::Ori {
-            rd: rd(word),
-            rs1: rs1(word),
-            imm: i_imm(word),
-        }),
-        Kind::Andi => Some(Ins::Andi {
-            rd: rd(word),
-            rs1: rs1(word),
-            imm: i_imm(word),
-        }),
-        Kind::Add => add(word),
-        Kind::Sll => sll(word),
-        Kind::Slt => slt(word),
-        Kind::Sltu => sltu(word),
-        Kind::Xor => xor(word),
-        Kind::ShiftRight => shift_right(word),
-        Kind::Or => or(word),
-        Kind::And => and(word),
-        Kind::Fence => Some(Ins::Fence {
-            rd: rd(word),
-            rs1: rs1(word),
-            imm: i_imm(word),
-        }),
-        Kind::FenceI => Some(Ins::FenceI {
-            rd: rd(word),
-            rs1: rs1(word),
-            imm: i_imm(word),
-        }),
+        Kind::Lui => ins!(U Lui word),
+        Kind::Auipc => ins!(U Auipc word),
+        Kind::Jal => ins!(J Jal word),
+        Kind::Jalr => ins!(I Jalr word),
+        Kind::Beq => ins!(B Beq word),
+        Kind::Bne => ins!(B Bne word),
+        Kind::Blt => ins!(B Blt word),
+        Kind::Bge => ins!(B Bge word),
+        Kind::Bltu => ins!(B Bltu word),
+        Kind::Bgeu => ins!(B Bgeu word),
+        Kind::Lb => ins!(I Lb word),
+        Kind::Lh => ins!(I Lh word),
+        Kind::Lw => ins!(I Lw word),
+        Kind::Lbu => ins!(I Lbu word),
+        Kind::Lhu => ins!(I Lhu word),
+        Kind::Sb => ins!(S Sb word),
+        Kind::Sh => ins!(S Sh word),
+        Kind::Sw => ins!(S Sw word),
+        Kind::Addi => ins!(I Addi word),
+        Kind::Slli => by_funct7!(Shift word 0x00 Slli),
+        Kind::Slti => ins!(I Slti word),
+        Kind::Sltiu => ins!(I Sltiu word),
+        Kind::Xori => ins!(I Xori word),
+        Kind::ShiftRightI => by_funct7!(Shift word 0x00 Srli 0x20 Srai),
+        Kind::Ori => ins!(I Ori word),
+        Kind::Andi => ins!(I Andi word),
+        Kind::Add => by_funct7!(R word 0x00 Add 0x20 Sub 0x01 Mul),
+        Kind::Sll => by_funct7!(R word 0x00 Sll 0x01 Mulh),
+        Kind::Slt => by_funct7!(R word 0x00 Slt 0x01 Mulhsu),
+        Kind::Sltu => by_funct7!(R word 0x00 Sltu 0x01 Mulhu),
+        Kind::Xor => by_funct7!(R word 0x00 Xor 0x01 Div),
+        Kind::ShiftRight => by_funct7!(R word 0x00 Srl 0x20 Sra 0x01 Divu),
+        Kind::Or => by_funct7!(R word 0x00 Or 0x01 Rem),
+        Kind::And => by_funct7!(R word 0x00 And 0x01 Remu),
+        Kind::Fence => ins!(I Fence word),
+        Kind::FenceI => ins!(I FenceI word),
         Kind::Amo => amo(word),
         Kind::Other => None,
     }
 }
 
-#[inline(always)]
-#[tactic(auto, using(crate::proofs::Rows::opcodes), unfolding(crate::specs::Table::table, crate::specs::Opcodes::with_opcode))]
-fn slli(word: u32) -> Option<Ins>
-    requires opcode { opcode word ≡ 0x13 }
-    requires funct3 { funct3 word ≡ 1 }
-    ensures { IfSome result (λ i. decoded word ≡ Some i) }
-{
-    if no_funct7(word) {
-        Some(Ins::Slli {
-            rd: rd(word),
-            rs1: rs1(word),
-            amount: shamt(word),
-        })
-    } else {
-        None
-    }
-}
-
-#[inline(always)]
-#[tactic(auto, using(crate::proofs::Rows::opcodes), unfolding(crate::specs::Table::table, crate::specs::Opcodes::with_opcode))]
-fn shift_right_i(word: u32) -> Option<Ins>
-    requires opcode { opcode word ≡ 0x13 }
-    requires funct3 { funct3 word ≡ 5 }
-    ensures { IfSome result (λ i. decoded word ≡ Some i) }
-{
-    if no_funct7(word) {
-        Some(Ins::Srli {
-            rd: rd(word),
-            rs1: rs1(word),
-            amount: shamt(word),
-        })
-    } else if word >> 25 == 0x20 {
-        Some(Ins::Srai {
-            rd: rd(word),
-            rs1: rs1(word),
-            amount: shamt(word),
-        })
-    } else {
-        None
-    }
-}
-
-#[inline(always)]
-#[tactic(auto, using(crate::proofs::Rows::opcodes), unfolding(crate::specs::Table::table, crate::specs::Opcodes::with_opcode))]
-fn add(word: u32) -> Option<Ins>
-    requires opcode { opcode word ≡ 0x33 }
-    requires funct3 { funct3 word ≡ 0 }
-    ensures { IfSome result (λ i. decoded word ≡ Some i) }
-{
-    if no_funct7(word) {
-        Some(Ins::Add {
-            rd: rd(word),
-            rs1: rs1(word),
-            rs2: rs2(word),
-        })
-    } else if word >> 25 == 0x20 {
-        Some(Ins::Sub {
-            rd: rd(word),
-            rs1: rs1(word),
-            rs2: rs2(word),
-        })
-    } else if word >> 25 == 0x01 {
-        Some(Ins::Mul {
-            rd: rd(word),
-            rs1: rs1(word),
-            rs2: rs2(word),
-        })
-    } else {
-        None
-    }
-}
-
-#[inline(always)]
-#[tactic(auto, using(crate::proofs::Rows::opcodes), unfolding(crate::specs::Table::table, crate::specs::Opcodes::with_opcode))]
-fn sll(word: u32) -> Option<Ins>
-    requires opcode { opcode word ≡ 0x33 }
-    requires funct3 { funct3 word ≡ 1 }
-    ensures { IfSome result (λ i. decoded word ≡ Some i) }
-{
-    if no_funct7(word) {
-        Some(Ins::Sll {
-            rd: rd(word),
-            rs1: rs1(word),
-            rs2: rs2(word),
-        })
-    } else if word >> 25 == 0x01 {
-        Some(Ins::Mulh {
-            rd: rd(word),
-            rs1: rs1(word),
-            rs2: rs2(word),
-        })
-    } else {
-        None
-    }
-}
-
-#[inline(always)]
-#[tactic(auto, using(crate::proofs::Rows::opcodes), unfolding(crate::specs::Table::table, crate::specs::Opcodes::with_opcode))]
-fn slt(word: u32) -> Option<Ins>
-    requires opcode { opcode word ≡ 0x33 }
-    requires funct3 { funct3 word ≡ 2 }
-    ensures { IfSome result (λ i. decoded word ≡ Some i) }
-{
-    if no_funct7(word) {
-        Some(Ins::Slt {
-            rd: rd(word),
-            rs1: rs1(word),
-            rs2: rs2(word),
-        })
-    } else if word >> 25 == 0x01 {
-        Some(Ins::Mulhsu {
-            rd: rd(word),
-            rs1: rs1(word),
-            rs2: rs2(word),
-        })
-    } else {
-        None
-    }
-}
-
-#[inline(always)]
-#[tactic(auto, using(crate::proofs::Rows::opcodes), unfolding(crate::specs::Table::table, crate::specs::Opcodes::with_opcode))]
-fn sltu(word: u32) -> Option<Ins>
-    requires opcode { opcode word ≡ 0x33 }
-    requires funct3 { funct3 word ≡ 3 }
-    ensures { IfSome result (λ i. decoded word ≡ Some i) }
-{
-    if no_funct7(word) {
-        Some(Ins::Sltu {
-            rd: rd(word),
-            rs1: rs1(word),
-            rs2: rs2(word),
-        })
-    } else if word >> 25 == 0x01 {
-        Some(Ins::Mulhu {
-            rd: rd(word),
-            rs1: rs1(word),
-            rs2: rs2(word),
-        })
-    } else {
-        None
-    }
-}
-
-#[inline(always)]
-#[tactic(auto, using(crate::proofs::Rows::opcodes), unfolding(crate::specs::Table::table, crate::specs::Opcodes::with_opcode))]
-fn xor(word: u32) -> Option<Ins>
-    requires opcode { opcode word ≡ 0x33 }
-    requires funct3 { funct3 word ≡ 4 }
-    ensures { IfSome result (λ i. decoded word ≡ Some i) }
-{
-    if no_funct7(word) {
-        Some(Ins::Xor {
-            rd: rd(word),
-            rs1: rs1(word),
-            rs2: rs2(word),
-        })
-    } else if word >> 25 == 0x01 {
-        Some(Ins::Div {
-            rd: rd(word),
-            rs1: rs1(word),
-            rs2: rs2(word),
-        })
-    } else {
-        None
-    }
-}
-
-#[inline(always)]
-#[tactic(auto, using(crate::proofs::Rows::opcodes), unfolding(crate::specs::Table::table, crate::specs::Opcodes::with_opcode))]
-fn shift_right(word: u32) -> Option<Ins>
-    requires opcode { opcode word ≡ 0x33 }
-    requires funct3 { funct3 word ≡ 5 }
-    ensures { IfSome result (λ i. decoded word ≡ Some i) }
-{
-    if no_funct7(word) {
-        Some(Ins::Srl {
-            rd: rd(word),
-            rs1: rs1(word),
-            rs2: rs2(word),
-        })
-    } else if word >> 25 == 0x20 {
-        Some(Ins::Sra {
-            rd: rd(word),
-            rs1: rs1(word),
-            rs2: rs2(word),
-        })
-    } else if word >> 25 == 0x01 {
-        Some(Ins::Divu {
-            rd: rd(word),
-            rs1: rs1(word),
-            rs2: rs2(word),
-        })
-    } else {
-        None
-    }
-}
-
-#[inline(always)]
-#[tactic(auto, using(crate::proofs::Rows::opcodes), unfolding(crate::specs::Table::table, crate::specs::Opcodes::with_opcode))]
-fn or(word: u32) -> Option<Ins>
-    requires opcode { opcode word ≡ 0x33 }
-    requires funct3 { funct3 word ≡ 6 }
-    ensures { IfSome result (λ i. decoded word ≡ Some i) }
-{
-    if no_funct7(word) {
-        Some(Ins::Or {
-            rd: rd(word),
-            rs1: rs1(word),
-            rs2: rs2(word),
-        })
-    } else if word >> 25 == 0x01 {
-        Some(Ins::Rem {
-            rd: rd(word),
-            rs1: rs1(word),
-            rs2: rs2(word),
-        })
-    } else {
-        None
-    }
-}
-
-#[inline(always)]
-#[tactic(auto, using(crate::proofs::Rows::opcodes), unfolding(crate::specs::Table::table, crate::specs::Opcodes::with_opcode))]
-fn and(word: u32) -> Option<Ins>
-    requires opcode { opcode word ≡ 0x33 }
-    requires funct3 { funct3 word ≡ 7 }
-    ensures { IfSome result (λ i. decoded word ≡ Some i) }
-{
-    if no_funct7(word) {
-        Some(Ins::And {
-            rd: rd(word),
-            rs1: rs1(word),
-            rs2: rs2(word),
-        })
-    } else if word >> 25 == 0x01 {
-        Some(Ins::Remu {
-            rd: rd(word),
-            rs1: rs1(word),
-            rs2: rs2(word),
-        })
-    } else {
-        None
-    }
-}
-
+/// The instruction of a word of the opcode AMO.
 #[inline(always)]
 #[tactic(auto, using(crate::proofs::Rows::opcodes), unfolding(crate::specs::Table::table, crate::specs::Opcodes::with_opcode))]
 fn amo(word: u32) -> Option<Ins>
@@ -1526,76 +260,16 @@ fn amo(word: u32) -> Option<Ins>
             aq: aq(word),
             rl: rl(word),
         }),
-        0x03 => Some(Ins::ScW {
-            rd: rd(word),
-            rs1: rs1(word),
-            rs2: rs2(word),
-            aq: aq(word),
-            rl: rl(word),
-        }),
-        0x01 => Some(Ins::AmoswapW {
-            rd: rd(word),
-            rs1: rs1(word),
-            rs2: rs2(word),
-            aq: aq(word),
-            rl: rl(word),
-        }),
-        0x00 => Some(Ins::AmoaddW {
-            rd: rd(word),
-            rs1: rs1(word),
-            rs2: rs2(word),
-            aq: aq(word),
-            rl: rl(word),
-        }),
-        0x04 => Some(Ins::AmoxorW {
-            rd: rd(word),
-            rs1: rs1(word),
-            rs2: rs2(word),
-            aq: aq(word),
-            rl: rl(word),
-        }),
-        0x0C => Some(Ins::AmoandW {
-            rd: rd(word),
-            rs1: rs1(word),
-            rs2: rs2(word),
-            aq: aq(word),
-            rl: rl(word),
-        }),
-        0x08 => Some(Ins::AmoorW {
-            rd: rd(word),
-            rs1: rs1(word),
-            rs2: rs2(word),
-            aq: aq(word),
-            rl: rl(word),
-        }),
-        0x10 => Some(Ins::AmominW {
-            rd: rd(word),
-            rs1: rs1(word),
-            rs2: rs2(word),
-            aq: aq(word),
-            rl: rl(word),
-        }),
-        0x14 => Some(Ins::AmomaxW {
-            rd: rd(word),
-            rs1: rs1(word),
-            rs2: rs2(word),
-            aq: aq(word),
-            rl: rl(word),
-        }),
-        0x18 => Some(Ins::AmominuW {
-            rd: rd(word),
-            rs1: rs1(word),
-            rs2: rs2(word),
-            aq: aq(word),
-            rl: rl(word),
-        }),
-        0x1C => Some(Ins::AmomaxuW {
-            rd: rd(word),
-            rs1: rs1(word),
-            rs2: rs2(word),
-            aq: aq(word),
-            rl: rl(word),
-        }),
+        0x03 => ins!(Amo ScW word),
+        0x01 => ins!(Amo AmoswapW word),
+        0x00 => ins!(Amo AmoaddW word),
+        0x04 => ins!(Amo AmoxorW word),
+        0x0C => ins!(Amo AmoandW word),
+        0x08 => ins!(Amo AmoorW word),
+        0x10 => ins!(Amo AmominW word),
+        0x14 => ins!(Amo AmomaxW word),
+        0x18 => ins!(Amo AmominuW word),
+        0x1C => ins!(Amo AmomaxuW word),
         _ => None,
     }
 }

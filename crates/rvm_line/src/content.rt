@@ -16,7 +16,7 @@ use crate::reading::{end, first_part, last_string, name};
 use crate::statements::{Code, Keyword, Width, balign, space, statement};
 use crate::symbols::Symbols;
 use crate::values::last_value;
-use rvm_isa::encode::encode;
+use rvm_isa::encode;
 use rvm_text::{Token, unescape};
 use std::alloc::{AllocError, Global};
 

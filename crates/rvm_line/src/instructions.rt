@@ -17,7 +17,7 @@ use crate::operations::Operation;
 use crate::reading::{end, register_comma};
 use crate::symbols::Symbols;
 use crate::values::{fits_signed, high, last_value, low};
-use rvm_isa::encode::encode;
+use rvm_isa::encode;
 use rvm_isa::{Imm12, Imm20, Ins, Reg};
 use rvm_text::Token;
 

@@ -1,7 +1,7 @@
 //! The instruction table, against words that the GNU assembler made.
 
-use rvm_isa::decode::decode;
-use rvm_isa::encode::encode;
+use rvm_isa::decode;
+use rvm_isa::encode;
 use rvm_isa::{CsrNo, Imm5, Imm12, Imm20, Ins, Off13, Off21, Reg, Shamt};
 use std::process::Abort;
 

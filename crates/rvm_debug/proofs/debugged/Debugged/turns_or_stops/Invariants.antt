@@ -1,4 +1,5 @@
 use Rattle.std.proofs.Common.{◌≡◌, ◌-◌, ◌<◌, ◌≤◌, length}
+use Rattle.rvm_debug.specs.declared.turns.Order.TheVariants.{RoundRobin}
 use Rattle.rvm_debug.specs.Turns.{after_turns}
 use Rattle.rvm_debug.proofs.Turning.{Turning}
 use Rattle.rvm_debug.proofs.debugged.Debugged.turns_or_stops.Given as goal
@@ -9,7 +10,7 @@ invariant-loop-left g l =
       left : l.left ≤ l.count;
       harts : length l.self.guest.board.harts ≡ l.harts;
       hart : l.hart < l.harts;
-      turns : Turning (after_turns l.order l.count l.first l.fn.self.guest) (after_turns l.order l.left l.hart l.self.guest) (l.count - l.left) l.fn.self.dirty l.self.dirty;
+      turns : Turning (after_turns RoundRobin l.count l.first l.fn.self.guest) (after_turns RoundRobin l.left l.hart l.self.guest) (l.count - l.left) l.fn.self.dirty l.self.dirty;
     }
 
 abbrev pub decreases-loop-left : goal.decreases-loop-left

@@ -11,7 +11,7 @@ invariant-loop-left g l =
     × (length l.bus.shared.reservations ≡ length l.initial.bus.shared.reservations)
     × (l.left ≤ l.count)
     × (record { machine = machine (at_pc (based l.at) l.self) l.bus; dirty = l.bus.dirty; plain = true }
-    ≡ went (l.count - l.left) (machine l.initial.self l.initial.bus) l.initial.bus.dirty)
+    ≡ went l.watched l.marks (l.count - l.left) (machine l.initial.self l.initial.bus) l.initial.bus.dirty)
 
 abbrev pub decreases-loop-left : goal.decreases-loop-left
 decreases-loop-left g l = l.left

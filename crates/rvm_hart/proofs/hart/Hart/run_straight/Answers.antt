@@ -2,7 +2,7 @@ use Rattle.std.proofs.Common.{◌≡◌, ℕ, ◌-◌, ◌≤◌, sym, ap, ◌�
 use Rattle.rvm_mem.specs.Pages.{mark_all}
 use Rattle.rvm_hart.specs.Machine.{Machine, machine}
 use Rattle.rvm_hart.specs.Straight.{Steps}
-use Rattle.rvm_hart.proofs.Made.{made_for, no_steps}
+use Rattle.rvm_hart.proofs.Made.{made_for, no_steps, none_input, none_pass}
 use Rattle.rvm_hart.proofs.hart.Hart.run_straight.Goals as goal
 
 -- a halted board
@@ -18,27 +18,51 @@ pub returns-then-is_some-clause-retired : goal.returns-then-is_some-clause-retir
 returns-then-is_some-clause-retired g c =
     ap (λ (s : Steps). s.retired) (no_steps (c.args.count - c.args.count) (machine c.args.self.now c.args.bus.now) (omega arith))
 
+pub returns-then-is_some-clause-pass : goal.returns-then-is_some-clause-pass
+returns-then-is_some-clause-pass g c =
+    none_pass c.args.watched c.args.marks.now (c.args.count - c.args.count) (machine c.args.self.now c.args.bus.now) (omega arith)
+
+pub returns-then-is_some-clause-input : goal.returns-then-is_some-clause-input
+returns-then-is_some-clause-input g c =
+    none_input (c.args.count - c.args.count) (machine c.args.self.now c.args.bus.now) (omega arith)
+
 -- all steps that were made
 pub returns-clause-machine : goal.returns-clause-machine
 returns-clause-machine g c =
     let k : ℕ = c.quiet_steps-quiet.result - c.rows_straight.result in
-    (made_for (c.args.count - (c.args.count - k)) k c.quiet_steps-quiet.result c.halted.result (machine c.args.self.now c.args.bus.now) c.args.bus.now.dirty
-        (machine c.rows_straight.new.self c.rows_straight.new.bus) (machine c.count_steps.new.self c.count_steps.new.bus) c.rows_straight.new.bus.dirty c.count_steps.new.bus.dirty
-        (omega (arith, c.quiet_steps-quiet.ensures.within)) (omega arith) c.halted.ensures (sym c.is_some.ensures ∙ c.if-is_some.false) c.quiet_steps-quiet.ensures.quiet
-        c.rows_straight.ensures.went c.count_steps.ensures.machine c.count_steps.ensures.dirty).left
+    (made_for c.args.watched c.args.marks.now (c.args.count - (c.args.count - k)) k c.quiet_steps-quiet.result c.halted.result (machine c.args.self.now c.args.bus.now) c.args.bus.now.dirty
+    (machine c.rows_straight.new.self c.rows_straight.new.bus) (machine c.count_steps.new.self c.count_steps.new.bus) c.rows_straight.new.bus.dirty c.count_steps.new.bus.dirty
+    (omega (arith, c.quiet_steps-quiet.ensures.within)) (omega arith) c.halted.ensures (sym c.is_some.ensures ∙ c.if-is_some.false) c.quiet_steps-quiet.ensures.quiet
+    c.rows_straight.ensures.went c.count_steps.ensures.machine c.count_steps.ensures.dirty).left
 
 pub returns-clause-dirty : goal.returns-clause-dirty
 returns-clause-dirty g c =
     let k : ℕ = c.quiet_steps-quiet.result - c.rows_straight.result in
-    (made_for (c.args.count - (c.args.count - k)) k c.quiet_steps-quiet.result c.halted.result (machine c.args.self.now c.args.bus.now) c.args.bus.now.dirty
-        (machine c.rows_straight.new.self c.rows_straight.new.bus) (machine c.count_steps.new.self c.count_steps.new.bus) c.rows_straight.new.bus.dirty c.count_steps.new.bus.dirty
-        (omega (arith, c.quiet_steps-quiet.ensures.within)) (omega arith) c.halted.ensures (sym c.is_some.ensures ∙ c.if-is_some.false) c.quiet_steps-quiet.ensures.quiet
-        c.rows_straight.ensures.went c.count_steps.ensures.machine c.count_steps.ensures.dirty).marked
+    (made_for c.args.watched c.args.marks.now (c.args.count - (c.args.count - k)) k c.quiet_steps-quiet.result c.halted.result (machine c.args.self.now c.args.bus.now) c.args.bus.now.dirty
+    (machine c.rows_straight.new.self c.rows_straight.new.bus) (machine c.count_steps.new.self c.count_steps.new.bus) c.rows_straight.new.bus.dirty c.count_steps.new.bus.dirty
+    (omega (arith, c.quiet_steps-quiet.ensures.within)) (omega arith) c.halted.ensures (sym c.is_some.ensures ∙ c.if-is_some.false) c.quiet_steps-quiet.ensures.quiet
+    c.rows_straight.ensures.went c.count_steps.ensures.machine c.count_steps.ensures.dirty).marked
 
 pub returns-clause-retired : goal.returns-clause-retired
 returns-clause-retired g c =
     let k : ℕ = c.quiet_steps-quiet.result - c.rows_straight.result in
-    (made_for (c.args.count - (c.args.count - k)) k c.quiet_steps-quiet.result c.halted.result (machine c.args.self.now c.args.bus.now) c.args.bus.now.dirty
-        (machine c.rows_straight.new.self c.rows_straight.new.bus) (machine c.count_steps.new.self c.count_steps.new.bus) c.rows_straight.new.bus.dirty c.count_steps.new.bus.dirty
-        (omega (arith, c.quiet_steps-quiet.ensures.within)) (omega arith) c.halted.ensures (sym c.is_some.ensures ∙ c.if-is_some.false) c.quiet_steps-quiet.ensures.quiet
-        c.rows_straight.ensures.went c.count_steps.ensures.machine c.count_steps.ensures.dirty).retired
+    (made_for c.args.watched c.args.marks.now (c.args.count - (c.args.count - k)) k c.quiet_steps-quiet.result c.halted.result (machine c.args.self.now c.args.bus.now) c.args.bus.now.dirty
+    (machine c.rows_straight.new.self c.rows_straight.new.bus) (machine c.count_steps.new.self c.count_steps.new.bus) c.rows_straight.new.bus.dirty c.count_steps.new.bus.dirty
+    (omega (arith, c.quiet_steps-quiet.ensures.within)) (omega arith) c.halted.ensures (sym c.is_some.ensures ∙ c.if-is_some.false) c.quiet_steps-quiet.ensures.quiet
+    c.rows_straight.ensures.went c.count_steps.ensures.machine c.count_steps.ensures.dirty).retired
+
+pub returns-clause-pass : goal.returns-clause-pass
+returns-clause-pass g c =
+    let k : ℕ = c.quiet_steps-quiet.result - c.rows_straight.result in
+    (made_for c.args.watched c.args.marks.now (c.args.count - (c.args.count - k)) k c.quiet_steps-quiet.result c.halted.result (machine c.args.self.now c.args.bus.now) c.args.bus.now.dirty
+    (machine c.rows_straight.new.self c.rows_straight.new.bus) (machine c.count_steps.new.self c.count_steps.new.bus) c.rows_straight.new.bus.dirty c.count_steps.new.bus.dirty
+    (omega (arith, c.quiet_steps-quiet.ensures.within)) (omega arith) c.halted.ensures (sym c.is_some.ensures ∙ c.if-is_some.false) c.quiet_steps-quiet.ensures.quiet
+    c.rows_straight.ensures.went c.count_steps.ensures.machine c.count_steps.ensures.dirty).pass
+
+pub returns-clause-input : goal.returns-clause-input
+returns-clause-input g c =
+    let k : ℕ = c.quiet_steps-quiet.result - c.rows_straight.result in
+    (made_for c.args.watched c.args.marks.now (c.args.count - (c.args.count - k)) k c.quiet_steps-quiet.result c.halted.result (machine c.args.self.now c.args.bus.now) c.args.bus.now.dirty
+    (machine c.rows_straight.new.self c.rows_straight.new.bus) (machine c.count_steps.new.self c.count_steps.new.bus) c.rows_straight.new.bus.dirty c.count_steps.new.bus.dirty
+    (omega (arith, c.quiet_steps-quiet.ensures.within)) (omega arith) c.halted.ensures (sym c.is_some.ensures ∙ c.if-is_some.false) c.quiet_steps-quiet.ensures.quiet
+    c.rows_straight.ensures.went c.count_steps.ensures.machine c.count_steps.ensures.dirty).input

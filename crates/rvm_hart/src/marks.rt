@@ -1,0 +1,51 @@
+//! Marks of addresses: a quick test that an address is none of some.
+
+ghost use Rattle.std.specs.Prelude.{◌≡◌, false, replicate};
+ghost use Rattle.rvm_hart.specs.Marks.{is_marked, marked};
+
+use std::marker::Model;
+
+/// How many marks there are.
+const MARKS: usize = 1024;
+
+/// 1024 marks. Each stands for all addresses that are equal in bits 11 to 2.
+#[derive(Drop)]
+pub struct Marks {
+    flags: [bool; MARKS],
+}
+
+impl Model for Marks {
+    ghost use Rattle.std.specs.Prelude.{◌≡◌, List, Bool, length};
+
+    ghost Value = { List Bool };
+
+    ghost view = { λ m. m.flags };
+
+    ghost invariant = { λ m. length m.flags ≡ 1024 };
+}
+
+impl Marks {
+    /// No mark.
+    pub fn new() -> Marks
+        ensures { result ≡ replicate 1024 false }
+    {
+        Marks {
+            flags: [false; MARKS],
+        }
+    }
+
+    /// Marks an address.
+    pub fn add(&mut self, address: u32)
+        ensures { self.new ≡ marked address self.old }
+    {
+        self.flags[(address / 4 % 1024) as usize] = true;
+    }
+
+    /// Whether an address has a mark.
+    #[inline(always)]
+    pub fn has(&self, address: u32) -> bool
+        ensures { result ≡ is_marked address self.now }
+    {
+        self.flags[(address / 4 % 1024) as usize]
+    }
+}
