@@ -95,7 +95,7 @@ module _ {S P E A B : Type 0} (m : Guest S P E A B) where
   resend_bound v n l (Some p) = tt
   resend_bound v n l None = either Bounds (is_compact v) _ _ (λ _. tt) (λ _. tt)
 
-  few : (O : Mode S P) → Bounded O → FewCopies m O
+  pub few : (O : Mode S P) → Bounded O → FewCopies m O
   few (Copying n r) ok =
       let c = length (m.pages r.guest) in let x = ok.sent_le in let y = ok.copies_le in let z =
       ok.scan_le in let w = ok.rounds in
@@ -240,14 +240,14 @@ module _ {S P E A B : Type 0} (m : Guest S P E A B) where
       either (λ (h : Host S P). Bounded h.mode) (x == y) (result_at m w y e).next (w.hosts x)
       (λ _. step_bound w.version y w.count (w.limits y) e (w.hosts y) (ok y)) (λ _. ok x)
 
-  run_bound : (events : List (Event E)) (w : World S P B) → ((x : ℕ) → Bounded (w.hosts x).mode)
+  pub run_bound : (events : List (Event E)) (w : World S P B) → ((x : ℕ) → Bounded (w.hosts x).mode)
       → (x : ℕ) → Bounded ((run m w events).hosts x).mode
   unfolding run
   run_bound [] w ok x = ok x
   run_bound (ev ∷ events) w ok x =
       run_bound events (happened m w (meaning m w ev)) (happened_bound w (meaning m w ev) ok) x
 
-  new_bound : (g : S) (x : ℕ) → Bounded (new_host m g x).mode
+  pub new_bound : (g : S) (x : ℕ) → Bounded (new_host m g x).mode
   new_bound g x = either Bounded (x == 0) (Run 0 g) (Empty 0) (λ _. tt) (λ _. tt)
 
   pub bound_law : CopiesAreBounded m

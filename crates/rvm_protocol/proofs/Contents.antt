@@ -11,12 +11,12 @@ use Rattle.rvm_protocol.specs.Pages.{least}
 use Rattle.rvm_protocol.specs.Receiving.{came, of_this_move, offered, offer_above}
 use Rattle.rvm_protocol.specs.Replies.{Accepted, Declined, BadSize, BadHost, EpochsSpent, SeqSpent, Stopping, Reply}
 use Rattle.rvm_protocol.specs.Rounds.{Rounds, Last, is_skipped, to_copy, stopped, page_count, page_of, newest_numbers, pieces_of}
-use Rattle.rvm_protocol.specs.Told.{told, at_start}
-use Rattle.rvm_protocol.specs.World.{mode_at, run, history, new_world}
+use Rattle.rvm_protocol.specs.Told.{Told, told, at_start}
+use Rattle.rvm_protocol.specs.World.{World, Event, mode_at, run, history, meaning, new_world, result_at}
 use Rattle.rvm_protocol.proofs.PairInvariant.{New, HoldsNone, Content}
 use Rattle.rvm_protocol.proofs.CurrentModes.{either}
 use Rattle.rvm_protocol.proofs.Basics.{some_is, same_or, or_left, or_right, and_both, both_false, least_none, listed_length, listed_at}
-use Rattle.rvm_protocol.proofs.Runs.{run_sound, new_sound}
+use Rattle.rvm_protocol.proofs.Runs.{SoundAt, run_sound, new_sound}
 use Rattle.rvm_protocol.proofs.OtherHosts.{none_at}
 use Rattle.rvm_protocol.proofs.OneGuestHolds.{told_guest}
 use Rattle.rvm_protocol.proofs.StateCases.{state_cases, part_cases}
@@ -255,13 +255,11 @@ module _ {S P E A B : Type 0} (m : Guest S P E A B) (g : S) where
       subst (λ (y : Addressed P B). Carries m g y.frame) (some_is _ a h) (written_carries v f q)
 
 module _ {S P E A B : Type 0} (m : Guest S P E A B) where
-  pub carry_law : FramesCarryTheGuest m
-  unfolding FramesCarryTheGuest
-  carry_law = λ g version count limits events ev x e a v is made.
-      let w = run m (new_world m version g count limits) events in
-      let t = told m (at_start g) (history m (new_world m version g count limits) events) in
-      let s = run_sound m events (new_world m version g count limits) (at_start g)
-      (new_sound m version g count limits v) in
+  -- whatever is known of the world
+  pub carry_at : (w : World S P B) (t : Told S) → SoundAt m w t → (ev : Event E) (x : ℕ)
+      (e : HostEvent P E B) (a : Addressed P B) → meaning m w ev ≡ Some (x, e)
+      → (result_at m w x e).made ≡ Some a → Carries m t.guest a.frame
+  carry_at w t s ev x e a is made =
       let l = s.good in
       let source : SourceIs m t.guest (mode_at m w x) = elim (same_or x s.c) [
         | inl q ↦
@@ -272,8 +270,15 @@ module _ {S P E A B : Type 0} (m : Guest S P E A B) where
             (none_at m (w.hosts s.c) (w.hosts s.d) w.hosts (read m w.sent) s.c s.d x t l n)
       ] in
       let o = outcome m w.version x w.count (w.limits x) e (w.hosts x) in
-      subst (λ z. Carries m z a.frame)
-      (told_guest m (history m (new_world m version g count limits) events) (at_start g))
-      (posted_carries m t.guest w.version x
+      posted_carries m t.guest w.version x
       (addressee e (partner_then e o.reply (w.hosts x).partner)) o.made a made
-      (carry_step m t.guest w.version x w.count (w.limits x) e (w.hosts x) source))
+      (carry_step m t.guest w.version x w.count (w.limits x) e (w.hosts x) source)
+
+  pub carry_law : FramesCarryTheGuest m
+  unfolding FramesCarryTheGuest
+  carry_law = λ g version count limits events ev x e a v is made.
+      let past = history m (new_world m version g count limits) events in
+      subst (λ z. Carries m z a.frame) (told_guest m past (at_start g))
+      (carry_at (run m (new_world m version g count limits) events) (told m (at_start g) past)
+      (run_sound m events (new_world m version g count limits) (at_start g)
+      (new_sound m version g count limits v)) ev x e a is made)

@@ -7,8 +7,8 @@ use Rattle.rvm_protocol.specs.Guest.{Guest}
 use Rattle.rvm_protocol.specs.Host.{Host}
 use Rattle.rvm_protocol.specs.Modes.{Mode, Empty, Run, Offering, Copying, Stopped, Given, Staging, Held, move_of}
 use Rattle.rvm_protocol.specs.Rounds.{page_of}
-use Rattle.rvm_protocol.specs.Told.{Told, at_start}
-use Rattle.rvm_protocol.specs.World.{mode_at, run, new_world}
+use Rattle.rvm_protocol.specs.Told.{Told, at_start, told}
+use Rattle.rvm_protocol.specs.World.{World, history, mode_at, run, new_world}
 use Rattle.rvm_protocol.proofs.PairInvariant.{Meet, CopiesOk, IsFresh, TrueState}
 use Rattle.rvm_protocol.proofs.OtherModes.{alone}
 use Rattle.rvm_protocol.proofs.Basics.{some_is, same_or}
@@ -16,7 +16,7 @@ use Rattle.rvm_protocol.proofs.OtherPages.{pieces_are_sent}
 use Rattle.rvm_protocol.proofs.Behind.{run_apart}
 use Rattle.rvm_protocol.proofs.WorldInvariant.{Made, Good}
 use Rattle.rvm_protocol.proofs.OtherHosts.{none_at}
-use Rattle.rvm_protocol.proofs.Runs.{new_sound, run_sound}
+use Rattle.rvm_protocol.proofs.Runs.{SoundAt, new_sound, run_sound}
 
 module _ {S P E A B : Type 0} (m : Guest S P E A B) where
   -- the stale-page law
@@ -148,12 +148,10 @@ module _ {S P E A B : Type 0} (m : Guest S P E A B) where
   stale_other O (Copying n r) sent x h = absurd (alone O (Copying n r) h)
   stale_other O (Stopped n l) sent x h = absurd (alone O (Stopped n l) h)
 
-  pub stale_law : NoStalePage m
-  unfolding NoStalePage
-  stale_law = λ g version count limits events x v.
-      let w = run m (new_world m version g count limits) events in
-      let s = run_sound m events (new_world m version g count limits) (at_start g)
-      (new_sound m version g count limits v) in
+  -- whatever is known of the world
+  pub stale_at : (w : World S P B) (t : Told S) → SoundAt m w t → (x : ℕ)
+      → CopiesAreFresh m (read m w.sent) x (mode_at m w x)
+  stale_at w t s x =
       let l = s.good in
       elim (same_or x s.c) [
         | inl q ↦
@@ -161,8 +159,16 @@ module _ {S P E A B : Type 0} (m : Guest S P E A B) where
             (stale_owner (w.hosts s.c).mode (w.hosts s.c).partner (w.hosts s.d) w.hosts
             (read m w.sent) s.c s.d _ l)
         | inr n ↦
-            stale_other (Run (move_of (w.hosts x).mode) g) (w.hosts x).mode (read m w.sent) x
+            stale_other (Run (move_of (w.hosts x).mode) t.guest) (w.hosts x).mode (read m w.sent) x
             (run_apart (move_of (w.hosts x).mode) (w.hosts x).mode
             (none_at m (w.hosts s.c) (w.hosts s.d) w.hosts (read m w.sent) s.c s.d x _ l n)
             (omega arith))
       ]
+
+  pub stale_law : NoStalePage m
+  unfolding NoStalePage
+  stale_law = λ g version count limits events x v.
+      stale_at (run m (new_world m version g count limits) events)
+      (told m (at_start g) (history m (new_world m version g count limits) events))
+      (run_sound m events (new_world m version g count limits) (at_start g)
+      (new_sound m version g count limits v)) x

@@ -406,7 +406,7 @@ module _ {S P E A B : Type 0} (m : Guest S P E A B) where
       ]
 
   -- whoever knows what the modes show knows enough
-  shown_sound : (w : World S P B) (t t' : Told S) → SoundAt m w t → Shown w.hosts t'
+  pub shown_sound : (w : World S P B) (t t' : Told S) → SoundAt m w t → Shown w.hosts t'
       → SoundAt m w t'
   shown_sound w t t' s h =
       let l = s.good in
@@ -447,7 +447,7 @@ module _ {S P E A B : Type 0} (m : Guest S P E A B) where
         };
       }
 
-  one_guest : (w : World S P B) (t : Told S) (events : List (Event E)) → SoundAt m w t
+  pub one_guest : (w : World S P B) (t : Told S) (events : List (Event E)) → SoundAt m w t
       → OneGuest m t (run m w events) (history m w events)
   one_guest w t events start =
       let past = history m w events in

@@ -1,6 +1,7 @@
 //! Laws of all runs, each the contract of a function with nothing to do.
 
 ghost use Rattle.std.specs.Prelude.{ℕ};
+ghost use Rattle.rvm_protocol.specs.Course.{CausesComeFirst, RunsNeverMove, RunsNeverMoveFromAnyWorld};
 ghost use Rattle.rvm_protocol.specs.DrivenMove.{ADrivenMoveArrives, ATooLargeGuestIsDeclined};
 ghost use Rattle.rvm_protocol.specs.DrivenMove.{DriveCount};
 ghost use Rattle.rvm_protocol.specs.FewCopies.{CopiesAreBounded};
@@ -19,6 +20,16 @@ ghost use Rattle.rvm_protocol.specs.OneGuest.{AlwaysOneGuest, OneGuestFromAnyWor
 pub fn the_guest_is_the_one_that_never_moves<S, P, E, A, B>()
     ensures always { (m : Guest S P E A B) → AlwaysOneGuest m }
     ensures from_any_world { (m : Guest S P E A B) → OneGuestFromAnyWorld m }
+{}
+
+/// All this holds in each state of a run, and so do the laws below: after each of its first events no
+/// two hosts would answer, an event that commits hands the guest over, no page is forgotten, a frame
+/// that is made carries the guest, and few copies were made; and each Ready, Go and Started has its
+/// cause in what was seen by then.
+pub fn a_run_keeps_the_laws_in_each_state<S, P, E, A, B>()
+    ensures always { (m : Guest S P E A B) → RunsNeverMove m }
+    ensures from_any_world { (m : Guest S P E A B) → RunsNeverMoveFromAnyWorld m }
+    ensures causes { (m : Guest S P E A B) → CausesComeFirst m }
 {}
 
 /// While a source copies, no page is forgotten; and the copies that a state names, and all later
