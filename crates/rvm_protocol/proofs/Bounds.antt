@@ -6,7 +6,7 @@ use Rattle.std.proofs.Math.Nat.{mul-le-mul_right}
 use Rattle.rvm_protocol.specs.Commands.{Policy, Command, Board, Begin, Copy, Resend, AbortMove, HostEvent, Do, Came, is_allowed}
 use Rattle.rvm_protocol.specs.FewCopies.{FewCopies, CopiesAreBounded}
 use Rattle.rvm_protocol.specs.Frames.{Frame, Offer, Accept, Refuse, Page, RoundEnd, Lost, State, Ready, Go, Started, Abort, is_compact, plain, Part}
-use Rattle.rvm_protocol.specs.Guest.{Guest}
+use Rattle.rvm_protocol.specs.Guest.{Guest, IsGuest}
 use Rattle.rvm_protocol.specs.Host.{outcome, Host, obey_at, is_there, is_heard}
 use Rattle.rvm_protocol.specs.Modes.{Mode, Empty, Run, Offering, Copying, Stopped, Given, Staging, Held, Outcome, ignores, says, sends, refuses}
 use Rattle.rvm_protocol.specs.Obeying.{obey, begun, begin_allowed, copy_page, sends_page, copy_last, sends_last, resend_last, begin}
@@ -26,7 +26,7 @@ pub record Counted (count max round sent scan copies : ℕ) : Type 0 where
   pub scan_le : scan ≤ count
   pub copies_le : copies + count ≤ round * count + sent
 
-module _ {S P E A B : Type 0} (m : Guest S P E A B) where
+module _ {S P E A B : Type 0} (m : Guest S P E A B) (laws : IsGuest m) where
   abbrev pub IsCounted : Rounds S → Type 0
   IsCounted r =
       Counted (length (m.pages r.guest)) r.policy.max_rounds r.round r.sent r.scan r.copies
@@ -115,7 +115,7 @@ module _ {S P E A B : Type 0} (m : Guest S P E A B) where
   obey_bound v (Board e) (Offering n g p) ok = ok
   obey_bound v (Board e) (Copying n r) ok =
       let c : length (m.pages (m.next r.guest e)) ≡ length (m.pages r.guest) =
-      m.same_length r.guest e in subst
+      laws.same_length r.guest e in subst
       (λ z. Counted z r.policy.max_rounds r.round r.sent r.scan r.copies) (sym c) ok
   obey_bound v (Board e) (Stopped n l) ok = tt
   obey_bound v (Board e) (Given n) ok = tt

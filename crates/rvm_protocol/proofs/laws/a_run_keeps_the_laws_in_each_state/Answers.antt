@@ -4,7 +4,7 @@ use Rattle.rvm_protocol.proofs.laws.a_run_keeps_the_laws_in_each_state.Goals as 
 pub returns : goal.returns
 returns g c =
     record {
-      always = λ m. course_law m;
-      from_any_world = λ m. course_law_from_any_world m;
-      causes = λ m. causes_law m;
+      always = λ m laws. course_law m laws;
+      from_any_world = λ m laws. course_law_from_any_world m laws;
+      causes = λ m laws. causes_law m laws;
     }
