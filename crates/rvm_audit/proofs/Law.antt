@@ -20,14 +20,11 @@ use Rattle.rvm_protocol.specs.Commands as protocol
 use Rattle.rvm_protocol.specs.Course.{CausesComeFirst, RunsNeverMove}
 use Rattle.rvm_protocol.specs.Frames.{Addressed}
 use Rattle.rvm_protocol.specs.Host.{host_step, is_there}
-use Rattle.rvm_protocol.specs.NeverMoving.{accepted}
 use Rattle.rvm_protocol.specs.Pages.{put}
-use Rattle.rvm_protocol.specs.Told.{Told, at_start}
 use Rattle.rvm_protocol.specs.World.{and_sent, entry_of, frame_for, happened, history, meaning, new_world, result_at, run}
 use Rattle.rvm_protocol.proofs.Course.{causes_law, course_law}
 use Rattle.rvm_world.specs.declared.event.Event.{Event}
 use Rattle.rvm_world.specs.declared.event.Event.TheVariants.{At, Deliver}
-use Rattle.rvm_world.specs.NeverMoved.{BoardEntry}
 use Rattle.rvm_world.specs.Worlds.{BoardWorld, meant}
 use Rattle.rvm_audit.specs.declared.side.Side.{Side}
 use Rattle.rvm_audit.specs.declared.side.Side.TheVariants.{First, Second}
