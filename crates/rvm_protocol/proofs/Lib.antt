@@ -35,3 +35,6 @@ mod HostsAtTheEdges
 mod HostsInEachMode
 mod LongRuns
 pub mod RoundCopies
+mod RoundCounts
+mod LastRound
+mod CopiesTold
