@@ -30,6 +30,7 @@ pub mod MoveNumbers
 pub mod Course
 mod Counter
 mod Examples
+mod CountedCopies
 mod Witnesses
 mod HostsAtTheEdges
 mod HostsInEachMode

@@ -64,6 +64,7 @@ size_one_more s q (suc n) lt new =
     here true false x y t f h = omega (arith, h)
     here true true x y t f h = cc
     here false b x y t f h = cc
+
     behind : (a b : Bool) (x y : ℕ) → a ≡ false → x ≡ suc y
         → (if a || b then 1 else 0) + x ≡ suc ((if b then 1 else 0) + y)
     behind false true x y f h = omega (arith, h)
