@@ -6,7 +6,7 @@ use Rattle.std.proofs.Math.Nat.{mul-le-mul_right}
 use Rattle.rvm_protocol.specs.Commands.{Policy, Command, Board, Begin, Copy, Resend, AbortMove, HostEvent, Do, Came, is_allowed}
 use Rattle.rvm_protocol.specs.FewCopies.{FewCopies, CopiesAreBounded}
 use Rattle.rvm_protocol.specs.Frames.{Frame, Offer, Accept, Refuse, Page, RoundEnd, Lost, State, Ready, Go, Started, Abort, is_compact, plain, Part}
-use Rattle.rvm_protocol.specs.Guest.{Guest}
+use Rattle.rvm_protocol.specs.Guest.{Guest, IsGuest}
 use Rattle.rvm_protocol.specs.Host.{outcome, Host, obey_at, is_there, is_heard}
 use Rattle.rvm_protocol.specs.Modes.{Mode, Empty, Run, Offering, Copying, Stopped, Given, Staging, Held, Outcome, ignores, says, sends, refuses}
 use Rattle.rvm_protocol.specs.Obeying.{obey, begun, begin_allowed, copy_page, sends_page, copy_last, sends_last, resend_last, begin}
@@ -26,7 +26,7 @@ pub record Counted (count max round sent scan copies : ℕ) : Type 0 where
   pub scan_le : scan ≤ count
   pub copies_le : copies + count ≤ round * count + sent
 
-module _ {S P E A B : Type 0} (m : Guest S P E A B) where
+module _ {S P E A B : Type 0} (m : Guest S P E A B) (laws : IsGuest m) where
   abbrev pub IsCounted : Rounds S → Type 0
   IsCounted r =
       Counted (length (m.pages r.guest)) r.policy.max_rounds r.round r.sent r.scan r.copies
@@ -95,7 +95,7 @@ module _ {S P E A B : Type 0} (m : Guest S P E A B) where
   resend_bound v n l (Some p) = tt
   resend_bound v n l None = either Bounds (is_compact v) _ _ (λ _. tt) (λ _. tt)
 
-  few : (O : Mode S P) → Bounded O → FewCopies m O
+  pub few : (O : Mode S P) → Bounded O → FewCopies m O
   few (Copying n r) ok =
       let c = length (m.pages r.guest) in let x = ok.sent_le in let y = ok.copies_le in let z =
       ok.scan_le in let w = ok.rounds in
@@ -105,7 +105,7 @@ module _ {S P E A B : Type 0} (m : Guest S P E A B) where
   few (Empty n) ok = tt
   few (Run n g) ok = tt
   few (Stopped n l) ok = tt
-  few (Given n) ok = tt
+  few (Given n kept) ok = tt
   few (Staging n s) ok = tt
   few (Held n g) ok = tt
 
@@ -115,10 +115,10 @@ module _ {S P E A B : Type 0} (m : Guest S P E A B) where
   obey_bound v (Board e) (Offering n g p) ok = ok
   obey_bound v (Board e) (Copying n r) ok =
       let c : length (m.pages (m.next r.guest e)) ≡ length (m.pages r.guest) =
-      m.same_length r.guest e in subst
+      laws.same_length r.guest e in subst
       (λ z. Counted z r.policy.max_rounds r.round r.sent r.scan r.copies) (sym c) ok
   obey_bound v (Board e) (Stopped n l) ok = tt
-  obey_bound v (Board e) (Given n) ok = tt
+  obey_bound v (Board e) (Given n kept) ok = tt
   obey_bound v (Board e) (Staging n s) ok = tt
   obey_bound v (Board e) (Held n g) ok = tt
   obey_bound v (Begin to q) (Empty n) ok = ok
@@ -130,7 +130,7 @@ module _ {S P E A B : Type 0} (m : Guest S P E A B) where
   obey_bound v (Begin to q) (Offering n g p) ok = ok
   obey_bound v (Begin to q) (Copying n r) ok = ok
   obey_bound v (Begin to q) (Stopped n l) ok = ok
-  obey_bound v (Begin to q) (Given n) ok = ok
+  obey_bound v (Begin to q) (Given n kept) ok = ok
   obey_bound v (Begin to q) (Staging n s) ok = ok
   obey_bound v (Begin to q) (Held n g) ok = ok
   obey_bound v Copy (Empty n) ok = ok
@@ -144,7 +144,7 @@ module _ {S P E A B : Type 0} (m : Guest S P E A B) where
       (λ _. tt)
       (λ _. page_bound n r _ ok refl)
   obey_bound v Copy (Stopped n l) ok = last_bound v n l (to_copy m l)
-  obey_bound v Copy (Given n) ok = ok
+  obey_bound v Copy (Given n kept) ok = ok
   obey_bound v Copy (Staging n s) ok = ok
   obey_bound v Copy (Held n g) ok = ok
   obey_bound v Resend (Empty n) ok = ok
@@ -152,7 +152,7 @@ module _ {S P E A B : Type 0} (m : Guest S P E A B) where
   obey_bound v Resend (Offering n g p) ok = ok
   obey_bound v Resend (Copying n r) ok = ok
   obey_bound v Resend (Stopped n l) ok = resend_bound v n l (to_copy m l)
-  obey_bound v Resend (Given n) ok = ok
+  obey_bound v Resend (Given n kept) ok = ok
   obey_bound v Resend (Staging n s) ok = ok
   obey_bound v Resend (Held n g) ok = ok
   obey_bound v AbortMove (Empty n) ok = ok
@@ -160,7 +160,7 @@ module _ {S P E A B : Type 0} (m : Guest S P E A B) where
   obey_bound v AbortMove (Offering n g p) ok = tt
   obey_bound v AbortMove (Copying n r) ok = tt
   obey_bound v AbortMove (Stopped n l) ok = tt
-  obey_bound v AbortMove (Given n) ok = ok
+  obey_bound v AbortMove (Given n kept) ok = ok
   obey_bound v AbortMove (Staging n s) ok = ok
   obey_bound v AbortMove (Held n g) ok = ok
 
@@ -178,7 +178,7 @@ module _ {S P E A B : Type 0} (m : Guest S P E A B) where
 
   came_bound : (limit : ℕ) (f : Frame P B) (O : Mode S P) → Bounded O → Bounds (came m limit f O)
   came_bound limit (Offer k a b) (Empty n) ok = above_bound limit n k a b (Empty n) ok
-  came_bound limit (Offer k a b) (Given n) ok = above_bound limit n k a b (Given n) ok
+  came_bound limit (Offer k a b) (Given n kept) ok = above_bound limit n k a b (Given n kept) ok
   came_bound limit (Offer k a b) (Held n g) ok = above_bound limit n k a b (Held n g) ok
   came_bound limit (Offer k a b) (Staging n s) ok =
       either Bounds (n == k) (sends Accepted (Accept n) (Staging n s))
@@ -214,7 +214,7 @@ module _ {S P E A B : Type 0} (m : Guest S P E A B) where
   came_bound limit (Ready k) (Stopped n l) ok = equal_bound n k _ (Stopped n l) ok tt
   came_bound limit (Go k) (Held n g) ok = equal_bound n k _ (Held n g) ok tt
   came_bound limit (Go k) (Run n g) ok = equal_bound n k _ (Run n g) ok tt
-  came_bound limit (Started k) (Given n) ok = equal_bound n k _ (Given n) ok tt
+  came_bound limit (Started k) (Given n kept) ok = equal_bound n k _ (Given n kept) ok tt
   came_bound limit (Abort k) (Staging n s) ok = equal_bound n k _ (Staging n s) ok tt
   came_bound limit (Abort k) (Held n g) ok = equal_bound n k _ (Held n g) ok tt
   came_bound limit f O ok = ok
@@ -240,14 +240,14 @@ module _ {S P E A B : Type 0} (m : Guest S P E A B) where
       either (λ (h : Host S P). Bounded h.mode) (x == y) (result_at m w y e).next (w.hosts x)
       (λ _. step_bound w.version y w.count (w.limits y) e (w.hosts y) (ok y)) (λ _. ok x)
 
-  run_bound : (events : List (Event E)) (w : World S P B) → ((x : ℕ) → Bounded (w.hosts x).mode)
+  pub run_bound : (events : List (Event E)) (w : World S P B) → ((x : ℕ) → Bounded (w.hosts x).mode)
       → (x : ℕ) → Bounded ((run m w events).hosts x).mode
   unfolding run
   run_bound [] w ok x = ok x
   run_bound (ev ∷ events) w ok x =
       run_bound events (happened m w (meaning m w ev)) (happened_bound w (meaning m w ev) ok) x
 
-  new_bound : (g : S) (x : ℕ) → Bounded (new_host m g x).mode
+  pub new_bound : (g : S) (x : ℕ) → Bounded (new_host m g x).mode
   new_bound g x = either Bounded (x == 0) (Run 0 g) (Empty 0) (λ _. tt) (λ _. tt)
 
   pub bound_law : CopiesAreBounded m

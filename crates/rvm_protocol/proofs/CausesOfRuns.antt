@@ -4,7 +4,7 @@ use Rattle.std.proofs.lemmas.Bool.{eqb-true}
 use Rattle.rvm_protocol.specs.Commands.{Command, Board, Begin, Copy, Resend, AbortMove, HostEvent, Do, Came, is_allowed}
 use Rattle.rvm_protocol.specs.FrameCauses.{Somewhere, says_ready, says_committed, says_started, WasReady, WasCommitted, WasStarted, IsCaused, FramesFollowTheirCauses}
 use Rattle.rvm_protocol.specs.Frames.{Frame, Offer, Accept, Refuse, Page, RoundEnd, Lost, State, Ready, Go, Started, Abort, Addressed, posted, Part, is_compact, plain, read, Zero}
-use Rattle.rvm_protocol.specs.Guest.{Guest}
+use Rattle.rvm_protocol.specs.Guest.{Guest, IsGuest}
 use Rattle.rvm_protocol.specs.Host.{Host, obey_at, is_there, is_heard, outcome, partner_then, addressee}
 use Rattle.rvm_protocol.specs.Modes.{Mode, Empty, Run, Offering, Copying, Stopped, Given, Staging, Held, Outcome, move_of, ignores, says, sends, refuses}
 use Rattle.rvm_protocol.specs.Obeying.{obey, begin, begin_allowed, begun, copy_page, sends_page, copy_last, sends_last, resend_last}
@@ -41,7 +41,7 @@ module _ {S P : Type 0} where
   fresh_ok C T (Offering n g p) h = tt
   fresh_ok C T (Copying n r) h = tt
   fresh_ok C T (Stopped n l) h = tt
-  fresh_ok C T (Given n) h = tt
+  fresh_ok C T (Given n kept) h = tt
   fresh_ok C T (Staging n s) h = tt
   fresh_ok C T (Held n g) h = tt
 
@@ -51,7 +51,7 @@ module _ {S P : Type 0} where
   none_ok C T (Offering n g p) h = tt
   none_ok C T (Copying n r) h = tt
   none_ok C T (Stopped n l) h = tt
-  none_ok C T (Given n) h = tt
+  none_ok C T (Given n kept) h = tt
   none_ok C T (Staging n s) h = tt
   none_ok C T (Held n g) h = tt
 
@@ -63,14 +63,14 @@ module _ {S P : Type 0} where
   fresh_more C C' T T' (Offering n g p) c t h = tt
   fresh_more C C' T T' (Copying n r) c t h = tt
   fresh_more C C' T T' (Stopped n l) c t h = tt
-  fresh_more C C' T T' (Given n) c t h = tt
+  fresh_more C C' T T' (Given n kept) c t h = tt
   fresh_more C C' T T' (Staging n s) c t h = tt
   fresh_more C C' T T' (Held n g) c t h = tt
 
   backed_more : (R R' C C' : ℕ → Type 0) (X : Mode S P) → ((k : ℕ) → R k → R' k)
       → ((k : ℕ) → C k → C' k) → Backed R C X → Backed R' C' X
   backed_more R R' C C' (Held n g) r c h = r n h
-  backed_more R R' C C' (Given n) r c h = c n h
+  backed_more R R' C C' (Given n kept) r c h = c n h
   backed_more R R' C C' (Run n g) r c h = tt
   backed_more R R' C C' (Empty n) r c h = tt
   backed_more R R' C C' (Offering n g p) r c h = tt
@@ -126,7 +126,7 @@ module _ {S P E A B : Type 0} (m : Guest S P E A B) (C T : ℕ → Type 0) where
       (sends Accepted (Accept k) (Staging k _)) (λ _ _. tt) (λ _ _. tt))
       (λ _ _. tt)
   fresh_came limit y (Offer k a b) (Empty n) Q i c h = absurd i
-  fresh_came limit y (Offer k a b) (Given n) Q i c h = absurd i
+  fresh_came limit y (Offer k a b) (Given n kept) Q i c h = absurd i
   fresh_came limit y (Offer k a b) (Staging n s) Q i c h = absurd i
   fresh_came limit y (Accept k) (Offering n g p) Q i c h =
       fresh_equal (Came y (Accept k)) n k _ (Offering n g p) tt (λ e now. tt)
@@ -147,7 +147,7 @@ module _ {S P E A B : Type 0} (m : Guest S P E A B) (C T : ℕ → Type 0) where
   fresh_came limit y (Part k st a u x) (Staging n s) Q i c h = absurd i
   fresh_came limit y (Abort k) (Held n g) Q i c h =
       fresh_equal (Came y (Abort k)) n k _ (Held n g) tt (λ e now. tt)
-  fresh_came limit y (Started k) (Given n) Q i c h = absurd i
+  fresh_came limit y (Started k) (Given n kept) Q i c h = absurd i
   fresh_came limit y (Page k a b d) (Staging n s) Q i c h = absurd i
   fresh_came limit y (RoundEnd k a b d e) (Staging n s) Q i c h = absurd i
   fresh_came limit y (State k ns b) (Staging n s) Q i c h = absurd i
@@ -210,7 +210,7 @@ module _ {S P E A B : Type 0} (m : Guest S P E A B) (C T : ℕ → Type 0) where
   fresh_obey v AbortMove (Stopped n l) Q i c h = λ now. inl c
   fresh_obey v AbortMove (Held n g) Q i c h = λ now. tt
   fresh_obey v k (Empty n) Q i c h = absurd i
-  fresh_obey v k (Given n) Q i c h = absurd i
+  fresh_obey v k (Given n kept) Q i c h = absurd i
   fresh_obey v k (Staging n s) Q i c h = absurd i
 
 abbrev is_commit : {A : Type 0} → Reply A → Bool
@@ -254,13 +254,13 @@ module _ {P B : Type 0} where
             subst Q (ap (λ (v : Addressed P B). v.frame) e) new
       ]
 
-module _ {S P E A B : Type 0} (m : Guest S P E A B) where
+module _ {S P E A B : Type 0} (m : Guest S P E A B) (laws : IsGuest m) where
   -- a commit is at a Stopped host and sends Go
   abbrev Commits : Mode S P → Outcome S P A B → Type 0
   Commits X o = (n : ℕ) → o.reply ≡ Committed n → (o.made ≡ Some (Go n)) × (is_stopped X ≡ true)
 
-  refused_commits : (X : Mode S P) (o : Outcome S P A B) → NoCommit m o.reply → Commits X o
-  refused_commits X o h = λ n e. absurd (subst (λ r. NoCommit m r) e h)
+  refused_commits : (X : Mode S P) (o : Outcome S P A B) → NoCommit m laws o.reply → Commits X o
+  refused_commits X o h = λ n e. absurd (subst (λ r. NoCommit m laws r) e h)
 
   commit_equal : (n k : ℕ) (o : Outcome S P A B) (X : Mode S P) → Commits X o
       → Commits X (of_this_move m n k o X)
@@ -279,7 +279,7 @@ module _ {S P E A B : Type 0} (m : Guest S P E A B) where
 
   commit_came : (limit : ℕ) (f : Frame P B) (X : Mode S P) → Commits X (came m limit f X)
   commit_came limit (Offer k a b) (Empty n) = commit_above limit n k a b (Empty n)
-  commit_came limit (Offer k a b) (Given n) = commit_above limit n k a b (Given n)
+  commit_came limit (Offer k a b) (Given n kept) = commit_above limit n k a b (Given n kept)
   commit_came limit (Offer k a b) (Held n g) = commit_above limit n k a b (Held n g)
   commit_came limit (Offer k a b) (Staging n s) =
       either (Commits (Staging n s)) (n == k) (sends Accepted (Accept n) (Staging n s))
@@ -307,7 +307,7 @@ module _ {S P E A B : Type 0} (m : Guest S P E A B) where
       commit_equal n k _ (Stopped n l) (λ j e. (ap (λ z. Some (Go z)) (same_move n j e), refl))
   commit_came limit (Go k) (Held n g) = commit_equal n k _ (Held n g) (λ j e. cc)
   commit_came limit (Go k) (Run n g) = commit_equal n k _ (Run n g) (λ j e. cc)
-  commit_came limit (Started k) (Given n) = commit_equal n k _ (Given n) (λ j e. cc)
+  commit_came limit (Started k) (Given n kept) = commit_equal n k _ (Given n kept) (λ j e. cc)
   commit_came limit (Abort k) (Staging n s) = commit_equal n k _ (Staging n s) (λ j e. cc)
   commit_came limit (Abort k) (Held n g) = commit_equal n k _ (Held n g) (λ j e. cc)
   commit_came limit f X = λ j e. cc
@@ -338,7 +338,7 @@ module _ {S P E A B : Type 0} (m : Guest S P E A B) where
       begins (Offering n g r) = λ j e. cc
       begins (Copying n r) = λ j e. cc
       begins (Stopped n l) = λ j e. cc
-      begins (Given n) = λ j e. cc
+      begins (Given n kept) = λ j e. cc
       begins (Staging n s) = λ j e. cc
       begins (Held n g) = λ j e. cc
   commit_step v x count limit (Do (Board b)) h =
@@ -373,7 +373,7 @@ module _ {S P E A B : Type 0} (m : Guest S P E A B) where
       begins (Offering n g r) i c q = λ now. tt
       begins (Copying n r) i c q = λ now. tt
       begins (Stopped n l) i c q = λ now. tt
-      begins (Given n) i c q = λ now. tt
+      begins (Given n kept) i c q = λ now. tt
       begins (Staging n s) i c q = λ now. tt
       begins (Held n g) i c q = λ now. tt
   fresh_step v C T x count limit (Do (Board b)) h Q i c q =
@@ -394,7 +394,7 @@ module _ {S P E A B : Type 0} (m : Guest S P E A B) where
   fresh_paused C T (Offering n g p) h = tt
   fresh_paused C T (Copying n r) h = tt
   fresh_paused C T (Stopped n l) h = tt
-  fresh_paused C T (Given n) h = tt
+  fresh_paused C T (Given n kept) h = tt
   fresh_paused C T (Staging n s) h = tt
   fresh_paused C T (Held n g) h = tt
 
@@ -404,7 +404,7 @@ module _ {S P E A B : Type 0} (m : Guest S P E A B) where
   stopped_paused (Empty n) h = cc
   stopped_paused (Offering n g p) h = cc
   stopped_paused (Copying n r) h = cc
-  stopped_paused (Given n) h = cc
+  stopped_paused (Given n kept) h = cc
   stopped_paused (Staging n s) h = cc
   stopped_paused (Held n g) h = cc
 
@@ -416,7 +416,7 @@ module _ {S P E A B : Type 0} (m : Guest S P E A B) where
   run_more C C' T T' (Offering n g p) c t h = tt
   run_more C C' T T' (Copying n r) c t h = tt
   run_more C C' T T' (Stopped n l) c t h = tt
-  run_more C C' T T' (Given n) c t h = tt
+  run_more C C' T T' (Given n kept) c t h = tt
   run_more C C' T T' (Staging n s) c t h = tt
   run_more C C' T T' (Held n g) c t h = tt
 
@@ -434,7 +434,7 @@ module _ {S P E A B : Type 0} (m : Guest S P E A B) where
     pub fresh : Fresh (WasCommitted past) (WasStarted past) (mode_at m w t.current)
 
   -- so it is below what the current host's mode allows
-  gone_below : (w : World S P B) (t : Told S) (s : SoundAt m w t) (k : ℕ) → Gone (read m w.sent) k
+  gone_below : (w : World S P B) (t : Told S) (s : SoundAt m laws w t) (k : ℕ) → Gone (read m w.sent) k
       → k < go_lim (mode_at m w s.c)
   gone_below w t s k g =
       let l = s.good in
@@ -464,7 +464,7 @@ module _ {S P E A B : Type 0} (m : Guest S P E A B) where
       num_go (Offering n g p) = omega arith
       num_go (Copying n r) = omega arith
       num_go (Stopped n l) = omega arith
-      num_go (Given n) = omega arith
+      num_go (Given n kept) = omega arith
       num_go (Staging n s) = omega arith
       num_go (Held n g) = omega arith
 
@@ -474,7 +474,7 @@ module _ {S P E A B : Type 0} (m : Guest S P E A B) where
       lim_go (Offering n g p) = omega arith
       lim_go (Copying n r) = omega arith
       lim_go (Stopped n l) = omega arith
-      lim_go (Given n) = omega arith
+      lim_go (Given n kept) = omega arith
       lim_go (Staging n s) = omega arith
       lim_go (Held n g) = omega arith
 
@@ -495,7 +495,7 @@ module _ {S P E A B : Type 0} (m : Guest S P E A B) where
   commit_is r h = cc
 
   followed_step : (w : World S P B) (t : Told S) (past : List (Entry P E A B)) (x : ℕ)
-      (e : HostEvent P E B) → Allowed m w x e → SoundAt m w t → Followed w t past
+      (e : HostEvent P E B) → Allowed m laws w x e → SoundAt m laws w t → Followed w t past
       → Followed (world_at m w x e) (told_reply m x e (result_at m w x e).reply t)
       (past ++ record { host = x; event = e; reply = (result_at m w x e).reply } ∷ [])
   followed_step w t past x e h s p =
@@ -538,7 +538,7 @@ module _ {S P E A B : Type 0} (m : Guest S P E A B) where
             (fresh_ok C T (mode_at m w t.current) p.fresh)
         | inr n ↦
             none_ok C T X
-            (none_at m (w.hosts s.c) (w.hosts s.d) w.hosts (read m w.sent) s.c s.d x t s.good
+            (none_at m laws (w.hosts s.c) (w.hosts s.d) w.hosts (read m w.sent) s.c s.d x t s.good
             (λ q. n (q ∙ sym c_is)))
       ] in
       let run' : RunOk C' T' X = run_more C C' T T' X
@@ -547,12 +547,12 @@ module _ {S P E A B : Type 0} (m : Guest S P E A B) where
       → IsCaused R' C' T' (plain m f) =
       λ y f q. justified_more R R' C C' T T' (plain m f) upR upC upT
       (p.frames (record { from = y; to = x; frame = plain m f })
-      (subst (λ z. Allowed m w x z) q h)) in
+      (subst (λ z. Allowed m laws w x z) q h)) in
       let follows = follow_step m R' C' T' w.version x w.count (w.limits x) e (w.hosts x)
       (backed_more R R' C C' X upR upC (p.backed x)) run' just now in
-      let s' = step_sound m w x e t h s in
+      let s' = step_sound m laws w x e t h s in
       let after : read m w'.sent ≡ and_sent (read m w.sent) (posted x (addressee e p') o.made) =
-      sent_after m w x e t h s in
+      sent_after m laws w x e t h s in
       record {
         backed = λ y. put_all (λ z (v : Host S P). Backed R' C' v.mode) w.hosts x h' follows.1
             (λ z _. backed_more R R' C C' (w.hosts z).mode upR upC (p.backed z)) y;
@@ -585,7 +585,7 @@ module _ {S P E A B : Type 0} (m : Guest S P E A B) where
                 | inl q ↦
                     q
                 | inr v ↦
-                    absurd (u.1 (none_at m (w.hosts s.c) (w.hosts s.d) w.hosts
+                    absurd (u.1 (none_at m laws (w.hosts s.c) (w.hosts s.d) w.hosts
                     (read m w.sent) s.c s.d x t s.good (λ q. v (q ∙ sym c_is))))
               ] in
               let was : t.paused ≡ true = s.good.paused
@@ -616,7 +616,7 @@ module _ {S P E A B : Type 0} (m : Guest S P E A B) where
 
   followed_happened : (w : World S P B) (t : Told S) (past : List (Entry P E A B))
       (q : Option (ℕ × HostEvent P E B))
-      → ((x : ℕ) (e : HostEvent P E B) → q ≡ Some (x, e) → Allowed m w x e) → SoundAt m w t
+      → ((x : ℕ) (e : HostEvent P E B) → q ≡ Some (x, e) → Allowed m laws w x e) → SoundAt m laws w t
       → Followed w t past
       → Followed (happened m w q) (told m t (entry_of m w q)) (past ++ entry_of m w q)
   unfolding told
@@ -624,17 +624,17 @@ module _ {S P E A B : Type 0} (m : Guest S P E A B) where
   followed_happened w t past (Some y) h s p = followed_step w t past y.0 y.1 (h y.0 y.1 refl) s p
 
   run_followed : (events : List (Event E)) (w : World S P B) (t : Told S)
-      (past : List (Entry P E A B)) → SoundAt m w t → Followed w t past
+      (past : List (Entry P E A B)) → SoundAt m laws w t → Followed w t past
       → Followed (run m w events) (told m t (history m w events)) (past ++ history m w events)
   unfolding run history told
   run_followed [] w t past s p = subst (λ z. Followed w t z) (sym (append_nil past)) p
   run_followed (ev ∷ events) w t past s p =
       let q = meaning m w ev in
-      let s' = happened_sound m w t q (λ x e. event_allowed m w ev x e) s in
-      let p' = followed_happened w t past q (λ x e. event_allowed m w ev x e) s p in
+      let s' = happened_sound m laws w t q (λ x e. event_allowed m laws w ev x e) s in
+      let p' = followed_happened w t past q (λ x e. event_allowed m laws w ev x e) s p in
       subst (λ z. Followed (run m (happened m w q) events) z
       (past ++ (entry_of m w q ++ history m (happened m w q) events)))
-      (sym (told_more m t (entry_of m w q) (history m (happened m w q) events)))
+      (sym (told_more m laws t (entry_of m w q) (history m (happened m w q) events)))
       (subst (λ z. Followed (run m (happened m w q) events)
       (told m (told m t (entry_of m w q)) (history m (happened m w q) events)) z)
       (append_assoc past (entry_of m w q) (history m (happened m w q) events))
@@ -663,7 +663,7 @@ module _ {S P E A B : Type 0} (m : Guest S P E A B) where
   unfolding FramesFollowTheirCauses
   follow_law = λ g version count limits events a v h.
       let end = run_followed events (new_world m version g count limits) (at_start g) []
-      (new_sound m version g count limits v) (new_followed version g count limits) in
+      (new_sound m laws version g count limits v) (new_followed version g count limits) in
       caused_plain _ _ _ a.frame
       (end.frames (record { from = a.from; to = a.to; frame = plain m a.frame })
-      (has_read m (run m (new_world m version g count limits) events).sent a h))
+      (has_read m laws (run m (new_world m version g count limits) events).sent a h))

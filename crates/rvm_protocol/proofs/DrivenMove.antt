@@ -4,7 +4,7 @@ use Rattle.std.proofs.Common.{◌≡◌, ◌≢◌, ◌⊎◌, inl, inr, ℕ, ze
 use Rattle.std.specs.Prelude.{slice_get}
 use Rattle.std.proofs.lemmas.Bool.{eq-eqb, lt-ltb, le-ltb, ne_eqb, lt-leb, leb-true}
 use Rattle.std.proofs.lemmas.List.{length-set, length-replicate, get_or-set_same, get_or-set_other}
-use Rattle.rvm_protocol.specs.Guest.{Guest}
+use Rattle.rvm_protocol.specs.Guest.{Guest, IsGuest}
 use Rattle.rvm_protocol.specs.Frames.{Frame, Offer, Accept, Refuse, Page, RoundEnd, State, Part, Ready, Go, Started, Addressed, is_compact, plain, written}
 use Rattle.rvm_protocol.specs.Commands.{Policy, is_allowed, Begin, Copy, Do, Came}
 use Rattle.rvm_protocol.specs.Replies.{Reply, Begun, Accepted, Declined, Open, Copied, RoundEnded, Stored, Noted, Kept, Stopping, StateSent, PartSent, ReadySent, Committed, StartedHere, Finished}
@@ -38,7 +38,7 @@ module _ {S P E A B : Type 0} (m : Guest S P E A B) (version count : ℕ) (limit
     pub few : length (m.pages g) < 2 ^ 32
     pub valid : m.valid g ≡ true
 
-module _ {S P E A B : Type 0} (m : Guest S P E A B) (version count : ℕ) (limits : ℕ → ℕ)
+module _ {S P E A B : Type 0} (m : Guest S P E A B) (laws : IsGuest m) (version count : ℕ) (limits : ℕ → ℕ)
     (from to e : ℕ) (policy : Policy) (g : S)
     (ok : Drivable m version count limits from to e policy g) where
   abbrev pub n : ℕ
@@ -96,7 +96,7 @@ module _ {S P E A B : Type 0} (m : Guest S P E A B) (version count : ℕ) (limit
       → came m (limits to) (Offer (suc e) n (m.processors g)) T ≡ sends Accepted (Accept (suc e))
       (Staging (suc e) (new_stage m.zeros n (m.processors g)))
   offer_taken (Empty k) h le = offer_above_taken k (Empty k) le
-  offer_taken (Given k) h le = offer_above_taken k (Given k) le
+  offer_taken (Given k kept) h le = offer_above_taken k (Given k kept) le
   offer_taken (Held k q) h le = offer_above_taken k (Held k q) le
   offer_taken (Staging k s) h le =
       if_false (k == suc e) (sends Accepted (Accept k) (Staging k s))
@@ -461,7 +461,7 @@ module _ {S P E A B : Type 0} (m : Guest S P E A B) (version count : ℕ) (limit
       let s = stage_at p in
       let k = staged p (omega arith) in
       ap (λ f. came m (limits to) f (Staging (suc e) s))
-      (plain_written m version (Page (suc e) p (suc p) (page_of m g p)) (λ a b c z. cc))
+      (plain_written m laws version (Page (suc e) p (suc p) (page_of m g p)) (λ a b c z. cc))
       ∙ same_move (page_came m (suc e) s p (suc p) (page_of m g p)) (Staging (suc e) s)
       ∙ if_true (nat_lt p (length s.pages) && nat_lt (s.have p) (suc p)) _ _
       (and_true _ _ (lt-ltb p (length s.pages) (let z = k.count_is in omega (arith, z)))
@@ -551,7 +551,7 @@ module _ {S P E A B : Type 0} (m : Guest S P E A B) (version count : ℕ) (limit
       let count = size (lacks t (listed suc 0 n)) (length t.pages) in
       let build : m.build t.processors (m.body g) t.pages ≡ Some g = ap
       (λ z. m.build z (m.body g) t.pages) (processors ∙ k.processors)
-      ∙ ap (m.build (m.processors g) (m.body g)) same ∙ m.read_back g ok.valid in
+      ∙ ap (m.build (m.processors g) (m.body g)) same ∙ laws.read_back g ok.valid in
       if_true (length (listed suc 0 n) == length t.pages)
       (state_compared m (suc e) old t (listed suc 0 n) (m.body g)) _
       (eq-eqb (length (listed suc 0 n)) (length t.pages) (listed_length suc 0 n ∙ sym c))
@@ -784,7 +784,7 @@ module _ {S P E A B : Type 0} (m : Guest S P E A B) (version count : ℕ) (limit
       let s = kept_at i in
       let t = with_part s n i (length pieces) (get_or pieces i []) in
       let k = kept_more i s (kept_so i) in
-      let joins : m.join pieces ≡ Some (listed suc 0 n, m.body g) = m.joined g
+      let joins : m.join pieces ≡ Some (listed suc 0 n, m.body g) = laws.joined g
       (listed suc 0 n) ok.valid (listed_length suc 0 n) (λ p lt.
       let inside : p < n = let z = listed_length suc 0 n in omega (arith, z, lt) in
       let at : get_or (listed suc 0 n) p 0 ≡ suc (0 + p) = listed_at suc 0 0 n p inside in
@@ -840,27 +840,27 @@ module _ {S P E A B : Type 0} (m : Guest S P E A B) (version count : ℕ) (limit
       let l2 = length_more s1 (mail from to (Go M)) in
       let O : Mode S P = Stopped M last in
       let T : Mode S P = Held M g in
-      let one : Goes (duo O T s1) (Deliver k ∷ []) (Committed M ∷ []) (duo (Given M) T s2) =
+      let one : Goes (duo O T s1) (Deliver k ∷ []) (Committed M ∷ []) (duo (Given M last.guest) T s2) =
       to_source m version count limits from to k to (Ready M) (duo O T s1) _ ok.apart
       (got_new sent (mail to from (Ready M)) k is)
       (hears from to (limits from) (Ready M) O
-      (sends (Committed M) (Go M) (Given M)) ok.to_is_there
-      (same_move (sends (Committed M) (Go M) (Given M)) O)) in
-      let two : Goes (duo (Given M) T s2) (Deliver k2 ∷ []) (StartedHere ∷ [])
-      (duo (Given M) (Run M g) s3) =
-      to_target m version count limits from to k2 from (Go M) (duo (Given M) T s2) _ ok.apart
+      (sends (Committed M) (Go M) (Given M last.guest)) ok.to_is_there
+      (same_move (sends (Committed M) (Go M) (Given M last.guest)) O)) in
+      let two : Goes (duo (Given M last.guest) T s2) (Deliver k2 ∷ []) (StartedHere ∷ [])
+      (duo (Given M last.guest) (Run M g) s3) =
+      to_target m version count limits from to k2 from (Go M) (duo (Given M last.guest) T s2) _ ok.apart
       (got_new s1 (mail from to (Go M)) k2 (omega (arith, is, is2, l1)))
       (hears to from (limits to) (Go M) T
       (sends StartedHere (Started M) (Run M g)) ok.from_is_there
       (same_move (sends StartedHere (Started M) (Run M g)) T)) in
-      let three : Goes (duo (Given M) (Run M g) s3) (Deliver k3 ∷ []) (Finished ∷ [])
+      let three : Goes (duo (Given M last.guest) (Run M g) s3) (Deliver k3 ∷ []) (Finished ∷ [])
       (duo (Empty M) (Run M g) s3) =
       to_source m version count limits from to k3 to (Started M)
-      (duo (Given M) (Run M g) s3) _ ok.apart
+      (duo (Given M last.guest) (Run M g) s3) _ ok.apart
       (got_new s2 (mail to from (Started M)) k3 (omega (arith, is, is2, is3, l1, l2)))
-      (hears from to (limits from) (Started M) (Given M)
+      (hears from to (limits from) (Started M) (Given M last.guest)
       (says Finished (Empty M)) ok.to_is_there
-      (same_move (says Finished (Empty M)) (Given M))) in
+      (same_move (says Finished (Empty M)) (Given M last.guest))) in
       after m version count limits from to _ _ _ _ _ _ _
       (after m version count limits from to _ _ _ _ _ _ _ one two) three
 
@@ -885,7 +885,7 @@ module _ {S P E A B : Type 0} (m : Guest S P E A B) (version count : ℕ) (limit
       elim (is_either (is_compact version)) [
         | inl v ↦
             let s = length pieces in
-            let some : 0 < s = m.some_piece (listed suc 0 n) (m.body g) in
+            let some : 0 < s = laws.some_piece (listed suc 0 n) (m.body g) in
             let less : suc (s - 1) ≡ s = omega (arith, some) in
             subst (λ z. StateGoes k z sent) (sym (if_true (is_compact version) s 1 v))
             (record {

@@ -27,10 +27,15 @@ mod DeclinedMove
 pub mod DrivenMoveHolds
 pub mod Bounds
 pub mod MoveNumbers
+pub mod Course
 mod Counter
 mod Examples
+mod CountedCopies
 mod Witnesses
 mod HostsAtTheEdges
 mod HostsInEachMode
 mod LongRuns
 pub mod RoundCopies
+mod RoundCounts
+mod LastRound
+mod CopiesTold

@@ -4,7 +4,7 @@ use Rattle.std.proofs.Common.{◌≡◌, inl, inr, ℕ, suc, ◌<◌, ◌≤◌,
 use Rattle.std.proofs.lemmas.Bool.{ltb-true, ltb-false, eqb-true}
 use Rattle.std.proofs.lemmas.List.{length-set, length-replicate, get_or-set_same, get_or-set_other}
 use Rattle.rvm_protocol.specs.Frames.{Frame, Offer, Accept, Refuse, Page, RoundEnd, Lost, State, Ready, Go, Started, Abort, Part}
-use Rattle.rvm_protocol.specs.Guest.{Guest}
+use Rattle.rvm_protocol.specs.Guest.{Guest, IsGuest}
 use Rattle.rvm_protocol.specs.Modes.{Mode, Empty, Run, Offering, Copying, Stopped, Given, Staging, Held, Outcome, ignores, says, sends, move_of, guest_in}
 use Rattle.rvm_protocol.specs.Pages.{size, put, gathered, with_first}
 use Rattle.rvm_protocol.specs.Receiving.{came, offered, offer_above, of_this_move}
@@ -18,9 +18,9 @@ use Rattle.rvm_protocol.proofs.Basics.{some_is, same_or, size_none, put_same, pu
 use Rattle.rvm_protocol.proofs.CurrentPages.{open_ok, fixing}
 use Rattle.rvm_protocol.proofs.StateCases.{state_cases, part_cases}
 
-module _ {S P E A B : Type 0} (m : Guest S P E A B) where
+module _ {S P E A B : Type 0} (m : Guest S P E A B) (laws : IsGuest m) where
   pub commits_pages : (n : ℕ) (l : Last S) (T : Mode S P) (F R : Frame P B → Type 0)
-      → Modes (Stopped n l) T F R → R (Ready n) → Content m T (Given n) R
+      → Modes (Stopped n l) T F R → R (Ready n) → Content m T (Given n l.guest) R
   commits_pages n l (Held n' g) F R i came = tt
   commits_pages n l (Staging n' s) F R i came = tt
   commits_pages n l (Empty k) F R i came = tt
@@ -28,7 +28,7 @@ module _ {S P E A B : Type 0} (m : Guest S P E A B) where
   commits_pages n l (Offering k g p) F R i came = absurd i.meet
   commits_pages n l (Copying k r) F R i came = absurd i.meet
   commits_pages n l (Stopped k q) F R i came = absurd i.meet
-  commits_pages n l (Given k) F R i came = tt
+  commits_pages n l (Given k kept) F R i came = tt
 
   abbrev pub turned_pages : Mode S P → (Frame P B → Type 0) → (Frame P B → Type 0) → Reply A
       → Mode S P → Option (Frame P B) → Type 0
@@ -53,14 +53,14 @@ module _ {S P E A B : Type 0} (m : Guest S P E A B) where
       (Offer k a b) h in let same : move_of T ≡ n = held_num n T i.meet in absurd (omega arith))
       (λ _. ok)
   owner_pages_came limit (Offer k a b) (Empty n) T F R h i ok = absurd i.meet
-  owner_pages_came limit (Offer k a b) (Given n) T F R h i ok = absurd i.meet
+  owner_pages_came limit (Offer k a b) (Given n kept) T F R h i ok = absurd i.meet
   owner_pages_came limit (Offer k a b) (Staging n s) T F R h i ok = absurd i.meet
   owner_pages_came limit (Accept k) (Offering n g p) T F R h i ok =
-      equal_pages n k _ (Offering n g p) T F R ok λ e. open_ok m n g p T F R i ok.1
+      equal_pages n k _ (Offering n g p) T F R ok λ e. open_ok m laws n g p T F R i ok.1
   owner_pages_came limit (Refuse k a) (Offering n g p) T F R h i ok =
       equal_pages n k _ (Offering n g p) T F R ok λ e. tt
   owner_pages_came limit (Lost k ps) (Stopped n l) T F R h i ok =
-      equal_pages n k _ (Stopped n l) T F R ok λ e. fixing m n l ps T F ok
+      equal_pages n k _ (Stopped n l) T F R ok λ e. fixing m laws n l ps T F ok
   owner_pages_came limit (Ready k) (Stopped n l) T F R h i ok =
       equal_pages n k _ (Stopped n l) T F R ok λ e. commits_pages n l T F R i
       (subst (λ z. R (Ready z)) (sym e) h)
@@ -78,7 +78,7 @@ module _ {S P E A B : Type 0} (m : Guest S P E A B) where
   owner_pages_came limit (Page k p q b) (Staging n s) T F R h i ok = absurd i.meet
   owner_pages_came limit (RoundEnd k a b c d) (Staging n s) T F R h i ok = absurd i.meet
   owner_pages_came limit (State k ns b) (Staging n s) T F R h i ok = absurd i.meet
-  owner_pages_came limit (Started k) (Given n) T F R h i ok = absurd i.meet
+  owner_pages_came limit (Started k) (Given n kept) T F R h i ok = absurd i.meet
   owner_pages_came limit (Abort k) (Staging n s) T F R h i ok = absurd i.meet
   owner_pages_came limit f O T F R h i ok = ok
 
@@ -115,7 +115,7 @@ module _ {S P E A B : Type 0} (m : Guest S P E A B) where
       beside_stopped e l T T' F ok (up e _ _ ok.beside) (held l.guest ok.held)
   move_other (Empty n) T T' F up held ok = tt
   move_other (Run n g) T T' F up held ok = tt
-  move_other (Given n) T T' F up held ok = tt
+  move_other (Given n kept) T T' F up held ok = tt
   move_other (Staging n s) T T' F up held ok = tt
   move_other (Held n g) T T' F up held ok = tt
 
@@ -141,7 +141,7 @@ module _ {S P E A B : Type 0} (m : Guest S P E A B) where
       (λ same. let q : move_of T ≡ e = stopped_num e T i.meet in absurd (omega arith)) tt
   offer_staged (Empty n) T k a b F R i ok h lt = tt
   offer_staged (Run n g) T k a b F R i ok h lt = tt
-  offer_staged (Given n) T k a b F R i ok h lt = tt
+  offer_staged (Given n kept) T k a b F R i ok h lt = tt
   offer_staged (Staging n s) T k a b F R i ok h lt = tt
   offer_staged (Held n g) T k a b F R i ok h lt = tt
 
@@ -268,7 +268,7 @@ module _ {S P E A B : Type 0} (m : Guest S P E A B) where
       let same : xs ≡ cut = ext_get_or [] xs cut t.count
       (λ j lt. (ok.parts st j (length xs) (get_or xs j []) (sent j lt)).piece) in
       let read : m.join cut ≡ Some (numbers, m.body l.guest) =
-      m.joined l.guest numbers v t.state.count
+      laws.joined l.guest numbers v t.state.count
       (λ p lt. (t.state.named p (subst (λ w. p < w) t.state.count lt), t.fits p lt)) in
       let is : (numbers, m.body l.guest) ≡ (ns, b) = some_is (numbers, m.body l.guest) (ns, b)
       (sym read ∙ ap m.join (sym same) ∙ join) in
@@ -281,7 +281,7 @@ module _ {S P E A B : Type 0} (m : Guest S P E A B) where
       → m.join xs ≡ Some (ns, b) → m.valid l.guest ≡ true → TrueState m e F l.guest ns b
   joined_is_sent e l T F s xs ns b i x ok st came all join v =
       let some : 0 < s.parts = subst (λ w. 0 < w) (sym (ok.parts s.stamp i s.parts x came).count)
-      (m.some_piece (ok.numbers s.stamp) (m.body l.guest)) in
+      (laws.some_piece (ok.numbers s.stamp) (m.body l.guest)) in
       let got = gathered_are s.pieces [] 0 s.parts xs all in
       pieces_are_sent e l T F s.stamp xs ns b ok (subst (λ w. 0 < w) (sym got.0) some)
       (λ j lt. let z : 0 + j ≡ j = omega arith in
@@ -307,7 +307,7 @@ module _ {S P E A B : Type 0} (m : Guest S P E A B) where
       some_is g' g
       (sym read ∙ ap (λ x. m.build s.processors b x) same
       ∙ ap (λ x. m.build s.processors x (m.pages g)) t.body
-      ∙ ap (λ x. m.build x (m.body g) (m.pages g)) st.processors ∙ m.read_back g v)
+      ∙ ap (λ x. m.build x (m.body g) (m.pages g)) st.processors ∙ laws.read_back g v)
 
   -- the guest that a state makes is the source's, where that one is paused
   ready_pages : (O : Mode S P) (n : ℕ) (s : Stage P) (g' : S) (F R : Frame P B → Type 0)
@@ -321,7 +321,7 @@ module _ {S P E A B : Type 0} (m : Guest S P E A B) where
       beside_stopped e l (Staging n s) (Held n g') F ok tt (is e l refl i.meet ok)
   ready_pages (Empty e) n s g' F R i ok is = tt
   ready_pages (Run e g) n s g' F R i ok is = tt
-  ready_pages (Given e) n s g' F R i ok is = tt
+  ready_pages (Given e kept) n s g' F R i ok is = tt
   ready_pages (Staging e t) n s g' F R i ok is = tt
   ready_pages (Held e g) n s g' F R i ok is = tt
 
@@ -356,8 +356,8 @@ module _ {S P E A B : Type 0} (m : Guest S P E A B) where
       → BesidePages O F (came m limit f T)
   other_pages_came limit (Offer k a b) O (Empty n) F R h i ok v =
       above_pages limit k a b O (Empty n) F R i ok h
-  other_pages_came limit (Offer k a b) O (Given n) F R h i ok v =
-      above_pages limit k a b O (Given n) F R i ok h
+  other_pages_came limit (Offer k a b) O (Given n kept) F R h i ok v =
+      above_pages limit k a b O (Given n kept) F R i ok h
   other_pages_came limit (Offer k a b) O (Held n g) F R h i ok v =
       above_pages limit k a b O (Held n g) F R i ok h
   other_pages_came limit (Offer k a b) O (Staging n s) F R h i ok v =
@@ -408,8 +408,8 @@ module _ {S P E A B : Type 0} (m : Guest S P E A B) where
   other_pages_came limit (Go k) O (Held n g) F R h i ok v =
       equal_beside_pages n k _ O (Held n g) F ok λ e. let lt : k < n = i.own (Go k) h in absurd
       (omega arith)
-  other_pages_came limit (Started k) O (Given n) F R h i ok v =
-      equal_beside_pages n k _ O (Given n) F ok λ e. move_other O (Given n) (Empty n) F
+  other_pages_came limit (Started k) O (Given n kept) F R h i ok v =
+      equal_beside_pages n k _ O (Given n kept) F ok λ e. move_other O (Given n kept) (Empty n) F
       (λ e' c h' z. tt) (λ g z. tt) ok
   other_pages_came limit (Abort k) O (Staging n s) F R h i ok v =
       equal_beside_pages n k _ O (Staging n s) F ok λ e. move_other O (Staging n s) (Empty n) F

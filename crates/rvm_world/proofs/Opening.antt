@@ -4,7 +4,7 @@ use Rattle.std.proofs.lemmas.Bool.{eqb-true}
 use Rattle.std.proofs.Math.Path.{fun_ext}
 use Rattle.rvm_debug.specs.declared.event.BoardReply.{BoardReply}
 use Rattle.rvm_debug.specs.Guest.{Guest}
-use Rattle.rvm_guest.proofs.TheGuest.{board}
+use Rattle.rvm_guest.specs.TheGuest.{board}
 use Rattle.rvm_message.specs.Answers.{BoardMode}
 use Rattle.rvm_protocol.specs.Commands.{Begin, Do, Policy, is_allowed}
 use Rattle.rvm_protocol.specs.Host.{Host, is_there, obey_at, settled}
@@ -56,7 +56,7 @@ begins_at version self count to p (Run n g) = running (is_there self count to) p
 begins_at version self count to p (Offering n g r) = refused Busy (Offering n g r)
 begins_at version self count to p (Copying n r) = refused Busy (Copying n r)
 begins_at version self count to p (Stopped n l) = refused Busy (Stopped n l)
-begins_at version self count to p (Given n) = refused NotHere (Given n)
+begins_at version self count to p (Given n kept) = refused NotHere (Given n kept)
 begins_at version self count to p (Staging n s) = refused NotHere (Staging n s)
 begins_at version self count to p (Held n g) = refused NotHere (Held n g)
 

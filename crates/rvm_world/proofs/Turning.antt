@@ -16,7 +16,7 @@ use Rattle.rvm_debug.specs.Events.{leaves, pc_of, reply_of, steps, stops, takes_
 use Rattle.rvm_debug.specs.Events as events
 use Rattle.rvm_debug.specs.Turns.{after_turns, reply_of_stop, stop_in, unless_stopped}
 use Rattle.rvm_debug.proofs.Turning.{steps_count, mark_more}
-use Rattle.rvm_guest.proofs.TheGuest.{board}
+use Rattle.rvm_guest.specs.TheGuest.{board}
 use Rattle.rvm_guest.specs.Pages.{count_of}
 use Rattle.rvm_precopy.specs.Plans.{Plan}
 use Rattle.rvm_message.specs.declared.reply.HostReply.TheVariants as reply
@@ -269,7 +269,7 @@ mode_first (Run k g) n w x h old same logged is lt here =
 mode_first (Leaving s) n w x h old same logged is lt here =
     source_first s.phase s.move_number s.guest s.plan n w x h old same logged is lt here
 mode_first (Empty k) n w x h old same logged is lt here = stays_first (Empty k) n w x h old same is here
-mode_first (Given k) n w x h old same logged is lt here = stays_first (Given k) n w x h old same is here
+mode_first (Given k kept) n w x h old same logged is lt here = stays_first (Given k kept) n w x h old same is here
 mode_first (Staging k s) n w x h old same logged is lt here = stays_first (Staging k s) n w x h old same is here
 mode_first (Held k g) n w x h old same logged is lt here = stays_first (Held k g) n w x h old same is here
 

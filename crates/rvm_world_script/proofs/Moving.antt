@@ -5,7 +5,7 @@ use Rattle.std.specs.Prelude.{if◌then◌else◌}
 use Rattle.std.proofs.lemmas.Bool.{leb-false, leb-true, ltb-true}
 use Rattle.rvm_debug.specs.declared.event.BoardReply.{BoardReply}
 use Rattle.rvm_debug.specs.Guest.{Guest}
-use Rattle.rvm_guest.proofs.TheGuest.{board}
+use Rattle.rvm_guest.specs.TheGuest.{board}
 use Rattle.rvm_message.specs.declared.reply.HostRefusal.{HostRefusal}
 use Rattle.rvm_message.specs.declared.reply.HostRefusal.TheVariants as refusal
 use Rattle.rvm_message.specs.Replies.{refusal_of}
@@ -76,7 +76,7 @@ begin_in w from to p (Run n g) few is here = begin_running w from to p n g few i
 begin_in w from to p (Offering n g q) few is here = tt
 begin_in w from to p (Copying n r) few is here = tt
 begin_in w from to p (Stopped n l) few is here = tt
-begin_in w from to p (Given n) few is here = tt
+begin_in w from to p (Given n kept) few is here = tt
 begin_in w from to p (Staging n s) few is here = tt
 begin_in w from to p (Held n g) few is here = tt
 
