@@ -206,9 +206,15 @@ impl<M: Memory> Board<M> {
 
     /// Makes steps of a hart on the straight path, at most `count`: up to the first whose instruction
     /// reaches more than registers, RAM and reservations, is interrupted, or, if `watched`, begins at a
-    /// mark. Returns how many are left.
+    /// mark. Returns how many are left. `LOOP` is the number of the caller's loop, as in `Hart::run_straight`.
     #[inline(always)]
-    pub fn run_straight(&mut self, hart: u32, count: u32, marks: &Marks, watched: bool) -> u32
+    pub fn run_straight<const LOOP: u8>(
+        &mut self,
+        hart: u32,
+        count: u32,
+        marks: &Marks,
+        watched: bool,
+    ) -> u32
         requires { hart < length self.old.plain.harts }
         ensures left { result ≤ count }
         ensures board { self.new.plain ≡ with_machine hart
@@ -221,7 +227,7 @@ impl<M: Memory> Board<M> {
         ensures input { input_stays (count - result) (machine_at hart self.old.plain) ≡ true }
     {
         let stepping = &mut self.harts[hart as usize];
-        stepping.run_straight(&mut self.bus, count, marks, watched)
+        stepping.run_straight::<M, LOOP>(&mut self.bus, count, marks, watched)
     }
 
     /// A byte comes to the console; `InputFull`, and nothing changes, where 16 wait.

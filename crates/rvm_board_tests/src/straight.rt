@@ -93,7 +93,7 @@ fn each_row_of_the_straight_path_is_made_there(rt: HostRuntime) -> Result<(), Fa
     for word in &WORDS {
         let mut board = board(rt.alloc(), *word)?;
         assert!(rt; board.harts() == 1);
-        assert_eq!(rt; board.run_straight(0, 1, &Marks::new(), false), 0);
+        assert_eq!(rt; board.run_straight::<0>(0, 1, &Marks::new(), false), 0);
     }
     Ok(())
 }

