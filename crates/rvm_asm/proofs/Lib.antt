@@ -1,4 +1,6 @@
 pub mod Bytes
+pub mod Claims
+pub mod Joined
 pub mod Laying
 pub mod Lines
 pub mod Names
