@@ -1,13 +1,12 @@
 -- Bytes in pieces, and what one line adds to the image.
-use Rattle.std.proofs.Common.{◌≡◌, ℕ, ◌+◌, ◌-◌, ◌^◌, ◌<◌, ◌≤◌, add-one, List, [], ◌∷◌, ◌++◌, length, get_or, refl, ap, sym, ◌∙◌, Option, Some, None, Result, Ok, Err, arith, subst, rules, inl, inr, ⊎_elim, length-append}
+use Rattle.std.proofs.Common.{◌≡◌, ℕ, ◌+◌, ◌-◌, ◌<◌, ◌≤◌, add-one, List, [], ◌∷◌, ◌++◌, length, get_or, refl, ap, sym, ◌∙◌, Option, Some, None, Result, Ok, arith, subst, rules, inl, inr, ⊎_elim, length-append}
 use Rattle.std.specs.Prelude.{◌⊎◌, IsSome}
 use Rattle.std.proofs.lemmas.Bool.Decides.{nat_tests}
 use Rattle.std.proofs.lemmas.List.{map_push, get_or_append_left, get_or-append-add}
 use Rattle.std.proofs.str.Laws.{order}
 use Rattle.rvm_text.specs.Lexemes.{Lexeme}
 use Rattle.rvm_line.specs.declared.faults.Fault.{Fault}
-use Rattle.rvm_line.specs.Contents.{bytes_at}
-use Rattle.rvm_line.specs.Statements.{label_of, next_place, Definition}
+use Rattle.rvm_line.specs.Statements.{label_of, next_place}
 use Rattle.rvm_line.specs.Values.{Names}
 use Rattle.rvm_line.proofs.Ends.{ends}
 use Rattle.rvm_image.specs.declared.image.Segment.{Segment}

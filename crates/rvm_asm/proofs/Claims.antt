@@ -1,6 +1,7 @@
 -- What one line's extent adds to those of the lines before it.
-use Rattle.std.proofs.Common.{◌≡◌, ℕ, ◌+◌, ◌^◌, ◌<◌, ◌≤◌, List, [], length, get_or, slice_index, refl, ap, sym, subst, ◌∙◌, Ok, Err, None, Some, Option, Result, arith, inl, inr, ⊎_elim}
-use Rattle.std.specs.Prelude.{◌⊎◌}
+use Rattle.std.proofs.Common.{◌≡◌, ℕ, ◌+◌, ◌^◌, ◌<◌, ◌≤◌, List, [], length, get_or, refl, ap, sym, subst, ◌∙◌, Ok, Err, None, Some, Option, Result, arith, rules, inl, inr, ⊎_elim}
+use Rattle.std.specs.Prelude.{◌⊎◌, false}
+use Rattle.std.specs.Option.{is_some}
 use denote.Ref.{Bor}
 use Rattle.rvm_text.specs.Lexemes.{Lexeme}
 use Rattle.rvm_line.specs.declared.faults.Fault.{Fault}
@@ -9,12 +10,15 @@ use Rattle.rvm_line.specs.declared.faults.LineError.TheVariants.{OutOfMemory, Fa
 use Rattle.rvm_line.specs.Contents.{bytes_at}
 use Rattle.rvm_line.specs.Values.{Names}
 use Rattle.rvm_line.specs.Views.{Gives}
-use Rattle.rvm_asm.specs.Assembly.{BytesOf, IsImageTo, IsLaid, line_at, statement_of}
-use Rattle.rvm_asm.specs.Images.{IsTaken}
-use Rattle.rvm_asm.specs.Refusals.{IsErrorOf, count_at, length_of, error_at}
-use Rattle.rvm_asm.specs.Views.{extent_pieces, bytes_or_none, line_bytes, line_of, lines_of, texts_of, ArePlaced, Extents, Holds, IsClaim, Puts}
-use Rattle.rvm_asm.proofs.Bytes.{fits, image_more}
+use Rattle.rvm_asm.specs.declared.error.AsmError.{AsmError}
+use Rattle.rvm_asm.specs.declared.error.AsmError.TheVariants as asm_error
+use Rattle.rvm_asm.specs.Assembly.{BytesOf, IsLaid, line_at, statement_of}
+use Rattle.rvm_asm.specs.Refusals.{count_at, count_to, length_of, error_at, IsErrorOf, IsSizeError}
+use Rattle.rvm_asm.specs.Views.{extent_pieces, bytes_or_none, line_bytes, line_of, lines_of, texts_of, AreExtents, ArePlaced, Extents, Holds, IsClaim, IsRoom, Puts}
+use Rattle.rvm_asm.proofs.Bytes.{count_more, fits, image_more, image_none, image_same}
 use Rattle.rvm_asm.proofs.Lines.{lines_count, text_at}
+use Rattle.rvm_asm.proofs.Order.{none_ordered}
+use Rattle.rvm_asm.proofs.Placed.{pieces}
 
 module _ (lines : List (List Lexeme)) (names : Names) (places : List ℕ) where
   -- a line with these bytes has no others
@@ -84,3 +88,34 @@ text_fits texts d names places i count bs inside laid is counted =
 pub text_count : (texts : List (Bor (List ℕ))) (d : Bor (List ℕ)) (names : Names) (place i count : ℕ) (bs : List ℕ) → i < length texts → bytes_at names place (statement_of place (line_of (get_or texts i d).now)) ≡ Ok bs → count ≡ length bs → count ≡ count_at names place (line_at (lines_of (texts_of texts)) i)
 text_count texts d names place i count bs inside is counted = counted ∙ sym (ap length_of (text_bytes texts d names place i (Ok bs) inside is))
 
+-- before the first line
+pub placed_none : (lines : List (List Lexeme)) (names : Names) (places : List ℕ) (m : Extents) → m.entries ≡ [] → ArePlaced lines names places 0 m
+unfolding AreExtents
+placed_none lines names places m none = record {
+  image = image_none lines names places (extent_pieces (line_bytes lines names places) m) (ap (pieces (line_bytes lines names places)) none);
+  held = record {
+    each = subst (AreExtents (line_bytes lines names places) 0) (sym none) tt;
+    ordered = none_ordered 0 (extent_pieces (line_bytes lines names places) m) (ap (pieces (line_bytes lines names places)) none);
+  };
+}
+
+pub room_none : (lines : List (List Lexeme)) (names : Names) (places : List ℕ) → 2 ^ 24 + count_to lines names places 0 ≡ 2 ^ 24
+unfolding count_to
+room_none lines names places = omega arith
+
+pub room_more : (lines : List (List Lexeme)) (names : Names) (places : List ℕ) (i count : ℕ) (room : Option ℕ) → IsRoom room (count_to lines names places i + count) → count ≡ count_at names (get_or places i 0) (line_at lines i) → IsRoom room (count_to lines names places (i + 1))
+room_more lines names places i count room is counted =
+    subst (IsRoom room) (ap (λ n. count_to lines names places i + n) counted ∙ sym (count_more lines i names places (get_or places i 0) (line_at lines i) refl refl)) is
+
+pub no_room : (room : Option ℕ) (count : ℕ) → is_some room ≡ false → IsRoom room count → 2 ^ 24 < count
+no_room None count is more = more
+no_room (Some left) count is more = cc
+
+-- lines of which none has a fault, with too many bytes
+pub oversized : (lines : List (List Lexeme)) (names : Names) (places : List ℕ) (m : Extents) (e : AsmError) → IsLaid lines names places → ArePlaced lines names places (length lines) m → 2 ^ 24 < count_to lines names places (length lines) → IsSizeError (extent_pieces (line_bytes lines names places) m) e → IsErrorOf lines e
+oversized lines names places m asm_error.OutOfMemory laid placed more is = absurd is
+oversized lines names places m (asm_error.Line n f) laid placed more is = absurd is
+oversized lines names places m asm_error.TooLarge laid placed more is =
+    (is.0, (names, places, laid, image_same lines names places (extent_pieces (line_bytes lines names places) m) is.0 placed.image is.1, is.2, more), is.4 (search rules))
+oversized lines names places m asm_error.TooMany laid placed more is =
+    (is.0, (names, places, laid, image_same lines names places (extent_pieces (line_bytes lines names places) m) is.0 placed.image is.1, is.2, more), is.3 (search rules))

@@ -130,12 +130,13 @@ module _ (bytes : ℕ → List ℕ) where
 
   pub separate : (lines : ℕ) (m : Extents) (b : Bool) → Holds bytes lines m → (IsTrue b → 16 < pieces_behind None m.entries) → (IsFalse b → pieces_behind None m.entries ≤ 16) → AreSeparate (extent_pieces bytes m) b
   separate lines m b held more less =
-      let long = joined_length lines m.entries held.each in
-      (joined (extent_pieces bytes m),
-      joined_same 0 (extent_pieces bytes m) held.ordered,
-      rising 0 (joined (extent_pieces bytes m)) (joined_ordered 0 (extent_pieces bytes m) held.ordered),
-      λ yes. subst (λ n. 16 < n) (sym long) (more yes),
-      λ no. subst (λ n. n ≤ 16) (sym long) (less no))
+      let long = joined_length lines m.entries held.each in (
+        joined (extent_pieces bytes m),
+        joined_same 0 (extent_pieces bytes m) held.ordered,
+        rising 0 (joined (extent_pieces bytes m)) (joined_ordered 0 (extent_pieces bytes m) held.ordered),
+        λ yes. subst (λ n. 16 < n) (sym long) (more yes),
+        λ no. subst (λ n. n ≤ 16) (sym long) (less no),
+      )
 
   pub many : (lines : ℕ) (m : Extents) → Holds bytes lines m → 16 < pieces_behind None m.entries → AreSeparate (extent_pieces bytes m) true
   many lines m held more = separate lines m true held (λ yes. more) (λ no. absurd (search (rules, no)))

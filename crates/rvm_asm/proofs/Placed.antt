@@ -217,3 +217,8 @@ module _ (bytes : ℕ → List ℕ) where
     rw (no_bytes (bytes line) none) (λ a. sym (ap (λ o. or_else o (byte_at (extent_pieces bytes m) a)) (none_in_empty place a))),
     record { each = extents_more line m.entries held.each; ordered = held.ordered },
   )
+
+  -- the first extent that is left, and those behind it
+  pub extent_left : (lines : ℕ) (e : Entry) (es all : List Entry) → all ≡ e ∷ es → AreExtents bytes lines all → IsExtent bytes lines e × AreExtents bytes lines es
+  unfolding AreExtents
+  extent_left lines e es all is x = subst (AreExtents bytes lines) is x

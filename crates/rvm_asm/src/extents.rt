@@ -40,12 +40,7 @@ fn is_free(extents: &Extents, address: u32, last: u32) -> bool
 }
 
 /// Gives the places of a line's bytes to the line, which is the next, if all of them are free.
-pub fn claim(
-    extents: &mut Extents,
-    line: usize,
-    place: u64,
-    count: usize,
-) -> Result<(), LineError>
+pub fn claim(extents: &mut Extents, line: usize, place: u64, count: usize) -> Result<(), LineError>
     requires { (count ≡ 0) ⊎ (place + count ≤ 2 ^ 32) }
     ensures { (bytes : ℕ → List ℕ) → Holds bytes line extents.old → length (bytes line) ≡ count
         → IsClaim bytes line place extents.old extents.new result }

@@ -1,4 +1,4 @@
-use Rattle.std.proofs.Common.{◌≡◌, ◌+◌, ◌<◌, ◌≤◌, ◌∙◌, ap, sym, arith}
+use Rattle.std.proofs.Common.{◌∙◌, ap, sym, arith}
 use Rattle.std.specs.Prelude.{None}
 use Rattle.rvm_asm.proofs.Joined.{behind_none, counted_apart, counted_touching, few, many, pieces_behind}
 use Rattle.rvm_asm.proofs.extents.are_many.Goals as goal
@@ -19,7 +19,7 @@ overflow_add-count c = omega (arith, c.loop-address.invariant.few)
 
 pub loop-address-preserved : goal.loop-address-preserved
 loop-address-preserved c = elim c.if-is_apart.branch [
-  then-is_apart+else-count-eq-MAX_SEGMENTS w ↦ record {
+  | then-is_apart+else-count-eq-MAX_SEGMENTS w ↦ record {
     few = omega (arith, c.loop-address.invariant.few, w.if-count-eq-MAX_SEGMENTS.false, w.count-is);
     sum = omega (arith, w.count-is, counted_apart c.loop-address.count _ c.loop-address.before _ _ (c.in-Some.address.now, c.in-Some.extent.now) c.loop-address.invariant.sum c.in-Some.ensures.steps (sym c.is_apart.ensures ∙ w.if-is_apart.true));
   }
@@ -27,7 +27,7 @@ loop-address-preserved c = elim c.if-is_apart.branch [
     few = omega (arith, c.loop-address.invariant.few, w.count-is);
     sum = omega (arith, w.count-is, counted_touching c.loop-address.count _ c.loop-address.before _ _ (c.in-Some.address.now, c.in-Some.extent.now) c.loop-address.invariant.sum c.in-Some.ensures.steps (sym c.is_apart.ensures ∙ w.if-is_apart.false));
   }
-  ]
+]
 
 pub returns : goal.returns
 returns c = λ bytes lines held. few bytes lines c.args.extents.now held (omega (arith, c.loop-address.invariant.few, c.loop-address.invariant.sum, behind_none c.loop-address.before _ c.in-None.ensures.steps.0))

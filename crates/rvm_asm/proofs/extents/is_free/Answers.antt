@@ -1,4 +1,4 @@
-use Rattle.std.proofs.Common.{◌≡◌, ◌+◌, ◌≤◌, ◌<◌, ◌∙◌, sym, arith}
+use Rattle.std.proofs.Common.{◌≤◌, ◌<◌, ◌∙◌, sym, arith}
 use Rattle.std.proofs.lemmas.Bool.Decides.{nat_tests}
 use Rattle.rvm_asm.proofs.Placed.{last_ends, last_extent, last_takes, none_up_to}
 use Rattle.rvm_asm.proofs.extents.is_free.Goals as goal
