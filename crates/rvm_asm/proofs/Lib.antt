@@ -1,5 +1,6 @@
 pub mod Bytes
 pub mod Claims
+pub mod Faultless
 pub mod Joined
 pub mod Laying
 pub mod Lines

@@ -34,7 +34,7 @@ abbrev tail_of : {A : Type 0} → List A → List A
 tail_of [] = []
 tail_of (x ∷ xs) = xs
 
-each_read : (ts : List (List ℕ)) (ls : List (List Lexeme)) → AreRead ts ls → (j : ℕ) → j < length ts → IsSome (lexemes (get_or ts j []))
+pub each_read : (ts : List (List ℕ)) (ls : List (List Lexeme)) → AreRead ts ls → (j : ℕ) → j < length ts → IsSome (lexemes (get_or ts j []))
 each_read [] ls e j h = absurd (omega (arith, h))
 each_read (t ∷ ts) [] e j h = cc
 each_read (t ∷ ts) (l ∷ ls) e zero h = some_is (lexemes t) l (let f : lexemes t ≡ Some l = cc in f)

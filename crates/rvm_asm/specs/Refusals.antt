@@ -16,7 +16,7 @@ use Rattle.rvm_refusal.specs.declared.refusal.Refusal.TheVariants as refusal
 use Rattle.rvm_line.specs.Refusals.{refusal_of_fault}
 use Rattle.rvm_asm.specs.declared.error.AsmError.{AsmError}
 use Rattle.rvm_asm.specs.declared.error.AsmError.TheVariants.{OutOfMemory, Line, TooLarge, TooMany}
-use Rattle.rvm_asm.specs.Assembly.{statement_of, line_at, IsLaidTo, IsLaid, IsImageTo, IsImage}
+use Rattle.rvm_asm.specs.Assembly.{statement_of, line_at, IsLaidTo, IsLaid, IsImageTo, IsImage, IsAssembly}
 use Rattle.rvm_asm.specs.Assembly.{AreRead, Takes}
 use Rattle.rvm_image.specs.Images.{Piece, IsRising}
 use Rattle.rvm_asm.specs.Images.{IsTaken, HasSameBytes}
@@ -149,6 +149,19 @@ abbrev pub IsError : List ℕ → AsmError → Type 0
 IsError text e =
     IsReadError (lines text) e
     ⊎ ((all : List (List Lexeme)) × AreRead (lines text) all × IsErrorOf all e)
+
+-- no fault stands at a line of a text
+abbrev pub HasNoFault : List ℕ → Type 0
+HasNoFault text = (number : ℕ) (fault : Fault) → IsError text (Line number fault) → ⊥
+
+-- a text with an image has no fault
+abbrev pub ImagesHaveNoFault : List ℕ → Type 0
+ImagesHaveNoFault text =
+    (entry : ℕ) (image : List Piece) → IsAssembly text entry image → HasNoFault text
+
+-- a text that is refused for its size has none either
+abbrev pub SizesHaveNoFault : List ℕ → Type 0
+SizesHaveNoFault text = (IsError text TooLarge ⊎ IsError text TooMany) → HasNoFault text
 
 -- an error in the list of all refusals; the number of its line is told beside it
 abbrev pub refusal_of : AsmError → Refusal
