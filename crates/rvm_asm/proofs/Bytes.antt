@@ -1,23 +1,20 @@
 -- Bytes in pieces, and what one line adds to the image.
-use Rattle.std.proofs.Common.{◌≡◌, ℕ, ◌+◌, ◌-◌, ◌^◌, ◌<◌, ◌≤◌, add-one, List, [], ◌∷◌, ◌++◌, length, get_or, refl, ap, sym, ◌∙◌, Option, Some, None, Result, Ok, Err, arith, subst, rules, inl, inr, ⊎_elim, length-append}
+use Rattle.std.proofs.Common.{◌≡◌, ℕ, ◌+◌, ◌-◌, ◌<◌, ◌≤◌, add-one, List, [], ◌∷◌, ◌++◌, length, get_or, refl, ap, sym, ◌∙◌, Option, Some, None, Result, Ok, arith, subst, rules, inl, inr, ⊎_elim, length-append}
 use Rattle.std.specs.Prelude.{◌⊎◌, IsSome}
 use Rattle.std.proofs.lemmas.Bool.Decides.{nat_tests}
 use Rattle.std.proofs.lemmas.List.{map_push, get_or_append_left, get_or-append-add}
 use Rattle.std.proofs.str.Laws.{order}
 use Rattle.rvm_text.specs.Lexemes.{Lexeme}
 use Rattle.rvm_line.specs.declared.faults.Fault.{Fault}
-use Rattle.rvm_line.specs.Contents.{bytes_at}
-use Rattle.rvm_line.specs.Statements.{label_of, next_place, Definition}
+use Rattle.rvm_line.specs.Statements.{label_of, next_place}
 use Rattle.rvm_line.specs.Values.{Names}
 use Rattle.rvm_line.proofs.Ends.{ends}
 use Rattle.rvm_image.specs.declared.image.Segment.{Segment}
 use Rattle.rvm_image.specs.Images.{Piece, piece, size, in_piece, byte_at, or_else, piece_of, pieces_of}
 use Rattle.rvm_asm.specs.Assembly.{BytesOf, IsImageTo, IsImage, IsLaid, line_at}
 use Rattle.rvm_asm.specs.Images.{HasAt, IsWithin, IsFree, IsTaken, Joins, HasSameBytes}
-use Rattle.rvm_asm.specs.Views.{Fits, Puts, IsPutting}
-use Rattle.rvm_asm.specs.Refusals.{IsUnput, IsErrorOf, AreTooLarge, length_of, count_at, count_to, error_at}
-use Rattle.rvm_line.specs.declared.faults.LineError.{LineError}
-use Rattle.rvm_line.specs.declared.faults.LineError.TheVariants.{OutOfMemory, Faulty}
+use Rattle.rvm_asm.specs.Views.{Fits, Puts}
+use Rattle.rvm_asm.specs.Refusals.{count_at, count_to}
 use Rattle.rvm_asm.proofs.Laying.{below_or_at, next_known}
 
 -- the byte inside a piece
@@ -235,47 +232,12 @@ fits lines names places i place line inside laid at is = λ bs e.
     let next : next_place names place (label_of place line).1 ≡ Ok (get_or places (i + 1) 0) = rw (at, is) (next_known lines (length lines) names places laid i inside) in
     ⊎_elim inl (λ o. inr (omega (arith, o.0, o.1))) (ends names place (get_or places (i + 1) 0) (label_of place line).1 bs next e)
 
--- a line's bytes join
-pub puts_bytes : (old new : List Piece) (names : Names) (place : ℕ) (line : List Lexeme) (q : Option Definition × List Lexeme) (bs : List ℕ) → q ≡ label_of place line → bytes_at names place q.1 ≡ Ok bs → IsFree old place (length bs) → Joins old new (piece place bs) → Puts old new names place line
-puts_bytes old new names place line q bs p bytes free joined = record {
-  bytes = bs;
-  of_line = ap (λ (x : Option Definition × List Lexeme). bytes_at names place x.1) (sym p) ∙ bytes;
-  free = free;
-  joined = joined;
-}
-
--- a line without bytes
-pub puts_none : (image : List Piece) (names : Names) (place : ℕ) (line : List Lexeme) (q : Option Definition × List Lexeme) (bs : List ℕ) → q ≡ label_of place line → bytes_at names place q.1 ≡ Ok bs → bs ≡ [] → Puts image image names place line
-puts_none image names place line q bs p bytes e = puts_bytes image image names place line q bs p bytes
-    (rw e (λ a low high. absurd (let h : a < place + 0 = high in omega arith)))
-    (λ a. rw e (sym (ap (λ o. or_else o (byte_at image a)) (none_in_empty place a))))
-
--- how many bytes a line has
-pub count_bytes : (names : Names) (place : ℕ) (line : List Lexeme) (q : Option Definition × List Lexeme) (bs : List ℕ) → q ≡ label_of place line → bytes_at names place q.1 ≡ Ok bs → count_at names place line ≡ length bs
-count_bytes names place line q bs p e = ap length_of (ap (λ (x : Option Definition × List Lexeme). bytes_at names place x.1) (sym p) ∙ e)
-
 -- how many the lines have with one line more
 pub count_more : (lines : List (List Lexeme)) (i : ℕ) (names : Names) (places : List ℕ) (place : ℕ) (line : List Lexeme) → place ≡ get_or places i 0 → line ≡ line_at lines i → count_to lines names places (i + 1) ≡ count_to lines names places i + count_at names place line
 unfolding count_to
 count_more lines i names places place line at is =
     ap (count_to lines names places) (add-one i)
     ∙ ap (λ n. count_to lines names places i + n) (sym (ap (λ p. count_at names p line) at ∙ ap (λ l. count_at names (get_or places i 0) l) is))
-
--- a line has more bytes than there is room for
-pub too_large : (lines : List (List Lexeme)) (i : ℕ) (names : Names) (places : List ℕ) (old new : List Piece) (place : ℕ) (line : List Lexeme) (left count : ℕ) → i < length lines → IsLaid lines names places → IsImageTo lines i names places old → place ≡ get_or places i 0 → line ≡ line_at lines i → Puts old new names place line → left + count_to lines names places i ≡ 2 ^ 24 → count ≡ count_at names place line → left < count → AreTooLarge lines
-too_large lines i names places old new place line left count inside laid image at is puts room counted more =
-    (names, places, new, i + 1, omega (arith, inside), laid, image_more lines i names places old new place line image at is puts, omega (arith, room, counted, more, count_more lines i names places place line at is))
-
--- a line whose bytes have a fault
-pub unput_fault : (image : List Piece) (names : Names) (place : ℕ) (line : List Lexeme) (q : Option Definition × List Lexeme) (f : Fault) → q ≡ label_of place line → bytes_at names place q.1 ≡ Err f → IsUnput image names place line f
-unput_fault image names place line q f p e = inl (ap (λ (x : Option Definition × List Lexeme). bytes_at names place x.1) (sym p) ∙ e)
-
--- a line that can't be put among those that are
-pub bytes_error : (lines : List (List Lexeme)) (i : ℕ) (names : Names) (places : List ℕ) (image new : List Piece) (place : ℕ) (line : List Lexeme) (e : LineError) → i < length lines → IsLaid lines names places → IsImageTo lines i names places image → place ≡ get_or places i 0 → line ≡ line_at lines i → IsPutting image new names place line (Err e) → IsErrorOf lines (error_at (i + 1) e)
-bytes_error lines i names places image new place line OutOfMemory inside laid images at is h = tt
-bytes_error lines i names places image new place line (Faulty f) inside laid images at is h =
-    let there : IsUnput image names (get_or places i 0) (line_at lines i) f = subst (λ p. IsUnput image names p (line_at lines i) f) at (subst (λ l. IsUnput image names place l f) is h) in
-    (i, refl, (inside, inr (names, places, image, laid, images, there)))
 
 -- bytes behind the last of the segments
 pub append_last : (old rest new : List Segment) (last longest : Segment) (address : ℕ) (bs : List ℕ) → old ≡ rest ++ last ∷ [] → new ≡ rest ++ longest ∷ [] → piece_of longest ≡ piece last.address (last.bytes.items ++ bs) → last.zeros ≡ 0 → address ≡ last.address + length last.bytes.items → Joins (pieces_of old) (pieces_of new) (piece address bs)

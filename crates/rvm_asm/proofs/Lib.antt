@@ -1,4 +1,7 @@
 pub mod Bytes
+pub mod Claims
+pub mod Faultless
+pub mod Joined
 pub mod Laying
 pub mod Lines
 pub mod Names

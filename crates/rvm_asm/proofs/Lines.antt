@@ -8,11 +8,10 @@ use Rattle.rvm_text.specs.Lexemes.{Lexeme, lexemes}
 use Rattle.rvm_line.specs.declared.faults.LineError.{LineError}
 use Rattle.rvm_line.specs.declared.faults.LineError.TheVariants.{OutOfMemory, Faulty}
 use Rattle.rvm_line.specs.Values.{Names}
-use Rattle.rvm_image.specs.Images.{Piece}
 use Rattle.rvm_asm.specs.declared.error.AsmError.{AsmError}
 use Rattle.rvm_asm.specs.Assembly.{AreRead, line_at}
-use Rattle.rvm_asm.specs.Refusals.{IsError, IsErrorOf, IsReadError, count_at, error_at}
-use Rattle.rvm_asm.specs.Views.{line_of, lines_of, texts_of, IsUnreadable, IsLaying, IsPutting, Fits}
+use Rattle.rvm_asm.specs.Refusals.{IsError, IsErrorOf, IsReadError, error_at}
+use Rattle.rvm_asm.specs.Views.{line_of, lines_of, texts_of, IsUnreadable, IsLaying}
 use Rattle.rvm_asm.proofs.Laying.{below_or_at}
 
 some_is : (o : Option (List Lexeme)) (x : List Lexeme) → o ≡ Some x → IsSome o
@@ -35,7 +34,7 @@ abbrev tail_of : {A : Type 0} → List A → List A
 tail_of [] = []
 tail_of (x ∷ xs) = xs
 
-each_read : (ts : List (List ℕ)) (ls : List (List Lexeme)) → AreRead ts ls → (j : ℕ) → j < length ts → IsSome (lexemes (get_or ts j []))
+pub each_read : (ts : List (List ℕ)) (ls : List (List Lexeme)) → AreRead ts ls → (j : ℕ) → j < length ts → IsSome (lexemes (get_or ts j []))
 each_read [] ls e j h = absurd (omega (arith, h))
 each_read (t ∷ ts) [] e j h = cc
 each_read (t ∷ ts) (l ∷ ls) e zero h = some_is (lexemes t) l (let f : lexemes t ≡ Some l = cc in f)
@@ -90,22 +89,6 @@ unread_laid old new place text OutOfMemory some h = tt
 unread_laid old new place text (Faulty f) some h = absurd (some_none (lexemes text) some h.1)
 
 pub ruleset texts_laid = (laid_text, unread_laid)
-
--- and its bytes are put
-pub put_text : (old new : List Piece) (names : Names) (place : ℕ) (text : List ℕ) (ts : List Lexeme) (r : Result ℕ LineError) → lexemes text ≡ Some ts → IsPutting old new names place ts r → IsPutting old new names place (line_of text) r
-put_text old new names place text ts r e put = subst (λ l. IsPutting old new names place l r) (line_is text ts e) put
-
-pub unread_put : (old new : List Piece) (names : Names) (place : ℕ) (text : List ℕ) (e : LineError) → IsSome (lexemes text) → IsUnreadable text e → IsPutting old new names place (line_of text) (Err e)
-unread_put old new names place text OutOfMemory some h = tt
-unread_put old new names place text (Faulty f) some h = absurd (some_none (lexemes text) some h.1)
-
-pub fits_text : (names : Names) (place : ℕ) (text : List ℕ) (ts : List Lexeme) → lexemes text ≡ Some ts → Fits names place (line_of text) → Fits names place ts
-fits_text names place text ts e fits = subst (λ l. Fits names place l) (sym (line_is text ts e)) fits
-
-pub count_text : (names : Names) (place : ℕ) (text : List ℕ) (ts : List Lexeme) → lexemes text ≡ Some ts → count_at names place (line_of text) ≡ count_at names place ts
-count_text names place text ts e = ap (λ l. count_at names place l) (sym (line_is text ts e))
-
-pub ruleset texts_put = (put_text, unread_put, fits_text, count_text)
 
 -- a fault of the lines is one of their text
 pub text_refused : {T : Type 0} (text : List ℕ) (texts : List (Bor (List ℕ))) (r : Result T AsmError)

@@ -13,7 +13,7 @@ use Rattle.rvm_asm.proofs.Bytes.{some_is}
 use Rattle.rvm_asm.specs.Assembly.{line_at, entry_of, Takes, Lays, IsLaidTo, IsLaid, BytesOf, IsImageTo, IsImage, IsAssemblyOf, HasOneAssembly}
 
 -- lines that are read alike are the same
-same_lines : (xs ys : List (List Lexeme)) → map (λ x. Some x) xs ≡ map (λ y. Some y) ys → xs ≡ ys
+pub same_lines : (xs ys : List (List Lexeme)) → map (λ x. Some x) xs ≡ map (λ y. Some y) ys → xs ≡ ys
 same_lines [] [] e = refl
 same_lines [] (y ∷ ys) e = cc
 same_lines (x ∷ xs) [] e = cc
@@ -23,11 +23,11 @@ same_lines (x ∷ xs) (y ∷ ys) e =
     ap (λ z. z ∷ xs) head ∙ ap (λ zs. y ∷ zs) (same_lines xs ys rest)
 
 -- names with what a line defines
-abbrev with_definition : Names → Option Definition → Names
+abbrev pub with_definition : Names → Option Definition → Names
 with_definition old None n = old n
 with_definition old (Some d) n = if bytes_eq d.0 n then Some d.1 else old n
 
-taken : (old new : Names) (d : Option Definition) → Takes old new d → new ≡ with_definition old d
+pub taken : (old new : Names) (d : Option Definition) → Takes old new d → new ≡ with_definition old d
 taken old new None t = fun_ext (λ n. t n)
 taken old new (Some d) t = fun_ext (λ n. t.1 n)
 
@@ -47,33 +47,34 @@ pub record SameTo (known known' : ℕ → Names) (places places' : List ℕ) (i 
   pub names : known i ≡ known' i
   pub place : slice_index places i ≡ slice_index places' i
 
-same_to : (lines : List (List Lexeme)) (count : ℕ) (names names' : Names) (places places' : List ℕ) → (l : IsLaidTo lines count names places) (m : IsLaidTo lines count names' places') → (i : ℕ) → i ≤ count → SameTo l.known m.known places places' i
-same_to lines count names names' places places' l m zero within = record {
+pub same_to : (lines : List (List Lexeme)) (count other : ℕ) (names names' : Names) (places places' : List ℕ) → (l : IsLaidTo lines count names places) (m : IsLaidTo lines other names' places') → (i : ℕ) → i ≤ count → i ≤ other → SameTo l.known m.known places places' i
+same_to lines count other names names' places places' l m zero within too = record {
   names = fun_ext (λ n. l.none n ∙ sym (m.none n));
   place = l.first ∙ sym m.first;
 }
-same_to lines count names names' places places' l m (suc i) within =
-    let before = same_to lines count names names' places places' l m i (omega (arith, within)) in
+same_to lines count other names names' places places' l m (suc i) within too =
+    let before = same_to lines count other names names' places places' l m i (omega (arith, within)) (omega (arith, too)) in
     let here : i < count = omega (arith, within) in
-    let other : Lays (l.known i) (m.known (i + 1)) (slice_index places i) (slice_index places' (i + 1)) (line_at lines i) = rw (before.names, before.place) (m.each i here) in
+    let there : i < other = omega (arith, too) in
+    let next_of : Lays (l.known i) (m.known (i + 1)) (slice_index places i) (slice_index places' (i + 1)) (line_at lines i) = rw (before.names, before.place) (m.each i there) in
     let same =
     laid_once (l.known i) (l.known (i + 1)) (m.known (i + 1)) (slice_index places i) (slice_index places (i + 1)) (slice_index places' (i + 1)) (line_at lines i)
-    (l.each i here) other in
+    (l.each i here) next_of in
     let next : i + 1 ≡ suc i = omega arith in
     record {
       names = subst (λ j. l.known j ≡ m.known j) next same.0;
       place = subst (λ j. slice_index places j ≡ slice_index places' j) next same.1;
     }
 
-same_names : (lines : List (List Lexeme)) (count : ℕ) (names names' : Names) (places places' : List ℕ) → IsLaidTo lines count names places → IsLaidTo lines count names' places' → names ≡ names'
+pub same_names : (lines : List (List Lexeme)) (count : ℕ) (names names' : Names) (places places' : List ℕ) → IsLaidTo lines count names places → IsLaidTo lines count names' places' → names ≡ names'
 same_names lines count names names' places places' l m =
-    sym l.all ∙ (same_to lines count names names' places places' l m count (omega arith)).names ∙ m.all
+    sym l.all ∙ (same_to lines count count names names' places places' l m count (omega arith) (omega arith)).names ∙ m.all
 
 -- the bytes of a line are the same in any two layouts
 same_bytes : (lines : List (List Lexeme)) (count : ℕ) (names names' : Names) (places places' : List ℕ) → IsLaidTo lines count names places → IsLaidTo lines count names' places' → (i : ℕ) → i < count → (bs cs : List ℕ) → BytesOf lines names places i bs → BytesOf lines names' places' i cs → bs ≡ cs
 same_bytes lines count names names' places places' l m i here bs cs b c =
     let called = same_names lines count names names' places places' l m in
-    let place = (same_to lines count names names' places places' l m i (omega (arith, here))).place in
+    let place = (same_to lines count count names names' places places' l m i (omega (arith, here)) (omega (arith, here))).place in
     let other : BytesOf lines names places i cs = rw (called, place) c in
     let e = sym b ∙ other in
     cc
@@ -88,7 +89,7 @@ same_byte lines count names names' places places' image pieces l m this that a s
     let yours = that.bytes i o.1 in
     let first : mine.0 ≡ o.2 = same_bytes lines count names names places places l l i o.1 mine.0 o.2 mine.1 o.3 in
     let second : yours.0 ≡ o.2 = sym (same_bytes lines count names names' places places' l m i o.1 o.2 yours.0 o.3 yours.1) in
-    let at : slice_index places i ≡ slice_index places' i = (same_to lines count names names' places places' l m i (omega (arith, o.1))).place in
+    let at : slice_index places i ≡ slice_index places' i = (same_to lines count count names names' places places' l m i (omega (arith, o.1)) (omega (arith, o.1))).place in
     let has : HasAt image place o.2 = subst (HasAt image place) first mine.2 in
     let had : HasAt pieces place o.2 = subst (λ p. HasAt pieces p o.2) (sym at) (subst (HasAt pieces (slice_index places' i)) second yours.2) in
     let k = a - place in

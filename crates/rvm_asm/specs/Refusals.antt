@@ -1,6 +1,6 @@
 -- At which line a fault stands.
 use Rattle.std.specs.Prelude.{◌≡◌, ℕ, zero, suc, ◌+◌, ◌^◌, ◌<◌, ◌≤◌, List, Option, Some, None, Result, Ok, Err, length}
-use Rattle.std.specs.Prelude.{slice_index, slice_index_or, IsSome, [], ◌⊎◌}
+use Rattle.std.specs.Prelude.{slice_index, slice_index_or, IsSome, [], ◌⊎◌, Bool, true, false, IsTrue, IsFalse}
 use Rattle.std.specs.Str.Lines.{lines}
 use Rattle.rvm_text.specs.Lexemes.{Lexeme, lexemes}
 use Rattle.rvm_line.specs.declared.faults.Fault.{Fault}
@@ -15,11 +15,11 @@ use Rattle.rvm_refusal.specs.declared.refusal.Refusal.{Refusal}
 use Rattle.rvm_refusal.specs.declared.refusal.Refusal.TheVariants as refusal
 use Rattle.rvm_line.specs.Refusals.{refusal_of_fault}
 use Rattle.rvm_asm.specs.declared.error.AsmError.{AsmError}
-use Rattle.rvm_asm.specs.declared.error.AsmError.TheVariants.{OutOfMemory, Line, TooLarge}
-use Rattle.rvm_asm.specs.Assembly.{statement_of, line_at, IsLaidTo, IsLaid, IsImageTo}
+use Rattle.rvm_asm.specs.declared.error.AsmError.TheVariants.{OutOfMemory, Line, TooLarge, TooMany}
+use Rattle.rvm_asm.specs.Assembly.{statement_of, line_at, IsLaidTo, IsLaid, IsImageTo, IsImage, IsAssembly}
 use Rattle.rvm_asm.specs.Assembly.{AreRead, Takes}
-use Rattle.rvm_image.specs.Images.{Piece}
-use Rattle.rvm_asm.specs.Images.{IsTaken}
+use Rattle.rvm_image.specs.Images.{Piece, IsRising}
+use Rattle.rvm_asm.specs.Images.{IsTaken, HasSameBytes}
 
 -- a definition's name has a value already
 abbrev pub IsTwice : Names → Option Definition → Type 0
@@ -64,6 +64,20 @@ HasBytesFault all i fault =
 abbrev pub HasFault : List (List Lexeme) → ℕ → Fault → Type 0
 HasFault all i fault = (i < length all) × (HasPlacingFault all i fault ⊎ HasBytesFault all i fault)
 
+-- pieces have the bytes of others that rise by address without touching; a test says whether those
+-- are more than 16
+abbrev pub AreSeparate : List Piece → (many : Bool) → Type 0
+AreSeparate pieces many =
+    (image : List Piece) × HasSameBytes pieces image × IsRising image
+    × (IsTrue many → 16 < length image) × (IsFalse many → length image ≤ 16)
+
+-- what is wrong with pieces that have too many bytes
+abbrev pub IsSizeError : List Piece → AsmError → Type 0
+IsSizeError pieces OutOfMemory = ⊥
+IsSizeError pieces (Line number fault) = ⊥
+IsSizeError pieces TooLarge = AreSeparate pieces false
+IsSizeError pieces TooMany = AreSeparate pieces true
+
 -- how many bytes a statement has; one with a fault has none
 abbrev pub length_of : Result (List ℕ) Fault → ℕ
 length_of (Ok bs) = length bs
@@ -79,13 +93,20 @@ count_to all names places zero = 0
 count_to all names places (suc i) =
     count_to all names places i + count_at names (slice_index places i) (line_at all i)
 
--- the first lines, under names and places that fit all lines, have more than 2 ^ 24 bytes, of which
--- no two stand at one address
+-- pieces are an image of all lines, under names and places that fit them, so that no line has a
+-- fault, and rise by address without touching; and all lines have more than 2 ^ 24 bytes
+abbrev pub IsOversized : List (List Lexeme) → List Piece → Type 0
+IsOversized all image =
+    (names : Names) × (places : List ℕ) × IsLaid all names places × IsImage all names places image
+    × IsRising image × (2 ^ 24 < count_to all names places (length all))
+
+-- lines without a fault have more than 2 ^ 24 bytes, in at most 16 pieces that do not touch
 abbrev pub AreTooLarge : List (List Lexeme) → Type 0
-AreTooLarge all =
-    (names : Names) × (places : List ℕ) × (image : List Piece) × (i : ℕ) × (i ≤ length all)
-    × IsLaid all names places × IsImageTo all i names places image
-    × (2 ^ 24 < count_to all names places i)
+AreTooLarge all = (image : List Piece) × IsOversized all image × (length image ≤ 16)
+
+-- lines without a fault have more than 2 ^ 24 bytes, in more than 16 pieces that do not touch
+abbrev pub AreTooMany : List (List Lexeme) → Type 0
+AreTooMany all = (image : List Piece) × IsOversized all image × (16 < length image)
 
 -- all lines, under names and places that fit them, have at most 2 ^ 24 bytes
 abbrev pub AreFew : List (List Lexeme) → Type 0
@@ -113,22 +134,38 @@ abbrev pub IsErrorOf : List (List Lexeme) → AsmError → Type 0
 IsErrorOf all OutOfMemory = Unit {0}
 IsErrorOf all (Line number fault) = (i : ℕ) × (number ≡ i + 1) × HasFault all i fault
 IsErrorOf all TooLarge = AreTooLarge all
+IsErrorOf all TooMany = AreTooMany all
 
 -- a line that can't be read
 abbrev pub IsReadError : List (List ℕ) → AsmError → Type 0
 IsReadError texts OutOfMemory = Unit {0}
 IsReadError texts (Line number fault) = (i : ℕ) × (number ≡ i + 1) × IsUnread texts i fault
 IsReadError texts TooLarge = ⊥
+IsReadError texts TooMany = ⊥
 
--- an error of a text: memory ran out, the fault stands at the line with that number, or the lines
--- have too many bytes
+-- an error of a text: memory ran out, the fault stands at the line with that number, or no line has
+-- one and the lines have too many bytes
 abbrev pub IsError : List ℕ → AsmError → Type 0
 IsError text e =
     IsReadError (lines text) e
     ⊎ ((all : List (List Lexeme)) × AreRead (lines text) all × IsErrorOf all e)
+
+-- no fault stands at a line of a text
+abbrev pub HasNoFault : List ℕ → Type 0
+HasNoFault text = (number : ℕ) (fault : Fault) → IsError text (Line number fault) → ⊥
+
+-- a text with an image has no fault
+abbrev pub ImagesHaveNoFault : List ℕ → Type 0
+ImagesHaveNoFault text =
+    (entry : ℕ) (image : List Piece) → IsAssembly text entry image → HasNoFault text
+
+-- a text that is refused for its size has none either
+abbrev pub SizesHaveNoFault : List ℕ → Type 0
+SizesHaveNoFault text = (IsError text TooLarge ⊎ IsError text TooMany) → HasNoFault text
 
 -- an error in the list of all refusals; the number of its line is told beside it
 abbrev pub refusal_of : AsmError → Refusal
 refusal_of OutOfMemory = refusal.OutOfMemory
 refusal_of (Line n fault) = refusal_of_fault fault
 refusal_of TooLarge = refusal.OutOfReach
+refusal_of TooMany = refusal.TooMany

@@ -9,17 +9,18 @@ ghost use Rattle.rvm_asm.specs.Views.{lines_of, texts_of, HasNoZeros};
 ghost use Rattle.rvm_image.specs.Images.{IsRising, pieces_of};
 
 use crate::error::AsmError;
+use crate::filling::fill;
 use crate::layout::lay_out;
 use crate::placing::place_lines;
 use crate::reading::check_lines;
-use crate::segments::join;
 use rvm_image::Image;
 use rvm_line::{Symbols, lookup};
 use std::alloc::{AllocError, Global};
 
 /// The image of an assembly text. Lines end with a line feed, and a carriage return before it is
-/// no part of them. Fails with a line, counted from 1, at which a fault stands, since all lines
-/// together have more than 2^24 bytes, or since memory ran out.
+/// no part of them. Fails with a line, counted from 1, at which a fault stands; if no line has a
+/// fault, since all lines together have more than 2^24 bytes, in at most 16 segments or in more; or
+/// since memory ran out.
 pub fn assemble(alloc: Global, text: &str) -> Result<Image, AsmError>
     ensures image { IfOk result (λ v. IsAssembly text.now v.entry (pieces_of v.segments.items)) }
     ensures rising { IfOk result (λ v. IsRising (pieces_of v.segments.items)) }
@@ -50,8 +51,8 @@ fn assemble_lines(alloc: Global, texts: &[&str]) -> Result<Image, AsmError>
     ensures refused { IfErr result (λ e. IsErrorOf (lines_of (texts_of texts.now)) e) }
 {
     let layout = lay_out(alloc, texts)?;
-    let placed = place_lines(alloc, texts, &layout.symbols, &layout.places)?;
-    let segments = join(alloc, placed)?;
+    let extents = place_lines(alloc, texts, &layout.symbols, &layout.places)?;
+    let segments = fill(alloc, texts, &layout.symbols, &layout.places, extents)?;
     let entry = entry(&layout.symbols);
     Ok(Image { entry, segments })
 }

@@ -17,9 +17,12 @@ pub enum AsmError {
     /// The line of this number, counted from 1, has this fault.
     #[error("line {0}: {1}")]
     Line(usize, Fault),
-    /// All lines together have more than 2^24 bytes.
+    /// No line has a fault, but all lines together have more than 2^24 bytes.
     #[error("more than 2^24 bytes")]
     TooLarge,
+    /// The same, and they make more than 16 segments.
+    #[error("more than 16 segments")]
+    TooMany,
 }
 
 impl AsmError {
@@ -53,6 +56,7 @@ impl From<AsmError> for Refusal {
             AsmError::OutOfMemory => Refusal::OutOfMemory,
             AsmError::Line(_, fault) => Refusal::from(fault),
             AsmError::TooLarge => Refusal::OutOfReach,
+            AsmError::TooMany => Refusal::TooMany,
         }
     }
 }

@@ -2,14 +2,17 @@
 //! stands on `rvm_text` for the tokens of a line, on `rvm_line` for what a line means and on
 //! `rvm_image` for the image, and knows no instruction.
 //!
-//! `assembler` runs three passes over the lines, of which each reads a line's tokens again:
+//! `assembler` runs four passes over the lines, of which each reads a line's tokens again:
 //! `reading` looks whether each line has tokens, `layout` gives each name its value and each line
-//! its place, `placing` puts the bytes of each line there, in the `segments` of an image.
+//! its place, `placing` finds the `extents` of all lines' bytes, which it does not keep, and
+//! `filling` puts the bytes into the `segments` of an image.
 //! `error` says why a text has no image, `laws` that it has at most one.
 #![tactic(auto)]
 
 mod assembler;
 mod error;
+mod extents;
+mod filling;
 pub mod laws;
 mod layout;
 mod placing;

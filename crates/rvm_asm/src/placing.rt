@@ -1,101 +1,109 @@
-//! The third pass: the bytes of each line at its place.
+//! The third pass: the places of each line's bytes.
 
-ghost use Rattle.std.specs.Prelude.{◌≡◌, ◌≤◌, ◌^◌, length, IfOk, IfErr, OnOk, IsSome};
+ghost use Rattle.std.specs.Prelude.{◌≡◌, ◌+◌, ◌<◌, ◌≤◌, ◌^◌, ℕ, List, length, slice_index, IfOk, IfErr, OnOk, IsSome};
 ghost use Rattle.rvm_text.specs.Lexemes.{lexemes};
-ghost use Rattle.rvm_text.specs.Tokens.{lexemes_of};
-ghost use Rattle.rvm_line.specs.Views.{names_of};
-ghost use Rattle.rvm_asm.specs.Assembly.{AreRead, IsLaid, IsImage};
-ghost use Rattle.rvm_asm.specs.Images.{AreOrdered};
-ghost use Rattle.rvm_asm.specs.Refusals.{count_at, count_to, IsErrorOf};
-ghost use Rattle.rvm_asm.specs.Views.{line_of, lines_of, texts_of, placed_pieces, Fits, IsPutting};
+ghost use Rattle.rvm_line.specs.Contents.{bytes_at};
+ghost use Rattle.rvm_line.specs.Views.{names_of, Gives};
+ghost use Rattle.rvm_asm.specs.Assembly.{line_at, statement_of, AreRead, IsLaid};
+ghost use Rattle.rvm_asm.specs.Refusals.{count_at, count_to, error_at, IsErrorOf, IsSizeError};
+ghost use Rattle.rvm_asm.specs.Views.{extent_pieces, line_of, lines_of, texts_of, ArePlaced, Holds, IsRoom};
 
 use crate::error::AsmError;
+use crate::extents::{Extents, are_many, claim};
 use crate::reading::read_line;
-use crate::segments::{Placed, insert, is_free};
 use rvm_image::MAX_BYTES;
-use rvm_line::{Fault, LineError, Symbols, contents, label};
-use rvm_text::Token;
+use rvm_line::{LineError, Symbols, contents, label};
 use std::alloc::Global;
 
-/// The bytes of all lines, each at its place.
+/// Where the bytes of all lines stand. A fault comes before the size: only where no line has one
+/// are more than 2^24 bytes refused.
 pub fn place_lines(
     alloc: Global,
     texts: &[&str],
     symbols: &Symbols,
     places: &[u64],
-) -> Result<Placed, AsmError>
+) -> Result<Extents, AsmError>
     requires read { AreRead (texts_of texts.now) (lines_of (texts_of texts.now)) }
     requires laid { IsLaid (lines_of (texts_of texts.now)) (names_of symbols.now) places.now }
-    ensures placed { IfOk result (λ v. IsImage (lines_of (texts_of texts.now)) (names_of symbols.now)
-        places.now (placed_pieces v)) }
-    ensures ordered { IfOk result (λ v. AreOrdered 0 0 (placed_pieces v)) }
+    ensures placed { IfOk result (λ v. ArePlaced (lines_of (texts_of texts.now)) (names_of symbols.now)
+        places.now (length (lines_of (texts_of texts.now))) v) }
     ensures few { OnOk result (count_to (lines_of (texts_of texts.now)) (names_of symbols.now)
         places.now (length (lines_of (texts_of texts.now))) ≤ 2 ^ 24) }
     ensures refused { IfErr result (λ e. IsErrorOf (lines_of (texts_of texts.now)) e) }
 {
-    let mut placed = Placed::new(alloc);
-    let mut left = MAX_BYTES;
-    for (index, text) in texts.iter().enumerate() {
-        let count = match place_text(alloc, &mut placed, symbols, places[index], text) {
+    let mut extents = Extents::new(alloc);
+    let mut room = Some(MAX_BYTES);
+    for index in 0..texts.len() {
+        let count = match place_line(alloc, &mut extents, texts, symbols, places, index) {
             Ok(count) => count,
             Err(error) => return Err(AsmError::at(index + 1, error)),
         };
-        if count > left {
-            return Err(AsmError::TooLarge);
-        }
-        left -= count;
+        room = room_behind(room, count);
     }
-    Ok(placed)
+    if room.is_none() {
+        return Err(size_error(&extents));
+    }
+    Ok(extents)
 }
 
-/// Puts the bytes of a line at its place, and answers how many they are.
-#[tactic(auto, using(crate::proofs::Lines::texts_put))]
-fn place_text(
-    alloc: Global,
-    placed: &mut Placed,
-    symbols: &Symbols,
-    place: u64,
-    text: &str,
-) -> Result<usize, LineError>
-    requires read { IsSome (lexemes text.now) }
-    requires fits { Fits (names_of symbols.now) place (line_of text.now) }
-    requires ordered { AreOrdered 0 0 (placed_pieces placed.old) }
-    ensures put { IsPutting (placed_pieces placed.old) (placed_pieces placed.new)
-        (names_of symbols.now) place (line_of text.now) result }
-    ensures ordered { OnOk result (AreOrdered 0 0 (placed_pieces placed.new)) }
-    ensures count { IfOk result (λ count. count
-        ≡ count_at (names_of symbols.now) place (line_of text.now)) }
+/// What is left of room for bytes behind so many of them.
+fn room_behind(room: Option<usize>, count: usize) -> Option<usize>
+    ensures { (n : ℕ) → IsRoom room n → IsRoom result (n + count) }
 {
-    let tokens = read_line(alloc, text)?;
-    place_line(alloc, placed, symbols, place, &tokens)
+    room?.checked_sub(count)
 }
 
-/// The same for the tokens of a line.
+/// What is wrong with lines that have more than 2^24 bytes.
+fn size_error(extents: &Extents) -> AsmError
+    ensures { (bytes : ℕ → List ℕ) → (lines : ℕ) → Holds bytes lines extents.now
+        → IsSizeError (extent_pieces bytes extents.now) result }
+{
+    if are_many(extents) {
+        AsmError::TooMany
+    } else {
+        AsmError::TooLarge
+    }
+}
+
+/// Gives the places of a line's bytes to the line, and answers how many they are.
 fn place_line(
     alloc: Global,
-    placed: &mut Placed,
+    extents: &mut Extents,
+    texts: &[&str],
+    symbols: &Symbols,
+    places: &[u64],
+    index: usize,
+) -> Result<usize, LineError>
+    requires inside { index < length texts.now }
+    requires read { AreRead (texts_of texts.now) (lines_of (texts_of texts.now)) }
+    requires laid { IsLaid (lines_of (texts_of texts.now)) (names_of symbols.now) places.now }
+    requires placed { ArePlaced (lines_of (texts_of texts.now)) (names_of symbols.now)
+        places.now index extents.old }
+    ensures placed { OnOk result (ArePlaced (lines_of (texts_of texts.now)) (names_of symbols.now)
+        places.now (index + 1) extents.new) }
+    ensures count { IfOk result (λ count. count ≡ count_at (names_of symbols.now)
+        (slice_index places.now index) (line_at (lines_of (texts_of texts.now)) index)) }
+    ensures refused { IfErr result (λ e. IsErrorOf (lines_of (texts_of texts.now))
+        (error_at (index + 1) e)) }
+{
+    let place = places[index];
+    let count = line_bytes(alloc, texts[index], symbols, place)?.len();
+    claim(extents, index, place, count)?;
+    Ok(count)
+}
+
+/// The bytes of a line that stands at a place.
+pub fn line_bytes(
+    alloc: Global,
+    text: &str,
     symbols: &Symbols,
     place: u64,
-    tokens: &[Token],
-) -> Result<usize, LineError>
-    requires fits { Fits (names_of symbols.now) place (lexemes_of tokens.now) }
-    requires ordered { AreOrdered 0 0 (placed_pieces placed.old) }
-    ensures put { IsPutting (placed_pieces placed.old) (placed_pieces placed.new)
-        (names_of symbols.now) place (lexemes_of tokens.now) result }
-    ensures ordered { OnOk result (AreOrdered 0 0 (placed_pieces placed.new)) }
-    ensures count { IfOk result (λ count. count
-        ≡ count_at (names_of symbols.now) place (lexemes_of tokens.now)) }
+) -> Result<Vec<u8>, LineError>
+    requires { IsSome (lexemes text.now) }
+    ensures { Gives result (bytes_at (names_of symbols.now) place
+        (statement_of place (line_of text.now))) }
 {
-    let (_, statement) = label(place, tokens);
-    let bytes = contents(alloc, symbols, place, statement)?;
-    if bytes.is_empty() {
-        return Ok(0);
-    }
-    let count = bytes.len();
-    let address = place as u32;
-    if !is_free(placed, address, count as u64) {
-        return Err(LineError::Faulty(Fault::Overlap));
-    }
-    insert(placed, address, bytes)?;
-    Ok(count)
+    let tokens = read_line(alloc, text)?;
+    let (_, statement) = label(place, &tokens);
+    contents(alloc, symbols, place, statement)
 }

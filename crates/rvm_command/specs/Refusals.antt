@@ -7,7 +7,7 @@ use Rattle.rvm_asm.specs.declared.error.AsmError.TheVariants as text
 use Rattle.rvm_script.specs.declared.script.ScriptError.{ScriptError}
 use Rattle.rvm_script.specs.declared.script.ScriptError.TheVariants as script
 use Rattle.rvm_refusal.specs.declared.refusal.Refusal.{Refusal}
-use Rattle.rvm_refusal.specs.declared.refusal.Refusal.TheVariants.{OutOfMemory, BadToken, OutOfReach, TooLong, LinkFault}
+use Rattle.rvm_refusal.specs.declared.refusal.Refusal.TheVariants.{OutOfMemory, BadToken, OutOfReach, TooLong, TooMany, LinkFault}
 use Rattle.rvm_command.specs.declared.refused.Refused.{Refused}
 use Rattle.rvm_command.specs.Command.{refused_text}
 
@@ -19,11 +19,12 @@ refused r = record { line = None; refusal = r }
 abbrev pub refused_at : ℕ → Refusal → Refused
 refused_at n r = record { line = Some n; refusal = r }
 
--- of an assembly text, at the line of its fault
+-- of an assembly text, at the line of its fault, or at none for its size
 abbrev pub refused_of_text : AsmError → Refused
 refused_of_text text.OutOfMemory = refused OutOfMemory
 refused_of_text (text.Line n fault) = refused_at n (refusal_of_fault fault)
 refused_of_text text.TooLarge = refused OutOfReach
+refused_of_text text.TooMany = refused TooMany
 
 -- of a script, at the line that is none
 abbrev pub refused_of_script : ScriptError → Refused

@@ -153,9 +153,69 @@ fn faults_stand_at_their_line(rt: HostRuntime) {
             "{text}"
         );
     }
-    // More than 2^24 bytes stand at no line.
-    let text = ".space 0xFFFFFF\n.byte 1\n.byte 2\nj nowhere";
-    assert_eq!(rt; image(rt.alloc(), text).err(), Some(AsmError::TooLarge));
+}
+
+/// Texts of more than 2^24 bytes, and what is wrong with them.
+static LARGE: [(&str, AsmError); 6] = [
+    // A fault of any line comes before the size.
+    (
+        ".space 0x1000000\n.byte 1\nj nowhere",
+        AsmError::Line(3, Fault::UnknownName),
+    ),
+    (
+        ".space 0x1000000\n.org 0x90000000\n.space 0x1000000\n.org 0x90000001\n.byte 1",
+        AsmError::Line(5, Fault::Overlap),
+    ),
+    // The size stands at no line.
+    (".space 0xFFFFFF\n.byte 1\n.byte 2", AsmError::TooLarge),
+    // More than 16 segments come before more than 2^24 bytes.
+    (
+        ".space 0x1000000\n.org 0x90000000\n.byte 1\n.org 0x90000002\n.byte 2\n\
+            .org 0x90000004\n.byte 3\n.org 0x90000006\n.byte 4\n.org 0x90000008\n.byte 5\n\
+            .org 0x9000000A\n.byte 6\n.org 0x9000000C\n.byte 7\n.org 0x9000000E\n.byte 8\n\
+            .org 0x90000010\n.byte 9\n.org 0x90000012\n.byte 10\n.org 0x90000014\n.byte 11\n\
+            .org 0x90000016\n.byte 12\n.org 0x90000018\n.byte 13\n.org 0x9000001A\n.byte 14\n\
+            .org 0x9000001C\n.byte 15\n.org 0x9000001E\n.byte 16",
+        AsmError::TooMany,
+    ),
+    // A line that fills a gap makes one segment of two.
+    (
+        ".space 0x1000000\n.org 0x90000000\n.byte 1\n.org 0x90000002\n.byte 2\n\
+            .org 0x90000004\n.byte 3\n.org 0x90000006\n.byte 4\n.org 0x90000008\n.byte 5\n\
+            .org 0x9000000A\n.byte 6\n.org 0x9000000C\n.byte 7\n.org 0x9000000E\n.byte 8\n\
+            .org 0x90000010\n.byte 9\n.org 0x90000012\n.byte 10\n.org 0x90000014\n.byte 11\n\
+            .org 0x90000016\n.byte 12\n.org 0x90000018\n.byte 13\n.org 0x9000001A\n.byte 14\n\
+            .org 0x9000001C\n.byte 15\n.org 0x9000001E\n.byte 16\n.org 0x9000000B\n.byte 0",
+        AsmError::TooLarge,
+    ),
+    (
+        ".space 0x1000000\n.org 0x90000000\n.byte 1\n.org 0x90000002\n.byte 2\n\
+            .org 0x90000004\n.byte 3\n.org 0x90000006\n.byte 4\n.org 0x90000008\n.byte 5\n\
+            .org 0x9000000A\n.byte 6\n.org 0x9000000C\n.byte 7\n.org 0x9000000E\n.byte 8\n\
+            .org 0x90000010\n.byte 9\n.org 0x90000012\n.byte 10\n.org 0x90000014\n.byte 11\n\
+            .org 0x90000016\n.byte 12\n.org 0x90000018\n.byte 13\n.org 0x9000001A\n.byte 14\n\
+            .org 0x9000001C\n.byte 15",
+        AsmError::TooLarge,
+    ),
+];
+
+#[test]
+fn faults_come_before_the_size(rt: HostRuntime) {
+    for (text, error) in LARGE.iter() {
+        assert_eq!(rt; image(rt.alloc(), text).err(), Some(*error), "{text}");
+    }
+}
+
+/// Whether there is one segment, of so many bytes.
+fn is_one(segments: &[Segment], size: usize) -> bool {
+    segments.len() == 1 && segments.iter().all(|segment| segment.bytes.len() == size)
+}
+
+#[test]
+fn texts_of_2_24_bytes_have_an_image(rt: HostRuntime) -> Result<(), Fail> {
+    let image = image(rt.alloc(), ".space 0xFFFFFF\n.byte 1")?;
+    assert!(rt; is_one(&image.segments, 1 << 24));
+    Ok(())
 }
 
 /// However deep values are nested, no stack grows with them.

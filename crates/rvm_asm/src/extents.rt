@@ -1,0 +1,87 @@
+//! Where the bytes of lines stand, without the bytes.
+
+ghost use Rattle.std.specs.Prelude.{◌≡◌, ℕ, ◌+◌, ◌^◌, ◌≤◌, ◌<◌, ◌⊎◌, List, length, IsTrue, IsFalse};
+ghost use Rattle.rvm_asm.specs.Images.{IsFree, IsTaken};
+ghost use Rattle.rvm_asm.specs.Refusals.{AreSeparate};
+ghost use Rattle.rvm_asm.specs.Views.{extent_pieces, is_apart, Holds, IsClaim};
+
+use rvm_line::{Fault, LineError};
+use std::collections::BTreeMap;
+
+/// The most segments of an image that can be written.
+const MAX_SEGMENTS: usize = 16;
+
+/// The bytes of one line, from the address of the first byte to that of the last.
+#[derive(Clone, Copy)]
+pub struct Extent {
+    /// Which line it is, counted from 0.
+    pub line: usize,
+    /// The address of the last byte.
+    pub last: u32,
+}
+
+/// The extents of lines by the addresses of their first bytes, found in logarithmic time.
+pub type Extents = BTreeMap<u32, Extent>;
+
+/// Whether no byte stands from an address to a last one: only the last extent that begins by
+/// then can have one there.
+fn is_free(extents: &Extents, address: u32, last: u32) -> bool
+    ensures free { (bytes : ℕ → List ℕ) → (lines count : ℕ) → Holds bytes lines extents.now
+        → 0 < count → address + count ≡ last + 1 → IsTrue result
+        → IsFree (extent_pieces bytes extents.now) address count }
+    ensures taken { (bytes : ℕ → List ℕ) → (lines count : ℕ) → Holds bytes lines extents.now
+        → 0 < count → address + count ≡ last + 1 → IsFalse result
+        → IsTaken (extent_pieces bytes extents.now) address count }
+{
+    match extents.range(..=last).next_back() {
+        Some((_, extent)) => extent.last < address,
+        None => true,
+    }
+}
+
+/// Gives the places of a line's bytes to the line, which is the next, if all of them are free.
+pub fn claim(extents: &mut Extents, line: usize, place: u64, count: usize) -> Result<(), LineError>
+    requires { (count ≡ 0) ⊎ (place + count ≤ 2 ^ 32) }
+    ensures { (bytes : ℕ → List ℕ) → Holds bytes line extents.old → length (bytes line) ≡ count
+        → IsClaim bytes line place extents.old extents.new result }
+{
+    if count == 0 {
+        return Ok(());
+    }
+    let address = place as u32;
+    let last = address + (count - 1) as u32;
+    if !is_free(extents, address, last) {
+        return Err(LineError::Faulty(Fault::Overlap));
+    }
+    extents.insert(address, Extent { line, last })?;
+    Ok(())
+}
+
+/// Whether an extent does not touch the one before it, of which this is the last address.
+fn is_apart(before: Option<u32>, address: u32) -> bool
+    ensures { result ≡ is_apart before address }
+{
+    match before {
+        Some(last) => u64::from(last) + 1 < u64::from(address),
+        None => true,
+    }
+}
+
+/// Whether the extents make more than 16 segments, of which those that touch are one.
+pub fn are_many(extents: &Extents) -> bool
+    ensures { (bytes : ℕ → List ℕ) → (lines : ℕ) → Holds bytes lines extents.now
+        → AreSeparate (extent_pieces bytes extents.now) result }
+{
+    let mut count = 0;
+    let mut before = None;
+    for (address, extent) in extents.iter() {
+        if is_apart(before, *address) {
+            if count == MAX_SEGMENTS {
+                return true;
+            }
+            count += 1;
+        }
+        before = Some(extent.last);
+    }
+    false
+}
