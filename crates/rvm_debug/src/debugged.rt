@@ -119,7 +119,7 @@ impl<M: Memory> Debugged<M> {
     /// at its breakpoint, and else at none.
     #[cold]
     #[inline(never)]
-    fn stop(&mut self, hart: u32) -> bool
+    pub(crate) fn stop(&mut self, hart: u32) -> bool
         requires { hart < length self.old.guest.board.harts }
         ensures { MatchOption self.old.guest.board.shared.devices.halted
             ((result ≡ stops hart self.old.guest) × (self.new ≡ record self.old {

@@ -7,7 +7,7 @@ ghost use Rattle.rvm_debug.specs.Retiring.{RetiresThen};
 ghost use Rattle.rvm_debug.specs.declared.event.BoardReply.TheVariants as reply;
 
 use crate::debugged::Debugged;
-use crate::turns::{ELSEWHERE, IN_RETIRING, Order, any};
+use crate::turns::{IN_RETIRING, IN_RETIRING_ROUNDS, Order, any};
 use rvm_hart::Stepped;
 use rvm_mem::Memory;
 
@@ -80,7 +80,7 @@ impl<M: Memory> Debugged<M> {
         let mut left = count;
         while left > 0 {
             left -= 1;
-            let stepped = self.turn_of::<ELSEWHERE>(hart);
+            let stepped = self.turn_of::<IN_RETIRING_ROUNDS>(hart);
             if !has_retired(stepped) {
                 return Retired {
                     count: count - left - 1,

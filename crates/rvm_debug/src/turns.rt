@@ -29,9 +29,13 @@ const IN_WATCHED_TURNS: u8 = 1;
 
 const IN_ROUNDS: u8 = 2;
 
-pub(crate) const IN_RETIRING: u8 = 3;
+const IN_WATCHED_ROUNDS: u8 = 3;
 
-pub(crate) const ELSEWHERE: u8 = 4;
+pub(crate) const WHILE_FULL: u8 = 4;
+
+pub(crate) const IN_RETIRING: u8 = 5;
+
+pub(crate) const IN_RETIRING_ROUNDS: u8 = 6;
 
 /// Which hart has the turn after that of another.
 #[derive(Clone, Copy, Debug, PartialEq, Eq)]
@@ -166,10 +170,25 @@ impl<M: Memory> Debugged<M> {
         ensures answer { step_reply (pc_of hart self.old.guest) result
             ≡ (steps hart self.old.guest).reply }
     {
-        if watched || self.stopped[hart as usize] {
-            return self.step(hart);
+        if self.can_stop(hart, watched) && self.stop(hart) {
+            return None;
         }
-        Some(self.step_on(hart))
+        Some(self.board.step(hart))
+    }
+
+    /// Whether a hart may stop instead of its next step: at a breakpoint only if that is `watched`.
+    #[inline(always)]
+    fn can_stop(&self, hart: u32, watched: bool) -> bool
+        requires hart { hart < length self.now.guest.board.harts }
+        requires watched { watched ≡ false → self.now.guest.breakpoints ≡ [] }
+        ensures { result ≡ false
+            → (is_in (pc_of hart self.now.guest) self.now.guest.breakpoints ≡ false)
+            × (get_or self.now.guest.stopped hart false ≡ false) }
+    {
+        if watched {
+            return self.may_stop(hart);
+        }
+        self.stopped[hart as usize]
     }
 
     /// Turns of the harts in their order.
@@ -261,7 +280,7 @@ impl<M: Memory> Debugged<M> {
         while left > 0 {
             left -= 1;
             let pc = self.pc(hart);
-            if let Some(stop) = stop_of(pc, self.turn_or_stop(hart)) {
+            if let Some(stop) = stop_of(pc, self.turn_or_stop::<IN_WATCHED_ROUNDS>(hart)) {
                 return Ended {
                     left,
                     stop: Some(stop),
@@ -305,7 +324,7 @@ impl<M: Memory> Debugged<M> {
 
     /// A turn of a hart: its step, or a stop at a breakpoint instead.
     #[inline(always)]
-    pub(crate) fn turn_or_stop(&mut self, hart: u32) -> Option<Stepped>
+    pub(crate) fn turn_or_stop<const LOOP: u8>(&mut self, hart: u32) -> Option<Stepped>
         requires { hart < length self.old.guest.board.harts }
         ensures guest { self.new.guest ≡ (steps hart self.old.guest).guest }
         ensures dirty { self.new.dirty ≡ mark_all (steps hart self.old.guest).pages self.old.dirty }
@@ -315,7 +334,7 @@ impl<M: Memory> Debugged<M> {
         if self.may_stop(hart) {
             return self.step(hart);
         }
-        Some(self.turn_of::<ELSEWHERE>(hart))
+        Some(self.turn_of::<LOOP>(hart))
     }
 
     /// One step of a hart that cannot stop instead, on the straight path if it can be made there.

@@ -5,7 +5,7 @@ ghost use Rattle.rvm_debug.specs.Turns.{TakesTurns};
 ghost use Rattle.rvm_debug.specs.WhileFull.{is_full, turns_while};
 
 use crate::debugged::Debugged;
-use crate::turns::{Order, Turns, stop_of};
+use crate::turns::{Order, Turns, WHILE_FULL, stop_of};
 use rvm_mem::Memory;
 
 impl<M: Memory> Debugged<M> {
@@ -23,7 +23,7 @@ impl<M: Memory> Debugged<M> {
         while left > 0 {
             left -= 1;
             let pc = self.pc(hart);
-            if let Some(stop) = stop_of(pc, self.turn_or_stop(hart)) {
+            if let Some(stop) = stop_of(pc, self.turn_or_stop::<WHILE_FULL>(hart)) {
                 return Turns {
                     made: count - left,
                     stop: Some(stop),
