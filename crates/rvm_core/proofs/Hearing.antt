@@ -6,10 +6,10 @@ use Rattle.rvm_frame.specs.declared.frame.Frame.{Frame}
 use Rattle.rvm_guest.specs.TheGuest.{board}
 use Rattle.rvm_message.specs.Answers.{Answers, BoardMode, BoardOutcome}
 use Rattle.rvm_message.specs.Frames.{BoardFrame, can_come, frame_heard, frame_of, no_frame}
+use Rattle.rvm_message.specs.Replies.{is_refused_outright}
 use Rattle.rvm_message.specs.declared.reply.HostReply.{HostReply}
 use Rattle.rvm_protocol.specs.Frames.{plain}
 use Rattle.rvm_protocol.specs.Receiving.{came}
-use Rattle.rvm_core.specs.Memory.{is_ignored}
 use Rattle.rvm_core.proofs.Sendings.{frame_is}
 use Rattle.rvm_core.proofs.Targets.{alone, if_err, if_ok}
 
@@ -17,9 +17,9 @@ use Rattle.rvm_core.proofs.Targets.{alone, if_err, if_ok}
 abbrev pub heard : Frame → BoardFrame
 heard f = plain board (frame_heard f)
 
--- what comes of a frame that is not ignored
+-- what comes of a frame that is not refused outright
 abbrev pub Heeds : BoardOutcome → Type 0
-Heeds o = is_ignored o.reply ≡ false
+Heeds o = is_refused_outright o.reply ≡ false
 
 module _ (limit : ℕ) (f : Frame) (h : BoardFrame) (mode next : BoardMode) (is : heard f ≡ h) where
   pub so_heard : (version : ℕ) (a : HostReply × Option Frame) → Answers version (came board limit h mode) a next → Answers version (came board limit (heard f) mode) a next

@@ -7,3 +7,4 @@ mod Postings
 pub mod Running
 pub mod Retiring
 pub mod Drying
+mod Refused

@@ -1,5 +1,5 @@
 -- A frame that can be sent, with the address that its host gives it.
-use Rattle.std.proofs.Common.{◌≡◌, ℕ, ◌+◌, ◌<◌, ◌≤◌, ◌==◌, Bool, true, false, not, ◌&&◌, ◌||◌, nat_lt, if◌then◌else◌, ◌++◌, length, length-append, Option, Some, None, refl, sym, ap, subst, arith}
+use Rattle.std.proofs.Common.{◌≡◌, ℕ, ◌+◌, ◌<◌, ◌≤◌, ◌==◌, Bool, true, false, not, ◌&&◌, ◌||◌, nat_lt, if◌then◌else◌, ◌++◌, length, length-append, Option, Some, None, refl, sym, ap, ◌∙◌, subst, arith}
 use Rattle.std.specs.Prelude.{is_some}
 use Rattle.std.proofs.lemmas.Bool.Decides.{nat_tests}
 use Rattle.byteorder.specs.Endian.{little_bytes}
@@ -12,13 +12,19 @@ use Rattle.rvm_frame.specs.declared.kind.Kind.TheVariants as kind
 use Rattle.rvm_frame.specs.Grammar.{HasSpelling, MayStand, Received, body_of, hosts_bytes, sent, spelling}
 use Rattle.rvm_frame.specs.Kinds.{byte_of, header_len, hosts_fit, kind_of, move_of, names_hosts, stands}
 use Rattle.rvm_message.specs.Events.{BoardHostEvent}
-use Rattle.rvm_message.specs.Frames.{BoardFrame}
+use Rattle.rvm_debug.specs.declared.event.BoardEvent.{BoardEvent}
+use Rattle.rvm_guest.proofs.TheGuest.{board}
+use Rattle.rvm_message.proofs.Refusing.{refused_makes_none}
+use Rattle.rvm_message.specs.Frames.{BoardFrame, addressed_made}
+use Rattle.rvm_message.specs.Replies.{is_refused_outright}
 use Rattle.rvm_message.specs.Sendable.{CanBeSent, IsSendable}
 use Rattle.rvm_message.specs.declared.reply.HostReply.{HostReply}
+use Rattle.rvm_protocol.specs.Commands.{Command, Came, Do}
 use Rattle.rvm_protocol.specs.Frames as frames
-use Rattle.rvm_protocol.specs.Host.{is_there}
+use Rattle.rvm_protocol.specs.Host.{addressee, is_there, partner_then}
 use Rattle.rvm_core.specs.Bounds.{CanBePosted, IsHost, IsPosted, IsShort, addressed, came_body, event_body, frame_bound, with_header}
-use Rattle.rvm_core.specs.Hosts.{PlainHost, Steps, is_sized, is_spoken}
+use Rattle.rvm_core.specs.Hosts.{PlainHost, Steps, is_sized, is_spoken, step_of}
+use Rattle.rvm_core.specs.Modes.{mode_of}
 use Rattle.rvm_core.proofs.Moves.{Goes, host_reaches}
 
 -- behind Hello the version is known
@@ -138,13 +144,38 @@ module _ (h : PlainHost) (ok : IsHost h) where
   posted_if to None (Some f) there short so = absurd so
   posted_if to (Some n) (Some f) there short so = is_posted to n f there (so sized.version_fits) short
 
-  -- the frame of an event
+  -- the frame of an event; a command that is refused makes none
+  posts : (new : PlainHost) (e : BoardHostEvent) (answer : HostReply × Option Addressed) (to : ℕ)
+      (made : Option Frame) → Steps h e answer new → answer.1 ≡ addressed h.id to made → IsShort (event_body h e)
+      → CanBeSent h.version (event_body h e) made → CanBePosted h (with_header h.version (event_body h e)) answer.1
+  posts new e answer to made does is short so =
+      let there = subst (Goes h.id h.count) is (host_reaches h ok new e answer does) in
+      subst (CanBePosted h (with_header h.version (event_body h e))) (sym is) (posted_if to (event_body h e) made there short so)
+
+  none_made : (o : Option Addressed) → addressed_made o ≡ None → o ≡ None
+  none_made None is = refl
+  none_made (Some a) is = absurd cc
+
+  posts_unless : (b : Bool) (most : ℕ) (o : Option Addressed) → (b ≡ true → o ≡ None) → CanBePosted h most o
+      → CanBePosted h (if b then 0 else most) o
+  posts_unless true most o none so = subst (CanBePosted h 0) (sym (none refl)) tt
+  posts_unless false most o none so = so
+
+  refused_posts_none : (new : PlainHost) (c : Command BoardEvent) (answer : HostReply × Option Addressed) → Steps h (Do c) answer new
+      → is_refused_outright (step_of h (Do c)).reply ≡ true → answer.1 ≡ None
+  refused_posts_none new c answer does refused =
+      let e : BoardHostEvent = Do c in
+      let to = addressee e (partner_then e (step_of h e).reply h.partner) in
+      none_made answer.1
+      (does.made ∙ ap (λ (f : Option BoardFrame). frames.posted h.id to (frames.made_as board h.version f)) (refused_makes_none h.version h.id h.count c (mode_of h.mode) refused))
+
   pub host_posts : (new : PlainHost) (e : BoardHostEvent) (answer : HostReply × Option Addressed) (to : ℕ)
       (made : Option Frame) → Steps h e answer new → answer.1 ≡ addressed h.id to made → IsShort (event_body h e)
       → CanBeSent h.version (event_body h e) made → CanBePosted h (frame_bound h e) answer.1
-  host_posts new e answer to made does is short so =
-      let there = subst (Goes h.id h.count) is (host_reaches h ok new e answer does) in
-      subst (CanBePosted h (frame_bound h e)) (sym is) (posted_if to (event_body h e) made there short so)
+  host_posts new (Do c) answer to made does is short so =
+      posts_unless (is_refused_outright (step_of h (Do c)).reply) (with_header h.version (event_body h (Do c))) answer.1
+      (refused_posts_none new c answer does) (posts new (Do c) answer to made does is short so)
+  host_posts new (Came from f) answer to made does is short so = posts new (Came from f) answer to made does is short so
 
 -- an answer to a frame is short
 pub came_short : (f : BoardFrame) → IsShort (came_body f)

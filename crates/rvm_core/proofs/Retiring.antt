@@ -30,7 +30,7 @@ in_mode old m = record old { mode = m }
 module _ (mode : GuestState → PlainMode) (ok : GuestState → Type 0)
     (keeps : (h : ℕ) (g : GuestState) → h < length g.guest.board.harts → ok g → ok (stepped h g))
     (law : (h : ℕ) (g : GuestState) → ok g → h < length g.guest.board.harts
-        → law_step h (mode g) ≡ says (Answered (steps h g.guest).reply) (mode_of (mode (stepped h g)))) where
+    → law_step h (mode g) ≡ says (Answered (steps h g.guest).reply) (mode_of (mode (stepped h g)))) where
   -- a step of a hart that is there is the host's
   a_step : (h : ℕ) (g : GuestState) (old : PlainHost) (s : Stepped) → old.mode ≡ mode g → ok g
       → h < length g.guest.board.harts → (steps h g.guest).reply ≡ events.reply_of s

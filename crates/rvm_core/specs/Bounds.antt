@@ -1,5 +1,5 @@
 -- How many bytes the frame that a host makes of an event has at most, and that it has a spelling.
-use Rattle.std.specs.Prelude.{◌≡◌, ℕ, ◌+◌, ◌<◌, ◌≤◌, true, Option, Some, None, length}
+use Rattle.std.specs.Prelude.{◌≡◌, ℕ, ◌+◌, ◌<◌, ◌≤◌, true, if◌then◌else◌, Option, Some, None, length}
 use Rattle.rvm_debug.specs.declared.event.BoardEvent.{BoardEvent}
 use Rattle.rvm_frame.specs.declared.addressed.Addressed.{Addressed}
 use Rattle.rvm_frame.specs.declared.frame.Frame.{Frame}
@@ -7,11 +7,12 @@ use Rattle.rvm_frame.specs.Grammar.{HasSpelling, MayStand, sent, spelling}
 use Rattle.rvm_frame.specs.Kinds.{header_len, names_hosts}
 use Rattle.rvm_message.specs.Events.{BoardHostEvent}
 use Rattle.rvm_message.specs.Frames.{BoardFrame}
+use Rattle.rvm_message.specs.Replies.{is_refused_outright}
 use Rattle.rvm_protocol.specs.Commands.{Command, Board, Begin, Copy, Resend, AbortMove, Do, Came}
 use Rattle.rvm_protocol.specs.Frames.{Offer, State, Part, Ready, Go}
 use Rattle.rvm_protocol.specs.Host.{is_there}
 use Rattle.rvm_source.specs.Bounds.{body_bound}
-use Rattle.rvm_core.specs.Hosts.{PlainHost, is_sized}
+use Rattle.rvm_core.specs.Hosts.{PlainHost, is_sized, step_of}
 use Rattle.rvm_core.specs.Modes.{PlainMode, Leaving, Given, Held, Empty, Run, Staging}
 
 -- the most bytes of the body of the frame that a copy makes; None where it makes no frame
@@ -53,9 +54,11 @@ abbrev pub with_header : (version : ℕ) → Option ℕ → ℕ
 with_header version None = 0
 with_header version (Some n) = header_len (names_hosts (Some version)) + n
 
--- the most bytes of the frame that an event makes
+-- the most bytes of the frame that an event makes; a command that is refused makes none
 abbrev pub frame_bound : PlainHost → BoardHostEvent → ℕ
-frame_bound h e = with_header h.version (event_body h e)
+frame_bound h (Do c) =
+    if is_refused_outright (step_of h (Do c)).reply then 0 else with_header h.version (event_body h (Do c))
+frame_bound h (Came from f) = with_header h.version (event_body h (Came from f))
 
 -- no body is longer than that of any frame
 abbrev pub IsShort : Option ℕ → Type 0

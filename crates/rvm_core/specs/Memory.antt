@@ -1,12 +1,11 @@
--- Which events of a host may ask for memory. The others succeed or are refused, whatever memory there is.
+-- Which events of a host may ask for memory. The others succeed or are refused, whatever memory there is; and so is
+-- each of these that is refused outright.
 use Rattle.std.specs.Prelude.{Bool, true, false}
 use Rattle.rvm_debug.specs.declared.event.BoardEvent.{BoardEvent}
-use Rattle.rvm_debug.specs.declared.event.BoardReply.{BoardReply}
 use Rattle.rvm_message.specs.Events.{BoardHostEvent}
 use Rattle.rvm_message.specs.Frames.{BoardFrame}
 use Rattle.rvm_protocol.specs.Commands.{Command, Begin, Copy, Resend, Do, Came}
 use Rattle.rvm_protocol.specs.Frames.{Offer, Lost, State, Part}
-use Rattle.rvm_protocol.specs.Replies.{Reply, Refused, Ignored}
 
 -- a command
 abbrev pub asks_memory : Command BoardEvent → Bool
@@ -27,8 +26,3 @@ takes_memory f = false
 abbrev pub needs_memory : BoardHostEvent → Bool
 needs_memory (Do c) = asks_memory c
 needs_memory (Came from f) = takes_memory f
-
--- a frame is ignored: none of these asks for memory
-abbrev pub is_ignored : Reply BoardReply → Bool
-is_ignored (Refused Ignored) = true
-is_ignored reply = false

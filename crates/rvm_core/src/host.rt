@@ -3,6 +3,7 @@
 ghost use Rattle.std.specs.Prelude.{◌≡◌, ◌↔◌, ℕ, true, false, IfOk, IfErr, IsErr, OnErr, None};
 ghost use Rattle.rvm_message.specs.Events.{command_of, event_of};
 ghost use Rattle.rvm_message.specs.Exchanges.{dry_exchange, step_of_hart};
+ghost use Rattle.rvm_message.specs.Replies.{is_refused_outright};
 ghost use Rattle.rvm_message.specs.Steps.{reply_to_step};
 ghost use Rattle.rvm_message.specs.Frames.{BoardFrame, addressed_made, frame_heard, frame_made};
 ghost use Rattle.rvm_precopy.specs.Policies.{policy_of};
@@ -12,7 +13,7 @@ ghost use Rattle.rvm_protocol.specs.Frames.{plain, posted};
 ghost use Rattle.rvm_protocol.specs.Host.{is_heard, is_offer_above, is_there};
 ghost use Rattle.rvm_core.specs.Bounds.{CanBePosted, addressed, frame_bound};
 ghost use Rattle.rvm_core.specs.Hosts.{Steps, host_of, is_sized, new_host, partner_of, step_of, version_of};
-ghost use Rattle.rvm_core.specs.Memory.{asks_memory, is_ignored, needs_memory, takes_memory};
+ghost use Rattle.rvm_core.specs.Memory.{asks_memory, needs_memory, takes_memory};
 ghost use Rattle.rvm_core.specs.Retiring.{HostRetires};
 ghost use Rattle.rvm_core.specs.Turns.{HasLog, turned};
 
@@ -122,8 +123,8 @@ impl<M: PagedMemory + Drop> Host<M> {
     }
 
     /// What an event does: the reply, and the frame that was made, if one was. After a refused growth
-    /// nothing has changed; events of the guest, frames but Offer, Lost, State and Part, and each frame
-    /// that is ignored, take no memory.
+    /// nothing has changed. Events of the guest, and frames but Offer, Lost, State and Part, take no memory;
+    /// nor does any other event that is refused, but for a state that turns out to be bad.
     pub fn apply(
         &mut self,
         alloc: Global,
@@ -132,7 +133,8 @@ impl<M: PagedMemory + Drop> Host<M> {
         ensures steps { IfOk result (λ a. Steps self.old (event_of event.now) a self.new) }
         ensures err { OnErr result (self.new ≡ self.old) }
         ensures memory { OnErr result (needs_memory (event_of event.now) ≡ true) }
-        ensures heeded { OnErr result (is_ignored (step_of self.old (event_of event.now)).reply ≡ false) }
+        ensures refused { OnErr result
+            (is_refused_outright (step_of self.old (event_of event.now)).reply ≡ false) }
         ensures sent { IfOk result (λ a. CanBePosted self.old
             (frame_bound self.old (event_of event.now)) a.1) }
     {
@@ -152,6 +154,8 @@ impl<M: PagedMemory + Drop> Host<M> {
             a self.new) }
         ensures err { OnErr result (self.new ≡ self.old) }
         ensures memory { OnErr result (asks_memory (command_of command.now) ≡ true) }
+        ensures refused { OnErr result (is_refused_outright (step_of self.old
+            (commands.Do (command_of command.now))).reply ≡ false) }
         ensures sent { IfOk result (λ a. CanBePosted self.old
             (frame_bound self.old (commands.Do (command_of command.now))) a.1) }
     {
@@ -207,6 +211,8 @@ impl<M: PagedMemory + Drop> Host<M> {
         ensures steps { IfOk result (λ a. Steps self.old
             (commands.Do (commands.Begin to (policy_of policy))) a self.new) }
         ensures err { OnErr result (self.new ≡ self.old) }
+        ensures refused { OnErr result (is_refused_outright (step_of self.old
+            (commands.Do (commands.Begin to (policy_of policy)))).reply ≡ false) }
         ensures sent { IfOk result (λ a. CanBePosted self.old
             (frame_bound self.old (commands.Do (commands.Begin to (policy_of policy)))) a.1) }
     {
@@ -229,7 +235,7 @@ impl<M: PagedMemory + Drop> Host<M> {
             (commands.Came from (frame_heard frame.now)) a self.new) }
         ensures err { OnErr result (self.new ≡ self.old) }
         ensures memory { OnErr result (takes_memory (frame_heard frame.now) ≡ true) }
-        ensures heeded { OnErr result (is_ignored (step_of self.old
+        ensures refused { OnErr result (is_refused_outright (step_of self.old
             (commands.Came from (frame_heard frame.now))).reply ≡ false) }
         ensures sent { IfOk result (λ a. CanBePosted self.old
             (frame_bound self.old (commands.Came from (frame_heard frame.now))) a.1) }
@@ -252,10 +258,32 @@ impl<M: PagedMemory + Drop> Host<M> {
         }
     }
 
-    /// Of the frame that a command makes.
+    /// Whether a command is refused. Takes no memory.
+    pub fn refuses(&self, command: &Command) -> bool
+        ensures { result ≡ is_refused_outright (step_of self.now (commands.Do (command_of command.now))).reply }
+    {
+        if let Command::Begin { to, policy } = command {
+            return self.refuses_begin(*to, *policy);
+        }
+        self.mode.refuses(command)
+    }
+
+    /// Whether a move to a host is refused.
+    #[tactic(auto, using(crate::proofs::Refused::begin_refused))]
+    fn refuses_begin(&self, to: u8, policy: Policy) -> bool
+        ensures { result ≡ is_refused_outright
+            (step_of self.now (commands.Do (commands.Begin to (policy_of policy)))).reply }
+    {
+        (self.mode.runs() && !self.is_there(to)) || self.mode.refuses_begin(policy)
+    }
+
+    /// How long the frame that a command makes is at most; 0 where it makes none, as one that is refused does.
     pub fn command_bound(&self, command: &Command) -> usize
         ensures { result ≡ frame_bound self.now (commands.Do (command_of command.now)) }
     {
+        if self.refuses(command) {
+            return 0;
+        }
         with_header(self.version, self.mode.command_body(self.version, command))
     }
 

@@ -5,13 +5,14 @@ ghost use Rattle.rvm_guest.specs.TheGuest.{board};
 ghost use Rattle.rvm_message.specs.Answers.{Answers};
 ghost use Rattle.rvm_message.specs.Events.{command_of};
 ghost use Rattle.rvm_message.specs.Frames.{frame_heard};
+ghost use Rattle.rvm_message.specs.Replies.{is_refused_outright};
 ghost use Rattle.rvm_message.specs.Sendable.{CanBeSent};
 ghost use Rattle.rvm_protocol.specs.Frames.{plain};
 ghost use Rattle.rvm_protocol.specs.Modes.{move_of};
 ghost use Rattle.rvm_protocol.specs.Obeying as obeying;
 ghost use Rattle.rvm_protocol.specs.Receiving as receiving;
 ghost use Rattle.rvm_core.specs.Bounds.{HasNumber, came_body, command_body};
-ghost use Rattle.rvm_core.specs.Memory.{asks_memory, is_ignored, takes_memory};
+ghost use Rattle.rvm_core.specs.Memory.{asks_memory, takes_memory};
 ghost use Rattle.rvm_core.specs.Modes.{mode_of, plain_of, runs};
 
 use rvm_debug::Debugged;
@@ -118,6 +119,8 @@ impl<M: PagedMemory + Drop> Mode<M> {
             a (mode_of (plain_of self.new))) }
         ensures err { OnErr result (self.new ≡ self.old) }
         ensures memory { OnErr result (asks_memory (command_of command.now) ≡ true) }
+        ensures refused { OnErr result (is_refused_outright (obeying.obey board version
+            (command_of command.now) (mode_of (plain_of self.old))).reply ≡ false) }
         ensures sent { IfOk result (λ a. CanBeSent version
             (command_body version (plain_of self.old) (command_of command.now)) a.1) }
     {
@@ -144,7 +147,7 @@ impl<M: PagedMemory + Drop> Mode<M> {
             (mode_of (plain_of self.old))) a (mode_of (plain_of self.new))) }
         ensures err { OnErr result (self.new ≡ self.old) }
         ensures memory { OnErr result (takes_memory (frame_heard frame.now) ≡ true) }
-        ensures heeded { OnErr result (is_ignored (receiving.came board limit
+        ensures refused { OnErr result (is_refused_outright (receiving.came board limit
             (plain board (frame_heard frame.now)) (mode_of (plain_of self.old))).reply ≡ false) }
         ensures sent { IfOk result (λ a. (version : ℕ)
             → CanBeSent version (came_body (frame_heard frame.now)) a.1) }

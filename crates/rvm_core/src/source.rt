@@ -3,6 +3,8 @@
 ghost use Rattle.std.specs.Prelude.{◌≡◌, ◌<◌, ℕ, true, false, [], IfOk, OnErr, None, Some};
 ghost use Rattle.rvm_guest.specs.TheGuest.{board};
 ghost use Rattle.rvm_message.specs.Answers.{Answers};
+ghost use Rattle.rvm_message.specs.Events.{command_of};
+ghost use Rattle.rvm_message.specs.Replies.{is_refused_outright};
 ghost use Rattle.rvm_message.specs.Sendable.{CanBeSent};
 ghost use Rattle.rvm_message.specs.Steps.{reply_to_step};
 ghost use Rattle.rvm_message.specs.Exchanges.{dry_exchange};
@@ -15,7 +17,6 @@ ghost use Rattle.rvm_protocol.specs.Obeying as obeying;
 ghost use Rattle.rvm_protocol.specs.Receiving as receiving;
 ghost use Rattle.rvm_source.specs.Sources as sources;
 ghost use Rattle.rvm_core.specs.Bounds.{HasNumber, copy_body, resend_body};
-ghost use Rattle.rvm_core.specs.Memory.{is_ignored};
 ghost use Rattle.rvm_core.specs.Modes.{mode_of, plain_of};
 ghost use Rattle.rvm_core.specs.Retiring.{ModeRetires};
 ghost use Rattle.rvm_core.specs.Turns.{HasLog, turned};
@@ -25,7 +26,8 @@ use rvm_debug::{BoardEvent, BoardReply, DRAIN_SIZE, Debugged, NO_STEPS, Retired,
 use rvm_frame::Frame;
 use rvm_mem::PagedMemory;
 use rvm_message::{
-    Answer, HostRefusal, HostReply, NO_TURNS, StepReply, apply_event, step_guest, turn_guest,
+    Answer, Command, HostRefusal, HostReply, NO_TURNS, StepReply, apply_event, step_guest,
+    turn_guest,
 };
 use rvm_precopy::Policy;
 use rvm_source::Source;
@@ -100,10 +102,81 @@ impl<M: PagedMemory + Drop> Mode<M> {
         match self {
             Mode::Run { guest, .. } => guest.retire(turn, harts, count),
             Mode::Leaving(source) => source.retire(turn, harts, count),
-            Mode::Empty { .. }
-            | Mode::Given { .. }
-            | Mode::Staging { .. }
-            | Mode::Held { .. } => NO_STEPS,
+            Mode::Empty { .. } | Mode::Given { .. } | Mode::Staging { .. } | Mode::Held { .. } =>
+                NO_STEPS,
+        }
+    }
+
+    /// Whether a command is refused, but Begin where the guest runs, of which `refuses_begin` says it. Takes
+    /// no memory.
+    pub(crate) fn refuses(&self, command: &Command) -> bool
+        ensures { (version : ℕ) → result ≡ is_refused_outright
+            (obeying.obey board version (command_of command.now) (mode_of (plain_of self.now))).reply }
+    {
+        match command {
+            Command::Board(_) => self.refuses_events(),
+            Command::Begin { policy, .. } => self.refuses_begin(*policy),
+            Command::Copy => self.refuses_copy(),
+            Command::Resend => self.refuses_resend(),
+            Command::Abort => self.refuses_abort(),
+        }
+    }
+
+    /// Whether an event of the guest is refused.
+    fn refuses_events(&self) -> bool
+        ensures { (event : BoardEvent) → result
+            ≡ is_refused_outright (obeying.board board event (mode_of (plain_of self.now))).reply }
+    {
+        match self {
+            Mode::Run { .. } => false,
+            Mode::Leaving(source) => source.refuses_events(),
+            _ => true,
+        }
+    }
+
+    /// Whether Abort is refused.
+    #[tactic(auto, using(crate::proofs::Refused::leaving_aborts))]
+    fn refuses_abort(&self) -> bool
+        ensures { result ≡ is_refused_outright (obeying.abort board (mode_of (plain_of self.now))).reply }
+    {
+        match self {
+            Mode::Leaving(_) => false,
+            _ => true,
+        }
+    }
+
+    /// Whether a move is refused.
+    #[tactic(auto, using(crate::proofs::Refused::run_begins, crate::proofs::Refused::leaving_busy))]
+    pub(crate) fn refuses_begin(&self, policy: Policy) -> bool
+        ensures { result ≡ is_refused_outright
+            (obeying.begin board (policy_of policy) (mode_of (plain_of self.now))).reply }
+    {
+        match self {
+            Mode::Run { move_number, .. } => !policy.is_allowed() || *move_number == u64::MAX,
+            _ => true,
+        }
+    }
+
+    /// Whether Copy is refused.
+    fn refuses_copy(&self) -> bool
+        ensures { (version : ℕ) → result
+            ≡ is_refused_outright (obeying.copy board version (mode_of (plain_of self.now))).reply }
+    {
+        match self {
+            Mode::Leaving(source) => source.refuses_copy(),
+            _ => true,
+        }
+    }
+
+    /// Whether Resend is refused.
+    fn refuses_resend(&self) -> bool
+        ensures { (version : ℕ) → result
+            ≡ is_refused_outright (obeying.resend board version (mode_of (plain_of self.now))).reply }
+    {
+        match self {
+            Mode::Leaving(source) => source.refuses_resend(),
+            Mode::Given { .. } | Mode::Held { .. } => false,
+            _ => true,
         }
     }
 
@@ -113,6 +186,8 @@ impl<M: PagedMemory + Drop> Mode<M> {
             (obeying.begin board (policy_of policy) (mode_of (plain_of self.old)))
             a (mode_of (plain_of self.new))) }
         ensures err { OnErr result (self.new ≡ self.old) }
+        ensures refused { OnErr result (is_refused_outright
+            (obeying.begin board (policy_of policy) (mode_of (plain_of self.old))).reply ≡ false) }
         ensures sent { IfOk result (λ a. (version : ℕ) → CanBeSent version (Some 3) a.1) }
     {
         match self.take() {
@@ -134,6 +209,8 @@ impl<M: PagedMemory + Drop> Mode<M> {
             (obeying.begin board (policy_of policy) (protocol.Run move_number guest.guest))
             a (mode_of (plain_of self.new))) }
         ensures err { OnErr result (self.new ≡ Mode.Run move_number guest) }
+        ensures refused { OnErr result (is_refused_outright
+            (obeying.begin board (policy_of policy) (protocol.Run move_number guest.guest)).reply ≡ false) }
         ensures sent { IfOk result (λ a. (version : ℕ) → CanBeSent version (Some 3) a.1) }
     {
         if !policy.is_allowed() {
@@ -162,6 +239,8 @@ impl<M: PagedMemory + Drop> Mode<M> {
             (obeying.copy board version (mode_of (plain_of self.old)))
             a (mode_of (plain_of self.new))) }
         ensures err { OnErr result (self.new ≡ self.old) }
+        ensures refused { OnErr result (is_refused_outright
+            (obeying.copy board version (mode_of (plain_of self.old))).reply ≡ false) }
         ensures sent { IfOk result (λ a. CanBeSent version (copy_body version (plain_of self.old)) a.1) }
     {
         match self {
@@ -178,6 +257,8 @@ impl<M: PagedMemory + Drop> Mode<M> {
             (obeying.resend board version (mode_of (plain_of self.old)))
             a (mode_of (plain_of self.new))) }
         ensures err { OnErr result (self.new ≡ self.old) }
+        ensures refused { OnErr result (is_refused_outright
+            (obeying.resend board version (mode_of (plain_of self.old))).reply ≡ false) }
         ensures sent { IfOk result (λ a. CanBeSent version (resend_body version (plain_of self.old)) a.1) }
     {
         match self {
@@ -260,7 +341,7 @@ impl<M: PagedMemory + Drop> Mode<M> {
             (mode_of (plain_of self.old)))
             (r, None) (mode_of (plain_of self.new))) }
         ensures err { OnErr result (self.new ≡ self.old) }
-        ensures heeded { OnErr result ((limit : ℕ) → is_ignored (receiving.came board limit
+        ensures refused { OnErr result ((limit : ℕ) → is_refused_outright (receiving.came board limit
             (frames.Lost move_number pages.now) (mode_of (plain_of self.old))).reply ≡ false) }
     {
         match self {

@@ -3,6 +3,7 @@
 ghost use Rattle.std.specs.Prelude.{◌≡◌, ◌≤◌, ◌<◌, ℕ, false, if◌then◌else◌, IfOk, OnErr, None, Some};
 ghost use Rattle.rvm_guest.specs.TheGuest.{board};
 ghost use Rattle.rvm_message.specs.Answers.{Answers, BoardOutcome};
+ghost use Rattle.rvm_message.specs.Replies.{is_refused_outright};
 ghost use Rattle.rvm_message.specs.Sendable.{CanBeSent};
 ghost use Rattle.rvm_protocol.specs.Frames as frames;
 ghost use Rattle.rvm_protocol.specs.Modes as protocol;
@@ -11,7 +12,6 @@ ghost use Rattle.rvm_protocol.specs.Receiving as receiving;
 ghost use Rattle.rvm_handover.specs.Outcomes.{CanBeTold, IsLeft};
 ghost use Rattle.rvm_handover.specs.Pieces.{IsPartLeft, PartCanBeTold};
 ghost use Rattle.rvm_handover.specs.Stages.{PlainStage, stage_of};
-ghost use Rattle.rvm_core.specs.Memory.{is_ignored};
 ghost use Rattle.rvm_core.specs.Modes.{is_held, mode_of, plain_of, takes_part};
 
 use crate::mode::Mode;
@@ -41,7 +41,7 @@ impl<M: PagedMemory + Drop> Mode<M> {
             (receiving.came board limit (frames.Offer move_number pages harts)
             (mode_of (plain_of self.old))) a (mode_of (plain_of self.new))) }
         ensures err { OnErr result (self.new ≡ self.old) }
-        ensures heeded { OnErr result (is_ignored (receiving.came board limit
+        ensures refused { OnErr result (is_refused_outright (receiving.came board limit
             (frames.Offer move_number pages harts) (mode_of (plain_of self.old))).reply ≡ false) }
         ensures sent { IfOk result (λ a. (version : ℕ) → CanBeSent version (Some 2) a.1) }
     {
@@ -79,7 +79,7 @@ impl<M: PagedMemory + Drop> Mode<M> {
             (receiving.offer_above board (move_of (mode_of (plain_of self.old))) limit move_number
             pages harts (mode_of (plain_of self.old))) a (mode_of (plain_of self.new))) }
         ensures err { OnErr result (self.new ≡ self.old) }
-        ensures heeded { OnErr result (is_ignored (receiving.offer_above board
+        ensures refused { OnErr result (is_refused_outright (receiving.offer_above board
             (move_of (mode_of (plain_of self.old))) limit move_number pages harts
             (mode_of (plain_of self.old))).reply ≡ false) }
         ensures sent { IfOk result (λ a. (version : ℕ) → CanBeSent version (Some 2) a.1) }
@@ -175,7 +175,7 @@ impl<M: PagedMemory + Drop> Mode<M> {
             (receiving.came board limit (frames.State move_number numbers.now bytes.now)
             (mode_of (plain_of self.old))) a (mode_of (plain_of self.new))) }
         ensures err { OnErr result (self.new ≡ self.old) }
-        ensures heeded { OnErr result ((limit : ℕ) → is_ignored (receiving.came board limit
+        ensures refused { OnErr result ((limit : ℕ) → is_refused_outright (receiving.came board limit
             (frames.State move_number numbers.now bytes.now) (mode_of (plain_of self.old))).reply ≡ false) }
         ensures sent { IfOk result (λ a. (version : ℕ) → CanBeSent version (Some 8194) a.1) }
     {
@@ -223,7 +223,7 @@ impl<M: PagedMemory + Drop> Mode<M> {
             (receiving.came board limit (frames.Part move_number stamp part parts bytes.now)
             (mode_of (plain_of self.old))) a (mode_of (plain_of self.new))) }
         ensures err { OnErr result (self.new ≡ self.old) }
-        ensures heeded { OnErr result ((limit : ℕ) → is_ignored (receiving.came board limit
+        ensures refused { OnErr result ((limit : ℕ) → is_refused_outright (receiving.came board limit
             (frames.Part move_number stamp part parts bytes.now) (mode_of (plain_of self.old))).reply ≡ false) }
         ensures sent { IfOk result (λ a. (version : ℕ) → CanBeSent version (Some 8194) a.1) }
     {

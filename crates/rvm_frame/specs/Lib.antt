@@ -8,3 +8,4 @@ pub mod Verdict
 pub mod Unfinished
 pub mod Reader
 pub mod Stream
+pub mod Keeping

@@ -2,3 +2,4 @@ pub mod Derived
 pub mod Logs
 pub mod Same
 pub mod Dry
+pub mod Refusing

@@ -1,5 +1,5 @@
 -- Events of hosts as the law of live migration has them.
-use Rattle.std.specs.Prelude.{ℕ, List}
+use Rattle.std.specs.Prelude.{ℕ, Bool, true, false, List}
 use Rattle.rvm_debug.specs.declared.event.BoardEvent.{BoardEvent}
 use Rattle.rvm_precopy.specs.Policies.{policy_of}
 use Rattle.rvm_protocol.specs.Commands as protocol
@@ -25,3 +25,8 @@ command_of command.Abort = protocol.AbortMove
 abbrev pub event_of : HostEvent → BoardHostEvent
 event_of (event.Do c) = protocol.Do (command_of c)
 event_of (event.Came from f) = protocol.Came from (frame_heard f)
+
+-- a frame comes
+abbrev pub is_frame : HostEvent → Bool
+is_frame (event.Do c) = false
+is_frame (event.Came from f) = true

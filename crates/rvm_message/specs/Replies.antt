@@ -1,5 +1,5 @@
 -- Replies of hosts as the law of live migration has them.
-use Rattle.std.specs.Prelude.{Bool, true}
+use Rattle.std.specs.Prelude.{Bool, true, false}
 use Rattle.rvm_debug.specs.declared.event.BoardReply.{BoardReply}
 use Rattle.rvm_debug.specs.Events as events
 use Rattle.rvm_protocol.specs.Replies as protocol
@@ -53,3 +53,15 @@ reply_of (reply.Refused why) = protocol.Refused (refusal_of why)
 abbrev pub ends_steps : protocol.Reply BoardReply → Bool
 ends_steps (protocol.Answered answer) = events.ends_steps answer
 ends_steps r = true
+
+-- a refusal that is known before any memory is asked for. BadState is none: a whole state is read first, and its pieces
+-- are joined
+abbrev pub is_refused_outright : protocol.Reply BoardReply → Bool
+is_refused_outright (protocol.Refused protocol.BadState) = false
+is_refused_outright (protocol.Refused why) = true
+is_refused_outright r = false
+
+-- no copy number is left
+abbrev pub is_seq_spent : protocol.Reply BoardReply → Bool
+is_seq_spent (protocol.Refused protocol.SeqSpent) = true
+is_seq_spent r = false

@@ -1,6 +1,7 @@
 //! What happens at a host.
 
-ghost use Rattle.std.specs.Prelude.{◌≡◌, IfOk};
+ghost use Rattle.std.specs.Prelude.{◌≡◌, true, IfOk, OnErr};
+ghost use Rattle.rvm_message.specs.Events.{is_frame};
 
 use crate::shared::Shared;
 use rvm_debug::BoardEvent;
@@ -51,9 +52,11 @@ impl Command {
 }
 
 impl HostEvent {
-    /// The same event again. A frame has one more owner then; this takes no memory.
+    /// The same event again. A frame has one more owner then, which takes no memory, and fails only where it
+    /// has more owners than can be counted.
     pub fn copy(&self) -> Result<HostEvent, AllocError>
-        ensures { IfOk result (λ copy. copy ≡ self.now) }
+        ensures copy { IfOk result (λ copy. copy ≡ self.now) }
+        ensures err { OnErr result (is_frame self.now ≡ true) }
     {
         match self {
             HostEvent::Do(command) => Ok(HostEvent::Do(command.copy())),

@@ -2,3 +2,4 @@ pub mod Coverage
 pub mod Lowest
 pub mod Scans
 pub mod Ties
+pub mod Spent

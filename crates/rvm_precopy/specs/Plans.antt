@@ -216,3 +216,13 @@ last_next_of r = with_last r (last_found r)
 -- with these pages reported lost
 abbrev pub lost : List Bool → Plan → Plan
 lost pages r = record r { to_fix = union r.to_fix pages }
+
+-- a turn found a page, and no copy number is left for it
+abbrev pub is_spent : Next → Bool
+is_spent next.SeqSpent = true
+is_spent answer = false
+
+-- the same of a paused guest
+abbrev pub is_last_spent : LastNext → Bool
+is_last_spent last.SeqSpent = true
+is_last_spent answer = false

@@ -2,7 +2,7 @@
 
 ghost use Rattle.std.specs.Prelude.{◌≡◌, ◌≤◌, ◌<◌, length, replicate, IfOk, IfSome, Option, option_map, is_some, true, false, Some};
 ghost use Rattle.rvm_protocol.specs.Commands.{is_allowed};
-ghost use Rattle.rvm_precopy.specs.Plans.{IsPlanOf, begun, copied_if, found, last_found, last_next_of, lost, next_of, opened, peek, round_ended, stopping, stops, with_last};
+ghost use Rattle.rvm_precopy.specs.Plans.{IsPlanOf, begun, copied_if, found, is_last_spent, is_spent, last_found, last_next_of, lost, next_of, opened, peek, round_ended, stopping, stops, with_last};
 ghost use Rattle.rvm_precopy.specs.Policies.{policy_of};
 
 use crate::policy::Policy;
@@ -180,6 +180,25 @@ impl Rounds {
         }
     }
 
+    /// Whether `next` answers `SeqSpent`: this round copies another page, and no copy number is left. Takes no
+    /// memory.
+    #[tactic(auto, using(crate::proofs::Spent::spent_turn))]
+    pub fn is_spent<L: DirtyLog>(&self, log: &L) -> bool
+        requires { length (L.log log.now) ≡ length self.now.to_send }
+        ensures { result ≡ is_spent (next_of (L.log log.now) self.now).answer }
+    {
+        !self.stop && self.copies == u32::MAX && self.finds(log)
+    }
+
+    /// Whether this round copies another page.
+    #[tactic(auto, using(crate::proofs::Spent::some_mapped))]
+    fn finds<L: DirtyLog>(&self, log: &L) -> bool
+        requires { length (L.log log.now) ≡ length self.now.to_send }
+        ensures { result ≡ is_some (found (L.log log.now) self.now) }
+    {
+        self.find(log).is_some()
+    }
+
     /// The guest is paused: the dirty log is the last round's pages.
     fn pause<L: DirtyLog>(&mut self, log: &mut L)
         requires { length (L.log log.old) ≡ length self.old.to_send }
@@ -261,6 +280,15 @@ impl Rounds {
             Some(page) => self.copy_last(page),
             None => LastNext::NothingLeft,
         }
+    }
+
+    /// Whether `next_last` answers `SeqSpent`: a page is left to be copied, and no copy number is. Takes no
+    /// memory.
+    #[tactic(auto, using(crate::proofs::Spent::spent_last))]
+    pub fn is_last_spent(&self) -> bool
+        ensures { result ≡ is_last_spent (last_next_of self.now).answer }
+    {
+        self.copies == u32::MAX && self.is_left()
     }
 
     /// The lowest page that is still to be copied.

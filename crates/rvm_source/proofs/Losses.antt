@@ -118,7 +118,7 @@ none_or : (version n : ℕ) (l : Last Guest) (o : Option ℕ) → is_some o ≡ 
 none_or version n l None h = refl
 none_or version n l (Some p) h = absurd (cc)
 
-resend_is : (version pages turn : ℕ) (s : PlainSource) → HasPages pages s → s.phase ≡ phases.Stopped turn
+pub resend_is : (version pages turn : ℕ) (s : PlainSource) → HasPages pages s → s.phase ≡ phases.Stopped turn
     → resend board version (mode_of s) ≡ resend_last board version s.move_number (last_of s.guest.guest turn s.plan) (last_found s.plan)
 resend_is version pages turn s h phase =
     ap (λ f. resend board version (mode_in s.move_number s.guest s.plan f)) phase

@@ -1,6 +1,6 @@
 //! The source of a move.
 
-ghost use Rattle.std.specs.Prelude.{◌≡◌, [], ◌≤◌, ◌<◌, ◌&&◌, ℕ, length, nat_lt, true, IfOk, IfErr, OnErr, None, Some};
+ghost use Rattle.std.specs.Prelude.{◌≡◌, [], ◌≤◌, ◌<◌, ◌&&◌, ℕ, length, nat_lt, true, false, IfOk, IfErr, OnErr, None, Some};
 ghost use Rattle.rvm_mem.specs.Pages.{has};
 ghost use Rattle.rvm_protocol.specs.Commands.{is_allowed};
 ghost use Rattle.rvm_protocol.specs.Frames as frames;
@@ -14,6 +14,7 @@ ghost use Rattle.rvm_guest.specs.Pages.{count_of};
 ghost use Rattle.rvm_guest.specs.TheGuest.{board};
 ghost use Rattle.rvm_message.specs.Answers.{Answers};
 ghost use Rattle.rvm_message.specs.Frames.{frame_made, frame_of};
+ghost use Rattle.rvm_message.specs.Replies.{is_refused_outright, is_seq_spent};
 ghost use Rattle.rvm_message.specs.Sendable.{CanBeSent};
 ghost use Rattle.rvm_message.specs.Steps.{reply_to_step};
 ghost use Rattle.rvm_debug.specs.declared.event.BoardEvent.TheVariants.{Step};
@@ -239,15 +240,67 @@ impl<M: PagedMemory> Source<M> {
         HostReply::Open
     }
 
+    /// Whether Copy is refused: the move is offered, or no copy number is left for the page that is due.
+    /// Takes no memory.
+    pub fn refuses_copy(&self) -> bool
+        ensures { (version : ℕ) → result
+            ≡ is_refused_outright (obeying.copy board version (mode_of self.now)).reply }
+    {
+        match self.phase {
+            Phase::Offering => true,
+            Phase::Copying | Phase::Stopped { .. } => self.is_spent(),
+        }
+    }
+
+    /// Whether Resend is refused: a page is still to be copied, while the guest runs or once it is paused.
+    /// Takes no memory.
+    pub fn refuses_resend(&self) -> bool
+        ensures { (version : ℕ) → result
+            ≡ is_refused_outright (obeying.resend board version (mode_of self.now)).reply }
+    {
+        let _pages = self.pages();
+        match self.phase {
+            Phase::Offering => false,
+            Phase::Copying => true,
+            Phase::Stopped { .. } => self.rounds.is_left(),
+        }
+    }
+
+    /// Whether an event of the guest is refused: the guest is paused.
+    pub fn refuses_events(&self) -> bool
+        ensures { (event : BoardEvent) → result
+            ≡ is_refused_outright (obeying.board board event (mode_of self.now)).reply }
+    {
+        matches!(self.phase, Phase::Stopped { .. })
+    }
+
+    /// Whether a page is due, and no copy number is left for it.
+    fn is_spent(&self) -> bool
+        ensures { (version : ℕ) → result
+            ≡ is_seq_spent (obeying.copy board version (mode_of self.now)).reply }
+    {
+        let _pages = self.pages();
+        match self.phase {
+            Phase::Offering => false,
+            Phase::Copying => self.rounds.is_spent(&self.guest),
+            Phase::Stopped { .. } => self.rounds.is_last_spent(),
+        }
+    }
+
     /// The next copy of a page is made, or the next step of the move, for a stream of this version.
-    /// After a refused growth nothing has changed.
+    /// After a refused growth nothing has changed; a copy that is refused asks for no memory.
     pub fn copy(&mut self, alloc: Global, version: u32) -> Result<Answer, AllocError>
         ensures answer { IfOk result (λ a. Answers version
             (obeying.copy board version (mode_of self.old)) a (mode_of self.new)) }
         ensures err { OnErr result (self.new ≡ self.old) }
+        ensures refused { OnErr result
+            (is_refused_outright (obeying.copy board version (mode_of self.old)).reply ≡ false) }
         ensures sent { IfOk result (λ a. CanBeSent version
             (Some (body_bound version self.old)) a.1) }
     {
+        if self.is_spent() {
+            return Ok(HostReply::refused(HostRefusal::SeqSpent));
+        }
         match self.phase {
             Phase::Offering => Ok(HostReply::refused(HostRefusal::Busy)),
             Phase::Copying => self.copy_running(alloc, version),
@@ -257,10 +310,13 @@ impl<M: PagedMemory> Source<M> {
 
     /// A copy of the guest while it runs.
     fn copy_running(&mut self, alloc: Global, version: u32) -> Result<Answer, AllocError>
-        requires { self.old.phase ≡ Phase.Copying }
+        requires phase { self.old.phase ≡ Phase.Copying }
+        requires left { is_seq_spent (obeying.copy board version (mode_of self.old)).reply ≡ false }
         ensures answer { IfOk result (λ a. Answers version
             (obeying.copy board version (mode_of self.old)) a (mode_of self.new)) }
         ensures err { OnErr result (self.new ≡ self.old) }
+        ensures refused { OnErr result
+            (is_refused_outright (obeying.copy board version (mode_of self.old)).reply ≡ false) }
         ensures sent { IfOk result (λ a. CanBeSent version
             (Some (body_bound version self.old)) a.1) }
     {
@@ -293,10 +349,13 @@ impl<M: PagedMemory> Source<M> {
 
     /// A copy of the guest once it is paused.
     fn copy_paused(&mut self, alloc: Global, version: u32, turn: u8) -> Result<Answer, AllocError>
-        requires { self.old.phase ≡ Phase.Stopped turn }
+        requires phase { self.old.phase ≡ Phase.Stopped turn }
+        requires left { is_seq_spent (obeying.copy board version (mode_of self.old)).reply ≡ false }
         ensures answer { IfOk result (λ a. Answers version
             (obeying.copy board version (mode_of self.old)) a (mode_of self.new)) }
         ensures err { OnErr result (self.new ≡ self.old) }
+        ensures refused { OnErr result
+            (is_refused_outright (obeying.copy board version (mode_of self.old)).reply ≡ false) }
         ensures sent { IfOk result (λ a. CanBeSent version
             (Some (body_bound version self.old)) a.1) }
     {
@@ -318,11 +377,14 @@ impl<M: PagedMemory> Source<M> {
     }
 
     /// The last frame of this phase is sent again, for a stream of this version; in versions 2 and 3
-    /// the next piece of the state. After a refused growth nothing has changed.
+    /// the next piece of the state. After a refused growth nothing has changed; nothing that is refused asks
+    /// for memory.
     pub fn resend(&mut self, alloc: Global, version: u32) -> Result<Answer, AllocError>
         ensures answer { IfOk result (λ a. Answers version
             (obeying.resend board version (mode_of self.old)) a (mode_of self.new)) }
         ensures err { OnErr result (self.new ≡ self.old) }
+        ensures refused { OnErr result
+            (is_refused_outright (obeying.resend board version (mode_of self.old)).reply ≡ false) }
         ensures sent { IfOk result (λ a. CanBeSent version
             (Some (body_bound version self.old)) a.1) }
     {
@@ -339,6 +401,8 @@ impl<M: PagedMemory> Source<M> {
         ensures answer { IfOk result (λ a. Answers version
             (obeying.resend board version (mode_of self.old)) a (mode_of self.new)) }
         ensures err { OnErr result (self.new ≡ self.old) }
+        ensures refused { OnErr result
+            (is_refused_outright (obeying.resend board version (mode_of self.old)).reply ≡ false) }
         ensures sent { IfOk result (λ a. CanBeSent version
             (Some (body_bound version self.old)) a.1) }
     {
@@ -364,6 +428,8 @@ impl<M: PagedMemory> Source<M> {
             (receiving.came board limit (frames.Lost move_number pages.now) (mode_of self.old))
             (r, None) (mode_of self.new)) }
         ensures err { OnErr result (self.new ≡ self.old) }
+        ensures refused { OnErr result ((limit : ℕ) → is_refused_outright (receiving.came board limit
+            (frames.Lost move_number pages.now) (mode_of self.old)).reply ≡ false) }
     {
         if !self.is_stopped(move_number) {
             return Ok(HostReply::Refused(HostRefusal::Ignored));

@@ -13,5 +13,5 @@ returns c =
     in
     placed c.args.version c.args.side c.args.from c.args.frame.now (places_of c.args.others.now) _ c.as_slice.result.now c.lookup.result from_is
     (c.has_spelling.ensures.0 is)
-    (is_coming c.args.side c.args.from c.number-2.result c.args.frame.now c.in_ok-copy.field-0 from_is c.number-2.ensures c.in_ok-copy.ensures)
+    (is_coming c.args.side c.args.from c.number-2.result c.args.frame.now c.in_ok-copy.field-0 from_is c.number-2.ensures c.in_ok-copy.ensures.copy)
     (c.as_slice.ensures.value ∙ c.in_ok-bytes.ensures) c.lookup.ensures

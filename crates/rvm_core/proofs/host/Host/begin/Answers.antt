@@ -7,11 +7,14 @@ use Rattle.rvm_precopy.specs.Policies.{policy_of}
 use Rattle.rvm_protocol.specs.Commands as commands
 use Rattle.rvm_protocol.specs.Host.{is_there}
 use Rattle.rvm_core.specs.Bounds.{CanBePosted, frame_bound}
-use Rattle.rvm_core.specs.Hosts.{PlainHost, Steps}
+use Rattle.rvm_core.specs.Hosts.{PlainHost, Steps, step_of}
 use Rattle.rvm_core.specs.Modes.{plain_of, runs}
 use Rattle.rvm_core.proofs.Moves.{host_stays}
 use Rattle.rvm_core.proofs.Postings.{host_posts}
 use Rattle.rvm_core.proofs.Settling.{begin_steps, not_running, target_there}
+use Rattle.rvm_core.proofs.Refused.{begin_not_refused}
+use Rattle.rvm_core.proofs.Targets.{on_err}
+use Rattle.rvm_message.specs.Replies.{is_refused_outright}
 use Rattle.rvm_core.proofs.host.Host.begin.Given.{Over}
 use Rattle.rvm_core.proofs.host.Host.begin.Goals.{else-runs-via-then-runs+else-not-is_there, else-runs-via-else-runs}
 use Rattle.rvm_core.proofs.host.Host.begin.Goals as goal
@@ -58,3 +61,21 @@ returns-clause-sent g c =
 pub invariant_of-self-2 : goal.invariant_of-self-2
 invariant_of-self-2 g c =
     host_stays (before g c) c.self.invariant (after g c) (event g c) (c.in_ok-reply.reply, c.addressed.result) (steps g c)
+
+pub returns-in_err-reply-clause-refused : goal.returns-in_err-reply-clause-refused
+returns-in_err-reply-clause-refused g c =
+    let f = c.self.inside in
+    let to = c.args.to in
+    let policy = policy_of c.args.policy in
+    let e = commands.Do (commands.Begin to policy) in
+    let before : PlainHost = record { mode = plain_of f.mode; partner = f.partner; id = f.id; count = f.count; limit = f.limit; version = f.version } in
+    let clear : (runs (plain_of f.mode) && not (is_there f.id f.count to)) ≡ false =
+    elim c.else-runs.branch [
+      | else-runs-via-then-runs+else-not-is_there w ↦
+          target_there (runs (plain_of f.mode)) (is_there f.id f.count to)
+          (sym (w.if-not-is_there.ensures ∙ ap (λ (h : PlainHost). is_there h.id h.count to) (sym c.self.view_is)))
+      | else-runs-via-else-runs w ↦ not_running (runs (plain_of f.mode)) (not (is_there f.id f.count to)) (sym w.if-runs.ensures)
+    ] in
+    on_err c.from_residual.result (is_refused_outright (step_of c.args.self.now e).reply ≡ false)
+    (subst (λ (h : PlainHost). is_refused_outright (step_of h e).reply ≡ false) c.self.view_is
+    (begin_not_refused before to policy clear c.in_err-reply.ensures.refused))

@@ -102,26 +102,26 @@ returns-in-Part-clause-answer g c =
 pub returns-in-Part-clause-sent : goal.returns-in-Part-clause-sent
 returns-in-Part-clause-sent g c = if_answer_sent c.in-Part.is c.if-not-can_come.ensures c.part.result c.part.ensures.sent
 
-pub returns-in-State-clause-heeded : goal.returns-in-State-clause-heeded
-returns-in-State-clause-heeded g c =
+pub returns-in-State-clause-refused : goal.returns-in-State-clause-refused
+returns-in-State-clause-refused g c =
     let n = c.in-State.move_number in
     let mode = mode_of (plain_of c.args.self.now) in
     err_heeded c.args.limit c.args.frame.now (frames.State n c.as_slice-in-State.result.now c.as_slice-in-State-2.result.now) mode mode
     (as_it_is c.in-State.is c.if-not-can_come.ensures ∙ (λ i. frames.State n (sym c.as_slice-in-State.ensures i) (sym c.as_slice-in-State-2.ensures i)))
-    c.state.result c.state.ensures.heeded
+    c.state.result c.state.ensures.refused
 
-pub returns-in-Part-clause-heeded : goal.returns-in-Part-clause-heeded
-returns-in-Part-clause-heeded g c =
+pub returns-in-Part-clause-refused : goal.returns-in-Part-clause-refused
+returns-in-Part-clause-refused g c =
     let mode = mode_of (plain_of c.args.self.now) in
     err_heeded c.args.limit c.args.frame.now (frames.Part c.in-Part.move_number c.in-Part.stamp c.in-Part.part c.in-Part.parts c.in-Part.bytes) mode mode
-    (as_it_is c.in-Part.is c.if-not-can_come.ensures) c.part.result c.part.ensures.heeded
+    (as_it_is c.in-Part.is c.if-not-can_come.ensures) c.part.result c.part.ensures.refused
 
-pub returns-in_err-lost-in-Lost-clause-heeded : goal.returns-in_err-lost-in-Lost-clause-heeded
-returns-in_err-lost-in-Lost-clause-heeded g c =
+pub returns-in_err-lost-in-Lost-clause-refused : goal.returns-in_err-lost-in-Lost-clause-refused
+returns-in_err-lost-in-Lost-clause-refused g c =
     let n = c.in-Lost.move_number in
     let limit = c.args.limit in
     let mode = mode_of (plain_of c.args.self.now) in
     on_err c.from_residual.result (Heeds (came board limit (heard c.args.frame.now) mode))
     (so_heeded limit c.args.frame.now (frames.Lost n c.as_slice.result.now) mode mode
     (as_it_is c.in-Lost.is c.if-not-can_come.ensures ∙ ap (λ ps. frames.Lost n ps) (sym c.as_slice.ensures))
-    (c.in_err-lost-in-Lost.ensures.heeded limit))
+    (c.in_err-lost-in-Lost.ensures.refused limit))

@@ -1,10 +1,10 @@
-use Rattle.std.proofs.Common.{rules, ◌≡◌, ◌∙◌, ◌<◌, ap, sym, subst, refl, arith}
+use Rattle.std.proofs.Common.{rules, ◌≡◌, ◌∙◌, ◌<◌, false, ap, sym, subst, refl, arith}
 use Rattle.rvm_protocol.specs.Obeying.{copy}
 use Rattle.rvm_precopy.specs.declared.rounds.LastNext.TheVariants as last
 use Rattle.rvm_guest.specs.TheGuest.{board}
 use Rattle.rvm_message.specs.Answers.{Answers}
 use Rattle.rvm_message.specs.Frames.{frame_made}
-use Rattle.rvm_message.specs.Replies.{reply_of}
+use Rattle.rvm_message.specs.Replies.{is_refused_outright, reply_of}
 use Rattle.rvm_source.specs.declared.phase.Phase.TheVariants as phases
 use Rattle.rvm_source.specs.Sources.{HasPages, HasTurn, IsCovered, PlainSource, mode_in, mode_of}
 use Rattle.rvm_precopy.specs.Plans.{last_found}
@@ -12,6 +12,7 @@ use Rattle.rvm_source.proofs.Covering.{last_turn_is, next_last_covered}
 use Rattle.rvm_source.proofs.Sendings.{state_in_bound}
 use Rattle.rvm_source.proofs.Turns.{on_err, paused, below, first_turn, fits_last, range_last}
 use Rattle.rvm_source.proofs.source.Source.copy_paused.Goals as goal
+use Rattle.rvm_source.proofs.Refusing.{paused_refused}
 
 pub overflow_cast-page : goal.overflow_cast-page
 overflow_cast-page g c =
@@ -32,7 +33,7 @@ copied-requires-clause-page g c =
 pub invariant_of-self : goal.invariant_of-self
 invariant_of-self g c =
     let h = subst (HasPages c.pages-pages.result) (sym c.self.view_is) c.pages-pages.ensures in
-    let phase = ap (λ (s : PlainSource). s.phase) c.self.view_is ∙ c.requires in (
+    let phase = ap (λ (s : PlainSource). s.phase) c.self.view_is ∙ c.requires.phase in (
       c.self.invariant.0,
       (
         fits_last c.pages-pages.result _ c.next_last.new.self h c.next_last.ensures.plan,
@@ -66,7 +67,7 @@ send_state-requires-clause-size g c =
 pub send_state-requires-clause-covered : goal.send_state-requires-clause-covered
 send_state-requires-clause-covered g c =
     let h = subst (HasPages c.pages-pages.result) (sym c.self.view_is) c.pages-pages.ensures in
-    let phase = ap (λ (s : PlainSource). s.phase) c.self.view_is ∙ c.requires in
+    let phase = ap (λ (s : PlainSource). s.phase) c.self.view_is ∙ c.requires.phase in
     next_last_covered c.pages-pages.result c.args.turn _ c.next_last.new.self h phase c.self.invariant.1.1.1
     c.next_last.ensures.plan
 
@@ -80,7 +81,7 @@ send_state-requires-clause-copied g c =
 pub send_state-requires-clause-turn : goal.send_state-requires-clause-turn
 send_state-requires-clause-turn g c =
     let h = subst (HasPages c.pages-pages.result) (sym c.self.view_is) c.pages-pages.ensures in
-    let phase = ap (λ (s : PlainSource). s.phase) c.self.view_is ∙ c.requires in
+    let phase = ap (λ (s : PlainSource). s.phase) c.self.view_is ∙ c.requires.phase in
     let same = range_last c.pages-pages.result _ c.next_last.new.self last.NothingLeft h c.in-NothingLeft.ensures.answer c.next_last.ensures.plan in
     subst (λ f. HasTurn f c.self.inside.guest c.next_last.new.self) phase
     (subst (HasTurn c.self.inside.phase c.self.inside.guest) (sym same) c.self.invariant.1.1.0)
@@ -122,7 +123,7 @@ invariant_of-self-in-NothingLeft-1 g c =
 pub returns-in-Copied-clause-answer : goal.returns-in-Copied-clause-answer
 returns-in-Copied-clause-answer g c =
     let h = subst (HasPages c.pages-pages.result) (sym c.self.view_is) c.pages-pages.ensures in
-    let phase = ap (λ (s : PlainSource). s.phase) c.self.view_is ∙ c.requires in
+    let phase = ap (λ (s : PlainSource). s.phase) c.self.view_is ∙ c.requires.phase in
     subst (λ (s : PlainSource). Answers c.args.version (copy board c.args.version (mode_of s)) c.copied.result (mode_in c.self.inside.move_number c.self.inside.guest c.next_last.new.self (phases.Stopped 0))) c.self.view_is
     (paused c.args.version c.pages-pages.result c.args.turn _ c.next_last.new.self _ _ _ h phase c.in-Copied.ensures.answer c.next_last.ensures.plan
     (record { reply = ap reply_of c.copied.ensures.reply; made = c.copied.ensures.frame; mode = refl }))
@@ -130,7 +131,7 @@ returns-in-Copied-clause-answer g c =
 pub returns-in-SeqSpent-clause-answer : goal.returns-in-SeqSpent-clause-answer
 returns-in-SeqSpent-clause-answer g c =
     let h = subst (HasPages c.pages-pages.result) (sym c.self.view_is) c.pages-pages.ensures in
-    let phase = ap (λ (s : PlainSource). s.phase) c.self.view_is ∙ c.requires in
+    let phase = ap (λ (s : PlainSource). s.phase) c.self.view_is ∙ c.requires.phase in
     subst (λ (s : PlainSource). Answers c.args.version (copy board c.args.version (mode_of s)) c.refused.result (mode_in c.self.inside.move_number c.self.inside.guest c.next_last.new.self c.self.inside.phase)) c.self.view_is
     (paused c.args.version c.pages-pages.result c.args.turn _ c.next_last.new.self _ _ _ h phase c.in-SeqSpent.ensures.answer c.next_last.ensures.plan
     (record {
@@ -143,7 +144,7 @@ pub returns-in_ok-sent-in-NothingLeft-clause-answer :
     goal.returns-in_ok-sent-in-NothingLeft-clause-answer
 returns-in_ok-sent-in-NothingLeft-clause-answer g c =
     let h = subst (HasPages c.pages-pages.result) (sym c.self.view_is) c.pages-pages.ensures in
-    let phase = ap (λ (s : PlainSource). s.phase) c.self.view_is ∙ c.requires in
+    let phase = ap (λ (s : PlainSource). s.phase) c.self.view_is ∙ c.requires.phase in
     let sent = c.in_ok-sent-in-NothingLeft.ensures.sent in
     subst (λ (s : PlainSource). Answers c.args.version (copy board c.args.version (mode_of s)) c.with.result (mode_in c.self.inside.move_number c.self.inside.guest c.next_last.new.self c.in_ok-sent-in-NothingLeft.sent.next)) c.self.view_is
     (paused c.args.version c.pages-pages.result c.args.turn _ c.next_last.new.self _ _ _ h phase c.in-NothingLeft.ensures.answer c.next_last.ensures.plan
@@ -163,4 +164,15 @@ returns-in_ok-sent-in-NothingLeft-clause-sent g c =
     let copied = last_turn_is c.self.inside.rounds last.NothingLeft c.in-NothingLeft.ensures.answer in
     let sent = c.in_ok-sent-in-NothingLeft in
     state_in_bound c.args.version c.args.turn c.args.self.now c.next_last.new.self sent.sent.frame c.with.result.1
-    c.requires (ap last_found (sym plan) ∙ copied) (same ∙ plan) c.with.ensures.frame sent.ensures.spelled
+    c.requires.phase (ap last_found (sym plan) ∙ copied) (same ∙ plan) c.with.ensures.frame sent.ensures.spelled
+
+pub returns-in_err-part-clause-refused : goal.returns-in_err-part-clause-refused
+returns-in_err-part-clause-refused g c =
+    on_err c.from_residual.result (is_refused_outright (copy board c.args.version (mode_of c.args.self.now)).reply ≡ false)
+    (paused_refused c.args.version c.args.turn c.args.self.now c.requires.phase ∙ c.requires.left)
+
+pub returns-in_err-sent-in-NothingLeft-clause-refused : goal.returns-in_err-sent-in-NothingLeft-clause-refused
+returns-in_err-sent-in-NothingLeft-clause-refused g c =
+    on_err c.from_residual-in_err-sent-in-NothingLeft.result
+    (is_refused_outright (copy board c.args.version (mode_of c.args.self.now)).reply ≡ false)
+    (paused_refused c.args.version c.args.turn c.args.self.now c.requires.phase ∙ c.requires.left)

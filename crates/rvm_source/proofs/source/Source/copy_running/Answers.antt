@@ -1,15 +1,16 @@
-use Rattle.std.proofs.Common.{rules, ◌∙◌, ap, sym, subst}
+use Rattle.std.proofs.Common.{rules, ◌≡◌, ◌∙◌, false, ap, sym, subst}
 use Rattle.rvm_protocol.specs.Obeying.{copy}
 use Rattle.rvm_guest.specs.TheGuest.{board}
 use Rattle.rvm_message.specs.Answers.{Answers}
 use Rattle.rvm_message.specs.Frames.{frame_made}
-use Rattle.rvm_message.specs.Replies.{reply_of}
+use Rattle.rvm_message.specs.Replies.{is_refused_outright, reply_of}
 use Rattle.rvm_source.specs.Sources.{HasPages, PlainSource, mode_in, mode_of}
 use Rattle.rvm_precopy.specs.declared.rounds.Next.TheVariants as next
 use Rattle.rvm_source.proofs.Covering.{still_covered, next_covered, turn_is}
-use Rattle.rvm_source.proofs.Turns.{running, below, within, few_rounds, first_turn, no_turn, fits_next, range_next, inside_next}
+use Rattle.rvm_source.proofs.Turns.{running, below, within, few_rounds, first_turn, no_turn, on_err, fits_next, range_next, inside_next}
 use Rattle.rvm_source.proofs.source.Source.copy_running.Goals as goal
 use Rattle.rvm_source.proofs.source.Source.copy_running.Goals.{in-Copied, in-RoundEnded, in-Stopping, in-SeqSpent}
+use Rattle.rvm_source.proofs.Refusing.{running_refused}
 
 pub overflow_cast-page : goal.overflow_cast-page
 overflow_cast-page g c =
@@ -30,7 +31,7 @@ copied-requires-clause-copy_number g c =
 pub invariant_of-self : goal.invariant_of-self
 invariant_of-self g c =
     let h = subst (HasPages c.pages-pages.result) (sym c.self.view_is) c.pages-pages.ensures in
-    let phase = ap (λ (s : PlainSource). s.phase) c.self.view_is ∙ c.requires in
+    let phase = ap (λ (s : PlainSource). s.phase) c.self.view_is ∙ c.requires.phase in
     let covers = next_covered c.pages-pages.result _ c.next.new.log.dirty c.next.new.self
     (next.Copied c.in-Copied.page c.in-Copied.copy) h phase c.self.invariant.1.1.1
     c.in-Copied.ensures.answer c.next.ensures.plan c.next.ensures.log in (
@@ -67,7 +68,7 @@ overflow_cast-left g c =
 pub invariant_of-self-in-RoundEnded-1 : goal.invariant_of-self-in-RoundEnded-1
 invariant_of-self-in-RoundEnded-1 g c =
     let h = subst (HasPages c.pages-pages.result) (sym c.self.view_is) c.pages-pages.ensures in
-    let phase = ap (λ (s : PlainSource). s.phase) c.self.view_is ∙ c.requires in
+    let phase = ap (λ (s : PlainSource). s.phase) c.self.view_is ∙ c.requires.phase in
     let covers = next_covered c.pages-pages.result _ c.next.new.log.dirty c.next.new.self
     (next.RoundEnded c.in-RoundEnded.round c.in-RoundEnded.sent c.in-RoundEnded.skipped c.in-RoundEnded.left)
     h phase c.self.invariant.1.1.1 c.in-RoundEnded.ensures.answer c.next.ensures.plan c.next.ensures.log in (
@@ -84,7 +85,7 @@ invariant_of-self-in-RoundEnded-1 g c =
 pub invariant_of-self-in-Stopping-1 : goal.invariant_of-self-in-Stopping-1
 invariant_of-self-in-Stopping-1 g c =
     let h = subst (HasPages c.pages-pages.result) (sym c.self.view_is) c.pages-pages.ensures in
-    let phase = ap (λ (s : PlainSource). s.phase) c.self.view_is ∙ c.requires in
+    let phase = ap (λ (s : PlainSource). s.phase) c.self.view_is ∙ c.requires.phase in
     let covers = next_covered c.pages-pages.result _ c.next.new.log.dirty c.next.new.self
     next.Stopping h phase c.self.invariant.1.1.1
     c.in-Stopping.ensures.answer c.next.ensures.plan c.next.ensures.log in (
@@ -98,7 +99,7 @@ invariant_of-self-in-Stopping-1 g c =
 pub invariant_of-self-in-SeqSpent-1 : goal.invariant_of-self-in-SeqSpent-1
 invariant_of-self-in-SeqSpent-1 g c =
     let h = subst (HasPages c.pages-pages.result) (sym c.self.view_is) c.pages-pages.ensures in
-    let phase = ap (λ (s : PlainSource). s.phase) c.self.view_is ∙ c.requires in
+    let phase = ap (λ (s : PlainSource). s.phase) c.self.view_is ∙ c.requires.phase in
     let covers = next_covered c.pages-pages.result _ c.next.new.log.dirty c.next.new.self
     next.SeqSpent h phase c.self.invariant.1.1.1
     c.in-SeqSpent.ensures.answer c.next.ensures.plan c.next.ensures.log in (
@@ -115,7 +116,7 @@ invariant_of-self-in-SeqSpent-1 g c =
 pub returns-clause-answer : goal.returns-clause-answer
 returns-clause-answer g c =
     let h = subst (HasPages c.pages-pages.result) (sym c.self.view_is) c.pages-pages.ensures in
-    let phase = ap (λ (s : PlainSource). s.phase) c.self.view_is ∙ c.requires in
+    let phase = ap (λ (s : PlainSource). s.phase) c.self.view_is ∙ c.requires.phase in
     let kept = ap (λ f. mode_in c.self.inside.move_number c.next.new.log c.next.new.self f) phase in
     subst (λ (s : PlainSource). Answers c.args.version (copy board c.args.version (mode_of s)) c.match-next.result (mode_of c.match-next.self)) c.self.view_is
     (elim c.match-next.branch [
@@ -148,3 +149,8 @@ returns-clause-answer g c =
             mode = ap mode_of w.self-is ∙ kept;
           })
     ])
+
+pub returns-in_err-part-clause-refused : goal.returns-in_err-part-clause-refused
+returns-in_err-part-clause-refused g c =
+    on_err c.from_residual.result (is_refused_outright (copy board c.args.version (mode_of c.args.self.now)).reply ≡ false)
+    (running_refused c.args.version c.args.self.now c.requires.phase ∙ c.requires.left)

@@ -1,4 +1,4 @@
-use Rattle.std.proofs.Common.{◌∙◌, None, ap, sym, subst}
+use Rattle.std.proofs.Common.{◌≡◌, ◌∙◌, ℕ, false, None, ap, sym, subst}
 use Rattle.rvm_protocol.specs.Frames as frames
 use Rattle.rvm_protocol.specs.Receiving.{came}
 use Rattle.rvm_guest.specs.TheGuest.{board}
@@ -7,6 +7,9 @@ use Rattle.rvm_message.specs.Answers.{Answers}
 use Rattle.rvm_source.specs.Sources.{HasPages, PlainSource, is_stopped, mode_in, mode_of}
 use Rattle.rvm_source.proofs.Losses.{lost_is}
 use Rattle.rvm_source.proofs.source.Source.lost.Goals as goal
+use Rattle.rvm_message.specs.Replies.{is_refused_outright}
+use Rattle.rvm_source.proofs.Refusing.{lost_heard}
+use Rattle.rvm_source.proofs.Turns.{on_err}
 
 pub returns-clause-answer : goal.returns-clause-answer
 returns-clause-answer g c =
@@ -18,3 +21,11 @@ returns-clause-answer g c =
     λ limit version.
     subst (λ (s : PlainSource). Answers version (came board limit (frames.Lost k ps) (mode_of s)) (reply.Fixing c.count.result, None) after) c.self.view_is
     (lost_is limit version k c.pages.result ps _ c.in_ok-lost.lost c.count.result c.lost-2.new.self h stopped c.in_ok-lost.ensures.set c.in_ok-lost.ensures.size c.count.ensures.count c.lost-2.ensures)
+
+pub returns-in_err-lost-clause-refused : goal.returns-in_err-lost-clause-refused
+returns-in_err-lost-clause-refused g c =
+    let k = c.args.move_number in
+    let ps = c.args.pages.now in
+    on_err c.from_residual.result
+    ((limit : ℕ) → is_refused_outright (came board limit (frames.Lost k ps) (mode_of c.args.self.now)).reply ≡ false)
+    (λ limit. lost_heard limit k ps c.args.self.now (sym c.if-not-is_stopped.ensures))

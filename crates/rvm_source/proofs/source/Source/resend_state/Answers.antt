@@ -1,14 +1,16 @@
-use Rattle.std.proofs.Common.{◌∙◌, Some, ap, sym, subst}
+use Rattle.std.proofs.Common.{◌≡◌, ◌∙◌, false, Some, ap, sym, subst}
 use Rattle.std.specs.Option.{is_some}
 use Rattle.rvm_protocol.specs.Obeying.{resend}
 use Rattle.rvm_precopy.specs.Plans.{last_found}
 use Rattle.rvm_guest.specs.TheGuest.{board}
 use Rattle.rvm_message.specs.Answers.{Answers}
 use Rattle.rvm_message.specs.Frames.{frame_made}
-use Rattle.rvm_message.specs.Replies.{reply_of}
+use Rattle.rvm_message.specs.Replies.{is_refused_outright, reply_of}
 use Rattle.rvm_source.specs.Sources.{HasPages, PlainSource, mode_in, mode_of}
 use Rattle.rvm_source.proofs.Losses.{not_resent, resent}
 use Rattle.rvm_source.proofs.source.Source.resend_state.Goals as goal
+use Rattle.rvm_source.proofs.Refusing.{resend_refused}
+use Rattle.rvm_source.proofs.Turns.{on_err}
 
 pub returns-then-is_left-clause-answer : goal.returns-then-is_left-clause-answer
 returns-then-is_left-clause-answer g c =
@@ -24,3 +26,9 @@ returns-clause-answer g c =
     subst (λ (s : PlainSource). Answers c.args.version (resend board c.args.version (mode_of s)) c.with.result (mode_in c.self.inside.move_number c.self.inside.guest c.self.inside.rounds c.in_ok-sent.sent.next)) c.self.view_is
     (resent c.args.version c.pages-pages.result c.args.turn _ (c.in_ok-sent.sent.reply, Some c.in_ok-sent.sent.frame) c.with.result _ h phase (sym c.is_left.ensures ∙ c.if-is_left.false)
     c.in_ok-sent.ensures.sent (ap reply_of c.with.ensures.reply) (ap frame_made c.with.ensures.frame))
+
+pub returns-in_err-sent-clause-refused : goal.returns-in_err-sent-clause-refused
+returns-in_err-sent-clause-refused g c =
+    let none = ap (λ (s : PlainSource). is_some (last_found s.plan)) (sym c.self.view_is) ∙ sym c.is_left.ensures ∙ c.if-is_left.false in
+    on_err c.from_residual.result (is_refused_outright (resend board c.args.version (mode_of c.args.self.now)).reply ≡ false)
+    (resend_refused c.args.version c.pages-pages.result c.args.turn c.args.self.now c.pages-pages.ensures c.requires ∙ none)
