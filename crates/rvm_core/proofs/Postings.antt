@@ -13,7 +13,7 @@ use Rattle.rvm_frame.specs.Grammar.{HasSpelling, MayStand, Received, body_of, ho
 use Rattle.rvm_frame.specs.Kinds.{byte_of, header_len, hosts_fit, kind_of, move_of, names_hosts, stands}
 use Rattle.rvm_message.specs.Events.{BoardHostEvent}
 use Rattle.rvm_debug.specs.declared.event.BoardEvent.{BoardEvent}
-use Rattle.rvm_guest.proofs.TheGuest.{board}
+use Rattle.rvm_guest.specs.TheGuest.{board}
 use Rattle.rvm_message.proofs.Refusing.{refused_makes_none}
 use Rattle.rvm_message.specs.Frames.{BoardFrame, addressed_made}
 use Rattle.rvm_message.specs.Replies.{is_refused_outright}

@@ -1,7 +1,7 @@
 -- Which commands a host refuses.
 use Rattle.std.proofs.Common.{◌≡◌, ℕ, ◌-◌, ◌^◌, ◌==◌, Bool, true, false, not, ◌&&◌, ◌||◌, if◌then◌else◌, refl, sym, ap, ◌∙◌, subst}
 use Rattle.rvm_debug.specs.Guest.{Guest, GuestState}
-use Rattle.rvm_guest.proofs.TheGuest.{board}
+use Rattle.rvm_guest.specs.TheGuest.{board}
 use Rattle.rvm_message.specs.Answers.{BoardOutcome}
 use Rattle.rvm_message.specs.Events.{command_of}
 use Rattle.rvm_message.specs.Replies.{is_refused_outright}
@@ -72,7 +72,7 @@ begin_in version id count to p (Run n g) =
     by_target (is_there id count to) (begin board p (protocol.Run n g)) (refuses BadHost (protocol.Run n g)) refl
 begin_in version id count to p (Empty n) = refl
 begin_in version id count to p (Leaving s) = same_begin version id count to p s.move_number s.guest s.plan s.phase
-begin_in version id count to p (Given n) = refl
+begin_in version id count to p (Given n kept) = refl
 begin_in version id count to p (Staging n s) = refl
 begin_in version id count to p (Held n g) = refl
 

@@ -3,7 +3,7 @@ use Rattle.std.proofs.Common.{◌≡◌, ℕ, ◌-◌, ◌^◌, ◌==◌, Bool, 
 use Rattle.rvm_debug.specs.Guest.{Guest}
 use Rattle.rvm_debug.specs.declared.event.BoardEvent.{BoardEvent}
 use Rattle.rvm_debug.specs.declared.event.BoardReply.{BoardReply}
-use Rattle.rvm_guest.proofs.TheGuest.{board}
+use Rattle.rvm_guest.specs.TheGuest.{board}
 use Rattle.rvm_message.specs.Answers.{BoardMode, BoardOutcome}
 use Rattle.rvm_message.specs.Replies.{is_refused_outright, is_seq_spent}
 use Rattle.rvm_protocol.specs.Commands.{Policy, Command, Board, Begin, Copy, Resend, AbortMove, is_allowed}
@@ -54,7 +54,7 @@ begin_none p (Run n g) =
 begin_none p (Offering n g r) = λ _. refl
 begin_none p (Copying n r) = λ _. refl
 begin_none p (Stopped n l) = λ _. refl
-begin_none p (Given n) = λ _. refl
+begin_none p (Given n kept) = λ _. refl
 begin_none p (Staging n s) = λ _. refl
 begin_none p (Held n g) = λ _. refl
 
@@ -66,7 +66,7 @@ copy_none version (Copying n r) =
     either MakesNone r.stop (says Stopping (Stopped n (stopped board r))) (copy_page board n r (next_page board r)) (λ _. refl)
     (page_none n r (next_page board r))
 copy_none version (Stopped n l) = last_none version n l (to_copy board l)
-copy_none version (Given n) = λ _. refl
+copy_none version (Given n kept) = λ _. refl
 copy_none version (Staging n s) = λ _. refl
 copy_none version (Held n g) = λ _. refl
 
@@ -76,7 +76,7 @@ resend_none version (Run n g) = λ _. refl
 resend_none version (Offering n g r) = λ is. absurd cc
 resend_none version (Copying n r) = λ _. refl
 resend_none version (Stopped n l) = again_none version n l (to_copy board l)
-resend_none version (Given n) = λ is. absurd cc
+resend_none version (Given n kept) = λ is. absurd cc
 resend_none version (Staging n s) = λ _. refl
 resend_none version (Held n g) = λ is. absurd cc
 
@@ -86,7 +86,7 @@ abort_none (Run n g) = λ _. refl
 abort_none (Offering n g r) = λ is. absurd cc
 abort_none (Copying n r) = λ is. absurd cc
 abort_none (Stopped n l) = λ is. absurd cc
-abort_none (Given n) = λ _. refl
+abort_none (Given n kept) = λ _. refl
 abort_none (Staging n s) = λ _. refl
 abort_none (Held n g) = λ _. refl
 
@@ -96,7 +96,7 @@ board_none e (Run n g) = λ _. refl
 board_none e (Offering n g r) = λ _. refl
 board_none e (Copying n r) = λ _. refl
 board_none e (Stopped n l) = λ _. refl
-board_none e (Given n) = λ _. refl
+board_none e (Given n kept) = λ _. refl
 board_none e (Staging n s) = λ _. refl
 board_none e (Held n g) = λ _. refl
 
@@ -108,7 +108,7 @@ refused_makes_none version self count (Begin to p) (Run n g) =
 refused_makes_none version self count (Begin to p) (Offering n g r) = begin_none p (Offering n g r)
 refused_makes_none version self count (Begin to p) (Copying n r) = begin_none p (Copying n r)
 refused_makes_none version self count (Begin to p) (Stopped n l) = begin_none p (Stopped n l)
-refused_makes_none version self count (Begin to p) (Given n) = begin_none p (Given n)
+refused_makes_none version self count (Begin to p) (Given n kept) = begin_none p (Given n kept)
 refused_makes_none version self count (Begin to p) (Staging n s) = begin_none p (Staging n s)
 refused_makes_none version self count (Begin to p) (Held n g) = begin_none p (Held n g)
 refused_makes_none version self count Copy mode = copy_none version mode
@@ -162,6 +162,6 @@ spent_stays version (Copying n r) =
     either (Stays (Copying n r)) r.stop (says Stopping (Stopped n (stopped board r))) (copy_page board n r (next_page board r)) (λ is. absurd cc)
     (page_stays n r (next_page board r))
 spent_stays version (Stopped n l) = last_stays version n l (to_copy board l)
-spent_stays version (Given n) = λ is. absurd cc
+spent_stays version (Given n kept) = λ is. absurd cc
 spent_stays version (Staging n s) = λ is. absurd cc
 spent_stays version (Held n g) = λ is. absurd cc

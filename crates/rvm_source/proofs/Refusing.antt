@@ -3,7 +3,7 @@ use Rattle.std.proofs.Common.{◌≡◌, ℕ, ◌==◌, Bool, true, false, if◌
 use Rattle.std.proofs.lemmas.Bool.{eq-eqb, eqb-true}
 use Rattle.std.specs.Option.{is_some}
 use Rattle.rvm_debug.specs.Guest.{Guest, GuestState}
-use Rattle.rvm_guest.proofs.TheGuest.{board}
+use Rattle.rvm_guest.specs.TheGuest.{board}
 use Rattle.rvm_message.specs.Answers.{BoardOutcome}
 use Rattle.rvm_message.specs.Replies.{is_refused_outright, is_seq_spent}
 use Rattle.rvm_message.proofs.Refusing.{copying_only, stopped_only}

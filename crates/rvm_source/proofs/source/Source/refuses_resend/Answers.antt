@@ -1,5 +1,5 @@
 use Rattle.std.proofs.Common.{◌≡◌, ◌∙◌, ap, sym, subst}
-use Rattle.rvm_guest.proofs.TheGuest.{board}
+use Rattle.rvm_guest.specs.TheGuest.{board}
 use Rattle.rvm_message.specs.Replies.{is_refused_outright}
 use Rattle.rvm_protocol.specs.Obeying.{resend}
 use Rattle.rvm_source.specs.Sources.{HasPages, PlainSource, mode_of}
