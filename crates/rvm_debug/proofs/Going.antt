@@ -1,6 +1,5 @@
 -- Turns of a hart whose instructions all retire.
-use Rattle.std.proofs.Common.{◌≡◌, ℕ, zero, suc, ◌+◌, ◌<◌, List, [], ◌∷◌, ◌++◌, length, Bool, true, false, ◌&&◌, cond, not, get_or, set, Option, Some, None, refl, sym, ap, subst, ◌∙◌, arith}
-use Rattle.std.specs.List.{list_any}
+use Rattle.std.proofs.Common.{◌≡◌, ℕ, zero, suc, ◌+◌, ◌<◌, List, [], ◌++◌, length, Bool, true, false, ◌&&◌, cond, not, get_or, set, Option, Some, None, refl, sym, ap, subst, ◌∙◌, arith}
 use Rattle.std.proofs.lemmas.List.{get_or-set_same, length-set, set-set, set-get_or}
 use Rattle.rvm_mem.specs.Pages.{mark_all}
 use Rattle.rvm_hart.specs.declared.outcome.Stepped.{Stepped}
@@ -10,12 +9,9 @@ use Rattle.rvm_hart.specs.Step.{After, step}
 use Rattle.rvm_hart.specs.Step as hart
 use Rattle.rvm_hart.specs.Straight.{Steps, is_retired, steps_on}
 use Rattle.rvm_hart.specs.Straight as straight
-use Rattle.rvm_board.specs.Board.{Board, hart_at, machine_at, new_hart, with_machine}
-use Rattle.rvm_board.specs.Board as board
-use Rattle.rvm_debug.specs.declared.event.BoardReply.{BoardReply}
+use Rattle.rvm_board.specs.Board.{Board, machine_at, new_hart, with_machine}
 use Rattle.rvm_debug.specs.declared.event.BoardReply.TheVariants as reply
 use Rattle.rvm_debug.specs.declared.turns.Order.TheVariants.{Alone}
-use Rattle.rvm_debug.specs.declared.turns.Stop.{Stop}
 use Rattle.rvm_debug.specs.Guest.{Guest, GuestState, is_in}
 use Rattle.rvm_debug.specs.Events.{Answered, leaves, pc_of, reply_of, steps, stops, takes_step, with_board, with_stopped}
 use Rattle.rvm_debug.specs.Events as events

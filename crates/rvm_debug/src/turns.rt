@@ -332,9 +332,22 @@ impl<M: Memory> Debugged<M> {
             ≡ (steps hart self.old.guest).reply }
     {
         if self.may_stop(hart) {
-            return self.step(hart);
+            return self.step_at_a_mark(hart);
         }
         Some(self.turn_of::<LOOP>(hart))
+    }
+
+    /// The same of a hart that may stop, which is rare.
+    #[cold]
+    #[inline(never)]
+    fn step_at_a_mark(&mut self, hart: u32) -> Option<Stepped>
+        requires { hart < length self.old.guest.board.harts }
+        ensures guest { self.new.guest ≡ (steps hart self.old.guest).guest }
+        ensures dirty { self.new.dirty ≡ mark_all (steps hart self.old.guest).pages self.old.dirty }
+        ensures answer { step_reply (pc_of hart self.old.guest) result
+            ≡ (steps hart self.old.guest).reply }
+    {
+        self.step(hart)
     }
 
     /// One step of a hart that cannot stop instead, on the straight path if it can be made there.

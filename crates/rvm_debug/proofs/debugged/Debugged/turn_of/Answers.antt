@@ -1,4 +1,4 @@
-use Rattle.std.proofs.Common.{◌≡◌, ◌-◌, ap, ◌∙◌, arith}
+use Rattle.std.proofs.Common.{◌-◌, ap, ◌∙◌, arith}
 use Rattle.rvm_mem.specs.Pages.{mark_all}
 use Rattle.rvm_debug.specs.Guest.{Guest, is_in}
 use Rattle.rvm_debug.specs.Events.{pc_of, steps}

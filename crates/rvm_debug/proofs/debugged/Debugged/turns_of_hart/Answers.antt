@@ -1,5 +1,4 @@
-use Rattle.std.proofs.Common.{ℕ, ◌≡◌, ◌-◌, ◌<◌, ◌≤◌, [], false, length, ap, sym, ◌∙◌, arith, refl}
-use Rattle.std.proofs.lemmas.List.{length-set}
+use Rattle.std.proofs.Common.{ℕ, ◌-◌, ◌≤◌, length, ap, sym, ◌∙◌, arith, refl}
 use Rattle.rvm_debug.specs.Guest.{Guest}
 use Rattle.rvm_debug.specs.Events.{step_reply}
 use Rattle.rvm_debug.specs.declared.turns.Order.TheVariants.{Alone}
