@@ -18,9 +18,9 @@ use rvm_line::{Symbols, lookup};
 use std::alloc::{AllocError, Global};
 
 /// The image of an assembly text. Lines end with a line feed, and a carriage return before it is
-/// no part of them. Fails with a line, counted from 1, at which a fault stands; if no line has a
-/// fault, since all lines together have more than 2^24 bytes, in at most 16 segments or in more; or
-/// since memory ran out.
+/// no part of them. Fails with the line, counted from 1, at which a fault stands. If no line has a
+/// fault, more than 2^24 bytes fail: with `TooMany` if they make more than 16 segments, and else with
+/// `TooLarge`. Fails with `OutOfMemory` if memory runs out.
 pub fn assemble(alloc: Global, text: &str) -> Result<Image, AsmError>
     ensures image { IfOk result (λ v. IsAssembly text.now v.entry (pieces_of v.segments.items)) }
     ensures rising { IfOk result (λ v. IsRising (pieces_of v.segments.items)) }

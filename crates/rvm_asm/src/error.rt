@@ -17,10 +17,12 @@ pub enum AsmError {
     /// The line of this number, counted from 1, has this fault.
     #[error("line {0}: {1}")]
     Line(usize, Fault),
-    /// No line has a fault, but all lines together have more than 2^24 bytes.
+    /// No line has a fault, but all lines together have more than 2^24 bytes, in at most 16
+    /// segments.
     #[error("more than 2^24 bytes")]
     TooLarge,
-    /// The same, and they make more than 16 segments.
+    /// No line has a fault, but all lines together have more than 2^24 bytes, in more than 16
+    /// segments.
     #[error("more than 16 segments")]
     TooMany,
 }

@@ -1,4 +1,4 @@
-//! Where the bytes of lines stand, without the bytes.
+//! Where the bytes of each line stand, without the bytes themselves.
 
 ghost use Rattle.std.specs.Prelude.{◌≡◌, ℕ, ◌+◌, ◌^◌, ◌≤◌, ◌<◌, ◌⊎◌, List, length, IsTrue, IsFalse};
 ghost use Rattle.rvm_asm.specs.Images.{IsFree, IsTaken};
@@ -8,13 +8,13 @@ ghost use Rattle.rvm_asm.specs.Views.{extent_pieces, is_apart, Holds, IsClaim};
 use rvm_line::{Fault, LineError};
 use std::collections::BTreeMap;
 
-/// The most segments of an image that can be written.
+/// The most segments that an image may have to be written.
 const MAX_SEGMENTS: usize = 16;
 
-/// The bytes of one line, from the address of the first byte to that of the last.
+/// Whose bytes begin at an address, and where they end.
 #[derive(Clone, Copy)]
 pub struct Extent {
-    /// Which line it is, counted from 0.
+    /// The line, counted from 0.
     pub line: usize,
     /// The address of the last byte.
     pub last: u32,
@@ -23,8 +23,8 @@ pub struct Extent {
 /// The extents of lines by the addresses of their first bytes, found in logarithmic time.
 pub type Extents = BTreeMap<u32, Extent>;
 
-/// Whether no byte stands from an address to a last one: only the last extent that begins by
-/// then can have one there.
+/// Tells whether no byte stands from `address` to `last`. Only the last extent that begins at `last`
+/// or below can have a byte there.
 fn is_free(extents: &Extents, address: u32, last: u32) -> bool
     ensures free { (bytes : ℕ → List ℕ) → (lines count : ℕ) → Holds bytes lines extents.now
         → 0 < count → address + count ≡ last + 1 → IsTrue result
@@ -39,7 +39,8 @@ fn is_free(extents: &Extents, address: u32, last: u32) -> bool
     }
 }
 
-/// Gives the places of a line's bytes to the line, which is the next, if all of them are free.
+/// Records where the bytes of the next line stand, if it has any. Fails with `Overlap` if a byte
+/// stands there already.
 pub fn claim(extents: &mut Extents, line: usize, place: u64, count: usize) -> Result<(), LineError>
     requires { (count ≡ 0) ⊎ (place + count ≤ 2 ^ 32) }
     ensures { (bytes : ℕ → List ℕ) → Holds bytes line extents.old → length (bytes line) ≡ count
@@ -57,7 +58,7 @@ pub fn claim(extents: &mut Extents, line: usize, place: u64, count: usize) -> Re
     Ok(())
 }
 
-/// Whether an extent does not touch the one before it, of which this is the last address.
+/// Tells whether a gap separates an extent from the one before it, whose last address is `before`.
 fn is_apart(before: Option<u32>, address: u32) -> bool
     ensures { result ≡ is_apart before address }
 {
@@ -67,7 +68,7 @@ fn is_apart(before: Option<u32>, address: u32) -> bool
     }
 }
 
-/// Whether the extents make more than 16 segments, of which those that touch are one.
+/// Tells whether the extents make more than 16 segments. Extents that touch are one segment.
 pub fn are_many(extents: &Extents) -> bool
     ensures { (bytes : ℕ → List ℕ) → (lines : ℕ) → Holds bytes lines extents.now
         → AreSeparate (extent_pieces bytes extents.now) result }

@@ -13,8 +13,7 @@ use rvm_image::Segment;
 use rvm_line::Symbols;
 use std::alloc::{AllocError, Global};
 
-/// The segments of lines whose extents are known: their bytes, of which those that touch are one
-/// segment.
+/// Makes the segments of lines whose extents are known. Extents that touch become one segment.
 pub fn fill(
     alloc: Global,
     texts: &[&str],
@@ -39,7 +38,7 @@ pub fn fill(
     Ok(segments)
 }
 
-/// The bytes of a line that has no fault.
+/// The bytes of a line. The line has no fault, so this fails only if memory runs out.
 fn line_bytes(
     alloc: Global,
     texts: &[&str],

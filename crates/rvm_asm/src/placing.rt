@@ -1,4 +1,4 @@
-//! The third pass: the places of each line's bytes.
+//! The third pass: where the bytes of each line stand.
 
 ghost use Rattle.std.specs.Prelude.{◌≡◌, ◌+◌, ◌<◌, ◌≤◌, ◌^◌, ℕ, List, length, slice_index, IfOk, IfErr, OnOk, IsSome};
 ghost use Rattle.rvm_text.specs.Lexemes.{lexemes};
@@ -15,8 +15,9 @@ use rvm_image::MAX_BYTES;
 use rvm_line::{LineError, Symbols, contents, label};
 use std::alloc::Global;
 
-/// Where the bytes of all lines stand. A fault comes before the size: only where no line has one
-/// are more than 2^24 bytes refused.
+/// Finds where the bytes of all lines stand. A fault of any line comes before the size: only if no
+/// line has one do more than 2^24 bytes fail, with `TooMany` if they make more than 16 segments and
+/// else with `TooLarge`.
 pub fn place_lines(
     alloc: Global,
     texts: &[&str],
@@ -38,7 +39,7 @@ pub fn place_lines(
             Ok(count) => count,
             Err(error) => return Err(AsmError::at(index + 1, error)),
         };
-        room = room_behind(room, count);
+        room = room_after(room, count);
     }
     if room.is_none() {
         return Err(size_error(&extents));
@@ -46,14 +47,14 @@ pub fn place_lines(
     Ok(extents)
 }
 
-/// What is left of room for bytes behind so many of them.
-fn room_behind(room: Option<usize>, count: usize) -> Option<usize>
+/// The room that is left after so many bytes, or none if they do not fit.
+fn room_after(room: Option<usize>, count: usize) -> Option<usize>
     ensures { (n : ℕ) → IsRoom room n → IsRoom result (n + count) }
 {
     room?.checked_sub(count)
 }
 
-/// What is wrong with lines that have more than 2^24 bytes.
+/// The error of a text that has more than 2^24 bytes, whose lines have these extents.
 fn size_error(extents: &Extents) -> AsmError
     ensures { (bytes : ℕ → List ℕ) → (lines : ℕ) → Holds bytes lines extents.now
         → IsSizeError (extent_pieces bytes extents.now) result }
@@ -65,7 +66,7 @@ fn size_error(extents: &Extents) -> AsmError
     }
 }
 
-/// Gives the places of a line's bytes to the line, and answers how many they are.
+/// Records where the bytes of a line stand, and returns how many they are.
 fn place_line(
     alloc: Global,
     extents: &mut Extents,

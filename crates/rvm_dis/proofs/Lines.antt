@@ -87,7 +87,7 @@ module _ (names : Names) (a : ℕ) (below : a < 2 ^ 32) (aligned : a % 4 ≡ 0) 
     unlabelled = unlabelled;
     undefining = rw (named.known, shaped) refl;
     next = rw (named.known, shaped, room) refl;
-    bytes = rw (named.known, shaped, multiple, operands) (ap (λ v. Ok (to_le_bytes w32 v)) is);
+    bytes = rw (named.known, shaped, operands, multiple) (ap (λ v. Ok (to_le_bytes w32 v)) is);
   }
 
   -- the same with a blank between them

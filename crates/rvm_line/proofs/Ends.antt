@@ -128,9 +128,10 @@ words_size names place (c.Pseudo pseudo) ts ws n e h =
 words_size names place (c.Instruction operation) ts ws n e h =
     words_length (instruction_at names place operation ts) (λ i. w.One (word_of i)) n ws e (λ i. ok_is h)
 
-in_place : (b : Bool) (r : Result Words Fault) (ws : Words) → (if b then r else Err OutOfReach) ≡ Ok ws → r ≡ Ok ws
-in_place true r ws e = e
-in_place false r ws e = cc
+in_place : (b : Bool) (r : Result Words Fault) (ws : Words) → (r >>= λ words. only_if OutOfReach b words) ≡ Ok ws → r ≡ Ok ws
+in_place true (Ok x) ws e = e
+in_place false (Ok x) ws e = cc
+in_place b (Err f) ws e = cc
 
 code_ends : (names : Names) (place after : ℕ) (kind : Code) (ts : List Lexeme) (bs : List ℕ) → (size_of names kind ts >>= advanced place) ≡ Ok after → (words_at names place kind ts >>= λ ws. Ok (bytes_of ws)) ≡ Ok bs → EndAt place after bs
 unfolding words_at

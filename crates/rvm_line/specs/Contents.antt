@@ -53,10 +53,11 @@ words_of names place (code.Pseudo pseudo) ts =
 words_of names place (code.Instruction operation) ts =
     instruction_at names place operation ts >>= λ i. Ok (words.One (word_of i))
 
--- the same at a place that is a multiple of four, as an instruction's has to be
+-- the same at a place that is a multiple of four, as an instruction's has to be; a fault of the words
+-- comes first
 unfoldable pub words_at : Names → (place : ℕ) → Code → List Lexeme → Result Words Fault
 words_at names place kind ts =
-    if place % 4 == 0 then words_of names place kind ts else Err OutOfReach
+    words_of names place kind ts >>= λ words. only_if OutOfReach (place % 4 == 0) words
 
 -- nothing, behind a name and its end
 abbrev pub global_at : List Lexeme → Result (Unit {0}) Fault

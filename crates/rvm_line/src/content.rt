@@ -162,13 +162,14 @@ fn append(bytes: &mut Vec<u8>, width: Width, value: u32) -> Result<(), AllocErro
     }
 }
 
-/// The words of a line.
+/// The words of a line. A fault of the words comes before a place that is no multiple of four.
 #[tactic(auto, unfolding(crate::specs::Contents::words_at))]
 fn words(symbols: &Symbols, place: u64, code: Code, tokens: &[Token]) -> Result<Words, Fault>
     ensures { result ≡ words_at (names_of symbols.now) place code (lexemes_of tokens.now) }
 {
+    let words = words_of(symbols, place, code, tokens)?;
     if place % 4 == 0 {
-        words_of(symbols, place, code, tokens)
+        Ok(words)
     } else {
         Err(Fault::OutOfReach)
     }

@@ -15,8 +15,8 @@ loop-index-init c = record {
 pub loop-index-preserved : goal.loop-index-preserved
 loop-index-preserved c = record {
   placed = c.in-Ok.ensures.placed;
-  room = room_more (lines_of (texts_of c.args.texts.now)) (names_of c.args.symbols.now) c.args.places.now c.loop-index.index c.in-Ok.count c.room_behind-room.result
-      (c.room_behind-room.ensures (count_to (lines_of (texts_of c.args.texts.now)) (names_of c.args.symbols.now) c.args.places.now c.loop-index.index) c.loop-index.invariant.room) c.in-Ok.ensures.count;
+  room = room_more (lines_of (texts_of c.args.texts.now)) (names_of c.args.symbols.now) c.args.places.now c.loop-index.index c.in-Ok.count c.room_after-room.result
+      (c.room_after-room.ensures (count_to (lines_of (texts_of c.args.texts.now)) (names_of c.args.symbols.now) c.args.places.now c.loop-index.index) c.loop-index.invariant.room) c.in-Ok.ensures.count;
 }
 
 pub returns-then-is_none-clause-refused : goal.returns-then-is_none-clause-refused

@@ -1,0 +1,3 @@
+.space 0x1000000
+.byte 1
+j nowhere
