@@ -16,7 +16,8 @@ use rvm_mem::Memory;
 use rvm_refusal::LinkFault;
 use std::io::Write;
 
-/// After how many turns at most what the guest sent is written, which takes less than a millisecond.
+/// After how many turns at the latest what was taken is written: `run` has no clock, and so many turns
+/// take about a millisecond.
 const WRITE_EVERY: u32 = 65_536;
 
 /// How a run ended.
@@ -37,8 +38,8 @@ pub enum Ended {
 /// each 65,536 turns, when the board is halted and at the end. The writer is not flushed.
 ///
 /// `LinkFault` if the writer failed, which needs something to write: then the guest is that which some
-/// of the first events of the run left. Of the last piece, any part may have gone out; all before it
-/// was written.
+/// of the first events of the run left. Of the piece that was written then, any part may have gone
+/// out; the pieces before it were written, and nothing after it.
 pub fn run<M: Memory, W: Write>(
     guest: &mut Debugged<M>,
     steps: u32,
@@ -158,7 +159,7 @@ fn feed<M: Memory>(guest: &mut Debugged<M>, input: &[u8], next: usize) -> usize
 }
 
 /// Takes all that the guest sent, if there is any, and writes all that is held if that `is_due`.
-#[inline]
+#[inline(always)]
 fn drain<M: Memory, W: Write>(
     guest: &mut Debugged<M>,
     buffer: &mut OutputBuffer,
