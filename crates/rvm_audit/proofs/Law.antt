@@ -7,7 +7,8 @@ use Rattle.rvm_core.specs.Hosts.{PlainHost, new_host}
 use Rattle.rvm_core.specs.Spelled.{AreSpelled, IsSpelled}
 use Rattle.rvm_debug.specs.Guest.{Guest, GuestState}
 use Rattle.rvm_frame.specs.declared.frame.Frame.{Frame}
-use Rattle.rvm_guest.proofs.TheGuest.{answers_are, board, fold_is}
+use Rattle.rvm_guest.proofs.TheGuest.{board_laws}
+use Rattle.rvm_guest.specs.TheGuest.{board}
 use Rattle.rvm_guest.specs.Valid.{is_valid}
 use Rattle.rvm_journal.specs.Entries.{PlainEntry}
 use Rattle.rvm_journal.specs.History.{History}
@@ -16,18 +17,14 @@ use Rattle.rvm_message.specs.declared.event.Command.{Command}
 use Rattle.rvm_message.specs.declared.event.HostEvent.{HostEvent}
 use Rattle.rvm_message.specs.Events.{BoardHostEvent, command_of, event_of}
 use Rattle.rvm_protocol.specs.Commands as protocol
+use Rattle.rvm_protocol.specs.Course.{CausesComeFirst, RunsNeverMove}
 use Rattle.rvm_protocol.specs.Frames.{Addressed}
 use Rattle.rvm_protocol.specs.Host.{host_step, is_there}
-use Rattle.rvm_protocol.specs.NeverMoving.{accepted}
-use Rattle.rvm_protocol.specs.OneGuest.{AlwaysOneGuest, OneGuest}
 use Rattle.rvm_protocol.specs.Pages.{put}
-use Rattle.rvm_protocol.specs.Told.{Told, at_start}
 use Rattle.rvm_protocol.specs.World.{and_sent, entry_of, frame_for, happened, history, meaning, new_world, result_at, run}
-use Rattle.rvm_protocol.proofs.OneGuestHolds.{the_law}
+use Rattle.rvm_protocol.proofs.Course.{causes_law, course_law}
 use Rattle.rvm_world.specs.declared.event.Event.{Event}
 use Rattle.rvm_world.specs.declared.event.Event.TheVariants.{At, Deliver}
-use Rattle.rvm_world.proofs.Laws.{frames_are_true}
-use Rattle.rvm_world.specs.NeverMoved.{BoardEntry, NeverMoved}
 use Rattle.rvm_world.specs.Worlds.{BoardWorld, meant}
 use Rattle.rvm_audit.specs.declared.side.Side.{Side}
 use Rattle.rvm_audit.specs.declared.side.Side.TheVariants.{First, Second}
@@ -42,18 +39,6 @@ use Rattle.rvm_audit.proofs.Moves.{Keeps, goes_there, keeps_on}
 allowed : (g : Guest) → is_valid g ≡ true → board.valid g ≡ true
 unfolding board
 allowed g valid = valid
-
-as_a_board : (t : Told Guest) (w : BoardWorld) (past : List BoardEntry) → OneGuest board t w past → NeverMoved t w past
-as_a_board t w past one =
-    let same = ap Some (fold_is t.guest (accepted past)) in
-    record {
-      guest = one.board ∙ same;
-      answers = one.answers ∙ answers_are t.guest (accepted past);
-      replies = one.replies;
-      one_host = one.one_host;
-      hands_over = λ e n committed. one.hands_over e n committed ∙ same;
-      shown = one.shown;
-    }
 
 -- FRAMES
 
@@ -249,7 +234,7 @@ module _ (version : ℕ) (g : GuestState) (limits : ℕ → ℕ) where
 
   pub is_world_run : (a b : History) (events : List Event) → is_valid g.guest ≡ true
       → AreNew version g limits a.opening b.opening → IsOrder a b events → IsWorldRun new g.guest a b events
-  unfolding AlwaysOneGuest
+  unfolding RunsNeverMove CausesComeFirst
   is_world_run a b events valid are o =
       let r : IsRun one two (opened one two) events o.steps =
       subst (λ p. IsRun one p (opened one p) events o.steps) are.second
@@ -269,7 +254,6 @@ module _ (version : ℕ) (g : GuestState) (limits : ℕ → ℕ) where
             t.second_there
             ∙ (λ j. (after_all (sym are.first j) (sym are.second j) (opened (sym are.first j) (sym are.second j)) o.steps).second)
             ∙ o.second_ends;
-        never_moved = as_a_board (at_start g.guest) (run board new (map meant events)) (history board new (map meant events))
-            (the_law board g.guest version 2 limits (map meant events) (allowed g.guest valid));
-        frames = frames_are_true g.guest new version 2 limits (map meant events) valid refl;
+        never_moved = course_law board board_laws g.guest version 2 limits (map meant events) (allowed g.guest valid);
+        causes = causes_law board board_laws g.guest version 2 limits (map meant events) (allowed g.guest valid);
       }

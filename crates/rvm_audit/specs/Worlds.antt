@@ -2,16 +2,17 @@
 use Rattle.std.specs.Prelude.{◌≡◌, ℕ, List, map, Some, None}
 use Rattle.rvm_core.specs.Hosts.{PlainHost, new_host}
 use Rattle.rvm_debug.specs.Guest.{Guest, GuestState}
-use Rattle.rvm_guest.proofs.TheGuest.{board}
+use Rattle.rvm_guest.specs.TheGuest.{board}
 use Rattle.rvm_journal.specs.Entries.{PlainEntry}
 use Rattle.rvm_journal.specs.History.{History}
 use Rattle.rvm_journal.specs.Replay.{replay}
 use Rattle.rvm_message.specs.Events.{event_of}
 use Rattle.rvm_message.specs.Replies.{reply_of}
+use Rattle.rvm_protocol.specs.Course.{HaveCauses, InEachState, NeverMoves}
 use Rattle.rvm_protocol.specs.Told.{at_start}
 use Rattle.rvm_protocol.specs.World.{history, run}
 use Rattle.rvm_world.specs.declared.event.Event.{Event}
-use Rattle.rvm_world.specs.NeverMoved.{BoardEntry, FramesAreTrue, NeverMoved}
+use Rattle.rvm_world.specs.NeverMoved.{BoardEntry}
 use Rattle.rvm_world.specs.Worlds.{BoardWorld, meant}
 use Rattle.rvm_audit.specs.declared.side.Side.{Side}
 use Rattle.rvm_audit.specs.declared.side.Side.TheVariants.{First, Second}
@@ -26,8 +27,9 @@ pub record AreNew (version : ℕ) (g : GuestState) (limits : ℕ → ℕ) (a b :
 abbrev pub seen : Side × PlainEntry → BoardEntry
 seen s = record { host = number_of s.0; event = event_of s.1.event; reply = reply_of s.1.reply }
 
--- in a world these events are the entries of the two journals, which ends where their replays end; the guest, which was
--- g, is that of one board that never moves, and the frames are those of its moves
+-- in a world these events are the entries of the two journals, which ends where their replays end; in each of its states
+-- the guest, which was g, is that of one board that never moves, and the frames are those of its moves, each behind its
+-- cause
 pub record IsWorldRun (w : BoardWorld) (g : Guest) (a b : History) (events : List Event) : Type 0 where
   pub steps : List (Side × PlainEntry)
   pub at_first : entries_at First steps ≡ a.entries
@@ -35,6 +37,5 @@ pub record IsWorldRun (w : BoardWorld) (g : Guest) (a b : History) (events : Lis
   pub seen_are : history board w (map meant events) ≡ map seen steps
   pub first_ends : (run board w (map meant events)).hosts 0 ≡ replay a.opening a.entries
   pub second_ends : (run board w (map meant events)).hosts 1 ≡ replay b.opening b.entries
-  pub never_moved :
-      NeverMoved (at_start g) (run board w (map meant events)) (history board w (map meant events))
-  pub frames : FramesAreTrue g w (map meant events)
+  pub never_moved : NeverMoves board (at_start g) w (map meant events)
+  pub causes : InEachState board (HaveCauses board) w (map meant events)

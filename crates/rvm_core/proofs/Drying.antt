@@ -7,7 +7,7 @@ use Rattle.rvm_debug.specs.declared.event.BoardRefusal.TheVariants.{OutOfRange}
 use Rattle.rvm_debug.specs.Guest.{Guest, GuestState}
 use Rattle.rvm_debug.specs.Events.{Answered as GuestAnswered, answered, leaves, refuses, with_board}
 use Rattle.rvm_board.specs.Board.{with_output}
-use Rattle.rvm_guest.proofs.TheGuest.{board}
+use Rattle.rvm_guest.specs.TheGuest.{board}
 use Rattle.rvm_message.specs.Answers.{Answers, BoardMode, BoardOutcome}
 use Rattle.rvm_message.specs.Exchanges.{dry_exchange}
 use Rattle.rvm_protocol.specs.Frames.{made_as}

@@ -5,7 +5,7 @@ use Rattle.rvm_codec.proofs.Steps.{both_are}
 use Rattle.rvm_debug.specs.Guest.{Guest, GuestState}
 use Rattle.rvm_debug.specs.declared.event.BoardEvent.{BoardEvent}
 use Rattle.rvm_frame.specs.declared.addressed.Addressed.{Addressed}
-use Rattle.rvm_guest.proofs.TheGuest.{board}
+use Rattle.rvm_guest.specs.TheGuest.{board}
 use Rattle.rvm_message.specs.Answers.{BoardMode, BoardOutcome}
 use Rattle.rvm_message.specs.Events.{BoardHostEvent}
 use Rattle.rvm_message.specs.Frames.{BoardFrame, addressed_made}

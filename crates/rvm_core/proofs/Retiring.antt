@@ -7,7 +7,7 @@ use Rattle.rvm_debug.specs.Events as events
 use Rattle.rvm_debug.specs.Events.{steps}
 use Rattle.rvm_debug.specs.Guest.{GuestState}
 use Rattle.rvm_debug.specs.Retiring.{Ends, Retire, RetiresThen}
-use Rattle.rvm_guest.proofs.TheGuest.{board}
+use Rattle.rvm_guest.specs.TheGuest.{board}
 use Rattle.rvm_message.specs.Answers.{BoardOutcome}
 use Rattle.rvm_protocol.specs.Frames.{made_as, posted}
 use Rattle.rvm_protocol.specs.Modes.{says}

@@ -11,7 +11,7 @@ use Rattle.rvm_debug.specs.Turns.{AfterTurns}
 use Rattle.rvm_debug.specs.Kept.{Keeps}
 use Rattle.rvm_debug.proofs.Answering.{answered_keeps}
 use Rattle.rvm_guest.specs.Pages.{count_of}
-use Rattle.rvm_guest.proofs.TheGuest.{board}
+use Rattle.rvm_guest.specs.TheGuest.{board}
 use Rattle.rvm_precopy.specs.Plans.{Plan, rounds_of}
 use Rattle.rvm_message.specs.Answers.{BoardOutcome}
 use Rattle.rvm_message.proofs.Logs.{length_marked, log_is}

@@ -5,7 +5,7 @@ use Rattle.std.specs.declared.alloc.AllocError.{AllocError}
 use Rattle.std.proofs.lemmas.Bool.{eq-eqb, eqb-true, ne_eqb}
 use Rattle.rvm_codec.proofs.Steps.{both_are}
 use Rattle.rvm_frame.specs.declared.frame.Frame.{Frame}
-use Rattle.rvm_guest.proofs.TheGuest.{board}
+use Rattle.rvm_guest.specs.TheGuest.{board}
 use Rattle.rvm_handover.specs.Outcomes.{IsLeft}
 use Rattle.rvm_handover.specs.Pieces.{IsPartLeft}
 use Rattle.rvm_handover.specs.Stages.{PlainStage, stage_of}

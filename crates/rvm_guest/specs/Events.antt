@@ -2,7 +2,6 @@
 use Rattle.std.specs.Prelude.{◌≡◌, ℕ, zero, suc, List, [], ◌∷◌, ◌++◌, length, Option, Some, None}
 use Rattle.rvm_debug.specs.declared.event.BoardEvent.{BoardEvent}
 use Rattle.rvm_debug.specs.declared.event.BoardEvent.TheVariants.{Step}
-use Rattle.rvm_debug.specs.declared.event.BoardReply.{BoardReply}
 use Rattle.rvm_debug.specs.declared.turns.Order.{Order}
 use Rattle.rvm_debug.specs.declared.turns.Stop.{Stop}
 use Rattle.rvm_debug.specs.Guest.{Guest}
@@ -18,11 +17,6 @@ after_all g (e ∷ es) = after_all (answered e g).guest es
 unfoldable pub written : Guest → List BoardEvent → List ℕ
 written g [] = []
 written g (e ∷ es) = (answered e g).pages ++ written (answered e g).guest es
-
--- the answers to events
-unfoldable pub answers : Guest → List BoardEvent → List BoardReply
-answers g [] = []
-answers g (e ∷ es) = (answered e g).reply ∷ answers (answered e g).guest es
 
 -- no event behind the one that ends turns
 abbrev pub unless_over : Option Stop → List BoardEvent → List BoardEvent

@@ -4,3 +4,4 @@ pub mod Values
 pub mod Body
 pub mod Pieces
 pub mod Events
+pub mod TheGuest

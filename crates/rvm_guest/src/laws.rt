@@ -15,7 +15,14 @@ ghost use Rattle.rvm_guest.specs.Body.{body_of, build};
 ghost use Rattle.rvm_guest.specs.Events.{AreTurns, steps_in};
 ghost use Rattle.rvm_guest.specs.Pages.{after, pages_in, zeros};
 ghost use Rattle.rvm_guest.specs.Pieces.{cut};
+ghost use Rattle.rvm_guest.specs.TheGuest.{board};
 ghost use Rattle.rvm_guest.specs.Valid.{is_valid};
+ghost use Rattle.rvm_protocol.specs.Guest.{IsGuest};
+
+/// The debugged board has the laws of a guest that can move.
+pub fn the_board_is_a_guest()
+    ensures { IsGuest board }
+{}
 
 /// Each event of a guest that can be met leaves one that can be met.
 pub fn each_event_leaves_a_valid_guest()

@@ -4,8 +4,8 @@
 //! state is what its debugger says (`answered` of `rvm_debug`).
 //!
 //! Stands on `rvm_protocol`, `rvm_debug`, `rvm_state` and `rvm_frame`, and knows nothing of hosts.
-//! Its definitions lie in `specs/`; the guest is `board` in `proofs/TheGuest.antt`, which the layers
-//! above name in their contracts.
+//! Its definitions lie in `specs/`; the guest is `board` in `specs/TheGuest.antt`, which the layers
+//! above name in their contracts, and `laws` proves that it has the laws of a guest.
 //!
 //! To be read in this order: `valid`, `laws`.
 #![tactic(auto)]

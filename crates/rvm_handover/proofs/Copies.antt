@@ -8,7 +8,7 @@ use Rattle.rvm_protocol.specs.Modes.{Staging, says, ignores}
 use Rattle.rvm_protocol.specs.Staging.{new_stage, with_page}
 use Rattle.rvm_guest.specs.Pages.{pages_in}
 use Rattle.rvm_guest.proofs.Joined.{blank_pages, length_pages, put_page}
-use Rattle.rvm_guest.proofs.TheGuest.{board}
+use Rattle.rvm_guest.specs.TheGuest.{board}
 use Rattle.rvm_handover.specs.Stages.{PlainStage, stage_of, is_newer, with_copy}
 use Rattle.rvm_handover.specs.Outcomes.{BoardOutcome, copied}
 use Rattle.rvm_handover.proofs.Tables.{of_replicate, set_is_put}

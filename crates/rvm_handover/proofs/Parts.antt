@@ -12,7 +12,7 @@ use Rattle.rvm_protocol.specs.Replies.{BadState, Kept, Lacking, Reply}
 use Rattle.rvm_protocol.specs.Staging.{Stage, lacks, takes_part, with_part}
 use Rattle.rvm_guest.specs.Pages.{joined}
 use Rattle.rvm_guest.specs.Pieces.{join}
-use Rattle.rvm_guest.proofs.TheGuest.{board}
+use Rattle.rvm_guest.specs.TheGuest.{board}
 use Rattle.rvm_handover.specs.Outcomes.{BoardOutcome, IsLeft, ready}
 use Rattle.rvm_handover.specs.Pieces.{IsPartLeft, is_partial, left_of, pieces_before, reason_joined, with_piece}
 use Rattle.rvm_handover.specs.Stages.{PlainStage, stage_of}

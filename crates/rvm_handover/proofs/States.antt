@@ -13,7 +13,7 @@ use Rattle.rvm_state.specs.declared.fault.StateFault.TheVariants as faults
 use Rattle.rvm_guest.specs.Body.{build}
 use Rattle.rvm_guest.specs.Pages.{pages_in}
 use Rattle.rvm_guest.proofs.Joined.{length_pages}
-use Rattle.rvm_guest.proofs.TheGuest.{board}
+use Rattle.rvm_guest.specs.TheGuest.{board}
 use Rattle.rvm_handover.specs.declared.not_ready.NotReady.{NotReady}
 use Rattle.rvm_handover.specs.Outcomes.{BoardOutcome, IsFault, IsLeft, is_bad, reason_of}
 use Rattle.rvm_handover.specs.Stages.{PlainStage, stage_of}

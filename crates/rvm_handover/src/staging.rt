@@ -5,7 +5,7 @@ ghost use Rattle.rvm_frame.specs.Bodies.{lost};
 ghost use Rattle.rvm_protocol.specs.Pages.{gathered, members, put};
 ghost use Rattle.rvm_protocol.specs.Receiving.{page_came, part_came, state_came};
 ghost use Rattle.rvm_protocol.specs.Staging.{new_stage, takes_part, with_part};
-ghost use Rattle.rvm_guest.proofs.TheGuest.{board};
+ghost use Rattle.rvm_guest.specs.TheGuest.{board};
 ghost use Rattle.rvm_guest.specs.Body.{build};
 ghost use Rattle.rvm_guest.specs.Pages.{joined, pages_in, zeros};
 ghost use Rattle.rvm_handover.specs.Stages.{blank, is_newer, is_older, stage_of, with_copy};

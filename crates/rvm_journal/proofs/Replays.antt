@@ -4,7 +4,7 @@ use Rattle.rvm_core.specs.Bounds.{CanBePosted}
 use Rattle.rvm_core.specs.Hosts.{PlainHost, Steps, host_of, step_of}
 use Rattle.rvm_core.specs.Spelled.{AreSpelled}
 use Rattle.rvm_frame.specs.declared.addressed.Addressed.{Addressed}
-use Rattle.rvm_guest.proofs.TheGuest.{board}
+use Rattle.rvm_guest.specs.TheGuest.{board}
 use Rattle.rvm_journal.specs.Entries.{PlainEntry}
 use Rattle.rvm_journal.specs.History.{History, IsKept, IsRecorded, Recording, bytes_of, with_entries}
 use Rattle.rvm_journal.specs.Replay.{IsAnswered, IsReplay, IsReplayFrom, LawHost, Outcome, outcome_at, replay, replay_from}

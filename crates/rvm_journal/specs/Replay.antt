@@ -4,7 +4,7 @@ use Rattle.rvm_core.specs.Hosts.{PlainHost, host_of}
 use Rattle.rvm_core.specs.Spelled.{AreSpelled}
 use Rattle.rvm_debug.specs.declared.event.BoardReply.{BoardReply}
 use Rattle.rvm_debug.specs.Guest.{Guest}
-use Rattle.rvm_guest.proofs.TheGuest.{board}
+use Rattle.rvm_guest.specs.TheGuest.{board}
 use Rattle.rvm_journal.specs.Entries.{PlainEntry}
 use Rattle.rvm_message.specs.Events.{BoardHostEvent, event_of}
 use Rattle.rvm_message.specs.Replies.{reply_of}

@@ -2,7 +2,7 @@
 
 ghost use Rattle.std.specs.Prelude.{◌≡◌, ◌||◌, ℕ, length};
 ghost use Rattle.rvm_mem.specs.Pages.{has};
-ghost use Rattle.rvm_guest.proofs.TheGuest.{board};
+ghost use Rattle.rvm_guest.specs.TheGuest.{board};
 
 use rvm_debug::{BoardEvent, BoardReply, Debugged};
 use rvm_mem::{Memory, PagedMemory};

@@ -4,7 +4,7 @@ ghost use Rattle.std.specs.Prelude.{◌≡◌, ◌||◌, ℕ, length};
 ghost use Rattle.rvm_debug.specs.declared.event.BoardEvent.TheVariants.{Step};
 ghost use Rattle.rvm_debug.specs.Events.{steps_if_there};
 ghost use Rattle.rvm_mem.specs.Pages.{has, mark_all};
-ghost use Rattle.rvm_guest.proofs.TheGuest.{board};
+ghost use Rattle.rvm_guest.specs.TheGuest.{board};
 ghost use Rattle.rvm_message.specs.Replies.{ends_steps, reply_of};
 ghost use Rattle.rvm_message.specs.Steps.{reply_to_step};
 

@@ -8,7 +8,7 @@ use Rattle.rvm_audit.specs.Worlds.{AreNew, IsWorldRun}
 use Rattle.rvm_command.specs.Command.{image_of}
 use Rattle.rvm_core.specs.Modes.{Run}
 use Rattle.rvm_debug.specs.Guest.{GuestState}
-use Rattle.rvm_guest.proofs.TheGuest.{board}
+use Rattle.rvm_guest.specs.TheGuest.{board}
 use Rattle.rvm_guest.specs.Valid.{is_valid}
 use Rattle.rvm_journal.specs.History.{History, Recording}
 use Rattle.rvm_event_line.specs.EventLines.{event_lines}

@@ -9,7 +9,7 @@ use Rattle.rvm_command.specs.declared.refused.Refused.{Refused}
 use Rattle.rvm_command.specs.Command.{image_of}
 use Rattle.rvm_command.specs.Refusals.{IsTold, refused}
 use Rattle.rvm_event_line.specs.EventLines.{event_lines}
-use Rattle.rvm_guest.proofs.TheGuest.{board}
+use Rattle.rvm_guest.specs.TheGuest.{board}
 use Rattle.rvm_journal.specs.History.{History}
 use Rattle.rvm_move.specs.declared.ends.Ends.{Ends}
 use Rattle.rvm_move_command.specs.Ended.{IsMade, IsNotBegun, IsSound, failure_line}

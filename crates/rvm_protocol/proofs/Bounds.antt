@@ -6,7 +6,7 @@ use Rattle.std.proofs.Math.Nat.{mul-le-mul_right}
 use Rattle.rvm_protocol.specs.Commands.{Policy, Command, Board, Begin, Copy, Resend, AbortMove, HostEvent, Do, Came, is_allowed}
 use Rattle.rvm_protocol.specs.FewCopies.{FewCopies, CopiesAreBounded}
 use Rattle.rvm_protocol.specs.Frames.{Frame, Offer, Accept, Refuse, Page, RoundEnd, Lost, State, Ready, Go, Started, Abort, is_compact, plain, Part}
-use Rattle.rvm_protocol.specs.Guest.{Guest}
+use Rattle.rvm_protocol.specs.Guest.{Guest, IsGuest}
 use Rattle.rvm_protocol.specs.Host.{outcome, Host, obey_at, is_there, is_heard}
 use Rattle.rvm_protocol.specs.Modes.{Mode, Empty, Run, Offering, Copying, Stopped, Given, Staging, Held, Outcome, ignores, says, sends, refuses}
 use Rattle.rvm_protocol.specs.Obeying.{obey, begun, begin_allowed, copy_page, sends_page, copy_last, sends_last, resend_last, begin}
@@ -26,7 +26,7 @@ pub record Counted (count max round sent scan copies : ℕ) : Type 0 where
   pub scan_le : scan ≤ count
   pub copies_le : copies + count ≤ round * count + sent
 
-module _ {S P E A B : Type 0} (m : Guest S P E A B) where
+module _ {S P E A B : Type 0} (m : Guest S P E A B) (laws : IsGuest m) where
   abbrev pub IsCounted : Rounds S → Type 0
   IsCounted r =
       Counted (length (m.pages r.guest)) r.policy.max_rounds r.round r.sent r.scan r.copies
@@ -95,7 +95,7 @@ module _ {S P E A B : Type 0} (m : Guest S P E A B) where
   resend_bound v n l (Some p) = tt
   resend_bound v n l None = either Bounds (is_compact v) _ _ (λ _. tt) (λ _. tt)
 
-  few : (O : Mode S P) → Bounded O → FewCopies m O
+  pub few : (O : Mode S P) → Bounded O → FewCopies m O
   few (Copying n r) ok =
       let c = length (m.pages r.guest) in let x = ok.sent_le in let y = ok.copies_le in let z =
       ok.scan_le in let w = ok.rounds in
@@ -115,7 +115,7 @@ module _ {S P E A B : Type 0} (m : Guest S P E A B) where
   obey_bound v (Board e) (Offering n g p) ok = ok
   obey_bound v (Board e) (Copying n r) ok =
       let c : length (m.pages (m.next r.guest e)) ≡ length (m.pages r.guest) =
-      m.same_length r.guest e in subst
+      laws.same_length r.guest e in subst
       (λ z. Counted z r.policy.max_rounds r.round r.sent r.scan r.copies) (sym c) ok
   obey_bound v (Board e) (Stopped n l) ok = tt
   obey_bound v (Board e) (Given n) ok = tt
@@ -240,14 +240,14 @@ module _ {S P E A B : Type 0} (m : Guest S P E A B) where
       either (λ (h : Host S P). Bounded h.mode) (x == y) (result_at m w y e).next (w.hosts x)
       (λ _. step_bound w.version y w.count (w.limits y) e (w.hosts y) (ok y)) (λ _. ok x)
 
-  run_bound : (events : List (Event E)) (w : World S P B) → ((x : ℕ) → Bounded (w.hosts x).mode)
+  pub run_bound : (events : List (Event E)) (w : World S P B) → ((x : ℕ) → Bounded (w.hosts x).mode)
       → (x : ℕ) → Bounded ((run m w events).hosts x).mode
   unfolding run
   run_bound [] w ok x = ok x
   run_bound (ev ∷ events) w ok x =
       run_bound events (happened m w (meaning m w ev)) (happened_bound w (meaning m w ev) ok) x
 
-  new_bound : (g : S) (x : ℕ) → Bounded (new_host m g x).mode
+  pub new_bound : (g : S) (x : ℕ) → Bounded (new_host m g x).mode
   new_bound g x = either Bounded (x == 0) (Run 0 g) (Empty 0) (λ _. tt) (λ _. tt)
 
   pub bound_law : CopiesAreBounded m

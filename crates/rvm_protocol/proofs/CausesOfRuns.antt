@@ -4,7 +4,7 @@ use Rattle.std.proofs.lemmas.Bool.{eqb-true}
 use Rattle.rvm_protocol.specs.Commands.{Command, Board, Begin, Copy, Resend, AbortMove, HostEvent, Do, Came, is_allowed}
 use Rattle.rvm_protocol.specs.FrameCauses.{Somewhere, says_ready, says_committed, says_started, WasReady, WasCommitted, WasStarted, IsCaused, FramesFollowTheirCauses}
 use Rattle.rvm_protocol.specs.Frames.{Frame, Offer, Accept, Refuse, Page, RoundEnd, Lost, State, Ready, Go, Started, Abort, Addressed, posted, Part, is_compact, plain, read, Zero}
-use Rattle.rvm_protocol.specs.Guest.{Guest}
+use Rattle.rvm_protocol.specs.Guest.{Guest, IsGuest}
 use Rattle.rvm_protocol.specs.Host.{Host, obey_at, is_there, is_heard, outcome, partner_then, addressee}
 use Rattle.rvm_protocol.specs.Modes.{Mode, Empty, Run, Offering, Copying, Stopped, Given, Staging, Held, Outcome, move_of, ignores, says, sends, refuses}
 use Rattle.rvm_protocol.specs.Obeying.{obey, begin, begin_allowed, begun, copy_page, sends_page, copy_last, sends_last, resend_last}
@@ -254,13 +254,13 @@ module _ {P B : Type 0} where
             subst Q (ap (λ (v : Addressed P B). v.frame) e) new
       ]
 
-module _ {S P E A B : Type 0} (m : Guest S P E A B) where
+module _ {S P E A B : Type 0} (m : Guest S P E A B) (laws : IsGuest m) where
   -- a commit is at a Stopped host and sends Go
   abbrev Commits : Mode S P → Outcome S P A B → Type 0
   Commits X o = (n : ℕ) → o.reply ≡ Committed n → (o.made ≡ Some (Go n)) × (is_stopped X ≡ true)
 
-  refused_commits : (X : Mode S P) (o : Outcome S P A B) → NoCommit m o.reply → Commits X o
-  refused_commits X o h = λ n e. absurd (subst (λ r. NoCommit m r) e h)
+  refused_commits : (X : Mode S P) (o : Outcome S P A B) → NoCommit m laws o.reply → Commits X o
+  refused_commits X o h = λ n e. absurd (subst (λ r. NoCommit m laws r) e h)
 
   commit_equal : (n k : ℕ) (o : Outcome S P A B) (X : Mode S P) → Commits X o
       → Commits X (of_this_move m n k o X)
@@ -434,7 +434,7 @@ module _ {S P E A B : Type 0} (m : Guest S P E A B) where
     pub fresh : Fresh (WasCommitted past) (WasStarted past) (mode_at m w t.current)
 
   -- so it is below what the current host's mode allows
-  gone_below : (w : World S P B) (t : Told S) (s : SoundAt m w t) (k : ℕ) → Gone (read m w.sent) k
+  gone_below : (w : World S P B) (t : Told S) (s : SoundAt m laws w t) (k : ℕ) → Gone (read m w.sent) k
       → k < go_lim (mode_at m w s.c)
   gone_below w t s k g =
       let l = s.good in
@@ -495,7 +495,7 @@ module _ {S P E A B : Type 0} (m : Guest S P E A B) where
   commit_is r h = cc
 
   followed_step : (w : World S P B) (t : Told S) (past : List (Entry P E A B)) (x : ℕ)
-      (e : HostEvent P E B) → Allowed m w x e → SoundAt m w t → Followed w t past
+      (e : HostEvent P E B) → Allowed m laws w x e → SoundAt m laws w t → Followed w t past
       → Followed (world_at m w x e) (told_reply m x e (result_at m w x e).reply t)
       (past ++ record { host = x; event = e; reply = (result_at m w x e).reply } ∷ [])
   followed_step w t past x e h s p =
@@ -538,7 +538,7 @@ module _ {S P E A B : Type 0} (m : Guest S P E A B) where
             (fresh_ok C T (mode_at m w t.current) p.fresh)
         | inr n ↦
             none_ok C T X
-            (none_at m (w.hosts s.c) (w.hosts s.d) w.hosts (read m w.sent) s.c s.d x t s.good
+            (none_at m laws (w.hosts s.c) (w.hosts s.d) w.hosts (read m w.sent) s.c s.d x t s.good
             (λ q. n (q ∙ sym c_is)))
       ] in
       let run' : RunOk C' T' X = run_more C C' T T' X
@@ -547,12 +547,12 @@ module _ {S P E A B : Type 0} (m : Guest S P E A B) where
       → IsCaused R' C' T' (plain m f) =
       λ y f q. justified_more R R' C C' T T' (plain m f) upR upC upT
       (p.frames (record { from = y; to = x; frame = plain m f })
-      (subst (λ z. Allowed m w x z) q h)) in
+      (subst (λ z. Allowed m laws w x z) q h)) in
       let follows = follow_step m R' C' T' w.version x w.count (w.limits x) e (w.hosts x)
       (backed_more R R' C C' X upR upC (p.backed x)) run' just now in
-      let s' = step_sound m w x e t h s in
+      let s' = step_sound m laws w x e t h s in
       let after : read m w'.sent ≡ and_sent (read m w.sent) (posted x (addressee e p') o.made) =
-      sent_after m w x e t h s in
+      sent_after m laws w x e t h s in
       record {
         backed = λ y. put_all (λ z (v : Host S P). Backed R' C' v.mode) w.hosts x h' follows.1
             (λ z _. backed_more R R' C C' (w.hosts z).mode upR upC (p.backed z)) y;
@@ -585,7 +585,7 @@ module _ {S P E A B : Type 0} (m : Guest S P E A B) where
                 | inl q ↦
                     q
                 | inr v ↦
-                    absurd (u.1 (none_at m (w.hosts s.c) (w.hosts s.d) w.hosts
+                    absurd (u.1 (none_at m laws (w.hosts s.c) (w.hosts s.d) w.hosts
                     (read m w.sent) s.c s.d x t s.good (λ q. v (q ∙ sym c_is))))
               ] in
               let was : t.paused ≡ true = s.good.paused
@@ -616,7 +616,7 @@ module _ {S P E A B : Type 0} (m : Guest S P E A B) where
 
   followed_happened : (w : World S P B) (t : Told S) (past : List (Entry P E A B))
       (q : Option (ℕ × HostEvent P E B))
-      → ((x : ℕ) (e : HostEvent P E B) → q ≡ Some (x, e) → Allowed m w x e) → SoundAt m w t
+      → ((x : ℕ) (e : HostEvent P E B) → q ≡ Some (x, e) → Allowed m laws w x e) → SoundAt m laws w t
       → Followed w t past
       → Followed (happened m w q) (told m t (entry_of m w q)) (past ++ entry_of m w q)
   unfolding told
@@ -624,17 +624,17 @@ module _ {S P E A B : Type 0} (m : Guest S P E A B) where
   followed_happened w t past (Some y) h s p = followed_step w t past y.0 y.1 (h y.0 y.1 refl) s p
 
   run_followed : (events : List (Event E)) (w : World S P B) (t : Told S)
-      (past : List (Entry P E A B)) → SoundAt m w t → Followed w t past
+      (past : List (Entry P E A B)) → SoundAt m laws w t → Followed w t past
       → Followed (run m w events) (told m t (history m w events)) (past ++ history m w events)
   unfolding run history told
   run_followed [] w t past s p = subst (λ z. Followed w t z) (sym (append_nil past)) p
   run_followed (ev ∷ events) w t past s p =
       let q = meaning m w ev in
-      let s' = happened_sound m w t q (λ x e. event_allowed m w ev x e) s in
-      let p' = followed_happened w t past q (λ x e. event_allowed m w ev x e) s p in
+      let s' = happened_sound m laws w t q (λ x e. event_allowed m laws w ev x e) s in
+      let p' = followed_happened w t past q (λ x e. event_allowed m laws w ev x e) s p in
       subst (λ z. Followed (run m (happened m w q) events) z
       (past ++ (entry_of m w q ++ history m (happened m w q) events)))
-      (sym (told_more m t (entry_of m w q) (history m (happened m w q) events)))
+      (sym (told_more m laws t (entry_of m w q) (history m (happened m w q) events)))
       (subst (λ z. Followed (run m (happened m w q) events)
       (told m (told m t (entry_of m w q)) (history m (happened m w q) events)) z)
       (append_assoc past (entry_of m w q) (history m (happened m w q) events))
@@ -663,7 +663,7 @@ module _ {S P E A B : Type 0} (m : Guest S P E A B) where
   unfolding FramesFollowTheirCauses
   follow_law = λ g version count limits events a v h.
       let end = run_followed events (new_world m version g count limits) (at_start g) []
-      (new_sound m version g count limits v) (new_followed version g count limits) in
+      (new_sound m laws version g count limits v) (new_followed version g count limits) in
       caused_plain _ _ _ a.frame
       (end.frames (record { from = a.from; to = a.to; frame = plain m a.frame })
-      (has_read m (run m (new_world m version g count limits) events).sent a h))
+      (has_read m laws (run m (new_world m version g count limits) events).sent a h))

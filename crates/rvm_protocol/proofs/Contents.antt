@@ -3,7 +3,7 @@ use Rattle.std.proofs.Common.{◌≡◌, ◌⊎◌, inl, inr, ℕ, ◌+◌, ◌=
 use Rattle.rvm_protocol.specs.Commands.{Command, Board, Begin, Copy, Resend, AbortMove, HostEvent, Do, Came, is_allowed}
 use Rattle.rvm_protocol.specs.FrameContents.{IsStateOf, Carries, FramesCarryTheGuest}
 use Rattle.rvm_protocol.specs.Frames.{Frame, Offer, Accept, Refuse, Page, RoundEnd, Lost, State, Ready, Go, Started, Abort, Addressed, posted, plain, written, made_as, Part, is_compact, Zero, read}
-use Rattle.rvm_protocol.specs.Guest.{Guest}
+use Rattle.rvm_protocol.specs.Guest.{Guest, IsGuest}
 use Rattle.rvm_protocol.specs.Host.{Host, obey_at, is_there, is_heard, outcome, partner_then, addressee}
 use Rattle.rvm_protocol.specs.Modes.{Mode, Empty, Run, Offering, Copying, Stopped, Given, Staging, Held, Outcome, ignores, says, sends, refuses, guest_in}
 use Rattle.rvm_protocol.specs.Obeying.{begin, begin_allowed, begun, copy_page, sends_page, copy_last, sends_last, resend_last, sends_state}
@@ -11,17 +11,17 @@ use Rattle.rvm_protocol.specs.Pages.{least}
 use Rattle.rvm_protocol.specs.Receiving.{came, of_this_move, offered, offer_above}
 use Rattle.rvm_protocol.specs.Replies.{Accepted, Declined, BadSize, BadHost, EpochsSpent, SeqSpent, Stopping, Reply}
 use Rattle.rvm_protocol.specs.Rounds.{Rounds, Last, is_skipped, to_copy, stopped, page_count, page_of, newest_numbers, pieces_of}
-use Rattle.rvm_protocol.specs.Told.{told, at_start}
-use Rattle.rvm_protocol.specs.World.{mode_at, run, history, new_world}
+use Rattle.rvm_protocol.specs.Told.{Told, told, at_start}
+use Rattle.rvm_protocol.specs.World.{World, Event, mode_at, run, history, meaning, new_world, result_at}
 use Rattle.rvm_protocol.proofs.PairInvariant.{New, HoldsNone, Content}
 use Rattle.rvm_protocol.proofs.CurrentModes.{either}
 use Rattle.rvm_protocol.proofs.Basics.{some_is, same_or, or_left, or_right, and_both, both_false, least_none, listed_length, listed_at}
-use Rattle.rvm_protocol.proofs.Runs.{run_sound, new_sound}
+use Rattle.rvm_protocol.proofs.Runs.{SoundAt, run_sound, new_sound}
 use Rattle.rvm_protocol.proofs.OtherHosts.{none_at}
 use Rattle.rvm_protocol.proofs.OneGuestHolds.{told_guest}
 use Rattle.rvm_protocol.proofs.StateCases.{state_cases, part_cases}
 
-module _ {S P E A B : Type 0} (m : Guest S P E A B) (g : S) where
+module _ {S P E A B : Type 0} (m : Guest S P E A B) (laws : IsGuest m) (g : S) where
   -- the paused guest is g, and each of its pages was copied, or is still to be
   pub record StoppedIs (l : Last S) : Type 0 where
     pub guest : l.guest ≡ g
@@ -233,7 +233,7 @@ module _ {S P E A B : Type 0} (m : Guest S P E A B) (g : S) where
   written_carries : (v : ℕ) (f : Frame P B) → Carries m g f → Carries m g (written m v f)
   written_carries v (Page n p k b) q =
       either (Carries m g) (is_compact v && m.is_zeros b) (Zero n p k) (Page n p k b)
-      (λ e. sym q ∙ m.only_zeros_pass b (and_both (is_compact v) (m.is_zeros b) e).1)
+      (λ e. sym q ∙ laws.only_zeros_pass b (and_both (is_compact v) (m.is_zeros b) e).1)
       (λ _. q)
   written_carries v (Offer n a b) q = q
   written_carries v (Accept n) q = q
@@ -254,26 +254,31 @@ module _ {S P E A B : Type 0} (m : Guest S P E A B) (g : S) where
   posted_carries v x z (Some f) a h q =
       subst (λ (y : Addressed P B). Carries m g y.frame) (some_is _ a h) (written_carries v f q)
 
-module _ {S P E A B : Type 0} (m : Guest S P E A B) where
+module _ {S P E A B : Type 0} (m : Guest S P E A B) (laws : IsGuest m) where
+  -- whatever is known of the world
+  pub carry_at : (w : World S P B) (t : Told S) → SoundAt m laws w t → (ev : Event E) (x : ℕ)
+      (e : HostEvent P E B) (a : Addressed P B) → meaning m w ev ≡ Some (x, e)
+      → (result_at m w x e).made ≡ Some a → Carries m t.guest a.frame
+  carry_at w t s ev x e a is made =
+      let l = s.good in
+      let source : SourceIs m laws t.guest (mode_at m w x) = elim (same_or x s.c) [
+        | inl q ↦
+            subst (λ z. SourceIs m laws t.guest (mode_at m w z)) (sym q)
+            (source_here m laws t.guest (mode_at m w s.c) (mode_at m w s.d) _ l.pages l.guest)
+        | inr n ↦
+            source_none m laws t.guest (mode_at m w x)
+            (none_at m laws (w.hosts s.c) (w.hosts s.d) w.hosts (read m w.sent) s.c s.d x t l n)
+      ] in
+      let o = outcome m w.version x w.count (w.limits x) e (w.hosts x) in
+      posted_carries m laws t.guest w.version x
+      (addressee e (partner_then e o.reply (w.hosts x).partner)) o.made a made
+      (carry_step m laws t.guest w.version x w.count (w.limits x) e (w.hosts x) source)
+
   pub carry_law : FramesCarryTheGuest m
   unfolding FramesCarryTheGuest
   carry_law = λ g version count limits events ev x e a v is made.
-      let w = run m (new_world m version g count limits) events in
-      let t = told m (at_start g) (history m (new_world m version g count limits) events) in
-      let s = run_sound m events (new_world m version g count limits) (at_start g)
-      (new_sound m version g count limits v) in
-      let l = s.good in
-      let source : SourceIs m t.guest (mode_at m w x) = elim (same_or x s.c) [
-        | inl q ↦
-            subst (λ z. SourceIs m t.guest (mode_at m w z)) (sym q)
-            (source_here m t.guest (mode_at m w s.c) (mode_at m w s.d) _ l.pages l.guest)
-        | inr n ↦
-            source_none m t.guest (mode_at m w x)
-            (none_at m (w.hosts s.c) (w.hosts s.d) w.hosts (read m w.sent) s.c s.d x t l n)
-      ] in
-      let o = outcome m w.version x w.count (w.limits x) e (w.hosts x) in
-      subst (λ z. Carries m z a.frame)
-      (told_guest m (history m (new_world m version g count limits) events) (at_start g))
-      (posted_carries m t.guest w.version x
-      (addressee e (partner_then e o.reply (w.hosts x).partner)) o.made a made
-      (carry_step m t.guest w.version x w.count (w.limits x) e (w.hosts x) source))
+      let past = history m (new_world m version g count limits) events in
+      subst (λ z. Carries m z a.frame) (told_guest m laws past (at_start g))
+      (carry_at (run m (new_world m version g count limits) events) (told m (at_start g) past)
+      (run_sound m laws events (new_world m version g count limits) (at_start g)
+      (new_sound m laws version g count limits v)) ev x e a is made)

@@ -4,7 +4,7 @@ use Rattle.std.proofs.Common.{◌≡◌, ℕ, ◌+◌, Bool, true, false, ◌==�
 use Rattle.std.proofs.lemmas.Bool.{eqb-true, eqb-false}
 use Rattle.std.proofs.lemmas.List.{length-set, get_or-set_other}
 use Rattle.rvm_protocol.specs.Commands.{Policy}
-use Rattle.rvm_protocol.specs.Guest.{Guest}
+use Rattle.rvm_protocol.specs.Guest.{Guest, IsGuest}
 
 pub record Counter : Type 0 where
   pub count : ℕ
@@ -78,6 +78,11 @@ counter =
       cut = λ ns b. (b ∷ ns) ∷ [];
       join = join_one;
       valid = λ t. true;
+    }
+
+pub counter_laws : IsGuest counter
+counter_laws =
+    record {
       stays = λ t e v. refl;
       same_length = same_length;
       same_processors = λ t e. refl;
@@ -95,6 +100,18 @@ split_counter =
     record counter {
       cut = cut_two;
       join = join_two;
+    }
+
+pub split_counter_laws : IsGuest split_counter
+split_counter_laws =
+    record {
+      stays = λ t e v. refl;
+      same_length = same_length;
+      same_processors = λ t e. refl;
+      unwritten = unwritten;
+      read_back = λ t v. refl;
+      zeros_pass = refl;
+      only_zeros_pass = λ p h. eqb-true p 0 h;
       some_piece = some_two;
       joined = λ t ns v h k. joined_two ns t.count;
     }

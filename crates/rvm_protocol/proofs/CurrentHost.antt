@@ -3,7 +3,7 @@ use Rattle.std.proofs.Common.{◌≡◌, ◌≢◌, inl, inr, ℕ, suc, ◌<◌,
 use Rattle.std.proofs.lemmas.Bool.{ltb-true, eqb-true, eq-eqb}
 use Rattle.rvm_protocol.specs.Commands.{Policy, Command, Board, Begin, Copy, Resend, AbortMove, HostEvent, Do, Came, is_allowed}
 use Rattle.rvm_protocol.specs.Frames.{Frame, Offer, Addressed, posted}
-use Rattle.rvm_protocol.specs.Guest.{Guest}
+use Rattle.rvm_protocol.specs.Guest.{Guest, IsGuest}
 use Rattle.rvm_protocol.specs.Host.{Host, obey_at, came_at, is_there, is_heard, is_offer_above, partner_then}
 use Rattle.rvm_protocol.specs.Modes.{Mode, Empty, Run, Offering, Copying, Stopped, Given, Staging, Held, Outcome, move_of, ignores, refuses, guest_in}
 use Rattle.rvm_protocol.specs.Obeying.{obey, begin, begin_allowed, begun}
@@ -34,7 +34,7 @@ there_apart x count y h =
     not_same true false h e = cc
     not_same false b h e = cc
 
-module _ {S P E A B : Type 0} (m : Guest S P E A B) where
+module _ {S P E A B : Type 0} (m : Guest S P E A B) (laws : IsGuest m) where
   -- at Committed the other host holds the board
   handed : (n : ℕ) (l : Last S) (T next : Mode S P) (F : Frame P B → Type 0) → Meet (Stopped n l) T
       → Meet T next → Content m (Stopped n l) T F
@@ -104,17 +104,17 @@ module _ {S P E A B : Type 0} (m : Guest S P E A B) where
   pub record Sound (H : ℕ → Host S P) (sent : List (Addressed P B)) (t : Told S) : Type 0 where
     pub c : ℕ
     pub d : ℕ
-    pub good : Good m (H c) (H d) H sent c d t
+    pub good : Good m laws (H c) (H d) H sent c d t
 
   pub sound : (hc hd : Host S P) (H : ℕ → Host S P) (sent : List (Addressed P B)) (c d : ℕ)
       (t : Told S)
-      → Good m hc hd H sent c d t → Sound H sent t
+      → Good m laws hc hd H sent c d t → Sound H sent t
   sound hc hd H sent c d t l =
       record {
         c = c;
         d = d;
-        good = subst (λ z. Good m z (H d) H sent c d t) l.is_c
-            (subst (λ z. Good m hc z H sent c d t) l.is_d l);
+        good = subst (λ z. Good m laws z (H d) H sent c d t) l.is_c
+            (subst (λ z. Good m laws hc z H sent c d t) l.is_d l);
       }
 
   -- what an event at x leaves
@@ -126,28 +126,28 @@ module _ {S P E A B : Type 0} (m : Guest S P E A B) where
 
   settled : (O : Mode S P) (p : ℕ) (hd : Host S P) (H : ℕ → Host S P) (sent : List (Addressed P B))
       (c d : ℕ) (t : Told S) (f : Frame P B) (r : Reply A) (made : Option (Frame P B))
-      (O' : Mode S P) (p' : ℕ) → Good m (record { mode = O; partner = p }) hd H sent c d t
+      (O' : Mode S P) (p' : ℕ) → Good m laws (record { mode = O; partner = p }) hd H sent c d t
       → turned m hd.mode (own_ok O hd.mode) (their_ok O hd.mode) r O' made
-      → turned_pages m hd.mode (Made sent c d) (Made sent d c) r O' made
+      → turned_pages m laws hd.mode (Made sent c d) (Made sent d c) r O' made
       → tells_owner m (Came d f) O r O' → p' ≡ d
       → Sound (put H c (record { mode = O'; partner = p' })) (and_sent sent (posted c d made))
       (told_reply m c (Came d f) r t)
   settled O p hd H sent c d t f (Committed n) made O' p' l i ok tells par =
       let u = turn O hd.mode O' tells.0 l.modes.meet i.meet in
       sound _ _ _ _ _ _ _
-      (commit_good m O p hd H sent c d t f n made O' p' l u i ok
+      (commit_good m laws O p hd H sent c d t f n made O' p' l u i ok
       (committed_board O hd.mode O' (Made sent c d) tells.0 l.modes.meet i.meet l.pages) tells.1
       (stopped_target O n t.targets d tells.0 tells.2 l.target) (u.target t.targets c)
       (elim l.near [ inl lt ↦ let a = u.there in absurd (omega (arith, a, lt)) | inr e ↦ e ]) par)
   settled O p hd H sent c d t f r made O' p' l i ok tells par =
       sound _ _ _ _ _ _ _
-      (owner_good m O p hd H sent c d t (Came d f) r made O' p' l i ok tells tt (λ _. par))
+      (owner_good m laws O p hd H sent c d t (Came d f) r made O' p' l i ok tells tt (λ _. par))
 
   retarget : (O : Mode S P) (p : ℕ) (hd : Host S P) (H : ℕ → Host S P) (sent : List (Addressed P B))
       (c d y : ℕ) (t : Told S) → is_run O ≡ true
-      → Good m (record { mode = O; partner = p }) hd H sent c d t → y ≢ c
-      → Good m (record { mode = O; partner = p }) (H y) H sent c y t
-  retarget (Run n g) p hd H sent c d y t h l ne = retarget_run m n g p hd H sent c d y t l ne
+      → Good m laws (record { mode = O; partner = p }) hd H sent c d t → y ≢ c
+      → Good m laws (record { mode = O; partner = p }) (H y) H sent c y t
+  retarget (Run n g) p hd H sent c d y t h l ne = retarget_run m laws n g p hd H sent c d y t l ne
   retarget (Empty n) p hd H sent c d y t h l ne = cc
   retarget (Offering n g r) p hd H sent c d y t h l ne = cc
   retarget (Copying n r) p hd H sent c d y t h l ne = cc
@@ -158,15 +158,15 @@ module _ {S P E A B : Type 0} (m : Guest S P E A B) where
 
   -- the second host is the partner
   aimed : (O : Mode S P) (p : ℕ) (hd : Host S P) (H : ℕ → Host S P) (sent : List (Addressed P B))
-      (c d y : ℕ) (t : Told S) → Good m (record { mode = O; partner = p }) hd H sent c d t → y ≢ c
-      → y ≡ p → Good m (record { mode = O; partner = p }) (H y) H sent c y t
+      (c d y : ℕ) (t : Told S) → Good m laws (record { mode = O; partner = p }) hd H sent c d t → y ≢ c
+      → y ≡ p → Good m laws (record { mode = O; partner = p }) (H y) H sent c y t
   aimed O p hd H sent c d y t l ne same =
       elim (is_either (is_run O)) [
         | inl h ↦ retarget O p hd H sent c d y t h l ne
         | inr h ↦
-            subst (λ z. Good m (record { mode = O; partner = p }) (H z) H sent c z t)
+            subst (λ z. Good m laws (record { mode = O; partner = p }) (H z) H sent c z t)
             (sym (same ∙ l.partner h))
-            (subst (λ z. Good m (record { mode = O; partner = p }) z H sent c d t) l.is_d l)
+            (subst (λ z. Good m laws (record { mode = O; partner = p }) z H sent c d t) l.is_d l)
       ]
 
   then_same : (y p : ℕ) (f : Frame P B) (r : Reply A) → y ≡ p
@@ -177,23 +177,23 @@ module _ {S P E A B : Type 0} (m : Guest S P E A B) where
   -- a frame of its partner at the current host
   partner_came : (O : Mode S P) (p limit : ℕ) (hd : Host S P) (H : ℕ → Host S P)
       (sent : List (Addressed P B)) (c d y : ℕ) (t : Told S) (f : Frame P B)
-      → Good m (record { mode = O; partner = p }) hd H sent c d t → Made sent y c f → y ≢ c → y ≡ p
+      → Good m laws (record { mode = O; partner = p }) hd H sent c d t → Made sent y c f → y ≢ c → y ≡ p
       → After H sent t c y (partner_then {E = E} (Came y f) (came m limit f O).reply p) (Came y f)
       (came m limit f O)
   partner_came O p limit hd H sent c d y t f l h ne same =
       let l = aimed O p hd H sent c d y t l ne same in
       let T = (H y).mode in
-      let i = own_all m O T l.modes.meet in
+      let i = own_all m laws O T l.modes.meet in
       let o = came m limit f O in
       settled O p (H y) H sent c y t f o.reply o.made o.next _ l
       (owner_receives m limit f O T (own_ok O T) (their_ok O T) (l.modes.their f h) i)
-      (owner_pages_came m limit f O T (Made sent c y) (Made sent y c) h l.modes l.pages)
+      (owner_pages_came m laws limit f O T (Made sent c y) (Made sent y c) h l.modes l.pages)
       (received m y limit f O T (own_ok O T) (their_ok O T) (l.modes.their f h) i)
       (then_same y p f o.reply same)
 
   -- no offer above the current host's number is under way to it
   no_offer : (hc hd : Host S P) (H : ℕ → Host S P) (sent : List (Addressed P B)) (c d y : ℕ)
-      (t : Told S) (f : Frame P B) → Good m hc hd H sent c d t → Made sent y c f → y ≢ c
+      (t : Told S) (f : Frame P B) → Good m laws hc hd H sent c d t → Made sent y c f → y ≢ c
       → is_offer_above (move_of hc.mode) f ≡ true → ⊥
   no_offer hc hd H sent c d y t (Offer k a b) l h ne q =
       let lt : move_of hc.mode < k = ltb-true (move_of hc.mode) k q in
@@ -222,7 +222,7 @@ module _ {S P E A B : Type 0} (m : Guest S P E A B) where
 
   pub current_came : (O : Mode S P) (p count limit : ℕ) (hd : Host S P) (H : ℕ → Host S P)
       (sent : List (Addressed P B)) (c d y : ℕ) (t : Told S) (f : Frame P B)
-      → Good m (record { mode = O; partner = p }) hd H sent c d t → Made sent y c f
+      → Good m laws (record { mode = O; partner = p }) hd H sent c d t → Made sent y c f
       → After H sent t c y
       (partner_then {E = E} (Came y f)
       (came_at m c count limit y f (record { mode = O; partner = p })).reply p) (Came y f)
@@ -239,8 +239,8 @@ module _ {S P E A B : Type 0} (m : Guest S P E A B) where
         | inr q ↦ absurd (no_offer (record { mode = O; partner = p }) hd H sent c d y t f l h ne q)
       ])
       (λ _. sound _ _ _ _ _ _ _
-      (owner_good m O p hd H sent c d t (Came y f) (Refused Ignored) None O p l
-      (own_all m O hd.mode l.modes.meet) l.pages (quiet y f O) tt l.partner))
+      (owner_good m laws O p hd H sent c d t (Came y f) (Refused Ignored) None O p l
+      (own_all m laws O hd.mode l.modes.meet) l.pages (quiet y f O) tt l.partner))
 
   -- commands at the current host
   abbrev pub NoBegin : Command E → Type 0
@@ -265,7 +265,7 @@ module _ {S P E A B : Type 0} (m : Guest S P E A B) where
   obeyed : (v : ℕ)
       → (k : Command E) (O : Mode S P) (p p' : ℕ) (hd : Host S P) (H : ℕ → Host S P)
       (sent : List (Addressed P B)) (c d : ℕ) (t : Told S)
-      → Good m (record { mode = O; partner = p }) hd H sent c d t
+      → Good m laws (record { mode = O; partner = p }) hd H sent c d t
       → ((to : ℕ) (q : Policy) → k ≡ Begin to q → to ≡ d)
       → posted c p' (obey m v k O).made ≡ posted c d (obey m v k O).made
       → (is_run (obey m v k O).next ≡ false → p' ≡ d)
@@ -276,9 +276,9 @@ module _ {S P E A B : Type 0} (m : Guest S P E A B) where
       subst (λ z. Sound (put H c (record { mode = o.next; partner = p' })) (and_sent sent z)
       (told_reply m c (Do k) o.reply t)) (sym post)
       (sound _ _ _ _ _ _ _
-      (owner_good m O p hd H sent c d t (Do k) o.reply o.made o.next p' l
-      (owner_obeys m v k O T (own_ok O T) (their_ok O T) (own_all m O T l.modes.meet))
-      (owner_pages m v k O T (Made sent c d) (Made sent d c) l.modes l.pages)
+      (owner_good m laws O p hd H sent c d t (Do k) o.reply o.made o.next p' l
+      (owner_obeys m v k O T (own_ok O T) (their_ok O T) (own_all m laws O T l.modes.meet))
+      (owner_pages m laws v k O T (Made sent c d) (Made sent d c) l.modes l.pages)
       (commanded m v k O) (aims_at k aim) par))
     where
       aims_at : (k : Command E) → ((to : ℕ) (q : Policy) → k ≡ Begin to q → to ≡ d)
@@ -293,14 +293,14 @@ module _ {S P E A B : Type 0} (m : Guest S P E A B) where
   obeyed_as : (v : ℕ)
       → (k : Command E) (O : Mode S P) (p : ℕ) (hd : Host S P) (H : ℕ → Host S P)
       (sent : List (Addressed P B)) (c d : ℕ) (t : Told S)
-      → Good m (record { mode = O; partner = p }) hd H sent c d t → NoBegin k
+      → Good m laws (record { mode = O; partner = p }) hd H sent c d t → NoBegin k
       → After H sent t c p p (Do k) (obey m v k O)
   obeyed_as v k O p hd H sent c d t l nb =
       obeyed v k O p p hd H sent c d t l (λ to q e. absurd (subst NoBegin e nb)) (post O k l nb)
       (stays O k l nb)
     where
       post : (O : Mode S P) (k : Command E)
-          → Good m (record { mode = O; partner = p }) hd H sent c d t → NoBegin k
+          → Good m laws (record { mode = O; partner = p }) hd H sent c d t → NoBegin k
           → posted c p (obey m v k O).made ≡ posted c d (obey m v k O).made
       post (Run n g) k l nb =
           ap (posted c p) (run_quiet v k n g nb).0 ∙ sym (ap (posted c d) (run_quiet v k n g nb).0)
@@ -317,7 +317,7 @@ module _ {S P E A B : Type 0} (m : Guest S P E A B) where
       post (Held n g) k l nb = ap (λ z. posted c z (obey m v k (Held n g)).made) (l.partner refl)
 
       stays : (O : Mode S P) (k : Command E)
-          → Good m (record { mode = O; partner = p }) hd H sent c d t → NoBegin k
+          → Good m laws (record { mode = O; partner = p }) hd H sent c d t → NoBegin k
           → is_run (obey m v k O).next ≡ false → p ≡ d
       stays (Run n g) k l nb h =
           absurd (both_false (is_run (obey m v k (Run n g)).next) (run_quiet v k n g nb).1 h)
@@ -332,7 +332,7 @@ module _ {S P E A B : Type 0} (m : Guest S P E A B) where
   -- one outcome of Begin
   begun_as : (to : ℕ) (q : Policy) (n : ℕ) (g : S) (p : ℕ) (hd : Host S P) (H : ℕ → Host S P)
       (sent : List (Addressed P B)) (c d : ℕ) (t : Told S)
-      → Good m (record { mode = Run n g; partner = p }) hd H sent c d t → (o : Outcome S P A B)
+      → Good m laws (record { mode = Run n g; partner = p }) hd H sent c d t → (o : Outcome S P A B)
       → (Modes o.next hd.mode (More (own_ok (Run n g) hd.mode) o.made)
       (their_ok (Run n g) hd.mode)) × Content m o.next hd.mode
       (More (Made sent c d) o.made) × Tells m (Do (Begin to q)) (Run n g) o.reply o.next
@@ -342,13 +342,13 @@ module _ {S P E A B : Type 0} (m : Guest S P E A B) where
       subst (λ z. Sound (put H c (record { mode = o.next; partner = p' })) (and_sent sent z)
       (told_reply m c (Do (Begin to q)) o.reply t)) (sym post)
       (sound _ _ _ _ _ _ _
-      (owner_good m (Run n g) p hd H sent c d t
+      (owner_good m laws (Run n g) p hd H sent c d t
       (Do (Begin to q)) o.reply o.made o.next p' l f.0 f.1 f.2 aim par))
 
   begins : (v : ℕ)
       → (to : ℕ) (q : Policy) (n : ℕ) (g : S) (p : ℕ) (hd : Host S P) (H : ℕ → Host S P)
       (sent : List (Addressed P B)) (c d : ℕ) (t : Told S)
-      → Good m (record { mode = Run n g; partner = p }) hd H sent c d t → to ≡ d
+      → Good m laws (record { mode = Run n g; partner = p }) hd H sent c d t → to ≡ d
       → Obeyed H sent t c p (Begin to q) (begin m q (Run n g))
   begins v to q n g p hd H sent c d t l aim =
       let T = hd.mode in
@@ -359,8 +359,8 @@ module _ {S P E A B : Type 0} (m : Guest S P E A B) where
       let Q = λ (o : Outcome S P A B). Facts o → Obeyed H sent t c p (Begin to q) o in
       let all : Facts (begin m q O) = (
         owner_obeys m v (Begin to q) O T (own_ok O T) (their_ok O T)
-            (own_all m O T l.modes.meet),
-        owner_pages m v (Begin to q) O T (Made sent c d)
+            (own_all m laws O T l.modes.meet),
+        owner_pages m laws v (Begin to q) O T (Made sent c d)
             (Made sent d c) l.modes l.pages,
         commanded m v (Begin to q) O,
       ) in
@@ -375,16 +375,16 @@ module _ {S P E A B : Type 0} (m : Guest S P E A B) where
   pub current_obeys : (v : ℕ)
       → (k : Command E) (O : Mode S P) (p count : ℕ) (hd : Host S P) (H : ℕ → Host S P)
       (sent : List (Addressed P B)) (c d : ℕ) (t : Told S)
-      → Good m (record { mode = O; partner = p }) hd H sent c d t
+      → Good m laws (record { mode = O; partner = p }) hd H sent c d t
       → Obeyed H sent t c p k (obey_at m v c count k O)
   current_obeys v (Begin to q) (Run n g) p count hd H sent c d t l =
       either (Obeyed H sent t c p (Begin to q)) (is_there c count to) (begin m q (Run n g))
       (refuses BadHost (Run n g))
       (λ e. let ne = there_apart c count to e in begins v to q n g p (H to) H sent c to t
-      (retarget_run m n g p hd H sent c d to t l ne) refl)
+      (retarget_run m laws n g p hd H sent c d to t l ne) refl)
       (λ _. let l' = l in sound _ _ _ _ _ _ _
-      (owner_good m (Run n g) p hd H sent c d t (Do Copy) (Refused BadHost) None (Run n g) p l
-      (own_all m (Run n g) hd.mode l.modes.meet) tt
+      (owner_good m laws (Run n g) p hd H sent c d t (Do Copy) (Refused BadHost) None (Run n g) p l
+      (own_all m laws (Run n g) hd.mode l.modes.meet) tt
       (record {
         guest = refl;
         paused = refl;
@@ -395,8 +395,8 @@ module _ {S P E A B : Type 0} (m : Guest S P E A B) where
       }) tt l.partner))
   current_obeys v (Begin to q) (Offering n g r) p count hd H sent c d t l =
       sound _ _ _ _ _ _ _
-      (owner_good m (Offering n g r) p hd H sent c d t (Do Copy) (Refused Busy) None
-      (Offering n g r) p l (own_all m (Offering n g r) hd.mode l.modes.meet) l.pages
+      (owner_good m laws (Offering n g r) p hd H sent c d t (Do Copy) (Refused Busy) None
+      (Offering n g r) p l (own_all m laws (Offering n g r) hd.mode l.modes.meet) l.pages
       (record {
         guest = refl;
         paused = refl;
@@ -407,8 +407,8 @@ module _ {S P E A B : Type 0} (m : Guest S P E A B) where
       }) tt l.partner)
   current_obeys v (Begin to q) (Copying n r) p count hd H sent c d t l =
       sound _ _ _ _ _ _ _
-      (owner_good m (Copying n r) p hd H sent c d t (Do Copy) (Refused Busy) None (Copying n r) p l
-      (own_all m (Copying n r) hd.mode l.modes.meet) l.pages
+      (owner_good m laws (Copying n r) p hd H sent c d t (Do Copy) (Refused Busy) None (Copying n r) p l
+      (own_all m laws (Copying n r) hd.mode l.modes.meet) l.pages
       (record {
         guest = refl;
         paused = refl;
@@ -419,8 +419,8 @@ module _ {S P E A B : Type 0} (m : Guest S P E A B) where
       }) tt l.partner)
   current_obeys v (Begin to q) (Stopped n r) p count hd H sent c d t l =
       sound _ _ _ _ _ _ _
-      (owner_good m (Stopped n r) p hd H sent c d t (Do Copy) (Refused Busy) None (Stopped n r) p l
-      (own_all m (Stopped n r) hd.mode l.modes.meet) l.pages
+      (owner_good m laws (Stopped n r) p hd H sent c d t (Do Copy) (Refused Busy) None (Stopped n r) p l
+      (own_all m laws (Stopped n r) hd.mode l.modes.meet) l.pages
       (record {
         guest = refl;
         paused = refl;
@@ -431,8 +431,8 @@ module _ {S P E A B : Type 0} (m : Guest S P E A B) where
       }) tt l.partner)
   current_obeys v (Begin to q) (Held n g) p count hd H sent c d t l =
       sound _ _ _ _ _ _ _
-      (owner_good m (Held n g) p hd H sent c d t (Do Copy) (Refused NotHere) None (Held n g) p l
-      (own_all m (Held n g) hd.mode l.modes.meet) l.pages
+      (owner_good m laws (Held n g) p hd H sent c d t (Do Copy) (Refused NotHere) None (Held n g) p l
+      (own_all m laws (Held n g) hd.mode l.modes.meet) l.pages
       (record {
         guest = refl;
         paused = refl;

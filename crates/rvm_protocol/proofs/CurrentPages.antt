@@ -3,7 +3,7 @@ use Rattle.std.proofs.Common.{◌≡◌, ◌≢◌, ◌⊎◌, inl, inr, ⊎_eli
 use Rattle.std.proofs.lemmas.Bool.{ltb-true, ltb-false, lt-ltb}
 use Rattle.rvm_protocol.specs.Commands.{Policy, Command, Board, Begin, Copy, Resend, is_allowed}
 use Rattle.rvm_protocol.specs.Frames.{Frame, Offer, Page, RoundEnd, State, Part, is_compact}
-use Rattle.rvm_protocol.specs.Guest.{Guest}
+use Rattle.rvm_protocol.specs.Guest.{Guest, IsGuest}
 use Rattle.rvm_protocol.specs.Modes.{Mode, Empty, Run, Offering, Copying, Stopped, Given, Staging, Held, Outcome, says, refuses}
 use Rattle.rvm_protocol.specs.Obeying.{obey, begin_allowed, copy_page, copy_last, resend_last, state_frame, begun, sends_page, sends_last, part_frame, sends_state}
 use Rattle.rvm_protocol.specs.Pages.{least, put, is_in}
@@ -13,7 +13,7 @@ use Rattle.rvm_protocol.proofs.PairInvariant.{More, run_beside, copying_beside, 
 use Rattle.rvm_protocol.proofs.CurrentModes.{either}
 use Rattle.rvm_protocol.proofs.Basics.{page_is, state_is, round_no_page, page_no_state, offer_is, state_no_page, both_false, is_either, or_left, or_right, or_false, and_not_false, put_same, put_other, same_or, IsLeast, least_found, least_none, listed_length, listed_at, page_no_part, state_no_part, part_no_page, part_no_state, part_is}
 
-module _ {S P E A B : Type 0} (m : Guest S P E A B) where
+module _ {S P E A B : Type 0} (m : Guest S P E A B) (laws : IsGuest m) where
   pub beside_more : (e c h : ℕ) (F F' : Frame P B → Type 0) (T : Mode S P)
       → ((f : Frame P B) → F f → F' f) → BesideOk m e c h F T → BesideOk m e c h F' T
   beside_more e c h F F' (Staging n s) up ok =
@@ -123,9 +123,9 @@ module _ {S P E A B : Type 0} (m : Guest S P E A B) where
       (record r { guest = m.next r.guest ev; log = λ p. r.log p || m.wrote r.guest ev p }) T F
   board_copying ev e r T F ok =
       let g = r.guest in let c : length (m.pages (m.next g ev)) ≡ length (m.pages g) =
-      m.same_length g ev in
+      laws.same_length g ev in
       record {
-        beside = beside_same e _ _ _ _ F T (sym c) (sym (m.same_processors g ev)) ok.beside;
+        beside = beside_same e _ _ _ _ F T (sym c) (sym (laws.same_processors g ev)) ok.beside;
         copies = ok.copies;
         stale = λ p lt.
             elim (ok.stale p (omega arith)) [
@@ -137,9 +137,9 @@ module _ {S P E A B : Type 0} (m : Guest S P E A B) where
                   | inr u ↦
                       inr (
                         fresh.0,
-                        λ b h. fresh.1 b h ∙ sym (m.unwritten g ev p u),
+                        λ b h. fresh.1 b h ∙ sym (laws.unwritten g ev p u),
                         subst
-                            (λ y. F (Page e p (r.newest p) y)) (sym (m.unwritten g ev p u)) fresh.2,
+                            (λ y. F (Page e p (r.newest p) y)) (sym (laws.unwritten g ev p u)) fresh.2,
                       )
                 ]
               ])
@@ -324,7 +324,7 @@ module _ {S P E A B : Type 0} (m : Guest S P E A B) where
           | inr rest ↦ elim rest [ inl logged ↦ inl logged | inr f ↦ inr (inr f) ]
         ];
         states = λ ns b h. absurd (fresh_state ns b h);
-        turn = m.some_piece (newest_numbers m (stopped m r)) (m.body r.guest);
+        turn = laws.some_piece (newest_numbers m (stopped m r)) (m.body r.guest);
         numbers = λ st. newest_numbers m (stopped m r);
         now = refl;
         parts = λ st i u x h. absurd (fresh_part st i u x h);
@@ -371,7 +371,7 @@ module _ {S P E A B : Type 0} (m : Guest S P E A B) where
           | inl h ↦ true_copied e F l.copies p l.guest ns b (ok.states ns b h)
           | inr z ↦ absurd (page_no_state e e p (suc l.copies) ns _ b z)
         ];
-        turn = m.some_piece (newest_numbers m (last_copied m l p)) (m.body l.guest);
+        turn = laws.some_piece (newest_numbers m (last_copied m l p)) (m.body l.guest);
         numbers = put ok.numbers (suc l.copies) (newest_numbers m (last_copied m l p));
         now = put_same ok.numbers (suc l.copies) (newest_numbers m (last_copied m l p));
         parts = λ st i u x. elim [
@@ -518,7 +518,7 @@ module _ {S P E A B : Type 0} (m : Guest S P E A B) where
               absurd (part_no_state e e l.copies l.turn (length xs) (get_or xs l.turn []) ns b z)
         ];
         turn = next_inside (suc l.turn) (length xs)
-            (m.some_piece (newest_numbers m l) (m.body l.guest));
+            (laws.some_piece (newest_numbers m l) (m.body l.guest));
         numbers = ok.numbers;
         now = ok.now;
         parts = λ st i u x. elim [
@@ -618,55 +618,55 @@ module _ {S P E A B : Type 0} (m : Guest S P E A B) where
         beside_none n _ _ _ T i.meet,
       )
 
-module _ {S P E A B : Type 0} (m : Guest S P E A B) (v : ℕ) where
+module _ {S P E A B : Type 0} (m : Guest S P E A B) (laws : IsGuest m) (v : ℕ) where
   sends_state_pages : (a b : Reply A) (n : ℕ) (l : Last S) (T : Mode S P) (F : Frame P B → Type 0)
-      → StoppedOk m n l T F → to_copy m l ≡ None → KeptPages m T F (sends_state m v a b n l)
+      → StoppedOk m n l T F → to_copy m l ≡ None → KeptPages m laws T F (sends_state m v a b n l)
   sends_state_pages a b n l T F ok found =
-      either (KeptPages m T F) (is_compact v) _ _ (λ _. part_sent m n l T F ok found)
-      (λ _. state_sent m n l T F ok found)
+      either (KeptPages m laws T F) (is_compact v) _ _ (λ _. part_sent m laws n l T F ok found)
+      (λ _. state_sent m laws n l T F ok found)
 
   pub copy_last_pages : (n : ℕ) (l : Last S) (q : Option ℕ) (T : Mode S P) (F : Frame P B → Type 0)
-      → StoppedOk m n l T F → to_copy m l ≡ q → KeptPages m T F (copy_last m v n l q)
+      → StoppedOk m n l T F → to_copy m l ≡ q → KeptPages m laws T F (copy_last m v n l q)
   copy_last_pages n l (Some p) T F ok found =
-      either (KeptPages m T F) (nat_le (2 ^ 32 - 1) l.copies) (refuses SeqSpent (Stopped n l))
-      (sends_last m n l p) (λ _. ok) (λ below. last_copied_ok m n l p T F ok below)
+      either (KeptPages m laws T F) (nat_le (2 ^ 32 - 1) l.copies) (refuses SeqSpent (Stopped n l))
+      (sends_last m n l p) (λ _. ok) (λ below. last_copied_ok m laws n l p T F ok below)
   copy_last_pages n l None T F ok found = sends_state_pages _ _ n l T F ok found
 
   pub resend_last_pages : (n : ℕ) (l : Last S) (q : Option ℕ) (T : Mode S P)
       (F : Frame P B → Type 0) → StoppedOk m n l T F → to_copy m l ≡ q
-      → KeptPages m T F (resend_last m v n l q)
+      → KeptPages m laws T F (resend_last m v n l q)
   resend_last_pages n l (Some p) T F ok found = ok
   resend_last_pages n l None T F ok found = sends_state_pages _ _ n l T F ok found
 
   pub owner_pages : (c : Command E) (O T : Mode S P) (F R : Frame P B → Type 0) → Modes O T F R
-      → Content m O T F → KeptPages m T F (obey m v c O)
+      → Content m O T F → KeptPages m laws T F (obey m v c O)
   owner_pages (Board e) (Offering n g p) T F R i ok =
-      let c = m.same_length g e in let h = m.same_processors g e in (
+      let c = laws.same_length g e in let h = laws.same_processors g e in (
         λ a b z. let w = ok.0 a b z in (w.0 ∙ sym c, w.1 ∙ sym h),
-        beside_same m n _ _ _ _ F T
+        beside_same m laws n _ _ _ _ F T
             (sym c) (sym h) ok.1,
       )
-  owner_pages (Board e) (Copying n r) T F R i ok = board_copying m e n r T F ok
+  owner_pages (Board e) (Copying n r) T F R i ok = board_copying m laws e n r T F ok
   owner_pages (Board e) (Stopped n l) T F R i ok = ok
   owner_pages (Begin to p) (Run n g) T F R i ok =
-      either (KeptPages m T F) (is_allowed p) (begin_allowed m p n g) (refuses BadSize (Run n g))
-      (λ _. begin_pages m p n g T F R i) (λ _. tt)
+      either (KeptPages m laws T F) (is_allowed p) (begin_allowed m p n g) (refuses BadSize (Run n g))
+      (λ _. begin_pages m laws p n g T F R i) (λ _. tt)
   owner_pages (Begin to p) (Offering n g q) T F R i ok = ok
   owner_pages (Begin to p) (Copying n r) T F R i ok = ok
   owner_pages (Begin to p) (Stopped n l) T F R i ok = ok
   owner_pages Copy (Offering n g p) T F R i ok = ok
   owner_pages Copy (Copying n r) T F R i ok =
-      either (KeptPages m T F) r.stop (says Stopping (Stopped n (stopped m r)))
+      either (KeptPages m laws T F) r.stop (says Stopping (Stopped n (stopped m r)))
       (copy_page m n r
       (least (λ x. r.to_send x && not (is_skipped r x)) r.scan
       (length (m.pages r.guest) - r.scan)))
-      (λ s. stopping m n r T F ok i.meet
+      (λ s. stopping m laws n r T F ok i.meet
       (λ ns b h. let z : n < n = i.own (State n ns b) h in omega arith)
       (λ st j u x h. let z : n < n = i.own (Part n st j u x) h in omega arith) s)
-      (λ s. copy_page_pages m n r _ T F ok s refl)
+      (λ s. copy_page_pages m laws n r _ T F ok s refl)
   owner_pages Copy (Stopped n l) T F R i ok = copy_last_pages n l (to_copy m l) T F ok refl
   owner_pages Resend (Offering n g p) T F R i ok =
-      (offer_again m n g F ok.0, beside_more m n _ _ F _ T (λ f h. inl h) ok.1)
+      (offer_again m laws n g F ok.0, beside_more m laws n _ _ F _ T (λ f h. inl h) ok.1)
   owner_pages Resend (Copying n r) T F R i ok = ok
   owner_pages Resend (Stopped n l) T F R i ok = resend_last_pages n l (to_copy m l) T F ok refl
   owner_pages c (Empty n) T F R i ok = absurd i.meet

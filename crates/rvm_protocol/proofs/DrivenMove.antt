@@ -4,7 +4,7 @@ use Rattle.std.proofs.Common.{◌≡◌, ◌≢◌, ◌⊎◌, inl, inr, ℕ, ze
 use Rattle.std.specs.Prelude.{slice_get}
 use Rattle.std.proofs.lemmas.Bool.{eq-eqb, lt-ltb, le-ltb, ne_eqb, lt-leb, leb-true}
 use Rattle.std.proofs.lemmas.List.{length-set, length-replicate, get_or-set_same, get_or-set_other}
-use Rattle.rvm_protocol.specs.Guest.{Guest}
+use Rattle.rvm_protocol.specs.Guest.{Guest, IsGuest}
 use Rattle.rvm_protocol.specs.Frames.{Frame, Offer, Accept, Refuse, Page, RoundEnd, State, Part, Ready, Go, Started, Addressed, is_compact, plain, written}
 use Rattle.rvm_protocol.specs.Commands.{Policy, is_allowed, Begin, Copy, Do, Came}
 use Rattle.rvm_protocol.specs.Replies.{Reply, Begun, Accepted, Declined, Open, Copied, RoundEnded, Stored, Noted, Kept, Stopping, StateSent, PartSent, ReadySent, Committed, StartedHere, Finished}
@@ -38,7 +38,7 @@ module _ {S P E A B : Type 0} (m : Guest S P E A B) (version count : ℕ) (limit
     pub few : length (m.pages g) < 2 ^ 32
     pub valid : m.valid g ≡ true
 
-module _ {S P E A B : Type 0} (m : Guest S P E A B) (version count : ℕ) (limits : ℕ → ℕ)
+module _ {S P E A B : Type 0} (m : Guest S P E A B) (laws : IsGuest m) (version count : ℕ) (limits : ℕ → ℕ)
     (from to e : ℕ) (policy : Policy) (g : S)
     (ok : Drivable m version count limits from to e policy g) where
   abbrev pub n : ℕ
@@ -461,7 +461,7 @@ module _ {S P E A B : Type 0} (m : Guest S P E A B) (version count : ℕ) (limit
       let s = stage_at p in
       let k = staged p (omega arith) in
       ap (λ f. came m (limits to) f (Staging (suc e) s))
-      (plain_written m version (Page (suc e) p (suc p) (page_of m g p)) (λ a b c z. cc))
+      (plain_written m laws version (Page (suc e) p (suc p) (page_of m g p)) (λ a b c z. cc))
       ∙ same_move (page_came m (suc e) s p (suc p) (page_of m g p)) (Staging (suc e) s)
       ∙ if_true (nat_lt p (length s.pages) && nat_lt (s.have p) (suc p)) _ _
       (and_true _ _ (lt-ltb p (length s.pages) (let z = k.count_is in omega (arith, z)))
@@ -551,7 +551,7 @@ module _ {S P E A B : Type 0} (m : Guest S P E A B) (version count : ℕ) (limit
       let count = size (lacks t (listed suc 0 n)) (length t.pages) in
       let build : m.build t.processors (m.body g) t.pages ≡ Some g = ap
       (λ z. m.build z (m.body g) t.pages) (processors ∙ k.processors)
-      ∙ ap (m.build (m.processors g) (m.body g)) same ∙ m.read_back g ok.valid in
+      ∙ ap (m.build (m.processors g) (m.body g)) same ∙ laws.read_back g ok.valid in
       if_true (length (listed suc 0 n) == length t.pages)
       (state_compared m (suc e) old t (listed suc 0 n) (m.body g)) _
       (eq-eqb (length (listed suc 0 n)) (length t.pages) (listed_length suc 0 n ∙ sym c))
@@ -784,7 +784,7 @@ module _ {S P E A B : Type 0} (m : Guest S P E A B) (version count : ℕ) (limit
       let s = kept_at i in
       let t = with_part s n i (length pieces) (get_or pieces i []) in
       let k = kept_more i s (kept_so i) in
-      let joins : m.join pieces ≡ Some (listed suc 0 n, m.body g) = m.joined g
+      let joins : m.join pieces ≡ Some (listed suc 0 n, m.body g) = laws.joined g
       (listed suc 0 n) ok.valid (listed_length suc 0 n) (λ p lt.
       let inside : p < n = let z = listed_length suc 0 n in omega (arith, z, lt) in
       let at : get_or (listed suc 0 n) p 0 ≡ suc (0 + p) = listed_at suc 0 0 n p inside in
@@ -885,7 +885,7 @@ module _ {S P E A B : Type 0} (m : Guest S P E A B) (version count : ℕ) (limit
       elim (is_either (is_compact version)) [
         | inl v ↦
             let s = length pieces in
-            let some : 0 < s = m.some_piece (listed suc 0 n) (m.body g) in
+            let some : 0 < s = laws.some_piece (listed suc 0 n) (m.body g) in
             let less : suc (s - 1) ≡ s = omega (arith, some) in
             subst (λ z. StateGoes k z sent) (sym (if_true (is_compact version) s 1 v))
             (record {

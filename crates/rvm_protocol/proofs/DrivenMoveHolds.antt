@@ -1,7 +1,7 @@
 -- In a world of any run, a driven move arrives or is declined.
 use Rattle.std.proofs.Common.{◌≡◌, ◌≢◌, inl, inr, ℕ, suc, ◌<◌, ◌==◌, nat_lt, not, true, List, [], ◌∷◌, Option, Some, None, refl, sym, ap, ◌∙◌, subst, arith, ne_eqb}
 use Rattle.std.proofs.lemmas.Bool.{lt-ltb, ne_eqb}
-use Rattle.rvm_protocol.specs.Guest.{Guest}
+use Rattle.rvm_protocol.specs.Guest.{Guest, IsGuest}
 use Rattle.rvm_protocol.specs.Frames.{read}
 use Rattle.rvm_protocol.specs.Commands.{HostEvent}
 use Rattle.rvm_protocol.specs.Replies.{Begun, Declined, MoveDeclined}
@@ -22,7 +22,7 @@ use Rattle.rvm_protocol.proofs.Lists.{and_true}
 use Rattle.rvm_protocol.proofs.DrivenMove.{Drivable, drive_goes}
 use Rattle.rvm_protocol.proofs.DeclinedMove.{declining}
 
-module _ {S P E A B : Type 0} (m : Guest S P E A B) where
+module _ {S P E A B : Type 0} (m : Guest S P E A B) (laws : IsGuest m) where
   -- the hosts beside the one in Run are behind it
   record Behind (e : ℕ) (g : S) (T : Mode S P) : Type 0 where
     none : HoldsNone T
@@ -33,11 +33,11 @@ module _ {S P E A B : Type 0} (m : Guest S P E A B) where
       → move_of T < suc e
   beside_run O T e g is i = (apart_run e T (subst (λ z. Meet z T) is i)).1
 
-  behind_run : (w : World S P B) (t : Told S) (x y e : ℕ) (g : S) → SoundAt m w t
+  behind_run : (w : World S P B) (t : Told S) (x y e : ℕ) (g : S) → SoundAt m laws w t
       → mode_at m w x ≡ Run e g → y ≢ x → Behind e g (mode_at m w y)
   behind_run w t x y e g s is ne =
       let l = s.good in
-      let none = λ (z : ℕ) (nz : z ≢ s.c). none_at m (w.hosts s.c) (w.hosts s.d) w.hosts
+      let none = λ (z : ℕ) (nz : z ≢ s.c). none_at m laws (w.hosts s.c) (w.hosts s.d) w.hosts
       (read m w.sent) s.c s.d z t l nz in
       elim (same_or x s.c) [
         | inr nx ↦ absurd (subst (λ (X : Mode S P). HoldsNone X) is (none x nx))
@@ -81,8 +81,8 @@ module _ {S P E A B : Type 0} (m : Guest S P E A B) where
       λ start g version count limits events from to e policy.
       λ v is below allowed here there room some few.
       let w = run m (new_world m version start count limits) events in
-      let s = run_sound m events (new_world m version start count limits) (at_start start)
-      (new_sound m version start count limits v) in
+      let s = run_sound m laws events (new_world m version start count limits) (at_start start)
+      (new_sound m laws version start count limits v) in
       let apart = there_apart from count to there in
       let b = behind_run w _ from to e g s is apart in
       let T = mode_at m w to in
@@ -101,7 +101,7 @@ module _ {S P E A B : Type 0} (m : Guest S P E A B) where
         few = few;
         valid = b.valid;
       } in
-      let goes = drive_goes m version count limits from to e policy g ok (w.hosts from).partner
+      let goes = drive_goes m laws version count limits from to e policy g ok (w.hosts from).partner
       (w.hosts to).partner T w.sent b.none (let z = b.below in omega (arith, z)) in
       let shows : Shows m version count limits from to w
       (record {
@@ -134,8 +134,8 @@ module _ {S P E A B : Type 0} (m : Guest S P E A B) where
   declined_law =
       λ start g version count limits events from to e policy v is below allowed here there large.
       let w = run m (new_world m version start count limits) events in
-      let s = run_sound m events (new_world m version start count limits) (at_start start)
-      (new_sound m version start count limits v) in
+      let s = run_sound m laws events (new_world m version start count limits) (at_start start)
+      (new_sound m laws version start count limits v) in
       let apart = there_apart from count to there in
       let b = behind_run w _ from to e g s is apart in
       let fixed = run_version events (new_world m version start count limits) in

@@ -27,6 +27,7 @@ mod DeclinedMove
 pub mod DrivenMoveHolds
 pub mod Bounds
 pub mod MoveNumbers
+pub mod Course
 mod Counter
 mod Examples
 mod Witnesses

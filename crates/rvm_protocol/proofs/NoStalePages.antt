@@ -3,12 +3,12 @@ use Rattle.std.proofs.Common.{◌≡◌, inl, inr, ℕ, true, List, [], length, 
 use Rattle.rvm_protocol.specs.FrameContents.{IsStateOf}
 use Rattle.rvm_protocol.specs.Frames.{Frame, Page, State, Addressed, Part, read}
 use Rattle.rvm_protocol.specs.FreshCopies.{NewestCopy, CopiesAreFresh, NoStalePage}
-use Rattle.rvm_protocol.specs.Guest.{Guest}
+use Rattle.rvm_protocol.specs.Guest.{Guest, IsGuest}
 use Rattle.rvm_protocol.specs.Host.{Host}
 use Rattle.rvm_protocol.specs.Modes.{Mode, Empty, Run, Offering, Copying, Stopped, Given, Staging, Held, move_of}
 use Rattle.rvm_protocol.specs.Rounds.{page_of}
-use Rattle.rvm_protocol.specs.Told.{Told, at_start}
-use Rattle.rvm_protocol.specs.World.{mode_at, run, new_world}
+use Rattle.rvm_protocol.specs.Told.{Told, at_start, told}
+use Rattle.rvm_protocol.specs.World.{World, history, mode_at, run, new_world}
 use Rattle.rvm_protocol.proofs.PairInvariant.{Meet, CopiesOk, IsFresh, TrueState}
 use Rattle.rvm_protocol.proofs.OtherModes.{alone}
 use Rattle.rvm_protocol.proofs.Basics.{some_is, same_or}
@@ -16,9 +16,9 @@ use Rattle.rvm_protocol.proofs.OtherPages.{pieces_are_sent}
 use Rattle.rvm_protocol.proofs.Behind.{run_apart}
 use Rattle.rvm_protocol.proofs.WorldInvariant.{Made, Good}
 use Rattle.rvm_protocol.proofs.OtherHosts.{none_at}
-use Rattle.rvm_protocol.proofs.Runs.{new_sound, run_sound}
+use Rattle.rvm_protocol.proofs.Runs.{SoundAt, new_sound, run_sound}
 
-module _ {S P E A B : Type 0} (m : Guest S P E A B) where
+module _ {S P E A B : Type 0} (m : Guest S P E A B) (laws : IsGuest m) where
   -- the stale-page law
   newest_copy : (sent : List (Addressed P B)) (c d e : ℕ) (newest : ℕ → ℕ) (copies : ℕ) (g : S)
       (p : ℕ) → ((z k : ℕ) (b : P) → Made sent c z (Page e p k b) → Made sent c d (Page e p k b))
@@ -40,7 +40,7 @@ module _ {S P E A B : Type 0} (m : Guest S P E A B) where
 
   stale_owner : (O : Mode S P) (p : ℕ) (hd : Host S P) (H : ℕ → Host S P)
       (sent : List (Addressed P B)) (c d : ℕ) (t : Told S)
-      → Good m (record { mode = O; partner = p }) hd H sent c d t → CopiesAreFresh m sent c O
+      → Good m laws (record { mode = O; partner = p }) hd H sent c d t → CopiesAreFresh m sent c O
   stale_owner (Copying n r) q hd H sent c d t l =
       let to_d : (p z k : ℕ) (b : P) → Made sent c z (Page n p k b)
       → Made sent c d (Page n p k b) = λ p z k b h.
@@ -114,7 +114,7 @@ module _ {S P E A B : Type 0} (m : Guest S P E A B) where
         λ to z ns b p k y h lt le i. (l.pages.states ns b (state_d to ns b h)).copies p k y lt le
             (to_d p z k y i),
         λ st z xs ns b p k y some were join lt le i.
-            (pieces_are_sent m n r hd.mode (Made sent c d) st xs ns b l.pages some
+            (pieces_are_sent m laws n r hd.mode (Made sent c d) st xs ns b l.pages some
             (λ j inside. part_d st j (length xs) (get_or xs j []) (were j inside).to
             (were j inside).was_sent) join
             (subst (λ w. m.valid w ≡ true)
@@ -124,7 +124,7 @@ module _ {S P E A B : Type 0} (m : Guest S P E A B) where
             (l.pages.states ns b (state_d to ns b h)),
         λ st xs ns b some were join.
             is_state n r.guest (Made sent c d) ns b
-            (pieces_are_sent m n r hd.mode (Made sent c d) st xs ns b l.pages some
+            (pieces_are_sent m laws n r hd.mode (Made sent c d) st xs ns b l.pages some
             (λ j inside. part_d st j (length xs) (get_or xs j []) (were j inside).to
             (were j inside).was_sent) join
             (subst (λ w. m.valid w ≡ true)
@@ -148,12 +148,10 @@ module _ {S P E A B : Type 0} (m : Guest S P E A B) where
   stale_other O (Copying n r) sent x h = absurd (alone O (Copying n r) h)
   stale_other O (Stopped n l) sent x h = absurd (alone O (Stopped n l) h)
 
-  pub stale_law : NoStalePage m
-  unfolding NoStalePage
-  stale_law = λ g version count limits events x v.
-      let w = run m (new_world m version g count limits) events in
-      let s = run_sound m events (new_world m version g count limits) (at_start g)
-      (new_sound m version g count limits v) in
+  -- whatever is known of the world
+  pub stale_at : (w : World S P B) (t : Told S) → SoundAt m laws w t → (x : ℕ)
+      → CopiesAreFresh m (read m w.sent) x (mode_at m w x)
+  stale_at w t s x =
       let l = s.good in
       elim (same_or x s.c) [
         | inl q ↦
@@ -161,8 +159,16 @@ module _ {S P E A B : Type 0} (m : Guest S P E A B) where
             (stale_owner (w.hosts s.c).mode (w.hosts s.c).partner (w.hosts s.d) w.hosts
             (read m w.sent) s.c s.d _ l)
         | inr n ↦
-            stale_other (Run (move_of (w.hosts x).mode) g) (w.hosts x).mode (read m w.sent) x
+            stale_other (Run (move_of (w.hosts x).mode) t.guest) (w.hosts x).mode (read m w.sent) x
             (run_apart (move_of (w.hosts x).mode) (w.hosts x).mode
-            (none_at m (w.hosts s.c) (w.hosts s.d) w.hosts (read m w.sent) s.c s.d x _ l n)
+            (none_at m laws (w.hosts s.c) (w.hosts s.d) w.hosts (read m w.sent) s.c s.d x _ l n)
             (omega arith))
       ]
+
+  pub stale_law : NoStalePage m
+  unfolding NoStalePage
+  stale_law = λ g version count limits events x v.
+      stale_at (run m (new_world m version g count limits) events)
+      (told m (at_start g) (history m (new_world m version g count limits) events))
+      (run_sound m laws events (new_world m version g count limits) (at_start g)
+      (new_sound m laws version g count limits v)) x

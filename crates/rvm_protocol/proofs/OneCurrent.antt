@@ -11,7 +11,7 @@ use Rattle.rvm_protocol.proofs.Runs.{SoundAt}
 use Rattle.rvm_protocol.proofs.Tellings.{commanded}
 use Rattle.rvm_protocol.specs.Commands.{Board, Begin, Copy, Resend, AbortMove, Command}
 use Rattle.rvm_protocol.specs.Frames.{Accept, Frame, Go, Lost, Ready, Refuse, read}
-use Rattle.rvm_protocol.specs.Guest.{Guest}
+use Rattle.rvm_protocol.specs.Guest.{Guest, IsGuest}
 use Rattle.rvm_protocol.specs.Host.{came_at, is_heard, is_offer_above, is_there, obey_at}
 use Rattle.rvm_protocol.specs.Modes.{Copying, Empty, Given, Held, Mode, Offering, Outcome, Run, Staging, Stopped, ignores, move_of, refuses}
 use Rattle.rvm_protocol.specs.Obeying.{begin}
@@ -26,17 +26,17 @@ abbrev pub moved : {A : Type 0} → Reply A → (from current : ℕ) → ℕ
 moved (Committed n) from current = from
 moved r from current = current
 
-module _ {S P E A B : Type 0} (m : Guest S P E A B) where
+module _ {S P E A B : Type 0} (m : Guest S P E A B) (laws : IsGuest m) where
   -- ONE HOST ALONE
 
-  pub one_current : (w : World S P B) (t t' : Told S) → SoundAt m w t → Shown w.hosts t' → t'.current ≡ t.current
+  pub one_current : (w : World S P B) (t t' : Told S) → SoundAt m laws w t → Shown w.hosts t' → t'.current ≡ t.current
   one_current w t t' s h =
       let x = t'.current in
       elim (same_or x s.c) [
         | inl q ↦ q ∙ sym s.good.current
         | inr n ↦
-            absurd (no_other m (w.hosts x).mode w t s x n refl
-            (none_at m (w.hosts s.c) (w.hosts s.d) w.hosts (read m w.sent) s.c s.d x t s.good n) h.current)
+            absurd (no_other m laws (w.hosts x).mode w t s x n refl
+            (none_at m laws (w.hosts s.c) (w.hosts s.d) w.hosts (read m w.sent) s.c s.d x t s.good n) h.current)
       ]
 
   -- COMMITS
@@ -45,7 +45,7 @@ module _ {S P E A B : Type 0} (m : Guest S P E A B) where
   abbrev pub Lands : (ℕ → ℕ) → (c from : ℕ) → Outcome S P A B → Type 0
   Lands ts c from o = reply_current o.reply ts c ≡ moved o.reply from c
 
-  lands : (r : Reply A) (ts : ℕ → ℕ) (c y : ℕ) → NoCommit m r → reply_current r ts c ≡ moved r y c
+  lands : (r : Reply A) (ts : ℕ → ℕ) (c y : ℕ) → NoCommit m laws r → reply_current r ts c ≡ moved r y c
   lands (Committed n) ts c y h = absurd h
   lands r ts c y h = refl
 
@@ -63,7 +63,7 @@ module _ {S P E A B : Type 0} (m : Guest S P E A B) where
       → Lands ts c y (came m limit f X)
   none_lands ts c y limit f X h =
       lands (came m limit f X).reply ts c y
-      (came_ok m (λ q. suc (move_of X)) 0 0 y limit f X h (given_high X)).2
+      (came_ok m laws (λ q. suc (move_of X)) 0 0 y limit f X h (given_high X)).2
 
   this_lands : (ts : ℕ → ℕ) (c y n k : ℕ) (o : Outcome S P A B) (X : Mode S P) → Lands ts c y o
       → Lands ts c y (of_this_move m n k o X)
@@ -92,7 +92,7 @@ module _ {S P E A B : Type 0} (m : Guest S P E A B) where
   heard_lands ts c d p y limit f (Held n g) target partner h = none_lands ts c y limit f (Held n g) tt
   heard_lands ts c d p y limit f X target partner h = refl
 
-  pub came_lands : (w : World S P B) (t : Told S) → SoundAt m w t → (x y : ℕ) (f : Frame P B)
+  pub came_lands : (w : World S P B) (t : Told S) → SoundAt m laws w t → (x y : ℕ) (f : Frame P B)
       → Lands t.targets t.current y (came_at m x w.count (w.limits x) y f (w.hosts x))
   came_lands w t s x y f =
       let h = w.hosts x in
@@ -106,7 +106,7 @@ module _ {S P E A B : Type 0} (m : Guest S P E A B) where
             (and_both (is_there x w.count y) ((y == h.partner) || is_offer_above (move_of h.mode) f) e).1
         | inr n ↦
             none_lands t.targets t.current y (w.limits x) f h.mode
-            (none_at m (w.hosts s.c) (w.hosts s.d) w.hosts (read m w.sent) s.c s.d x t l n)
+            (none_at m laws (w.hosts s.c) (w.hosts s.d) w.hosts (read m w.sent) s.c s.d x t l n)
       ])
       (λ _. refl)
 

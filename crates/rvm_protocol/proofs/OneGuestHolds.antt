@@ -3,7 +3,7 @@ use Rattle.std.proofs.Common.{◌≡◌, ◌≢◌, ◌⊎◌, inl, inr, ℕ, �
 use Rattle.std.proofs.lemmas.Bool.{eq-eqb, ne_eqb}
 use Rattle.rvm_protocol.specs.Commands.{Board, Begin, Copy, Resend, AbortMove, HostEvent, Do, Came}
 use Rattle.rvm_protocol.specs.Frames.{read}
-use Rattle.rvm_protocol.specs.Guest.{Guest}
+use Rattle.rvm_protocol.specs.Guest.{Guest, IsGuest}
 use Rattle.rvm_protocol.specs.Host.{Host}
 use Rattle.rvm_protocol.specs.Modes.{Mode, Empty, Run, Offering, Copying, Stopped, Given, Staging, Held, move_of, guest_in}
 use Rattle.rvm_protocol.specs.NeverMoving.{is_answer, accepted_here, answered_here, accepted, answered, fold, fold_answers}
@@ -22,7 +22,7 @@ use Rattle.rvm_protocol.specs.Shown.{is_paused, is_held, IsTarget, holds_current
 use Rattle.rvm_protocol.proofs.OtherHosts.{none_at}
 use Rattle.rvm_protocol.proofs.Runs.{Allowed, SoundAt, event_allowed, new_sound, run_sound, step_sound}
 
-module _ {S P E A B : Type 0} (m : Guest S P E A B) where
+module _ {S P E A B : Type 0} (m : Guest S P E A B) (laws : IsGuest m) where
   -- the replies due to board events
   owner_due : (O T : Mode S P) (g : S) (p : Bool) (e : E) → Meet O T → guest_in O ≡ Some g
       → p ≡ is_paused O
@@ -103,7 +103,7 @@ module _ {S P E A B : Type 0} (m : Guest S P E A B) where
       (if t.paused then Refused Paused else Answered (m.answer t.guest e)) else
       (if t.waiting x then Refused Paused else Refused NotHere)
 
-  answers_at : (w : World S P B) (t : Told S) → SoundAt m w t → (x : ℕ) (e : E)
+  answers_at : (w : World S P B) (t : Told S) → SoundAt m laws w t → (x : ℕ) (e : E)
       → (result_at m w x (Do (Board e))).reply ≡ due_here t x e
   answers_at w t s x e =
       let l = s.good in
@@ -119,7 +119,7 @@ module _ {S P E A B : Type 0} (m : Guest S P E A B) where
             (sym (eq-eqb x t.current is))
         | inr n ↦
             let X = (w.hosts x).mode in
-            let none = none_at m (w.hosts s.c) (w.hosts s.d) w.hosts
+            let none = none_at m laws (w.hosts s.c) (w.hosts s.d) w.hosts
             (read m w.sent) s.c s.d x t l n in
             other_due (Run (move_of X) t.guest) X (t.waiting x) e
             (run_apart (move_of X) X none (omega arith)) (l.waits x)
@@ -129,7 +129,7 @@ module _ {S P E A B : Type 0} (m : Guest S P E A B) where
             (sym (ne_eqb x t.current (λ q. n (q ∙ l.current))))
       ]
 
-  replies_at : (w : World S P B) (t : Told S) → SoundAt m w t → (x : ℕ) (e : E)
+  replies_at : (w : World S P B) (t : Told S) → SoundAt m laws w t → (x : ℕ) (e : E)
       → reply_to m w (At x (Board e)) ≡ due m w.count t x e
   replies_at w t s x e =
       elim (nat_lt x w.count) as
@@ -140,11 +140,11 @@ module _ {S P E A B : Type 0} (m : Guest S P E A B) where
         | false ↦ refl
       ]
 
-  no_answer_at : (w : World S P B) (t : Told S) (s : SoundAt m w t) (x : ℕ) (e : E) → x ≢ s.c
+  no_answer_at : (w : World S P B) (t : Told S) (s : SoundAt m laws w t) (x : ℕ) (e : E) → x ≢ s.c
       → is_answer (reply_to m w (At x (Board e))) ≡ false
   no_answer_at w t s x e n =
       let X = (w.hosts x).mode in
-      let none = none_at m (w.hosts s.c) (w.hosts s.d) w.hosts
+      let none = none_at m laws (w.hosts s.c) (w.hosts s.d) w.hosts
       (read m w.sent) s.c s.d x t s.good n in
       elim (nat_lt x w.count) as
       (λ b. is_answer
@@ -160,7 +160,7 @@ module _ {S P E A B : Type 0} (m : Guest S P E A B) where
   and_right true b h = h
   and_right false b h = refl
 
-  one_host_at : (w : World S P B) (t : Told S) → SoundAt m w t → (x y : ℕ) (e f : E) → x ≢ y
+  one_host_at : (w : World S P B) (t : Told S) → SoundAt m laws w t → (x y : ℕ) (e f : E) → x ≢ y
       → (is_answer (reply_to m w (At x (Board e))) && is_answer
       (reply_to m w (At y (Board f)))) ≡ false
   one_host_at w t s x y e f ne =
@@ -170,7 +170,7 @@ module _ {S P E A B : Type 0} (m : Guest S P E A B) where
             ap (λ b. b && is_answer (reply_to m w (At y (Board f)))) (no_answer_at w t s x e n)
       ]
 
-  board_at : (w : World S P B) (t : Told S) → SoundAt m w t
+  board_at : (w : World S P B) (t : Told S) → SoundAt m laws w t
       → guest_in (mode_at m w t.current) ≡ Some t.guest
   board_at w t s =
       subst (λ z. guest_in (mode_at m w z) ≡ Some t.guest) (sym s.good.current) s.good.guest
@@ -201,11 +201,11 @@ module _ {S P E A B : Type 0} (m : Guest S P E A B) where
       ap (λ z. z ∷ rest) (due_answer t x e a (h e refl)) ∙ ap (λ z. m.answer t.guest e ∷ z) same
   answers_here t x e r h es rest same = same
 
-  one_answer : (events : List (Event E)) (w : World S P B) (t : Told S) → SoundAt m w t
-      → ((w : World S P B) (t : Told S) → SoundAt m w t
+  one_answer : (events : List (Event E)) (w : World S P B) (t : Told S) → SoundAt m laws w t
+      → ((w : World S P B) (t : Told S) → SoundAt m laws w t
       → answered (history m w events) ≡ fold_answers m t.guest (accepted (history m w events)))
       → (q : Option (ℕ × HostEvent P E B))
-      → ((x : ℕ) (e : HostEvent P E B) → q ≡ Some (x, e) → Allowed m w x e)
+      → ((x : ℕ) (e : HostEvent P E B) → q ≡ Some (x, e) → Allowed m laws w x e)
       → answered (entry_of m w q ++ history m (happened m w q) events) ≡ fold_answers m t.guest
       (accepted (entry_of m w q ++ history m (happened m w q) events))
   unfolding answered accepted
@@ -216,44 +216,44 @@ module _ {S P E A B : Type 0} (m : Guest S P E A B) where
       (accepted (history m (world_at m w y.0 y.1) events))
       (answered (history m (world_at m w y.0 y.1) events))
       (rest (world_at m w y.0 y.1) (told_reply m y.0 y.1 (result_at m w y.0 y.1).reply t)
-      (step_sound m w y.0 y.1 t (h y.0 y.1 refl) l))
+      (step_sound m laws w y.0 y.1 t (h y.0 y.1 refl) l))
 
-  run_answers : (events : List (Event E)) (w : World S P B) (t : Told S) → SoundAt m w t
+  run_answers : (events : List (Event E)) (w : World S P B) (t : Told S) → SoundAt m laws w t
       → answered (history m w events) ≡ fold_answers m t.guest (accepted (history m w events))
   unfolding history answered accepted fold_answers
   run_answers [] w t l = refl
   run_answers (ev ∷ events) w t l =
       one_answer events w t l (λ w t l. run_answers events w t l) (meaning m w ev)
-      (λ x e. event_allowed m w ev x e)
+      (λ x e. event_allowed m laws w ev x e)
 
   -- a commit hands over the board
-  handed_at : (w : World S P B) (t : Told S) (x : ℕ) (e : HostEvent P E B) (n : ℕ) → Allowed m w x e
-      → SoundAt m w t → (result_at m w x e).reply ≡ Committed n
+  handed_at : (w : World S P B) (t : Told S) (x : ℕ) (e : HostEvent P E B) (n : ℕ) → Allowed m laws w x e
+      → SoundAt m laws w t → (result_at m w x e).reply ≡ Committed n
       → guest_in (mode_at m (world_at m w x e) (t.targets n)) ≡ Some t.guest
   handed_at w t x e n h s same =
       board_at (world_at m w x e) (told_reply m x e (Committed n) t)
-      (subst (λ r. SoundAt m (world_at m w x e) (told_reply m x e r t)) same
-      (step_sound m w x e t h s)) ∙ ap Some (committed_guest e n t.guest)
+      (subst (λ r. SoundAt m laws (world_at m w x e) (told_reply m x e r t)) same
+      (step_sound m laws w x e t h s)) ∙ ap Some (committed_guest e n t.guest)
 
   refused_not : (why : _) (n : ℕ) → ◌≡◌ {A = Reply A} (Refused why) (Committed n) → ⊥
   refused_not why n h = cc
 
   handed_for : (w : World S P B) (t : Told S) (why : _) (q : Option (ℕ × HostEvent P E B)) (n : ℕ)
-      → ((x : ℕ) (e : HostEvent P E B) → q ≡ Some (x, e) → Allowed m w x e) → SoundAt m w t
+      → ((x : ℕ) (e : HostEvent P E B) → q ≡ Some (x, e) → Allowed m laws w x e) → SoundAt m laws w t
       → reply_or m w (Refused why) q ≡ Committed n
       → guest_in (mode_at m (happened m w q) (t.targets n)) ≡ Some t.guest
   handed_for w t why None n h s same = absurd (refused_not why n same)
   handed_for w t why (Some y) n h s same = handed_at w t y.0 y.1 n (h y.0 y.1 refl) s same
 
-  hands : (w : World S P B) (t : Told S) → SoundAt m w t → (ev : Event E) (n : ℕ)
+  hands : (w : World S P B) (t : Told S) → SoundAt m laws w t → (ev : Event E) (n : ℕ)
       → reply_to m w ev ≡ Committed n
       → guest_in (mode_at m (step m w ev) (t.targets n)) ≡ Some t.guest
   hands w t s (At x k) n same =
       handed_for w t BadHost (meaning m w (At x k)) n
-      (λ x' e. event_allowed m w (At x k) x' e) s same
+      (λ x' e. event_allowed m laws w (At x k) x' e) s same
   hands w t s (Deliver k) n same =
       handed_for w t NoFrame (meaning m w (Deliver k)) n
-      (λ x' e. event_allowed m w (Deliver k) x' e) s same
+      (λ x' e. event_allowed m laws w (Deliver k) x' e) s same
 
   run_count : (events : List (Event E)) (w : World S P B) → (run m w events).count ≡ w.count
   unfolding run
@@ -319,7 +319,7 @@ module _ {S P E A B : Type 0} (m : Guest S P E A B) where
   run_target ts d d' (Staging n s) q z = cc
   run_target ts d d' (Held n g) q z = cc
 
-  sound_shown : (w : World S P B) (t : Told S) → SoundAt m w t → Shown w.hosts t
+  sound_shown : (w : World S P B) (t : Told S) → SoundAt m laws w t → Shown w.hosts t
   sound_shown w t s =
       let l = s.good in
       let O = (w.hosts s.c).mode in
@@ -369,7 +369,7 @@ module _ {S P E A B : Type 0} (m : Guest S P E A B) where
   meets_given (Staging k s) T n h i = i
   meets_given (Held k g) T n h i = h
 
-  pub no_other : (X : Mode S P) (w : World S P B) (t : Told S) (s : SoundAt m w t) (x : ℕ) → x ≢ s.c
+  pub no_other : (X : Mode S P) (w : World S P B) (t : Told S) (s : SoundAt m laws w t) (x : ℕ) → x ≢ s.c
       → (w.hosts x).mode ≡ X → HoldsNone X → holds_current (w.hosts (w.hosts x).partner) x X → ⊥
   no_other (Held n g) w t s x ne is h now =
       let l = s.good in
@@ -394,20 +394,20 @@ module _ {S P E A B : Type 0} (m : Guest S P E A B) where
   no_other (Copying n r) w t s x ne is h now = h
   no_other (Stopped n q) w t s x ne is h now = h
 
-  shown_current : (w : World S P B) (t : Told S) (s : SoundAt m w t) (x : ℕ) → IsCurrent w.hosts x
+  shown_current : (w : World S P B) (t : Told S) (s : SoundAt m laws w t) (x : ℕ) → IsCurrent w.hosts x
       → x ≡ s.c
   shown_current w t s x now =
       elim (same_or x s.c) [
         | inl q ↦ q
         | inr n ↦
             absurd (no_other (w.hosts x).mode w t s x n refl
-            (none_at m (w.hosts s.c) (w.hosts s.d) w.hosts
+            (none_at m laws (w.hosts s.c) (w.hosts s.d) w.hosts
             (read m w.sent) s.c s.d x t s.good n) now)
       ]
 
   -- whoever knows what the modes show knows enough
-  shown_sound : (w : World S P B) (t t' : Told S) → SoundAt m w t → Shown w.hosts t'
-      → SoundAt m w t'
+  pub shown_sound : (w : World S P B) (t t' : Told S) → SoundAt m laws w t → Shown w.hosts t'
+      → SoundAt m laws w t'
   shown_sound w t t' s h =
       let l = s.good in
       let O = (w.hosts s.c).mode in
@@ -447,11 +447,11 @@ module _ {S P E A B : Type 0} (m : Guest S P E A B) where
         };
       }
 
-  one_guest : (w : World S P B) (t : Told S) (events : List (Event E)) → SoundAt m w t
+  pub one_guest : (w : World S P B) (t : Told S) (events : List (Event E)) → SoundAt m laws w t
       → OneGuest m t (run m w events) (history m w events)
   one_guest w t events start =
       let past = history m w events in
-      let s = run_sound m events w t start in
+      let s = run_sound m laws events w t start in
       let is_fold : (told m t past).guest ≡ fold m t.guest (accepted past) = told_guest past t in
       record {
         board = board_at (run m w events) (told m t past) s ∙ ap Some is_fold;
@@ -467,7 +467,7 @@ module _ {S P E A B : Type 0} (m : Guest S P E A B) where
   unfolding AlwaysOneGuest
   the_law =
       λ g version count limits events v. one_guest (new_world m version g count limits)
-      (at_start g) events (new_sound m version g count limits v)
+      (at_start g) events (new_sound m laws version g count limits v)
 
   pub the_law_from_any_world : OneGuestFromAnyWorld m
   unfolding OneGuestFromAnyWorld
@@ -475,4 +475,4 @@ module _ {S P E A B : Type 0} (m : Guest S P E A B) where
       let w = new_world m version g count limits in
       one_guest (run m w before) t events
       (shown_sound (run m w before) (told m (at_start g) (history m w before)) t
-      (run_sound m before w (at_start g) (new_sound m version g count limits v)) h)
+      (run_sound m laws before w (at_start g) (new_sound m laws version g count limits v)) h)

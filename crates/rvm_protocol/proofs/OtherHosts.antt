@@ -3,7 +3,7 @@ use Rattle.std.proofs.Common.{◌≡◌, ◌≢◌, ◌⊎◌, inl, inr, ℕ, ze
 use Rattle.std.proofs.lemmas.Bool.{ltb-true, eqb-true}
 use Rattle.rvm_protocol.specs.Commands.{Command, Board, Begin, Copy, Resend, AbortMove, HostEvent, Do, Came}
 use Rattle.rvm_protocol.specs.Frames.{Frame, Offer, Accept, Refuse, Page, RoundEnd, Lost, State, Ready, Go, Started, Abort, Addressed, Part}
-use Rattle.rvm_protocol.specs.Guest.{Guest}
+use Rattle.rvm_protocol.specs.Guest.{Guest, IsGuest}
 use Rattle.rvm_protocol.specs.Host.{Host, obey_at, came_at, is_there, is_heard, is_offer_above, partner_then}
 use Rattle.rvm_protocol.specs.Modes.{Mode, Empty, Run, Offering, Copying, Stopped, Given, Staging, Held, Outcome, move_of, ignores, sends}
 use Rattle.rvm_protocol.specs.Obeying.{obey}
@@ -37,10 +37,10 @@ more_cases F None f h = inl h
 more_cases F (Some g) f (inl h) = inl h
 more_cases F (Some g) f (inr e) = inr (ap Some e)
 
-module _ {S P E A B : Type 0} (m : Guest S P E A B) where
+module _ {S P E A B : Type 0} (m : Guest S P E A B) (laws : IsGuest m) where
   -- the hosts that aren't current
   pub none_at : (hc hd : Host S P) (H : ℕ → Host S P) (sent : List (Addressed P B)) (c d x : ℕ)
-      (t : Told S) → Good m hc hd H sent c d t → x ≢ c → HoldsNone (H x).mode
+      (t : Told S) → Good m laws hc hd H sent c d t → x ≢ c → HoldsNone (H x).mode
   none_at hc hd H sent c d x t l nc =
       elim (same_or x d) [
         | inl e ↦
@@ -58,10 +58,10 @@ module _ {S P E A B : Type 0} (m : Guest S P E A B) where
   -- one: as beside a host in Run
   behind_good : (hc hd : Host S P) (H : ℕ → Host S P) (sent : List (Addressed P B)) (c d : ℕ)
       (t : Told S) (x z p' : ℕ) (e : HostEvent P E B) (o : Outcome S P A B)
-      → Good m hc hd H sent c d t → x ≢ c → move_of (H x).mode < lim hc.mode → (x ≡ d → z ≢ c)
+      → Good m laws hc hd H sent c d t → x ≢ c → move_of (H x).mode < lim hc.mode → (x ≡ d → z ≢ c)
       → Behind hc.mode t.guest (H x).mode o → TellsOther m e (H x).mode o
       → New (go_ok (reach H c hc.mode z)) o.made → GivenOk (reach H c hc.mode p') o.next
-      → After m H sent t x z p' e o
+      → After m laws H sent t x z p' e o
   behind_good hc hd H sent c d t x z p' e o l nc lt far i tells go given =
       with_pred (move_of (H x).mode) (lim hc.mode) lt λ j is.
       let g = t.guest in
@@ -91,8 +91,8 @@ module _ {S P E A B : Type 0} (m : Guest S P E A B) where
       λ q. subst (λ (v : Host S P). (f : Frame P B) → from_ok v.mode f → from_ok X' f)
       (same_d q) from in
       let hd_at : (y : ℕ) → y ≡ d → H y ≡ hd = λ y q. ap H q ∙ sym l.is_d in
-      sound m _ _ _ _ _ _ _
-      (other_good m hc hd (put H x h' d) H sent c d t x z p' e o l nc refl (record {
+      sound m laws _ _ _ _ _ _ _
+      (other_good m laws hc hd (put H x h' d) H sent c d t x z p' e o l nc refl (record {
         meet = put_all (λ y (h : Host S P). y ≡ d → Meet O h.mode) H x h'
             (λ q. meets_apart O hd.mode X' l.modes.meet (lt_d q) behind.0 lt')
             (λ y _ q. subst (λ (v : Host S P). Meet O v.mode)
@@ -137,19 +137,19 @@ module _ {S P E A B : Type 0} (m : Guest S P E A B) where
   -- an event at the partner, with a frame of the current host or a command, and a frame to the
   -- current host
   beside_good : (hc hd : Host S P) (H : ℕ → Host S P) (sent : List (Addressed P B)) (c d : ℕ)
-      (t : Told S) (p' : ℕ) (e : HostEvent P E B) (o : Outcome S P A B) → Good m hc hd H sent c d t
+      (t : Told S) (p' : ℕ) (e : HostEvent P E B) (o : Outcome S P A B) → Good m laws hc hd H sent c d t
       → Modes hc.mode o.next (own_ok hc.mode hd.mode) (More (their_ok hc.mode hd.mode) o.made)
       → Content m hc.mode o.next (Made sent c d)
       → TellsOther m e hd.mode o → (move_of o.next < lim hc.mode) ⊎ (p' ≡ c)
       → GivenOk (reach H c hc.mode p') o.next
-      → After m H sent t d c p' e o
+      → After m laws H sent t d c p' e o
   beside_good hc hd H sent c d t p' e o l i pages tells near given =
       let O = hc.mode in
       let T = hd.mode in
       let X' = o.next in
       let h' : Host S P = record { mode = X'; partner = p' } in
-      sound m _ _ _ _ _ _ _
-      (other_good m hc hd h' H sent c d t d c p' e o l l.apart (sym (put_same H d h')) (record {
+      sound m laws _ _ _ _ _ _ _
+      (other_good m laws hc hd h' H sent c d t d c p' e o l l.apart (sym (put_same H d h')) (record {
         meet = i.meet;
         own = λ f h. i.own f (l.modes.own f h);
         their = λ f h. elim (made_down sent d c o.made d c f h) [
@@ -181,14 +181,14 @@ module _ {S P E A B : Type 0} (m : Guest S P E A B) where
 
   -- nothing happens
   idle_good : (hc hd : Host S P) (H : ℕ → Host S P) (sent : List (Addressed P B)) (c d : ℕ)
-      (t : Told S) (x y : ℕ) (f : Frame P B) → Good m hc hd H sent c d t → x ≢ c
-      → After m H sent t x y (H x).partner (Came y f) (ignores (H x).mode)
+      (t : Told S) (x y : ℕ) (f : Frame P B) → Good m laws hc hd H sent c d t → x ≢ c
+      → After m laws H sent t x y (H x).partner (Came y f) (ignores (H x).mode)
   idle_good hc hd H sent c d t x y f l nc =
       let h' = H x in
       let same : put H x (H x) d ≡ H d = put_all (λ w (h : Host S P). h ≡ H w) H x (H x) refl
       (λ w _. refl) d in
-      sound m _ _ _ _ _ _ _
-      (other_good m hc hd hd H sent c d t x y (H x).partner (Came y f) (ignores (H x).mode) l nc
+      sound m laws _ _ _ _ _ _ _
+      (other_good m laws hc hd hd H sent c d t x y (H x).partner (Came y f) (ignores (H x).mode) l nc
       (l.is_d ∙ sym same) (record {
         meet = l.modes.meet;
         own = l.modes.own;
@@ -297,8 +297,8 @@ module _ {S P E A B : Type 0} (m : Guest S P E A B) where
 
   pub other_do : (v : ℕ)
       → (hc hd : Host S P) (H : ℕ → Host S P) (sent : List (Addressed P B)) (c d : ℕ) (t : Told S)
-      (x : ℕ) (k : Command E) → Good m hc hd H sent c d t → x ≢ c
-      → After m H sent t x (H x).partner (H x).partner (Do k) (obey m v k (H x).mode)
+      (x : ℕ) (k : Command E) → Good m laws hc hd H sent c d t → x ≢ c
+      → After m laws H sent t x (H x).partner (H x).partner (Do k) (obey m v k (H x).mode)
   other_do v hc hd H sent c d t x k l nc =
       let X = (H x).mode in
       let p = (H x).partner in
@@ -307,11 +307,11 @@ module _ {S P E A B : Type 0} (m : Guest S P E A B) where
       let given = subst (λ w. GivenOk (reach H c hc.mode p) w) (sym (same_next v k X none))
       (l.given x nc) in
       let far : move_of X < lim hc.mode → (x ≡ d → p ≢ c)
-      → After m H sent t x p p (Do k) o = λ lt q.
+      → After m laws H sent t x p p (Do k) o = λ lt q.
       behind_good hc hd H sent c d t x p p (Do k) o l nc lt q
       (λ j is. let g = t.guest in let run = run_apart j X none
       (omega (arith, is, lt)) in other_obeys m v k (Run j g) X (own_ok (Run j g) X)
-      (their_ok (Run j g) X) (own_all m (Run j g) X run))
+      (their_ok (Run j g) X) (own_all m laws (Run j g) X run))
       (commanded_other m x v k (Run (move_of X) t.guest) X
       (run_apart (move_of X) X none (omega arith)))
       (go_obeyed v (reach H c hc.mode p) k X none (l.given x nc)) given in
@@ -330,14 +330,14 @@ module _ {S P E A B : Type 0} (m : Guest S P E A B) where
           | inl pc ↦
               let is : H x ≡ hd = ap H e ∙ sym l.is_d in
               let T = hd.mode in
-              subst (λ w. After m H sent t w p p (Do k) o) (sym e)
-              (subst (λ w. After m H sent t d w p (Do k) o) (sym pc)
-              (subst (λ (h : Host S P). After m H sent t d c p (Do k) (obey m v k h.mode)) (sym is)
+              subst (λ w. After m laws H sent t w p p (Do k) o) (sym e)
+              (subst (λ w. After m laws H sent t d w p (Do k) o) (sym pc)
+              (subst (λ (h : Host S P). After m laws H sent t d c p (Do k) (obey m v k h.mode)) (sym is)
               (beside_good hc hd H sent c d t p (Do k) (obey m v k T) l
               (other_obeys m v k hc.mode T (own_ok hc.mode T) (their_ok hc.mode T)
-              (own_all m hc.mode T l.modes.meet))
+              (own_all m laws hc.mode T l.modes.meet))
               (subst (λ w. Content m hc.mode w (Made sent c d))
-              (sym (same_mode m v k hc.mode T l.modes.meet)) l.pages)
+              (sym (same_mode m laws v k hc.mode T l.modes.meet)) l.pages)
               (commanded_other m x v k hc.mode T l.modes.meet) (inr pc)
               (subst (λ (h : Host S P). GivenOk (reach H c hc.mode p)
               (obey m v k h.mode).next) is given))))
@@ -452,9 +452,9 @@ module _ {S P E A B : Type 0} (m : Guest S P E A B) where
   offer_behind l n f h q = cc
 
   heard_other : (hc hd : Host S P) (H : ℕ → Host S P) (sent : List (Addressed P B)) (c d : ℕ)
-      (t : Told S) (x y limit : ℕ) (f : Frame P B) → Good m hc hd H sent c d t → x ≢ c
+      (t : Told S) (x y limit : ℕ) (f : Frame P B) → Good m laws hc hd H sent c d t → x ≢ c
       → Made sent y x f → (y ≡ (H x).partner) ⊎ (is_offer_above (move_of (H x).mode) f ≡ true)
-      → After m H sent t x y
+      → After m laws H sent t x y
       (partner_then {E = E} (Came y f) (came m limit f (H x).mode).reply (H x).partner)
       (Came y f) (came m limit f (H x).mode)
   heard_other hc hd H sent c d t x y limit f l nc h heard =
@@ -466,19 +466,19 @@ module _ {S P E A B : Type 0} (m : Guest S P E A B) where
       let none = none_at hc hd H sent c d x t l nc in
       let ok = came_ok (reach H c O) (reach H c O y) p y limit f X none (l.given x nc) in
       let far : move_of X < lim O → past_ok (lim O) f → (x ≡ d → y ≢ c)
-      → After m H sent t x y p' (Came y f) o = λ lt past q.
+      → After m laws H sent t x y p' (Came y f) o = λ lt past q.
       behind_good hc hd H sent c d t x y p' (Came y f) o l nc lt q
       (λ j is. let g = t.guest in let run = run_apart j X none (omega (arith, is, lt)) in
       let mine : own_ok (Run j g) X f = past_own j g X f (subst (λ v. past_ok v f) is past)
       (subst (λ v. go_ok v f) (reach_there H c O x nc) (l.took y x f h)) in
       other_receives m limit f (Run j g) X (own_ok (Run j g) X) (their_ok (Run j g) X) mine
-      (own_all m (Run j g) X run))
+      (own_all m laws (Run j g) X run))
       (with_pred (move_of X) (lim O) lt
       (λ j is. let g = t.guest in let run = run_apart j X none (omega (arith, is, lt)) in
       let mine : own_ok (Run j g) X f = past_own j g X f (subst (λ v. past_ok v f) is past)
       (subst (λ v. go_ok v f) (reach_there H c O x nc) (l.took y x f h)) in
       received_other m y limit f (Run j g) X (own_ok (Run j g) X) (their_ok (Run j g) X) mine
-      (own_all m (Run j g) X run)))
+      (own_all m laws (Run j g) X run)))
       ok.0 ok.1 in
       elim (same_or x d) [
         | inr nd ↦
@@ -528,32 +528,32 @@ module _ {S P E A B : Type 0} (m : Guest S P E A B) where
                   (came_ok (reach H c O) (reach H c O c) p c limit f T (alone O T l.modes.meet)
                   (subst (λ (v : Host S P). GivenOk (reach H c O p) v.mode) is
                   (l.given x nc))).1 in
-                  let i = own_all m O T l.modes.meet in
-                  subst (λ w. After m H sent t w y p' (Came y f) o) (sym e)
-                  (subst (λ w. After m H sent t d w (partner_then {E = E} (Came w f) o.reply p)
+                  let i = own_all m laws O T l.modes.meet in
+                  subst (λ w. After m laws H sent t w y p' (Came y f) o) (sym e)
+                  (subst (λ w. After m laws H sent t d w (partner_then {E = E} (Came w f) o.reply p)
                   (Came w f) o) (sym yc)
-                  (subst (λ (v : Host S P). After m H sent t d c
+                  (subst (λ (v : Host S P). After m laws H sent t d c
                   (partner_then {E = E} (Came c f) (came m limit f v.mode).reply p) (Came c f)
                   (came m limit f v.mode)) (sym is)
                   (beside_good hc hd H sent c d t
                   (partner_then {E = E} (Came c f) (came m limit f T).reply p) (Came c f)
                   (came m limit f T) l
                   (other_receives m limit f O T (own_ok O T) (their_ok O T) (l.modes.own f h') i)
-                  (other_pages_came m limit f O T (Made sent c d) (Made sent d c) h' l.modes l.pages
-                  (held_valid m O t.guest l.guest l.valid))
+                  (other_pages_came m laws limit f O T (Made sent c d) (Made sent d c) h' l.modes l.pages
+                  (held_valid m laws O t.guest l.guest l.valid))
                   (received_other m c limit f O T (own_ok O T) (their_ok O T) (l.modes.own f h') i)
                   near given)))
             ]
       ]
 
   pub other_came : (hc hd : Host S P) (H : ℕ → Host S P) (sent : List (Addressed P B)) (c d : ℕ)
-      (t : Told S) (x y count limit : ℕ) (f : Frame P B) → Good m hc hd H sent c d t → x ≢ c
+      (t : Told S) (x y count limit : ℕ) (f : Frame P B) → Good m laws hc hd H sent c d t → x ≢ c
       → Made sent y x f
-      → After m H sent t x y
+      → After m laws H sent t x y
       (partner_then {E = E} (Came y f) (came_at m x count limit y f (H x)).reply (H x).partner)
       (Came y f) (came_at m x count limit y f (H x))
   other_came hc hd H sent c d t x y count limit f l nc h =
-      either (λ (o : Outcome S P A B). After m H sent t x y
+      either (λ (o : Outcome S P A B). After m laws H sent t x y
       (partner_then {E = E} (Came y f) o.reply (H x).partner) (Came y f) o)
       (is_heard x count y f (H x)) (came m limit f (H x).mode) (ignores (H x).mode)
       (λ e. let both = and_both (is_there x count y)

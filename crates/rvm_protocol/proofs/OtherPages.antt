@@ -4,7 +4,7 @@ use Rattle.std.proofs.Common.{◌≡◌, inl, inr, ℕ, suc, ◌<◌, ◌≤◌,
 use Rattle.std.proofs.lemmas.Bool.{ltb-true, ltb-false, eqb-true}
 use Rattle.std.proofs.lemmas.List.{length-set, length-replicate, get_or-set_same, get_or-set_other}
 use Rattle.rvm_protocol.specs.Frames.{Frame, Offer, Accept, Refuse, Page, RoundEnd, Lost, State, Ready, Go, Started, Abort, Part}
-use Rattle.rvm_protocol.specs.Guest.{Guest}
+use Rattle.rvm_protocol.specs.Guest.{Guest, IsGuest}
 use Rattle.rvm_protocol.specs.Modes.{Mode, Empty, Run, Offering, Copying, Stopped, Given, Staging, Held, Outcome, ignores, says, sends, move_of, guest_in}
 use Rattle.rvm_protocol.specs.Pages.{size, put, gathered, with_first}
 use Rattle.rvm_protocol.specs.Receiving.{came, offered, offer_above, of_this_move}
@@ -18,7 +18,7 @@ use Rattle.rvm_protocol.proofs.Basics.{some_is, same_or, size_none, put_same, pu
 use Rattle.rvm_protocol.proofs.CurrentPages.{open_ok, fixing}
 use Rattle.rvm_protocol.proofs.StateCases.{state_cases, part_cases}
 
-module _ {S P E A B : Type 0} (m : Guest S P E A B) where
+module _ {S P E A B : Type 0} (m : Guest S P E A B) (laws : IsGuest m) where
   pub commits_pages : (n : ℕ) (l : Last S) (T : Mode S P) (F R : Frame P B → Type 0)
       → Modes (Stopped n l) T F R → R (Ready n) → Content m T (Given n) R
   commits_pages n l (Held n' g) F R i came = tt
@@ -56,11 +56,11 @@ module _ {S P E A B : Type 0} (m : Guest S P E A B) where
   owner_pages_came limit (Offer k a b) (Given n) T F R h i ok = absurd i.meet
   owner_pages_came limit (Offer k a b) (Staging n s) T F R h i ok = absurd i.meet
   owner_pages_came limit (Accept k) (Offering n g p) T F R h i ok =
-      equal_pages n k _ (Offering n g p) T F R ok λ e. open_ok m n g p T F R i ok.1
+      equal_pages n k _ (Offering n g p) T F R ok λ e. open_ok m laws n g p T F R i ok.1
   owner_pages_came limit (Refuse k a) (Offering n g p) T F R h i ok =
       equal_pages n k _ (Offering n g p) T F R ok λ e. tt
   owner_pages_came limit (Lost k ps) (Stopped n l) T F R h i ok =
-      equal_pages n k _ (Stopped n l) T F R ok λ e. fixing m n l ps T F ok
+      equal_pages n k _ (Stopped n l) T F R ok λ e. fixing m laws n l ps T F ok
   owner_pages_came limit (Ready k) (Stopped n l) T F R h i ok =
       equal_pages n k _ (Stopped n l) T F R ok λ e. commits_pages n l T F R i
       (subst (λ z. R (Ready z)) (sym e) h)
@@ -268,7 +268,7 @@ module _ {S P E A B : Type 0} (m : Guest S P E A B) where
       let same : xs ≡ cut = ext_get_or [] xs cut t.count
       (λ j lt. (ok.parts st j (length xs) (get_or xs j []) (sent j lt)).piece) in
       let read : m.join cut ≡ Some (numbers, m.body l.guest) =
-      m.joined l.guest numbers v t.state.count
+      laws.joined l.guest numbers v t.state.count
       (λ p lt. (t.state.named p (subst (λ w. p < w) t.state.count lt), t.fits p lt)) in
       let is : (numbers, m.body l.guest) ≡ (ns, b) = some_is (numbers, m.body l.guest) (ns, b)
       (sym read ∙ ap m.join (sym same) ∙ join) in
@@ -281,7 +281,7 @@ module _ {S P E A B : Type 0} (m : Guest S P E A B) where
       → m.join xs ≡ Some (ns, b) → m.valid l.guest ≡ true → TrueState m e F l.guest ns b
   joined_is_sent e l T F s xs ns b i x ok st came all join v =
       let some : 0 < s.parts = subst (λ w. 0 < w) (sym (ok.parts s.stamp i s.parts x came).count)
-      (m.some_piece (ok.numbers s.stamp) (m.body l.guest)) in
+      (laws.some_piece (ok.numbers s.stamp) (m.body l.guest)) in
       let got = gathered_are s.pieces [] 0 s.parts xs all in
       pieces_are_sent e l T F s.stamp xs ns b ok (subst (λ w. 0 < w) (sym got.0) some)
       (λ j lt. let z : 0 + j ≡ j = omega arith in
@@ -307,7 +307,7 @@ module _ {S P E A B : Type 0} (m : Guest S P E A B) where
       some_is g' g
       (sym read ∙ ap (λ x. m.build s.processors b x) same
       ∙ ap (λ x. m.build s.processors x (m.pages g)) t.body
-      ∙ ap (λ x. m.build x (m.body g) (m.pages g)) st.processors ∙ m.read_back g v)
+      ∙ ap (λ x. m.build x (m.body g) (m.pages g)) st.processors ∙ laws.read_back g v)
 
   -- the guest that a state makes is the source's, where that one is paused
   ready_pages : (O : Mode S P) (n : ℕ) (s : Stage P) (g' : S) (F R : Frame P B → Type 0)

@@ -1,12 +1,12 @@
 -- Frames as they are written and as they are read.
 use Rattle.std.proofs.Common.{◌≡◌, inl, inr, ℕ, ◌&&◌, List, [], ◌∷◌, ◌++◌, Option, Some, None, refl, sym, ap, ◌∙◌}
 use Rattle.rvm_protocol.specs.Frames.{Frame, Offer, Accept, Refuse, Page, RoundEnd, Lost, State, Ready, Go, Started, Abort, Addressed, posted, Part, Zero, read, plain, made_as, written, is_compact}
-use Rattle.rvm_protocol.specs.Guest.{Guest}
+use Rattle.rvm_protocol.specs.Guest.{Guest, IsGuest}
 use Rattle.rvm_protocol.specs.World.{and_sent, Has}
 use Rattle.rvm_protocol.proofs.CurrentModes.{either}
 use Rattle.rvm_protocol.proofs.Basics.{and_both}
 
-module _ {S P E A B : Type 0} (m : Guest S P E A B) where
+module _ {S P E A B : Type 0} (m : Guest S P E A B) (laws : IsGuest m) where
   -- a frame is read as it was before it was written
   pub plain_written : (v : ℕ) (f : Frame P B) → ((k p n : ℕ) → f ≡ Zero k p n → ⊥)
       → plain m (written m v f) ≡ f
@@ -14,7 +14,7 @@ module _ {S P E A B : Type 0} (m : Guest S P E A B) where
       either (λ f. plain m f ≡ Page n p k b) (is_compact v && m.is_zeros b) (Zero n p k)
       (Page n p k b)
       (λ e. ap (λ z. Page n p k z)
-      (sym (m.only_zeros_pass b (and_both (is_compact v) (m.is_zeros b) e).1)))
+      (sym (laws.only_zeros_pass b (and_both (is_compact v) (m.is_zeros b) e).1)))
       (λ _. refl)
   plain_written v (Zero k p n) h = absurd (h k p n refl)
   plain_written v (Offer n a b) h = refl

@@ -2,7 +2,7 @@
 use Rattle.std.proofs.Common.{◌≡◌, ◌⊎◌, ◌↔◌, inl, inr, ℕ, zero, suc, ◌-◌, ◌/◌, ◌%◌, ◌^◌, ◌<◌, ◌≤◌, ◌==◌, true, false, not, ◌&&◌, if◌then◌else◌, nat_le, Option, Some, None, refl, sym, ap, ◌∙◌, subst, arith, leb-true, leb-false}
 use Rattle.std.proofs.lemmas.Bool.{eqb-true, eqb-false, eq-eqb}
 use Rattle.rvm_protocol.specs.Commands.{Command, Board, Begin, Copy, Resend, AbortMove}
-use Rattle.rvm_protocol.specs.Guest.{Guest}
+use Rattle.rvm_protocol.specs.Guest.{Guest, IsGuest}
 use Rattle.rvm_protocol.specs.Modes.{Mode, Copying, Stopped, says, refuses}
 use Rattle.rvm_protocol.specs.Obeying.{obey, copy_page, sends_page}
 use Rattle.rvm_protocol.specs.Replies.{Reply, SeqSpent, Stopping, Copied}
@@ -61,7 +61,7 @@ at_or_behind p q = elim (same_or p q) [
   ] refl
 ]
 
-module _ {S P E A B : Type 0} (m : Guest S P E A B) where
+module _ {S P E A B : Type 0} (m : Guest S P E A B) (laws : IsGuest m) where
   -- the scan stays where it is
   record Keeps (r s : Rounds S) : Type 0 where
     to_send : s.to_send ≡ r.to_send
@@ -136,7 +136,7 @@ module _ {S P E A B : Type 0} (m : Guest S P E A B) where
           to_send = ap (λ x. x.to_send) (sym is);
           to_skip = ap (λ x. x.to_skip) (sym is);
           scan = ap (λ x. x.scan) (sym is);
-          pages = ap (λ x. page_count m x.guest) (sym is) ∙ m.same_length r.guest e;
+          pages = ap (λ x. page_count m x.guest) (sym is) ∙ laws.same_length r.guest e;
         },
         λ q k z. cc,
       )

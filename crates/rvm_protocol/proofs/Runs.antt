@@ -4,7 +4,7 @@ use Rattle.std.specs.Prelude.{slice_get}
 use Rattle.std.proofs.lemmas.Bool.{ne_eqb}
 use Rattle.rvm_protocol.specs.Commands.{Command, HostEvent, Do, Came}
 use Rattle.rvm_protocol.specs.Frames.{Addressed, posted, Zero, read, plain}
-use Rattle.rvm_protocol.specs.Guest.{Guest}
+use Rattle.rvm_protocol.specs.Guest.{Guest, IsGuest}
 use Rattle.rvm_protocol.specs.Host.{Host, obey_at, came_at, partner_then, outcome, addressee}
 use Rattle.rvm_protocol.specs.Modes.{Mode, Empty, Run, move_of}
 use Rattle.rvm_protocol.specs.Obeying.{obey}
@@ -27,10 +27,10 @@ has_got [] k x h = cc
 has_got (z ∷ xs) zero x h = inl (some_is z x h)
 has_got (z ∷ xs) (suc k) x h = inr (has_got xs k x h)
 
-module _ {S P E A B : Type 0} (m : Guest S P E A B) where
+module _ {S P E A B : Type 0} (m : Guest S P E A B) (laws : IsGuest m) where
   -- one event of the world; frames are as they are read
   abbrev pub SoundAt : World S P B → Told S → Type 0
-  SoundAt w t = Sound m w.hosts (read m w.sent) t
+  SoundAt w t = Sound m laws w.hosts (read m w.sent) t
 
   -- a frame that comes was sent to this host
   abbrev pub Allowed : World S P B → ℕ → HostEvent P E B → Type 0
@@ -39,7 +39,7 @@ module _ {S P E A B : Type 0} (m : Guest S P E A B) where
 
   outcome_sound : (w : World S P B) (x : ℕ) (e : HostEvent P E B) (t : Told S) → Allowed w x e
       → SoundAt w t
-      → After m w.hosts (read m w.sent) t x
+      → After m laws w.hosts (read m w.sent) t x
       (addressee e
       (partner_then e (outcome m w.version x w.count (w.limits x) e (w.hosts x)).reply
       (w.hosts x).partner))
@@ -50,18 +50,18 @@ module _ {S P E A B : Type 0} (m : Guest S P E A B) where
       let sent = read m w.sent in
       elim (same_or x s.c) [
         | inl e ↦
-            subst (λ z. Obeyed m w.hosts sent t z (w.hosts z).partner k
+            subst (λ z. Obeyed m laws w.hosts sent t z (w.hosts z).partner k
             (obey_at m w.version z w.count k (w.hosts z).mode)) (sym e)
-            (current_obeys m w.version k (w.hosts s.c).mode (w.hosts s.c).partner w.count
+            (current_obeys m laws w.version k (w.hosts s.c).mode (w.hosts s.c).partner w.count
             (w.hosts s.d) w.hosts sent s.c s.d t l)
         | inr n ↦
             let X = (w.hosts x).mode in
-            let none = none_at m (w.hosts s.c) (w.hosts s.d) w.hosts sent s.c s.d x t l n in
-            subst (λ o. Obeyed m w.hosts sent t x (w.hosts x).partner k o)
-            (sym (obey_other m w.version x w.count k X none))
-            (subst (λ z. After m w.hosts sent t x z z (Do k) (obey m w.version k X))
-            (sym (then_other m w.version k X (w.hosts x).partner none))
-            (other_do m w.version (w.hosts s.c) (w.hosts s.d) w.hosts sent s.c s.d t x k l n))
+            let none = none_at m laws (w.hosts s.c) (w.hosts s.d) w.hosts sent s.c s.d x t l n in
+            subst (λ o. Obeyed m laws w.hosts sent t x (w.hosts x).partner k o)
+            (sym (obey_other m laws w.version x w.count k X none))
+            (subst (λ z. After m laws w.hosts sent t x z z (Do k) (obey m w.version k X))
+            (sym (then_other m laws w.version k X (w.hosts x).partner none))
+            (other_do m laws w.version (w.hosts s.c) (w.hosts s.d) w.hosts sent s.c s.d t x k l n))
       ]
   outcome_sound w x (Came y g) t h s =
       let l = s.good in
@@ -69,19 +69,19 @@ module _ {S P E A B : Type 0} (m : Guest S P E A B) where
       let f = plain m g in
       elim (same_or x s.c) [
         | inl e ↦
-            subst (λ z. After m w.hosts sent t z y (partner_then {E = E} (Came y f)
+            subst (λ z. After m laws w.hosts sent t z y (partner_then {E = E} (Came y f)
             (came_at m z w.count (w.limits z) y f (w.hosts z)).reply (w.hosts z).partner) (Came y f)
             (came_at m z w.count (w.limits z) y f (w.hosts z))) (sym e)
-            (current_came m (w.hosts s.c).mode (w.hosts s.c).partner w.count (w.limits s.c)
+            (current_came m laws (w.hosts s.c).mode (w.hosts s.c).partner w.count (w.limits s.c)
             (w.hosts s.d) w.hosts sent s.c s.d y t f l (subst (λ z. Made sent y z f) e h))
         | inr n ↦
-            other_came m (w.hosts s.c) (w.hosts s.d) w.hosts sent s.c s.d t x y w.count
+            other_came m laws (w.hosts s.c) (w.hosts s.d) w.hosts sent s.c s.d t x y w.count
             (w.limits x) f l n h
       ]
 
   -- no host makes a Zero before its frames are written
   no_zero : (H : ℕ → Host S P) (sent : List (Addressed P B)) (t : Told S) (x y k p n : ℕ)
-      → Sound m H sent t → Made sent x y (Zero k p n) → ⊥
+      → Sound m laws H sent t → Made sent x y (Zero k p n) → ⊥
   no_zero H sent t x y k p n s h =
       let l = s.good in
       elim (l.past x y (Zero k p n) h) [
@@ -109,7 +109,7 @@ module _ {S P E A B : Type 0} (m : Guest S P E A B) where
   sent_after w x e t h s =
       let o = outcome m w.version x w.count (w.limits x) e (w.hosts x) in
       let p = partner_then e o.reply (w.hosts x).partner in
-      read_sent m w.version w.sent x (addressee e p) o.made
+      read_sent m laws w.version w.sent x (addressee e p) o.made
       (λ k i n same. no_zero _ _ _ x (addressee e p) k i n (outcome_sound w x e t h s)
       (made_new (read m w.sent) x (addressee e p) o.made (Zero k i n) same))
 
@@ -118,7 +118,7 @@ module _ {S P E A B : Type 0} (m : Guest S P E A B) where
   step_sound w x e t h s =
       let o = outcome m w.version x w.count (w.limits x) e (w.hosts x) in
       let p = partner_then e o.reply (w.hosts x).partner in
-      subst (λ z. Sound m (put w.hosts x (record { mode = o.next; partner = p })) z
+      subst (λ z. Sound m laws (put w.hosts x (record { mode = o.next; partner = p })) z
       (told_reply m x e o.reply t)) (sym (sent_after w x e t h s)) (outcome_sound w x e t h s)
 
   pub told_more : (t : Told S) (xs ys : List (Entry P E A B))
@@ -155,7 +155,7 @@ module _ {S P E A B : Type 0} (m : Guest S P E A B) where
   event_allowed w (At y k) x e q = at_allowed w (nat_lt y w.count) y k x e q
   event_allowed w (Deliver k) x e q =
       deliver_allowed w (slice_get w.sent k)
-      (λ y h. has_read m w.sent y (has_got w.sent k y h)) x e q
+      (λ y h. has_read m laws w.sent y (has_got w.sent k y h)) x e q
 
   pub run_sound : (events : List (Event E)) (w : World S P B) (t : Told S) → SoundAt w t
       → SoundAt (run m w events) (told m t (history m w events))

@@ -4,7 +4,7 @@
 use Rattle.std.proofs.Common.{◌≡◌, ◌≢◌, ◌⊎◌, inl, inr, ⊎_elim, ℕ, suc, ◌<◌, ◌≤◌, ◌==◌, true, false, if◌then◌else◌, List, [], ◌∷◌, ◌++◌, Option, Some, None, refl, sym, ap, ◌∙◌, subst, arith}
 use Rattle.rvm_protocol.specs.Commands.{Board, HostEvent, Do, Came}
 use Rattle.rvm_protocol.specs.Frames.{Frame, Go, Abort, Addressed, posted}
-use Rattle.rvm_protocol.specs.Guest.{Guest}
+use Rattle.rvm_protocol.specs.Guest.{Guest, IsGuest}
 use Rattle.rvm_protocol.specs.Host.{Host}
 use Rattle.rvm_protocol.specs.Modes.{Mode, Run, Outcome, move_of, guest_in}
 use Rattle.rvm_protocol.specs.Pages.{put}
@@ -120,7 +120,7 @@ module _ {S P : Type 0} where
       → reach H c O y ≡ move_of (H y).mode
   reach_there H c O y n = put_other (λ z. move_of (H z).mode) c y (go_lim O) n
 
-module _ {S P E A B : Type 0} (m : Guest S P E A B) where
+module _ {S P E A B : Type 0} (m : Guest S P E A B) (laws : IsGuest m) where
   -- c is current and hc its mode; d, with hd, is its partner, or any other host where the current
   -- one is in Run
   pub record Good (hc hd : Host S P) (H : ℕ → Host S P) (sent : List (Addressed P B)) (c d : ℕ)
@@ -207,7 +207,7 @@ module _ {S P E A B : Type 0} (m : Guest S P E A B) where
 
   still_valid : (e : HostEvent P E B) (r : Reply A) (g : S) → m.valid g ≡ true
       → m.valid (reply_guest m e r g) ≡ true
-  still_valid (Do (Board e)) (Answered a) g v = m.stays g e v
+  still_valid (Do (Board e)) (Answered a) g v = laws.stays g e v
   still_valid e r g v = v
 
   pub own_all : (O T : Mode S P) → Meet O T → Modes O T (own_ok {B = B} O T) (their_ok {B = B} O T)
@@ -247,7 +247,7 @@ module _ {S P E A B : Type 0} (m : Guest S P E A B) where
             | inr z ↦ absurd (l.apart (sym z.0))
           ];
         };
-        pages = content_iff m O' T (More (Made sent c d) made)
+        pages = content_iff m laws O' T (More (Made sent c d) made)
             (Made (and_sent sent (posted c d made)) c d) (more_up sent c d made)
             (more_down sent c d made) ok;
         guest = tells.guest ∙ ap (onto (reply_guest m e r)) l.guest;
@@ -358,7 +358,7 @@ module _ {S P E A B : Type 0} (m : Guest S P E A B) where
             | inr z ↦ i.their g (more_new (own_ok O T) made g z.2)
           ];
         };
-        pages = content_iff m T O' (Made sent d c) (Made (and_sent sent (posted c d made)) d c)
+        pages = content_iff m laws T O' (Made sent d c) (Made (and_sent sent (posted c d made)) d c)
             (λ g h. made_old sent c d made d c g h)
             (λ g h. elim
             (made_down sent c d made d c g h) [
@@ -488,7 +488,7 @@ module _ {S P E A B : Type 0} (m : Guest S P E A B) where
           ];
           their = s.their;
         };
-        pages = content_iff m O hd'.mode (Made sent c d)
+        pages = content_iff m laws O hd'.mode (Made sent c d)
             (Made (and_sent sent (posted x z o.made)) c d) (λ f h. made_old sent x z o.made c d f h)
             (λ f h. elim
             (made_down sent x z o.made c d f h) [ inl a ↦ a | inr q ↦ absurd (nc q.0) ]) s.pages;

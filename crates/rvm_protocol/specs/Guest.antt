@@ -5,7 +5,7 @@ use Rattle.std.specs.Prelude.{◌≡◌, ℕ, ◌^◌, ◌<◌, Bool, true, fals
 use Rattle.std.specs.declared.option.Option.{Option}
 use Rattle.std.specs.declared.option.Option.TheVariants.{Some}
 
--- S its states, P its pages, E its events, A its answers, B its state as written, without the pages
+-- what a guest does: S its states, P its pages, E its events, A its answers, B its state as written, without the pages
 pub record Guest (S P E A B : Type 0) : Type 0 where
   pub answer : S → E → A
   pub next : S → E → S
@@ -25,23 +25,26 @@ pub record Guest (S P E A B : Type 0) : Type 0 where
   pub join : List (List ℕ) → Option (List ℕ × B)
   -- the states that can be met
   pub valid : S → Bool
+
+-- the laws of a guest that can move
+pub record IsGuest {S P E A B : Type 0} (m : Guest S P E A B) : Type 0 where
   -- an event leads from a state that can be met to another one
-  pub stays : (s : S) (e : E) → valid s ≡ true → valid (next s e) ≡ true
+  pub stays : (s : S) (e : E) → m.valid s ≡ true → m.valid (m.next s e) ≡ true
   -- no event changes how many pages or processors there are
-  pub same_length : (s : S) (e : E) → length (pages (next s e)) ≡ length (pages s)
-  pub same_processors : (s : S) (e : E) → processors (next s e) ≡ processors s
+  pub same_length : (s : S) (e : E) → length (m.pages (m.next s e)) ≡ length (m.pages s)
+  pub same_processors : (s : S) (e : E) → m.processors (m.next s e) ≡ m.processors s
   -- a page that was not written is as before
-  pub unwritten : (s : S) (e : E) (p : ℕ) → wrote s e p ≡ false
-      → get_or (pages (next s e)) p zeros ≡ get_or (pages s) p zeros
+  pub unwritten : (s : S) (e : E) (p : ℕ) → m.wrote s e p ≡ false
+      → get_or (m.pages (m.next s e)) p m.zeros ≡ get_or (m.pages s) p m.zeros
   -- what was written is read back
-  pub read_back : (s : S) → valid s ≡ true
-      → build (processors s) (body s) (pages s) ≡ Some s
+  pub read_back : (s : S) → m.valid s ≡ true
+      → m.build (m.processors s) (m.body s) (m.pages s) ≡ Some s
   -- the test of zeros is right
-  pub zeros_pass : is_zeros zeros ≡ true
-  pub only_zeros_pass : (p : P) → is_zeros p ≡ true → p ≡ zeros
+  pub zeros_pass : m.is_zeros m.zeros ≡ true
+  pub only_zeros_pass : (p : P) → m.is_zeros p ≡ true → p ≡ m.zeros
   -- there is a piece, and the pieces of a state with a copy number for each page are read back
-  pub some_piece : (numbers : List ℕ) (b : B) → 0 < length (cut numbers b)
-  pub joined : (s : S) (numbers : List ℕ) → valid s ≡ true → length numbers ≡ length (pages s)
+  pub some_piece : (numbers : List ℕ) (b : B) → 0 < length (m.cut numbers b)
+  pub joined : (s : S) (numbers : List ℕ) → m.valid s ≡ true → length numbers ≡ length (m.pages s)
       → ((p : ℕ) → p < length numbers
       → (0 < get_or numbers p 0) × (get_or numbers p 0 < 2 ^ 32))
-      → join (cut numbers (body s)) ≡ Some (numbers, body s)
+      → m.join (m.cut numbers (m.body s)) ≡ Some (numbers, m.body s)

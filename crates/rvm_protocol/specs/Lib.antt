@@ -19,4 +19,5 @@ pub mod FreshCopies
 pub mod FrameCauses
 pub mod RoundCopies
 pub mod FewCopies
+pub mod Course
 pub mod DrivenMove

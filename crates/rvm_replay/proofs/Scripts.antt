@@ -3,7 +3,7 @@ use Rattle.std.proofs.Common.{◌≡◌, ℕ, ◌+◌, ◌≤◌, Bool, true, fa
 use Rattle.rvm_debug.specs.declared.event.BoardEvent.{BoardEvent}
 use Rattle.rvm_debug.specs.declared.event.BoardEvent.TheVariants as asked
 use Rattle.rvm_event_line.specs.EventLines.{event_lines}
-use Rattle.rvm_guest.proofs.TheGuest.{board}
+use Rattle.rvm_guest.specs.TheGuest.{board}
 use Rattle.rvm_message.specs.declared.event.Command.TheVariants as command
 use Rattle.rvm_message.specs.Events.{BoardHostEvent}
 use Rattle.rvm_protocol.specs.Commands.{Board}

@@ -9,7 +9,8 @@ use Rattle.rvm_protocol.specs.Obeying.{offer_frame}
 use Rattle.rvm_protocol.specs.Rounds.{page_count, page_of}
 use Rattle.rvm_guest.specs.Pages.{count_of, is_zeros, size_of, zeros}
 use Rattle.rvm_guest.proofs.Joined.{length_pages, page_at}
-use Rattle.rvm_guest.proofs.TheGuest.{board}
+use Rattle.rvm_guest.proofs.TheGuest.{board_laws}
+use Rattle.rvm_guest.specs.TheGuest.{board}
 
 pub if_true : {X : Type 0} (b : Bool) (x y : X) → b ≡ true → (if b then x else y) ≡ x
 if_true true x y h = refl
@@ -27,7 +28,7 @@ none_is false never = refl
 pub zeros_are : (bytes : List ℕ) (told : Bool) → (told ≡ true ↔ bytes ≡ zeros) → told ≡ is_zeros bytes
 unfolding board
 zeros_are bytes true is = sym (ap is_zeros (is.0 refl))
-zeros_are bytes false is = none_is (is_zeros bytes) (λ all. false≢true (is.1 (board.only_zeros_pass bytes all)))
+zeros_are bytes false is = none_is (is_zeros bytes) (λ all. false≢true (is.1 (board_laws.only_zeros_pass bytes all)))
 
 -- a guest has as many pages as its dirty log
 pub count_is : (g : Guest) (pages bytes : ℕ) → bytes ≡ size_of g → bytes ≡ 4096 * pages → page_count board g ≡ pages

@@ -16,7 +16,7 @@ use Rattle.rvm_protocol.specs.Receiving.{came, lost_came}
 use Rattle.rvm_protocol.specs.Rounds.{Last, next_turn, page_count, pieces_of}
 use Rattle.rvm_precopy.specs.Plans.{Plan, last_found, last_of, lost}
 use Rattle.rvm_precopy.proofs.Ties.{last_found_is, size_is_count}
-use Rattle.rvm_guest.proofs.TheGuest.{board}
+use Rattle.rvm_guest.specs.TheGuest.{board}
 use Rattle.rvm_frame.specs.declared.frame.Frame.{Frame}
 use Rattle.rvm_message.specs.declared.reply.HostReply.{HostReply}
 use Rattle.rvm_message.specs.declared.reply.HostReply.TheVariants as reply

@@ -10,7 +10,7 @@ use Rattle.rvm_guest.specs.Pieces.{cut}
 use Rattle.rvm_state.specs.Spelling.{HasSpelling, spelling}
 use Rattle.rvm_guest.proofs.Bodies.{body_is}
 use Rattle.rvm_guest.proofs.Joined.{length_pages}
-use Rattle.rvm_guest.proofs.TheGuest.{board}
+use Rattle.rvm_guest.specs.TheGuest.{board}
 use Rattle.rvm_message.specs.Answers.{Answers}
 use Rattle.rvm_message.specs.Frames.{frame_of}
 use Rattle.rvm_message.specs.declared.reply.HostReply.TheVariants as reply

@@ -9,7 +9,7 @@ use Rattle.rvm_precopy.specs.declared.rounds.LastNext.{LastNext}
 use Rattle.rvm_precopy.specs.Plans.{Plan, IsPlanOf, next_of, last_next_of}
 use Rattle.rvm_guest.specs.Body.{body_of}
 use Rattle.rvm_guest.proofs.Pieces.{some_piece}
-use Rattle.rvm_guest.proofs.TheGuest.{board}
+use Rattle.rvm_guest.specs.TheGuest.{board}
 use Rattle.rvm_frame.specs.declared.frame.Frame.{Frame}
 use Rattle.rvm_message.specs.declared.reply.HostReply.{HostReply}
 use Rattle.rvm_message.specs.Answers.{Answers, BoardMode}

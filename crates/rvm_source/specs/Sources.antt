@@ -3,7 +3,7 @@ use Rattle.std.specs.Prelude.{◌≡◌, ℕ, ◌^◌, ◌<◌, ◌==◌, Bool, 
 use Rattle.rvm_debug.specs.Guest.{GuestState}
 use Rattle.rvm_guest.specs.Body.{body_of}
 use Rattle.rvm_guest.specs.Pieces.{cut}
-use Rattle.rvm_guest.proofs.TheGuest.{board}
+use Rattle.rvm_guest.specs.TheGuest.{board}
 use Rattle.rvm_message.specs.Answers.{BoardMode}
 use Rattle.rvm_precopy.specs.Coverage.{Covers, CoversLast}
 use Rattle.rvm_precopy.specs.Plans.{Plan, IsPlanOf, rounds_of, last_of}

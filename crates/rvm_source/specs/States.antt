@@ -1,7 +1,7 @@
 -- The state of a paused guest as it is sent.
 use Rattle.std.specs.Prelude.{ℕ, length}
 use Rattle.rvm_debug.specs.Guest.{Guest}
-use Rattle.rvm_guest.proofs.TheGuest.{board}
+use Rattle.rvm_guest.specs.TheGuest.{board}
 use Rattle.rvm_message.specs.Answers.{BoardOutcome}
 use Rattle.rvm_protocol.specs.Obeying.{sends_state}
 use Rattle.rvm_protocol.specs.Replies.{StateSent, PartSent}

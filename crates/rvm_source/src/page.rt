@@ -3,7 +3,7 @@
 ghost use Rattle.std.specs.Prelude.{◌≡◌, ◌<◌, [], length, Some};
 ghost use Rattle.rvm_protocol.specs.Frames as protocol;
 ghost use Rattle.rvm_protocol.specs.Rounds.{page_of};
-ghost use Rattle.rvm_guest.proofs.TheGuest.{board};
+ghost use Rattle.rvm_guest.specs.TheGuest.{board};
 ghost use Rattle.rvm_message.specs.Frames.{frame_of};
 ghost use Rattle.rvm_message.specs.Sendable.{CanBeSent};
 

@@ -11,7 +11,7 @@ ghost use Rattle.rvm_protocol.specs.Receiving as receiving;
 ghost use Rattle.rvm_protocol.specs.Rounds.{page_of};
 ghost use Rattle.rvm_precopy.specs.Policies.{policy_of};
 ghost use Rattle.rvm_guest.specs.Pages.{count_of};
-ghost use Rattle.rvm_guest.proofs.TheGuest.{board};
+ghost use Rattle.rvm_guest.specs.TheGuest.{board};
 ghost use Rattle.rvm_message.specs.Answers.{Answers};
 ghost use Rattle.rvm_message.specs.Frames.{frame_made, frame_of};
 ghost use Rattle.rvm_message.specs.Sendable.{CanBeSent};

@@ -2,7 +2,8 @@
 use Rattle.std.proofs.Common.{◌≡◌, ℕ, Some, refl, sym, ap, ◌∙◌, subst}
 use Rattle.rvm_debug.specs.declared.event.BoardEvent.{BoardEvent}
 use Rattle.rvm_debug.specs.Guest.{Guest as BoardGuest}
-use Rattle.rvm_guest.proofs.TheGuest.{board}
+use Rattle.rvm_guest.proofs.TheGuest.{board_laws}
+use Rattle.rvm_guest.specs.TheGuest.{board}
 use Rattle.rvm_message.specs.Events.{BoardHostEvent}
 use Rattle.rvm_protocol.proofs.OneGuestHolds.{the_law}
 use Rattle.rvm_protocol.proofs.Runs.{SoundAt, event_allowed, new_sound, run_sound, step_sound}
@@ -22,7 +23,7 @@ use Rattle.rvm_protocol.proofs.OneCurrent.{came_lands, moved, obeyed, one_curren
 -- what is told of a world that was reached
 record Known (w : BoardWorld) : Type 0 where
   pub t : Told BoardGuest
-  pub sound : SoundAt board w t
+  pub sound : SoundAt board board_laws w t
   pub shown : Shown w.hosts t
 
 known : (w : BoardWorld) → IsReached w → Known w
@@ -33,27 +34,27 @@ known w r =
     subst Known (sym r.reached)
     (record {
       t = told board (at_start r.start) (history board first r.before);
-      sound = run_sound board r.before first (at_start r.start)
-          (new_sound board w.version r.start w.count r.limits valid);
-      shown = (the_law board r.start w.version w.count r.limits r.before valid).shown;
+      sound = run_sound board board_laws r.before first (at_start r.start)
+          (new_sound board board_laws w.version r.start w.count r.limits valid);
+      shown = (the_law board board_laws r.start w.version w.count r.limits r.before valid).shown;
     })
 
 pub same_current : (w : BoardWorld) → IsReached w → (t t' : Told BoardGuest) → Shown w.hosts t → Shown w.hosts t'
     → t.current ≡ t'.current
 same_current w r t t' h h' =
     let k = known w r in
-    one_current board w k.t t k.sound h ∙ sym (one_current board w k.t t' k.sound h')
+    one_current board board_laws w k.t t k.sound h ∙ sym (one_current board board_laws w k.t t' k.sound h')
 
 same_move : (r : _) (y : ℕ) (f : _) (c : ℕ) → moved r y c ≡ current_after (Came y f) r c
 same_move (Committed n) y f c = refl
 same_move r y f c = refl
 
-told_here : (w : BoardWorld) (t : Told BoardGuest) → SoundAt board w t → (x : ℕ) (e : BoardHostEvent)
+told_here : (w : BoardWorld) (t : Told BoardGuest) → SoundAt board board_laws w t → (x : ℕ) (e : BoardHostEvent)
     → reply_current (result_at board w x e).reply t.targets t.current
     ≡ current_after e (result_at board w x e).reply t.current
-told_here w t s x (Do k) = obeyed board w.version x w.count k (w.hosts x).mode t.targets t.current
+told_here w t s x (Do k) = obeyed board board_laws w.version x w.count k (w.hosts x).mode t.targets t.current
 told_here w t s x (Came y f) =
-    came_lands board w t s x y (plain board f)
+    came_lands board board_laws w t s x y (plain board f)
     ∙ same_move (result_at board w x (Came y f)).reply y f t.current
 
 -- after an event
@@ -65,6 +66,6 @@ moves_on w new ev x e current r is means turned t shown =
     let k = known w r in
     let answer = (result_at board w x e).reply in
     ap (current_after e answer) (is k.t k.shown) ∙ sym (told_here w k.t k.sound x e)
-    ∙ sym (one_current board (world_at board w x e) (told_reply board x e answer k.t) t
-    (step_sound board w x e k.t (event_allowed board w ev x e means) k.sound)
+    ∙ sym (one_current board board_laws (world_at board w x e) (told_reply board x e answer k.t) t
+    (step_sound board board_laws w x e k.t (event_allowed board board_laws w ev x e means) k.sound)
     (subst (λ (z : BoardWorld). Shown z.hosts t) turned shown))

@@ -10,7 +10,8 @@ use Rattle.rvm_debug.specs.declared.event.BoardReply.{BoardReply}
 use Rattle.rvm_debug.specs.Guest.{Guest}
 use Rattle.rvm_guest.proofs.Joined.{length_pages}
 use Rattle.rvm_guest.proofs.Staying.{valid_is}
-use Rattle.rvm_guest.proofs.TheGuest.{board}
+use Rattle.rvm_guest.proofs.TheGuest.{board_laws}
+use Rattle.rvm_guest.specs.TheGuest.{board}
 use Rattle.rvm_guest.specs.Pages.{count_of}
 use Rattle.rvm_guest.specs.Valid.{is_valid}
 use Rattle.rvm_message.specs.Answers.{BoardMode}
@@ -43,7 +44,7 @@ some_is x y h = cc
 fold_valid : (g : Guest) (es : List BoardEvent) → board.valid g ≡ true → board.valid (fold board g es) ≡ true
 unfolding fold
 fold_valid g [] valid = valid
-fold_valid g (e ∷ es) valid = fold_valid (board.next g e) es (board.stays g e valid)
+fold_valid g (e ∷ es) valid = fold_valid (board.next g e) es (board_laws.stays g e valid)
 
 -- a host that answers is the current one
 is_here : (there here paused waits : Bool) (a b : BoardReply)
@@ -87,7 +88,7 @@ runs_valid w x e g r here is =
     let valid = allowed r.start r.valid in
     let w0 = new_world board w.version r.start w.count r.limits in
     let past = history board w0 r.before in
-    let one = the_law board r.start w.version w.count r.limits r.before valid in
+    let one = the_law board board_laws r.start w.version w.count r.limits r.before valid in
     let same =
     one_runs (at_start r.start) w past x e g (subst (λ z. OneGuest board (at_start r.start) z past) (sym r.reached) one)
     here is
@@ -136,7 +137,7 @@ arrives w from to p e g r can fits =
     subst (λ z. Arrives board z from to e g
     (drive from to p (length z.sent) (page_count board g) (state_frames board w.version g)))
     (sym r.reached)
-    (drive_law board r.start g w.version w.count r.limits r.before from to e p (allowed r.start r.valid)
+    (drive_law board board_laws r.start g w.version w.count r.limits r.before from to e p (allowed r.start r.valid)
     (ap (λ z. mode_at board z from) (sym r.reached) ∙ can.runs) can.number can.allowed can.here can.there
     (subst (λ z. page_count board g ≤ z to) (limits_are w r) fits) pages.0 (omega (arith, most)))
 
@@ -147,7 +148,7 @@ unfolding ATooLargeGuestIsDeclined
 declines w from to p e g r can large =
     let w0 = new_world board w.version r.start w.count r.limits in
     subst (λ z. IsDeclined board z from to e g (drive_opening from to p (length z.sent))) (sym r.reached)
-    (declined_law board r.start g w.version w.count r.limits r.before from to e p (allowed r.start r.valid)
+    (declined_law board board_laws r.start g w.version w.count r.limits r.before from to e p (allowed r.start r.valid)
     (ap (λ z. mode_at board z from) (sym r.reached) ∙ can.runs) can.number can.allowed can.here can.there
     (subst (λ z. z to < page_count board g) (limits_are w r) large))
 
@@ -157,7 +158,7 @@ some_frame version g = either (is_compact version)
   where
     either : (b : Bool)
         → 0 < (if b then length (board.cut (listed suc 0 (page_count board g)) (board.body g)) else 1)
-    either true = board.some_piece (listed suc 0 (page_count board g)) (board.body g)
+    either true = board_laws.some_piece (listed suc 0 (page_count board g)) (board.body g)
     either false = omega arith
 
 pub state_length : (version : ℕ) (g : Guest)

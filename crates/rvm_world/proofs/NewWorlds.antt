@@ -6,7 +6,7 @@ use Rattle.std.proofs.lemmas.List.{ext_get_or, get_or-map, get_or_append_left, g
 use Rattle.std.proofs.Math.Path.{fun_ext}
 use Rattle.rvm_codec.specs.Numbers.{within}
 use Rattle.rvm_debug.specs.Guest.{Guest, GuestState}
-use Rattle.rvm_guest.proofs.TheGuest.{board}
+use Rattle.rvm_guest.specs.TheGuest.{board}
 use Rattle.rvm_guest.specs.Valid.{is_valid}
 use Rattle.rvm_protocol.specs.Modes as modes
 use Rattle.rvm_protocol.specs.Shown.{Shown, is_held}

@@ -7,7 +7,7 @@ use Rattle.rvm_debug.specs.declared.turns.Stop.TheVariants as stop
 use Rattle.rvm_debug.specs.Events.{leaves, stops}
 use Rattle.rvm_debug.specs.Events as events
 use Rattle.rvm_debug.specs.Turns.{reply_of_stop}
-use Rattle.rvm_guest.proofs.TheGuest.{board}
+use Rattle.rvm_guest.specs.TheGuest.{board}
 use Rattle.rvm_message.specs.Replies.{ends_steps}
 use Rattle.rvm_protocol.specs.Replies.{Reply, Answered}
 use Rattle.rvm_protocol.specs.World.{reply_to, step}

@@ -16,7 +16,7 @@ use Rattle.rvm_debug.specs.Events.{leaves, pc_of, reply_of, steps, stops, takes_
 use Rattle.rvm_debug.specs.Events as events
 use Rattle.rvm_debug.specs.Turns.{after_turns, reply_of_stop, stop_in, unless_stopped}
 use Rattle.rvm_debug.proofs.Turning.{steps_count, mark_more}
-use Rattle.rvm_guest.proofs.TheGuest.{board}
+use Rattle.rvm_guest.specs.TheGuest.{board}
 use Rattle.rvm_guest.specs.Pages.{count_of}
 use Rattle.rvm_precopy.specs.Plans.{Plan}
 use Rattle.rvm_message.specs.declared.reply.HostReply.TheVariants as reply

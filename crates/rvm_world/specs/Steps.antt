@@ -6,7 +6,7 @@ use Rattle.rvm_debug.specs.declared.event.BoardReply.{BoardReply}
 use Rattle.rvm_debug.specs.declared.event.BoardReply.TheVariants as answer
 use Rattle.rvm_debug.specs.declared.turns.Stop.{Stop}
 use Rattle.rvm_debug.specs.Turns.{reply_of_stop}
-use Rattle.rvm_guest.proofs.TheGuest.{board}
+use Rattle.rvm_guest.specs.TheGuest.{board}
 use Rattle.rvm_message.specs.Replies.{ends_steps}
 use Rattle.rvm_protocol.specs.Commands.{Board}
 use Rattle.rvm_protocol.specs.Replies.{Reply, Answered}

@@ -8,7 +8,7 @@ use Rattle.rvm_debug.specs.Guest.{Guest, GuestState}
 use Rattle.rvm_frame.specs.declared.addressed.Addressed.{Addressed}
 use Rattle.rvm_frame.specs.Grammar.{HasSpelling, Received, sent, spelling}
 use Rattle.rvm_frame.specs.Verdict.{one_frame_of, verdict}
-use Rattle.rvm_guest.proofs.TheGuest.{board}
+use Rattle.rvm_guest.specs.TheGuest.{board}
 use Rattle.rvm_guest.specs.Valid.{is_valid}
 use Rattle.rvm_message.specs.Events.{BoardHostEvent, command_of}
 use Rattle.rvm_message.specs.Frames.{BoardFrame, frame_heard, no_frame}

@@ -1,12 +1,13 @@
 //! A move that is driven from its beginning to its end.
 
 ghost use Rattle.std.specs.Prelude.{◌≡◌, ◌+◌, ◌^◌, ◌<◌, ◌≤◌, ℕ, true, Ok, Err, IfOk, OnOk, OnErr};
-ghost use Rattle.rvm_guest.proofs.TheGuest.{board};
+ghost use Rattle.rvm_guest.specs.TheGuest.{board};
 ghost use Rattle.rvm_message.specs.Replies.{refusal_of, reply_of};
 ghost use Rattle.rvm_precopy.specs.Policies.{policy_of};
 ghost use Rattle.rvm_protocol.specs.Replies.{Begun, Refused};
 ghost use Rattle.rvm_protocol.specs.World.{run};
 ghost use Rattle.rvm_world.specs.Driving.{DrivesTo, WasLeft};
+ghost use Rattle.rvm_world.specs.NeverMoved.{NeverMoved};
 ghost use Rattle.rvm_world.specs.Phases.{IsRound, IsRoundLeft, IsSent, IsSentLeft, IsState, IsStateLeft, begins_or_not, copies, deliveries, frames_told, is_copied, limit_told};
 ghost use Rattle.rvm_world.specs.Worlds.{IsPartOf, world_of};
 
@@ -39,6 +40,7 @@ pub enum Driven {
 
 /// Moves the guest of host `from` to host `to`: each frame of the move comes once, in order, and no hart
 /// steps. After a refused growth the world is as the events before it left it.
+#[tactic(auto, using(crate::proofs::Laws::never_moved))]
 pub fn drive_move<M: PagedMemory + Drop>(
     alloc: Global,
     world: &mut World<M>,
@@ -47,6 +49,8 @@ pub fn drive_move<M: PagedMemory + Drop>(
     policy: Policy,
 ) -> Result<Driven, AllocError>
     ensures ends { IfOk result (λ d. DrivesTo d (world_of world.old) (world_of world.new) from to (policy_of policy)) }
+    // The guest never moved, in a move that is cut off as in a whole one.
+    ensures never_moved { NeverMoved (world_of world.old) (world_of world.new) }
     ensures err { OnErr result (WasLeft (world_of world.old) (world_of world.new) from to (policy_of policy)) }
 {
     world.reached();

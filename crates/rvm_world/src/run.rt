@@ -1,13 +1,9 @@
 //! Runs of a world.
 
-ghost use Rattle.std.specs.Prelude.{◌≡◌, ℕ, true, map, IfOk, OnOk, OnErr};
-ghost use Rattle.rvm_debug.specs.Guest.{Guest};
-ghost use Rattle.rvm_guest.proofs.TheGuest.{board};
-ghost use Rattle.rvm_guest.specs.Valid.{is_valid};
-ghost use Rattle.rvm_protocol.specs.Shown.{Shown};
-ghost use Rattle.rvm_protocol.specs.Told.{Told};
-ghost use Rattle.rvm_protocol.specs.World.{history, new_world, replies, run};
-ghost use Rattle.rvm_world.specs.NeverMoved.{FramesAreTrue, NeverMoved};
+ghost use Rattle.std.specs.Prelude.{◌≡◌, map, IfOk, OnOk, OnErr};
+ghost use Rattle.rvm_guest.specs.TheGuest.{board};
+ghost use Rattle.rvm_protocol.specs.World.{replies, run};
+ghost use Rattle.rvm_world.specs.NeverMoved.{CausesCame, NeverMoved};
 ghost use Rattle.rvm_world.specs.Worlds.{IsPartOf, meant, places_of, said, world_of};
 
 use crate::event::{Event, WorldReply};
@@ -15,9 +11,10 @@ use crate::world::World;
 use rvm_mem::PagedMemory;
 use std::alloc::{AllocError, Global};
 
-/// Runs a list of events. The guest at the current host, and each answer that it gave, are those of one
-/// board that never moves: from a new world, and from any other one by what its modes show. After a
-/// refused growth the world is as the events before it left it.
+/// Runs a list of events. After each of them, the guest at the current host and each answer that it
+/// gave are those of one board that never moves: from a new world, and from any other one by what its
+/// modes show. After a refused growth the world is as the events before it left it.
+#[tactic(auto, using(crate::proofs::Laws::never_moved, crate::proofs::Laws::causes_came))]
 pub fn run_world<M: PagedMemory + Drop>(
     alloc: Global,
     world: &mut World<M>,
@@ -30,13 +27,10 @@ pub fn run_world<M: PagedMemory + Drop>(
     // The place of the frame that each event made.
     ensures places { IfOk result (λ rs. map (λ r. r.frame) rs.items
         ≡ places_of (world_of world.old) (map meant events.now)) }
-    // The guest never moved.
-    ensures never_moved { OnOk result ((t : Told Guest) → Shown (world_of world.old).hosts t
-        → NeverMoved t (world_of world.new) (history board (world_of world.old) (map meant events.now))) }
-    // The frames of a run from a new world.
-    ensures frames { OnOk result ((start : Guest) (count : ℕ) (limits : ℕ → ℕ) → is_valid start ≡ true
-        → world_of world.old ≡ new_world board world.old.version start count limits
-        → FramesAreTrue start (world_of world.old) (map meant events.now)) }
+    // The guest never moved: at each event of the run, and in a run that ends early as in a whole one.
+    ensures never_moved { NeverMoved (world_of world.old) (world_of world.new) }
+    // In a run from a new world each Ready, Go and Started comes after its cause.
+    ensures causes { CausesCame (world_of world.old) (world_of world.new) }
     ensures err { OnErr result (IsPartOf (map meant events.now) (world_of world.old) (world_of world.new)) }
 {
     world.reached();

@@ -2,7 +2,7 @@
 
 ghost use Rattle.std.specs.Prelude.{◌≡◌, ◌-◌, ◌+◌, ◌<◌};
 ghost use Rattle.rvm_debug.specs.declared.event.BoardReply.TheVariants.{Retired};
-ghost use Rattle.rvm_guest.proofs.TheGuest.{board};
+ghost use Rattle.rvm_guest.specs.TheGuest.{board};
 ghost use Rattle.rvm_message.specs.Replies.{reply_of};
 ghost use Rattle.rvm_protocol.specs.Replies.{Answered};
 ghost use Rattle.rvm_protocol.specs.World.{reply_to, step};

@@ -4,7 +4,7 @@ ghost use Rattle.std.specs.Prelude.{◌≡◌, ◌^◌, ◌↔◌, ◌<◌, ◌�
 ghost use Rattle.rvm_core.specs.Hosts.{version_of};
 ghost use Rattle.rvm_core.specs.Spelled.{AreSpelled};
 ghost use Rattle.rvm_debug.specs.Guest.{Guest};
-ghost use Rattle.rvm_guest.proofs.TheGuest.{board};
+ghost use Rattle.rvm_guest.specs.TheGuest.{board};
 ghost use Rattle.rvm_guest.specs.Valid.{is_valid};
 ghost use Rattle.rvm_message.specs.Events.{command_of};
 ghost use Rattle.rvm_message.specs.Frames.{BoardFrame};
@@ -15,6 +15,7 @@ ghost use Rattle.rvm_protocol.specs.Told.{Told, at_start};
 ghost use Rattle.rvm_protocol.specs.World as protocol;
 ghost use Rattle.rvm_protocol.specs.World.{reply_to, step, new_world};
 ghost use Rattle.rvm_world.specs.declared.error.WorldError.TheVariants.{BadSize};
+ghost use Rattle.rvm_world.specs.NeverMoved.{NeverMoved};
 ghost use Rattle.rvm_world.specs.Steps.{AreFirst};
 ghost use Rattle.rvm_world.specs.Worlds.{IsReached, asks_memory, current_after, is_sized, limit_at, meant, no_kept, place_of, world_of};
 
@@ -165,15 +166,19 @@ impl<M: PagedMemory + Drop> World<M> {
 
     /// What an event does: the reply, and the place of the frame that was made, if one was. After a
     /// refused growth nothing has changed; an event of the guest takes no memory.
+    #[tactic(auto, using(crate::proofs::Laws::never_moved))]
     pub fn apply(&mut self, alloc: Global, event: &Event) -> Result<WorldReply, AllocError>
         ensures reply { IfOk result (λ r. reply_of r.reply
             ≡ reply_to board (world_of self.old) (meant event.now)) }
         ensures next { OnOk result (world_of self.new ≡ step board (world_of self.old) (meant event.now)) }
         ensures place { IfOk result (λ r. r.frame
             ≡ place_of (length self.old.sent) (length self.new.sent)) }
+        // The guest never moved.
+        ensures never_moved { NeverMoved (world_of self.old) (world_of self.new) }
         ensures err { OnErr result (self.new ≡ self.old) }
         ensures memory { OnErr result (asks_memory (meant event.now) ≡ true) }
     {
+        self.reached();
         match event {
             Event::At(host, command) => self.at(alloc, *host, command),
             Event::Deliver(place) => self.deliver(alloc, *place),

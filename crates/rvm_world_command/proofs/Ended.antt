@@ -7,7 +7,7 @@ use Rattle.rvm_arguments.specs.declared.arguments.ScriptArguments.{ScriptArgumen
 use Rattle.rvm_command.proofs.Refusals.{not_loaded_at_no_line}
 use Rattle.rvm_command.specs.Command.{FileImage, guest_of, image_of}
 use Rattle.rvm_debug.specs.Guest.{Guest}
-use Rattle.rvm_guest.proofs.TheGuest.{board}
+use Rattle.rvm_guest.specs.TheGuest.{board}
 use Rattle.rvm_protocol.specs.Shown.{Shown}
 use Rattle.rvm_protocol.specs.Told.{Told, at_start}
 use Rattle.rvm_protocol.specs.World.{new_world}

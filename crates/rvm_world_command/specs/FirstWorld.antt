@@ -3,7 +3,7 @@ use Rattle.std.specs.Prelude.{ℕ, List, Option, Some, None, replicate}
 use Rattle.rvm_arguments.specs.declared.arguments.ScriptArguments.{ScriptArguments}
 use Rattle.rvm_core.specs.Hosts.{version_of}
 use Rattle.rvm_debug.specs.Guest.{Guest}
-use Rattle.rvm_guest.proofs.TheGuest.{board}
+use Rattle.rvm_guest.specs.TheGuest.{board}
 use Rattle.rvm_protocol.specs.Told.{at_start}
 use Rattle.rvm_protocol.specs.World.{new_world}
 use Rattle.rvm_world.specs.Worlds.{limit_at}

@@ -3,7 +3,7 @@
 ghost use Rattle.std.specs.Prelude.{◌≡◌, ◌≤◌, true, IfOk, IfErr, OnOk};
 ghost use Rattle.rvm_command.specs.Command.{guest_of, image_of};
 ghost use Rattle.rvm_command.specs.Ends.{IsLoadable};
-ghost use Rattle.rvm_guest.proofs.TheGuest.{board};
+ghost use Rattle.rvm_guest.specs.TheGuest.{board};
 ghost use Rattle.rvm_protocol.specs.Shown.{Shown};
 ghost use Rattle.rvm_protocol.specs.Told.{at_start};
 ghost use Rattle.rvm_protocol.specs.World.{new_world};

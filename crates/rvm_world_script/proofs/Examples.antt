@@ -1,7 +1,7 @@
 -- Scripts that make no event, whom moves without a target go to, and lines that ask for memory.
 use Rattle.std.proofs.Common.{◌≡◌, ℕ, List, [], Option, None, Some, codes, refl, arith}
 use Rattle.rvm_debug.specs.Guest.{Guest}
-use Rattle.rvm_guest.proofs.TheGuest.{board}
+use Rattle.rvm_guest.specs.TheGuest.{board}
 use Rattle.rvm_protocol.specs.Told.{at_start}
 use Rattle.rvm_protocol.specs.World.{new_world}
 use Rattle.rvm_script.specs.Lines.{command_of}

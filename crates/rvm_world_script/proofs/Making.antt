@@ -4,7 +4,8 @@ use Rattle.rvm_debug.specs.declared.event.BoardEvent.{BoardEvent}
 use Rattle.rvm_debug.specs.declared.event.BoardEvent.TheVariants as event
 use Rattle.rvm_debug.specs.declared.event.BoardReply.{BoardReply}
 use Rattle.rvm_debug.specs.Guest.{Guest}
-use Rattle.rvm_guest.proofs.TheGuest.{board}
+use Rattle.rvm_guest.proofs.TheGuest.{board_laws}
+use Rattle.rvm_guest.specs.TheGuest.{board}
 use Rattle.rvm_guest.specs.Valid.{is_valid}
 use Rattle.rvm_precopy.specs.declared.policy.Policy.{Policy}
 use Rattle.rvm_precopy.specs.Policies.{policy_of}
@@ -50,7 +51,7 @@ after_told s [] = refl
 after_told s (e ∷ es) =
     let now = after s e in
     after_told now es
-    ∙ sym (told_more board s.told (entry_of board s.world (meaning board s.world e)) (history board now.world es))
+    ∙ sym (told_more board board_laws s.told (entry_of board s.world (meaning board s.world e)) (history board now.world es))
 
 allowed : (g : Guest) → is_valid g ≡ true → board.valid g ≡ true
 unfolding board
@@ -62,7 +63,7 @@ shown_after_all : (s : Standing) (es : List (Event BoardEvent)) → IsReached s.
 unfolding OneGuestFromAnyWorld
 shown_after_all s es r shown =
     let law =
-    the_law_from_any_world board r.start s.world.version s.world.count r.limits r.before es s.told
+    the_law_from_any_world board board_laws r.start s.world.version s.world.count r.limits r.before es s.told
     (allowed r.start r.valid) (subst (λ z. Shown z.hosts s.told) r.reached shown)
     in
     let here =

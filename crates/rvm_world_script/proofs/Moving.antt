@@ -5,7 +5,7 @@ use Rattle.std.specs.Prelude.{if◌then◌else◌}
 use Rattle.std.proofs.lemmas.Bool.{leb-false, leb-true, ltb-true}
 use Rattle.rvm_debug.specs.declared.event.BoardReply.{BoardReply}
 use Rattle.rvm_debug.specs.Guest.{Guest}
-use Rattle.rvm_guest.proofs.TheGuest.{board}
+use Rattle.rvm_guest.specs.TheGuest.{board}
 use Rattle.rvm_message.specs.declared.reply.HostRefusal.{HostRefusal}
 use Rattle.rvm_message.specs.declared.reply.HostRefusal.TheVariants as refusal
 use Rattle.rvm_message.specs.Replies.{refusal_of}

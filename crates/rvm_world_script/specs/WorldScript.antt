@@ -6,7 +6,7 @@ use Rattle.rvm_debug.specs.declared.event.BoardEvent.TheVariants as event
 use Rattle.rvm_debug.specs.declared.event.BoardReply.{BoardReply}
 use Rattle.rvm_debug.specs.declared.event.BoardReply.TheVariants.{Done, Retired}
 use Rattle.rvm_debug.specs.Guest.{Guest}
-use Rattle.rvm_guest.proofs.TheGuest.{board}
+use Rattle.rvm_guest.specs.TheGuest.{board}
 use Rattle.rvm_message.specs.Replies.{ends_steps}
 use Rattle.rvm_precopy.specs.declared.policy.Policy.{Policy}
 use Rattle.rvm_precopy.specs.Policies as policies

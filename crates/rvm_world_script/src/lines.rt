@@ -4,7 +4,7 @@ ghost use Rattle.std.specs.Prelude.{◌≡◌, Some, OnOk};
 ghost use Rattle.std.specs.Io.KnownBytes.{Appends};
 ghost use Rattle.rvm_debug.specs.Guest.{Guest};
 ghost use Rattle.rvm_debug.specs.declared.event.BoardReply.TheVariants as answer;
-ghost use Rattle.rvm_guest.proofs.TheGuest.{board};
+ghost use Rattle.rvm_guest.specs.TheGuest.{board};
 ghost use Rattle.rvm_message.specs.Events.{command_of};
 ghost use Rattle.rvm_message.specs.Replies.{reply_of};
 ghost use Rattle.rvm_precopy.specs.Policies.{policy_of};

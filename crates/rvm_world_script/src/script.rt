@@ -5,6 +5,7 @@ ghost use Rattle.rvm_debug.specs.Guest.{Guest};
 ghost use Rattle.rvm_protocol.specs.Shown.{Shown};
 ghost use Rattle.rvm_protocol.specs.Told.{Told};
 ghost use Rattle.rvm_script.specs.Words.{lines};
+ghost use Rattle.rvm_world.specs.NeverMoved.{NeverMoved};
 ghost use Rattle.rvm_world.specs.Worlds.{world_of};
 ghost use Rattle.rvm_world_line.specs.WorldLines.{world_line_of};
 ghost use Rattle.rvm_world_script.specs.declared.script.WorldScriptError.TheVariants.{OutOfMemory, TooLong};
@@ -50,6 +51,7 @@ pub enum WorldScriptError {
 /// `LinkFault` where a read or a write failed: then the world is as some of the first lines left it, each
 /// of which was done to its end, the last too, whose answer was not written; none was done where a read
 /// failed.
+#[tactic(auto, using(rvm_world::proofs::Laws::never_moved))]
 pub fn run_world_script<M: PagedMemory + Drop, R: Read, W: Write>(
     alloc: Global,
     world: &mut World<M>,
@@ -67,7 +69,10 @@ pub fn run_world_script<M: PagedMemory + Drop, R: Read, W: Write>(
         → IfSome (R.remaining reader.old) (λ script. 2 ^ 26 < length script) }
     ensures unread { (result ≡ Err TooLong) ⊎ (result ≡ Err OutOfMemory)
         → (world.new ≡ world.old) × (W.contents writer.new ≡ W.contents writer.old) }
+    // The guest never moved, also in a script that ends early.
+    ensures never_moved { NeverMoved (world_of world.old) (world_of world.new) }
 {
+    world.reached();
     match read_script(alloc, reader) {
         Ok(script) => run_lines(alloc, world, &script, writer),
         Err(ScriptError::OutOfMemory) => Err(WorldScriptError::OutOfMemory),

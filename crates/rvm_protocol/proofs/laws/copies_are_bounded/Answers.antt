@@ -2,4 +2,4 @@ use Rattle.rvm_protocol.proofs.Bounds.{bound_law}
 use Rattle.rvm_protocol.proofs.laws.copies_are_bounded.Goals as goal
 
 pub returns : goal.returns
-returns g c = record { always = λ m. bound_law m }
+returns g c = record { always = λ m laws. bound_law m laws }

@@ -1,5 +1,5 @@
 use Rattle.std.proofs.Common.{◌∙◌, ap, subst}
-use Rattle.rvm_guest.proofs.TheGuest.{board}
+use Rattle.rvm_guest.specs.TheGuest.{board}
 use Rattle.rvm_message.specs.Replies.{reply_of}
 use Rattle.rvm_protocol.specs.World.{run}
 use Rattle.rvm_world.specs.Phases.{IsStateLeft, copies}

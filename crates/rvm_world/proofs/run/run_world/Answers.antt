@@ -1,7 +1,6 @@
 use Rattle.std.proofs.Common.{◌≡◌, ◌∙◌, [], ◌∷◌, ◌++◌, ap, map, subst, sym}
-use Rattle.rvm_guest.proofs.TheGuest.{board}
+use Rattle.rvm_guest.specs.TheGuest.{board}
 use Rattle.rvm_world.specs.Worlds.{meant, said, world_of}
-use Rattle.rvm_world.proofs.Laws.{frames_are_true, never_moves}
 use Rattle.rvm_world.proofs.Places.{Placing, all_placed, none_placed, one_placed}
 use Rattle.rvm_world.proofs.Runs.{Running, all_run, all_said, begins, err_part, one_more}
 use Rattle.rvm_world.proofs.run.run_world.Goals as goal
@@ -57,16 +56,3 @@ pub returns-clause-places : goal.returns-clause-places
 returns-clause-places g c =
     all_placed (world_of c.args.world.now) (world_of c.loop-event.world) c.args.events.now c.loop-event.event-index
     c.loop-event.replies.items c.loop-event.invariant.places c.loop-event-test.false
-
-pub returns-clause-never_moved : goal.returns-clause-never_moved
-returns-clause-never_moved g c =
-    never_moves (world_of c.args.world.now) (world_of c.loop-event.world) (map meant c.args.events.now)
-    c.reached.ensures
-    (all_run board meant said (world_of c.args.world.now) (world_of c.loop-event.world) c.args.events.now
-    c.loop-event.event-index c.loop-event.replies.items c.loop-event.invariant.runs c.loop-event-test.false)
-
-pub returns-clause-frames : goal.returns-clause-frames
-returns-clause-frames g c =
-    λ start count limits valid new.
-    frames_are_true start (world_of c.args.world.now) c.args.world.now.version count limits
-    (map meant c.args.events.now) valid new

@@ -1,4 +1,4 @@
-use Rattle.rvm_guest.proofs.TheGuest.{board}
+use Rattle.rvm_guest.specs.TheGuest.{board}
 use Rattle.rvm_world.specs.Worlds.{meant, said, world_of}
 use Rattle.rvm_world.proofs.Places.{Placing}
 use Rattle.rvm_world.proofs.Runs.{Running}

@@ -1,6 +1,6 @@
 use Rattle.std.proofs.Common.{Option, ◌∙◌, ap, sym, refl, subst}
 use Rattle.rvm_frame.specs.declared.frame.Frame.{Frame}
-use Rattle.rvm_guest.proofs.TheGuest.{board}
+use Rattle.rvm_guest.specs.TheGuest.{board}
 use Rattle.rvm_message.specs.Events.{BoardHostEvent}
 use Rattle.rvm_message.specs.Frames.{frame_heard}
 use Rattle.rvm_message.specs.declared.reply.HostReply.{HostReply}

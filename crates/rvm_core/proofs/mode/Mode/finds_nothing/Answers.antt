@@ -1,6 +1,6 @@
 use Rattle.std.proofs.Common.{None, sym, subst}
 use Rattle.rvm_debug.specs.declared.event.BoardEvent.TheVariants.{Drain}
-use Rattle.rvm_guest.proofs.TheGuest.{board}
+use Rattle.rvm_guest.specs.TheGuest.{board}
 use Rattle.rvm_message.specs.Answers.{Answers}
 use Rattle.rvm_message.specs.Exchanges.{dry_exchange}
 use Rattle.rvm_protocol.specs.Obeying as obeying

@@ -1,6 +1,6 @@
 use Rattle.std.proofs.Common.{None, sym, subst}
 use Rattle.rvm_debug.specs.declared.event.BoardEvent.TheVariants.{Step}
-use Rattle.rvm_guest.proofs.TheGuest.{board}
+use Rattle.rvm_guest.specs.TheGuest.{board}
 use Rattle.rvm_message.specs.Answers.{Answers}
 use Rattle.rvm_message.specs.Steps.{reply_to_step}
 use Rattle.rvm_protocol.specs.Obeying as obeying

@@ -7,7 +7,7 @@ use Rattle.rvm_protocol.specs.Receiving.{pieces_joined, state_came}
 use Rattle.rvm_protocol.specs.Replies.{Kept}
 use Rattle.rvm_protocol.specs.Staging.{with_part}
 use Rattle.rvm_guest.specs.Pages.{joined}
-use Rattle.rvm_guest.proofs.TheGuest.{board}
+use Rattle.rvm_guest.specs.TheGuest.{board}
 use Rattle.rvm_handover.specs.Stages.{PlainStage, stage_of}
 use Rattle.rvm_handover.specs.Pieces.{IsPartLeft, left_of, reason_joined, with_piece}
 use Rattle.rvm_handover.specs.Outcomes.{BoardOutcome, IsLeft}

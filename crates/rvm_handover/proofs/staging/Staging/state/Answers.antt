@@ -6,7 +6,7 @@ use Rattle.rvm_protocol.specs.Receiving.{guest_read}
 use Rattle.rvm_debug.specs.Guest.{Guest}
 use Rattle.rvm_guest.specs.Body.{build}
 use Rattle.rvm_guest.specs.Pages.{pages_in}
-use Rattle.rvm_guest.proofs.TheGuest.{board}
+use Rattle.rvm_guest.specs.TheGuest.{board}
 use Rattle.rvm_handover.specs.Stages.{PlainStage, is_older, stage_of}
 use Rattle.rvm_handover.proofs.States.{lack_is_good, left_so, none_lack, other_count, some_lack}
 use Rattle.rvm_handover.proofs.Told.{told_fault}

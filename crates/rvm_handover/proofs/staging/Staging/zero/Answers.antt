@@ -1,4 +1,4 @@
-use Rattle.rvm_guest.proofs.TheGuest.{board}
+use Rattle.rvm_guest.specs.TheGuest.{board}
 use Rattle.rvm_handover.proofs.staging.Staging.zero.Goals as goal
 
 pub returns-clause-came : goal.returns-clause-came

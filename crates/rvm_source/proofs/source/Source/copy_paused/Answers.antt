@@ -1,7 +1,7 @@
 use Rattle.std.proofs.Common.{rules, ◌≡◌, ◌∙◌, ◌<◌, ap, sym, subst, refl, arith}
 use Rattle.rvm_protocol.specs.Obeying.{copy}
 use Rattle.rvm_precopy.specs.declared.rounds.LastNext.TheVariants as last
-use Rattle.rvm_guest.proofs.TheGuest.{board}
+use Rattle.rvm_guest.specs.TheGuest.{board}
 use Rattle.rvm_message.specs.Answers.{Answers}
 use Rattle.rvm_message.specs.Frames.{frame_made}
 use Rattle.rvm_message.specs.Replies.{reply_of}

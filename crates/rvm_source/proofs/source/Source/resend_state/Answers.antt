@@ -2,7 +2,7 @@ use Rattle.std.proofs.Common.{◌∙◌, Some, ap, sym, subst}
 use Rattle.std.specs.Option.{is_some}
 use Rattle.rvm_protocol.specs.Obeying.{resend}
 use Rattle.rvm_precopy.specs.Plans.{last_found}
-use Rattle.rvm_guest.proofs.TheGuest.{board}
+use Rattle.rvm_guest.specs.TheGuest.{board}
 use Rattle.rvm_message.specs.Answers.{Answers}
 use Rattle.rvm_message.specs.Frames.{frame_made}
 use Rattle.rvm_message.specs.Replies.{reply_of}

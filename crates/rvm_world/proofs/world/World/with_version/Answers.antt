@@ -1,5 +1,5 @@
 use Rattle.std.proofs.Common.{◌≡◌, List, length, sym, subst}
-use Rattle.rvm_guest.proofs.TheGuest.{board}
+use Rattle.rvm_guest.specs.TheGuest.{board}
 use Rattle.rvm_protocol.specs.World.{new_world}
 use Rattle.rvm_world.specs.Worlds.{IsWorld, Kept, limit_at, world_of}
 use Rattle.rvm_world.proofs.NewWorlds.{new_is_world, new_shown, world_is}
