@@ -17,12 +17,12 @@ use Rattle.rvm_message.specs.declared.event.Command.{Command}
 use Rattle.rvm_message.specs.declared.event.HostEvent.{HostEvent}
 use Rattle.rvm_message.specs.Events.{BoardHostEvent, command_of, event_of}
 use Rattle.rvm_protocol.specs.Commands as protocol
-use Rattle.rvm_protocol.specs.Course.{CausesComeFirst, RunsNeverMove}
+use Rattle.rvm_protocol.specs.Course.{RunsNeverMove, RunsTellTheirPast}
 use Rattle.rvm_protocol.specs.Frames.{Addressed}
 use Rattle.rvm_protocol.specs.Host.{host_step, is_there}
 use Rattle.rvm_protocol.specs.Pages.{put}
 use Rattle.rvm_protocol.specs.World.{and_sent, entry_of, frame_for, happened, history, meaning, new_world, result_at, run}
-use Rattle.rvm_protocol.proofs.Course.{causes_law, course_law}
+use Rattle.rvm_protocol.proofs.Course.{course_law, past_law}
 use Rattle.rvm_world.specs.declared.event.Event.{Event}
 use Rattle.rvm_world.specs.declared.event.Event.TheVariants.{At, Deliver}
 use Rattle.rvm_world.specs.Worlds.{BoardWorld, meant}
@@ -234,7 +234,7 @@ module _ (version : ℕ) (g : GuestState) (limits : ℕ → ℕ) where
 
   pub is_world_run : (a b : History) (events : List Event) → is_valid g.guest ≡ true
       → AreNew version g limits a.opening b.opening → IsOrder a b events → IsWorldRun new g.guest a b events
-  unfolding RunsNeverMove CausesComeFirst
+  unfolding RunsNeverMove RunsTellTheirPast
   is_world_run a b events valid are o =
       let r : IsRun one two (opened one two) events o.steps =
       subst (λ p. IsRun one p (opened one p) events o.steps) are.second
@@ -255,5 +255,5 @@ module _ (version : ℕ) (g : GuestState) (limits : ℕ → ℕ) where
             ∙ (λ j. (after_all (sym are.first j) (sym are.second j) (opened (sym are.first j) (sym are.second j)) o.steps).second)
             ∙ o.second_ends;
         never_moved = course_law board board_laws g.guest version 2 limits (map meant events) (allowed g.guest valid);
-        causes = causes_law board board_laws g.guest version 2 limits (map meant events) (allowed g.guest valid);
+        past = past_law board board_laws g.guest version 2 limits (map meant events) (allowed g.guest valid);
       }

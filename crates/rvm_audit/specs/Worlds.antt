@@ -8,7 +8,7 @@ use Rattle.rvm_journal.specs.History.{History}
 use Rattle.rvm_journal.specs.Replay.{replay}
 use Rattle.rvm_message.specs.Events.{event_of}
 use Rattle.rvm_message.specs.Replies.{reply_of}
-use Rattle.rvm_protocol.specs.Course.{HaveCauses, InEachState, NeverMoves}
+use Rattle.rvm_protocol.specs.Course.{InEachState, NeverMoves, PastIsTrue}
 use Rattle.rvm_protocol.specs.Told.{at_start}
 use Rattle.rvm_protocol.specs.World.{history, run}
 use Rattle.rvm_world.specs.declared.event.Event.{Event}
@@ -38,4 +38,4 @@ pub record IsWorldRun (w : BoardWorld) (g : Guest) (a b : History) (events : Lis
   pub first_ends : (run board w (map meant events)).hosts 0 ≡ replay a.opening a.entries
   pub second_ends : (run board w (map meant events)).hosts 1 ≡ replay b.opening b.entries
   pub never_moved : NeverMoves board (at_start g) w (map meant events)
-  pub causes : InEachState board (HaveCauses board) w (map meant events)
+  pub past : InEachState board (PastIsTrue board) w (map meant events)

@@ -1,6 +1,7 @@
 -- The laws in each state of a run: its first events are a run themselves.
 use Rattle.std.proofs.Common.{◌≡◌, ℕ, true, List, refl, subst}
-use Rattle.rvm_protocol.specs.Course.{CausesComeFirst, FramesAreTrue, NeverMoves, RunsNeverMove, RunsNeverMoveFromAnyWorld}
+use Rattle.rvm_protocol.specs.Course.{FramesAreTrue, NeverMoves, RunsNeverMove, RunsNeverMoveFromAnyWorld, RunsTellTheirPast}
+use Rattle.rvm_protocol.specs.FewCopies.{CopiesAreTold}
 use Rattle.rvm_protocol.specs.FrameCauses.{FramesFollowTheirCauses}
 use Rattle.rvm_protocol.specs.FrameContents.{Carries}
 use Rattle.rvm_protocol.specs.Guest.{Guest, IsGuest}
@@ -9,6 +10,7 @@ use Rattle.rvm_protocol.specs.World.{World, Event, history, mode_at, new_world, 
 use Rattle.rvm_protocol.proofs.Bounds.{Bounded, few, new_bound, run_bound}
 use Rattle.rvm_protocol.proofs.CausesOfRuns.{follow_law}
 use Rattle.rvm_protocol.proofs.Contents.{carry_at}
+use Rattle.rvm_protocol.proofs.CopiesTold.{told_law}
 use Rattle.rvm_protocol.proofs.NoStalePages.{stale_at}
 use Rattle.rvm_protocol.proofs.OneGuestHolds.{one_guest, shown_sound, told_guest}
 use Rattle.rvm_protocol.proofs.Runs.{SoundAt, new_sound, run_sound}
@@ -51,7 +53,10 @@ module _ {S P E A B : Type 0} (m : Guest S P E A B) (laws : IsGuest m) where
       (run_sound m laws before new (at_start g) (new_sound m laws version g count limits v)) h)
       (run_bound m laws before new (new_bound m laws g))
 
-  pub causes_law : CausesComeFirst m
-  unfolding CausesComeFirst FramesFollowTheirCauses
-  causes_law = λ g version count limits events v before after parts a sent.
-      follow_law m laws g version count limits before a v sent
+  pub past_law : RunsTellTheirPast m
+  unfolding RunsTellTheirPast FramesFollowTheirCauses CopiesAreTold
+  past_law = λ g version count limits events v before after parts.
+      record {
+        causes = λ a sent. follow_law m laws g version count limits before a v sent;
+        copies = λ x. told_law m g version count limits before x;
+      }

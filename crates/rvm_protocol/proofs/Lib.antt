@@ -30,8 +30,12 @@ pub mod MoveNumbers
 pub mod Course
 mod Counter
 mod Examples
+mod CountedCopies
 mod Witnesses
 mod HostsAtTheEdges
 mod HostsInEachMode
 mod LongRuns
 pub mod RoundCopies
+mod RoundCounts
+mod LastRound
+mod CopiesTold

@@ -63,20 +63,21 @@ at_or_behind p q = elim (same_or p q) [
 
 module _ {S P E A B : Type 0} (m : Guest S P E A B) (laws : IsGuest m) where
   -- the scan stays where it is
-  record Keeps (r s : Rounds S) : Type 0 where
-    to_send : s.to_send ≡ r.to_send
-    to_skip : s.to_skip ≡ r.to_skip
-    scan : s.scan ≡ r.scan
-    pages : page_count m s.guest ≡ page_count m r.guest
+  pub record Keeps (r s : Rounds S) : Type 0 where
+    pub to_send : s.to_send ≡ r.to_send
+    pub to_skip : s.to_skip ≡ r.to_skip
+    pub scan : s.scan ≡ r.scan
+    pub sent : s.sent ≡ r.sent
+    pub pages : page_count m s.guest ≡ page_count m r.guest
 
-  record CopiesOne (r s : Rounds S) (reply : Reply A) (q : ℕ) : Type 0 where
-    found : next_page m r ≡ Some q
-    next : s ≡ page_copied m r q
-    number : ℕ
-    told : reply ≡ Copied q number
+  pub record CopiesOne (r s : Rounds S) (reply : Reply A) (q : ℕ) : Type 0 where
+    pub found : next_page m r ≡ Some q
+    pub next : s ≡ page_copied m r q
+    pub number : ℕ
+    pub told : reply ≡ Copied q number
 
   -- what a command does in a round
-  abbrev Step : (r s : Rounds S) → Reply A → Type 0
+  abbrev pub Step : (r s : Rounds S) → Reply A → Type 0
   Step r s reply =
       (Keeps r s × ((q k : ℕ) → reply ≡ Copied q k → ⊥)) ⊎ ((q : ℕ) × CopiesOne r s reply q)
 
@@ -92,6 +93,7 @@ module _ {S P E A B : Type 0} (m : Guest S P E A B) (laws : IsGuest m) where
         to_send = ap (λ x. x.to_send) (sym e);
         to_skip = ap (λ x. x.to_skip) (sym e);
         scan = ap (λ x. x.scan) (sym e);
+        sent = ap (λ x. x.sent) (sym e);
         pages = ap (λ x. page_count m x.guest) (sym e);
       }
 
@@ -126,7 +128,7 @@ module _ {S P E A B : Type 0} (m : Guest S P E A B) (laws : IsGuest m) where
             omega (arith, e, same))
       ]
 
-  step : (version n : ℕ) (c : Command E) (r s : Rounds S) → r.stop ≡ false → s.stop ≡ false
+  pub step : (version n : ℕ) (c : Command E) (r s : Rounds S) → r.stop ≡ false → s.stop ≡ false
       → s.round ≡ r.round → (obey m version c (Copying n r)).next ≡ Copying n s
       → Step r s (obey m version c (Copying n r)).reply
   step version n (Board e) r s runs goes same h =
@@ -136,6 +138,7 @@ module _ {S P E A B : Type 0} (m : Guest S P E A B) (laws : IsGuest m) where
           to_send = ap (λ x. x.to_send) (sym is);
           to_skip = ap (λ x. x.to_skip) (sym is);
           scan = ap (λ x. x.scan) (sym is);
+          sent = ap (λ x. x.sent) (sym is);
           pages = ap (λ x. page_count m x.guest) (sym is) ∙ laws.same_length r.guest e;
         },
         λ q k z. cc,

@@ -4,7 +4,7 @@ use Rattle.std.specs.declared.option.Option.TheVariants.{Some}
 use Rattle.rvm_protocol.specs.Guest.{Guest}
 use Rattle.rvm_protocol.specs.Commands.{HostEvent}
 use Rattle.rvm_protocol.specs.Frames.{Addressed, read}
-use Rattle.rvm_protocol.specs.FewCopies.{FewCopies}
+use Rattle.rvm_protocol.specs.FewCopies.{AreTold, FewCopies, copies_told}
 use Rattle.rvm_protocol.specs.FrameCauses.{IsCaused, WasCommitted, WasReady, WasStarted}
 use Rattle.rvm_protocol.specs.FrameContents.{Carries}
 use Rattle.rvm_protocol.specs.FreshCopies.{CopiesAreFresh}
@@ -36,12 +36,15 @@ module _ {S P E A B : Type 0} (m : Guest S P E A B) where
     -- before it stops, a move makes at most one copy of each page in each round
     pub few : (x : ℕ) → FewCopies m (mode_at m w x)
 
-  -- each Ready, Go and Started that was sent so far was made at or after its move's first ReadySent,
-  -- Committed or Started, which were seen so far
-  abbrev pub HaveCauses : World S P B → List (Entry P E A B) → Type 0
-  HaveCauses w past =
-      (a : Addressed P B) → Has w.sent a
-      → IsCaused (WasReady past) (WasCommitted past) (WasStarted past) a.frame
+  -- what was seen of a run from its start on: w is the world in one of its states, past what was seen
+  -- until then
+  pub record PastIsTrue (w : World S P B) (past : List (Entry P E A B)) : Type 0 where
+    -- each Ready, Go and Started that was sent was made at or after its move's first ReadySent,
+    -- Committed or Started, which were seen
+    pub causes : (a : Addressed P B) → Has w.sent a
+        → IsCaused (WasReady past) (WasCommitted past) (WasStarted past) a.frame
+    -- the copies of each move that goes on, which are few, are those that were answered Copied
+    pub copies : (x : ℕ) → AreTold m (copies_told x 0 past) (mode_at m w x)
 
   -- the guest never moves in a run of these events from world w, of which t is known
   pub record NeverMoves (t : Told S) (w : World S P B) (events : List (Event E)) : Type 0 where
@@ -66,7 +69,7 @@ module _ {S P E A B : Type 0} (m : Guest S P E A B) where
       → NeverMoves t (run m (new_world m version g count limits) before) events
 
   -- from a new world, where all that was seen is known
-  unfoldable pub CausesComeFirst : Type 0
-  CausesComeFirst =
+  unfoldable pub RunsTellTheirPast : Type 0
+  RunsTellTheirPast =
       (g : S) (version count : ℕ) (limits : ℕ → ℕ) (events : List (Event E)) → m.valid g ≡ true
-      → InEachState HaveCauses (new_world m version g count limits) events
+      → InEachState PastIsTrue (new_world m version g count limits) events

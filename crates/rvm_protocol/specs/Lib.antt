@@ -18,6 +18,7 @@ pub mod FrameContents
 pub mod FreshCopies
 pub mod FrameCauses
 pub mod RoundCopies
+pub mod LastRound
 pub mod FewCopies
 pub mod Course
 pub mod DrivenMove

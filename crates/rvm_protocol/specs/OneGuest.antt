@@ -11,23 +11,22 @@ use Rattle.rvm_protocol.specs.Shown.{Shown}
 use Rattle.rvm_protocol.specs.NeverMoving.{is_answer, accepted, answered, fold, fold_answers}
 
 module _ {S P E A B : Type 0} (m : Guest S P E A B) where
-  -- the law of one run: what is known at its beginning is t, w is the world where it ends, past
-  -- what was seen of it
+  -- the law of one state of a run: what is known at its beginning is t, w is the world in that state,
+  -- past what was seen until then
   pub record OneGuest (t : Told S) (w : World S P B) (past : List (Entry P E A B)) : Type 0 where
     -- the guest at the current host, which the replies alone name, is the one that never moves
     pub board : guest_in (mode_at m w (told m t past).current)
         ≡ Some (fold m t.guest (accepted past))
-    -- so are its answers
+    -- each answer that it gave is the one of that guest
     pub answers : answered past ≡ fold_answers m t.guest (accepted past)
-    -- any event of the guest now gets its answer, or the refusal that the replies tell
+    -- any further event of the guest gets its answer, or the refusal that the replies tell
     pub replies : (x : ℕ) (e : E)
         → reply_to m w (At x (Board e)) ≡ due m w.count (told m t past) x e
     -- no two hosts would answer one
     pub one_host : (x y : ℕ) (e f : E) → x ≢ y
         → (is_answer (reply_to m w (At x (Board e)))
         && is_answer (reply_to m w (At y (Board f)))) ≡ false
-    -- where the next event commits, the guest held at that move's target is the one that never
-    -- moves
+    -- where the next event commits, the target of that move holds that guest
     pub hands_over : (ev : Event E) (n : ℕ) → reply_to m w ev ≡ Committed n
         → guest_in (mode_at m (step m w ev) ((told m t past).targets n))
         ≡ Some (fold m t.guest (accepted past))

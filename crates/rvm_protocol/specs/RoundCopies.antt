@@ -1,10 +1,11 @@
 -- What a round copies: those of its pages that were not in the dirty log when it first looked at
 -- the 64 pages that they are among.
-use Rattle.std.specs.Prelude.{◌≡◌, ◌⊎◌, ◌↔◌, ◌<◌, ◌≤◌, ◌*◌, ◌/◌, ℕ, suc, false, true}
+use Rattle.std.specs.Prelude.{◌≡◌, ◌⊎◌, ◌↔◌, ◌<◌, ◌≤◌, ◌*◌, ◌/◌, ◌==◌, ◌&&◌, ◌||◌, not, ℕ, zero, suc, Bool, false, true}
 use Rattle.std.specs.declared.option.Option.TheVariants.{None}
 use Rattle.rvm_protocol.specs.Guest.{Guest}
-use Rattle.rvm_protocol.specs.Commands.{Command}
-use Rattle.rvm_protocol.specs.Replies.{Copied}
+use Rattle.rvm_protocol.specs.Commands.{Command, Copy}
+use Rattle.rvm_protocol.specs.Replies.{Reply, Copied, RoundEnded}
+use Rattle.rvm_protocol.specs.Pages.{Pages, size}
 use Rattle.rvm_protocol.specs.Rounds.{Rounds, page_count, next_page}
 use Rattle.rvm_protocol.specs.Modes.{Copying}
 use Rattle.rvm_protocol.specs.Obeying.{obey}
@@ -12,6 +13,16 @@ use Rattle.rvm_protocol.specs.Obeying.{obey}
 -- the first of the 64 pages that page p is among
 abbrev pub first_beside : (p : ℕ) → ℕ
 first_beside p = 64 * (p / 64)
+
+-- a reply is a copy, of any page
+abbrev pub is_copy : {A : Type 0} → Reply A → Bool
+is_copy (Copied page number) = true
+is_copy r = false
+
+-- a reply is a copy of page p
+abbrev pub is_copy_of : {A : Type 0} → (p : ℕ) → Reply A → Bool
+is_copy_of p (Copied page number) = p == page
+is_copy_of p r = false
 
 module _ {S P E A B : Type 0} (m : Guest S P E A B) (version n : ℕ) where
   -- a round of move n from its begin on: the source obeys so many commands, and at each time its
@@ -48,3 +59,24 @@ module _ {S P E A B : Type 0} (m : Guest S P E A B) (version n : ℕ) where
       → (look : ℕ) × IsFirstLook commands at count (first_beside p) look
       × (IsCopied commands at count p
       ↔ (((at 0).to_send p ≡ true) × ((at look).log p ≡ false)))
+
+  -- the copies among the replies to the commands: those with these indices
+  abbrev pub copies_among : (commands : ℕ → Command E) → (at : ℕ → Rounds S) → Pages
+  copies_among commands at i = is_copy (obey m version (commands i) (Copying n (at i))).reply
+
+  -- the pages that the first so many replies are copies of
+  unfoldable pub pages_among : (commands : ℕ → Command E) → (at : ℕ → Rounds S) → (count : ℕ) → Pages
+  pages_among commands at zero p = false
+  pages_among commands at (suc i) p =
+      is_copy_of p (obey m version (commands i) (Copying n (at i))).reply || pages_among commands at i p
+
+  -- of each whole round: its end tells how many replies were copies, and how many of its pages had none
+  unfoldable pub RoundsTellTheirCopies : Type 0
+  RoundsTellTheirCopies =
+      (commands : ℕ → Command E) (at : ℕ → Rounds S) (count : ℕ) → IsRound commands at count
+      → (at 0).sent ≡ 0 → next_page m (at count) ≡ None
+      → (obey {E = E} m version Copy (Copying n (at count))).reply
+      ≡ RoundEnded (at 0).round (size (copies_among commands at) count)
+      (size (λ p. (at 0).to_send p && not (pages_among commands at count p))
+      (page_count m (at 0).guest))
+      (size (at count).log (page_count m (at count).guest))

@@ -1,15 +1,16 @@
 //! Laws of all runs, each the contract of a function with nothing to do.
 
 ghost use Rattle.std.specs.Prelude.{ℕ};
-ghost use Rattle.rvm_protocol.specs.Course.{CausesComeFirst, RunsNeverMove, RunsNeverMoveFromAnyWorld};
+ghost use Rattle.rvm_protocol.specs.Course.{RunsNeverMove, RunsNeverMoveFromAnyWorld, RunsTellTheirPast};
 ghost use Rattle.rvm_protocol.specs.DrivenMove.{ADrivenMoveArrives, ATooLargeGuestIsDeclined};
 ghost use Rattle.rvm_protocol.specs.DrivenMove.{DriveCount};
-ghost use Rattle.rvm_protocol.specs.FewCopies.{CopiesAreBounded};
+ghost use Rattle.rvm_protocol.specs.FewCopies.{CopiesAreBounded, CopiesAreTold};
 ghost use Rattle.rvm_protocol.specs.FrameCauses.{FramesFollowTheirCauses};
 ghost use Rattle.rvm_protocol.specs.FrameContents.{FramesCarryTheGuest};
 ghost use Rattle.rvm_protocol.specs.FreshCopies.{NoStalePage};
 ghost use Rattle.rvm_protocol.specs.Guest.{Guest, IsGuest};
-ghost use Rattle.rvm_protocol.specs.RoundCopies.{RoundsCopyWhatIsNotWrittenAgain};
+ghost use Rattle.rvm_protocol.specs.LastRound.{LastRoundsCopyWhatIsLeft};
+ghost use Rattle.rvm_protocol.specs.RoundCopies.{RoundsCopyWhatIsNotWrittenAgain, RoundsTellTheirCopies};
 ghost use Rattle.rvm_protocol.specs.OneGuest.{AlwaysOneGuest, OneGuestFromAnyWorld};
 
 /// For every list of events over the hosts of a world, with frames lost, repeated and reordered:
@@ -24,12 +25,12 @@ pub fn the_guest_is_the_one_that_never_moves<S, P, E, A, B>()
 
 /// All this holds in each state of a run, and so do the laws below: after each of its first events no
 /// two hosts would answer, an event that commits hands the guest over, no page is forgotten, a frame
-/// that is made carries the guest, and few copies were made; and each Ready, Go and Started has its
-/// cause in what was seen by then.
+/// that is made carries the guest, and few copies were made; and what was seen by then has the cause of
+/// each Ready, Go and Started, and a Copied for each copy.
 pub fn a_run_keeps_the_laws_in_each_state<S, P, E, A, B>()
     ensures always { (m : Guest S P E A B) → IsGuest m → RunsNeverMove m }
     ensures from_any_world { (m : Guest S P E A B) → IsGuest m → RunsNeverMoveFromAnyWorld m }
-    ensures causes { (m : Guest S P E A B) → IsGuest m → CausesComeFirst m }
+    ensures past { (m : Guest S P E A B) → IsGuest m → RunsTellTheirPast m }
 {}
 
 /// While a source copies, no page is forgotten; and the copies that a state names, and all later
@@ -56,9 +57,22 @@ pub fn a_round_copies_what_is_not_written_again<S, P, E, A, B>()
     ensures always { (m : Guest S P E A B) → IsGuest m → (version n : ℕ) → RoundsCopyWhatIsNotWrittenAgain m version n }
 {}
 
-/// Before it stops, a move makes at most as many copies as it may make rounds, times the pages of its guest.
+/// The end of each round tells how many of its replies were copies, and how many of its pages had none.
+pub fn a_round_tells_its_copies<S, P, E, A, B>()
+    ensures always { (m : Guest S P E A B) → IsGuest m → (version n : ℕ) → RoundsTellTheirCopies m version n }
+{}
+
+/// Once the guest is paused, each page that is to be sent or to be fixed is copied, and no other.
+pub fn a_last_round_copies_what_is_left<S, P, E, A, B>()
+    ensures always { (m : Guest S P E A B) (version self count limit partner n : ℕ)
+        → LastRoundsCopyWhatIsLeft m version self count limit partner n }
+{}
+
+/// Before it stops, a move makes at most as many copies as it may make rounds, times the pages of its guest, and it
+/// was answered Copied for each.
 pub fn copies_are_bounded<S, P, E, A, B>()
     ensures always { (m : Guest S P E A B) → IsGuest m → CopiesAreBounded m }
+    ensures told { (m : Guest S P E A B) → CopiesAreTold m }
 {}
 
 /// From a world of any run, a driven move of a guest of n pages to another host that takes it is

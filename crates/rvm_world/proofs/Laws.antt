@@ -5,11 +5,11 @@ use Rattle.rvm_debug.specs.Guest.{Guest}
 use Rattle.rvm_guest.proofs.TheGuest.{board_laws}
 use Rattle.rvm_guest.specs.TheGuest.{board}
 use Rattle.rvm_guest.specs.Valid.{is_valid}
-use Rattle.rvm_protocol.proofs.Course.{causes_law, course_law_from_any_world}
-use Rattle.rvm_protocol.specs.Course.{CausesComeFirst, HaveCauses, InEachState, NeverMoves, RunsNeverMoveFromAnyWorld}
+use Rattle.rvm_protocol.proofs.Course.{course_law_from_any_world, past_law}
+use Rattle.rvm_protocol.specs.Course.{InEachState, NeverMoves, PastIsTrue, RunsNeverMoveFromAnyWorld, RunsTellTheirPast}
 use Rattle.rvm_protocol.specs.Shown.{Shown}
 use Rattle.rvm_protocol.specs.World.{Event}
-use Rattle.rvm_world.specs.NeverMoved.{CausesCame, NeverMoved}
+use Rattle.rvm_world.specs.NeverMoved.{NeverMoved, TellsItsPast}
 use Rattle.rvm_world.specs.Worlds.{BoardWorld, IsReached}
 
 pub allowed : (g : Guest) → is_valid g ≡ true → board.valid g ≡ true
@@ -25,8 +25,8 @@ never_moved old new r t events shown made =
     (allowed r.start r.valid) (subst (λ z. Shown z.hosts t) r.reached shown))
 
 -- from a new world
-pub causes_came : (old new : BoardWorld) → CausesCame old new
-unfolding CausesCame CausesComeFirst
-causes_came old new start limits events valid is_new made =
-    subst (λ z. InEachState board (HaveCauses board) z events) (sym is_new)
-    (causes_law board board_laws start old.version old.count limits events (allowed start valid))
+pub tells_its_past : (old new : BoardWorld) → TellsItsPast old new
+unfolding TellsItsPast RunsTellTheirPast
+tells_its_past old new start limits events valid is_new made =
+    subst (λ z. InEachState board (PastIsTrue board) z events) (sym is_new)
+    (past_law board board_laws start old.version old.count limits events (allowed start valid))

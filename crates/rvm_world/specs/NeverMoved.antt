@@ -5,7 +5,7 @@ use Rattle.rvm_debug.specs.declared.event.BoardReply.{BoardReply}
 use Rattle.rvm_debug.specs.Guest.{Guest}
 use Rattle.rvm_guest.specs.TheGuest.{board}
 use Rattle.rvm_guest.specs.Valid.{is_valid}
-use Rattle.rvm_protocol.specs.Course.{HaveCauses, InEachState, NeverMoves}
+use Rattle.rvm_protocol.specs.Course.{InEachState, NeverMoves, PastIsTrue}
 use Rattle.rvm_protocol.specs.Shown.{Shown}
 use Rattle.rvm_protocol.specs.Told.{Told}
 use Rattle.rvm_protocol.specs.World.{Entry, Event, new_world, run}
@@ -22,10 +22,10 @@ NeverMoved old new =
     (t : Told Guest) (events : List (Event BoardEvent)) → Shown old.hosts t → new ≡ run board old events
     → NeverMoves board t old events
 
--- whatever events made the world `new` of `old`, which is a new one: each Ready, Go and Started was made at or after its
--- move's first ReadySent, Committed or Started
-unfoldable pub CausesCame : (old new : BoardWorld) → Type 0
-CausesCame old new =
+-- whatever events made the world `new` of `old`, which is a new one: in each state on the way, what was seen until then
+-- has the cause of each Ready, Go and Started, and tells the copies of each move
+unfoldable pub TellsItsPast : (old new : BoardWorld) → Type 0
+TellsItsPast old new =
     (start : Guest) (limits : ℕ → ℕ) (events : List (Event BoardEvent)) → is_valid start ≡ true
     → old ≡ new_world board old.version start old.count limits → new ≡ run board old events
-    → InEachState board (HaveCauses board) old events
+    → InEachState board (PastIsTrue board) old events

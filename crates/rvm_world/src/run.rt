@@ -3,7 +3,7 @@
 ghost use Rattle.std.specs.Prelude.{◌≡◌, map, IfOk, OnOk, OnErr};
 ghost use Rattle.rvm_guest.specs.TheGuest.{board};
 ghost use Rattle.rvm_protocol.specs.World.{replies, run};
-ghost use Rattle.rvm_world.specs.NeverMoved.{CausesCame, NeverMoved};
+ghost use Rattle.rvm_world.specs.NeverMoved.{NeverMoved, TellsItsPast};
 ghost use Rattle.rvm_world.specs.Worlds.{IsPartOf, meant, places_of, said, world_of};
 
 use crate::event::{Event, WorldReply};
@@ -14,7 +14,7 @@ use std::alloc::{AllocError, Global};
 /// Runs a list of events. After each of them, the guest at the current host and each answer that it
 /// gave are those of one board that never moves: from a new world, and from any other one by what its
 /// modes show. After a refused growth the world is as the events before it left it.
-#[tactic(auto, using(crate::proofs::Laws::never_moved, crate::proofs::Laws::causes_came))]
+#[tactic(auto, using(crate::proofs::Laws::never_moved, crate::proofs::Laws::tells_its_past))]
 pub fn run_world<M: PagedMemory + Drop>(
     alloc: Global,
     world: &mut World<M>,
@@ -29,8 +29,9 @@ pub fn run_world<M: PagedMemory + Drop>(
         ≡ places_of (world_of world.old) (map meant events.now)) }
     // The guest never moved: at each event of the run, and in a run that ends early as in a whole one.
     ensures never_moved { NeverMoved (world_of world.old) (world_of world.new) }
-    // In a run from a new world each Ready, Go and Started comes after its cause.
-    ensures causes { CausesCame (world_of world.old) (world_of world.new) }
+    // In a run from a new world, each Ready, Go and Started comes after its cause, and each copy of a move
+    // was answered Copied.
+    ensures past { TellsItsPast (world_of world.old) (world_of world.new) }
     ensures err { OnErr result (IsPartOf (map meant events.now) (world_of world.old) (world_of world.new)) }
 {
     world.reached();
