@@ -52,7 +52,7 @@ module _ (id count : ℕ) where
   Keeps x (Offering n g p) = IsMove id count x n
   Keeps x (Copying n r) = IsMove id count x n
   Keeps x (Stopped n l) = IsMove id count x n
-  Keeps x (Given n) = IsMove id count x n
+  Keeps x (Given n kept) = IsMove id count x n
   Keeps x (Staging n s) = IsMove id count x n
   Keeps x (Held n g) = IsMove id count x n
 
@@ -111,7 +111,7 @@ module _ (id count : ℕ) where
     obey_stays v Copy (Stopped n l) ok = last_stays v n l (to_copy board l) ok
     obey_stays v Resend (Offering n g p) ok = (ok, ok.1)
     obey_stays v Resend (Stopped n l) ok = resent_stays v n l (to_copy board l) ok
-    obey_stays v Resend (Given n) ok = (ok, ok.1)
+    obey_stays v Resend (Given n kept) ok = (ok, ok.1)
     obey_stays v Resend (Held n g) ok = (ok, ok.1)
     obey_stays v AbortMove (Offering n g p) ok = (tt, ok.1)
     obey_stays v AbortMove (Copying n r) ok = (tt, ok.1)
@@ -173,7 +173,7 @@ module _ (id count : ℕ) where
     came_stays : (limit : ℕ) (f : BoardFrame) (mode : BoardMode) → Keeps x mode
         → Hears (came board limit f mode)
     came_stays limit (Offer k a b) (Empty n) ok = above_stays limit n k a b (Empty n) ok
-    came_stays limit (Offer k a b) (Given n) ok = above_stays limit n k a b (Given n) ok
+    came_stays limit (Offer k a b) (Given n kept) ok = above_stays limit n k a b (Given n kept) ok
     came_stays limit (Offer k a b) (Held n g) ok = above_stays limit n k a b (Held n g) ok
     came_stays limit (Offer k a b) (Staging n s) ok =
         either Hears (n == k) (sends Accepted (Accept n) (Staging n s))
@@ -196,7 +196,7 @@ module _ (id count : ℕ) where
     came_stays limit (Ready k) (Stopped n l) ok = equal_stays n k _ (Stopped n l) ok (ok, there)
     came_stays limit (Go k) (Held n g) ok = equal_stays n k _ (Held n g) ok (tt, there)
     came_stays limit (Go k) (Run n g) ok = equal_stays n k _ (Run n g) ok (tt, there)
-    came_stays limit (Started k) (Given n) ok = equal_stays n k _ (Given n) ok (tt, tt)
+    came_stays limit (Started k) (Given n kept) ok = equal_stays n k _ (Given n kept) ok (tt, tt)
     came_stays limit (Abort k) (Staging n s) ok = equal_stays n k _ (Staging n s) ok (tt, tt)
     came_stays limit (Abort k) (Held n g) ok = equal_stays n k _ (Held n g) ok (tt, tt)
     came_stays limit f mode ok = (ok, tt)
@@ -219,7 +219,7 @@ module _ (id count : ℕ) where
   to_law x (core.Empty n) is = tt
   to_law x (core.Run n g) is = tt
   to_law x (core.Leaving s) is = to_phase x s.move_number s.guest s.plan s.phase is
-  to_law x (core.Given n) is = is
+  to_law x (core.Given n kept) is = is
   to_law x (core.Staging n s) is = is
   to_law x (core.Held n g) is = is
 
@@ -227,7 +227,7 @@ module _ (id count : ℕ) where
   of_law x (core.Empty n) is = tt
   of_law x (core.Run n g) is = tt
   of_law x (core.Leaving s) is = of_phase x s.move_number s.guest s.plan s.phase is
-  of_law x (core.Given n) is = is
+  of_law x (core.Given n kept) is = is
   of_law x (core.Staging n s) is = is
   of_law x (core.Held n g) is = is
 

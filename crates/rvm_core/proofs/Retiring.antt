@@ -133,7 +133,7 @@ host_retires (Leaving s) harts turn count old new made is all rest =
     (source_steps s.phase harts turn count s all.to old made refl is all.retired)
 host_retires (Empty k) harts turn count old new made is all rest =
     no_steps harts turn count old new made (rest ∙ (λ i. in_mode old ((all.0 ∙ sym is) i))) all.1
-host_retires (Given k) harts turn count old new made is all rest =
+host_retires (Given k kept) harts turn count old new made is all rest =
     no_steps harts turn count old new made (rest ∙ (λ i. in_mode old ((all.0 ∙ sym is) i))) all.1
 host_retires (Staging k s) harts turn count old new made is all rest =
     no_steps harts turn count old new made (rest ∙ (λ i. in_mode old ((all.0 ∙ sym is) i))) all.1
@@ -150,7 +150,7 @@ keeps_move id count partner (Leaving s) new harts turn n made all keeps =
     (subst (λ (x : PlainSource). IsMove id count partner x.move_number) (sym all.retired.rest) keeps)
 keeps_move id count partner (Empty k) new harts turn n made all keeps =
     subst (KeepsMove id count partner) (sym all.0) keeps
-keeps_move id count partner (Given k) new harts turn n made all keeps =
+keeps_move id count partner (Given k kept) new harts turn n made all keeps =
     subst (KeepsMove id count partner) (sym all.0) keeps
 keeps_move id count partner (Staging k s) new harts turn n made all keeps =
     subst (KeepsMove id count partner) (sym all.0) keeps

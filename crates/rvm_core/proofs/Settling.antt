@@ -74,7 +74,7 @@ begins_there version id count to p (Run n g) is =
     ap (λ (b : Bool). if b then obeying.begin board p (mode_of (Run n g)) else refuses BadHost (mode_of (Run n g))) (there (is_there id count to) is)
 begins_there version id count to p (Empty n) is = refl
 begins_there version id count to p (Leaving s) is = leaving_begins version id count to p s.move_number s.guest s.plan s.phase
-begins_there version id count to p (Given n) is = refl
+begins_there version id count to p (Given n kept) is = refl
 begins_there version id count to p (Staging n s) is = refl
 begins_there version id count to p (Held n g) is = refl
 

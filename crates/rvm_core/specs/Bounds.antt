@@ -22,7 +22,7 @@ copy_body version mode = None
 -- of the frame that is sent again
 abbrev pub resend_body : (version : ℕ) → PlainMode → Option ℕ
 resend_body version (Leaving s) = Some (body_bound version s)
-resend_body version (Given n) = Some 0
+resend_body version (Given n kept) = Some 0
 resend_body version (Held n g) = Some 0
 resend_body version mode = None
 
@@ -89,13 +89,13 @@ abbrev pub KeepsMove : (id count partner : ℕ) → PlainMode → Type 0
 KeepsMove id count partner (Empty n) = Unit {0}
 KeepsMove id count partner (Run n g) = Unit {0}
 KeepsMove id count partner (Leaving s) = IsMove id count partner s.move_number
-KeepsMove id count partner (Given n) = IsMove id count partner n
+KeepsMove id count partner (Given n kept) = IsMove id count partner n
 KeepsMove id count partner (Staging n s) = IsMove id count partner n
 KeepsMove id count partner (Held n g) = IsMove id count partner n
 
 -- a move that can be told again has a number
 abbrev pub HasNumber : PlainMode → Type 0
-HasNumber (Given n) = 0 < n
+HasNumber (Given n kept) = 0 < n
 HasNumber (Held n g) = 0 < n
 HasNumber mode = Unit {0}
 

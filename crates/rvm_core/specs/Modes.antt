@@ -15,7 +15,7 @@ pub data PlainMode : Type 0 where
   Empty : (move : ℕ) → PlainMode
   Run : (move : ℕ) → (guest : Guest) → PlainMode
   Leaving : (source : PlainSource) → PlainMode
-  Given : (move : ℕ) → PlainMode
+  Given : (move : ℕ) → (kept : Guest) → PlainMode
   Staging : (move : ℕ) → (stage : PlainStage) → PlainMode
   Held : (move : ℕ) → (guest : Guest) → PlainMode
 
@@ -24,7 +24,7 @@ abbrev pub plain_of : {M : Type 0} → Mode M → PlainMode
 plain_of (code.Empty n) = Empty n
 plain_of (code.Run n g) = Run n g.guest
 plain_of (code.Leaving s) = Leaving s
-plain_of (code.Given n s) = Given n
+plain_of (code.Given n s) = Given n s.guest.guest
 plain_of (code.Staging n s) = Staging n s
 plain_of (code.Held n g) = Held n g.guest
 
@@ -33,7 +33,7 @@ abbrev pub mode_of : PlainMode → BoardMode
 mode_of (Empty n) = protocol.Empty n
 mode_of (Run n g) = protocol.Run n g
 mode_of (Leaving s) = source.mode_of s
-mode_of (Given n) = protocol.Given n
+mode_of (Given n g) = protocol.Given n g
 mode_of (Staging n s) = protocol.Staging n (stage_of s)
 mode_of (Held n g) = protocol.Held n g
 

@@ -60,6 +60,6 @@ abbrev pub ModeRetires : (harts turn count : ℕ) → (old new : PlainMode) → 
 ModeRetires harts turn count (Run k g) new made = RunRetires harts turn count k g new made
 ModeRetires harts turn count (Leaving s) new made = LeavingRetires harts turn count s new made
 ModeRetires harts turn count (Empty k) new made = MakesNone (Empty k) new made
-ModeRetires harts turn count (Given k) new made = MakesNone (Given k) new made
+ModeRetires harts turn count (Given k kept) new made = MakesNone (Given k kept) new made
 ModeRetires harts turn count (Staging k s) new made = MakesNone (Staging k s) new made
 ModeRetires harts turn count (Held k g) new made = MakesNone (Held k g) new made

@@ -23,7 +23,7 @@ turned h n (Run k g) =
 turned h n (Leaving s) =
     let t = source_turned h n s in record { mode = Leaving t.source; made = t.made; stop = t.stop }
 turned h n (Empty k) = no_turns (Empty k)
-turned h n (Given k) = no_turns (Given k)
+turned h n (Given k kept) = no_turns (Given k kept)
 turned h n (Staging k s) = no_turns (Staging k s)
 turned h n (Held k g) = no_turns (Held k g)
 

@@ -32,7 +32,7 @@ module _ {S P : Type 0} where
 
   -- a Given host's move was taken by its partner
   abbrev pub GivenOk : ℕ → Mode S P → Type 0
-  GivenOk l (Given n) = n < l
+  GivenOk l (Given n kept) = n < l
   GivenOk l mode = Unit {0}
 
 module _ {P B : Type 0} where
@@ -200,19 +200,19 @@ module _ {S P B : Type 0} where
   -- after a commit
   pub given_from : (n : ℕ) (X : Mode S P) → held_beside n X → (f : Frame P B) → past_ok n f
       → from_ok X f
-  given_from n (Given k) h (Go j) q = tt
-  given_from n (Given k) h (Offer j a b) q = omega arith
-  given_from n (Given k) h (Accept j) q = omega arith
-  given_from n (Given k) h (Refuse j a) q = tt
-  given_from n (Given k) h (Page j p i b) q = omega arith
-  given_from n (Given k) h (RoundEnd j a b c d) q = tt
-  given_from n (Given k) h (Lost j ps) q = tt
-  given_from n (Given k) h (State j ns b) q = omega arith
-  given_from n (Given k) h (Part j st i u x) q = omega arith
-  given_from n (Given k) h (Zero j i u) q = q
-  given_from n (Given k) h (Ready j) q = omega arith
-  given_from n (Given k) h (Started j) q = omega arith
-  given_from n (Given k) h (Abort j) q = omega arith
+  given_from n (Given k kept) h (Go j) q = tt
+  given_from n (Given k kept) h (Offer j a b) q = omega arith
+  given_from n (Given k kept) h (Accept j) q = omega arith
+  given_from n (Given k kept) h (Refuse j a) q = tt
+  given_from n (Given k kept) h (Page j p i b) q = omega arith
+  given_from n (Given k kept) h (RoundEnd j a b c d) q = tt
+  given_from n (Given k kept) h (Lost j ps) q = tt
+  given_from n (Given k kept) h (State j ns b) q = omega arith
+  given_from n (Given k kept) h (Part j st i u x) q = omega arith
+  given_from n (Given k kept) h (Zero j i u) q = q
+  given_from n (Given k kept) h (Ready j) q = omega arith
+  given_from n (Given k kept) h (Started j) q = omega arith
+  given_from n (Given k kept) h (Abort j) q = omega arith
   given_from n (Empty k) h f q = absurd h
   given_from n (Run k g) h f q = absurd h
   given_from n (Offering k g p) h f q = absurd h
@@ -232,7 +232,7 @@ module _ {S P : Type 0} where
   ready_num (Offering n g p) = omega arith
   ready_num (Copying n r) = omega arith
   ready_num (Stopped n l) = omega arith
-  ready_num (Given n) = omega arith
+  ready_num (Given n kept) = omega arith
   ready_num (Staging n s) = omega arith
   ready_num (Held n g) = omega arith
 
@@ -244,13 +244,13 @@ module _ {S P : Type 0} where
   lim_num (Offering n g p) = (omega arith, omega arith, omega arith, omega arith)
   lim_num (Copying n r) = (omega arith, omega arith, omega arith, omega arith)
   lim_num (Stopped n l) = (omega arith, omega arith, omega arith, omega arith)
-  lim_num (Given n) = (omega arith, omega arith, omega arith, omega arith)
+  lim_num (Given n kept) = (omega arith, omega arith, omega arith, omega arith)
   lim_num (Staging n s) = (omega arith, omega arith, omega arith, omega arith)
   lim_num (Held n g) = (omega arith, omega arith, omega arith, omega arith)
 
   pub run_apart : (e : ℕ) (X : Mode S P) → HoldsNone X → move_of X < suc e → run_beside e X
   run_apart e (Empty n) h lt = omega arith
-  run_apart e (Given n) h lt = omega arith
+  run_apart e (Given n kept) h lt = omega arith
   run_apart e (Staging n s) h lt = omega arith
   run_apart e (Held n g) h lt = omega arith
   run_apart e (Run n g) h lt = h
@@ -260,7 +260,7 @@ module _ {S P : Type 0} where
 
   pub apart_run : (e : ℕ) (X : Mode S P) → run_beside e X → HoldsNone X × (move_of X < suc e)
   apart_run e (Empty n) h = (tt, omega arith)
-  apart_run e (Given n) h = (tt, omega arith)
+  apart_run e (Given n kept) h = (tt, omega arith)
   apart_run e (Staging n s) h = (tt, omega arith)
   apart_run e (Held n g) h = (tt, omega arith)
   apart_run e (Run n g) h = absurd h
@@ -270,7 +270,7 @@ module _ {S P : Type 0} where
 
   pub offering_apart : (e : ℕ) (X : Mode S P) → HoldsNone X → move_of X < e → offering_beside e X
   offering_apart e (Empty n) h lt = lt
-  offering_apart e (Given n) h lt = lt
+  offering_apart e (Given n kept) h lt = lt
   offering_apart e (Staging n s) h lt = omega arith
   offering_apart e (Held n g) h lt = lt
   offering_apart e (Run n g) h lt = h
@@ -289,12 +289,12 @@ module _ {S P : Type 0} where
   meets_apart (Held e g) T X i lt h le =
       let q : move_of T ≡ e = held_num e T i in absurd (omega arith)
   meets_apart (Empty e) T X i lt h le = absurd i
-  meets_apart (Given e) T X i lt h le = absurd i
+  meets_apart (Given e kept) T X i lt h le = absurd i
   meets_apart (Staging e s) T X i lt h le = absurd i
 
   offering_num : (e : ℕ) (T : Mode S P) → offering_beside e T → move_of T ≤ e
   offering_num e (Empty n) h = omega arith
-  offering_num e (Given n) h = omega arith
+  offering_num e (Given n kept) h = omega arith
   offering_num e (Staging n s) h = omega arith
   offering_num e (Held n g) h = omega arith
   offering_num e (Run n g) h = absurd h
@@ -309,11 +309,11 @@ module _ {S P : Type 0} where
   meet_num (Stopped e l) T i = let q : move_of T ≡ e = stopped_num e T i in omega arith
   meet_num (Held e g) T i = let q : move_of T ≡ e = held_num e T i in omega arith
   meet_num (Empty e) T i = absurd i
-  meet_num (Given e) T i = absurd i
+  meet_num (Given e kept) T i = absurd i
   meet_num (Staging e s) T i = absurd i
 
   given_held : (e : ℕ) (T : Mode S P) → held_beside e T → GivenOk (suc e) T
-  given_held e (Given n) h = omega arith
+  given_held e (Given n kept) h = omega arith
   given_held e (Empty n) h = tt
   given_held e (Run n g) h = tt
   given_held e (Offering n g p) h = tt
@@ -323,7 +323,7 @@ module _ {S P : Type 0} where
   given_held e (Held n g) h = tt
 
   pub given_mono : (l l' : ℕ) (X : Mode S P) → l ≤ l' → GivenOk l X → GivenOk l' X
-  given_mono l l' (Given n) le h = omega arith
+  given_mono l l' (Given n kept) le h = omega arith
   given_mono l l' (Empty n) le h = tt
   given_mono l l' (Run n g) le h = tt
   given_mono l l' (Offering n g p) le h = tt
@@ -366,13 +366,13 @@ module _ {S P : Type 0} where
   turn_held n l (Offering k g p) X a b = absurd a
   turn_held n l (Copying k r) X a b = absurd a
   turn_held n l (Stopped k q) X a b = absurd a
-  turn_held n l (Given k) X a b = absurd a
+  turn_held n l (Given k kept) X a b = absurd a
   turn_held n l (Staging k s) X a b = absurd b
 
   pub turn : (O T X : Mode S P) → is_stopped O ≡ true → Meet O T → Meet T X → Turn O T X
   turn (Stopped n l) T X h a b = turn_held n l T X a b
   turn (Empty n) T X h a b = absurd a
-  turn (Given n) T X h a b = absurd a
+  turn (Given n kept) T X h a b = absurd a
   turn (Staging n s) T X h a b = absurd a
   turn (Run n g) T X h a b = cc
   turn (Offering n g p) T X h a b = cc
@@ -388,7 +388,7 @@ module _ {S P E A B : Type 0} (m : Guest S P E A B) where
   beside_apart e c h F (Offering n g p) lt = tt
   beside_apart e c h F (Copying n r) lt = tt
   beside_apart e c h F (Stopped n l) lt = tt
-  beside_apart e c h F (Given n) lt = tt
+  beside_apart e c h F (Given n kept) lt = tt
   beside_apart e c h F (Held n g) lt = tt
 
   pub content_apart : (O T X : Mode S P) (F : Frame P B → Type 0) → Meet O T → move_of T < lim O
@@ -401,5 +401,5 @@ module _ {S P E A B : Type 0} (m : Guest S P E A B) where
       let q : move_of T ≡ e = stopped_num e T i in absurd (omega arith)
   content_apart (Held e g) T X F i lt le ok = tt
   content_apart (Empty e) T X F i lt le ok = tt
-  content_apart (Given e) T X F i lt le ok = tt
+  content_apart (Given e kept) T X F i lt le ok = tt
   content_apart (Staging e s) T X F i lt le ok = tt

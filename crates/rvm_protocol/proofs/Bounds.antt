@@ -105,7 +105,7 @@ module _ {S P E A B : Type 0} (m : Guest S P E A B) (laws : IsGuest m) where
   few (Empty n) ok = tt
   few (Run n g) ok = tt
   few (Stopped n l) ok = tt
-  few (Given n) ok = tt
+  few (Given n kept) ok = tt
   few (Staging n s) ok = tt
   few (Held n g) ok = tt
 
@@ -118,7 +118,7 @@ module _ {S P E A B : Type 0} (m : Guest S P E A B) (laws : IsGuest m) where
       laws.same_length r.guest e in subst
       (λ z. Counted z r.policy.max_rounds r.round r.sent r.scan r.copies) (sym c) ok
   obey_bound v (Board e) (Stopped n l) ok = tt
-  obey_bound v (Board e) (Given n) ok = tt
+  obey_bound v (Board e) (Given n kept) ok = tt
   obey_bound v (Board e) (Staging n s) ok = tt
   obey_bound v (Board e) (Held n g) ok = tt
   obey_bound v (Begin to q) (Empty n) ok = ok
@@ -130,7 +130,7 @@ module _ {S P E A B : Type 0} (m : Guest S P E A B) (laws : IsGuest m) where
   obey_bound v (Begin to q) (Offering n g p) ok = ok
   obey_bound v (Begin to q) (Copying n r) ok = ok
   obey_bound v (Begin to q) (Stopped n l) ok = ok
-  obey_bound v (Begin to q) (Given n) ok = ok
+  obey_bound v (Begin to q) (Given n kept) ok = ok
   obey_bound v (Begin to q) (Staging n s) ok = ok
   obey_bound v (Begin to q) (Held n g) ok = ok
   obey_bound v Copy (Empty n) ok = ok
@@ -144,7 +144,7 @@ module _ {S P E A B : Type 0} (m : Guest S P E A B) (laws : IsGuest m) where
       (λ _. tt)
       (λ _. page_bound n r _ ok refl)
   obey_bound v Copy (Stopped n l) ok = last_bound v n l (to_copy m l)
-  obey_bound v Copy (Given n) ok = ok
+  obey_bound v Copy (Given n kept) ok = ok
   obey_bound v Copy (Staging n s) ok = ok
   obey_bound v Copy (Held n g) ok = ok
   obey_bound v Resend (Empty n) ok = ok
@@ -152,7 +152,7 @@ module _ {S P E A B : Type 0} (m : Guest S P E A B) (laws : IsGuest m) where
   obey_bound v Resend (Offering n g p) ok = ok
   obey_bound v Resend (Copying n r) ok = ok
   obey_bound v Resend (Stopped n l) ok = resend_bound v n l (to_copy m l)
-  obey_bound v Resend (Given n) ok = ok
+  obey_bound v Resend (Given n kept) ok = ok
   obey_bound v Resend (Staging n s) ok = ok
   obey_bound v Resend (Held n g) ok = ok
   obey_bound v AbortMove (Empty n) ok = ok
@@ -160,7 +160,7 @@ module _ {S P E A B : Type 0} (m : Guest S P E A B) (laws : IsGuest m) where
   obey_bound v AbortMove (Offering n g p) ok = tt
   obey_bound v AbortMove (Copying n r) ok = tt
   obey_bound v AbortMove (Stopped n l) ok = tt
-  obey_bound v AbortMove (Given n) ok = ok
+  obey_bound v AbortMove (Given n kept) ok = ok
   obey_bound v AbortMove (Staging n s) ok = ok
   obey_bound v AbortMove (Held n g) ok = ok
 
@@ -178,7 +178,7 @@ module _ {S P E A B : Type 0} (m : Guest S P E A B) (laws : IsGuest m) where
 
   came_bound : (limit : ℕ) (f : Frame P B) (O : Mode S P) → Bounded O → Bounds (came m limit f O)
   came_bound limit (Offer k a b) (Empty n) ok = above_bound limit n k a b (Empty n) ok
-  came_bound limit (Offer k a b) (Given n) ok = above_bound limit n k a b (Given n) ok
+  came_bound limit (Offer k a b) (Given n kept) ok = above_bound limit n k a b (Given n kept) ok
   came_bound limit (Offer k a b) (Held n g) ok = above_bound limit n k a b (Held n g) ok
   came_bound limit (Offer k a b) (Staging n s) ok =
       either Bounds (n == k) (sends Accepted (Accept n) (Staging n s))
@@ -214,7 +214,7 @@ module _ {S P E A B : Type 0} (m : Guest S P E A B) (laws : IsGuest m) where
   came_bound limit (Ready k) (Stopped n l) ok = equal_bound n k _ (Stopped n l) ok tt
   came_bound limit (Go k) (Held n g) ok = equal_bound n k _ (Held n g) ok tt
   came_bound limit (Go k) (Run n g) ok = equal_bound n k _ (Run n g) ok tt
-  came_bound limit (Started k) (Given n) ok = equal_bound n k _ (Given n) ok tt
+  came_bound limit (Started k) (Given n kept) ok = equal_bound n k _ (Given n kept) ok tt
   came_bound limit (Abort k) (Staging n s) ok = equal_bound n k _ (Staging n s) ok tt
   came_bound limit (Abort k) (Held n g) ok = equal_bound n k _ (Held n g) ok tt
   came_bound limit f O ok = ok

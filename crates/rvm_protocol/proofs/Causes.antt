@@ -20,7 +20,7 @@ module _ {S P : Type 0} where
   -- what the past said of a mode
   abbrev pub Backed : (R C : ℕ → Type 0) → Mode S P → Type 0
   Backed R C (Held n g) = R n
-  Backed R C (Given n) = C n
+  Backed R C (Given n kept) = C n
   Backed R C mode = Unit {0}
 
   -- where a Go of this move was sent, it was started here
@@ -55,8 +55,8 @@ module _ {S P E A B : Type 0} (m : Guest S P E A B) (R C T : ℕ → Type 0) whe
       → IsCaused R C T f → Follows (Came y f) (came m limit f X)
   follow_came limit y (Offer k a b) (Empty n) q r j =
       follow_above (Came y (Offer k a b)) limit n k a b (Empty n) q
-  follow_came limit y (Offer k a b) (Given n) q r j =
-      follow_above (Came y (Offer k a b)) limit n k a b (Given n) q
+  follow_came limit y (Offer k a b) (Given n kept) q r j =
+      follow_above (Came y (Offer k a b)) limit n k a b (Given n kept) q
   follow_came limit y (Offer k a b) (Held n g) q r j =
       follow_above (Came y (Offer k a b)) limit n k a b (Held n g) q
   follow_came limit y (Offer k a b) (Staging n s) q r j =
@@ -95,8 +95,8 @@ module _ {S P E A B : Type 0} (m : Guest S P E A B) (R C T : ℕ → Type 0) whe
       follow_equal (Came y (Go k)) n k _ (Held n g) q (λ e now. (now.2 n (sym e), tt))
   follow_came limit y (Go k) (Run n g) q r j =
       follow_equal (Came y (Go k)) n k _ (Run n g) q (λ e now. (r (subst C (sym e) j), tt))
-  follow_came limit y (Started k) (Given n) q r j =
-      follow_equal (Came y (Started k)) n k _ (Given n) q (λ e now. (tt, tt))
+  follow_came limit y (Started k) (Given n kept) q r j =
+      follow_equal (Came y (Started k)) n k _ (Given n kept) q (λ e now. (tt, tt))
   follow_came limit y (Abort k) (Staging n s) q r j =
       follow_equal (Came y (Abort k)) n k _ (Staging n s) q (λ e now. (tt, tt))
   follow_came limit y (Abort k) (Held n g) q r j =
@@ -137,7 +137,7 @@ module _ {S P E A B : Type 0} (m : Guest S P E A B) (R C T : ℕ → Type 0) whe
   follow_obey v (Board e) (Offering n g p) q = λ now. (tt, tt)
   follow_obey v (Board e) (Copying n r) q = λ now. (tt, tt)
   follow_obey v (Board e) (Stopped n l) q = λ now. (tt, tt)
-  follow_obey v (Board e) (Given n) q = λ now. (tt, q)
+  follow_obey v (Board e) (Given n kept) q = λ now. (tt, q)
   follow_obey v (Board e) (Staging n s) q = λ now. (tt, tt)
   follow_obey v (Board e) (Held n g) q = λ now. (tt, q)
   follow_obey v (Begin to p) (Empty n) q = λ now. (tt, q)
@@ -150,7 +150,7 @@ module _ {S P E A B : Type 0} (m : Guest S P E A B) (R C T : ℕ → Type 0) whe
   follow_obey v (Begin to p) (Offering n g r) q = λ now. (tt, tt)
   follow_obey v (Begin to p) (Copying n r) q = λ now. (tt, tt)
   follow_obey v (Begin to p) (Stopped n l) q = λ now. (tt, tt)
-  follow_obey v (Begin to p) (Given n) q = λ now. (tt, q)
+  follow_obey v (Begin to p) (Given n kept) q = λ now. (tt, q)
   follow_obey v (Begin to p) (Staging n s) q = λ now. (tt, tt)
   follow_obey v (Begin to p) (Held n g) q = λ now. (tt, q)
   follow_obey v Copy (Empty n) q = λ now. (tt, q)
@@ -162,7 +162,7 @@ module _ {S P E A B : Type 0} (m : Guest S P E A B) (R C T : ℕ → Type 0) whe
       (least (λ x. r.to_send x && not (is_skipped r x)) r.scan
       (length (m.pages r.guest) - r.scan))) (λ _ _. (tt, tt)) (λ _. follow_copy n r _)
   follow_obey v Copy (Stopped n l) q = follow_last v n l (to_copy m l)
-  follow_obey v Copy (Given n) q = λ now. (tt, q)
+  follow_obey v Copy (Given n kept) q = λ now. (tt, q)
   follow_obey v Copy (Staging n s) q = λ now. (tt, tt)
   follow_obey v Copy (Held n g) q = λ now. (tt, q)
   follow_obey v Resend (Empty n) q = λ now. (tt, q)
@@ -170,7 +170,7 @@ module _ {S P E A B : Type 0} (m : Guest S P E A B) (R C T : ℕ → Type 0) whe
   follow_obey v Resend (Offering n g p) q = λ now. (tt, tt)
   follow_obey v Resend (Copying n r) q = λ now. (tt, tt)
   follow_obey v Resend (Stopped n l) q = follow_resend v n l (to_copy m l)
-  follow_obey v Resend (Given n) q = λ now. (q, q)
+  follow_obey v Resend (Given n kept) q = λ now. (q, q)
   follow_obey v Resend (Staging n s) q = λ now. (tt, tt)
   follow_obey v Resend (Held n g) q = λ now. (q, q)
   follow_obey v AbortMove (Empty n) q = λ now. (tt, q)
@@ -178,7 +178,7 @@ module _ {S P E A B : Type 0} (m : Guest S P E A B) (R C T : ℕ → Type 0) whe
   follow_obey v AbortMove (Offering n g p) q = λ now. (tt, tt)
   follow_obey v AbortMove (Copying n r) q = λ now. (tt, tt)
   follow_obey v AbortMove (Stopped n l) q = λ now. (tt, tt)
-  follow_obey v AbortMove (Given n) q = λ now. (tt, q)
+  follow_obey v AbortMove (Given n kept) q = λ now. (tt, q)
   follow_obey v AbortMove (Staging n s) q = λ now. (tt, tt)
   follow_obey v AbortMove (Held n g) q = λ now. (tt, q)
 
@@ -198,7 +198,7 @@ module _ {S P E A B : Type 0} (m : Guest S P E A B) (R C T : ℕ → Type 0) whe
       begins (Offering n g r) q = λ now. (tt, tt)
       begins (Copying n r) q = λ now. (tt, tt)
       begins (Stopped n l) q = λ now. (tt, tt)
-      begins (Given n) q = λ now. (tt, q)
+      begins (Given n kept) q = λ now. (tt, q)
       begins (Staging n s) q = λ now. (tt, tt)
       begins (Held n g) q = λ now. (tt, q)
   follow_step v x count limit (Do (Board e)) h q r j = follow_obey v (Board e) h.mode q

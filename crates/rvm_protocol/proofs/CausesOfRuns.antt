@@ -41,7 +41,7 @@ module _ {S P : Type 0} where
   fresh_ok C T (Offering n g p) h = tt
   fresh_ok C T (Copying n r) h = tt
   fresh_ok C T (Stopped n l) h = tt
-  fresh_ok C T (Given n) h = tt
+  fresh_ok C T (Given n kept) h = tt
   fresh_ok C T (Staging n s) h = tt
   fresh_ok C T (Held n g) h = tt
 
@@ -51,7 +51,7 @@ module _ {S P : Type 0} where
   none_ok C T (Offering n g p) h = tt
   none_ok C T (Copying n r) h = tt
   none_ok C T (Stopped n l) h = tt
-  none_ok C T (Given n) h = tt
+  none_ok C T (Given n kept) h = tt
   none_ok C T (Staging n s) h = tt
   none_ok C T (Held n g) h = tt
 
@@ -63,14 +63,14 @@ module _ {S P : Type 0} where
   fresh_more C C' T T' (Offering n g p) c t h = tt
   fresh_more C C' T T' (Copying n r) c t h = tt
   fresh_more C C' T T' (Stopped n l) c t h = tt
-  fresh_more C C' T T' (Given n) c t h = tt
+  fresh_more C C' T T' (Given n kept) c t h = tt
   fresh_more C C' T T' (Staging n s) c t h = tt
   fresh_more C C' T T' (Held n g) c t h = tt
 
   backed_more : (R R' C C' : ℕ → Type 0) (X : Mode S P) → ((k : ℕ) → R k → R' k)
       → ((k : ℕ) → C k → C' k) → Backed R C X → Backed R' C' X
   backed_more R R' C C' (Held n g) r c h = r n h
-  backed_more R R' C C' (Given n) r c h = c n h
+  backed_more R R' C C' (Given n kept) r c h = c n h
   backed_more R R' C C' (Run n g) r c h = tt
   backed_more R R' C C' (Empty n) r c h = tt
   backed_more R R' C C' (Offering n g p) r c h = tt
@@ -126,7 +126,7 @@ module _ {S P E A B : Type 0} (m : Guest S P E A B) (C T : ℕ → Type 0) where
       (sends Accepted (Accept k) (Staging k _)) (λ _ _. tt) (λ _ _. tt))
       (λ _ _. tt)
   fresh_came limit y (Offer k a b) (Empty n) Q i c h = absurd i
-  fresh_came limit y (Offer k a b) (Given n) Q i c h = absurd i
+  fresh_came limit y (Offer k a b) (Given n kept) Q i c h = absurd i
   fresh_came limit y (Offer k a b) (Staging n s) Q i c h = absurd i
   fresh_came limit y (Accept k) (Offering n g p) Q i c h =
       fresh_equal (Came y (Accept k)) n k _ (Offering n g p) tt (λ e now. tt)
@@ -147,7 +147,7 @@ module _ {S P E A B : Type 0} (m : Guest S P E A B) (C T : ℕ → Type 0) where
   fresh_came limit y (Part k st a u x) (Staging n s) Q i c h = absurd i
   fresh_came limit y (Abort k) (Held n g) Q i c h =
       fresh_equal (Came y (Abort k)) n k _ (Held n g) tt (λ e now. tt)
-  fresh_came limit y (Started k) (Given n) Q i c h = absurd i
+  fresh_came limit y (Started k) (Given n kept) Q i c h = absurd i
   fresh_came limit y (Page k a b d) (Staging n s) Q i c h = absurd i
   fresh_came limit y (RoundEnd k a b d e) (Staging n s) Q i c h = absurd i
   fresh_came limit y (State k ns b) (Staging n s) Q i c h = absurd i
@@ -210,7 +210,7 @@ module _ {S P E A B : Type 0} (m : Guest S P E A B) (C T : ℕ → Type 0) where
   fresh_obey v AbortMove (Stopped n l) Q i c h = λ now. inl c
   fresh_obey v AbortMove (Held n g) Q i c h = λ now. tt
   fresh_obey v k (Empty n) Q i c h = absurd i
-  fresh_obey v k (Given n) Q i c h = absurd i
+  fresh_obey v k (Given n kept) Q i c h = absurd i
   fresh_obey v k (Staging n s) Q i c h = absurd i
 
 abbrev is_commit : {A : Type 0} → Reply A → Bool
@@ -279,7 +279,7 @@ module _ {S P E A B : Type 0} (m : Guest S P E A B) (laws : IsGuest m) where
 
   commit_came : (limit : ℕ) (f : Frame P B) (X : Mode S P) → Commits X (came m limit f X)
   commit_came limit (Offer k a b) (Empty n) = commit_above limit n k a b (Empty n)
-  commit_came limit (Offer k a b) (Given n) = commit_above limit n k a b (Given n)
+  commit_came limit (Offer k a b) (Given n kept) = commit_above limit n k a b (Given n kept)
   commit_came limit (Offer k a b) (Held n g) = commit_above limit n k a b (Held n g)
   commit_came limit (Offer k a b) (Staging n s) =
       either (Commits (Staging n s)) (n == k) (sends Accepted (Accept n) (Staging n s))
@@ -307,7 +307,7 @@ module _ {S P E A B : Type 0} (m : Guest S P E A B) (laws : IsGuest m) where
       commit_equal n k _ (Stopped n l) (λ j e. (ap (λ z. Some (Go z)) (same_move n j e), refl))
   commit_came limit (Go k) (Held n g) = commit_equal n k _ (Held n g) (λ j e. cc)
   commit_came limit (Go k) (Run n g) = commit_equal n k _ (Run n g) (λ j e. cc)
-  commit_came limit (Started k) (Given n) = commit_equal n k _ (Given n) (λ j e. cc)
+  commit_came limit (Started k) (Given n kept) = commit_equal n k _ (Given n kept) (λ j e. cc)
   commit_came limit (Abort k) (Staging n s) = commit_equal n k _ (Staging n s) (λ j e. cc)
   commit_came limit (Abort k) (Held n g) = commit_equal n k _ (Held n g) (λ j e. cc)
   commit_came limit f X = λ j e. cc
@@ -338,7 +338,7 @@ module _ {S P E A B : Type 0} (m : Guest S P E A B) (laws : IsGuest m) where
       begins (Offering n g r) = λ j e. cc
       begins (Copying n r) = λ j e. cc
       begins (Stopped n l) = λ j e. cc
-      begins (Given n) = λ j e. cc
+      begins (Given n kept) = λ j e. cc
       begins (Staging n s) = λ j e. cc
       begins (Held n g) = λ j e. cc
   commit_step v x count limit (Do (Board b)) h =
@@ -373,7 +373,7 @@ module _ {S P E A B : Type 0} (m : Guest S P E A B) (laws : IsGuest m) where
       begins (Offering n g r) i c q = λ now. tt
       begins (Copying n r) i c q = λ now. tt
       begins (Stopped n l) i c q = λ now. tt
-      begins (Given n) i c q = λ now. tt
+      begins (Given n kept) i c q = λ now. tt
       begins (Staging n s) i c q = λ now. tt
       begins (Held n g) i c q = λ now. tt
   fresh_step v C T x count limit (Do (Board b)) h Q i c q =
@@ -394,7 +394,7 @@ module _ {S P E A B : Type 0} (m : Guest S P E A B) (laws : IsGuest m) where
   fresh_paused C T (Offering n g p) h = tt
   fresh_paused C T (Copying n r) h = tt
   fresh_paused C T (Stopped n l) h = tt
-  fresh_paused C T (Given n) h = tt
+  fresh_paused C T (Given n kept) h = tt
   fresh_paused C T (Staging n s) h = tt
   fresh_paused C T (Held n g) h = tt
 
@@ -404,7 +404,7 @@ module _ {S P E A B : Type 0} (m : Guest S P E A B) (laws : IsGuest m) where
   stopped_paused (Empty n) h = cc
   stopped_paused (Offering n g p) h = cc
   stopped_paused (Copying n r) h = cc
-  stopped_paused (Given n) h = cc
+  stopped_paused (Given n kept) h = cc
   stopped_paused (Staging n s) h = cc
   stopped_paused (Held n g) h = cc
 
@@ -416,7 +416,7 @@ module _ {S P E A B : Type 0} (m : Guest S P E A B) (laws : IsGuest m) where
   run_more C C' T T' (Offering n g p) c t h = tt
   run_more C C' T T' (Copying n r) c t h = tt
   run_more C C' T T' (Stopped n l) c t h = tt
-  run_more C C' T T' (Given n) c t h = tt
+  run_more C C' T T' (Given n kept) c t h = tt
   run_more C C' T T' (Staging n s) c t h = tt
   run_more C C' T T' (Held n g) c t h = tt
 
@@ -464,7 +464,7 @@ module _ {S P E A B : Type 0} (m : Guest S P E A B) (laws : IsGuest m) where
       num_go (Offering n g p) = omega arith
       num_go (Copying n r) = omega arith
       num_go (Stopped n l) = omega arith
-      num_go (Given n) = omega arith
+      num_go (Given n kept) = omega arith
       num_go (Staging n s) = omega arith
       num_go (Held n g) = omega arith
 
@@ -474,7 +474,7 @@ module _ {S P E A B : Type 0} (m : Guest S P E A B) (laws : IsGuest m) where
       lim_go (Offering n g p) = omega arith
       lim_go (Copying n r) = omega arith
       lim_go (Stopped n l) = omega arith
-      lim_go (Given n) = omega arith
+      lim_go (Given n kept) = omega arith
       lim_go (Staging n s) = omega arith
       lim_go (Held n g) = omega arith
 

@@ -51,7 +51,7 @@ module _ {S P E A B : Type 0} (m : Guest S P E A B) (laws : IsGuest m) (g : S) w
 
   carry_came : (limit : ℕ) (f : Frame P B) (X : Mode S P) → Carried (came m limit f X)
   carry_came limit (Offer k a b) (Empty n) = carry_above limit n k a b (Empty n)
-  carry_came limit (Offer k a b) (Given n) = carry_above limit n k a b (Given n)
+  carry_came limit (Offer k a b) (Given n kept) = carry_above limit n k a b (Given n kept)
   carry_came limit (Offer k a b) (Held n q) = carry_above limit n k a b (Held n q)
   carry_came limit (Offer k a b) (Staging n s) =
       either Carried (n == k) (sends Accepted (Accept n) (Staging n s))
@@ -77,7 +77,7 @@ module _ {S P E A B : Type 0} (m : Guest S P E A B) (laws : IsGuest m) (g : S) w
   carry_came limit (Ready k) (Stopped n l) = carry_equal n k _ (Stopped n l) tt
   carry_came limit (Go k) (Held n q) = carry_equal n k _ (Held n q) tt
   carry_came limit (Go k) (Run n q) = carry_equal n k _ (Run n q) tt
-  carry_came limit (Started k) (Given n) = carry_equal n k _ (Given n) tt
+  carry_came limit (Started k) (Given n kept) = carry_equal n k _ (Given n kept) tt
   carry_came limit (Abort k) (Staging n s) = carry_equal n k _ (Staging n s) tt
   carry_came limit (Abort k) (Held n q) = carry_equal n k _ (Held n q) tt
   carry_came limit f X = tt
@@ -147,7 +147,7 @@ module _ {S P E A B : Type 0} (m : Guest S P E A B) (laws : IsGuest m) (g : S) w
   carry_begin v to x count p (Offering n q r) = tt
   carry_begin v to x count p (Copying n r) = tt
   carry_begin v to x count p (Stopped n l) = tt
-  carry_begin v to x count p (Given n) = tt
+  carry_begin v to x count p (Given n kept) = tt
   carry_begin v to x count p (Staging n s) = tt
   carry_begin v to x count p (Held n q) = tt
 
@@ -159,7 +159,7 @@ module _ {S P E A B : Type 0} (m : Guest S P E A B) (laws : IsGuest m) (g : S) w
   carry_obey v x count (Board e) (Offering n q p) same = tt
   carry_obey v x count (Board e) (Copying n r) same = tt
   carry_obey v x count (Board e) (Stopped n l) same = tt
-  carry_obey v x count (Board e) (Given n) same = tt
+  carry_obey v x count (Board e) (Given n kept) same = tt
   carry_obey v x count (Board e) (Staging n s) same = tt
   carry_obey v x count (Board e) (Held n q) same = tt
   carry_obey v x count Copy (Empty n) same = tt
@@ -171,7 +171,7 @@ module _ {S P E A B : Type 0} (m : Guest S P E A B) (laws : IsGuest m) (g : S) w
       (least (λ x. r.to_send x && not (is_skipped r x)) r.scan
       (length (m.pages r.guest) - r.scan))) (λ _. tt) (λ _. carry_copy n r _ same)
   carry_obey v x count Copy (Stopped n l) same = carry_last v n l (to_copy m l) same refl
-  carry_obey v x count Copy (Given n) same = tt
+  carry_obey v x count Copy (Given n kept) same = tt
   carry_obey v x count Copy (Staging n s) same = tt
   carry_obey v x count Copy (Held n q) same = tt
   carry_obey v x count Resend (Stopped n l) same = carry_resend v n l (to_copy m l) same refl
@@ -179,7 +179,7 @@ module _ {S P E A B : Type 0} (m : Guest S P E A B) (laws : IsGuest m) (g : S) w
   carry_obey v x count Resend (Run n q) same = tt
   carry_obey v x count Resend (Offering n q p) same = tt
   carry_obey v x count Resend (Copying n r) same = tt
-  carry_obey v x count Resend (Given n) same = tt
+  carry_obey v x count Resend (Given n kept) same = tt
   carry_obey v x count Resend (Staging n s) same = tt
   carry_obey v x count Resend (Held n q) same = tt
   carry_obey v x count AbortMove (Empty n) same = tt
@@ -187,7 +187,7 @@ module _ {S P E A B : Type 0} (m : Guest S P E A B) (laws : IsGuest m) (g : S) w
   carry_obey v x count AbortMove (Offering n q p) same = tt
   carry_obey v x count AbortMove (Copying n r) same = tt
   carry_obey v x count AbortMove (Stopped n l) same = tt
-  carry_obey v x count AbortMove (Given n) same = tt
+  carry_obey v x count AbortMove (Given n kept) same = tt
   carry_obey v x count AbortMove (Staging n s) same = tt
   carry_obey v x count AbortMove (Held n q) same = tt
 
@@ -209,7 +209,7 @@ module _ {S P E A B : Type 0} (m : Guest S P E A B) (laws : IsGuest m) (g : S) w
   source_here (Empty n) T F ok h = tt
   source_here (Run n q) T F ok h = tt
   source_here (Offering n q p) T F ok h = tt
-  source_here (Given n) T F ok h = tt
+  source_here (Given n kept) T F ok h = tt
   source_here (Staging n s) T F ok h = tt
   source_here (Held n q) T F ok h = tt
 
@@ -219,7 +219,7 @@ module _ {S P E A B : Type 0} (m : Guest S P E A B) (laws : IsGuest m) (g : S) w
   source_none (Empty n) h = tt
   source_none (Run n q) h = tt
   source_none (Offering n q p) h = tt
-  source_none (Given n) h = tt
+  source_none (Given n kept) h = tt
   source_none (Staging n s) h = tt
   source_none (Held n q) h = tt
 

@@ -1,8 +1,8 @@
 -- A move's copies are those that were answered Copied.
-use Rattle.std.proofs.Common.{◌≡◌, ℕ, suc, ◌-◌, ◌==◌, ◌^◌, Bool, true, false, ◌&&◌, nat_lt, nat_le, if◌then◌else◌, List, [], ◌∷◌, ◌++◌, Option, Some, None, refl, sym, ap, subst}
+use Rattle.std.proofs.Common.{◌≡◌, ℕ, suc, ◌-◌, ◌==◌, ◌^◌, true, false, ◌&&◌, nat_lt, nat_le, if◌then◌else◌, List, [], ◌∷◌, ◌++◌, Option, Some, None, refl, sym, ap, subst}
 use Rattle.std.specs.Prelude.{set, length}
 use Rattle.std.proofs.lemmas.Bool.{eqb-true}
-use Rattle.rvm_protocol.specs.Commands.{Policy, Command, Board, Begin, Copy, Resend, AbortMove, HostEvent, Do, Came, is_allowed}
+use Rattle.rvm_protocol.specs.Commands.{Command, Board, Begin, Copy, Resend, AbortMove, HostEvent, Do, Came, is_allowed}
 use Rattle.rvm_protocol.specs.FewCopies.{AreTold, CopiesAreTold, copies_after, copies_told}
 use Rattle.rvm_protocol.specs.Frames.{Frame, Offer, Accept, Refuse, Page, RoundEnd, Lost, State, Ready, Go, Started, Abort, is_compact, plain, Part}
 use Rattle.rvm_protocol.specs.Guest.{Guest}
@@ -57,7 +57,7 @@ module _ {S P E A B : Type 0} (m : Guest S P E A B) where
   obey_told k v (Board e) (Offering n g p) ok = ok
   obey_told k v (Board e) (Copying n r) ok = ok
   obey_told k v (Board e) (Stopped n l) ok = ok
-  obey_told k v (Board e) (Given n) ok = tt
+  obey_told k v (Board e) (Given n kept) ok = tt
   obey_told k v (Board e) (Staging n s) ok = tt
   obey_told k v (Board e) (Held n g) ok = tt
   obey_told k v (Begin to q) (Empty n) ok = ok
@@ -69,7 +69,7 @@ module _ {S P E A B : Type 0} (m : Guest S P E A B) where
   obey_told k v (Begin to q) (Offering n g p) ok = ok
   obey_told k v (Begin to q) (Copying n r) ok = ok
   obey_told k v (Begin to q) (Stopped n l) ok = ok
-  obey_told k v (Begin to q) (Given n) ok = ok
+  obey_told k v (Begin to q) (Given n kept) ok = ok
   obey_told k v (Begin to q) (Staging n s) ok = ok
   obey_told k v (Begin to q) (Held n g) ok = ok
   obey_told k v Copy (Empty n) ok = ok
@@ -79,7 +79,7 @@ module _ {S P E A B : Type 0} (m : Guest S P E A B) where
       either (Leaves k) r.stop (says Stopping (Stopped n (stopped m r))) (copy_page m n r (next_page m r))
       (λ _. ok) (λ _. page_told k n r (next_page m r) ok)
   obey_told k v Copy (Stopped n l) ok = last_told k v n l (to_copy m l) ok
-  obey_told k v Copy (Given n) ok = ok
+  obey_told k v Copy (Given n kept) ok = ok
   obey_told k v Copy (Staging n s) ok = ok
   obey_told k v Copy (Held n g) ok = ok
   obey_told k v Resend (Empty n) ok = ok
@@ -87,7 +87,7 @@ module _ {S P E A B : Type 0} (m : Guest S P E A B) where
   obey_told k v Resend (Offering n g p) ok = ok
   obey_told k v Resend (Copying n r) ok = ok
   obey_told k v Resend (Stopped n l) ok = resend_told k v n l (to_copy m l) ok
-  obey_told k v Resend (Given n) ok = ok
+  obey_told k v Resend (Given n kept) ok = ok
   obey_told k v Resend (Staging n s) ok = ok
   obey_told k v Resend (Held n g) ok = ok
   obey_told k v AbortMove (Empty n) ok = ok
@@ -95,7 +95,7 @@ module _ {S P E A B : Type 0} (m : Guest S P E A B) where
   obey_told k v AbortMove (Offering n g p) ok = tt
   obey_told k v AbortMove (Copying n r) ok = tt
   obey_told k v AbortMove (Stopped n l) ok = tt
-  obey_told k v AbortMove (Given n) ok = ok
+  obey_told k v AbortMove (Given n kept) ok = ok
   obey_told k v AbortMove (Staging n s) ok = ok
   obey_told k v AbortMove (Held n g) ok = ok
 
@@ -112,7 +112,7 @@ module _ {S P E A B : Type 0} (m : Guest S P E A B) where
 
   came_told : (k limit : ℕ) (f : Frame P B) (O : Mode S P) → Tells k O → Leaves k (came m limit f O)
   came_told k limit (Offer j a b) (Empty n) ok = above_told k limit n j a b (Empty n) ok
-  came_told k limit (Offer j a b) (Given n) ok = above_told k limit n j a b (Given n) ok
+  came_told k limit (Offer j a b) (Given n kept) ok = above_told k limit n j a b (Given n kept) ok
   came_told k limit (Offer j a b) (Held n g) ok = above_told k limit n j a b (Held n g) ok
   came_told k limit (Offer j a b) (Staging n s) ok =
       either (Leaves k) (n == j) (sends Accepted (Accept n) (Staging n s))
@@ -140,7 +140,7 @@ module _ {S P E A B : Type 0} (m : Guest S P E A B) where
   came_told k limit (Ready j) (Stopped n l) ok = equal_told k n j _ (Stopped n l) ok tt
   came_told k limit (Go j) (Held n g) ok = equal_told k n j _ (Held n g) ok tt
   came_told k limit (Go j) (Run n g) ok = equal_told k n j _ (Run n g) ok tt
-  came_told k limit (Started j) (Given n) ok = equal_told k n j _ (Given n) ok tt
+  came_told k limit (Started j) (Given n kept) ok = equal_told k n j _ (Given n kept) ok tt
   came_told k limit (Abort j) (Staging n s) ok = equal_told k n j _ (Staging n s) ok tt
   came_told k limit (Abort j) (Held n g) ok = equal_told k n j _ (Held n g) ok tt
   came_told k limit f O ok = ok
@@ -195,7 +195,7 @@ module _ {S P E A B : Type 0} (m : Guest S P E A B) where
   are_told k (Offering n g p) ok = tt
   are_told k (Copying n r) ok = ok
   are_told k (Stopped n l) ok = ok
-  are_told k (Given n) ok = tt
+  are_told k (Given n kept) ok = tt
   are_told k (Staging n s) ok = tt
   are_told k (Held n g) ok = tt
 

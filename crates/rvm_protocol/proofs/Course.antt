@@ -1,5 +1,5 @@
 -- The laws in each state of a run: its first events are a run themselves.
-use Rattle.std.proofs.Common.{◌≡◌, ℕ, true, List, refl, subst}
+use Rattle.std.proofs.Common.{ℕ, List, subst}
 use Rattle.rvm_protocol.specs.Course.{FramesAreTrue, NeverMoves, RunsNeverMove, RunsNeverMoveFromAnyWorld, RunsTellTheirPast}
 use Rattle.rvm_protocol.specs.FewCopies.{CopiesAreTold}
 use Rattle.rvm_protocol.specs.FrameCauses.{FramesFollowTheirCauses}

@@ -45,14 +45,14 @@ module _ {S P E A B : Type 0} (m : Guest S P E A B) (laws : IsGuest m) where
   handed n l (Offering k g p) next F a b ok = absurd a
   handed n l (Copying k r) next F a b ok = absurd a
   handed n l (Stopped k q) next F a b ok = absurd a
-  handed n l (Given k) next F a b ok = absurd a
+  handed n l (Given k kept) next F a b ok = absurd a
   handed n l (Staging k s) next F a b ok = absurd b
 
   committed_board : (O T next : Mode S P) (F : Frame P B → Type 0) → is_stopped O ≡ true → Meet O T
       → Meet T next → Content m O T F → (guest_in T ≡ guest_in O) × (is_paused T ≡ is_paused O)
   committed_board (Stopped n l) T next F h a b ok = handed n l T next F a b ok
   committed_board (Empty n) T next F h a b ok = absurd a
-  committed_board (Given n) T next F h a b ok = absurd a
+  committed_board (Given n kept) T next F h a b ok = absurd a
   committed_board (Staging n s) T next F h a b ok = absurd a
   committed_board (Run n g) T next F h a b ok = cc
   committed_board (Offering n g p) T next F h a b ok = cc
@@ -65,23 +65,23 @@ module _ {S P E A B : Type 0} (m : Guest S P E A B) (laws : IsGuest m) where
 
   pub same_mode : (v : ℕ) → (c : Command E) (O T : Mode S P) → Meet O T → (obey m v c T).next ≡ T
   same_mode v (Board e) O (Empty n) h = refl
-  same_mode v (Board e) O (Given n) h = refl
+  same_mode v (Board e) O (Given n kept) h = refl
   same_mode v (Board e) O (Staging n s) h = refl
   same_mode v (Board e) O (Held n g) h = refl
   same_mode v (Begin to q) O (Empty n) h = refl
-  same_mode v (Begin to q) O (Given n) h = refl
+  same_mode v (Begin to q) O (Given n kept) h = refl
   same_mode v (Begin to q) O (Staging n s) h = refl
   same_mode v (Begin to q) O (Held n g) h = refl
   same_mode v Copy O (Empty n) h = refl
-  same_mode v Copy O (Given n) h = refl
+  same_mode v Copy O (Given n kept) h = refl
   same_mode v Copy O (Staging n s) h = refl
   same_mode v Copy O (Held n g) h = refl
   same_mode v Resend O (Empty n) h = refl
-  same_mode v Resend O (Given n) h = refl
+  same_mode v Resend O (Given n kept) h = refl
   same_mode v Resend O (Staging n s) h = refl
   same_mode v Resend O (Held n g) h = refl
   same_mode v AbortMove O (Empty n) h = refl
-  same_mode v AbortMove O (Given n) h = refl
+  same_mode v AbortMove O (Given n kept) h = refl
   same_mode v AbortMove O (Staging n s) h = refl
   same_mode v AbortMove O (Held n g) h = refl
   same_mode v c O (Run n g) h = absurd (alone O (Run n g) h)
@@ -96,7 +96,7 @@ module _ {S P E A B : Type 0} (m : Guest S P E A B) (laws : IsGuest m) where
   stopped_target (Run k g) n ts d h e q = cc
   stopped_target (Offering k g p) n ts d h e q = cc
   stopped_target (Copying k r) n ts d h e q = cc
-  stopped_target (Given k) n ts d h e q = cc
+  stopped_target (Given k kept) n ts d h e q = cc
   stopped_target (Staging k s) n ts d h e q = cc
   stopped_target (Held k g) n ts d h e q = cc
 
@@ -152,7 +152,7 @@ module _ {S P E A B : Type 0} (m : Guest S P E A B) (laws : IsGuest m) where
   retarget (Offering n g r) p hd H sent c d y t h l ne = cc
   retarget (Copying n r) p hd H sent c d y t h l ne = cc
   retarget (Stopped n q) p hd H sent c d y t h l ne = cc
-  retarget (Given n) p hd H sent c d y t h l ne = cc
+  retarget (Given n kept) p hd H sent c d y t h l ne = cc
   retarget (Staging n s) p hd H sent c d y t h l ne = cc
   retarget (Held n g) p hd H sent c d y t h l ne = cc
 
@@ -311,7 +311,7 @@ module _ {S P E A B : Type 0} (m : Guest S P E A B) (laws : IsGuest m) where
           ap (λ z. posted c z (obey m v k (Copying n r)).made) (l.partner refl)
       post (Stopped n q) k l nb =
           ap (λ z. posted c z (obey m v k (Stopped n q)).made) (l.partner refl)
-      post (Given n) k l nb = ap (λ z. posted c z (obey m v k (Given n)).made) (l.partner refl)
+      post (Given n kept) k l nb = ap (λ z. posted c z (obey m v k (Given n kept)).made) (l.partner refl)
       post (Staging n s) k l nb =
           ap (λ z. posted c z (obey m v k (Staging n s)).made) (l.partner refl)
       post (Held n g) k l nb = ap (λ z. posted c z (obey m v k (Held n g)).made) (l.partner refl)
@@ -325,7 +325,7 @@ module _ {S P E A B : Type 0} (m : Guest S P E A B) (laws : IsGuest m) where
       stays (Offering n g r) k l nb h = l.partner refl
       stays (Copying n r) k l nb h = l.partner refl
       stays (Stopped n q) k l nb h = l.partner refl
-      stays (Given n) k l nb h = l.partner refl
+      stays (Given n kept) k l nb h = l.partner refl
       stays (Staging n s) k l nb h = l.partner refl
       stays (Held n g) k l nb h = l.partner refl
 
@@ -442,7 +442,7 @@ module _ {S P E A B : Type 0} (m : Guest S P E A B) (laws : IsGuest m) where
             λ ts d a t. t;
       }) tt l.partner)
   current_obeys v (Begin to q) (Empty n) p count hd H sent c d t l = absurd l.modes.meet
-  current_obeys v (Begin to q) (Given n) p count hd H sent c d t l = absurd l.modes.meet
+  current_obeys v (Begin to q) (Given n kept) p count hd H sent c d t l = absurd l.modes.meet
   current_obeys v (Begin to q) (Staging n s) p count hd H sent c d t l = absurd l.modes.meet
   current_obeys v (Board e) O p count hd H sent c d t l =
       obeyed_as v (Board e) O p hd H sent c d t l tt

@@ -62,7 +62,7 @@ module _ {S P : Type 0} where
   begun_meets : (e : ℕ) (g : S) (p : Policy) (T : Mode S P) → run_beside e T
       → offering_beside (suc e) T
   begun_meets e g p (Empty n) h = omega arith
-  begun_meets e g p (Given n) h = omega arith
+  begun_meets e g p (Given n kept) h = omega arith
   begun_meets e g p (Staging n s) h = omega arith
   begun_meets e g p (Held n q) h = omega arith
   begun_meets e g p (Run n q) h = h
@@ -72,7 +72,7 @@ module _ {S P : Type 0} where
 
   offering_runs : (e : ℕ) (T : Mode S P) → offering_beside e T → run_beside e T
   offering_runs e (Empty n) h = omega arith
-  offering_runs e (Given n) h = omega arith
+  offering_runs e (Given n kept) h = omega arith
   offering_runs e (Staging n s) h = h
   offering_runs e (Held n q) h = omega arith
   offering_runs e (Run n q) h = h
@@ -84,7 +84,7 @@ module _ {S P : Type 0} where
   stopped_runs e (Staging n s) h = omega arith
   stopped_runs e (Held n q) h = omega arith
   stopped_runs e (Empty n) h = absurd h
-  stopped_runs e (Given n) h = absurd h
+  stopped_runs e (Given n kept) h = absurd h
   stopped_runs e (Run n q) h = h
   stopped_runs e (Offering n q r) h = h
   stopped_runs e (Copying n r) h = h
@@ -94,7 +94,7 @@ module _ {S P : Type 0} where
       → copying_beside e T
   accepted_meets e k (Staging n s) q h lt = omega arith
   accepted_meets e k (Empty n) q h lt = omega arith
-  accepted_meets e k (Given n) q h lt = omega arith
+  accepted_meets e k (Given n kept) q h lt = omega arith
   accepted_meets e k (Held n g) q h lt = omega arith
   accepted_meets e k (Run n g) q h lt = h
   accepted_meets e k (Offering n g p) q h lt = h
@@ -104,7 +104,7 @@ module _ {S P : Type 0} where
   copying_stops : (e : ℕ) (T : Mode S P) → copying_beside e T → stopped_beside e T
   copying_stops e (Staging n s) h = h
   copying_stops e (Empty n) h = h
-  copying_stops e (Given n) h = h
+  copying_stops e (Given n kept) h = h
   copying_stops e (Held n q) h = absurd h
   copying_stops e (Run n q) h = h
   copying_stops e (Offering n q r) h = h
@@ -169,7 +169,7 @@ module _ {S P E A B : Type 0} (m : Guest S P E A B) where
   board_kept e (Stopped n l) T F R i = i
   board_kept e (Held n g) T F R i = i
   board_kept e (Empty n) T F R i = i
-  board_kept e (Given n) T F R i = i
+  board_kept e (Given n kept) T F R i = i
   board_kept e (Staging n s) T F R i = i
 
   begin_allowed_kept : (p : Policy) (n : ℕ) (g : S) (T : Mode S P) (F R : Frame P B → Type 0)
@@ -190,7 +190,7 @@ module _ {S P E A B : Type 0} (m : Guest S P E A B) where
   begin_kept p (Stopped n l) T F R i = i
   begin_kept p (Held n g) T F R i = i
   begin_kept p (Empty n) T F R i = i
-  begin_kept p (Given n) T F R i = i
+  begin_kept p (Given n kept) T F R i = i
   begin_kept p (Staging n s) T F R i = i
 
   copy_page_kept : (n : ℕ) (r : Rounds S) (q : Option ℕ) (T : Mode S P) (F R : Frame P B → Type 0)
@@ -225,7 +225,7 @@ module _ {S P E A B : Type 0} (m : Guest S P E A B) (v : ℕ) where
   copy_kept (Offering n g p) T F R i = i
   copy_kept (Held n g) T F R i = i
   copy_kept (Empty n) T F R i = i
-  copy_kept (Given n) T F R i = i
+  copy_kept (Given n kept) T F R i = i
   copy_kept (Staging n s) T F R i = i
 
   resend_last_kept : (n : ℕ) (l : Last S) (q : Option ℕ) (T : Mode S P) (F R : Frame P B → Type 0)
@@ -245,7 +245,7 @@ module _ {S P E A B : Type 0} (m : Guest S P E A B) (v : ℕ) where
   resend_kept (Run n g) T F R i = i
   resend_kept (Copying n r) T F R i = i
   resend_kept (Empty n) T F R i = i
-  resend_kept (Given n) T F R i = absurd i.meet
+  resend_kept (Given n kept) T F R i = absurd i.meet
   resend_kept (Staging n s) T F R i = i
 
   abort_kept : (O T : Mode S P) (F R : Frame P B → Type 0) → Modes O T F R
@@ -263,7 +263,7 @@ module _ {S P E A B : Type 0} (m : Guest S P E A B) (v : ℕ) where
   abort_kept (Run n g) T F R i = i
   abort_kept (Held n g) T F R i = i
   abort_kept (Empty n) T F R i = i
-  abort_kept (Given n) T F R i = i
+  abort_kept (Given n kept) T F R i = i
   abort_kept (Staging n s) T F R i = i
 
   -- a command at the current host
@@ -277,7 +277,7 @@ module _ {S P E A B : Type 0} (m : Guest S P E A B) (v : ℕ) where
 
 module _ {S P B : Type 0} where
   swap_own : (n n' : ℕ) (l : Last S) (g : S) → n' ≡ n → (f : Frame P B)
-      → own_ok {S = S} (Stopped n l) (Held n' g) f → their_ok {S = S} (Held n' g) (Given n) f
+      → own_ok {S = S} (Stopped n l) (Held n' g) f → their_ok {S = S} (Held n' g) (Given n l.guest) f
   swap_own n n' l g e (Offer k x y) h = omega arith
   swap_own n n' l g e (Accept k) h = omega arith
   swap_own n n' l g e (Refuse k x) h = h
@@ -293,7 +293,7 @@ module _ {S P B : Type 0} where
   swap_own n n' l g e (Abort k) h = omega arith
 
   swap_their : (n n' : ℕ) (l : Last S) (g : S) → n' ≡ n → (f : Frame P B)
-      → their_ok {S = S} (Stopped n l) (Held n' g) f → own_ok {S = S} (Held n' g) (Given n) f
+      → their_ok {S = S} (Stopped n l) (Held n' g) f → own_ok {S = S} (Held n' g) (Given n l.guest) f
   swap_their n n' l g e (Offer k x y) h = omega arith
   swap_their n n' l g e (Accept k) h = omega arith
   swap_their n n' l g e (Refuse k x) h = h
@@ -310,13 +310,13 @@ module _ {S P B : Type 0} where
 
   -- the source commits: the other host is the current one from now on
   commits : (n : ℕ) (l : Last S) (T : Mode S P) (F R : Frame P B → Type 0)
-      → Modes (Stopped n l) T F R → R (Ready n) → Modes T (Given n) R (More F (Some (Go n)))
+      → Modes (Stopped n l) T F R → R (Ready n) → Modes T (Given n l.guest) R (More F (Some (Go n)))
   commits n l (Held n' g) F R i came =
       let e : n' ≡ n = i.meet in
       record {
         meet = sym e;
         own = λ f h. swap_their n n' l g e f (i.their f h);
-        their = more (own_ok (Stopped n l) (Held n' g)) (their_ok (Held n' g) (Given n)) F
+        their = more (own_ok (Stopped n l) (Held n' g)) (their_ok (Held n' g) (Given n l.guest)) F
             (Some (Go n)) (swap_own n n' l g e) (omega arith) i.own;
       }
   commits n l (Staging n' s) F R i came =
@@ -326,11 +326,11 @@ module _ {S P B : Type 0} where
   commits n l (Offering k g p) F R i came = absurd i.meet
   commits n l (Copying k r) F R i came = absurd i.meet
   commits n l (Stopped k q) F R i came = absurd i.meet
-  commits n l (Given k) F R i came = absurd i.meet
+  commits n l (Given k kept) F R i came = absurd i.meet
 
 module _ {S P : Type 0} where
   pub held_num : (e : ℕ) (T : Mode S P) → held_beside e T → move_of T ≡ e
-  held_num e (Given n) h = h
+  held_num e (Given n kept) h = h
   held_num e (Empty n) h = absurd h
   held_num e (Run n g) h = absurd h
   held_num e (Offering n g p) h = absurd h
@@ -340,7 +340,7 @@ module _ {S P : Type 0} where
   held_num e (Held n g) h = absurd h
 
   held_runs : (e : ℕ) (T : Mode S P) → held_beside e T → run_beside e T
-  held_runs e (Given n) h = omega arith
+  held_runs e (Given n kept) h = omega arith
   held_runs e (Empty n) h = absurd h
   held_runs e (Run n g) h = h
   held_runs e (Offering n g p) h = h
@@ -375,7 +375,7 @@ module _ {S P E A B : Type 0} (m : Guest S P E A B) where
       (Offer k a b) h in let same : move_of T ≡ n = held_num n T i.meet in absurd (omega arith))
       (λ _. i)
   owner_receives limit (Offer k a b) (Empty n) T F R h i = absurd i.meet
-  owner_receives limit (Offer k a b) (Given n) T F R h i = absurd i.meet
+  owner_receives limit (Offer k a b) (Given n kept) T F R h i = absurd i.meet
   owner_receives limit (Offer k a b) (Staging n s) T F R h i = absurd i.meet
   owner_receives limit (Accept k) (Offering n g p) T F R h i =
       equal_after n k _ (Offering n g p) T F R i λ e.
@@ -415,6 +415,6 @@ module _ {S P E A B : Type 0} (m : Guest S P E A B) where
   owner_receives limit (Page k p q b) (Staging n s) T F R h i = absurd i.meet
   owner_receives limit (RoundEnd k a b c d) (Staging n s) T F R h i = absurd i.meet
   owner_receives limit (State k ns b) (Staging n s) T F R h i = absurd i.meet
-  owner_receives limit (Started k) (Given n) T F R h i = absurd i.meet
+  owner_receives limit (Started k) (Given n kept) T F R h i = absurd i.meet
   owner_receives limit (Abort k) (Staging n s) T F R h i = absurd i.meet
   owner_receives limit f O T F R h i = i

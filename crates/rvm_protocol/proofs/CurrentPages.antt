@@ -31,7 +31,7 @@ module _ {S P E A B : Type 0} (m : Guest S P E A B) (laws : IsGuest m) where
   beside_more e c h F F' (Offering n g p) up ok = tt
   beside_more e c h F F' (Copying n r) up ok = tt
   beside_more e c h F F' (Stopped n l) up ok = tt
-  beside_more e c h F F' (Given n) up ok = tt
+  beside_more e c h F F' (Given n kept) up ok = tt
   beside_more e c h F F' (Held n g) up ok = tt
 
   pub beside_same : (e c h c' h' : ℕ) (F : Frame P B → Type 0) (T : Mode S P) → c ≡ c' → h ≡ h'
@@ -307,7 +307,7 @@ module _ {S P E A B : Type 0} (m : Guest S P E A B) (laws : IsGuest m) where
   held_none e g (Offering n q p) h = tt
   held_none e g (Copying n r) h = tt
   held_none e g (Stopped n l) h = tt
-  held_none e g (Given n) h = tt
+  held_none e g (Given n kept) h = tt
   held_none e g (Held n q) h = absurd h
 
   pub stopping : (e : ℕ) (r : Rounds S) (T : Mode S P) (F : Frame P B → Type 0)
@@ -572,7 +572,7 @@ module _ {S P E A B : Type 0} (m : Guest S P E A B) (laws : IsGuest m) where
   beside_none e c h F (Offering n g p) le = tt
   beside_none e c h F (Copying n r) le = tt
   beside_none e c h F (Stopped n l) le = tt
-  beside_none e c h F (Given n) le = tt
+  beside_none e c h F (Given n kept) le = tt
   beside_none e c h F (Held n g) le = tt
 
   pub open_ok : (e : ℕ) (g : S) (p : Policy) (T : Mode S P) (F R : Frame P B → Type 0)
@@ -670,6 +670,6 @@ module _ {S P E A B : Type 0} (m : Guest S P E A B) (laws : IsGuest m) (v : ℕ)
   owner_pages Resend (Copying n r) T F R i ok = ok
   owner_pages Resend (Stopped n l) T F R i ok = resend_last_pages n l (to_copy m l) T F ok refl
   owner_pages c (Empty n) T F R i ok = absurd i.meet
-  owner_pages c (Given n) T F R i ok = absurd i.meet
+  owner_pages c (Given n kept) T F R i ok = absurd i.meet
   owner_pages c (Staging n s) T F R i ok = absurd i.meet
   owner_pages c O T F R i ok = tt

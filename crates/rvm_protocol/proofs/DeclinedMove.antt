@@ -36,7 +36,7 @@ module _ {S P E A B : Type 0} (m : Guest S P E A B) (version count : ℕ) (limit
       → came m (limits to) (Offer (suc e) (length (m.pages g)) (m.processors g)) T ≡ sends
       (Declined (limits to)) (Refuse (suc e) (limits to)) T
   offer_declined (Empty k) h le lt = declined_above k (Empty k) le lt
-  offer_declined (Given k) h le lt = declined_above k (Given k) le lt
+  offer_declined (Given k kept) h le lt = declined_above k (Given k kept) le lt
   offer_declined (Held k q) h le lt = declined_above k (Held k q) le lt
   offer_declined (Staging k s) h le lt =
       if_false (k == suc e) (sends Accepted (Accept k) (Staging k s))

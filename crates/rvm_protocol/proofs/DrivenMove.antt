@@ -96,7 +96,7 @@ module _ {S P E A B : Type 0} (m : Guest S P E A B) (laws : IsGuest m) (version 
       → came m (limits to) (Offer (suc e) n (m.processors g)) T ≡ sends Accepted (Accept (suc e))
       (Staging (suc e) (new_stage m.zeros n (m.processors g)))
   offer_taken (Empty k) h le = offer_above_taken k (Empty k) le
-  offer_taken (Given k) h le = offer_above_taken k (Given k) le
+  offer_taken (Given k kept) h le = offer_above_taken k (Given k kept) le
   offer_taken (Held k q) h le = offer_above_taken k (Held k q) le
   offer_taken (Staging k s) h le =
       if_false (k == suc e) (sends Accepted (Accept k) (Staging k s))
@@ -840,27 +840,27 @@ module _ {S P E A B : Type 0} (m : Guest S P E A B) (laws : IsGuest m) (version 
       let l2 = length_more s1 (mail from to (Go M)) in
       let O : Mode S P = Stopped M last in
       let T : Mode S P = Held M g in
-      let one : Goes (duo O T s1) (Deliver k ∷ []) (Committed M ∷ []) (duo (Given M) T s2) =
+      let one : Goes (duo O T s1) (Deliver k ∷ []) (Committed M ∷ []) (duo (Given M last.guest) T s2) =
       to_source m version count limits from to k to (Ready M) (duo O T s1) _ ok.apart
       (got_new sent (mail to from (Ready M)) k is)
       (hears from to (limits from) (Ready M) O
-      (sends (Committed M) (Go M) (Given M)) ok.to_is_there
-      (same_move (sends (Committed M) (Go M) (Given M)) O)) in
-      let two : Goes (duo (Given M) T s2) (Deliver k2 ∷ []) (StartedHere ∷ [])
-      (duo (Given M) (Run M g) s3) =
-      to_target m version count limits from to k2 from (Go M) (duo (Given M) T s2) _ ok.apart
+      (sends (Committed M) (Go M) (Given M last.guest)) ok.to_is_there
+      (same_move (sends (Committed M) (Go M) (Given M last.guest)) O)) in
+      let two : Goes (duo (Given M last.guest) T s2) (Deliver k2 ∷ []) (StartedHere ∷ [])
+      (duo (Given M last.guest) (Run M g) s3) =
+      to_target m version count limits from to k2 from (Go M) (duo (Given M last.guest) T s2) _ ok.apart
       (got_new s1 (mail from to (Go M)) k2 (omega (arith, is, is2, l1)))
       (hears to from (limits to) (Go M) T
       (sends StartedHere (Started M) (Run M g)) ok.from_is_there
       (same_move (sends StartedHere (Started M) (Run M g)) T)) in
-      let three : Goes (duo (Given M) (Run M g) s3) (Deliver k3 ∷ []) (Finished ∷ [])
+      let three : Goes (duo (Given M last.guest) (Run M g) s3) (Deliver k3 ∷ []) (Finished ∷ [])
       (duo (Empty M) (Run M g) s3) =
       to_source m version count limits from to k3 to (Started M)
-      (duo (Given M) (Run M g) s3) _ ok.apart
+      (duo (Given M last.guest) (Run M g) s3) _ ok.apart
       (got_new s2 (mail to from (Started M)) k3 (omega (arith, is, is2, is3, l1, l2)))
-      (hears from to (limits from) (Started M) (Given M)
+      (hears from to (limits from) (Started M) (Given M last.guest)
       (says Finished (Empty M)) ok.to_is_there
-      (same_move (says Finished (Empty M)) (Given M))) in
+      (same_move (says Finished (Empty M)) (Given M last.guest))) in
       after m version count limits from to _ _ _ _ _ _ _
       (after m version count limits from to _ _ _ _ _ _ _ one two) three
 

@@ -90,7 +90,7 @@ at_stopped : map (says_to (Stopped 1 (record { guest = g; to_send = none; to_fix
 unfolding least size listed members gathered is_in
 at_stopped = refl
 
-at_given : map (says_to (Given 1)) events ≡ Refused NotHere ∷ Refused NotHere ∷ Refused NotHere
+at_given : map (says_to (Given 1 (fresh 4))) events ≡ Refused NotHere ∷ Refused NotHere ∷ Refused NotHere
     ∷ Refused NotHere ∷ Refused NotHere ∷ Resent ∷ Refused NotHere ∷ Refused Ignored
     ∷ Refused Ignored ∷ Refused Ignored ∷ Refused Ignored ∷ Refused Ignored ∷ Refused Ignored
     ∷ Refused Ignored ∷ Refused Ignored ∷ Refused Ignored ∷ Refused Ignored ∷ Refused Ignored

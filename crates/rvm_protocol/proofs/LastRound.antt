@@ -1,14 +1,14 @@
 -- The last copies are those of the pages that are left.
-use Rattle.std.proofs.Common.{◌≡◌, ◌≢◌, ◌⊎◌, ◌↔◌, inl, inr, ℕ, zero, suc, ◌+◌, ◌-◌, ◌<◌, ◌≤◌, ◌==◌, ◌^◌, Bool, true, false, ◌||◌, ◌&&◌, if◌then◌else◌, nat_lt, nat_le, List, Option, Some, None, refl, sym, ap, ◌∙◌, subst, arith}
-use Rattle.rvm_protocol.specs.Commands.{Command, Board, Begin, Copy, Resend, AbortMove, HostEvent, Do, Came}
+use Rattle.std.proofs.Common.{◌≡◌, ◌≢◌, ◌⊎◌, inl, inr, ℕ, zero, suc, ◌+◌, ◌-◌, ◌<◌, ◌≤◌, ◌==◌, ◌^◌, Bool, true, false, ◌||◌, ◌&&◌, nat_lt, nat_le, Option, Some, None, refl, sym, ap, ◌∙◌, subst, arith}
+use Rattle.rvm_protocol.specs.Commands.{Board, Begin, Copy, Resend, AbortMove, HostEvent, Do, Came}
 use Rattle.rvm_protocol.specs.Frames.{Frame, Lost, Ready, is_compact, plain}
 use Rattle.rvm_protocol.specs.Guest.{Guest}
 use Rattle.rvm_protocol.specs.Host.{is_heard}
 use Rattle.rvm_protocol.specs.LastRound.{IsCopiedLast, IsLastRound, IsLeft, LastRoundsCopyWhatIsLeft, left_in, paused_outcome}
 use Rattle.rvm_protocol.specs.Modes.{Mode, Stopped, Outcome, ignores, refuses}
 use Rattle.rvm_protocol.specs.Obeying.{copy_last, resend_last, sends_last}
-use Rattle.rvm_protocol.specs.Pages.{is_in, put}
-use Rattle.rvm_protocol.specs.Receiving.{came, lost_came, of_this_move}
+use Rattle.rvm_protocol.specs.Pages.{is_in}
+use Rattle.rvm_protocol.specs.Receiving.{came, lost_came}
 use Rattle.rvm_protocol.specs.Replies.{Reply, Copied, SeqSpent}
 use Rattle.rvm_protocol.specs.Rounds.{Last, last_copied, next_turn, page_count, to_copy}
 use Rattle.rvm_protocol.proofs.Basics.{least_found, least_none, both_false, put_other, same_or}

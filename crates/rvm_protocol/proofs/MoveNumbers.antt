@@ -71,7 +71,7 @@ module _ {S P E A B : Type 0} (m : Guest S P E A B) where
   obey_numbered v (Board e) (Offering n g p) ok = (ok, tt)
   obey_numbered v (Board e) (Copying n r) ok = (ok, tt)
   obey_numbered v (Board e) (Stopped n l) ok = (ok, tt)
-  obey_numbered v (Board e) (Given n) ok = (ok, tt)
+  obey_numbered v (Board e) (Given n kept) ok = (ok, tt)
   obey_numbered v (Board e) (Staging n s) ok = (ok, tt)
   obey_numbered v (Board e) (Held n g) ok = (ok, tt)
   obey_numbered v (Begin to q) (Empty n) ok = (ok, tt)
@@ -83,7 +83,7 @@ module _ {S P E A B : Type 0} (m : Guest S P E A B) where
   obey_numbered v (Begin to q) (Offering n g p) ok = (ok, tt)
   obey_numbered v (Begin to q) (Copying n r) ok = (ok, tt)
   obey_numbered v (Begin to q) (Stopped n l) ok = (ok, tt)
-  obey_numbered v (Begin to q) (Given n) ok = (ok, tt)
+  obey_numbered v (Begin to q) (Given n kept) ok = (ok, tt)
   obey_numbered v (Begin to q) (Staging n s) ok = (ok, tt)
   obey_numbered v (Begin to q) (Held n g) ok = (ok, tt)
   obey_numbered v Copy (Empty n) ok = (ok, tt)
@@ -93,7 +93,7 @@ module _ {S P E A B : Type 0} (m : Guest S P E A B) where
       either Numbers r.stop (says Stopping (Stopped n (stopped m r))) (copy_page m n r (next_page m r))
       (λ _. (ok, tt)) (λ _. page_numbered n r (next_page m r) ok)
   obey_numbered v Copy (Stopped n l) ok = last_numbered v n l (to_copy m l) ok
-  obey_numbered v Copy (Given n) ok = (ok, tt)
+  obey_numbered v Copy (Given n kept) ok = (ok, tt)
   obey_numbered v Copy (Staging n s) ok = (ok, tt)
   obey_numbered v Copy (Held n g) ok = (ok, tt)
   obey_numbered v Resend (Empty n) ok = (ok, tt)
@@ -101,7 +101,7 @@ module _ {S P E A B : Type 0} (m : Guest S P E A B) where
   obey_numbered v Resend (Offering n g p) ok = (ok, ok)
   obey_numbered v Resend (Copying n r) ok = (ok, tt)
   obey_numbered v Resend (Stopped n l) ok = again_numbered v n l (to_copy m l) ok
-  obey_numbered v Resend (Given n) ok = (ok, tt)
+  obey_numbered v Resend (Given n kept) ok = (ok, tt)
   obey_numbered v Resend (Staging n s) ok = (ok, tt)
   obey_numbered v Resend (Held n g) ok = (ok, tt)
   obey_numbered v AbortMove (Empty n) ok = (ok, tt)
@@ -109,7 +109,7 @@ module _ {S P E A B : Type 0} (m : Guest S P E A B) where
   obey_numbered v AbortMove (Offering n g p) ok = (ok, tt)
   obey_numbered v AbortMove (Copying n r) ok = (ok, tt)
   obey_numbered v AbortMove (Stopped n l) ok = (ok, tt)
-  obey_numbered v AbortMove (Given n) ok = (ok, tt)
+  obey_numbered v AbortMove (Given n kept) ok = (ok, tt)
   obey_numbered v AbortMove (Staging n s) ok = (ok, tt)
   obey_numbered v AbortMove (Held n g) ok = (ok, tt)
 
@@ -159,7 +159,7 @@ module _ {S P E A B : Type 0} (m : Guest S P E A B) where
   came_numbered : (limit : ℕ) (f : Frame P B) (O : Mode S P) → IsNumbered O → OfferIsNumbered f
       → Numbers (came m limit f O)
   came_numbered limit (Offer k a b) (Empty n) ok new = above_numbered limit n k a b (Empty n) ok new
-  came_numbered limit (Offer k a b) (Given n) ok new = above_numbered limit n k a b (Given n) ok new
+  came_numbered limit (Offer k a b) (Given n kept) ok new = above_numbered limit n k a b (Given n kept) ok new
   came_numbered limit (Offer k a b) (Held n g) ok new = above_numbered limit n k a b (Held n g) ok new
   came_numbered limit (Offer k a b) (Staging n s) ok new =
       either Numbers (n == k) (sends Accepted (Accept n) (Staging n s))
@@ -185,7 +185,7 @@ module _ {S P E A B : Type 0} (m : Guest S P E A B) where
   came_numbered limit (Ready k) (Stopped n l) ok new = equal_numbered n k _ (Stopped n l) ok (ok, tt)
   came_numbered limit (Go k) (Held n g) ok new = equal_numbered n k _ (Held n g) ok (ok, tt)
   came_numbered limit (Go k) (Run n g) ok new = equal_numbered n k _ (Run n g) ok (ok, tt)
-  came_numbered limit (Started k) (Given n) ok new = equal_numbered n k _ (Given n) ok (ok, tt)
+  came_numbered limit (Started k) (Given n kept) ok new = equal_numbered n k _ (Given n kept) ok (ok, tt)
   came_numbered limit (Abort k) (Staging n s) ok new = equal_numbered n k _ (Staging n s) ok (ok, tt)
   came_numbered limit (Abort k) (Held n g) ok new = equal_numbered n k _ (Held n g) ok (ok, tt)
   came_numbered limit f O ok new = (ok, tt)

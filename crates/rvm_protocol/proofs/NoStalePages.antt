@@ -133,14 +133,14 @@ module _ {S P E A B : Type 0} (m : Guest S P E A B) (laws : IsGuest m) where
   stale_owner (Empty n) q hd H sent c d t l = tt
   stale_owner (Run n g) q hd H sent c d t l = tt
   stale_owner (Offering n g p) q hd H sent c d t l = tt
-  stale_owner (Given n) q hd H sent c d t l = tt
+  stale_owner (Given n kept) q hd H sent c d t l = tt
   stale_owner (Staging n s) q hd H sent c d t l = tt
   stale_owner (Held n g) q hd H sent c d t l = tt
 
   stale_other : (O T : Mode S P) (sent : List (Addressed P B)) (x : ℕ) → Meet O T
       → CopiesAreFresh m sent x T
   stale_other O (Empty n) sent x h = tt
-  stale_other O (Given n) sent x h = tt
+  stale_other O (Given n kept) sent x h = tt
   stale_other O (Staging n s) sent x h = tt
   stale_other O (Held n g) sent x h = tt
   stale_other O (Run n g) sent x h = absurd (alone O (Run n g) h)

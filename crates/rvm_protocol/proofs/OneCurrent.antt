@@ -50,7 +50,7 @@ module _ {S P E A B : Type 0} (m : Guest S P E A B) (laws : IsGuest m) where
   lands r ts c y h = refl
 
   given_high : (X : Mode S P) → GivenOk (suc (move_of X)) X
-  given_high (Given n) = omega arith
+  given_high (Given n kept) = omega arith
   given_high (Empty n) = tt
   given_high (Run n g) = tt
   given_high (Offering n g p) = tt
@@ -87,7 +87,7 @@ module _ {S P E A B : Type 0} (m : Guest S P E A B) (laws : IsGuest m) where
       this_lands ts c y n k _ (Offering n g q) refl
   heard_lands ts c d p y limit (Go k) (Run n g) target partner h = this_lands ts c y n k _ (Run n g) refl
   heard_lands ts c d p y limit f (Empty n) target partner h = none_lands ts c y limit f (Empty n) tt
-  heard_lands ts c d p y limit f (Given n) target partner h = none_lands ts c y limit f (Given n) tt
+  heard_lands ts c d p y limit f (Given n kept) target partner h = none_lands ts c y limit f (Given n kept) tt
   heard_lands ts c d p y limit f (Staging n s) target partner h = none_lands ts c y limit f (Staging n s) tt
   heard_lands ts c d p y limit f (Held n g) target partner h = none_lands ts c y limit f (Held n g) tt
   heard_lands ts c d p y limit f X target partner h = refl
@@ -120,7 +120,7 @@ module _ {S P E A B : Type 0} (m : Guest S P E A B) (laws : IsGuest m) where
   obeyed v x count (Begin to p) (Offering n g r) ts c = refl
   obeyed v x count (Begin to p) (Copying n r) ts c = refl
   obeyed v x count (Begin to p) (Stopped n l) ts c = refl
-  obeyed v x count (Begin to p) (Given n) ts c = refl
+  obeyed v x count (Begin to p) (Given n kept) ts c = refl
   obeyed v x count (Begin to p) (Staging n s) ts c = refl
   obeyed v x count (Begin to p) (Held n g) ts c = refl
   obeyed v x count (Board e) X ts c = (commanded m v (Board e) X).current ts c

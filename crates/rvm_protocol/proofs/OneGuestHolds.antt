@@ -41,14 +41,14 @@ module _ {S P E A B : Type 0} (m : Guest S P E A B) (laws : IsGuest m) where
   owner_due (Held n q) T g p e a b c =
       ap (λ (t : Bool). if t then Refused Paused else Answered (m.answer g e)) (sym c)
   owner_due (Empty n) T g p e a b c = absurd a
-  owner_due (Given n) T g p e a b c = absurd a
+  owner_due (Given n kept) T g p e a b c = absurd a
   owner_due (Staging n s) T g p e a b c = absurd a
 
   other_due : (O T : Mode S P) (w : Bool) (e : E) → Meet O T → w ≡ is_held T
       → (board m e T).reply ≡ (if w then Refused Paused else Refused NotHere)
   other_due O (Empty n) w e a c =
       ap (λ (t : Bool). if t then Refused Paused else Refused NotHere) (sym c)
-  other_due O (Given n) w e a c =
+  other_due O (Given n kept) w e a c =
       ap (λ (t : Bool). if t then Refused Paused else Refused NotHere) (sym c)
   other_due O (Staging n s) w e a c =
       ap (λ (t : Bool). if t then Refused Paused else Refused NotHere) (sym c)
@@ -61,7 +61,7 @@ module _ {S P E A B : Type 0} (m : Guest S P E A B) (laws : IsGuest m) where
 
   no_answer : (O T : Mode S P) (e : E) → Meet O T → is_answer (board m e T).reply ≡ false
   no_answer O (Empty n) e a = refl
-  no_answer O (Given n) e a = refl
+  no_answer O (Given n kept) e a = refl
   no_answer O (Staging n s) e a = refl
   no_answer O (Held n g) e a = refl
   no_answer O (Run n g) e a = absurd (alone O (Run n g) a)
@@ -270,7 +270,7 @@ module _ {S P E A B : Type 0} (m : Guest S P E A B) (laws : IsGuest m) where
   held_shown e c hd i p = (given_as hd.mode i, p)
     where
       given_as : (T : Mode S P) → held_beside e T → has_given e T
-      given_as (Given k) h = h
+      given_as (Given k kept) h = h
       given_as (Empty k) h = absurd h
       given_as (Run k g) h = absurd h
       given_as (Offering k g r) h = absurd h
@@ -294,7 +294,7 @@ module _ {S P E A B : Type 0} (m : Guest S P E A B) (laws : IsGuest m) where
             q
       ])
   current_shown (Empty n) c hd i near = absurd i
-  current_shown (Given n) c hd i near = absurd i
+  current_shown (Given n kept) c hd i near = absurd i
   current_shown (Staging n s) c hd i near = absurd i
 
   run_shown : (O : Mode S P) (c : ℕ) (h h' : Host S P) → is_run O ≡ true → holds_current h c O
@@ -304,7 +304,7 @@ module _ {S P E A B : Type 0} (m : Guest S P E A B) (laws : IsGuest m) where
   run_shown (Offering n g p) c h h' q z = cc
   run_shown (Copying n r) c h h' q z = cc
   run_shown (Stopped n l) c h h' q z = cc
-  run_shown (Given n) c h h' q z = cc
+  run_shown (Given n kept) c h h' q z = cc
   run_shown (Staging n s) c h h' q z = cc
   run_shown (Held n g) c h h' q z = cc
 
@@ -315,7 +315,7 @@ module _ {S P E A B : Type 0} (m : Guest S P E A B) (laws : IsGuest m) where
   run_target ts d d' (Offering n g p) q z = cc
   run_target ts d d' (Copying n r) q z = cc
   run_target ts d d' (Stopped n l) q z = cc
-  run_target ts d d' (Given n) q z = cc
+  run_target ts d d' (Given n kept) q z = cc
   run_target ts d d' (Staging n s) q z = cc
   run_target ts d d' (Held n g) q z = cc
 
@@ -350,7 +350,7 @@ module _ {S P E A B : Type 0} (m : Guest S P E A B) (laws : IsGuest m) where
 
   -- only one host is current
   given_not : (X : Mode S P) (n l : ℕ) → has_given n X → GivenOk l X → n < l
-  given_not (Given k) n l h lt = let z : k ≡ n = h in let y : k < l = lt in omega arith
+  given_not (Given k kept) n l h lt = let z : k ≡ n = h in let y : k < l = lt in omega arith
   given_not (Empty k) n l h lt = absurd h
   given_not (Run k g) n l h lt = absurd h
   given_not (Offering k g p) n l h lt = absurd h
@@ -360,7 +360,7 @@ module _ {S P E A B : Type 0} (m : Guest S P E A B) (laws : IsGuest m) where
   given_not (Held k g) n l h lt = absurd h
 
   meets_given : (O T : Mode S P) (n : ℕ) → has_given n O → Meet O T → ⊥
-  meets_given (Given k) T n h i = i
+  meets_given (Given k kept) T n h i = i
   meets_given (Empty k) T n h i = i
   meets_given (Run k g) T n h i = h
   meets_given (Offering k g p) T n h i = h
@@ -387,7 +387,7 @@ module _ {S P E A B : Type 0} (m : Guest S P E A B) (laws : IsGuest m) where
             absurd (omega (arith, lt, r))
       ]
   no_other (Empty n) w t s x ne is h now = now
-  no_other (Given n) w t s x ne is h now = now
+  no_other (Given n kept) w t s x ne is h now = now
   no_other (Staging n q) w t s x ne is h now = now
   no_other (Run n g) w t s x ne is h now = h
   no_other (Offering n g p) w t s x ne is h now = h

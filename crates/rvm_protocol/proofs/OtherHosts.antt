@@ -219,7 +219,7 @@ module _ {S P E A B : Type 0} (m : Guest S P E A B) (laws : IsGuest m) where
   obey_other v x count (Begin to q) (Offering n g r) h = refl
   obey_other v x count (Begin to q) (Copying n r) h = refl
   obey_other v x count (Begin to q) (Stopped n r) h = refl
-  obey_other v x count (Begin to q) (Given n) h = refl
+  obey_other v x count (Begin to q) (Given n kept) h = refl
   obey_other v x count (Begin to q) (Staging n s) h = refl
   obey_other v x count (Begin to q) (Held n g) h = refl
   obey_other v x count (Board e) X h = refl
@@ -234,7 +234,7 @@ module _ {S P E A B : Type 0} (m : Guest S P E A B) (laws : IsGuest m) where
   then_other v (Begin to q) (Offering n g r) p h = refl
   then_other v (Begin to q) (Copying n r) p h = refl
   then_other v (Begin to q) (Stopped n r) p h = refl
-  then_other v (Begin to q) (Given n) p h = refl
+  then_other v (Begin to q) (Given n kept) p h = refl
   then_other v (Begin to q) (Staging n s) p h = refl
   then_other v (Begin to q) (Held n g) p h = refl
   then_other v (Board e) X p h = refl
@@ -244,23 +244,23 @@ module _ {S P E A B : Type 0} (m : Guest S P E A B) (laws : IsGuest m) where
 
   same_next : (v : ℕ) → (k : Command E) (X : Mode S P) → HoldsNone X → (obey m v k X).next ≡ X
   same_next v (Board e) (Empty n) h = refl
-  same_next v (Board e) (Given n) h = refl
+  same_next v (Board e) (Given n kept) h = refl
   same_next v (Board e) (Staging n s) h = refl
   same_next v (Board e) (Held n g) h = refl
   same_next v (Begin to q) (Empty n) h = refl
-  same_next v (Begin to q) (Given n) h = refl
+  same_next v (Begin to q) (Given n kept) h = refl
   same_next v (Begin to q) (Staging n s) h = refl
   same_next v (Begin to q) (Held n g) h = refl
   same_next v Copy (Empty n) h = refl
-  same_next v Copy (Given n) h = refl
+  same_next v Copy (Given n kept) h = refl
   same_next v Copy (Staging n s) h = refl
   same_next v Copy (Held n g) h = refl
   same_next v Resend (Empty n) h = refl
-  same_next v Resend (Given n) h = refl
+  same_next v Resend (Given n kept) h = refl
   same_next v Resend (Staging n s) h = refl
   same_next v Resend (Held n g) h = refl
   same_next v AbortMove (Empty n) h = refl
-  same_next v AbortMove (Given n) h = refl
+  same_next v AbortMove (Given n kept) h = refl
   same_next v AbortMove (Staging n s) h = refl
   same_next v AbortMove (Held n g) h = refl
   same_next v c (Run n g) h = absurd h
@@ -271,23 +271,23 @@ module _ {S P E A B : Type 0} (m : Guest S P E A B) (laws : IsGuest m) where
   go_obeyed : (v : ℕ) → (l : ℕ) (k : Command E) (X : Mode S P) → HoldsNone X → GivenOk l X
       → New (go_ok {P = P} {B = B} l) (obey m v k X).made
   go_obeyed v l (Board e) (Empty n) h q = tt
-  go_obeyed v l (Board e) (Given n) h q = tt
+  go_obeyed v l (Board e) (Given n kept) h q = tt
   go_obeyed v l (Board e) (Staging n s) h q = tt
   go_obeyed v l (Board e) (Held n g) h q = tt
   go_obeyed v l (Begin to r) (Empty n) h q = tt
-  go_obeyed v l (Begin to r) (Given n) h q = tt
+  go_obeyed v l (Begin to r) (Given n kept) h q = tt
   go_obeyed v l (Begin to r) (Staging n s) h q = tt
   go_obeyed v l (Begin to r) (Held n g) h q = tt
   go_obeyed v l Copy (Empty n) h q = tt
-  go_obeyed v l Copy (Given n) h q = tt
+  go_obeyed v l Copy (Given n kept) h q = tt
   go_obeyed v l Copy (Staging n s) h q = tt
   go_obeyed v l Copy (Held n g) h q = tt
   go_obeyed v l Resend (Empty n) h q = tt
-  go_obeyed v l Resend (Given n) h q = q
+  go_obeyed v l Resend (Given n kept) h q = q
   go_obeyed v l Resend (Staging n s) h q = tt
   go_obeyed v l Resend (Held n g) h q = tt
   go_obeyed v l AbortMove (Empty n) h q = tt
-  go_obeyed v l AbortMove (Given n) h q = tt
+  go_obeyed v l AbortMove (Given n kept) h q = tt
   go_obeyed v l AbortMove (Staging n s) h q = tt
   go_obeyed v l AbortMove (Held n g) h q = tt
   go_obeyed v l c (Run n g) h q = absurd h
@@ -371,7 +371,7 @@ module _ {S P E A B : Type 0} (m : Guest S P E A B) (laws : IsGuest m) where
   pub came_ok : (L : ℕ → ℕ) (l p y limit : ℕ) (f : Frame P B) (X : Mode S P) → HoldsNone X
       → GivenOk (L p) X → CameOk L l p y f (came m limit f X)
   came_ok L l p y limit (Offer k a b) (Empty n) h q = above_ok L l p y limit n k a b (Empty n) q
-  came_ok L l p y limit (Offer k a b) (Given n) h q = above_ok L l p y limit n k a b (Given n) q
+  came_ok L l p y limit (Offer k a b) (Given n kept) h q = above_ok L l p y limit n k a b (Given n kept) q
   came_ok L l p y limit (Offer k a b) (Held n g) h q = above_ok L l p y limit n k a b (Held n g) q
   came_ok L l p y limit (Offer k a b) (Staging n s) h q =
       either (CameOk L l p y (Offer k a b)) (n == k) (sends Accepted (Accept n) (Staging n s))
@@ -397,8 +397,8 @@ module _ {S P E A B : Type 0} (m : Guest S P E A B) (laws : IsGuest m) where
       equal_ok L l p y (State k ns b) n k _ (Held n g) q (tt, tt, tt)
   came_ok L l p y limit (Go k) (Held n g) h q =
       equal_ok L l p y (Go k) n k _ (Held n g) q (tt, tt, tt)
-  came_ok L l p y limit (Started k) (Given n) h q =
-      equal_ok L l p y (Started k) n k _ (Given n) q (tt, tt, tt)
+  came_ok L l p y limit (Started k) (Given n kept) h q =
+      equal_ok L l p y (Started k) n k _ (Given n kept) q (tt, tt, tt)
   came_ok L l p y limit (Abort k) (Staging n s) h q =
       equal_ok L l p y (Abort k) n k _ (Staging n s) q (tt, tt, tt)
   came_ok L l p y limit (Abort k) (Held n g) h q =
@@ -426,7 +426,7 @@ module _ {S P E A B : Type 0} (m : Guest S P E A B) (laws : IsGuest m) where
   near_offer : (l p c limit k a b : ℕ) (X : Mode S P) → move_of X < l
       → NearOk l p c (Offer k a b) (came m limit (Offer k a b) X)
   near_offer l p c limit k a b (Empty n) lt = above_near l p c limit n k a b (Empty n) lt
-  near_offer l p c limit k a b (Given n) lt = above_near l p c limit n k a b (Given n) lt
+  near_offer l p c limit k a b (Given n kept) lt = above_near l p c limit n k a b (Given n kept) lt
   near_offer l p c limit k a b (Held n g) lt = above_near l p c limit n k a b (Held n g) lt
   near_offer l p c limit k a b (Staging n s) lt =
       either (NearOk l p c (Offer k a b)) (n == k) (sends Accepted (Accept n) (Staging n s))

@@ -15,20 +15,20 @@ use Rattle.rvm_protocol.proofs.StateCases.{state_cases, part_cases}
 use Rattle.rvm_protocol.specs.Replies.{ReadySent, Lacking}
 
 module _ {S P : Type 0} where
-  given_go : (O : Mode S P) (n : ℕ) → Meet O (Given n) → n < go_lim O
-  given_go (Run e g) n h = omega arith
-  given_go (Offering e g p) n h = h
-  given_go (Held e g) n h = omega arith
-  given_go (Copying e r) n h = absurd h
-  given_go (Stopped e l) n h = absurd h
-  given_go (Empty e) n h = absurd h
-  given_go (Given e) n h = absurd h
-  given_go (Staging e s) n h = absurd h
+  given_go : (O : Mode S P) (n : ℕ) (kept : S) → Meet O (Given n kept) → n < go_lim O
+  given_go (Run e g) n kept h = omega arith
+  given_go (Offering e g p) n kept h = h
+  given_go (Held e g) n kept h = omega arith
+  given_go (Copying e r) n kept h = absurd h
+  given_go (Stopped e l) n kept h = absurd h
+  given_go (Empty e) n kept h = absurd h
+  given_go (Given e old) n kept h = absurd h
+  given_go (Staging e s) n kept h = absurd h
 
   -- the other host never holds a guest that runs
   pub alone : (O T : Mode S P) → Meet O T → HoldsNone T
   alone O (Empty n) h = tt
-  alone O (Given n) h = tt
+  alone O (Given n kept) h = tt
   alone O (Staging n s) h = tt
   alone O (Held n g) h = tt
   alone (Run e q) T h = h
@@ -37,7 +37,7 @@ module _ {S P : Type 0} where
   alone (Stopped e l) T h = h
   alone (Held e q) T h = h
   alone (Empty e) T h = absurd h
-  alone (Given e) T h = absurd h
+  alone (Given e kept) T h = absurd h
   alone (Staging e s) T h = absurd h
 
   pub copying_num : (e : ℕ) (T : Mode S P) → copying_beside e T → move_of T ≡ e
@@ -47,7 +47,7 @@ module _ {S P : Type 0} where
   copying_num e (Offering n g p) h = absurd h
   copying_num e (Copying n r) h = absurd h
   copying_num e (Stopped n l) h = absurd h
-  copying_num e (Given n) h = absurd h
+  copying_num e (Given n kept) h = absurd h
   copying_num e (Held n g) h = absurd h
 
   pub stopped_num : (e : ℕ) (T : Mode S P) → stopped_beside e T → move_of T ≡ e
@@ -58,7 +58,7 @@ module _ {S P : Type 0} where
   stopped_num e (Offering n g p) h = absurd h
   stopped_num e (Copying n r) h = absurd h
   stopped_num e (Stopped n l) h = absurd h
-  stopped_num e (Given n) h = absurd h
+  stopped_num e (Given n kept) h = absurd h
 
   restaged : (O T : Mode S P) (k : ℕ) (s : Stage P) → Meet O T → move_of T < k → k < suc (move_of O)
       → Meet O (Staging k s)
@@ -68,7 +68,7 @@ module _ {S P : Type 0} where
   restaged (Stopped e l) T k s h a b = let q : move_of T ≡ e = stopped_num e T h in omega arith
   restaged (Held e g) T k s h a b = let q : move_of T ≡ e = held_num e T h in absurd (omega arith)
   restaged (Empty e) T k s h a b = h
-  restaged (Given e) T k s h a b = h
+  restaged (Given e kept) T k s h a b = h
   restaged (Staging e q) T k s h a b = h
 
   stage_stays : (O : Mode S P) (n : ℕ) (s t : Stage P) → Meet O (Staging n s) → Meet O (Staging n t)
@@ -78,7 +78,7 @@ module _ {S P : Type 0} where
   stage_stays (Stopped e l) n s t h = h
   stage_stays (Held e g) n s t h = h
   stage_stays (Empty e) n s t h = h
-  stage_stays (Given e) n s t h = h
+  stage_stays (Given e kept) n s t h = h
   stage_stays (Staging e q) n s t h = h
 
   ready_meets : (O : Mode S P) (n k : ℕ) (s : Stage P) (g : S) → n ≡ k → Meet O (Staging n s)
@@ -89,19 +89,19 @@ module _ {S P : Type 0} where
   ready_meets (Stopped e l) n k s g same h lt = h
   ready_meets (Held e q) n k s g same h lt = h
   ready_meets (Empty e) n k s g same h lt = h
-  ready_meets (Given e) n k s g same h lt = h
+  ready_meets (Given e kept) n k s g same h lt = h
   ready_meets (Staging e q) n k s g same h lt = h
 
-  finished_meets : (O : Mode S P) (n k : ℕ) → n ≡ k → Meet O (Given n) → k < lim O
+  finished_meets : (O : Mode S P) (n k : ℕ) (kept : S) → n ≡ k → Meet O (Given n kept) → k < lim O
       → Meet O (Empty n)
-  finished_meets (Run e q) n k same h lt = h
-  finished_meets (Offering e q p) n k same h lt = h
-  finished_meets (Copying e r) n k same h lt = h
-  finished_meets (Stopped e l) n k same h lt = h
-  finished_meets (Held e q) n k same h lt = omega arith
-  finished_meets (Empty e) n k same h lt = h
-  finished_meets (Given e) n k same h lt = h
-  finished_meets (Staging e q) n k same h lt = h
+  finished_meets (Run e q) n k kept same h lt = h
+  finished_meets (Offering e q p) n k kept same h lt = h
+  finished_meets (Copying e r) n k kept same h lt = h
+  finished_meets (Stopped e l) n k kept same h lt = h
+  finished_meets (Held e q) n k kept same h lt = omega arith
+  finished_meets (Empty e) n k kept same h lt = h
+  finished_meets (Given e old) n k kept same h lt = h
+  finished_meets (Staging e q) n k kept same h lt = h
 
   dropped_stage : (O : Mode S P) (n k : ℕ) (s : Stage P) → n ≡ k → Meet O (Staging n s) → k < lim O
       → Meet O (Empty n)
@@ -111,7 +111,7 @@ module _ {S P : Type 0} where
   dropped_stage (Stopped e l) n k s same h lt = omega arith
   dropped_stage (Held e q) n k s same h lt = h
   dropped_stage (Empty e) n k s same h lt = h
-  dropped_stage (Given e) n k s same h lt = h
+  dropped_stage (Given e kept) n k s same h lt = h
   dropped_stage (Staging e q) n k s same h lt = h
 
   dropped_held : (O : Mode S P) (n k : ℕ) (g : S) → n ≡ k → Meet O (Held n g) → k < lim O
@@ -122,7 +122,7 @@ module _ {S P : Type 0} where
   dropped_held (Stopped e l) n k g same h lt = omega arith
   dropped_held (Held e q) n k g same h lt = h
   dropped_held (Empty e) n k g same h lt = h
-  dropped_held (Given e) n k g same h lt = h
+  dropped_held (Given e kept) n k g same h lt = h
   dropped_held (Staging e q) n k g same h lt = h
 
 module _ {S P E A B : Type 0} (m : Guest S P E A B) where
@@ -145,24 +145,24 @@ module _ {S P E A B : Type 0} (m : Guest S P E A B) (v : ℕ) where
   pub other_obeys : (c : Command E) (O T : Mode S P) (F R : Frame P B → Type 0) → Modes O T F R
       → Beside m O F R (obey m v c T)
   other_obeys (Board e) O (Empty n) F R i = i
-  other_obeys (Board e) O (Given n) F R i = i
+  other_obeys (Board e) O (Given n kept) F R i = i
   other_obeys (Board e) O (Staging n s) F R i = i
   other_obeys (Board e) O (Held n g) F R i = i
   other_obeys (Begin to p) O (Empty n) F R i = i
-  other_obeys (Begin to p) O (Given n) F R i = i
+  other_obeys (Begin to p) O (Given n kept) F R i = i
   other_obeys (Begin to p) O (Staging n s) F R i = i
   other_obeys (Begin to p) O (Held n g) F R i = i
   other_obeys Copy O (Empty n) F R i = i
-  other_obeys Copy O (Given n) F R i = i
+  other_obeys Copy O (Given n kept) F R i = i
   other_obeys Copy O (Staging n s) F R i = i
   other_obeys Copy O (Held n g) F R i = i
   other_obeys Resend O (Empty n) F R i = i
-  other_obeys Resend O (Given n) F R i =
-      other_sends m O (Given n) F R (Go n) i (given_go O n i.meet)
+  other_obeys Resend O (Given n kept) F R i =
+      other_sends m O (Given n kept) F R (Go n) i (given_go O n kept i.meet)
   other_obeys Resend O (Staging n s) F R i = i
   other_obeys Resend O (Held n g) F R i = other_sends m O (Held n g) F R (Ready n) i (omega arith)
   other_obeys AbortMove O (Empty n) F R i = i
-  other_obeys AbortMove O (Given n) F R i = i
+  other_obeys AbortMove O (Given n kept) F R i = i
   other_obeys AbortMove O (Staging n s) F R i = i
   other_obeys AbortMove O (Held n g) F R i = i
   other_obeys c O (Run n g) F R i = absurd (alone O (Run n g) i.meet)
@@ -210,8 +210,8 @@ module _ {S P E A B : Type 0} (m : Guest S P E A B) where
       → Modes O T F R → Beside m O F R (came m limit f T)
   other_receives limit (Offer k a b) O (Empty n) F R h i =
       above_beside limit k a b O (Empty n) F R i h (omega arith)
-  other_receives limit (Offer k a b) O (Given n) F R h i =
-      above_beside limit k a b O (Given n) F R i h (omega arith)
+  other_receives limit (Offer k a b) O (Given n kept) F R h i =
+      above_beside limit k a b O (Given n kept) F R i h (omega arith)
   other_receives limit (Offer k a b) O (Held n g) F R h i =
       above_beside limit k a b O (Held n g) F R i h (omega arith)
   other_receives limit (Offer k a b) O (Staging n s) F R h i =
@@ -247,10 +247,10 @@ module _ {S P E A B : Type 0} (m : Guest S P E A B) where
   other_receives limit (Go k) O (Held n g) F R h i =
       equal_beside m n k _ O (Held n g) F R i λ e. let lt : k < n = i.own (Go k) h in absurd
       (omega arith)
-  other_receives limit (Started k) O (Given n) F R h i =
-      equal_beside m n k _ O (Given n) F R i λ e.
-      other_to O (Given n) (Empty n) F R None i
-      (finished_meets O n k e i.meet (i.own (Started k) h)) (omega arith) (omega arith) tt
+  other_receives limit (Started k) O (Given n kept) F R h i =
+      equal_beside m n k _ O (Given n kept) F R i λ e.
+      other_to O (Given n kept) (Empty n) F R None i
+      (finished_meets O n k kept e i.meet (i.own (Started k) h)) (omega arith) (omega arith) tt
   other_receives limit (Abort k) O (Staging n s) F R h i =
       equal_beside m n k _ O (Staging n s) F R i λ e.
       other_to O (Staging n s) (Empty n) F R None i

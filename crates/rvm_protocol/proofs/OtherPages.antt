@@ -20,7 +20,7 @@ use Rattle.rvm_protocol.proofs.StateCases.{state_cases, part_cases}
 
 module _ {S P E A B : Type 0} (m : Guest S P E A B) (laws : IsGuest m) where
   pub commits_pages : (n : ℕ) (l : Last S) (T : Mode S P) (F R : Frame P B → Type 0)
-      → Modes (Stopped n l) T F R → R (Ready n) → Content m T (Given n) R
+      → Modes (Stopped n l) T F R → R (Ready n) → Content m T (Given n l.guest) R
   commits_pages n l (Held n' g) F R i came = tt
   commits_pages n l (Staging n' s) F R i came = tt
   commits_pages n l (Empty k) F R i came = tt
@@ -28,7 +28,7 @@ module _ {S P E A B : Type 0} (m : Guest S P E A B) (laws : IsGuest m) where
   commits_pages n l (Offering k g p) F R i came = absurd i.meet
   commits_pages n l (Copying k r) F R i came = absurd i.meet
   commits_pages n l (Stopped k q) F R i came = absurd i.meet
-  commits_pages n l (Given k) F R i came = tt
+  commits_pages n l (Given k kept) F R i came = tt
 
   abbrev pub turned_pages : Mode S P → (Frame P B → Type 0) → (Frame P B → Type 0) → Reply A
       → Mode S P → Option (Frame P B) → Type 0
@@ -53,7 +53,7 @@ module _ {S P E A B : Type 0} (m : Guest S P E A B) (laws : IsGuest m) where
       (Offer k a b) h in let same : move_of T ≡ n = held_num n T i.meet in absurd (omega arith))
       (λ _. ok)
   owner_pages_came limit (Offer k a b) (Empty n) T F R h i ok = absurd i.meet
-  owner_pages_came limit (Offer k a b) (Given n) T F R h i ok = absurd i.meet
+  owner_pages_came limit (Offer k a b) (Given n kept) T F R h i ok = absurd i.meet
   owner_pages_came limit (Offer k a b) (Staging n s) T F R h i ok = absurd i.meet
   owner_pages_came limit (Accept k) (Offering n g p) T F R h i ok =
       equal_pages n k _ (Offering n g p) T F R ok λ e. open_ok m laws n g p T F R i ok.1
@@ -78,7 +78,7 @@ module _ {S P E A B : Type 0} (m : Guest S P E A B) (laws : IsGuest m) where
   owner_pages_came limit (Page k p q b) (Staging n s) T F R h i ok = absurd i.meet
   owner_pages_came limit (RoundEnd k a b c d) (Staging n s) T F R h i ok = absurd i.meet
   owner_pages_came limit (State k ns b) (Staging n s) T F R h i ok = absurd i.meet
-  owner_pages_came limit (Started k) (Given n) T F R h i ok = absurd i.meet
+  owner_pages_came limit (Started k) (Given n kept) T F R h i ok = absurd i.meet
   owner_pages_came limit (Abort k) (Staging n s) T F R h i ok = absurd i.meet
   owner_pages_came limit f O T F R h i ok = ok
 
@@ -115,7 +115,7 @@ module _ {S P E A B : Type 0} (m : Guest S P E A B) (laws : IsGuest m) where
       beside_stopped e l T T' F ok (up e _ _ ok.beside) (held l.guest ok.held)
   move_other (Empty n) T T' F up held ok = tt
   move_other (Run n g) T T' F up held ok = tt
-  move_other (Given n) T T' F up held ok = tt
+  move_other (Given n kept) T T' F up held ok = tt
   move_other (Staging n s) T T' F up held ok = tt
   move_other (Held n g) T T' F up held ok = tt
 
@@ -141,7 +141,7 @@ module _ {S P E A B : Type 0} (m : Guest S P E A B) (laws : IsGuest m) where
       (λ same. let q : move_of T ≡ e = stopped_num e T i.meet in absurd (omega arith)) tt
   offer_staged (Empty n) T k a b F R i ok h lt = tt
   offer_staged (Run n g) T k a b F R i ok h lt = tt
-  offer_staged (Given n) T k a b F R i ok h lt = tt
+  offer_staged (Given n kept) T k a b F R i ok h lt = tt
   offer_staged (Staging n s) T k a b F R i ok h lt = tt
   offer_staged (Held n g) T k a b F R i ok h lt = tt
 
@@ -321,7 +321,7 @@ module _ {S P E A B : Type 0} (m : Guest S P E A B) (laws : IsGuest m) where
       beside_stopped e l (Staging n s) (Held n g') F ok tt (is e l refl i.meet ok)
   ready_pages (Empty e) n s g' F R i ok is = tt
   ready_pages (Run e g) n s g' F R i ok is = tt
-  ready_pages (Given e) n s g' F R i ok is = tt
+  ready_pages (Given e kept) n s g' F R i ok is = tt
   ready_pages (Staging e t) n s g' F R i ok is = tt
   ready_pages (Held e g) n s g' F R i ok is = tt
 
@@ -356,8 +356,8 @@ module _ {S P E A B : Type 0} (m : Guest S P E A B) (laws : IsGuest m) where
       → BesidePages O F (came m limit f T)
   other_pages_came limit (Offer k a b) O (Empty n) F R h i ok v =
       above_pages limit k a b O (Empty n) F R i ok h
-  other_pages_came limit (Offer k a b) O (Given n) F R h i ok v =
-      above_pages limit k a b O (Given n) F R i ok h
+  other_pages_came limit (Offer k a b) O (Given n kept) F R h i ok v =
+      above_pages limit k a b O (Given n kept) F R i ok h
   other_pages_came limit (Offer k a b) O (Held n g) F R h i ok v =
       above_pages limit k a b O (Held n g) F R i ok h
   other_pages_came limit (Offer k a b) O (Staging n s) F R h i ok v =
@@ -408,8 +408,8 @@ module _ {S P E A B : Type 0} (m : Guest S P E A B) (laws : IsGuest m) where
   other_pages_came limit (Go k) O (Held n g) F R h i ok v =
       equal_beside_pages n k _ O (Held n g) F ok λ e. let lt : k < n = i.own (Go k) h in absurd
       (omega arith)
-  other_pages_came limit (Started k) O (Given n) F R h i ok v =
-      equal_beside_pages n k _ O (Given n) F ok λ e. move_other O (Given n) (Empty n) F
+  other_pages_came limit (Started k) O (Given n kept) F R h i ok v =
+      equal_beside_pages n k _ O (Given n kept) F ok λ e. move_other O (Given n kept) (Empty n) F
       (λ e' c h' z. tt) (λ g z. tt) ok
   other_pages_came limit (Abort k) O (Staging n s) F R h i ok v =
       equal_beside_pages n k _ O (Staging n s) F ok λ e. move_other O (Staging n s) (Empty n) F

@@ -41,6 +41,6 @@ module _ {S P E A B : Type 0} (m : Guest S P E A B) (laws : IsGuest m) where
       }
   content_iff (Empty n) T F F' up down ok = tt
   content_iff (Run n g) T F F' up down ok = tt
-  content_iff (Given n) T F F' up down ok = tt
+  content_iff (Given n kept) T F F' up down ok = tt
   content_iff (Staging n s) T F F' up down ok = tt
   content_iff (Held n g) T F F' up down ok = tt

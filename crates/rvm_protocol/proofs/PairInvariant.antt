@@ -79,7 +79,7 @@ module _ {S P : Type 0} where
   -- a host that isn't the current one has no guest to run
   abbrev pub HoldsNone : Mode S P → Type 0
   HoldsNone (Empty n) = Unit {0}
-  HoldsNone (Given n) = Unit {0}
+  HoldsNone (Given n kept) = Unit {0}
   HoldsNone (Staging n s) = Unit {0}
   HoldsNone (Held n g) = Unit {0}
   HoldsNone mode = ⊥
@@ -87,14 +87,14 @@ module _ {S P : Type 0} where
   -- which modes may meet; the first is the current host's
   abbrev pub run_beside : ℕ → Mode S P → Type 0
   run_beside e (Empty n) = n ≤ e
-  run_beside e (Given n) = n ≤ e
+  run_beside e (Given n kept) = n ≤ e
   run_beside e (Staging n s) = n ≤ e
   run_beside e (Held n g) = n ≤ e
   run_beside e mode = ⊥
 
   abbrev pub offering_beside : ℕ → Mode S P → Type 0
   offering_beside e (Empty n) = n < e
-  offering_beside e (Given n) = n < e
+  offering_beside e (Given n kept) = n < e
   offering_beside e (Staging n s) = n ≤ e
   offering_beside e (Held n g) = n < e
   offering_beside e mode = ⊥
@@ -109,7 +109,7 @@ module _ {S P : Type 0} where
   stopped_beside e mode = ⊥
 
   abbrev pub held_beside : ℕ → Mode S P → Type 0
-  held_beside e (Given n) = n ≡ e
+  held_beside e (Given n kept) = n ≡ e
   held_beside e mode = ⊥
 
   abbrev pub Meet : Mode S P → Mode S P → Type 0

@@ -1,5 +1,5 @@
 -- A round's end tells how many of its replies were copies, and how many of its pages had none.
-use Rattle.std.proofs.Common.{◌≡◌, ◌⊎◌, inl, inr, ℕ, zero, suc, ◌+◌, ◌-◌, ◌<◌, ◌≤◌, ◌==◌, Bool, true, false, not, ◌&&◌, ◌||◌, if◌then◌else◌, Option, Some, None, refl, sym, ap, ◌∙◌, subst, arith}
+use Rattle.std.proofs.Common.{◌≡◌, inl, inr, ℕ, zero, suc, ◌+◌, ◌-◌, ◌<◌, ◌≤◌, ◌==◌, Bool, true, false, not, ◌&&◌, ◌||◌, if◌then◌else◌, None, refl, sym, ap, ◌∙◌, subst, arith}
 use Rattle.std.proofs.lemmas.Bool.{eqb-true, eq-eqb, ne_eqb}
 use Rattle.rvm_protocol.specs.Commands.{Command, Copy}
 use Rattle.rvm_protocol.specs.Guest.{Guest, IsGuest}
@@ -8,7 +8,7 @@ use Rattle.rvm_protocol.specs.Obeying.{obey, copy_page}
 use Rattle.rvm_protocol.specs.Pages.{Pages, size}
 use Rattle.rvm_protocol.specs.Replies.{Reply, Copied, RoundEnded, Stopping}
 use Rattle.rvm_protocol.specs.RoundCopies.{IsRound, RoundsTellTheirCopies, copies_among, is_copy, is_copy_of, pages_among}
-use Rattle.rvm_protocol.specs.Rounds.{Rounds, is_skipped, next_page, page_copied, page_count, stopped}
+use Rattle.rvm_protocol.specs.Rounds.{Rounds, is_skipped, next_page, page_count, stopped}
 use Rattle.rvm_protocol.proofs.Basics.{and_not, both_false, least_found, or_true, same_or}
 use Rattle.rvm_protocol.proofs.RoundCopies.{CopiesOne, Keeps, Step, step}
 

@@ -126,7 +126,7 @@ module _ {S P E A B : Type 0} (m : Guest S P E A B) where
   commanded v (Board e) (Offering n g p) = tells refl refl refl (λ ts x. refl) (λ ts d a t. t)
   commanded v (Board e) (Copying n r) = tells refl refl refl (λ ts x. refl) (λ ts d a t. t)
   commanded v (Board e) (Stopped n l) = tells refl refl refl (λ ts x. refl) (λ ts d a t. t)
-  commanded v (Board e) (Given n) = tells refl refl refl (λ ts x. refl) (λ ts d a t. t)
+  commanded v (Board e) (Given n kept) = tells refl refl refl (λ ts x. refl) (λ ts d a t. t)
   commanded v (Board e) (Staging n s) = tells refl refl refl (λ ts x. refl) (λ ts d a t. t)
   commanded v (Board e) (Held n g) = tells refl refl refl (λ ts x. refl) (λ ts d a t. t)
   commanded v (Begin to q) (Empty n) = tells refl refl refl (λ ts x. refl) (λ ts d a t. t)
@@ -141,7 +141,7 @@ module _ {S P E A B : Type 0} (m : Guest S P E A B) where
   commanded v (Begin to q) (Offering n g p) = tells refl refl refl (λ ts x. refl) (λ ts d a t. t)
   commanded v (Begin to q) (Copying n r) = tells refl refl refl (λ ts x. refl) (λ ts d a t. t)
   commanded v (Begin to q) (Stopped n l) = tells refl refl refl (λ ts x. refl) (λ ts d a t. t)
-  commanded v (Begin to q) (Given n) = tells refl refl refl (λ ts x. refl) (λ ts d a t. t)
+  commanded v (Begin to q) (Given n kept) = tells refl refl refl (λ ts x. refl) (λ ts d a t. t)
   commanded v (Begin to q) (Staging n s) = tells refl refl refl (λ ts x. refl) (λ ts d a t. t)
   commanded v (Begin to q) (Held n g) = tells refl refl refl (λ ts x. refl) (λ ts d a t. t)
   commanded v Copy (Empty n) = tells refl refl refl (λ ts x. refl) (λ ts d a t. t)
@@ -155,7 +155,7 @@ module _ {S P E A B : Type 0} (m : Guest S P E A B) where
       (λ _. tells refl refl refl (λ ts x. refl) (λ ts d a t. t))
       (λ _. copied_told n r _)
   commanded v Copy (Stopped n l) = last_told v n l (to_copy m l)
-  commanded v Copy (Given n) = tells refl refl refl (λ ts x. refl) (λ ts d a t. t)
+  commanded v Copy (Given n kept) = tells refl refl refl (λ ts x. refl) (λ ts d a t. t)
   commanded v Copy (Staging n s) = tells refl refl refl (λ ts x. refl) (λ ts d a t. t)
   commanded v Copy (Held n g) = tells refl refl refl (λ ts x. refl) (λ ts d a t. t)
   commanded v Resend (Empty n) = tells refl refl refl (λ ts x. refl) (λ ts d a t. t)
@@ -163,7 +163,7 @@ module _ {S P E A B : Type 0} (m : Guest S P E A B) where
   commanded v Resend (Offering n g p) = tells refl refl refl (λ ts x. refl) (λ ts d a t. t)
   commanded v Resend (Copying n r) = tells refl refl refl (λ ts x. refl) (λ ts d a t. t)
   commanded v Resend (Stopped n l) = resent_told v n l (to_copy m l)
-  commanded v Resend (Given n) = tells refl refl refl (λ ts x. refl) (λ ts d a t. t)
+  commanded v Resend (Given n kept) = tells refl refl refl (λ ts x. refl) (λ ts d a t. t)
   commanded v Resend (Staging n s) = tells refl refl refl (λ ts x. refl) (λ ts d a t. t)
   commanded v Resend (Held n g) = tells refl refl refl (λ ts x. refl) (λ ts d a t. t)
   commanded v AbortMove (Empty n) = tells refl refl refl (λ ts x. refl) (λ ts d a t. t)
@@ -171,7 +171,7 @@ module _ {S P E A B : Type 0} (m : Guest S P E A B) where
   commanded v AbortMove (Offering n g p) = tells refl refl refl (λ ts x. refl) (λ ts d a t. tt)
   commanded v AbortMove (Copying n r) = tells refl refl refl (λ ts x. refl) (λ ts d a t. tt)
   commanded v AbortMove (Stopped n l) = tells refl refl refl (λ ts x. refl) (λ ts d a t. tt)
-  commanded v AbortMove (Given n) = tells refl refl refl (λ ts x. refl) (λ ts d a t. t)
+  commanded v AbortMove (Given n kept) = tells refl refl refl (λ ts x. refl) (λ ts d a t. t)
   commanded v AbortMove (Staging n s) = tells refl refl refl (λ ts x. refl) (λ ts d a t. t)
   commanded v AbortMove (Held n g) = tells refl refl refl (λ ts x. refl) (λ ts d a t. t)
 
@@ -182,7 +182,7 @@ module _ {S P E A B : Type 0} (m : Guest S P E A B) where
     ignored_told f (Offering n g p) = tells refl refl refl (λ ts x. refl) (λ ts d a t. t)
     ignored_told f (Copying n r) = tells refl refl refl (λ ts x. refl) (λ ts d a t. t)
     ignored_told f (Stopped n l) = tells refl refl refl (λ ts x. refl) (λ ts d a t. t)
-    ignored_told f (Given n) = tells refl refl refl (λ ts x. refl) (λ ts d a t. t)
+    ignored_told f (Given n kept) = tells refl refl refl (λ ts x. refl) (λ ts d a t. t)
     ignored_told f (Staging n s) = tells refl refl refl (λ ts x. refl) (λ ts d a t. t)
     ignored_told f (Held n g) = tells refl refl refl (λ ts x. refl) (λ ts d a t. t)
 
@@ -203,7 +203,7 @@ module _ {S P E A B : Type 0} (m : Guest S P E A B) where
         (omega arith))
         (λ _. tells refl refl refl (λ ts x. refl) (λ ts d a t. t))
     received limit (Offer k a b) (Empty n) T F R h i = absurd i.meet
-    received limit (Offer k a b) (Given n) T F R h i = absurd i.meet
+    received limit (Offer k a b) (Given n kept) T F R h i = absurd i.meet
     received limit (Offer k a b) (Staging n s) T F R h i = absurd i.meet
     received limit (Accept k) (Offering n g p) T F R h i =
         equal_told n k _ (Accept k) (Offering n g p) λ e. tells refl refl refl (λ ts x. refl)
@@ -233,7 +233,7 @@ module _ {S P E A B : Type 0} (m : Guest S P E A B) where
     received limit (Page k p q b) (Staging n s) T F R h i = absurd i.meet
     received limit (RoundEnd k a b c d) (Staging n s) T F R h i = absurd i.meet
     received limit (State k ns b) (Staging n s) T F R h i = absurd i.meet
-    received limit (Started k) (Given n) T F R h i = absurd i.meet
+    received limit (Started k) (Given n kept) T F R h i = absurd i.meet
     received limit (Abort k) (Staging n s) T F R h i = absurd i.meet
     received limit (Zero k p n) O T F R h i = ignored_told (Zero k p n) O
     received limit f O T F R h i = tells refl refl refl (λ ts x. refl) (λ ts d a t. t)
@@ -243,7 +243,7 @@ module _ {S P E A B : Type 0} (m : Guest S P E A B) where
         → TellsOther (Do c) T (obey m v c T)
     commanded_other v (Board e) O (Empty n) i =
         tells_none (λ g. refl) (λ b. refl) refl (λ ts x. refl) (λ ts. refl)
-    commanded_other v (Board e) O (Given n) i =
+    commanded_other v (Board e) O (Given n kept) i =
         tells_none (λ g. refl) (λ b. refl) refl (λ ts x. refl) (λ ts. refl)
     commanded_other v (Board e) O (Staging n s) i =
         tells_none (λ g. refl) (λ b. refl) refl (λ ts x. refl) (λ ts. refl)
@@ -251,7 +251,7 @@ module _ {S P E A B : Type 0} (m : Guest S P E A B) where
         tells_none (λ g. refl) (λ b. refl) refl (λ ts x. refl) (λ ts. refl)
     commanded_other v (Begin to q) O (Empty n) i =
         tells_none (λ g. refl) (λ b. refl) refl (λ ts x. refl) (λ ts. refl)
-    commanded_other v (Begin to q) O (Given n) i =
+    commanded_other v (Begin to q) O (Given n kept) i =
         tells_none (λ g. refl) (λ b. refl) refl (λ ts x. refl) (λ ts. refl)
     commanded_other v (Begin to q) O (Staging n s) i =
         tells_none (λ g. refl) (λ b. refl) refl (λ ts x. refl) (λ ts. refl)
@@ -259,7 +259,7 @@ module _ {S P E A B : Type 0} (m : Guest S P E A B) where
         tells_none (λ g. refl) (λ b. refl) refl (λ ts x. refl) (λ ts. refl)
     commanded_other v Copy O (Empty n) i =
         tells_none (λ g. refl) (λ b. refl) refl (λ ts x. refl) (λ ts. refl)
-    commanded_other v Copy O (Given n) i =
+    commanded_other v Copy O (Given n kept) i =
         tells_none (λ g. refl) (λ b. refl) refl (λ ts x. refl) (λ ts. refl)
     commanded_other v Copy O (Staging n s) i =
         tells_none (λ g. refl) (λ b. refl) refl (λ ts x. refl) (λ ts. refl)
@@ -267,7 +267,7 @@ module _ {S P E A B : Type 0} (m : Guest S P E A B) where
         tells_none (λ g. refl) (λ b. refl) refl (λ ts x. refl) (λ ts. refl)
     commanded_other v Resend O (Empty n) i =
         tells_none (λ g. refl) (λ b. refl) refl (λ ts x. refl) (λ ts. refl)
-    commanded_other v Resend O (Given n) i =
+    commanded_other v Resend O (Given n kept) i =
         tells_none (λ g. refl) (λ b. refl) refl (λ ts x. refl) (λ ts. refl)
     commanded_other v Resend O (Staging n s) i =
         tells_none (λ g. refl) (λ b. refl) refl (λ ts x. refl) (λ ts. refl)
@@ -275,7 +275,7 @@ module _ {S P E A B : Type 0} (m : Guest S P E A B) where
         tells_none (λ g. refl) (λ b. refl) refl (λ ts x. refl) (λ ts. refl)
     commanded_other v AbortMove O (Empty n) i =
         tells_none (λ g. refl) (λ b. refl) refl (λ ts x. refl) (λ ts. refl)
-    commanded_other v AbortMove O (Given n) i =
+    commanded_other v AbortMove O (Given n kept) i =
         tells_none (λ g. refl) (λ b. refl) refl (λ ts x. refl) (λ ts. refl)
     commanded_other v AbortMove O (Staging n s) i =
         tells_none (λ g. refl) (λ b. refl) refl (λ ts x. refl) (λ ts. refl)
@@ -309,7 +309,7 @@ module _ {S P E A B : Type 0} (m : Guest S P E A B) where
     pub received_other : (limit : ℕ) (f : Frame P B) (O T : Mode S P) (F R : Frame P B → Type 0)
         → F f → Modes O T F R → TellsOther (Came y f) T (came m limit f T)
     received_other limit (Offer k a b) O (Empty n) F R h i = above_other limit n k a b (Empty n)
-    received_other limit (Offer k a b) O (Given n) F R h i = above_other limit n k a b (Given n)
+    received_other limit (Offer k a b) O (Given n kept) F R h i = above_other limit n k a b (Given n kept)
     received_other limit (Offer k a b) O (Held n g) F R h i = above_other limit n k a b (Held n g)
     received_other limit (Offer k a b) O (Staging n s) F R h i =
         either (TellsOther (Came y (Offer k a b)) (Staging n s)) (n == k)
@@ -348,8 +348,8 @@ module _ {S P E A B : Type 0} (m : Guest S P E A B) where
     received_other limit (Go k) O (Held n g) F R h i =
         equal_other n k _ (Go k) (Held n g) λ e. let lt : k < n = i.own (Go k) h in absurd
         (omega arith)
-    received_other limit (Started k) O (Given n) F R h i =
-        equal_other n k _ (Started k) (Given n) λ e. tells_none (λ g. refl) (λ b. refl) refl
+    received_other limit (Started k) O (Given n kept) F R h i =
+        equal_other n k _ (Started k) (Given n kept) λ e. tells_none (λ g. refl) (λ b. refl) refl
         (λ ts x. refl) (λ ts. refl)
     received_other limit (Abort k) O (Staging n s) F R h i =
         equal_other n k _ (Abort k) (Staging n s) λ e. tells_none (λ g. refl) (λ b. refl) refl

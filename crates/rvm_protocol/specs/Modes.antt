@@ -20,8 +20,9 @@ pub data Mode (S P : Type 0) : Type 0 where
   Copying : (move : ℕ) → (rounds : Rounds S) → Mode S P
   -- the guest is paused, and the last pages and its state are copied
   Stopped : (move : ℕ) → (last : Last S) → Mode S P
-  -- the guest was committed to the target
-  Given : (move : ℕ) → Mode S P
+  -- the guest was committed to the target; what it was is kept until it runs there, so that its memory is not
+  -- given back while it stands still
+  Given : (move : ℕ) → (kept : S) → Mode S P
   -- pages of a guest come
   Staging : (move : ℕ) → (stage : Stage P) → Mode S P
   -- the whole guest is here, paused until the source commits
@@ -40,7 +41,7 @@ move_of (Run n g) = n
 move_of (Offering n g p) = n
 move_of (Copying n r) = n
 move_of (Stopped n l) = n
-move_of (Given n) = n
+move_of (Given n kept) = n
 move_of (Staging n s) = n
 move_of (Held n g) = n
 
@@ -51,7 +52,7 @@ guest_in (Run n g) = Some g
 guest_in (Offering n g p) = Some g
 guest_in (Copying n r) = Some r.guest
 guest_in (Stopped n l) = Some l.guest
-guest_in (Given n) = None
+guest_in (Given n kept) = None
 guest_in (Staging n s) = None
 guest_in (Held n g) = Some g
 

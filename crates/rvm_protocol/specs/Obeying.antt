@@ -23,7 +23,7 @@ module _ {S P E A B : Type 0} (m : Guest S P E A B) where
         log = λ p. r.log p || m.wrote r.guest e p;
       }))
   board e (Stopped n l) = refuses Paused (Stopped n l)
-  board e (Given n) = refuses NotHere (Given n)
+  board e (Given n kept) = refuses NotHere (Given n kept)
   board e (Staging n s) = refuses NotHere (Staging n s)
   board e (Held n g) = refuses Paused (Held n g)
 
@@ -46,7 +46,7 @@ module _ {S P E A B : Type 0} (m : Guest S P E A B) where
   begin p (Offering n g r) = refuses Busy (Offering n g r)
   begin p (Copying n r) = refuses Busy (Copying n r)
   begin p (Stopped n l) = refuses Busy (Stopped n l)
-  begin p (Given n) = refuses NotHere (Given n)
+  begin p (Given n kept) = refuses NotHere (Given n kept)
   begin p (Staging n s) = refuses NotHere (Staging n s)
   begin p (Held n g) = refuses NotHere (Held n g)
 
@@ -104,7 +104,7 @@ module _ {S P E A B : Type 0} (m : Guest S P E A B) where
   copy version (Copying n r) =
       if r.stop then says Stopping (Stopped n (stopped m r)) else copy_page n r (next_page m r)
   copy version (Stopped n l) = copy_last version n l (to_copy m l)
-  copy version (Given n) = refuses NotHere (Given n)
+  copy version (Given n kept) = refuses NotHere (Given n kept)
   copy version (Staging n s) = refuses NotHere (Staging n s)
   copy version (Held n g) = refuses NotHere (Held n g)
 
@@ -120,7 +120,7 @@ module _ {S P E A B : Type 0} (m : Guest S P E A B) where
   resend version (Offering n g r) = sends Resent (offer_frame n g) (Offering n g r)
   resend version (Copying n r) = refuses NoMove (Copying n r)
   resend version (Stopped n l) = resend_last version n l (to_copy m l)
-  resend version (Given n) = sends Resent (Go n) (Given n)
+  resend version (Given n kept) = sends Resent (Go n) (Given n kept)
   resend version (Staging n s) = refuses NoMove (Staging n s)
   resend version (Held n g) = sends Resent (Ready n) (Held n g)
 
@@ -131,7 +131,7 @@ module _ {S P E A B : Type 0} (m : Guest S P E A B) where
   abort (Offering n g r) = sends Aborted (Abort n) (Run n g)
   abort (Copying n r) = sends Aborted (Abort n) (Run n r.guest)
   abort (Stopped n l) = sends Aborted (Abort n) (Run n l.guest)
-  abort (Given n) = refuses NotHere (Given n)
+  abort (Given n kept) = refuses NotHere (Given n kept)
   abort (Staging n s) = refuses NotHere (Staging n s)
   abort (Held n g) = refuses NotHere (Held n g)
 

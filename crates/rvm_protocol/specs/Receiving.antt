@@ -87,8 +87,8 @@ module _ {S P E A B : Type 0} (m : Guest S P E A B) where
   abbrev pub came : ℕ → Frame P B → Mode S P → Outcome S P A B
   came limit (Offer k pages processors) (Empty n) =
       offer_above n limit k pages processors (Empty n)
-  came limit (Offer k pages processors) (Given n) =
-      offer_above n limit k pages processors (Given n)
+  came limit (Offer k pages processors) (Given n kept) =
+      offer_above n limit k pages processors (Given n kept)
   came limit (Offer k pages processors) (Held n g) =
       offer_above n limit k pages processors (Held n g)
   came limit (Offer k pages processors) (Staging n s) =
@@ -112,12 +112,12 @@ module _ {S P E A B : Type 0} (m : Guest S P E A B) where
       of_this_move n k (sends ReadySent (Ready n) (Held n g)) (Held n g)
   came limit (Lost k ps) (Stopped n l) = of_this_move n k (lost_came n l ps) (Stopped n l)
   came limit (Ready k) (Stopped n l) =
-      of_this_move n k (sends (Committed n) (Go n) (Given n)) (Stopped n l)
+      of_this_move n k (sends (Committed n) (Go n) (Given n l.guest)) (Stopped n l)
   came limit (Go k) (Held n g) =
       of_this_move n k (sends StartedHere (Started n) (Run n g)) (Held n g)
   came limit (Go k) (Run n g) =
       of_this_move n k (sends Resent (Started n) (Run n g)) (Run n g)
-  came limit (Started k) (Given n) = of_this_move n k (says Finished (Empty n)) (Given n)
+  came limit (Started k) (Given n kept) = of_this_move n k (says Finished (Empty n)) (Given n kept)
   came limit (Abort k) (Staging n s) = of_this_move n k (says Dropped (Empty n)) (Staging n s)
   came limit (Abort k) (Held n g) = of_this_move n k (says Dropped (Empty n)) (Held n g)
   came limit frame mode = ignores mode

@@ -20,7 +20,7 @@ module _ {S P : Type 0} where
 
   -- the guest of move n was given away
   abbrev pub has_given : ℕ → Mode S P → Type 0
-  has_given n (Given k) = k ≡ n
+  has_given n (Given k kept) = k ≡ n
   has_given n mode = ⊥
 
   -- the guest at host c is the current one: it runs there, or its move from there goes on, or the

@@ -56,7 +56,7 @@ begins_at version self count to p (Run n g) = running (is_there self count to) p
 begins_at version self count to p (Offering n g r) = refused Busy (Offering n g r)
 begins_at version self count to p (Copying n r) = refused Busy (Copying n r)
 begins_at version self count to p (Stopped n l) = refused Busy (Stopped n l)
-begins_at version self count to p (Given n) = refused NotHere (Given n)
+begins_at version self count to p (Given n kept) = refused NotHere (Given n kept)
 begins_at version self count to p (Staging n s) = refused NotHere (Staging n s)
 begins_at version self count to p (Held n g) = refused NotHere (Held n g)
 

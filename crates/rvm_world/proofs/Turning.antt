@@ -269,7 +269,7 @@ mode_first (Run k g) n w x h old same logged is lt here =
 mode_first (Leaving s) n w x h old same logged is lt here =
     source_first s.phase s.move_number s.guest s.plan n w x h old same logged is lt here
 mode_first (Empty k) n w x h old same logged is lt here = stays_first (Empty k) n w x h old same is here
-mode_first (Given k) n w x h old same logged is lt here = stays_first (Given k) n w x h old same is here
+mode_first (Given k kept) n w x h old same logged is lt here = stays_first (Given k kept) n w x h old same is here
 mode_first (Staging k s) n w x h old same logged is lt here = stays_first (Staging k s) n w x h old same is here
 mode_first (Held k g) n w x h old same logged is lt here = stays_first (Held k g) n w x h old same is here
 

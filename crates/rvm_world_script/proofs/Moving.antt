@@ -76,7 +76,7 @@ begin_in w from to p (Run n g) few is here = begin_running w from to p n g few i
 begin_in w from to p (Offering n g q) few is here = tt
 begin_in w from to p (Copying n r) few is here = tt
 begin_in w from to p (Stopped n l) few is here = tt
-begin_in w from to p (Given n) few is here = tt
+begin_in w from to p (Given n kept) few is here = tt
 begin_in w from to p (Staging n s) few is here = tt
 begin_in w from to p (Held n g) few is here = tt
 

@@ -23,7 +23,7 @@ returns-in-Empty-clause-answer g c =
     elim c.in-Empty.is [
       | inl e ↦ offer_counts_too a.limit a.move_number a.pages a.harts (plain_of a.self.now) (Empty e.0) (ap plain_of e.1) r next refl is
       | inr rest ↦ elim rest [
-        | inl e ↦ offer_counts_too a.limit a.move_number a.pages a.harts (plain_of a.self.now) (Given e.0) (ap plain_of e.2) r next refl is
+        | inl e ↦ offer_counts_too a.limit a.move_number a.pages a.harts (plain_of a.self.now) (Given e.0 e.1.guest.guest) (ap plain_of e.2) r next refl is
         | inr e ↦ offer_counts_too a.limit a.move_number a.pages a.harts (plain_of a.self.now) (Held e.0 e.1.guest) (ap plain_of e.2) r next refl is
       ]
     ]
