@@ -1,5 +1,5 @@
 -- Straight instructions, one after another, and the steps that make them.
-use Rattle.std.proofs.Common.{◌≡◌, ◌==◌, length, ℕ, zero, suc, ◌+◌, ◌-◌, ◌%◌, ◌^◌, ◌<◌, ◌≤◌, Bool, true, false, ◌&&◌, cond, List, [], ◌∷◌, ◌++◌, Option, Some, None, refl, sym, ap, ◌∙◌, subst, arith, nat_le, get_or, is_some}
+use Rattle.std.proofs.Common.{◌≡◌, ◌==◌, length, ℕ, zero, suc, ◌+◌, ◌%◌, ◌^◌, ◌<◌, ◌≤◌, Bool, true, false, ◌&&◌, cond, List, [], ◌∷◌, ◌++◌, Option, Some, None, refl, sym, ap, ◌∙◌, subst, arith, nat_le, get_or, is_some}
 use Rattle.std.proofs.lemmas.Bool.Decides.{nat_tests}
 use Rattle.std.proofs.Math.Nat.{mod-add-mod, mod-eq_of_lt}
 use Rattle.rvm_mem.specs.Pages.{mark, mark_all}
@@ -13,12 +13,12 @@ use Rattle.rvm_dev.specs.Devices.{DeviceState}
 use Rattle.rvm_hart.specs.declared.outcome.Written.{Written}
 use Rattle.rvm_hart.specs.declared.outcome.Written.TheVariants.{Other, Mcycle, Minstret, Mtime, Halt}
 use Rattle.rvm_hart.specs.declared.outcome.Stepped.TheVariants.{Retired}
-use Rattle.rvm_hart.specs.Machine.{Machine, HartState, BusState, machine, number_of, shape}
+use Rattle.rvm_hart.specs.Machine.{Machine, number_of, shape}
 use Rattle.rvm_hart.specs.Bus.{mip_of}
 use Rattle.rvm_hart.specs.Outcome.{Outcome, Done, Traps, machine_after}
 use Rattle.rvm_hart.specs.Step.{After, after_outcome, execute, step, unless_halted, unless_pending}
 use Rattle.rvm_hart.specs.Marks.{passes}
-use Rattle.rvm_hart.specs.Straight.{IsQuiet, Steps, Went, all_pass, at_time, input_stays, is_other, is_plain, is_retired, is_straight, pages_of, risen, steps, steps_on, timed, timed_after, went, went_on}
+use Rattle.rvm_hart.specs.Straight.{IsQuiet, Steps, Went, all_pass, at_time, input_stays, is_other, is_plain, is_retired, is_straight, pages_of, risen, steps, timed, timed_after, went}
 use Rattle.rvm_hart.proofs.Shape.{step_keeps}
 use Rattle.rvm_hart.proofs.Still.{Still, execute_still, timed_outcome}
 

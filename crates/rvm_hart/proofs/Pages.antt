@@ -18,7 +18,6 @@ use Rattle.rvm_isa.specs.Table.{decoded}
 use Rattle.rvm_hart.specs.declared.atomics.Amo.{Amo}
 use Rattle.rvm_hart.specs.declared.csrs.CsrChange.{CsrChange}
 use Rattle.rvm_hart.specs.declared.outcome.Written.{Written}
-use Rattle.rvm_hart.specs.declared.outcome.Written.TheVariants as wrote
 use Rattle.rvm_hart.specs.Machine.{Machine, Shared, number_of}
 use Rattle.rvm_hart.specs.Bus.{in_ram, ram_base, ram_load, in_ram_stored, ram_stored, device_stored, word_stored, word_loaded, after_word_load, Stored, mip_of, wrote_of}
 use Rattle.rvm_hart.specs.Outcome.{Outcome, Done, Traps, machine_after, done_with, done, reg}

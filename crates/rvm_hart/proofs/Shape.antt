@@ -1,5 +1,5 @@
 -- No step changes the hart's number, the size of RAM, or for how many harts reservations and devices are.
-use Rattle.std.proofs.Common.{◌≡◌, ℕ, zero, suc, ◌+◌, ◌-◌, ◌%◌, ◌^◌, ◌≤◌, Bool, true, false, List, [], ◌∷◌, Option, Some, None, length, map, refl, ap, ◌∙◌, arith, ℤ, if◌then◌else◌, option_map, ◌==◌}
+use Rattle.std.proofs.Common.{◌≡◌, ℕ, zero, suc, ◌+◌, ◌-◌, ◌%◌, ◌^◌, ◌≤◌, Bool, true, false, List, [], ◌∷◌, Option, Some, None, length, refl, ap, ◌∙◌, arith, ℤ, if◌then◌else◌, option_map, ◌==◌}
 use Rattle.std.proofs.lemmas.Bool.Decides.{nat_tests}
 use Rattle.std.proofs.lemmas.List.{length-set, length-map}
 use Rattle.rvm_mem.specs.Bytes.{store}
@@ -21,7 +21,6 @@ use Rattle.rvm_isa.specs.Table.{decoded}
 use Rattle.rvm_hart.specs.declared.atomics.Amo.{Amo}
 use Rattle.rvm_hart.specs.declared.csrs.CsrChange.{CsrChange}
 use Rattle.rvm_hart.specs.declared.outcome.Written.{Written}
-use Rattle.rvm_hart.specs.declared.outcome.Written.TheVariants as wrote
 use Rattle.rvm_hart.specs.Machine.{Machine, Shared, shape, shared_shape, number_of}
 use Rattle.rvm_hart.specs.Bus.{in_ram, ram_base, ram_load, in_ram_stored, ram_stored, device_stored, word_stored, word_loaded, after_word_load, Stored, mip_of, wrote_of}
 use Rattle.rvm_hart.specs.Outcome.{Outcome, Done, Traps, machine_after, done_with, reg}

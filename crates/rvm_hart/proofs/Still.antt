@@ -1,6 +1,6 @@
 -- Instructions that reach registers, RAM and reservations alone do the same at any values of the counters, and change neither control
 -- and status registers nor devices.
-use Rattle.std.proofs.Common.{◌≡◌, ℕ, ◌+◌, ◌*◌, ◌-◌, ◌%◌, ◌^◌, Bool, true, false, List, [], Option, Some, None, refl, ap, ◌∙◌, ℤ, if◌then◌else◌, option_map, ◌==◌}
+use Rattle.std.proofs.Common.{◌≡◌, ℕ, ◌+◌, ◌*◌, ◌-◌, ◌%◌, ◌^◌, Bool, true, false, [], Option, Some, None, refl, ℤ, if◌then◌else◌, option_map, ◌==◌}
 use Rattle.rvm_mem.specs.Bytes.{load}
 use Rattle.rvm_csr.specs.declared.cause.Exception.{Exception}
 use Rattle.rvm_csr.specs.declared.cause.Exception.TheVariants.{InstructionAddressMisaligned, LoadAddressMisaligned, StoreAddressMisaligned, StoreAccessFault}

@@ -1,5 +1,5 @@
-//! A decoder of the rows that reach registers and RAM alone, for the straight path of a step. One
-//! product finds a word's place in a table of kinds, and one jump the arm of its kind.
+//! A decoder of the rows that reach registers, RAM and reservations alone, for the straight path of a
+//! step. One product finds a word's place in a table of kinds, and one jump the arm of its kind.
 //!
 //! An arm reads the fields of its own format. Read before the jump, they would be read at every step.
 
@@ -197,7 +197,7 @@ fn kind_of(word: u32) -> Kind
     table()[place as usize]
 }
 
-/// The instruction of a word, if it is of a row that reaches registers and RAM alone.
+/// The instruction of a word, if it is of a row that reaches registers, RAM and reservations alone.
 #[inline(always)]
 #[tactic(auto, using(crate::proofs::Rows::opcodes), unfolding(crate::specs::Table::table, crate::specs::Opcodes::with_opcode))]
 pub fn decode_straight(word: u32) -> Option<Ins>

@@ -1,8 +1,8 @@
-use Rattle.std.proofs.Common.{◌≡◌, ℕ, ◌+◌, ◌%◌, ◌^◌, sym, ap, ◌∙◌, arith}
+use Rattle.std.proofs.Common.{ℕ, ◌+◌, ◌%◌, ◌^◌, ap, ◌∙◌, arith}
 use Rattle.rvm_csr.specs.Registers.{CsrState}
 use Rattle.rvm_hart.specs.Machine.{BusState, HartState, Machine, machine}
-use Rattle.rvm_hart.specs.Straight.{timed, timed_after}
-use Rattle.rvm_hart.proofs.Made.{counts, counts_none}
+use Rattle.rvm_hart.specs.Straight.{timed_after}
+use Rattle.rvm_hart.proofs.Made.{counts}
 use Rattle.rvm_hart.proofs.hart.Hart.count_steps.Goals as goal
 
 pub returns-clause-machine : goal.returns-clause-machine

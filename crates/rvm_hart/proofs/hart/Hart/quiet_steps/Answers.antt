@@ -1,4 +1,4 @@
-use Rattle.std.proofs.Common.{◌≡◌, sym, ap, ◌∙◌}
+use Rattle.std.proofs.Common.{sym, ap, ◌∙◌}
 use Rattle.rvm_hart.specs.Machine.{HartState, machine}
 use Rattle.rvm_hart.proofs.Made.{quiet_for}
 use Rattle.rvm_hart.proofs.hart.Hart.quiet_steps.Goals as goal

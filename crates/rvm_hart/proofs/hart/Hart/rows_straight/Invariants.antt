@@ -1,4 +1,4 @@
-use Rattle.std.proofs.Common.{◌≡◌, ◌<◌, ◌≤◌, ◌%◌, length, true, ℕ, ◌+◌, ◌-◌, ◌*◌}
+use Rattle.std.proofs.Common.{◌≡◌, ◌≤◌, ◌%◌, length, true, ◌-◌}
 use Rattle.rvm_hart.proofs.hart.Hart.rows_straight.Given as goal
 use Rattle.rvm_hart.specs.Machine.{machine}
 use Rattle.rvm_hart.specs.Straight.{at_pc, based, went}

@@ -1,6 +1,6 @@
-use Rattle.std.proofs.Common.{◌≡◌, ℕ, ◌-◌, ◌≤◌, sym, ap, ◌∙◌, arith}
+use Rattle.std.proofs.Common.{ℕ, ◌-◌, sym, ap, ◌∙◌, arith}
 use Rattle.rvm_mem.specs.Pages.{mark_all}
-use Rattle.rvm_hart.specs.Machine.{Machine, machine}
+use Rattle.rvm_hart.specs.Machine.{machine}
 use Rattle.rvm_hart.specs.Straight.{Steps}
 use Rattle.rvm_hart.proofs.Made.{made_for, no_steps, none_input, none_pass}
 use Rattle.rvm_hart.proofs.hart.Hart.run_straight.Goals as goal
