@@ -1,5 +1,6 @@
 pub mod Items
 pub mod Spans
+pub mod InRounds
 pub mod Replays
 pub mod Retired
 pub mod Slices

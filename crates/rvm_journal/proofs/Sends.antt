@@ -86,7 +86,7 @@ pair_send = search (event_send, reply_send, sendable, crosses) depth 40 fits 100
 kept_send : IsSend (Enum (shape Kept.the_type))
 kept_send = search (step_reply_send, pair_send, sendable, crosses) depth 60 fits 20000
 
-exchange_send : IsSend Exchange.the_row
+pub exchange_send : IsSend Exchange.the_row
 exchange_send = search (kept_send, sendable, crosses) depth 40 fits 10000
 
 pub room_send : IsSend (Struct (struct.shape ExchangeRoom.the_type))

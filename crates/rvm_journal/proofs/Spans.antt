@@ -67,6 +67,11 @@ step_next turn harts n s rest less =
     drop_at (steps_in_turn turn harts n ++ rest) s (step_entry (turn + s) harts (Stepped Retired))
     (get_left (steps_in_turn turn harts n) rest s (omega (arith, long, less)) ∙ entry_at s turn harts n less)
 
+-- the same of any entries
+pub entry_next : (xs rest : List PlainEntry) (k : ℕ) (x : PlainEntry) → slice_get xs k ≡ Some x
+    → drop k (xs ++ rest) ≡ x ∷ drop (k + 1) (xs ++ rest)
+entry_next xs rest k x at = drop_at (xs ++ rest) k x (get_left xs rest k (slice_get_within xs k x at) ∙ at)
+
 -- the first of what is left behind so many
 pub next_at : {X : Type 0} (xs : List X) (i : ℕ) (x : X) (ys : List X) → drop i xs ≡ x ∷ ys → slice_get xs i ≡ Some x
 next_at xs i x ys is =

@@ -7,11 +7,12 @@ use Rattle.rvm_journal.specs.declared.item.ItemRef.{ItemRef}
 use Rattle.rvm_journal.specs.declared.item.ItemRef.TheVariants as look
 use Rattle.rvm_journal.specs.declared.item.Kind.{Kind}
 use Rattle.rvm_journal.specs.declared.item.Kind.TheVariants as kind
+use Rattle.rvm_journal.specs.declared.rounds.Rounds.{Rounds}
 use Rattle.rvm_journal.specs.declared.run.StepRun.{StepRun}
 use Rattle.rvm_journal.specs.Entries.{PlainEntry, silent}
 use Rattle.rvm_message.specs.declared.step.StepReply.{StepReply}
 use Rattle.rvm_message.specs.declared.step.StepReply.TheVariants.{Stepped}
-use Rattle.rvm_message.specs.Exchanges.{step_of_hart}
+use Rattle.rvm_message.specs.Exchanges.{dry_exchange, step_of_hart}
 use Rattle.rvm_message.specs.Replies.{ends_steps, reply_of}
 use Rattle.rvm_message.specs.Steps.{reply_to_step}
 
@@ -24,15 +25,31 @@ unfoldable pub steps_in_turn : (turn harts n : ℕ) → List PlainEntry
 steps_in_turn turn harts zero = []
 steps_in_turn turn harts (suc n) = step_entry turn harts (Stepped Retired) ∷ steps_in_turn (turn + 1) harts n
 
+-- a drain of at most so many bytes that found none
+abbrev pub dry_entry : (drain : ℕ) → PlainEntry
+dry_entry n = silent (dry_exchange n).event (dry_exchange n).reply
+
+-- n times so many steps in turn, and such a drain behind them
+unfoldable pub rounds_in_turn : (turn harts steps drain n : ℕ) → List PlainEntry
+rounds_in_turn turn harts steps drain zero = []
+rounds_in_turn turn harts steps drain (suc n) =
+    steps_in_turn turn harts steps ++ (dry_entry drain ∷ rounds_in_turn (turn + steps) harts steps drain n)
+
+-- the entries of rounds
+abbrev pub rounds_of : Rounds → List PlainEntry
+rounds_of r = rounds_in_turn r.turn r.harts r.steps r.drain r.count
+
 -- as they are kept
 abbrev pub entries_of : Kind → List PlainEntry
 entries_of (kind.Entry e) = e ∷ []
 entries_of (kind.Steps s) = steps_in_turn s.turn s.harts s.count
+entries_of (kind.Rounds r) = rounds_of r
 
 -- that are looked at
 abbrev pub entries_at : ItemRef → List PlainEntry
 entries_at (look.Entry e) = e.now ∷ []
 entries_at (look.Steps s) = steps_in_turn s.turn s.harts s.count
+entries_at (look.Rounds r) = rounds_of r
 
 -- of items, one behind the other
 abbrev pub all_of : List (List PlainEntry) → List PlainEntry

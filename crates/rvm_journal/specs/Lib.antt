@@ -1,5 +1,7 @@
 pub mod Entries
 pub mod Items
+pub mod Rounds
+pub mod Passing
 pub mod Told
 pub mod Replay
 pub mod History

@@ -1,13 +1,15 @@
 //! What stands in a journal: entries, and runs of steps.
 
-ghost use Rattle.std.specs.Prelude.{◌≡◌, ◌+◌, ◌++◌, ◌∷◌, ◌<◌, ◌≤◌, [], IfErr, IfOk, IfSome, vec_capacity, vec_len};
-ghost use Rattle.rvm_journal.specs.Items.{all_of, entries_at, steps_in_turn};
+ghost use Rattle.std.specs.Prelude.{◌≡◌, ◌+◌, ◌++◌, ◌∷◌, ◌*◌, ◌^◌, ◌<◌, ◌≤◌, [], IfErr, IfOk, IfSome, vec_capacity, vec_len};
+ghost use Rattle.rvm_journal.specs.Items.{all_of, dry_entry, entries_at, rounds_of, steps_in_turn};
+ghost use Rattle.rvm_journal.specs.Rounds.{GoesOn};
 
 use crate::entry::Entry;
+use crate::rounds::Rounds;
 use crate::steps::Steps;
 use std::marker::Model;
 
-/// One entry, or those of steps that retired an instruction, however many there are.
+/// One entry, or those of steps that retired an instruction, or of rounds of them, however many there are.
 #[derive(Drop)]
 pub struct Item {
     kind: Kind,
@@ -17,6 +19,7 @@ pub struct Item {
 enum Kind {
     Entry(Entry),
     Steps(Steps),
+    Rounds(Rounds),
 }
 
 /// An item that is looked at.
@@ -24,6 +27,7 @@ enum Kind {
 pub enum ItemRef<'a> {
     Entry(&'a Entry),
     Steps(Steps),
+    Rounds(Rounds),
 }
 
 impl Model for Item {
@@ -57,13 +61,23 @@ impl Item {
         }
     }
 
-    /// The entry or the steps.
+    /// Rounds.
+    pub(crate) fn of_rounds(rounds: Rounds) -> Item
+        ensures { result ≡ rounds_of rounds }
+    {
+        Item {
+            kind: Kind::Rounds(rounds),
+        }
+    }
+
+    /// The entry, the steps or the rounds.
     pub fn look(&self) -> ItemRef<'_>
         ensures { entries_at result ≡ self.now }
     {
         match &self.kind {
             Kind::Entry(entry) => ItemRef::Entry(entry),
             Kind::Steps(steps) => ItemRef::Steps(*steps),
+            Kind::Rounds(rounds) => ItemRef::Rounds(*rounds),
         }
     }
 
@@ -84,6 +98,79 @@ impl Item {
             count,
         }))
     }
+
+    /// The round that steps are with a drain of at most so many bytes behind them that found none; any other item comes back.
+    fn with_drain(self, drain: u32) -> Result<Rounds, Item>
+        ensures round { IfOk result (λ r. rounds_of r ≡ self ++ dry_entry drain ∷ []) }
+        ensures alone { IfErr result (λ i. i ≡ self) }
+    {
+        let Kind::Steps(steps) = &self.kind else {
+            return Err(self);
+        };
+        if steps.count >= u32::MAX - 1 {
+            return Err(self);
+        }
+        Ok(Rounds {
+            turn: steps.turn,
+            harts: steps.harts,
+            steps: steps.count,
+            drain,
+            count: 1,
+        })
+    }
+
+    /// With these rounds behind it, where it is rounds that they go on; else it comes back.
+    fn joined_rounds(self, more: Rounds) -> Result<Item, Item>
+        ensures joined { IfOk result (λ i. i ≡ self ++ rounds_of more) }
+        ensures alone { IfErr result (λ i. i ≡ self) }
+    {
+        let Kind::Rounds(rounds) = &self.kind else {
+            return Err(self);
+        };
+        match joined(*rounds, more) {
+            None => Err(self),
+            Some(all) => Ok(Item::of_rounds(all)),
+        }
+    }
+}
+
+/// Rounds with those of the turns behind them, where they are as many steps of as many harts each, and have the same
+/// drain; none where others are behind them.
+pub fn joined(rounds: Rounds, more: Rounds) -> Option<Rounds>
+    ensures { IfSome result (λ r. rounds_of r ≡ rounds_of rounds ++ rounds_of more) }
+{
+    let count = rounds_with(rounds, more)?;
+    Some(Rounds {
+        turn: rounds.turn,
+        harts: rounds.harts,
+        steps: rounds.steps,
+        drain: rounds.drain,
+        count,
+    })
+}
+
+/// How many rounds they are with those behind them; none where others are behind them.
+fn rounds_with(rounds: Rounds, more: Rounds) -> Option<u32>
+    ensures goes_on { IfSome result (λ n. GoesOn rounds more n) }
+    ensures few { IfSome result (λ n. n * (rounds.steps + 1) < 2 ^ 32) }
+{
+    if more.harts != rounds.harts {
+        return None;
+    }
+    if more.steps != rounds.steps {
+        return None;
+    }
+    if more.drain != rounds.drain {
+        return None;
+    }
+    let made = u64::from(rounds.count).checked_mul(u64::from(rounds.steps))?;
+    let next = rounds.turn.checked_add(made)?;
+    if more.turn != next {
+        return None;
+    }
+    let count = rounds.count.checked_add(more.count)?;
+    let _len = count.checked_mul(rounds.steps + 1)?;
+    Some(count)
 }
 
 /// How many steps they are with those of the turns behind them; none where others are behind them.
@@ -118,6 +205,47 @@ pub(crate) fn push_steps(items: &mut Vec<Item>, steps: Steps)
         Err(item) => {
             items.push_reserved(item);
             items.push_reserved(Item::of_steps(steps));
+        }
+    }
+}
+
+/// Puts rounds behind items, in room that is there.
+fn push_rounds(items: &mut Vec<Item>, rounds: Rounds)
+    requires { vec_len items.old < vec_capacity items.old }
+    ensures items { all_of items.new.items
+        ≡ all_of items.old.items ++ rounds_of rounds }
+    ensures few { vec_len items.new ≤ vec_len items.old + 1 }
+    ensures capacity { vec_capacity items.old ≤ vec_capacity items.new }
+{
+    let Some(last) = items.pop() else {
+        items.push_reserved(Item::of_rounds(rounds));
+        return;
+    };
+    match last.joined_rounds(rounds) {
+        Ok(item) => items.push_reserved(item),
+        Err(item) => {
+            items.push_reserved(item);
+            items.push_reserved(Item::of_rounds(rounds));
+        }
+    }
+}
+
+/// Puts a drain of at most so many bytes that found none behind items, in room that is there.
+pub(crate) fn push_dry(items: &mut Vec<Item>, drain: u32)
+    requires { vec_len items.old < vec_capacity items.old }
+    ensures items { all_of items.new.items ≡ all_of items.old.items ++ dry_entry drain ∷ [] }
+    ensures few { vec_len items.new ≤ vec_len items.old + 1 }
+    ensures capacity { vec_capacity items.old ≤ vec_capacity items.new }
+{
+    let Some(last) = items.pop() else {
+        items.push_reserved(Item::of_entry(Entry::of_dry(drain)));
+        return;
+    };
+    match last.with_drain(drain) {
+        Ok(rounds) => push_rounds(items, rounds),
+        Err(item) => {
+            items.push_reserved(item);
+            items.push_reserved(Item::of_entry(Entry::of_dry(drain)));
         }
     }
 }

@@ -1,11 +1,15 @@
 //! The entries of a journal, one after the other.
 
-ghost use Rattle.std.specs.Prelude.{◌≡◌, ◌≤◌, ◌↔◌, ◌+◌, ◌%◌, ◌∷◌, ◌++◌, [], MatchOption, true};
-ghost use Rattle.rvm_journal.specs.Told.{exchange_told, told_entry};
-ghost use Rattle.rvm_journal.specs.Items.{all_of, steps_in_turn};
+ghost use Rattle.std.specs.Prelude.{◌≡◌, ◌≤◌, ◌↔◌, ◌+◌, ◌%◌, ◌*◌, ◌<◌, ◌^◌, ℕ, List, ◌∷◌, ◌++◌, [], IfSome, MatchOption, Some, slice_get, true};
+ghost use Rattle.rvm_journal.specs.Rounds.{IsRowAt};
+ghost use Rattle.rvm_journal.specs.Told.{exchange_told, retired_entry, told_entry};
+ghost use Rattle.rvm_journal.specs.Items.{all_of, dry_entry, entries_at, rounds_of, steps_in_turn};
+ghost use Rattle.rvm_journal.specs.Entries.{PlainEntry, silent};
+ghost use Rattle.rvm_journal.specs.Passing.{IsPassed};
 
 use crate::entry::Entry;
 use crate::item::{Item, ItemRef};
+use crate::rounds::Rounds;
 use crate::steps::Steps;
 use rvm_hart::Stepped;
 use rvm_message::{Exchange, StepReply};
@@ -20,11 +24,13 @@ pub struct Left<'a> {
     skipped: u32,
 }
 
-/// An entry that is looked at: one, or the step of a hart that retired an instruction.
+/// An entry that is looked at: one, or the step of a hart that retired an instruction, or a drain of at most so many
+/// bytes that found none.
 #[derive(Clone, Copy)]
 pub enum Told<'a> {
     Entry(&'a Entry),
     Step(u32),
+    Dry(u32),
 }
 
 impl<'a> Model for Left<'a> {
@@ -71,6 +77,14 @@ impl<'a> Left<'a> {
                     }
                     self.skipped -= steps.count;
                 }
+                ItemRef::Rounds(rounds) => {
+                    if self.skipped < rounds.len() {
+                        let told = told_in(&rounds, self.skipped);
+                        self.skipped += 1;
+                        return Some(told);
+                    }
+                    self.skipped -= rounds.len();
+                }
             }
             self.passed += 1;
         }
@@ -87,16 +101,103 @@ impl<'a> Left<'a> {
             return 0;
         }
         let item = &self.items[self.passed];
-        let ItemRef::Steps(steps) = item.look() else {
-            return 0;
-        };
-        if !is_next(&steps, self.skipped, turn, harts) {
-            return 0;
-        }
-        let n = most.min(steps.count - self.skipped);
+        let n = most.min(in_a_row(item.look(), self.skipped, turn, harts));
         self.skipped += n;
         n
     }
+}
+
+/// The hart whose step is the entry of rounds behind so many first ones; none where it is a drain.
+fn hart_in(rounds: &Rounds, skipped: u32) -> Option<u32>
+    requires { skipped < rounds.now.count * (rounds.now.steps + 1) }
+    ensures { MatchOption result (slice_get (rounds_of rounds.now) skipped ≡ Some (dry_entry rounds.now.drain))
+        (λ h. slice_get (rounds_of rounds.now) skipped ≡ Some (retired_entry h)) }
+{
+    let passed = skipped / (rounds.steps + 1);
+    let behind = skipped % (rounds.steps + 1);
+    if behind == rounds.steps {
+        return None;
+    }
+    Some(hart_behind(&rounds.first(), skipped - passed))
+}
+
+/// The entry of rounds behind so many first ones.
+fn told_in<'a>(rounds: &Rounds, skipped: u32) -> Told<'a>
+    requires { skipped < rounds.now.count * (rounds.now.steps + 1) }
+    ensures { slice_get (rounds_of rounds.now) skipped ≡ Some (told_entry result) }
+{
+    match hart_in(rounds, skipped) {
+        None => Told::Dry(rounds.drain),
+        Some(hart) => Told::Step(hart),
+    }
+}
+
+/// The event and the reply of the entry of rounds behind so many first ones.
+pub fn exchange_in(rounds: &Rounds, skipped: u32) -> Exchange
+    requires { skipped < rounds.now.count * (rounds.now.steps + 1) }
+    ensures { slice_get (rounds_of rounds.now) skipped ≡ Some (silent result.event result.reply) }
+{
+    match hart_in(rounds, skipped) {
+        None => Exchange::dry(rounds.drain),
+        Some(hart) => Exchange::of_step(hart, StepReply::Stepped(Stepped::Retired)),
+    }
+}
+
+/// The steps that are left of the round to which so many first entries come.
+pub fn row_at(rounds: &Rounds, skipped: u32) -> Option<Steps>
+    ensures { IfSome result (λ s. IsRowAt rounds.now skipped s) }
+{
+    if skipped >= rounds.len() {
+        return None;
+    }
+    let passed = skipped / (rounds.steps + 1);
+    let behind = skipped % (rounds.steps + 1);
+    let turn = rounds.turn.checked_add(u64::from(skipped - passed))?;
+    Some(Steps {
+        turn,
+        harts: rounds.harts,
+        count: rounds.steps - behind,
+    })
+}
+
+/// How many steps of so many harts from a turn on are kept in a row behind so many first entries.
+fn in_a_row(item: ItemRef<'_>, skipped: u32, turn: u64, harts: u32) -> u32
+    ensures few { skipped + result < 2 ^ 32 }
+    ensures there { (n : ℕ) → n ≤ result → (rest : List PlainEntry) → IsPassed (entries_at item.entry) skipped turn harts n rest }
+{
+    match item {
+        ItemRef::Entry(_entry) => 0,
+        ItemRef::Steps(steps) => left_of_steps(&steps, skipped, turn, harts),
+        ItemRef::Rounds(rounds) => left_of_round(&rounds, skipped, turn, harts),
+    }
+}
+
+/// How many steps are left of those behind so many first ones, if the next of them is that of a turn of so many harts.
+fn left_of_steps(steps: &Steps, skipped: u32, turn: u64, harts: u32) -> u32
+    ensures few { skipped + result < 2 ^ 32 }
+    ensures there { (n : ℕ) → n ≤ result → (rest : List PlainEntry)
+        → IsPassed (steps_in_turn steps.now.turn steps.now.harts steps.now.count) skipped turn harts n rest }
+{
+    if !is_next(steps, skipped, turn, harts) {
+        return 0;
+    }
+    steps.count - skipped
+}
+
+/// How many steps are left of the round to which so many first entries come, if the next of them is that of a turn of so
+/// many harts.
+fn left_of_round(rounds: &Rounds, skipped: u32, turn: u64, harts: u32) -> u32
+    ensures few { skipped + result < 2 ^ 32 }
+    ensures there { (n : ℕ) → n ≤ result → (rest : List PlainEntry)
+        → IsPassed (rounds_of rounds.now) skipped turn harts n rest }
+{
+    let Some(row) = row_at(rounds, skipped) else {
+        return 0;
+    };
+    if turn != row.turn || harts != row.harts {
+        return 0;
+    }
+    row.count
 }
 
 /// Whether the step behind so many first ones is that of a turn of so many harts.
@@ -127,6 +228,7 @@ impl Told<'_> {
     {
         match self {
             Told::Entry(entry) => exchange.is_same(entry.exchange()),
+            Told::Dry(drain) => exchange.is_same(&Exchange::dry(*drain)),
             Told::Step(hart) => {
                 let step = Exchange::of_step(*hart, StepReply::Stepped(Stepped::Retired));
                 exchange.is_same(&step)

@@ -3,7 +3,7 @@
 //!
 //! Stands on `rvm_core`, and knows nothing of threads, locks or links.
 //!
-//! To be read in this order: `frame_bytes`, `entry`, `steps`, `item`, `left`, `run`, `journal`, `error`, `recorded`, `slice`.
+//! To be read in this order: `frame_bytes`, `entry`, `steps`, `rounds`, `item`, `left`, `run`, `journal`, `error`, `recorded`, `slice`.
 #![tactic(auto)]
 
 mod entry;
@@ -13,6 +13,7 @@ mod item;
 mod journal;
 mod left;
 mod recorded;
+mod rounds;
 mod run;
 mod slice;
 mod steps;
@@ -20,10 +21,11 @@ mod steps;
 pub use entry::Entry;
 pub use error::{RecordError, SliceError};
 pub use frame_bytes::FrameBytes;
-pub use item::{Item, ItemRef};
+pub use item::{Item, ItemRef, joined};
 pub use journal::Journal;
-pub use left::{Left, Told, hart_behind};
+pub use left::{Left, Told, exchange_in, hart_behind, row_at};
 pub use recorded::{MAX_CAPACITY, Recorded};
+pub use rounds::Rounds;
 pub use run::StepRun;
 pub use slice::{MAX_SLICE, hart_of_turn, is_slice_in_range};
 pub use steps::Steps;

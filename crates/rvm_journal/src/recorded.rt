@@ -12,7 +12,7 @@ ghost use Rattle.rvm_message.specs.Steps.{reply_to_step};
 use crate::entry::Entry;
 use crate::error::RecordError;
 use crate::frame_bytes::FrameBytes;
-use crate::item::{Item, push_steps};
+use crate::item::{Item, push_dry, push_steps};
 use crate::journal::{Journal, make_room};
 use crate::run::StepRun;
 use crate::steps::Steps;
@@ -181,9 +181,7 @@ impl<M: PagedMemory + Drop> Recorded<M> {
         if journal.items.reserve(1).is_err() {
             return None;
         }
-        journal
-            .items
-            .push_reserved(Item::of_entry(Entry::of_dry(count)));
+        push_dry(&mut journal.items, count);
         journal.count += 1;
         journal.reserved = left;
         Some(place)

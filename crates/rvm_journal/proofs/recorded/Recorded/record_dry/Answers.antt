@@ -3,7 +3,6 @@ use Rattle.rvm_core.specs.Hosts.{Steps}
 use Rattle.rvm_journal.specs.Entries.{PlainEntry, silent}
 use Rattle.rvm_journal.specs.History.{History, IsKept, IsRecorded}
 use Rattle.rvm_journal.specs.Items.{all_of}
-use Rattle.rvm_journal.proofs.Items.{all_push}
 use Rattle.rvm_journal.proofs.Replays.{is_recorded, replays, still_kept}
 use Rattle.rvm_journal.proofs.recorded.Recorded.record_dry.Given.{Over}
 use Rattle.rvm_journal.proofs.recorded.Recorded.record_dry.Goals as goal
@@ -25,31 +24,28 @@ module _ (g : Over) (c : goal.After-journal-3-1 g) where
   steps : Steps c.self.inside.host (event_of x.event) (x.reply, None) c.self.inside.host
   steps = c.if-not-finds_nothing.ensures refl
 
-  new_is : all_of c.push_reserved.new.self.items ≡ before.entries ++ silent x.event x.reply ∷ []
-  new_is =
-      ap all_of (c.push_reserved.ensures.items ∙ ap (λ (xs : List (List PlainEntry)). xs ++ c.of_entry.result ∷ []) c.reserve.ensures.items)
-      ∙ all_push c.journal.inside.items.items c.of_entry.result
-      ∙ ap (λ (xs : List PlainEntry). before.entries ++ xs) (c.of_entry.ensures ∙ ap (λ (e : PlainEntry). e ∷ []) c.of_dry.ensures)
+  new_is : all_of c.push_dry.new.items.items ≡ before.entries ++ silent x.event x.reply ∷ []
+  new_is = c.push_dry.ensures.items ∙ ap (λ (xs : List (List PlainEntry)). all_of xs ++ silent x.event x.reply ∷ []) c.reserve.ensures.items
 
 pub invariant_of-journal-2 : goal.invariant_of-journal-2
 invariant_of-journal-2 g c = (
-  replays c.self.inside.host c.self.inside.host (before g c) c.self.inside.capacity (x g c).event (x g c).reply None (kept g c) (steps g c) (all_of c.push_reserved.new.self.items) (new_is g c)
+  replays c.self.inside.host c.self.inside.host (before g c) c.self.inside.capacity (x g c).event (x g c).reply None (kept g c) (steps g c) (all_of c.push_dry.new.items.items) (new_is g c)
       0 tt c.journal.invariant.0,
   c.journal.invariant.1,
-  omega (arith, ap length c.reserve.ensures.items),
+  omega (arith, ap length c.reserve.ensures.items, c.push_dry.ensures.few, c.push_dry.ensures.capacity),
   omega arith,
   omega (arith, c.journal.invariant.4, ap length (new_is g c), length-append (before g c).entries (silent (x g c).event (x g c).reply ∷ [])),
 )
 
 pub invariant_of-self-2 : goal.invariant_of-self-2
 invariant_of-self-2 g c =
-    still_kept c.self.inside.host c.self.inside.host (before g c) c.self.inside.capacity (x g c).event (x g c).reply None (kept g c) (steps g c) (all_of c.push_reserved.new.self.items) (new_is g c)
+    still_kept c.self.inside.host c.self.inside.host (before g c) c.self.inside.capacity (x g c).event (x g c).reply None (kept g c) (steps g c) (all_of c.push_dry.new.items.items) (new_is g c)
     c.saturating_sub-left.result (omega arith) (omega arith)
 
 pub returns-clause-recorded : goal.returns-clause-recorded
 returns-clause-recorded g c =
     let capacity = c.self.inside.capacity in
-    let new = all_of c.push_reserved.new.self.items in
+    let new = all_of c.push_dry.new.items.items in
     let left = c.saturating_sub-left.result in
     subst (λ old. IsRecorded old (x g c).event (c.journal.inside.count, (x g c).reply, None)
     (record { journal = record { opening = c.journal.inside.opening.value; entries = new; reserved = left }; capacity = capacity }))
