@@ -31,18 +31,18 @@ macro_rules! again {
 
 pub(crate) use again;
 
-/// One of two hosts, with an empty journal for so many entries. Host 0 has a guest of so many harts and
-/// four pages that jumps to itself, host 1 has none.
+/// One of two hosts that speak version 1, with an empty journal for so many entries. Host 0 has a guest of so
+/// many harts and four pages that jumps to itself, host 1 has none.
 pub fn recorded(alloc: Global, id: u8, harts: u32, capacity: u32) -> Option<Recorded<PagedRam>>
     requires { (1 ≤ harts) × (harts ≤ 8) }
     ensures { IfSome result (λ r. r.journal.entries ≡ []) }
 {
-    let host = host(alloc, id, harts)?;
+    let host = host(alloc, id, harts, 1)?;
     Recorded::new(alloc, host, capacity).ok()
 }
 
-/// The host of such a journal.
-pub fn host(alloc: Global, id: u8, harts: u32) -> Option<Host<PagedRam>>
+/// The host of such a journal, in a version of the stream.
+pub fn host(alloc: Global, id: u8, harts: u32, version: u32) -> Option<Host<PagedRam>>
     requires { (1 ≤ harts) × (harts ≤ 8) }
 {
     let guest = if id == 0 {
@@ -50,7 +50,7 @@ pub fn host(alloc: Global, id: u8, harts: u32) -> Option<Host<PagedRam>>
     } else {
         None
     };
-    Host::with_version(guest, id, 2, 4096, 1).ok()
+    Host::with_version(guest, id, 2, 4096, version).ok()
 }
 
 /// A guest of so many harts and four pages that jumps to itself.

@@ -1,8 +1,9 @@
 //! One order of the journals of two hosts.
 
-use crate::asked::{again, came, host, record, recorded};
+use crate::asked::{again, board, came, host, record};
 use rvm_audit::{AuditError, audit};
 use rvm_core::Host;
+use rvm_debug::BoardEvent;
 use rvm_frame::Addressed;
 use rvm_journal::Recorded;
 use rvm_message::{Command, HostEvent};
@@ -15,13 +16,16 @@ use std::alloc::Global;
 const FRAMES: u32 = 8;
 
 /// Four pages are copied, the round ends, the guest stops, and its state is sent.
-const COPIES: u32 = 7;
+pub const COPIES: u32 = 7;
+
+/// How many pages the guest has.
+const PAGES: u32 = 4;
 
 /// How many entries each journal takes.
 const ENTRIES: u32 = 100;
 
 /// The move begins.
-const BEGIN: Command = Command::Begin {
+pub const BEGIN: Command = Command::Begin {
     to: 1,
     policy: Policy {
         max_rounds: 3,
@@ -36,8 +40,12 @@ enum Story {
     Nothing,
     /// A guest of four pages moves, from the beginning to the end.
     Move,
+    /// The same, but the first copy of its last page is lost.
+    LostPage,
     /// Host B accepts an offer that host A made before its journal began.
     LateJournal,
+    /// The same, after an event of each host.
+    LateOffer,
     /// Host A offers its guest so many times, and each offer comes to host B.
     Offers(u32),
 }
@@ -52,20 +60,21 @@ struct Pair {
 }
 
 impl Pair {
-    /// Hosts that have written down nothing, with journals of so many entries.
-    fn new(alloc: Global, entries: u32, has_offered: bool) -> Option<Pair> {
-        let (a, offer) = first_host(alloc, entries, has_offered)?;
-        Pair::with(alloc, entries, a, offer)
+    /// Hosts that speak a version and have written down nothing, with journals of so many entries.
+    fn new(alloc: Global, entries: u32, version: u32, has_offered: bool) -> Option<Pair> {
+        let (a, offer) = first_host(alloc, entries, version, has_offered)?;
+        Pair::with(alloc, entries, version, a, offer)
     }
 
     /// The hosts, of which the first is there.
     fn with(
         alloc: Global,
         entries: u32,
+        version: u32,
         a: Recorded<PagedRam>,
         offer: Option<Addressed>,
     ) -> Option<Pair> {
-        match recorded(alloc, 1, 1, entries) {
+        match second_host(alloc, entries, version) {
             Some(b) => Some(Pair { a, b, offer }),
             None => {
                 drop(a);
@@ -80,7 +89,9 @@ impl Pair {
         match story {
             Story::Nothing => {}
             Story::Move => self.play_a_move(alloc)?,
+            Story::LostPage => self.lose_a_page(alloc)?,
             Story::LateJournal => self.accept(alloc)?,
+            Story::LateOffer => self.accept_later(alloc)?,
             Story::Offers(count) => self.fill(alloc, count)?,
         }
         Some(self.order(alloc))
@@ -126,6 +137,27 @@ impl Pair {
         Some(())
     }
 
+    /// A move whose last page does not come at first, so that host B tells host A that it is lost.
+    fn lose_a_page(&mut self, alloc: Global) -> Option<()> {
+        self.play(alloc, HostEvent::Do(BEGIN))?;
+        for _ in 1..PAGES {
+            self.play(alloc, HostEvent::Do(Command::Copy))?;
+        }
+        drop(made(&mut self.a, alloc, HostEvent::Do(Command::Copy))??);
+        // The round's end, the pause, and the state, which names the page; then the page, and the state again.
+        for _ in 0..5 {
+            self.play(alloc, HostEvent::Do(Command::Copy))?;
+        }
+        Some(())
+    }
+
+    /// Each host does something, and then host B accepts the offer.
+    fn accept_later(&mut self, alloc: Global) -> Option<()> {
+        drop(made(&mut self.a, alloc, board(BoardEvent::Step(0)))?);
+        drop(made(&mut self.b, alloc, HostEvent::Do(Command::Copy))?);
+        self.accept(alloc)
+    }
+
     /// Host B accepts the offer, and host A hears of it.
     fn accept(&mut self, alloc: Global) -> Option<()> {
         let offer = self.offer.take()?;
@@ -164,9 +196,10 @@ fn begin(alloc: Global, host: &mut Host<PagedRam>) -> Option<Addressed> {
 fn first_host(
     alloc: Global,
     entries: u32,
+    version: u32,
     has_offered: bool,
 ) -> Option<(Recorded<PagedRam>, Option<Addressed>)> {
-    let mut host = host(alloc, 0, 1)?;
+    let mut host = host(alloc, 0, 1, version)?;
     let offer = if has_offered {
         begin(alloc, &mut host)
     } else {
@@ -176,14 +209,21 @@ fn first_host(
     Some((a, offer))
 }
 
-/// The order of two journals behind a story, for so many entries each.
+/// Host B with an empty journal.
+fn second_host(alloc: Global, entries: u32, version: u32) -> Option<Recorded<PagedRam>> {
+    let host = host(alloc, 1, 1, version)?;
+    Recorded::new(alloc, host, entries).ok()
+}
+
+/// The order of two journals behind a story, for so many entries each, of hosts that speak a version.
 fn order_behind(
     alloc: Global,
     entries: u32,
+    version: u32,
     story: Story,
 ) -> Option<Result<Vec<Event>, AuditError>> {
-    let has_offered = matches!(story, Story::LateJournal);
-    let mut pair = Pair::new(alloc, entries, has_offered)?;
+    let has_offered = matches!(story, Story::LateJournal | Story::LateOffer);
+    let mut pair = Pair::new(alloc, entries, version, has_offered)?;
     let order = pair.order_of(alloc, story);
     drop(pair);
     order
@@ -191,7 +231,7 @@ fn order_behind(
 
 /// Puts two journals of so many entries in order, in which frames of equal bytes come again and again.
 pub fn order_long_journals<R: AllocGlobal + Print>(rt: &R, entries: u32) -> Option<()> {
-    let events = order_behind(rt.alloc(), entries, Story::Offers(entries))?.ok()?;
+    let events = order_behind(rt.alloc(), entries, 1, Story::Offers(entries))?.ok()?;
     println!(rt;
         "two journals of {entries} entries: {} events",
         events.len()
@@ -199,22 +239,33 @@ pub fn order_long_journals<R: AllocGlobal + Print>(rt: &R, entries: u32) -> Opti
     .ok()
 }
 
-/// Puts journals in order: of a whole move, of a move whose beginning was not written down, and of nothing.
+/// Puts journals in order: of a whole move in each version, of one that loses a page, of moves whose beginning was
+/// not written down, and of nothing.
 pub fn put_in_order<R: AllocGlobal + Print>(rt: &R) -> Option<()> {
-    order_a_move(rt)?;
-    miss_the_beginning(rt)?;
+    for version in 1..=3 {
+        order_a_move(rt, version)?;
+    }
+    order_a_lost_page(rt)?;
+    miss_the_beginning(rt, Story::LateJournal)?;
+    miss_the_beginning(rt, Story::LateOffer)?;
     order_nothing(rt)
 }
 
 /// A guest of four pages moves, frame by frame.
-fn order_a_move<R: AllocGlobal + Print>(rt: &R) -> Option<()> {
-    let events = order_behind(rt.alloc(), ENTRIES, Story::Move)?.ok()?;
+fn order_a_move<R: AllocGlobal + Print>(rt: &R, version: u32) -> Option<()> {
+    let events = order_behind(rt.alloc(), ENTRIES, version, Story::Move)?.ok()?;
     let (deliveries, are_once) = deliveries(events.as_slice());
     println!(rt;
-        "a move: {} events, {deliveries} deliveries, each once {are_once}",
+        "a move in version {version}: {} events, {deliveries} deliveries, each once {are_once}",
         events.len()
     )
     .ok()
+}
+
+/// A move that loses a page, which host B asks for again.
+fn order_a_lost_page<R: AllocGlobal + Print>(rt: &R) -> Option<()> {
+    let events = order_behind(rt.alloc(), ENTRIES, 1, Story::LostPage)?.ok()?;
+    println!(rt; "a move that loses a page: {} events", events.len()).ok()
 }
 
 /// How many frames are delivered, and whether they are the first, the second and so on, each once.
@@ -230,14 +281,17 @@ fn deliveries(events: &[Event]) -> (u64, bool) {
 }
 
 /// Host A writes nothing down before the move has begun.
-fn miss_the_beginning<R: AllocGlobal + Print>(rt: &R) -> Option<()> {
-    let why = order_behind(rt.alloc(), ENTRIES, Story::LateJournal)?.err()?;
-    let has_none = why == AuditError::NoOrder { i: 0, j: 0 };
-    println!(rt; "a move whose beginning is missing: no order behind 0 and 0 {has_none}").ok()
+fn miss_the_beginning<R: AllocGlobal + Print>(rt: &R, story: Story) -> Option<()> {
+    match order_behind(rt.alloc(), ENTRIES, 1, story)?.err()? {
+        AuditError::NoOrder { i, j } => {
+            println!(rt; "a move whose beginning is missing: no order behind {i} and {j}").ok()
+        }
+        AuditError::OutOfMemory => None,
+    }
 }
 
 /// Hosts at which nothing happened.
 fn order_nothing<R: AllocGlobal + Print>(rt: &R) -> Option<()> {
-    let events = order_behind(rt.alloc(), ENTRIES, Story::Nothing)?.ok()?;
+    let events = order_behind(rt.alloc(), ENTRIES, 1, Story::Nothing)?.ok()?;
     println!(rt; "empty journals: {} events", events.len()).ok()
 }

@@ -2,14 +2,15 @@
 
 ghost use Rattle.std.specs.Prelude.{◌≡◌, []};
 
-use crate::asked::{board, recorded};
+use crate::asked::{board, came, recorded};
+use crate::orders::{BEGIN, COPIES};
 use rvm_cell::{
     CloseError, CloseKind, Receipt, ReceiptItem, Seat, Seating, SharedHost, close, share,
 };
 use rvm_debug::{BoardEvent, BoardReply};
-use rvm_frame::Addressed;
+use rvm_frame::{Addressed, Frame};
 use rvm_journal::{RecordError, Recorded};
-use rvm_message::{HostEvent, HostReply};
+use rvm_message::{Command, HostEvent, HostReply};
 use rvm_paged::PagedRam;
 use std::alloc::Global;
 use std::marker::Brand;
@@ -33,6 +34,58 @@ pub fn write_and_read<R: AllocGlobal + Print + Wait>(rt: &R) -> Option<()> {
 pub fn fill_a_journal<R: AllocGlobal + Print + Wait>(rt: &R) -> Option<()> {
     let host = recorded(rt.alloc(), 0, 1, 1)?;
     fill_and_close::<Brand, R>(rt, Blank::new(2), host)
+}
+
+/// Each frame that a call makes is handed out: those of a move at its source.
+pub fn hand_out_frames<R: AllocGlobal + Print + Wait>(rt: &R) -> Option<()> {
+    let host = recorded(rt.alloc(), 0, 1, 100)?;
+    share_and_move::<Brand, R>(rt, Blank::new(2), host)
+}
+
+/// Shares a host, and counts the frames of a move at it.
+fn share_and_move<L: Seating, R: AllocGlobal + Print + Wait>(
+    rt: &R,
+    blank: Blank,
+    recorded: Recorded<PagedRam>,
+) -> Option<()>
+    requires ledger { (blank.name ≡ L.name) × (blank.parts ≡ L.parts) × (L.seats ≡ L.parts) }
+    requires seats { blank.parts ≡ 2 }
+    requires empty { recorded.journal.entries ≡ [] }
+    requires opening { recorded.journal.opening ≡ L.opening }
+{
+    let (host, mut seats) = share_host::<L>(rt.alloc(), blank, recorded, 2)?;
+    let done = tell_frames(rt, &host, seats.as_mut_slice());
+    drop(host);
+    drop(seats);
+    done
+}
+
+/// Tells how many frames the calls of a move hand out: the offer, four pages, the end of their round and the state.
+fn tell_frames<L: Seating, R: AllocGlobal + Print + Wait>(
+    rt: &R,
+    host: &SharedHost<L, PagedRam>,
+    seats: &mut [Seat<L>],
+) -> Option<()> {
+    let seat = seats.get_mut(0)?;
+    let accept = Frame::Accept { move_number: 1 };
+    let mut frames = frames_of(rt, host, seat, HostEvent::Do(BEGIN))?;
+    frames = frames.wrapping_add(frames_of(rt, host, seat, came(rt.alloc(), 1, accept)?)?);
+    for _ in 0..COPIES {
+        frames = frames.wrapping_add(frames_of(rt, host, seat, HostEvent::Do(Command::Copy))?);
+    }
+    println!(rt; "a move at its source hands out {frames} frames").ok()
+}
+
+/// How many frames a call hands out.
+fn frames_of<L: Seating, R: AllocGlobal + Wait>(
+    rt: &R,
+    host: &SharedHost<L, PagedRam>,
+    seat: &mut Seat<L>,
+    event: HostEvent,
+) -> Option<u32> {
+    let (receipt, frame) = call(rt, host, seat, event)?;
+    drop(receipt);
+    Some(u32::from(frame.is_some()))
 }
 
 /// Pokes a register from the first seat, and looks at it from the second.
