@@ -1,8 +1,8 @@
 -- What happens at a host of a world is what the law of live migration has there.
-use Rattle.std.proofs.Common.{◌≡◌, inl, inr, ℕ, zero, suc, ◌-◌, ◌<◌, ◌≤◌, if◌then◌else◌, List, [], ◌∷◌, ◌++◌, map, length, get_or, set, Option, Some, None, Ok, Err, OnErr, refl, sym, ap, ◌∙◌, subst, arith}
+use Rattle.std.proofs.Common.{◌≡◌, inl, inr, ℕ, zero, suc, ◌-◌, ◌<◌, ◌≤◌, Bool, true, false, if◌then◌else◌, List, [], ◌∷◌, ◌++◌, map, length, get_or, set, Option, Some, None, Ok, Err, OnErr, refl, sym, ap, ◌∙◌, subst, arith}
 use Rattle.std.specs.Prelude.{Result, slice_get}
 use Rattle.std.proofs.lemmas.Bool.{cases_eq, cases_lt, eq-eqb, le-ltb, lt-ltb, ne_eqb}
-use Rattle.std.proofs.lemmas.List.{get_or-append_right, get_or-set_other, get_or-set_same, get_or_append_left, get_or_default, length-append, length-set, set-get_or}
+use Rattle.std.proofs.lemmas.List.{get_or-append_right, get_or-set_other, get_or-set_same, get_or_append_left, get_or_default, length-append, length-map, length-set, set-get_or}
 use Rattle.std.proofs.Math.Path.{fun_ext}
 use Rattle.std.proofs.Math.Seq.{map-set_same}
 use Rattle.rvm_debug.specs.declared.event.BoardEvent.{BoardEvent}
@@ -13,7 +13,8 @@ use Rattle.rvm_guest.specs.TheGuest.{board}
 use Rattle.rvm_message.specs.declared.reply.HostReply.{HostReply}
 use Rattle.rvm_message.specs.Events.{BoardHostEvent}
 use Rattle.rvm_message.specs.Frames.{BoardFrame, addressed_made}
-use Rattle.rvm_message.specs.Replies.{reply_of}
+use Rattle.rvm_message.specs.Replies.{is_refused_outright, reply_of}
+use Rattle.rvm_protocol.specs.Commands as commands
 use Rattle.rvm_protocol.specs.Commands.{Command, Do, Came}
 use Rattle.rvm_protocol.specs.Frames as frames
 use Rattle.rvm_protocol.specs.Host.{host_step}
@@ -21,10 +22,10 @@ use Rattle.rvm_protocol.specs.Host as protocol
 use Rattle.rvm_protocol.specs.Pages.{put}
 use Rattle.rvm_protocol.specs.Replies.{Reply, Refused, BadHost, NoFrame}
 use Rattle.rvm_protocol.specs.World.{Event, At, Deliver, and_sent, frame_for, happened, meaning, new_world, reply_or, reply_to, result_at, run, step, world_at}
-use Rattle.rvm_core.specs.Bounds.{CanBePosted}
+use Rattle.rvm_core.specs.Bounds.{CanBePosted, event_body, frame_bound, with_header}
 use Rattle.rvm_core.specs.Hosts.{PlainHost, Steps, host_of, new_host, step_of}
 use Rattle.rvm_core.specs.Spelled.{AreSpelled}
-use Rattle.rvm_world.specs.Worlds.{BoardWorld, IsKept, IsReached, IsWorld, Kept, Placed, PlainWorld, current_after, frame_in, host_at, is_sized, kept_of, no_kept, posted, world_of}
+use Rattle.rvm_world.specs.Worlds.{BoardWorld, IsHeeded, IsKept, IsReached, IsWorld, Kept, Placed, PlainWorld, asks_memory, current_after, frame_in, host_at, is_sized, kept_of, no_kept, posted, world_of}
 use Rattle.rvm_world.proofs.Current.{moves_on}
 use Rattle.rvm_world.proofs.Keeping.{kept_made, posted_kept}
 
@@ -334,6 +335,43 @@ at_becomes w sent x most c a old h is lt here s p all =
       turned = t.turned;
       stays = stays_world w x most now (At x c) (Do c) a h is lt s' p' t.turned (at_there (world_of w) x c lt) refl;
     })
+
+-- what a command is answered
+at_said : (w : PlainWorld) (x : ℕ) (c : Command BoardEvent) → IsWorld w → x < length w.hosts
+    → reply_to board (world_of w) (At x c) ≡ (step_of (host_at w.hosts x) (Do c)).reply
+at_said w x c is lt =
+    sym (ap (λ (r : Answer). r.reply) (same_step w x (Do c) (is.placed x lt))
+    ∙ ap (reply_or board (world_of w) (Refused BadHost)) (sym (at_there (world_of w) x c lt)))
+
+pub at_heeded : (w : PlainWorld) (x : ℕ) (c : Command BoardEvent) (old : PlainHost) → IsWorld w → x < length w.hosts
+    → old ≡ get_or w.hosts x old → is_refused_outright (step_of old (Do c)).reply ≡ false → IsHeeded (world_of w) (At x c)
+at_heeded w x c old is lt here so =
+    subst (λ (r : Reply BoardReply). is_refused_outright r ≡ false) (sym (at_said w x c is lt))
+    (subst (λ (h : PlainHost). is_refused_outright (step_of h (Do c)).reply ≡ false) (is_host w.hosts x old lt here) so)
+
+by_bound : (b : Bool) (n : ℕ) → 0 < (if b then 0 else n) → b ≡ false
+by_bound true n some = absurd (omega (arith, some))
+by_bound false n some = refl
+
+-- there is room for a frame of a command that is not refused
+pub bound_heeds : (h : PlainHost) (c : Command BoardEvent) → 0 < frame_bound h (Do c)
+    → is_refused_outright (step_of h (Do c)).reply ≡ false
+bound_heeds h c some = by_bound (is_refused_outright (step_of h (Do c)).reply) (with_header h.version (event_body h (Do c))) some
+
+no_room : (b : Bool) → 0 < (if b then 0 else 0) → ⊥
+no_room true some = omega (arith, some)
+no_room false some = omega (arith, some)
+
+-- and the guest's events have none
+pub bound_asks : (h : PlainHost) (x : ℕ) (c : Command BoardEvent) → 0 < frame_bound h (Do c) → asks_memory (At x c) ≡ true
+bound_asks h x (commands.Board e) some = absurd (no_room (is_refused_outright (step_of h (Do (commands.Board e))).reply) some)
+bound_asks h x (commands.Begin to p) some = refl
+bound_asks h x commands.Copy some = refl
+bound_asks h x commands.Resend some = refl
+bound_asks h x commands.AbortMove some = refl
+
+pub deliver_heeded : (w : PlainWorld) (k : ℕ) → k < length w.sent → IsHeeded (world_of w) (Deliver k)
+deliver_heeded w k lt = subst (λ n. k < n) (sym (length-map w.sent (kept_of w.version))) lt
 
 -- a frame comes to its host
 pub deliver_becomes : (w : PlainWorld) (sent : List Kept) (k : ℕ) (kept : Kept) (from to most now : ℕ) (frame : BoardFrame)

@@ -12,7 +12,7 @@ use Rattle.rvm_guest.specs.TheGuest.{board}
 use Rattle.rvm_guest.specs.Valid.{is_valid}
 use Rattle.rvm_message.specs.Events.{BoardHostEvent, command_of}
 use Rattle.rvm_message.specs.Frames.{BoardFrame, frame_heard, no_frame}
-use Rattle.rvm_message.specs.Replies.{reply_of}
+use Rattle.rvm_message.specs.Replies.{is_refused_outright, reply_of}
 use Rattle.rvm_protocol.specs.Commands.{Board, Came}
 use Rattle.rvm_protocol.specs.Frames as frames
 use Rattle.rvm_protocol.specs.Replies.{Reply, Committed}
@@ -112,6 +112,11 @@ current_after e r current = current
 abbrev pub asks_memory : protocol.Event BoardEvent → Bool
 asks_memory (protocol.At x (Board e)) = false
 asks_memory e = true
+
+-- a command that is not refused outright; a frame that comes and was sent, since its bytes are read before its host hears it
+abbrev pub IsHeeded : BoardWorld → protocol.Event BoardEvent → Type 0
+IsHeeded w (protocol.At x c) = is_refused_outright (protocol.reply_to board w (protocol.At x c)) ≡ false
+IsHeeded w (protocol.Deliver k) = k < length w.sent
 
 -- the place of the frame that was made, where one more was sent after than before
 abbrev pub place_of : (before after : ℕ) → Option ℕ

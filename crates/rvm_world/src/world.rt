@@ -17,7 +17,7 @@ ghost use Rattle.rvm_protocol.specs.World.{reply_to, step, new_world};
 ghost use Rattle.rvm_world.specs.declared.error.WorldError.TheVariants.{BadSize};
 ghost use Rattle.rvm_world.specs.NeverMoved.{NeverMoved};
 ghost use Rattle.rvm_world.specs.Steps.{AreFirst};
-ghost use Rattle.rvm_world.specs.Worlds.{IsReached, asks_memory, current_after, is_sized, limit_at, meant, no_kept, place_of, world_of};
+ghost use Rattle.rvm_world.specs.Worlds.{IsHeeded, IsReached, asks_memory, current_after, is_sized, limit_at, meant, no_kept, place_of, world_of};
 
 use crate::error::WorldError;
 use crate::event::{Event, WorldReply};
@@ -165,7 +165,8 @@ impl<M: PagedMemory + Drop> World<M> {
     }
 
     /// What an event does: the reply, and the place of the frame that was made, if one was. After a
-    /// refused growth nothing has changed; an event of the guest takes no memory.
+    /// refused growth nothing has changed. An event of the guest takes no memory, nor does a command that is
+    /// refused, or a frame that was never sent.
     #[tactic(auto, using(crate::proofs::Laws::never_moved))]
     pub fn apply(&mut self, alloc: Global, event: &Event) -> Result<WorldReply, AllocError>
         ensures reply { IfOk result (λ r. reply_of r.reply
@@ -177,6 +178,7 @@ impl<M: PagedMemory + Drop> World<M> {
         ensures never_moved { NeverMoved (world_of self.old) (world_of self.new) }
         ensures err { OnErr result (self.new ≡ self.old) }
         ensures memory { OnErr result (asks_memory (meant event.now) ≡ true) }
+        ensures refused { OnErr result (IsHeeded (world_of self.old) (meant event.now)) }
     {
         self.reached();
         match event {
@@ -208,6 +210,8 @@ impl<M: PagedMemory + Drop> World<M> {
             ≡ place_of (length self.old.sent) (length self.new.sent)) }
         ensures err { OnErr result (self.new ≡ self.old) }
         ensures memory { OnErr result (asks_memory (protocol.At host (command_of command.now)) ≡ true) }
+        ensures refused { OnErr result
+            (IsHeeded (world_of self.old) (protocol.At host (command_of command.now))) }
     {
         if host as usize >= self.hosts.len() {
             return Ok(refused(HostRefusal::BadHost));
@@ -229,6 +233,7 @@ impl<M: PagedMemory + Drop> World<M> {
         ensures place { IfOk result (λ r. r.frame
             ≡ place_of (length self.old.sent) (length self.new.sent)) }
         ensures err { OnErr result (self.new ≡ self.old) }
+        ensures refused { OnErr result (IsHeeded (world_of self.old) (protocol.Deliver place)) }
     {
         if place >= self.sent.len() as u64 {
             return Ok(refused(HostRefusal::NoFrame));

@@ -1,4 +1,4 @@
-use Rattle.std.proofs.Common.{◌≡◌, ◌<◌, ◌≤◌, ◌++◌, ◌∙◌, ap, arith, subst, sym, vec_capacity}
+use Rattle.std.proofs.Common.{◌≡◌, true, ◌<◌, ◌≤◌, ◌++◌, ◌∙◌, ap, arith, subst, sym, vec_capacity}
 use Rattle.rvm_guest.specs.TheGuest.{board}
 use Rattle.rvm_message.specs.Events.{command_of}
 use Rattle.rvm_message.specs.Replies.{reply_of}
@@ -7,8 +7,8 @@ use Rattle.rvm_protocol.specs.Replies.{BadHost, Refused}
 use Rattle.rvm_protocol.specs.World.{At, reply_to, step}
 use Rattle.rvm_core.specs.Bounds.{frame_bound}
 use Rattle.rvm_core.specs.Hosts.{PlainHost}
-use Rattle.rvm_world.specs.Worlds.{IsWorld, PlainWorld, posted, world_of}
-use Rattle.rvm_world.proofs.Happenings.{at_becomes, at_refused, is_host, on_err, unchanged, with_host}
+use Rattle.rvm_world.specs.Worlds.{IsHeeded, IsWorld, PlainWorld, asks_memory, posted, world_of}
+use Rattle.rvm_world.proofs.Happenings.{at_becomes, at_heeded, at_refused, bound_asks, bound_heeds, is_host, on_err, unchanged, with_host}
 use Rattle.rvm_world.proofs.Keeping.{can_be_kept}
 use Rattle.rvm_world.proofs.world.World.at.Goals as goal
 
@@ -100,3 +100,32 @@ returns-clause-next g c =
     subst (λ z. world_of new ≡ step board (world_of z) (At c.args.host k)) c.self.view_is
     (at_becomes w c.post-frame.new.sent.items c.args.host (frame_bound old (Do k)) k (r.reply, r.frame) old
     c.obey.new.self c.self.invariant lt c.index_mut-host.ensures.value r.ensures.steps r.ensures.sent all).turned
+
+pub returns-in_err-bytes-clause-refused : goal.returns-in_err-bytes-clause-refused
+returns-in_err-bytes-clause-refused g c =
+    let f = c.self.inside in
+    let w : PlainWorld = record { version = f.version; hosts = f.hosts.items; sent = f.sent.items; current = f.current } in
+    let k = command_of c.args.command.now in
+    let old = c.index.result.now in
+    let lt = subst (λ z. c.args.host < z) (c.len.ensures ∙ f.hosts.ok.0) c.if-host-len.false in
+    let some = subst (λ z. 0 < z) c.command_bound-bound.ensures c.in_err-bytes.ensures.err in
+    on_err c.from_residual.result (IsHeeded (world_of c.args.self.now) (At c.args.host k))
+    (subst (λ z. IsHeeded (world_of z) (At c.args.host k)) c.self.view_is
+    (at_heeded w c.args.host k old c.self.invariant lt c.index.ensures (bound_heeds old k some)))
+
+pub returns-in_err-reply-clause-refused : goal.returns-in_err-reply-clause-refused
+returns-in_err-reply-clause-refused g c =
+    let f = c.self.inside in
+    let w : PlainWorld = record { version = f.version; hosts = f.hosts.items; sent = f.sent.items; current = f.current } in
+    let k = command_of c.args.command.now in
+    let old = c.index_mut-host.result.now in
+    let lt = subst (λ z. c.args.host < z) (c.len.ensures ∙ f.hosts.ok.0) c.if-host-len.false in
+    on_err c.from_residual-in_err-reply.result (IsHeeded (world_of c.args.self.now) (At c.args.host k))
+    (subst (λ z. IsHeeded (world_of z) (At c.args.host k)) c.self.view_is
+    (at_heeded w c.args.host k old c.self.invariant lt c.index_mut-host.ensures.value c.in_err-reply.ensures.refused))
+
+pub returns-in_err-bytes-clause-memory : goal.returns-in_err-bytes-clause-memory
+returns-in_err-bytes-clause-memory g c =
+    let k = command_of c.args.command.now in
+    let some = subst (λ z. 0 < z) c.command_bound-bound.ensures c.in_err-bytes.ensures.err in
+    on_err c.from_residual.result (asks_memory (At c.args.host k) ≡ true) (bound_asks c.index.result.now c.args.host k some)

@@ -7,8 +7,8 @@ use Rattle.rvm_protocol.specs.Replies.{Refused, NoFrame}
 use Rattle.rvm_protocol.specs.World.{Deliver, reply_to, step}
 use Rattle.rvm_core.specs.Bounds.{frame_bound}
 use Rattle.rvm_core.specs.Hosts.{PlainHost}
-use Rattle.rvm_world.specs.Worlds.{PlainWorld, IsWorld, kept_of, posted, world_of}
-use Rattle.rvm_world.proofs.Happenings.{deliver_becomes, deliver_refused, is_host, is_kept, on_err, unchanged, with_host}
+use Rattle.rvm_world.specs.Worlds.{IsHeeded, PlainWorld, IsWorld, kept_of, posted, world_of}
+use Rattle.rvm_world.proofs.Happenings.{deliver_becomes, deliver_heeded, deliver_refused, is_host, is_kept, on_err, unchanged, with_host}
 use Rattle.rvm_world.proofs.Keeping.{can_be_kept, can_be_read}
 use Rattle.rvm_world.proofs.world.World.deliver.Goals as goal
 
@@ -151,3 +151,27 @@ returns-clause-next g c =
     c.current_after-self-inside.result frame (r.reply, r.made) old c.came.new.self c.self.invariant lt c.index-sent.ensures c.sender-from.ensures
     c.receiver-to.ensures c.in_ok-frame.ensures there c.index_mut-host.ensures.value r.ensures.steps r.ensures.sent
     all (c.current_after-self-inside.ensures frame)).turned
+
+pub returns-in_err-frame-clause-refused : goal.returns-in_err-frame-clause-refused
+returns-in_err-frame-clause-refused g c =
+    let f = c.self.inside in
+    let w : PlainWorld = record { version = f.version; hosts = f.hosts.items; sent = f.sent.items; current = f.current } in
+    let lt = subst (λ z. c.args.place < z) (c.len.ensures ∙ f.sent.ok.0) c.if-place-len.false in
+    on_err c.from_residual.result (IsHeeded (world_of c.args.self.now) (Deliver c.args.place))
+    (subst (λ z. IsHeeded (world_of z) (Deliver c.args.place)) c.self.view_is (deliver_heeded w c.args.place lt))
+
+pub returns-in_err-bytes-clause-refused : goal.returns-in_err-bytes-clause-refused
+returns-in_err-bytes-clause-refused g c =
+    let f = c.self.inside in
+    let w : PlainWorld = record { version = f.version; hosts = f.hosts.items; sent = f.sent.items; current = f.current } in
+    let lt = subst (λ z. c.args.place < z) (c.len.ensures ∙ f.sent.ok.0) c.if-place-len.false in
+    on_err c.from_residual-in_err-bytes.result (IsHeeded (world_of c.args.self.now) (Deliver c.args.place))
+    (subst (λ z. IsHeeded (world_of z) (Deliver c.args.place)) c.self.view_is (deliver_heeded w c.args.place lt))
+
+pub returns-in_err-reply-clause-refused : goal.returns-in_err-reply-clause-refused
+returns-in_err-reply-clause-refused g c =
+    let f = c.self.inside in
+    let w : PlainWorld = record { version = f.version; hosts = f.hosts.items; sent = f.sent.items; current = f.current } in
+    let lt = subst (λ z. c.args.place < z) (c.len.ensures ∙ f.sent.ok.0) c.if-place-len.false in
+    on_err c.from_residual-in_err-reply.result (IsHeeded (world_of c.args.self.now) (Deliver c.args.place))
+    (subst (λ z. IsHeeded (world_of z) (Deliver c.args.place)) c.self.view_is (deliver_heeded w c.args.place lt))
