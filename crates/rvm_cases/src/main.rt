@@ -75,7 +75,12 @@ where
     match command.split_once(" < ") {
         None => perform_and_print(rt, command, typed, Targets { output, errors }),
         Some((command, file)) => {
-            perform_and_print(rt, command, &fs::read(rt, file)?, Targets { output, errors })
+            perform_and_print(
+                rt,
+                command,
+                &fs::read(rt, file)?,
+                Targets { output, errors },
+            )
         }
     }
 }
@@ -94,7 +99,10 @@ fn count_lines<R: Files + AllocGlobal + Print>(rt: &R, words: &str) -> anyhow::R
         return Ok(());
     };
     let text = fs::read_to_string(rt, file)?;
-    println!(rt; "{}", text.lines().filter(|line| line.contains(word)).count())?;
+    println!(rt;
+        "{}",
+        text.lines().filter(|line| line.contains(word)).count()
+    )?;
     Ok(())
 }
 

@@ -38,16 +38,10 @@ no_write first second = unordered first second (refused refusal.LinkFault) (inr 
 
 -- of a move that failed there is no order
 pub has_failed : {X F : Type 0} (r : Result X F) (ends : Ends) (a b : Option CloseKind) (first second : History)
-    → OnErr r (IsSound ends a b → ⊥) → OnErr r (IsUntold (HasNoOrder ends a b first second))
+    → (IsSound ends a b → ⊥) → OnErr r (IsUntold (HasNoOrder ends a b first second))
 has_failed (Ok x) ends a b first second failed = tt
 has_failed (Err e) ends a b first second failed =
     (failure_line ends a b, inl (record { failed = failed; told = refl }))
-
--- or it has none
-pub has_none : {X F : Type 0} (r : Result X F) (ends : Ends) (a b : Option CloseKind) (first second : History)
-    → OnErr r (IsUntold (IsUnordered first second)) → OnErr r (IsUntold (HasNoOrder ends a b first second))
-has_none (Ok x) ends a b first second none = tt
-has_none (Err e) ends a b first second none = (none.0, inr none.1)
 
 -- of a move that did not begin
 pub not_begun : {X F : Type 0} (r : Result X F) (a : MoveArguments) (file : List ℕ) (why : Refused)
@@ -60,15 +54,18 @@ pub not_audited : {X F : Type 0} (r : Result X F) (arguments : MoveArguments) (f
     (a b : Option CloseKind) (first second : History) → AreOpened arguments file first.opening second.opening
     → OnErr r (IsUntold (HasNoOrder ends a b first second)) → OnErr r (IsUntold (IsNotAudited arguments file))
 not_audited (Ok x) arguments file ends a b first second opened none = tt
-not_audited (Err e) arguments file ends a b first second opened none = (none.0, inr (record {
-  ends = ends;
-  fault_a = a;
-  fault_b = b;
-  first = first;
-  second = second;
-  opened = opened;
-  none = none.1;
-}))
+not_audited (Err e) arguments file ends a b first second opened none = (
+  none.0,
+  inr (record {
+    ends = ends;
+    fault_a = a;
+    fault_b = b;
+    first = first;
+    second = second;
+    opened = opened;
+    none = none.1;
+  }),
+)
 
 -- whether there is a value or none
 none_or_some : {X : Type 0} (o : Option X) → (o ≡ None) ⊎ (o ≡ None → ⊥)
@@ -102,19 +99,33 @@ pub end_of : (ends : Ends) (a b : Option CloseKind) (first second : History) →
     → IsReplay second.opening second.entries → IsUntold (IsEndOf ends a b first second)
 end_of ends a b first second replay_a replay_b =
     elim (sound_or_not ends a b) [
-      | inl sound ↦ (answers_text first.entries ++ answers_text second.entries, inl (record {
-        sound = sound;
-        first_replays = replay_a;
-        second_replays = replay_b;
-        written = refl;
-      }))
-      | inr failed ↦ (answers_text first.entries ++ (answers_text second.entries ++ failure_line ends a b), inr (record {
-        failed = failed;
-        first_replays = replay_a;
-        second_replays = replay_b;
-        told = refl;
-      }))
+      | inl sound ↦ (
+        answers_text first.entries ++ answers_text second.entries,
+        inl (record {
+          sound = sound;
+          first_replays = replay_a;
+          second_replays = replay_b;
+          written = refl;
+        }),
+      )
+      | inr failed ↦ (
+        answers_text first.entries ++ (answers_text second.entries ++ failure_line ends a b),
+        inr (record {
+          failed = failed;
+          first_replays = replay_a;
+          second_replays = replay_b;
+          told = refl;
+        }),
+      )
     ]
+
+-- of a move that did not begin, whatever the call answers
+pub not_moved : {X F : Type 0} (r : Result X F) (a : MoveArguments) (file : List ℕ) (why : Refused)
+    (output_before output_after : Option (List ℕ)) → IsMoveRefusal a file why
+    → OnErr r (IsUntold (λ before after. IsMoved a file before after output_before output_after
+    ⊎ IsNotMoved a file before after))
+not_moved (Ok x) a file why ob oa reason = tt
+not_moved (Err e) a file why ob oa reason = (line why, inr (inl (record { why = why; reason = reason; told = refl })))
 
 -- what a call answers that was to tell it
 pub untold_move : {X F : Type 0} (r : Result ℕ F) (m : Result X Refused) (a : MoveArguments) (file : List ℕ)

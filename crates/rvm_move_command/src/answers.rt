@@ -95,11 +95,7 @@ fn write_each<E: Write>(errors: &mut E, items: &[Item]) -> Result<(), LinkFault>
 
 /// Writes the answers of all items by way of a piece, which is empty at first.
 #[tactic(auto, using(crate::proofs::Pieces::gone))]
-fn write_together<E: Write>(
-    errors: &mut E,
-    piece: Vec<u8>,
-    items: &[Item],
-) -> Result<(), LinkFault>
+fn write_together<E: Write>(errors: &mut E, piece: Vec<u8>, items: &[Item]) -> Result<(), LinkFault>
     requires { piece.items ≡ [] }
     ensures { OnOk result (Appends (E.contents errors.old) (E.contents errors.new) (answers_text (all_of items.now))) }
 {

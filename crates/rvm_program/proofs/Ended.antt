@@ -153,16 +153,19 @@ module _ {F : Type 0} (files : Named) where
       → input ≡ given → IsFile (files a.guest.image.now) bytes → IsInput files a.input given
       → (end : Result Ended Refused) × IsRunEnd a image input end output.before output.after
       → OnErr r (ToTell (λ status errors. RunEnded files a status output errors))
-  run_untold a image bytes input given output (Ok s) same as is of end = tt
-  run_untold a image bytes input given output (Err e) same as is of end =
-      let t = run_to_tell (λ e. IsRunEnd a image input e output.before output.after) end in
-      (t.0, t.1, record {
-        image = image;
-        input = input;
-        image_is = subst (IsFile (files a.guest.image.now)) (sym same) is;
-        input_is = subst (IsInput files a.input) (sym as) of;
-        ended = t.2;
-      })
+  run_untold a image bytes input given output (Ok s) same given_same is given_is end = tt
+  run_untold a image bytes input given output (Err e) same given_same is given_is end =
+      let t = run_to_tell (λ e. IsRunEnd a image input e output.before output.after) end in (
+        t.0,
+        t.1,
+        record {
+          image = image;
+          input = input;
+          image_is = subst (IsFile (files a.guest.image.now)) (sym same) is;
+          input_is = subst (IsInput files a.input) (sym given_same) given_is;
+          ended = t.2;
+        },
+      )
 
   pub asm_untold : (created : Named) (a : AsmArguments) (text bytes : List ℕ) (file : Written) (r : Result ℕ F) → text ≡ bytes
       → IsFile (files a.source.now) bytes → IsCreated (created a.output.now) file.before
@@ -170,14 +173,17 @@ module _ {F : Type 0} (files : Named) where
       → OnErr r (ToTell (λ status errors. AsmEnded files created a status errors))
   asm_untold created a text bytes file (Ok s) same is to end = tt
   asm_untold created a text bytes file (Err e) same is to end =
-      let t = to_tell (λ e. IsAsmEnd text e file.before file.after) end in
-      (t.0, t.1, record {
-        text = text;
-        file = file;
-        text_is = subst (IsFile (files a.source.now)) (sym same) is;
-        file_is = to;
-        ended = t.2;
-      })
+      let t = to_tell (λ e. IsAsmEnd text e file.before file.after) end in (
+        t.0,
+        t.1,
+        record {
+          text = text;
+          file = file;
+          text_is = subst (IsFile (files a.source.now)) (sym same) is;
+          file_is = to;
+          ended = t.2;
+        },
+      )
 
   module _ (image bytes : List ℕ) (output held told : Option (List ℕ)) (same : image ≡ bytes) (begun : held ≡ output)
     where
@@ -187,13 +193,16 @@ module _ {F : Type 0} (files : Named) where
       dis_untold a (Ok s) is end = tt
       dis_untold a (Err e) is end =
           let t = to_tell (λ e. IsListEnd (image_of a.raw image) e output told)
-          (subst (λ before. (end : Result (Unit {0}) Refused) × IsListEnd (image_of a.raw image) end before told) begun end) in
-          (t.0, t.1, record {
-            image = image;
-            told = told;
-            image_is = subst (IsFile (files a.image.now)) (sym same) is;
-            ended = t.2;
-          })
+          (subst (λ before. (end : Result (Unit {0}) Refused) × IsListEnd (image_of a.raw image) end before told) begun end) in (
+            t.0,
+            t.1,
+            record {
+              image = image;
+              told = told;
+              image_is = subst (IsFile (files a.image.now)) (sym same) is;
+              ended = t.2;
+            },
+          )
 
       pub debug_untold : (a : GuestArguments) (script : Option (List ℕ)) (r : Result ℕ F) → IsFile (files a.image.now) bytes
           → (end : Result (Unit {0}) Refused) × IsDebugEnd a image script end held told
@@ -201,13 +210,16 @@ module _ {F : Type 0} (files : Named) where
       debug_untold a script (Ok s) is end = tt
       debug_untold a script (Err e) is end =
           let t = to_tell (λ e. IsDebugEnd a image script e output told)
-          (subst (λ before. (end : Result (Unit {0}) Refused) × IsDebugEnd a image script end before told) begun end) in
-          (t.0, t.1, record {
-            image = image;
-            told = told;
-            image_is = subst (IsFile (files a.image.now)) (sym same) is;
-            ended = t.2;
-          })
+          (subst (λ before. (end : Result (Unit {0}) Refused) × IsDebugEnd a image script end before told) begun end) in (
+            t.0,
+            t.1,
+            record {
+              image = image;
+              told = told;
+              image_is = subst (IsFile (files a.image.now)) (sym same) is;
+              ended = t.2;
+            },
+          )
 
       pub script_untold : (a : ScriptArguments) (script : Option (List ℕ)) (r : Result ℕ F)
           → IsFile (files a.guest.image.now) bytes → IsOpened (files a.script.now) script
@@ -216,26 +228,33 @@ module _ {F : Type 0} (files : Named) where
       script_untold a script (Ok s) is opened end = tt
       script_untold a script (Err e) is opened end =
           let t = to_tell (λ e. IsScriptEnd a image script e output told)
-          (subst (λ before. (end : Result (Unit {0}) Refused) × IsScriptEnd a image script end before told) begun end) in
-          (t.0, t.1, record {
-            image = image;
-            script = script;
-            told = told;
-            image_is = subst (IsFile (files a.guest.image.now)) (sym same) is;
-            script_is = opened;
-            ended = t.2;
-          })
+          (subst (λ before. (end : Result (Unit {0}) Refused) × IsScriptEnd a image script end before told) begun end) in (
+            t.0,
+            t.1,
+            record {
+              image = image;
+              script = script;
+              told = told;
+              image_is = subst (IsFile (files a.guest.image.now)) (sym same) is;
+              script_is = opened;
+              ended = t.2;
+            },
+          )
 
       pub audit_untold : (a : MoveArguments) (r : Result ℕ F) → IsFile (files a.guest.image.now) bytes
           → OnErr r (IsUntold (IsNotAudited a image))
           → OnErr r (ToTell (λ status errors. AuditEnded files a status output errors))
       audit_untold a (Ok s) is untold = tt
-      audit_untold a (Err e) is untold = (1, untold.0, record {
-        image = image;
-        told = told;
-        image_is = subst (IsFile (files a.guest.image.now)) (sym same) is;
-        ended = untold.1;
-      })
+      audit_untold a (Err e) is untold = (
+        1,
+        untold.0,
+        record {
+          image = image;
+          told = told;
+          image_is = subst (IsFile (files a.guest.image.now)) (sym same) is;
+          ended = untold.1;
+        },
+      )
 
   pub move_untold : (output : Written) (image bytes : List ℕ) (a : MoveArguments) (r : Result ℕ F) → image ≡ bytes
       → IsFile (files a.guest.image.now) bytes
