@@ -27,6 +27,7 @@ use Rattle.rvm_debug.proofs.Turning.{mark_more, steps_count}
 use Rattle.rvm_debug.proofs.Waiting.{as_they_are, while_some, while_within}
 use Rattle.rvm_command.specs.declared.run.Ended.{Ended}
 use Rattle.rvm_command.specs.declared.run.Ended.TheVariants as ended
+use Rattle.rvm_command.specs.Buffered.{GoesOut}
 use Rattle.rvm_command.specs.Run.{After, IsAfter, IsPartWay, Run, after, bytes_in, drains, first, left, offers, run_from, step_of, unless_halted, unless_refused}
 use Rattle.rvm_command.specs.Slices.{GoesOn, rest_of_run, status_of, takes_none}
 
@@ -39,6 +40,36 @@ appends_more None b c xs ys p q = tt
 appends_more (Some xs0) None c xs ys p q = absurd p
 appends_more (Some xs0) (Some ys0) None xs ys p q = absurd q
 appends_more (Some xs0) (Some ys0) (Some zs0) xs ys p q = q ∙ ap (λ (l : List ℕ). l ++ ys) p ∙ append_assoc xs0 xs ys
+
+-- ---- bytes that wait in a buffer
+
+-- no byte comes and none goes out
+pub stays : (held : List ℕ) (w : Option (List ℕ)) → GoesOut [] held held w w
+stays held w = record { out = []; all = append-nil held; text = appends_none w }
+
+-- bytes come, and none goes out
+pub is_held : (bytes held left : List ℕ) (w : Option (List ℕ)) → left ≡ held ++ bytes → GoesOut bytes held left w w
+is_held bytes held left w e = record { out = []; all = sym e; text = appends_none w }
+
+-- all that was held goes out
+pub all_out : (held left : List ℕ) (before after : Option (List ℕ)) → left ≡ [] → Appends before after held → GoesOut [] held left before after
+all_out held left before after none text = record { out = held; all = ap (λ (l : List ℕ). held ++ l) (sym none); text = text }
+
+-- bytes, and others after them
+pub out_more : {b1 b2 h0 h1 h2 : List ℕ} {w0 w1 w2 : Option (List ℕ)} → GoesOut b1 h0 h1 w0 w1 → GoesOut b2 h1 h2 w1 w2 → GoesOut (b1 ++ b2) h0 h2 w0 w2
+out_more {b1} {b2} {h0} {h1} {h2} {w0} {w1} {w2} p q =
+    record {
+      out = p.out ++ q.out;
+      all = sym (append_assoc h0 b1 b2) ∙ ap (λ (l : List ℕ). l ++ b2) p.all ∙ append_assoc p.out h1 b2
+          ∙ ap (λ (l : List ℕ). p.out ++ l) q.all ∙ sym (append_assoc p.out q.out h2);
+      text = appends_more w0 w1 w2 p.out q.out p.text q.text;
+    }
+
+-- nothing was held before, and nothing is held now
+pub went_out : (bytes held left : List ℕ) (before after : Option (List ℕ)) → held ≡ [] → left ≡ [] → GoesOut bytes held left before after → Appends before after bytes
+went_out bytes held left before after none empty p =
+    let same : bytes ≡ p.out = ap (λ (l : List ℕ). l ++ bytes) (sym none) ∙ p.all ∙ ap (λ (l : List ℕ). p.out ++ l) empty ∙ append-nil p.out in
+    subst (Appends before after) (sym same) p.text
 
 -- an error, and what holds there
 pub on_err : {A E : Type 0} → (r : Result A E) → (P : Type 0) → P → OnErr r P
@@ -105,41 +136,46 @@ bytes_both : (es fs : List BoardEvent) (old mid : GuestState) → IsAfter es old
 bytes_both es fs old mid before =
     ap (λ (x : After). x.bytes) (after_both es fs old.guest) ∙ ap (λ (g : Guest). (after es old.guest).bytes ++ (after fs g).bytes) (sym before.guest)
 
--- the events that were made, and those that are left, are all; what they were answered was written
-pub record Progress (all rest : List BoardEvent) (start now : GuestState) (before written : Option (List ℕ)) : Type 0 where
+-- the events that were made, and those that are left, are all; what they were answered was written or is held
+pub record Progress (all rest : List BoardEvent) (start now : GuestState) (held left : List ℕ) (before written : Option (List ℕ)) : Type 0 where
   pub made : List BoardEvent
   pub whole : made ++ rest ≡ all
   pub so_far : IsAfter made start now
-  pub text : Appends before written (after made start.guest).bytes
+  pub text : GoesOut (after made start.guest).bytes held left before written
 
-pub begins : (all : List BoardEvent) (start : GuestState) (before : Option (List ℕ)) → Progress all all start start before before
-begins all start before =
+pub begins : (all : List BoardEvent) (start : GuestState) (held : List ℕ) (before : Option (List ℕ)) → Progress all all start start held held before before
+begins all start held before =
     record {
       made = [];
       whole = refl;
       so_far = is_after_none start;
-      text = subst (Appends before before) (ap (λ (x : After). x.bytes) (sym (after_none start.guest))) (appends_none before);
+      text = subst (λ (l : List ℕ). GoesOut l held held before before) (ap (λ (x : After). x.bytes) (sym (after_none start.guest))) (stays held before);
     }
 
-pub goes_on : {all : List BoardEvent} {start : GuestState} {before : Option (List ℕ)} (rest more es : List BoardEvent) (now new : GuestState) (mid written : Option (List ℕ)) → Progress all rest start now before mid → rest ≡ es ++ more → IsAfter es now new
-    → Appends mid written (after es now.guest).bytes → Progress all more start new before written
-goes_on {all} {start} {before} rest more es now new mid written p parts made text =
+pub goes_on : {all : List BoardEvent} {start : GuestState} {held : List ℕ} {before : Option (List ℕ)} (rest more es : List BoardEvent) (now new : GuestState) (left next : List ℕ) (mid written : Option (List ℕ)) → Progress all rest start now held left before mid → rest ≡ es ++ more → IsAfter es now new
+    → GoesOut (after es now.guest).bytes left next mid written → Progress all more start new held next before written
+goes_on {all} {start} {held} {before} rest more es now new left next mid written p parts made text =
     record {
       made = p.made ++ es;
       whole = append_assoc p.made es more ∙ ap (λ (l : List BoardEvent). p.made ++ l) (sym parts) ∙ p.whole;
       so_far = is_after_both p.made es start now new p.so_far made;
-      text = subst (Appends before written) (sym (bytes_both p.made es start now p.so_far)) (appends_more before mid written (after p.made start.guest).bytes (after es now.guest).bytes p.text text);
+      text = subst (λ (l : List ℕ). GoesOut l held next before written) (sym (bytes_both p.made es start now p.so_far)) (out_more p.text text);
     }
 
 -- events that are answered no bytes, with no write
-pub goes_quietly : {all : List BoardEvent} {start : GuestState} {before : Option (List ℕ)} (rest more es : List BoardEvent) (now new : GuestState) (written : Option (List ℕ)) → Progress all rest start now before written → rest ≡ es ++ more → IsAfter es now new
-    → (after es now.guest).bytes ≡ [] → Progress all more start new before written
-goes_quietly {all} {start} {before} rest more es now new written p parts made quiet =
-    goes_on rest more es now new written written p parts made (subst (Appends written written) (sym quiet) (appends_none written))
+pub goes_quietly : {all : List BoardEvent} {start : GuestState} {held : List ℕ} {before : Option (List ℕ)} (rest more es : List BoardEvent) (now new : GuestState) (left : List ℕ) (written : Option (List ℕ)) → Progress all rest start now held left before written → rest ≡ es ++ more → IsAfter es now new
+    → (after es now.guest).bytes ≡ [] → Progress all more start new held left before written
+goes_quietly {all} {start} {held} {before} rest more es now new left written p parts made quiet =
+    goes_on rest more es now new left left written written p parts made (subst (λ (l : List ℕ). GoesOut l left left written written) (sym quiet) (stays left written))
+
+-- no event, and a write of what was held
+pub goes_out : {all rest : List BoardEvent} {start now : GuestState} {held left next : List ℕ} {before mid written : Option (List ℕ)} → Progress all rest start now held left before mid → GoesOut [] left next mid written → Progress all rest start now held next before written
+goes_out {all} {rest} {start} {now} {held} {left} {next} {before} {mid} {written} p text =
+    goes_on rest rest [] now now left next mid written p refl (is_after_none now) (subst (λ (l : List ℕ). GoesOut l left next mid written) (ap (λ (x : After). x.bytes) (sym (after_none now.guest))) text)
 
 -- only some of the next events were made
-pub part_way : {all : List BoardEvent} {start : GuestState} {before : Option (List ℕ)} (rest more es : List BoardEvent) (now new : GuestState) (mid : Option (List ℕ)) → Progress all rest start now before mid → rest ≡ es ++ more → IsPartWay es now new → IsPartWay all start new
-part_way {all} {start} {before} rest more es now new mid p parts part =
+pub part_way : {all : List BoardEvent} {start : GuestState} {held left : List ℕ} {before : Option (List ℕ)} (rest more es : List BoardEvent) (now new : GuestState) (mid : Option (List ℕ)) → Progress all rest start now held left before mid → rest ≡ es ++ more → IsPartWay es now new → IsPartWay all start new
+part_way {all} {start} {held} {left} {before} rest more es now new mid p parts part =
     record {
       made = p.made ++ part.made;
       left = part.left ++ more;
@@ -149,29 +185,39 @@ part_way {all} {start} {before} rest more es now new mid p parts part =
       so_far = is_after_both p.made part.made start now new p.so_far part.so_far;
     }
 
--- where the next events are answered bytes, all are
-pub some_bytes : {all : List BoardEvent} {start : GuestState} {before : Option (List ℕ)} (rest more es : List BoardEvent) (now : GuestState) (mid : Option (List ℕ)) → Progress all rest start now before mid → rest ≡ es ++ more
-    → 0 < length (after es now.guest).bytes → 0 < length (after all start.guest).bytes
-some_bytes {all} {start} {before} rest more es now mid p parts some =
+-- the part of the next events that is none of them
+pub none_made : {all rest : List BoardEvent} {start now : GuestState} {held left : List ℕ} {before mid : Option (List ℕ)} → Progress all rest start now held left before mid → IsPartWay all start now
+none_made {all} {rest} {start} {now} {held} {left} {before} {mid} p = record { made = p.made; left = rest; whole = p.whole; so_far = p.so_far }
+
+-- where bytes are held or the next events are answered some, there are some in all
+pub some_bytes : {all : List BoardEvent} {start : GuestState} {held left : List ℕ} {before : Option (List ℕ)} (rest more es : List BoardEvent) (now : GuestState) (mid : Option (List ℕ)) → Progress all rest start now held left before mid → rest ≡ es ++ more
+    → 0 < length (left ++ (after es now.guest).bytes) → 0 < length (held ++ (after all start.guest).bytes)
+some_bytes {all} {start} {held} {left} {before} rest more es now mid p parts some =
     let b1 = (after p.made start.guest).bytes in
     let b2 = (after es now.guest).bytes in
     let b3 = (after more (after es now.guest).guest).bytes in
     let whole : (after all start.guest).bytes ≡ b1 ++ (b2 ++ b3) =
     ap (λ l. (after l start.guest).bytes) (sym p.whole) ∙ bytes_both p.made rest start now p.so_far
     ∙ ap (λ l. b1 ++ (after l now.guest).bytes) parts ∙ ap (λ (x : After). b1 ++ x.bytes) (after_both es more now.guest) in
-    rw whole (omega (arith, length-append b1 (b2 ++ b3), length-append b2 b3, some))
+    let sizes : length (held ++ b1) ≡ length (p.text.out ++ left) = ap length p.text.all in
+    rw whole (omega (arith, length-append held (b1 ++ (b2 ++ b3)), length-append b1 (b2 ++ b3), length-append b2 b3, length-append held b1, length-append p.text.out left, length-append left b2, sizes, some))
+
+-- the same where bytes are held
+pub some_held : {all rest : List BoardEvent} {start now : GuestState} {held left : List ℕ} {before mid : Option (List ℕ)} → Progress all rest start now held left before mid → 0 < length left → 0 < length (held ++ (after all start.guest).bytes)
+some_held {all} {rest} {start} {now} {held} {left} {before} {mid} p some =
+    some_bytes rest rest [] now mid p refl (omega (arith, length-append left (after [] now.guest).bytes, some))
 
 -- all events were made
-pub record AllMade (all : List BoardEvent) (start now : GuestState) (before written : Option (List ℕ)) : Type 0 where
+pub record AllMade (all : List BoardEvent) (start now : GuestState) (held left : List ℕ) (before written : Option (List ℕ)) : Type 0 where
   pub made : IsAfter all start now
-  pub text : Appends before written (after all start.guest).bytes
+  pub text : GoesOut (after all start.guest).bytes held left before written
 
-pub all_made : {all : List BoardEvent} {start : GuestState} {before : Option (List ℕ)} (rest : List BoardEvent) (now : GuestState) (written : Option (List ℕ)) → Progress all rest start now before written → rest ≡ [] → AllMade all start now before written
-all_made {all} {start} {before} rest now written p none =
+pub all_made : {all : List BoardEvent} {start : GuestState} {held left : List ℕ} {before : Option (List ℕ)} (rest : List BoardEvent) (now : GuestState) (written : Option (List ℕ)) → Progress all rest start now held left before written → rest ≡ [] → AllMade all start now held left before written
+all_made {all} {start} {held} {left} {before} rest now written p none =
     let whole : p.made ≡ all = sym (append-nil p.made) ∙ ap (λ (l : List BoardEvent). p.made ++ l) (sym none) ∙ p.whole in
     record {
       made = subst (λ (es : List BoardEvent). IsAfter es start now) whole p.so_far;
-      text = subst (λ (es : List BoardEvent). Appends before written (after es start.guest).bytes) whole p.text;
+      text = subst (λ (es : List BoardEvent). GoesOut (after es start.guest).bytes held left before written) whole p.text;
     }
 
 -- ---- drains
@@ -216,11 +262,6 @@ drained_bytes count size old whole is_least =
     let sent = old.guest.board.shared.devices.output in
     ap (λ n. take n sent) (is_least ∙ ap (λ k. min k (length sent)) whole) ∙ take_min 256 sent ∙ ap (λ (x : After). x.bytes) (sym (after_one (Drain 256) old.guest))
 
-pub drained_some : (g : Guest) → 0 < length g.board.shared.devices.output → 0 < length (after (Drain 256 ∷ []) g).bytes
-drained_some g some =
-    let sent = g.board.shared.devices.output in
-    rw (after_one (Drain 256) g) (omega (arith, length-take 256 sent, some))
-
 -- a drain, and those behind it
 left_by : (old new : GuestState) → IsAfter (Drain 256 ∷ []) old new → new.guest ≡ (answered (Drain 256) old.guest).guest
 left_by old new made = made.guest ∙ ap (λ (x : After). x.guest) (after_one (Drain 256) old.guest)
@@ -230,10 +271,6 @@ drain_first old new some made = drains_more old.guest some ∙ ap (λ g. (Drain 
 
 pub drain_fewer : (old new : GuestState) → IsAfter (Drain 256 ∷ []) old new → length new.guest.board.shared.devices.output ≡ length old.guest.board.shared.devices.output - 256
 drain_fewer old new made = ap (λ (g : Guest). length g.board.shared.devices.output) (left_by old new made) ∙ length-drop 256 old.guest.board.shared.devices.output
-
--- all of some events
-pub whole_part : (es : List BoardEvent) (old new : GuestState) → IsAfter es old new → IsPartWay es old new
-whole_part es old new made = record { made = es; left = []; whole = append-nil es; so_far = made }
 
 -- ---- the byte that is offered
 
@@ -519,33 +556,33 @@ drained_rest n left t input g new said e f same taken =
 -- ---- the loop of a run
 
 -- a slice of turns was made
-pub slice_behind : {all : List BoardEvent} {run rest : Run} {start old new : GuestState} {before written : Option (List ℕ)} → GoesOn run rest old new → Progress all run.events start old before written → Progress all rest.events start new before written
-slice_behind {all} {run} {rest} {start} {old} {new} {before} {written} slice so_far =
-    goes_quietly run.events rest.events slice.events old new written so_far (ap (λ (r : Run). r.events) slice.whole) slice.so_far slice.quiet
+pub slice_behind : {all : List BoardEvent} {run rest : Run} {start old new : GuestState} {held left : List ℕ} {before written : Option (List ℕ)} → GoesOn run rest old new → Progress all run.events start old held left before written → Progress all rest.events start new held left before written
+slice_behind {all} {run} {rest} {start} {old} {new} {held} {left} {before} {written} slice so_far =
+    goes_quietly run.events rest.events slice.events old new left written so_far (ap (λ (r : Run). r.events) slice.whole) slice.so_far slice.quiet
 
 pub slice_ended : {run rest : Run} {old new : GuestState} (whole : Ended) → GoesOn run rest old new → run.ended ≡ whole → rest.ended ≡ whole
 slice_ended whole slice same = sym (ap (λ (r : Run). r.ended) slice.whole) ∙ same
 
--- the last drains, where they were made and where they were not
+-- the last drains, behind which nothing is held
 pub record Finished (all : List BoardEvent) (end whole : Ended) (start new : GuestState) (before written : Option (List ℕ)) : Type 0 where
   pub made : IsAfter all start new
   pub text : Appends before written (after all start.guest).bytes
   pub ended : end ≡ whole
 
-pub finished : {all : List BoardEvent} {rest : Run} {end : Ended} {start now new : GuestState} {before mid : Option (List ℕ)} (whole : Ended) (written : Option (List ℕ)) → Progress all rest.events start now before mid → rest.ended ≡ whole → rest ≡ record { events = drains now.guest; ended = end }
-    → IsAfter (drains now.guest) now new → Appends mid written (after (drains now.guest) now.guest).bytes → Finished all end whole start new before written
-finished {all} {rest} {end} {start} {now} {new} {before} {mid} whole written so_far same last taken text =
+pub finished : {all : List BoardEvent} {rest : Run} {end : Ended} {start now new : GuestState} {left next : List ℕ} {before mid : Option (List ℕ)} (whole : Ended) (written : Option (List ℕ)) → Progress all rest.events start now [] left before mid → rest.ended ≡ whole → rest ≡ record { events = drains now.guest; ended = end }
+    → IsAfter (drains now.guest) now new → GoesOut (after (drains now.guest) now.guest).bytes left next mid written → next ≡ [] → Finished all end whole start new before written
+finished {all} {rest} {end} {start} {now} {new} {left} {next} {before} {mid} whole written so_far same last taken text empty =
     let parts = ap (λ (r : Run). r.events) last ∙ sym (append-nil (drains now.guest)) in
-    let made = all_made [] new written (goes_on rest.events [] (drains now.guest) now new mid written so_far parts taken text) refl in
-    record { made = made.made; text = made.text; ended = sym (ap (λ (r : Run). r.ended) last) ∙ same }
+    let made = all_made [] new written (goes_on rest.events [] (drains now.guest) now new left next mid written so_far parts taken text) refl in
+    record { made = made.made; text = went_out (after all start.guest).bytes [] next before written refl empty made.text; ended = sym (ap (λ (r : Run). r.ended) last) ∙ same }
 
 pub record BrokenOff (all : List BoardEvent) (start new : GuestState) : Type 0 where
   pub some : 0 < length (after all start.guest).bytes
   pub part : IsPartWay all start new
 
-pub broken_off : {all : List BoardEvent} {rest : Run} {start now new : GuestState} {before mid : Option (List ℕ)} (more : Run) → Progress all rest.events start now before mid → rest ≡ first (drains now.guest) more
-    → IsPartWay (drains now.guest) now new → 0 < length (after (drains now.guest) now.guest).bytes → BrokenOff all start new
-broken_off {all} {rest} {start} {now} {new} {before} {mid} more so_far parts part some =
+pub broken_off : {all : List BoardEvent} {rest : Run} {start now new : GuestState} {left : List ℕ} {before mid : Option (List ℕ)} (more : Run) → Progress all rest.events start now [] left before mid → rest ≡ first (drains now.guest) more
+    → IsPartWay (drains now.guest) now new → 0 < length (left ++ (after (drains now.guest) now.guest).bytes) → BrokenOff all start new
+broken_off {all} {rest} {start} {now} {new} {left} {before} {mid} more so_far parts part some =
     let events = ap (λ (r : Run). r.events) parts in
     record { some = some_bytes rest.events more.events (drains now.guest) now mid so_far events some; part = part_way rest.events more.events (drains now.guest) now new mid so_far events part }
 
@@ -554,8 +591,13 @@ pub last_drains : (g : Guest) (end : Ended) (rest : Run) → rest ≡ record { e
 last_drains g end rest e = e ∙ ap (λ (l : List BoardEvent). record { events = l; ended = end }) (sym (append-nil (drains g)))
 
 -- nothing waits
-pub drain_nothing : (s : GuestState) (w : Option (List ℕ)) → length s.guest.board.shared.devices.output ≡ 0 → AllMade (drains s.guest) s s w w
-drain_nothing s w none = all_made (drains s.guest) s w (begins (drains s.guest) s w) (drains_none s.guest none)
+pub drain_nothing : (s : GuestState) (held : List ℕ) (w : Option (List ℕ)) → length s.guest.board.shared.devices.output ≡ 0 → AllMade (drains s.guest) s s held held w w
+drain_nothing s held w none = all_made (drains s.guest) s w (begins (drains s.guest) s held w) (drains_none s.guest none)
+
+-- after all drains, what is held goes out too
+pub then_out : {bytes held left next : List ℕ} {before mid written : Option (List ℕ)} → GoesOut bytes held left before mid → next ≡ [] → Appends mid written left → GoesOut bytes held next before written
+then_out {bytes} {held} {left} {next} {before} {mid} {written} p none text =
+    subst (λ (l : List ℕ). GoesOut l held next before written) (append-nil bytes) (out_more p (all_out left next mid written none text))
 
 -- where no input is left, all turns are made
 pub any_turns : (is_more : Bool) (count h : ℕ) (old new : GuestState) (told : Turns) → is_more ≡ false → TakesTurns (after_turns RoundRobin count h old.guest) old new told → TakesTurns (turns_while (takes_none is_more) count h old.guest) old new told

@@ -1,5 +1,6 @@
 pub mod Run
 pub mod Slices
+pub mod Buffered
 pub mod Command
 pub mod Assembled
 pub mod Refusals

@@ -5,7 +5,7 @@
 //! Stands on the debugged board, images, the assembler, the disassembler, scripts and the arguments,
 //! and knows nothing of files, processes or the terminal.
 //!
-//! To be read in this order: `guest`, `refused`, `flush`, `run`, `run_command`, `asm_command`,
+//! To be read in this order: `guest`, `refused`, `flush`, `output_buffer`, `run`, `run_command`, `asm_command`,
 //! `dis_command`, `debug_command`.
 #![tactic(auto)]
 
@@ -14,6 +14,7 @@ pub mod debug_command;
 pub mod dis_command;
 pub mod flush;
 pub mod guest;
+mod output_buffer;
 pub mod refused;
 pub mod run;
 pub mod run_command;

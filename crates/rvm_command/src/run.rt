@@ -1,18 +1,24 @@
 //! The loop of `rvmove run`: turns of the harts, input to the guest, and what it sends.
 
-ghost use Rattle.std.specs.Prelude.{◌≡◌, ◌<◌, ◌≤◌, ◌+◌, ◌-◌, ◌%◌, ◌∷◌, [], OnOk, OnErr, IfOk, drop, length};
+ghost use Rattle.std.specs.Prelude.{◌≡◌, ◌<◌, ◌≤◌, ◌+◌, ◌-◌, ◌%◌, ◌∷◌, ◌++◌, [], OnOk, OnErr, IfOk, IsTrue, drop, length};
 ghost use Rattle.std.specs.Io.KnownBytes.{Appends};
 ghost use Rattle.rvm_mem.specs.Pages.{mark_all};
 ghost use Rattle.rvm_debug.specs.declared.event.BoardEvent.TheVariants.{Drain};
 ghost use Rattle.rvm_debug.specs.Turns.{TakesTurns};
 ghost use Rattle.rvm_debug.specs.WhileFull.{turns_while};
+ghost use Rattle.rvm_command.specs.Buffered.{GoesOut};
 ghost use Rattle.rvm_command.specs.Run.{IsAfter, IsPartWay, after, drains, left, offers, ran, run_from};
 ghost use Rattle.rvm_command.specs.Slices.{GoesOn, rest_of_run, status_of, takes_none};
 
+use crate::output_buffer::OutputBuffer;
 use rvm_debug::{DRAIN_EVERY, DRAIN_SIZE, Debugged, Order, Stop, Turns};
 use rvm_mem::Memory;
 use rvm_refusal::LinkFault;
 use std::io::Write;
+
+/// After how many turns at the latest what was taken is written: `run` has no clock, and so many turns
+/// take about a millisecond.
+const WRITE_EVERY: u32 = 65_536;
 
 /// How a run ended.
 #[derive(Clone, Copy, Debug, PartialEq, Eq)]
@@ -25,11 +31,15 @@ pub enum Ended {
 
 /// Makes `steps` turns, or turns until the guest halts the board. In turn t the next byte of
 /// `input`, if one is left, comes to the console, or is kept for later where 16 bytes wait; then hart
-/// t modulo the number of harts takes a step. What the guest sent is written after each 64 turns,
-/// when the board is halted and at the end. A hart that stops at a breakpoint has had its turn.
+/// t modulo the number of harts takes a step. What the guest sent is taken after each 64 turns, when
+/// the board is halted and at the end. A hart that stops at a breakpoint has had its turn.
 ///
-/// `LinkFault` where the writer failed, which needs something to write: then the guest is that which
-/// some of the first events of the run left, and the bytes of the last of them may not have gone out.
+/// What was taken is written in pieces of up to 4096 bytes: if fewer than 256 more would fit, after
+/// each 65,536 turns, when the board is halted and at the end. The writer is not flushed.
+///
+/// `LinkFault` if the writer failed, which needs something to write: then the guest is that which some
+/// of the first events of the run left. Of the piece that was written then, any part may have gone
+/// out; the pieces before it were written, and nothing after it.
 pub fn run<M: Memory, W: Write>(
     guest: &mut Debugged<M>,
     steps: u32,
@@ -48,19 +58,20 @@ pub fn run<M: Memory, W: Write>(
 {
     let mut next = 0;
     let mut turn = 0;
+    let mut buffer = OutputBuffer::new();
     while turn < steps {
         let slice = make_turns(guest, turn, steps, input, next);
         turn += slice.made;
         next = slice.next;
         if let Some(status) = slice.status {
-            drain(guest, writer)?;
+            drain(guest, &mut buffer, true, writer)?;
             return Ok(Ended::HaltedWith(status));
         }
         if turn % DRAIN_EVERY == 0 {
-            drain(guest, writer)?;
+            drain(guest, &mut buffer, turn % WRITE_EVERY == 0, writer)?;
         }
     }
-    drain(guest, writer)?;
+    drain(guest, &mut buffer, true, writer)?;
     Ok(Ended::StepsSpent)
 }
 
@@ -147,47 +158,80 @@ fn feed<M: Memory>(guest: &mut Debugged<M>, input: &[u8], next: usize) -> usize
     }
 }
 
-/// Writes all that the guest sent, if there is any, and forgets it.
-#[inline]
-fn drain<M: Memory, W: Write>(guest: &mut Debugged<M>, writer: &mut W) -> Result<(), LinkFault>
-    ensures written { OnOk result (Appends (W.contents writer.old) (W.contents writer.new)
-        (after (drains guest.old.guest) guest.old.guest).bytes) }
+/// Takes all that the guest sent, if there is any, and writes all that is held if that `is_due`.
+#[inline(always)]
+fn drain<M: Memory, W: Write>(
+    guest: &mut Debugged<M>,
+    buffer: &mut OutputBuffer,
+    is_due: bool,
+    writer: &mut W,
+) -> Result<(), LinkFault>
+    ensures written { OnOk result (GoesOut (after (drains guest.old.guest) guest.old.guest).bytes
+        buffer.old buffer.new (W.contents writer.old) (W.contents writer.new)) }
+    ensures empty { OnOk result (IsTrue is_due → buffer.new ≡ []) }
     ensures guest { OnOk result (IsAfter (drains guest.old.guest) guest.old guest.new) }
-    ensures err { OnErr result (0 < length (after (drains guest.old.guest) guest.old.guest).bytes) }
+    ensures err { OnErr result
+        (0 < length (buffer.old ++ (after (drains guest.old.guest) guest.old.guest).bytes)) }
     ensures part { OnErr result (IsPartWay (drains guest.old.guest) guest.old guest.new) }
 {
-    if guest.waiting() == 0 {
+    if guest.waiting() == 0 && !is_due {
         return Ok(());
     }
-    drain_all(guest, writer)
+    drain_and_write(guest, buffer, is_due, writer)
 }
 
-/// Writes all that the guest sent, and forgets it.
+/// Takes all that the guest sent, and writes all that is held if that `is_due`.
 #[cold]
 #[inline(never)]
-fn drain_all<M: Memory, W: Write>(guest: &mut Debugged<M>, writer: &mut W) -> Result<(), LinkFault>
-    ensures written { OnOk result (Appends (W.contents writer.old) (W.contents writer.new)
-        (after (drains guest.old.guest) guest.old.guest).bytes) }
+fn drain_and_write<M: Memory, W: Write>(
+    guest: &mut Debugged<M>,
+    buffer: &mut OutputBuffer,
+    is_due: bool,
+    writer: &mut W,
+) -> Result<(), LinkFault>
+    ensures written { OnOk result (GoesOut (after (drains guest.old.guest) guest.old.guest).bytes
+        buffer.old buffer.new (W.contents writer.old) (W.contents writer.new)) }
+    ensures empty { OnOk result (IsTrue is_due → buffer.new ≡ []) }
     ensures guest { OnOk result (IsAfter (drains guest.old.guest) guest.old guest.new) }
-    ensures err { OnErr result (0 < length (after (drains guest.old.guest) guest.old.guest).bytes) }
+    ensures err { OnErr result
+        (0 < length (buffer.old ++ (after (drains guest.old.guest) guest.old.guest).bytes)) }
     ensures part { OnErr result (IsPartWay (drains guest.old.guest) guest.old guest.new) }
 {
-    while guest.waiting() > 0 {
-        drain_once(guest, writer)?;
+    drain_all(guest, buffer, writer)?;
+    if is_due {
+        buffer.write_to(writer)?;
     }
     Ok(())
 }
 
-/// Takes the oldest bytes that the guest sent, at most 256, and writes them.
-fn drain_once<M: Memory, W: Write>(guest: &mut Debugged<M>, writer: &mut W) -> Result<(), LinkFault>
-    ensures written { OnOk result (Appends (W.contents writer.old) (W.contents writer.new)
-        (after (Drain 256 ∷ []) guest.old.guest).bytes) }
+/// Takes all that the guest sent. Writes what is held each time that the buffer is full.
+fn drain_all<M: Memory, W: Write>(
+    guest: &mut Debugged<M>,
+    buffer: &mut OutputBuffer,
+    writer: &mut W,
+) -> Result<(), LinkFault>
+    ensures written { OnOk result (GoesOut (after (drains guest.old.guest) guest.old.guest).bytes
+        buffer.old buffer.new (W.contents writer.old) (W.contents writer.new)) }
+    ensures guest { OnOk result (IsAfter (drains guest.old.guest) guest.old guest.new) }
+    ensures err { OnErr result
+        (0 < length (buffer.old ++ (after (drains guest.old.guest) guest.old.guest).bytes)) }
+    ensures part { OnErr result (IsPartWay (drains guest.old.guest) guest.old guest.new) }
+{
+    while guest.waiting() > 0 {
+        buffer.make_room(DRAIN_SIZE as usize, writer)?;
+        drain_once(guest, buffer);
+    }
+    Ok(())
+}
+
+/// Takes the oldest bytes that the guest sent, at most 256, into a buffer that has room for them.
+fn drain_once<M: Memory>(guest: &mut Debugged<M>, buffer: &mut OutputBuffer)
+    requires { length buffer.old + 256 ≤ 4096 }
+    ensures bytes { buffer.new
+        ≡ buffer.old ++ (after (Drain 256 ∷ []) guest.old.guest).bytes }
     ensures guest { IsAfter (Drain 256 ∷ []) guest.old guest.new }
 {
     let mut bytes = [0; DRAIN_SIZE as usize];
     let count = guest.drain(&mut bytes);
-    match writer.write_all(&bytes[..count]) {
-        Ok(()) => Ok(()),
-        Err(_) => Err(LinkFault),
-    }
+    buffer.append(&bytes[..count]);
 }

@@ -12,7 +12,7 @@ loop-turn-init g c =
       next = omega arith;
       turn = omega arith;
       ended = ap (λ (n : ℕ). (run_from n 0 c.args.input.now c.args.guest.now.guest).ended) same;
-      events = rw same (begins (run_from c.args.steps 0 c.args.input.now c.args.guest.now.guest).events c.args.guest.now (g.W.Write.contents c.args.writer.now));
+      events = rw (same, c.new-buffer.ensures) (begins (run_from c.args.steps 0 c.args.input.now c.args.guest.now.guest).events c.args.guest.now [] (g.W.Write.contents c.args.writer.now));
     }
 
 pub returns-in_err-drain-clause-err : goal.returns-in_err-drain-clause-err
@@ -32,28 +32,28 @@ returns-in-Some-clause-written g c =
     let so_far = slice_behind c.make_turns-slice.ensures.run c.loop-turn.invariant.events in
     let ended = slice_ended (run_from c.args.steps 0 c.args.input.now c.args.guest.now.guest).ended c.make_turns-slice.ensures.run c.loop-turn.invariant.ended in
     let last = halted_rest c.in-Some.status (c.args.steps - c.loop-turn.turn - c.make_turns-slice.result.made) (c.loop-turn.turn + c.make_turns-slice.result.made) (drop c.make_turns-slice.result.next c.args.input.now) c.make_turns-slice.new.guest.guest c.make_turns-slice.result.status c.in-Some.is in
-    (finished (run_from c.args.steps 0 c.args.input.now c.args.guest.now.guest).ended (g.W.Write.contents c.drain.new.writer) so_far ended last c.in_ok-drain.ensures.guest c.in_ok-drain.ensures.written).text
+    (finished (run_from c.args.steps 0 c.args.input.now c.args.guest.now.guest).ended (g.W.Write.contents c.drain.new.writer) so_far ended last c.in_ok-drain.ensures.guest c.in_ok-drain.ensures.written (c.in_ok-drain.ensures.empty refl)).text
 
 pub returns-in-Some-clause-guest : goal.returns-in-Some-clause-guest
 returns-in-Some-clause-guest g c =
     let so_far = slice_behind c.make_turns-slice.ensures.run c.loop-turn.invariant.events in
     let ended = slice_ended (run_from c.args.steps 0 c.args.input.now c.args.guest.now.guest).ended c.make_turns-slice.ensures.run c.loop-turn.invariant.ended in
     let last = halted_rest c.in-Some.status (c.args.steps - c.loop-turn.turn - c.make_turns-slice.result.made) (c.loop-turn.turn + c.make_turns-slice.result.made) (drop c.make_turns-slice.result.next c.args.input.now) c.make_turns-slice.new.guest.guest c.make_turns-slice.result.status c.in-Some.is in
-    (finished (run_from c.args.steps 0 c.args.input.now c.args.guest.now.guest).ended (g.W.Write.contents c.drain.new.writer) so_far ended last c.in_ok-drain.ensures.guest c.in_ok-drain.ensures.written).made.guest
+    (finished (run_from c.args.steps 0 c.args.input.now c.args.guest.now.guest).ended (g.W.Write.contents c.drain.new.writer) so_far ended last c.in_ok-drain.ensures.guest c.in_ok-drain.ensures.written (c.in_ok-drain.ensures.empty refl)).made.guest
 
 pub returns-in-Some-clause-dirty : goal.returns-in-Some-clause-dirty
 returns-in-Some-clause-dirty g c =
     let so_far = slice_behind c.make_turns-slice.ensures.run c.loop-turn.invariant.events in
     let ended = slice_ended (run_from c.args.steps 0 c.args.input.now c.args.guest.now.guest).ended c.make_turns-slice.ensures.run c.loop-turn.invariant.ended in
     let last = halted_rest c.in-Some.status (c.args.steps - c.loop-turn.turn - c.make_turns-slice.result.made) (c.loop-turn.turn + c.make_turns-slice.result.made) (drop c.make_turns-slice.result.next c.args.input.now) c.make_turns-slice.new.guest.guest c.make_turns-slice.result.status c.in-Some.is in
-    (finished (run_from c.args.steps 0 c.args.input.now c.args.guest.now.guest).ended (g.W.Write.contents c.drain.new.writer) so_far ended last c.in_ok-drain.ensures.guest c.in_ok-drain.ensures.written).made.dirty
+    (finished (run_from c.args.steps 0 c.args.input.now c.args.guest.now.guest).ended (g.W.Write.contents c.drain.new.writer) so_far ended last c.in_ok-drain.ensures.guest c.in_ok-drain.ensures.written (c.in_ok-drain.ensures.empty refl)).made.dirty
 
 pub returns-in-Some-clause-ended : goal.returns-in-Some-clause-ended
 returns-in-Some-clause-ended g c =
     let so_far = slice_behind c.make_turns-slice.ensures.run c.loop-turn.invariant.events in
     let ended = slice_ended (run_from c.args.steps 0 c.args.input.now c.args.guest.now.guest).ended c.make_turns-slice.ensures.run c.loop-turn.invariant.ended in
     let last = halted_rest c.in-Some.status (c.args.steps - c.loop-turn.turn - c.make_turns-slice.result.made) (c.loop-turn.turn + c.make_turns-slice.result.made) (drop c.make_turns-slice.result.next c.args.input.now) c.make_turns-slice.new.guest.guest c.make_turns-slice.result.status c.in-Some.is in
-    (finished (run_from c.args.steps 0 c.args.input.now c.args.guest.now.guest).ended (g.W.Write.contents c.drain.new.writer) so_far ended last c.in_ok-drain.ensures.guest c.in_ok-drain.ensures.written).ended
+    (finished (run_from c.args.steps 0 c.args.input.now c.args.guest.now.guest).ended (g.W.Write.contents c.drain.new.writer) so_far ended last c.in_ok-drain.ensures.guest c.in_ok-drain.ensures.written (c.in_ok-drain.ensures.empty refl)).ended
 
 pub loop-turn-preserved-in-Continue-branch-2 : goal.loop-turn-preserved-in-Continue-branch-2
 loop-turn-preserved-in-Continue-branch-2 g c =
@@ -64,7 +64,7 @@ loop-turn-preserved-in-Continue-branch-2 g c =
       next = c.make_turns-slice.ensures.next;
       turn = c.make_turns-slice.ensures.within;
       ended = sym (ap (λ (r : Run). r.ended) next) ∙ ended;
-      events = goes_on (rest_of_run c.make_turns-slice.result.status (c.args.steps - c.loop-turn.turn - c.make_turns-slice.result.made) (c.loop-turn.turn + c.make_turns-slice.result.made) (drop c.make_turns-slice.result.next c.args.input.now) c.make_turns-slice.new.guest.guest).events (run_from (c.args.steps - (c.loop-turn.turn + c.make_turns-slice.result.made)) (c.loop-turn.turn + c.make_turns-slice.result.made) (drop c.make_turns-slice.result.next c.args.input.now) c.drain-then-turn-eq0.new.guest.guest).events (drains c.make_turns-slice.new.guest.guest) c.make_turns-slice.new.guest c.drain-then-turn-eq0.new.guest (g.W.Write.contents c.loop-turn.writer) (g.W.Write.contents c.drain-then-turn-eq0.new.writer) so_far (ap (λ (r : Run). r.events) next) c.in_ok-drain-2.ensures.guest c.in_ok-drain-2.ensures.written;
+      events = goes_on (rest_of_run c.make_turns-slice.result.status (c.args.steps - c.loop-turn.turn - c.make_turns-slice.result.made) (c.loop-turn.turn + c.make_turns-slice.result.made) (drop c.make_turns-slice.result.next c.args.input.now) c.make_turns-slice.new.guest.guest).events (run_from (c.args.steps - (c.loop-turn.turn + c.make_turns-slice.result.made)) (c.loop-turn.turn + c.make_turns-slice.result.made) (drop c.make_turns-slice.result.next c.args.input.now) c.drain-then-turn-eq0.new.guest.guest).events (drains c.make_turns-slice.new.guest.guest) c.make_turns-slice.new.guest c.drain-then-turn-eq0.new.guest c.loop-turn.buffer c.drain-then-turn-eq0.new.buffer (g.W.Write.contents c.loop-turn.writer) (g.W.Write.contents c.drain-then-turn-eq0.new.writer) so_far (ap (λ (r : Run). r.events) next) c.in_ok-drain-2.ensures.guest c.in_ok-drain-2.ensures.written;
     }
 
 pub returns-in_err-drain-2-clause-err : goal.returns-in_err-drain-2-clause-err
@@ -108,25 +108,25 @@ returns-clause-written g c =
     let last = spent_run (c.args.steps - c.loop-turn.turn) c.loop-turn.turn (drop c.loop-turn.next c.args.input.now) c.loop-turn.guest.guest (omega arith) in
     let so_far = c.loop-turn.invariant.events in
     let ended = c.loop-turn.invariant.ended in
-    (finished (run_from c.args.steps 0 c.args.input.now c.args.guest.now.guest).ended (g.W.Write.contents c.drain-2.new.writer) so_far ended last c.in_ok-drain-3.ensures.guest c.in_ok-drain-3.ensures.written).text
+    (finished (run_from c.args.steps 0 c.args.input.now c.args.guest.now.guest).ended (g.W.Write.contents c.drain-2.new.writer) so_far ended last c.in_ok-drain-3.ensures.guest c.in_ok-drain-3.ensures.written (c.in_ok-drain-3.ensures.empty refl)).text
 
 pub returns-clause-guest : goal.returns-clause-guest
 returns-clause-guest g c =
     let last = spent_run (c.args.steps - c.loop-turn.turn) c.loop-turn.turn (drop c.loop-turn.next c.args.input.now) c.loop-turn.guest.guest (omega arith) in
     let so_far = c.loop-turn.invariant.events in
     let ended = c.loop-turn.invariant.ended in
-    (finished (run_from c.args.steps 0 c.args.input.now c.args.guest.now.guest).ended (g.W.Write.contents c.drain-2.new.writer) so_far ended last c.in_ok-drain-3.ensures.guest c.in_ok-drain-3.ensures.written).made.guest
+    (finished (run_from c.args.steps 0 c.args.input.now c.args.guest.now.guest).ended (g.W.Write.contents c.drain-2.new.writer) so_far ended last c.in_ok-drain-3.ensures.guest c.in_ok-drain-3.ensures.written (c.in_ok-drain-3.ensures.empty refl)).made.guest
 
 pub returns-clause-dirty : goal.returns-clause-dirty
 returns-clause-dirty g c =
     let last = spent_run (c.args.steps - c.loop-turn.turn) c.loop-turn.turn (drop c.loop-turn.next c.args.input.now) c.loop-turn.guest.guest (omega arith) in
     let so_far = c.loop-turn.invariant.events in
     let ended = c.loop-turn.invariant.ended in
-    (finished (run_from c.args.steps 0 c.args.input.now c.args.guest.now.guest).ended (g.W.Write.contents c.drain-2.new.writer) so_far ended last c.in_ok-drain-3.ensures.guest c.in_ok-drain-3.ensures.written).made.dirty
+    (finished (run_from c.args.steps 0 c.args.input.now c.args.guest.now.guest).ended (g.W.Write.contents c.drain-2.new.writer) so_far ended last c.in_ok-drain-3.ensures.guest c.in_ok-drain-3.ensures.written (c.in_ok-drain-3.ensures.empty refl)).made.dirty
 
 pub returns-clause-ended : goal.returns-clause-ended
 returns-clause-ended g c =
     let last = spent_run (c.args.steps - c.loop-turn.turn) c.loop-turn.turn (drop c.loop-turn.next c.args.input.now) c.loop-turn.guest.guest (omega arith) in
     let so_far = c.loop-turn.invariant.events in
     let ended = c.loop-turn.invariant.ended in
-    (finished (run_from c.args.steps 0 c.args.input.now c.args.guest.now.guest).ended (g.W.Write.contents c.drain-2.new.writer) so_far ended last c.in_ok-drain-3.ensures.guest c.in_ok-drain-3.ensures.written).ended
+    (finished (run_from c.args.steps 0 c.args.input.now c.args.guest.now.guest).ended (g.W.Write.contents c.drain-2.new.writer) so_far ended last c.in_ok-drain-3.ensures.guest c.in_ok-drain-3.ensures.written (c.in_ok-drain-3.ensures.empty refl)).ended
