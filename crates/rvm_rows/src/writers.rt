@@ -23,6 +23,36 @@ static LETTER: [u32; 5] = [
     0x0003_A023,
 ];
 
+/// Sends the low byte of each number from 10,000 down to 1, and halts: lui t0, 0x10000; lui t2, 2;
+/// addi t2, t2, 1808; sw t2, 0(t0); addi t2, t2, -1; bne t2, zero, -8; lui t1, 0x100;
+/// sw zero, 0(t1).
+static MANY_BYTES: [u32; 8] = [
+    0x1000_02B7,
+    0x0000_23B7,
+    0x7103_8393,
+    0x0072_A023,
+    0xFFF3_8393,
+    0xFE03_9CE3,
+    0x0010_0337,
+    0x0003_2023,
+];
+
+/// Sends A, makes 200,000 turns, sends A again, and halts: lui t0, 0x10000; addi t1, a0, 65;
+/// sw t1, 0(t0); lui t2, 24; addi t2, t2, 1696; addi t2, t2, -1; bne t2, zero, -4; sw t1, 0(t0);
+/// lui t2, 0x100; sw zero, 0(t2).
+static LETTERS_APART: [u32; 10] = [
+    0x1000_02B7,
+    0x0415_0313,
+    0x0062_A023,
+    0x0001_83B7,
+    0x6A03_8393,
+    0xFFF3_8393,
+    0xFE03_9EE3,
+    0x0062_A023,
+    0x0010_03B7,
+    0x0003_A023,
+];
+
 const REFUSAL: &str = "refused 31 LinkFault\n";
 
 /// A writer that takes so many bytes, and then fails.
@@ -39,6 +69,24 @@ impl Write for Narrow {
         let taken = self.room.min(buf.len());
         self.room -= taken;
         Ok(taken)
+    }
+
+    fn flush(&mut self) -> io::Result<()> {
+        Ok(())
+    }
+}
+
+/// A writer that counts its writes, and keeps what was written.
+#[derive(Drop)]
+struct Counted {
+    writes: u32,
+    bytes: Vec<u8>,
+}
+
+impl Write for Counted {
+    fn write(&mut self, buf: &[u8]) -> io::Result<usize> {
+        self.writes = self.writes.saturating_add(1);
+        self.bytes.write(buf)
     }
 
     fn flush(&mut self) -> io::Result<()> {
@@ -63,6 +111,45 @@ fn bytes_of(alloc: Global, words: &[u32]) -> Result<Vec<u8>, AllocError> {
         bytes.extend_from_slice(&word.to_le_bytes())?;
     }
     Ok(bytes)
+}
+
+#[test]
+fn a_run_writes_in_large_pieces_and_before_it_ends(rt: HostRuntime) -> Result<(), Fail> {
+    let alloc = rt.alloc();
+    let arguments = RunArguments {
+        guest: guest(),
+        input: None,
+        steps: 1_000_000,
+    };
+    let mut falling = Vec::new(alloc);
+    for number in (1..=10_000u32).rev() {
+        falling.push((number % 256) as u8)?;
+    }
+    // Two pieces of 3841 to 4096 bytes and the rest; and a letter that does not wait for the next one.
+    for (words, bytes, writes) in [
+        (MANY_BYTES.as_slice(), falling.as_slice(), 3),
+        (LETTERS_APART.as_slice(), b"AA".as_slice(), 2),
+    ] {
+        let image = bytes_of(alloc, words)?;
+        let mut output = Counted {
+            writes: 0,
+            bytes: Vec::new(alloc),
+        };
+        let mut errors = Vec::new(alloc);
+        let status = run_command::<PagedRam, _, _>(
+            alloc,
+            &arguments,
+            &image,
+            &[],
+            &mut output,
+            &mut errors,
+        );
+        assert_eq!(rt; errors.as_slice(), "halted 0\n".as_bytes());
+        assert_eq!(rt; output.bytes.as_slice(), bytes);
+        assert_eq!(rt; output.writes, writes);
+        assert_eq!(rt; status, Ok(0));
+    }
+    Ok(())
 }
 
 #[test]
