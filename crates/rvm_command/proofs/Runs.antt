@@ -262,11 +262,6 @@ drained_bytes count size old whole is_least =
     let sent = old.guest.board.shared.devices.output in
     ap (λ n. take n sent) (is_least ∙ ap (λ k. min k (length sent)) whole) ∙ take_min 256 sent ∙ ap (λ (x : After). x.bytes) (sym (after_one (Drain 256) old.guest))
 
-pub drained_some : (g : Guest) → 0 < length g.board.shared.devices.output → 0 < length (after (Drain 256 ∷ []) g).bytes
-drained_some g some =
-    let sent = g.board.shared.devices.output in
-    rw (after_one (Drain 256) g) (omega (arith, length-take 256 sent, some))
-
 -- a drain, and those behind it
 left_by : (old new : GuestState) → IsAfter (Drain 256 ∷ []) old new → new.guest ≡ (answered (Drain 256) old.guest).guest
 left_by old new made = made.guest ∙ ap (λ (x : After). x.guest) (after_one (Drain 256) old.guest)
@@ -276,10 +271,6 @@ drain_first old new some made = drains_more old.guest some ∙ ap (λ g. (Drain 
 
 pub drain_fewer : (old new : GuestState) → IsAfter (Drain 256 ∷ []) old new → length new.guest.board.shared.devices.output ≡ length old.guest.board.shared.devices.output - 256
 drain_fewer old new made = ap (λ (g : Guest). length g.board.shared.devices.output) (left_by old new made) ∙ length-drop 256 old.guest.board.shared.devices.output
-
--- all of some events
-pub whole_part : (es : List BoardEvent) (old new : GuestState) → IsAfter es old new → IsPartWay es old new
-whole_part es old new made = record { made = es; left = []; whole = append-nil es; so_far = made }
 
 -- ---- the byte that is offered
 
