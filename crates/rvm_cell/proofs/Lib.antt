@@ -3,5 +3,6 @@ pub mod Runs
 pub mod Spans
 pub mod Checks
 pub mod Tellings
+pub mod Rounds
 pub mod Sends
 pub mod Flat

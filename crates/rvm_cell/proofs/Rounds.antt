@@ -1,11 +1,10 @@
 -- Receipts of rounds, one behind the other.
-use Rattle.std.proofs.Common.{◌≡◌, ◌∙◌, ℕ, zero, suc, ◌+◌, ◌-◌, ◌*◌, ◌<◌, ◌≤◌, List, [], ◌∷◌, ◌++◌, length, length-append, Some, refl, sym, ap, arith}
+use Rattle.std.proofs.Common.{◌≡◌, ◌∙◌, ℕ, zero, suc, ◌+◌, ◌-◌, ◌*◌, ◌≤◌, List, [], ◌∷◌, ◌++◌, length, length-append, refl, sym, ap, arith}
 use Rattle.std.specs.Prelude.{slice_get, unwrap_or}
 use Rattle.std.proofs.Math.Nat.{suc-mul}
 use Rattle.std.proofs.lemmas.List.{append_assoc}
 use Rattle.rvm_hart.specs.declared.outcome.Stepped.TheVariants.{Retired}
 use Rattle.rvm_cell.specs.declared.items.ReceiptItem.{ReceiptItem}
-use Rattle.rvm_cell.specs.declared.items.ReceiptItem.TheVariants as item
 use Rattle.rvm_cell.specs.declared.round_receipts.RoundReceipts.{RoundReceipts}
 use Rattle.rvm_cell.specs.Receipts.{PlainReceipt}
 use Rattle.rvm_cell.specs.Runs.{all_of, receipts_from, receipts_of, step_receipt, steps_receipts}
@@ -13,7 +12,7 @@ use Rattle.rvm_cell.specs.Telling.{entry_in}
 use Rattle.rvm_cell.proofs.Runs.{all_push}
 use Rattle.rvm_journal.specs.declared.rounds.Rounds.{Rounds}
 use Rattle.rvm_journal.specs.Entries.{PlainEntry}
-use Rattle.rvm_journal.specs.Items.{dry_entry, rounds_in_turn, rounds_of, step_entry, steps_in_turn}
+use Rattle.rvm_journal.specs.Items.{dry_entry, rounds_in_turn, rounds_of, steps_in_turn}
 use Rattle.rvm_journal.proofs.InRounds.{drain_in, one_round, rounds_length}
 use Rattle.rvm_journal.proofs.Items.{steps_length}
 use Rattle.rvm_message.specs.declared.step.StepReply.TheVariants.{Stepped}
@@ -54,7 +53,11 @@ round_receipts place seat count turn harts steps drain r at of counts dry =
     ap (receipts_from place seat count) (one_round turn harts steps drain)
     ∙ from_append (steps_in_turn turn harts steps) (dry_entry drain ∷ []) place seat count
     ∙ (λ i. from_steps steps place seat count turn harts i ++ (record {
-      place = p i; seat = sym of i; count = c i; event = (sym dry i).event; reply = (sym dry i).reply;
+      place = p i;
+      seat = sym of i;
+      count = c i;
+      event = (sym dry i).event;
+      reply = (sym dry i).reply;
     }) ∷ [])
 
 -- those of rounds behind others

@@ -1,6 +1,6 @@
 -- The receipts of an item are compared: how far the check comes, and what is wrong behind that.
 use Rattle.std.proofs.Common.{◌≡◌, ◌∙◌, ◌≢◌, ℕ, zero, suc, ◌+◌, ◌-◌, ◌%◌, ◌<◌, ◌≤◌, List, [], ◌∷◌, ◌++◌, length, length-append, drop, Option, Some, None, refl, sym, ap, subst, arith, inl, inr, get_or, cond}
-use Rattle.std.specs.Prelude.{slice_get, ◌⊎◌, ◌==◌}
+use Rattle.std.specs.Prelude.{slice_get, unwrap_or, ◌⊎◌, ◌==◌}
 use Rattle.std.proofs.lemmas.Bool.{eq-eqb, ne_eqb}
 use Rattle.std.proofs.lemmas.Option.{same_Some, slice_get-get_or}
 use Rattle.rvm_cell.specs.Close.{IsFirstFault, IsJournal, IsRightAt}
@@ -8,10 +8,14 @@ use Rattle.rvm_cell.specs.declared.items.ReceiptItem.{ReceiptItem}
 use Rattle.rvm_cell.specs.declared.items.ReceiptItem.TheVariants as item
 use Rattle.rvm_cell.specs.Receipts.{PlainReceipt}
 use Rattle.rvm_cell.specs.Runs.{all_of, calls_before, count_in, place_of, receipts_of, seat_in}
+use Rattle.rvm_cell.specs.declared.round_receipts.RoundReceipts.{RoundReceipts}
 use Rattle.rvm_cell.specs.declared.step_receipts.StepReceipts.{StepReceipts}
-use Rattle.rvm_cell.specs.Telling.{AreFrom, AreRising, Differs, IsOf, Skips, Tells, first_place, receipt_at}
+use Rattle.rvm_cell.specs.Telling.{AreFrom, AreRising, Differs, IsOf, Skips, Tells, entry_in, first_place, receipt_at}
 use Rattle.rvm_hart.specs.declared.outcome.Stepped.TheVariants.{Retired}
-use Rattle.rvm_journal.specs.Items.{step_entry, steps_in_turn}
+use Rattle.rvm_journal.specs.declared.steps.Steps.{Steps}
+use Rattle.rvm_journal.specs.Items.{dry_entry, step_entry, steps_in_turn}
+use Rattle.rvm_journal.specs.Rounds.{IsRowAt}
+use Rattle.rvm_journal.proofs.InRounds.{row_fits, row_inside, row_step}
 use Rattle.rvm_journal.proofs.Items.{steps_length}
 use Rattle.rvm_message.specs.declared.step.StepReply.TheVariants.{Stepped}
 use Rattle.rvm_message.specs.Exchanges.{step_of_hart}
@@ -43,6 +47,7 @@ length_drop (x ∷ xs) (suc p) = let l = length_drop xs p in omega (arith, l)
 some_in : (x : ReceiptItem) → 1 ≤ count_in x
 some_in (item.One r) = omega arith
 some_in (item.Steps s) = s.some
+some_in (item.Rounds r) = r.some
 
 -- a receipt of items is of the first, or of those behind it
 in_first : (x : ReceiptItem) (items : List ReceiptItem) (k : ℕ) (r : PlainReceipt) → slice_get (all_of (x ∷ items)) k ≡ Some r
@@ -440,6 +445,32 @@ skipped_some s index n t old new until few at is free =
           let turn : s.steps.turn + (index + i) ≡ t + i = omega (arith, at) in
           subst (IsOf (receipt_at (item.Steps s) (index + i))) e_is
           (ap (λ k. step_of_hart (k % s.steps.harts)) turn, refl));
+      free = free;
+    }
+
+-- steps that are left of a round
+pub skipped_row : (r : RoundReceipts) (index n : ℕ) (row : Steps) (old new : List PlainEntry) (until : Option ℕ) → IsRowAt r.rounds index row
+    → n ≤ row.count → old ≡ steps_in_turn row.turn row.harts n ++ new
+    → ((i : ℕ) → i < n → until ≡ Some (r.place + (index + i)) → ⊥) → Skips (item.Rounds r) index old new until n
+skipped_row r index n row old new until at le is free =
+    let rs = r.rounds in
+    let long = steps_length row.turn row.harts n in
+    let count = at.count in
+    let inside = row_inside rs.harts rs.steps rs.drain rs.count index at.inside in
+    let fits = row_fits rs.harts rs.steps rs.drain index n row.count at.count le in
+    record {
+      few = omega (arith, inside, count, le);
+      there = omega (arith, ap length is, long, length-append (steps_in_turn row.turn row.harts n) new);
+      left = sym (ap (drop n) is ∙ ap (λ k. drop k (steps_in_turn row.turn row.harts n ++ new)) (sym long) ∙ drop_all_of (steps_in_turn row.turn row.harts n) new);
+      told = λ i e less there.
+          (let e_is : step_entry (row.turn + i) row.harts (Stepped Retired) ≡ e =
+          same_Some (step_entry (row.turn + i) row.harts (Stepped Retired)) e
+          (sym (entry_at i row.turn row.harts n less) ∙ sym (get_left (steps_in_turn row.turn row.harts n) new i (omega (arith, long, less)))
+          ∙ ap (λ zs. slice_get zs i) (sym is) ∙ there) in
+          let kept : entry_in rs (index + i) ≡ e =
+          ap (λ o. unwrap_or o (dry_entry 0)) (row_step rs.harts rs.steps rs.drain rs.turn rs.count index i row.turn at.inside (omega (arith, fits, less)) at.turn)
+          ∙ ap (λ h. step_entry (row.turn + i) h (Stepped Retired)) (sym at.harts) ∙ e_is in
+          (ap (λ (x : PlainEntry). x.event) kept, ap (λ (x : PlainEntry). x.reply) kept));
       free = free;
     }
 

@@ -1,10 +1,12 @@
 -- Receipts of steps in turn, as they are kept.
-use Rattle.std.specs.Prelude.{ℕ, zero, suc, ◌+◌, List, [], ◌∷◌, ◌++◌, Option, Some, None}
+use Rattle.std.specs.Prelude.{ℕ, zero, suc, ◌+◌, ◌*◌, List, [], ◌∷◌, ◌++◌, Option, Some, None}
 use Rattle.rvm_hart.specs.declared.outcome.Stepped.TheVariants.{Retired}
 use Rattle.rvm_cell.specs.declared.items.ReceiptItem.{ReceiptItem}
 use Rattle.rvm_cell.specs.declared.items.ReceiptItem.TheVariants as item
 use Rattle.rvm_cell.specs.Receipts.{PlainReceipt}
 use Rattle.rvm_journal.specs.declared.run.StepRun.{StepRun}
+use Rattle.rvm_journal.specs.Entries.{PlainEntry}
+use Rattle.rvm_journal.specs.Items.{rounds_of}
 use Rattle.rvm_journal.specs.Slices.{step_of}
 use Rattle.rvm_message.specs.declared.step.StepReply.TheVariants.{Stepped}
 use Rattle.rvm_message.specs.declared.step.StepReply.{StepReply}
@@ -33,10 +35,18 @@ run_receipts place seat count turn harts run =
     steps_receipts place seat count turn harts run.retired
     ++ last_receipt (place + run.retired) seat (count + run.retired) (turn + run.retired) harts run.last
 
+-- of entries, one behind the other
+abbrev pub receipts_from : (place seat count : ℕ) → List PlainEntry → List PlainReceipt
+receipts_from place seat count [] = []
+receipts_from place seat count (e ∷ es) =
+    record { place = place; seat = seat; count = count; event = e.event; reply = e.reply }
+    ∷ receipts_from (place + 1) seat (count + 1) es
+
 -- as they are kept
 abbrev pub receipts_of : ReceiptItem → List PlainReceipt
 receipts_of (item.One r) = r ∷ []
 receipts_of (item.Steps s) = steps_receipts s.place s.seat s.count s.steps.turn s.steps.harts s.steps.count
+receipts_of (item.Rounds r) = receipts_from r.place r.seat r.count (rounds_of r.rounds)
 
 -- of items, one behind the other
 abbrev pub all_of : List ReceiptItem → List PlainReceipt
@@ -47,15 +57,19 @@ all_of (x ∷ items) = receipts_of x ++ all_of items
 abbrev pub place_of : ReceiptItem → ℕ
 place_of (item.One r) = r.place
 place_of (item.Steps s) = s.place
+place_of (item.Rounds r) = r.place
 
 abbrev pub seat_in : ReceiptItem → ℕ
 seat_in (item.One r) = r.seat
 seat_in (item.Steps s) = s.seat
+seat_in (item.Rounds r) = r.seat
 
 abbrev pub calls_before : ReceiptItem → ℕ
 calls_before (item.One r) = r.count
 calls_before (item.Steps s) = s.count
+calls_before (item.Rounds r) = r.count
 
 abbrev pub count_in : ReceiptItem → ℕ
 count_in (item.One r) = 1
 count_in (item.Steps s) = s.steps.count
+count_in (item.Rounds r) = r.rounds.count * (r.rounds.steps + 1)

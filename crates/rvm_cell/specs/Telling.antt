@@ -1,18 +1,26 @@
 -- How far receipts tell the entries that are left of a journal.
-use Rattle.std.specs.Prelude.{◌≡◌, ◌⊎◌, ℕ, ◌+◌, ◌<◌, ◌≤◌, List, [], ◌∷◌, length, drop, slice_get, Option, Some, None}
+use Rattle.std.specs.Prelude.{◌≡◌, ◌⊎◌, ℕ, ◌+◌, ◌<◌, ◌≤◌, List, [], ◌∷◌, length, drop, slice_get, unwrap_or, Option, Some, None}
 use Rattle.rvm_cell.specs.declared.items.ReceiptItem.{ReceiptItem}
 use Rattle.rvm_cell.specs.declared.items.ReceiptItem.TheVariants as item
 use Rattle.rvm_cell.specs.Receipts.{PlainReceipt}
 use Rattle.rvm_cell.specs.Runs.{count_in, place_of, step_receipt}
 use Rattle.rvm_hart.specs.declared.outcome.Stepped.TheVariants.{Retired}
+use Rattle.rvm_journal.specs.declared.rounds.Rounds.{Rounds}
 use Rattle.rvm_journal.specs.Entries.{PlainEntry}
+use Rattle.rvm_journal.specs.Items.{dry_entry, rounds_of}
 use Rattle.rvm_message.specs.declared.step.StepReply.TheVariants.{Stepped}
+
+-- the entry of this index, of rounds
+abbrev pub entry_in : Rounds → ℕ → PlainEntry
+entry_in r i = unwrap_or (slice_get (rounds_of r) i) (dry_entry 0)
 
 -- the receipt of this index
 abbrev pub receipt_at : ReceiptItem → ℕ → PlainReceipt
 receipt_at (item.One r) i = r
 receipt_at (item.Steps s) i =
     step_receipt (s.place + i) s.seat (s.count + i) (s.steps.turn + i) s.steps.harts (Stepped Retired)
+receipt_at (item.Rounds r) i =
+    record { place = r.place + i; seat = r.seat; count = r.count + i; event = (entry_in r.rounds i).event; reply = (entry_in r.rounds i).reply }
 
 -- a receipt has the event and the reply of an entry
 abbrev pub IsOf : PlainReceipt → PlainEntry → Type 0

@@ -243,7 +243,7 @@ pub fn close<L: Seating, M: PagedMemory + Drop, R: Wait>(
     ensures fault { IfErr result (λ e. IsCloseError e.kind e.opened.journal.entries L.seats (vec_len seats)
         (all_of e.receipts.items)) }
 {
-    let SharedHost { lock } = shared;
+    let SharedHost { lock, started: _ } = shared;
     let mut receipts = receipts;
     let locked = lock.into_inner();
     let want = locked.seats;
@@ -266,6 +266,7 @@ pub fn close<L: Seating, M: PagedMemory + Drop, R: Wait>(
         mut book,
         spare,
         seats: _,
+        has_started: _,
     } = locked;
     collect(&mut book, spare, seats);
     Ok(recorded)

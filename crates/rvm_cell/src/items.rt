@@ -1,22 +1,25 @@
 //! Receipts, one behind the other.
 
-ghost use Rattle.std.specs.Prelude.{◌≡◌, ℕ, Some, true, false, ◌+◌, ◌-◌, ◌++◌, ◌<◌, ◌≤◌, ◌^◌, vec_capacity, vec_len};
-ghost use Rattle.rvm_cell.specs.Runs.{all_of, calls_before, count_in, place_of, run_receipts, seat_in, step_receipt};
+ghost use Rattle.std.specs.Prelude.{◌≡◌, ℕ, [], Some, IfSome, true, false, ◌+◌, ◌-◌, ◌*◌, ◌++◌, ◌∷◌, ◌<◌, ◌≤◌, ◌^◌, vec_capacity, vec_len};
+ghost use Rattle.rvm_cell.specs.Runs.{all_of, calls_before, count_in, place_of, receipts_of, run_receipts, seat_in, step_receipt};
 ghost use Rattle.rvm_cell.specs.Telling.{IsOf, Skips, receipt_at};
 ghost use Rattle.rvm_journal.specs.Told.{told_entry};
 ghost use Rattle.rvm_journal.specs.Items.{steps_of};
+ghost use Rattle.rvm_message.specs.Exchanges.{dry_exchange, exchange};
 
 use crate::receipt::Receipt;
+use crate::round_receipts::RoundReceipts;
 use crate::step_receipts::StepReceipts;
 use rvm_hart::Stepped;
-use rvm_journal::{Left, StepRun, Steps, Told, hart_behind};
-use rvm_message::{Exchange, HostReply, StepReply};
+use rvm_journal::{Left, Rounds, StepRun, Steps, Told, exchange_in, hart_behind, joined, row_at};
+use rvm_message::{Exchange, ExchangeRef, HostReply, StepReply};
 
-/// One receipt, or those of steps that retired an instruction, however many there are.
+/// One receipt, or those of steps that retired an instruction, or of rounds of them, however many there are.
 #[derive(Drop)]
 pub enum ReceiptItem {
     One(Receipt),
     Steps(StepReceipts),
+    Rounds(RoundReceipts),
 }
 
 impl ReceiptItem {
@@ -27,6 +30,7 @@ impl ReceiptItem {
         match self {
             ReceiptItem::One(receipt) => receipt.place,
             ReceiptItem::Steps(steps) => steps.place,
+            ReceiptItem::Rounds(rounds) => rounds.place,
         }
     }
 
@@ -37,6 +41,7 @@ impl ReceiptItem {
         match self {
             ReceiptItem::One(receipt) => receipt.seat,
             ReceiptItem::Steps(steps) => steps.seat,
+            ReceiptItem::Rounds(rounds) => rounds.seat,
         }
     }
 
@@ -47,6 +52,7 @@ impl ReceiptItem {
         match self {
             ReceiptItem::One(receipt) => receipt.count,
             ReceiptItem::Steps(steps) => steps.count,
+            ReceiptItem::Rounds(rounds) => rounds.count,
         }
     }
 
@@ -57,6 +63,7 @@ impl ReceiptItem {
         match self {
             ReceiptItem::One(receipt) => receipt.count,
             ReceiptItem::Steps(steps) => steps.count + u64::from(steps.steps.count - 1),
+            ReceiptItem::Rounds(rounds) => rounds.count + u64::from(rounds.rounds.len() - 1),
         }
     }
 
@@ -66,18 +73,16 @@ impl ReceiptItem {
         requires { index ≤ count_in self.now }
         ensures { Skips self.now index left.old left.new until result }
     {
-        let ReceiptItem::Steps(steps) = self else {
-            return 0;
-        };
-        let Some(turn) = steps.steps.turn.checked_add(u64::from(index)) else {
-            return 0;
-        };
-        let most = before(until, steps.place, index, steps.steps.count - index);
-        left.skip(turn, steps.steps.harts, most)
+        match self {
+            ReceiptItem::One(_) => 0,
+            ReceiptItem::Steps(steps) => skip_steps(steps, index, left, until),
+            ReceiptItem::Rounds(rounds) => skip_round(rounds, index, left, until),
+        }
     }
 
     /// Whether the receipt of an index is of an entry.
     pub(crate) fn is_of(&self, index: u32, entry: &Told<'_>) -> bool
+        requires { index < count_in self.now }
         ensures yes { result ≡ true → IsOf (receipt_at self.now index) (told_entry entry.now) }
         ensures no { result ≡ false → IsOf (receipt_at self.now index) (told_entry entry.now) → ⊥ }
     {
@@ -87,6 +92,7 @@ impl ReceiptItem {
                 let hart = hart_behind(&steps.steps, index);
                 entry.is(&Exchange::of_step(hart, StepReply::Stepped(Stepped::Retired)))
             }
+            ReceiptItem::Rounds(rounds) => entry.is(&exchange_in(&rounds.rounds, index)),
         }
     }
 
@@ -97,6 +103,7 @@ impl ReceiptItem {
         match self {
             ReceiptItem::One(receipt) => receipt.reply(),
             ReceiptItem::Steps(_) => StepReply::Stepped(Stepped::Retired).reply(),
+            ReceiptItem::Rounds(rounds) => dry_reply(rounds.rounds.drain),
         }
     }
 
@@ -108,8 +115,40 @@ impl ReceiptItem {
         match self {
             ReceiptItem::One(_) => 1,
             ReceiptItem::Steps(steps) => steps.steps.count,
+            ReceiptItem::Rounds(rounds) => rounds.rounds.len(),
         }
     }
+}
+
+/// The reply to a drain that found nothing.
+fn dry_reply(drain: u32) -> HostReply
+    ensures { result ≡ (dry_exchange drain).reply }
+{
+    Exchange::dry(drain).reply()
+}
+
+/// Passes entries that are left as far as they are of the receipts of steps from an index on, as `ReceiptItem::skip` does.
+fn skip_steps(steps: &StepReceipts, index: u32, left: &mut Left<'_>, until: Option<u32>) -> u32
+    requires { index ≤ steps.now.steps.count }
+    ensures { Skips (ReceiptItem.Steps steps.now) index left.old left.new until result }
+{
+    let Some(turn) = steps.steps.turn.checked_add(u64::from(index)) else {
+        return 0;
+    };
+    let most = before(until, steps.place, index, steps.steps.count - index);
+    left.skip(turn, steps.steps.harts, most)
+}
+
+/// The same of the steps that are left of a round.
+fn skip_round(rounds: &RoundReceipts, index: u32, left: &mut Left<'_>, until: Option<u32>) -> u32
+    requires { index ≤ rounds.now.rounds.count * (rounds.now.rounds.steps + 1) }
+    ensures { Skips (ReceiptItem.Rounds rounds.now) index left.old left.new until result }
+{
+    let Some(row) = row_at(&rounds.rounds, index) else {
+        return 0;
+    };
+    let most = before(until, rounds.place, index, row.count);
+    left.skip(row.turn, row.harts, most)
 }
 
 /// How many of so many places behind another come before a place.
@@ -176,6 +215,123 @@ pub(crate) fn push_run(
             reply,
         )));
     }
+}
+
+/// Puts a receipt behind others, in room that is there.
+pub fn push_receipt(all: &mut Vec<ReceiptItem>, receipt: Receipt)
+    requires { vec_len all.old < vec_capacity all.old }
+    ensures { all_of all.new.items ≡ all_of all.old.items ++ receipt ∷ [] }
+{
+    let Some(last) = all.pop() else {
+        all.push_reserved(ReceiptItem::One(receipt));
+        return;
+    };
+    match with_drain(&last, &receipt) {
+        Some(rounds) => push_rounds(all, rounds),
+        None => {
+            all.push_reserved(last);
+            all.push_reserved(ReceiptItem::One(receipt));
+        }
+    }
+}
+
+/// Puts receipts of rounds behind others, in room that is there.
+fn push_rounds(all: &mut Vec<ReceiptItem>, rounds: RoundReceipts)
+    requires { vec_len all.old < vec_capacity all.old }
+    ensures { all_of all.new.items ≡ all_of all.old.items ++ receipts_of (ReceiptItem.Rounds rounds) }
+{
+    let Some(last) = all.pop() else {
+        all.push_reserved(ReceiptItem::Rounds(rounds));
+        return;
+    };
+    match joined_with(&last, &rounds) {
+        Some(joined) => all.push_reserved(ReceiptItem::Rounds(joined)),
+        None => {
+            all.push_reserved(last);
+            all.push_reserved(ReceiptItem::Rounds(rounds));
+        }
+    }
+}
+
+/// The receipts of steps and the one of a drain behind them that found nothing, as those of a round; none where they are
+/// others.
+fn with_drain(last: &ReceiptItem, receipt: &Receipt) -> Option<RoundReceipts>
+    ensures { IfSome result (λ r. receipts_of (ReceiptItem.Rounds r) ≡ receipts_of last.now ++ receipt.now ∷ []) }
+{
+    let ReceiptItem::Steps(steps) = last else {
+        return None;
+    };
+    let ExchangeRef::Dry(drain) = receipt.exchange.look() else {
+        return None;
+    };
+    round_of(steps, receipt, drain)
+}
+
+/// The receipts of steps and that of the drain behind them, if it is of the next place and the next call of their seat.
+fn round_of(steps: &StepReceipts, receipt: &Receipt, drain: u32) -> Option<RoundReceipts>
+    requires { exchange receipt.now.event receipt.now.reply ≡ dry_exchange drain }
+    ensures { IfSome result (λ r. receipts_of (ReceiptItem.Rounds r)
+        ≡ receipts_of (ReceiptItem.Steps steps.now) ++ receipt.now ∷ []) }
+{
+    let len = steps.steps.count.checked_add(1)?;
+    if receipt.place != steps.place.checked_add(steps.steps.count)? {
+        return None;
+    }
+    if receipt.count != steps.count.checked_add(u64::from(steps.steps.count))? {
+        return None;
+    }
+    let _calls = steps.count.checked_add(u64::from(len))?;
+    if receipt.seat != steps.seat {
+        return None;
+    }
+    Some(RoundReceipts {
+        place: steps.place,
+        seat: steps.seat,
+        count: steps.count,
+        rounds: Rounds {
+            turn: steps.steps.turn,
+            harts: steps.steps.harts,
+            steps: steps.steps.count,
+            drain,
+            count: 1,
+        },
+    })
+}
+
+/// The receipts of rounds with those of the rounds behind them; none where they are others.
+fn joined_with(last: &ReceiptItem, more: &RoundReceipts) -> Option<RoundReceipts>
+    ensures { IfSome result (λ r. receipts_of (ReceiptItem.Rounds r)
+        ≡ receipts_of last.now ++ receipts_of (ReceiptItem.Rounds more.now)) }
+{
+    match last {
+        ReceiptItem::Rounds(rounds) => both(rounds, more),
+        _ => None,
+    }
+}
+
+/// The receipts of rounds with those behind them, if these are of the next place and the next call of their seat.
+fn both(first: &RoundReceipts, more: &RoundReceipts) -> Option<RoundReceipts>
+    ensures { IfSome result (λ r. receipts_of (ReceiptItem.Rounds r)
+        ≡ receipts_of (ReceiptItem.Rounds first.now) ++ receipts_of (ReceiptItem.Rounds more.now)) }
+{
+    let len = first.rounds.len();
+    if more.place != first.place.checked_add(len)? {
+        return None;
+    }
+    if more.count != first.count.checked_add(u64::from(len))? {
+        return None;
+    }
+    if more.seat != first.seat {
+        return None;
+    }
+    let rounds = joined(first.rounds, more.rounds)?;
+    let _calls = first.count.checked_add(u64::from(rounds.len()))?;
+    Some(RoundReceipts {
+        place: first.place,
+        seat: first.seat,
+        count: first.count,
+        rounds,
+    })
 }
 
 /// The receipt of a step of the hart whose turn it is.

@@ -17,11 +17,11 @@ use crate::shared::SharedHost;
 use rvm_frame::Addressed;
 use rvm_journal::{RecordError, Recorded, SliceError, StepRun};
 use rvm_mem::PagedMemory;
-use rvm_message::{Exchange, ExchangeRoom, HostEvent};
+use rvm_message::{Exchange, ExchangeRoom, HostEvent, HostReply};
 use std::alloc::Global;
 use std::marker::Model;
-use std::sync::Mutex;
 use std::sync::ledger::{Book, Share};
+use std::sync::{Condvar, Mutex};
 
 /// A recorded host, and the ledger's book: its total is the number of entries of the journal.
 #[derive(Drop)]
@@ -31,6 +31,8 @@ pub struct Locked<L: Seating, M: PagedMemory + Drop> {
     /// A share of no part, which `close` puts the others to.
     pub(crate) spare: Share<L>,
     pub(crate) seats: u32,
+    /// Whether a call was answered that the guest runs here.
+    pub(crate) has_started: bool,
 }
 
 impl<L: Seating, M: PagedMemory + Drop> Model for Locked<L, M> {
@@ -65,6 +67,7 @@ impl<L: Seating, M: PagedMemory + Drop> Locked<L, M> {
     pub fn share_again(self) -> SharedHost<L, M> {
         SharedHost {
             lock: Mutex::new(self),
+            started: Condvar::new(),
         }
     }
 
@@ -84,18 +87,25 @@ impl<L: Seating, M: PagedMemory + Drop> Locked<L, M> {
         ensures event { IfErr result (λ e. e.1 ≡ event) }
         ensures fault { IfErr result (λ e. IsRecordError e.0 (count_of self.old) self.old.capacity) }
     {
-        let Locked { recorded, book, .. } = self;
+        let Locked {
+            recorded,
+            book,
+            has_started,
+            ..
+        } = self;
         let Seat {
             id,
             count,
             share,
             room: spare,
+            slices: _,
         } = seat;
         book.audit(share);
         match recorded.record(alloc, event) {
             Err(e) => Err(e),
             Ok((place, reply, frame)) => {
                 book.add(share, 1);
+                *has_started = *has_started || is_start(&reply);
                 let receipt = Receipt {
                     place,
                     seat: *id,
@@ -120,7 +130,7 @@ impl<L: Seating, M: PagedMemory + Drop> Locked<L, M> {
             id,
             count,
             share,
-            room: _,
+            ..
         } = seat;
         book.audit(share);
         match recorded.record_dry(bytes) {
@@ -171,6 +181,11 @@ impl<L: Seating, M: PagedMemory + Drop> Locked<L, M> {
         *count += steps;
         Ok(receipts)
     }
+}
+
+/// Whether a reply says that the guest runs here from now on.
+fn is_start(reply: &HostReply) -> bool {
+    matches!(reply, HostReply::Started)
 }
 
 /// How many steps runs have.

@@ -1,9 +1,11 @@
 //! Seats: the right to call a host, and the number of its calls.
 
-ghost use Rattle.std.specs.Prelude.{◌≡◌, ℕ, None};
+ghost use Rattle.std.specs.Prelude.{◌≡◌, ◌≤◌, ℕ, [], IfOk, None, vec_capacity};
 ghost use Rattle.rvm_core.specs.Hosts.{PlainHost, new_host};
 ghost use Rattle.rvm_message.specs.Exchanges.{exchange};
 
+use crate::items::ReceiptItem;
+use rvm_journal::MAX_SLICE;
 use rvm_message::{Exchange, ExchangeRoom, HostEvent, HostReply};
 use std::alloc::{AllocError, Global};
 use std::marker::{Brand, Model};
@@ -31,6 +33,8 @@ pub struct Seat<L: Seating> {
     pub(crate) share: Share<L>,
     /// Room for an exchange, which an earlier call did not need.
     pub(crate) room: Option<ExchangeRoom>,
+    /// Room for the receipts of a slice, which was given back.
+    pub(crate) slices: Option<Vec<ReceiptItem>>,
 }
 
 impl<L: Seating> Model for Seat<L> {
@@ -63,6 +67,26 @@ impl<L: Seating> Seat<L> {
         }
     }
 
+    /// Room for the receipts of a slice.
+    pub(crate) fn take_slice_room(&mut self, alloc: Global) -> Result<Vec<ReceiptItem>, AllocError>
+        ensures same { self.new ≡ self.old }
+        ensures room { IfOk result (λ v. (v.items ≡ []) × (64 ≤ vec_capacity v)) }
+    {
+        if let Some(room) = self.slices.take() {
+            if room.is_empty() && room.capacity() >= MAX_SLICE as usize {
+                return Ok(room);
+            }
+        }
+        Vec::with_capacity(alloc, MAX_SLICE as usize)
+    }
+
+    /// Keeps the room that receipts of a slice had, once they are taken out of it.
+    pub fn give_back(&mut self, room: Vec<ReceiptItem>)
+        ensures { self.new ≡ self.old }
+    {
+        self.slices = Some(room);
+    }
+
     /// Its part of the ledger.
     pub(crate) fn into_share(self) -> Share<L>
         ensures parts { result.parts ≡ 1 }
@@ -72,7 +96,7 @@ impl<L: Seating> Seat<L> {
             id: _,
             count: _,
             share,
-            room: _,
+            ..
         } = self;
         share
     }

@@ -14,13 +14,14 @@ use crate::locked::Locked;
 use crate::receipt::Receipt;
 use crate::seat::{Seat, Seating};
 use rvm_frame::Addressed;
-use rvm_journal::{MAX_SLICE, RecordError, Recorded, SliceError, is_slice_in_range};
+use rvm_journal::{RecordError, Recorded, SliceError, is_slice_in_range};
 use rvm_mem::PagedMemory;
 use rvm_message::HostEvent;
 use rvm_refusal::Refusal;
 use std::alloc::Global;
 use std::sync::ledger::{Blank, Share};
-use std::sync::{Mutex, Wait};
+use std::sync::{Condvar, Mutex, Wait};
+use std::time::{Clock, Duration};
 use thiserror::Error;
 
 /// The most seats of a host.
@@ -52,6 +53,8 @@ impl From<ShareError> for Refusal {
 #[derive(Drop)]
 pub struct SharedHost<L: Seating, M: PagedMemory + Drop> {
     pub(crate) lock: Mutex<Locked<L, M>>,
+    /// It wakes who waits for the guest to run here.
+    pub(crate) started: Condvar,
 }
 
 /// A shared host and its seats, 1 to 16, each of which has made no call. `BadSize` for any other number of
@@ -85,10 +88,12 @@ pub fn share<L: Seating, M: PagedMemory + Drop>(
         book,
         spare,
         seats,
+        has_started: false,
     };
     Ok((
         SharedHost {
             lock: Mutex::new(locked),
+            started: Condvar::new(),
         },
         list,
     ))
@@ -112,6 +117,7 @@ fn cut<L: Seating>(all: Share<L>, list: Vec<Seat<L>>, seats: u32) -> (Vec<Seat<L
             count: 0,
             share,
             room: None,
+            slices: None,
         });
     }
     (list, all)
@@ -139,7 +145,29 @@ impl<L: Seating, M: PagedMemory + Drop> SharedHost<L, M> {
         let Ok(room) = seat.take_room(alloc) else {
             return Err((RecordError::OutOfMemory, event));
         };
-        self.lock.lock(rt).call(alloc, seat, event, copy, room)
+        let mut locked = self.lock.lock(rt);
+        let had_started = locked.has_started;
+        let called = locked.call(alloc, seat, event, copy, room);
+        self.wake(had_started, locked.has_started);
+        called
+    }
+
+    /// Wakes who waits, where the guest has started to run here.
+    fn wake(&self, had_started: bool, has_started: bool) {
+        if has_started && !had_started {
+            self.started.notify_all();
+        }
+    }
+
+    /// Waits until a call is answered that the guest runs here, at most so long, and says whether one was, also where
+    /// that was long ago.
+    pub fn await_start<R: Wait + Clock>(&self, rt: &R, most: Duration) -> bool {
+        let locked = self.lock.lock(rt);
+        if locked.has_started {
+            return true;
+        }
+        let (locked, _waited) = self.started.wait_timeout(rt, locked, most);
+        locked.has_started
     }
 
     /// Records a drain of at most so many bytes, under the lock, where it finds none at a guest that runs
@@ -175,7 +203,7 @@ impl<L: Seating, M: PagedMemory + Drop> SharedHost<L, M> {
         if !is_slice_in_range(harts, n) {
             return Err(SliceError::OutOfRange);
         }
-        let Ok(receipts) = Vec::with_capacity(alloc, MAX_SLICE as usize) else {
+        let Ok(receipts) = seat.take_slice_room(alloc) else {
             return Err(SliceError::OutOfMemory);
         };
         self.lock

@@ -5,10 +5,8 @@ use Rattle.rvm_cell.specs.Telling.{receipt_at}
 use Rattle.rvm_cell.proofs.Rounds.{last_dry}
 use Rattle.rvm_cell.proofs.items.ReceiptItem.last_reply.Goals as goal
 use Rattle.rvm_journal.specs.Entries.{PlainEntry}
-use Rattle.rvm_message.specs.Exchanges.{PlainExchange}
 
 pub returns-in-Rounds : goal.returns-in-Rounds
 returns-in-Rounds c =
-    c.reply-in-Rounds.ensures ∙ ap (λ (x : PlainExchange). x.reply) c.dry.ensures
-    ∙ ap (λ (e : PlainEntry). e.reply) (sym (last_dry c.in-Rounds.rounds))
+    c.dry_reply.ensures ∙ ap (λ (e : PlainEntry). e.reply) (sym (last_dry c.in-Rounds.rounds))
     ∙ ap (λ (x : ReceiptItem). (receipt_at x (count_in x - 1)).reply) (sym c.in-Rounds.is)

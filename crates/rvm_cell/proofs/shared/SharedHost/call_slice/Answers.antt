@@ -1,4 +1,9 @@
+use Rattle.std.proofs.Common.{subst}
 use Rattle.std.proofs.lemmas.Result.{IfOk-weaker}
+use Rattle.std.specs.Prelude.{IfOk}
+use Rattle.rvm_cell.specs.Calls.{AreOfSeat}
+use Rattle.rvm_cell.specs.Runs.{all_of}
+use Rattle.rvm_cell.specs.Seats.{PlainSeat}
 use Rattle.rvm_cell.proofs.Receipts.{slice_has_steps, slice_of_seat}
 use Rattle.rvm_cell.proofs.shared.SharedHost.call_slice.Goals as goal
 
@@ -8,4 +13,6 @@ returns-clause-steps g c =
 
 pub returns-clause-receipts : goal.returns-clause-receipts
 returns-clause-receipts g c =
-    IfOk-weaker c.call_slice.result _ _ (λ v called. slice_of_seat _ _ _ _ _ _ _ called) c.call_slice.ensures.called
+    subst (λ (s : PlainSeat). IfOk c.call_slice.result (λ v. AreOfSeat s c.args.turn c.args.harts (all_of v.items)))
+    c.take_slice_room.ensures.same
+    (IfOk-weaker c.call_slice.result _ _ (λ v called. slice_of_seat _ _ _ _ _ _ _ called) c.call_slice.ensures.called)
