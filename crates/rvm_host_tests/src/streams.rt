@@ -3,7 +3,7 @@
 ghost use Rattle.std.specs.Prelude.{◌≤◌, length};
 
 use crate::hosts::again;
-use crate::worlds::{FIRST_EVENTS, turn, world};
+use crate::worlds::{FIRST_EVENTS, world};
 use rvm_frame::{Frame, FrameFault, FrameReader};
 use rvm_mem::FlatMemory;
 use rvm_world::World;
@@ -64,7 +64,7 @@ fn stream(alloc: Global, version: u8) -> Result<Vec<u8>, Fail> {
 /// The events of the move up to the commit.
 fn play(alloc: Global, world: &mut World<FlatMemory>) -> Result<(), Fail> {
     for event in &FIRST_EVENTS {
-        turn(alloc, world, event)?;
+        again!(world.apply(alloc, event));
     }
     Ok(())
 }

@@ -4,8 +4,9 @@ use crate::hosts::{Event, LOOP, POLICY, again, guest};
 use crate::replies::{Said, said};
 use rvm_core::{BadSize, Host};
 use rvm_debug::{BoardEvent, BoardReply, Debugged};
+use rvm_hart::RAM_BASE;
 use rvm_mem::FlatMemory;
-use rvm_message::Command;
+use rvm_message::{Command, HostReply};
 use rvm_world::{Driven, World, WorldError, WorldReply, drive_move, run_world};
 use std::alloc::Global;
 use std::process::Abort;
@@ -29,24 +30,78 @@ pub fn world(
     }
 }
 
-/// What an event is answered, and the place of the frame that was made, also where the world was refused
-/// memory at first: it is then as before.
-pub fn turn(
+/// What an event is answered, and the place of the frame that was made. An event that was refused memory is
+/// made once more, in a world that is as before.
+fn turn(
     alloc: Global,
     world: &mut World<FlatMemory>,
     event: &rvm_world::Event,
 ) -> Result<(Said, Option<usize>), Fail> {
-    let before = (world.sent(), world.current());
+    let before = digest(alloc, world)?;
     let reply = match world.apply(alloc, event) {
         Ok(reply) => reply,
         Err(_) => {
-            if (world.sent(), world.current()) != before {
+            if digest(alloc, world)? != before {
                 return Err(Fail::from("a refused growth changed the world"));
             }
             world.apply(alloc, event)?
         }
     };
     Ok((said(&reply.reply), reply.frame))
+}
+
+/// A number over all that a world shows: the host of its guest, the bytes of each frame, and at each host what
+/// registers the guest has and what its RAM begins with. Takes no memory.
+fn digest(alloc: Global, world: &mut World<FlatMemory>) -> Result<u64, Fail> {
+    let mut sum = u64::from(world.current());
+    for place in 0..world.sent() {
+        if let Some(bytes) = world.frame(place) {
+            sum = sum_bytes(sum, bytes);
+        }
+    }
+    for host in 0..world.hosts() {
+        sum = more(sum, guest_digest(alloc, world, host)?);
+    }
+    Ok(sum)
+}
+
+/// What a guest at this host shows, or why none answers.
+fn guest_digest(alloc: Global, world: &mut World<FlatMemory>, host: u8) -> Result<u64, Fail> {
+    let mut sum = 0;
+    for event in [
+        BoardEvent::Regs(0),
+        BoardEvent::Mem {
+            address: RAM_BASE,
+            length: 4096,
+        },
+    ] {
+        let reply = world.apply(alloc, &rvm_world::Event::At(host, Command::Board(event)))?;
+        sum = more(sum, reply_digest(&reply.reply));
+    }
+    Ok(sum)
+}
+
+/// A number over the answer of a guest.
+fn reply_digest(reply: &HostReply) -> u64 {
+    match reply {
+        HostReply::Board(BoardReply::Regs(registers)) => registers
+            .iter()
+            .fold(1, |sum, register| more(sum, u64::from(*register))),
+        HostReply::Board(BoardReply::Bytes(bytes)) => sum_bytes(2, bytes.as_slice()),
+        reply => said(reply).1[0],
+    }
+}
+
+/// A number over bytes behind others.
+fn sum_bytes(sum: u64, bytes: &[u8]) -> u64 {
+    bytes
+        .iter()
+        .fold(sum, |sum, byte| more(sum, u64::from(*byte)))
+}
+
+/// A number over one more.
+fn more(sum: u64, number: u64) -> u64 {
+    sum.wrapping_mul(0x0000_0100_0000_01B3).wrapping_add(number)
 }
 
 /// What an event is answered.
@@ -69,15 +124,22 @@ fn assert_answer(
 /// A world of so many hosts is made, or refused.
 fn is_made(alloc: Global, limits: &[u16], version: u32) -> Result<bool, Fail> {
     let guest = guest(alloc, 1, &[LOOP])?;
-    match World::with_version(alloc, guest, limits, version) {
+    let made = match World::with_version(alloc, guest, limits, version) {
+        Err((WorldError::OutOfMemory, guest)) => World::with_version(alloc, guest, limits, version),
+        made => made,
+    };
+    match made {
         Ok(world) => {
             drop(world);
             Ok(true)
         }
         Err(refused) => {
-            let made = !matches!(refused.0, WorldError::BadSize);
+            let error = refused.0;
             drop(refused);
-            Ok(made)
+            match error {
+                WorldError::BadSize => Ok(false),
+                WorldError::OutOfMemory => Err(Fail::from(error)),
+            }
         }
     }
 }
@@ -327,24 +389,33 @@ fn last_said(replies: &[WorldReply]) -> Option<Said> {
     replies.last().map(|reply| said(&reply.reply))
 }
 
-/// Runs the events of a move as a list, where there is memory for it, and then the last ones.
-fn assert_run(rt: &impl Abort, alloc: Global, world: &mut World<FlatMemory>) -> Result<(), Fail> {
+/// Runs the events of a move as a list, and then the last ones; whether there was memory for the list.
+fn is_run(rt: &impl Abort, alloc: Global, world: &mut World<FlatMemory>) -> Result<bool, Fail> {
     let Ok(replies) = run_world(alloc, world, &FIRST_EVENTS) else {
-        return Ok(());
+        return Ok(false);
     };
     let last = last_said(&replies);
     drop(replies);
     assert_eq!(rt; last, Some(("committed", [1, 0, 0, 0])));
     assert_answers(rt, alloc, world, &LAST_EVENTS)?;
     assert_lengths(rt, world);
-    Ok(())
+    Ok(true)
+}
+
+/// The same in a new world.
+fn is_run_anew(rt: &impl Abort, alloc: Global) -> Result<bool, Fail> {
+    let mut world = world(alloc, 4, &[4, 4], 1)?;
+    is_run(rt, alloc, &mut world)
 }
 
 #[test]
 fn a_list_of_events_is_run(rt: HostRuntime) -> Result<(), Fail> {
     assert_eq!(rt; lose_a_copy(rt.alloc())?, None);
-    let mut world = world(rt.alloc(), 4, &[4, 4], 1)?;
-    assert_run(&rt, rt.alloc(), &mut world)
+    // One growth is refused at most, so the second list is run to its end.
+    if !is_run_anew(&rt, rt.alloc())? {
+        assert!(rt; is_run_anew(&rt, rt.alloc())?);
+    }
+    Ok(())
 }
 
 /// Some host has the guest.
@@ -393,8 +464,9 @@ fn a_move_is_driven_in_each_version(rt: HostRuntime) -> Result<(), Fail> {
         (4, 3, 19),
         (1024, 2, 2061),
     ] {
+        // One growth is refused at most, so the second move arrives.
         if !is_moved(&rt, rt.alloc(), row)? {
-            return Ok(());
+            assert!(rt; is_moved(&rt, rt.alloc(), row)?);
         }
     }
     Ok(())
