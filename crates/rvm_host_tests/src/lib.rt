@@ -8,7 +8,8 @@
 //! `hosts` plays events on hosts, `replies` writes a reply as a name and numbers, `frames` makes a frame
 //! of each kind, `declined` has a guest that is too large, `modes` each command and each kind of frame in each
 //! mode, `rounds` rounds over a memory alone, `strangers` frames that hosts do not wait for, `spent` the last move
-//! number, `worlds` lists of events and driven moves, and `streams` the bytes of a move, cut in two at each place.
+//! number, `worlds` lists of events and driven moves, `scripts` a script that is too long, and `streams` the bytes of
+//! a move, cut in two at each place.
 #![tactic(auto)]
 
 #[cfg(test)]
@@ -23,6 +24,8 @@ mod modes;
 mod replies;
 #[cfg(test)]
 mod rounds;
+#[cfg(test)]
+mod scripts;
 #[cfg(test)]
 mod spent;
 #[cfg(test)]

@@ -1,5 +1,5 @@
 -- The lines of a script, one after another.
-use Rattle.std.proofs.Common.{◌≡◌, ℕ, suc, ◌+◌, List, [], ◌∷◌, ◌++◌, length, Option, Some, None, Result, Ok, Err, IfSome, refl, ap, sym, ◌∙◌, subst, arith, append_assoc, append-nil}
+use Rattle.std.proofs.Common.{◌≡◌, inl, inr, ℕ, suc, ◌+◌, List, [], ◌∷◌, ◌++◌, length, Option, Some, None, Result, Ok, Err, IfSome, refl, ap, sym, ◌∙◌, subst, arith, append_assoc, append-nil}
 use Rattle.std.proofs.lemmas.List.{length-append}
 use Rattle.std.specs.Io.KnownBytes.{Appends}
 use Rattle.rvm_debug.specs.Guest.{Guest}
@@ -13,7 +13,7 @@ use Rattle.rvm_world_line.specs.declared.line.WorldLine.TheVariants.{Empty}
 use Rattle.rvm_world_line.specs.WorldLines.{world_line_of}
 use Rattle.rvm_world_script.specs.declared.script.WorldScriptError.{WorldScriptError}
 use Rattle.rvm_world_script.specs.declared.script.WorldScriptError.TheVariants.{OutOfMemory, LineOutOfMemory, TooLong, BadToken, LinkFault}
-use Rattle.rvm_world_script.specs.Runs.{IsLineRun, IsPartWay, IsSpentIn, IsWorldRun, standing}
+use Rattle.rvm_world_script.specs.Runs.{IsAnswered, IsLineRun, IsPartWay, IsSpentIn, IsWorldRun, standing}
 use Rattle.rvm_world_script.specs.WorldScript.{Answers, Standing, answers_by, behind, done_by, world_script_of}
 use Rattle.rvm_world_script.proofs.Making.{made_shown, script_made}
 
@@ -173,7 +173,8 @@ one_refused all left bs b number k start old new before mid after LinkFault (Som
       left = bs;
       whole = line_next p.done bs b left all more p.whole;
       on = ap (λ (a : Answers). a.end) told;
-      world = run ∙ ap (λ (a : Answers). a.standing.world) (sym told);
+      world = run.1 ∙ ap (λ (a : Answers). a.standing.world) (sym told);
+      last = inr (record { first = p.done; last = b; whole = refl; answered = subst IsAnswered (sym is) run.0 });
     }
 one_refused all left bs b number k start old new before mid after (LineOutOfMemory j) None p is same more run =
     absurd run
@@ -222,7 +223,7 @@ empty_done l s out is = rw is (refl, appends_none out)
 -- a script that can't be read
 unread : (lines : List (List ℕ)) (s : Standing) → IsPartWay lines s s.world
 unfolding world_script_of
-unread lines s = record { done = []; left = lines; whole = refl; on = refl; world = refl }
+unread lines s = record { done = []; left = lines; whole = refl; on = refl; world = refl; last = inl refl }
 
 pub unread_script : (script : Option (List ℕ)) (w : BoardWorld)
     → IfSome script (λ bytes. (t : Told Guest) → Shown w.hosts t → IsPartWay (lines bytes) (standing w t) w)

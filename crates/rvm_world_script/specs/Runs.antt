@@ -1,5 +1,5 @@
 -- How a world's script ended, and what stands then.
-use Rattle.std.specs.Prelude.{◌≡◌, ℕ, ◌+◌, List, ◌∷◌, ◌++◌, length, codes, Option, Some, None, Result, Ok, Err}
+use Rattle.std.specs.Prelude.{◌≡◌, ◌⊎◌, ℕ, ◌+◌, List, [], ◌∷◌, ◌++◌, length, codes, Option, Some, None, Result, Ok, Err}
 use Rattle.std.specs.Io.KnownBytes.{Appends}
 use Rattle.std.specs.Fmt.{decimal}
 use Rattle.rvm_debug.specs.declared.event.BoardReply.{BoardReply}
@@ -8,6 +8,8 @@ use Rattle.rvm_message.specs.Replies.{refusal_of}
 use Rattle.rvm_precopy.specs.Policies.{policy_of}
 use Rattle.rvm_protocol.specs.Replies.{Refused, Reply}
 use Rattle.rvm_protocol.specs.Told.{Told}
+use Rattle.rvm_script.specs.declared.line.Line.{Line}
+use Rattle.rvm_script.specs.declared.line.Line.TheVariants as guest_line
 use Rattle.rvm_world.specs.Driving.{WasLeft}
 use Rattle.rvm_world.specs.declared.drive.Driven.{Driven}
 use Rattle.rvm_world.specs.declared.drive.Driven.TheVariants as driven
@@ -53,13 +55,39 @@ AsksMemory (Some (lines.Deliver k)) = Unit {0}
 abbrev pub AsksMemoryIn : (line : List ℕ) → Standing → Type 0
 AsksMemoryIn line s = AsksMemory (world_line_of s.world.count line)
 
--- some of the first lines were done, each to its end, and none of the others was begun
+-- a line for the guest has an answer, unless it is empty
+abbrev pub IsToldOfGuest : Line → Type 0
+IsToldOfGuest guest_line.Empty = ⊥
+IsToldOfGuest l = Unit {0}
+
+-- what a host is asked has an answer
+abbrev pub IsToldOfHost : Asked → Type 0
+IsToldOfHost (asked.Guest l) = IsToldOfGuest l
+IsToldOfHost a = Unit {0}
+
+-- a line has an answer, unless it is empty
+abbrev pub IsAnswered : Option WorldLine → Type 0
+IsAnswered None = ⊥
+IsAnswered (Some lines.Empty) = ⊥
+IsAnswered (Some (lines.Host host a)) = IsToldOfHost a
+IsAnswered (Some (lines.Deliver k)) = Unit {0}
+
+-- the last of these lines has an answer
+pub record EndsAnswered (done : List (List ℕ)) (s : Standing) : Type 0 where
+  pub first : List (List ℕ)
+  pub last : List ℕ
+  pub whole : first ++ last ∷ [] ≡ done
+  pub answered : IsAnswered (world_line_of (world_script_of first 1 s).standing.world.count last)
+
+-- some of the first lines were done, each to its end, and none of the others was begun; the answer to the last was not
+-- written, or none was done, since the script could not be read
 pub record IsPartWay (lines : List (List ℕ)) (s : Standing) (new : BoardWorld) : Type 0 where
   pub done : List (List ℕ)
   pub left : List (List ℕ)
   pub whole : done ++ left ≡ lines
   pub on : (world_script_of done 1 s).end ≡ None
   pub world : new ≡ (world_script_of done 1 s).standing.world
+  pub last : (done ≡ []) ⊎ EndsAnswered done s
 
 -- memory ran out in the line with this number; those before it were done, and what they answered was written
 pub record IsSpent (n : ℕ) (lines : List (List ℕ)) (s : Standing) (new : BoardWorld) (before after : Option (List ℕ))
@@ -122,7 +150,7 @@ IsLineRun (Err (LineOutOfMemory k)) n (Some l) s new before after =
     (k ≡ n) × IsDone (Err fault.OutOfMemory) (done_by l s) (IsSpentIn (Some l) s new) new before after
 IsLineRun (Err LinkFault) n None s new before after = ⊥
 IsLineRun (Err LinkFault) n (Some l) s new before after =
-    IsDone (Err fault.LinkFault) (done_by l s) ⊥ new before after
+    IsAnswered (Some l) × IsDone (Err fault.LinkFault) (done_by l s) ⊥ new before after
 IsLineRun (Err OutOfMemory) n l s new before after = ⊥
 IsLineRun (Err TooLong) n l s new before after = ⊥
 

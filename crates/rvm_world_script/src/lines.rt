@@ -1,6 +1,6 @@
 //! What a line of a world's script does.
 
-ghost use Rattle.std.specs.Prelude.{◌≡◌, Some, OnOk};
+ghost use Rattle.std.specs.Prelude.{◌≡◌, Some, OnErr, OnOk};
 ghost use Rattle.std.specs.Io.KnownBytes.{Appends};
 ghost use Rattle.rvm_debug.specs.Guest.{Guest};
 ghost use Rattle.rvm_debug.specs.declared.event.BoardReply.TheVariants as answer;
@@ -17,7 +17,7 @@ ghost use Rattle.rvm_protocol.specs.World.{reply_to, step};
 ghost use Rattle.rvm_world.specs.Driving.{WasLeft};
 ghost use Rattle.rvm_world.specs.Worlds.{meant, world_of};
 ghost use Rattle.rvm_world_script.specs.declared.lines.LineFault.TheVariants as fault;
-ghost use Rattle.rvm_world_script.specs.Runs.{IsDone, IsInput, IsSpentAsking, IsSpentIn, driven_text, standing};
+ghost use Rattle.rvm_world_script.specs.Runs.{IsAnswered, IsDone, IsInput, IsSpentAsking, IsSpentIn, IsToldOfGuest, IsToldOfHost, driven_text, standing};
 ghost use Rattle.rvm_world_script.specs.WorldScript.{asked_done, done_by, guest_done, host_in, inputs, is_taken, moved, replied, target};
 
 use rvm_debug::{BoardEvent, BoardReply};
@@ -63,10 +63,11 @@ pub fn do_line<M: PagedMemory + Drop, W: Write>(
     line: WorldLine,
     writer: &mut W,
 ) -> Result<(), LineFault>
-    ensures { (t : Told Guest) → Shown (world_of world.old).hosts t
+    ensures done { (t : Told Guest) → Shown (world_of world.old).hosts t
         → IsDone result (done_by line.entry (standing (world_of world.old) t))
         (IsSpentIn (Some line.entry) (standing (world_of world.old) t) (world_of world.new)) (world_of world.new)
         (W.contents writer.old) (W.contents writer.new) }
+    ensures answered { OnErr result (IsAnswered (Some line.entry)) }
 {
     match line {
         WorldLine::Empty => Ok(()),
@@ -107,9 +108,10 @@ fn do_asked<M: PagedMemory + Drop, W: Write>(
     asked: Asked,
     writer: &mut W,
 ) -> Result<(), LineFault>
-    ensures { (t : Told Guest) → IsDone result (asked_done host asked.entry (standing (world_of world.old) t))
+    ensures done { (t : Told Guest) → IsDone result (asked_done host asked.entry (standing (world_of world.old) t))
         (IsSpentAsking host asked.entry (standing (world_of world.old) t) (world_of world.new)) (world_of world.new)
         (W.contents writer.old) (W.contents writer.new) }
+    ensures answered { OnErr result (IsToldOfHost asked.entry) }
 {
     match asked {
         Asked::Guest(line) => do_guest_line(alloc, world, host, line, writer),
@@ -196,9 +198,10 @@ fn do_guest_line<M: PagedMemory + Drop, W: Write>(
     line: Line,
     writer: &mut W,
 ) -> Result<(), LineFault>
-    ensures { (t : Told Guest) → IsDone result (guest_done host line.entry (standing (world_of world.old) t))
+    ensures done { (t : Told Guest) → IsDone result (guest_done host line.entry (standing (world_of world.old) t))
         ⊥ (world_of world.new)
         (W.contents writer.old) (W.contents writer.new) }
+    ensures answered { OnErr result (IsToldOfGuest line.entry) }
 {
     Ok(ask_guest(alloc, world, host, line, writer)?)
 }
@@ -215,6 +218,7 @@ fn ask_guest<M: PagedMemory + Drop, W: Write>(
         (guest_done host line.entry (standing (world_of world.old) t)).text) }
     ensures world { (t : Told Guest) → world_of world.new
         ≡ (guest_done host line.entry (standing (world_of world.old) t)).standing.world }
+    ensures answered { OnErr result (IsToldOfGuest line.entry) }
 {
     match line {
         Line::Empty => Ok(()),

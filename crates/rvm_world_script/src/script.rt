@@ -48,9 +48,9 @@ pub enum WorldScriptError {
 /// it was. `BadToken` at the first line that is not in the grammar: what the lines before it answered is
 /// written, and the world is as they left it. `LineOutOfMemory` at a line that found no memory: the
 /// same, but the first events of a whole move may have been made; a line for the guest takes no memory.
-/// `LinkFault` where a read or a write failed: then the world is as some of the first lines left it, each
-/// of which was done to its end, the last too, whose answer was not written; none was done where a read
-/// failed.
+/// `LinkFault` if a read or a write failed: then the world is as some of the first lines left it, each
+/// of which was done to its end, the last too, which has an answer that was not written; none was done if a
+/// read failed.
 #[tactic(auto, using(rvm_world::proofs::Laws::never_moved))]
 pub fn run_world_script<M: PagedMemory + Drop, R: Read, W: Write>(
     alloc: Global,
