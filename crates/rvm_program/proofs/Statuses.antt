@@ -42,14 +42,14 @@ of_two files created a script output errors s (Ok status) ended is untold =
 of_two files created a script output errors s (Err fault) ended is untold = inr untold
 
 -- a command that has the status 1 has failed
-pub one : {F : Type 0} (files created : Named) (a : Arguments) (script : Option (List ℕ)) (output errors : Written) (s : ℕ)
+pub failed : {F : Type 0} (files created : Named) (a : Arguments) (script : Option (List ℕ)) (output errors : Written) (s : ℕ)
     (told : Result ℕ F)
     → IfOk told (λ status. HasEnded files created a status script output errors ⊎ IsUnbegun status errors)
     → OnErr told (IsUntold files created a script output) → IfOk told (λ status. s ≡ status) → s ≡ 1
     → HasFailed files created a script output errors
-one files created a script output errors s (Err fault) ended untold is one = inr (inr untold)
-one files created a script output errors s (Ok status) ended untold is one =
-    let it : status ≡ 1 = sym is ∙ one in
+failed files created a script output errors s (Err fault) ended untold is has_failed = inr (inr untold)
+failed files created a script output errors s (Ok status) ended untold is has_failed =
+    let it : status ≡ 1 = sym is ∙ has_failed in
     elim (subst (λ n. HasEnded files created a n script output errors ⊎ IsUnbegun n errors) it ended) [
       | inl done ↦ inl done
       | inr unbegun ↦ inr (inl unbegun)

@@ -5,7 +5,7 @@
 ghost use Rattle.std.specs.Prelude.{◌≡◌, ◌⊎◌, IfErr, IfOk, OnErr};
 ghost use Rattle.std.specs.Io.Buffered.{writer_contents};
 ghost use Rattle.rvm_program.specs.Ended.{AsmEnded, AuditEnded, DebugEnded, DisEnded, MoveEnded, RunEnded, ScriptEnded, ToTell, written};
-ghost use Rattle.rvm_program.specs.Files.{IsFileRefusal};
+ghost use Rattle.rvm_program.specs.Files.{IsFileRefusal, IsInput};
 
 use crate::files::{NamedFiles, read_file, refusal_of};
 use rvm_arguments::{
@@ -48,11 +48,23 @@ pub(crate) fn run<M: PagedMemory + Drop, F: NamedFiles, O: Write, E: Write>(
         × (E.contents errors.new ≡ E.contents errors.old)) }
 {
     let image = read_file(files, alloc, arguments.guest.image)?;
-    let input = match arguments.input {
-        Some(file) => read_file(files, alloc, file)?,
-        None => Vec::new(alloc),
-    };
+    let input = read_input(files, alloc, arguments.input)?;
     Ok(run_command::<M, O, E>(alloc, arguments, &image, &input, output, errors))
+}
+
+/// The bytes for the console: those of a file, or none if none is named.
+fn read_input<F: NamedFiles>(
+    files: &F,
+    alloc: Global,
+    input: Option<&str>,
+) -> Result<Vec<u8>, Refusal>
+    ensures given { IfOk result (λ v. IsInput (F.bytes_of files.now) input v.items) }
+    ensures refused { IfErr result IsFileRefusal }
+{
+    match input {
+        Some(file) => read_file(files, alloc, file),
+        None => Ok(Vec::new(alloc)),
+    }
 }
 
 /// Reads the text, opens the file that is written, and assembles.

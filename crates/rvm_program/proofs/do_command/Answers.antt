@@ -1,5 +1,5 @@
 use Rattle.rvm_program.specs.Ended.{written}
-use Rattle.rvm_program.proofs.Statuses.{of_two, one}
+use Rattle.rvm_program.proofs.Statuses.{failed, of_two}
 use Rattle.rvm_program.proofs.do_command.Goals as goal
 
 pub returns-clause-status : goal.returns-clause-status
@@ -11,7 +11,7 @@ returns-clause-status g c =
 
 pub returns-clause-refused : goal.returns-clause-refused
 returns-clause-refused g c =
-    one (g.F.NamedFiles.bytes_of c.args.files.now) (g.F.NamedFiles.created_of c.args.files.now) c.args.arguments.now
+    failed (g.F.NamedFiles.bytes_of c.args.files.now) (g.F.NamedFiles.created_of c.args.files.now) c.args.arguments.now
     (g.I.Read.remaining c.args.input.now)
     (written (g.O.Write.contents c.args.output.now) (g.O.Write.contents c.tell_end.new.output))
     (written (g.E.Write.contents c.args.errors.now) (g.E.Write.contents c.tell_end.new.errors))
