@@ -22,7 +22,7 @@ pub fn refuse_sizes<R: AllocGlobal + Print>(rt: &R) -> Option<()> {
 
 /// A host that comes back with each refusal takes the longest journal.
 fn ask_for_journals<R: AllocGlobal + Print>(rt: &R) -> Option<()> {
-    let host = host(rt.alloc(), 0, 1)?;
+    let host = host(rt.alloc(), 0, 1, 1)?;
     let host = refuse_journal(rt.alloc(), host, 0)?;
     let host = refuse_journal(rt.alloc(), host, 1048577)?;
     let mut recorded = Recorded::new(rt.alloc(), host, 1048576).ok()?;
