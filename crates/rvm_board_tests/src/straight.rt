@@ -11,8 +11,8 @@ use std::test::Fail;
 /// The number of s0, by which the rows reach RAM.
 const S0: u32 = 8;
 
-/// A word of each row, as the GNU assembler encodes it.
-#[rustfmt::skip]
+/// A word of each row, as LLVM's assembler encodes it.
+#[rattlefmt::skip]
 const WORDS: [u32; 58] = [
     0x1234_5537, // lui a0, 0x12345
     0x1234_5517, // auipc a0, 0x12345
