@@ -1,12 +1,15 @@
 -- The statuses of commands.
-use Rattle.std.proofs.Common.{◌≡◌, ◌⊎◌, ℕ, zero, suc, List, Option, Result, Ok, Err, refl, inl, inr, subst, sym, ◌∙◌}
+use Rattle.std.proofs.Common.{◌≡◌, ◌⊎◌, ℕ, zero, suc, List, ◌++◌, codes, Option, Result, Ok, Err, refl, inl, inr, subst, sym, ◌∙◌}
 use Rattle.std.specs.Result.{IfErr, IfOk}
 use Rattle.std.specs.Prelude.{OnErr}
 use Rattle.rvm_arguments.specs.declared.arguments.Arguments.{Arguments}
 use Rattle.rvm_arguments.specs.declared.arguments.Arguments.TheVariants.{Run, Asm, Dis, Debug, Script, Move, Audit}
 use Rattle.rvm_program.specs.Ended.{HasEnded, IsUnbegun, IsUntold, Written}
 use Rattle.rvm_program.specs.Performed.{HasFailed}
-use Rattle.rvm_program.specs.Files.{Named}
+use Rattle.rvm_command.specs.Command.{refused_text}
+use Rattle.rvm_command.specs.Refusals.{refused}
+use Rattle.rvm_program.specs.Files.{IsFileRefusal, Named}
+use Rattle.rvm_refusal.specs.declared.refusal.Refusal.{Refusal}
 
 -- no command ends with a third status
 no_third : (files created : Named) (a : Arguments) (n : ℕ) (script : Option (List ℕ)) (output errors : Written)
@@ -54,3 +57,10 @@ failed files created a script output errors s (Ok status) ended untold is has_fa
       | inl done ↦ inl done
       | inr unbegun ↦ inr (inl unbegun)
     ]
+
+-- what was to be told of a command that did not begin
+pub unbegun : {X F : Type 0} (files created : Named) (a : Arguments) (script : Option (List ℕ)) (output : Written) (why : Refusal)
+    (r : Result X F) → IsFileRefusal why → OnErr r (IsUntold files created a script output)
+unbegun files created a script output why (Ok x) reason = tt
+unbegun files created a script output why (Err e) reason =
+    (1, refused_text (refused why) ++ codes "\n", inr (record { why = why; reason = reason; told = refl; status_is = refl }))

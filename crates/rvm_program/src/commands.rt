@@ -58,7 +58,7 @@ fn read_input<F: NamedFiles>(
     alloc: Global,
     input: Option<&str>,
 ) -> Result<Vec<u8>, Refusal>
-    ensures given { IfOk result (λ v. IsInput (F.bytes_of files.now) input v.items) }
+    ensures given { IfOk result (λ v. IsInput (F.bytes_of files.now) input.entry v.items) }
     ensures refused { IfErr result IsFileRefusal }
 {
     match input {
