@@ -82,7 +82,7 @@ impl Merge {
             return Ok(());
         };
         match told {
-            Told::Step(_) => Ok(()),
+            Told::Step(_) | Told::Dry(_) => Ok(()),
             Told::Entry(entry) => self.note_frame(alloc, side, entry),
         }
     }
@@ -132,6 +132,10 @@ fn event_told(
         Told::Step(hart) => {
             let step = Command::Board(BoardEvent::Step(hart));
             Ok(Some(Event::At(side.number(), step)))
+        }
+        Told::Dry(count) => {
+            let drain = Command::Board(BoardEvent::Drain(count));
+            Ok(Some(Event::At(side.number(), drain)))
         }
         Told::Entry(entry) => event_of(alloc, side, version, entry.exchange(), others),
     }

@@ -6,7 +6,7 @@ use Rattle.std.specs.declared.sync.ledger.Ledger as Ledger
 use Rattle.rvm_cell.specs.declared.seat.Seating as Seating
 use Rattle.rvm_cell.specs.contracts.seat.Seat as Seat
 use Rattle.rvm_cell.proofs.Sends.{seat_send}
-use Rattle.rvm_worker.proofs.Sends.{item_send}
+use Rattle.rvm_cell.proofs.Sends.{item_send}
 use Rattle.rvm_hart_worker.specs.contracts.harts.HartsWorked as HartsWorked
 
 pub harts_worked_send : (A B : RattleType) (a : Seating.Ghosts A.Denot) (k : Ledger.Ghosts A.Denot)

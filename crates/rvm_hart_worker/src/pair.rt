@@ -20,7 +20,7 @@ use std::time::{Clock, Duration};
 /// How often a turn or a drain that both hosts refuse is tried.
 const TRIES: u32 = 30000;
 
-/// How many milliseconds lie between two tries.
+/// How many milliseconds lie between two tries at most.
 const PAUSE: u64 = 1;
 
 /// Two hosts, at one of which the guest is.
@@ -47,6 +47,26 @@ pub(crate) enum Drained {
     Nothing,
     /// Nothing: the guest is elsewhere.
     Elsewhere,
+}
+
+/// Waits a millisecond, or until the guest starts to run at the host where it was not met last, and says whether it
+/// has. Once that was heard it is a sleep.
+fn pause<A: Seating, B: Seating, M: PagedMemory + Drop, R: Wait + Clock>(
+    rt: &R,
+    hosts: &Hosts<'_, A, B, M>,
+    is_at_a: bool,
+    heard: bool,
+) -> bool {
+    let most = Duration::from_millis(PAUSE);
+    if heard {
+        thread::sleep(rt, most);
+        return true;
+    }
+    if is_at_a {
+        hosts.b.await_start(rt, most)
+    } else {
+        hosts.a.await_start(rt, most)
+    }
 }
 
 /// What the reply to a drain says. Where it has no bytes, not even none, the guest is elsewhere.
@@ -148,7 +168,7 @@ impl<A: Seating, B: Seating> Pair<A, B> {
     }
 
     /// Makes at least one turn and at most n. While both hosts refuse the turn it is tried again each
-    /// millisecond.
+    /// millisecond, and as soon as the guest starts to run at the host to which it moves.
     #[tactic(auto, using(crate::proofs::Calls::made_none, crate::proofs::Calls::made_behind, crate::proofs::Calls::made_behind_none))]
     pub(crate) fn turns<M: PagedMemory + Drop, G: Gate, R: Wait + Clock>(
         &mut self,
@@ -166,12 +186,13 @@ impl<A: Seating, B: Seating> Pair<A, B> {
             [] (turns harts turn s.made (after_turns s.then)) false) }
         ensures err { OnErr result (Made (self.old.at_a, self.old.at_b) (self.new.at_a, self.new.at_b) [] [] false) }
     {
+        let mut heard = false;
         for _try in 0..TRIES {
             let slice = self.slice_at_either(rt, alloc, hosts, watch, turn, harts, n)?;
             if slice.made > 0 {
                 return Ok(slice);
             }
-            thread::sleep(rt, Duration::from_millis(PAUSE));
+            heard = pause(rt, hosts, self.is_at_a, heard);
         }
         Err(WorkEnd::GuestStopped)
     }
@@ -287,11 +308,12 @@ impl<A: Seating, B: Seating> Pair<A, B> {
             (self.new.at_a, self.new.at_b) (given o) [] (has_none o)) }
         ensures err { OnErr result (Made (self.old.at_a, self.old.at_b) (self.new.at_a, self.new.at_b) [] [] false) }
     {
+        let mut heard = false;
         for _try in 0..TRIES {
             match self.drain_at_either(rt, alloc, hosts, watch)? {
                 Drained::Bytes(bytes) => return Ok(Some(bytes)),
                 Drained::Nothing => return Ok(None),
-                Drained::Elsewhere => thread::sleep(rt, Duration::from_millis(PAUSE)),
+                Drained::Elsewhere => heard = pause(rt, hosts, self.is_at_a, heard),
             }
         }
         Err(WorkEnd::GuestStopped)

@@ -4,7 +4,7 @@ use crate::asked::{AUDIT_STEPS, LOOP, to_move, to_script};
 use rvm_audit::audit;
 use rvm_hart::Stepped;
 use rvm_journal::{Entry, Left, Told};
-use rvm_message::{Command, ExchangeRef, HostEvent, StepReply};
+use rvm_message::{Command, Exchange, ExchangeRef, HostEvent, StepReply};
 use rvm_move_command::audit_over::{Audited, audit_over};
 use rvm_paged::PagedRam;
 use rvm_refusal::LinkFault;
@@ -63,7 +63,7 @@ impl<'a> Unplayed<'a> {
 fn has_frame(told: Told<'_>) -> bool {
     match told {
         Told::Entry(entry) => entry.frame().is_some(),
-        Told::Step(_) => false,
+        Told::Step(_) | Told::Dry(_) => false,
     }
 }
 
@@ -74,6 +74,7 @@ fn write_told(text: &mut Vec<u8>, told: Told<'_>, place: Option<usize>) -> Resul
         Told::Step(hart) => {
             write_steps_reply(text, hart, 1, &StepReply::Stepped(Stepped::Retired).reply())
         }
+        Told::Dry(count) => write_guest_reply(text, None, &Exchange::dry(count).reply()),
     }
 }
 

@@ -4,7 +4,7 @@ use Rattle.std.proofs.lemmas.List.{take_more}
 use Rattle.std.proofs.lemmas.List.Concat.{flat_map-append}
 use Rattle.std.specs.Io.KnownBytes.{Appends}
 use Rattle.rvm_journal.specs.Entries.{PlainEntry}
-use Rattle.rvm_journal.specs.Items.{all_of, steps_in_turn}
+use Rattle.rvm_journal.specs.Items.{all_of, dry_entry, rounds_in_turn, steps_in_turn}
 use Rattle.rvm_journal.proofs.Items.{all_push}
 use Rattle.rvm_move_command.specs.Answers.{answer_text, answers_text}
 
@@ -17,6 +17,15 @@ pub no_text : (turn harts n : ℕ) → answers_text (steps_in_turn turn harts n)
 unfolding steps_in_turn
 no_text turn harts zero = refl
 no_text turn harts (suc n) = no_text (turn + 1) harts n
+
+-- nor have rounds
+pub none_in_rounds : (n turn harts steps drain : ℕ) → answers_text (rounds_in_turn turn harts steps drain n) ≡ []
+unfolding rounds_in_turn
+none_in_rounds zero turn harts steps drain = refl
+none_in_rounds (suc n) turn harts steps drain =
+    let rest = dry_entry drain ∷ rounds_in_turn (turn + steps) harts steps drain n in
+    flat_map-append answer_text (steps_in_turn turn harts steps) rest ∙ ap (λ z. z ++ answers_text rest) (no_text turn harts steps)
+    ∙ none_in_rounds n (turn + steps) harts steps drain
 
 -- one item more
 pub one_more : (items : List (List PlainEntry)) (i : ℕ) (x : List PlainEntry) → i < length items → get_or items i x ≡ x

@@ -57,7 +57,7 @@ fn write_unless_of_guest<E: Write>(
     write_move_reply(errors, reply, None)
 }
 
-/// Writes the answers of an item: none where it is steps.
+/// Writes the answers of an item: none where it is steps or rounds.
 #[tactic(auto, using(crate::proofs::Answered::text_of_entry))]
 fn write_item<E: Write>(errors: &mut E, item: &Item) -> Result<(), LinkFault>
     ensures { OnOk result (Appends (E.contents errors.old) (E.contents errors.new) (answers_text item.now)) }
@@ -65,6 +65,7 @@ fn write_item<E: Write>(errors: &mut E, item: &Item) -> Result<(), LinkFault>
     match item.look() {
         ItemRef::Entry(entry) => write_answer(errors, entry),
         ItemRef::Steps(_steps) => Ok(()),
+        ItemRef::Rounds(_rounds) => Ok(()),
     }
 }
 

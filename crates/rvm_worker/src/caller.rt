@@ -1,6 +1,6 @@
 //! A worker's seat.
 
-ghost use Rattle.std.specs.Prelude.{◌≡◌, ◌+◌, ◌<◌, ◌≤◌, ◌++◌, ◌∷◌, [], true, false, IfErr, IfOk, OnErr, vec_capacity, vec_len};
+ghost use Rattle.std.specs.Prelude.{◌≡◌, ◌+◌, ◌<◌, ◌≤◌, ◌++◌, [], true, false, IfErr, IfOk, OnErr, vec_capacity, vec_len};
 ghost use Rattle.rvm_cell.specs.Runs.{all_of};
 ghost use Rattle.rvm_message.specs.Exchanges.{dry_exchange};
 ghost use Rattle.rvm_worker.specs.Ends.{is_short_of_room};
@@ -9,7 +9,7 @@ ghost use Rattle.rvm_worker.specs.Work.{IsCall, IsSliceCall, IsWork};
 use crate::end::{WorkEnd, Worked};
 use crate::heap;
 use crate::steps::{SliceSteps, steps_of};
-use rvm_cell::{Receipt, ReceiptItem, Seat, Seating, SharedHost};
+use rvm_cell::{ReceiptItem, Seat, Seating, SharedHost, push_receipt};
 use rvm_frame::Addressed;
 use rvm_mem::PagedMemory;
 use rvm_message::{HostEvent, HostReply};
@@ -106,7 +106,7 @@ impl<L: Seating> Caller<L> {
             Err((why, _event)) => Err(WorkEnd::from(why)),
             Ok((receipt, frame)) => {
                 let reply = receipt.reply();
-                push(&mut self.receipts, receipt);
+                push_receipt(&mut self.receipts, receipt);
                 Ok((reply, frame))
             }
         }
@@ -131,7 +131,7 @@ impl<L: Seating> Caller<L> {
         match host.call_dry(rt, &mut self.seat, bytes) {
             None => false,
             Some(receipt) => {
-                push(&mut self.receipts, receipt);
+                push_receipt(&mut self.receipts, receipt);
                 true
             }
         }
@@ -159,21 +159,14 @@ impl<L: Seating> Caller<L> {
         }
         let receipts = host.call_slice(rt, alloc, &mut self.seat, turn, harts, n)?;
         let steps = steps_of(receipts.as_slice());
-        append(&mut self.receipts, receipts);
+        let room = append(&mut self.receipts, receipts);
+        self.seat.give_back(room);
         Ok(steps)
     }
 }
 
-/// Puts a receipt behind others, in room that is there.
-fn push(all: &mut Vec<ReceiptItem>, receipt: Receipt)
-    requires { vec_len all.old < vec_capacity all.old }
-    ensures { all_of all.new.items ≡ all_of all.old.items ++ receipt ∷ [] }
-{
-    all.push_reserved(ReceiptItem::One(receipt));
-}
-
-/// Puts receipts behind others, in room that is there.
-fn append(all: &mut Vec<ReceiptItem>, more: Vec<ReceiptItem>)
+/// Puts receipts behind others, in room that is there: the room that they had.
+fn append(all: &mut Vec<ReceiptItem>, more: Vec<ReceiptItem>) -> Vec<ReceiptItem>
     requires { vec_len all.old + vec_len more ≤ vec_capacity all.old }
     ensures { all_of all.new.items ≡ all_of all.old.items ++ all_of more.items }
 {
@@ -181,4 +174,5 @@ fn append(all: &mut Vec<ReceiptItem>, more: Vec<ReceiptItem>)
     if all.append(&mut more).is_err() {
         unreachable!();
     }
+    more
 }

@@ -2,7 +2,7 @@ use Rattle.std.proofs.Common.{rules, ◌≡◌, ◌∙◌, ℕ, List, [], ap, sy
 use Rattle.std.specs.Io.KnownBytes.{Appends}
 use Rattle.rvm_journal.specs.Items.{entries_at}
 use Rattle.rvm_move_command.specs.Answers.{answers_text}
-use Rattle.rvm_move_command.proofs.Answered.{no_text}
+use Rattle.rvm_move_command.proofs.Answered.{no_text, none_in_rounds}
 use Rattle.rvm_move_command.proofs.answers.write_item.Goals as goal
 
 pub returns-in-Steps : goal.returns-in-Steps
@@ -11,5 +11,14 @@ returns-in-Steps g c =
     let at = g.E.Write.contents c.args.errors.now in
     let text : answers_text c.args.item.now ≡ [] =
     ap answers_text (sym c.look.ensures ∙ ap entries_at c.in-Steps.is) ∙ no_text s.turn s.harts s.count in
+    let none : Appends at at [] = search rules in
+    subst (λ (t : List ℕ). Appends at at t) (sym text) none
+
+pub returns-in-Rounds : goal.returns-in-Rounds
+returns-in-Rounds g c =
+    let r = c.in-Rounds._rounds in
+    let at = g.E.Write.contents c.args.errors.now in
+    let text : answers_text c.args.item.now ≡ [] =
+    ap answers_text (sym c.look.ensures ∙ ap entries_at c.in-Rounds.is) ∙ none_in_rounds r.count r.turn r.harts r.steps r.drain in
     let none : Appends at at [] = search rules in
     subst (λ (t : List ℕ). Appends at at t) (sym text) none

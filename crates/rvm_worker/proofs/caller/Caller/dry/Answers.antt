@@ -9,7 +9,7 @@ pub invariant_of-self-in-Some : goal.invariant_of-self-in-Some
 invariant_of-self-in-Some g c =
     let old = c.self.inside in
     let r = c.in-Some.receipt in
-    let added : all_of c.push.new.all.items ≡ all_of old.receipts.items ++ r ∷ [] =
-    c.push.ensures ∙ ap (λ xs. all_of xs ++ r ∷ []) c.reserve.ensures.items in
+    let added : all_of c.push_receipt.new.all.items ≡ all_of old.receipts.items ++ r ∷ [] =
+    c.push_receipt.ensures ∙ ap (λ xs. all_of xs ++ r ∷ []) c.reserve.ensures.items in
     subst (IsWork old.first.value c.call_dry.new.seat) (sym added)
     (work_call old.first.value old.seat c.call_dry.new.seat (dry_exchange c.args.bytes).event (all_of old.receipts.items) r c.self.invariant c.in-Some.ensures.receipt c.in-Some.ensures.seat)

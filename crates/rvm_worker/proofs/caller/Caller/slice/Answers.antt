@@ -1,5 +1,6 @@
 use Rattle.std.proofs.Common.{◌≡◌, ◌∙◌, ◌++◌, ap, subst, sym}
 use Rattle.rvm_cell.specs.Runs.{all_of}
+use Rattle.rvm_cell.specs.Seats.{PlainSeat}
 use Rattle.rvm_worker.specs.Work.{AreSliceSteps, IsSliceCall, IsWork, PlainCaller}
 use Rattle.rvm_worker.proofs.Works.{work_slice}
 use Rattle.rvm_worker.proofs.caller.Caller.slice.Goals as goal
@@ -9,26 +10,27 @@ invariant_of-self-2 g c =
     let old = c.self.inside in
     let more = all_of c.in_ok-receipts.receipts.items in
     let said = c.in_ok-receipts.ensures in
-    let added : all_of c.append.new.all.items ≡ all_of old.receipts.items ++ more =
-    c.append.ensures ∙ ap (λ xs. all_of xs ++ more) c.reserve.ensures.items in
-    subst (IsWork old.first.value c.call_slice.new.seat) (sym added)
+    let added : all_of c.append-room.new.all.items ≡ all_of old.receipts.items ++ more =
+    c.append-room.ensures ∙ ap (λ xs. all_of xs ++ more) c.reserve.ensures.items in
+    subst (λ (s : PlainSeat). IsWork old.first.value s (all_of c.append-room.new.all.items)) (sym c.give_back.ensures)
+    (subst (IsWork old.first.value c.call_slice.new.seat) (sym added)
     (work_slice old.first.value old.seat c.call_slice.new.seat c.args.turn c.args.harts (all_of old.receipts.items) more
-    c.self.invariant said.receipts said.seat)
+    c.self.invariant said.receipts said.seat))
 
 pub returns-clause-slice : goal.returns-clause-slice
 returns-clause-slice g c =
     let old = c.self.inside in
     let more = all_of c.in_ok-receipts.receipts.items in
     let said = c.in_ok-receipts.ensures in
-    let added : all_of c.append.new.all.items ≡ all_of old.receipts.items ++ more =
-    c.append.ensures ∙ ap (λ xs. all_of xs ++ more) c.reserve.ensures.items in
+    let added : all_of c.append-room.new.all.items ≡ all_of old.receipts.items ++ more =
+    c.append-room.ensures ∙ ap (λ xs. all_of xs ++ more) c.reserve.ensures.items in
     let told : AreSliceSteps (all_of c.as_slice.result.now) c.steps_of-steps.result =
     record { count = c.steps_of-steps.ensures.count; last = c.steps_of-steps.ensures.last } in
-    subst (λ (v : PlainCaller). IsSliceCall v.seat c.args.turn c.args.harts v.receipts c.call_slice.new.seat
-    (all_of c.append.new.all.items) c.steps_of-steps.result) c.self.view_is (record {
+    subst (λ (v : PlainCaller). IsSliceCall v.seat c.args.turn c.args.harts v.receipts c.give_back.new.self
+    (all_of c.append-room.new.all.items) c.steps_of-steps.result) c.self.view_is (record {
       receipts = more;
       of_seat = said.receipts;
       told = subst (λ l. AreSliceSteps (all_of l) c.steps_of-steps.result) c.as_slice.ensures.value told;
       added = added;
-      counted = said.seat;
+      counted = c.give_back.ensures ∙ said.seat;
     })
