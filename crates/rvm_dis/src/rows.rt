@@ -9,8 +9,7 @@ use crate::shapes::{
     access, atomic, branch, csr_immediate, csr_register, fence, immediate, jump, load_reserved,
     registers, shift, upper, whole, word_as_data,
 };
-use rvm_isa::Ins;
-use rvm_isa::decode;
+use rvm_isa::{Ins, decode};
 use rvm_refusal::LinkFault;
 use std::io::Write;
 

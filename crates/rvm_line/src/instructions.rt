@@ -17,8 +17,7 @@ use crate::operations::Operation;
 use crate::reading::{end, register_comma};
 use crate::symbols::Symbols;
 use crate::values::{fits_signed, high, last_value, low};
-use rvm_isa::encode;
-use rvm_isa::{Imm12, Imm20, Ins, Reg};
+use rvm_isa::{Imm12, Imm20, Ins, Reg, encode};
 use rvm_text::Token;
 
 /// The words of a line, the one at the lower place first.

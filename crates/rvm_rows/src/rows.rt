@@ -1,8 +1,6 @@
 //! The instruction table, against words that the GNU assembler made.
 
-use rvm_isa::decode;
-use rvm_isa::encode;
-use rvm_isa::{CsrNo, Imm5, Imm12, Imm20, Ins, Off13, Off21, Reg, Shamt};
+use rvm_isa::{CsrNo, Imm5, Imm12, Imm20, Ins, Off13, Off21, Reg, Shamt, decode, encode};
 use std::process::Abort;
 
 /// An atomic instruction with two sources, without an order of accesses.
