@@ -169,11 +169,7 @@ fn write_event<W: Write>(writer: &mut W, hosts: u8, event: &Event) -> Result<(),
 
 /// Writes events of a world of so many hosts, a line each. The line of a move names its target, unless that is the
 /// other one of two hosts. `LinkFault` if the writer failed.
-pub fn write_events<W: Write>(
-    writer: &mut W,
-    hosts: u8,
-    events: &[Event],
-) -> Result<(), LinkFault>
+pub fn write_events<W: Write>(writer: &mut W, hosts: u8, events: &[Event]) -> Result<(), LinkFault>
     ensures { OnOk result (Appends (W.contents writer.old) (W.contents writer.new)
         (event_lines hosts events.now)) }
 {
