@@ -28,16 +28,16 @@ either false r q s e f = f
 asked_made : (n h : ℕ) (e : BoardEvent) (s : Standing)
     → (done_by (line_making n (event.At h (command.Board e))) s).standing ≡ after s (At h (Board e))
 unfolding stepping inputs
-asked_made n h (asked.Step x) s = refl
-asked_made n h (asked.Input b) s = either (is_taken (reply_in s (At h (Board (asked.Input b))))) _ _ _ refl refl
-asked_made n h (asked.Drain n) s = refl
-asked_made n h (asked.Break a) s = refl
-asked_made n h (asked.Clear a) s = refl
-asked_made n h (asked.Regs x) s = refl
-asked_made n h (asked.Mem a n) s = refl
-asked_made n h (asked.Dis a) s = refl
-asked_made n h (asked.PokeReg x r v) s = refl
-asked_made n h (asked.PokeMem a bytes) s = refl
+asked_made m h (asked.Step x) s = refl
+asked_made m h (asked.Input b) s = either (is_taken (reply_in s (At h (Board (asked.Input b))))) _ _ _ refl refl
+asked_made m h (asked.Drain n) s = refl
+asked_made m h (asked.Break a) s = refl
+asked_made m h (asked.Clear a) s = refl
+asked_made m h (asked.Regs x) s = refl
+asked_made m h (asked.Mem a n) s = refl
+asked_made m h (asked.Dis a) s = refl
+asked_made m h (asked.PokeReg x r v) s = refl
+asked_made m h (asked.PokeMem a bytes) s = refl
 
 -- the other one of two hosts is meant by a line that names none
 other_is : (n h to : ℕ) → is_other n h to ≡ true → 1 - h ≡ to

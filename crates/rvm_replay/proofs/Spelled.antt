@@ -86,12 +86,12 @@ numeral_decimal n below =
 
 -- decimal digits are the letter of no host
 no_letter : (w : List ℕ) → is_name w ≡ false → letter_host w ≡ None
-no_letter [] no = refl
-no_letter (b ∷ []) no =
-    let digit : is_digit b ≡ true = not_false (is_digit b) no in
+no_letter [] is = refl
+no_letter (b ∷ []) is =
+    let digit : is_digit b ≡ true = not_false (is_digit b) is in
     let below : nat_le 65 b ≡ false = grind (arith, nat_tests) in
     ap (λ t. cond (t && nat_le b 72) (Some (b - 65)) None) below
-no_letter (b ∷ c ∷ bs) no = refl
+no_letter (b ∷ c ∷ bs) is = refl
 
 pub decimal_no_letter : (n : ℕ) → letter_host (decimal n) ≡ None
 decimal_no_letter n = no_letter (decimal n) (decimal_no_name n)
