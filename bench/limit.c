@@ -222,19 +222,24 @@ static u64 quiet(struct hart *p, u32 h, u64 n)
     return until < n ? until : n;
 }
 
+/* Several harts in turn, and input that is left, go by the plain step. */
 static u64 turns(u64 turn, u64 stop)
 {
+    struct hart *p = &harts[turn_of];
     while (turn < stop && !halted) {
-        struct hart *p = &harts[turn_of];
-        u64 most = nharts == 1 && !fed() ? stop - turn : 1;
-        if (fed()) feed();
-        u64 asked = quiet(p, turn_of, most), left = straight(p, turn_of, asked);
+        if (nharts > 1 || fed()) {
+            if (fed()) feed();
+            step(&harts[turn_of], turn_of);
+            turn++;
+            if (++turn_of == nharts) turn_of = 0;
+            continue;
+        }
+        u64 asked = quiet(p, 0, stop - turn), left = straight(p, 0, asked);
         turn += asked - left;
         if (left > 0 || asked == 0) {   /* no row of the loop, or an interrupt is due */
-            step(p, turn_of);
+            step(p, 0);
             turn++;
         }
-        if (++turn_of == nharts) turn_of = 0;
     }
     return turn;
 }
