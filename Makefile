@@ -2,7 +2,8 @@
 # make wrong: all wrong bodies, or those of one crate, as in make wrong CRATE=rvm_hart.
 # make times: the merge gate, and the processor seconds of each crate.
 # make faults: the tests, with growths of memory refused in turn, at most 60 of a test; with MOST=0 each one.
-# make docs-check: the commands of README and docs are run, links and the table of crates looked at.
+# make docs-check: the commands of README and docs are run, also with standard streams closed, links and the table of
+# crates looked at.
 # make stress: random scripts for worlds of hosts, against a board that never moves.
 # make live IMAGES=..: guests are moved while they run, 200 times, and their output compared with that of run.
 PREFIX ?= /usr/local
@@ -32,6 +33,7 @@ faults:
 
 docs-check: build
 	tools/check-docs
+	tools/try-closed
 	tools/check-layers
 
 stress: build

@@ -1,8 +1,10 @@
 //! `rvm_cases FILE..`: makes transcripts of `rvmove` anew. A line `$ rvmove WORDS..` of a FILE is a
 //! command; on standard input it gets the file behind `<`, or else the lines `> TEXT` below it. Behind
-//! it stand what it wrote to standard output, what it wrote to standard error, unless that goes to a file
-//! behind `2>`, which is not written, and a status other than 0. All other lines are as they were. Each command is
-//! done over both memories of a guest, and a line behind it says so where they differ.
+//! it stand what it wrote to standard output and to standard error, and a status other than 0. What goes to a file
+//! behind ` > ` or ` 2> ` is written there instead. Each command is done over both memories of a guest, and a line
+//! behind it says so where they differ in what is printed. Two more commands look at such a file:
+//! `$ grep -c WORD FILE` prints how many lines of it contain the word, and `$ drained FILE` prints the bytes of its
+//! lines `out N HEX`. All other lines are as they were.
 #![tactic(auto)]
 
 use rvm_mem::{FlatMemory, PagedMemory};
@@ -62,39 +64,98 @@ where
     let Some(command) = command else {
         return Ok(());
     };
-    let (command, tells_errors) = match command.split_once(" 2> ") {
-        None => (command, true),
-        Some((command, _)) => (command, false),
-    };
+    if let Some(words) = command.strip_prefix("grep -c ") {
+        return count_lines(rt, words);
+    }
+    if let Some(file) = command.strip_prefix("drained ") {
+        return print_drained(rt, file);
+    }
+    let (command, errors) = redirected(command, " 2> ");
+    let (command, output) = redirected(command, " > ");
     match command.split_once(" < ") {
-        None => perform_and_print(rt, command, typed, tells_errors),
+        None => perform_and_print(rt, command, typed, Targets { output, errors }),
         Some((command, file)) => {
-            perform_and_print(rt, command, &fs::read(rt, file)?, tells_errors)
+            perform_and_print(
+                rt,
+                command,
+                &fs::read(rt, file)?,
+                Targets { output, errors },
+            )
         }
     }
 }
 
-/// Does what the words of a command ask for, and prints what it wrote, to standard error where that is wanted.
-/// It is done over both memories, and a line is printed where they differ.
+/// A command without its last words, and the file that these name, if they do.
+fn redirected<'a>(command: &'a str, sign: &str) -> (&'a str, Option<&'a str>) {
+    match command.split_once(sign) {
+        None => (command, None),
+        Some((command, file)) => (command, Some(file)),
+    }
+}
+
+/// Prints how many lines of a file contain a word.
+fn count_lines<R: Files + AllocGlobal + Print>(rt: &R, words: &str) -> anyhow::Result<()> {
+    let Some((word, file)) = words.rsplit_once(" ") else {
+        return Ok(());
+    };
+    let text = fs::read_to_string(rt, file)?;
+    println!(rt;
+        "{}",
+        text.lines().filter(|line| line.contains(word)).count()
+    )?;
+    Ok(())
+}
+
+/// Prints the bytes of the lines `out N HEX` of a file.
+fn print_drained<R: Files + AllocGlobal + Print>(rt: &R, file: &str) -> anyhow::Result<()> {
+    let text = fs::read_to_string(rt, file)?;
+    for line in text.lines() {
+        if let Some(drained) = line.strip_prefix("out ") {
+            if let Some((_, digits)) = drained.split_once(" ") {
+                io::writer(rt).write_all(&hex::decode(rt.alloc(), digits)?)?;
+            }
+        }
+    }
+    Ok(())
+}
+
+/// The files that the outputs of a command go to, where they are not printed.
+#[derive(Clone, Copy)]
+struct Targets<'a> {
+    output: Option<&'a str>,
+    errors: Option<&'a str>,
+}
+
+/// Does what the words of a command ask for, and prints what it wrote, or puts it into a file. It is done over both
+/// memories, and a line is printed where they differ in what is printed.
 fn perform_and_print<R: Files + AllocGlobal + Print + Net + Threads + Wait + Clock + Sync>(
     rt: &R,
     command: &str,
     input: &[u8],
-    tells_errors: bool,
+    targets: Targets<'_>,
 ) -> anyhow::Result<()>
 where
     R::Stream: Send,
 {
     let words: Vec<&str> = command.split_whitespace().collect(rt.alloc())?;
-    let flat = perform_over::<FlatMemory, R>(rt, words.as_slice(), input, tells_errors);
-    let paged = perform_over::<PagedRam, R>(rt, words.as_slice(), input, tells_errors);
-    io::writer(rt).write_all(&paged.output)?;
-    io::writer(rt).write_all(&paged.errors)?;
+    let flat = perform_over::<FlatMemory, R>(rt, words.as_slice(), input);
+    let paged = perform_over::<PagedRam, R>(rt, words.as_slice(), input);
+    put(rt, &paged.output, targets.output)?;
+    put(rt, &paged.errors, targets.errors)?;
     if paged.status != 0 {
         println!(rt; "status {}", paged.status)?;
     }
-    if !paged.is_as(&flat) {
+    if !paged.is_as(&flat, targets) {
         println!(rt; "over a flat memory it does something else")?;
+    }
+    Ok(())
+}
+
+/// Prints bytes, or puts them into a file.
+fn put<R: Files + Print>(rt: &R, bytes: &[u8], target: Option<&str>) -> anyhow::Result<()> {
+    match target {
+        None => io::writer(rt).write_all(bytes)?,
+        Some(file) => fs::write(rt, file, bytes)?,
     }
     Ok(())
 }
@@ -108,29 +169,25 @@ struct Performed {
 }
 
 impl Performed {
-    /// Whether another one wrote the same, with the same status.
-    fn is_as(&self, other: &Performed) -> bool {
-        self.output.as_slice() == other.output.as_slice()
-            && self.errors.as_slice() == other.errors.as_slice()
+    /// Whether another one wrote the same to what is printed, with the same status.
+    fn is_as(&self, other: &Performed, targets: Targets<'_>) -> bool {
+        (targets.output.is_some() || self.output.as_slice() == other.output.as_slice())
+            && (targets.errors.is_some() || self.errors.as_slice() == other.errors.as_slice())
             && self.status == other.status
     }
 }
 
-/// Does what the words of a command ask for, over a memory. What it wrote to standard error is left out where
-/// it is not wanted.
+/// Does what the words of a command ask for, over a memory.
 fn perform_over<
     M: PagedMemory + Drop + Send + 'static,
     R: Files + AllocGlobal + Net + Threads + Wait + Clock + Sync,
->(rt: &R, words: &[&str], input: &[u8], tells_errors: bool) -> Performed
+>(rt: &R, words: &[&str], input: &[u8]) -> Performed
 where
     R::Stream: Send,
 {
     let (mut output, mut errors) = (Vec::new(rt.alloc()), Vec::new(rt.alloc()));
     let mut input = input;
     let status = perform::<M, R, _, _, _, _>(rt, words, &mut input, &mut output, &mut errors);
-    if !tells_errors {
-        errors.clear();
-    }
     Performed {
         output,
         errors,

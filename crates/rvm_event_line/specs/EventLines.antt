@@ -1,5 +1,5 @@
 -- Events of a world, as the lines of a script that make them.
-use Rattle.std.specs.Prelude.{ℕ, ◌==◌, List, [], ◌∷◌, ◌++◌, codes, if◌then◌else◌}
+use Rattle.std.specs.Prelude.{ℕ, ◌-◌, ◌==◌, ◌&&◌, nat_lt, Bool, List, [], ◌∷◌, ◌++◌, Option, Some, None, codes, if◌then◌else◌}
 use Rattle.std.specs.Fmt.{decimal}
 use Rattle.std.specs.List.{flat_map}
 use Rattle.hex.specs.Hex.{encode_lower}
@@ -34,21 +34,34 @@ asked_line (asked.Dis a) = codes "dis " ++ decimal a
 asked_line (asked.PokeReg h r v) = codes "reg " ++ decimal h ++ codes " " ++ register r ++ codes " " ++ decimal v
 asked_line (asked.PokeMem a bytes) = codes "poke " ++ decimal a ++ codes " " ++ encode_lower bytes
 
--- what a host is told to do
-abbrev pub command_line : Command → List ℕ
-command_line (command.Board e) = asked_line e
-command_line (command.Begin to p) =
-    codes "begin " ++ letter to ++ codes " " ++ decimal p.max_rounds ++ codes " " ++ decimal p.min_left
-    ++ codes " " ++ decimal p.factor
-command_line command.Copy = codes "copy"
-command_line command.Resend = codes "resend"
-command_line command.Abort = codes "abort"
+-- whether the host that a move goes to is the other one of two
+abbrev pub is_other : (hosts host to : ℕ) → Bool
+is_other n h to = n == 2 && (nat_lt h 2 && to == 1 - h)
 
--- an event, in a line
-abbrev pub event_line : Event → List ℕ
-event_line (event.At h c) = letter h ++ codes " " ++ command_line c ++ codes "\n"
-event_line (event.Deliver k) = codes "deliver " ++ decimal k ++ codes "\n"
+-- the host that the line of a move names: none, if it is the other one of two
+abbrev pub named : (hosts host to : ℕ) → Option ℕ
+named n h to = if is_other n h to then None else Some to
+
+-- the letter of a target with a space behind it, if one is named
+abbrev pub target_text : Option ℕ → List ℕ
+target_text None = []
+target_text (Some to) = letter to ++ codes " "
+
+-- what a host of so many is told to do
+abbrev pub command_line : (hosts host : ℕ) → Command → List ℕ
+command_line n h (command.Board e) = asked_line e
+command_line n h (command.Begin to p) =
+    codes "begin " ++ target_text (named n h to) ++ decimal p.max_rounds ++ codes " " ++ decimal p.min_left
+    ++ codes " " ++ decimal p.factor
+command_line n h command.Copy = codes "copy"
+command_line n h command.Resend = codes "resend"
+command_line n h command.Abort = codes "abort"
+
+-- an event of a world of so many hosts, in a line
+abbrev pub event_line : (hosts : ℕ) → Event → List ℕ
+event_line n (event.At h c) = letter h ++ codes " " ++ command_line n h c ++ codes "\n"
+event_line n (event.Deliver k) = codes "deliver " ++ decimal k ++ codes "\n"
 
 -- events, a line each
-abbrev pub event_lines : List Event → List ℕ
-event_lines = flat_map event_line
+abbrev pub event_lines : (hosts : ℕ) → List Event → List ℕ
+event_lines n = flat_map (event_line n)

@@ -1,8 +1,8 @@
 //! Events of a world, as lines of a script that make them.
 
-ghost use Rattle.std.specs.Prelude.{OnOk};
+ghost use Rattle.std.specs.Prelude.{◌≡◌, OnOk};
 ghost use Rattle.std.specs.Io.KnownBytes.{Appends};
-ghost use Rattle.rvm_event_line.specs.EventLines.{asked_line, command_line, event_line, event_lines};
+ghost use Rattle.rvm_event_line.specs.EventLines.{asked_line, command_line, event_line, event_lines, is_other, named};
 
 use rvm_debug::BoardEvent;
 use rvm_digits::write_hex;
@@ -86,17 +86,60 @@ fn write_asked<W: Write>(writer: &mut W, event: &BoardEvent) -> Result<(), LinkF
     Ok(())
 }
 
-/// Writes what a host is told to do.
-fn write_command<W: Write>(writer: &mut W, command: &Command) -> Result<(), LinkFault>
+/// Whether the host that a move goes to is the other one of two.
+fn is_other(hosts: u8, host: u8, to: u8) -> bool
+    ensures { result ≡ is_other hosts host to }
+{
+    hosts == 2 && host < 2 && to == 1 - host
+}
+
+/// The host that a move goes to, or none if it is the other one of two.
+#[derive(Clone, Copy)]
+struct Target(Option<u8>);
+
+/// The letter of the host with a space behind it, or nothing.
+impl fmt::Display for Target {
+    ghost use Rattle.std.specs.Prelude.{Some};
+    ghost use Rattle.rvm_event_line.specs.EventLines.{target_text};
+
+    ghost output = { λ target. Some (target_text target.0) };
+
+    fn fmt<W: fmt::Write>(&self, f: &mut fmt::Formatter<W>) -> fmt::Result {
+        let target = self.0;
+        match target {
+            Some(host) => write!(f, "{} ", Letter(host)),
+            None => Ok(()),
+        }
+    }
+}
+
+/// The target that the line of a move names.
+fn named(hosts: u8, host: u8, to: u8) -> Target
+    ensures { result.0 ≡ named hosts host to }
+{
+    if is_other(hosts, host, to) {
+        Target(None)
+    } else {
+        Target(Some(to))
+    }
+}
+
+/// Writes what a host of so many is told to do.
+fn write_command<W: Write>(
+    writer: &mut W,
+    hosts: u8,
+    host: u8,
+    command: &Command,
+) -> Result<(), LinkFault>
     ensures { OnOk result (Appends (W.contents writer.old) (W.contents writer.new)
-        (command_line command.now)) }
+        (command_line hosts host command.now)) }
 {
     match command {
         Command::Board(event) => write_asked(writer, event)?,
         Command::Begin { to, policy } => write!(
             writer,
-            "begin {} {} {} {}",
-            Letter(*to),
+            "begin {}{} {} {}",
+            named(hosts, host, *to),
             policy.max_rounds,
             policy.min_left,
             policy.factor
@@ -109,13 +152,14 @@ fn write_command<W: Write>(writer: &mut W, command: &Command) -> Result<(), Link
 }
 
 /// Writes an event as a line.
-fn write_event<W: Write>(writer: &mut W, event: &Event) -> Result<(), LinkFault>
-    ensures { OnOk result (Appends (W.contents writer.old) (W.contents writer.new) (event_line event.now)) }
+fn write_event<W: Write>(writer: &mut W, hosts: u8, event: &Event) -> Result<(), LinkFault>
+    ensures { OnOk result (Appends (W.contents writer.old) (W.contents writer.new)
+        (event_line hosts event.now)) }
 {
     match event {
         Event::At(host, command) => {
             write!(writer, "{} ", Letter(*host))?;
-            write_command(writer, command)?;
+            write_command(writer, hosts, *host, command)?;
         }
         Event::Deliver(place) => write!(writer, "deliver {place}")?,
     }
@@ -123,12 +167,14 @@ fn write_event<W: Write>(writer: &mut W, event: &Event) -> Result<(), LinkFault>
     Ok(())
 }
 
-/// Writes events, a line each. `LinkFault` where the writer failed.
-pub fn write_events<W: Write>(writer: &mut W, events: &[Event]) -> Result<(), LinkFault>
-    ensures { OnOk result (Appends (W.contents writer.old) (W.contents writer.new) (event_lines events.now)) }
+/// Writes events of a world of so many hosts, a line each. The line of a move names its target, unless that is the
+/// other one of two hosts. `LinkFault` if the writer failed.
+pub fn write_events<W: Write>(writer: &mut W, hosts: u8, events: &[Event]) -> Result<(), LinkFault>
+    ensures { OnOk result (Appends (W.contents writer.old) (W.contents writer.new)
+        (event_lines hosts events.now)) }
 {
     for event in events {
-        write_event(writer, event)?;
+        write_event(writer, hosts, event)?;
     }
     Ok(())
 }

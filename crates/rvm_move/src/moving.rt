@@ -186,6 +186,8 @@ fn close_both<L: Seating, N: Seating, M: PagedMemory + Drop, K: Link + Drop, R: 
     ensures opening { (result.a.recorded.journal.opening ≡ L.opening) × (result.b.recorded.journal.opening ≡ N.opening) }
     ensures harts { result.ends.harts ≡ turned.end }
     ensures copier { result.ends.copier ≡ carried.copier.end }
+    ensures receivers { (result.ends.receiver_a ≡ carried.receiver_a.end)
+        × (result.ends.receiver_b ≡ carried.receiver_b.end) }
     ensures told_a { result.a.fault ≡ None → AreAll result.a.recorded.journal.entries
         (all_of turned.receipts.0.items ++ (all_of carried.copier.receipts.items ++ all_of carried.receiver_a.receipts.items)) }
     ensures told_b { result.b.fault ≡ None → AreAll result.b.recorded.journal.entries

@@ -20,7 +20,7 @@ use Rattle.rvm_world.specs.declared.event.Event.{Event}
 
 -- the lines of a merge are an order that was written
 pub written : (first second : History) (events : List Event) (before after : Option (List ℕ))
-    → IsMerge first second events → Appends before after (event_lines events) → IsWritten first second before after
+    → IsMerge first second events → Appends before after (event_lines 2 events) → IsWritten first second before after
 written first second events before after merge lines = record { events = events; merge = merge; written = lines }
 
 of_image : {X E : Type 0} (r : Result X E) (P Q R : X → Type 0) → ((x : X) → P x → Q x → R x) → IfOk r P → IfOk r Q → IfOk r R

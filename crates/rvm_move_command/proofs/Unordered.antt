@@ -16,7 +16,7 @@ use Rattle.rvm_move_command.specs.Hosts.{AreOpened}
 use Rattle.rvm_move_command.specs.Orders.{HasNoOrder, IsNotAudited, IsOrderRefusal, IsUnordered}
 use Rattle.rvm_refusal.specs.declared.refusal.Refusal.TheVariants as refusal
 
-reason_of : (first second : History) (why : AuditError) → IsAuditError why first second
+pub reason_of : (first second : History) (why : AuditError) → IsAuditError why first second
     → IsOrderRefusal first second (refused (audit_refusal why))
 reason_of first second OutOfMemory is = inr (inr refl)
 reason_of first second (NoOrder i j) is = inl (refl, (i, (j, is)))

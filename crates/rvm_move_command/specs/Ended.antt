@@ -66,6 +66,10 @@ first_fault None b = b
 abbrev pub failure_line : Ends → (a b : Option CloseKind) → List ℕ
 failure_line ends a b = line_first (failure ends) (first_fault a b)
 
+-- a text was to be told, of which it is not known how much was: it would tell this to a writer that held nothing
+abbrev pub IsUntold : (Tells : (before after : Option (List ℕ)) → Type 0) → Type 0
+IsUntold Tells = (text : List ℕ) × Tells (Some []) (Some text)
+
 -- no worker failed, and both hosts were closed
 abbrev pub IsSound : Ends → (a b : Option CloseKind) → Type 0
 IsSound ends a b = (failure ends ≡ None) × (a ≡ None) × (b ≡ None)

@@ -18,11 +18,11 @@ use Rattle.rvm_protocol.specs.World.{new_world}
 use Rattle.rvm_refusal.specs.declared.refusal.Refusal.TheVariants as refusal
 use Rattle.rvm_world.specs.declared.event.Event.{Event}
 
--- an order of two journals was written, a line an event
+-- an order of the journals of two hosts was written, a line an event
 pub record IsWritten (first second : History) (before after : Option (List ℕ)) : Type 0 where
   pub events : List Event
   pub merge : IsMerge first second events
-  pub written : Appends before after (event_lines events)
+  pub written : Appends before after (event_lines 2 events)
 
 -- an order of two journals is a run of the law's world that begins with the guest of a file, and whose guest is the one that
 -- never moves

@@ -1,7 +1,7 @@
 //! What a host answered, as it is told.
 
-ghost use Rattle.std.specs.Prelude.{◌≡◌, OnOk};
-ghost use Rattle.std.specs.Io.KnownBytes.{Appends};
+ghost use Rattle.std.specs.Prelude.{◌≡◌, [], OnOk};
+ghost use Rattle.std.specs.Io.KnownBytes.{Appends, append_known};
 ghost use Rattle.rvm_journal.specs.History.{is_board};
 ghost use Rattle.rvm_journal.specs.Items.{all_of};
 ghost use Rattle.rvm_move_command.specs.Answers.{answer_text, answers_text, reply_text};
@@ -10,7 +10,14 @@ use rvm_journal::{Entry, Item, ItemRef};
 use rvm_message::{Command, ExchangeRef, HostEvent, HostReply};
 use rvm_refusal::LinkFault;
 use rvm_world_line::write_move_reply;
+use std::alloc::Global;
 use std::io::Write;
+
+/// How many bytes of answers go out together at most.
+const PIECE: usize = 1 << 13;
+
+/// The size above which a piece goes out: a line more, of at most 128 bytes, still finds room in it.
+const FULL: usize = PIECE - 128;
 
 /// Whether an event is one of the guest's own.
 fn is_of_guest(event: &HostEvent) -> bool
@@ -62,12 +69,63 @@ fn write_item<E: Write>(errors: &mut E, item: &Item) -> Result<(), LinkFault>
     }
 }
 
-/// Writes the answers to the commands of a move and to the frames that came, a line each.
-pub(crate) fn write_answers<E: Write>(errors: &mut E, items: &[Item]) -> Result<(), LinkFault>
+/// Writes the answers to the commands of a move and to the frames that came, a line each. They go out in pieces of
+/// `PIECE` bytes, or each by itself if there is no memory for a piece.
+pub(crate) fn write_answers<E: Write>(
+    alloc: Global,
+    errors: &mut E,
+    items: &[Item],
+) -> Result<(), LinkFault>
+    ensures { OnOk result (Appends (E.contents errors.old) (E.contents errors.new) (answers_text (all_of items.now))) }
+{
+    match Vec::with_capacity(alloc, PIECE) {
+        Ok(piece) => write_together(errors, piece, items),
+        Err(_) => write_each(errors, items),
+    }
+}
+
+/// Writes the answers of each item by itself.
+fn write_each<E: Write>(errors: &mut E, items: &[Item]) -> Result<(), LinkFault>
     ensures { OnOk result (Appends (E.contents errors.old) (E.contents errors.new) (answers_text (all_of items.now))) }
 {
     for item in items {
         write_item(errors, item)?;
     }
+    Ok(())
+}
+
+/// Writes the answers of all items by way of a piece, which is empty at first.
+#[tactic(auto, using(crate::proofs::Pieces::gone))]
+fn write_together<E: Write>(errors: &mut E, piece: Vec<u8>, items: &[Item]) -> Result<(), LinkFault>
+    requires { piece.items ≡ [] }
+    ensures { OnOk result (Appends (E.contents errors.old) (E.contents errors.new) (answers_text (all_of items.now))) }
+{
+    let mut piece = piece;
+    for item in items {
+        put(errors, &mut piece, item)?;
+    }
+    send(errors, &mut piece)
+}
+
+/// Puts the answers of an item into a piece, which goes out if it is full.
+#[tactic(auto, using(crate::proofs::Pieces::kept, crate::proofs::Pieces::sent))]
+fn put<E: Write>(errors: &mut E, piece: &mut Vec<u8>, item: &Item) -> Result<(), LinkFault>
+    ensures { OnOk result (Appends (append_known (E.contents errors.old) piece.old.items)
+        (append_known (E.contents errors.new) piece.new.items) (answers_text item.now)) }
+{
+    write_item(piece, item)?;
+    if piece.len() > FULL {
+        return send(errors, piece);
+    }
+    Ok(())
+}
+
+/// Writes a piece, and empties it.
+fn send<E: Write>(errors: &mut E, piece: &mut Vec<u8>) -> Result<(), LinkFault>
+    ensures written { OnOk result (Appends (E.contents errors.old) (E.contents errors.new) piece.old.items) }
+    ensures emptied { OnOk result (piece.new.items ≡ []) }
+{
+    errors.write_all(piece)?;
+    piece.clear();
     Ok(())
 }

@@ -1,10 +1,11 @@
 //! `rvmove audit`: one order of what both hosts of a move did, as a script.
 
-ghost use Rattle.std.specs.Prelude.{◌≡◌, ◌⊎◌, IfOk};
+ghost use Rattle.std.specs.Prelude.{◌≡◌, ◌⊎◌, IfOk, OnErr};
 ghost use Rattle.std.specs.Io.Buffered.{writer_contents};
 ghost use Rattle.rvm_command.specs.Command.{image_of};
 ghost use Rattle.rvm_command.specs.Ends.{IsLoadable};
 ghost use Rattle.rvm_command.specs.Flushed.{is_flushed};
+ghost use Rattle.rvm_move_command.specs.Ended.{IsUntold};
 ghost use Rattle.rvm_move_command.specs.Orders.{IsAudited, IsNotAudited};
 
 use crate::audit_over::audit_over;
@@ -47,6 +48,7 @@ where
     ensures silent { IfOk result (λ status. status ≡ 0 → E.contents errors.new ≡ E.contents errors.old) }
     ensures failed { IfOk result (λ status. status ≡ 1
         → IsNotAudited arguments.now image.now (E.contents errors.old) (E.contents errors.new)) }
+    ensures untold { OnErr result (IsUntold (IsNotAudited arguments.now image.now)) }
     ensures unloadable { IsLoadable (image_of arguments.now.guest.raw image.now) arguments.now.guest.pages
         ⊎ (writer_contents O.contents output.new ≡ writer_contents O.contents output.old) }
 {

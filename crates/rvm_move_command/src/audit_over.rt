@@ -1,12 +1,12 @@
 //! An audit of a move, which also hands out both hosts.
 
-ghost use Rattle.std.specs.Prelude.{◌≡◌, ◌⊎◌, ◌↔◌, None, IfOk, IfSome, IsSome, OnOk};
+ghost use Rattle.std.specs.Prelude.{◌≡◌, ◌⊎◌, ◌↔◌, None, IfOk, IfSome, IsSome, OnErr, OnOk};
 ghost use Rattle.std.specs.Io.Buffered.{writer_contents};
 ghost use Rattle.rvm_command.specs.Command.{image_of};
 ghost use Rattle.rvm_command.specs.Ends.{IsLoadable};
 ghost use Rattle.rvm_command.specs.Flushed.{is_flushed};
 ghost use Rattle.rvm_command.specs.Refusals.{IsTold};
-ghost use Rattle.rvm_move_command.specs.Ended.{IsMade, IsSound};
+ghost use Rattle.rvm_move_command.specs.Ended.{IsMade, IsSound, IsUntold};
 ghost use Rattle.rvm_move_command.specs.Hosts.{AreOpened};
 ghost use Rattle.rvm_move_command.specs.Orders.{HasNoOrder, IsNotAudited, IsWritten};
 
@@ -64,6 +64,7 @@ where
     ensures silent { IfOk result (λ a. a.status ≡ 0 → E.contents errors.new ≡ E.contents errors.old) }
     ensures failed { IfOk result (λ a. a.status ≡ 1
         → IsNotAudited arguments.now image.now (E.contents errors.old) (E.contents errors.new)) }
+    ensures untold { OnErr result (IsUntold (IsNotAudited arguments.now image.now)) }
     ensures unloadable { IsLoadable (image_of arguments.now.guest.raw image.now) arguments.now.guest.pages
         ⊎ (writer_contents O.contents output.new ≡ writer_contents O.contents output.old) }
 {
@@ -106,6 +107,8 @@ fn audit_moved<M: PagedMemory + Drop, O: Write + Drop, E: Write>(
     ensures silent { IfOk result (λ a. a.status ≡ 0 → E.contents errors.new ≡ E.contents errors.old) }
     ensures failed { IfOk result (λ a. a.status ≡ 1 → HasNoOrder moved.ends moved.a.fault moved.b.fault
         moved.a.recorded.journal moved.b.recorded.journal (E.contents errors.old) (E.contents errors.new)) }
+    ensures untold { OnErr result (IsUntold (HasNoOrder moved.ends moved.a.fault moved.b.fault
+        moved.a.recorded.journal moved.b.recorded.journal)) }
 {
     match write_audit(alloc, &moved, output, errors) {
         Ok(0) => Ok(Audited {
@@ -141,6 +144,8 @@ fn write_audit<M: PagedMemory + Drop, O: Write + Drop, E: Write>(
     ensures failed { IfOk result (λ status. status ≡ 1 → HasNoOrder moved.now.ends moved.now.a.fault
         moved.now.b.fault moved.now.a.recorded.journal moved.now.b.recorded.journal
         (E.contents errors.old) (E.contents errors.new)) }
+    ensures untold { OnErr result (IsUntold (HasNoOrder moved.now.ends moved.now.a.fault moved.now.b.fault
+        moved.now.a.recorded.journal moved.now.b.recorded.journal)) }
     ensures order { IfOk result (λ status. status ≡ 0
         → IsWritten moved.now.a.recorded.journal moved.now.b.recorded.journal
         (writer_contents O.contents output.old) (writer_contents O.contents output.new)) }

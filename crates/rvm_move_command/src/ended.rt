@@ -1,6 +1,6 @@
 //! How a move ended, as it is told.
 
-ghost use Rattle.std.specs.Prelude.{◌≡◌, ◌⊎◌, ◌↔◌, ◌++◌, None, IfOk, OnOk};
+ghost use Rattle.std.specs.Prelude.{◌≡◌, ◌⊎◌, ◌↔◌, ◌++◌, None, IfOk, OnErr, OnOk};
 ghost use Rattle.std.specs.Io.KnownBytes.{Appends};
 ghost use Rattle.rvm_journal.specs.Replay.{IsReplay};
 ghost use Rattle.rvm_move_command.specs.Answers.{answers_text};
@@ -12,6 +12,7 @@ use rvm_mem::PagedMemory;
 use rvm_move::Moved;
 use rvm_refusal::{LinkFault, Refusal};
 use rvm_worker::WorkEnd;
+use std::alloc::Global;
 use std::io::Write;
 
 /// The refusal with which a worker ended, if it is one of the list.
@@ -66,6 +67,7 @@ pub(crate) fn tell_failure<M: PagedMemory + Drop, E: Write>(
     ensures silent { IfOk result (λ status. status ≡ 0 → E.contents errors.new ≡ E.contents errors.old) }
     ensures told { OnOk result (Appends (E.contents errors.old) (E.contents errors.new)
         (failure_line moved.now.ends moved.now.a.fault moved.now.b.fault)) }
+    ensures untold { OnErr result (IsSound moved.now.ends moved.now.a.fault moved.now.b.fault → ⊥) }
 {
     if let Some(end) = moved.ends.failure() {
         write_end(errors, end)?;
@@ -94,6 +96,7 @@ fn first_fault(a: Option<CloseKind>, b: Option<CloseKind>) -> Option<CloseKind>
 /// Tells what both hosts answered, the first one's before the second's, and why the move failed, if
 /// it did. Answers the status, as `tell_failure` does.
 pub(crate) fn tell_moved<M: PagedMemory + Drop, E: Write>(
+    alloc: Global,
     moved: &Moved<M>,
     errors: &mut E,
 ) -> Result<u8, LinkFault>
@@ -106,11 +109,11 @@ pub(crate) fn tell_moved<M: PagedMemory + Drop, E: Write>(
     ensures failed { IfOk result (λ status. status ≡ 1
         → IsFailureOf moved.now.ends moved.now.a.fault moved.now.b.fault moved.now.a.recorded.journal
         moved.now.b.recorded.journal (E.contents errors.old) (E.contents errors.new)) }
-    ensures replay { OnOk result
-        (IsReplay moved.now.a.recorded.journal.opening moved.now.a.recorded.journal.entries
-        × IsReplay moved.now.b.recorded.journal.opening moved.now.b.recorded.journal.entries) }
+    ensures replay { IsReplay moved.now.a.recorded.journal.opening moved.now.a.recorded.journal.entries
+        × IsReplay moved.now.b.recorded.journal.opening moved.now.b.recorded.journal.entries }
 {
-    write_answers(errors, moved.a.recorded.journal().items())?;
-    write_answers(errors, moved.b.recorded.journal().items())?;
+    let (a, b) = (moved.a.recorded.journal(), moved.b.recorded.journal());
+    write_answers(alloc, errors, a.items())?;
+    write_answers(alloc, errors, b.items())?;
     tell_failure(moved, errors)
 }

@@ -1,11 +1,11 @@
 //! `rvmove move`: a guest moves between two hosts in this process, over TCP.
 
-ghost use Rattle.std.specs.Prelude.{◌≡◌, ◌⊎◌, IfErr, IfOk};
+ghost use Rattle.std.specs.Prelude.{◌≡◌, ◌⊎◌, IfErr, IfOk, OnErr};
 ghost use Rattle.rvm_command.specs.Command.{image_of};
 ghost use Rattle.rvm_command.specs.Ends.{IsLoadable};
 ghost use Rattle.rvm_move.specs.Hosts.{IsAskedOfSecond, IsEnd, IsFirstEnd};
 ghost use Rattle.rvm_move.specs.Runs.{IsEndRun};
-ghost use Rattle.rvm_move_command.specs.Ended.{IsMoveRefusal, IsMoved, IsNotMoved};
+ghost use Rattle.rvm_move_command.specs.Ended.{IsMoveRefusal, IsMoved, IsNotMoved, IsUntold};
 ghost use Rattle.rvm_move_command.specs.Hosts.{AreOpened};
 ghost use Rattle.rvm_move_command.specs.Plans.{plan_of};
 ghost use Rattle.rvm_refusal.specs.declared.refusal.Refusal.TheVariants as refusal;
@@ -60,11 +60,14 @@ where
         (E.contents errors.old) (E.contents errors.new) (O.contents output.old) (O.contents output.new)) }
     ensures failed { IfOk result (λ status. status ≡ 1
         → IsNotMoved arguments.now image.now (E.contents errors.old) (E.contents errors.new)) }
+    ensures untold { OnErr result (IsUntold (λ before after.
+        IsMoved arguments.now image.now before after (O.contents output.old) (O.contents output.new)
+        ⊎ IsNotMoved arguments.now image.now before after)) }
     ensures unloadable { IsLoadable (image_of arguments.now.guest.raw image.now) arguments.now.guest.pages
         ⊎ (O.contents output.new ≡ O.contents output.old) }
 {
     let moved = move_image::<M, O, R>(rt, alloc, arguments, image, output);
-    tell_end(rt, moved, errors)
+    tell_end(rt, alloc, moved, errors)
 }
 
 /// Moves the guest of an image over TCP: both hosts, and how its workers ended.

@@ -1,6 +1,6 @@
 //! A move over links that are handed in.
 
-ghost use Rattle.std.specs.Prelude.{◌≡◌, ◌⊎◌, [], IfErr, IfOk};
+ghost use Rattle.std.specs.Prelude.{◌≡◌, ◌⊎◌, [], IfErr, IfOk, OnErr};
 ghost use Rattle.std.specs.Result.{IsOkAnd};
 ghost use Rattle.rvm_command.specs.Command.{image_of};
 ghost use Rattle.rvm_command.specs.Ends.{IsLoadable};
@@ -8,7 +8,8 @@ ghost use Rattle.rvm_command.specs.Refusals.{IsTold, refused};
 ghost use Rattle.rvm_refusal.specs.declared.refusal.Refusal.TheVariants as refusal;
 ghost use Rattle.rvm_move.specs.Hosts.{IsAskedOfSecond, IsEnd, IsFirstEnd};
 ghost use Rattle.rvm_move.specs.Runs.{IsEndRun};
-ghost use Rattle.rvm_move_command.specs.Ended.{IsFailureOf, IsMoved, IsNotMoved, IsToldOf};
+ghost use Rattle.rvm_move_command.specs.Ended.{IsFailureOf, IsMoved, IsNotMoved, IsToldOf, IsUntold};
+ghost use Rattle.rvm_journal.specs.Replay.{IsReplay};
 ghost use Rattle.rvm_move_command.specs.Plans.{plan_of};
 
 use crate::ended::tell_moved;
@@ -60,6 +61,9 @@ pub fn move_over<
         (E.contents errors.old) (E.contents errors.new) (O.contents output.old) (O.contents output.new)) }
     ensures failed { IfOk result (λ status. status ≡ 1
         → IsNotMoved arguments.now image.now (E.contents errors.old) (E.contents errors.new)) }
+    ensures untold { OnErr result (IsUntold (λ before after.
+        IsMoved arguments.now image.now before after (O.contents output.old) (O.contents output.new)
+        ⊎ IsNotMoved arguments.now image.now before after)) }
     ensures unloadable { IsLoadable (image_of arguments.now.guest.raw image.now) arguments.now.guest.pages
         ⊎ (O.contents output.new ≡ O.contents output.old) }
 {
@@ -67,7 +71,7 @@ pub fn move_over<
         Ok(recorded) => {
             let plan = plan_of(arguments);
             let moved = move_recorded(rt, alloc, recorded, links, gate, &plan, output);
-            tell_end(rt, moved, errors)
+            tell_end(rt, alloc, moved, errors)
         }
         Err(refused) => tell(refused, errors),
     }
@@ -92,6 +96,7 @@ pub fn plan_of(arguments: &MoveArguments) -> Plan
 /// Tells what both hosts of a move answered, or of a refusal.
 pub(crate) fn tell_end<M: PagedMemory + Drop + Send + 'static, E: Write, R: Threads>(
     rt: &R,
+    alloc: Global,
     moved: Result<Moved<M>, Refused>,
     errors: &mut E,
 ) -> Result<u8, LinkFault>
@@ -102,10 +107,12 @@ pub(crate) fn tell_end<M: PagedMemory + Drop + Send + 'static, E: Write, R: Thre
         m.a.recorded.journal m.b.recorded.journal (E.contents errors.old) (E.contents errors.new))) }
     ensures refused { IfOk result (λ status. IfErr moved (λ r.
         IsTold r (E.contents errors.old) (E.contents errors.new))) }
+    ensures replays { IfOk moved (λ m. IsReplay m.a.recorded.journal.opening m.a.recorded.journal.entries
+        × IsReplay m.b.recorded.journal.opening m.b.recorded.journal.entries) }
 {
     match moved {
         Ok(moved) => {
-            let told = tell_moved(&moved, errors);
+            let told = tell_moved(alloc, &moved, errors);
             give_back(rt, moved);
             told
         }

@@ -1,10 +1,11 @@
 //! The order of two journals, as it is written.
 
-ghost use Rattle.std.specs.Prelude.{◌≡◌, ◌⊎◌, IfOk, OnOk};
+ghost use Rattle.std.specs.Prelude.{◌≡◌, ◌⊎◌, IfOk, OnErr, OnOk};
 ghost use Rattle.std.specs.Io.KnownBytes.{Appends};
 ghost use Rattle.std.specs.Io.Buffered.{writer_contents};
 ghost use Rattle.rvm_command.specs.Flushed.{is_flushed};
 ghost use Rattle.rvm_event_line.specs.EventLines.{event_lines};
+ghost use Rattle.rvm_move_command.specs.Ended.{IsUntold};
 ghost use Rattle.rvm_move_command.specs.Orders.{IsUnordered, IsWritten};
 
 use rvm_audit::audit;
@@ -18,8 +19,11 @@ use rvm_world::Event;
 use std::alloc::Global;
 use std::io::{BufWriter, Write};
 
+/// How many hosts a move has.
+const HOSTS: u8 = 2;
+
 /// Writes an order of two journals, or tells that there is none.
-#[tactic(auto, using(crate::proofs::Orders::written, crate::proofs::Unordered::no_write, crate::proofs::Unordered::no_order))]
+#[tactic(auto, using(crate::proofs::Orders::written, crate::proofs::Unordered::no_write, crate::proofs::Unordered::no_order, crate::proofs::Untold::no_write, crate::proofs::Untold::no_order))]
 pub(crate) fn write_order<M: PagedMemory + Drop, O: Write + Drop, E: Write>(
     alloc: Global,
     first: &Journal<M>,
@@ -34,6 +38,7 @@ pub(crate) fn write_order<M: PagedMemory + Drop, O: Write + Drop, E: Write>(
     ensures silent { IfOk result (λ status. status ≡ 0 → E.contents errors.new ≡ E.contents errors.old) }
     ensures failed { IfOk result (λ status. status ≡ 1
         → IsUnordered first.now second.now (E.contents errors.old) (E.contents errors.new)) }
+    ensures untold { OnErr result (IsUntold (IsUnordered first.now second.now)) }
 {
     match audit(alloc, first, second) {
         Ok(events) => match write_whole(output, events.as_slice()) {
@@ -50,9 +55,9 @@ fn write_whole<O: Write + Drop>(
     events: &[Event],
 ) -> Result<(), LinkFault>
     ensures written { OnOk result (Appends (writer_contents O.contents output.old)
-        (writer_contents O.contents output.new) (event_lines events.now)) }
+        (writer_contents O.contents output.new) (event_lines 2 events.now)) }
     ensures out { OnOk result (is_flushed output.new) }
 {
-    write_events(output, events)?;
+    write_events(output, HOSTS, events)?;
     flush(output)
 }

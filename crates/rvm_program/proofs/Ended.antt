@@ -1,18 +1,22 @@
 -- How commands end that were given their files.
-use Rattle.std.proofs.Common.{◌≡◌, ◌⊎◌, ℕ, zero, suc, List, Option, Result, Ok, Err, inl, inr}
+use Rattle.std.proofs.Common.{◌≡◌, ◌⊎◌, ℕ, zero, suc, List, [], ◌++◌, Option, Some, Result, Ok, Err, codes, inl, inr}
 use Rattle.std.proofs.Common.{refl, subst, sym}
+use Rattle.std.specs.Prelude.{OnErr}
 use Rattle.std.specs.Result.{IfOk}
 use Rattle.rvm_arguments.specs.declared.arguments.AsmArguments.{AsmArguments}
 use Rattle.rvm_arguments.specs.declared.arguments.DisArguments.{DisArguments}
 use Rattle.rvm_arguments.specs.declared.arguments.GuestArguments.{GuestArguments}
 use Rattle.rvm_arguments.specs.declared.arguments.MoveArguments.{MoveArguments}
+use Rattle.rvm_arguments.specs.declared.arguments.RunArguments.{RunArguments}
 use Rattle.rvm_arguments.specs.declared.arguments.ScriptArguments.{ScriptArguments}
-use Rattle.rvm_command.specs.Command.{image_of}
-use Rattle.rvm_command.specs.Ends.{HasStatus, IsAsmEnd, IsDebugEnd, IsListEnd}
-use Rattle.rvm_move_command.specs.Ended.{IsMoved, IsNotMoved}
+use Rattle.rvm_command.specs.declared.refused.Refused.{Refused}
+use Rattle.rvm_command.specs.declared.run.Ended.{Ended}
+use Rattle.rvm_command.specs.Command.{end_text, image_of, refused_text}
+use Rattle.rvm_command.specs.Ends.{HasStatus, IsAsmEnd, IsDebugEnd, IsListEnd, IsRunEnd, RunHasStatus}
+use Rattle.rvm_move_command.specs.Ended.{IsMoved, IsNotMoved, IsUntold}
 use Rattle.rvm_move_command.specs.Orders.{IsAudited, IsNotAudited}
-use Rattle.rvm_program.specs.Ended.{AsmEnded, AuditEnded, DebugEnded, DisEnded, MoveEnded, ScriptEnded, Written}
-use Rattle.rvm_program.specs.Files.{IsFile, IsOpened, Named}
+use Rattle.rvm_program.specs.Ended.{AsmEnded, AuditEnded, DebugEnded, DisEnded, MoveEnded, MoveHasStatus, RunEnded, ScriptEnded, ToTell, Written}
+use Rattle.rvm_program.specs.Files.{IsCreated, IsFile, IsInput, IsOpened, Named}
 use Rattle.rvm_world_command.specs.Ends.{IsScriptEnd}
 
 -- neither 0 nor 1
@@ -26,17 +30,30 @@ no_third : (n : ℕ) → (suc (suc n) ≡ 0) ⊎ (suc (suc n) ≡ 1) → ⊥
 no_third n (inl none) = subst IsMore none tt
 no_third n (inr one) = subst IsMore one tt
 
+-- what a command was to tell that ended so
+to_tell : (End : Result (Unit {0}) Refused → Type 0) → (end : Result (Unit {0}) Refused) × End end
+    → ToTell (λ status errors. HasStatus status End errors.before errors.after)
+to_tell End (Ok tt, is) = (0, [], (is, refl))
+to_tell End (Err r, is) = (1, refused_text r ++ codes "\n", (r, is, refl))
+
+-- and a run, which tells its end
+run_to_tell : (End : Result Ended Refused → Type 0) → (end : Result Ended Refused) × End end
+    → ToTell (λ status errors. RunHasStatus status End errors.before errors.after)
+run_to_tell End (Ok ended, is) = (0, end_text ended ++ codes "\n", (ended, is, refl))
+run_to_tell End (Err r, is) = (1, refused_text r ++ codes "\n", (r, is, refl))
+
 module _ {F : Type 0} (files : Named) (errors : Written) where
-  -- `asm` was told the text of its file
-  pub asm_ended : (a : AsmArguments) (text bytes : List ℕ) (file : Written) (r : Result ℕ F) → text ≡ bytes
-      → IsFile (files a.source.now) bytes
+  -- `asm` was told the text of its file, and wrote to its file
+  pub asm_ended : (created : Named) (a : AsmArguments) (text bytes : List ℕ) (file : Written) (r : Result ℕ F)
+      → text ≡ bytes → IsFile (files a.source.now) bytes → IsCreated (created a.output.now) file.before
       → IfOk r (λ status. HasStatus status (λ end. IsAsmEnd text end file.before file.after) errors.before errors.after)
-      → IfOk r (λ status. AsmEnded files a status errors)
-  asm_ended a text bytes file (Err e) same is ended = tt
-  asm_ended a text bytes file (Ok status) same is ended = record {
+      → IfOk r (λ status. AsmEnded files created a status errors)
+  asm_ended created a text bytes file (Err e) same is to ended = tt
+  asm_ended created a text bytes file (Ok status) same is to ended = record {
     text = text;
     file = file;
     text_is = subst (IsFile (files a.source.now)) (sym same) is;
+    file_is = to;
     ended = ended;
   }
 
@@ -110,26 +127,144 @@ module _ {F : Type 0} (files : Named) (errors : Written) where
       }
       audit_ended a (Ok (suc (suc n))) is two done silent failed = absurd (no_third n two)
 
--- `move` was told the image of its file, and a buffer that held nothing
-pub move_ended : {F : Type 0} (files : Named) (output : Written) (image bytes : List ℕ)
-    (errors held told : Option (List ℕ)) (a : MoveArguments) (r : Result ℕ F)
-    → image ≡ bytes → held ≡ errors → IsFile (files a.guest.image.now) bytes
+-- `move` was told the image of its file
+pub move_ended : {F : Type 0} (files : Named) (output errors : Written) (image bytes : List ℕ) (a : MoveArguments)
+    (r : Result ℕ F) → image ≡ bytes → IsFile (files a.guest.image.now) bytes
     → IfOk r (λ status. (status ≡ 0) ⊎ (status ≡ 1))
-    → IfOk r (λ status. status ≡ 0 → IsMoved a image held told output.before output.after)
-    → IfOk r (λ status. status ≡ 1 → IsNotMoved a image held told)
+    → IfOk r (λ status. status ≡ 0 → IsMoved a image errors.before errors.after output.before output.after)
+    → IfOk r (λ status. status ≡ 1 → IsNotMoved a image errors.before errors.after)
     → IfOk r (λ status. MoveEnded files a status output errors)
-move_ended files output image bytes errors held told a (Err e) same begun is two done failed = tt
-move_ended files output image bytes errors held told a (Ok zero) same begun is two done failed = record {
+move_ended files output errors image bytes a (Err e) same is two done failed = tt
+move_ended files output errors image bytes a (Ok zero) same is two done failed = record {
   image = image;
-  told = told;
   image_is = subst (IsFile (files a.guest.image.now)) (sym same) is;
-  ended = subst (λ before. IsMoved a image before told output.before output.after) begun (done refl);
+  ended = done refl;
 }
-move_ended files output image bytes errors held told a (Ok (suc zero)) same begun is two done failed = record {
+move_ended files output errors image bytes a (Ok (suc zero)) same is two done failed = record {
   image = image;
-  told = told;
   image_is = subst (IsFile (files a.guest.image.now)) (sym same) is;
-  ended = subst (λ before. IsNotMoved a image before told) begun (failed refl);
+  ended = failed refl;
 }
-move_ended files output image bytes errors held told a (Ok (suc (suc n))) same begun is two done failed =
-    absurd (no_third n two)
+move_ended files output errors image bytes a (Ok (suc (suc n))) same is two done failed = absurd (no_third n two)
+
+-- what the same commands were to tell where a write to the errors failed
+module _ {F : Type 0} (files : Named) where
+  pub run_untold : (a : RunArguments) (image bytes input given : List ℕ) (output : Written) (r : Result ℕ F) → image ≡ bytes
+      → input ≡ given → IsFile (files a.guest.image.now) bytes → IsInput files a.input given
+      → (end : Result Ended Refused) × IsRunEnd a image input end output.before output.after
+      → OnErr r (ToTell (λ status errors. RunEnded files a status output errors))
+  run_untold a image bytes input given output (Ok s) same given_same is given_is end = tt
+  run_untold a image bytes input given output (Err e) same given_same is given_is end =
+      let t = run_to_tell (λ e. IsRunEnd a image input e output.before output.after) end in (
+        t.0,
+        t.1,
+        record {
+          image = image;
+          input = input;
+          image_is = subst (IsFile (files a.guest.image.now)) (sym same) is;
+          input_is = subst (IsInput files a.input) (sym given_same) given_is;
+          ended = t.2;
+        },
+      )
+
+  pub asm_untold : (created : Named) (a : AsmArguments) (text bytes : List ℕ) (file : Written) (r : Result ℕ F) → text ≡ bytes
+      → IsFile (files a.source.now) bytes → IsCreated (created a.output.now) file.before
+      → (end : Result (Unit {0}) Refused) × IsAsmEnd text end file.before file.after
+      → OnErr r (ToTell (λ status errors. AsmEnded files created a status errors))
+  asm_untold created a text bytes file (Ok s) same is to end = tt
+  asm_untold created a text bytes file (Err e) same is to end =
+      let t = to_tell (λ e. IsAsmEnd text e file.before file.after) end in (
+        t.0,
+        t.1,
+        record {
+          text = text;
+          file = file;
+          text_is = subst (IsFile (files a.source.now)) (sym same) is;
+          file_is = to;
+          ended = t.2;
+        },
+      )
+
+  module _ (image bytes : List ℕ) (output held told : Option (List ℕ)) (same : image ≡ bytes) (begun : held ≡ output)
+    where
+      pub dis_untold : (a : DisArguments) (r : Result ℕ F) → IsFile (files a.image.now) bytes
+          → (end : Result (Unit {0}) Refused) × IsListEnd (image_of a.raw image) end held told
+          → OnErr r (ToTell (λ status errors. DisEnded files a status output errors))
+      dis_untold a (Ok s) is end = tt
+      dis_untold a (Err e) is end =
+          let t = to_tell (λ e. IsListEnd (image_of a.raw image) e output told)
+          (subst (λ before. (end : Result (Unit {0}) Refused) × IsListEnd (image_of a.raw image) end before told) begun end) in (
+            t.0,
+            t.1,
+            record {
+              image = image;
+              told = told;
+              image_is = subst (IsFile (files a.image.now)) (sym same) is;
+              ended = t.2;
+            },
+          )
+
+      pub debug_untold : (a : GuestArguments) (script : Option (List ℕ)) (r : Result ℕ F) → IsFile (files a.image.now) bytes
+          → (end : Result (Unit {0}) Refused) × IsDebugEnd a image script end held told
+          → OnErr r (ToTell (λ status errors. DebugEnded files a status script output errors))
+      debug_untold a script (Ok s) is end = tt
+      debug_untold a script (Err e) is end =
+          let t = to_tell (λ e. IsDebugEnd a image script e output told)
+          (subst (λ before. (end : Result (Unit {0}) Refused) × IsDebugEnd a image script end before told) begun end) in (
+            t.0,
+            t.1,
+            record {
+              image = image;
+              told = told;
+              image_is = subst (IsFile (files a.image.now)) (sym same) is;
+              ended = t.2;
+            },
+          )
+
+      pub script_untold : (a : ScriptArguments) (script : Option (List ℕ)) (r : Result ℕ F)
+          → IsFile (files a.guest.image.now) bytes → IsOpened (files a.script.now) script
+          → (end : Result (Unit {0}) Refused) × IsScriptEnd a image script end held told
+          → OnErr r (ToTell (λ status errors. ScriptEnded files a status output errors))
+      script_untold a script (Ok s) is opened end = tt
+      script_untold a script (Err e) is opened end =
+          let t = to_tell (λ e. IsScriptEnd a image script e output told)
+          (subst (λ before. (end : Result (Unit {0}) Refused) × IsScriptEnd a image script end before told) begun end) in (
+            t.0,
+            t.1,
+            record {
+              image = image;
+              script = script;
+              told = told;
+              image_is = subst (IsFile (files a.guest.image.now)) (sym same) is;
+              script_is = opened;
+              ended = t.2;
+            },
+          )
+
+      pub audit_untold : (a : MoveArguments) (r : Result ℕ F) → IsFile (files a.guest.image.now) bytes
+          → OnErr r (IsUntold (IsNotAudited a image))
+          → OnErr r (ToTell (λ status errors. AuditEnded files a status output errors))
+      audit_untold a (Ok s) is untold = tt
+      audit_untold a (Err e) is untold = (
+        1,
+        untold.0,
+        record {
+          image = image;
+          told = told;
+          image_is = subst (IsFile (files a.guest.image.now)) (sym same) is;
+          ended = untold.1;
+        },
+      )
+
+  pub move_untold : (output : Written) (image bytes : List ℕ) (a : MoveArguments) (r : Result ℕ F) → image ≡ bytes
+      → IsFile (files a.guest.image.now) bytes
+      → OnErr r (IsUntold (λ before after. IsMoved a image before after output.before output.after
+      ⊎ IsNotMoved a image before after))
+      → OnErr r (ToTell (λ status errors. MoveEnded files a status output errors))
+  move_untold output image bytes a (Ok s) same is untold = tt
+  move_untold output image bytes a (Err e) same is untold =
+      let image_is = subst (IsFile (files a.guest.image.now)) (sym same) is in
+      elim untold.1 [
+        | inl moved ↦ (0, untold.0, record { image = image; image_is = image_is; ended = moved })
+        | inr failed ↦ (1, untold.0, record { image = image; image_is = image_is; ended = failed })
+      ]

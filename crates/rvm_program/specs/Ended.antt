@@ -1,5 +1,5 @@
 -- How a command ended that was given the files that it names.
-use Rattle.std.specs.Prelude.{◌≡◌, ℕ, zero, suc, List, Option}
+use Rattle.std.specs.Prelude.{◌≡◌, ◌⊎◌, ℕ, zero, suc, List, [], Option, Some}
 use Rattle.rvm_arguments.specs.declared.arguments.Arguments.{Arguments}
 use Rattle.rvm_arguments.specs.declared.arguments.Arguments.TheVariants.{Run, Asm, Dis, Debug, Script, Move, Audit}
 use Rattle.rvm_arguments.specs.declared.arguments.AsmArguments.{AsmArguments}
@@ -13,7 +13,7 @@ use Rattle.rvm_command.specs.Ends.{HasStatus, IsAsmEnd, IsDebugEnd, IsListEnd, I
 use Rattle.rvm_command.specs.Refusals.{IsTold, refused}
 use Rattle.rvm_move_command.specs.Ended.{IsMoved, IsNotMoved}
 use Rattle.rvm_move_command.specs.Orders.{IsAudited, IsNotAudited}
-use Rattle.rvm_program.specs.Files.{IsFile, IsFileRefusal, IsInput, IsOpened, Named}
+use Rattle.rvm_program.specs.Files.{IsCreated, IsFile, IsFileRefusal, IsInput, IsOpened, Named}
 use Rattle.rvm_refusal.specs.declared.refusal.Refusal.{Refusal}
 use Rattle.rvm_world_command.specs.Ends.{IsScriptEnd}
 
@@ -35,11 +35,12 @@ pub record RunEnded (files : Named) (a : RunArguments) (status : ℕ) (output er
   pub ended : RunHasStatus status (λ end. IsRunEnd a image input end output.before output.after)
       errors.before errors.after
 
--- `asm` was given the text that it names, and wrote to a file
-pub record AsmEnded (files : Named) (a : AsmArguments) (status : ℕ) (errors : Written) : Type 0 where
+-- `asm` was given the text that it names, and wrote to the file that it names
+pub record AsmEnded (files created : Named) (a : AsmArguments) (status : ℕ) (errors : Written) : Type 0 where
   pub text : List ℕ
   pub file : Written
   pub text_is : IsFile (files a.source.now) text
+  pub file_is : IsCreated (created a.output.now) file.before
   pub ended : HasStatus status (λ end. IsAsmEnd text end file.before file.after) errors.before errors.after
 
 -- `dis` was given the image that it names, and told a buffer in front of the output
@@ -70,18 +71,16 @@ pub record ScriptEnded (files : Named) (a : ScriptArguments) (status : ℕ) (out
 
 -- a move was made, or it was not, by its status
 abbrev pub MoveHasStatus : (status : ℕ) → MoveArguments → (image : List ℕ)
-    → (errors told output output' : Option (List ℕ)) → Type 0
-MoveHasStatus zero a image errors told output output' = IsMoved a image errors told output output'
-MoveHasStatus (suc zero) a image errors told output output' = IsNotMoved a image errors told
-MoveHasStatus (suc (suc n)) a image errors told output output' = ⊥
+    → (errors errors' output output' : Option (List ℕ)) → Type 0
+MoveHasStatus zero a image errors errors' output output' = IsMoved a image errors errors' output output'
+MoveHasStatus (suc zero) a image errors errors' output output' = IsNotMoved a image errors errors'
+MoveHasStatus (suc (suc n)) a image errors errors' output output' = ⊥
 
--- `move` was given the image that it names, and told a buffer in front of the errors
-pub record MoveEnded (files : Named) (a : MoveArguments) (status : ℕ) (output : Written) (errors : Option (List ℕ))
-    : Type 0 where
+-- `move` was given the image that it names
+pub record MoveEnded (files : Named) (a : MoveArguments) (status : ℕ) (output errors : Written) : Type 0 where
   pub image : List ℕ
-  pub told : Option (List ℕ)
   pub image_is : IsFile (files a.guest.image.now) image
-  pub ended : MoveHasStatus status a image errors told output.before output.after
+  pub ended : MoveHasStatus status a image errors.before errors.after output.before output.after
 
 -- an order of a move was written and nothing was told, or there was none, by the status
 abbrev pub AuditHasStatus : (status : ℕ) → MoveArguments → (image : List ℕ)
@@ -99,25 +98,28 @@ pub record AuditEnded (files : Named) (a : MoveArguments) (status : ℕ) (output
   pub ended : AuditHasStatus status a image output told errors.before errors.after
 
 -- what a command line asks for ended with this status
-abbrev pub HasEnded : Named → Arguments → (status : ℕ) → (script : Option (List ℕ)) → (output errors : Written) → Type 0
-HasEnded files (Run a) status script output errors = RunEnded files a status output errors
-HasEnded files (Asm a) status script output errors = AsmEnded files a status errors
-HasEnded files (Dis a) status script output errors = DisEnded files a status output.before errors
-HasEnded files (Debug a) status script output errors = DebugEnded files a status script output.before errors
-HasEnded files (Script a) status script output errors = ScriptEnded files a status output.before errors
-HasEnded files (Move a) status script output errors = MoveEnded files a status output errors.before
-HasEnded files (Audit a) status script output errors = AuditEnded files a status output.before errors
-
--- nothing was told of a command that did not begin; for `move`, whose lines go through a buffer, that is not known
-abbrev pub IsSilent : Arguments → (errors : Written) → Type 0
-IsSilent (Move a) errors = Unit {0}
-IsSilent other errors = errors.after ≡ errors.before
+abbrev pub HasEnded : (files created : Named) → Arguments → (status : ℕ) → (script : Option (List ℕ))
+    → (output errors : Written) → Type 0
+HasEnded files created (Run a) status script output errors = RunEnded files a status output errors
+HasEnded files created (Asm a) status script output errors = AsmEnded files created a status errors
+HasEnded files created (Dis a) status script output errors = DisEnded files a status output.before errors
+HasEnded files created (Debug a) status script output errors = DebugEnded files a status script output.before errors
+HasEnded files created (Script a) status script output errors = ScriptEnded files a status output.before errors
+HasEnded files created (Move a) status script output errors = MoveEnded files a status output errors
+HasEnded files created (Audit a) status script output errors = AuditEnded files a status output.before errors
 
 -- a command did not begin, since a file or a buffer could not be had, and that was told
-pub record IsUnbegun (a : Arguments) (status : ℕ) (errors : Written) : Type 0 where
+pub record IsUnbegun (status : ℕ) (errors : Written) : Type 0 where
   pub why : Refusal
   pub reason : IsFileRefusal why
-  pub silence : Option (List ℕ)
-  pub silent : IsSilent a (written errors.before silence)
-  pub told : IsTold (refused why) silence errors.after
+  pub told : IsTold (refused why) errors.before errors.after
   pub status_is : status ≡ 1
+
+-- a text was to be told, of which it is not known how much was: to errors that held nothing it would tell this
+abbrev pub ToTell : (Ends : (status : ℕ) → (errors : Written) → Type 0) → Type 0
+ToTell Ends = (status : ℕ) × (text : List ℕ) × Ends status (written (Some []) (Some text))
+
+-- a write to the errors failed: how the command ended, or why it did not begin, was not told to its end
+abbrev pub IsUntold : (files created : Named) → Arguments → (script : Option (List ℕ)) → (output : Written) → Type 0
+IsUntold files created a script output =
+    ToTell (λ status errors. HasEnded files created a status script output errors ⊎ IsUnbegun status errors)

@@ -12,6 +12,10 @@ Named = List ℕ → Option (List ℕ)
 abbrev pub IsFile : (known : Option (List ℕ)) → (bytes : List ℕ) → Type 0
 IsFile known bytes = IfSome known (λ all. bytes ≡ all)
 
+-- a file that was created holds what a new file of its name does, if that is known
+abbrev pub IsCreated : (known held : Option (List ℕ)) → Type 0
+IsCreated known held = IfSome known (λ all. held ≡ Some all)
+
 -- a file that was opened has all its bytes left, if those are known
 abbrev pub IsOpened : (known left : Option (List ℕ)) → Type 0
 IsOpened known left = IfSome known (λ all. left ≡ Some all)

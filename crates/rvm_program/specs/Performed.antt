@@ -8,16 +8,31 @@ use Rattle.clap.specs.declared.error.kind.ErrorKind.TheVariants as kind
 use Rattle.rvm_arguments.specs.declared.arguments.Arguments.{Arguments}
 use Rattle.rvm_command_line.specs.Given.{IsAsked}
 use Rattle.rvm_command_line.specs.Program.{faults_of, program}
-use Rattle.rvm_program.specs.Ended.{HasEnded, Written}
+use Rattle.rvm_program.specs.Ended.{HasEnded, IsUnbegun, IsUntold, Written}
 use Rattle.rvm_program.specs.Files.{Named}
 
 -- words have no fault for `clap`, and what they ask for is done
-pub record IsDone (files : Named) (words : List Text) (script : Option (List ℕ)) (output errors : Written)
+pub record IsDone (files created : Named) (words : List Text) (script : Option (List ℕ)) (output errors : Written)
     : Type 0 where
   pub faultless : fault_of program words ≡ []
   pub arguments : Arguments
   pub asked : IsAsked (subcommand_of program words) arguments
-  pub ended : HasEnded files arguments 0 script output errors
+  pub ended : HasEnded files created arguments 0 script output errors
+
+-- what a command came to that did not do what it was asked: it was refused, or did not begin, and that was told; or a write
+-- to the errors failed
+abbrev pub HasFailed : (files created : Named) → Arguments → (script : Option (List ℕ)) → (output errors : Written) → Type 0
+HasFailed files created a script output errors =
+    HasEnded files created a 1 script output errors
+    ⊎ (IsUnbegun 1 errors ⊎ IsUntold files created a script output)
+
+-- words have no fault for `clap`, and what they ask for has failed
+pub record IsRefused (files created : Named) (words : List Text) (script : Option (List ℕ)) (output errors : Written)
+    : Type 0 where
+  pub faultless : fault_of program words ≡ []
+  pub arguments : Arguments
+  pub asked : IsAsked (subcommand_of program words) arguments
+  pub failed : HasFailed files created arguments script output errors
 
 -- words may ask for help
 abbrev pub AskHelp : (words : List Text) → Type 0

@@ -2,10 +2,10 @@
 //! the command over values is called. The answer is that command's. A refusal is answered where a file
 //! cannot be had or a buffer finds no memory; all other refusals are told by the command over values.
 
-ghost use Rattle.std.specs.Prelude.{◌≡◌, ◌⊎◌, IfErr, IfOk};
+ghost use Rattle.std.specs.Prelude.{◌≡◌, ◌⊎◌, IfErr, IfOk, OnErr};
 ghost use Rattle.std.specs.Io.Buffered.{writer_contents};
-ghost use Rattle.rvm_program.specs.Ended.{AsmEnded, AuditEnded, DebugEnded, DisEnded, MoveEnded, RunEnded, ScriptEnded, written};
-ghost use Rattle.rvm_program.specs.Files.{IsFileRefusal};
+ghost use Rattle.rvm_program.specs.Ended.{AsmEnded, AuditEnded, DebugEnded, DisEnded, MoveEnded, RunEnded, ScriptEnded, ToTell, written};
+ghost use Rattle.rvm_program.specs.Files.{IsFileRefusal, IsInput};
 
 use crate::files::{NamedFiles, read_file, refusal_of};
 use rvm_arguments::{
@@ -42,15 +42,29 @@ pub(crate) fn run<M: PagedMemory + Drop, F: NamedFiles, O: Write, E: Write>(
     ensures ended { IfOk result (λ told. IfOk told (λ status. RunEnded (F.bytes_of files.now) arguments.now status
         (written (O.contents output.old) (O.contents output.new))
         (written (E.contents errors.old) (E.contents errors.new)))) }
+    ensures untold { IfOk result (λ told. OnErr told (ToTell (λ status errors. RunEnded (F.bytes_of files.now)
+        arguments.now status (written (O.contents output.old) (O.contents output.new)) errors))) }
     ensures unbegun { IfErr result (λ r. IsFileRefusal r × (O.contents output.new ≡ O.contents output.old)
         × (E.contents errors.new ≡ E.contents errors.old)) }
 {
     let image = read_file(files, alloc, arguments.guest.image)?;
-    let input = match arguments.input {
-        Some(file) => read_file(files, alloc, file)?,
-        None => Vec::new(alloc),
-    };
+    let input = read_input(files, alloc, arguments.input)?;
     Ok(run_command::<M, O, E>(alloc, arguments, &image, &input, output, errors))
+}
+
+/// The bytes for the console: those of a file, or none if none is named.
+fn read_input<F: NamedFiles>(
+    files: &F,
+    alloc: Global,
+    input: Option<&str>,
+) -> Result<Vec<u8>, Refusal>
+    ensures given { IfOk result (λ v. IsInput (F.bytes_of files.now) input.entry v.items) }
+    ensures refused { IfErr result IsFileRefusal }
+{
+    match input {
+        Some(file) => read_file(files, alloc, file),
+        None => Ok(Vec::new(alloc)),
+    }
 }
 
 /// Reads the text, opens the file that is written, and assembles.
@@ -60,8 +74,11 @@ pub(crate) fn asm<F: NamedFiles, E: Write>(
     arguments: &AsmArguments,
     errors: &mut E,
 ) -> Result<Told, Refusal>
-    ensures ended { IfOk result (λ told. IfOk told (λ status. AsmEnded (F.bytes_of files.now) arguments.now status
+    ensures ended { IfOk result (λ told. IfOk told (λ status. AsmEnded (F.bytes_of files.now) (F.created_of files.now)
+        arguments.now status
         (written (E.contents errors.old) (E.contents errors.new)))) }
+    ensures untold { IfOk result (λ told. OnErr told (ToTell (λ status errors. AsmEnded (F.bytes_of files.now)
+        (F.created_of files.now) arguments.now status errors))) }
     ensures unbegun { IfErr result (λ r. IsFileRefusal r × (E.contents errors.new ≡ E.contents errors.old)) }
 {
     let source = read_file(files, alloc, arguments.source)?;
@@ -79,6 +96,8 @@ pub(crate) fn dis<F: NamedFiles, O: Write, E: Write>(
 ) -> Result<Told, Refusal>
     ensures ended { IfOk result (λ told. IfOk told (λ status. DisEnded (F.bytes_of files.now) arguments.now status
         (O.contents output.old) (written (E.contents errors.old) (E.contents errors.new)))) }
+    ensures untold { IfOk result (λ told. OnErr told (ToTell (λ status errors. DisEnded (F.bytes_of files.now)
+        arguments.now status (O.contents output.old) errors))) }
     ensures unbegun { IfErr result (λ r. IsFileRefusal r × (E.contents errors.new ≡ E.contents errors.old)) }
 {
     let image = read_file(files, alloc, arguments.image)?;
@@ -97,6 +116,8 @@ pub(crate) fn debug<M: PagedMemory + Drop, F: NamedFiles, I: Read, O: Write, E: 
 ) -> Result<Told, Refusal>
     ensures ended { IfOk result (λ told. IfOk told (λ status. DebugEnded (F.bytes_of files.now) arguments.now status
         (I.remaining input.old) (O.contents output.old) (written (E.contents errors.old) (E.contents errors.new)))) }
+    ensures untold { IfOk result (λ told. OnErr told (ToTell (λ status errors. DebugEnded (F.bytes_of files.now)
+        arguments.now status (I.remaining input.old) (O.contents output.old) errors))) }
     ensures unbegun { IfErr result (λ r. IsFileRefusal r × (E.contents errors.new ≡ E.contents errors.old)) }
 {
     let image = read_file(files, alloc, arguments.image)?;
@@ -114,6 +135,8 @@ pub(crate) fn script<M: PagedMemory + Drop, F: NamedFiles, O: Write, E: Write>(
 ) -> Result<Told, Refusal>
     ensures ended { IfOk result (λ told. IfOk told (λ status. ScriptEnded (F.bytes_of files.now) arguments.now status
         (O.contents output.old) (written (E.contents errors.old) (E.contents errors.new)))) }
+    ensures untold { IfOk result (λ told. OnErr told (ToTell (λ status errors. ScriptEnded (F.bytes_of files.now)
+        arguments.now status (O.contents output.old) errors))) }
     ensures unbegun { IfErr result (λ r. IsFileRefusal r × (E.contents errors.new ≡ E.contents errors.old)) }
 {
     let image = read_file(files, alloc, arguments.guest.image)?;
@@ -122,7 +145,7 @@ pub(crate) fn script<M: PagedMemory + Drop, F: NamedFiles, O: Write, E: Write>(
     Ok(script_command::<M, _, _, E>(alloc, arguments, &image, &mut script, &mut output, errors))
 }
 
-/// Reads the image, and moves its guest. What is told of the move goes out in pieces.
+/// Reads the image, and moves its guest.
 pub(crate) fn move_guest<
     M: PagedMemory + Drop + Send + 'static,
     Rt: AllocGlobal + Net + Threads + Wait + Clock + Sync,
@@ -139,16 +162,15 @@ pub(crate) fn move_guest<
 where
     Rt::Stream: Send,
     ensures ended { IfOk result (λ told. IfOk told (λ status. MoveEnded (F.bytes_of files.now) arguments.now status
-        (written (O.contents output.old) (O.contents output.new)) (E.contents errors.old))) }
-    ensures unbegun { IfErr result (λ r. IsFileRefusal r × (O.contents output.new ≡ O.contents output.old)) }
+        (written (O.contents output.old) (O.contents output.new))
+        (written (E.contents errors.old) (E.contents errors.new)))) }
+    ensures untold { IfOk result (λ told. OnErr told (ToTell (λ status errors. MoveEnded (F.bytes_of files.now)
+        arguments.now status (written (O.contents output.old) (O.contents output.new)) errors))) }
+    ensures unbegun { IfErr result (λ r. IsFileRefusal r × (O.contents output.new ≡ O.contents output.old)
+        × (E.contents errors.new ≡ E.contents errors.old)) }
 {
     let image = read_file(files, rt.alloc(), arguments.guest.image)?;
-    let mut lines = buffered(rt.alloc(), errors)?;
-    let told = move_command::<M, O, _, Rt>(rt, rt.alloc(), arguments, &image, output, &mut lines);
-    match lines.flush() {
-        Ok(()) => Ok(told),
-        Err(_) => Ok(Err(LinkFault)),
-    }
+    Ok(move_command::<M, O, E, Rt>(rt, rt.alloc(), arguments, &image, output, errors))
 }
 
 /// Reads the image, moves its guest, and writes an order of what both hosts did.
@@ -169,6 +191,8 @@ where
     Rt::Stream: Send,
     ensures ended { IfOk result (λ told. IfOk told (λ status. AuditEnded (F.bytes_of files.now) arguments.now status
         (O.contents output.old) (written (E.contents errors.old) (E.contents errors.new)))) }
+    ensures untold { IfOk result (λ told. OnErr told (ToTell (λ status errors. AuditEnded (F.bytes_of files.now)
+        arguments.now status (O.contents output.old) errors))) }
     ensures unbegun { IfErr result (λ r. IsFileRefusal r × (E.contents errors.new ≡ E.contents errors.old)) }
 {
     let image = read_file(files, rt.alloc(), arguments.guest.image)?;

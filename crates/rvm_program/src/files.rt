@@ -3,7 +3,7 @@
 ghost use Rattle.std.specs.Prelude.{◌≡◌, ◌≢◌, ℕ, List, Option, None, IfErr, IfOk};
 ghost use Rattle.std.specs.IoError.{error_kind};
 ghost use Rattle.std.specs.declared.io.ErrorKind.TheVariants as kind;
-ghost use Rattle.rvm_program.specs.Files.{IsFile, IsFileRefusal, IsOpened};
+ghost use Rattle.rvm_program.specs.Files.{IsCreated, IsFile, IsFileRefusal, IsOpened};
 ghost use Rattle.rvm_refusal.specs.declared.refusal.Refusal.TheVariants as refusal;
 
 use rvm_refusal::Refusal;
@@ -16,6 +16,9 @@ use std::rt::Files;
 pub trait NamedFiles {
     /// The bytes of the file with a name, where they are known.
     ghost bytes_of: { Self → List ℕ → Option (List ℕ) } = { λ _ _. None };
+
+    /// What a file with a name holds when it is new or emptied, where that is known.
+    ghost created_of: { Self → List ℕ → Option (List ℕ) } = { λ _ _. None };
 
     /// A file that is read.
     type Opened: Read + Drop;
@@ -30,6 +33,7 @@ pub trait NamedFiles {
 
     /// The file with a name, new or emptied, to be written.
     fn create(&self, path: &str) -> Result<Self::Created, Refusal>
+        ensures named { IfOk result (λ file. IsCreated (created_of self.now path.now) (Self.Created.contents file)) }
         ensures refused { IfErr result IsFileRefusal };
 }
 

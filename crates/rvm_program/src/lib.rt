@@ -4,21 +4,23 @@
 //! Stands on the commands and `clap`, and reaches files through the runtime or another `NamedFiles` alone,
 //! so that another program can call what `rvmove` does.
 //!
-//! To be read in this order: `perform`, `commands`, `files`.
+//! To be read in this order: `perform`, `commands`, `files`, `descriptors`.
 #![tactic(auto)]
 
-ghost use Rattle.std.specs.Prelude.{◌≡◌, ◌≢◌, ◌⊎◌, None, IfErr, IfOk, map};
+ghost use Rattle.std.specs.Prelude.{◌≡◌, ◌≢◌, ◌⊎◌, None, IfErr, IfOk, OnErr, map};
 ghost use Rattle.clap.specs.Words.{kind_of};
 ghost use Rattle.clap.specs.declared.error.kind.ErrorKind.TheVariants as kind;
-ghost use Rattle.rvm_program.specs.Ended.{HasEnded, IsSilent, IsUnbegun, written};
+ghost use Rattle.rvm_program.specs.Ended.{HasEnded, IsUnbegun, IsUntold, ToTell, written};
 ghost use Rattle.rvm_program.specs.Files.{IsFileRefusal};
-ghost use Rattle.rvm_program.specs.Performed.{AreFaulty, IsDone, IsShown};
+ghost use Rattle.rvm_program.specs.Performed.{AreFaulty, HasFailed, IsDone, IsRefused, IsShown};
 
 mod commands;
+mod descriptors;
 mod files;
 
 use clap::Error;
 use commands::Told;
+pub use descriptors::{Descriptors, take_descriptors};
 use files::HostFiles;
 pub use files::NamedFiles;
 use rvm_arguments::Arguments;
@@ -55,8 +57,11 @@ where
     ensures status { (result ≡ 0) ⊎ ((result ≡ 1) ⊎ (result ≡ 2)) }
     ensures fault { result ≡ 2 → O.contents output.new ≡ O.contents output.old }
     ensures done { result ≡ 0 → IsShown (map S.text words.now) (written (E.contents errors.old) (E.contents errors.new))
-        ⊎ IsDone (λ name. None) (map S.text words.now) (I.remaining input.old)
+        ⊎ IsDone (λ name. None) (λ name. None) (map S.text words.now) (I.remaining input.old)
         (written (O.contents output.old) (O.contents output.new))
+        (written (E.contents errors.old) (E.contents errors.new)) }
+    ensures refused { result ≡ 1 → IsRefused (λ name. None) (λ name. None) (map S.text words.now)
+        (I.remaining input.old) (written (O.contents output.old) (O.contents output.new))
         (written (E.contents errors.old) (E.contents errors.new)) }
     ensures faulty { AreFaulty (map S.text words.now) → result ≡ 2 }
 {
@@ -85,8 +90,11 @@ where
     ensures status { (result ≡ 0) ⊎ ((result ≡ 1) ⊎ (result ≡ 2)) }
     ensures fault { result ≡ 2 → O.contents output.new ≡ O.contents output.old }
     ensures done { result ≡ 0 → IsShown (map S.text words.now) (written (E.contents errors.old) (E.contents errors.new))
-        ⊎ IsDone (F.bytes_of files.now) (map S.text words.now) (I.remaining input.old)
+        ⊎ IsDone (F.bytes_of files.now) (F.created_of files.now) (map S.text words.now) (I.remaining input.old)
         (written (O.contents output.old) (O.contents output.new))
+        (written (E.contents errors.old) (E.contents errors.new)) }
+    ensures refused { result ≡ 1 → IsRefused (F.bytes_of files.now) (F.created_of files.now) (map S.text words.now)
+        (I.remaining input.old) (written (O.contents output.old) (O.contents output.new))
         (written (E.contents errors.old) (E.contents errors.new)) }
     ensures faulty { AreFaulty (map S.text words.now) → result ≡ 2 }
 {
@@ -110,8 +118,11 @@ fn do_command<
 where
     Rt::Stream: Send,
     ensures status { (result ≡ 0) ⊎ (result ≡ 1) }
-    ensures done { result ≡ 0 → HasEnded (F.bytes_of files.now) arguments.now 0 (I.remaining input.old)
+    ensures done { result ≡ 0 → HasEnded (F.bytes_of files.now) (F.created_of files.now) arguments.now 0 (I.remaining input.old)
         (written (O.contents output.old) (O.contents output.new))
+        (written (E.contents errors.old) (E.contents errors.new)) }
+    ensures refused { result ≡ 1 → HasFailed (F.bytes_of files.now) (F.created_of files.now) arguments.now
+        (I.remaining input.old) (written (O.contents output.old) (O.contents output.new))
         (written (E.contents errors.old) (E.contents errors.new)) }
 {
     status_of(tell_end::<M, Rt, F, I, O, E>(rt, files, arguments, input, output, errors))
@@ -136,10 +147,12 @@ fn tell_end<
 >(rt: &Rt, files: &F, arguments: &Arguments, input: &mut I, output: &mut O, errors: &mut E) -> Told
 where
     Rt::Stream: Send,
-    ensures { IfOk result (λ status. HasEnded (F.bytes_of files.now) arguments.now status (I.remaining input.old)
-        (written (O.contents output.old) (O.contents output.new))
+    ensures told { IfOk result (λ status. HasEnded (F.bytes_of files.now) (F.created_of files.now) arguments.now
+        status (I.remaining input.old) (written (O.contents output.old) (O.contents output.new))
         (written (E.contents errors.old) (E.contents errors.new))
-        ⊎ IsUnbegun arguments.now status (written (E.contents errors.old) (E.contents errors.new))) }
+        ⊎ IsUnbegun status (written (E.contents errors.old) (E.contents errors.new))) }
+    ensures untold { OnErr result (IsUntold (F.bytes_of files.now) (F.created_of files.now) arguments.now
+        (I.remaining input.old) (written (O.contents output.old) (O.contents output.new))) }
 {
     match begin::<M, Rt, F, I, O, E>(rt, files, arguments, input, output, errors) {
         Ok(told) => told,
@@ -165,11 +178,13 @@ fn begin<
 ) -> Result<Told, Refusal>
 where
     Rt::Stream: Send,
-    ensures ended { IfOk result (λ told. IfOk told (λ status. HasEnded (F.bytes_of files.now) arguments.now status
+    ensures ended { IfOk result (λ told. IfOk told (λ status. HasEnded (F.bytes_of files.now) (F.created_of files.now) arguments.now status
         (I.remaining input.old) (written (O.contents output.old) (O.contents output.new))
         (written (E.contents errors.old) (E.contents errors.new)))) }
-    ensures unbegun { IfErr result (λ r. IsFileRefusal r
-        × IsSilent arguments.now (written (E.contents errors.old) (E.contents errors.new))) }
+    ensures untold { IfOk result (λ told. OnErr told (ToTell (λ status errors.
+        HasEnded (F.bytes_of files.now) (F.created_of files.now) arguments.now status (I.remaining input.old)
+        (written (O.contents output.old) (O.contents output.new)) errors))) }
+    ensures unbegun { IfErr result (λ r. IsFileRefusal r × (E.contents errors.new ≡ E.contents errors.old)) }
 {
     match arguments {
         Arguments::Run(arguments) => commands::run::<M, F, O, E>(

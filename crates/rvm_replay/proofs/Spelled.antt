@@ -1,5 +1,5 @@
 -- Letters, numbers, registers and bytes as words, and what these words are read as.
-use Rattle.std.proofs.Common.{◌≡◌, ℕ, suc, ◌+◌, ◌*◌, ◌/◌, ◌%◌, ◌^◌, ◌<◌, ◌≤◌, Bool, true, false, not, cond, ◌&&◌, eqb, List, [], ◌∷◌, length, slice_index, Option, Some, None, refl, sym, ap, subst, ◌∙◌, arith, eqb-true, inl, inr}
+use Rattle.std.proofs.Common.{◌≡◌, ℕ, suc, ◌+◌, ◌-◌, ◌*◌, ◌/◌, ◌%◌, ◌^◌, ◌<◌, ◌≤◌, Bool, true, false, not, cond, ◌&&◌, eqb, nat_le, List, [], ◌∷◌, length, slice_index, Option, Some, None, refl, sym, ap, subst, ◌∙◌, arith, eqb-true, inl, inr}
 use Rattle.std.specs.Char as char
 use Rattle.std.specs.Fmt.{decimal, digits}
 use Rattle.std.specs.List.{list_all}
@@ -9,13 +9,14 @@ use Rattle.std.proofs.lemmas.Bool.Decides.{nat_tests}
 use Rattle.std.proofs.lemmas.Fmt.{decimal_is_IsNumeral}
 use Rattle.hex.specs.Hex.{IsBytes, encode_lower, encode_with, lower_digits}
 use Rattle.hex.proofs.HexLemmas.{length-encode_with}
-use Rattle.rvm_dis.proofs.Numbers.{all_below, decimal_number, each_below}
+use Rattle.rvm_dis.proofs.Numbers.{all_below, decimal_no_name, decimal_number, each_below}
 use Rattle.rvm_dis.proofs.Reading.{both, first_of, is_one_word, second_of}
 use Rattle.rvm_event_line.specs.EventLines.{letter, register}
 use Rattle.rvm_script.specs.HexBytes.{bytes_in, hex_of, is_hex_digit}
 use Rattle.rvm_script.specs.Lines.{is_comment, numeral, register_in}
-use Rattle.rvm_text.specs.Bytes.{is_word}
+use Rattle.rvm_text.specs.Bytes.{is_digit, is_word}
 use Rattle.rvm_text.specs.Numbers.{digit_value, number_of}
+use Rattle.rvm_text.specs.Tokens.{is_name}
 use Rattle.rvm_text.specs.Registers.{abi_names, numbered_names, register_of}
 use Rattle.rvm_world_line.specs.WorldLines.{letter_host}
 
@@ -45,6 +46,10 @@ letter_word h below =
 not_true : (b : Bool) → not b ≡ true → b ≡ false
 not_true true e = sym e
 not_true false e = refl
+
+not_false : (b : Bool) → not b ≡ false → b ≡ true
+not_false true e = refl
+not_false false e = sym e
 
 pub letter_speaks : (h : ℕ) → h < 8 → is_comment (letter h) ≡ false
 letter_speaks h below =
@@ -78,6 +83,18 @@ decimal_is (a ∷ b ∷ bs) all =
 pub numeral_decimal : (n : ℕ) → n < 2 ^ 32 → numeral (decimal n) ≡ Some n
 numeral_decimal n below =
     decimal_is (decimal n) (decimal_is_IsNumeral n (omega arith)).0.1 ∙ decimal_number n below
+
+-- decimal digits are the letter of no host
+no_letter : (w : List ℕ) → is_name w ≡ false → letter_host w ≡ None
+no_letter [] is = refl
+no_letter (b ∷ []) is =
+    let digit : is_digit b ≡ true = not_false (is_digit b) is in
+    let below : nat_le 65 b ≡ false = grind (arith, nat_tests) in
+    ap (λ t. cond (t && nat_le b 72) (Some (b - 65)) None) below
+no_letter (b ∷ c ∷ bs) is = refl
+
+pub decimal_no_letter : (n : ℕ) → letter_host (decimal n) ≡ None
+decimal_no_letter n = no_letter (decimal n) (decimal_no_name n)
 
 -- a register is a word, and its own name
 abbrev is_register : ℕ → Bool

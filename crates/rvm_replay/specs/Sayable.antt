@@ -3,6 +3,7 @@ use Rattle.std.specs.Prelude.{ℕ, ◌^◌, ◌<◌, ◌≤◌, List, [], ◌∷
 use Rattle.hex.specs.Hex.{IsBytes}
 use Rattle.rvm_debug.specs.declared.event.BoardEvent.{BoardEvent}
 use Rattle.rvm_debug.specs.declared.event.BoardEvent.TheVariants as asked
+use Rattle.rvm_event_line.specs.EventLines.{named}
 use Rattle.rvm_message.specs.declared.event.Command.{Command}
 use Rattle.rvm_message.specs.declared.event.Command.TheVariants as command
 use Rattle.rvm_script.specs.declared.line.Line.{Line}
@@ -52,15 +53,15 @@ asking (asked.Step h) = guest.Steps h 1
 asking (asked.Input b) = guest.Input (b ∷ [])
 asking e = guest.Ask e
 
--- what tells a host to do it
-abbrev pub telling : Command → Asked
-telling (command.Board e) = host.Guest (asking e)
-telling (command.Begin to p) = host.Begin (Some to) p
-telling command.Copy = host.Copy
-telling command.Resend = host.Resend
-telling command.Abort = host.Abort
+-- what tells a host of so many to do it
+abbrev pub telling : (hosts told : ℕ) → Command → Asked
+telling n h (command.Board e) = host.Guest (asking e)
+telling n h (command.Begin to p) = host.Begin (named n h to) p
+telling n h command.Copy = host.Copy
+telling n h command.Resend = host.Resend
+telling n h command.Abort = host.Abort
 
--- the line that makes one event of a world
-abbrev pub line_making : Event → WorldLine
-line_making (event.At h c) = line.Host (Some h) (telling c)
-line_making (event.Deliver k) = line.Deliver k
+-- the line that makes one event of a world of so many hosts
+abbrev pub line_making : (hosts : ℕ) → Event → WorldLine
+line_making n (event.At h c) = line.Host (Some h) (telling n h c)
+line_making n (event.Deliver k) = line.Deliver k

@@ -13,13 +13,14 @@ ghost use Rattle.rvm_world_script.specs.WorldScript.{Standing, after, after_all,
 /// script stands, is that event alone.
 pub fn a_line_of_an_event_makes_it()
     ensures read { (hosts : ℕ) (e : Event) → hosts ≤ 8 → IsSayable hosts e
-        → map (world_line_of hosts) (lines (event_line e)) ≡ Some (line_making e) ∷ [] }
-    ensures made { (e : Event) (s : Standing) → (done_by (line_making e) s).standing ≡ after s (meant e) }
+        → map (world_line_of hosts) (lines (event_line hosts e)) ≡ Some (line_making hosts e) ∷ [] }
+    ensures made { (hosts : ℕ) (e : Event) (s : Standing)
+        → (done_by (line_making hosts e) s).standing ≡ after s (meant e) }
 {}
 
 /// The lines of events are a script, which is done to its end and makes these events, in their order, and no other.
 pub fn the_lines_of_events_make_them()
     ensures { (es : List Event) (s : Standing) → s.world.count ≤ 8 → AreSayable s.world.count es
-        → let a = world_script_of (lines (event_lines es)) 1 s in
+        → let a = world_script_of (lines (event_lines s.world.count es)) 1 s in
         (a.standing ≡ after_all s (map meant es)) × (a.end ≡ None) }
 {}

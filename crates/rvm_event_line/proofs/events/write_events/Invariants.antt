@@ -5,4 +5,4 @@ use Rattle.rvm_event_line.proofs.events.write_events.Given as goal
 
 abbrev pub invariant-loop-event : goal.invariant-loop-event
 invariant-loop-event g l =
-    Appends (g.W.Write.contents l.fn.writer) (g.W.Write.contents l.writer) (event_lines (take l.event-index l.events))
+    Appends (g.W.Write.contents l.fn.writer) (g.W.Write.contents l.writer) (event_lines l.hosts (take l.event-index l.events))

@@ -3,6 +3,7 @@ use Rattle.rvm_move_command.specs.Ended.{IsMade, IsSound}
 use Rattle.rvm_move_command.proofs.Moved.{made}
 use Rattle.rvm_move_command.proofs.Orders.{of_answer}
 use Rattle.rvm_move_command.proofs.Unordered.{not_audited, not_begun}
+use Rattle.rvm_move_command.proofs.Untold as untold
 use Rattle.rvm_move_command.proofs.audit_over.audit_over.Goals as goal
 
 pub returns-in-Ok-clause-made : goal.returns-in-Ok-clause-made
@@ -26,3 +27,13 @@ pub returns-in-Err-clause-failed : goal.returns-in-Err-clause-failed
 returns-in-Err-clause-failed g c =
     not_begun c.no_hosts.result (λ a. a.status) c.args.arguments.now c.args.image.now c.in-Err.refused
     (g.E.Write.contents c.args.errors.now) (g.E.Write.contents c.no_hosts.new.errors) c.in-Err.ensures.refused c.no_hosts.ensures.told
+
+pub returns-in-Ok-clause-untold : goal.returns-in-Ok-clause-untold
+returns-in-Ok-clause-untold g c =
+    let m = c.in-Ok.moved in
+    untold.not_audited c.audit_moved.result c.args.arguments.now c.args.image.now m.ends m.a.fault m.b.fault
+    m.a.recorded.journal m.b.recorded.journal c.in-Ok.ensures.opened c.audit_moved.ensures.untold
+
+pub returns-in-Err-clause-untold : goal.returns-in-Err-clause-untold
+returns-in-Err-clause-untold g c =
+    untold.not_begun c.no_hosts.result c.args.arguments.now c.args.image.now c.in-Err.refused c.in-Err.ensures.refused

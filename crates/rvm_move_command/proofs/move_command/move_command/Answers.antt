@@ -1,3 +1,5 @@
+use Rattle.std.proofs.Common.{inr}
+use Rattle.rvm_journal.specs.Replay.{IsReplay}
 use Rattle.rvm_move.specs.Hosts.{IsAskedOfSecond, IsEnd, IsFirstEnd}
 use Rattle.rvm_move.specs.Runs.{IsEndRun}
 use Rattle.rvm_move_command.specs.Ended.{IsFailureOf, IsMoved, IsToldOf}
@@ -5,6 +7,7 @@ use Rattle.rvm_move_command.specs.Hosts.{AreOpened}
 use Rattle.rvm_move_command.specs.Plans.{plan_of}
 use Rattle.rvm_move_command.proofs.Failed.{failed_of, not_moved}
 use Rattle.rvm_move_command.proofs.Moved.{moved, moved_told}
+use Rattle.rvm_move_command.proofs.Untold.{end_of, untold_move}
 use Rattle.rvm_move_command.proofs.move_command.move_command.Goals as goal
 
 pub returns-clause-moved : goal.returns-clause-moved
@@ -33,3 +36,23 @@ returns-clause-failed g c =
     (λ m. IsFailureOf m.ends m.a.fault m.b.fault m.a.recorded.journal m.b.recorded.journal before after)
     (λ m. failed_of c.args.arguments.now c.args.image.now m.ends m.a.fault m.b.fault m.a.recorded.journal m.b.recorded.journal before after)
     c.move_image-moved.ensures.opened c.move_image-moved.ensures.refused c.tell_end.ensures.refused c.tell_end.ensures.failed
+
+pub returns-clause-untold : goal.returns-clause-untold
+returns-clause-untold g c =
+    let output_before = g.O.Write.contents c.args.output.now in
+    let output_after = g.O.Write.contents c.move_image-moved.new.output in
+    untold_move c.tell_end.result c.move_image-moved.result c.args.arguments.now c.args.image.now output_before output_after
+    (λ m. AreOpened c.args.arguments.now c.args.image.now m.a.recorded.journal.opening m.b.recorded.journal.opening)
+    (λ m. IsFirstEnd (plan_of c.args.arguments.now).policy m.ends.copier m.a.fault m.a.recorded.journal.entries)
+    (λ m. IsEnd IsAskedOfSecond m.b.fault m.b.recorded.journal.entries)
+    (λ m. IsEndRun m.ends m.a.fault m.b.fault m.a.recorded.journal.entries m.b.recorded.journal.entries output_before output_after
+    c.args.arguments.now.guest.harts c.args.arguments.now.steps)
+    (λ m. IsReplay m.a.recorded.journal.opening m.a.recorded.journal.entries
+    × IsReplay m.b.recorded.journal.opening m.b.recorded.journal.entries)
+    (λ m before after. IsToldOf m.ends m.a.fault m.b.fault m.a.recorded.journal m.b.recorded.journal before after)
+    (λ m before after. IsFailureOf m.ends m.a.fault m.b.fault m.a.recorded.journal m.b.recorded.journal before after)
+    (λ m replays. end_of m.ends m.a.fault m.b.fault m.a.recorded.journal m.b.recorded.journal replays.0 replays.1)
+    (λ m before after. moved c.args.arguments.now c.args.image.now m.ends m.a.fault m.b.fault m.a.recorded.journal m.b.recorded.journal before after output_before output_after)
+    (λ m before after begun failed. inr (failed_of c.args.arguments.now c.args.image.now m.ends m.a.fault m.b.fault m.a.recorded.journal m.b.recorded.journal before after begun failed))
+    c.move_image-moved.ensures.opened c.move_image-moved.ensures.a c.move_image-moved.ensures.b c.move_image-moved.ensures.run
+    c.tell_end.ensures.replays c.move_image-moved.ensures.refused

@@ -1,6 +1,6 @@
 use Rattle.std.specs.Io.Buffered.{writer_contents}
 use Rattle.rvm_program.specs.Ended.{written}
-use Rattle.rvm_program.proofs.Ended.{audit_ended}
+use Rattle.rvm_program.proofs.Ended.{audit_ended, audit_untold}
 use Rattle.rvm_program.proofs.commands.audit.Goals as goal
 
 pub returns-clause-ended : goal.returns-clause-ended
@@ -14,3 +14,12 @@ returns-clause-ended g c =
     c.audit_command.result c.in_ok-image.ensures.bytes
     c.audit_command.ensures.status c.audit_command.ensures.order
     c.audit_command.ensures.silent c.audit_command.ensures.failed
+
+pub returns-clause-untold : goal.returns-clause-untold
+returns-clause-untold g c =
+    audit_untold (g.F.NamedFiles.bytes_of c.args.files.now)
+    c.deref.result.now c.in_ok-image.image.items (g.O.Write.contents c.args.output.now)
+    (writer_contents (λ w. g.O.Write.contents w.now) c.in_ok-output.output)
+    (writer_contents (λ w. g.O.Write.contents w.now) c.audit_command.new.output)
+    c.deref.ensures.value c.in_ok-output.ensures.empty c.args.arguments.now
+    c.audit_command.result c.in_ok-image.ensures.bytes c.audit_command.ensures.untold

@@ -2,7 +2,7 @@ use Rattle.std.proofs.Common.{take}
 use Rattle.std.specs.Io.KnownBytes.{Appends}
 use Rattle.rvm_journal.specs.Items.{all_of}
 use Rattle.rvm_move_command.specs.Answers.{answers_text}
-use Rattle.rvm_move_command.proofs.answers.write_answers.Given as goal
+use Rattle.rvm_move_command.proofs.answers.write_each.Given as goal
 
 abbrev pub invariant-loop-item : goal.invariant-loop-item
 invariant-loop-item g l =

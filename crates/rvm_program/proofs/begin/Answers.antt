@@ -1,0 +1,39 @@
+use Rattle.std.proofs.Common.{subst, sym}
+use Rattle.std.specs.Prelude.{IfOk, OnErr}
+use Rattle.rvm_program.specs.Ended.{HasEnded, ToTell, written}
+use Rattle.rvm_program.proofs.begin.Goals as goal
+
+pub returns-in-Run-clause-untold : goal.returns-in-Run-clause-untold
+returns-in-Run-clause-untold g c =
+    let output = written (g.O.Write.contents c.args.output.now) (g.O.Write.contents c.run.new.output) in
+    subst (λ a. IfOk c.run.result (λ told. OnErr told (ToTell (λ status errors.
+    HasEnded (g.F.NamedFiles.bytes_of c.args.files.now) (g.F.NamedFiles.created_of c.args.files.now) a status
+    (g.I.Read.remaining c.args.input.now) output errors)))) (sym c.in-Run.is) c.run.ensures.untold
+
+pub returns-in-Debug-clause-untold : goal.returns-in-Debug-clause-untold
+returns-in-Debug-clause-untold g c =
+    let output = written (g.O.Write.contents c.args.output.now) (g.O.Write.contents c.debug.new.output) in
+    subst (λ a. IfOk c.debug.result (λ told. OnErr told (ToTell (λ status errors.
+    HasEnded (g.F.NamedFiles.bytes_of c.args.files.now) (g.F.NamedFiles.created_of c.args.files.now) a status
+    (g.I.Read.remaining c.args.input.now) output errors)))) (sym c.in-Debug.is) c.debug.ensures.untold
+
+pub returns-in-Script-clause-untold : goal.returns-in-Script-clause-untold
+returns-in-Script-clause-untold g c =
+    let output = written (g.O.Write.contents c.args.output.now) (g.O.Write.contents c.script.new.output) in
+    subst (λ a. IfOk c.script.result (λ told. OnErr told (ToTell (λ status errors.
+    HasEnded (g.F.NamedFiles.bytes_of c.args.files.now) (g.F.NamedFiles.created_of c.args.files.now) a status
+    (g.I.Read.remaining c.args.input.now) output errors)))) (sym c.in-Script.is) c.script.ensures.untold
+
+pub returns-in-Move-clause-untold : goal.returns-in-Move-clause-untold
+returns-in-Move-clause-untold g c =
+    let output = written (g.O.Write.contents c.args.output.now) (g.O.Write.contents c.move_guest.new.output) in
+    subst (λ a. IfOk c.move_guest.result (λ told. OnErr told (ToTell (λ status errors.
+    HasEnded (g.F.NamedFiles.bytes_of c.args.files.now) (g.F.NamedFiles.created_of c.args.files.now) a status
+    (g.I.Read.remaining c.args.input.now) output errors)))) (sym c.in-Move.is) c.move_guest.ensures.untold
+
+pub returns-in-Audit-clause-untold : goal.returns-in-Audit-clause-untold
+returns-in-Audit-clause-untold g c =
+    let output = written (g.O.Write.contents c.args.output.now) (g.O.Write.contents c.audit.new.output) in
+    subst (λ a. IfOk c.audit.result (λ told. OnErr told (ToTell (λ status errors.
+    HasEnded (g.F.NamedFiles.bytes_of c.args.files.now) (g.F.NamedFiles.created_of c.args.files.now) a status
+    (g.I.Read.remaining c.args.input.now) output errors)))) (sym c.in-Audit.is) c.audit.ensures.untold

@@ -1,0 +1,11 @@
+use Rattle.rvm_program.specs.Ended.{written}
+use Rattle.rvm_program.proofs.Ended.{run_untold}
+use Rattle.rvm_program.proofs.commands.run.Goals as goal
+
+pub returns-clause-untold : goal.returns-clause-untold
+returns-clause-untold g c =
+    run_untold (g.F.NamedFiles.bytes_of c.args.files.now) c.args.arguments.now c.deref.result.now c.in_ok-image.image.items
+    c.deref-2.result.now c.in_ok-input.input.items
+    (written (g.O.Write.contents c.args.output.now) (g.O.Write.contents c.run_command.new.output))
+    c.run_command.result c.deref.ensures.value c.deref-2.ensures.value c.in_ok-image.ensures.bytes c.in_ok-input.ensures.given
+    c.run_command.ensures.output

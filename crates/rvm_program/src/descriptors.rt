@@ -1,0 +1,33 @@
+//! The descriptors of standard input, standard output and standard error.
+
+ghost use Rattle.std.specs.Prelude.{IfErr};
+ghost use Rattle.rvm_program.specs.Files.{IsFileRefusal};
+
+use crate::files::refusal_of;
+use rvm_refusal::Refusal;
+use std::fs::File;
+use std::rt::Files;
+
+/// The device that is empty when it is read.
+const NULL_DEVICE: &str = "/dev/null";
+
+/// The null device, opened three times for reading. A file or a connection gets the lowest free descriptor, so
+/// while these three are held, none gets 0, 1 or 2: a program that was started with one of them closed sends
+/// nothing of its output into a file or a connection of its own, and a write to a closed output still fails.
+#[derive(Drop)]
+pub struct Descriptors<F: Drop> {
+    _first: F,
+    _second: F,
+    _third: F,
+}
+
+/// Takes those of the descriptors 0, 1 and 2 that are free. Refuses if the null device cannot be opened.
+pub fn take_descriptors<R: Files>(rt: &R) -> Result<Descriptors<R::File>, Refusal>
+    ensures refused { IfErr result IsFileRefusal }
+{
+    Ok(Descriptors {
+        _first: File::open(rt, NULL_DEVICE).map_err(refusal_of)?,
+        _second: File::open(rt, NULL_DEVICE).map_err(refusal_of)?,
+        _third: File::open(rt, NULL_DEVICE).map_err(refusal_of)?,
+    })
+}
