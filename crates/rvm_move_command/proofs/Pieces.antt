@@ -1,5 +1,5 @@
 -- Answers that go out in pieces.
-use Rattle.std.proofs.Common.{◌≡◌, ◌∙◌, List, [], ◌++◌, append-nil, append_assoc, Option, Some, None, refl, sym, ap, ℕ}
+use Rattle.std.proofs.Common.{◌≡◌, ◌∙◌, List, [], ◌++◌, append-nil, append_assoc, Option, Some, None, sym, ap, ℕ}
 use Rattle.std.specs.Io.KnownBytes.{Appends, append_known}
 
 -- a piece took a text

@@ -1,5 +1,5 @@
 -- What was to be told of a move where a write to the errors failed.
-use Rattle.std.proofs.Common.{◌≡◌, ◌⊎◌, ℕ, List, [], ◌++◌, Option, None, Some, Result, Ok, Err, codes, inl, inr, refl, subst, sym}
+use Rattle.std.proofs.Common.{◌≡◌, ◌⊎◌, ℕ, List, [], ◌++◌, Option, None, Some, Result, Ok, Err, codes, inl, inr, refl}
 use Rattle.std.specs.Prelude.{IfErr, IfOk, OnErr}
 use Rattle.rvm_arguments.specs.declared.arguments.MoveArguments.{MoveArguments}
 use Rattle.rvm_audit.specs.declared.error.AuditError.{AuditError}
@@ -7,7 +7,7 @@ use Rattle.rvm_audit.specs.Errors.{IsAuditError, audit_refusal}
 use Rattle.rvm_cell.specs.declared.closing.CloseKind.{CloseKind}
 use Rattle.rvm_command.specs.declared.refused.Refused.{Refused}
 use Rattle.rvm_command.specs.Command.{refused_text}
-use Rattle.rvm_command.specs.Refusals.{IsTold, refused}
+use Rattle.rvm_command.specs.Refusals.{refused}
 use Rattle.rvm_journal.specs.History.{History}
 use Rattle.rvm_journal.specs.Replay.{IsReplay}
 use Rattle.rvm_move.specs.declared.ends.Ends.{Ends}
@@ -42,6 +42,12 @@ pub has_failed : {X F : Type 0} (r : Result X F) (ends : Ends) (a b : Option Clo
 has_failed (Ok x) ends a b first second failed = tt
 has_failed (Err e) ends a b first second failed =
     (failure_line ends a b, inl (record { failed = failed; told = refl }))
+
+-- of a move that went, whose journals have no order
+pub has_no_order : {X F : Type 0} (r : Result X F) (ends : Ends) (a b : Option CloseKind) (first second : History)
+    → OnErr r (IsUntold (IsUnordered first second)) → OnErr r (IsUntold (HasNoOrder ends a b first second))
+has_no_order (Ok x) ends a b first second none = tt
+has_no_order (Err e) ends a b first second none = (none.0, inr none.1)
 
 -- of a move that did not begin
 pub not_begun : {X F : Type 0} (r : Result X F) (a : MoveArguments) (file : List ℕ) (why : Refused)

@@ -112,8 +112,9 @@ pub(crate) fn tell_moved<M: PagedMemory + Drop, E: Write>(
     ensures replay { IsReplay moved.now.a.recorded.journal.opening moved.now.a.recorded.journal.entries
         × IsReplay moved.now.b.recorded.journal.opening moved.now.b.recorded.journal.entries }
 {
-    let (a, b) = (moved.a.recorded.journal(), moved.b.recorded.journal());
-    write_answers(alloc, errors, a.items())?;
-    write_answers(alloc, errors, b.items())?;
+    let a = moved.a.recorded.journal().items();
+    let b = moved.b.recorded.journal().items();
+    write_answers(alloc, errors, a)?;
+    write_answers(alloc, errors, b)?;
     tell_failure(moved, errors)
 }

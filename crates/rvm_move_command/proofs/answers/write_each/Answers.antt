@@ -1,4 +1,4 @@
-use Rattle.std.proofs.Common.{rules, ◌≡◌, ◌+◌, take, get_or, subst, sym}
+use Rattle.std.proofs.Common.{rules, ◌≡◌, take, get_or, subst, sym}
 use Rattle.std.specs.Io.KnownBytes.{Appends}
 use Rattle.rvm_journal.specs.Items.{all_of}
 use Rattle.rvm_move_command.specs.Answers.{answers_text}

@@ -1,3 +1,4 @@
+use Rattle.std.proofs.Common.{rules}
 use Rattle.rvm_move_command.proofs.Unordered.{has_failed}
 use Rattle.rvm_move_command.proofs.Untold as untold
 use Rattle.rvm_move_command.proofs.audit_over.write_audit.Goals as goal
@@ -14,3 +15,9 @@ returns-in_err-status-clause-untold g c =
     let m = c.args.moved.now in
     untold.has_failed c.from_residual.result m.ends m.a.fault m.b.fault m.a.recorded.journal m.b.recorded.journal
     c.in_err-status.ensures.untold
+
+pub returns-clause-untold : goal.returns-clause-untold
+returns-clause-untold g c =
+    let m = c.args.moved.now in
+    untold.has_no_order c.write_order.result m.ends m.a.fault m.b.fault m.a.recorded.journal m.b.recorded.journal
+    (search rules)
