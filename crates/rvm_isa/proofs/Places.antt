@@ -54,6 +54,7 @@ fits kind.And op f = eqb op 0x33 && eqb f 7
 fits kind.Fence op f = eqb op 0x0F && eqb f 0
 fits kind.FenceI op f = eqb op 0x0F && eqb f 1
 fits kind.Amo op f = eqb op 0x2F && eqb f 2
+fits kind.System op f = eqb op 0x73 && eqb f 0
 
 fits_holds : (k : Kind) (op f : ℕ) → fits k op f ≡ true → Fits k op f
 fits_holds kind.Other op f e = refl
@@ -94,6 +95,7 @@ fits_holds kind.And op f e = grind (arith, nat_tests)
 fits_holds kind.Fence op f e = grind (arith, nat_tests)
 fits_holds kind.FenceI op f e = grind (arith, nat_tests)
 fits_holds kind.Amo op f e = grind (arith, nat_tests)
+fits_holds kind.System op f e = grind (arith, nat_tests)
 
 abbrev all_fit : (p : ℕ) → List Kind → Bool
 all_fit p [] = true

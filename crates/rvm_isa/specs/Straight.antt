@@ -43,6 +43,7 @@ Fits kind.And op f = (op ≡ 0x33) × (f ≡ 7)
 Fits kind.Fence op f = (op ≡ 0x0F) × (f ≡ 0)
 Fits kind.FenceI op f = (op ≡ 0x0F) × (f ≡ 1)
 Fits kind.Amo op f = (op ≡ 0x2F) × (f ≡ 2)
+Fits kind.System op f = (op ≡ 0x73) × (f ≡ 0)
 
 -- the kinds of an opcode, by funct3
 abbrev none : List Kind
@@ -81,6 +82,9 @@ fences = kind.Fence ∷ kind.FenceI ∷ kind.Other ∷ kind.Other ∷ kind.Other
 abbrev atomics : List Kind
 atomics = kind.Other ∷ kind.Other ∷ kind.Amo ∷ kind.Other ∷ kind.Other ∷ kind.Other ∷ kind.Other ∷ kind.Other ∷ []
 
+abbrev systems : List Kind
+systems = kind.System ∷ kind.Other ∷ kind.Other ∷ kind.Other ∷ kind.Other ∷ kind.Other ∷ kind.Other ∷ kind.Other ∷ []
+
 -- lists of kinds, each behind those of three opcodes that have no rows, since they end in 00, 01 and 10
 abbrev by_opcode : List (List Kind) → List Kind
 by_opcode [] = []
@@ -92,4 +96,4 @@ kinds = by_opcode (
     loads ∷ none ∷ none ∷ fences ∷ immediates ∷ auipcs ∷ none ∷ none ∷
     stores ∷ none ∷ none ∷ atomics ∷ operations ∷ luis ∷ none ∷ none ∷
     none ∷ none ∷ none ∷ none ∷ none ∷ none ∷ none ∷ none ∷
-    branches ∷ jalrs ∷ none ∷ jals ∷ none ∷ none ∷ none ∷ none ∷ [])
+    branches ∷ jalrs ∷ none ∷ jals ∷ systems ∷ none ∷ none ∷ none ∷ [])

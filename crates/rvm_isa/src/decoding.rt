@@ -204,7 +204,7 @@ fn decode_misc_mem(word: u32) -> Option<Ins>
 }
 
 #[inline(always)]
-fn decode_system(word: u32) -> Option<Ins>
+pub(crate) fn decode_system(word: u32) -> Option<Ins>
     requires { opcode word ≡ 0x73 }
     ensures row { result ≡ with_opcode 0x73 word }
     ensures word { IfSome result (λ i. word_of i ≡ word) }

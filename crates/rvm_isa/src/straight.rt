@@ -8,6 +8,7 @@ ghost use Rattle.rvm_isa.specs.Fields.{funct3, opcode};
 ghost use Rattle.rvm_isa.specs.Straight.{Fits, kinds};
 ghost use Rattle.rvm_isa.specs.Table.{decoded};
 
+use crate::decoding::{decode, decode_system};
 use crate::ins::Ins;
 use crate::read::{
     aq, b_offset, funct5, funct7, i_imm, imm20, j_offset, rd, rl, rs1, rs2, s_imm, shamt,
@@ -65,7 +66,12 @@ enum Kind {
     FenceI,
     /// Lr, Sc or an AMO.
     Amo,
+    /// Wfi, or a row that this decoder leaves to `decode`.
+    System,
 }
+
+/// The word of WFI, which has no fields.
+const WFI: u32 = 0x1050_0073;
 
 /// One kind by its name, `_` for none.
 macro_rules! kind {
@@ -116,7 +122,7 @@ static KINDS: [Kind; 1024] = kinds_by_opcode! {
     Jalr _ _ _ _ _ _ _; // JALR
     _ _ _ _ _ _ _ _;
     Jal Jal Jal Jal Jal Jal Jal Jal; // JAL
-    _ _ _ _ _ _ _ _; // SYSTEM
+    System _ _ _ _ _ _ _; // SYSTEM
     _ _ _ _ _ _ _ _;
     _ _ _ _ _ _ _ _;
     _ _ _ _ _ _ _ _;
@@ -241,8 +247,22 @@ pub fn decode_straight(word: u32) -> Option<Ins>
         Kind::Fence => ins!(I Fence word),
         Kind::FenceI => ins!(I FenceI word),
         Kind::Amo => amo(word),
+        Kind::System => if word == WFI { Some(Ins::Wfi) } else { None },
         Kind::Other => None,
     }
+}
+
+/// The same as `decode`, where the straight path ends: most rows that it leaves are of the opcode SYSTEM,
+/// which one test finds.
+#[inline(always)]
+#[tactic(auto, using(crate::proofs::Rows::opcodes), unfolding(crate::specs::Table::table, crate::specs::Opcodes::with_opcode))]
+pub fn decode_at_end(word: u32) -> Option<Ins>
+    ensures { result ≡ decoded word }
+{
+    if word & 0x7F == 0x73 {
+        return decode_system(word);
+    }
+    decode(word)
 }
 
 /// The instruction of a word of the opcode AMO.
