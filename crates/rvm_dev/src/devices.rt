@@ -96,16 +96,16 @@ impl Devices {
         Some(self.load_register(register))
     }
 
-    /// Stores a word at an aligned address; None, and nothing changes, where no device has one.
+    /// Stores a word at an aligned address, and says which one; None, and nothing changes, where no device has one.
     #[cold]
     #[inline(never)]
-    pub fn store(&mut self, address: u32, value: u32) -> Option<()>
+    pub fn store(&mut self, address: u32, value: u32) -> Option<Register>
         ensures devices { self.new ≡ unwrap_or (stored address value self.old) self.old }
-        ensures stored { is_some result ≡ is_some (stored address value self.old) }
+        ensures register { result ≡ register_of address self.old }
     {
         let register = self.register_at(address)?;
         self.store_register(register, value);
-        Some(())
+        Some(register)
     }
 
     /// The time is one step later; it wraps at 2^64.

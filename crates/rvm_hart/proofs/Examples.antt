@@ -1,6 +1,7 @@
 -- Known values of what the instructions are made of.
 use Rattle.std.proofs.Common.{◌≡◌, pos, negsuc, true, false, None, Some, replicate, refl}
 use Rattle.rvm_word.specs.Word.{signed_value}
+use Rattle.rvm_dev.specs.declared.register.Register.TheVariants as register
 use Rattle.rvm_hart.specs.declared.arithmetic.Operation.TheVariants as op
 use Rattle.rvm_hart.specs.declared.jumps.Comparison.TheVariants as test
 use Rattle.rvm_hart.specs.declared.csrs.CsrChange.TheVariants as change
@@ -90,11 +91,11 @@ no_reservation_can : is_in_ram 8 None ≡ true
 no_reservation_can = refl
 
 -- what the end of a step looks at after a store to a device
-a_store_to_the_finisher_halts : wrote_of 0x100000 0x107 ≡ Halt 7
+a_store_to_the_finisher_halts : wrote_of register.Halt 0x107 ≡ Halt 7
 a_store_to_the_finisher_halts = refl
 
-half_of_mtime_is_mtime : wrote_of 0x200BFFC 1 ≡ Mtime
+half_of_mtime_is_mtime : wrote_of register.MtimeHigh 1 ≡ Mtime
 half_of_mtime_is_mtime = refl
 
-half_of_mtimecmp_is_not : wrote_of 0x2004004 1 ≡ Other
+half_of_mtimecmp_is_not : wrote_of (register.MtimecmpHigh 0) 1 ≡ Other
 half_of_mtimecmp_is_not = refl

@@ -17,7 +17,6 @@ use Rattle.rvm_isa.specs.declared.ins.Ins.TheVariants.{Lui, Auipc, Jal, Jalr, Be
 use Rattle.rvm_isa.specs.Table.{decoded}
 use Rattle.rvm_hart.specs.declared.atomics.Amo.{Amo}
 use Rattle.rvm_hart.specs.declared.csrs.CsrChange.{CsrChange}
-use Rattle.rvm_hart.specs.declared.outcome.Written.{Written}
 use Rattle.rvm_hart.specs.Machine.{Machine, Shared, number_of}
 use Rattle.rvm_hart.specs.Bus.{in_ram, ram_base, ram_load, in_ram_stored, ram_stored, device_stored, word_stored, word_loaded, after_word_load, Stored, mip_of, wrote_of}
 use Rattle.rvm_hart.specs.Outcome.{Outcome, Done, Traps, machine_after, done_with, done, reg}
@@ -70,13 +69,13 @@ ram_cases false n hart a v r page outside = tt
 ram_stored_others : (n hart a v : ℕ) (r : Shared) → IsInPage n a → StoreLeaves (ram_stored n hart a v r) r.bytes
 ram_stored_others n hart a v r page = ram_cases (in_ram n a r.bytes) n hart a v r page refl
 
-device_cases : (o : Option Register) (w : Written) (v : ℕ) (r : Shared) → StoreLeaves (option_map (λ d. record { shared = record r { devices = d }; pages = []; wrote = w }) (option_map (λ x. dev.after_store x v r.devices) o)) r.bytes
-device_cases None w v r = tt
-device_cases (Some x) w v r = λ p none. refl
+device_cases : (o : Option Register) (v : ℕ) (r : Shared) → StoreLeaves (option_map (λ x. record { shared = record r { devices = dev.after_store x v r.devices }; pages = []; wrote = wrote_of x v }) o) r.bytes
+device_cases None v r = tt
+device_cases (Some x) v r = λ p none. refl
 
 word_cases : (b : Bool) (hart a v : ℕ) (r : Shared) → IsInPage 4 a → in_ram 4 a r.bytes ≡ b → StoreLeaves (if b then Some (in_ram_stored 4 hart a v r) else device_stored a v r) r.bytes
 word_cases true hart a v r page inside = in_ram_stored_others 4 hart a v r page inside
-word_cases false hart a v r page outside = device_cases (dev.register_of a r.devices) (wrote_of a v) v r
+word_cases false hart a v r page outside = device_cases (dev.register_of a r.devices) v r
 
 word_stored_others : (hart a v : ℕ) (r : Shared) → IsInPage 4 a → StoreLeaves (word_stored hart a v r) r.bytes
 word_stored_others hart a v r page = word_cases (in_ram 4 a r.bytes) hart a v r page refl

@@ -20,7 +20,6 @@ use Rattle.rvm_isa.specs.declared.ins.Ins.TheVariants.{Lui, Auipc, Jal, Jalr, Be
 use Rattle.rvm_isa.specs.Table.{decoded}
 use Rattle.rvm_hart.specs.declared.atomics.Amo.{Amo}
 use Rattle.rvm_hart.specs.declared.csrs.CsrChange.{CsrChange}
-use Rattle.rvm_hart.specs.declared.outcome.Written.{Written}
 use Rattle.rvm_hart.specs.Machine.{Machine, Shared, shape, shared_shape, number_of}
 use Rattle.rvm_hart.specs.Bus.{in_ram, ram_base, ram_load, in_ram_stored, ram_stored, device_stored, word_stored, word_loaded, after_word_load, Stored, mip_of, wrote_of}
 use Rattle.rvm_hart.specs.Outcome.{Outcome, Done, Traps, machine_after, done_with, reg}
@@ -123,12 +122,12 @@ ram_cases false n hart a v r outside = tt
 ram_stored_keeps : (n hart a v : ℕ) (r : Shared) → StoreKeeps (ram_stored n hart a v r) r
 ram_stored_keeps n hart a v r = ram_cases (in_ram n a r.bytes) n hart a v r refl
 
-device_cases : (o : Option Register) (w : Written) (v : ℕ) (r : Shared) → StoreKeeps (option_map (λ d. record { shared = record r { devices = d }; pages = []; wrote = w }) (option_map (λ x. dev.after_store x v r.devices) o)) r
-device_cases None w v r = tt
-device_cases (Some x) w v r = with_devices r (dev.after_store x v r.devices) (stored_keeps_msip x v r.devices) (stored_keeps_mtimecmp x v r.devices)
+device_cases : (o : Option Register) (v : ℕ) (r : Shared) → StoreKeeps (option_map (λ x. record { shared = record r { devices = dev.after_store x v r.devices }; pages = []; wrote = wrote_of x v }) o) r
+device_cases None v r = tt
+device_cases (Some x) v r = with_devices r (dev.after_store x v r.devices) (stored_keeps_msip x v r.devices) (stored_keeps_mtimecmp x v r.devices)
 
 device_stored_keeps : (a v : ℕ) (r : Shared) → StoreKeeps (device_stored a v r) r
-device_stored_keeps a v r = device_cases (dev.register_of a r.devices) (wrote_of a v) v r
+device_stored_keeps a v r = device_cases (dev.register_of a r.devices) v r
 
 word_cases : (b : Bool) (hart a v : ℕ) (r : Shared) → in_ram 4 a r.bytes ≡ b → StoreKeeps (if b then Some (in_ram_stored 4 hart a v r) else device_stored a v r) r
 word_cases true hart a v r inside = in_ram_stored_keeps 4 hart a v r inside

@@ -3,6 +3,8 @@ use Rattle.std.specs.Prelude.{ℕ, ◌+◌, ◌-◌, ◌/◌, ◌%◌, ◌^◌, 
 use Rattle.rvm_mem.specs.Bytes.{load, store}
 use Rattle.rvm_mem.specs.Pages.{mark_all}
 use Rattle.rvm_csr.specs.declared.interrupts.Interrupts.{Interrupts}
+use Rattle.rvm_dev.specs.declared.register.Register.{Register}
+use Rattle.rvm_dev.specs.declared.register.Register.TheVariants as register
 use Rattle.rvm_dev.specs.Devices as dev
 use Rattle.rvm_res.specs.Reservations as res
 use Rattle.rvm_hart.specs.Machine.{Shared, BusState}
@@ -50,13 +52,17 @@ abbrev pub ram_stored : (n hart address value : ℕ) → Shared → Option Store
 ram_stored n hart a v r = if in_ram n a r.bytes then Some (in_ram_stored n hart a v r) else None
 
 -- what a store to a device's word wrote
-abbrev pub wrote_of : (address value : ℕ) → Written
-wrote_of a v = if a == 0x100000 then Halt (v % 2 ^ 8) else if a == 0x200BFF8 || a == 0x200BFFC then Mtime else Other
+abbrev pub wrote_of : Register → (value : ℕ) → Written
+wrote_of register.Halt v = Halt (v % 2 ^ 8)
+wrote_of register.MtimeLow v = Mtime
+wrote_of register.MtimeHigh v = Mtime
+wrote_of r v = Other
 
 -- a store of a word to a device, if one has a word at the address
 abbrev pub device_stored : (address value : ℕ) → Shared → Option Stored
 device_stored a v r =
-    option_map (λ d. record { shared = record r { devices = d }; pages = []; wrote = wrote_of a v }) (dev.stored a v r.devices)
+    option_map (λ x. record { shared = record r { devices = dev.after_store x v r.devices }; pages = []; wrote = wrote_of x v })
+    (dev.register_of a r.devices)
 
 -- a store of a word, to RAM or a device
 abbrev pub word_stored : (hart address value : ℕ) → Shared → Option Stored

@@ -14,8 +14,7 @@ ghost use Rattle.rvm_hart.specs.Bus.{in_ram, ram_base, ram_load, word_loaded, af
 use crate::atomics::Amo;
 use crate::outcome::Written;
 use rvm_csr::Interrupts;
-use rvm_dev::register::{HALT, MTIME, MTIME_HIGH};
-use rvm_dev::{DeviceFields, Devices, InputFull};
+use rvm_dev::{DeviceFields, Devices, InputFull, Register};
 use rvm_mem::{Memory, OutOfRange, PageSet, PagedMemory, clear_bytes, read_bytes, write_bytes};
 use rvm_res::Reservations;
 use std::marker::Model;
@@ -384,8 +383,8 @@ impl<M: Memory> Bus<M> {
         ensures bus { self.new ≡ left_by (device_stored address value self.old.shared) self.old }
         ensures wrote { result ≡ wrote_by (device_stored address value self.old.shared) }
     {
-        self.devices.store(address, value)?;
-        Some(written_by(address, value))
+        let register = self.devices.store(address, value)?;
+        Some(written_by(register, value))
     }
 
     /// Hart `hart` stores what an operation makes of the word of RAM at an aligned address, and is given the old one.
@@ -450,12 +449,12 @@ impl<M: PagedMemory> Bus<M> {
 }
 
 /// What a store to a device's word writes that the end of the step looks at.
-fn written_by(address: u32, value: u32) -> Written
-    ensures { result ≡ wrote_of address value }
+fn written_by(register: Register, value: u32) -> Written
+    ensures { result ≡ wrote_of register value }
 {
-    match address {
-        HALT => Written::Halt((value & 0xFF) as u8),
-        MTIME | MTIME_HIGH => Written::Mtime,
+    match register {
+        Register::Halt => Written::Halt((value & 0xFF) as u8),
+        Register::MtimeLow | Register::MtimeHigh => Written::Mtime,
         _ => Written::Other,
     }
 }
