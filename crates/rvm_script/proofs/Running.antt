@@ -1,5 +1,5 @@
 -- Folds, one event or line at a time.
-use Rattle.std.proofs.Common.{◌≡◌, ℕ, suc, zero, ◌+◌, List, [], ◌∷◌, ◌++◌, Ok, Err, Option, Some, None, Bool, true, false, cond, ◌<◌, ◌≤◌, length, refl, ap, sym, ◌∙◌, append_assoc, append-nil, arith, is_some, subst, IfSome}
+use Rattle.std.proofs.Common.{◌≡◌, inl, inr, ℕ, suc, zero, ◌+◌, List, [], ◌∷◌, ◌++◌, Ok, Err, Option, Some, None, Bool, true, false, cond, ◌<◌, ◌≤◌, length, refl, ap, sym, ◌∙◌, append_assoc, append-nil, arith, is_some, subst, IfSome}
 use Rattle.std.proofs.lemmas.Bool.{lt-ltb, le-ltb}
 use Rattle.std.proofs.lemmas.List.{length-append}
 use Rattle.std.specs.Io.KnownBytes.{Appends}
@@ -377,8 +377,16 @@ line_refused all left bs b number k start old new before mid after OutOfMemory o
 line_refused all left bs b number k start old new before mid after TooLong o is p same more run = absurd run
 line_refused all left bs b number k start old new before mid after LinkFault None is p same more run = absurd run
 line_refused all left bs b number k start old new before mid after LinkFault (Some l) is p same more run =
-    let made = line_left b l new p is run in
-    record { done = p.done ++ b ∷ []; left = bs; whole = line_next p.done bs b left all more p.whole; guest = made.0; dirty = made.1 }
+    let made = line_left b l new p is run.1 in
+    record {
+      done = p.done ++ b ∷ [];
+      left = bs;
+      whole = line_next p.done bs b left all more p.whole;
+      on = ap (λ (t : Answers). t.end) (one_line p.done b l start.guest p.on is);
+      last = inr (record { first = p.done; last = b; line = l; whole = refl; is_line = is; answered = run.0 });
+      guest = made.0;
+      dirty = made.1;
+    }
 line_refused all left bs b number k start old new before mid after (BadToken j) (Some l) is p same more run = absurd run
 line_refused all left bs b number k start old new before mid after (BadToken j) None is p same more run =
     let d : Answers = script_of p.done 1 start.guest in
@@ -401,7 +409,7 @@ unfolding script_of
 unread script lines s out OutOfMemory why = (refl, refl)
 unread script lines s out TooLong why = (refl, refl)
 unread script lines s out (BadToken n) why = absurd why
-unread script lines s out LinkFault why = record { done = []; left = lines; whole = refl; guest = refl; dirty = refl }
+unread script lines s out LinkFault why = record { done = []; left = lines; whole = refl; on = refl; last = inl refl; guest = refl; dirty = refl }
 
 pub unread_script : (script : Option (List ℕ)) (s : GuestState) (out : Option (List ℕ)) (e : ScriptError) → IsReadError script e → IfSome script (λ bytes. IsRun (Err e) (lines bytes) s s out out)
 unread_script None s out e why = tt

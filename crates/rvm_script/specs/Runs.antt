@@ -1,5 +1,5 @@
 -- How a script ended, and what stands then.
-use Rattle.std.specs.Prelude.{◌≡◌, ℕ, ◌^◌, ◌<◌, List, ◌++◌, length, Option, Some, None, Result, Ok, Err, IfSome}
+use Rattle.std.specs.Prelude.{◌≡◌, ◌⊎◌, ℕ, ◌^◌, ◌<◌, List, [], ◌∷◌, ◌++◌, length, Option, Some, None, Result, Ok, Err, IfSome}
 use Rattle.std.specs.Io.KnownBytes.{Appends}
 use Rattle.rvm_mem.specs.Pages.{mark_all}
 use Rattle.rvm_refusal.specs.declared.refusal.Refusal.{Refusal}
@@ -8,6 +8,8 @@ use Rattle.rvm_debug.specs.Guest.{GuestState}
 use Rattle.rvm_script.specs.declared.script.ScriptError.{ScriptError}
 use Rattle.rvm_script.specs.declared.script.ScriptError.TheVariants.{OutOfMemory, TooLong, BadToken, LinkFault}
 use Rattle.rvm_script.specs.declared.line.Line.{Line}
+use Rattle.rvm_script.specs.declared.line.Line.TheVariants.{Empty}
+use Rattle.rvm_script.specs.Lines.{line_of}
 use Rattle.rvm_script.specs.Script.{Answers, done_by, script_of}
 
 -- what was told went out, and the guest and its dirty log are as told
@@ -17,11 +19,28 @@ pub record Leaves (told : Answers) (old new : GuestState) (before after : Option
   pub dirty : new.dirty ≡ mark_all told.pages old.dirty
   pub text : Appends before after told.text
 
--- some of the first lines were done, each to its end, and none of the others was begun
+-- a line has an answer, unless it is empty
+abbrev pub HasAnswer : Line → Type 0
+HasAnswer Empty = ⊥
+HasAnswer l = Unit {0}
+
+-- the last of these lines has an answer
+pub record EndsAnswered (done : List (List ℕ)) : Type 0 where
+  pub first : List (List ℕ)
+  pub last : List ℕ
+  pub line : Line
+  pub whole : first ++ last ∷ [] ≡ done
+  pub is_line : line_of last ≡ Some line
+  pub answered : HasAnswer line
+
+-- some of the first lines were done, each to its end, and none of the others was begun; the answer to the last was not
+-- written, or none was done, since the script could not be read
 pub record IsPartWay (lines : List (List ℕ)) (old new : GuestState) : Type 0 where
   pub done : List (List ℕ)
   pub left : List (List ℕ)
   pub whole : done ++ left ≡ lines
+  pub on : (script_of done 1 old.guest).end ≡ None
+  pub last : (done ≡ []) ⊎ EndsAnswered done
   pub guest : new.guest ≡ (script_of done 1 old.guest).guest
   pub dirty : new.dirty ≡ mark_all (script_of done 1 old.guest).pages old.dirty
 
@@ -59,7 +78,7 @@ IsLineError OutOfMemory = ⊥
 IsLineError (BadToken n) = Unit {0}
 IsLineError LinkFault = Unit {0}
 
--- a line was done, or it is none, and nothing was; it is done too where its answer could not be written
+-- a line was done, or it is none, and nothing was; it is done too where it has an answer that could not be written
 abbrev pub IsLineRun : Result (Unit {0}) ScriptError → (number : ℕ) → Option Line
     → (old new : GuestState) → (before after : Option (List ℕ)) → Type 0
 IsLineRun (Ok u) n None old new before after = ⊥
@@ -73,7 +92,8 @@ IsLineRun (Err OutOfMemory) n l old new before after = ⊥
 IsLineRun (Err TooLong) n l old new before after = ⊥
 IsLineRun (Err LinkFault) n None old new before after = ⊥
 IsLineRun (Err LinkFault) n (Some l) old new before after =
-    (new.guest ≡ (done_by l old.guest).guest)
+    HasAnswer l
+    × (new.guest ≡ (done_by l old.guest).guest)
     × (new.dirty ≡ mark_all (done_by l old.guest).pages old.dirty)
 
 -- the error in the list of all refusals

@@ -1,8 +1,9 @@
 //! What a line of a script does.
 
-ghost use Rattle.std.specs.Prelude.{◌≡◌, OnOk};
+ghost use Rattle.std.specs.Prelude.{◌≡◌, OnErr, OnOk};
 ghost use Rattle.std.specs.Io.KnownBytes.{Appends};
 ghost use Rattle.rvm_mem.specs.Pages.{mark_all};
+ghost use Rattle.rvm_script.specs.Runs.{HasAnswer};
 ghost use Rattle.rvm_script.specs.Script.{done_by, inputs, stepped};
 
 use crate::answers::{address_of, is_refused, write_reply, write_steps};
@@ -22,7 +23,7 @@ struct Steps {
     last: BoardReply,
 }
 
-/// Does what a line asks for, and writes its answer.
+/// Does what a line asks for, and writes its answer. `LinkFault` where that failed, which needs an answer.
 pub fn do_line<M: Memory, W: Write>(
     board: &mut Debugged<M>,
     line: Line,
@@ -33,6 +34,7 @@ pub fn do_line<M: Memory, W: Write>(
     ensures guest { board.new.guest ≡ (done_by line.entry board.old.guest).guest }
     ensures dirty { board.new.dirty
         ≡ mark_all (done_by line.entry board.old.guest).pages board.old.dirty }
+    ensures answered { OnErr result (HasAnswer line.entry) }
 {
     match line {
         Line::Empty => Ok(()),

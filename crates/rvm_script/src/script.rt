@@ -55,7 +55,7 @@ impl From<ScriptError> for Refusal {
 /// as it was. `BadToken` at the first line that is not in the grammar: what the lines before it
 /// answered is written, and the board is as they left it. `LinkFault` where a read or a write
 /// failed: then the board is as some of the first lines left it, each of which was done to its end,
-/// the last too, whose answer was not written; none was done where a read failed.
+/// the last too, which has an answer that was not written; none was done where a read failed.
 pub fn run_script<M: Memory, R: Read, W: Write>(
     alloc: Global,
     board: &mut Debugged<M>,

@@ -8,8 +8,7 @@ use Rattle.rvm_message.specs.Replies.{refusal_of}
 use Rattle.rvm_precopy.specs.Policies.{policy_of}
 use Rattle.rvm_protocol.specs.Replies.{Refused, Reply}
 use Rattle.rvm_protocol.specs.Told.{Told}
-use Rattle.rvm_script.specs.declared.line.Line.{Line}
-use Rattle.rvm_script.specs.declared.line.Line.TheVariants as guest_line
+use Rattle.rvm_script.specs.Runs.{HasAnswer}
 use Rattle.rvm_world.specs.Driving.{WasLeft}
 use Rattle.rvm_world.specs.declared.drive.Driven.{Driven}
 use Rattle.rvm_world.specs.declared.drive.Driven.TheVariants as driven
@@ -55,14 +54,9 @@ AsksMemory (Some (lines.Deliver k)) = Unit {0}
 abbrev pub AsksMemoryIn : (line : List ℕ) → Standing → Type 0
 AsksMemoryIn line s = AsksMemory (world_line_of s.world.count line)
 
--- a line for the guest has an answer, unless it is empty
-abbrev pub IsToldOfGuest : Line → Type 0
-IsToldOfGuest guest_line.Empty = ⊥
-IsToldOfGuest l = Unit {0}
-
 -- what a host is asked has an answer
 abbrev pub IsToldOfHost : Asked → Type 0
-IsToldOfHost (asked.Guest l) = IsToldOfGuest l
+IsToldOfHost (asked.Guest l) = HasAnswer l
 IsToldOfHost a = Unit {0}
 
 -- a line has an answer, unless it is empty

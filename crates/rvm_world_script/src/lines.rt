@@ -14,10 +14,11 @@ ghost use Rattle.rvm_protocol.specs.Shown.{Shown};
 ghost use Rattle.rvm_protocol.specs.Told.{Told};
 ghost use Rattle.rvm_protocol.specs.World as protocol;
 ghost use Rattle.rvm_protocol.specs.World.{reply_to, step};
+ghost use Rattle.rvm_script.specs.Runs.{HasAnswer};
 ghost use Rattle.rvm_world.specs.Driving.{WasLeft};
 ghost use Rattle.rvm_world.specs.Worlds.{meant, world_of};
 ghost use Rattle.rvm_world_script.specs.declared.lines.LineFault.TheVariants as fault;
-ghost use Rattle.rvm_world_script.specs.Runs.{IsAnswered, IsDone, IsInput, IsSpentAsking, IsSpentIn, IsToldOfGuest, IsToldOfHost, driven_text, standing};
+ghost use Rattle.rvm_world_script.specs.Runs.{IsAnswered, IsDone, IsInput, IsSpentAsking, IsSpentIn, IsToldOfHost, driven_text, standing};
 ghost use Rattle.rvm_world_script.specs.WorldScript.{asked_done, done_by, guest_done, host_in, inputs, is_taken, moved, replied, target};
 
 use rvm_debug::{BoardEvent, BoardReply};
@@ -201,7 +202,7 @@ fn do_guest_line<M: PagedMemory + Drop, W: Write>(
     ensures done { (t : Told Guest) → IsDone result (guest_done host line.entry (standing (world_of world.old) t))
         ⊥ (world_of world.new)
         (W.contents writer.old) (W.contents writer.new) }
-    ensures answered { OnErr result (IsToldOfGuest line.entry) }
+    ensures answered { OnErr result (HasAnswer line.entry) }
 {
     Ok(ask_guest(alloc, world, host, line, writer)?)
 }
@@ -218,7 +219,7 @@ fn ask_guest<M: PagedMemory + Drop, W: Write>(
         (guest_done host line.entry (standing (world_of world.old) t)).text) }
     ensures world { (t : Told Guest) → world_of world.new
         ≡ (guest_done host line.entry (standing (world_of world.old) t)).standing.world }
-    ensures answered { OnErr result (IsToldOfGuest line.entry) }
+    ensures answered { OnErr result (HasAnswer line.entry) }
 {
     match line {
         Line::Empty => Ok(()),
