@@ -1,6 +1,6 @@
 //! Links that fail.
 
-use crate::asked::LOOP;
+use crate::asked::POINTS;
 use crate::ended::MoveResult;
 use rvm_link::{Link, LinkRead};
 use rvm_move::Links;
@@ -81,7 +81,7 @@ where
     let allowed = match connect_both(rt, rt.alloc()) {
         Ok((a, b)) => {
             let links = (failing_links(a, at_a), failing_links(b, at_b));
-            let ended = MoveResult::over_links(rt, LOOP, links, &OpenGate);
+            let ended = MoveResult::over_links(rt, POINTS, links, &OpenGate);
             is_allowed(rt.alloc(), &ended)
         }
         Err(_) => false,
@@ -95,11 +95,11 @@ fn print_end<R: Print>(rt: &R, side: &str, k: u32, allowed: bool) -> anyhow::Res
     Ok(())
 }
 
-/// Whether an end is allowed: no commit and no start, the output of a run and the status 0; a
-/// commit, a start and that output; or a commit alone and the status 1.
+/// Whether an end is allowed: no commit and no start, the whole output of a run, since the guest came to its end where it
+/// was, and the status 0; a commit, a start and that output; or a commit alone and the status 1.
 fn is_allowed(alloc: Global, ended: &MoveResult) -> bool {
     let is_started = ended.has("started");
-    let is_as_run = ended.is_as_run(alloc, LOOP);
+    let is_as_run = ended.is_as_run(alloc, POINTS);
     if !ended.has("committed 1") {
         return !is_started && is_as_run && ended.status == Ok(0);
     }

@@ -72,7 +72,7 @@ const LINKS: [(&str, &[u8], u32, bool); 10] = [
 /// gives bytes, and before the end, so many give nothing. In place of the end it may fail, or give other bytes
 /// again and again.
 #[derive(Drop)]
-struct Given<'s> {
+pub struct Given<'s> {
     stream: &'s [u8],
     again: &'s [u8],
     at_once: usize,
@@ -83,7 +83,7 @@ struct Given<'s> {
 
 impl<'s> Given<'s> {
     /// A link that gives these bytes, so many a read, and ends.
-    fn new(stream: &'s [u8], at_once: usize) -> Given<'s> {
+    pub fn new(stream: &'s [u8], at_once: usize) -> Given<'s> {
         Given {
             stream,
             again: &[],
@@ -182,7 +182,7 @@ fn ends_at_each_cut<R: AllocGlobal + Wait>(rt: &R, at_once: usize) -> bool {
 }
 
 /// How a receiver at a new host ends that hears a link.
-fn hear<R: AllocGlobal + Wait>(rt: &R, given: Given) -> WorkEnd {
+pub fn hear<R: AllocGlobal + Wait>(rt: &R, given: Given) -> WorkEnd {
     match recorded(rt.alloc()) {
         Some(recorded) => hear_at::<Brand, R>(rt, Blank::new(1), recorded, given),
         None => WorkEnd::OutOfMemory,

@@ -2,11 +2,12 @@
 //! fail, and prints what became of each; plays the order of a move as a script; and prints how receivers end,
 //! by what their links give.
 //!
-//! To be read in this order: `asked`, `ended`, `live`, `meeting`, `audited`, `endless`, `hearing`, `failing`.
+//! To be read in this order: `asked`, `ended`, `live`, `meeting`, `audited`, `endless`, `hearing`, `cut`, `failing`.
 #![tactic(auto)]
 
 mod asked;
 mod audited;
+mod cut;
 mod ended;
 mod endless;
 mod failing;
@@ -20,5 +21,6 @@ fn main(rt: HostRuntime) -> anyhow::Result<()> {
     audited::play_order(&rt)?;
     endless::hear_without_end(&rt)?;
     hearing::hear_links(&rt)?;
+    cut::cut_a_stream(&rt)?;
     failing::break_links(&rt)
 }
