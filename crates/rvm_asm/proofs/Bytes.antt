@@ -21,7 +21,7 @@ use Rattle.rvm_asm.proofs.Laying.{below_or_at, next_known}
 pub inside : (p : Piece) (a : ℕ) → p.address ≤ a → a < p.address + size p → in_piece p a ≡ Some (get_or p.bytes (a - p.address) 0)
 inside p a low high = grind (arith, nat_tests)
 
--- none before it and none behind it
+-- none before it and none after it
 pub outside : (p : Piece) (a : ℕ) → (a < p.address) ⊎ (p.address + size p ≤ a) → in_piece p a ≡ None
 outside p a (inl h) = grind (arith, nat_tests)
 outside p a (inr h) = grind (arith, nat_tests)
@@ -72,7 +72,7 @@ some_second (Some x) y h = x_some x y
     x_some : (x : ℕ) (y : Option ℕ) → IsSome (or_else (Some x) y)
     x_some x y = search rules
 
--- a piece is taken, or those behind it are
+-- a piece is taken, or those after it are
 pub taken_first : (p : Piece) (ps : List Piece) (address count : ℕ) → IsTaken (p ∷ []) address count → IsTaken (p ∷ ps) address count
 taken_first p ps address count t = (t.0, t.1, t.2, some_second (byte_at ps t.0) (in_piece p t.0) t.3)
 
@@ -175,14 +175,14 @@ pub pieces_append : (xs ys : List Segment) → pieces_of (xs ++ ys) ≡ pieces_o
 pieces_append [] ys = refl
 pieces_append (x ∷ xs) ys = ap (λ l. piece_of x ∷ l) (pieces_append xs ys)
 
--- a segment behind the others
+-- a segment after the others
 pub joins_push : (old : List Segment) (s : Segment) → Joins (pieces_of old) (pieces_of (old ++ s ∷ [])) (piece_of s)
 joins_push old s a = ap (λ ps. byte_at ps a) (map_push piece_of old s) ∙ byte_push (pieces_of old) (piece_of s) a
 
 get_or_right : (xs ys : List ℕ) (i n : ℕ) → i ≡ length xs + n → get_or (xs ++ ys) i 0 ≡ get_or ys n 0
 get_or_right xs ys i n e = ap (λ k. get_or (xs ++ ys) k 0) e ∙ get_or-append-add xs ys n 0
 
--- bytes behind those of a piece
+-- bytes after those of a piece
 pub longer_bytes : (l : ℕ) (xs ys : List ℕ) (a : ℕ) → in_piece (piece l (xs ++ ys)) a ≡ or_else (in_piece (piece (l + length xs) ys) a) (in_piece (piece l xs) a)
 longer_bytes l xs ys a =
     let n : length (xs ++ ys) ≡ length xs + length ys = length-append xs ys in
@@ -198,7 +198,7 @@ longer_bytes l xs ys a =
     (order a (l + length xs)))
     (order a l)
 
--- a segment without zeros behind its bytes
+-- a segment without zeros after its bytes
 pub plain : (s : Segment) → s.zeros ≡ 0 → piece_of s ≡ piece s.address s.bytes.items
 plain s e = ap (λ z. record { address = s.address; bytes = s.bytes.items; zeros = z }) e
 
@@ -207,7 +207,7 @@ pub longest_is : (last longest : Segment) (bs : List ℕ) → longest.address �
 longest_is last longest bs same more kept none =
     plain longest (kept ∙ none) ∙ ap (λ l. piece l longest.bytes.items) same ∙ ap (piece last.address) more
 
--- bytes behind those of the last segment
+-- bytes after those of the last segment
 joins_last : (rest : List Segment) (last longest : Segment) (address : ℕ) (bs : List ℕ) → piece_of longest ≡ piece last.address (last.bytes.items ++ bs) → last.zeros ≡ 0 → address ≡ last.address + length last.bytes.items → Joins (pieces_of (rest ++ last ∷ [])) (pieces_of (rest ++ longest ∷ [])) (piece address bs)
 joins_last rest last longest address bs is none at a =
     let x = byte_at (pieces_of rest) a in
@@ -239,11 +239,11 @@ count_more lines i names places place line at is =
     ap (count_to lines names places) (add-one i)
     ∙ ap (λ n. count_to lines names places i + n) (sym (ap (λ p. count_at names p line) at ∙ ap (λ l. count_at names (get_or places i 0) l) is))
 
--- bytes behind the last of the segments
+-- bytes after the last of the segments
 pub append_last : (old rest new : List Segment) (last longest : Segment) (address : ℕ) (bs : List ℕ) → old ≡ rest ++ last ∷ [] → new ≡ rest ++ longest ∷ [] → piece_of longest ≡ piece last.address (last.bytes.items ++ bs) → last.zeros ≡ 0 → address ≡ last.address + length last.bytes.items → Joins (pieces_of old) (pieces_of new) (piece address bs)
 append_last old rest new last longest address bs e f is none at a = rw (e, f) (joins_last rest last longest address bs is none at a)
 
--- a segment behind those that are again what they were
+-- a segment after those that are again what they were
 pub append_new : (old mid new : List Segment) (s : Segment) → old ≡ mid → new ≡ mid ++ s ∷ [] → Joins (pieces_of old) (pieces_of new) (piece_of s)
 append_new old mid new s e f a = rw (e, f) (joins_push mid s a)
 

@@ -41,7 +41,7 @@ laid_faultless old new place after line fault l bad =
     d.2)
     bad
 
--- a line that can be laid out behind those before it has no fault in its layout
+-- a line that can be laid out after those before it has no fault in its layout
 placing_faultless : (all : List (List Lexeme)) (names : Names) (places : List ℕ) (i : ℕ) (fault : Fault) (names' : Names) (places' : List ℕ) → IsLaid all names places → i < length all → IsLaidTo all i names' places' → IsUnplaced names' (slice_index places' i) (line_at all i) fault → ⊥
 placing_faultless all names places i fault names' places' laid inside other bad =
     let same = same_to all (length all) i names names' places places' laid other i (omega (arith, inside)) (omega arith) in

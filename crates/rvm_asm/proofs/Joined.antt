@@ -18,7 +18,7 @@ put p (q ∷ qs) =
     if nat_lt (p.address + length p.bytes) q.address then p ∷ q ∷ qs
     else piece p.address (p.bytes ++ q.bytes) ∷ qs
 
--- each piece before those behind it
+-- each piece before those after it
 unfoldable pub joined : List Piece → List Piece
 joined [] = []
 joined (p ∷ ps) = put p (joined ps)
@@ -78,7 +78,7 @@ joined_same lo (p ∷ ps) o = λ a.
     ap (λ x. or_else x (in_piece p a)) (joined_same (p.address + length p.bytes + 0) ps o.3 a)
     ∙ put_same p (joined ps) o.2 (joined_ordered (p.address + length p.bytes + 0) ps o.3) a
 
--- how many separate pieces extents make behind one whose last address is given
+-- how many separate pieces extents make after one whose last address is given
 unfoldable pub pieces_behind : (before : Option ℕ) → List Entry → ℕ
 pieces_behind before [] = 0
 pieces_behind before (e ∷ es) =

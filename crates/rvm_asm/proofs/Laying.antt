@@ -44,7 +44,7 @@ known_kept lines count names places laid i (suc d) j e h =
     let last = lays_kept (laid.known (i + d)) (laid.known (i + d + 1)) (get_or places (i + d) 0) (get_or places (i + d + 1) 0) (line_at lines (i + d)) (laid.each (i + d) (omega (arith, e))) in
     subst (λ k. Kept (laid.known i) (laid.known k)) (let f : i + d + 1 ≡ j = omega (arith, e) in f) (λ n v g. last n v (before n v g))
 
--- the place behind a line is the same under the names of all lines
+-- the place after a line is the same under the names of all lines
 pub next_known : (lines : List (List Lexeme)) (count : ℕ) (names : Names) (places : List ℕ) → IsLaidTo lines count names places → (i : ℕ) → i < count → next_place names (get_or places i 0) (label_of (get_or places i 0) (line_at lines i)).1 ≡ Ok (get_or places (i + 1) 0)
 next_known lines count names places laid i h =
     let kept : Kept (laid.known i) names = subst (λ all. Kept (laid.known i) all) laid.all (known_kept lines count names places laid i (count - i) count (omega (arith, h)) (omega arith)) in
@@ -54,7 +54,7 @@ next_known lines count names places laid i h =
 pub below_or_at : (k i : ℕ) → k < i + 1 → (k < i) ⊎ (k ≡ i)
 below_or_at k i h = ⊎_elim inl (λ e. inr (omega (arith, e))) (order k i)
 
--- the names behind each number of lines, with one line more
+-- the names after each number of lines, with one line more
 unfoldable grown : (ℕ → Names) → ℕ → Names → ℕ → Names
 grown known i new k = if nat_le k i then known k else new
 
@@ -125,7 +125,7 @@ defined old place after line q p next equ =
     ap (λ (x : Option Definition × List Lexeme). next_place old place x.1 >>= λ y. equ_at old x.1) (sym p)
     ∙ ap (λ x. x >>= λ y. equ_at old q.1) (sym next) ∙ sym equ
 
--- the place behind a line has a fault
+-- the place after a line has a fault
 pub next_fault : (old new : Names) (place : ℕ) (line : List Lexeme) (q : Option Definition × List Lexeme) (f : Fault) → q ≡ label_of place line → Err f ≡ next_place old place q.1 → IsLaying old new place line (Err (Faulty f))
 next_fault old new place line q f p next =
     inl (ap (λ (x : Option Definition × List Lexeme). next_place old place x.1 >>= λ y. equ_at old x.1) (sym p)
@@ -149,7 +149,7 @@ twice old mid new place after line d q (Faulty f) p next equ first h =
 
 pub ruleset layings = (lays_from, next_fault, equ_fault, label_twice, twice)
 
--- a line that can't be placed behind those that are
+-- a line that can't be placed after those that are
 pub placing_error : (lines : List (List Lexeme)) (i : ℕ) (names new : Names) (places : List ℕ) (place : ℕ) (line : List Lexeme) (e : LineError) → i < length lines → IsLaidTo lines i names places → place ≡ get_or places i 0 → line ≡ line_at lines i → IsLaying names new place line (Err e) → IsErrorOf lines (error_at (i + 1) e)
 placing_error lines i names new places place line OutOfMemory inside laid at is h = tt
 placing_error lines i names new places place line (Faulty f) inside laid at is h =

@@ -17,7 +17,7 @@ weaker gap lo less low [] g l o = tt
 weaker gap lo less low (p ∷ ps) g l o =
     (omega (arith, o.0), o.1, o.2, weaker gap (p.address + length p.bytes + gap) less (p.address + length p.bytes + less) ps g (omega arith) o.3)
 
--- a piece behind the others
+-- a piece after the others
 pub push_ordered : (gap lo : ℕ) (ps : List Piece) (p : Piece) → AreOrdered gap lo ps → end_of gap lo ps ≤ p.address → 0 < length p.bytes → p.zeros ≡ 0 → AreOrdered gap lo (ps ++ p ∷ [])
 unfolding AreOrdered end_of
 push_ordered gap lo [] p o e n z = (e, n, z, tt)
@@ -61,7 +61,7 @@ longer_ordered gap old rest new last longest bs e f is o =
     (subst (λ p. AreOrdered gap 0 (pieces_of rest ++ p ∷ [])) (sym is)
     (push_ordered gap 0 (pieces_of rest) (piece last.address (last.bytes.items ++ bs)) s.0 s.1 (omega (arith, length-append last.bytes.items bs, s.2)) refl))
 
--- a segment behind the others
+-- a segment after the others
 pub next_ordered : (gap : ℕ) (old mid new : List Segment) (s : Segment) → old ≡ mid → new ≡ mid ++ s ∷ [] → end_of gap 0 (pieces_of old) ≤ s.address → 0 < length s.bytes.items → s.zeros ≡ 0 → AreOrdered gap 0 (pieces_of old) → AreOrdered gap 0 (pieces_of new)
 next_ordered gap old mid new s e f low n z o =
     subst (AreOrdered gap 0) (sym (with_last new mid s f))
@@ -81,7 +81,7 @@ pub none_ordered : (gap : ℕ) (ps : List Piece) → ps ≡ [] → AreOrdered ga
 unfolding AreOrdered
 none_ordered gap ps e = subst (AreOrdered gap 0) (sym e) tt
 
--- none has zeros behind its bytes
+-- none has zeros after its bytes
 pub no_zeros : (gap lo : ℕ) (ss : List Segment) → AreOrdered gap lo (pieces_of ss) → All HasNoZeros ss
 unfolding AreOrdered
 no_zeros gap lo [] o = λ k d l. absurd (omega (arith, l))
@@ -128,7 +128,7 @@ pub ends_before : (p : Piece) (ps : List Piece) (place count : ℕ) → IsFree (
 ends_before p ps place count free some low =
     ⊎_elim (λ h. absurd (some_none _ _ (none_second (byte_at ps place) (in_piece p place) (free place (omega arith) (omega arith))) (inside p place low (omega arith)))) (λ h. h) (order place (p.address + length p.bytes))
 
--- a piece that begins at a free place or behind it begins behind all that are free
+-- a piece that begins at a free place or after it begins after all that are free
 pub begins_from : (p : Piece) (ps : List Piece) (place count : ℕ) → IsFree (p ∷ ps) place count → 0 < length p.bytes → place ≤ p.address → place + count ≤ p.address
 begins_from p ps place count free some high =
     ⊎_elim (λ h. absurd (some_none _ _ (none_second (byte_at ps p.address) (in_piece p p.address) (free p.address high h)) (inside p p.address (omega arith) (omega arith)))) (λ h. h) (order p.address (place + count))

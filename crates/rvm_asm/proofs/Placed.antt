@@ -41,7 +41,7 @@ none_last : (t : List Entry) (e : Entry) → [] ≡ t ++ e ∷ [] → ⊥
 none_last [] e is = cc
 none_last (x ∷ t) e is = cc
 
--- an entry before all others, and one behind the first
+-- an entry before all others, and one after the first
 put_first : (e : Entry) (es : List Entry) (a : ℕ) (v : Extent) → a < e.0 → insert_entry nat_cmp (e ∷ es) a v ≡ (a, v) ∷ e ∷ es
 put_first e es a v h = ap (λ (r : Ordering). match_ordering r ((a, v) ∷ e ∷ es) ((e.0, v) ∷ es) (e ∷ insert_entry nat_cmp es a v)) (sym (nat_cmp_is a e.0 Less h))
 
@@ -63,7 +63,7 @@ module _ (bytes : ℕ → List ℕ) where
       (none_up_to last place count es (sym (without_first last e es h.0) ∙ is) end))
       (by_or_behind last e.0)
 
-  -- the last that begins by an address begins where the first one may, or behind it
+  -- the last that begins by an address begins where the first one may, or after it
   least : (lo last : ℕ) (es t : List Entry) (e : Entry) → AreOrdered 0 lo (pieces es) → up_to last es ≡ t ++ e ∷ [] → lo ≤ e.0
   unfolding AreOrdered
   least lo last [] t e o is = absurd (none_last t e is)
@@ -105,7 +105,7 @@ module _ (bytes : ℕ → List ℕ) where
       (last_ends (x.0 + length (bytes x.1.line) + 0) last place count xs (y ∷ t) e o.3 (sym (without_first last x xs h.0) ∙ is) end ends))
       (by_or_behind last x.0)
 
-  -- a piece that begins before so many places end, and ends behind the first
+  -- a piece that begins before so many places end, and ends after the first
   taken_one : (p : Piece) (place count : ℕ) → 0 < count → 0 < size p → p.address < place + count → place < p.address + size p → IsTaken (p ∷ []) place count
   taken_one p place count some bytes begins ends =
       ⊎_elim (λ h. taken_into p place count bytes (omega (arith, h)) begins) (λ h. taken_from p place count some h ends) (order place p.address)
@@ -130,7 +130,7 @@ module _ (bytes : ℕ → List ℕ) where
       (λ h. last_takes (x.0 + length (bytes x.1.line) + 0) last place count xs (y ∷ t) e o.3 (sym (without_first last x xs h.0) ∙ is) some end past)
       (by_or_behind last x.0))
 
-  -- segments of which none has a byte in so many places begin behind them
+  -- segments of which none has a byte in so many places begin after them
   freed : (place count : ℕ) (es : List Entry) → AreOrdered 0 place (pieces es) → IsFree (pieces es) place count → AreOrdered 0 (place + count) (pieces es)
   unfolding AreOrdered
   freed place count [] o free = tt
@@ -165,7 +165,7 @@ module _ (bytes : ℕ → List ℕ) where
       (o.0, o.1, o.2, inserted_ordered (e.0 + length (bytes e.1.line) + 0) a es v o.3 (free_tail (extent_piece bytes e) (pieces es) a (length (bytes v.line)) free) some (omega (arith, past))))
       (order a e.0)
 
-  -- the first entry that is left, and those behind it
+  -- the first entry that is left, and those after it
   pub first_left : (lo : ℕ) (e : Entry) (es all : List Entry) → all ≡ e ∷ es → AreOrdered 0 lo (pieces all) → (lo ≤ e.0) × (0 < length (bytes e.1.line)) × AreOrdered 0 (e.0 + length (bytes e.1.line)) (pieces es)
   unfolding AreOrdered
   first_left lo e es all is o =
@@ -218,7 +218,7 @@ module _ (bytes : ℕ → List ℕ) where
     record { each = extents_more line m.entries held.each; ordered = held.ordered },
   )
 
-  -- the first extent that is left, and those behind it
+  -- the first extent that is left, and those after it
   pub extent_left : (lines : ℕ) (e : Entry) (es all : List Entry) → all ≡ e ∷ es → AreExtents bytes lines all → IsExtent bytes lines e × AreExtents bytes lines es
   unfolding AreExtents
   extent_left lines e es all is x = subst (AreExtents bytes lines) is x

@@ -42,7 +42,7 @@ laid_once old new other place after behind line l m =
     ap (λ x. with_definition x l.definition) labelled ∙ ap (λ x. with_definition m.labelled x) definition in
     (taken l.labelled new l.definition l.defined ∙ names ∙ sym (taken m.labelled other m.definition m.defined), same)
 
--- the names behind so many lines, and the place of the next, are the same in any two layouts
+-- the names after so many lines, and the place of the next, are the same in any two layouts
 pub record SameTo (known known' : ℕ → Names) (places places' : List ℕ) (i : ℕ) : Type 0 where
   pub names : known i ≡ known' i
   pub place : slice_index places i ≡ slice_index places' i

@@ -12,7 +12,7 @@ use Rattle.rvm_line.specs.Values.{Names}
 use Rattle.rvm_image.specs.Images.{Piece, byte_at}
 use Rattle.rvm_asm.specs.Images.{HasAt, IsWithin, HasSameBytes}
 
--- the statement of a line behind its label
+-- the statement of a line after its label
 abbrev pub statement_of : (place : ℕ) → List Lexeme → List Lexeme
 statement_of place line = (label_of place line).1
 
@@ -22,7 +22,7 @@ Takes old new None = (n : List ℕ) → new n ≡ old n
 Takes old new (Some d) =
     (old d.0 ≡ None) × ((n : List ℕ) → new n ≡ (if bytes_eq d.0 n then Some d.1 else old n))
 
--- a line at a place under the names of the lines before it leads to the place behind it, and its
+-- a line at a place under the names of the lines before it leads to the place after it, and its
 -- label and what its statement defines join the names
 pub record Lays (old new : Names) (place after : ℕ) (line : List Lexeme) : Type 0 where
   pub next : next_place old place (statement_of place line) ≡ Ok after
@@ -36,8 +36,8 @@ pub record Lays (old new : Names) (place after : ℕ) (line : List Lexeme) : Typ
 abbrev pub line_at : List (List Lexeme) → ℕ → List Lexeme
 line_at lines i = slice_index_or lines i []
 
--- the first lines stand at these places, of which there is one more, behind the last line: from
--- 2 ^ 31 and from no name on each line is laid out behind the one before, and leaves these names
+-- the first lines stand at these places, of which there is one more, after the last line: from
+-- 2 ^ 31 and from no name on each line is laid out after the one before, and leaves these names
 pub record IsLaidTo (lines : List (List Lexeme)) (count : ℕ) (names : Names) (places : List ℕ)
     : Type 0 where
   pub many : length places ≡ count + 1

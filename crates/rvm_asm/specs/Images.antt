@@ -28,15 +28,15 @@ Joins old new p = (a : ℕ) → byte_at new a ≡ or_else (in_piece p a) (byte_a
 abbrev pub HasSameBytes : List Piece → List Piece → Type 0
 HasSameBytes xs ys = (a : ℕ) → byte_at xs a ≡ byte_at ys a
 
--- the pieces have bytes and no zeros behind them, the first begins at a place or behind it, and
--- each other one so far behind the end of the one before it, or farther
+-- the pieces have bytes and no zeros after them, the first begins at a place or after it, and
+-- each other one so far after the end of the one before it, or farther
 unfoldable pub AreOrdered : (gap place : ℕ) → List Piece → Type 0
 AreOrdered gap place [] = Unit {0}
 AreOrdered gap place (p ∷ ps) =
     (place ≤ p.address) × (0 < length p.bytes) × (p.zeros ≡ 0)
     × AreOrdered gap (p.address + length p.bytes + gap) ps
 
--- where a piece behind them may begin
+-- where a piece after them may begin
 unfoldable pub end_of : (gap place : ℕ) → List Piece → ℕ
 end_of gap place [] = place
 end_of gap place (p ∷ ps) = end_of gap (p.address + length p.bytes + gap) ps

@@ -26,7 +26,7 @@ abbrev pub IsTwice : Names → Option Definition → Type 0
 IsTwice names None = ⊥
 IsTwice names (Some d) = IsSome (names d.0)
 
--- what a statement defines, if the place behind it is in reach
+-- what a statement defines, if the place after it is in reach
 abbrev pub defined_at : Names → (place : ℕ) → List Lexeme → Result (Option Definition) Fault
 defined_at names place ts = next_place names place ts >>= λ after. equ_at names ts
 

@@ -35,7 +35,7 @@ abbrev pub IsUnreadable : List ℕ → LineError → Type 0
 IsUnreadable text line_error.OutOfMemory = Unit {0}
 IsUnreadable text (line_error.Faulty f) = (f ≡ BadToken) × (lexemes text ≡ None)
 
--- no zeros stand behind a segment's bytes
+-- no zeros stand after a segment's bytes
 abbrev pub HasNoZeros : Segment → Type 0
 HasNoZeros s = s.zeros ≡ 0
 
@@ -103,7 +103,7 @@ abbrev pub IsRoom : Option ℕ → (count : ℕ) → Type 0
 IsRoom None count = 2 ^ 24 < count
 IsRoom (Some left) count = left + count ≡ 2 ^ 24
 
--- a line's definitions join the names and the place behind it is given, or it has a fault
+-- a line's definitions join the names and the place after it is given, or it has a fault
 abbrev pub IsLaying : Names → Names → ℕ → List Lexeme → Result ℕ LineError → Type 0
 IsLaying old new place line (Ok after) = Lays old new place after line
 IsLaying old new place line (Err line_error.OutOfMemory) = Unit {0}

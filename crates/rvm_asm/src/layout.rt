@@ -14,7 +14,7 @@ use rvm_line::{Fault, LineError, Symbol, Symbols, definition, insert, label, loo
 use rvm_text::Token;
 use std::alloc::Global;
 
-/// The names' values, and the lines' places, with the place behind the last line.
+/// The names' values, and the lines' places, with the place after the last line.
 #[derive(Drop)]
 pub struct Layout<'a> {
     pub symbols: Symbols<'a>,
@@ -46,7 +46,7 @@ pub fn lay_out<'a>(alloc: Global, texts: &[&'a str]) -> Result<Layout<'a>, AsmEr
     Ok(Layout { symbols, places })
 }
 
-/// Adds what a line at a place defines, and answers the place behind it.
+/// Adds what a line at a place defines, and answers the place after it.
 #[tactic(auto, using(crate::proofs::Lines::texts_laid))]
 fn lay_text<'a>(
     alloc: Global,

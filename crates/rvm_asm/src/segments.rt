@@ -7,14 +7,14 @@ ghost use Rattle.rvm_asm.specs.Images.{Joins, AreOrdered, end_of};
 use rvm_image::Segment;
 use std::alloc::AllocError;
 
-/// The address behind bytes.
+/// The address after bytes.
 fn end(address: u32, bytes: &[u8]) -> u64
     ensures { result ≡ address + length bytes.now }
 {
     u64::from(address) + bytes.len() as u64
 }
 
-/// Puts bytes behind the segments: into the last, if they begin where it ends.
+/// Puts bytes after the segments: into the last, if they begin where it ends.
 pub fn append(segments: &mut Vec<Segment>, address: u32, bytes: Vec<u8>) -> Result<(), AllocError>
     requires some { 0 < length bytes.items }
     requires ordered { AreOrdered 0 0 (pieces_of segments.old.items) }

@@ -70,7 +70,7 @@ raw_exact count = record {
   again = λ xs rest h. bytes_again count xs rest (eqb-true _ _ h);
 }
 
--- ---- one behind the other
+-- ---- one after the other
 
 pub both_exact : {A B : Type 0} (c : Codec A) (d : Codec B) → IsExact c → IsExact d → IsExact (both c d)
 both_exact {A} {B} c d ec ed = record {

@@ -1,4 +1,4 @@
--- A number that is read is the one that was written, and more bytes behind it change nothing.
+-- A number that is read is the one that was written, and more bytes after it change nothing.
 use Rattle.std.proofs.Common.{◌≡◌, ℕ, zero, suc, ◌+◌, ◌*◌, ◌/◌, ◌%◌, ◌^◌, ◌<◌, ◌≤◌, true, false, ltb, List, [], ◌∷◌, ◌++◌, length, drop, Some, None, rules, refl, sym, ap, ◌∙◌, arith, inl, inr}
 use Rattle.std.proofs.Math.Nat.{div-div-eq-div-mul, pow-succ'}
 use Rattle.std.specs.Int.{byte_at, bytes_low_first}
@@ -76,7 +76,7 @@ number_len size bytes n rest e =
     let r = read_is size bytes n rest e in
     rw (← r.behind) (omega (arith, r.long, length-drop size bytes))
 
--- more bytes behind a number
+-- more bytes after a number
 pub number_more : (size : ℕ) (bytes more : List ℕ) (n : ℕ) (rest : List ℕ) → number_at size bytes ≡ Some (n, rest) → number_at size (bytes ++ more) ≡ Some (n, rest ++ more)
 unfolding number_at
 number_more size bytes more n rest e =

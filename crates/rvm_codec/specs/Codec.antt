@@ -9,7 +9,7 @@ infixl 10 ◌>>=◌
 abbrev pub ◌>>=◌ : {A B : Type 0} → Option A → (A → Option B) → Option B
 o >>= f = option_and_then f o
 
--- which values have a spelling, their bytes, and the value at the front with the bytes behind it
+-- which values have a spelling, their bytes, and the value at the front with the bytes after it
 pub record Codec (A : Type 0) : Type 0 where
   pub fits : A → Bool
   pub write : A → List ℕ
@@ -39,7 +39,7 @@ number size test = record {
   read = λ bytes. number_at size bytes >>= λ n. if test n.0 then Some n else None;
 }
 
--- so many bytes and those behind them, where there are as many
+-- so many bytes and those after them, where there are as many
 abbrev pub bytes_at : ℕ → List ℕ → Option (List ℕ × List ℕ)
 bytes_at count bytes =
     if nat_lt (length bytes) count then None else Some (take count bytes, drop count bytes)
@@ -76,7 +76,7 @@ as_type c to from = record {
   read = λ bytes. c.read bytes >>= λ x. Some (to x.0, x.1);
 }
 
--- so many values, one behind the other
+-- so many values, one after the other
 unfoldable pub read_each : {A : Type 0} → (List ℕ → Option (A × List ℕ)) → ℕ → List ℕ
     → Option (List A × List ℕ)
 read_each read zero bytes = Some ([], bytes)

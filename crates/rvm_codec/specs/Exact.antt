@@ -7,7 +7,7 @@ use Rattle.rvm_codec.specs.Format.{Format}
 abbrev pub IsBytes : List ℕ → Type 0
 IsBytes bytes = (i : ℕ) → slice_index bytes i < 256
 
--- the bytes are the text and the rest behind it
+-- the bytes are the text and the rest after it
 pub record Takes (bytes text rest : List ℕ) : Type 0 where
   pub parts : bytes ≡ text ++ rest
   pub rest_fits : IsBytes rest

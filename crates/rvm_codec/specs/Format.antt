@@ -8,7 +8,7 @@ pub record Format (A : Type 0) : Type 0 where
   pub write : A → List ℕ
   pub read : List ℕ → Option A
 
--- a value with nothing behind it
+-- a value with nothing after it
 abbrev pub alone : {A : Type 0} → Codec A → Format A
 alone c = record {
   fits = c.fits;
@@ -16,7 +16,7 @@ alone c = record {
   read = λ bytes. c.read bytes >>= λ x. if length x.1 == 0 then Some x.0 else None;
 }
 
--- a value, and the bytes behind it to the end
+-- a value, and the bytes after it to the end
 abbrev pub with_rest : {A : Type 0} → Codec A → Format (A × List ℕ)
 with_rest c = record {
   fits = λ x. c.fits x.0;

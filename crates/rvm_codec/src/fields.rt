@@ -1,4 +1,4 @@
-//! Fields at the front of bytes, each given with the bytes behind it; None where there are too few.
+//! Fields at the front of bytes, each given with the bytes after it; None where there are too few.
 
 ghost use Rattle.std.specs.Prelude.{◌≡◌, IfSome, length, option_map};
 ghost use Rattle.rvm_codec.specs.Codec.{any, bytes_at, flag, number};

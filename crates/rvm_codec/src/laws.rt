@@ -4,7 +4,7 @@ ghost use Rattle.std.specs.Prelude.{◌≡◌, ◌<◌, ◌^◌, ◌++◌, ℕ, 
 ghost use Rattle.byteorder.specs.Endian.{little_bytes};
 ghost use Rattle.rvm_codec.specs.Numbers.{number_at};
 
-/// More bytes behind a number change nothing.
+/// More bytes after a number change nothing.
 pub fn more_bytes_behind_a_number_change_nothing()
     ensures { (size n : ℕ) (bytes rest more : List ℕ) → number_at size bytes ≡ Some (n, rest)
         → number_at size (bytes ++ more) ≡ Some (n, rest ++ more) }

@@ -9,7 +9,7 @@ use Rattle.clap.specs.declared.error.Error.{Error}
 use Rattle.clap.specs.declared.error.kind.ErrorKind.TheVariants as kind
 use Rattle.rvm_command_line.specs.Program.{faults_of, program}
 
--- an error of the first kinds is one of theirs, whatever comes behind them
+-- an error of the first kinds is one of theirs, whatever comes after them
 first_kinds : (first next : Kinds) (e : Error) → HasKind first e → HasKind (or_else first next) e
 first_kinds [] next e (inl memory) = inl memory
 first_kinds [] next e (inr none) = absurd none

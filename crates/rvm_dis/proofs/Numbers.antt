@@ -171,7 +171,7 @@ decimal_word n =
     (digits_pass is_word 10 64 n [] (omega arith) (λ d below. word_digit d (omega arith)) refl)
     (decimal_some n)
 
--- hexadecimal digits behind 0x
+-- hexadecimal digits after 0x
 
 number_16 : (ds : List ℕ) → 0 < length ds → number_in 16 ds ≡ number_after 16 0 ds
 number_16 [] some = absurd (omega arith)

@@ -169,7 +169,7 @@ fence_row m op only make means word_is text names a below aligned w fits is =
         whole_line names a below aligned w m op (named m (operation.Whole op) means) same
     by_test false e = data_line names a below aligned w fits
 
--- a mnemonic with each ordering behind it
+-- a mnemonic with each ordering after it
 each_order : (m : List ℕ) (op : Bool → Bool → Operation) →
     Means (ordered m false false) (op false false) → Means (ordered m true false) (op true false) →
     Means (ordered m false true) (op false true) → Means (ordered m true true) (op true true) →

@@ -9,7 +9,7 @@ use Rattle.rvm_line.specs.Values.{Names}
 
 -- a text at a place is one line, whatever follows it, and is in the grammar; it has no label and
 -- defines no name, places the four bytes of a word, the lowest first, and leaves the next line
--- behind them, whatever values names have
+-- after them, whatever values names have
 pub record Assembles (names : Names) (place word : ℕ) (text : List ℕ) : Type 0 where
   pub one_line : (rest : List ℕ) → lines (text ++ codes "\n" ++ rest) ≡ text ∷ lines rest
   pub lexemes : List grammar.Lexeme

@@ -8,11 +8,11 @@ unfoldable pub hex_digits : (count n : ℕ) → List ℕ
 hex_digits zero n = []
 hex_digits (suc count) n = hex_digits count (n / 16) ++ digit_glyph false (n % 16) ∷ []
 
--- the same behind 0x
+-- the same after 0x
 abbrev pub hex : (count n : ℕ) → List ℕ
 hex count n = codes "0x" ++ hex_digits count n
 
--- all hexadecimal digits of a number behind 0x, without zeros before them
+-- all hexadecimal digits of a number after 0x, without zeros before them
 abbrev pub short_hex : ℕ → List ℕ
 short_hex n = codes "0x" ++ digits 16 false n
 
@@ -24,7 +24,7 @@ comma = codes ", "
 abbrev pub target : (address : ℕ) → (offset : ℤ) → ℕ
 target address offset = modulo 32 (pos address +ℤ offset)
 
--- the mnemonic of an atomic instruction, and behind it how it is ordered
+-- the mnemonic of an atomic instruction, and after it how it is ordered
 abbrev pub ordered : (mnemonic : List ℕ) → (aq rl : Bool) → List ℕ
 ordered mnemonic false false = mnemonic
 ordered mnemonic true false = mnemonic ++ codes ".aq"

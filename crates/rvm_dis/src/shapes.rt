@@ -52,7 +52,7 @@ impl fmt::Display for Csr {
     }
 }
 
-/// The mnemonic of an atomic instruction, and behind it how it is ordered.
+/// The mnemonic of an atomic instruction, and after it how it is ordered.
 #[derive(Clone, Copy)]
 struct Ordered<'a> {
     mnemonic: &'a str,

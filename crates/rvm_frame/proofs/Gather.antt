@@ -1,4 +1,4 @@
--- What is decided by the bytes behind those that a reader has taken.
+-- What is decided by the bytes after those that a reader has taken.
 use Rattle.std.proofs.Common.{◌≡◌, ℕ, ◌+◌, ◌-◌, ◌<◌, ◌≤◌, List, ◌++◌, length, take, drop, Option, Some, None, Ok, Err, sym, ap, subst, ◌∙◌, append_assoc, append-nil, arith, refl, [], length-drop, inl, inr}
 use Rattle.std.proofs.lemmas.Bool.{cases_lt}
 use Rattle.std.proofs.lemmas.List.{take-append-drop, drop-take, take-take, take_at}
@@ -33,7 +33,7 @@ pub record Open (v : Option ℕ) (old piece : List ℕ) (used : ℕ) : Type 0 wh
 pub goes_open : (v : Option ℕ) (old piece : List ℕ) (n : ℕ) → Goes v old piece n → Open v old piece n
 goes_open v old piece n s = record { at = s.undecided }
 
--- what is decided behind the first bytes of a piece is decided behind those before it
+-- what is decided after the first bytes of a piece is decided after those before it
 before_used : (v : Option ℕ) (old piece items : List ℕ) (used n : ℕ) → Open v old piece used → items ≡ old ++ take used piece → ((j : ℕ) → j < n → verdict v (items ++ take j (drop used piece)) ≡ Ok None) → (k : ℕ) → k < used + n → verdict v (old ++ take k piece) ≡ Ok None
 before_used v old piece items used n op e h k lt =
     elim (cases_lt used k) [
@@ -67,7 +67,7 @@ open_more v old piece items used n op e h = record {
   ];
 }
 
--- what is refused behind a head that a step filled
+-- what is refused after a head that a step filled
 pub behind_head : (v : Option ℕ) (head piece now rest : List ℕ) (n : ℕ) (fault : ReadFault) → Goes v head piece n → now ≡ head ++ take n piece → rest ≡ drop n piece → Refuses v now rest fault → Refuses v head piece fault
 behind_head v head piece now rest n fault g e er s = later_refused v head piece now n fault (goes_open v head piece n g) e g.within_piece (subst (λ (r : List ℕ). Refuses v now r fault) er s)
 

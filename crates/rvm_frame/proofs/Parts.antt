@@ -108,7 +108,7 @@ pub head_wanted : (named : Bool) (head : List ℕ) → 0 < length head → lengt
 head_wanted named [] some lt = absurd (omega (arith, some))
 head_wanted named (b ∷ bytes) some lt = short_head named b bytes (header_at named bytes) lt refl
 
--- ---- behind the header
+-- ---- after the header
 
 -- a beginning that has its header: what the header says, and what waits
 record Parts (v : Option ℕ) (b : ℕ) (bytes : List ℕ) : Type 0 where
@@ -251,7 +251,7 @@ page_len n h = eqb-true _ _ h
 page_kind : (k : Kind) → ◌≡◌ {A = Option Kind} (Some kinds.Page) (Some k) → kinds.Page ≡ k
 page_kind k e = cc
 
--- a Page ends 4102 bytes behind its header
+-- a Page ends 4102 bytes after its header
 page_wanted : (v : Option ℕ) (head more : List ℕ) → take 1 head ≡ 4 ∷ [] → header_len (names_hosts v) ≤ length head → verdict v (head ++ more) ≡ Ok None → wanted (names_hosts v) head ≡ header_len (names_hosts v) + 4102
 page_wanted v [] more four long w = absurd (no_header (names_hosts v) long)
 page_wanted v (b ∷ bytes) more four long w =
@@ -323,7 +323,7 @@ unfolding frame_of frame_behind
 behind_is named [] body len = refl
 behind_is named (b ∷ bytes) body len = kind_made named (kind_at b) bytes body len
 
--- the last byte of a body behind the header decides
+-- the last byte of a body after the header decides
 pub body_whole : (v : Option ℕ) (head body piece all seen there : List ℕ) (n : ℕ) → seen ≡ head → there ≡ all → length head ≡ header_len (names_hosts v) → all ≡ body ++ take n piece → header_len (names_hosts v) + length all ≡ wanted (names_hosts v) head → 0 < n → n ≤ length piece → verdict v (head ++ body) ≡ Ok None → Decides v (head ++ body) piece n (whole (frame_behind (names_hosts v) seen there))
 body_whole v head body piece all seen there n es et hl is len some le w =
     let same : frame_of (names_hosts v) head all ≡ frame_behind (names_hosts v) seen there = behind_is (names_hosts v) head all hl ∙ ap (λ (x : List ℕ). frame_behind (names_hosts v) x all) (sym es) ∙ ap (λ (x : List ℕ). frame_behind (names_hosts v) seen x) (sym et) in

@@ -58,7 +58,7 @@ reader_splits cs new run = run_splits cs new at_start no_bytes refl run
 
 -- ---- what else a run leaves
 
--- the version behind these frames
+-- the version after these frames
 abbrev version_by : Option ℕ → List Received → Option ℕ
 version_by g [] = g
 version_by g (f ∷ fs) = version_by (version_after g f.1) fs

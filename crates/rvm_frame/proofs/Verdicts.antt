@@ -65,7 +65,7 @@ within_limit v kinds.Abort n s h le = limit_at_least (is_from v 2) n (grind (ari
 within_limit v kinds.Zero n s h le = limit_at_least (is_from v 2) n (grind (arith, nat_tests))
 within_limit v kinds.Part n s h le = limit_at_least (is_from v 2) n (grind (arith, nat_tests))
 
--- ---- behind the header
+-- ---- after the header
 
 -- the checks with the header's last byte and with the body's last byte
 abbrev checks : Bool → Bool → Bool → Bool → Bool → Bool → Verdict → Verdict
@@ -227,13 +227,13 @@ verdict_take v (b ∷ bytes) x fits h =
     let s = stood_is v (kind_at b) bytes (Some x) h in
     take_header v b bytes x s.k (header_at (names_hosts v) bytes) (λ i. fits (suc i)) (kind_byte b s.k s.named) s.may refl s.header
 
--- the header of a frame's spelling, and whatever stands behind it
+-- the header of a frame's spelling, and whatever stands after it
 spelled_header : (named : Bool) (x : Received) (body : List ℕ) → HasSpelling x → is_some x.0 ≡ named → header_at named (hosts_bytes x.0 ++ (little_bytes 8 (move_of x.1) ++ (little_bytes 4 (length (body_of x.1)) ++ body))) ≡ Some (x.0, move_of x.1, length (body_of x.1), body)
 spelled_header named x body fits is =
     let small = fits.body_length in
     header_again named x.0 (move_of x.1) (length (body_of x.1)) body is fits.hosts (move_below (kind_of x.1) (move_of x.1) fits.move_number) (omega (arith, small))
 
--- bytes that begin as the spelling of a frame that may stand there are told by what stands behind its header
+-- bytes that begin as the spelling of a frame that may stand there are told by what stands after its header
 spelled_is : (v : Option ℕ) (x : Received) (body : List ℕ) → HasSpelling x → MayStand v x → verdict v (byte_of (kind_of x.1) ∷ (hosts_bytes x.0 ++ (little_bytes 8 (move_of x.1) ++ (little_bytes 4 (length (body_of x.1)) ++ body)))) ≡ after_header v (kind_of x.1) x.0 (move_of x.1) (length (body_of x.1)) body
 spelled_is v x body fits stand = at_kind_is v (kind_at (byte_of (kind_of x.1))) (kind_of x.1) _ (Some (x.0, move_of x.1, length (body_of x.1), body)) (kind_is_at (kind_of x.1)) stand.0 (spelled_header (names_hosts v) x body fits stand.1)
 
@@ -247,7 +247,7 @@ verdict_again v x fits stand =
 pub whole_frame : (v : Option ℕ) (bytes : List ℕ) (x : Received) → IsBytes bytes → (verdict v bytes ≡ Ok (Some x)) ↔ (HasSpelling x × MayStand v x × (bytes ≡ spelling x))
 whole_frame v bytes x fits = (λ h. verdict_take v bytes x fits h, λ s. ap (verdict v) s.2 ∙ verdict_again v x s.0 s.1)
 
--- the spelling of a frame with more bytes behind it
+-- the spelling of a frame with more bytes after it
 spelled_more : (x : Received) (more : List ℕ) → spelling x ++ more ≡ byte_of (kind_of x.1) ∷ (hosts_bytes x.0 ++ (little_bytes 8 (move_of x.1) ++ (little_bytes 4 (length (body_of x.1)) ++ (body_of x.1 ++ more))))
 spelled_more x more = ap (λ (b : List ℕ). byte_of (kind_of x.1) ∷ b) (append_assoc (hosts_bytes x.0) (little_bytes 8 (move_of x.1) ++ (little_bytes 4 (length (body_of x.1)) ++ body_of x.1)) more)
 

@@ -16,13 +16,13 @@ pub record Beginning : Type 0 where
   pub version : Option ℕ
   pub bytes : List ℕ
 
--- the bytes behind the head
+-- the bytes after the head
 abbrev pub stored : Store → List ℕ
 stored Closed = []
 stored (Page part) = part
 stored (Other body) = body.items
 
--- A store is open from the header's last byte on. That of a Page has bytes behind the six of its
+-- A store is open from the header's last byte on. That of a Page has bytes after the six of its
 -- numbers, that of another body room for all of it.
 abbrev pub Kept : Bool → List ℕ → Store → Type 0
 Kept named head Closed = length head < header_len named
@@ -71,7 +71,7 @@ abbrev pub Answers : Option ℕ → List ℕ → List ℕ → Result (ℕ × Opt
 Answers version before piece (Ok r) = Takes version before piece r.0 r.1
 Answers version before piece (Err fault) = Refuses version before piece fault
 
--- what is kept behind a step
+-- what is kept after a step
 abbrev pub kept_of : List ℕ → Option Received → List ℕ
 kept_of bytes None = bytes
 kept_of bytes (Some x) = []

@@ -1,4 +1,4 @@
-//! Little-endian numbers, one behind the other, in an array: a header, or the numbers at the front of
+//! Little-endian numbers, one after the other, in an array: a header, or the numbers at the front of
 //! a body.
 
 ghost use Rattle.std.specs.Prelude.{◌≡◌, ◌+◌, ◌≤◌, ◌++◌, [], length};

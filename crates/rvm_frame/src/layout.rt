@@ -7,7 +7,7 @@ ghost use Rattle.rvm_frame.specs.Layout.{joined};
 use crate::fields::Fields;
 use crate::frame::Frame;
 
-/// A body in parts, one behind the other: its fields of fixed size, the page numbers of Lost, the
+/// A body in parts, one after the other: its fields of fixed size, the page numbers of Lost, the
 /// copy numbers of State, and the bytes to its end.
 #[derive(Drop)]
 pub struct Body<'a> {
@@ -17,7 +17,7 @@ pub struct Body<'a> {
     pub(crate) bytes: &'a [u8],
 }
 
-/// A body of fields, and bytes behind them.
+/// A body of fields, and bytes after them.
 #[tactic(auto)]
 fn fields_and_bytes(fields: Fields, bytes: &[u8]) -> Body<'_>
     ensures { joined result.fields result.page_numbers.now result.copy_numbers.now result.bytes.now

@@ -12,7 +12,7 @@ use crate::kind::{Kind, hosts_fit, limit_of, names_hosts};
 use rvm_codec::{u8_at, u32_at, u64_at};
 use std::alloc::Global;
 
-/// A header behind its kind: from and to where it names them, the move number, and the length of
+/// A header after its kind: from and to where it names them, the move number, and the length of
 /// the body.
 #[derive(Clone, Copy)]
 pub struct Header {
@@ -21,7 +21,7 @@ pub struct Header {
     pub(crate) len: u32,
 }
 
-/// From and to, where headers name them, and the bytes behind them.
+/// From and to, where headers name them, and the bytes after them.
 fn hosts_of(named: bool, bytes: &[u8]) -> Option<(Option<(u8, u8)>, &[u8])>
     ensures { option_map (λ x. (x.0, x.1.now)) result ≡ hosts_at named bytes.now }
 {
@@ -33,7 +33,7 @@ fn hosts_of(named: bool, bytes: &[u8]) -> Option<(Option<(u8, u8)>, &[u8])>
     Some((Some((from, to)), rest))
 }
 
-/// The move number, the length of the body, and the bytes behind them.
+/// The move number, the length of the body, and the bytes after them.
 fn numbers_of(bytes: &[u8]) -> Option<(u64, u32, &[u8])>
     ensures { option_map (λ x. (x.0, x.1, x.2.now)) result ≡ numbers_at bytes.now }
 {
@@ -42,7 +42,7 @@ fn numbers_of(bytes: &[u8]) -> Option<(u64, u32, &[u8])>
     Some((move_number, len, rest))
 }
 
-/// The header in front of bytes, and those behind it.
+/// The header in front of bytes, and those after it.
 pub(crate) fn header_of(named: bool, bytes: &[u8]) -> Option<(Header, &[u8])>
     ensures { option_map (λ x. (x.0.hosts, x.0.move_number, x.0.len, x.1.now)) result
         ≡ header_at named bytes.now }
@@ -57,7 +57,7 @@ pub(crate) fn header_of(named: bool, bytes: &[u8]) -> Option<(Header, &[u8])>
     Some((header, rest))
 }
 
-/// What the bytes behind a header are: None as long as the body is not whole.
+/// What the bytes after a header are: None as long as the body is not whole.
 #[tactic(auto, unfolding(crate::specs::Verdict::after_header))]
 fn judge_body(
     alloc: Global,

@@ -14,7 +14,7 @@ use crate::unfinished::Unfinished;
 use std::alloc::Global;
 use std::marker::Model;
 
-/// The version of a stream behind a frame.
+/// The version of a stream after a frame.
 fn version_behind(version: Option<u32>, frame: &Frame) -> Option<u32>
     ensures { result ≡ version_after version frame.now }
 {

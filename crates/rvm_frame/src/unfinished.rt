@@ -25,7 +25,7 @@ use std::mem;
 /// The header, and the numbers of a Page.
 type Head = ArrayVec<u8, 21>;
 
-/// The bytes behind the head.
+/// The bytes after the head.
 #[derive(Debug, Drop)]
 pub enum Store {
     /// Before the header's last byte.
@@ -76,7 +76,7 @@ fn lesser(a: usize, b: usize) -> usize
     if a < b { a } else { b }
 }
 
-/// Puts bytes of a piece behind the head, as long as it is shorter than the limit.
+/// Puts bytes of a piece after the head, as long as it is shorter than the limit.
 fn take_head(head: &mut Head, limit: usize, piece: &[u8]) -> usize
     requires room { length head.old.items < limit }
     requires limited { limit ≤ 21 }
@@ -93,7 +93,7 @@ fn take_head(head: &mut Head, limit: usize, piece: &[u8]) -> usize
     count
 }
 
-/// Puts bytes of a piece behind those of a page.
+/// Puts bytes of a piece after those of a page.
 fn take_page(part: &mut PagePart, piece: &[u8]) -> usize
     requires room { length part.old < 4096 }
     requires some { 0 < length piece.now }
@@ -107,7 +107,7 @@ fn take_page(part: &mut PagePart, piece: &[u8]) -> usize
     count
 }
 
-/// Puts bytes of a piece behind those of a body, as long as it is shorter than wanted.
+/// Puts bytes of a piece after those of a body, as long as it is shorter than wanted.
 fn take_body(body: &mut Vec<u8>, want: usize, piece: &[u8]) -> usize
     requires room { length body.old.items < want }
     requires reserved { want ≤ vec_capacity body.old }
@@ -153,7 +153,7 @@ fn open_store(alloc: Global, named: bool, head: &[u8]) -> Result<Store, AllocErr
     }
 }
 
-/// Whether the bytes are the whole of a body behind this head; takes no memory.
+/// Whether the bytes are the whole of a body after this head; takes no memory.
 #[tactic(auto, unfolding(crate::specs::Unfinished::frame_behind))]
 fn is_whole_body(named: bool, head: &[u8], body: &[u8]) -> bool
     ensures { result ≡ is_some (frame_behind named head.now body.now) }
@@ -167,7 +167,7 @@ fn is_whole_body(named: bool, head: &[u8], body: &[u8]) -> bool
     header_of(named, rest).is_some() && is_body(kind, body)
 }
 
-/// What comes of a piece behind a head whose body got no memory.
+/// What comes of a piece after a head whose body got no memory.
 fn without_memory(version: Option<u32>, head: &[u8], piece: &[u8]) -> ReadFault
     requires header { length head.now ≡ header_len (names_hosts version) }
     requires waits { verdict version head.now ≡ Ok None }

@@ -2,7 +2,7 @@
 use Rattle.std.specs.Prelude.{ℕ, ◌+◌, ◌-◌, ◌<◌, List, [], ◌∷◌, Option, Some, None, length, get_or, map, nat_le, nat_lt, ◌&&◌, if◌then◌else◌}
 use Rattle.rvm_image.specs.declared.image.Segment.{Segment}
 
--- bytes from an address on, and how many zeros stand behind them
+-- bytes from an address on, and how many zeros stand after them
 pub record Piece : Type 0 where
   pub address : ℕ
   pub bytes : List ℕ

@@ -85,7 +85,7 @@ atomics = kind.Other ∷ kind.Other ∷ kind.Amo ∷ kind.Other ∷ kind.Other �
 abbrev systems : List Kind
 systems = kind.System ∷ kind.Other ∷ kind.Other ∷ kind.Other ∷ kind.Other ∷ kind.Other ∷ kind.Other ∷ kind.Other ∷ []
 
--- lists of kinds, each behind those of three opcodes that have no rows, since they end in 00, 01 and 10
+-- lists of kinds, each after those of three opcodes that have no rows, since they end in 00, 01 and 10
 abbrev by_opcode : List (List Kind) → List Kind
 by_opcode [] = []
 by_opcode (ks ∷ rest) = none ++ none ++ none ++ ks ++ by_opcode rest

@@ -1,4 +1,4 @@
--- Lines, computed: their bytes at 0x80000000, the places behind them, and their faults.
+-- Lines, computed: their bytes at 0x80000000, the places after them, and their faults.
 use Rattle.std.proofs.Common.{◌≡◌, ℕ, List, [], ◌∷◌, Option, Some, Result, Ok, Err, refl}
 use Rattle.std.specs.Prelude.{codes, option_map}
 use Rattle.rvm_text.specs.Lexemes.{lexemes}
@@ -22,7 +22,7 @@ use Rattle.rvm_line.specs.Values.{value_at, last_value}
 abbrev line_bytes : List ℕ → Option (Result (List ℕ) Fault)
 line_bytes text = option_map (λ ts. bytes_at no_names 0x80000000 (label_of 0x80000000 ts).1) (lexemes text)
 
--- the place behind a line
+-- the place after a line
 abbrev behind_line : List ℕ → Option (Result ℕ Fault)
 behind_line text = option_map (λ ts. next_place no_names 0x80000000 (label_of 0x80000000 ts).1) (lexemes text)
 

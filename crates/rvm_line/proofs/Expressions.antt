@@ -50,7 +50,7 @@ no_half_first names (Mark m ∷ Word w ∷ Quoted v ∷ ts) e = refl
 no_half_first names (Mark m ∷ Word w ∷ Mark p ∷ ts) e =
     ap (λ o. chosen o (λ x. value_at names ts >>= closed x.0) (simple_at names (Mark m ∷ Word w ∷ Mark p ∷ ts))) e
 
--- what is behind the beginning of a half
+-- what is after the beginning of a half
 inner_behind : (ts : List Lexeme) (h : Half) (inner : List Lexeme) → half_at ts ≡ Some (h, inner) → inner ≡ drop 3 ts
 inner_behind [] h inner e = cc
 inner_behind (Word w ∷ ts) h inner e = cc

@@ -85,7 +85,7 @@ token_more ts at d inside plain =
     ∙ sym (ap (λ l. all_at_head (lexemes_of (take at ts)) (parts (lexemes_of l))) (drop_more ts at d inside)
     ∙ ap (λ b. all_at_head (lexemes_of (take at ts)) (if b then [] ∷ parts (lexemes_of (drop (at + 1) ts)) else at_head (lexeme_of t) (parts (lexemes_of (drop (at + 1) ts))))) plain)
 
--- what is behind a place
+-- what is after a place
 pub rest_is : (ts : List Token) (n : ℕ) → take (length ts - n) (drop n ts) ≡ drop n ts
 rest_is ts n = take_all (length ts - n) (drop n ts) (omega (arith, length-drop n ts))
 

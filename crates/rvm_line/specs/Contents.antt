@@ -59,7 +59,7 @@ unfoldable pub words_at : Names → (place : ℕ) → Code → List Lexeme → R
 words_at names place kind ts =
     words_of names place kind ts >>= λ words. only_if OutOfReach (place % 4 == 0) words
 
--- nothing, behind a name and its end
+-- nothing, after a name and its end
 abbrev pub global_at : List Lexeme → Result (Unit {0}) Fault
 global_at ts = name_at ts >>= λ n. end_at n.1
 

@@ -145,6 +145,6 @@ csr_at ts = csr_word_at ts >>= λ c. csr_number c.0 >>= λ n. Ok (n, c.1)
 unfoldable pub csr_comma : List Lexeme → Result (ℕ × List Lexeme) Fault
 csr_comma ts = csr_at ts >>= λ c. mark_at 44 c.1 >>= λ rest. Ok (c.0, rest)
 
--- a control and status register, and nothing behind it
+-- a control and status register, and nothing after it
 unfoldable pub last_csr : List Lexeme → Result ℕ Fault
 last_csr ts = csr_at ts >>= ended

@@ -22,20 +22,20 @@ use Rattle.rvm_line.specs.Values.{Names, value_at}
 abbrev pub any_names : Names
 any_names name = Some 0
 
--- what is behind an expression
+-- what is after an expression
 abbrev pub behind_value : List Lexeme → Result (List Lexeme) Fault
 behind_value ts = value_at any_names ts >>= λ v. Ok v.1
 
--- what is behind a register in parentheses
+-- what is after a register in parentheses
 abbrev pub behind_base : List Lexeme → Result (List Lexeme) Fault
 behind_base ts = mark_at 40 ts >>= λ inner. register_at inner >>= λ r. mark_at 41 r.1
 
--- what is behind a string
+-- what is after a string
 abbrev pub behind_text : List Lexeme → Result (List Lexeme) Fault
 behind_text (Quoted s ∷ ts) = Ok ts
 behind_text ts = Err BadToken
 
--- what is behind an operand of a shape
+-- what is after an operand of a shape
 unfoldable pub behind : Operand → List Lexeme → Result (List Lexeme) Fault
 behind operand.Register ts = register_at ts >>= λ r. Ok r.1
 behind operand.Base ts = behind_base ts
@@ -45,17 +45,17 @@ behind operand.Csr ts = csr_word_at ts >>= λ c. Ok c.1
 behind operand.Name ts = name_at ts >>= λ n. Ok n.1
 behind operand.Text ts = behind_text ts
 
--- operands of these shapes, each behind a comma, and nothing behind them
+-- operands of these shapes, each after a comma, and nothing after them
 unfoldable pub more_operands_at : List Operand → List Lexeme → Result (Unit {0}) Fault
 more_operands_at [] ts = end_at ts
 more_operands_at (o ∷ os) ts = mark_at 44 ts >>= behind o >>= more_operands_at os
 
--- operands of these shapes, with commas between them, and nothing behind them
+-- operands of these shapes, with commas between them, and nothing after them
 abbrev pub operands_at : List Operand → List Lexeme → Result (Unit {0}) Fault
 operands_at [] ts = end_at ts
 operands_at (o ∷ os) ts = behind o ts >>= more_operands_at os
 
--- an expression, and nothing behind it
+-- an expression, and nothing after it
 abbrev pub expression_at : List Lexeme → Result (Unit {0}) Fault
 expression_at ts = behind_value ts >>= end_at
 

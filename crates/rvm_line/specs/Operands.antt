@@ -28,15 +28,15 @@ offset_field bits distance =
     only_if OutOfReach (distance % 2 == 0 && fits_signed bits distance)
     (signed_value bits (distance % 2 ^ bits))
 
--- a target, and nothing behind it
+-- a target, and nothing after it
 unfoldable pub last_target : Names → (bits place : ℕ) → List Lexeme → Result ℤ Fault
 last_target names bits place ts = last_value names ts >>= λ t. offset_field bits (distance t place)
 
--- an immediate of 12 bits, and nothing behind it
+-- an immediate of 12 bits, and nothing after it
 unfoldable pub last_immediate : Names → List Lexeme → Result ℤ Fault
 last_immediate names ts = last_value names ts >>= signed_field 12
 
--- a value below a limit, and nothing behind it
+-- a value below a limit, and nothing after it
 unfoldable pub last_below : Names → (limit : ℕ) → List Lexeme → Result ℕ Fault
 last_below names limit ts = last_value names ts >>= below limit
 

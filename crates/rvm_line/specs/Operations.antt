@@ -208,7 +208,7 @@ register_ins register.Rem rd rs1 rs2 = ins.Rem rd rs1 rs2
 register_ins register.Remu rd rs1 rs2 = ins.Remu rd rs1 rs2
 
 -- the instructions without operands, as instructions; a fence orders all accesses before it
--- with all behind it
+-- with all after it
 abbrev pub whole_ins : Whole → Ins
 whole_ins whole.Fence = ins.Fence 0 0 (pos 0xFF)
 whole_ins whole.FenceI = ins.FenceI 0 0 (pos 0)

@@ -1,4 +1,4 @@
--- The parts of a line that stand in any statement, each with what is behind it. What is not there
+-- The parts of a line that stand in any statement, each with what is after it. What is not there
 -- is a BadToken.
 use Rattle.std.specs.Prelude.{ℕ, Bool, false, ◌==◌, if◌then◌else◌, List, [], ◌∷◌, Option, Some, None}
 use Rattle.std.specs.Prelude.{Result, Ok, Err}
@@ -23,7 +23,7 @@ known f (Some x) = Ok x
 abbrev pub only_if : {A : Type 0} → Fault → Bool → A → Result A Fault
 only_if f b x = if b then Ok x else Err f
 
--- the first lexeme, and those behind it
+-- the first lexeme, and those after it
 abbrev pub uncons : List Lexeme → Option (Lexeme × List Lexeme)
 uncons [] = None
 uncons (t ∷ ts) = Some (t, ts)
@@ -54,7 +54,7 @@ abbrev pub end_at : List Lexeme → Result (Unit {0}) Fault
 end_at [] = Ok tt
 end_at (t ∷ ts) = Err BadToken
 
--- a value behind which nothing is left
+-- a value after which nothing is left
 abbrev pub ended : {A : Type 0} → A × List Lexeme → Result A Fault
 ended x = end_at x.1 >>= λ _. Ok x.0
 
@@ -63,7 +63,7 @@ abbrev pub name_at : List Lexeme → Result (List ℕ × List Lexeme) Fault
 name_at (Word w ∷ ts) = if is_name w then Ok (w, ts) else Err BadToken
 name_at ts = Err BadToken
 
--- a string, and nothing behind it
+-- a string, and nothing after it
 abbrev pub last_string : List Lexeme → Result (List ℕ) Fault
 last_string (Quoted s ∷ ts) = end_at ts >>= λ _. Ok s
 last_string ts = Err BadToken
@@ -77,11 +77,11 @@ register_at ts = Err BadToken
 unfoldable pub register_comma : List Lexeme → Result (ℕ × List Lexeme) Fault
 register_comma ts = register_at ts >>= λ r. mark_at 44 r.1 >>= λ rest. Ok (r.0, rest)
 
--- a register, and nothing behind it
+-- a register, and nothing after it
 unfoldable pub last_register : List Lexeme → Result ℕ Fault
 last_register ts = register_at ts >>= ended
 
--- a register in parentheses, and nothing behind it
+-- a register in parentheses, and nothing after it
 unfoldable pub last_address : List Lexeme → Result ℕ Fault
 last_address ts =
     mark_at 40 ts >>= λ inner. register_at inner >>= λ r. mark_at 41 r.1 >>= λ rest.

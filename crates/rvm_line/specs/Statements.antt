@@ -1,5 +1,5 @@
 -- What kind a line is, what it defines, and where the next line stands. A place is an address, or
--- 2 ^ 32 behind the last byte.
+-- 2 ^ 32 after the last byte.
 use Rattle.std.specs.Prelude.{ℕ, ◌+◌, ◌-◌, ◌*◌, ◌%◌, ◌^◌, Bool, ◌&&◌, ◌||◌, ◌==◌, nat_le, count_by}
 use Rattle.std.specs.Prelude.{if◌then◌else◌, List, [], ◌∷◌, length, Option, Some, None}
 use Rattle.std.specs.Prelude.{option_map, Result, Ok, Err, codes}
@@ -69,7 +69,7 @@ keyword_of word =
     (option_or (named pseudo_instructions word)
     (option_map (λ o. keyword.Code (code.Instruction o)) (operation_of word)))
 
--- a kind of line, and what is behind it
+-- a kind of line, and what is after it
 abbrev pub keyword_at : List Lexeme → Result (Keyword × List Lexeme) Fault
 keyword_at (Word w ∷ ts) = known BadToken (keyword_of w) >>= λ k. Ok (k, ts)
 keyword_at ts = Err BadToken
@@ -82,7 +82,7 @@ statement_at ts = keyword_at ts >>= λ k. grammar_at k.0 k.1 >>= λ _. Ok k
 abbrev pub Definition : Type 0
 Definition = List ℕ × ℕ
 
--- the label of a line that stands at a place, if it has one, and the statement behind it
+-- the label of a line that stands at a place, if it has one, and the statement after it
 abbrev pub label_of : (place : ℕ) → List Lexeme → Option Definition × List Lexeme
 label_of place (Word w ∷ Mark m ∷ ts) =
     if is_name w && m == 58 then (Some (w, place % 2 ^ 32), ts) else (None, Word w ∷ Mark m ∷ ts)
@@ -98,7 +98,7 @@ bytes_in width.Word = 4
 bytes_in width.Half = 2
 bytes_in width.Byte = 1
 
--- the place behind a string and so many bytes more
+-- the place after a string and so many bytes more
 abbrev pub behind_string : (place more : ℕ) → List Lexeme → Result ℕ Fault
 behind_string place more ts = last_string ts >>= λ s. advanced place (length (text_of s) + more)
 
@@ -133,7 +133,7 @@ size_of names code.Call ts = Ok 8
 size_of names (code.Pseudo pseudo) ts = Ok 4
 size_of names (code.Instruction operation) ts = Ok 4
 
--- where the next line stands, behind a statement of a kind
+-- where the next line stands, after a statement of a kind
 abbrev pub place_after : Names → (place : ℕ) → Keyword → List Lexeme → Result ℕ Fault
 place_after names place keyword.Org ts = last_value names ts
 place_after names place keyword.Space ts = space_at names ts >>= advanced place

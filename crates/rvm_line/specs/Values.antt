@@ -17,7 +17,7 @@ use Rattle.rvm_line.specs.Reading.{◌>>=◌, known, only_if, mark_at, ended}
 abbrev pub Names : Type 0
 Names = List ℕ → Option ℕ
 
--- the number behind a minus, at most 2 ^ 31, from zero
+-- the number after a minus, at most 2 ^ 31, from zero
 abbrev pub negative_at : List Lexeme → Result (ℕ × List Lexeme) Fault
 negative_at (Word w ∷ ts) =
     known BadToken (number_of w) >>= λ n.
@@ -64,7 +64,7 @@ half_named w =
     if bytes_eq w (codes "hi") then Some High
     else (if bytes_eq w (codes "lo") then Some Low else None)
 
--- the half whose name stands between '%' and '(', and what is behind the '('
+-- the half whose name stands between '%' and '(', and what is after the '('
 abbrev pub half_at : List Lexeme → Option (Half × List Lexeme)
 half_at (Mark m ∷ Word w ∷ Mark p ∷ ts) =
     if m == 37 && p == 40 then option_map (λ h. (h, ts)) (half_named w) else None
@@ -96,7 +96,7 @@ unfoldable pub in_halves : List Lexeme → ℕ → Result (ℕ × List Lexeme) F
 in_halves ts zero v = v
 in_halves ts (suc n) v = in_halves ts n (v >>= in_half (drop (3 * n) ts))
 
--- an expression, and nothing behind it
+-- an expression, and nothing after it
 unfoldable pub last_value : Names → List Lexeme → Result ℕ Fault
 last_value names ts = value_at names ts >>= ended
 

@@ -30,19 +30,19 @@ Gives (Ok v) meant = meant ≡ Ok v.items
 Gives (Err OutOfMemory) meant = Unit {0}
 Gives (Err (Faulty f)) meant = meant ≡ Err f
 
--- a first token, and those behind it, as lexemes
+-- a first token, and those after it, as lexemes
 abbrev pub parted : Option (Token × Bor (List Token))
     → Option (grammar.Lexeme × List grammar.Lexeme)
 parted None = None
 parted (Some x) = Some (lexeme_of x.0, lexemes_of x.1.now)
 
--- a result with the tokens behind it
+-- a result with the tokens after it
 abbrev pub seen : {A : Type 0} → Result (A × Bor (List Token)) Fault
     → Result (A × List grammar.Lexeme) Fault
 seen (Ok x) = Ok (x.0, lexemes_of x.1.now)
 seen (Err e) = Err e
 
--- the tokens behind what was read
+-- the tokens after what was read
 abbrev pub seen_rest : Result (Bor (List Token)) Fault → Result (List grammar.Lexeme) Fault
 seen_rest (Ok x) = Ok (lexemes_of x.now)
 seen_rest (Err e) = Err e
@@ -52,13 +52,13 @@ abbrev pub seen_bytes : Result (Bor (List ℕ)) Fault → Result (List ℕ) Faul
 seen_bytes (Ok x) = Ok x.now
 seen_bytes (Err e) = Err e
 
--- a name with the tokens behind it
+-- a name with the tokens after it
 abbrev pub seen_name : Result (Bor (List ℕ) × Bor (List Token)) Fault
     → Result (List ℕ × List grammar.Lexeme) Fault
 seen_name (Ok x) = Ok (x.0.now, lexemes_of x.1.now)
 seen_name (Err e) = Err e
 
--- a half with the tokens behind it
+-- a half with the tokens after it
 abbrev pub seen_half : Option (Half × Bor (List Token)) → Option (Half × List grammar.Lexeme)
 seen_half None = None
 seen_half (Some x) = Some (x.0, lexemes_of x.1.now)
@@ -82,7 +82,7 @@ abbrev pub seen_definition : Result (Option Symbol) Fault → Result (Option Def
 seen_definition (Ok s) = Ok (definition_of s)
 seen_definition (Err e) = Err e
 
--- the parts of the tokens behind a comma
+-- the parts of the tokens after a comma
 abbrev pub seen_parts : Option (Bor (List Token)) → List (List grammar.Lexeme)
 seen_parts None = []
 seen_parts (Some x) = parts (lexemes_of x.now)

@@ -89,7 +89,7 @@ fn zeros(alloc: Global, count: u64) -> Result<Vec<u8>, AllocError>
     Ok(bytes)
 }
 
-/// The text of a string, and a zero behind it.
+/// The text of a string, and a zero after it.
 fn zero_ended(alloc: Global, written: &[u8]) -> Result<Vec<u8>, AllocError>
     ensures { IfOk result (λ v. v.items ≡ text_of written.now ++ 0 ∷ []) }
 {
@@ -98,7 +98,7 @@ fn zero_ended(alloc: Global, written: &[u8]) -> Result<Vec<u8>, AllocError>
     Ok(bytes)
 }
 
-/// A name, and nothing behind it.
+/// A name, and nothing after it.
 fn global(tokens: &[Token]) -> Result<(), Fault>
     ensures { result ≡ global_at (lexemes_of tokens.now) }
 {

@@ -58,7 +58,7 @@ pub fn csr_comma<'t, 'a>(tokens: &'t [Token<'a>]) -> Result<(u32, &'t [Token<'a>
     Ok((number, rest))
 }
 
-/// A control and status register, and nothing behind it.
+/// A control and status register, and nothing after it.
 #[tactic(auto, unfolding(crate::specs::Csrs::last_csr))]
 pub fn last_csr(tokens: &[Token]) -> Result<CsrNo, Fault>
     ensures { result ≡ last_csr (lexemes_of tokens.now) }

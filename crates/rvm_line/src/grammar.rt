@@ -27,7 +27,7 @@ pub enum Operand {
     Base,
     /// An expression.
     Value,
-    /// An expression, and a register in parentheses behind it.
+    /// An expression, and a register in parentheses after it.
     Address,
     /// The name or the number of a control and status register.
     Csr,
@@ -38,7 +38,7 @@ pub enum Operand {
 }
 
 impl Operand {
-    /// The tokens behind an operand of this shape.
+    /// The tokens after an operand of this shape.
     #[tactic(auto, unfolding(crate::specs::Grammar::behind))]
     fn skip<'t, 'a>(self, tokens: &'t [Token<'a>]) -> Result<&'t [Token<'a>], Fault>
         ensures { seen_rest result ≡ behind self (lexemes_of tokens.now) }
@@ -67,7 +67,7 @@ impl Operand {
     }
 }
 
-/// The tokens behind a register in parentheses.
+/// The tokens after a register in parentheses.
 fn skip_base<'t, 'a>(tokens: &'t [Token<'a>]) -> Result<&'t [Token<'a>], Fault>
     ensures { seen_rest result ≡ behind_base (lexemes_of tokens.now) }
 {
@@ -76,7 +76,7 @@ fn skip_base<'t, 'a>(tokens: &'t [Token<'a>]) -> Result<&'t [Token<'a>], Fault>
     mark(rest, b')')
 }
 
-/// The tokens behind a string.
+/// The tokens after a string.
 fn skip_text<'t, 'a>(tokens: &'t [Token<'a>]) -> Result<&'t [Token<'a>], Fault>
     ensures { seen_rest result ≡ behind_text (lexemes_of tokens.now) }
 {

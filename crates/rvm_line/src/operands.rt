@@ -55,7 +55,7 @@ fn jump_offset(distance: u32) -> Result<Off21, Fault>
     }
 }
 
-/// The target of a branch that stands at a place, and nothing behind it.
+/// The target of a branch that stands at a place, and nothing after it.
 #[tactic(auto, unfolding(crate::specs::Operands::last_target))]
 pub fn last_branch(symbols: &Symbols, place: u64, tokens: &[Token]) -> Result<Off13, Fault>
     ensures { result ≡ last_target (names_of symbols.now) 13 place (lexemes_of tokens.now) }
@@ -64,7 +64,7 @@ pub fn last_branch(symbols: &Symbols, place: u64, tokens: &[Token]) -> Result<Of
     branch_offset(distance(target, place))
 }
 
-/// The target of a jump that stands at a place, and nothing behind it.
+/// The target of a jump that stands at a place, and nothing after it.
 #[tactic(auto, unfolding(crate::specs::Operands::last_target))]
 pub fn last_jump(symbols: &Symbols, place: u64, tokens: &[Token]) -> Result<Off21, Fault>
     ensures { result ≡ last_target (names_of symbols.now) 21 place (lexemes_of tokens.now) }
@@ -73,7 +73,7 @@ pub fn last_jump(symbols: &Symbols, place: u64, tokens: &[Token]) -> Result<Off2
     jump_offset(distance(target, place))
 }
 
-/// An immediate, and nothing behind it.
+/// An immediate, and nothing after it.
 #[tactic(auto, unfolding(crate::specs::Operands::last_immediate))]
 fn last_immediate(symbols: &Symbols, tokens: &[Token]) -> Result<Imm12, Fault>
     ensures { result ≡ last_immediate (names_of symbols.now) (lexemes_of tokens.now) }
@@ -82,7 +82,7 @@ fn last_immediate(symbols: &Symbols, tokens: &[Token]) -> Result<Imm12, Fault>
     immediate(value)
 }
 
-/// A number below 32, and nothing behind it.
+/// A number below 32, and nothing after it.
 #[tactic(auto, unfolding(crate::specs::Operands::last_below))]
 fn last_below_32(symbols: &Symbols, tokens: &[Token]) -> Result<u32, Fault>
     ensures value { result ≡ last_below (names_of symbols.now) 32 (lexemes_of tokens.now) }
@@ -96,7 +96,7 @@ fn last_below_32(symbols: &Symbols, tokens: &[Token]) -> Result<u32, Fault>
     }
 }
 
-/// The upper bits of a word, and nothing behind them.
+/// The upper bits of a word, and nothing after them.
 #[tactic(auto, unfolding(crate::specs::Operands::last_below))]
 fn last_upper_bits(symbols: &Symbols, tokens: &[Token]) -> Result<Imm20, Fault>
     ensures { result ≡ last_below (names_of symbols.now) (2 ^ 20) (lexemes_of tokens.now) }

@@ -12,7 +12,7 @@ use crate::faults::Fault;
 use rvm_isa::Reg;
 use rvm_text::{Token, is_name, register};
 
-/// The first token, and those behind it.
+/// The first token, and those after it.
 pub fn next<'t, 'a>(tokens: &'t [Token<'a>]) -> Option<(Token<'a>, &'t [Token<'a>])>
     ensures parts { parted result ≡ uncons (lexemes_of tokens.now) }
     ensures shorter { IfSome result (λ x. length x.1.now < length tokens.now) }
@@ -21,7 +21,7 @@ pub fn next<'t, 'a>(tokens: &'t [Token<'a>]) -> Option<(Token<'a>, &'t [Token<'a
     Some((*first, rest))
 }
 
-/// The tokens behind a mark.
+/// The tokens after a mark.
 pub fn mark<'t, 'a>(tokens: &'t [Token<'a>], wanted: u8) -> Result<&'t [Token<'a>], Fault>
     ensures { seen_rest result ≡ mark_at wanted (lexemes_of tokens.now) }
 {
@@ -44,7 +44,7 @@ pub fn is_comma(token: Token) -> bool
     matches!(token, Token::Mark(b','))
 }
 
-/// The tokens before the first comma, and those behind it, if there is one.
+/// The tokens before the first comma, and those after it, if there is one.
 #[tactic(auto, using(crate::proofs::Parts::steps))]
 pub fn first_part<'t, 'a>(tokens: &'t [Token<'a>]) -> (&'t [Token<'a>], Option<&'t [Token<'a>]>)
     ensures parts { parts (lexemes_of tokens.now) ≡ lexemes_of result.0.now ∷ seen_parts result.1 }
@@ -85,7 +85,7 @@ pub fn name<'t, 'a>(tokens: &'t [Token<'a>]) -> Result<(&'a [u8], &'t [Token<'a>
     }
 }
 
-/// A string as it is written between its quotes, and nothing behind it.
+/// A string as it is written between its quotes, and nothing after it.
 pub fn last_string<'a>(tokens: &[Token<'a>]) -> Result<&'a [u8], Fault>
     ensures { seen_bytes result ≡ last_string (lexemes_of tokens.now) }
 {
@@ -123,7 +123,7 @@ pub fn register_comma<'t, 'a>(tokens: &'t [Token<'a>]) -> Result<(u32, &'t [Toke
     Ok((number, rest))
 }
 
-/// A register, and nothing behind it.
+/// A register, and nothing after it.
 #[tactic(auto, unfolding(crate::specs::Reading::last_register))]
 pub fn last_register(tokens: &[Token]) -> Result<Reg, Fault>
     ensures { result ≡ last_register (lexemes_of tokens.now) }
@@ -133,7 +133,7 @@ pub fn last_register(tokens: &[Token]) -> Result<Reg, Fault>
     Ok(Reg::new(number))
 }
 
-/// A register in parentheses, and nothing behind it.
+/// A register in parentheses, and nothing after it.
 #[tactic(auto, unfolding(crate::specs::Reading::last_address))]
 pub fn last_address(tokens: &[Token]) -> Result<Reg, Fault>
     ensures { result ≡ last_address (lexemes_of tokens.now) }

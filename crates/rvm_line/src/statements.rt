@@ -121,7 +121,7 @@ fn instruction_named(word: &[u8]) -> Option<Keyword>
     Some(Keyword::Code(Code::Instruction(operation)))
 }
 
-/// The kind that the first word names, and the tokens behind it.
+/// The kind that the first word names, and the tokens after it.
 fn split_keyword<'t, 'a>(tokens: &'t [Token<'a>]) -> Result<(Keyword, &'t [Token<'a>]), Fault>
     ensures { seen result ≡ keyword_at (lexemes_of tokens.now) }
 {
@@ -143,7 +143,7 @@ pub fn statement<'t, 'a>(tokens: &'t [Token<'a>]) -> Result<(Keyword, &'t [Token
     Ok((keyword, operands))
 }
 
-/// The label of a line that stands at a place, if it has one, and the statement behind it.
+/// The label of a line that stands at a place, if it has one, and the statement after it.
 pub fn label<'t, 'a>(place: u64, tokens: &'t [Token<'a>]) -> (Option<Symbol<'a>>, &'t [Token<'a>])
     ensures { (definition_of result.0, lexemes_of result.1.now)
         ≡ label_of place (lexemes_of tokens.now) }
@@ -171,7 +171,7 @@ fn advance(place: u64, size: u64) -> Result<u64, Fault>
     }
 }
 
-/// The place behind a list of values.
+/// The place after a list of values.
 fn advance_list(place: u64, width: Width, tokens: &[Token]) -> Result<u64, Fault>
     requires { place ≤ 2 ^ 32 }
     ensures value { result ≡ advanced place (list_size width (lexemes_of tokens.now)) }
@@ -229,7 +229,7 @@ pub fn space(symbols: &Symbols, tokens: &[Token]) -> Result<u64, Fault>
     }
 }
 
-/// The place behind a string, and behind so many bytes more.
+/// The place after a string, and after so many bytes more.
 fn advance_string(place: u64, more: u64, tokens: &[Token]) -> Result<u64, Fault>
     requires place { place ≤ 2 ^ 32 }
     requires more { more ≤ 1 }
@@ -240,7 +240,7 @@ fn advance_string(place: u64, more: u64, tokens: &[Token]) -> Result<u64, Fault>
     advance(place, text_length(written) as u64 + more)
 }
 
-/// The place behind a statement of a kind.
+/// The place after a statement of a kind.
 fn place_after(
     symbols: &Symbols,
     place: u64,
@@ -278,7 +278,7 @@ fn size(symbols: &Symbols, code: Code, tokens: &[Token]) -> Result<u64, Fault>
     }
 }
 
-/// The place of the line behind one whose statement this is. The values of symbols are those of
+/// The place of the line after one whose statement this is. The values of symbols are those of
 /// earlier lines.
 pub fn next_place(symbols: &Symbols, place: u64, tokens: &[Token]) -> Result<u64, Fault>
     requires { place ≤ 2 ^ 32 }

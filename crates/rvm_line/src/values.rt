@@ -79,7 +79,7 @@ pub fn value<'t, 'a>(
     closed(tokens, depth, whole, rest)
 }
 
-/// How many halves begin one in another, and the tokens behind their beginnings.
+/// How many halves begin one in another, and the tokens after their beginnings.
 #[tactic(auto, using(crate::proofs::Expressions::openings))]
 fn opened<'t, 'a>(tokens: &'t [Token<'a>]) -> (usize, &'t [Token<'a>])
     ensures value { (names : Names) → value_at names (lexemes_of tokens.now)
@@ -154,7 +154,7 @@ fn half_named(word: &[u8]) -> Option<Half>
     }
 }
 
-/// The tokens behind an expression.
+/// The tokens after an expression.
 #[tactic(auto, using(crate::proofs::Expressions::fault_in_halves))]
 pub fn expression<'t, 'a>(tokens: &'t [Token<'a>]) -> Result<&'t [Token<'a>], Fault>
     ensures { seen_rest result ≡ behind_value (lexemes_of tokens.now) }
@@ -230,7 +230,7 @@ pub fn signed_number<'t, 'a>(tokens: &'t [Token<'a>]) -> Result<(u32, &'t [Token
     }
 }
 
-/// The number behind a minus.
+/// The number after a minus.
 fn negative<'t, 'a>(tokens: &'t [Token<'a>]) -> Result<(u32, &'t [Token<'a>]), Fault>
     ensures { seen result ≡ negative_at (lexemes_of tokens.now) }
 {
@@ -256,7 +256,7 @@ fn unsigned_number(word: &[u8]) -> Result<u32, Fault>
     }
 }
 
-/// An expression, and nothing behind it.
+/// An expression, and nothing after it.
 #[tactic(auto, unfolding(crate::specs::Values::last_value))]
 pub fn last_value(symbols: &Symbols, tokens: &[Token]) -> Result<u32, Fault>
     ensures { result ≡ last_value (names_of symbols.now) (lexemes_of tokens.now) }

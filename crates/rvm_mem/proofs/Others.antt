@@ -27,7 +27,7 @@ before n m at xs rest ends inside =
     ∙ ap (λ z. take n z) d
     ∙ sym (ap (λ z. take n z) whole ∙ take-append-le n (take (at - m) (drop m xs)) (drop (at - m) (drop m xs)) (omega (arith, ends, long_more)))
 
--- n bytes from place m, behind the last that is replaced
+-- n bytes from place m, after the last that is replaced
 behind : (n m at : ℕ) (new xs : List ℕ) → at + length new ≤ m → at + length new ≤ length xs → slice n m (replaced at new xs) ≡ slice n m xs
 behind n m at new xs begins inside =
     let front : List ℕ = take at xs ++ new in
@@ -40,7 +40,7 @@ pub page_replaced : (p at : ℕ) (new bytes : List ℕ) → at + length new ≤ 
 page_replaced p at new bytes inside (inl ends) = before 4096 (4096 * p) at bytes (new ++ drop (at + length new) bytes) ends (omega (arith, inside))
 page_replaced p at new bytes inside (inr begins) = behind 4096 (4096 * p) at new bytes begins inside
 
--- bytes of one page are before or behind each other page
+-- bytes of one page are before or after each other page
 apart : (p at n : ℕ) → at % 4096 + n ≤ 4096 → at / 4096 ≢ p → (4096 * p + 4096 ≤ at) ⊎ (at + n ≤ 4096 * p)
 apart p at n room other = elim (cases_lt (at / 4096) p) [
   | inl lt ↦ inr (omega (arith, lt, room))
@@ -65,7 +65,7 @@ none_before p (x ∷ pages) q none =
     let rest = none_before p pages q none.1 in
     ((none.0, rest.0), rest.1)
 
--- a page that none of n bytes is in is before or behind them
+-- a page that none of n bytes is in is before or after them
 far : (p at n : ℕ) → 0 < n → NoneOf p (byte_pages at n) → (4096 * p + 4096 ≤ at) ⊎ (at + n ≤ 4096 * p)
 unfolding byte_pages
 far p at zero some none = absurd (omega (arith, some))

@@ -34,7 +34,7 @@ pub mark_more : (at n : ℕ) (dirty : List Bool) → mark_all (byte_pages at (n 
 unfolding byte_pages
 mark_more at n dirty = rw add-one (mark_last (byte_pages at n) ((at + n) / 4096) dirty)
 
--- n bytes, and more than k behind them that lie in one page
+-- n bytes, and more than k after them that lie in one page
 pub mark_page : (at n k : ℕ) (dirty : List Bool) → (at + n) / 4096 ≡ (at + n + k) / 4096 → mark_all (byte_pages at (n + 1 + k)) dirty ≡ mark ((at + n) / 4096) (mark_all (byte_pages at n) dirty)
 mark_page at n zero dirty same = ap (λ m. mark_all (byte_pages at m) dirty) (let e : n + 1 + 0 ≡ n + 1 = omega arith in e) ∙ mark_more at n dirty
 mark_page at n (suc k) dirty same =

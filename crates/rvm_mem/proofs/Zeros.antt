@@ -6,7 +6,7 @@ use Rattle.rvm_mem.specs.Bytes.{replaced}
 use Rattle.rvm_mem.specs.Pages.{byte_pages, mark, mark_all}
 use Rattle.rvm_mem.proofs.Ranges.{mark_page}
 
--- the n bytes behind zeros become zeros
+-- the n bytes after zeros become zeros
 zeros_behind : (old : List ℕ) (at n : ℕ) → replaced at (replicate n 0) (replicate at 0 ++ drop at old) ≡ replicate (at + n) 0 ++ drop (at + n) old
 zeros_behind old at n =
     let front : List ℕ = replicate at 0 in
@@ -20,7 +20,7 @@ zeros_behind old at n =
     ∙ sym (append_assoc front zeros (drop (at + n) old))
     ∙ ap (λ xs. xs ++ drop (at + n) old) (replicate-append-replicate at n 0)
 
--- the pages so far are zeros, those behind them as they were
+-- the pages so far are zeros, those after them as they were
 pub zeros_more : (old : List ℕ) (i : ℕ) → replaced (4096 * i) (replicate 4096 0) (replicate (4096 * i) 0 ++ drop (4096 * i) old) ≡ replicate (4096 * (i + 1)) 0 ++ drop (4096 * (i + 1)) old
 zeros_more old i = zeros_behind old (4096 * i) 4096 ∙ ap (λ n. replicate n 0 ++ drop n old) (let e : 4096 * i + 4096 ≡ 4096 * (i + 1) = omega arith in e)
 

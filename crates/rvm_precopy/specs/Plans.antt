@@ -137,7 +137,7 @@ stops left r =
     || nat_lt left r.policy.min_left
     || nat_lt (r.policy.factor * length r.to_send) r.copies
 
--- what is left behind a round, by the stop rule's answer: the dirty log goes on until the guest is
+-- what is left after a round, by the stop rule's answer: the dirty log goes on until the guest is
 -- paused, or it is the next round's pages and a new one begins
 abbrev pub after_round : (log : List Bool) → Plan → Bool → Plan × List Bool
 after_round log r true = (record r { peeked = 0; scan = length r.to_send; stop = true }, log)

@@ -38,7 +38,7 @@ module _ {S P E A B : Type 0} (m : Guest S P E A B) where
       (g : S) (log : List Bool) (r : Plan) → page_count m g ≡ length r.to_send → length log ≡ length r.to_send
       → stops (count log) r ≡ protocol.stops m (rounds_of g log r)
 
-  -- the plan and the dirty log behind a round are the protocol's, whatever the stop rule answers
+  -- the plan and the dirty log after a round are the protocol's, whatever the stop rule answers
   unfoldable pub TheEndOfARoundIsTheProtocols : Type 0
   TheEndOfARoundIsTheProtocols =
       (g : S) (log : List Bool) (r : Plan) (stop : Bool) → page_count m g ≡ length r.to_send

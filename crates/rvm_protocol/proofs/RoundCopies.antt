@@ -293,7 +293,7 @@ module _ {S P E A B : Type 0} (m : Guest S P E A B) (laws : IsGuest m) where
           ];
         }))
 
-    -- a copy of a page behind p: p is passed, and was not to be copied
+    -- a copy of a page after p: p is passed, and was not to be copied
     missed : (i look q : ℕ) → i < count → First look → CopiesOne (at i) (at (suc i))
         (obey m version (commands i) (Copying n (at i))).reply q → NotCopied i → (at i).scan ≤ p
         → is_skipped (at i) p ≡ (at look).log p → p < q → Status (suc i)

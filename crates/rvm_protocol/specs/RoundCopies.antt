@@ -40,7 +40,7 @@ module _ {S P E A B : Type 0} (m : Guest S P E A B) (version n : ℕ) where
     pub reply : (obey m version (commands i) (Copying n (at i))).reply ≡ Copied p number
 
   -- the round first looked at one of these 64 pages when it copied the first page that is one of
-  -- them or behind them, or else at its end
+  -- them or after them, or else at its end
   pub record IsFirstLook (commands : ℕ → Command E) (at : ℕ → Rounds S) (count first i : ℕ)
       : Type 0 where
     pub within : i ≤ count

@@ -84,7 +84,7 @@ module _ {S P E A B : Type 0} (m : Guest S P E A B) where
       || nat_lt (size r.log (page_count r.guest)) r.policy.min_left
       || nat_lt (r.policy.factor * page_count r.guest) r.copies
 
-  -- page p is sent: its copy gets the next number, and the scan goes on behind it
+  -- page p is sent: its copy gets the next number, and the scan goes on after it
   abbrev pub page_copied : Rounds S → ℕ → Rounds S
   page_copied r p =
       record r {

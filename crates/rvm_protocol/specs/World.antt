@@ -41,7 +41,7 @@ unfoldable pub Has : {X : Type 0} → List X → X → Type 0
 Has [] x = ⊥
 Has (y ∷ ys) x = (y ≡ x) ⊎ Has ys x
 
--- the frames that were sent, and behind them the one that was made, if any
+-- the frames that were sent, and after them the one that was made, if any
 abbrev pub and_sent : {P B : Type 0} → List (Addressed P B) → Option (Addressed P B)
     → List (Addressed P B)
 and_sent sent None = sent

@@ -41,7 +41,7 @@ lays place after ts unlabelled undefining next =
       defined = λ n. refl;
     }
 
--- a text that stands for a word at an address, behind an `.org`
+-- a text that stands for a word at an address, after an `.org`
 module _ (a w : ℕ) (text : List ℕ) (below : a < 2 ^ 32) (stands : Assembles no_names a w text) where
   abbrev both_lines : List (List Lexeme)
   both_lines = org_lexemes a ∷ stands.lexemes ∷ []

@@ -1,4 +1,4 @@
--- A word's text behind an `.org`, and the word's bytes, as the manual gives them.
+-- A word's text after an `.org`, and the word's bytes, as the manual gives them.
 use Rattle.std.proofs.Common.{◌≡◌, [], ◌∷◌, refl}
 use Rattle.std.specs.Prelude.{codes}
 use Rattle.rvm_word.specs.Word.{signed_value}

@@ -5,11 +5,11 @@ use Rattle.rvm_image.specs.Images.{Piece, piece}
 use Rattle.rvm_dis.specs.Disassembly.{text_at}
 use Rattle.rvm_dis.specs.Pieces.{hex}
 
--- the line behind which the next one stands at an address
+-- the line after which the next one stands at an address
 abbrev pub org_line : (address : ℕ) → List ℕ
 org_line address = codes ".org " ++ hex 8 address
 
--- two lines, each with a line feed behind it: the place is the address, and the word stands there
+-- two lines, each with a line feed after it: the place is the address, and the word stands there
 abbrev pub text_behind_org : (address word : ℕ) → List ℕ
 text_behind_org address word = org_line address ++ codes "\n" ++ text_at address word ++ codes "\n"
 

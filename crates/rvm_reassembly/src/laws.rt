@@ -9,7 +9,7 @@ ghost use Rattle.rvm_reassembly.specs.Reassembly.{text_behind_org, image_of_word
 use rvm_asm::laws::a_text_has_one_assembly;
 use rvm_dis::laws::the_text_of_a_word_is_the_word_again;
 
-/// A line `.org` with an address that is a multiple of four, and behind it a line with the text of a
+/// A line `.org` with an address that is a multiple of four, and after it a line with the text of a
 /// word there, are assembled into the word's four bytes at that address, the lowest first, and begin
 /// at 2^31. They have no other assembly: each has this entry, these bytes and no others.
 pub fn a_printed_word_assembles_to_itself_at_its_address(address: u32, word: u32)

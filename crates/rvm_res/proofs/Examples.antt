@@ -21,7 +21,7 @@ succeeds = refl
 fails : holds 0 0x8000_0104 two_harts ≡ false
 fails = refl
 
--- a store into the word behind it leaves the reservation
+-- a store into the word after it leaves the reservation
 another_word : stored 1 0x8000_0104 two_harts ≡ two_harts
 another_word = refl
 

@@ -19,6 +19,6 @@ is_space b = b == 32 || b == 9
 abbrev pub is_mark : ℕ → Bool
 is_mark b = b == 44 || b == 58 || b == 40 || b == 41 || b == 43 || b == 45 || b == 37
 
--- what may stand behind '\' in a string: n, t, 0, '"' or '\'
+-- what may stand after '\' in a string: n, t, 0, '"' or '\'
 abbrev pub is_escape : ℕ → Bool
 is_escape b = b == 110 || b == 116 || b == 48 || b == 34 || b == 92

@@ -10,7 +10,7 @@ pub data Lexeme : Type 0 where
   Quoted : List ℕ → Lexeme
 
 -- where the reading stands, with the bytes of what is open: between lexemes, in a word, in a
--- string, behind its '\', in a comment
+-- string, after its '\', in a comment
 pub data Mode : Type 0 where
   Between : Mode
   InWord : List ℕ → Mode
@@ -18,7 +18,7 @@ pub data Mode : Type 0 where
   Escaped : List ℕ → Mode
   InComment : Mode
 
--- what a byte leads to where nothing is open: the lexemes that it ends, and the mode behind it;
+-- what a byte leads to where nothing is open: the lexemes that it ends, and the mode after it;
 -- none where the byte can't stand there
 abbrev pub open_at : ℕ → Option (List Lexeme × Mode)
 open_at b =
@@ -49,7 +49,7 @@ at_end (InString s) = None
 at_end (Escaped s) = None
 at_end InComment = Some []
 
--- the lexemes that a byte ends, and those of the bytes behind it
+-- the lexemes that a byte ends, and those of the bytes after it
 abbrev pub followed_by : Option (List Lexeme × Mode) → (Mode → Option (List Lexeme)) → Option (List Lexeme)
 followed_by None rest = None
 followed_by (Some a) rest = option_map (λ ts. a.0 ++ ts) (rest a.1)

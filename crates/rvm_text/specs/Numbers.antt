@@ -9,7 +9,7 @@ digit_value b =
     else (if nat_le 97 b && nat_le b 102 then b - 87
     else (if nat_le 65 b && nat_le b 70 then b - 55 else 16))
 
--- the number that digits spell behind others that spell n, if it is below 2 ^ 32
+-- the number that digits spell after others that spell n, if it is below 2 ^ 32
 abbrev pub number_after : (radix n : ℕ) → List ℕ → Option ℕ
 number_after radix n [] = Some n
 number_after radix n (b ∷ bs) =
@@ -22,7 +22,7 @@ abbrev pub number_in : (radix : ℕ) → List ℕ → Option ℕ
 number_in radix [] = None
 number_in radix (b ∷ bs) = number_after radix 0 (b ∷ bs)
 
--- the number of a word: hexadecimal behind 0x, binary behind 0b, else decimal
+-- the number of a word: hexadecimal after 0x, binary after 0b, else decimal
 abbrev pub number_of : List ℕ → Option ℕ
 number_of [] = None
 number_of (a ∷ []) = number_in 10 (a ∷ [])

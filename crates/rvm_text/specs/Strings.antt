@@ -5,7 +5,7 @@ use Rattle.std.specs.Prelude.{ℕ, ◌==◌, Bool, true, false, if◌then◌else
 abbrev pub escaped_byte : ℕ → ℕ
 escaped_byte b = if b == 110 then 10 else (if b == 116 then 9 else (if b == 48 then 0 else b))
 
--- the text of what is left of a string, behind a '\' or not
+-- the text of what is left of a string, after a '\' or not
 abbrev pub text_behind : (escaped : Bool) → List ℕ → List ℕ
 text_behind escaped [] = []
 text_behind true (b ∷ bs) = escaped_byte b ∷ text_behind false bs

@@ -48,7 +48,7 @@ IsBegun at (mode.Quoted from) = from ≤ at
 IsBegun at (mode.Escaped from) = from ≤ at
 IsBegun at mode.Comment = Unit {0}
 
--- the lexemes of a step, behind those of the tokens
+-- the lexemes of a step, after those of the tokens
 abbrev pub behind : List Token → List grammar.Lexeme × grammar.Mode → List grammar.Lexeme × grammar.Mode
 behind ts a = (lexemes_of ts ++ a.0, a.1)
 

@@ -3,7 +3,7 @@
 ghost use Rattle.std.specs.Prelude.{◌≡◌, ◌≤◌};
 ghost use Rattle.rvm_text.specs.Numbers.{digit_value, number_in, number_of};
 
-/// The number that a word spells: hexadecimal behind `0x`, binary behind `0b`, else decimal. It is
+/// The number that a word spells: hexadecimal after `0x`, binary after `0b`, else decimal. It is
 /// below 2^32, or the word spells none.
 pub fn number(word: &[u8]) -> Option<u32>
     ensures { result ≡ number_of word.now }

@@ -6,7 +6,7 @@ use Rattle.rvm_asm.specs.Views.{extent_pieces, line_bytes, lines_of, texts_of, A
 use Rattle.rvm_asm.proofs.Placed.{pieces}
 use Rattle.rvm_asm.proofs.filling.fill.Given as goal
 
--- the segments so far are made, and the extents that are left begin behind them
+-- the segments so far are made, and the extents that are left begin after them
 abbrev pub invariant-loop-address : goal.invariant-loop-address
 invariant-loop-address l = record {
   same : (a : ℕ) → byte_at (extent_pieces (line_bytes (lines_of (texts_of l.texts)) (names_of l.symbols) l.places) l.fn.extents) a ≡ or_else (byte_at (pieces (line_bytes (lines_of (texts_of l.texts)) (names_of l.symbols) l.places) l.address-iterator) a) (byte_at (pieces_of l.segments.items) a);

@@ -10,7 +10,7 @@ pub loop-i-preserved : goal.loop-i-preserved
 loop-i-preserved c =
     one_row_more (row_of c.args.flags.now) c.self.inside.rows.items c.loop-i.rows.items c.loop-i.i c.word_at.result c.loop-i.invariant (omega arith) c.word_at.ensures
 
--- the rows behind the loop
+-- the rows after the loop
 taken : (c : After-loop-i) → Taken c.args.flags.now c.self.inside.pages c.loop-i.rows.items
 taken c =
     let same : length c.args.flags.now ≡ c.self.inside.pages = c.requires ∙ sym (ap length c.self.view_is) ∙ length-flags c.self.inside.pages c.self.inside.rows.items in
