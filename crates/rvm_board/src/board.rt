@@ -5,6 +5,7 @@ ghost use Rattle.std.specs.Prelude.{◌≡◌, ◌%◌, ◌*◌, ◌^◌, map, �
 ghost use Rattle.rvm_mem.specs.Bytes.{slice};
 ghost use Rattle.rvm_mem.specs.Pages.{mark_all};
 ghost use Rattle.rvm_hart.specs.Bus.{in_ram, ram_base, ram_load};
+ghost use Rattle.rvm_hart.specs.Running.{ends_so};
 ghost use Rattle.rvm_hart.specs.Straight.{all_pass, input_stays, steps};
 ghost use Rattle.rvm_hart.specs.Fields.{CanBeHeld, fields_of, is_in_ram, with_number};
 ghost use Rattle.rvm_board.specs.declared.error.BoardError.TheVariants.{BadSize};
@@ -15,7 +16,7 @@ ghost use Rattle.rvm_board.specs.Board.{at_reset, new_hart, hart_at, machine_at,
 
 use crate::error::{BoardError, PokeError};
 use rvm_dev::{DeviceFields, Devices, InputFull};
-use rvm_hart::{Bus, Hart, HartFields, Marks, PC, Stepped};
+use rvm_hart::{Bus, Hart, HartFields, Marks, PC, Ran, Stepped};
 use rvm_mem::{Memory, PageSet, PagedMemory};
 use rvm_res::Reservations;
 use std::alloc::{AllocError, Global};
@@ -204,6 +205,20 @@ impl<M: Memory> Board<M> {
         stepping.step(&mut self.bus)
     }
 
+    /// The same step, on the straight path if it can be made there. `LOOP` is the number of the caller's loop, as
+    /// in `Hart::run_straight`.
+    #[inline(always)]
+    pub fn step_straight<const LOOP: u8>(&mut self, hart: u32) -> Stepped
+        requires { hart < length self.old.plain.harts }
+        ensures board { self.new.plain ≡ (stepped hart self.old.plain).board }
+        ensures dirty { self.new.dirty
+            ≡ mark_all (stepped hart self.old.plain).pages self.old.dirty }
+        ensures answer { result ≡ (stepped hart self.old.plain).answer }
+    {
+        let stepping = &mut self.harts[hart as usize];
+        stepping.step_straight::<M, LOOP>(&mut self.bus)
+    }
+
     /// Makes steps of a hart on the straight path, at most `count`: up to the first whose instruction
     /// reaches more than registers, RAM and reservations, is interrupted, or, if `watched`, begins at a
     /// mark. Returns how many are left. `LOOP` is the number of the caller's loop, as in `Hart::run_straight`.
@@ -227,7 +242,33 @@ impl<M: Memory> Board<M> {
         ensures input { input_stays (count - result) (machine_at hart self.old.plain) ≡ true }
     {
         let stepping = &mut self.harts[hart as usize];
-        stepping.run_straight::<M, LOOP>(&mut self.bus, count, marks, watched)
+        let straight = stepping.run_straight::<M, LOOP>(&mut self.bus, count, marks, watched);
+        straight.left
+    }
+
+    /// Makes steps of a hart, at most `count`: up to one that halts the board or finds it halted, or, if
+    /// `watched`, up to a mark. `LOOP` is the number of the caller's loop, as in `Hart::run_straight`.
+    #[inline(always)]
+    pub fn run<const LOOP: u8>(
+        &mut self,
+        hart: u32,
+        count: u32,
+        marks: &Marks,
+        watched: bool,
+    ) -> Ran
+        requires { hart < length self.old.plain.harts }
+        ensures left { result.left ≤ count }
+        ensures board { self.new.plain ≡ with_machine hart
+            (steps (count - result.left) (machine_at hart self.old.plain)).machine self.old.plain }
+        ensures dirty { self.new.dirty ≡ mark_all
+            (steps (count - result.left) (machine_at hart self.old.plain)).pages self.old.dirty }
+        ensures pass { all_pass watched marks.now (count - result.left)
+            (machine_at hart self.old.plain) ≡ true }
+        ensures ends { ends_so result.halted (count - result.left) (machine_at hart self.old.plain)
+            ≡ true }
+    {
+        let stepping = &mut self.harts[hart as usize];
+        stepping.run::<M, LOOP>(&mut self.bus, count, marks, watched)
     }
 
     /// A byte comes to the console; `InputFull`, and nothing changes, where 16 wait.

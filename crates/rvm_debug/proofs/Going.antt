@@ -32,17 +32,17 @@ retired_is (stepped.Interrupted i) retired = absurd cc
 retired_is (stepped.Halted s) retired = absurd cc
 
 -- the hart that was put back
-there : (h : ℕ) (x : Machine) (b : Board) → h < length b.harts → machine_at h (with_machine h x b) ≡ x
+pub there : (h : ℕ) (x : Machine) (b : Board) → h < length b.harts → machine_at h (with_machine h x b) ≡ x
 there h x b inside = ap (λ (y : HartState). record { hart = y; shared = x.shared }) (get_or-set_same b.harts h x.hart (new_hart 0 0) inside)
 
-put_twice : (h : ℕ) (x y : Machine) (b : Board) → with_machine h y (with_machine h x b) ≡ with_machine h y b
+pub put_twice : (h : ℕ) (x y : Machine) (b : Board) → with_machine h y (with_machine h x b) ≡ with_machine h y b
 put_twice h x y b = ap (λ (hs : List HartState). record { harts = hs; shared = y.shared }) (set-set b.harts h x.hart y.hart)
 
 pub put_same : (h : ℕ) (b : Board) → with_machine h (machine_at h b) b ≡ b
 put_same h b = ap (λ (hs : List HartState). record { harts = hs; shared = b.shared }) (set-get_or b.harts h (new_hart 0 0))
 
 -- the hart does not stand at a breakpoint
-not_stopped : (flags : List Bool) (h : ℕ) → get_or flags h false ≡ false → set flags h false ≡ flags
+pub not_stopped : (flags : List Bool) (h : ℕ) → get_or flags h false ≡ false → set flags h false ≡ flags
 not_stopped flags h none = ap (λ b. set flags h b) (sym none) ∙ set-get_or flags h false
 
 -- a step that retires, of a hart that does not stop instead
@@ -60,7 +60,7 @@ retired_turn h x g inside no_breakpoint none retired =
     ∙ ap (λ (fs : List Bool). record { guest = record { board = with_machine h a.machine g.board; breakpoints = g.breakpoints; stopped = fs }; pages = a.pages; reply = reply_of a.answer }) (not_stopped g.stopped h none)
     ∙ ap (λ (s : Stepped). record { guest = with_board (with_machine h a.machine g.board) g; pages = a.pages; reply = reply_of s }) (retired_is a.answer retired)
 
-not_so : (b : Bool) → not b ≡ true → b ≡ false
+pub not_so : (b : Bool) → not b ≡ true → b ≡ false
 not_so false e = refl
 not_so true e = absurd cc
 

@@ -3,6 +3,7 @@ pub mod Examples
 pub mod Rising
 pub mod Turning
 pub mod Going
+pub mod Running
 pub mod Marking
 pub mod Retirings
 pub mod Waiting

@@ -3,6 +3,7 @@
 ghost use Rattle.std.specs.Prelude.{◌≡◌, ◌<◌, ◌≤◌, ◌-◌, [], false, true, length, get_or};
 ghost use Rattle.std.specs.List.{list_any};
 ghost use Rattle.rvm_mem.specs.Pages.{mark_all};
+ghost use Rattle.rvm_hart.specs.Running.{ends_so};
 ghost use Rattle.rvm_hart.specs.Straight as straight;
 ghost use Rattle.rvm_board.specs.Board.{machine_at};
 ghost use Rattle.rvm_debug.specs.Events.{pc_of, reply_of, step_reply, steps};
@@ -72,6 +73,14 @@ struct Ended {
     stop: Option<Stop>,
 }
 
+/// What turns of a hart came to that does not stop.
+#[derive(Clone, Copy)]
+struct HartTurns {
+    made: u32,
+    /// The status that the board is halted with, if the last turn halted it or found it halted.
+    halted: Option<u8>,
+}
+
 impl<M: Memory> Debugged<M> {
     /// Makes turns, at most `count`, from that of hart `first` on: in its turn a hart takes a step,
     /// or stops at a breakpoint instead. They end with the turn in which a hart stopped, or which
@@ -126,7 +135,7 @@ impl<M: Memory> Debugged<M> {
         self.turns_of_hart::<IN_WATCHED_TURNS>(hart, count, true)
     }
 
-    /// Turns of one hart: as many as there are on the straight path, then one that is not, and so on.
+    /// Turns of one hart: as many as there are before one at which it may stop, then that one, and so on.
     #[inline(always)]
     fn turns_of_hart<const LOOP: u8>(&mut self, hart: u32, count: u32, watched: bool) -> Ended
         requires hart { hart < length self.old.guest.board.harts }
@@ -137,7 +146,14 @@ impl<M: Memory> Debugged<M> {
     {
         let mut left = count;
         while left > 0 {
-            left -= self.straight_turns::<LOOP>(hart, left, watched);
+            let ran = self.run_turns::<LOOP>(hart, left, watched);
+            left -= ran.made;
+            if let Some(status) = ran.halted {
+                return Ended {
+                    left,
+                    stop: Some(Stop::Halted(status)),
+                };
+            }
             if left == 0 {
                 return Ended {
                     left: 0,
@@ -146,7 +162,7 @@ impl<M: Memory> Debugged<M> {
             }
             left -= 1;
             let pc = self.pc(hart);
-            if let Some(stop) = stop_of(pc, self.step_or_stop(hart, watched)) {
+            if let Some(stop) = stop_of(pc, self.step_at_a_mark(hart)) {
                 return Ended {
                     left,
                     stop: Some(stop),
@@ -159,36 +175,30 @@ impl<M: Memory> Debugged<M> {
         }
     }
 
-    /// A turn of a hart off the straight path: its step, or a stop at a breakpoint instead, if that is
-    /// `watched`.
+    /// Turns of a hart, at most `count`: up to one that halts the board or finds it halted, or, if that is
+    /// `watched`, up to one at which the hart may stop. None if the hart stands at a breakpoint.
     #[inline(always)]
-    fn step_or_stop(&mut self, hart: u32, watched: bool) -> Option<Stepped>
+    #[tactic(auto, using(crate::proofs::Marking::none_at_a_mark))]
+    fn run_turns<const LOOP: u8>(&mut self, hart: u32, count: u32, watched: bool) -> HartTurns
         requires hart { hart < length self.old.guest.board.harts }
         requires watched { watched ≡ false → self.old.guest.breakpoints ≡ [] }
-        ensures guest { self.new.guest ≡ (steps hart self.old.guest).guest }
-        ensures dirty { self.new.dirty ≡ mark_all (steps hart self.old.guest).pages self.old.dirty }
-        ensures answer { step_reply (pc_of hart self.old.guest) result
-            ≡ (steps hart self.old.guest).reply }
+        ensures made { result.made ≤ count }
+        ensures stand { 0 < result.made → get_or self.old.guest.stopped hart false ≡ false }
+        ensures guest { self.new.guest ≡ gone hart result.made self.old.guest }
+        ensures dirty { self.new.dirty ≡ mark_all
+            (straight.steps result.made (machine_at hart self.old.guest.board)).pages self.old.dirty }
+        ensures stops { none_stops self.old.guest.breakpoints result.made
+            (machine_at hart self.old.guest.board) ≡ true }
+        ensures ends { ends_so result.halted result.made (machine_at hart self.old.guest.board) ≡ true }
     {
-        if self.can_stop(hart, watched) && self.stop(hart) {
-            return None;
+        let stands = self.stopped[hart as usize];
+        let most = if stands { 0 } else { count };
+        let marks = self.breakpoints.marks();
+        let ran = self.board.run::<LOOP>(hart, most, marks, watched);
+        HartTurns {
+            made: most - ran.left,
+            halted: ran.halted,
         }
-        Some(self.board.step(hart))
-    }
-
-    /// Whether a hart may stop instead of its next step: at a breakpoint only if that is `watched`.
-    #[inline(always)]
-    fn can_stop(&self, hart: u32, watched: bool) -> bool
-        requires hart { hart < length self.now.guest.board.harts }
-        requires watched { watched ≡ false → self.now.guest.breakpoints ≡ [] }
-        ensures { result ≡ false
-            → (is_in (pc_of hart self.now.guest) self.now.guest.breakpoints ≡ false)
-            × (get_or self.now.guest.stopped hart false ≡ false) }
-    {
-        if watched {
-            return self.may_stop(hart);
-        }
-        self.stopped[hart as usize]
     }
 
     /// Turns of the harts in their order.
@@ -362,12 +372,7 @@ impl<M: Memory> Debugged<M> {
         ensures breakpoints { self.new.guest.breakpoints ≡ self.old.guest.breakpoints }
         ensures stopped { self.new.guest.stopped ≡ self.old.guest.stopped }
     {
-        let marks = self.breakpoints.marks();
-        let left = self.board.run_straight::<LOOP>(hart, 1, marks, false);
-        if left == 0 {
-            return Stepped::Retired;
-        }
-        self.step_on(hart)
+        self.board.step_straight::<LOOP>(hart)
     }
 
     /// One step of a hart that cannot stop instead.

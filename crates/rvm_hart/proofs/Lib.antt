@@ -5,4 +5,5 @@ pub mod Reserved
 pub mod Whole
 pub mod Still
 pub mod Made
+pub mod Running
 mod Examples

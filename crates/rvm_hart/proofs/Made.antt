@@ -1,5 +1,5 @@
 -- Straight instructions, one after another, and the steps that make them.
-use Rattle.std.proofs.Common.{◌≡◌, ◌==◌, length, ℕ, zero, suc, ◌+◌, ◌%◌, ◌^◌, ◌<◌, ◌≤◌, Bool, true, false, ◌&&◌, cond, List, [], ◌∷◌, ◌++◌, Option, Some, None, refl, sym, ap, ◌∙◌, subst, arith, nat_le, get_or, is_some}
+use Rattle.std.proofs.Common.{◌≡◌, ◌==◌, length, ℕ, zero, suc, ◌+◌, ◌%◌, ◌^◌, ◌<◌, ◌≤◌, Bool, true, false, ◌&&◌, cond, List, [], ◌∷◌, ◌++◌, Option, Some, None, refl, sym, ap, ◌∙◌, subst, arith, nat_le, get_or, is_some, not, ◌-◌}
 use Rattle.std.proofs.lemmas.Bool.Decides.{nat_tests}
 use Rattle.std.proofs.Math.Nat.{mod-add-mod, mod-eq_of_lt}
 use Rattle.rvm_mem.specs.Pages.{mark, mark_all}
@@ -14,26 +14,26 @@ use Rattle.rvm_hart.specs.declared.outcome.Written.{Written}
 use Rattle.rvm_hart.specs.declared.outcome.Written.TheVariants.{Other, Mcycle, Minstret, Mtime, Halt}
 use Rattle.rvm_hart.specs.declared.outcome.Stepped.TheVariants.{Retired}
 use Rattle.rvm_hart.specs.Machine.{Machine, number_of, shape}
-use Rattle.rvm_hart.specs.Bus.{mip_of}
+use Rattle.rvm_hart.specs.Bus.{mip_of, ram_load}
 use Rattle.rvm_hart.specs.Outcome.{Outcome, Done, Traps, machine_after}
 use Rattle.rvm_hart.specs.Step.{After, after_outcome, execute, step, unless_halted, unless_pending}
 use Rattle.rvm_hart.specs.Marks.{passes}
-use Rattle.rvm_hart.specs.Straight.{IsQuiet, Steps, Went, all_pass, at_time, input_stays, is_other, is_plain, is_retired, is_straight, pages_of, risen, steps, timed, timed_after, went}
+use Rattle.rvm_hart.specs.Straight.{IsQuiet, Steps, Went, all_pass, at_time, input_stays, is_fetched, is_next, is_other, is_plain, is_retired, is_straight, pages_of, risen, steps, timed, timed_after, went}
 use Rattle.rvm_hart.proofs.Shape.{step_keeps}
 use Rattle.rvm_hart.proofs.Still.{Still, execute_still, timed_outcome}
 
 -- both are true
-record Both (a b : Bool) : Type 0 where
-  first : a ≡ true
-  second : b ≡ true
+pub record Both (a b : Bool) : Type 0 where
+  pub first : a ≡ true
+  pub second : b ≡ true
 
-both : (a b : Bool) → (a && b) ≡ true → Both a b
+pub both : (a b : Bool) → (a && b) ≡ true → Both a b
 both true true e = record { first = refl; second = refl }
 both true false e = absurd cc
 both false b e = absurd cc
 
 -- pages after others
-mark_more : (ps qs : List ℕ) (dirty : List Bool) → mark_all (ps ++ qs) dirty ≡ mark_all qs (mark_all ps dirty)
+pub mark_more : (ps qs : List ℕ) (dirty : List Bool) → mark_all (ps ++ qs) dirty ≡ mark_all qs (mark_all ps dirty)
 mark_more [] qs dirty = refl
 mark_more (p ∷ ps) qs dirty = mark_more ps qs (mark p dirty)
 
@@ -245,6 +245,50 @@ quiet_for n hart o m same none is far range =
 no_status : (o : Option ℕ) → is_some o ≡ false → o ≡ None
 no_status None e = refl
 no_status (Some s) e = absurd cc
+
+-- the word at which the path ended is the next step's
+next_at : (w : ℕ) (f : Option ℕ) (p : Option Interrupt) (h : Option ℕ) → f ≡ Some w → p ≡ None → h ≡ None
+    → (is_fetched w f && not (is_some p) && not (is_some h)) ≡ true
+next_at w f p h at none on = rw at (rw none (rw on (grind (arith, nat_tests))))
+
+pub next_for : (word left quiet : ℕ) (o : Option ℕ) (old x new : Machine) → (0 < word → ram_load 4 x.hart.pc x.shared.bytes ≡ Some word) → (0 < word → 0 < left) → left ≤ quiet
+    → o ≡ old.shared.devices.halted → is_some o ≡ false → IsQuiet quiet old → x.hart.csrs ≡ old.hart.csrs → x.shared.devices ≡ old.shared.devices → new ≡ timed_after (quiet - left) x x → is_next word new ≡ true
+unfolding is_next
+next_for zero left quiet o old x new at some within halted on none csrs devices timed_so = refl
+next_for (suc w) left quiet o old x new at some within halted on none csrs devices timed_so =
+    let k : ℕ = quiet - left in
+    let y : Machine = timed_after k x x in
+    let quiet_then : pending (mip_of (number_of y) y.shared.devices) y.hart.csrs ≡ None =
+    ap (λ (s : CsrState). pending (mip_of s.hart (at_time (risen k x.shared.devices.mtime) x.shared.devices)) s) csrs
+    ∙ ap (λ (v : DeviceState). pending (mip_of old.hart.csrs.hart (at_time (risen k v.mtime) v)) old.hart.csrs) devices
+    ∙ none k (omega (arith, some (omega arith), within)) in
+    let not_halted : y.shared.devices.halted ≡ None = ap (λ (v : DeviceState). v.halted) devices ∙ sym halted ∙ no_status o on in
+    ap (λ m. is_next (suc w) m) timed_so
+    ∙ next_at (suc w) (ram_load 4 y.hart.pc y.shared.bytes) (pending (mip_of (number_of y) y.shared.devices) y.hart.csrs) y.shared.devices.halted (at (omega arith)) quiet_then not_halted
+
+pub none_next : (m : Machine) → is_next 0 m ≡ true
+unfolding is_next
+none_next m = refl
+
+quiet_of : (f : Bool) (p : Option Interrupt) (h : Option ℕ) → (f && not (is_some p) && not (is_some h)) ≡ true → p ≡ None
+quiet_of f None h e = refl
+quiet_of true (Some i) h e = absurd cc
+quiet_of false (Some i) h e = absurd cc
+
+on_of : (f : Bool) (p : Option Interrupt) (h : Option ℕ) → (f && not (is_some p) && not (is_some h)) ≡ true → h ≡ None
+on_of f p None e = refl
+on_of true None (Some s) e = absurd cc
+on_of true (Some i) (Some s) e = absurd cc
+on_of false p (Some s) e = absurd cc
+
+-- where the word at pc is known, the next step is its instruction's
+pub step_next : (w : ℕ) (m : Machine) → 0 < w → is_next w m ≡ true → step m ≡ after_outcome (execute m) m
+unfolding is_next
+step_next zero m e next = absurd (omega arith)
+step_next (suc v) m e next =
+    let f : Bool = is_fetched (suc v) (ram_load 4 m.hart.pc m.shared.bytes) in
+    let p : Option Interrupt = pending (mip_of (number_of m) m.shared.devices) m.hart.csrs in
+    step_on m (on_of f p m.shared.devices.halted next) (quiet_of f p m.shared.devices.halted next)
 
 pub made_for : (w : Bool) (ms : List Bool) (n k quiet : ℕ) (o : Option ℕ) (old : Machine) (log : List Bool) (x new : Machine) (dirty left : List Bool) → n ≡ k → k ≤ quiet → o ≡ old.shared.devices.halted → is_some o ≡ false → IsQuiet quiet old
     → record { machine = x; dirty = dirty; plain = true } ≡ went w ms k old log → new ≡ timed_after k x x → left ≡ dirty → MadeSteps w ms n old log new left

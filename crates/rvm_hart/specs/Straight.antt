@@ -1,5 +1,5 @@
 -- Instructions that reach registers, RAM and reservations alone, and steps that make them.
-use Rattle.std.specs.Prelude.{◌≡◌, ◌==◌, ℕ, zero, suc, ◌+◌, ◌%◌, ◌^◌, ◌<◌, Bool, true, false, ◌&&◌, List, [], ◌++◌, length, Option, Some, None}
+use Rattle.std.specs.Prelude.{◌≡◌, ◌==◌, ℕ, zero, suc, ◌+◌, ◌%◌, ◌^◌, ◌<◌, Bool, true, false, not, ◌&&◌, is_some, List, [], ◌++◌, length, Option, Some, None}
 use Rattle.rvm_mem.specs.Pages.{mark_all}
 use Rattle.rvm_isa.specs.declared.ins.Ins.{Ins}
 use Rattle.rvm_isa.specs.declared.ins.Ins.TheVariants.{Lui, Auipc, Jal, Jalr, Beq, Bne, Blt, Bge, Bltu, Bgeu, Lb, Lh, Lw, Lbu, Lhu, Sb, Sh, Sw, Addi, Slti, Sltiu, Xori, Ori, Andi, Slli, Srli, Srai, Add, Sub, Sll, Slt, Sltu, Xor, Srl, Sra, Or, And, Mul, Mulh, Mulhsu, Mulhu, Div, Divu, Rem, Remu, Fence, FenceI, Ecall, Ebreak, Mret, Wfi, Csrrw, Csrrs, Csrrc, Csrrwi, Csrrsi, Csrrci, LrW, ScW, AmoswapW, AmoaddW, AmoxorW, AmoandW, AmoorW, AmominW, AmomaxW, AmominuW, AmomaxuW}
@@ -104,7 +104,7 @@ stays_in_ram (FenceI rd rs1 i) m = true
 stays_in_ram Ecall m = false
 stays_in_ram Ebreak m = false
 stays_in_ram Mret m = false
-stays_in_ram Wfi m = false
+stays_in_ram Wfi m = true
 stays_in_ram (Csrrw rd rs1 n) m = false
 stays_in_ram (Csrrs rd rs1 n) m = false
 stays_in_ram (Csrrc rd rs1 n) m = false
@@ -185,6 +185,19 @@ timed_after k from m = timed (risen k from.hart.csrs.mcycle) (risen k from.hart.
 abbrev pub IsQuiet : (n : ℕ) → Machine → Type 0
 IsQuiet n m =
     (k : ℕ) → k < n → pending (mip_of (number_of m) (at_time (risen k m.shared.devices.mtime) m.shared.devices)) m.hart.csrs ≡ None
+
+-- the word at an address is this one
+abbrev pub is_fetched : ℕ → Option ℕ → Bool
+is_fetched w (Some v) = v == w
+is_fetched w None = false
+
+-- the word, if it is not 0, is at pc, and the next step runs it
+unfoldable pub is_next : ℕ → Machine → Bool
+is_next zero m = true
+is_next (suc w) m =
+    is_fetched (suc w) (ram_load 4 m.hart.pc m.shared.bytes)
+    && not (is_some (pending (mip_of (number_of m) m.shared.devices) m.hart.csrs))
+    && not (is_some m.shared.devices.halted)
 
 -- the instruction of a step retired
 abbrev pub is_retired : Stepped → Bool

@@ -1,11 +1,11 @@
 //! One step of a hart.
 
-ghost use Rattle.std.specs.Prelude.{◌≡◌, ◌<◌, length, true, false};
+ghost use Rattle.std.specs.Prelude.{◌≡◌, ◌<◌, length, true, false, Some};
 ghost use Rattle.rvm_mem.specs.Pages.{mark_all};
 ghost use Rattle.rvm_csr.specs.declared.cause.Cause.TheVariants as cause;
 ghost use Rattle.rvm_csr.specs.Traps.{pending};
 ghost use Rattle.rvm_hart.specs.Machine.{machine};
-ghost use Rattle.rvm_hart.specs.Bus.{mip_of};
+ghost use Rattle.rvm_hart.specs.Bus.{mip_of, ram_load};
 ghost use Rattle.rvm_hart.specs.declared.outcome.Stepped.TheVariants.{Retired, Trapped};
 ghost use Rattle.rvm_hart.specs.Step.{Executes, execute, after_ticks, all_tick, none_retired, ticks_of, step_answer, in_handler, step};
 
@@ -13,7 +13,7 @@ use crate::bus::Bus;
 use crate::hart::Hart;
 use crate::outcome::{Stepped, Written};
 use rvm_csr::{Cause, Exception, Interrupt};
-use rvm_isa::decode;
+use rvm_isa::decode_at_end;
 use rvm_mem::Memory;
 
 impl Hart {
@@ -61,7 +61,18 @@ impl Hart {
         let Some(word) = bus.ram_load32(self.pc) else {
             return self.trap(Exception::InstructionAccessFault, self.pc, bus);
         };
-        match decode(word) {
+        self.execute_word(word, bus)
+    }
+
+    /// Runs the instruction at pc, whose word this is.
+    #[inline(always)]
+    pub(crate) fn execute_word<M: Memory>(&mut self, word: u32, bus: &mut Bus<M>) -> Stepped
+        requires reservation { self.old.csrs.hart < length bus.old.shared.reservations }
+        requires devices { self.old.csrs.hart < length bus.old.shared.devices.msip }
+        requires word { ram_load 4 self.old.pc bus.old.shared.bytes ≡ Some word }
+        ensures { Executes execute self.old bus.old self.new bus.new result }
+    {
+        match decode_at_end(word) {
             Some(ins) => self.apply(word, ins, bus),
             None => self.trap(Exception::IllegalInstruction, word, bus),
         }

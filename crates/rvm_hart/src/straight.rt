@@ -1,13 +1,13 @@
 //! The straight path: steps whose instructions reach registers, RAM and reservations alone. One loop makes them, and
 //! the counters rise once after it. `at` is the place of pc in RAM, in place of the pc that the hart keeps.
 
-ghost use Rattle.std.specs.Prelude.{◌≡◌, ◌<◌, ◌≤◌, ◌+◌, ◌%◌, ◌^◌, ◌-◌, length, true, IfNone, IfSome};
+ghost use Rattle.std.specs.Prelude.{◌≡◌, ◌<◌, ◌≤◌, ◌+◌, ◌%◌, ◌^◌, ◌-◌, length, true, IfNone, IfSome, Some};
 ghost use Rattle.rvm_word.specs.Word.{modulo};
 ghost use Rattle.rvm_hart.specs.Outcome.{done, done_with, reg};
 ghost use Rattle.rvm_hart.specs.Kinds.{arithmetic, atomic, branch, even, holds, jump, load_byte, load_half, load_reserved, load_word, store_byte, store_conditional, store_half, store_word, sum};
 ghost use Rattle.rvm_hart.specs.Rows.{effect, sign_extended_byte, sign_extended_half, zero_extended};
-ghost use Rattle.rvm_hart.specs.Straight.{Goes, IsQuiet, all_pass, at_pc, based, input_stays, is_straight, stays_in_ram, steps, timed_after, went};
-ghost use Rattle.rvm_hart.specs.Bus.{in_ram};
+ghost use Rattle.rvm_hart.specs.Straight.{Goes, IsQuiet, all_pass, at_pc, based, input_stays, is_next, is_straight, stays_in_ram, steps, timed_after, went};
+ghost use Rattle.rvm_hart.specs.Bus.{in_ram, ram_load};
 ghost use Rattle.rvm_mem.specs.Pages.{mark_all};
 ghost use Rattle.rvm_hart.specs.Step.{execute};
 ghost use Rattle.rvm_hart.specs.Machine.{machine};
@@ -22,6 +22,15 @@ use rvm_isa::{Imm12, Ins, Off13, Reg, Shamt, decode_straight};
 use rvm_mem::Memory;
 use rvm_word::{add_signed, sext};
 
+/// What steps on the straight path came to.
+#[derive(Clone, Copy)]
+pub struct Straight {
+    /// How many steps are left.
+    pub left: u32,
+    /// The word that the next step runs; 0, which is no instruction, where it is not known.
+    pub(crate) word: u32,
+}
+
 impl Hart {
     /// Makes steps on the straight path, at most `count`: up to the first that leaves the path, is interrupted, or,
     /// if `watched`, begins at a mark. Returns how many are left.
@@ -35,25 +44,33 @@ impl Hart {
         count: u32,
         marks: &Marks,
         watched: bool,
-    ) -> u32
+    ) -> Straight
         requires reservation { self.old.csrs.hart < length bus.old.shared.reservations }
         requires devices { self.old.csrs.hart < length bus.old.shared.devices.msip }
-        ensures left { result ≤ count }
+        ensures left { result.left ≤ count }
         ensures machine { machine self.new bus.new
-            ≡ (steps (count - result) (machine self.old bus.old)).machine }
+            ≡ (steps (count - result.left) (machine self.old bus.old)).machine }
         ensures dirty { bus.new.dirty
-            ≡ mark_all (steps (count - result) (machine self.old bus.old)).pages bus.old.dirty }
-        ensures retired { (steps (count - result) (machine self.old bus.old)).retired ≡ true }
-        ensures pass { all_pass watched marks.now (count - result) (machine self.old bus.old) ≡ true }
-        ensures input { input_stays (count - result) (machine self.old bus.old) ≡ true }
+            ≡ mark_all (steps (count - result.left) (machine self.old bus.old)).pages bus.old.dirty }
+        ensures retired { (steps (count - result.left) (machine self.old bus.old)).retired ≡ true }
+        ensures pass { all_pass watched marks.now (count - result.left) (machine self.old bus.old) ≡ true }
+        ensures next { is_next result.word (machine self.new bus.new) ≡ true }
+        ensures input { input_stays (count - result.left) (machine self.old bus.old) ≡ true }
     {
         if bus.halted().is_some() {
-            return count;
+            return Straight {
+                left: count,
+                word: 0,
+            };
         }
         let quiet = self.quiet_steps(bus, count);
-        let made = quiet - self.rows_straight::<M, LOOP>(bus, quiet, marks, watched);
+        let rows = self.rows_straight::<M, LOOP>(bus, quiet, marks, watched);
+        let made = quiet - rows.left;
         self.count_steps(bus, made);
-        count - made
+        Straight {
+            left: count - made,
+            word: rows.word,
+        }
     }
 
     /// The counters rise by so many steps.
@@ -91,7 +108,7 @@ impl Hart {
     }
 
     /// Runs instructions of the path, at most `count`, up to one that leaves it or is at a mark that is watched.
-    /// Returns how many are left. No counter rises.
+    /// Returns how many are left, and the word of the one that left it. No counter rises.
     #[inline(always)]
     fn rows_straight<M: Memory, const LOOP: u8>(
         &mut self,
@@ -99,29 +116,36 @@ impl Hart {
         count: u32,
         marks: &Marks,
         watched: bool,
-    ) -> u32
+    ) -> Straight
         requires { self.old.csrs.hart < length bus.old.shared.reservations }
-        ensures left { result ≤ count }
+        ensures left { result.left ≤ count }
+        ensures word { 0 < result.word → ram_load 4 self.new.pc bus.new.shared.bytes ≡ Some result.word }
+        ensures some { 0 < result.word → 0 < result.left }
         ensures went { record { machine = machine self.new bus.new; dirty = bus.new.dirty; plain = true }
-            ≡ went watched marks.now (count - result) (machine self.old bus.old) bus.old.dirty }
+            ≡ went watched marks.now (count - result.left) (machine self.old bus.old) bus.old.dirty }
         ensures csrs { self.new.csrs ≡ self.old.csrs }
         ensures devices { bus.new.shared.devices ≡ bus.old.shared.devices }
         ensures reservations { length bus.new.shared.reservations ≡ length bus.old.shared.reservations }
     {
         let mut left = count;
         let mut at = offset_of(self.pc);
+        let mut word = 0;
         while left > 0 {
             if watched && marks.has(address_of(at)) {
                 break;
             }
-            let Some(next) = self.straight::<M, LOOP>(at, bus) else {
+            let fetched = bus.ram_word(at);
+            let Some(next) = self.straight::<M, LOOP>(fetched, at, bus) else {
+                if let Some(fetched) = fetched {
+                    word = fetched;
+                }
                 break;
             };
             at = next;
             left -= 1;
         }
         self.pc = address_of(at);
-        left
+        Straight { left, word }
     }
 
     #[inline]
@@ -1030,7 +1054,7 @@ impl Hart {
                 at,
                 bus,
             ),
-            Ins::Fence { .. } | Ins::FenceI { .. } => self.straight_fence(at, bus),
+            Ins::Fence { .. } | Ins::FenceI { .. } | Ins::Wfi => self.straight_fence(at, bus),
             Ins::LrW { rd, rs1, .. } => self.straight_load_reserved(rd, self.get(rs1), at, bus),
             Ins::ScW { rd, rs1, rs2, .. } => self.straight_sc(rd, rs1, rs2, at, bus),
             Ins::AmoswapW { rd, rs1, rs2, .. } => self.straight_amo(
@@ -1067,10 +1091,16 @@ impl Hart {
         }
     }
 
-    /// Runs the instruction at `pc`, if it is one of those.
+    /// Runs the instruction at `pc`, whose word was fetched, if it is one of those.
     #[inline(always)]
-    fn straight<M: Memory, const LOOP: u8>(&mut self, at: u32, bus: &mut Bus<M>) -> Option<u32>
+    pub(crate) fn straight<M: Memory, const LOOP: u8>(
+        &mut self,
+        fetched: Option<u32>,
+        at: u32,
+        bus: &mut Bus<M>,
+    ) -> Option<u32>
         requires at { at % 4 ≡ 0 }
+        requires fetched { fetched ≡ ram_load 4 (based at) bus.old.shared.bytes }
         requires hart { self.old.csrs.hart < length bus.old.shared.reservations }
         ensures goes { IfSome result (λ next. Goes (execute) (based at) self.old bus.old (based next) self.new bus.new) }
         ensures stays { IfSome result (λ next. is_straight (machine (at_pc (based at) self.old) bus.old) ≡ true) }
@@ -1081,7 +1111,7 @@ impl Hart {
         ensures devices { bus.new.shared.devices ≡ bus.old.shared.devices }
         ensures reservations { length bus.new.shared.reservations ≡ length bus.old.shared.reservations }
     {
-        let Some(word) = bus.ram_word(at) else {
+        let Some(word) = fetched else {
             return None;
         };
         let Some(ins) = decode_straight(word) else {
@@ -1094,7 +1124,7 @@ impl Hart {
 /// The address of a place in RAM.
 #[inline(always)]
 #[tactic(auto, unfolding(crate::specs::Straight::based))]
-fn address_of(at: u32) -> u32
+pub(crate) fn address_of(at: u32) -> u32
     ensures address { result ≡ based at }
     ensures aligned { at % 4 ≡ 0 → result % 4 ≡ 0 }
 {
@@ -1104,7 +1134,7 @@ fn address_of(at: u32) -> u32
 /// The place of an address, as seen from RAM's first byte.
 #[inline(always)]
 #[tactic(auto, unfolding(crate::specs::Straight::based))]
-fn offset_of(address: u32) -> u32
+pub(crate) fn offset_of(address: u32) -> u32
     ensures address { based result ≡ address }
     ensures aligned { result % 4 ≡ address % 4 }
 {

@@ -6,6 +6,7 @@ use Rattle.rvm_hart.specs.Straight.{at_pc, based, went}
 abbrev pub invariant-loop-left : goal.invariant-loop-left
 invariant-loop-left g l =
     (l.at % 4 ≡ 0)
+    × (l.word ≡ 0)
     × (l.self.csrs ≡ l.initial.self.csrs)
     × (l.bus.shared.devices ≡ l.initial.bus.shared.devices)
     × (length l.bus.shared.reservations ≡ length l.initial.bus.shared.reservations)

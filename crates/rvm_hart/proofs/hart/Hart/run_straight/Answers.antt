@@ -2,7 +2,7 @@ use Rattle.std.proofs.Common.{ℕ, ◌-◌, sym, ap, ◌∙◌, arith}
 use Rattle.rvm_mem.specs.Pages.{mark_all}
 use Rattle.rvm_hart.specs.Machine.{machine}
 use Rattle.rvm_hart.specs.Straight.{Steps}
-use Rattle.rvm_hart.proofs.Made.{made_for, no_steps, none_input, none_pass}
+use Rattle.rvm_hart.proofs.Made.{made_for, next_for, no_steps, none_input, none_next, none_pass}
 use Rattle.rvm_hart.proofs.hart.Hart.run_straight.Goals as goal
 
 -- a halted board
@@ -29,40 +29,50 @@ returns-then-is_some-clause-input g c =
 -- all steps that were made
 pub returns-clause-machine : goal.returns-clause-machine
 returns-clause-machine g c =
-    let k : ℕ = c.quiet_steps-quiet.result - c.rows_straight.result in
+    let k : ℕ = c.quiet_steps-quiet.result - c.rows_straight-rows.result.left in
     (made_for c.args.watched c.args.marks.now (c.args.count - (c.args.count - k)) k c.quiet_steps-quiet.result c.halted.result (machine c.args.self.now c.args.bus.now) c.args.bus.now.dirty
-    (machine c.rows_straight.new.self c.rows_straight.new.bus) (machine c.count_steps.new.self c.count_steps.new.bus) c.rows_straight.new.bus.dirty c.count_steps.new.bus.dirty
+    (machine c.rows_straight-rows.new.self c.rows_straight-rows.new.bus) (machine c.count_steps.new.self c.count_steps.new.bus) c.rows_straight-rows.new.bus.dirty c.count_steps.new.bus.dirty
     (omega (arith, c.quiet_steps-quiet.ensures.within)) (omega arith) c.halted.ensures (sym c.is_some.ensures ∙ c.if-is_some.false) c.quiet_steps-quiet.ensures.quiet
-    c.rows_straight.ensures.went c.count_steps.ensures.machine c.count_steps.ensures.dirty).left
+    c.rows_straight-rows.ensures.went c.count_steps.ensures.machine c.count_steps.ensures.dirty).left
 
 pub returns-clause-dirty : goal.returns-clause-dirty
 returns-clause-dirty g c =
-    let k : ℕ = c.quiet_steps-quiet.result - c.rows_straight.result in
+    let k : ℕ = c.quiet_steps-quiet.result - c.rows_straight-rows.result.left in
     (made_for c.args.watched c.args.marks.now (c.args.count - (c.args.count - k)) k c.quiet_steps-quiet.result c.halted.result (machine c.args.self.now c.args.bus.now) c.args.bus.now.dirty
-    (machine c.rows_straight.new.self c.rows_straight.new.bus) (machine c.count_steps.new.self c.count_steps.new.bus) c.rows_straight.new.bus.dirty c.count_steps.new.bus.dirty
+    (machine c.rows_straight-rows.new.self c.rows_straight-rows.new.bus) (machine c.count_steps.new.self c.count_steps.new.bus) c.rows_straight-rows.new.bus.dirty c.count_steps.new.bus.dirty
     (omega (arith, c.quiet_steps-quiet.ensures.within)) (omega arith) c.halted.ensures (sym c.is_some.ensures ∙ c.if-is_some.false) c.quiet_steps-quiet.ensures.quiet
-    c.rows_straight.ensures.went c.count_steps.ensures.machine c.count_steps.ensures.dirty).marked
+    c.rows_straight-rows.ensures.went c.count_steps.ensures.machine c.count_steps.ensures.dirty).marked
 
 pub returns-clause-retired : goal.returns-clause-retired
 returns-clause-retired g c =
-    let k : ℕ = c.quiet_steps-quiet.result - c.rows_straight.result in
+    let k : ℕ = c.quiet_steps-quiet.result - c.rows_straight-rows.result.left in
     (made_for c.args.watched c.args.marks.now (c.args.count - (c.args.count - k)) k c.quiet_steps-quiet.result c.halted.result (machine c.args.self.now c.args.bus.now) c.args.bus.now.dirty
-    (machine c.rows_straight.new.self c.rows_straight.new.bus) (machine c.count_steps.new.self c.count_steps.new.bus) c.rows_straight.new.bus.dirty c.count_steps.new.bus.dirty
+    (machine c.rows_straight-rows.new.self c.rows_straight-rows.new.bus) (machine c.count_steps.new.self c.count_steps.new.bus) c.rows_straight-rows.new.bus.dirty c.count_steps.new.bus.dirty
     (omega (arith, c.quiet_steps-quiet.ensures.within)) (omega arith) c.halted.ensures (sym c.is_some.ensures ∙ c.if-is_some.false) c.quiet_steps-quiet.ensures.quiet
-    c.rows_straight.ensures.went c.count_steps.ensures.machine c.count_steps.ensures.dirty).retired
+    c.rows_straight-rows.ensures.went c.count_steps.ensures.machine c.count_steps.ensures.dirty).retired
 
 pub returns-clause-pass : goal.returns-clause-pass
 returns-clause-pass g c =
-    let k : ℕ = c.quiet_steps-quiet.result - c.rows_straight.result in
+    let k : ℕ = c.quiet_steps-quiet.result - c.rows_straight-rows.result.left in
     (made_for c.args.watched c.args.marks.now (c.args.count - (c.args.count - k)) k c.quiet_steps-quiet.result c.halted.result (machine c.args.self.now c.args.bus.now) c.args.bus.now.dirty
-    (machine c.rows_straight.new.self c.rows_straight.new.bus) (machine c.count_steps.new.self c.count_steps.new.bus) c.rows_straight.new.bus.dirty c.count_steps.new.bus.dirty
+    (machine c.rows_straight-rows.new.self c.rows_straight-rows.new.bus) (machine c.count_steps.new.self c.count_steps.new.bus) c.rows_straight-rows.new.bus.dirty c.count_steps.new.bus.dirty
     (omega (arith, c.quiet_steps-quiet.ensures.within)) (omega arith) c.halted.ensures (sym c.is_some.ensures ∙ c.if-is_some.false) c.quiet_steps-quiet.ensures.quiet
-    c.rows_straight.ensures.went c.count_steps.ensures.machine c.count_steps.ensures.dirty).pass
+    c.rows_straight-rows.ensures.went c.count_steps.ensures.machine c.count_steps.ensures.dirty).pass
 
 pub returns-clause-input : goal.returns-clause-input
 returns-clause-input g c =
-    let k : ℕ = c.quiet_steps-quiet.result - c.rows_straight.result in
+    let k : ℕ = c.quiet_steps-quiet.result - c.rows_straight-rows.result.left in
     (made_for c.args.watched c.args.marks.now (c.args.count - (c.args.count - k)) k c.quiet_steps-quiet.result c.halted.result (machine c.args.self.now c.args.bus.now) c.args.bus.now.dirty
-    (machine c.rows_straight.new.self c.rows_straight.new.bus) (machine c.count_steps.new.self c.count_steps.new.bus) c.rows_straight.new.bus.dirty c.count_steps.new.bus.dirty
+    (machine c.rows_straight-rows.new.self c.rows_straight-rows.new.bus) (machine c.count_steps.new.self c.count_steps.new.bus) c.rows_straight-rows.new.bus.dirty c.count_steps.new.bus.dirty
     (omega (arith, c.quiet_steps-quiet.ensures.within)) (omega arith) c.halted.ensures (sym c.is_some.ensures ∙ c.if-is_some.false) c.quiet_steps-quiet.ensures.quiet
-    c.rows_straight.ensures.went c.count_steps.ensures.machine c.count_steps.ensures.dirty).input
+    c.rows_straight-rows.ensures.went c.count_steps.ensures.machine c.count_steps.ensures.dirty).input
+
+-- the word of the next step
+pub returns-clause-next : goal.returns-clause-next
+returns-clause-next g c =
+    next_for c.rows_straight-rows.result.word c.rows_straight-rows.result.left c.quiet_steps-quiet.result c.halted.result (machine c.args.self.now c.args.bus.now) (machine c.rows_straight-rows.new.self c.rows_straight-rows.new.bus)
+    (machine c.count_steps.new.self c.count_steps.new.bus) c.rows_straight-rows.ensures.word c.rows_straight-rows.ensures.some c.rows_straight-rows.ensures.left c.halted.ensures (sym c.is_some.ensures ∙ c.if-is_some.false)
+    c.quiet_steps-quiet.ensures.quiet c.rows_straight-rows.ensures.csrs c.rows_straight-rows.ensures.devices c.count_steps.ensures.machine
+
+pub returns-then-is_some-clause-next : goal.returns-then-is_some-clause-next
+returns-then-is_some-clause-next g c = none_next (machine c.args.self.now c.args.bus.now)

@@ -1,0 +1,134 @@
+//! Steps of a hart, one after another: on the straight path as long as they can be made there, and each other one by
+//! itself.
+
+ghost use Rattle.std.specs.Prelude.{◌≡◌, ◌<◌, ◌≤◌, ◌-◌, ◌&&◌, length, true};
+ghost use Rattle.rvm_mem.specs.Pages.{mark_all};
+ghost use Rattle.rvm_hart.specs.Machine.{machine};
+ghost use Rattle.rvm_hart.specs.Marks.{is_marked};
+ghost use Rattle.rvm_hart.specs.Running.{ends_so, status_in};
+ghost use Rattle.rvm_hart.specs.Step.{step};
+ghost use Rattle.rvm_hart.specs.Straight.{all_pass, is_next, steps};
+
+use crate::bus::Bus;
+use crate::hart::Hart;
+use crate::marks::Marks;
+use crate::outcome::Stepped;
+use rvm_mem::Memory;
+
+/// What steps came to.
+#[derive(Clone, Copy)]
+pub struct Ran {
+    /// How many steps are left.
+    pub left: u32,
+    /// The status that the board is halted with, if the last step halted it or found it halted.
+    pub halted: Option<u8>,
+}
+
+impl Hart {
+    /// Makes steps, at most `count`: up to one that halts the board or finds it halted, or, if `watched`, up to a
+    /// mark. `LOOP` is the number of the caller's loop, as in `run_straight`.
+    #[inline(always)]
+    pub fn run<M: Memory, const LOOP: u8>(
+        &mut self,
+        bus: &mut Bus<M>,
+        count: u32,
+        marks: &Marks,
+        watched: bool,
+    ) -> Ran
+        requires reservation { self.old.csrs.hart < length bus.old.shared.reservations }
+        requires devices { self.old.csrs.hart < length bus.old.shared.devices.msip }
+        ensures left { result.left ≤ count }
+        ensures machine { machine self.new bus.new
+            ≡ (steps (count - result.left) (machine self.old bus.old)).machine }
+        ensures dirty { bus.new.dirty
+            ≡ mark_all (steps (count - result.left) (machine self.old bus.old)).pages bus.old.dirty }
+        ensures pass { all_pass watched marks.now (count - result.left) (machine self.old bus.old)
+            ≡ true }
+        ensures ends { ends_so result.halted (count - result.left) (machine self.old bus.old) ≡ true }
+    {
+        let mut left = count;
+        while left > 0 {
+            let straight = self.run_straight::<M, LOOP>(bus, left, marks, watched);
+            left = straight.left;
+            if left == 0 {
+                return Ran { left, halted: None };
+            }
+            if self.is_at_mark(marks, watched) {
+                return Ran { left, halted: None };
+            }
+            left -= 1;
+            let halted = status_in(self.step_with(straight.word, bus));
+            if halted.is_some() {
+                return Ran { left, halted };
+            }
+        }
+        Ran {
+            left: 0,
+            halted: None,
+        }
+    }
+
+    /// Whether the hart is at a mark that is watched.
+    #[inline(always)]
+    fn is_at_mark(&self, marks: &Marks, watched: bool) -> bool
+        ensures { result ≡ (watched && is_marked self.now.pc marks.now) }
+    {
+        watched && marks.has(self.pc)
+    }
+
+    /// One step, by the word at which the straight path ended, if it is known.
+    #[inline(always)]
+    #[tactic(auto, unfolding(crate::specs::Straight::is_next))]
+    fn step_with<M: Memory>(&mut self, word: u32, bus: &mut Bus<M>) -> Stepped
+        requires reservation { self.old.csrs.hart < length bus.old.shared.reservations }
+        requires devices { self.old.csrs.hart < length bus.old.shared.devices.msip }
+        requires next { is_next word (machine self.old bus.old) ≡ true }
+        ensures machine { machine self.new bus.new ≡ (step (machine self.old bus.old)).machine }
+        ensures dirty { bus.new.dirty
+            ≡ mark_all (step (machine self.old bus.old)).pages bus.old.dirty }
+        ensures answer { result ≡ (step (machine self.old bus.old)).answer }
+    {
+        if word == 0 {
+            return self.step_apart(bus);
+        }
+        self.execute_word(word, bus)
+    }
+
+    /// The same step as `step`, on the straight path if it can be made there: for a hart that makes one at a time.
+    #[inline(always)]
+    pub fn step_straight<M: Memory, const LOOP: u8>(&mut self, bus: &mut Bus<M>) -> Stepped
+        requires reservation { self.old.csrs.hart < length bus.old.shared.reservations }
+        requires devices { self.old.csrs.hart < length bus.old.shared.devices.msip }
+        ensures machine { machine self.new bus.new ≡ (step (machine self.old bus.old)).machine }
+        ensures dirty { bus.new.dirty
+            ≡ mark_all (step (machine self.old bus.old)).pages bus.old.dirty }
+        ensures answer { result ≡ (step (machine self.old bus.old)).answer }
+    {
+        self.step(bus)
+    }
+
+    /// A step whose word is not known, which is rare.
+    #[cold]
+    #[inline(never)]
+    fn step_apart<M: Memory>(&mut self, bus: &mut Bus<M>) -> Stepped
+        requires reservation { self.old.csrs.hart < length bus.old.shared.reservations }
+        requires devices { self.old.csrs.hart < length bus.old.shared.devices.msip }
+        ensures machine { machine self.new bus.new ≡ (step (machine self.old bus.old)).machine }
+        ensures dirty { bus.new.dirty
+            ≡ mark_all (step (machine self.old bus.old)).pages bus.old.dirty }
+        ensures answer { result ≡ (step (machine self.old bus.old)).answer }
+    {
+        self.step(bus)
+    }
+}
+
+/// The status that a step answered, if it halted the board or found it halted.
+#[inline(always)]
+fn status_in(answer: Stepped) -> Option<u8>
+    ensures { result ≡ status_in answer }
+{
+    match answer {
+        Stepped::Halted(status) => Some(status),
+        _ => None,
+    }
+}
