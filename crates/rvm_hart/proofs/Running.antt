@@ -148,9 +148,9 @@ plain_executes (Done after pages (Halt s)) m plain = absurd cc
 plain_executes (Traps e v) m plain = absurd cc
 
 -- an instruction of the straight path, and the end of its step
-pub goes_executes : (pc : ℕ) (old : HartState) (bus : BusState) (next : ℕ) (new : HartState) (new_bus : BusState) (left : HartState) (left_bus : BusState) → pc ≡ old.pc → Goes execute pc old bus next new new_bus
-    → machine left left_bus ≡ after_ticks all_tick (machine (at_pc next new) new_bus) → left_bus.dirty ≡ new_bus.dirty → Executes execute old bus left left_bus Retired
-goes_executes pc old bus next new new_bus left left_bus at goes ticked marked =
+pub goes_executes : (pc : ℕ) (old : HartState) (bus : BusState) (next : ℕ) (new : HartState) (new_bus : BusState) (left : HartState) (left_bus : BusState) (said : Stepped) → pc ≡ old.pc → Goes execute pc old bus next new new_bus
+    → machine left left_bus ≡ after_ticks all_tick (machine (at_pc next new) new_bus) → left_bus.dirty ≡ new_bus.dirty → said ≡ Retired → Executes execute old bus left left_bus said
+goes_executes pc old bus next new new_bus left left_bus said at goes ticked marked told =
     let m : Machine = machine old bus in
     let here : machine (at_pc pc old) bus ≡ m = ap (λ n. machine (at_pc n old) bus) at in
     let plain : is_plain (execute m) ≡ true = ap (λ x. is_plain (execute x)) (sym here) ∙ goes.plain in
@@ -158,5 +158,5 @@ goes_executes pc old bus next new new_bus left left_bus at goes ticked marked =
     record {
       left = ticked ∙ ap (after_ticks all_tick) (sym goes.left ∙ ap (λ x. machine_after (execute x) x) here) ∙ sym (ap (λ (a : After). a.machine) after);
       dirty = marked ∙ goes.dirty ∙ ap (λ x. mark_all (pages_of (execute x)) bus.dirty) here ∙ sym (ap (λ (a : After). mark_all a.pages bus.dirty) after);
-      answer = sym (ap (λ (a : After). a.answer) after);
+      answer = told ∙ sym (ap (λ (a : After). a.answer) after);
     }

@@ -1,18 +1,21 @@
 //! Steps of a hart, one after another: on the straight path as long as they can be made there, and each other one by
 //! itself.
 
-ghost use Rattle.std.specs.Prelude.{◌≡◌, ◌<◌, ◌≤◌, ◌-◌, ◌&&◌, length, true};
+ghost use Rattle.std.specs.Prelude.{◌≡◌, ◌<◌, ◌≤◌, ◌-◌, ◌&&◌, ◌%◌, length, true};
 ghost use Rattle.rvm_mem.specs.Pages.{mark_all};
 ghost use Rattle.rvm_hart.specs.Machine.{machine};
 ghost use Rattle.rvm_hart.specs.Marks.{is_marked};
 ghost use Rattle.rvm_hart.specs.Running.{ends_so, status_in};
-ghost use Rattle.rvm_hart.specs.Step.{step};
-ghost use Rattle.rvm_hart.specs.Straight.{all_pass, is_next, steps};
+ghost use Rattle.rvm_hart.specs.declared.outcome.Stepped.TheVariants.{Retired};
+ghost use Rattle.rvm_hart.specs.Step.{Executes, after_ticks, all_tick, execute, step};
+ghost use Rattle.rvm_hart.specs.Straight.{all_pass, at_pc, based, is_next, steps};
 
 use crate::bus::Bus;
 use crate::hart::Hart;
 use crate::marks::Marks;
 use crate::outcome::Stepped;
+use crate::straight::{address_of, offset_of};
+use rvm_csr::{Cause, Exception};
 use rvm_mem::Memory;
 
 /// What steps came to.
@@ -104,7 +107,46 @@ impl Hart {
             ≡ mark_all (step (machine self.old bus.old)).pages bus.old.dirty }
         ensures answer { result ≡ (step (machine self.old bus.old)).answer }
     {
-        self.step(bus)
+        if let Some(status) = bus.halted() {
+            return Stepped::Halted(status);
+        }
+        if let Some(interrupt) = self.pending(bus) {
+            self.enter(Cause::Interrupt(interrupt), 0, bus);
+            return Stepped::Interrupted(interrupt);
+        }
+        self.execute_straight::<M, LOOP>(bus)
+    }
+
+    /// Runs the instruction at pc, on the straight path if it can be made there.
+    #[inline(always)]
+    fn execute_straight<M: Memory, const LOOP: u8>(&mut self, bus: &mut Bus<M>) -> Stepped
+        requires reservation { self.old.csrs.hart < length bus.old.shared.reservations }
+        requires devices { self.old.csrs.hart < length bus.old.shared.devices.msip }
+        ensures { Executes execute self.old bus.old self.new bus.new result }
+    {
+        let pc = self.pc;
+        let at = offset_of(pc);
+        let fetched = bus.ram_word(at);
+        let Some(word) = fetched else {
+            return self.trap(Exception::InstructionAccessFault, pc, bus);
+        };
+        if let Some(next) = self.straight::<M, LOOP>(fetched, at, bus) {
+            return self.end_straight(next, bus);
+        }
+        self.execute_word(word, bus)
+    }
+
+    /// Ends the step of an instruction of the straight path, after which the hart is at this place.
+    #[inline(always)]
+    fn end_straight<M: Memory>(&mut self, next: u32, bus: &mut Bus<M>) -> Stepped
+        requires { next % 4 ≡ 0 }
+        ensures machine { machine self.new bus.new
+            ≡ after_ticks all_tick (machine (at_pc (based next) self.old) bus.old) }
+        ensures dirty { bus.new.dirty ≡ bus.old.dirty }
+        ensures answer { result ≡ Retired }
+    {
+        self.pc = address_of(next);
+        self.retire(bus)
     }
 
     /// A step whose word is not known, which is rare.

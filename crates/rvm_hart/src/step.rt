@@ -132,7 +132,7 @@ impl Hart {
     /// Enters a trap, and ends the step.
     #[cold]
     #[inline(never)]
-    fn enter<M: Memory>(&mut self, cause: Cause, value: u32, bus: &mut Bus<M>)
+    pub(crate) fn enter<M: Memory>(&mut self, cause: Cause, value: u32, bus: &mut Bus<M>)
         ensures machine { machine self.new bus.new
             ≡ after_ticks none_retired (in_handler cause value (machine self.old bus.old)) }
         ensures dirty { bus.new.dirty ≡ bus.old.dirty }
