@@ -28,7 +28,7 @@ fn read(
     }
 }
 
-/// The first 200 of these bytes, some of them changed, and others behind them.
+/// The first 200 of these bytes, some of them changed, and others after them.
 fn changed(
     alloc: Global,
     bytes: &[u8],

@@ -1,8 +1,8 @@
 //! `rvm_cases FILE..`: makes transcripts of `rvmove` anew. A line `$ rvmove WORDS..` of a FILE is a
-//! command; on standard input it gets the file behind `<`, or else the lines `> TEXT` below it. Behind
+//! command; on standard input it gets the file after `<`, or else the lines `> TEXT` below it. After
 //! it stand what it wrote to standard output and to standard error, and a status other than 0. What goes to a file
-//! behind ` > ` or ` 2> ` is written there instead. Each command is done over both memories of a guest, and a line
-//! behind it says so where they differ in what is printed. Two more commands look at such a file:
+//! after ` > ` or ` 2> ` is written there instead. Each command is done over both memories of a guest, and a line
+//! after it says so where they differ in what is printed. Two more commands look at such a file:
 //! `$ grep -c WORD FILE` prints how many lines of it contain the word, and `$ drained FILE` prints the bytes of its
 //! lines `out N HEX`. All other lines are as they were.
 #![tactic(auto)]
@@ -28,7 +28,7 @@ fn main(rt: HostRuntime) -> anyhow::Result<()> {
     Ok(())
 }
 
-/// Prints each line of a transcript, and behind each command what it answers.
+/// Prints each line of a transcript, and after each command what it answers.
 fn replay<R: Files + AllocGlobal + Print + Net + Threads + Wait + Clock + Sync>(
     rt: &R,
     transcript: &str,

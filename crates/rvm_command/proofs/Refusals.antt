@@ -53,7 +53,7 @@ appends_kept (Some x) (Some y) (Some z) bs h k = k ∙ h
 still_kept : (a b c : Option (List ℕ)) → b ≡ a → Keeps b c → Keeps a c
 still_kept a b c e k = subst (λ (o : Option (List ℕ)). Keeps o c) e k
 
--- a script that was told, behind what the writer held back
+-- a script that was told, after what the writer held back
 ended_told : (s : List ℕ) (answered : Result (Unit {0}) ScriptError) (old new : GuestState) (before mid after : Option (List ℕ))
     → IsRun answered (lines s) old new before mid
     → (answered ≡ Err script.TooLong → 2 ^ 26 < length s)

@@ -78,7 +78,7 @@ on_err (Err e) P p = p
 
 -- ---- events after others
 
--- what events come to, and others behind them
+-- what events come to, and others after them
 abbrev joined : After → After → After
 joined a b = record { guest = b.guest; pages = a.pages ++ b.pages; bytes = a.bytes ++ b.bytes }
 
@@ -262,7 +262,7 @@ drained_bytes count size old whole is_least =
     let sent = old.guest.board.shared.devices.output in
     ap (λ n. take n sent) (is_least ∙ ap (λ k. min k (length sent)) whole) ∙ take_min 256 sent ∙ ap (λ (x : After). x.bytes) (sym (after_one (Drain 256) old.guest))
 
--- a drain, and those behind it
+-- a drain, and those after it
 left_by : (old new : GuestState) → IsAfter (Drain 256 ∷ []) old new → new.guest ≡ (answered (Drain 256) old.guest).guest
 left_by old new made = made.guest ∙ ap (λ (x : After). x.guest) (after_one (Drain 256) old.guest)
 
@@ -368,11 +368,11 @@ after_step h g there =
     after_one (Step h) g ∙ ap of_one (there_steps h g there)
     ∙ ap (λ (l : List ℕ). record { guest = (steps h g).guest; pages = (steps h g).pages; bytes = l }) (quiet_halted g.board.shared.devices.halted h g)
 
--- n turns from turn t on, behind a drain or not
+-- n turns from turn t on, after a drain or not
 abbrev behind_drain : Bool → (n t : ℕ) → (input : List ℕ) → Guest → Run
 behind_drain drain n t input g = let taken = cond drain (drains g) [] in first taken (run_from n t input (after taken g).guest)
 
--- the run behind the offer of turn t: hart h steps, and n turns follow
+-- the run after the offer of turn t: hart h steps, and n turns follow
 abbrev stepping : (n t h : ℕ) → (input : List ℕ) → Answered → Run
 stepping n t h input s = first (Step h ∷ []) (unless_halted s.reply s.guest (behind_drain (nat_eq (t % 64) 63) n (t + 1) input s.guest))
 
@@ -389,7 +389,7 @@ pub record IsSlice (run rest : Run) (g : Guest) (t : AfterTurns) : Type 0 where
   pub whole : run ≡ first events rest
   pub made : after events g ≡ of_turns t
 
--- the rest of a run behind turns
+-- the rest of a run after turns
 abbrev behind_turns : AfterTurns → (m t : ℕ) → (input : List ℕ) → Run
 behind_turns r m t input = rest_of_run (status_of r.stop) m (t + r.made) input r.guest
 
@@ -400,7 +400,7 @@ no_more n m t input g e =
 no_slice : (n m t : ℕ) (input : List ℕ) (s : Answered) → n ≡ m → IsSlice (behind_drain (nat_eq (t % 64) 63) n (t + 1) input s.guest) (behind_turns (behind s.pages 1 (no_turns s.guest)) m t input) s.guest (no_turns s.guest)
 no_slice n m t input s e = record { events = []; whole = no_more n m t input s.guest e; made = after_none s.guest }
 
--- a turn, and those behind it
+-- a turn, and those after it
 slice_more : (h n m t : ℕ) (input : List ℕ) (g : Guest) (s : Answered) (others : AfterTurns) → after (Step h ∷ []) g ≡ record { guest = s.guest; pages = s.pages; bytes = [] }
     → IsSlice (behind_drain (nat_eq (t % 64) 63) n (t + 1) input s.guest) (behind_turns (behind s.pages 1 others) m t input) s.guest others
     → IsSlice (first (Step h ∷ []) (behind_drain (nat_eq (t % 64) 63) n (t + 1) input s.guest)) (behind_turns (behind s.pages 1 others) m t input) g (behind s.pages 1 others)
@@ -428,7 +428,7 @@ slice_cases (reply.Regs values) h n m t input g s others one e rest = slice_more
 slice_cases (reply.Line a word) h n m t input g s others one e rest = slice_more h n m t input g s others one (rest (omega (arith, e)))
 slice_cases (reply.Refused why) h n m t input g s others one e rest = slice_more h n m t input g s others one (rest (omega (arith, e)))
 
--- the turns behind one that did not end them, of which more may be made
+-- the turns after one that did not end them, of which more may be made
 abbrev SlicesOf : (Guest → Bool) → ℕ → Type 0
 SlicesOf is_so k =
     (n m t h : ℕ) (input : List ℕ) (g : Guest) → h < length g.board.harts → h ≡ t % length g.board.harts → t % 64 + suc k ≤ 64 → suc n ≡ (turns_while is_so (suc k) h g).made + m → ((g : Guest) → is_so g ≡ true → IsIdle input g)
@@ -491,7 +491,7 @@ slices_of is_so (suc k) n m t h input g there turn inside e quiet =
     let others : AfterTurns = cond (is_so s.guest) (turns_while is_so (suc k) ((h + 1) % length g.board.harts) s.guest) (no_turns s.guest) in
     rw (there_steps h g there) (slice_cases s.reply h n m t input g s others (after_step h g there) e (turns_or_none is_so k (is_so s.guest) n m t h input g (slices_of is_so k) there turn inside quiet refl))
 
--- a byte that is offered and turns, of which at most the last is one behind which is drained
+-- a byte that is offered and turns, of which at most the last is one after which is drained
 pub slice_from : (is_so : Guest → Bool) (count n t h made : ℕ) (input rest : List ℕ) (status : Option ℕ) (old mid new : GuestState) (told : Turns) → 0 < count → count ≤ n → t % 64 + count ≤ 64 → 0 < length mid.guest.board.harts → h ≡ t % length mid.guest.board.harts
     → IsAfter (offers input) old mid → rest ≡ left input old.guest → ((g : Guest) → is_so g ≡ true → IsIdle rest g) → TakesTurns (turns_while is_so count h mid.guest) mid new told → made ≡ told.made → status ≡ status_of told.stop
     → GoesOn (run_from n t input old.guest) (rest_of_run status (n - made) (t + made) rest new.guest) old new
@@ -563,7 +563,7 @@ slice_behind {all} {run} {rest} {start} {old} {new} {held} {left} {before} {writ
 pub slice_ended : {run rest : Run} {old new : GuestState} (whole : Ended) → GoesOn run rest old new → run.ended ≡ whole → rest.ended ≡ whole
 slice_ended whole slice same = sym (ap (λ (r : Run). r.ended) slice.whole) ∙ same
 
--- the last drains, behind which nothing is held
+-- the last drains, after which nothing is held
 pub record Finished (all : List BoardEvent) (end whole : Ended) (start new : GuestState) (before written : Option (List ℕ)) : Type 0 where
   pub made : IsAfter all start new
   pub text : Appends before written (after all start.guest).bytes

@@ -48,7 +48,7 @@ abbrev pub refused_text : Refused → List ℕ
 refused_text r = at_line r.line ++ text_of r.refusal
 
 -- the lines of the words of bytes that stand from an address on, which is a multiple of four; what
--- is left behind the last whole word has no line
+-- is left after the last whole word has no line
 unfoldable pub word_lines : (address : ℕ) → List ℕ → List ℕ
 word_lines a (b0 ∷ b1 ∷ b2 ∷ b3 ∷ rest) =
     line_at a (little_number 4 (b0 ∷ b1 ∷ b2 ∷ b3 ∷ [])) ++ codes "\n"

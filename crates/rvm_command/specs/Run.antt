@@ -71,7 +71,7 @@ unless_halted (Halted s) g rest = record { events = drains g; ended = ended.Halt
 unless_halted reply g rest = rest
 
 -- n turns from turn t on: the next byte is offered, and a hart steps; what the guest sent is taken
--- behind each 64 turns, at a halt and at the end
+-- after each 64 turns, at a halt and at the end
 unfoldable pub run_from : (n t : ℕ) → (input : List ℕ) → Guest → Run
 run_from zero t input g = record { events = drains g; ended = ended.StepsSpent }
 run_from (suc n) t input g =

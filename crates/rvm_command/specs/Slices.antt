@@ -18,14 +18,14 @@ status_of (Some (Halted s)) = Some s
 status_of (Some (Break a)) = None
 status_of None = None
 
--- the rest of a run, n turns from turn t on, behind turns that left this guest
+-- the rest of a run, n turns from turn t on, after turns that left this guest
 abbrev pub rest_of_run : (halted : Option ℕ) → (n t : ℕ) → (input : List ℕ) → Guest → Run
 rest_of_run (Some s) n t input g = record { events = drains g; ended = HaltedWith s }
 rest_of_run None n t input g =
     let taken = if t % 64 == 0 then drains g else [] in
     first taken (run_from n t input (after taken g).guest)
 
--- a run goes on so behind events that led a guest from one state to another and were answered no bytes
+-- a run goes on so after events that led a guest from one state to another and were answered no bytes
 pub record GoesOn (run rest : Run) (old new : GuestState) : Type 0 where
   pub events : List BoardEvent
   pub whole : run ≡ first events rest

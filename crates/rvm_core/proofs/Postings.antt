@@ -27,7 +27,7 @@ use Rattle.rvm_core.specs.Hosts.{PlainHost, Steps, is_sized, is_spoken, step_of}
 use Rattle.rvm_core.specs.Modes.{mode_of}
 use Rattle.rvm_core.proofs.Moves.{Goes, host_reaches}
 
--- behind Hello the version is known
+-- after Hello the version is known
 known : (version : ℕ) (k : Kind) → stands (Some version) k ≡ true
     → (if byte_of k == 0 then None else Some version) ≡ Some version
 known version kind.Hello is = absurd cc

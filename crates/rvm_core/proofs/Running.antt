@@ -23,7 +23,7 @@ use Rattle.rvm_source.specs.declared.phase.Phase.{Phase}
 use Rattle.rvm_source.specs.declared.phase.Phase.TheVariants as phases
 use Rattle.rvm_core.specs.Modes.{PlainMode, Run, Leaving, mode_of}
 
--- a guest and its dirty log behind turns, and behind a step of a hart
+-- a guest and its dirty log after turns, and after a step of a hart
 abbrev pub behind_turns : AfterTurns → GuestState → GuestState
 behind_turns t g = record { guest = t.guest; dirty = mark_all t.pages g.dirty }
 

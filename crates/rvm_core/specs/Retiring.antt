@@ -24,7 +24,7 @@ AreRetired harts zero turn old new = new ≡ old
 AreRetired harts (suc n) turn old new =
     (between : PlainHost) × (IsStep (turn % harts) Retired old between) × AreRetired harts n (turn + 1) between new
 
--- what a step of hart h behind them did, if one was made
+-- what a step of hart h after them did, if one was made
 abbrev pub IsLast : (h : ℕ) → Option Stepped → (old new : PlainHost) → Type 0
 IsLast h None old new = new ≡ old
 IsLast h (Some s) old new = IsStep h s old new

@@ -116,7 +116,7 @@ begin_straight (suc k) n h g inside stand stops retired =
     ∙ behind_both s.pages a.pages k 1 (after_turns Alone n h turn.guest)
     ∙ ap (λ (i : ℕ). behind (s.pages ++ a.pages) i (after_turns Alone n h turn.guest)) (omega arith)
 
--- and go on behind others
+-- and go on after others
 pub goes_straight : {all : AfterTurns} {first : List Bool} (n k m h made made' : ℕ) (old new : GuestState) → Turning all (after_turns Alone n h old.guest) made first old.dirty → n ≡ k + m → made' ≡ made + k
     → h < length old.guest.board.harts → (0 < k → get_or old.guest.stopped h false ≡ false) → none_stops old.guest.breakpoints k (machine_at h old.guest.board) ≡ true
     → (straight.steps k (machine_at h old.guest.board)).retired ≡ true

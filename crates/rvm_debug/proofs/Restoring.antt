@@ -54,7 +54,7 @@ ends harts i g old le so_far =
 
 -- ALL HARTS
 
--- the values of a list before a place, and others behind them
+-- the values of a list before a place, and others after them
 abbrev filled : {X : Type 0} → ℕ → List X → List X → List X
 filled h xs ys = take h xs ++ ys
 

@@ -91,7 +91,7 @@ logged harts turn count old new told are =
 pub next_of_one : (turn : ℕ) → 0 ≡ turn % 1
 next_of_one turn = let less = mod-lt turn {m = 1} (omega arith) in omega (arith, less)
 
--- the hart behind one
+-- the hart after one
 pub next_of : (harts turn n h : ℕ) → h ≡ (turn + n) % harts → (h + 1) % harts ≡ (turn + suc n) % harts
 next_of harts turn n h is =
     let one : turn + n + 1 ≡ turn + suc n = omega arith in

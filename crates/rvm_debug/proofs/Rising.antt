@@ -70,7 +70,7 @@ or_false : (e o : Bool) → (e || o) ≡ false → (e ≡ false) × (o ≡ false
 or_false false o h = (refl, h)
 or_false true o h = absurd cc
 
--- an address that is not in a rising list, put behind those that are below it
+-- an address that is not in a rising list, put after those that are below it
 pub inserted : (a : ℕ) (bs : List ℕ) → AreRising bs → is_in a bs ≡ false → insert bs (count_below a bs) a ≡ with a bs
 inserted a [] rising new = refl
 inserted a (b ∷ bs) rising new =
@@ -138,7 +138,7 @@ other b a h = grind (arith, h)
 lt_not : (b a : ℕ) → nat_lt b a ≡ false → a ≤ b
 lt_not b a h = grind (arith, h)
 
--- an address that is the head, or behind it
+-- an address that is the head, or after it
 remove_head : (a b : ℕ) (bs : List ℕ) (t e : Bool) → nat_lt b a ≡ t → (b == a) ≡ e → (e || is_in a bs) ≡ true
     → AreAbove b bs → (is_in a bs ≡ true → remove bs (count_below a bs) ≡ without a bs)
     → remove (b ∷ bs) (cond t (suc (count_below a bs)) (count_below a bs)) ≡ cond (not e) (b ∷ without a bs) (without a bs)
@@ -149,7 +149,7 @@ remove_head a b bs false true p q there h more =
     rw (none_below a bs over) (sym (all_others a bs over))
 remove_head a b bs false false p q there h more = absurd (not_in a bs (above_less a b bs (omega (arith, lt_not b a p, other b a q)) h) there)
 
--- an address of a rising list, taken out from behind those that are below it
+-- an address of a rising list, taken out from after those that are below it
 pub removed : (a : ℕ) (bs : List ℕ) → AreRising bs → is_in a bs ≡ true → remove bs (count_below a bs) ≡ without a bs
 removed a [] rising there = absurd cc
 removed a (b ∷ bs) rising there =

@@ -81,7 +81,7 @@ pub one_more : (order : Order) (n m h : ℕ) (g : Guest) → n ≡ suc m → aft
 unfolding after_turns
 one_more order n m h g e = rw e refl
 
--- behind turns that are behind others
+-- after turns that are after others
 pub behind_both : (ps qs : List ℕ) (made more : ℕ) (t : AfterTurns) → behind ps made (behind qs more t) ≡ behind (ps ++ qs) (made + more) t
 behind_both ps qs made more t =
     ap (λ l. record t { pages = l; made = made + (more + t.made) }) (sym (append_assoc ps qs t.pages))
@@ -176,7 +176,7 @@ ended_early n (suc k) m h g e stopped =
     one_more RoundRobin n (k + m) h g (omega (arith, e))
     ∙ stopped_cases (stop_in turn.reply) turn (after_turns RoundRobin (k + m) next turn.guest) (after_turns RoundRobin k next turn.guest) (ended_early (k + m) k m next turn.guest refl) stopped
 
--- turns of which the first ones were all made go on behind them
+-- turns of which the first ones were all made go on after them
 made_cases : (x : Option Stop) (turn : Answered) (all some : AfterTurns) (k : ℕ) (others : Guest → AfterTurns) → (is_some some.stop ≡ false → all ≡ behind some.pages k (others some.guest)) → is_some (unless_stopped x turn some).stop ≡ false
     → unless_stopped x turn all ≡ behind (unless_stopped x turn some).pages (suc k) (others (unless_stopped x turn some).guest)
 made_cases None turn all some k others same made =
@@ -203,7 +203,7 @@ all_were_made harts n (suc k) m h g size e below made =
     ∙ made_cases (stop_in turn.reply) turn (after_turns RoundRobin (k + m) next turn.guest) some k others
     (λ q. all_were_made harts (k + m) k m next turn.guest (steps_count h g ∙ size) refl within q ∙ ap (λ i. behind some.pages k (after_turns RoundRobin m i some.guest)) there) made
 
--- behind the last hart comes hart 0
+-- after the last hart comes hart 0
 from_first : (m i harts : ℕ) (g : Guest) → (0 < m → i ≡ harts) → after_turns RoundRobin m (i % harts) g ≡ after_turns RoundRobin m 0 g
 from_first zero i harts g last = none_from RoundRobin 0 (i % harts) 0 g refl
 from_first (suc m) i harts g last = ap (λ j. after_turns RoundRobin (suc m) (j % harts) g) (last (omega arith)) ∙ ap (λ j. after_turns RoundRobin (suc m) j g) (mod_self harts)

@@ -17,7 +17,7 @@ behind_none t = ap (λ (k : ℕ). record t { made = k }) (omega arith)
 abbrev next : ℕ → Guest → ℕ
 next h g = (h + 1) % length g.board.harts
 
--- the turns behind one that did not end them
+-- the turns after one that did not end them
 abbrev others : (Guest → Bool) → (n h : ℕ) → Guest → AfterTurns
 others is_so n h g = cond (is_so (steps h g).guest) (turns_while is_so n (next h g) (steps h g).guest) (no_turns (steps h g).guest)
 
@@ -25,7 +25,7 @@ one_turn : (is_so : Guest → Bool) (n m h : ℕ) (g : Guest) → n ≡ suc m �
 unfolding turns_while
 one_turn is_so n m h g e = rw e refl
 
--- a turn that did not end them, and those behind it
+-- a turn that did not end them, and those after it
 on : (is_so : Guest → Bool) (n m h : ℕ) (g : Guest) (o : Bool) → n ≡ suc m → stop_in (steps h g).reply ≡ None → is_so (steps h g).guest ≡ o
     → turns_while is_so n h g ≡ behind (steps h g).pages 1 (cond o (turns_while is_so m (next h g) (steps h g).guest) (no_turns (steps h g).guest))
 on is_so n m h g o more goes room =
@@ -36,7 +36,7 @@ on is_so n m h g o more goes room =
 pub starts_while : (is_so : Guest → Bool) (n made h : ℕ) (g : Guest) (dirty : List Bool) → made ≡ 0 → Turning (turns_while is_so n h g) (turns_while is_so n h g) made dirty dirty
 starts_while is_so n made h g dirty e = record { pages = []; log = refl; whole = ap (λ k. behind [] k (turns_while is_so n h g)) e ∙ behind_none (turns_while is_so n h g) }
 
--- a turn behind which the guest is so
+-- a turn after which the guest is so
 pub goes_while : {all : AfterTurns} {first dirty : List Bool} (is_so : Guest → Bool) (n m h h' made made' : ℕ) (g g' : Guest) (dirty' : List Bool) → Turning all (turns_while is_so n h g) made first dirty → n ≡ suc m → made' ≡ made + 1
     → stop_in (steps h g).reply ≡ None → is_so g' ≡ true → h' ≡ next h g → g' ≡ (steps h g).guest → dirty' ≡ mark_all (steps h g).pages dirty
     → Turning all (turns_while is_so m h' g') made' first dirty'
@@ -55,7 +55,7 @@ goes_while {all} {first} {dirty} is_so n m h h' made made' g g' dirty' so_far mo
           ∙ so_far.whole;
     }
 
--- what stands behind turns of which this is the last
+-- what stands after turns of which this is the last
 last_turn : {all : AfterTurns} {dirty : List Bool} (t last : AfterTurns) (made made' : ℕ) (old new : GuestState) (told : Turns) → Turning all t made old.dirty dirty → t ≡ last → last.made ≡ 1 → made' ≡ made + 1
     → new.guest ≡ last.guest → new.dirty ≡ mark_all last.pages dirty → told ≡ record { made = made'; stop = last.stop }
     → TakesTurns all old new told
@@ -74,7 +74,7 @@ stops_while {all} {dirty} is_so n m h made made' g s old new told so_far more co
     (one_turn is_so n m h g more ∙ ap (λ (x : Option Stop). unless_stopped x turn (others is_so m h g)) stop)
     refl counted left marked said
 
--- the turn behind which the guest is not so
+-- the turn after which the guest is not so
 pub ends_while : {all : AfterTurns} {dirty : List Bool} (is_so : Guest → Bool) (n m h made made' : ℕ) (g : Guest) (old new : GuestState) (told : Turns) → Turning all (turns_while is_so n h g) made old.dirty dirty → n ≡ suc m → made' ≡ made + 1
     → stop_in (steps h g).reply ≡ None → is_so new.guest ≡ false → new.guest ≡ (steps h g).guest → new.dirty ≡ mark_all (steps h g).pages dirty → told ≡ record { made = made'; stop = None }
     → TakesTurns all old new told
@@ -94,7 +94,7 @@ all_while {all} is_so n h made count old new told so_far none counted said =
     ended all (no_turns new.guest) so_far.pages made old.dirty new.dirty new.dirty new.guest old new told (ap (behind so_far.pages made) (sym (none_while is_so n h new.guest none)) ∙ so_far.whole) so_far.log refl refl refl refl
     (ap (λ (t : Turns). t.made) said ∙ counted ∙ no_more made) (ap (λ (t : Turns). t.stop) said)
 
--- turns behind each of which the guest is as it likes are just turns
+-- turns after each of which the guest is as it likes are just turns
 pub as_they_are : (n h : ℕ) (g : Guest) → after_turns RoundRobin n h g ≡ turns_while (λ any. true) n h g
 unfolding after_turns turns_while
 as_they_are zero h g = refl

@@ -7,7 +7,7 @@ use Rattle.rvm_debug.specs.declared.retiring.Retired.{Retired}
 use Rattle.rvm_debug.specs.Guest.{GuestState}
 use Rattle.rvm_debug.specs.Events.{reply_of, steps}
 
--- a guest and its dirty log behind a step of a hart
+-- a guest and its dirty log after a step of a hart
 abbrev pub stepped : (h : ℕ) → GuestState → GuestState
 stepped h g = let a = steps h g.guest in record { guest = a.guest; dirty = mark_all a.pages g.dirty }
 
@@ -18,7 +18,7 @@ Retire harts (suc n) turn old new =
     (turn % harts < length old.guest.board.harts) × ((steps (turn % harts) old.guest).reply ≡ reply.Retired)
     × Retire harts n (turn + 1) (stepped (turn % harts) old) new
 
--- and what a step of hart h behind them did, if one was made
+-- and what a step of hart h after them did, if one was made
 abbrev pub Ends : (h : ℕ) → Option Stepped → (old new : GuestState) → Type 0
 Ends h None old new = new ≡ old
 Ends h (Some s) old new =

@@ -34,7 +34,7 @@ pub record AfterTurns : Type 0 where
   pub made : ℕ
   pub stop : Option Stop
 
--- the same behind turns that were made before
+-- the same after turns that were made before
 abbrev pub behind : (pages : List ℕ) → (made : ℕ) → AfterTurns → AfterTurns
 behind pages made t = record t { pages = pages ++ t.pages; made = made + t.made }
 

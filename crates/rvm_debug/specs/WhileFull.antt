@@ -13,7 +13,7 @@ abbrev pub no_turns : Guest → AfterTurns
 no_turns g = record { guest = g; pages = []; made = 0; stop = None }
 
 -- at most n turns of one hart after the other, the first of them that of hart h, as long as the
--- guest is so behind each of them
+-- guest is so after each of them
 unfoldable pub turns_while : (Guest → Bool) → (n h : ℕ) → Guest → AfterTurns
 turns_while is_so zero h g = no_turns g
 turns_while is_so (suc n) h g =

@@ -16,7 +16,7 @@ use rvm_mem::Memory;
 pub struct Retired {
     /// How many steps retired an instruction.
     pub count: u32,
-    /// What the step behind these did, where one was made, which retired none.
+    /// What the step after these did, where one was made, which retired none.
     pub last: Option<Stepped>,
 }
 

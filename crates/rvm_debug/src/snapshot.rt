@@ -185,7 +185,7 @@ fn restored<M: Memory>(board: Board<M>, snapshot: &Snapshot) -> Debugged<M>
     guest
 }
 
-/// The bytes of two slices, one behind the other.
+/// The bytes of two slices, one after the other.
 fn joined<const CAP: usize>(front: &[u8], back: &[u8]) -> ArrayVec<u8, CAP>
     requires { length front.now + length back.now ≤ CAP }
     ensures { result.items ≡ front.now ++ back.now }

@@ -10,7 +10,7 @@ use rvm_mem::Memory;
 
 impl<M: Memory> Debugged<M> {
     /// Makes turns of one hart after the other, at most `count`, from that of hart `first` on, as
-    /// `turns` does. They end also with a turn behind which fewer than 16 bytes wait for the guest,
+    /// `turns` does. They end also with a turn after which fewer than 16 bytes wait for the guest,
     /// so that a byte can come again. Takes no memory.
     #[inline(never)]
     pub fn turns_while_full(&mut self, first: u32, count: u32) -> Turns

@@ -5,7 +5,7 @@ use Rattle.rvm_image.specs.Images.{Piece}
 use Rattle.rvm_elf.specs.declared.error.ReadError.{ReadError}
 use Rattle.rvm_elf.specs.File.{◌>>=◌, header_at, header_checked, headers_checked, piece_of_header, pieces_from}
 
--- the header at index i and those behind it
+-- the header at index i and those after it
 headers_more : (count i first : ℕ) (file : List ℕ) → i < count → headers_checked (count - i) (first + 32 * i) file ≡ (header_checked (header_at (first + 32 * i) file) file >>= λ _. headers_checked (count - (i + 1)) (first + 32 * (i + 1)) file)
 unfolding headers_checked
 headers_more count i first file more =
@@ -38,7 +38,7 @@ header_is_checked count i first file more ok = (both _ _ (sym (headers_more coun
 pub rest_is_checked : (count i first : ℕ) (file : List ℕ) → i < count → headers_checked (count - i) (first + 32 * i) file ≡ Ok tt → headers_checked (count - (i + 1)) (first + 32 * (i + 1)) file ≡ Ok tt
 rest_is_checked count i first file more ok = (both _ _ (sym (headers_more count i first file more) ∙ ok)).rest
 
--- the pieces so far, one more, and those behind it
+-- the pieces so far, one more, and those after it
 pieces_more : (count i first : ℕ) (file : List ℕ) → i < count → pieces_from (count - i) (first + 32 * i) file ≡ option_to_list (piece_of_header (header_at (first + 32 * i) file) file) ++ pieces_from (count - (i + 1)) (first + 32 * (i + 1)) file
 unfolding pieces_from
 pieces_more count i first file more =

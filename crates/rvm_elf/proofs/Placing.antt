@@ -12,7 +12,7 @@ use Rattle.rvm_elf.specs.Load.{piece_fits, pieces_fit}
 use Rattle.rvm_elf.specs.Placing.{with_ram, placed, placed_all}
 use Rattle.rvm_elf.proofs.Ranges.{replaced_more}
 
--- a write behind another
+-- a write after another
 pub then_written : (a here : ℕ) (front next both : List ℕ) (old mid new : BoardState) → ram_base ≤ a → here ≡ a + length front → here + length next ≤ ram_base + length old.plain.shared.bytes → both ≡ front ++ next
     → mid ≡ with_ram (replaced (a - ram_base) front old.plain.shared.bytes) old → new ≡ with_ram (replaced (here - ram_base) next mid.plain.shared.bytes) mid
     → new ≡ with_ram (replaced (a - ram_base) both old.plain.shared.bytes) old

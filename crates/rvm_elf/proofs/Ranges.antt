@@ -3,7 +3,7 @@ use Rattle.std.proofs.Common.{◌≡◌, ℕ, ◌+◌, ◌-◌, ◌<◌, ◌≤�
 use Rattle.std.proofs.lemmas.List.{take_at, drop_at, drop-drop, length-take-le, get_or_append_left, get_or-append_right, get_or-take, get_or-drop}
 use Rattle.rvm_mem.specs.Bytes.{replaced}
 
--- a range, and then the one behind it
+-- a range, and then the one after it
 pub replaced_more : (at here : ℕ) (front next ram : List ℕ) → here ≡ at + length front → here + length next ≤ length ram → replaced here next (replaced at front ram) ≡ replaced at (front ++ next) ram
 replaced_more at here front next ram is inside =
     let before : List ℕ = take at ram ++ front in
@@ -21,7 +21,7 @@ replaced_more at here front next ram is inside =
     ∙ append_assoc (take at ram) front (next ++ drop (at + length (front ++ next)) ram)
     ∙ ap (λ xs. take at ram ++ xs) (sym (append_assoc front next (drop (at + length (front ++ next)) ram)))
 
--- a byte before the range, in it, and behind it
+-- a byte before the range, in it, and after it
 pub before_replaced : (at k : ℕ) (new ram : List ℕ) → at ≤ length ram → k < at → get_or (replaced at new ram) k 0 ≡ get_or ram k 0
 before_replaced at k new ram inside below =
     get_or_append_left (take at ram) (new ++ drop (at + length new) ram) 0 k (omega (arith, length-take-le at ram inside))

@@ -39,7 +39,7 @@ same_header : (a b c d e a' b' c' d' e' : ℕ) → a ≡ a' → b ≡ b' → c �
 same_header a b c d e a' b' c' d' e' p q r s t =
     ap (λ x. made x b c d e) p ∙ ap (λ x. made a' x c d e) q ∙ ap (λ x. made a' b' x d e) r ∙ ap (λ x. made a' b' c' x e) s ∙ ap (λ x. made a' b' c' d' x) t
 
--- a field behind a place whose text is known
+-- a field after a place whose text is known
 field_in : (n at k : ℕ) (file text : List ℕ) → drop at file ≡ text → field n (at + k) file ≡ little_number n (drop k text)
 field_in n at k file text is = ap (little_number n) (sym (drop-drop k at file) ∙ ap (drop k) is)
 

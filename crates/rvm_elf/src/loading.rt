@@ -103,7 +103,7 @@ fn write_segments<M: Memory>(board: &mut Board<M>, segments: &[Segment])
     }
 }
 
-/// Writes a segment's bytes, and its zeros behind them.
+/// Writes a segment's bytes, and its zeros after them.
 fn write_segment<M: Memory>(board: &mut Board<M>, segment: &Segment)
     requires blank { IsBlank board.old }
     requires inside { piece_fits (piece_of segment.now) (length board.old.plain.shared.bytes) ≡ true }

@@ -142,7 +142,7 @@ fn segments(
     Ok(segments)
 }
 
-/// Puts the segment of a header behind others, if it is loaded.
+/// Puts the segment of a header after others, if it is loaded.
 fn add_segment(
     alloc: Global,
     segments: &mut Vec<Segment>,

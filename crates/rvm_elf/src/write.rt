@@ -84,7 +84,7 @@ fn is_small(segment: &Segment) -> bool
     segment.bytes.len() as u64 + u64::from(segment.zeros) <= u64::from(u32::MAX)
 }
 
-/// Puts the ELF header of a file with so many program headers behind the bytes that are there.
+/// Puts the ELF header of a file with so many program headers after the bytes that are there.
 fn append_elf_header(file: &mut Vec<u8>, entry: u32, count: u16)
     requires { vec_len file.old + 52 ≤ vec_capacity file.old }
     ensures items { file.new.items ≡ file.old.items ++ elf_header entry count }
@@ -107,7 +107,7 @@ fn append_elf_header(file: &mut Vec<u8>, entry: u32, count: u16)
     );
 }
 
-/// Puts a program header for each segment behind the bytes that are there; the bytes of the first
+/// Puts a program header for each segment after the bytes that are there; the bytes of the first
 /// segment stand at the offset.
 fn append_program_headers(file: &mut Vec<u8>, first: usize, segments: &[Segment])
     requires room { vec_len file.old + 32 * length segments.now ≤ vec_capacity file.old }
@@ -125,7 +125,7 @@ fn append_program_headers(file: &mut Vec<u8>, first: usize, segments: &[Segment]
     }
 }
 
-/// Puts the program header of a segment whose bytes stand at an offset behind the bytes that are
+/// Puts the program header of a segment whose bytes stand at an offset after the bytes that are
 /// there.
 fn append_program_header(file: &mut Vec<u8>, offset: u32, segment: &Segment)
     requires room { vec_len file.old + 32 ≤ vec_capacity file.old }
@@ -151,7 +151,7 @@ fn append_program_header(file: &mut Vec<u8>, offset: u32, segment: &Segment)
     );
 }
 
-/// Puts the bytes of the segments behind those that are there.
+/// Puts the bytes of the segments after those that are there.
 fn append_all_bytes(file: &mut Vec<u8>, segments: &[Segment])
     requires { vec_len file.old + length (all_bytes (pieces_of segments.now))
         ≤ vec_capacity file.old }

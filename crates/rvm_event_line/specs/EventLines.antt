@@ -42,7 +42,7 @@ is_other n h to = n == 2 && (nat_lt h 2 && to == 1 - h)
 abbrev pub named : (hosts host to : ℕ) → Option ℕ
 named n h to = if is_other n h to then None else Some to
 
--- the letter of a target with a space behind it, if one is named
+-- the letter of a target with a space after it, if one is named
 abbrev pub target_text : Option ℕ → List ℕ
 target_text None = []
 target_text (Some to) = letter to ++ codes " "

@@ -97,7 +97,7 @@ fn is_other(hosts: u8, host: u8, to: u8) -> bool
 #[derive(Clone, Copy)]
 struct Target(Option<u8>);
 
-/// The letter of the host with a space behind it, or nothing.
+/// The letter of the host with a space after it, or nothing.
 impl fmt::Display for Target {
     ghost use Rattle.std.specs.Prelude.{Some};
     ghost use Rattle.rvm_event_line.specs.EventLines.{target_text};

@@ -2,7 +2,7 @@
 --
 -- Each guest that a host has is told by its bytes (`HasSpelling` of `rvm_state`). The law of migration speaks of any
 -- guest, also of one with a number that has no room in its bytes: so no event needs a range. The values of such a guest
--- are sent as they are, behind 256, which is no byte.
+-- are sent as they are, after 256, which is no byte.
 use Rattle.std.specs.Prelude.{ℕ, Bool, ◌==◌, if◌then◌else◌, List, ◌∷◌, length, drop, get_or, Option, Some, None}
 use Rattle.rvm_codec.specs.Codec.{◌>>=◌}
 use Rattle.rvm_debug.specs.Guest.{Guest}

@@ -18,7 +18,7 @@ unfoldable pub written : Guest → List BoardEvent → List ℕ
 written g [] = []
 written g (e ∷ es) = (answered e g).pages ++ written (answered e g).guest es
 
--- no event behind the one that ends turns
+-- no event after the one that ends turns
 abbrev pub unless_over : Option Stop → List BoardEvent → List BoardEvent
 unless_over (Some s) rest = []
 unless_over None rest = rest

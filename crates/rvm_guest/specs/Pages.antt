@@ -15,7 +15,7 @@ size_of g = length g.board.shared.bytes
 abbrev pub count_of : Guest → ℕ
 count_of g = size_of g / 4096
 
--- so many pages of bytes, one behind the other
+-- so many pages of bytes, one after the other
 unfoldable pub pages_at : (count : ℕ) → List ℕ → List (List ℕ)
 pages_at zero bytes = []
 pages_at (suc n) bytes = take 4096 bytes ∷ pages_at n (drop 4096 bytes)
@@ -28,7 +28,7 @@ pages_in bytes = pages_at (length bytes / 4096) bytes
 abbrev pub pages_of : Guest → List (List ℕ)
 pages_of g = pages_in g.board.shared.bytes
 
--- lists of bytes, one behind the other
+-- lists of bytes, one after the other
 unfoldable pub joined : List (List ℕ) → List ℕ
 joined [] = []
 joined (bytes ∷ rest) = bytes ++ joined rest

@@ -9,7 +9,7 @@ use Rattle.rvm_debug.specs.declared.part.HartPart.{HartPart}
 use Rattle.rvm_state.specs.Formats.{anything, csrs_of, csr_parts, hart_of, hart_parts, shared_of, shared_parts}
 use Rattle.rvm_debug.specs.State.{State}
 
--- the number in front, and those behind it
+-- the number in front, and those after it
 abbrev pub front : List ℕ → Option (ℕ × List ℕ)
 front [] = None
 front (n ∷ rest) = Some (n, rest)
@@ -64,7 +64,7 @@ values_in t =
 abbrev pub value_parts : State → ValueParts
 value_parts s = (s.harts, (s.shared, (s.input, (s.output, s.breakpoints))))
 
--- a state, and nothing behind it
+-- a state, and nothing after it
 unfoldable pub values : Format State
 values =
     alone (as_type (both (many hart) (both shared (both (many one) (both (many one) (many one))))) values_in value_parts)

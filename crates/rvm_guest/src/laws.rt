@@ -66,7 +66,7 @@ pub fn a_piece_is_4096_bytes_of_a_state()
         ≡ take 4096 (drop (4096 * place) (state.write (numbers, body))) }
 {}
 
-/// Turns of a hart that is there, and of those behind it, are steps: they leave the guest that so many
+/// Turns of a hart that is there, and of those after it, are steps: they leave the guest that so many
 /// events leave one after the other, and write their pages.
 pub fn turns_are_steps()
     ensures { (order : Order) (n h : ℕ) (g : Guest) → h < length g.board.harts

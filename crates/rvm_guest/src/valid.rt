@@ -6,7 +6,7 @@ ghost use Rattle.rvm_guest.specs.Valid.{is_valid};
 use rvm_debug::Debugged;
 use rvm_mem::Memory;
 
-/// A guest that a host has is valid. It looks at each hart once, and takes no memory; behind an
+/// A guest that a host has is valid. It looks at each hart once, and takes no memory; after an
 /// event the guest need not be looked at again.
 pub fn valid_guest<M: Memory>(guest: &Debugged<M>)
     ensures { is_valid guest.now.guest ≡ true }

@@ -256,7 +256,7 @@ impl<M: PagedMemory> Staging<M> {
         self
     }
 
-    /// The bytes of all pieces of a state, where none is lacking behind this one. Takes memory only
+    /// The bytes of all pieces of a state, where none is lacking after this one. Takes memory only
     /// there.
     fn joined(
         &self,
@@ -378,7 +378,7 @@ fn are_all_there(pieces: &[Option<Bytes>], part: u8, parts: u8, bytes: &[u8]) ->
     true
 }
 
-/// The bytes of all pieces, one behind the other, where none is lacking. Takes memory only there.
+/// The bytes of all pieces, one after the other, where none is lacking. Takes memory only there.
 fn join(
     alloc: Global,
     pieces: &[Option<Bytes>],

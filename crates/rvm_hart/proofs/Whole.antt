@@ -7,7 +7,7 @@ use Rattle.rvm_csr.specs.Fields as csr
 use Rattle.rvm_hart.specs.Machine.{HartState}
 use Rattle.rvm_hart.specs.Fields.{with_number}
 
--- 31 of 32 registers are those behind the first
+-- 31 of 32 registers are those after the first
 pub all_behind : (regs others : List ℕ) → length regs ≡ 32 → others ≡ take 31 (drop 1 regs) → others ≡ drop 1 regs
 all_behind regs others size e = e ∙ take_all 31 (drop 1 regs) (omega (arith, length-drop 1 regs))
 

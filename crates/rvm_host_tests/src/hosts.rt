@@ -1,4 +1,4 @@
-//! Events played on hosts, one behind the other, with every frame that was sent.
+//! Events played on hosts, one after the other, with every frame that was sent.
 
 use crate::replies::{Said, said};
 use rvm_board::{Board, BoardError};

@@ -27,7 +27,7 @@ pub static MOVE: [Event; 12] = [
     Event::Deliver(7),
 ];
 
-/// Where a host is in a mode: behind so many events of the move.
+/// Where a host is in a mode: after so many events of the move.
 #[derive(Clone, Copy)]
 struct Place {
     events: usize,
@@ -63,7 +63,7 @@ const EMPTY_AFTER: Place = Place {
     host: A,
 };
 
-/// Two hosts behind the first events of the move.
+/// Two hosts after the first events of the move.
 fn at(alloc: Global, place: Place) -> Result<Hosts, Fail> {
     let mut hosts = Hosts::new(alloc, 1, &[1, 1])?;
     match play(alloc, &mut hosts, place.events) {

@@ -26,7 +26,7 @@ fn assert_ignored(rt: &impl Abort, alloc: Global, hosts: &mut Hosts) -> Result<(
     Ok(())
 }
 
-/// They ignore them before and behind each event of a move.
+/// They ignore them before and after each event of a move.
 fn assert_ignored_in_a_move(rt: &impl Abort, alloc: Global, hosts: &mut Hosts) -> Result<(), Fail> {
     for event in &MOVE {
         assert_ignored(rt, alloc, hosts)?;

@@ -101,7 +101,7 @@ fn ended(ends: &[End], bytes: usize) -> usize {
     ends.iter().filter(|(end, _)| *end <= bytes).count()
 }
 
-/// Feeds a whole piece behind so many frames, and answers how many there are then; none where another
+/// Feeds a whole piece after so many frames, and answers how many there are then; none where another
 /// frame came than the stream has there.
 fn feed(
     alloc: Global,

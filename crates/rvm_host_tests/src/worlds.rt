@@ -92,7 +92,7 @@ fn reply_digest(reply: &HostReply) -> u64 {
     }
 }
 
-/// A number over bytes behind others.
+/// A number over bytes after others.
 fn sum_bytes(sum: u64, bytes: &[u8]) -> u64 {
     bytes
         .iter()
@@ -350,7 +350,7 @@ fn lose_a_copy(alloc: Global) -> Result<Option<usize>, Fail> {
     first_other(alloc, &mut world, &LOST_COPY)
 }
 
-/// What is answered behind the first events, with the commit on its way.
+/// What is answered after the first events, with the commit on its way.
 static LAST_EVENTS: [(Event, &str); 7] = [
     (Event::Step(0), "NotHere"),
     (Event::Step(1), "Paused"),
@@ -428,7 +428,7 @@ fn has_guest(alloc: Global, world: &mut World<FlatMemory>) -> Result<bool, Fail>
     Ok(false)
 }
 
-/// What is answered behind a move.
+/// What is answered after a move.
 static MOVED: [(Event, &str); 2] = [(Event::Step(0), "NotHere"), (Event::Step(1), "retired")];
 
 /// Drives a move that takes so many events, and answers whether there was memory for it; where not, some

@@ -37,7 +37,7 @@ is_whole (frame.Offer n pages harts) = nat_lt 0 pages
 is_whole (frame.Part n stamp part parts bytes) = nat_le parts 6
 is_whole f = true
 
--- a frame that stands in some stream behind Hello: it has a move number too, which Hello has not
+-- a frame that stands in some stream after Hello: it has a move number too, which Hello has not
 abbrev pub can_come : Frame → Bool
 can_come f = nat_lt 0 (move_of f) && is_whole f
 

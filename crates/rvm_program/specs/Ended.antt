@@ -17,7 +17,7 @@ use Rattle.rvm_program.specs.Files.{IsCreated, IsFile, IsFileRefusal, IsInput, I
 use Rattle.rvm_refusal.specs.declared.refusal.Refusal.{Refusal}
 use Rattle.rvm_world_command.specs.Ends.{IsScriptEnd}
 
--- what a writer held before a command and behind it, where that is known
+-- what a writer held before a command and after it, where that is known
 pub record Written : Type 0 where
   pub before : Option (List ℕ)
   pub after : Option (List ℕ)

@@ -22,7 +22,7 @@ use Rattle.rvm_replay.proofs.Joined.{joined, lines_joined, no_lines, whole_joine
 use Rattle.rvm_replay.proofs.Lines.{command_words, course_words, event_all, event_joined, event_words, one_byte}
 use Rattle.rvm_replay.proofs.Spelled.{decimal_no_letter, hex_reads, letter_names, letter_speaks, numeral_decimal, register_names}
 
--- what is asked behind a letter
+-- what is asked after a letter
 abbrev Reads : (n h : ℕ) → Command → Type 0
 Reads n h c = asked_at n (Some h) (command_words n h c) ≡ Some (line.Host (Some h) (telling n h c))
 

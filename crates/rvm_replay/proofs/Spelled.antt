@@ -60,7 +60,7 @@ pub letter_names : (h : ℕ) → h < 8 → letter_host (letter h) ≡ Some h
 letter_names h below =
     some_is (letter_host (letter h)) h (each_below 8 (λ h. is_some (letter_host (letter h)) h) hosts h below)
 
--- decimal digits are a number, since no b stands behind a 0
+-- decimal digits are a number, since no b stands after a 0
 no_b : (b : ℕ) → char.digit_value b < 10 → eqb b 98 ≡ false
 no_b b digit =
     elim (cases_eq b 98) [

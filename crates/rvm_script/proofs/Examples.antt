@@ -8,7 +8,7 @@ use Rattle.rvm_script.specs.HexBytes.{bytes_in, hex_of}
 use Rattle.rvm_script.specs.Lines.{command_of, line_of, numeral}
 use Rattle.rvm_script.specs.Words.{lines, lines_from, words_from}
 
--- numbers are decimal, also with leading zeros, or hexadecimal behind 0x with a small x
+-- numbers are decimal, also with leading zeros, or hexadecimal after 0x with a small x
 leading_zeros_are_allowed : numeral (codes "007") ≡ Some 7
 leading_zeros_are_allowed = refl
 

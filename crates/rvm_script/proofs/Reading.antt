@@ -12,7 +12,7 @@ piece_some : (w : List ℕ) → 0 < length w → piece w ≡ w ∷ []
 piece_some [] some = absurd (omega arith)
 piece_some (b ∷ w) some = refl
 
--- a byte of a word, and one behind it
+-- a byte of a word, and one after it
 word_more : (b : ℕ) (bs w : List ℕ) → is_space b ≡ false → words_from (b ∷ bs) w ≡ words_from bs (w ++ b ∷ [])
 unfolding words_from
 word_more b bs w e = ap (λ t. cond t (piece w ++ words_from bs []) (words_from bs (w ++ b ∷ []))) e
@@ -97,7 +97,7 @@ pub words_of_none : (xs : List ℕ) → length xs ≡ 0 → words xs ≡ []
 words_of_none [] e = no_words
 words_of_none (b ∷ xs) e = absurd (omega arith)
 
--- no word is left where nothing is left behind the blanks
+-- no word is left where nothing is left after the blanks
 pub is_done : (rest xs : List ℕ) (ws : List (List ℕ)) (r : Bool) → begins_blank rest ≡ false → words rest ≡ words xs → words xs ≡ ws → r ≡ (length rest == 0) → (IsTrue r → ws ≡ []) × (ws ≡ [] → IsTrue r)
 is_done rest xs ws r begins same seen test = (
   λ t. sym seen ∙ sym same ∙ words_of_none rest (empty_if r (length rest) test t),
@@ -110,7 +110,7 @@ is_done rest xs ws r begins same seen test = (
     empty_then : (t : Bool) (n : ℕ) → t ≡ (n == 0) → n ≡ 0 → IsTrue t
     empty_then t n e h = grind (arith, nat_tests)
 
--- a byte of a line, and a line feed behind it
+-- a byte of a line, and a line feed after it
 line_more : (b : ℕ) (bs l : List ℕ) → eqb b 10 ≡ false → lines_from (b ∷ bs) l ≡ lines_from bs (l ++ b ∷ [])
 unfolding lines_from
 line_more b bs l e = ap (λ t. cond t (l ∷ lines_from bs []) (lines_from bs (l ++ b ∷ []))) e
@@ -155,7 +155,7 @@ pub short_line : (xs : List ℕ) → length xs < 1 → xs ≡ without_return xs
 short_line [] short = refl
 short_line (b ∷ xs) short = absurd (omega arith)
 
--- a slice behind some bytes, as code takes it
+-- a slice after some bytes, as code takes it
 pub behind_whole : (xs : List ℕ) (n : ℕ) → take (length xs - n) (drop n xs) ≡ drop n xs
 behind_whole xs n = take_all (length xs - n) (drop n xs) (omega (arith, length-drop n xs))
 

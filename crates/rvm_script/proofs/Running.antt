@@ -94,7 +94,7 @@ told_same (reply.Refused why) = refl
 stop_told : (r : BoardReply) (s : Stop) → stop_in r ≡ Some s → r ≡ reply_of_stop s
 stop_told r s e = sym (told_same r) ∙ ap (λ o. told_or o r) e
 
--- the steps that turns of one hart, and one step behind them unless they ended early, come to
+-- the steps that turns of one hart, and one step after them unless they ended early, come to
 abbrev last_step : Option Stop → (h m made : ℕ) → AfterTurns → Stepping
 last_step (Some s) h m made t = record { guest = t.guest; pages = t.pages; count = made + t.made; reply = reply_of_stop s }
 last_step None h m made t =
@@ -286,7 +286,7 @@ told_both ps qs ts us t =
     ap (λ l. record t { pages = l; text = ts ++ (us ++ t.text) }) (sym (append_assoc ps qs t.pages))
     ∙ ap (λ l. record t { pages = (ps ++ qs) ++ t.pages; text = l }) (sym (append_assoc ts us t.text))
 
--- lines behind others, none of which ended the script
+-- lines after others, none of which ended the script
 line_both : (o : Option Line) (ls more : List (List ℕ)) (n : ℕ) (g : Guest) → ((h : Guest) → (script_of ls (n + 1) h).end ≡ None → script_of (ls ++ more) (n + 1) h ≡ answers_behind (script_of ls (n + 1) h).pages (script_of ls (n + 1) h).text (script_of more (n + 1 + length ls) (script_of ls (n + 1) h).guest))
     → let first = answers_by o n g (script_of ls (n + 1)) in first.end ≡ None → answers_by o n g (script_of (ls ++ more) (n + 1)) ≡ answers_behind first.pages first.text (script_of more (n + suc (length ls)) first.guest)
 line_both None ls more n g others on = absurd cc

@@ -1,4 +1,4 @@
--- Rows that are written one behind the other.
+-- Rows that are written one after the other.
 use Rattle.std.proofs.Common.{ℕ, ◌+◌, ◌*◌, List, Option, add-one}
 use Rattle.std.specs.Io.KnownBytes.{Appends}
 use Rattle.rvm_script.specs.Answers.{row_text, rows_text, four_text, fours_text}

@@ -12,7 +12,7 @@ use Rattle.rvm_script.specs.declared.line.Line.TheVariants as line
 use Rattle.rvm_script.specs.HexBytes.{hex_of, small}
 use Rattle.rvm_script.specs.Words.{words, without_return}
 
--- the number of a word: decimal, or hexadecimal behind 0x
+-- the number of a word: decimal, or hexadecimal after 0x
 abbrev pub numeral : List ℕ → Option ℕ
 numeral [] = number_of []
 numeral (a ∷ []) = number_of (a ∷ [])
@@ -62,7 +62,7 @@ steps_of None n = None
 steps_of (Some h) None = None
 steps_of (Some h) (Some n) = if nat_le 1 n && nat_le n 1000000 then Some (line.Steps h n) else None
 
--- the words behind `step`: H [N]
+-- the words after `step`: H [N]
 abbrev pub step_line : List (List ℕ) → Option Line
 step_line [] = None
 step_line (h ∷ ws) = steps_of (numeral h) (count_of ws)
@@ -73,7 +73,7 @@ bytes_at None n = None
 bytes_at (Some a) None = None
 bytes_at (Some a) (Some n) = Some (line.Ask (event.Mem a n))
 
--- the words behind `mem`: ADDR LEN
+-- the words after `mem`: ADDR LEN
 abbrev pub mem_line : List (List ℕ) → Option Line
 mem_line [] = None
 mem_line (a ∷ ws) = bytes_at (numeral a) (one_number ws)
@@ -85,7 +85,7 @@ register_set (Some h) None v = None
 register_set (Some h) (Some r) None = None
 register_set (Some h) (Some r) (Some v) = Some (line.Ask (event.PokeReg h r v))
 
--- the words behind `reg`: H NAME VALUE
+-- the words after `reg`: H NAME VALUE
 abbrev pub reg_line : List (List ℕ) → Option Line
 reg_line [] = None
 reg_line (h ∷ []) = None
@@ -97,12 +97,12 @@ bytes_set None bytes = None
 bytes_set (Some a) None = None
 bytes_set (Some a) (Some bytes) = Some (line.Ask (event.PokeMem a bytes))
 
--- the words behind `poke`: ADDR HEX, with 1 to 256 bytes
+-- the words after `poke`: ADDR HEX, with 1 to 256 bytes
 abbrev pub poke_line : List (List ℕ) → Option Line
 poke_line [] = None
 poke_line (a ∷ ws) = bytes_set (numeral a) (option_and_then small (one_hex ws))
 
--- a command with the words behind its name
+-- a command with the words after its name
 abbrev pub commanded : Command → List (List ℕ) → Option Line
 commanded Step ws = step_line ws
 commanded Input ws = option_map line.Input (one_hex ws)

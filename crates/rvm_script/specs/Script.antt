@@ -17,7 +17,7 @@ pub record Stepping : Type 0 where
   pub count : ℕ
   pub reply : BoardReply
 
--- the same behind pages that were written before
+-- the same after pages that were written before
 abbrev pub stepping_after : List ℕ → Stepping → Stepping
 stepping_after ps s = record s { pages = ps ++ s.pages }
 
@@ -33,7 +33,7 @@ stepping h (suc left) made last g =
 abbrev pub stepped : (hart count : ℕ) → Guest → Stepping
 stepped h n g = stepping h n 0 reply.Retired g
 
--- an answer behind pages that were written before
+-- an answer after pages that were written before
 abbrev pub answered_after : List ℕ → Answered → Answered
 answered_after ps a = record a { pages = ps ++ a.pages }
 
@@ -75,7 +75,7 @@ pub record Answers : Type 0 where
   pub text : List ℕ
   pub end : Option ℕ
 
--- the same behind pages that were written and text that was answered before
+-- the same after pages that were written and text that was answered before
 abbrev pub answers_behind : (pages text : List ℕ) → Answers → Answers
 answers_behind ps ts t = record t { pages = ps ++ t.pages; text = ts ++ t.text }
 
@@ -83,7 +83,7 @@ answers_behind ps ts t = record t { pages = ps ++ t.pages; text = ts ++ t.text }
 abbrev pub ended : Option ℕ → Guest → Answers
 ended end g = record { guest = g; pages = []; text = []; end = end }
 
--- a line with this number, and the rest of its script behind it
+-- a line with this number, and the rest of its script after it
 abbrev pub answers_by : Option Line → (number : ℕ) → Guest → (Guest → Answers) → Answers
 answers_by None n g rest = ended (Some n) g
 answers_by (Some l) n g rest = let r = done_by l g in answers_behind r.pages r.text (rest r.guest)

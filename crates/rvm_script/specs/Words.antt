@@ -7,7 +7,7 @@ abbrev pub piece : List ℕ → List (List ℕ)
 piece [] = []
 piece (b ∷ bs) = (b ∷ bs) ∷ []
 
--- the lines of the bytes behind those of a line that is open
+-- the lines of the bytes after those of a line that is open
 unfoldable pub lines_from : List ℕ → (line : List ℕ) → List (List ℕ)
 lines_from [] line = piece line
 lines_from (b ∷ bs) line =
@@ -22,7 +22,7 @@ abbrev pub without_return : List ℕ → List ℕ
 without_return line =
     if slice_index line (length line - 1) == 13 then take (length line - 1) line else line
 
--- the words of the bytes behind those of a word that is open
+-- the words of the bytes after those of a word that is open
 unfoldable pub words_from : List ℕ → (word : List ℕ) → List (List ℕ)
 words_from [] word = piece word
 words_from (b ∷ bs) word =

@@ -41,7 +41,7 @@ impl<'a> HexText<'a> {
         }
     }
 
-    /// The first byte and those behind it, if there is one.
+    /// The first byte and those after it, if there is one.
     #[tactic(auto, unfolding(crate::specs::HexBytes::bytes_in))]
     pub fn split_first(self) -> Option<(u8, HexText<'a>)>
         ensures { MatchOption result (self.entry ≡ []) (λ p. self.entry ≡ p.0 ∷ p.1) }

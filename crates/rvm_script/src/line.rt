@@ -35,7 +35,7 @@ impl<'a> Line<'a> {
         asked(Words::new(without_return(line)))
     }
 
-    /// What a command asks for, by its name and the words behind it; none where they are not in the
+    /// What a command asks for, by its name and the words after it; none where they are not in the
     /// grammar.
     pub fn named(name: &[u8], words: Words<'a>) -> Option<Line<'a>>
         ensures { result ≡ statement (command_of name.now) words.entry }
@@ -66,7 +66,7 @@ fn asked<'a>(words: Words<'a>) -> Option<Line<'a>>
     }
 }
 
-/// What a command asks for with the words behind its name.
+/// What a command asks for with the words after its name.
 fn commanded<'a>(command: Command, words: Words<'a>) -> Option<Line<'a>>
     ensures { result ≡ commanded command words.entry }
 {

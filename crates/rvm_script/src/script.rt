@@ -144,7 +144,7 @@ fn run_line<M: Memory, W: Write>(
     }
 }
 
-/// The first line of at least one byte, without the line feed at its end, and the bytes behind it.
+/// The first line of at least one byte, without the line feed at its end, and the bytes after it.
 #[tactic(auto, using(crate::proofs::Reading::line_reading))]
 pub fn split_line(bytes: &[u8]) -> (&[u8], &[u8])
     requires { 0 < length bytes.now }

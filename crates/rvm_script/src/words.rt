@@ -93,7 +93,7 @@ fn is_blank(b: u8) -> bool
     matches!(b, b' ' | b'\t')
 }
 
-/// The number of a word: decimal, or hexadecimal behind `0x`. It is below 2^32, or the word is
+/// The number of a word: decimal, or hexadecimal after `0x`. It is below 2^32, or the word is
 /// none.
 pub fn numeral(word: &[u8]) -> Option<u32>
     ensures { result ≡ numeral word.now }

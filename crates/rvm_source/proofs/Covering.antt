@@ -47,7 +47,7 @@ next_turn log r =
 pub turn_is : (log : List Bool) (r : Plan) (a : Next) → a ≡ (next_of log r).answer → IsTurn r a
 turn_is log r a e = subst (IsTurn r) (sym e) (next_turn log r)
 
--- behind a turn that gave an answer no page is forgotten
+-- after a turn that gave an answer no page is forgotten
 abbrev pub IsCoveredBy : Next → (log : List Bool) → Plan → Type 0
 IsCoveredBy next.Stopping log r = CoversLast r
 IsCoveredBy a log r = Covers log r

@@ -21,7 +21,7 @@ shorter bytes n is = elim (cases_lt 4096 (length bytes)) [
 pub begins : (bytes : List ℕ) (place : ℕ) → place < length (pieces (length bytes) bytes) → 4096 * place < length bytes
 begins bytes place lt = let count = length_pieces (length bytes) bytes (omega arith) in omega (arith, count, lt)
 
--- and ends behind 4096 bytes, or with the body
+-- and ends after 4096 bytes, or with the body
 pub ends : (bytes : List ℕ) (place end : ℕ) → end ≡ min (length bytes) (4096 * place + 4096) → place < length (pieces (length bytes) bytes)
     → take (end - 4096 * place) (drop (4096 * place) bytes) ≡ get_or (pieces (length bytes) bytes) place []
 ends bytes place end is lt =

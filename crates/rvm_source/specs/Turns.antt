@@ -9,7 +9,7 @@ use Rattle.rvm_source.specs.declared.phase.Phase.{Phase}
 use Rattle.rvm_source.specs.declared.phase.Phase.TheVariants as phases
 use Rattle.rvm_source.specs.Sources.{PlainSource}
 
--- the source behind turns of its guest, how many were made and what ended them early
+-- the source after turns of its guest, how many were made and what ended them early
 pub record SourceTurned : Type 0 where
   pub source : PlainSource
   pub made : ℕ

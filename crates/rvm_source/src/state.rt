@@ -92,7 +92,7 @@ pub(crate) fn send_state<M: PagedMemory>(
     })
 }
 
-/// The piece that is sent behind this one: the first again behind the last.
+/// The piece that is sent after this one: the first again after the last.
 fn turn_after(turn: u8, parts: u8) -> u8
     requires { turn < parts }
     ensures next { result ≡ (if nat_lt (turn + 1) parts then turn + 1 else 0) }

@@ -148,6 +148,6 @@ parts size =
     both (then_each head (λ h. h.0) (hart size))
     (both (counted_bytes 1 (within 0 16)) (both (counted_bytes 2 (within 0 4096)) breakpoints))
 
--- the values of a guest with a RAM of so many bytes, and nothing behind them
+-- the values of a guest with a RAM of so many bytes, and nothing after them
 unfoldable pub state : (size : ℕ) → Format State
 state size = alone (as_type (parts size) whole_of whole_parts)

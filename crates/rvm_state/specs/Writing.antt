@@ -1,4 +1,4 @@
--- What the writer put behind the bytes that were there.
+-- What the writer put after the bytes that were there.
 use Rattle.std.specs.Prelude.{◌≡◌, ℕ, ◌+◌, ◌*◌, true, List, ◌++◌, length}
 use Rattle.std.specs.List.{flat_map, list_all}
 use Rattle.rvm_codec.specs.Codec.{Codec}
@@ -9,7 +9,7 @@ pub record Writes {A : Type 0} (c : Codec A) (a : A) (old new : List ℕ) : Type
   pub bytes : new ≡ old ++ c.write a
   pub fits : c.fits a ≡ true
 
--- values that fit, one behind the other
+-- values that fit, one after the other
 pub record WritesEach {A : Type 0} (c : Codec A) (xs : List A) (old new : List ℕ) : Type 0 where
   pub bytes : new ≡ old ++ flat_map c.write xs
   pub fits : list_all c.fits xs ≡ true

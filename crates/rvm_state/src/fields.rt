@@ -1,4 +1,4 @@
-//! Fields at the front of state bytes, each given with the bytes behind it; None where the bytes
+//! Fields at the front of state bytes, each given with the bytes after it; None where the bytes
 //! spell no such field.
 
 ghost use Rattle.std.specs.Prelude.{◌≡◌, option_map};

@@ -1,4 +1,4 @@
-//! The values of a snapshot put behind the bytes of a vector, in room that the caller made: no call
+//! The values of a snapshot put after the bytes of a vector, in room that the caller made: no call
 //! takes memory, and the capacity stays as it is.
 
 ghost use Rattle.std.specs.Prelude.{◌≡◌, ◌+◌, ◌*◌, ◌≤◌, ℕ, true, length, vec_len, vec_capacity};

@@ -115,7 +115,7 @@ fn files_with_faults_are_refused(rt: HostRuntime) {
     }
 }
 
-/// The image of some bytes at an address, and zeros behind them.
+/// The image of some bytes at an address, and zeros after them.
 fn image_of(alloc: Global, segments: &[(u32, &[u8], u32)]) -> Result<Image, AllocError> {
     let mut made = Vec::new(alloc);
     for (address, bytes, zeros) in segments {

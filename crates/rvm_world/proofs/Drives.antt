@@ -157,7 +157,7 @@ goes_on f w0 w w' i n going lt next =
       so_far = one_further f w0 w w' i going.so_far next;
     }
 
--- behind the last event
+-- after the last event
 pub ends : (f : ℕ → Event BoardEvent) (w0 w : BoardWorld) (i n : ℕ) → Going f w0 w i n → n ≤ i
     → w ≡ run board w0 (listed f 0 n)
 ends f w0 w i n going le =
@@ -171,7 +171,7 @@ pub part_none : (x : Event BoardEvent) (xs : List (Event BoardEvent)) (w new : B
     → IsPartOf (x ∷ xs) w new
 part_none x xs w new is = record { made = 0; there = omega arith; leaves = is ∙ sym (run_none w) }
 
--- one was, and some of those behind it
+-- one was, and some of those after it
 pub part_first : (x : Event BoardEvent) (xs : List (Event BoardEvent)) (w mid new : BoardWorld) → mid ≡ step board w x
     → IsPartOf xs mid new → IsPartOf (x ∷ xs) w new
 part_first x xs w mid new is part =

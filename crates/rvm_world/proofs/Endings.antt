@@ -200,7 +200,7 @@ module _ (w0 : BoardWorld) (from to k : ℕ) (p : Policy) (reached : IsReached w
       → IsPartOf (drive_opening from to p (length w0.sent)) w0 new
   first_declined new part = subst (λ z. IsPartOf (drive_opening from to p z) w0 new) place part
 
-  -- some of the events up to the target's answer were made, whatever comes behind it; none, where it did not begin
+  -- some of the events up to the target's answer were made, whatever comes after it; none, where it did not begin
   left_opening : (new : BoardWorld)
       → ((rest : List (Event BoardEvent)) → IsPartOf (first_event ∷ Deliver k ∷ Deliver (k + 1) ∷ rest) w0 new)
       → ((why : HostRefusal) → reply_to board w0 first_event ≡ Refused (refusal_of why) → new ≡ w0)

@@ -49,7 +49,7 @@ pub first : (g : GuestState) (version : ℕ) (limits : List ℕ) (none all : Lis
 first g version limits none all h empty more is =
     one_more g version limits 0 [] all h (no_host g version limits) (more ∙ ap (λ z. z ++ h ∷ []) empty) is
 
--- a host without a guest, behind the first one
+-- a host without a guest, after the first one
 pub another : (g : GuestState) (version : ℕ) (limits : List ℕ) (n : ℕ) (hosts all : List PlainHost) (h : PlainHost)
     → AreNew g version limits n hosts → all ≡ hosts ++ h ∷ [] → 1 ≤ n
     → h ≡ new_host None n (length limits) (limit_at limits n) version

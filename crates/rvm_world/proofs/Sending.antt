@@ -50,7 +50,7 @@ frames_are from w0 frames version (suc k) r reply told some all =
     ∙ first_of (is_compact version) k (reply_to board w0 (At from Copy))
     (replies board (step board w0 (At from Copy)) rest) (sym (replies_first w0 (At from Copy) rest) ∙ whole) long
 
--- the first copy, and those behind it
+-- the first copy, and those after it
 copies_are : (from frames s : ℕ) → frames ≡ s → 0 < s → copies from s ≡ At from Copy ∷ copies from (frames - 1)
 copies_are from frames s is some =
     let one : s ≡ suc (frames - 1) = omega (arith, is, some) in
@@ -70,7 +70,7 @@ state_sent from w0 w1 w2 frames r reply next told last =
           ∙ ap (run board w0) (sym (copies_are from frames s is some)),
     )
 
--- memory ran out before its first frame, or behind it
+-- memory ran out before its first frame, or after it
 pub no_state : (from : ℕ) (w0 w1 : BoardWorld) → w1 ≡ w0 → IsStateLeft w0 w1 from
 no_state from w0 w1 is =
     λ version s some all. part_of_listed (λ p. At from Copy) w0 w1 0 s some
@@ -174,7 +174,7 @@ module _ (from first version move n s : ℕ) where
   last_are round frames counted told =
       (λ j. deliveries (first + counted j) (told j + 3)) ∙ ap (λ z. deliveries z (s + 3)) further
 
-  -- some of the events behind the round, behind the coming of its frames, and behind the stop
+  -- some of the events after the round, after the coming of its frames, and after the stop
   behind_round : (w0 w1 new : BoardWorld) → w1 ≡ run board w0 round_events → IsPartOf (came_events ++ from_stop) w1 new
       → IsPartOf (sending from first n s) w0 new
   behind_round w0 w1 new made part = part_behind round_events (came_events ++ from_stop) w0 w1 new made part

@@ -20,7 +20,7 @@ pub fn run_world<M: PagedMemory + Drop>(
     world: &mut World<M>,
     events: &[Event],
 ) -> Result<Vec<WorldReply>, AllocError>
-    // Each reply, and the world behind the last one, are those of the law.
+    // Each reply, and the world after the last one, are those of the law.
     ensures replies { IfOk result (λ rs. map said rs.items
         ≡ replies board (world_of world.old) (map meant events.now)) }
     ensures world { OnOk result (world_of world.new ≡ run board (world_of world.old) (map meant events.now)) }

@@ -42,7 +42,7 @@ appends_kept (Some x) (Some y) (Some z) bs h k = k ∙ h
 still_kept : (a b c : Option (List ℕ)) → b ≡ a → Keeps b c → Keeps a c
 still_kept a b c e k = subst (λ (o : Option (List ℕ)). Keeps o c) e k
 
--- a script that was run, behind what the writer held back
+-- a script that was run, after what the writer held back
 ended_run : (text : List ℕ) (s : Standing) (answered : Result (Unit {0}) WorldScriptError) (new : BoardWorld) (before mid after : Option (List ℕ))
     → (answered ≡ Err script.TooLong → 2 ^ 26 < length text)
     → IsWorldRun answered (lines text) s new before mid → Keeps mid after → IsWorldScriptEnd text s answered before after

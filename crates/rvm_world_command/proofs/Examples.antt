@@ -5,7 +5,7 @@ use Rattle.rvm_world_command.specs.Ends.{IsCutShort}
 use Rattle.rvm_world_script.proofs.Spending.{asks_before_the_end}
 use Rattle.rvm_world_script.specs.WorldScript.{Standing, world_script_of}
 
--- neither the line that is none nor one behind it is told as one that found no memory
+-- neither the line that is none nor one after it is told as one that found no memory
 a_script_is_cut_short_before_the_line_that_is_none : (n k : ℕ) (lines : List (List ℕ)) (s : Standing)
     (before after : Option (List ℕ)) → IsCutShort n lines s before after
     → (world_script_of lines 1 s).end ≡ Some k → n < k
@@ -14,7 +14,7 @@ a_script_is_cut_short_before_the_line_that_is_none n k lines s before after p en
     (ap (λ ls. (world_script_of ls 1 s).end) p.whole ∙ ends)
     in omega (arith, first, p.number)
 
--- nor is one behind the last
+-- nor is one after the last
 a_script_is_cut_short_at_a_line_of_its_own : (n : ℕ) (lines : List (List ℕ)) (s : Standing)
     (before after : Option (List ℕ)) → IsCutShort n lines s before after → n ≤ length lines
 a_script_is_cut_short_at_a_line_of_its_own n lines s before after p =

@@ -35,7 +35,7 @@ Course = Option ℕ × Policy
 abbrev pub to_the_other : (hosts : ℕ) → Option Policy → Option Course
 to_the_other n policy = if n == 2 then option_map (λ p. (None, p)) policy else None
 
--- a first word with the host that it names, if it does, and the words behind it
+-- a first word with the host that it names, if it does, and the words after it
 abbrev pub named_course : (hosts : ℕ) → (target : Option ℕ) → (first : List ℕ) → List (List ℕ) → Option Course
 named_course n (Some to) w ws = option_map (λ p. (Some to, p)) (policy_in ws)
 named_course n None w ws = to_the_other n (policy_in (w ∷ ws))
@@ -60,7 +60,7 @@ abbrev pub alone : Asked → List (List ℕ) → Option Asked
 alone a [] = Some a
 alone a (w ∷ ws) = None
 
--- a command with the words behind its name
+-- a command with the words after its name
 abbrev pub world_commanded : (hosts : ℕ) → WorldCommand → List (List ℕ) → Option Asked
 world_commanded n Begin ws = option_map (λ c. asked.Begin c.0 c.1) (course_of n ws)
 world_commanded n Move ws = option_map (λ c. asked.Move c.0 c.1) (course_of n ws)
@@ -73,12 +73,12 @@ abbrev pub asked_by : (hosts : ℕ) → Option WorldCommand → (name : List ℕ
 asked_by n (Some c) w ws = world_commanded n c ws
 asked_by n None w ws = option_map asked.Guest (statement (command_of w) ws)
 
--- behind a letter, or without one
+-- after a letter, or without one
 abbrev pub asked_at : (hosts : ℕ) → (host : Option ℕ) → List (List ℕ) → Option WorldLine
 asked_at n host [] = None
 asked_at n host (w ∷ ws) = option_map (line.Host host) (asked_by n (world_command_of w) w ws)
 
--- behind the letter of a host, which has to be there
+-- after the letter of a host, which has to be there
 abbrev pub behind_letter : (hosts host : ℕ) → List (List ℕ) → Option WorldLine
 behind_letter n x ws = if nat_lt x n then asked_at n (Some x) ws else None
 
@@ -87,7 +87,7 @@ abbrev pub without_letter : (hosts : ℕ) → (first : List ℕ) → List (List 
 without_letter n w ws =
     if bytes_eq w (codes "deliver") then option_map line.Deliver (one_number ws) else asked_at n None (w ∷ ws)
 
--- a first word with the host that it names, if it does, and the words behind it
+-- a first word with the host that it names, if it does, and the words after it
 abbrev pub lettered : (hosts : ℕ) → (host : Option ℕ) → (first : List ℕ) → List (List ℕ) → Option WorldLine
 lettered n (Some x) w ws = behind_letter n x ws
 lettered n None w ws = without_letter n w ws

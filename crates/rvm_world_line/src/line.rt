@@ -60,7 +60,7 @@ fn world_asked<'a>(words: Words<'a>, hosts: u8) -> Option<WorldLine<'a>>
     }
 }
 
-/// What is asked for behind the letter of a host of this world, or without one.
+/// What is asked for after the letter of a host of this world, or without one.
 fn lettered<'a>(first: &[u8], words: Words<'a>, hosts: u8) -> Option<WorldLine<'a>>
     ensures { result ≡ lettered hosts (letter_host first.now) first.now words.entry }
 {
@@ -97,7 +97,7 @@ fn without_letter<'a>(first: &[u8], words: Words<'a>, hosts: u8) -> Option<World
     Some(WorldLine::Host { host: None, asked })
 }
 
-/// What a host is asked, by a name and the words behind it.
+/// What a host is asked, by a name and the words after it.
 fn asked_by<'a>(name: &[u8], words: Words<'a>, hosts: u8) -> Option<Asked<'a>>
     ensures { result ≡ asked_by hosts (world_command_of name.now) name.now words.entry }
 {
@@ -107,7 +107,7 @@ fn asked_by<'a>(name: &[u8], words: Words<'a>, hosts: u8) -> Option<Asked<'a>>
     }
 }
 
-/// What a command of a move asks for with the words behind its name.
+/// What a command of a move asks for with the words after its name.
 fn commanded<'a>(command: WorldCommand, words: Words<'a>, hosts: u8) -> Option<Asked<'a>>
     ensures { result ≡ world_commanded hosts command words.entry }
 {

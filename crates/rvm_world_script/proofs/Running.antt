@@ -29,7 +29,7 @@ no_line n s = refl
 behind_both : (xs ys : List ℕ) (a : Answers) → behind xs (behind ys a) ≡ behind (xs ++ ys) a
 behind_both xs ys a = ap (λ l. record a { text = l }) (sym (append_assoc xs ys a.text))
 
--- lines behind others, none of which ended the script
+-- lines after others, none of which ended the script
 line_both : (o : Option WorldLine) (ls more : List (List ℕ)) (n : ℕ) (s : Standing)
     → ((t : Standing) → (world_script_of ls (n + 1) t).end ≡ None
     → world_script_of (ls ++ more) (n + 1) t

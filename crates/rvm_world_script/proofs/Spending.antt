@@ -47,7 +47,7 @@ asks_before None n k s rest others asks ends = absurd asks
 asks_before (Some l) n k s rest others asks ends =
     let later : n + 1 ≤ k = others (done_by l s).standing ends in omega (arith, later)
 
--- a line that asks for memory, behind lines that were done, stands before the line that is none
+-- a line that asks for memory, after lines that were done, stands before the line that is none
 pub asks_before_the_end : (done left : List (List ℕ)) (line : List ℕ) (k : ℕ) (s : Standing)
     → (world_script_of done 1 s).end ≡ None → AsksMemoryIn line (world_script_of done 1 s).standing
     → (world_script_of (done ++ line ∷ left) 1 s).end ≡ Some k → length done + 1 < k
@@ -60,7 +60,7 @@ asks_before_the_end done left line k s on asks ends =
     (sym (ap (λ (a : Answers). a.end) (line_first line left n d)) ∙ here)
     in omega (arith, before)
 
--- where a script ends at a line that is none, no memory runs out in that line or behind it
+-- where a script ends at a line that is none, no memory runs out in that line or after it
 pub spent_before_the_end : (n k : ℕ) (lines : List (List ℕ)) (s : Standing) (new : BoardWorld)
     (before after : Option (List ℕ)) → IsSpent n lines s new before after
     → (world_script_of lines 1 s).end ≡ Some k → n < k

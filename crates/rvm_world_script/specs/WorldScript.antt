@@ -166,11 +166,11 @@ pub record Answers : Type 0 where
   pub text : List ℕ
   pub end : Option ℕ
 
--- the answers of later lines, behind this text
+-- the answers of later lines, after this text
 abbrev pub behind : (text : List ℕ) → Answers → Answers
 behind text a = record a { text = text ++ a.text }
 
--- a line with this number, and the rest of its script behind it
+-- a line with this number, and the rest of its script after it
 abbrev pub answers_by : Option WorldLine → (number : ℕ) → Standing → (Standing → Answers) → Answers
 answers_by None n s rest = record { standing = s; text = []; end = Some n }
 answers_by (Some l) n s rest = let r = done_by l s in behind r.text (rest r.standing)

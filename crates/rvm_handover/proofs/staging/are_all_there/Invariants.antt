@@ -3,7 +3,7 @@ use Rattle.std.specs.Prelude.{is_some}
 use Rattle.rvm_protocol.specs.Pages.{gathered, put}
 use Rattle.rvm_handover.proofs.staging.are_all_there.Given as goal
 
--- those behind are all there as all are
+-- those after are all there as all are
 abbrev pub invariant-loop-place : goal.invariant-loop-place
 invariant-loop-place l =
     let piece = put (λ i. get_or l.pieces i None) l.part (Some l.bytes) in
