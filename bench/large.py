@@ -162,6 +162,11 @@ def move_runs(inputs):
 def journal_runs(_inputs):
     for count in (125_000, 250_000, 500_000):
         yield f"two journals of {count} entries are written and put in order", [LONG_JOURNALS, str(count)]
+    # Among a million steps at each host it offers its guest 5,000 times, and each offer is accepted: 20,000 frames.
+    for form in ("list", "runs"):
+        for times in (0, 1, 11):
+            words = [LONG_JOURNALS, form, "1000000", "5000", str(times)]
+            yield f"two journals of 1000000 steps, 20000 frames, put in order {times} times, {form}", words
 
 
 def assembler_runs(inputs):

@@ -2,7 +2,12 @@
 """Measures moves by threads, `rvmove move`:
 
 - host instructions a step of the guest, beside those of `rvmove run`, by valgrind's cachegrind: the difference of
-  two moves of the same guest over their difference in steps, so that start and end do not count;
+  two moves of the same guest over their difference in steps, so that start and end do not count; for a loop on one hart
+  and on four, with a timer interrupt at each 100 steps, and with a trap at each tenth step;
+- the memory of journals and receipts, by valgrind's massif: the peak of the heap in a move of 100000 steps, above that
+  in a move of one step; of a guest that sends nothing, and of one that sends a byte at each 20 steps;
+- the pause as it is seen from outside: the largest gap between two pieces of the output of a guest that sends a byte at
+  each second step, in 20 moves;
 - the time of a move of 4096 pages that nobody writes, all of them zeros or none, in each version, best of some runs that
   alternate with those it is compared with: a run of the same image, that is to load it; and a plain copy of as many
   pages over a loopback socket in C (`pages.c`), whose target throws them away, puts them into memory, or also keeps them
@@ -12,13 +17,16 @@
 
     bench/threads.py [TIMES [ROUNDS]]      TIMES runs each, 5 where it is not given, in so many rounds, 1 where it is not
                                            given, of which the lowest and the highest are printed
+    bench/threads.py steps|memory|pauses   one of these alone
 
 Wants valgrind, gcc, and what `make build` builds."""
 import functools
 import os
 import re
+import statistics
 import subprocess
 import sys
+import tempfile
 import time
 
 from count import instructions
@@ -35,11 +43,124 @@ LARGE_PAGES = "glibc.malloc.hugetlb=1:glibc.malloc.top_pad=60000000"
 SLEEPS = ((r"^refused \d+ Busy$", 1), (r"^state sent$", 10), (r"^part \d+ of \d+ sent$", 10), (r"^resent$", 10), (r"^refused \d+ NoMove$", 10))
 
 
-def a_step(command):
+# Guests, in the assembly language of `rvmove asm`. Each goes on for ever.
+HEAD = """.equ mtime, 0x0200BFF8
+.equ mtimecmp, 0x02004000
+.equ transmit, 0x10000000
+_start:
+    la t0, handler
+    csrw mtvec, t0
+    li t2, mtime
+    li t3, mtimecmp
+    li t4, transmit
+"""
+TIMER = HEAD + """    li t0, 0x80
+    csrw mie, t0
+    csrrsi zero, mstatus, 8
+    j handler
+top:
+    addi a0, a0, 1
+    j top
+handler:
+    lw t1, 0(t2)
+    addi t1, t1, 100
+    sw t1, 0(t3)
+    sw zero, 4(t3)
+    la t0, top
+    csrw mepc, t0
+    mret
+"""
+TRAPS = HEAD + """top:
+    addi a0, a0, 1
+    addi a0, a0, 1
+    addi a0, a0, 1
+    addi a0, a0, 1
+    ecall
+    j top
+handler:
+    csrr t0, mepc
+    addi t0, t0, 4
+    csrw mepc, t0
+    mret
+"""
+QUIET = HEAD + """handler:
+    addi a0, a0, 1
+    j handler
+"""
+SENDS_SOME = HEAD + """handler:
+    sw a0, 0(t4)
+""" + "    addi a0, a0, 1\n" * 18 + "    j handler\n"
+SENDS_ALWAYS = HEAD + """handler:
+    sw a0, 0(t4)
+    j handler
+"""
+
+
+def assembled(name, text):
+    """The image of a guest."""
+    source, image = (os.path.join(BUILD, f"{name}.{ending}") for ending in ("s", "elf"))
+    with open(source, "w", encoding="utf-8") as file:
+        file.write(text)
+    subprocess.run([PROGRAM, "asm", source, image], check=True)
+    return image
+
+
+def a_step(command, image, *options):
     """Host instructions a step."""
-    words = [[PROGRAM, command, loop(), "--raw", "--pages", "4", "--steps", str(steps)] for steps in (FEWER, MORE)]
+    words = [[PROGRAM, command, image, "--pages", "4", *options, "--steps", str(steps)] for steps in (FEWER, MORE)]
     fewer, more = map(instructions, words)
     return (more - fewer) / (MORE - FEWER)
+
+
+def measure_steps():
+    """Prints host instructions a step, under `run` and under `move`."""
+    rows = (("loop, one hart", loop(), "--raw"), ("loop, four harts", loop(), "--raw", "--harts", "4"),
+            ("timer interrupt at each 100 steps", assembled("timer", TIMER)), ("trap at each tenth step", assembled("traps", TRAPS)))
+    for name, image, *options in rows:
+        run, move = (a_step(command, image, *options) for command in ("run", "move"))
+        print(f"host instructions a step, {name}: run {run:.1f}, move {move:.1f}, {move - run:.1f} more, "
+              f"{move / run:.2f} times", flush=True)
+
+
+def peak_of(image, steps):
+    """The peak of the heap in a move, in bytes."""
+    with tempfile.NamedTemporaryFile("r") as told:
+        words = ["valgrind", "--tool=massif", f"--massif-out-file={told.name}", "--peak-inaccuracy=0.0"]
+        subprocess.run([*words, PROGRAM, "move", image, "--pages", "4", "--steps", str(steps)], check=True, capture_output=True)
+        return max(int(line.partition("=")[2]) for line in told if line.startswith("mem_heap_B="))
+
+
+def measure_memory():
+    """Prints how much more memory a move of many steps takes than one of one step."""
+    for name, text in (("sends nothing", QUIET), ("sends a byte at each 20 steps", SENDS_SOME)):
+        image = assembled("memory", text)
+        few, many = peak_of(image, 1), peak_of(image, MORE)
+        print(f"heap of a move of {MORE} steps, guest {name}: {(many - few) / 1024:.1f} KB above the {few / 1024:.1f} KB "
+              "of one step", flush=True)
+
+
+def gap_of(image):
+    """The largest gap between two pieces of the output of a move, in milliseconds; none where the guest did not go over
+    while it ran."""
+    words = [PROGRAM, "move", image, "--pages", "4", "--steps", str(MORE)]
+    process = subprocess.Popen(words, stdout=subprocess.PIPE, stderr=subprocess.PIPE)
+    came = []
+    while os.read(process.stdout.fileno(), 1 << 16):
+        came.append(time.perf_counter())
+    answers = process.stderr.read()
+    if process.wait():
+        sys.exit(f"{' '.join(words)}: status {process.returncode}")
+    gaps = [later - earlier for earlier, later in zip(came, came[1:])]
+    return max(gaps) * 1000 if gaps and b"finished" in answers else None
+
+
+def measure_pauses(times=20):
+    """Prints the pause as it is seen from outside."""
+    image = assembled("sends", SENDS_ALWAYS)
+    gaps = sorted(gap for gap in (gap_of(image) for _ in range(times)) if gap is not None)
+    if gaps:
+        print(f"largest gap in the output, {len(gaps)} of {times} moves: median {statistics.median(gaps):.2f} ms, "
+              f"{gaps[0]:.2f} to {gaps[-1]:.2f}", flush=True)
 
 
 def copied(mode):
@@ -111,10 +232,14 @@ def measure_pages(times, rounds):
 
 
 def main():
+    alone = {"steps": measure_steps, "memory": measure_memory, "pauses": measure_pauses}
+    if len(sys.argv) == 2 and sys.argv[1] in alone:
+        alone[sys.argv[1]]()
+        return
     times = int(sys.argv[1]) if len(sys.argv) > 1 else 5
     rounds = int(sys.argv[2]) if len(sys.argv) > 2 else 1
-    run, move = a_step("run"), a_step("move")
-    print(f"host instructions a step: run {run:.1f}, move {move:.1f}, {move / run:.1f} times")
+    for measure in alone.values():
+        measure()
     build_pages()
     print(f"moves of {PAGES} pages, in milliseconds:")
     measure_pages(times, rounds)

@@ -220,7 +220,7 @@ take_second a b i j es p q count m all waits n at e can p' q' own rest =
 
 -- the same as the code has it
 abbrev pub IsMerged : (a b : History) → (i j : ℕ) → Merge → Type 0
-IsMerged a b i j m = Merged a b i j m.events.items (first_places m) (second_places m) m.made
+IsMerged a b i j m = Merged a b i j m.order (first_places m) (second_places m) m.made
 
 module _ (a b : History) (i j : ℕ) (old new : Merge) (so : IsMerged a b i j old) (xs : List PlainEntry) (version : ℕ) (n k : PlainEntry)
     (e : Event) where
@@ -235,14 +235,14 @@ module _ (a b : History) (i j : ℕ) (old new : Merge) (so : IsMerged a b i j ol
       (subst (λ v. Becomes v First n.event (second_places old) e) version_is can)
       in
       let t =
-      take_first a b i j old.events.items (first_places old) (second_places old) old.made so all k here e may
+      take_first a b i j old.order (first_places old) (second_places old) old.made so all k here e may
       (first_places new) (second_places new) taken.frames.own taken.frames.rest
       in
       let u =
       subst (λ es. Merged a b (i + 1) j es (first_places new) (second_places new) (counted k.frame old.made))
       (sym taken.events) t
       in
-      subst (λ c. Merged a b (i + 1) j new.events.items (first_places new) (second_places new) c) (sym taken.frames.count) u
+      subst (λ c. Merged a b (i + 1) j new.order (first_places new) (second_places new) c) (sym taken.frames.count) u
 
   pub took_second : IsReplay b.opening b.entries → IsWaiting a.opening.version First a.entries i (second_places old) → xs ≡ b.entries → version ≡ b.opening.version → slice_get xs j ≡ Some n
       → slice_get xs j ≡ Some k → Becomes version Second n.event (first_places old) e
@@ -255,14 +255,14 @@ module _ (a b : History) (i j : ℕ) (old new : Merge) (so : IsMerged a b i j ol
       (subst (λ v. Becomes v Second n.event (first_places old) e) version_is can)
       in
       let t =
-      take_second a b i j old.events.items (first_places old) (second_places old) old.made so all waits k here e may
+      take_second a b i j old.order (first_places old) (second_places old) old.made so all waits k here e may
       (first_places new) (second_places new) taken.frames.own taken.frames.rest
       in
       let u =
       subst (λ es. Merged a b i (j + 1) es (first_places new) (second_places new) (counted k.frame old.made))
       (sym taken.events) t
       in
-      subst (λ c. Merged a b i (j + 1) new.events.items (first_places new) (second_places new) c) (sym taken.frames.count) u
+      subst (λ c. Merged a b i (j + 1) new.order (first_places new) (second_places new) c) (sym taken.frames.count) u
 
 take_whole : {X : Type 0} (xs : List X) (i : ℕ) → i ≡ length xs → take i xs ≡ xs
 take_whole xs i is = ap (λ k. take k xs) is ∙ take-length xs

@@ -1,6 +1,6 @@
 pub mod Pairs
 pub mod Orders
-pub mod Ahead
+pub mod Placed
 pub mod Merging
 pub mod Errors
 pub mod Worlds

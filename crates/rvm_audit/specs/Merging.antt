@@ -5,9 +5,10 @@ use Rattle.rvm_frame.specs.declared.frame.Frame.{Frame}
 use Rattle.std.specs.Cmp.Lexicographic.{slice_cmp}
 use Rattle.std.specs.Ordering.{nat_cmp}
 use Rattle.std.specs.Str.{bytes_eq}
-use Rattle.rvm_journal.specs.declared.left.Told.{Told}
+use Rattle.rvm_journal.specs.declared.item.ItemRef.{ItemRef}
+use Rattle.rvm_journal.specs.declared.item.ItemRef.TheVariants as look
 use Rattle.rvm_journal.specs.Entries.{PlainEntry}
-use Rattle.rvm_journal.specs.Told.{told_entry}
+use Rattle.rvm_journal.specs.Items.{entries_at}
 use Rattle.rvm_message.specs.declared.event.HostEvent.{HostEvent}
 use Rattle.rvm_message.specs.declared.event.HostEvent.TheVariants.{Do, Came}
 use Rattle.rvm_world.specs.declared.event.Event.{Event}
@@ -16,6 +17,7 @@ use Rattle.rvm_audit.specs.declared.side.Side.{Side}
 use Rattle.rvm_audit.specs.declared.side.Side.TheVariants.{First, Second}
 use Rattle.rvm_audit.specs.declared.merge.Merge.{Merge}
 use Rattle.rvm_audit.specs.Pairs.{HasBytes, number_of, other}
+use Rattle.rvm_audit.specs.Placed.{rounds_at, steps_at}
 
 -- the places of bytes
 abbrev pub Places : Type 0
@@ -63,20 +65,6 @@ abbrev pub IsWaiting : (version : ℕ) → Side → List PlainEntry → ℕ → 
 IsWaiting version x entries k places =
     (length entries ≤ k) ⊎ ((n : PlainEntry) × (slice_get entries k ≡ Some n) × IsUnmade version x n.event places)
 
--- what the next entry becomes
-abbrev pub IsNext : (version : ℕ) → Side → List PlainEntry → ℕ → Places → Event → Type 0
-IsNext version x entries k places e =
-    (n : PlainEntry) × (slice_get entries k ≡ Some n) × Becomes version x n.event places e
-
--- the same of an entry that is looked at, if there is one
-abbrev pub Waits : (version : ℕ) → Side → Option Told → Places → Type 0
-Waits version x None places = Unit {0}
-Waits version x (Some t) places = IsUnmade version x (told_entry t).event places
-
-abbrev pub Goes : (version : ℕ) → Side → Option Told → Places → Event → Type 0
-Goes version x None places e = ⊥
-Goes version x (Some t) places e = Becomes version x (told_entry t).event places e
-
 -- a frame, if one was made, has a place: among those of its host, `mine`; the other host's stay
 pub record IsNoted (old new : Merge) (frame : Option (List ℕ)) (mine yours : Merge → Places)
     : Type 0 where
@@ -87,7 +75,7 @@ pub record IsNoted (old new : Merge) (frame : Option (List ℕ)) (mine yours : M
 -- an event was put behind the others, and its frame has a place
 pub record IsTaken (old new : Merge) (event : Event) (frame : Option (List ℕ)) (mine yours : Merge → Places)
     : Type 0 where
-  pub events : new.events.items ≡ old.events.items ++ event ∷ []
+  pub events : new.order ≡ old.order ++ event ∷ []
   pub frames : IsNoted old new frame mine yours
 
 -- the places of the frames that the first host made
@@ -102,3 +90,50 @@ second_places m = places_of m.second
 abbrev pub places_at : Side → Merge → Places
 places_at First = first_places
 places_at Second = second_places
+
+-- an entry of a host was taken, as the event that it becomes
+pub record IsEntryTaken (version : ℕ) (x : Side) (n : PlainEntry) (old new : Merge) : Type 0 where
+  pub event : Event
+  pub becomes : Becomes version x n.event (places_at (other x) old) event
+  pub taken : IsTaken old new event n.frame (places_at x) (places_at (other x))
+
+-- events were put behind the others, and made no frame
+pub record IsRunTaken (old new : Merge) (run : List Event) : Type 0 where
+  pub events : new.order ≡ old.order ++ run
+  pub first : new.first ≡ old.first
+  pub second : new.second ≡ old.second
+  pub count : new.made ≡ old.made
+
+-- an item of a host was taken: an entry, or steps or rounds, which can stand anywhere, at once
+abbrev pub Takes : (version : ℕ) → Side → ItemRef → (old new : Merge) → Type 0
+Takes version x (look.Entry e) old new = IsEntryTaken version x e.now old new
+Takes version x (look.Steps s) old new = IsRunTaken old new (steps_at (number_of x) s.turn s.harts s.count)
+Takes version x (look.Rounds r) old new =
+    IsRunTaken old new (rounds_at (number_of x) r.turn r.harts r.steps r.drain r.count)
+
+-- it is an entry that cannot stand, and nothing was taken
+abbrev pub Waits : (version : ℕ) → Side → ItemRef → (old new : Merge) → Type 0
+Waits version x (look.Entry e) old new = IsUnmade version x e.now.event (places_at (other x) old) × (new ≡ old)
+Waits version x (look.Steps s) old new = ⊥
+Waits version x (look.Rounds r) old new = ⊥
+
+-- the first of these items was taken, of n entries
+pub record AreTaken (version : ℕ) (x : Side) (items : List (List PlainEntry)) (n : ℕ) (old new : Merge)
+    : Type 0 where
+  pub item : ItemRef
+  pub rest : List (List PlainEntry)
+  pub split : items ≡ entries_at item ∷ rest
+  pub count : n ≡ length (entries_at item)
+  pub takes : Takes version x item old new
+
+-- the first of these items waits
+pub record IsFirstWaiting (version : ℕ) (x : Side) (items : List (List PlainEntry)) (old new : Merge)
+    : Type 0 where
+  pub item : ItemRef
+  pub rest : List (List PlainEntry)
+  pub split : items ≡ entries_at item ∷ rest
+  pub waits : Waits version x item old new
+
+-- there is no item, or the first one waits
+abbrev pub AreWaiting : (version : ℕ) → Side → List (List PlainEntry) → (old new : Merge) → Type 0
+AreWaiting version x items old new = ((items ≡ []) × (new ≡ old)) ⊎ IsFirstWaiting version x items old new

@@ -1,17 +1,17 @@
 //! What was put in order.
 
-ghost use Rattle.std.specs.Prelude.{◌≡◌, ◌<◌, ◌^◌, ◌-◌, IfOk, OnOk, MatchOption, [], ℕ, List, Some, None};
-ghost use Rattle.rvm_audit.specs.Ahead.{frame_of};
-ghost use Rattle.rvm_audit.specs.Merging.{Becomes, Goes, IsNoted, IsPlaced, IsTaken, IsUnmade, IsUnplaced, Waits, places_at, places_of};
-ghost use Rattle.rvm_journal.specs.Told.{told_entry};
+ghost use Rattle.std.specs.Prelude.{◌≡◌, ◌<◌, ◌^◌, ◌-◌, IfOk, OnOk, MatchOption, [], ℕ, List, Some, None, length};
+ghost use Rattle.rvm_audit.specs.Merging.{AreTaken, AreWaiting, Becomes, IsEntryTaken, IsNoted, IsPlaced, IsTaken, IsUnmade, IsUnplaced, Takes, Waits, places_at, places_of};
 ghost use Rattle.rvm_audit.specs.Pairs.{other};
+ghost use Rattle.rvm_journal.specs.Items.{entries_at};
 ghost use Rattle.rvm_message.specs.declared.event.HostEvent.TheVariants.{Came};
 
+use crate::placed::Order;
 use crate::places::{Places, lookup, note};
 use crate::side::Side;
 use rvm_debug::BoardEvent;
 use rvm_frame::{Addressed, Frame, frame_bytes};
-use rvm_journal::{Entry, Told};
+use rvm_journal::{Entry, Item, ItemRef};
 use rvm_message::{Command, Exchange, ExchangeRef, HostEvent, Shared};
 use rvm_spelling::has_spelling;
 use rvm_world::Event;
@@ -21,7 +21,7 @@ use std::collections::BTreeMap;
 /// The events that were put in order, and where the frames of each host were first made.
 #[derive(Drop)]
 pub(crate) struct Merge {
-    pub(crate) events: Vec<Event>,
+    pub(crate) order: Order,
     pub(crate) first: Places,
     pub(crate) second: Places,
     /// How many frames were made.
@@ -31,66 +31,125 @@ pub(crate) struct Merge {
 impl Merge {
     /// Nothing.
     pub(crate) fn new(alloc: Global) -> Merge
-        ensures events { result.events.items ≡ [] }
+        ensures order { result.order ≡ [] }
         ensures places { (x : Side) (bytes : List ℕ) → places_at x result bytes ≡ None }
         ensures made { result.made ≡ 0 }
     {
         Merge {
-            events: Vec::new(alloc),
+            order: Order::new(alloc),
             first: BTreeMap::new(alloc),
             second: BTreeMap::new(alloc),
             made: 0,
         }
     }
 
-    /// The event of a host's next entry, where there is one that can stand.
-    pub(crate) fn next(
+    /// Puts the events of a host's next item behind the others, where they can stand: of how many entries it is.
+    pub(crate) fn take_next(
+        &mut self,
+        alloc: Global,
+        side: Side,
+        version: u32,
+        items: &[Item],
+    ) -> Result<Option<u32>, AllocError>
+        requires { self.old.made < 2 ^ 64 - 1 }
+        ensures { IfOk result (λ o. MatchOption o
+            (AreWaiting version side items.now self.old self.new)
+            (λ n. AreTaken version side items.now n self.old self.new)) }
+    {
+        match items.split_first() {
+            None => Ok(None),
+            Some((item, _rest)) => self.take_item(alloc, side, version, item.look()),
+        }
+    }
+
+    /// Puts the events of an item behind the others, where they can stand: of how many entries it is. Commands can
+    /// stand anywhere, so steps and rounds of them are taken at once.
+    fn take_item(
+        &mut self,
+        alloc: Global,
+        side: Side,
+        version: u32,
+        item: ItemRef<'_>,
+    ) -> Result<Option<u32>, AllocError>
+        requires { self.old.made < 2 ^ 64 - 1 }
+        ensures { IfOk result (λ o. MatchOption o
+            (Waits version side item.entry self.old self.new)
+            (λ n. (n ≡ length (entries_at item.entry)) × Takes version side item.entry self.old self.new)) }
+    {
+        match item {
+            ItemRef::Entry(entry) => self.take_entry(alloc, side, version, entry),
+            ItemRef::Steps(steps) => {
+                self.order.push_steps(side, steps)?;
+                Ok(Some(steps.count))
+            }
+            ItemRef::Rounds(rounds) => {
+                self.order.push_rounds(side, rounds)?;
+                Ok(Some(rounds.len()))
+            }
+        }
+    }
+
+    /// Puts the event of an entry behind the others, where it can stand.
+    fn take_entry(
+        &mut self,
+        alloc: Global,
+        side: Side,
+        version: u32,
+        entry: &Entry,
+    ) -> Result<Option<u32>, AllocError>
+        requires { self.old.made < 2 ^ 64 - 1 }
+        ensures { IfOk result (λ o. MatchOption o
+            (IsUnmade version side entry.now.event (places_at (other side) self.old) × (self.new ≡ self.old))
+            (λ n. (n ≡ 1) × IsEntryTaken version side entry.now self.old self.new)) }
+    {
+        match self.event(alloc, side, version, entry)? {
+            None => Ok(None),
+            Some(event) => {
+                self.take(alloc, side, entry, event)?;
+                Ok(Some(1))
+            }
+        }
+    }
+
+    /// The event of an entry of a host, where it can stand.
+    fn event(
         &self,
         alloc: Global,
         side: Side,
         version: u32,
-        next: Option<Told<'_>>,
+        entry: &Entry,
     ) -> Result<Option<Event>, AllocError>
         ensures { IfOk result (λ o. MatchOption o
-            (Waits version side next.entry (places_at (other side) self.now))
-            (λ e. Goes version side next.entry (places_at (other side) self.now) e)) }
+            (IsUnmade version side entry.now.event (places_at (other side) self.now))
+            (λ e. Becomes version side entry.now.event (places_at (other side) self.now) e)) }
     {
         let others = match side {
             Side::First => &self.second,
             Side::Second => &self.first,
         };
-        match next {
-            None => Ok(None),
-            Some(told) => event_told(alloc, side, version, told, others),
-        }
+        event_of(alloc, side, version, entry.exchange(), others)
     }
 
     /// Puts an event behind the others, and notes where its frame was made.
-    pub(crate) fn take(
+    fn take(
         &mut self,
         alloc: Global,
         side: Side,
-        next: Option<Told<'_>>,
+        entry: &Entry,
         event: Event,
     ) -> Result<(), AllocError>
         requires { self.old.made < 2 ^ 64 - 1 }
-        ensures { OnOk result (IsTaken self.old self.new event (frame_of next.entry)
+        ensures { OnOk result (IsTaken self.old self.new event entry.now.frame
             (places_at side) (places_at (other side))) }
     {
-        self.events.push(event)?;
-        let Some(told) = next else {
-            return Ok(());
-        };
-        match told {
-            Told::Step(_) | Told::Dry(_) => Ok(()),
-            Told::Entry(entry) => self.note_frame(alloc, side, entry),
-        }
+        self.order.push(event)?;
+        self.note_frame(alloc, side, entry)
     }
 
     /// Notes where the frame of an entry was made, if it made one.
     fn note_frame(&mut self, alloc: Global, side: Side, entry: &Entry) -> Result<(), AllocError>
         requires { self.old.made < 2 ^ 64 - 1 }
-        ensures events { OnOk result (self.new.events ≡ self.old.events) }
+        ensures order { OnOk result (self.new.order ≡ self.old.order) }
         ensures noted { OnOk result (IsNoted self.old self.new entry.now.frame
             (places_at side) (places_at (other side))) }
     {
@@ -103,7 +162,7 @@ impl Merge {
     /// Notes where a frame was made.
     fn note(&mut self, side: Side, bytes: Vec<u8>) -> Result<(), AllocError>
         requires { self.old.made < 2 ^ 64 - 1 }
-        ensures events { OnOk result (self.new.events ≡ self.old.events) }
+        ensures order { OnOk result (self.new.order ≡ self.old.order) }
         ensures noted { OnOk result (IsNoted self.old self.new (Some bytes.items)
             (places_at side) (places_at (other side))) }
     {
@@ -113,31 +172,6 @@ impl Merge {
         }
         self.made += 1;
         Ok(())
-    }
-}
-
-/// The event of the world that an entry is, where it can stand.
-fn event_told(
-    alloc: Global,
-    side: Side,
-    version: u32,
-    told: Told<'_>,
-    others: &Places,
-) -> Result<Option<Event>, AllocError>
-    ensures { IfOk result (λ o. MatchOption o
-        (IsUnmade version side (told_entry told.entry).event (places_of others.now))
-        (λ e. Becomes version side (told_entry told.entry).event (places_of others.now) e)) }
-{
-    match told {
-        Told::Step(hart) => {
-            let step = Command::Board(BoardEvent::Step(hart));
-            Ok(Some(Event::At(side.number(), step)))
-        }
-        Told::Dry(count) => {
-            let drain = Command::Board(BoardEvent::Drain(count));
-            Ok(Some(Event::At(side.number(), drain)))
-        }
-        Told::Entry(entry) => event_of(alloc, side, version, entry.exchange(), others),
     }
 }
 

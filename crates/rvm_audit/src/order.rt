@@ -1,6 +1,6 @@
 //! The order of two journals.
 
-ghost use Rattle.std.specs.Prelude.{◌≡◌, ℕ, List, IfOk, IfErr, true};
+ghost use Rattle.std.specs.Prelude.{◌≡◌, ℕ, List, IfOk, IfErr, drop, true};
 ghost use Rattle.rvm_debug.specs.Guest.{GuestState};
 ghost use Rattle.rvm_guest.specs.TheGuest.{board};
 ghost use Rattle.rvm_guest.specs.Valid.{is_valid};
@@ -11,11 +11,11 @@ ghost use Rattle.rvm_audit.specs.Errors.{IsAuditError};
 ghost use Rattle.rvm_audit.specs.Orders.{IsDeadEnd, IsMerge, IsOrder};
 ghost use Rattle.rvm_audit.specs.Worlds.{AreNew, IsWorldRun};
 
-use crate::ahead::Ahead;
 use crate::error::AuditError;
 use crate::merge::Merge;
+use crate::placed::Order;
 use crate::side::Side;
-use rvm_journal::Journal;
+use rvm_journal::{Item, Journal};
 use rvm_mem::PagedMemory;
 use rvm_world::Event;
 use std::alloc::Global;
@@ -34,35 +34,53 @@ pub fn audit<M: PagedMemory + Drop, N: PagedMemory + Drop>(
     ensures merge { IfOk result (λ events. IsMerge first.now second.now events.items) }
     ensures none { IfErr result (λ why. IsAuditError why first.now second.now) }
 {
+    let order = audit_in_runs(alloc, first, second)?;
+    Ok(order.spelled(alloc, first.count() as usize + second.count() as usize)?)
+}
+
+/// The same order, in which steps and rounds of a host are kept as the runs that they are in its journal, and taken at
+/// once: it takes time and memory for each item, however many entries that is.
+pub fn audit_in_runs<M: PagedMemory + Drop, N: PagedMemory + Drop>(
+    alloc: Global,
+    first: &Journal<M>,
+    second: &Journal<N>,
+) -> Result<Order, AuditError>
+    ensures merge { IfOk result (λ order. IsMerge first.now second.now order) }
+    ensures none { IfErr result (λ why. IsAuditError why first.now second.now) }
+{
     let n = first.count() as usize;
     let m = second.count() as usize;
-    let mut xs = Ahead::new(first.items());
-    let mut ys = Ahead::new(second.items());
+    let mut xs = first.items();
+    let mut ys = second.items();
     let mut merge = Merge::new(alloc);
     let mut i: usize = 0;
     let mut j: usize = 0;
     while i < n || j < m {
-        let x = xs.next();
-        match merge.next(alloc, Side::First, first.version(), x)? {
-            Some(event) => {
-                merge.take(alloc, Side::First, x, event)?;
-                xs.pass();
-                i += 1;
+        match merge.take_next(alloc, Side::First, first.version(), xs)? {
+            Some(count) => {
+                xs = behind_first(xs);
+                i += count as usize;
             }
-            None => {
-                let y = ys.next();
-                match merge.next(alloc, Side::Second, second.version(), y)? {
-                    Some(event) => {
-                        merge.take(alloc, Side::Second, y, event)?;
-                        ys.pass();
-                        j += 1;
-                    }
-                    None => return Err(AuditError::NoOrder { i, j }),
+            None => match merge.take_next(alloc, Side::Second, second.version(), ys)? {
+                Some(count) => {
+                    ys = behind_first(ys);
+                    j += count as usize;
                 }
-            }
+                None => return Err(AuditError::NoOrder { i, j }),
+            },
         }
     }
-    Ok(merge.events)
+    Ok(merge.order)
+}
+
+/// All items but the first.
+fn behind_first(items: &[Item]) -> &[Item]
+    ensures { result.now ≡ drop 1 items.now }
+{
+    match items.split_first() {
+        None => items,
+        Some((_first, rest)) => rest,
+    }
 }
 
 /// Where neither journal can go on, they have no order.

@@ -52,16 +52,21 @@ enum Story {
 
 /// Two hosts with journals.
 #[derive(Drop)]
-struct Pair {
-    a: Recorded<PagedRam>,
-    b: Recorded<PagedRam>,
+pub(crate) struct Pair {
+    pub(crate) a: Recorded<PagedRam>,
+    pub(crate) b: Recorded<PagedRam>,
     /// The offer that host A made before its journal began.
     offer: Option<Addressed>,
 }
 
 impl Pair {
     /// Hosts that speak a version and have written down nothing, with journals of so many entries.
-    fn new(alloc: Global, entries: u32, version: u32, has_offered: bool) -> Option<Pair> {
+    pub(crate) fn new(
+        alloc: Global,
+        entries: u32,
+        version: u32,
+        has_offered: bool,
+    ) -> Option<Pair> {
         let (a, offer) = first_host(alloc, entries, version, has_offered)?;
         Pair::with(alloc, entries, version, a, offer)
     }
@@ -167,7 +172,7 @@ impl Pair {
     }
 
     /// One order of both journals, asked for once more where that was refused memory.
-    fn order(&self, alloc: Global) -> Result<Vec<Event>, AuditError> {
+    pub(crate) fn order(&self, alloc: Global) -> Result<Vec<Event>, AuditError> {
         match audit(alloc, self.a.journal(), self.b.journal()) {
             Err(AuditError::OutOfMemory) => audit(alloc, self.a.journal(), self.b.journal()),
             ended => ended,
@@ -176,7 +181,7 @@ impl Pair {
 }
 
 /// Records an event: the frame that came of it, if one did.
-fn made(
+pub(crate) fn made(
     recorded: &mut Recorded<PagedRam>,
     alloc: Global,
     event: HostEvent,

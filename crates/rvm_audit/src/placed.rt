@@ -1,0 +1,212 @@
+//! Events in order. Those of steps and of rounds are kept as the runs that they are in a journal.
+
+ghost use Rattle.std.specs.Prelude.{◌≡◌, ◌∷◌, ◌++◌, ◌+◌, ◌<◌, ◌^◌, [], IfOk, IfSome, MatchOption, OnOk, Some, slice_get};
+ghost use Rattle.rvm_audit.specs.Pairs.{number_of};
+ghost use Rattle.rvm_audit.specs.Placed.{all_events, events_of, rounds_at, steps_at};
+ghost use Rattle.rvm_message.specs.declared.event.Command.{Command};
+ghost use Rattle.rvm_message.specs.declared.event.HostEvent.TheVariants.{Do};
+ghost use Rattle.rvm_world.specs.declared.event.Event.TheVariants.{At};
+
+use crate::side::Side;
+use rvm_debug::BoardEvent;
+use rvm_journal::{Rounds, Steps, exchange_in, hart_behind};
+use rvm_message::{Command, Exchange, ExchangeRef, HostEvent};
+use rvm_world::Event;
+use std::alloc::{AllocError, Global};
+use std::marker::Model;
+
+/// Events in order.
+#[derive(Drop)]
+pub struct Order {
+    items: Vec<Placed>,
+}
+
+/// One event, or those of steps of a host, or of rounds of them, however many there are.
+#[derive(Drop)]
+enum Placed {
+    Event(Event),
+    Steps(Side, Steps),
+    Rounds(Side, Rounds),
+}
+
+impl Model for Order {
+    ghost use Rattle.std.specs.Prelude.{List};
+    ghost use Rattle.rvm_world.specs.declared.event.Event.{Event};
+
+    ghost Value = { List Event };
+
+    // Below `Value`, since it reads a type of this crate.
+    ghost use Rattle.rvm_audit.specs.Placed.{all_events};
+
+    ghost view = { λ o. all_events o.items.items };
+}
+
+impl Order {
+    /// No event.
+    pub(crate) fn new(alloc: Global) -> Order
+        ensures { result ≡ [] }
+    {
+        Order {
+            items: Vec::new(alloc),
+        }
+    }
+
+    /// Puts an event behind the others.
+    pub(crate) fn push(&mut self, event: Event) -> Result<(), AllocError>
+        ensures { OnOk result (self.new ≡ self.old ++ event ∷ []) }
+    {
+        push_placed(&mut self.items, Placed::Event(event))
+    }
+
+    /// Puts those of steps of a host behind the others.
+    pub(crate) fn push_steps(&mut self, side: Side, steps: Steps) -> Result<(), AllocError>
+        ensures { OnOk result (self.new
+            ≡ self.old ++ steps_at (number_of side) steps.turn steps.harts steps.count) }
+    {
+        push_placed(&mut self.items, Placed::Steps(side, steps))
+    }
+
+    /// Puts those of rounds of a host behind the others.
+    pub(crate) fn push_rounds(&mut self, side: Side, rounds: Rounds) -> Result<(), AllocError>
+        ensures { OnOk result (self.new ≡ self.old
+            ++ rounds_at (number_of side) rounds.turn rounds.harts rounds.steps rounds.drain rounds.count) }
+    {
+        push_placed(&mut self.items, Placed::Rounds(side, rounds))
+    }
+
+    /// The events, one after the other.
+    pub fn events(&self) -> Events<'_>
+        ensures { result ≡ self.now }
+    {
+        Events {
+            items: self.items.as_slice(),
+            skipped: 0,
+        }
+    }
+
+    /// The events as a list, for which room for so many is made at once.
+    pub(crate) fn spelled(&self, alloc: Global, count: usize) -> Result<Vec<Event>, AllocError>
+        ensures { IfOk result (λ events. events.items ≡ self.now) }
+    {
+        let mut events = Vec::with_capacity(alloc, count)?;
+        let mut left = self.events();
+        while let Some(event) = left.next() {
+            events.push(event)?;
+        }
+        Ok(events)
+    }
+}
+
+/// Puts what stands in an order behind what does before.
+fn push_placed(items: &mut Vec<Placed>, placed: Placed) -> Result<(), AllocError>
+    ensures { OnOk result (all_events items.new.items ≡ all_events items.old.items ++ events_of placed) }
+{
+    items.push(placed)?;
+    Ok(())
+}
+
+/// The events of an order behind so many first ones.
+#[derive(Drop)]
+pub struct Events<'a> {
+    /// So many events of the first of these are passed.
+    items: &'a [Placed],
+    skipped: u32,
+}
+
+impl<'a> Model for Events<'a> {
+    ghost use Rattle.std.specs.Prelude.{List};
+    ghost use Rattle.rvm_world.specs.declared.event.Event.{Event};
+
+    ghost Value = { List Event };
+
+    // Below `Value`, since it reads a type of this crate.
+    ghost use Rattle.rvm_audit.specs.Placed.{events_behind};
+
+    ghost view = { λ e. events_behind e.items.now e.skipped };
+}
+
+impl<'a> Events<'a> {
+    /// The next event.
+    pub fn next(&mut self) -> Option<Event>
+        ensures { MatchOption result (self.old ≡ []) (λ e. self.old ≡ e ∷ self.new) }
+    {
+        while let Some((placed, rest)) = self.items.split_first() {
+            if let Some(event) = event_at(placed, self.skipped) {
+                self.skipped += 1;
+                return Some(event);
+            }
+            self.items = rest;
+            self.skipped = 0;
+        }
+        None
+    }
+}
+
+/// The event behind so many first ones of what stands in an order.
+fn event_at(placed: &Placed, skipped: u32) -> Option<Event>
+    ensures event { result ≡ slice_get (events_of placed.now) skipped }
+    ensures few { IfSome result (λ e. skipped + 1 < 2 ^ 32) }
+{
+    match placed {
+        Placed::Event(event) => {
+            if skipped != 0 {
+                return None;
+            }
+            Some(copy(event))
+        }
+        Placed::Steps(side, steps) => event_of_steps(*side, steps, skipped),
+        Placed::Rounds(side, rounds) => event_of_rounds(*side, rounds, skipped),
+    }
+}
+
+/// The same event again.
+fn copy(event: &Event) -> Event
+    ensures { result ≡ event.now }
+{
+    match event {
+        Event::At(host, command) => Event::At(*host, command.copy()),
+        Event::Deliver(place) => Event::Deliver(*place),
+    }
+}
+
+/// The event behind so many first ones of steps of a host.
+fn event_of_steps(side: Side, steps: &Steps, skipped: u32) -> Option<Event>
+    ensures event { result
+        ≡ slice_get (steps_at (number_of side) steps.now.turn steps.now.harts steps.now.count) skipped }
+    ensures few { IfSome result (λ e. skipped + 1 < 2 ^ 32) }
+{
+    if skipped >= steps.count {
+        return None;
+    }
+    let step = Command::Board(BoardEvent::Step(hart_behind(steps, skipped)));
+    Some(Event::At(side.number(), step))
+}
+
+/// The event behind so many first ones of rounds of a host.
+fn event_of_rounds(side: Side, rounds: &Rounds, skipped: u32) -> Option<Event>
+    ensures event { result ≡ slice_get (rounds_at (number_of side) rounds.now.turn rounds.now.harts
+        rounds.now.steps rounds.now.drain rounds.now.count) skipped }
+    ensures few { IfSome result (λ e. skipped + 1 < 2 ^ 32) }
+{
+    if skipped >= rounds.len() {
+        return None;
+    }
+    command_of(side, &exchange_in(rounds, skipped))
+}
+
+/// The event of the world that an exchange of a host is, where it is told to do something.
+fn command_of(side: Side, exchange: &Exchange) -> Option<Event>
+    ensures { (c : Command) → exchange.now.event ≡ Do c → result ≡ Some (At (number_of side) c) }
+{
+    let command = match exchange.look() {
+        ExchangeRef::Step { hart, reply: _ } => Command::Board(BoardEvent::Step(hart)),
+        ExchangeRef::Dry(count) => Command::Board(BoardEvent::Drain(count)),
+        ExchangeRef::Copied { .. } => Command::Copy,
+        ExchangeRef::Stored { .. } => return None,
+        ExchangeRef::Other { event, reply: _ } => match event {
+            HostEvent::Do(command) => command.copy(),
+            HostEvent::Came(..) => return None,
+        },
+    };
+    Some(Event::At(side.number(), command))
+}
