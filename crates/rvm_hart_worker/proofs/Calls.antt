@@ -108,11 +108,11 @@ made_on old new bytes ts p = record {
   ends = λ dry. absurd cc;
 }
 
--- a drain of some bytes
-pub made_drain_at_a : (old new b : PlainCaller) (n : ℕ) (reply : HostReply) → new.start ≡ old.start
-    → IsCall old.seat (event.Do (command.Board (asked.Drain (suc n)))) old.receipts new.seat new.receipts reply
+-- a drain
+pub made_drain_at_a : (old new b : PlainCaller) (reply : HostReply) → new.start ≡ old.start
+    → IsCall old.seat (event.Do (command.Board (asked.Drain 256))) old.receipts new.seat new.receipts reply
     → Made (old, b) (new, b) (bytes_of (told_by reply)) [] (is_nothing (told_by reply))
-made_drain_at_a old new b n reply same c = record {
+made_drain_at_a old new b reply same c = record {
   calls = AtA c.receipt ∷ [];
   start_a = same;
   start_b = refl;
@@ -130,10 +130,10 @@ made_drain_at_a old new b n reply same c = record {
   };
 }
 
-pub made_drain_at_b : (a old new : PlainCaller) (n : ℕ) (reply : HostReply) → new.start ≡ old.start
-    → IsCall old.seat (event.Do (command.Board (asked.Drain (suc n)))) old.receipts new.seat new.receipts reply
+pub made_drain_at_b : (a old new : PlainCaller) (reply : HostReply) → new.start ≡ old.start
+    → IsCall old.seat (event.Do (command.Board (asked.Drain 256))) old.receipts new.seat new.receipts reply
     → Made (a, old) (a, new) (bytes_of (told_by reply)) [] (is_nothing (told_by reply))
-made_drain_at_b a old new n reply same c = record {
+made_drain_at_b a old new reply same c = record {
   calls = AtB c.receipt ∷ [];
   start_a = refl;
   start_b = same;
@@ -155,12 +155,12 @@ made_drain_at_b a old new n reply same c = record {
 pub made_dry_at_a : (old new b : PlainCaller) (made : Bool) → new.start ≡ old.start
     → (made ≡ true → IsCall old.seat (dry_exchange 256).event old.receipts new.seat new.receipts (dry_exchange 256).reply)
     → made ≡ true → Made (old, b) (new, b) [] [] true
-made_dry_at_a old new b made same call is = made_drain_at_a old new b 255 (dry_exchange 256).reply same (call is)
+made_dry_at_a old new b made same call is = made_drain_at_a old new b (dry_exchange 256).reply same (call is)
 
 pub made_dry_at_b : (a old new : PlainCaller) (made : Bool) → new.start ≡ old.start
     → (made ≡ true → IsCall old.seat (dry_exchange 256).event old.receipts new.seat new.receipts (dry_exchange 256).reply)
     → made ≡ true → Made (a, old) (a, new) [] [] true
-made_dry_at_b a old new made same call is = made_drain_at_b a old new 255 (dry_exchange 256).reply same (call is)
+made_dry_at_b a old new made same call is = made_drain_at_b a old new (dry_exchange 256).reply same (call is)
 
 pub made_none_at_a : (old new b : PlainCaller) (made : Bool) → (made ≡ false → new ≡ old) → made ≡ false
     → Made (old, b) (new, b) [] [] false

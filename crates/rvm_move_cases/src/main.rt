@@ -1,18 +1,23 @@
 //! Moves guests over TCP, past a gate at which two workers meet, over a link without end, and over links that
 //! fail, and prints what became of each; plays the order of a move as a script; and prints how receivers end,
-//! by what their links give.
+//! by what their links give, and how copiers wait.
 //!
-//! To be read in this order: `asked`, `ended`, `live`, `meeting`, `audited`, `endless`, `hearing`, `failing`.
+//! To be read in this order: `asked`, `ended`, `live`, `counting`, `meeting`, `audited`, `endless`, `hearing`,
+//! `waiting`, `printing`, `broken`, `failing`.
 #![tactic(auto)]
 
 mod asked;
 mod audited;
+mod broken;
+mod counting;
 mod ended;
 mod endless;
 mod failing;
 mod hearing;
 mod live;
 mod meeting;
+mod printing;
+mod waiting;
 
 fn main(rt: HostRuntime) -> anyhow::Result<()> {
     live::move_guests(&rt)?;
@@ -20,5 +25,9 @@ fn main(rt: HostRuntime) -> anyhow::Result<()> {
     audited::play_order(&rt)?;
     endless::hear_without_end(&rt)?;
     hearing::hear_links(&rt)?;
+    waiting::wait_for_answers(&rt)?;
+    printing::print_much(&rt)?;
+    broken::break_writers(&rt)?;
+    broken::fill_journals(&rt)?;
     failing::break_links(&rt)
 }
