@@ -17,6 +17,7 @@ use Rattle.rvm_worker.specs.declared.end.WorkEnd.TheVariants.{LinkFault}
 use Rattle.rvm_worker.specs.declared.steps.SliceSteps.{SliceSteps}
 use Rattle.rvm_worker.specs.Work.{IsCall, IsSliceCall, PlainCaller}
 use Rattle.rvm_hart_worker.specs.Calls.{AtA, AtB, Call, EndsDry, HasRun, Made, Written, IsRun, bytes_in, bytes_of, drained_by, event_in, found_nothing, in_a, in_b, is_of_run, turns_in}
+use Rattle.rvm_hart_worker.specs.declared.pair.Drained.{Drained}
 use Rattle.rvm_hart_worker.specs.Drains.{is_nothing, told_by}
 use Rattle.rvm_hart_worker.specs.Turns.{AreTurns, Turn, after_step, after_turns, turn_made, turns, turns_of}
 use Rattle.rvm_hart_worker.specs.declared.harts.TurnsEnd.{TurnsEnd}
@@ -92,6 +93,12 @@ pub made_behind_err : {T E : Type 0} (r : Result T E) (old mid new : PlainCaller
     → Made old mid [] [] false → Made mid new [] [] false → OnErr r (Made old new [] [] false)
 made_behind_err (Ok x) old mid new p q = tt
 made_behind_err (Err e) old mid new p q = made_behind old mid new [] [] false p q
+
+-- the same of what a drain answers
+pub made_behind_drain : {E : Type 0} (r : Result Drained E) (old mid new : PlainCaller × PlainCaller) → Made old mid [] [] false
+    → IfOk r (λ d. Made mid new (bytes_of d) [] (is_nothing d)) → IfOk r (λ d. Made old new (bytes_of d) [] (is_nothing d))
+made_behind_drain (Ok d) old mid new p q = made_behind old mid new (bytes_of d) [] (is_nothing d) p q
+made_behind_drain (Err e) old mid new p q = tt
 
 -- calls, of which others may come behind the last
 made_on : (old new : PlainCaller × PlainCaller) (bytes : List ℕ) (ts : List Turn) → Made old new bytes ts true

@@ -1,6 +1,6 @@
 //! The two hosts of a move.
 
-ghost use Rattle.std.specs.Prelude.{◌≡◌, ◌≤◌, [], ◌++◌, true, None, Some, vec_len, IfErr, IfOk, OnOk};
+ghost use Rattle.std.specs.Prelude.{◌≡◌, ◌≤◌, [], ◌++◌, true, None, Some, vec_len, IfOk};
 ghost use Rattle.rvm_cell.specs.Runs.{all_of};
 ghost use Rattle.rvm_move.specs.Ends.{first_fault};
 ghost use Rattle.rvm_move.specs.Hosts.{AreAll};
@@ -119,28 +119,27 @@ pub(crate) fn close_host<L: Seating, M: PagedMemory + Drop, K: Link + Drop, R: W
         receipts,
         is_whole,
     } = returned;
-    end_of(close(rt, alloc, host, seats, receipts), is_whole)
-}
-
-/// A host that was closed, or was not.
-fn end_of<L: Seating, M: PagedMemory + Drop>(
-    closed: Result<Recorded<M>, CloseError<L, M>>,
-    is_whole: bool,
-) -> HostEnd<M>
-    ensures recorded { IfOk closed (λ r. result.recorded ≡ r) }
-    ensures opening { IfErr closed (λ e. result.recorded.journal.opening ≡ L.opening) }
-    ensures open { IfErr closed (λ e. result.fault ≡ first_fault is_whole (Some e.kind)) }
-    ensures closed { OnOk closed (result.fault ≡ first_fault is_whole None) }
-{
-    match closed {
+    match close(rt, alloc, host, seats, receipts) {
         Ok(recorded) => HostEnd {
             recorded,
             fault: first_fault(is_whole, None),
         },
-        Err(error) => HostEnd {
-            fault: first_fault(is_whole, Some(error.kind)),
-            recorded: error.opened.into_recorded(),
-        },
+        Err(error) => not_closed(error, is_whole),
+    }
+}
+
+/// A host that was not closed.
+fn not_closed<L: Seating, M: PagedMemory + Drop>(
+    error: CloseError<L, M>,
+    is_whole: bool,
+) -> HostEnd<M>
+    ensures opening { result.recorded.journal.opening ≡ L.opening }
+    ensures first { result.fault ≡ first_fault is_whole (Some error.kind) }
+    ensures some { result.fault ≡ None → ⊥ }
+{
+    HostEnd {
+        fault: first_fault(is_whole, Some(error.kind)),
+        recorded: error.opened.into_recorded(),
     }
 }
 
