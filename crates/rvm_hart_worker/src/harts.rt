@@ -41,7 +41,7 @@ pub struct HartsWorked<A: Seating, B: Seating> {
 /// at the end. A call that one host refuses, since the guest is not there or paused there, is made at
 /// the other; while both refuse it, it is tried again each millisecond. Each byte that a drain takes is
 /// written once, in order, unless the writer fails, which ends the worker with `LinkFault`. It asks for
-/// nothing but steps, and drains of at least one byte. Where the turns come to their end, the last call is a
+/// nothing but steps, and drains of up to 256 bytes. Where the turns come to their end, the last call is a
 /// drain that finds nothing.
 pub fn hart_worker<
     A: Seating,

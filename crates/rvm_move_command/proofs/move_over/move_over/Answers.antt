@@ -3,7 +3,6 @@ use Rattle.std.specs.Prelude.{IfOk}
 use Rattle.rvm_move.specs.Hosts.{IsFirstEnd}
 use Rattle.rvm_move.specs.Runs.{IsEndRun}
 use Rattle.rvm_move_command.specs.Ended.{AreLeft, IsFailureOf, IsMoved, IsToldOf}
-use Rattle.rvm_move_command.specs.Plans.{plan_of}
 use Rattle.rvm_move_command.proofs.Failed.{failed_of, for_memory, not_moved}
 use Rattle.rvm_move_command.proofs.Moved.{if_ok, left, moved, moved_told, opened}
 use Rattle.rvm_move_command.proofs.Untold as untold
