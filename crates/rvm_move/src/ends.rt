@@ -53,10 +53,8 @@ fn fails_hearing(end: WorkEnd) -> bool
     ensures { result ≡ fails_hearing end }
 {
     match end {
-        WorkEnd::OutOfMemory
-        | WorkEnd::RecorderFull(_)
-        | WorkEnd::Stopped
-        | WorkEnd::NoThread => true,
+        WorkEnd::OutOfMemory | WorkEnd::RecorderFull(_) | WorkEnd::Stopped | WorkEnd::NoThread =>
+            true,
         _ => false,
     }
 }

@@ -5,7 +5,9 @@ ghost use Rattle.rvm_cell.specs.Runs.{all_of};
 ghost use Rattle.rvm_move.specs.Ends.{first_fault};
 ghost use Rattle.rvm_move.specs.Hosts.{AreAll};
 
-use rvm_cell::{CloseError, CloseKind, ReceiptItem, Seat, Seating, ShareError, SharedHost, close, share};
+use rvm_cell::{
+    CloseError, CloseKind, ReceiptItem, Seat, Seating, ShareError, SharedHost, close, share,
+};
 use rvm_journal::Recorded;
 use rvm_link::{Link, Outgoing};
 use rvm_mem::PagedMemory;

@@ -275,15 +275,5 @@ fn hear_in<L: Seating, R: AllocGlobal + Wait>(
         outgoing: &outgoing,
     };
     let worker = Worker::ReceiverAtB;
-    receiver_worker(
-        rt,
-        rt.alloc(),
-        &side,
-        seat,
-        &OpenGate,
-        worker,
-        0,
-        given,
-    )
-    .end
+    receiver_worker(rt, rt.alloc(), &side, seat, &OpenGate, worker, 0, given).end
 }

@@ -102,6 +102,8 @@ fn print_gate<R: Print, C: Clock + Drop>(rt: &R, gate: &Meeting<C>) -> anyhow::R
     let met = gate.harts.load(Ordering::SeqCst) && gate.copier.load(Ordering::SeqCst);
     let counted = gate.counts.has_counted();
     let few = gate.counts.calls(Worker::Harts) < FEW;
-    println!(rt; "both were at the gate {met}, each call by its number {counted}, slices as one {few}")?;
+    println!(rt;
+        "both were at the gate {met}, each call by its number {counted}, slices as one {few}"
+    )?;
     Ok(())
 }

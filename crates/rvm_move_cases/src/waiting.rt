@@ -80,12 +80,9 @@ impl<L: Seating, R: Wait> CountingClock<'_, L, R> {
             return;
         };
         let mut seat = self.seat.lock(self.rt);
-        let _answered = self.host.call(
-            self.rt,
-            self.alloc,
-            &mut *seat,
-            HostEvent::Came(1, frame),
-        );
+        let _answered = self
+            .host
+            .call(self.rt, self.alloc, &mut *seat, HostEvent::Came(1, frame));
     }
 }
 
@@ -147,12 +144,16 @@ fn print_waits<R: AllocGlobal + Print + Wait>(
         sends,
     };
     match waited(rt, answers) {
-        Some(Waited {
-            end,
-            short,
-            long,
-            others,
-        }) => println!(rt; "{name}: {end:?}, waits of 1 ms {short}, of 10 ms {long}, others {others}")?,
+        Some(
+            Waited {
+                end,
+                short,
+                long,
+                others,
+            },
+        ) => println!(rt;
+            "{name}: {end:?}, waits of 1 ms {short}, of 10 ms {long}, others {others}"
+        )?,
         None => println!(rt; "{name}: no host")?,
     }
     Ok(())
