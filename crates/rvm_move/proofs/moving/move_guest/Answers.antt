@@ -22,7 +22,7 @@ returns-clause-a g c =
       copied = λ closed. subst (λ end. IsCopiedEnd end entries) (sym c.close_both.ensures.copier)
           (copier_ended entries turns copier heard (c.close_both.ensures.told_a closed) carried.copier.end are.of_copier.ended);
       heard = λ closed. subst (λ end. IsHeardEnd end entries) (sym c.close_both.ensures.receivers.0)
-          (receiver_ended _ entries (turns ++ copier) heard
+          (receiver_ended (g.K.Link.remaining c.args.links.0.receiving) entries (turns ++ copier) heard
           (subst (AreAll entries) (sym (append_assoc turns copier heard)) (c.close_both.ensures.told_a closed))
           carried.receiver_a.end are.of_first.ended);
     }
@@ -39,7 +39,7 @@ returns-clause-b g c =
       asked = asked_of_second c.args.plan.now.policy _ _ _ _ _ _ _ _ are _ _ _ _ _ _ _ _ c.seat_and_work-carried.ensures.run
           moved.b.fault entries c.close_both.ensures.told_b;
       heard = λ closed. subst (λ end. IsHeardEnd end entries) (sym c.close_both.ensures.receivers.1)
-          (second_ended _ entries turns heard (c.close_both.ensures.told_b closed) carried.receiver_b.end
+          (second_ended (g.K.Link.remaining c.args.links.1.receiving) entries turns heard (c.close_both.ensures.told_b closed) carried.receiver_b.end
           (turns_of_second c.args.plan.now.policy _ _ _ _ _ _ _ _ are _ _ _ _ _ _ _ _ c.seat_and_work-carried.ensures.run)
           are.of_second);
     }
