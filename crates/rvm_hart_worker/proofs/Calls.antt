@@ -17,6 +17,7 @@ use Rattle.rvm_worker.specs.declared.end.WorkEnd.TheVariants.{LinkFault}
 use Rattle.rvm_worker.specs.declared.steps.SliceSteps.{SliceSteps}
 use Rattle.rvm_worker.specs.Work.{IsCall, IsSliceCall, PlainCaller}
 use Rattle.rvm_hart_worker.specs.Calls.{AtA, AtB, Call, EndsDry, HasRun, Made, Written, IsRun, bytes_in, bytes_of, drained_by, event_in, found_nothing, in_a, in_b, is_of_run, turns_in}
+use Rattle.rvm_hart_worker.specs.declared.pair.Drained.{Drained}
 use Rattle.rvm_hart_worker.specs.Drains.{is_nothing, told_by}
 use Rattle.rvm_hart_worker.specs.Turns.{AreTurns, Turn, after_step, after_turns, turn_made, turns, turns_of}
 use Rattle.rvm_hart_worker.specs.declared.harts.TurnsEnd.{TurnsEnd}
@@ -93,6 +94,12 @@ pub made_behind_err : {T E : Type 0} (r : Result T E) (old mid new : PlainCaller
 made_behind_err (Ok x) old mid new p q = tt
 made_behind_err (Err e) old mid new p q = made_behind old mid new [] [] false p q
 
+-- the same of what a drain answers
+pub made_behind_drain : {E : Type 0} (r : Result Drained E) (old mid new : PlainCaller × PlainCaller) → Made old mid [] [] false
+    → IfOk r (λ d. Made mid new (bytes_of d) [] (is_nothing d)) → IfOk r (λ d. Made old new (bytes_of d) [] (is_nothing d))
+made_behind_drain (Ok d) old mid new p q = made_behind old mid new (bytes_of d) [] (is_nothing d) p q
+made_behind_drain (Err e) old mid new p q = tt
+
 -- calls, of which others may come behind the last
 made_on : (old new : PlainCaller × PlainCaller) (bytes : List ℕ) (ts : List Turn) → Made old new bytes ts true
     → Made old new bytes ts false
@@ -108,11 +115,11 @@ made_on old new bytes ts p = record {
   ends = λ dry. absurd cc;
 }
 
--- a drain of some bytes
-pub made_drain_at_a : (old new b : PlainCaller) (n : ℕ) (reply : HostReply) → new.start ≡ old.start
-    → IsCall old.seat (event.Do (command.Board (asked.Drain (suc n)))) old.receipts new.seat new.receipts reply
+-- a drain
+pub made_drain_at_a : (old new b : PlainCaller) (reply : HostReply) → new.start ≡ old.start
+    → IsCall old.seat (event.Do (command.Board (asked.Drain 256))) old.receipts new.seat new.receipts reply
     → Made (old, b) (new, b) (bytes_of (told_by reply)) [] (is_nothing (told_by reply))
-made_drain_at_a old new b n reply same c = record {
+made_drain_at_a old new b reply same c = record {
   calls = AtA c.receipt ∷ [];
   start_a = same;
   start_b = refl;
@@ -130,10 +137,10 @@ made_drain_at_a old new b n reply same c = record {
   };
 }
 
-pub made_drain_at_b : (a old new : PlainCaller) (n : ℕ) (reply : HostReply) → new.start ≡ old.start
-    → IsCall old.seat (event.Do (command.Board (asked.Drain (suc n)))) old.receipts new.seat new.receipts reply
+pub made_drain_at_b : (a old new : PlainCaller) (reply : HostReply) → new.start ≡ old.start
+    → IsCall old.seat (event.Do (command.Board (asked.Drain 256))) old.receipts new.seat new.receipts reply
     → Made (a, old) (a, new) (bytes_of (told_by reply)) [] (is_nothing (told_by reply))
-made_drain_at_b a old new n reply same c = record {
+made_drain_at_b a old new reply same c = record {
   calls = AtB c.receipt ∷ [];
   start_a = refl;
   start_b = same;
@@ -155,12 +162,12 @@ made_drain_at_b a old new n reply same c = record {
 pub made_dry_at_a : (old new b : PlainCaller) (made : Bool) → new.start ≡ old.start
     → (made ≡ true → IsCall old.seat (dry_exchange 256).event old.receipts new.seat new.receipts (dry_exchange 256).reply)
     → made ≡ true → Made (old, b) (new, b) [] [] true
-made_dry_at_a old new b made same call is = made_drain_at_a old new b 255 (dry_exchange 256).reply same (call is)
+made_dry_at_a old new b made same call is = made_drain_at_a old new b (dry_exchange 256).reply same (call is)
 
 pub made_dry_at_b : (a old new : PlainCaller) (made : Bool) → new.start ≡ old.start
     → (made ≡ true → IsCall old.seat (dry_exchange 256).event old.receipts new.seat new.receipts (dry_exchange 256).reply)
     → made ≡ true → Made (a, old) (a, new) [] [] true
-made_dry_at_b a old new made same call is = made_drain_at_b a old new 255 (dry_exchange 256).reply same (call is)
+made_dry_at_b a old new made same call is = made_drain_at_b a old new (dry_exchange 256).reply same (call is)
 
 pub made_none_at_a : (old new b : PlainCaller) (made : Bool) → (made ≡ false → new ≡ old) → made ≡ false
     → Made (old, b) (new, b) [] [] false

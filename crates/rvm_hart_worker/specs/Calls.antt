@@ -1,5 +1,5 @@
 -- What a worker at two hosts was told by its calls, and which turns they made.
-use Rattle.std.specs.Prelude.{◌≡◌, ◌≢◌, ℕ, suc, Bool, true, false, List, [], ◌∷◌, ◌++◌, Option, None, Some, Result, Err, is_ok}
+use Rattle.std.specs.Prelude.{◌≡◌, ◌≢◌, ℕ, Bool, true, false, ◌==◌, ◌&&◌, List, [], ◌∷◌, ◌++◌, Option, None, Some, Result, Err, is_ok}
 use Rattle.std.specs.Io.KnownBytes.{Appends}
 use Rattle.std.specs.List.{All, flat_map}
 use Rattle.rvm_cell.specs.Receipts.{PlainReceipt}
@@ -57,18 +57,18 @@ abbrev pub event_in : Call → HostEvent
 event_in (AtA r) = r.event
 event_in (AtB r) = r.event
 
--- an event by which a run goes on: a hart steps, or some bytes are drained
+-- an event by which a run goes on: a hart steps, or up to 256 bytes are drained
 abbrev pub is_of_run : HostEvent → Bool
 is_of_run (event.Do (command.Board (asked.Step hart))) = true
-is_of_run (event.Do (command.Board (asked.Drain (suc n)))) = true
+is_of_run (event.Do (command.Board (asked.Drain n))) = n == 256
 is_of_run e = false
 
--- whether an event was a drain of some bytes that found nothing, by the reply to it
+-- whether an event was a drain of up to 256 bytes that found nothing, by the reply to it
 abbrev pub found_nothing : HostEvent → HostReply → Bool
-found_nothing (event.Do (command.Board (asked.Drain (suc n)))) r = is_nothing (told_by r)
+found_nothing (event.Do (command.Board (asked.Drain n))) r = (n == 256) && is_nothing (told_by r)
 found_nothing e r = false
 
--- whether a call was a drain of some bytes that found nothing
+-- whether a call was such a drain
 abbrev pub is_dry : Call → Bool
 is_dry (AtA r) = found_nothing r.event r.reply
 is_dry (AtB r) = found_nothing r.event r.reply

@@ -15,6 +15,8 @@ use Rattle.rvm_hart_worker.specs.declared.harts.TurnsEnd.TheVariants as ended
 use Rattle.rvm_hart_worker.specs.declared.slices.Then.{Then}
 use Rattle.rvm_hart_worker.specs.declared.slices.Then.TheVariants.{GoOn, Elsewhere, Halted}
 use Rattle.rvm_worker.specs.declared.end.WorkEnd.{WorkEnd}
+use Rattle.rvm_worker.specs.declared.end.WorkEnd.TheVariants.{GuestStopped, LinkFault, OutOfRange}
+use Rattle.rvm_worker.specs.Endings.{is_uncalled}
 
 -- after the board's answer: a hart that stops at a breakpoint has had its turn
 abbrev pub after_answer : BoardReply → Then
@@ -63,6 +65,17 @@ turn_of_step hart t = (hart, t) ∷ []
 abbrev pub turn_made : HostEvent → HostReply → List Turn
 turn_made (event.Do (command.Board (asked.Step hart))) r = turn_of_step hart (after_step r)
 turn_made e r = []
+
+-- how turns and drains fail: neither host takes one, a slice has not so many turns, or the call was not made
+abbrev pub fails_calling : WorkEnd → Bool
+fails_calling GuestStopped = true
+fails_calling OutOfRange = true
+fails_calling end = is_uncalled end
+
+-- how a run fails: so, or the writer does
+abbrev pub fails_running : WorkEnd → Bool
+fails_running LinkFault = true
+fails_running end = fails_calling end
 
 -- turns of a run, of which the last halted the board
 pub record Halts (harts steps status : ℕ) (made : List Turn) : Type 0 where

@@ -5,6 +5,7 @@ ghost use Rattle.std.specs.Io.KnownBytes.{Appends};
 ghost use Rattle.rvm_cell.specs.Runs.{all_of};
 ghost use Rattle.rvm_worker.specs.Work.{IsWork};
 ghost use Rattle.rvm_hart_worker.specs.Calls.{HasRun, IsRun, Written};
+ghost use Rattle.rvm_hart_worker.specs.Turns.{fails_running};
 
 use crate::pair::{Hosts, Pair};
 use crate::slices::{Then, until_drain};
@@ -40,7 +41,7 @@ pub struct HartsWorked<A: Seating, B: Seating> {
 /// at the end. A call that one host refuses, since the guest is not there or paused there, is made at
 /// the other; while both refuse it, it is tried again each millisecond. Each byte that a drain takes is
 /// written once, in order, unless the writer fails, which ends the worker with `LinkFault`. It asks for
-/// nothing but steps, and drains of at least one byte. Where the turns come to their end, the last call is a
+/// nothing but steps, and drains of up to 256 bytes. Where the turns come to their end, the last call is a
 /// drain that finds nothing.
 pub fn hart_worker<
     A: Seating,
@@ -63,6 +64,7 @@ pub fn hart_worker<
     ensures at_b { IsWork seats.1 result.seats.1 (all_of result.receipts.1.items) }
     ensures run { IsRun (all_of result.receipts.0.items) (all_of result.receipts.1.items) (W.contents writer.old)
         (W.contents writer.new) (result.end ≢ Err WorkEnd.LinkFault) harts steps result.end }
+    ensures fails { IfErr result.end (λ e. fails_running e ≡ true) }
 {
     let (a, b) = seats;
     let mut pair = Pair {
@@ -103,7 +105,7 @@ fn give_back<A: Seating, B: Seating>(
 }
 
 /// Makes the turns of a run, and writes what the guest sends.
-#[tactic(auto, using(crate::proofs::Calls::has_begun))]
+#[tactic(auto, using(crate::proofs::Calls::has_begun, crate::proofs::Failing::calling_fails))]
 fn run<A: Seating, B: Seating, M: PagedMemory + Drop, W: Write, G: Gate, R: Wait + Clock>(
     rt: &R,
     alloc: Global,
@@ -118,6 +120,7 @@ fn run<A: Seating, B: Seating, M: PagedMemory + Drop, W: Write, G: Gate, R: Wait
         (W.contents writer.old) (W.contents writer.new) harts steps (Ok end)) }
     ensures err { IfErr result (λ e. HasRun (pair.old.at_a, pair.old.at_b) (pair.new.at_a, pair.new.at_b)
         (W.contents writer.old) (W.contents writer.new) harts steps (Err e)) }
+    ensures fails { IfErr result (λ e. fails_running e ≡ true) }
 {
     let mut turn = 0;
     while turn < steps {
@@ -137,7 +140,7 @@ fn run<A: Seating, B: Seating, M: PagedMemory + Drop, W: Write, G: Gate, R: Wait
 }
 
 /// Writes what the guest sent, until nothing is left.
-#[tactic(auto, using(crate::proofs::Calls::written_none, crate::proofs::Calls::written_next, crate::proofs::Calls::written_dry, crate::proofs::Calls::written_still_err, crate::proofs::Calls::written_failed_err))]
+#[tactic(auto, using(crate::proofs::Calls::written_none, crate::proofs::Calls::written_next, crate::proofs::Calls::written_dry, crate::proofs::Calls::written_still_err, crate::proofs::Calls::written_failed_err, crate::proofs::Failing::calling_fails, crate::proofs::Failing::writer_fails))]
 fn drain<A: Seating, B: Seating, M: PagedMemory + Drop, W: Write, G: Gate, R: Wait + Clock>(
     rt: &R,
     alloc: Global,
@@ -150,6 +153,7 @@ fn drain<A: Seating, B: Seating, M: PagedMemory + Drop, W: Write, G: Gate, R: Wa
         (W.contents writer.old) (W.contents writer.new) ⊤ [] true) }
     ensures err { IfErr result (λ e. Written (pair.old.at_a, pair.old.at_b) (pair.new.at_a, pair.new.at_b)
         (W.contents writer.old) (W.contents writer.new) (e ≢ WorkEnd.LinkFault) [] false) }
+    ensures fails { IfErr result (λ e. fails_running e ≡ true) }
 {
     for _drain in 0..u64::MAX {
         match pair.sent_by_guest(rt, alloc, hosts, watch)? {

@@ -1,10 +1,10 @@
 //! The guest's host, of two.
 
-ghost use Rattle.std.specs.Prelude.{◌≡◌, ◌≢◌, ◌≤◌, true, false, [], IfOk, OnErr};
+ghost use Rattle.std.specs.Prelude.{◌≡◌, ◌≢◌, ◌≤◌, true, false, [], IfErr, IfOk, OnErr};
 ghost use Rattle.rvm_hart_worker.specs.Calls.{Made, bytes_of, given, has_none};
 ghost use Rattle.rvm_hart_worker.specs.declared.slices.Then.TheVariants.{Elsewhere};
 ghost use Rattle.rvm_hart_worker.specs.Drains.{is_nothing, told_by};
-ghost use Rattle.rvm_hart_worker.specs.Turns.{after_turns, turns};
+ghost use Rattle.rvm_hart_worker.specs.Turns.{after_turns, fails_calling, turns};
 
 use crate::slices::{Slice, Then, made_by};
 use rvm_cell::{Seating, SharedHost};
@@ -92,7 +92,7 @@ fn taken(bytes: View) -> Drained
 
 impl<A: Seating, B: Seating> Pair<A, B> {
     /// Makes a slice where the guest was met last.
-    #[tactic(auto, using(crate::proofs::Calls::made_slice_at_a, crate::proofs::Calls::made_slice_at_b, crate::proofs::Calls::made_none))]
+    #[tactic(auto, using(crate::proofs::Calls::made_slice_at_a, crate::proofs::Calls::made_slice_at_b, crate::proofs::Calls::made_none, crate::proofs::Failing::unsliced_fails))]
     fn slice<M: PagedMemory + Drop, R: Wait>(
         &mut self,
         rt: &R,
@@ -107,6 +107,7 @@ impl<A: Seating, B: Seating> Pair<A, B> {
         ensures made { IfOk result (λ s. Made (self.old.at_a, self.old.at_b) (self.new.at_a, self.new.at_b)
             [] (turns harts turn s.made (after_turns s.then)) false) }
         ensures err { OnErr result (Made (self.old.at_a, self.old.at_b) (self.new.at_a, self.new.at_b) [] [] false) }
+        ensures fails { IfErr result (λ e. fails_calling e ≡ true) }
     {
         let steps = if self.is_at_a {
             self.at_a.slice(rt, alloc, hosts.a, turn, harts, n)?
@@ -117,7 +118,7 @@ impl<A: Seating, B: Seating> Pair<A, B> {
     }
 
     /// Makes a slice at the gate. Where the guest is elsewhere, the other host is asked next.
-    #[tactic(auto, using(crate::proofs::Calls::made_none))]
+    #[tactic(auto, using(crate::proofs::Calls::made_none, crate::proofs::Failing::stopped_fails))]
     fn slice_at_gate<M: PagedMemory + Drop, G: Gate, R: Wait>(
         &mut self,
         rt: &R,
@@ -133,6 +134,7 @@ impl<A: Seating, B: Seating> Pair<A, B> {
         ensures made { IfOk result (λ s. Made (self.old.at_a, self.old.at_b) (self.new.at_a, self.new.at_b)
             [] (turns harts turn s.made (after_turns s.then)) false) }
         ensures err { OnErr result (Made (self.old.at_a, self.old.at_b) (self.new.at_a, self.new.at_b) [] [] false) }
+        ensures fails { IfErr result (λ e. fails_calling e ≡ true) }
     {
         watch.before()?;
         let slice = self.slice(rt, alloc, hosts, turn, harts, n)?;
@@ -159,6 +161,7 @@ impl<A: Seating, B: Seating> Pair<A, B> {
         ensures made { IfOk result (λ s. Made (self.old.at_a, self.old.at_b) (self.new.at_a, self.new.at_b)
             [] (turns harts turn s.made (after_turns s.then)) false) }
         ensures err { OnErr result (Made (self.old.at_a, self.old.at_b) (self.new.at_a, self.new.at_b) [] [] false) }
+        ensures fails { IfErr result (λ e. fails_calling e ≡ true) }
     {
         let slice = self.slice_at_gate(rt, alloc, hosts, watch, turn, harts, n)?;
         if slice.made > 0 {
@@ -185,6 +188,7 @@ impl<A: Seating, B: Seating> Pair<A, B> {
         ensures made { IfOk result (λ s. Made (self.old.at_a, self.old.at_b) (self.new.at_a, self.new.at_b)
             [] (turns harts turn s.made (after_turns s.then)) false) }
         ensures err { OnErr result (Made (self.old.at_a, self.old.at_b) (self.new.at_a, self.new.at_b) [] [] false) }
+        ensures fails { IfErr result (λ e. fails_calling e ≡ true) }
     {
         let mut heard = false;
         for _try in 0..TRIES {
@@ -215,7 +219,7 @@ impl<A: Seating, B: Seating> Pair<A, B> {
     }
 
     /// Drains where the guest was met last, whatever the drain finds.
-    #[tactic(auto, using(crate::proofs::Calls::made_drain_at_a, crate::proofs::Calls::made_drain_at_b, crate::proofs::Calls::made_none))]
+    #[tactic(auto, using(crate::proofs::Calls::made_drain_at_a, crate::proofs::Calls::made_drain_at_b, crate::proofs::Calls::made_none, crate::proofs::Failing::short_fails))]
     fn drain_any<M: PagedMemory + Drop, R: Wait>(
         &mut self,
         rt: &R,
@@ -225,6 +229,7 @@ impl<A: Seating, B: Seating> Pair<A, B> {
         ensures made { IfOk result (λ d. Made (self.old.at_a, self.old.at_b)
             (self.new.at_a, self.new.at_b) (bytes_of d) [] (is_nothing d)) }
         ensures err { OnErr result (Made (self.old.at_a, self.old.at_b) (self.new.at_a, self.new.at_b) [] [] false) }
+        ensures fails { IfErr result (λ e. fails_calling e ≡ true) }
     {
         let event = HostEvent::Do(Command::Board(BoardEvent::Drain(DRAIN_SIZE)));
         let (reply, _frame) = if self.is_at_a {
@@ -246,6 +251,7 @@ impl<A: Seating, B: Seating> Pair<A, B> {
         ensures made { IfOk result (λ d. Made (self.old.at_a, self.old.at_b)
             (self.new.at_a, self.new.at_b) (bytes_of d) [] (is_nothing d)) }
         ensures err { OnErr result (Made (self.old.at_a, self.old.at_b) (self.new.at_a, self.new.at_b) [] [] false) }
+        ensures fails { IfErr result (λ e. fails_calling e ≡ true) }
     {
         if self.finds_nothing(rt, hosts) {
             return Ok(Drained::Nothing);
@@ -254,7 +260,7 @@ impl<A: Seating, B: Seating> Pair<A, B> {
     }
 
     /// Drains at the gate. Where the guest is elsewhere, the other host is asked next.
-    #[tactic(auto, using(crate::proofs::Calls::made_none))]
+    #[tactic(auto, using(crate::proofs::Calls::made_none, crate::proofs::Failing::stopped_fails))]
     fn drain_at_gate<M: PagedMemory + Drop, G: Gate, R: Wait>(
         &mut self,
         rt: &R,
@@ -265,6 +271,7 @@ impl<A: Seating, B: Seating> Pair<A, B> {
         ensures made { IfOk result (λ d. Made (self.old.at_a, self.old.at_b)
             (self.new.at_a, self.new.at_b) (bytes_of d) [] (is_nothing d)) }
         ensures err { OnErr result (Made (self.old.at_a, self.old.at_b) (self.new.at_a, self.new.at_b) [] [] false) }
+        ensures fails { IfErr result (λ e. fails_calling e ≡ true) }
     {
         watch.before()?;
         let drained = self.drain(rt, alloc, hosts)?;
@@ -287,6 +294,7 @@ impl<A: Seating, B: Seating> Pair<A, B> {
         ensures made { IfOk result (λ d. Made (self.old.at_a, self.old.at_b)
             (self.new.at_a, self.new.at_b) (bytes_of d) [] (is_nothing d)) }
         ensures err { OnErr result (Made (self.old.at_a, self.old.at_b) (self.new.at_a, self.new.at_b) [] [] false) }
+        ensures fails { IfErr result (λ e. fails_calling e ≡ true) }
     {
         match self.drain_at_gate(rt, alloc, hosts, watch)? {
             Drained::Elsewhere => self.drain_at_gate(rt, alloc, hosts, watch),
@@ -307,6 +315,7 @@ impl<A: Seating, B: Seating> Pair<A, B> {
         ensures made { IfOk result (λ o. Made (self.old.at_a, self.old.at_b)
             (self.new.at_a, self.new.at_b) (given o) [] (has_none o)) }
         ensures err { OnErr result (Made (self.old.at_a, self.old.at_b) (self.new.at_a, self.new.at_b) [] [] false) }
+        ensures fails { IfErr result (λ e. fails_calling e ≡ true) }
     {
         let mut heard = false;
         for _try in 0..TRIES {

@@ -1,8 +1,9 @@
 //! Links.
 
-ghost use Rattle.std.specs.Prelude.{ℕ, List, Option, None, OnOk, length};
+ghost use Rattle.std.specs.Prelude.{◌≡◌, ◌<◌, ℕ, List, Option, None, OnOk, length};
 ghost use Rattle.std.specs.Io.KnownBytes.{Appends, Keeps};
 ghost use Rattle.rvm_link.specs.Reads.{GivesAtMost, IsRead};
+ghost use Rattle.rvm_link.specs.declared.link.LinkRead.TheVariants.{End};
 
 use rvm_refusal::LinkFault;
 
@@ -30,6 +31,9 @@ pub trait Link {
     /// What is to come, where that is known.
     ghost remaining: { Self → Option (List ℕ) } = { λ _. None };
 
+    /// The last read found the end. Only a read that answers so can show it.
+    ghost has_ended: { Self → Type 0 } = { λ _. Unit {0} };
+
     /// Sends all of these bytes, or answers `LinkFault` where the link failed. They may wait to go out
     /// together with more.
     fn send(&mut self, bytes: &[u8]) -> Result<(), LinkFault>
@@ -44,5 +48,6 @@ pub trait Link {
     /// they are, at most the buffer's length. What stands behind them may have changed too.
     fn recv(&mut self, buffer: &mut [u8]) -> LinkRead
         ensures most { GivesAtMost result (length buffer.new) }
-        ensures bytes { IsRead (remaining self.old) (remaining self.new) result buffer.new };
+        ensures bytes { IsRead (remaining self.old) (remaining self.new) result buffer.new }
+        ensures ended { result ≡ End → 0 < length buffer.new → has_ended self.new };
 }

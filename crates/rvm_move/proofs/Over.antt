@@ -1,18 +1,21 @@
--- The last call of the copier tells that the move is over, and stands in the journal.
-use Rattle.std.proofs.Common.{◌≡◌, ℕ, zero, suc, ◌-◌, Bool, true, false, ◌||◌, List, [], ◌∷◌, ◌++◌, length, Option, None, Some, refl, sym, ap, subst, arith}
+-- The last calls of the copier and of receivers tell how these ended, and stand in the journal.
+use Rattle.std.proofs.Common.{◌≡◌, ℕ, zero, suc, ◌-◌, Bool, true, false, ◌||◌, List, [], ◌∷◌, ◌++◌, append-nil, length, Option, None, Some, inl, inr, refl, sym, ap, subst, arith}
 use Rattle.std.proofs.lemmas.List.Elements.{Contains-append_left, Contains-append_right}
 use Rattle.std.proofs.lemmas.List.Sorted.{Contains-permutation}
-use Rattle.std.specs.List.{Contains}
+use Rattle.std.specs.List.{All, Contains}
 use Rattle.std.specs.Prelude.{Any, IsSomeAnd, option_map, slice_get, unwrap_or}
 use Rattle.rvm_cell.specs.Receipts.{PlainReceipt}
 use Rattle.rvm_journal.specs.Entries.{PlainEntry, exchange_of}
 use Rattle.rvm_message.specs.Exchanges.{PlainExchange, exchange}
-use Rattle.rvm_move.proofs.Guests.{head_in, tail_in}
-use Rattle.rvm_move.specs.Ends.{TellsEnd, fails_copying, tells_end}
-use Rattle.rvm_move.specs.Hosts.{AreAll}
+use Rattle.rvm_hart_worker.specs.Calls.{is_of_run}
+use Rattle.rvm_move.proofs.Guests.{all_asked, head_in, tail_in}
+use Rattle.rvm_move.specs.Ends.{IsCopiedEnd, IsHeardEnd, TellsEnd, fails_copying, tells_end}
+use Rattle.rvm_move.specs.Hosts.{AreAll, IsReceivedAtB}
 use Rattle.rvm_worker.specs.declared.end.WorkEnd.{WorkEnd}
-use Rattle.rvm_worker.specs.declared.end.WorkEnd.TheVariants.{BadFrame, Done, Failed, GivenUp, GuestStopped, LinkFault, OutOfMemory, OutOfRange, RecorderFull, Stopped, TooLong}
-use Rattle.rvm_worker.specs.Endings.{IsCopierEnd, last_of, tells_done, tells_given_up}
+use Rattle.rvm_worker.specs.declared.end.WorkEnd.TheVariants.{BadFrame, Done, Failed, GivenUp, GuestStopped, LinkEnded, LinkFault, NoThread, OutOfMemory, OutOfRange, RecorderFull, Stopped, TooLong}
+use Rattle.rvm_worker.specs.Endings.{IsCopierEnd, last_of, tells_done, tells_given_up, tells_left}
+use Rattle.rvm_worker.specs.Heard.{IsReceiverEnd, frames_in}
+use Rattle.rvm_worker.specs.Next.{ends_hearing}
 
 abbrev exchange_by : PlainReceipt → PlainExchange
 exchange_by r = exchange r.event r.reply
@@ -64,7 +67,68 @@ module _ (Q : PlainExchange → Type 0) where
       let journal = all.closed.journal in
       entry_at entries ordered journal.len journal.event journal.reply r (Contains-permutation receipts ordered r all.closed.same c) q
 
+-- HOW THE COPIER ENDED
+
+module _ (entries : List PlainEntry) (turns copier heard : List PlainReceipt) (all : AreAll entries (turns ++ (copier ++ heard))) where
+  by_copier : (Q : PlainExchange → Type 0) → IsSomeAnd (last_of copier) Q → Any (λ e. Q (exchange_of e)) entries
+  by_copier Q is =
+      let last = last_is Q copier is in
+      told_of Q entries (turns ++ (copier ++ heard)) all last.0
+      (Contains-append_right turns (copier ++ heard) last.0 (Contains-append_left copier heard last.0 last.1)) last.2
+
+  pub copier_ended : (end : WorkEnd) → IsCopierEnd end (last_of copier) → IsCopiedEnd end entries
+  copier_ended Done is = by_copier (λ x. tells_done x ≡ true) is
+  copier_ended GivenUp is = by_copier (λ x. tells_given_up x ≡ true) is
+  copier_ended LinkFault is = by_copier (λ x. tells_left x ≡ true) is
+  copier_ended LinkEnded is = is
+  copier_ended Stopped is = is
+  copier_ended GuestStopped is = is
+  copier_ended NoThread is = is
+  copier_ended OutOfMemory is = is
+  copier_ended (RecorderFull n) is = is
+  copier_ended OutOfRange is = is
+  copier_ended BadFrame is = is
+  copier_ended TooLong is = is
+  copier_ended Failed is = is
+
+-- HOW A RECEIVER ENDED
+
+module _ (bytes : Option (List ℕ)) (entries : List PlainEntry) (others heard : List PlainReceipt) (all : AreAll entries (others ++ heard)) where
+  by_receiver : IsSomeAnd (last_of heard) (λ x. ends_hearing x.reply ≡ true) → Any (λ e. ends_hearing e.reply ≡ true) entries
+  by_receiver is =
+      let Q : PlainExchange → Type 0 = λ x. ends_hearing x.reply ≡ true in
+      let last = last_is Q heard is in
+      told_of Q entries (others ++ heard) all last.0 (Contains-append_right others heard last.0 last.1) last.2
+
+  pub receiver_ended : (end : WorkEnd) → IsReceiverEnd end (last_of heard) bytes (frames_in heard) → IsHeardEnd end entries
+  receiver_ended Done is = by_receiver is
+  receiver_ended LinkEnded is = refl
+  receiver_ended GivenUp is = is
+  receiver_ended Stopped is = is
+  receiver_ended GuestStopped is = is
+  receiver_ended NoThread is = absurd cc
+  receiver_ended OutOfMemory is = is
+  receiver_ended (RecorderFull n) is = is
+  receiver_ended OutOfRange is = is
+  receiver_ended LinkFault is = is
+  receiver_ended BadFrame is = is
+  receiver_ended TooLong is = is
+  receiver_ended Failed is = is
+
+  -- the receiver at the second host
+  pub second_ended : (end : WorkEnd) → All (λ r. is_of_run r.event ≡ true) others → IsReceivedAtB bytes end heard
+      → IsHeardEnd end entries
+  second_ended end turns (inl none) =
+      subst (λ e. IsHeardEnd e entries) (sym none.0)
+      (all_asked (λ e. is_of_run e ≡ true) entries (others ++ heard) all
+      (subst (λ l. All (λ r. is_of_run r.event ≡ true) (others ++ l)) (sym none.1)
+      (subst (λ l. All (λ r. is_of_run r.event ≡ true) l) (sym (append-nil others)) turns)))
+  second_ended end turns (inr received) = receiver_ended end received.ended
+
 -- WHAT IT TELLS
+
+any_weaker : (P Q : PlainEntry → Type 0) → ((e : PlainEntry) → P e → Q e) → (es : List PlainEntry) → Any P es → Any Q es
+any_weaker P Q f es any = (any.0, any.1, any.2, any.3, f any.1 any.4)
 
 either_left : (x y : Bool) → x ≡ true → (x || y) ≡ true
 either_left true y is = refl
@@ -74,35 +138,22 @@ either_right : (x y : Bool) → y ≡ true → (x || y) ≡ true
 either_right true y is = refl
 either_right false y is = is
 
-done_tells : (last : Option PlainExchange) → IsSomeAnd last (λ x. tells_done x ≡ true) → IsSomeAnd last (λ x. tells_end x ≡ true)
-done_tells None is = is
-done_tells (Some x) is = either_left (tells_done x) (tells_given_up x) is
-
-given_up_tells : (last : Option PlainExchange) → IsSomeAnd last (λ x. tells_given_up x ≡ true)
-    → IsSomeAnd last (λ x. tells_end x ≡ true)
-given_up_tells None is = is
-given_up_tells (Some x) is = either_right (tells_done x) (tells_given_up x) is
-
-end_tells : (end : WorkEnd) (last : Option PlainExchange) → IsCopierEnd end last → fails_copying end ≡ false
-    → IsSomeAnd last (λ x. tells_end x ≡ true)
-end_tells Done last is ends = done_tells last is
-end_tells GivenUp last is ends = given_up_tells last is
-end_tells Stopped last is ends = absurd cc
-end_tells GuestStopped last is ends = absurd cc
-end_tells OutOfMemory last is ends = absurd cc
-end_tells (RecorderFull n) last is ends = absurd cc
-end_tells OutOfRange last is ends = absurd cc
-end_tells LinkFault last is ends = absurd cc
-end_tells BadFrame last is ends = absurd cc
-end_tells TooLong last is ends = absurd cc
-end_tells Failed last is ends = absurd cc
-
--- a copier that ended with its move was told so, between the calls of two other workers
-pub move_is_over : (end : WorkEnd) (entries : List PlainEntry) (turns copier heard : List PlainReceipt)
-    → IsCopierEnd end (last_of copier) → fails_copying end ≡ false → AreAll entries (turns ++ (copier ++ heard))
-    → TellsEnd entries
-move_is_over end entries turns copier heard is ends all =
-    let Q : PlainExchange → Type 0 = λ x. tells_end x ≡ true in
-    let last = last_is Q copier (end_tells end (last_of copier) is ends) in
-    let there = Contains-append_right turns (copier ++ heard) last.0 (Contains-append_left copier heard last.0 last.1) in
-    told_of Q entries (turns ++ (copier ++ heard)) all last.0 there last.2
+-- a copier that came to its end with the move was told that it is over
+pub move_is_over : (end : WorkEnd) (entries : List PlainEntry) → IsCopiedEnd end entries → fails_copying end ≡ false → TellsEnd entries
+move_is_over Done entries is ends =
+    any_weaker (λ e. tells_done (exchange_of e) ≡ true) (λ e. tells_end (exchange_of e) ≡ true)
+    (λ e told. either_left (tells_done (exchange_of e)) (tells_given_up (exchange_of e)) told) entries is
+move_is_over GivenUp entries is ends =
+    any_weaker (λ e. tells_given_up (exchange_of e) ≡ true) (λ e. tells_end (exchange_of e) ≡ true)
+    (λ e told. either_right (tells_done (exchange_of e)) (tells_given_up (exchange_of e)) told) entries is
+move_is_over LinkEnded entries is ends = absurd cc
+move_is_over Stopped entries is ends = absurd cc
+move_is_over GuestStopped entries is ends = absurd cc
+move_is_over NoThread entries is ends = absurd cc
+move_is_over OutOfMemory entries is ends = absurd cc
+move_is_over (RecorderFull n) entries is ends = absurd cc
+move_is_over OutOfRange entries is ends = absurd cc
+move_is_over LinkFault entries is ends = absurd cc
+move_is_over BadFrame entries is ends = absurd cc
+move_is_over TooLong entries is ends = absurd cc
+move_is_over Failed entries is ends = absurd cc

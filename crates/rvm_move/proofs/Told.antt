@@ -13,9 +13,12 @@ use Rattle.rvm_message.specs.declared.event.Command.TheVariants as command
 use Rattle.rvm_message.specs.declared.event.HostEvent.{HostEvent}
 use Rattle.rvm_message.specs.declared.event.HostEvent.TheVariants as event
 use Rattle.rvm_move.proofs.Guests.{AreNoneOfGuest, all_asked, guest_of_one}
-use Rattle.rvm_move.specs.Hosts.{AreAll, AreCarried, IsAskedOfFirst, IsAskedOfSecond, IsEnd}
+use Rattle.rvm_move.specs.Hosts.{AreAll, AreCarried, IsAskedOfFirst, IsAskedOfSecond, IsEnd, IsReceivedAtB}
 use Rattle.rvm_move.specs.Runs.{AreOfOne, IsRunOf, called_of_guest}
 use Rattle.rvm_precopy.specs.declared.policy.Policy.{Policy}
+use Rattle.std.specs.Prelude.{IfSome}
+use Rattle.rvm_worker.specs.Endings.{last_of}
+use Rattle.rvm_worker.specs.Heard.{IsHeardOf, IsReceived, IsReceiverEnd, frames_in}
 use Rattle.rvm_worker.specs.Work.{AreOfCopier, AreOfReceiver, IsOfCopier, IsOfReceiver, IsWork}
 use Rattle.rvm_worker.specs.declared.end.WorkEnd.{WorkEnd}
 
@@ -61,6 +64,17 @@ none_of_receiver : (from : ℕ) (rs : List PlainReceipt) → AreOfReceiver from 
 none_of_receiver from rs all =
     All-weaker (λ r. IsOfReceiver from r.event) (λ r. is_board r.event ≡ false) (λ r is. receiver_is_no_guest from r.event is) rs all
 
+-- a receiver without a thread heard nothing
+heard_at_b : (bytes : Option (List ℕ)) (end : WorkEnd) (rs : List PlainReceipt) → IsReceivedAtB bytes end rs → AreOfReceiver 0 rs
+heard_at_b bytes end rs (inl none) = subst (AreOfReceiver 0) (sym none.1) (All-nil (λ r. IsOfReceiver 0 r.event))
+heard_at_b bytes end rs (inr received) = received.told
+
+-- what a receiver leaves
+pub received : (from : ℕ) (bytes : Option (List ℕ)) (end : WorkEnd) (rs : List PlainReceipt) → AreOfReceiver from rs
+    → IfSome bytes (λ l. IsHeardOf l end (frames_in rs)) → IsReceiverEnd end (last_of rs) bytes (frames_in rs)
+    → IsReceived from bytes end rs
+received from bytes end rs told heard ended = record { told = told; heard = heard; ended = ended }
+
 abbrev IsOfRun : PlainReceipt → Type 0
 IsOfRun r = is_of_run r.event ≡ true
 
@@ -79,8 +93,9 @@ run_at_b (AtB r ∷ cs) all = All-cons IsOfRun r (flat_map in_b cs) (All-head Is
 
 -- WHAT WAS ASKED OF EACH HOST
 
-module _ (policy : Policy) (copied : WorkEnd) (copier heard_a heard_b : List PlainReceipt)
-    (carried : AreCarried policy copied copier heard_a heard_b) (at_a at_b : List PlainReceipt)
+module _ (policy : Policy) (bytes_a bytes_b : Option (List ℕ)) (copied ended_a ended_b : WorkEnd)
+    (copier heard_a heard_b : List PlainReceipt)
+    (carried : AreCarried policy bytes_a bytes_b copied ended_a ended_b copier heard_a heard_b) (at_a at_b : List PlainReceipt)
     (before after : Option (List ℕ)) (works : Type 0) (harts steps : ℕ) (end : Result TurnsEnd WorkEnd) (run : IsRun at_a at_b before after works harts steps end) where
   pub asked_of_first : (fault : Option CloseKind) (entries : List PlainEntry)
       → (fault ≡ None → AreAll entries (at_a ++ (copier ++ heard_a))) → IsEnd (IsAskedOfFirst policy) fault entries
@@ -91,7 +106,7 @@ module _ (policy : Policy) (copied : WorkEnd) (copier heard_a heard_b : List Pla
       (All-append P at_a (copier ++ heard_a) (All-weaker IsOfRun P (λ r is. inl is) at_a turns)
       (All-append P copier heard_a
       (All-weaker (λ r. IsOfCopier 1 policy r.event) P (λ r is. inr (inl is)) copier carried.of_copier.asked)
-      (All-weaker (λ r. IsOfReceiver 1 r.event) P (λ r is. inr (inr is)) heard_a carried.of_first)))
+      (All-weaker (λ r. IsOfReceiver 1 r.event) P (λ r is. inr (inr is)) heard_a carried.of_first.told)))
 
   pub asked_of_second : (fault : Option CloseKind) (entries : List PlainEntry)
       → (fault ≡ None → AreAll entries (at_b ++ heard_b)) → IsEnd IsAskedOfSecond fault entries
@@ -100,16 +115,20 @@ module _ (policy : Policy) (copied : WorkEnd) (copier heard_a heard_b : List Pla
       let P : PlainReceipt → Type 0 = λ r. IsAskedOfSecond r.event in
       all_asked IsAskedOfSecond entries (at_b ++ heard_b) (told closed)
       (All-append P at_b heard_b (All-weaker IsOfRun P (λ r is. inl is) at_b turns)
-      (All-weaker (λ r. IsOfReceiver 0 r.event) P (λ r is. inr is) heard_b carried.of_second))
+      (All-weaker (λ r. IsOfReceiver 0 r.event) P (λ r is. inr is) heard_b (heard_at_b bytes_b ended_b heard_b carried.of_second)))
+
+  -- of host 1 the hart worker asked for nothing but turns and drains
+  pub turns_of_second : All IsOfRun at_b
+  turns_of_second = subst (All IsOfRun) (sym run.second) (run_at_b run.calls run.only)
 
   -- the calls of the hart worker are the events of the guest
   pub run_of : (first second : List PlainEntry) → works → AreAll first (at_a ++ (copier ++ heard_a)) → AreAll second (at_b ++ heard_b)
       → AreOfOne at_a → AreOfOne at_b → IsRunOf first second before after harts steps end
   run_of first second w told_a told_b one_a one_b =
       let moved_a = All-append (λ r. is_board r.event ≡ false) copier heard_a
-      (none_of_copier 1 policy copier carried.of_copier.asked) (none_of_receiver 1 heard_a carried.of_first) in
+      (none_of_copier 1 policy copier carried.of_copier.asked) (none_of_receiver 1 heard_a carried.of_first.told) in
       let a = guest_of_one first at_a (copier ++ heard_a) told_a one_a moved_a in
-      let b = guest_of_one second at_b heard_b told_b one_b (none_of_receiver 0 heard_b carried.of_second) in
+      let b = guest_of_one second at_b heard_b told_b one_b (none_of_receiver 0 heard_b (heard_at_b bytes_b ended_b heard_b carried.of_second)) in
       record {
         calls = run.calls;
         of_first = a ∙ ap called_of_guest run.first;

@@ -1,6 +1,6 @@
 -- What is asked of the two hosts of a move.
 use Rattle.std.specs.List.{All}
-use Rattle.std.specs.Prelude.{◌≡◌, ◌⊎◌, true, List, Option, None}
+use Rattle.std.specs.Prelude.{◌≡◌, ◌⊎◌, ℕ, true, List, [], Option, None}
 use Rattle.rvm_cell.specs.Closing.{IsClosed}
 use Rattle.rvm_cell.specs.Receipts.{PlainReceipt}
 use Rattle.rvm_cell.specs.Seats.{PlainSeat}
@@ -9,21 +9,30 @@ use Rattle.rvm_hart_worker.specs.Calls.{is_of_run}
 use Rattle.rvm_journal.specs.Entries.{PlainEntry}
 use Rattle.rvm_message.specs.declared.event.HostEvent.{HostEvent}
 use Rattle.rvm_precopy.specs.declared.policy.Policy.{Policy}
-use Rattle.rvm_move.specs.Ends.{IsEndMove}
+use Rattle.rvm_move.specs.declared.ends.Ends.{Ends}
+use Rattle.rvm_move.specs.Ends.{IsCopiedEnd, IsHeardEnd}
 use Rattle.rvm_worker.specs.declared.end.WorkEnd.{WorkEnd}
-use Rattle.rvm_worker.specs.Endings.{IsCopied}
-use Rattle.rvm_worker.specs.Work.{AreOfReceiver, IsOfCopier, IsOfReceiver}
+use Rattle.rvm_worker.specs.declared.end.WorkEnd.TheVariants.{NoThread}
+use Rattle.rvm_worker.specs.Copiers.{IsCopied}
+use Rattle.rvm_worker.specs.Heard.{IsReceived}
+use Rattle.rvm_worker.specs.Work.{IsOfCopier, IsOfReceiver}
 
 -- with the seats, these receipts tell all entries of a journal
 pub record AreAll (entries : List PlainEntry) (receipts : List PlainReceipt) : Type 0 where
   pub seats : List PlainSeat
   pub closed : IsClosed entries seats receipts
 
--- the calls of the workers that move a guest from host 0 to host 1, of which the copier ended so
-pub record AreCarried (policy : Policy) (end : WorkEnd) (copier receiver_a receiver_b : List PlainReceipt) : Type 0 where
-  pub of_copier : IsCopied 1 policy end copier
-  pub of_first : AreOfReceiver 1 receiver_a
-  pub of_second : AreOfReceiver 0 receiver_b
+-- what the receiver at host 1 leaves: no thread was had for whom it is to hear, and nothing came; or it heard host 0
+abbrev pub IsReceivedAtB : (bytes : Option (List ℕ)) → WorkEnd → List PlainReceipt → Type 0
+IsReceivedAtB bytes end receipts = ((end ≡ NoThread) × (receipts ≡ [])) ⊎ IsReceived 0 bytes end receipts
+
+-- the calls of the workers that move a guest from host 0 to host 1, and how each of them ended; their links were to give
+-- these bytes
+pub record AreCarried (policy : Policy) (bytes_a bytes_b : Option (List ℕ)) (copied ended_a ended_b : WorkEnd)
+    (copier receiver_a receiver_b : List PlainReceipt) : Type 0 where
+  pub of_copier : IsCopied 1 policy copied copier
+  pub of_first : IsReceived 1 bytes_a ended_a receiver_a
+  pub of_second : IsReceivedAtB bytes_b ended_b receiver_b
 
 -- what is asked of host 0: the turns of its guest, or its move to host 1 with this policy, or a frame came from there
 abbrev pub IsAskedOfFirst : Policy → HostEvent → Type 0
@@ -37,6 +46,14 @@ IsAskedOfSecond e = (is_of_run e ≡ true) ⊎ IsOfReceiver 0 e
 abbrev pub IsEnd : (asked : HostEvent → Type 0) → (fault : Option CloseKind) → List PlainEntry → Type 0
 IsEnd asked fault entries = fault ≡ None → All (λ e. asked e.event) entries
 
--- the first host at the end of a move: what was asked of it, and how its copier's end stands in its journal
-abbrev pub IsFirstEnd : Policy → (copier : WorkEnd) → (fault : Option CloseKind) → List PlainEntry → Type 0
-IsFirstEnd policy copier fault entries = IsEnd (IsAskedOfFirst policy) fault entries × IsEndMove copier fault entries
+-- the first host at the end of a move: what was asked of it, and how the ends of its copier and its receiver stand in its
+-- journal
+pub record IsFirstEnd (policy : Policy) (ends : Ends) (fault : Option CloseKind) (entries : List PlainEntry) : Type 0 where
+  pub asked : IsEnd (IsAskedOfFirst policy) fault entries
+  pub copied : fault ≡ None → IsCopiedEnd ends.copier entries
+  pub heard : fault ≡ None → IsHeardEnd ends.receiver_a entries
+
+-- and the second one
+pub record IsSecondEnd (ends : Ends) (fault : Option CloseKind) (entries : List PlainEntry) : Type 0 where
+  pub asked : IsEnd IsAskedOfSecond fault entries
+  pub heard : fault ≡ None → IsHeardEnd ends.receiver_b entries

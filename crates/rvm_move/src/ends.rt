@@ -17,7 +17,7 @@ pub struct Ends {
 
 impl Ends {
     /// The first end, in this order, with which the move fails. The turns must come to their end, and
-    /// no worker may lack room. A link that failed stops the move, and not the guest: only where the
+    /// no worker may lack room or a thread. A link that failed stops the move, and not the guest: only where the
     /// guest was given up by its first host does the copier fail with it.
     pub fn failure(&self) -> Option<WorkEnd>
         ensures { result ≡ failure self.now }
@@ -48,12 +48,13 @@ fn fails_copying(end: WorkEnd) -> bool
     }
 }
 
-/// Whether a receiver lacked room, or was stopped.
+/// Whether a receiver lacked room, or had no thread for whom it was to hear, or was stopped.
 fn fails_hearing(end: WorkEnd) -> bool
     ensures { result ≡ fails_hearing end }
 {
     match end {
-        WorkEnd::OutOfMemory | WorkEnd::RecorderFull(_) | WorkEnd::Stopped => true,
+        WorkEnd::OutOfMemory | WorkEnd::RecorderFull(_) | WorkEnd::Stopped | WorkEnd::NoThread =>
+            true,
         _ => false,
     }
 }

@@ -1,10 +1,13 @@
 //! The two hosts of a move.
 
-ghost use Rattle.std.specs.Prelude.{◌≡◌, ◌≤◌, [], ◌++◌, true, None, vec_len, IfOk};
+ghost use Rattle.std.specs.Prelude.{◌≡◌, ◌≤◌, [], ◌++◌, true, None, Some, vec_len, IfOk};
 ghost use Rattle.rvm_cell.specs.Runs.{all_of};
+ghost use Rattle.rvm_move.specs.Ends.{first_fault};
 ghost use Rattle.rvm_move.specs.Hosts.{AreAll};
 
-use rvm_cell::{CloseKind, ReceiptItem, Seat, Seating, ShareError, SharedHost, close, share};
+use rvm_cell::{
+    CloseError, CloseKind, ReceiptItem, Seat, Seating, ShareError, SharedHost, close, share,
+};
 use rvm_journal::Recorded;
 use rvm_link::{Link, Outgoing};
 use rvm_mem::PagedMemory;
@@ -47,7 +50,8 @@ pub(crate) fn open_host<L: Seating, M: PagedMemory + Drop, K: Link + Drop>(
     requires few { (1 ≤ seats) × (seats ≤ 16) }
     requires empty { recorded.journal.entries ≡ [] }
     requires opening { recorded.journal.opening ≡ L.opening }
-    ensures { IfOk result (λ r. vec_len r.1 ≡ seats) }
+    ensures seats { IfOk result (λ r. vec_len r.1 ≡ seats) }
+    ensures version { IfOk result (λ r. r.0.outgoing.version ≡ version) }
 {
     let (host, list) = match share::<L, M>(alloc, blank, recorded, seats) {
         Ok(shared) => shared,
@@ -120,19 +124,32 @@ pub(crate) fn close_host<L: Seating, M: PagedMemory + Drop, K: Link + Drop, R: W
     match close(rt, alloc, host, seats, receipts) {
         Ok(recorded) => HostEnd {
             recorded,
-            fault: fault_of(is_whole, None),
+            fault: first_fault(is_whole, None),
         },
-        Err(error) => HostEnd {
-            recorded: error.opened.into_recorded(),
-            fault: fault_of(is_whole, Some(error.kind)),
-        },
+        Err(error) => not_closed(error, is_whole),
+    }
+}
+
+/// A host that was not closed.
+fn not_closed<L: Seating, M: PagedMemory + Drop>(
+    error: CloseError<L, M>,
+    is_whole: bool,
+) -> HostEnd<M>
+    ensures opening { result.recorded.journal.opening ≡ L.opening }
+    ensures first { result.fault ≡ first_fault is_whole (Some error.kind) }
+    ensures some { result.fault ≡ None → ⊥ }
+{
+    HostEnd {
+        fault: first_fault(is_whole, Some(error.kind)),
+        recorded: error.opened.into_recorded(),
     }
 }
 
 /// Why a host was not closed, if it was not: where something is missing that a growth had no room for, for
 /// that.
-fn fault_of(is_whole: bool, fault: Option<CloseKind>) -> Option<CloseKind>
-    ensures { result ≡ None → (is_whole ≡ true) × (fault ≡ None) }
+fn first_fault(is_whole: bool, fault: Option<CloseKind>) -> Option<CloseKind>
+    ensures first { result ≡ first_fault is_whole fault }
+    ensures none { result ≡ None → (is_whole ≡ true) × (fault ≡ None) }
 {
     if is_whole {
         fault

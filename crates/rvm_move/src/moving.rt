@@ -3,7 +3,7 @@
 ghost use Rattle.std.specs.Prelude.{◌≡◌, ◌≢◌, ◌++◌, [], None, Err, vec_len, IfOk};
 ghost use Rattle.rvm_cell.specs.Runs.{all_of};
 ghost use Rattle.rvm_hart_worker.specs.Calls.{IsRun};
-ghost use Rattle.rvm_move.specs.Hosts.{AreAll, AreCarried, IsAskedOfSecond, IsEnd, IsFirstEnd};
+ghost use Rattle.rvm_move.specs.Hosts.{AreAll, AreCarried, IsFirstEnd, IsSecondEnd};
 ghost use Rattle.rvm_move.specs.Runs.{AreOfOne, IsEndRun};
 ghost use Rattle.rvm_worker.specs.declared.end.WorkEnd.TheVariants.{LinkFault};
 
@@ -67,8 +67,8 @@ pub fn move_guest<
     requires opening { (recorded.0.journal.opening ≡ L.opening) × (recorded.1.journal.opening ≡ N.opening) }
     ensures opening { IfOk result (λ m. (m.a.recorded.journal.opening ≡ recorded.0.journal.opening)
         × (m.b.recorded.journal.opening ≡ recorded.1.journal.opening)) }
-    ensures a { IfOk result (λ m. IsFirstEnd plan.now.policy m.ends.copier m.a.fault m.a.recorded.journal.entries) }
-    ensures b { IfOk result (λ m. IsEnd IsAskedOfSecond m.b.fault m.b.recorded.journal.entries) }
+    ensures a { IfOk result (λ m. IsFirstEnd plan.now.policy m.ends m.a.fault m.a.recorded.journal.entries) }
+    ensures b { IfOk result (λ m. IsSecondEnd m.ends m.b.fault m.b.recorded.journal.entries) }
     ensures run { IfOk result (λ m. IsEndRun m.ends m.a.fault m.b.fault m.a.recorded.journal.entries
         m.b.recorded.journal.entries (W.contents writer.old) (W.contents writer.new) plan.now.harts plan.now.steps) }
 {
@@ -127,11 +127,14 @@ fn seat_and_work<
     plan: &Plan,
     writer: &mut W,
 ) -> (Carried<L, N>, HartsWorked<L, N>)
-    requires { (vec_len seats_a ≡ 3) × (vec_len seats_b ≡ 2) }
+    requires seats { (vec_len seats_a ≡ 3) × (vec_len seats_b ≡ 2) }
+    requires version { (hosts.0.now.outgoing.version ≡ plan.now.version)
+        × (hosts.1.now.outgoing.version ≡ plan.now.version) }
     ensures run { IsRun (all_of result.1.receipts.0.items) (all_of result.1.receipts.1.items) (W.contents writer.old)
         (W.contents writer.new) (result.1.end ≢ Err LinkFault) plan.now.harts plan.now.steps result.1.end }
     ensures one { AreOfOne (all_of result.1.receipts.0.items) × AreOfOne (all_of result.1.receipts.1.items) }
-    ensures carried { AreCarried plan.now.policy result.0.copier.end (all_of result.0.copier.receipts.items)
+    ensures carried { AreCarried plan.now.policy (K.remaining receiving.0) (K.remaining receiving.1)
+        result.0.copier.end result.0.receiver_a.end result.0.receiver_b.end (all_of result.0.copier.receipts.items)
         (all_of result.0.receiver_a.receipts.items) (all_of result.0.receiver_b.receipts.items) }
 {
     let (mut seats_a, mut seats_b) = (seats_a, seats_b);

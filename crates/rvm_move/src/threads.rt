@@ -3,10 +3,10 @@
 ghost use Rattle.std.specs.Prelude.{◌≢◌, Err};
 ghost use Rattle.rvm_cell.specs.Runs.{all_of};
 ghost use Rattle.rvm_hart_worker.specs.Calls.{IsRun};
-ghost use Rattle.rvm_move.specs.Hosts.{AreCarried};
+ghost use Rattle.rvm_move.specs.Hosts.{AreCarried, IsReceivedAtB};
 ghost use Rattle.rvm_move.specs.Runs.{AreOfOne};
-ghost use Rattle.rvm_worker.specs.Endings.{IsCopied};
-ghost use Rattle.rvm_worker.specs.Work.{AreOfReceiver};
+ghost use Rattle.rvm_worker.specs.Copiers.{IsCopied};
+ghost use Rattle.rvm_worker.specs.Heard.{IsReceived};
 ghost use Rattle.rvm_worker.specs.declared.end.WorkEnd.TheVariants.{LinkFault};
 
 use crate::beside::{beside, take_back};
@@ -86,6 +86,7 @@ fn copy<L: Seating, M: PagedMemory + Drop, K: Link + Drop, G: Gate, R: Wait + Cl
 
 /// Hears the other side. The link is dropped with the end of the receiver, so that whoever sends on it
 /// need not wait.
+#[tactic(auto, using(crate::proofs::Told::received))]
 fn hear<L: Seating, M: PagedMemory + Drop, K: Link + Drop, G: Gate, R: Wait>(
     rt: &R,
     alloc: Global,
@@ -97,7 +98,7 @@ fn hear<L: Seating, M: PagedMemory + Drop, K: Link + Drop, G: Gate, R: Wait>(
     from: u8,
     receiving: K,
 ) -> Worked<L>
-    ensures { AreOfReceiver from (all_of result.receipts.items) }
+    ensures { IsReceived from (K.remaining receiving) result.end (all_of result.receipts.items) }
 {
     let mut link = receiving;
     let side = Side { host, outgoing };
@@ -123,13 +124,13 @@ fn copy_and_hear<
     receiving: K,
 ) -> (Worked<L>, Worked<L>)
     ensures copier { IsCopied 1 policy result.0.end (all_of result.0.receipts.items) }
-    ensures receiver { AreOfReceiver 1 (all_of result.1.receipts.items) }
+    ensures receiver { IsReceived 1 (K.remaining receiving) result.1.end (all_of result.1.receipts.items) }
 {
     let (copier, receiver) = seats;
     let (heard, copied) = thread::join(
         rt,
         move || -> Worked<L>
-            ensures { AreOfReceiver 1 (all_of result.receipts.items) }
+            ensures { IsReceived 1 (K.remaining receiving) result.end (all_of result.receipts.items) }
         {
             hear(
                 rt,
@@ -166,7 +167,7 @@ fn work_at_a<
     gate: &G,
 ) -> (Worked<L>, Worked<L>)
     ensures copier { IsCopied 1 taken.policy result.0.end (all_of result.0.receipts.items) }
-    ensures receiver { AreOfReceiver 1 (all_of result.1.receipts.items) }
+    ensures receiver { IsReceived 1 (K.remaining taken.receiving) result.1.end (all_of result.1.receipts.items) }
 {
     let TakenAtA {
         copier,
@@ -195,8 +196,8 @@ fn has_begun<R: Clock>(rt: &R, begun: &AtomicBool) -> bool {
     false
 }
 
-/// Hears host A at host B. Nothing is sent once it has ended. It ends with `OutOfMemory`, and hears nothing,
-/// where the workers at host A have no thread to begin in.
+/// Hears host A at host B. Nothing is sent once it has ended. It ends with `NoThread`, and hears nothing, where
+/// the workers at host A have no thread to begin in.
 fn work_at_b<L: Seating, M: PagedMemory + Drop, K: Link + Drop, G: Gate, R: Wait + Clock>(
     rt: &R,
     alloc: Global,
@@ -206,7 +207,7 @@ fn work_at_b<L: Seating, M: PagedMemory + Drop, K: Link + Drop, G: Gate, R: Wait
     gate: &G,
     begun: &AtomicBool,
 ) -> Worked<L>
-    ensures { AreOfReceiver 0 (all_of result.receipts.items) }
+    ensures { IsReceivedAtB (K.remaining taken.receiving) result.end (all_of result.receipts.items) }
 {
     let TakenAtB {
         receiver,
@@ -217,7 +218,7 @@ fn work_at_b<L: Seating, M: PagedMemory + Drop, K: Link + Drop, G: Gate, R: Wait
         return Worked {
             seat: receiver,
             receipts: Vec::new(alloc),
-            end: WorkEnd::OutOfMemory,
+            end: WorkEnd::NoThread,
         };
     }
     let worked = hear(
@@ -252,7 +253,8 @@ fn carry<
     taken: Taken<L, N, K>,
     gate: &G,
 ) -> Carried<L, N>
-    ensures { AreCarried taken.at_a.policy result.copier.end (all_of result.copier.receipts.items)
+    ensures { AreCarried taken.at_a.policy (K.remaining taken.at_a.receiving) (K.remaining taken.at_b.receiving)
+        result.copier.end result.receiver_a.end result.receiver_b.end (all_of result.copier.receipts.items)
         (all_of result.receiver_a.receipts.items) (all_of result.receiver_b.receipts.items) }
 {
     let Taken { at_a, at_b } = taken;
@@ -263,13 +265,13 @@ fn carry<
         rt,
         move || -> (Worked<L>, Worked<L>)
             ensures copier { IsCopied 1 at_a.policy result.0.end (all_of result.0.receipts.items) }
-            ensures receiver { AreOfReceiver 1 (all_of result.1.receipts.items) }
+            ensures receiver { IsReceived 1 (K.remaining at_a.receiving) result.1.end (all_of result.1.receipts.items) }
         {
             begun.store(true, Ordering::Relaxed);
             work_at_a(rt, alloc, host_a, to_b, at_a, gate)
         },
         move || -> Worked<N>
-            ensures { AreOfReceiver 0 (all_of result.receipts.items) }
+            ensures { IsReceivedAtB (K.remaining at_b.receiving) result.end (all_of result.receipts.items) }
         { work_at_b(rt, alloc, host_b, to_a, at_b, gate, begun) },
     );
     Carried {
@@ -303,7 +305,8 @@ pub(crate) fn work<
     ensures run { IsRun (all_of result.1.receipts.0.items) (all_of result.1.receipts.1.items) (W.contents writer.old)
         (W.contents writer.new) (result.1.end ≢ Err LinkFault) plan.now.harts plan.now.steps result.1.end }
     ensures one { AreOfOne (all_of result.1.receipts.0.items) × AreOfOne (all_of result.1.receipts.1.items) }
-    ensures carried { AreCarried taken.at_a.policy result.0.copier.end (all_of result.0.copier.receipts.items)
+    ensures carried { AreCarried taken.at_a.policy (K.remaining taken.at_a.receiving) (K.remaining taken.at_b.receiving)
+        result.0.copier.end result.0.receiver_a.end result.0.receiver_b.end (all_of result.0.copier.receipts.items)
         (all_of result.0.receiver_a.receipts.items) (all_of result.0.receiver_b.receipts.items) }
 {
     let turns = Turns {
@@ -321,8 +324,10 @@ pub(crate) fn work<
     let (carried, (turned, writer)) = beside(
         rt,
         move || -> Carried<L, N>
-            ensures { AreCarried taken.at_a.policy result.copier.end (all_of result.copier.receipts.items)
-                (all_of result.receiver_a.receipts.items) (all_of result.receiver_b.receipts.items) }
+            ensures { AreCarried taken.at_a.policy (K.remaining taken.at_a.receiving)
+                (K.remaining taken.at_b.receiving) result.copier.end result.receiver_a.end result.receiver_b.end
+                (all_of result.copier.receipts.items) (all_of result.receiver_a.receipts.items)
+                (all_of result.receiver_b.receipts.items) }
         { carry(rt, alloc, hosts, outgoing, taken, gate) },
         turns,
     );

@@ -78,16 +78,21 @@ fn is_of_source(frame: &[u8]) -> bool {
     matches!(frame.first(), Some(1 | 4 | 5 | 7 | 9))
 }
 
-/// Whether a receiver that hears the first bytes of the stream ends as it must, however many they are: between two frames
-/// nothing is left to be done, and inside a frame the link has failed.
+/// How a receiver must end that hears so many bytes: with its link between two frames, and inside a frame for a fault of
+/// the link.
+fn end_of(count: usize) -> WorkEnd {
+    if ENDS.contains(&count) {
+        WorkEnd::LinkEnded
+    } else {
+        WorkEnd::LinkFault
+    }
+}
+
+/// Whether a receiver that hears the first bytes of the stream ends as it must, however many they are.
 fn ends_at_each_cut<R: AllocGlobal + Wait>(rt: &R, stream: &[u8]) -> bool {
     for count in 0..=stream.len() {
-        let must = if ENDS.contains(&count) {
-            WorkEnd::Done
-        } else {
-            WorkEnd::LinkFault
-        };
-        if hear(rt, Given::new(&stream[..count], stream.len())) != must {
+        let mut given = Given::new(&stream[..count], stream.len());
+        if hear(rt, &mut given) != end_of(count) {
             return false;
         }
     }

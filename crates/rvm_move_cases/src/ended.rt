@@ -52,19 +52,21 @@ impl MoveResult {
         }
     }
 
-    /// What became of a guest that is moved by a stream of this version, over TCP.
+    /// What became of a guest that makes so many turns and is moved by a stream of this version, over TCP.
     pub fn over_tcp<R: AllocGlobal + Net + Threads + Wait + Clock + Sync>(
         rt: &R,
         image: &[u8],
+        steps: u32,
         stream: u32,
     ) -> MoveResult
     where
         R::Stream: Send,
-        requires { (1 ≤ stream) × (stream ≤ 3) }
+        requires steps { (1 ≤ steps) × (steps ≤ 100000) }
+        requires stream { (1 ≤ stream) × (stream ≤ 3) }
     {
         let alloc = rt.alloc();
         let (mut output, mut errors) = (Vec::new(alloc), Vec::new(alloc));
-        let arguments = to_move(STEPS, stream);
+        let arguments = to_move(steps, stream);
         let status = move_command::<PagedRam, _, _, _>(
             rt,
             alloc,

@@ -1,16 +1,21 @@
 //! Links that fail.
 
 use crate::asked::POINTS;
+use crate::counting::CountingGate;
 use crate::ended::MoveResult;
 use rvm_link::{Link, LinkRead};
 use rvm_move::Links;
-use rvm_move_command::{OpenGate, connect_both};
+use rvm_move_command::connect_both;
 use rvm_refusal::LinkFault;
+use rvm_worker::Worker;
 use std::alloc::Global;
 use std::net::Net;
 use std::sync::Wait;
 use std::thread::Threads;
 use std::time::Clock;
+
+/// How many calls a worker of the harts has made that gave up: of 30000 tries, each at both hosts.
+const TRIED: u32 = 60000;
 
 /// A link that sends so many times and then fails.
 #[derive(Drop)]
@@ -81,8 +86,9 @@ where
     let allowed = match connect_both(rt, rt.alloc()) {
         Ok((a, b)) => {
             let links = (failing_links(a, at_a), failing_links(b, at_b));
-            let ended = MoveResult::over_links(rt, POINTS, links, &OpenGate);
-            is_allowed(rt.alloc(), &ended)
+            let gate = CountingGate::new();
+            let ended = MoveResult::over_links(rt, POINTS, links, &gate);
+            is_allowed(rt.alloc(), &ended, gate.calls(Worker::Harts))
         }
         Err(_) => false,
     };
@@ -96,8 +102,9 @@ fn print_end<R: Print>(rt: &R, side: &str, k: u32, allowed: bool) -> anyhow::Res
 }
 
 /// Whether an end is allowed: no commit and no start, the whole output of a run, since the guest came to its end where it
-/// was, and the status 0; a commit, a start and that output; or a commit alone and the status 1.
-fn is_allowed(alloc: Global, ended: &MoveResult) -> bool {
+/// was, and the status 0; a commit, a start and that output; or a commit alone and the status 1, since the turns were
+/// tried so often, or had all been made and the last frame was sent again in vain.
+fn is_allowed(alloc: Global, ended: &MoveResult, calls: u32) -> bool {
     let is_started = ended.has("started");
     let is_as_run = ended.is_as_run(alloc, POINTS);
     if !ended.has("committed 1") {
@@ -106,6 +113,7 @@ fn is_allowed(alloc: Global, ended: &MoveResult) -> bool {
     if is_started {
         is_as_run
     } else {
-        ended.status == Ok(1)
+        let has_stopped = ended.has("guest stopped between hosts") && calls >= TRIED;
+        ended.status == Ok(1) && (has_stopped || ended.has("refused 31 LinkFault"))
     }
 }

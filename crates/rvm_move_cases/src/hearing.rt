@@ -70,7 +70,7 @@ const LINKS: [(&str, &[u8], u32, bool); 10] = [
 
 /// A link that takes all bytes, and gives those of a stream, at most so many a read. Before each read that
 /// gives bytes, and before the end, so many give nothing. In place of the end it may fail, or give other bytes
-/// again and again.
+/// again and again. A mute one takes no bytes. It counts reads.
 #[derive(Drop)]
 pub struct Given<'s> {
     stream: &'s [u8],
@@ -79,6 +79,8 @@ pub struct Given<'s> {
     pauses: u32,
     paused: u32,
     fails: bool,
+    is_mute: bool,
+    reads: u32,
 }
 
 impl<'s> Given<'s> {
@@ -91,12 +93,17 @@ impl<'s> Given<'s> {
             pauses: 0,
             paused: 0,
             fails: false,
+            is_mute: false,
+            reads: 0,
         }
     }
 }
 
 impl Link for Given<'_> {
     fn send(&mut self, _bytes: &[u8]) -> Result<(), LinkFault> {
+        if self.is_mute {
+            return Err(LinkFault);
+        }
         Ok(())
     }
 
@@ -105,6 +112,7 @@ impl Link for Given<'_> {
     }
 
     fn recv(&mut self, buffer: &mut [u8]) -> LinkRead {
+        self.reads = self.reads.wrapping_add(1);
         if self.paused < self.pauses {
             self.paused += 1;
             return LinkRead::Idle;
@@ -133,15 +141,26 @@ pub fn hear_links<R: AllocGlobal + Print + Wait>(rt: &R) -> anyhow::Result<()> {
     let is_cut_well = ends_at_each_cut(rt, 1) && ends_at_each_cut(rt, STREAM.len());
     println!(rt; "a stream cut at each of its 67 bytes: ends as it must {is_cut_well}")?;
     hear_each(rt, LINKS.as_slice())?;
-    print_end(rt, "Ready without end", end_without_end(rt))
+    hear_without_end(rt)?;
+    hear_without_answer(rt)
 }
 
-/// How a receiver ends that hears the stream, and then its last frame again and again.
-fn end_without_end<R: AllocGlobal + Wait>(rt: &R) -> WorkEnd {
+/// Hears the stream where no answer can be sent, and prints how the receiver ends.
+fn hear_without_answer<R: AllocGlobal + Print + Wait>(rt: &R) -> anyhow::Result<()> {
+    let stream = STREAM;
+    let mut given = Given::new(&stream, 1);
+    given.is_mute = true;
+    let end = hear(rt, &mut given);
+    print_end(rt, "an answer that cannot be sent", end, given.reads)
+}
+
+/// Hears the stream, and then its last frame again and again, and prints how the receiver ends.
+fn hear_without_end<R: AllocGlobal + Print + Wait>(rt: &R) -> anyhow::Result<()> {
     let stream = STREAM;
     let mut given = Given::new(&stream, 1);
     given.again = &stream[WHOLE[3]..];
-    hear(rt, given)
+    let end = hear(rt, &mut given);
+    print_end(rt, "Ready without end", end, given.reads)
 }
 
 /// Hears links of all kinds, and prints how the receivers end.
@@ -153,28 +172,30 @@ fn hear_each<R: AllocGlobal + Print + Wait>(
         let mut given = Given::new(stream, 1);
         given.pauses = *pauses;
         given.fails = *fails;
-        print_end(rt, name, hear(rt, given))?;
+        let end = hear(rt, &mut given);
+        print_end(rt, name, end, given.reads)?;
     }
     Ok(())
 }
 
-/// Prints how the receiver ended that heard this link.
-fn print_end<R: Print>(rt: &R, name: &str, end: WorkEnd) -> anyhow::Result<()> {
-    println!(rt; "{name}: {end:?}")?;
+/// Prints how the receiver ended that heard this link, and after how many reads.
+fn print_end<R: Print>(rt: &R, name: &str, end: WorkEnd, reads: u32) -> anyhow::Result<()> {
+    println!(rt; "{name}: {end:?} after {reads} reads")?;
     Ok(())
 }
 
 /// Whether a receiver that hears the first bytes of the stream, so many a read, ends as it must, however many
-/// they are: between two frames nothing is left to be done, and inside a frame the link has failed.
+/// they are: between two frames with its link, and inside a frame the link has failed.
 fn ends_at_each_cut<R: AllocGlobal + Wait>(rt: &R, at_once: usize) -> bool {
     let stream = STREAM;
     for count in 0..=stream.len() {
         let must = if WHOLE.contains(&count) {
-            WorkEnd::Done
+            WorkEnd::LinkEnded
         } else {
             WorkEnd::LinkFault
         };
-        if hear(rt, Given::new(&stream[..count], at_once)) != must {
+        let mut given = Given::new(&stream[..count], at_once);
+        if hear(rt, &mut given) != must {
             return false;
         }
     }
@@ -182,7 +203,7 @@ fn ends_at_each_cut<R: AllocGlobal + Wait>(rt: &R, at_once: usize) -> bool {
 }
 
 /// How a receiver at a new host ends that hears a link.
-pub fn hear<R: AllocGlobal + Wait>(rt: &R, given: Given) -> WorkEnd {
+pub fn hear<R: AllocGlobal + Wait>(rt: &R, given: &mut Given<'_>) -> WorkEnd {
     match recorded(rt.alloc()) {
         Some(recorded) => hear_at::<Brand, R>(rt, Blank::new(1), recorded, given),
         None => WorkEnd::OutOfMemory,
@@ -202,7 +223,7 @@ fn hear_at<L: Seating, R: AllocGlobal + Wait>(
     rt: &R,
     blank: Blank,
     recorded: Recorded<PagedRam>,
-    given: Given,
+    given: &mut Given<'_>,
 ) -> WorkEnd
     requires ledger { (blank.name ≡ L.name) × (blank.parts ≡ L.parts) × (L.seats ≡ L.parts) }
     requires seats { blank.parts ≡ 1 }
@@ -227,7 +248,7 @@ fn hear_by<L: Seating, R: AllocGlobal + Wait>(
     rt: &R,
     host: &SharedHost<L, PagedRam>,
     seats: Vec<Seat<L>>,
-    given: Given,
+    given: &mut Given<'_>,
 ) -> WorkEnd {
     let mut seats = seats;
     match seats.pop() {
@@ -241,9 +262,11 @@ fn hear_in<L: Seating, R: AllocGlobal + Wait>(
     rt: &R,
     host: &SharedHost<L, PagedRam>,
     seat: Seat<L>,
-    given: Given,
+    given: &mut Given<'_>,
 ) -> WorkEnd {
-    let Ok(outgoing) = Outgoing::open(rt.alloc(), Given::new(&[], 1), 1) else {
+    let mut answers = Given::new(&[], 1);
+    answers.is_mute = given.is_mute;
+    let Ok(outgoing) = Outgoing::open(rt.alloc(), answers, 1) else {
         drop(seat);
         return WorkEnd::OutOfMemory;
     };
@@ -251,17 +274,6 @@ fn hear_in<L: Seating, R: AllocGlobal + Wait>(
         host,
         outgoing: &outgoing,
     };
-    let mut given = given;
     let worker = Worker::ReceiverAtB;
-    receiver_worker(
-        rt,
-        rt.alloc(),
-        &side,
-        seat,
-        &OpenGate,
-        worker,
-        0,
-        &mut given,
-    )
-    .end
+    receiver_worker(rt, rt.alloc(), &side, seat, &OpenGate, worker, 0, given).end
 }

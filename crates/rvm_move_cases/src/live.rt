@@ -2,7 +2,7 @@
 
 ghost use Rattle.std.specs.Prelude.{◌≤◌};
 
-use crate::asked::{HELLO, WRITER};
+use crate::asked::{HELLO, STEPS, WRITER};
 use crate::ended::MoveResult;
 use std::net::Net;
 use std::sync::Wait;
@@ -34,7 +34,7 @@ where
     R::Stream: Send,
     requires { (1 ≤ stream) × (stream ≤ 3) }
 {
-    let ended = MoveResult::over_tcp(rt, image, stream);
+    let ended = MoveResult::over_tcp(rt, image, STEPS, stream);
     print_end(rt, name, stream, image, &ended)
 }
 

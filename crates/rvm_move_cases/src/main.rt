@@ -1,12 +1,15 @@
 //! Moves guests over TCP, past a gate at which two workers meet, over a link without end, and over links that
 //! fail, and prints what became of each; plays the order of a move as a script; and prints how receivers end,
-//! by what their links give.
+//! by what their links give, and how copiers wait.
 //!
-//! To be read in this order: `asked`, `ended`, `live`, `meeting`, `audited`, `endless`, `hearing`, `cut`, `failing`.
+//! To be read in this order: `asked`, `ended`, `live`, `counting`, `meeting`, `audited`, `endless`, `hearing`, `cut`,
+//! `waiting`, `printing`, `broken`, `failing`.
 #![tactic(auto)]
 
 mod asked;
 mod audited;
+mod broken;
+mod counting;
 mod cut;
 mod ended;
 mod endless;
@@ -14,6 +17,8 @@ mod failing;
 mod hearing;
 mod live;
 mod meeting;
+mod printing;
+mod waiting;
 
 fn main(rt: HostRuntime) -> anyhow::Result<()> {
     live::move_guests(&rt)?;
@@ -22,5 +27,9 @@ fn main(rt: HostRuntime) -> anyhow::Result<()> {
     endless::hear_without_end(&rt)?;
     hearing::hear_links(&rt)?;
     cut::cut_a_stream(&rt)?;
+    waiting::wait_for_answers(&rt)?;
+    printing::print_much(&rt)?;
+    broken::break_writers(&rt)?;
+    broken::fill_journals(&rt)?;
     failing::break_links(&rt)
 }

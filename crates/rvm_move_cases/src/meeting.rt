@@ -1,6 +1,7 @@
 //! Two workers that wait for one another.
 
 use crate::asked::LOOP;
+use crate::counting::CountingGate;
 use crate::ended::{MoveResult, print_no_connection};
 use rvm_move_command::connect_both;
 use rvm_worker::{Gate, Worker};
@@ -14,10 +15,14 @@ use std::time::{Clock, Duration};
 /// How many milliseconds a worker waits for the other.
 const PATIENCE: u32 = 10000;
 
-/// A gate at which the worker of the harts and the copier meet.
+/// How many calls the worker of the harts makes at most: a slice of 64 turns is one.
+const FEW: u32 = 10000;
+
+/// A gate at which the worker of the harts and the copier meet, and which counts all calls.
 #[derive(Drop)]
 struct Meeting<C: Clock + Drop> {
     clock: C,
+    counts: CountingGate,
     harts: AtomicBool,
     copier: AtomicBool,
 }
@@ -37,6 +42,7 @@ impl<C: Clock + Drop> Meeting<C> {
 
 impl<C: Clock + Drop> Gate for Meeting<C> {
     fn before(&self, worker: Worker, call: u32) -> bool {
+        let _passes = self.counts.before(worker, call);
         match worker {
             Worker::Harts => {
                 if call != 1 {
@@ -56,7 +62,9 @@ impl<C: Clock + Drop> Gate for Meeting<C> {
         }
     }
 
-    fn after(&self, _worker: Worker, _call: u32) {}
+    fn after(&self, worker: Worker, call: u32) {
+        self.counts.after(worker, call);
+    }
 }
 
 /// Moves a guest past such a gate.
@@ -68,11 +76,15 @@ where
 {
     let gate = Meeting {
         clock: rt,
+        counts: CountingGate::new(),
         harts: AtomicBool::new(false),
         copier: AtomicBool::new(false),
     };
     match connect_both(rt, rt.alloc()) {
-        Ok(links) => print_end(rt, &MoveResult::over_links(rt, LOOP, links, &gate)),
+        Ok(links) => {
+            print_end(rt, &MoveResult::over_links(rt, LOOP, links, &gate))?;
+            print_gate(rt, &gate)
+        }
         Err(_) => print_no_connection(rt),
     }
 }
@@ -82,5 +94,16 @@ fn print_end<R: Print>(rt: &R, ended: &MoveResult) -> anyhow::Result<()> {
     let good = ended.status == Ok(0);
     let moved = ended.has("finished");
     println!(rt; "two workers meet: status 0 {good}, moved {moved}")?;
+    Ok(())
+}
+
+/// Prints what the gate saw.
+fn print_gate<R: Print, C: Clock + Drop>(rt: &R, gate: &Meeting<C>) -> anyhow::Result<()> {
+    let met = gate.harts.load(Ordering::SeqCst) && gate.copier.load(Ordering::SeqCst);
+    let counted = gate.counts.has_counted();
+    let few = gate.counts.calls(Worker::Harts) < FEW;
+    println!(rt;
+        "both were at the gate {met}, each call by its number {counted}, slices as one {few}"
+    )?;
     Ok(())
 }

@@ -35,6 +35,15 @@ a_guest_that_stopped_has_words : failure_line (record { harts = Err end.GuestSto
     ≡ codes "guest stopped between hosts\n"
 a_guest_that_stopped_has_words = refl
 
+-- and where no thread is had for whom the receiver at the second host is to hear, too
+a_thread_that_is_not_had_has_words : failure_line (record { harts = Ok StepsSpent; copier = end.Done; receiver_a = end.Done; receiver_b = end.NoThread }) None None
+    ≡ codes "no thread was had for the workers at the other host\n"
+a_thread_that_is_not_had_has_words = refl
+
+-- a receiver may end with its link
+the_end_of_a_link_is_no_failure : failure_line (record { harts = Ok StepsSpent; copier = end.Done; receiver_a = end.LinkEnded; receiver_b = end.LinkEnded }) None None ≡ []
+the_end_of_a_link_is_no_failure = refl
+
 -- SOMETHING IS TOLD OF EACH FAILURE
 
 ends_a_line : (text : List ℕ) → text ++ codes "\n" ≡ [] → ⊥

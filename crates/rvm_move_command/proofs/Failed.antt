@@ -11,8 +11,7 @@ use Rattle.rvm_journal.specs.History.{History}
 use Rattle.rvm_move.specs.declared.ends.Ends.{Ends}
 use Rattle.rvm_journal.specs.Replay.{IsReplay}
 use Rattle.rvm_move_command.specs.Answers.{answers_text}
-use Rattle.rvm_move_command.specs.Ended.{IsFailed, IsFailureOf, IsMoveRefusal, IsNotMoved, IsSound, failure_line}
-use Rattle.rvm_move_command.specs.Hosts.{AreOpened}
+use Rattle.rvm_move_command.specs.Ended.{AreLeft, IsFailed, IsFailureOf, IsMoveRefusal, IsNotMoved, IsSound, failure_line}
 use Rattle.rvm_refusal.specs.declared.refusal.Refusal.TheVariants as refusal
 
 -- the answers of both hosts, and the line behind them
@@ -62,14 +61,14 @@ not_moved (Err e) m a file before after opened failure f begun reason told faile
 
 -- of two hosts
 pub failed_of : (arguments : MoveArguments) (file : List ℕ) (ends : Ends) (a b : Option CloseKind) (first second : History)
-    (before after : Option (List ℕ)) → AreOpened arguments file first.opening second.opening
+    (before after : Option (List ℕ)) → AreLeft arguments file ends a b first second
     → IsFailureOf ends a b first second before after → IsFailed arguments file before after
-failed_of arguments file ends a b first second before after opened failure = record {
+failed_of arguments file ends a b first second before after left failure = record {
   ends = ends;
   fault_a = a;
   fault_b = b;
   first = first;
   second = second;
-  opened = opened;
+  left = left;
   failure = failure;
 }

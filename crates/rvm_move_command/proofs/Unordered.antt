@@ -11,8 +11,7 @@ use Rattle.rvm_command.specs.declared.refused.Refused.{Refused}
 use Rattle.rvm_command.specs.Refusals.{IsTold, refused}
 use Rattle.rvm_journal.specs.History.{History}
 use Rattle.rvm_move.specs.declared.ends.Ends.{Ends}
-use Rattle.rvm_move_command.specs.Ended.{IsMoveRefusal, IsSound, failure_line}
-use Rattle.rvm_move_command.specs.Hosts.{AreOpened}
+use Rattle.rvm_move_command.specs.Ended.{AreLeft, IsMoveRefusal, IsSound, failure_line}
 use Rattle.rvm_move_command.specs.Orders.{HasNoOrder, IsNotAudited, IsOrderRefusal, IsUnordered}
 use Rattle.rvm_refusal.specs.declared.refusal.Refusal.TheVariants as refusal
 
@@ -50,15 +49,15 @@ not_begun (Err e) status a file why before after reason told = tt
 -- what a call answers behind it
 pub not_audited : {X F : Type 0} (r : Result X F) (status : X → ℕ) (arguments : MoveArguments) (file : List ℕ) (ends : Ends)
     (a b : Option CloseKind) (first second : History) (before after : Option (List ℕ))
-    → AreOpened arguments file first.opening second.opening → IfOk r (λ x. status x ≡ 1 → HasNoOrder ends a b first second before after)
+    → AreLeft arguments file ends a b first second → IfOk r (λ x. status x ≡ 1 → HasNoOrder ends a b first second before after)
     → IfOk r (λ x. status x ≡ 1 → IsNotAudited arguments file before after)
-not_audited (Ok x) status arguments file ends a b first second before after opened none = λ is. inr (record {
+not_audited (Ok x) status arguments file ends a b first second before after left none = λ is. inr (record {
   ends = ends;
   fault_a = a;
   fault_b = b;
   first = first;
   second = second;
-  opened = opened;
+  left = left;
   none = none is;
 })
-not_audited (Err e) status arguments file ends a b first second before after opened none = tt
+not_audited (Err e) status arguments file ends a b first second before after left none = tt

@@ -13,8 +13,7 @@ use Rattle.rvm_journal.specs.Replay.{IsReplay}
 use Rattle.rvm_move.specs.declared.ends.Ends.{Ends}
 use Rattle.rvm_move.specs.Ends.{failure}
 use Rattle.rvm_move_command.specs.Answers.{answers_text}
-use Rattle.rvm_move_command.specs.Ended.{IsFailureOf, IsMoveRefusal, IsMoved, IsNotMoved, IsSound, IsToldOf, IsUntold, failure_line}
-use Rattle.rvm_move_command.specs.Hosts.{AreOpened}
+use Rattle.rvm_move_command.specs.Ended.{AreLeft, IsFailureOf, IsMoveRefusal, IsMoved, IsNotMoved, IsSound, IsToldOf, IsUntold, failure_line}
 use Rattle.rvm_move_command.specs.Orders.{HasNoOrder, IsNotAudited, IsOrderRefusal, IsUnordered}
 use Rattle.rvm_move_command.proofs.Unordered.{reason_of}
 use Rattle.rvm_refusal.specs.declared.refusal.Refusal.TheVariants as refusal
@@ -57,10 +56,10 @@ not_begun (Err e) a file why reason = (line why, inl (record { why = why; reason
 
 -- of a move that has no order
 pub not_audited : {X F : Type 0} (r : Result X F) (arguments : MoveArguments) (file : List ℕ) (ends : Ends)
-    (a b : Option CloseKind) (first second : History) → AreOpened arguments file first.opening second.opening
+    (a b : Option CloseKind) (first second : History) → AreLeft arguments file ends a b first second
     → OnErr r (IsUntold (HasNoOrder ends a b first second)) → OnErr r (IsUntold (IsNotAudited arguments file))
-not_audited (Ok x) arguments file ends a b first second opened none = tt
-not_audited (Err e) arguments file ends a b first second opened none = (
+not_audited (Ok x) arguments file ends a b first second left none = tt
+not_audited (Err e) arguments file ends a b first second left none = (
   none.0,
   inr (record {
     ends = ends;
@@ -68,7 +67,7 @@ not_audited (Err e) arguments file ends a b first second opened none = (
     fault_b = b;
     first = first;
     second = second;
-    opened = opened;
+    left = left;
     none = none.1;
   }),
 )
@@ -135,21 +134,21 @@ not_moved (Err e) a file why ob oa reason = (line why, inr (inl (record { why = 
 
 -- what a call answers that was to tell it
 pub untold_move : {X F : Type 0} (r : Result ℕ F) (m : Result X Refused) (a : MoveArguments) (file : List ℕ)
-    (output_before output_after : Option (List ℕ)) (opened end_a end_b output replays : X → Type 0)
+    (output_before output_after : Option (List ℕ)) (left output replays : X → Type 0)
     (Moved Failed : X → (before after : Option (List ℕ)) → Type 0)
     → ((x : X) → replays x → IsUntold (λ before after. Moved x before after ⊎ Failed x before after))
-    → ((x : X) (before after : Option (List ℕ)) → opened x → end_a x → end_b x → output x → Moved x before after
+    → ((x : X) (before after : Option (List ℕ)) → left x → output x → Moved x before after
     → IsMoved a file before after output_before output_after)
-    → ((x : X) (before after : Option (List ℕ)) → opened x → Failed x before after → IsNotMoved a file before after)
-    → IfOk m opened → IfOk m end_a → IfOk m end_b → IfOk m output → IfOk m replays → IfErr m (IsMoveRefusal a file)
+    → ((x : X) (before after : Option (List ℕ)) → left x → Failed x before after → IsNotMoved a file before after)
+    → IfOk m left → IfOk m output → IfOk m replays → IfErr m (IsMoveRefusal a file)
     → OnErr r (IsUntold (λ before after. IsMoved a file before after output_before output_after
     ⊎ IsNotMoved a file before after))
-untold_move (Ok s) m a file ob oa opened end_a end_b output replays Moved Failed f g h n p q o t why = tt
-untold_move (Err e) (Err r) a file ob oa opened end_a end_b output replays Moved Failed f g h n p q o t why =
+untold_move (Ok s) m a file ob oa left output replays Moved Failed f g h n o t why = tt
+untold_move (Err e) (Err r) a file ob oa left output replays Moved Failed f g h n o t why =
     (line r, inr (inl (record { why = r; reason = why; told = refl })))
-untold_move (Err e) (Ok x) a file ob oa opened end_a end_b output replays Moved Failed f g h n p q o t why =
+untold_move (Err e) (Ok x) a file ob oa left output replays Moved Failed f g h n o t why =
     let all = f x t in
     elim all.1 [
-      | inl moved ↦ (all.0, inl (g x (Some []) (Some all.0) n p q o moved))
+      | inl moved ↦ (all.0, inl (g x (Some []) (Some all.0) n o moved))
       | inr failed ↦ (all.0, inr (h x (Some []) (Some all.0) n failed))
     ]

@@ -14,8 +14,8 @@ use Rattle.rvm_journal.specs.Entries.{PlainEntry}
 use Rattle.rvm_journal.specs.History.{History}
 use Rattle.rvm_journal.specs.Replay.{IsReplay}
 use Rattle.rvm_move.specs.declared.ends.Ends.{Ends}
-use Rattle.rvm_move.specs.Ends.{TellsEnd, failure}
-use Rattle.rvm_move.specs.Hosts.{IsAskedOfFirst, IsAskedOfSecond}
+use Rattle.rvm_move.specs.Ends.{IsCopiedEnd, IsHeardEnd, TellsEnd, failure}
+use Rattle.rvm_move.specs.Hosts.{IsAskedOfFirst, IsAskedOfSecond, IsFirstEnd, IsSecondEnd}
 use Rattle.rvm_move.specs.Runs.{IsRunOf}
 use Rattle.rvm_move_command.specs.Answers.{answers_text}
 use Rattle.rvm_move_command.specs.Hosts.{AreOpened}
@@ -37,9 +37,10 @@ refusal_of_end e.TooLong = Some refusal.TooLong
 refusal_of_end e.Failed = Some refusal.Failed
 refusal_of_end end = None
 
--- the words of an end that is none: the guest stopped, or the worker was stopped at its gate
+-- the words of an end that is none: the guest stopped, no thread was had, or the worker was stopped at its gate
 abbrev pub words_of : WorkEnd → List ℕ
 words_of e.GuestStopped = codes "guest stopped between hosts"
+words_of e.NoThread = codes "no thread was had for the workers at the other host"
 words_of end = codes "the gate let no further call pass"
 
 -- the line of a refusal
@@ -88,12 +89,21 @@ pub record AreAsked (a : MoveArguments) (first second : List PlainEntry) : Type 
   pub of_first : All (λ e. IsAskedOfFirst (plan_of a).policy e.event) first
   pub of_second : All (λ e. IsAskedOfSecond e.event) second
 
--- what stands in the journals of a move that did not fail: nothing else was asked; the first host answered that the move is
--- over; the guest's turns came to this end, in the one or the other, and the output is all that drains took of it, the last
+-- how the workers ended that moved the guest stands in the journals of the two hosts
+pub record AreWorked (ends : Ends) (first second : List PlainEntry) : Type 0 where
+  pub copied : IsCopiedEnd ends.copier first
+  pub heard_a : IsHeardEnd ends.receiver_a first
+  pub heard_b : IsHeardEnd ends.receiver_b second
+
+-- what stands in the journals of a move that did not fail: nothing else was asked; no worker failed, and the journals tell
+-- how each ended; the first host answered that the move is over; the guest's turns came to this end, in the one or the other, and the output is all that drains took of it, the last
 -- of which found nothing
 pub record IsMade (a : MoveArguments) (first second : List PlainEntry) (output_before output_after : Option (List ℕ))
     : Type 0 where
   pub asked : AreAsked a first second
+  pub ends : Ends
+  pub unfailed : failure ends ≡ None
+  pub worked : AreWorked ends first second
   pub over : TellsEnd first
   pub end : TurnsEnd
   pub run : IsRunOf first second output_before output_after a.guest.harts a.steps (Ok end)
@@ -109,6 +119,13 @@ pub record IsMoved (a : MoveArguments) (file : List ℕ) (before after output_be
   pub second_replays : IsReplay second.opening second.entries
   pub made : IsMade a first.entries second.entries output_before output_after
   pub written : Appends before after (answers_text first.entries ++ answers_text second.entries)
+
+-- the two hosts of a move of a file as it left them: what was asked of each, and how its workers ended, by its journal
+pub record AreLeft (a : MoveArguments) (file : List ℕ) (ends : Ends) (fault_a fault_b : Option CloseKind)
+    (first second : History) : Type 0 where
+  pub opened : AreOpened a file first.opening second.opening
+  pub of_first : IsFirstEnd (plan_of a).policy ends fault_a first.entries
+  pub of_second : IsSecondEnd ends fault_b second.entries
 
 -- of a move that failed, what both hosts answered was told, and behind it the line with which it failed; each answer is the
 -- law's
@@ -138,7 +155,7 @@ pub record IsFailed (a : MoveArguments) (file : List ℕ) (before after : Option
   pub fault_b : Option CloseKind
   pub first : History
   pub second : History
-  pub opened : AreOpened a file first.opening second.opening
+  pub left : AreLeft a file ends fault_a fault_b first second
   pub failure : IsFailureOf ends fault_a fault_b first second before after
 
 -- the guest did not go through a move to its end

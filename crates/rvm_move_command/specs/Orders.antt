@@ -12,7 +12,7 @@ use Rattle.rvm_event_line.specs.EventLines.{event_lines}
 use Rattle.rvm_guest.specs.TheGuest.{board}
 use Rattle.rvm_journal.specs.History.{History}
 use Rattle.rvm_move.specs.declared.ends.Ends.{Ends}
-use Rattle.rvm_move_command.specs.Ended.{IsMade, IsNotBegun, IsSound, failure_line}
+use Rattle.rvm_move_command.specs.Ended.{AreLeft, IsMade, IsNotBegun, IsSound, failure_line}
 use Rattle.rvm_move_command.specs.Hosts.{AreOpened, guest_in}
 use Rattle.rvm_protocol.specs.World.{new_world}
 use Rattle.rvm_refusal.specs.declared.refusal.Refusal.TheVariants as refusal
@@ -69,7 +69,7 @@ pub record IsUnaudited (a : MoveArguments) (file : List ℕ) (before after : Opt
   pub fault_b : Option CloseKind
   pub first : History
   pub second : History
-  pub opened : AreOpened a file first.opening second.opening
+  pub left : AreLeft a file ends fault_a fault_b first second
   pub none : HasNoOrder ends fault_a fault_b first second before after
 
 -- no order was written: the move did not begin, or it failed, or has none

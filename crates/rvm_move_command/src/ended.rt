@@ -27,17 +27,23 @@ fn refusal_of_end(end: WorkEnd) -> Option<Refusal>
         WorkEnd::BadFrame => Some(Refusal::BadFrame),
         WorkEnd::TooLong => Some(Refusal::TooLong),
         WorkEnd::Failed => Some(Refusal::Failed),
-        WorkEnd::Done | WorkEnd::GivenUp | WorkEnd::Stopped | WorkEnd::GuestStopped => None,
+        WorkEnd::Done
+        | WorkEnd::LinkEnded
+        | WorkEnd::GivenUp
+        | WorkEnd::Stopped
+        | WorkEnd::GuestStopped
+        | WorkEnd::NoThread => None,
     }
 }
 
-/// The words of a worker's end that is no refusal of the list: the guest stopped, or the worker was stopped
-/// at its gate.
+/// The words of a worker's end that is no refusal of the list: the guest stopped, no thread was had, or the
+/// worker was stopped at its gate.
 fn words_of(end: WorkEnd) -> &'static str
     ensures { result.now ≡ words_of end }
 {
     match end {
         WorkEnd::GuestStopped => "guest stopped between hosts",
+        WorkEnd::NoThread => "no thread was had for the workers at the other host",
         _ => "the gate let no further call pass",
     }
 }

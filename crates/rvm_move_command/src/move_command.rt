@@ -3,7 +3,7 @@
 ghost use Rattle.std.specs.Prelude.{◌≡◌, ◌⊎◌, IfErr, IfOk, OnErr};
 ghost use Rattle.rvm_command.specs.Command.{image_of};
 ghost use Rattle.rvm_command.specs.Ends.{IsLoadable};
-ghost use Rattle.rvm_move.specs.Hosts.{IsAskedOfSecond, IsEnd, IsFirstEnd};
+ghost use Rattle.rvm_move.specs.Hosts.{IsFirstEnd, IsSecondEnd};
 ghost use Rattle.rvm_move.specs.Runs.{IsEndRun};
 ghost use Rattle.rvm_move_command.specs.Ended.{IsMoveRefusal, IsMoved, IsNotMoved, IsUntold};
 ghost use Rattle.rvm_move_command.specs.Hosts.{AreOpened};
@@ -87,9 +87,9 @@ where
     R::Stream: Send,
     ensures opened { IfOk result (λ m. AreOpened arguments.now image.now
         m.a.recorded.journal.opening m.b.recorded.journal.opening) }
-    ensures a { IfOk result (λ m. IsFirstEnd (plan_of arguments.now).policy m.ends.copier m.a.fault
+    ensures a { IfOk result (λ m. IsFirstEnd (plan_of arguments.now).policy m.ends m.a.fault
         m.a.recorded.journal.entries) }
-    ensures b { IfOk result (λ m. IsEnd IsAskedOfSecond m.b.fault m.b.recorded.journal.entries) }
+    ensures b { IfOk result (λ m. IsSecondEnd m.ends m.b.fault m.b.recorded.journal.entries) }
     ensures run { IfOk result (λ m. IsEndRun m.ends m.a.fault m.b.fault m.a.recorded.journal.entries
         m.b.recorded.journal.entries (O.contents output.old) (O.contents output.new)
         arguments.now.guest.harts arguments.now.steps) }

@@ -6,7 +6,7 @@ ghost use Rattle.rvm_command.specs.Command.{image_of};
 ghost use Rattle.rvm_command.specs.Ends.{IsLoadable};
 ghost use Rattle.rvm_command.specs.Refusals.{IsTold, refused};
 ghost use Rattle.rvm_refusal.specs.declared.refusal.Refusal.TheVariants as refusal;
-ghost use Rattle.rvm_move.specs.Hosts.{IsAskedOfSecond, IsEnd, IsFirstEnd};
+ghost use Rattle.rvm_move.specs.Hosts.{IsFirstEnd, IsSecondEnd};
 ghost use Rattle.rvm_move.specs.Runs.{IsEndRun};
 ghost use Rattle.rvm_move_command.specs.Ended.{IsFailureOf, IsMoved, IsNotMoved, IsToldOf, IsUntold};
 ghost use Rattle.rvm_journal.specs.Replay.{IsReplay};
@@ -148,8 +148,8 @@ pub(crate) fn move_recorded<
     requires { (recorded.0.journal.entries ≡ []) × (recorded.1.journal.entries ≡ []) }
     ensures opening { IfOk result (λ m. (m.a.recorded.journal.opening ≡ recorded.0.journal.opening)
         × (m.b.recorded.journal.opening ≡ recorded.1.journal.opening)) }
-    ensures a { IfOk result (λ m. IsFirstEnd plan.now.policy m.ends.copier m.a.fault m.a.recorded.journal.entries) }
-    ensures b { IfOk result (λ m. IsEnd IsAskedOfSecond m.b.fault m.b.recorded.journal.entries) }
+    ensures a { IfOk result (λ m. IsFirstEnd plan.now.policy m.ends m.a.fault m.a.recorded.journal.entries) }
+    ensures b { IfOk result (λ m. IsSecondEnd m.ends m.b.fault m.b.recorded.journal.entries) }
     ensures run { IfOk result (λ m. IsEndRun m.ends m.a.fault m.b.fault m.a.recorded.journal.entries
         m.b.recorded.journal.entries (O.contents output.old) (O.contents output.new) plan.now.harts plan.now.steps) }
     ensures refused { IfErr result (λ r. r ≡ refused refusal.OutOfMemory) }

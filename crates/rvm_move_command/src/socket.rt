@@ -1,12 +1,16 @@
 //! Links over TCP.
 
-ghost use Rattle.std.specs.Prelude.{◌≡◌, ◌⊎◌, [], IfErr};
+ghost use Rattle.std.specs.Prelude.{◌≡◌, ◌≢◌, ◌⊎◌, [], true, IfErr, IfOk};
 ghost use Rattle.std.specs.Io.Buffered.{writer_buffer, writer_contents, writer_inner};
+ghost use Rattle.std.specs.IoError.{error_kind};
+ghost use Rattle.std.specs.declared.io.ErrorKind.TheVariants as kind;
+ghost use Rattle.rvm_link.specs.declared.link.LinkRead.TheVariants as link;
 ghost use Rattle.rvm_refusal.specs.declared.refusal.Refusal.TheVariants as refusal;
 
 use rvm_link::{Link, LinkRead};
 use rvm_refusal::{LinkFault, Refusal};
 use std::alloc::Global;
+use std::io;
 use std::io::{BufWriter, ErrorKind, Read, Write};
 use std::net::{Ipv4Addr, Net, OpenListener, OpenStream, TcpListener, TcpStream};
 
@@ -18,6 +22,28 @@ const TOGETHER: usize = 1 << 17;
 #[derive(Drop)]
 pub struct Socket<S: Read + Write + Drop> {
     stream: BufWriter<S>,
+    /// Whether the last read found the end.
+    has_ended: bool,
+}
+
+/// What a read of a stream gave: no byte is the end.
+fn told_by(read: io::Result<usize>) -> LinkRead
+    ensures end { IfOk read (λ n. n ≡ 0 → result ≡ link.End) }
+    ensures bytes { IfOk read (λ n. n ≢ 0 → result ≡ link.Bytes n) }
+    ensures idle { IfErr read (λ e. error_kind e ≡ kind.Interrupted → result ≡ link.Idle) }
+    ensures fault { IfErr read (λ e. error_kind e ≢ kind.Interrupted → result ≡ link.LinkFault) }
+{
+    match read {
+        Ok(0) => LinkRead::End,
+        Ok(count) => LinkRead::Bytes(count),
+        Err(error) => {
+            if error.kind() == ErrorKind::Interrupted {
+                LinkRead::Idle
+            } else {
+                LinkRead::LinkFault
+            }
+        }
+    }
 }
 
 impl<S: Read + Write + Drop> Link for Socket<S> {
@@ -26,6 +52,8 @@ impl<S: Read + Write + Drop> Link for Socket<S> {
     ghost is_flushed = { λ s. writer_buffer s.stream ≡ [] };
 
     ghost remaining = { λ s. S.remaining (writer_inner s.stream) };
+
+    ghost has_ended = { λ s. s.has_ended ≡ true };
 
     fn send(&mut self, bytes: &[u8]) -> Result<(), LinkFault> {
         self.stream.write_all(bytes)?;
@@ -38,17 +66,9 @@ impl<S: Read + Write + Drop> Link for Socket<S> {
     }
 
     fn recv(&mut self, buffer: &mut [u8]) -> LinkRead {
-        match self.stream.get_mut().read(buffer) {
-            Ok(0) => LinkRead::End,
-            Ok(count) => LinkRead::Bytes(count),
-            Err(error) => {
-                if error.kind() == ErrorKind::Interrupted {
-                    LinkRead::Idle
-                } else {
-                    LinkRead::LinkFault
-                }
-            }
-        }
+        let told = told_by(self.stream.get_mut().read(buffer));
+        self.has_ended = told == LinkRead::End;
+        told
     }
 }
 
@@ -62,7 +82,10 @@ fn link_over<S: Read + Write + Drop>(
     ensures { IfErr result (λ r. r ≡ refusal.OutOfMemory) }
 {
     match BufWriter::with_capacity(alloc, most, stream) {
-        Ok(stream) => Ok(Socket { stream }),
+        Ok(stream) => Ok(Socket {
+            stream,
+            has_ended: false,
+        }),
         Err(_) => Err(Refusal::OutOfMemory),
     }
 }

@@ -9,8 +9,10 @@ use Rattle.rvm_message.specs.declared.reply.HostRefusal.TheVariants.{Busy, NoMov
 use Rattle.rvm_message.specs.declared.reply.HostReply.{HostReply}
 use Rattle.rvm_message.specs.declared.reply.HostReply.TheVariants as reply
 use Rattle.rvm_message.specs.Exchanges.{exchange}
-use Rattle.rvm_worker.specs.declared.end.WorkEnd.TheVariants.{Done, LinkFault}
+use Rattle.rvm_worker.specs.declared.end.WorkEnd.TheVariants.{Done, Failed, LinkEnded, LinkFault, NoThread}
 use Rattle.rvm_worker.specs.declared.next.Next.TheVariants as next
+use Rattle.rvm_precopy.specs.declared.policy.Policy.{Policy}
+use Rattle.rvm_worker.specs.Copiers.{MayAsk}
 use Rattle.rvm_worker.specs.Endings.{IsCopierEnd, TellsOver, last_of, tells_done, tells_given_up}
 use Rattle.rvm_worker.specs.Heard.{IsAllButLast, IsReceiverEnd, IsWholeStream, all_for_host, frames_in}
 use Rattle.rvm_worker.specs.Next.{after_copy}
@@ -45,6 +47,32 @@ a_copy_gives_nothing_up = refl
 
 without_a_call_it_is_not_done : IsCopierEnd Done None → ⊥
 without_a_call_it_is_not_done is = is
+
+an_answer_that_does_not_come_is_a_fault_of_its_link : IsCopierEnd LinkFault (Some (exchange (Do command.Resend) reply.Resent))
+an_answer_that_does_not_come_is_a_fault_of_its_link = refl
+
+a_copy_that_is_busy_is_none : IsCopierEnd LinkFault (Some (exchange (Do command.Copy) (reply.Refused Busy))) → ⊥
+a_copy_that_is_busy_is_none is = absurd cc
+
+it_never_reads_a_stream : IsCopierEnd Failed None → ⊥
+it_never_reads_a_stream is = absurd cc
+
+-- WHAT THE COPIER MAY ASK
+
+abbrev policy : Policy
+policy = record { max_rounds = 29; min_left = 50; factor = 3 }
+
+it_may_not_copy_first : MayAsk 1 policy None (Do command.Copy) → ⊥
+it_may_not_copy_first may = may
+
+it_may_copy_once_the_move_has_begun : MayAsk 1 policy (Some (exchange (Do (command.Begin 1 policy)) (reply.Begun 1))) (Do command.Copy)
+it_may_copy_once_the_move_has_begun = refl
+
+it_may_not_ask_for_a_frame_again_while_the_guest_is_there : MayAsk 1 policy (Some (exchange (Do command.Copy) (reply.Refused Busy))) (Do command.Resend) → ⊥
+it_may_not_ask_for_a_frame_again_while_the_guest_is_there may = absurd cc
+
+it_may_once_the_guest_is_gone : MayAsk 1 policy (Some (exchange (Do command.Copy) (reply.Refused NotHere))) (Do command.Resend)
+it_may_once_the_guest_is_gone = refl
 
 -- THE CALLS OF A RECEIVER
 
@@ -88,8 +116,15 @@ hello_is_a_whole_stream = record {
   told = refl;
 }
 
-so_a_receiver_may_be_done : IsReceiverEnd Done None (Some hello) []
-so_a_receiver_may_be_done = inr hello_is_a_whole_stream
+so_a_receiver_may_end_with_its_link : IsReceiverEnd LinkEnded None (Some hello) []
+so_a_receiver_may_end_with_its_link = hello_is_a_whole_stream
+
+-- but it is not done, for which a call has to tell so
+it_is_not_done : IsReceiverEnd Done None (Some hello) [] → ⊥
+it_is_not_done is = is
+
+it_never_ends_as_a_worker_without_a_thread : IsReceiverEnd NoThread None (Some hello) [] → ⊥
+it_never_ends_as_a_worker_without_a_thread is = absurd cc
 
 -- where it is not done one frame may be missing, and no more
 a_frame_may_be_missing : IsAllButLast LinkFault (Go 1 ∷ []) (Go 1 ∷ Abort 1 ∷ [])

@@ -12,9 +12,8 @@ use Rattle.rvm_frame.specs.Stream.{Feed, Run, Splits, bytes_taken, frames_given,
 use Rattle.rvm_frame.specs.Verdict.{Decides, verdict}
 use Rattle.rvm_message.specs.Exchanges.{PlainExchange}
 use Rattle.rvm_worker.specs.declared.end.WorkEnd.{WorkEnd}
-use Rattle.rvm_worker.specs.declared.end.WorkEnd.TheVariants.{BadFrame, Done, Failed, GivenUp, GuestStopped, LinkFault, OutOfMemory, OutOfRange, RecorderFull, Stopped, TooLong}
-use Rattle.rvm_worker.specs.Endings.{TellsOver}
-use Rattle.rvm_worker.specs.Heard.{AreHeard, Hears, IsAllButLast, IsHeardOf, IsHeardUpTo, IsReceiverEnd, IsWholeStream, all_for_host, for_host}
+use Rattle.rvm_worker.specs.declared.end.WorkEnd.TheVariants.{BadFrame, Done, Failed, GivenUp, GuestStopped, LinkEnded, LinkFault, NoThread, OutOfMemory, OutOfRange, RecorderFull, Stopped, TooLong}
+use Rattle.rvm_worker.specs.Heard.{AreHeard, Hears, IsAllButLast, IsFrameEnd, IsHeardOf, IsHeardUpTo, IsReceiverEnd, IsWholeStream, all_for_host, for_host}
 
 -- each is below 256
 abbrev AreBytes : List ℕ → Type 0
@@ -25,9 +24,11 @@ AreBytes bytes = (i : ℕ) → slice_index bytes i < 256
 -- where all was heard, whatever the end
 pub all_heard : (end : WorkEnd) (heard all : List Frame) → heard ≡ all → IsAllButLast end heard all
 all_heard Done heard all is = is
+all_heard LinkEnded heard all is = inl is
 all_heard GivenUp heard all is = inl is
 all_heard Stopped heard all is = inl is
 all_heard GuestStopped heard all is = inl is
+all_heard NoThread heard all is = inl is
 all_heard OutOfMemory heard all is = inl is
 all_heard (RecorderFull n) heard all is = inl is
 all_heard OutOfRange heard all is = inl is
@@ -40,9 +41,11 @@ all_heard Failed heard all is = inl is
 pub last_unheard : (end : WorkEnd) (heard all : List Frame) (last : Frame) → (end ≡ Done → ⊥) → all ≡ heard ++ last ∷ []
     → IsAllButLast end heard all
 last_unheard Done heard all last undone is = absurd (undone refl)
+last_unheard LinkEnded heard all last undone is = inr (last, is)
 last_unheard GivenUp heard all last undone is = inr (last, is)
 last_unheard Stopped heard all last undone is = inr (last, is)
 last_unheard GuestStopped heard all last undone is = inr (last, is)
+last_unheard NoThread heard all last undone is = inr (last, is)
 last_unheard OutOfMemory heard all last undone is = inr (last, is)
 last_unheard (RecorderFull n) heard all last undone is = inr (last, is)
 last_unheard OutOfRange heard all last undone is = inr (last, is)
@@ -51,20 +54,30 @@ last_unheard BadFrame heard all last undone is = inr (last, is)
 last_unheard TooLong heard all last undone is = inr (last, is)
 last_unheard Failed heard all last undone is = inr (last, is)
 
--- what is to be shown of a receiver that is done is all that is
+-- a receiver that ends at a frame
+frame_end : (end : WorkEnd) (last : Option PlainExchange) (bytes : Option (List ℕ)) (heard : List Frame) → IsFrameEnd end last
+    → IsReceiverEnd end last bytes heard
+frame_end Done last bytes heard is = is
+frame_end LinkEnded last bytes heard is = absurd is
+frame_end GivenUp last bytes heard is = is
+frame_end Stopped last bytes heard is = is
+frame_end GuestStopped last bytes heard is = is
+frame_end NoThread last bytes heard is = is
+frame_end OutOfMemory last bytes heard is = is
+frame_end (RecorderFull n) last bytes heard is = is
+frame_end OutOfRange last bytes heard is = is
+frame_end LinkFault last bytes heard is = is
+frame_end BadFrame last bytes heard is = is
+frame_end TooLong last bytes heard is = is
+frame_end Failed last bytes heard is = is
+
+-- at a frame, or with its link, whose whole stream it heard
 pub receiver_end : (end : WorkEnd) (last : Option PlainExchange) (bytes : Option (List ℕ)) (heard : List Frame)
-    → (end ≡ Done → TellsOver last ⊎ IfSome bytes (λ all. IsWholeStream all heard)) → IsReceiverEnd end last bytes heard
-receiver_end Done last bytes heard is = is refl
-receiver_end GivenUp last bytes heard is = tt
-receiver_end Stopped last bytes heard is = tt
-receiver_end GuestStopped last bytes heard is = tt
-receiver_end OutOfMemory last bytes heard is = tt
-receiver_end (RecorderFull n) last bytes heard is = tt
-receiver_end OutOfRange last bytes heard is = tt
-receiver_end LinkFault last bytes heard is = tt
-receiver_end BadFrame last bytes heard is = tt
-receiver_end TooLong last bytes heard is = tt
-receiver_end Failed last bytes heard is = tt
+    → IsFrameEnd end last ⊎ (end ≡ LinkEnded) → (end ≡ LinkEnded → IfSome bytes (λ all. IsWholeStream all heard))
+    → IsReceiverEnd end last bytes heard
+receiver_end end last bytes heard (inl is) whole = frame_end end last bytes heard is
+receiver_end end last bytes heard (inr is) whole =
+    subst (λ e. IsReceiverEnd e last bytes heard) (sym is) (whole is)
 
 -- RUNS OF A READER
 

@@ -16,11 +16,10 @@ use Rattle.rvm_cell.specs.Seats.{PlainSeat, seat_of}
 use Rattle.rvm_message.specs.declared.event.HostEvent.{HostEvent}
 use Rattle.rvm_message.specs.declared.reply.HostReply.{HostReply}
 use Rattle.rvm_message.specs.Exchanges.{exchange}
-use Rattle.rvm_precopy.specs.declared.policy.Policy.{Policy}
 use Rattle.rvm_worker.specs.declared.end.WorkEnd.{WorkEnd}
 use Rattle.rvm_worker.specs.Endings.{last_of}
 use Rattle.rvm_worker.specs.Heard.{frame_in, frames_in}
-use Rattle.rvm_worker.specs.Work.{AreOfCopier, AreOfReceiver, IsCall, IsOfCopier, IsOfReceiver, IsWork, PlainCaller}
+use Rattle.rvm_worker.specs.Work.{AreOfReceiver, IsCall, IsOfReceiver, IsWork, PlainCaller}
 
 -- what stands in two lists stands in the first, or in the second
 got_either : {X : Type 0} (xs ys : List X) (b : X) (k : ℕ) → slice_get (xs ++ ys) k ≡ Some b
@@ -127,14 +126,7 @@ all_called P e old new reply (Ok c) all here call same =
     (All-push (λ r. P r.event) old.receipts call.receipt all (subst P (sym call.of_event.event_is) here))
 all_called P e old new reply (Err end) all here call same = subst (λ c. All (λ r. P r.event) c.receipts) (sym same) all
 
--- a copier makes one more of its calls, or none
-pub copier_more : {A : Type 0} (to : ℕ) (policy : Policy) (e : HostEvent) (old new : PlainCaller) (reply : A → HostReply)
-    (result : Result A WorkEnd) → AreOfCopier to policy old.receipts → IsOfCopier to policy e
-    → IfOk result (λ c. IsCall old.seat e old.receipts new.seat new.receipts (reply c)) → OnErr result (new ≡ old)
-    → AreOfCopier to policy new.receipts
-copier_more to policy = all_called (IsOfCopier to policy)
-
--- a receiver does
+-- a receiver makes one more of its calls, or none
 pub receiver_more : {A : Type 0} (from : ℕ) (e : HostEvent) (old new : PlainCaller) (reply : A → HostReply)
     (result : Result A WorkEnd) → AreOfReceiver from old.receipts → IsOfReceiver from e
     → IfOk result (λ c. IsCall old.seat e old.receipts new.seat new.receipts (reply c)) → OnErr result (new ≡ old)

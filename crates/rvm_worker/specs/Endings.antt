@@ -5,12 +5,10 @@ use Rattle.rvm_message.specs.declared.event.Command.TheVariants as command
 use Rattle.rvm_message.specs.declared.event.HostEvent.{HostEvent}
 use Rattle.rvm_message.specs.declared.event.HostEvent.TheVariants as event
 use Rattle.rvm_message.specs.Exchanges.{PlainExchange, exchange}
-use Rattle.rvm_precopy.specs.declared.policy.Policy.{Policy}
 use Rattle.rvm_worker.specs.declared.end.WorkEnd.{WorkEnd}
-use Rattle.rvm_worker.specs.declared.end.WorkEnd.TheVariants.{Done, GivenUp, Stopped}
+use Rattle.rvm_worker.specs.declared.end.WorkEnd.TheVariants.{Done, GivenUp, LinkFault, Stopped}
 use Rattle.rvm_worker.specs.Ends.{is_short_of_room}
 use Rattle.rvm_worker.specs.Next.{ends_hearing, is_gone, says_no_move}
-use Rattle.rvm_worker.specs.Work.{AreOfCopier}
 
 -- the last of some calls, and the reply to it, if there is one
 abbrev pub last_of : List PlainReceipt → Option PlainExchange
@@ -26,6 +24,11 @@ abbrev pub gives_up : HostEvent → Bool
 gives_up (event.Do command.Abort) = true
 gives_up e = false
 
+-- the host was asked to send its last frame again
+abbrev pub asks_again : HostEvent → Bool
+asks_again (event.Do command.Resend) = true
+asks_again e = false
+
 -- the host answered that it has no move
 abbrev pub tells_done : PlainExchange → Bool
 tells_done x = says_no_move x.reply
@@ -34,17 +37,18 @@ tells_done x = says_no_move x.reply
 abbrev pub tells_given_up : PlainExchange → Bool
 tells_given_up x = gives_up x.event && not (is_gone x.reply)
 
--- a copier is done, or has given up the move, only where its last call tells so
+-- the host was asked to send its last frame again, and has a move still
+abbrev pub tells_left : PlainExchange → Bool
+tells_left x = asks_again x.event && not (says_no_move x.reply)
+
+-- how a copier ends, by its last call: done, or with the move given up, only where that tells so; with a link that failed
+-- only where the other side did not answer the last frame; else without a call, at its gate or for want of room
 abbrev pub IsCopierEnd : WorkEnd → (last : Option PlainExchange) → Type 0
 IsCopierEnd Done last = IsSomeAnd last (λ x. tells_done x ≡ true)
 IsCopierEnd GivenUp last = IsSomeAnd last (λ x. tells_given_up x ≡ true)
-IsCopierEnd end last = Unit {0}
+IsCopierEnd LinkFault last = IsSomeAnd last (λ x. tells_left x ≡ true)
+IsCopierEnd end last = is_uncalled end ≡ true
 
 -- the last call of a receiver tells that the move is over for it
 abbrev pub TellsOver : (last : Option PlainExchange) → Type 0
 TellsOver last = IsSomeAnd last (λ x. ends_hearing x.reply ≡ true)
-
--- what a copier leaves that ended so: it made these calls, to move its guest to this host with this policy
-pub record IsCopied (to : ℕ) (policy : Policy) (end : WorkEnd) (receipts : List PlainReceipt) : Type 0 where
-  pub asked : AreOfCopier to policy receipts
-  pub ended : IsCopierEnd end (last_of receipts)

@@ -40,3 +40,8 @@ abbrev pub is_short_of_room : WorkEnd → Bool
 is_short_of_room OutOfMemory = true
 is_short_of_room (RecorderFull n) = true
 is_short_of_room e = false
+
+-- a slice has not so many steps, or there is no room for them
+abbrev pub is_unsliced : WorkEnd → Bool
+is_unsliced OutOfRange = true
+is_unsliced e = is_short_of_room e

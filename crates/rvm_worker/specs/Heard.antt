@@ -1,7 +1,7 @@
 -- Which frames a receiver hears: those of the stream that its link gives.
 use Rattle.std.specs.Io.KnownBytes.{Consumes}
 use Rattle.std.specs.List.{flat_map}
-use Rattle.std.specs.Prelude.{◌≡◌, ◌⊎◌, ℕ, List, [], ◌∷◌, ◌++◌, Option, None, Result, Ok, Err, IfSome}
+use Rattle.std.specs.Prelude.{◌≡◌, ◌⊎◌, ℕ, Bool, true, List, [], ◌∷◌, ◌++◌, Option, None, Result, Ok, Err, IfSome}
 use Rattle.rvm_cell.specs.Receipts.{PlainReceipt}
 use Rattle.rvm_frame.specs.declared.frame.Frame.{Frame}
 use Rattle.rvm_frame.specs.declared.frame.Frame.TheVariants.{Hello}
@@ -12,8 +12,9 @@ use Rattle.rvm_message.specs.Exchanges.{PlainExchange}
 use Rattle.rvm_message.specs.declared.event.HostEvent.{HostEvent}
 use Rattle.rvm_message.specs.declared.event.HostEvent.TheVariants.{Came}
 use Rattle.rvm_worker.specs.declared.end.WorkEnd.{WorkEnd}
-use Rattle.rvm_worker.specs.declared.end.WorkEnd.TheVariants.{Done}
-use Rattle.rvm_worker.specs.Endings.{TellsOver}
+use Rattle.rvm_worker.specs.declared.end.WorkEnd.TheVariants.{BadFrame, Done, Failed, LinkEnded, LinkFault, TooLong}
+use Rattle.rvm_worker.specs.Endings.{TellsOver, is_uncalled, last_of}
+use Rattle.rvm_worker.specs.Work.{AreOfReceiver}
 
 -- what of a frame comes to a host: Hello does not
 abbrev pub for_host : Frame → List Frame
@@ -54,10 +55,33 @@ pub record IsWholeStream (bytes : List ℕ) (heard : List Frame) : Type 0 where
   pub stream : Splits None bytes frames []
   pub told : heard ≡ all_for_host frames
 
--- a receiver is done only where its last call tells so, or it heard the whole stream of its link, which has ended
+-- how a receiver may end: done, at the end of a stream, for a fault of it or of the link, or without a call
+abbrev pub ends_receiver : WorkEnd → Bool
+ends_receiver Done = true
+ends_receiver LinkEnded = true
+ends_receiver LinkFault = true
+ends_receiver BadFrame = true
+ends_receiver TooLong = true
+ends_receiver Failed = true
+ends_receiver end = is_uncalled end
+
+-- how a receiver ends at a frame: done, where its last call tells so, for a fault or without a call, but not with its link
+abbrev pub IsFrameEnd : WorkEnd → (last : Option PlainExchange) → Type 0
+IsFrameEnd Done last = TellsOver last
+IsFrameEnd LinkEnded last = ⊥
+IsFrameEnd end last = ends_receiver end ≡ true
+
+-- a receiver is done only where its last call tells so, and ends with its link only where it heard the whole stream of it
 abbrev pub IsReceiverEnd : WorkEnd → (last : Option PlainExchange) → (bytes : Option (List ℕ)) → (heard : List Frame) → Type 0
-IsReceiverEnd Done last bytes heard = TellsOver last ⊎ IfSome bytes (λ all. IsWholeStream all heard)
-IsReceiverEnd end last bytes heard = Unit {0}
+IsReceiverEnd Done last bytes heard = TellsOver last
+IsReceiverEnd LinkEnded last bytes heard = IfSome bytes (λ all. IsWholeStream all heard)
+IsReceiverEnd end last bytes heard = ends_receiver end ≡ true
+
+-- what a receiver leaves that ended so: of these bytes of its link it heard frames of this host
+pub record IsReceived (from : ℕ) (bytes : Option (List ℕ)) (end : WorkEnd) (receipts : List PlainReceipt) : Type 0 where
+  pub told : AreOfReceiver from receipts
+  pub heard : IfSome bytes (λ l. IsHeardOf l end (frames_in receipts))
+  pub ended : IsReceiverEnd end (last_of receipts) bytes (frames_in receipts)
 
 -- a frame of a stream came to a host, if it is to; where that was refused it may not have
 abbrev pub IsHeard : {A : Type 0} → Result A WorkEnd → Frame → (before behind : List Frame) → Type 0

@@ -3,4 +3,5 @@ pub mod Ends
 pub mod Work
 pub mod Next
 pub mod Endings
+pub mod Copiers
 pub mod Heard

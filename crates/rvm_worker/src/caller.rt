@@ -3,7 +3,7 @@
 ghost use Rattle.std.specs.Prelude.{◌≡◌, ◌+◌, ◌<◌, ◌≤◌, ◌++◌, [], true, false, IfErr, IfOk, OnErr, vec_capacity, vec_len};
 ghost use Rattle.rvm_cell.specs.Runs.{all_of};
 ghost use Rattle.rvm_message.specs.Exchanges.{dry_exchange};
-ghost use Rattle.rvm_worker.specs.Ends.{is_short_of_room};
+ghost use Rattle.rvm_worker.specs.Ends.{is_short_of_room, is_unsliced};
 ghost use Rattle.rvm_worker.specs.Work.{IsCall, IsSliceCall, IsWork};
 
 use crate::end::{WorkEnd, Worked};
@@ -138,7 +138,7 @@ impl<L: Seating> Caller<L> {
     }
 
     /// Makes a slice of at most n turns, whose receipts are kept: the steps that it made.
-    #[tactic(auto, using(rvm_cell::proofs::Tellings::few_items))]
+    #[tactic(auto, using(rvm_cell::proofs::Tellings::few_items, crate::proofs::Endings::unsliced))]
     pub fn slice<M: PagedMemory + Drop, R: Wait>(
         &mut self,
         rt: &R,
@@ -153,6 +153,7 @@ impl<L: Seating> Caller<L> {
             self.new.seat self.new.receipts s) }
         ensures within { IfOk result (λ s. s.count ≤ n) }
         ensures err { OnErr result (self.new ≡ self.old) }
+        ensures refused { IfErr result (λ e. is_unsliced e ≡ true) }
     {
         if self.receipts.reserve(n as usize).is_err() {
             return Err(WorkEnd::OutOfMemory);

@@ -1,8 +1,9 @@
 //! The copier: it moves the guest to another host.
 
-ghost use Rattle.std.specs.Prelude.{◌≡◌, true, Ok, IfErr, IsSomeAnd};
+ghost use Rattle.std.specs.Prelude.{◌≡◌, true, None, IfErr, IfOk, IsSomeAnd};
 ghost use Rattle.rvm_cell.specs.Runs.{all_of};
-ghost use Rattle.rvm_worker.specs.Endings.{IsCopied, IsCopierEnd, is_uncalled, tells_done};
+ghost use Rattle.rvm_worker.specs.Copiers.{IsCopied, IsNext, copies_on, is_given};
+ghost use Rattle.rvm_worker.specs.Endings.{IsCopierEnd, is_uncalled};
 ghost use Rattle.rvm_worker.specs.Work.{IsWork};
 
 use crate::copying::Copying;
@@ -62,6 +63,7 @@ fn move_guest<L: Seating, M: PagedMemory + Drop, K: Link + Drop, G: Gate, R: Wai
     copying: &mut Copying<L>,
     watch: &mut Watch<'_, G>,
 ) -> WorkEnd
+    requires { copying.old.last ≡ None }
     ensures same { copying.new ≡ record copying.old { last = copying.new.last } }
     ensures end { IsCopierEnd result copying.new.last }
 {
@@ -82,8 +84,9 @@ fn copy_guest<L: Seating, M: PagedMemory + Drop, K: Link + Drop, G: Gate, R: Wai
     copying: &mut Copying<L>,
     watch: &mut Watch<'_, G>,
 ) -> Result<Next, WorkEnd>
+    requires { copying.old.last ≡ None }
     ensures same { copying.new ≡ record copying.old { last = copying.new.last } }
-    ensures done { result ≡ Ok Next.Done → IsSomeAnd copying.new.last (λ x. tells_done x ≡ true) }
+    ensures next { IfOk result (λ n. IsNext n copying.new.last) }
     ensures uncalled { IfErr result (λ e. is_uncalled e ≡ true) }
 {
     let told = copying.begin(rt, alloc, side, watch)?;
@@ -102,8 +105,9 @@ fn copy_until<L: Seating, M: PagedMemory + Drop, K: Link + Drop, G: Gate, R: Wai
     copying: &mut Copying<L>,
     watch: &mut Watch<'_, G>,
 ) -> Result<Next, WorkEnd>
+    requires { IsSomeAnd copying.old.last (λ x. copies_on x ≡ true) }
     ensures same { copying.new ≡ record copying.old { last = copying.new.last } }
-    ensures done { result ≡ Ok Next.Done → IsSomeAnd copying.new.last (λ x. tells_done x ≡ true) }
+    ensures next { IfOk result (λ n. IsNext n copying.new.last) }
     ensures uncalled { IfErr result (λ e. is_uncalled e ≡ true) }
 {
     let mut pauses = 0;
@@ -124,6 +128,7 @@ fn copy_until<L: Seating, M: PagedMemory + Drop, K: Link + Drop, G: Gate, R: Wai
 }
 
 /// Makes one copy, and says what is to be done then.
+#[tactic(auto, using(crate::proofs::Copiers::copy_asked, crate::proofs::Copiers::next_told))]
 fn copy<L: Seating, M: PagedMemory + Drop, K: Link + Drop, G: Gate, R: Wait>(
     rt: &R,
     alloc: Global,
@@ -131,8 +136,9 @@ fn copy<L: Seating, M: PagedMemory + Drop, K: Link + Drop, G: Gate, R: Wait>(
     copying: &mut Copying<L>,
     watch: &mut Watch<'_, G>,
 ) -> Result<Next, WorkEnd>
+    requires { IsSomeAnd copying.old.last (λ x. copies_on x ≡ true) }
     ensures same { copying.new ≡ record copying.old { last = copying.new.last } }
-    ensures done { result ≡ Ok Next.Done → IsSomeAnd copying.new.last (λ x. tells_done x ≡ true) }
+    ensures next { IfOk result (λ n. IsNext n copying.new.last) }
     ensures uncalled { IfErr result (λ e. is_uncalled e ≡ true) }
 {
     let told = copying.ask(rt, alloc, side, watch, Command::Copy)?;
@@ -144,7 +150,7 @@ fn copy<L: Seating, M: PagedMemory + Drop, K: Link + Drop, G: Gate, R: Wait>(
 }
 
 /// Has the last frame sent again, until no move is left here.
-#[tactic(auto, using(crate::proofs::Endings::uncalled_copier))]
+#[tactic(auto, using(crate::proofs::Endings::uncalled_copier, crate::proofs::Copiers::again_asked, crate::proofs::Copiers::left_told))]
 fn resend<L: Seating, M: PagedMemory + Drop, K: Link + Drop, G: Gate, R: Wait + Clock>(
     rt: &R,
     alloc: Global,
@@ -152,6 +158,7 @@ fn resend<L: Seating, M: PagedMemory + Drop, K: Link + Drop, G: Gate, R: Wait + 
     copying: &mut Copying<L>,
     watch: &mut Watch<'_, G>,
 ) -> WorkEnd
+    requires { IsSomeAnd copying.old.last (λ x. is_given x ≡ true) }
     ensures same { copying.new ≡ record copying.old { last = copying.new.last } }
     ensures end { IsCopierEnd result copying.new.last }
 {

@@ -1,11 +1,12 @@
 //! The calls of a copier.
 
-ghost use Rattle.std.specs.Prelude.{◌≡◌, true, None, Some, IfErr, IfOk, OnErr};
+ghost use Rattle.std.specs.Prelude.{◌≡◌, true, None, Some, IfErr, IfOk, IsSomeAnd, OnErr, OnOk};
 ghost use Rattle.rvm_cell.specs.Runs.{all_of};
 ghost use Rattle.rvm_message.specs.declared.event.HostEvent.TheVariants.{Do};
 ghost use Rattle.rvm_message.specs.Exchanges.{exchange};
+ghost use Rattle.rvm_worker.specs.Copiers.{Follows, MayAsk, copies_on};
 ghost use Rattle.rvm_worker.specs.Endings.{is_uncalled, last_of};
-ghost use Rattle.rvm_worker.specs.Work.{AreOfCopier, IsOfCopier, IsWork};
+ghost use Rattle.rvm_worker.specs.Work.{AreOfCopier, IsWork};
 
 use crate::caller::Caller;
 use crate::end::{WorkEnd, Worked};
@@ -29,8 +30,10 @@ pub(crate) struct Copying<L: Seating> {
 }
 
 impl<L: Seating> Model for Copying<L> {
+    ghost use Rattle.std.specs.Prelude.{None};
+    ghost use Rattle.rvm_worker.specs.Copiers.{Follows};
     ghost use Rattle.rvm_worker.specs.Endings.{last_of};
-    ghost use Rattle.rvm_worker.specs.Work.{AreOfCopier, PlainCopier};
+    ghost use Rattle.rvm_worker.specs.Work.{PlainCopier};
 
     ghost Value = { PlainCopier };
 
@@ -41,7 +44,7 @@ impl<L: Seating> Model for Copying<L> {
       last = last_of c.caller.receipts;
     } };
 
-    ghost invariant = { λ c. AreOfCopier c.to c.policy c.caller.receipts };
+    ghost invariant = { λ c. Follows c.to c.policy None c.caller.receipts };
 }
 
 impl<L: Seating> Copying<L> {
@@ -56,7 +59,8 @@ impl<L: Seating> Copying<L> {
         }
     }
 
-    /// Begins the move.
+    /// Begins the move, which is the first call.
+    #[tactic(auto, using(crate::proofs::Copiers::first_asked))]
     pub(crate) fn begin<M: PagedMemory + Drop, K: Link + Drop, G: Gate, R: Wait>(
         &mut self,
         rt: &R,
@@ -64,7 +68,9 @@ impl<L: Seating> Copying<L> {
         side: &Side<'_, L, M, K>,
         watch: &mut Watch<'_, G>,
     ) -> Result<Called, WorkEnd>
+        requires { self.old.last ≡ None }
         ensures same { self.new ≡ record self.old { last = self.new.last } }
+        ensures on { OnOk result (IsSomeAnd self.new.last (λ x. copies_on x ≡ true)) }
         ensures uncalled { IfErr result (λ e. is_uncalled e ≡ true) }
     {
         let begin = Command::Begin {
@@ -74,7 +80,7 @@ impl<L: Seating> Copying<L> {
         self.ask(rt, alloc, side, watch, begin)
     }
 
-    /// Asks for a command of the move.
+    /// Asks for a command of the move, which may follow the last one.
     #[tactic(auto, using(crate::proofs::Works::last_called))]
     pub(crate) fn ask<M: PagedMemory + Drop, K: Link + Drop, G: Gate, R: Wait>(
         &mut self,
@@ -84,7 +90,7 @@ impl<L: Seating> Copying<L> {
         watch: &mut Watch<'_, G>,
         command: Command,
     ) -> Result<Called, WorkEnd>
-        requires { IsOfCopier self.old.to self.old.policy (Do command) }
+        requires { MayAsk self.old.to self.old.policy self.old.last (Do command) }
         ensures last { IfOk result (λ c. self.new ≡ record self.old { last = Some (exchange (Do command) c.reply) }) }
         ensures err { OnErr result (self.new ≡ self.old) }
         ensures uncalled { IfErr result (λ e. is_uncalled e ≡ true) }
@@ -100,9 +106,11 @@ impl<L: Seating> Copying<L> {
     }
 
     /// What the copier gives back that ended so.
+    #[tactic(auto, using(crate::proofs::Copiers::follows_asked))]
     pub(crate) fn end(self, end: WorkEnd) -> Worked<L>
         ensures work { IsWork self.start result.seat (all_of result.receipts.items) }
         ensures asked { AreOfCopier self.to self.policy (all_of result.receipts.items) }
+        ensures in_order { Follows self.to self.policy None (all_of result.receipts.items) }
         ensures last { last_of (all_of result.receipts.items) ≡ self.last }
         ensures end { result.end ≡ end }
     {

@@ -15,6 +15,9 @@ pub enum WorkEnd {
     /// Nothing is left to be done.
     #[error("nothing is left to be done")]
     Done,
+    /// The stream that a receiver hears ended between two frames.
+    #[error("the stream ended between two frames")]
+    LinkEnded,
     /// The move was given up before the guest was.
     #[error("the move was given up")]
     GivenUp,
@@ -24,6 +27,9 @@ pub enum WorkEnd {
     /// Neither host would take a turn or a drain of the guest, for as long as the worker waits.
     #[error("guest stopped between hosts")]
     GuestStopped,
+    /// No thread was had for the workers at the other host.
+    #[error("no thread was had for the workers at the other host")]
+    NoThread,
     /// A growth was refused.
     #[error("out of memory")]
     OutOfMemory,

@@ -1,6 +1,7 @@
 //! Gates.
 
-ghost use Rattle.std.specs.Prelude.{◌≡◌, IfErr};
+ghost use Rattle.std.specs.Prelude.{◌≡◌, ◌+◌, ◌-◌, ◌^◌, ℕ, false, true, min, IfErr, OnOk};
+ghost use Rattle.rvm_worker.specs.declared.gate.Worker.{Worker};
 ghost use Rattle.rvm_worker.specs.Workers.{number_of};
 
 use crate::end::WorkEnd;
@@ -31,11 +32,23 @@ impl Worker {
 /// What a worker passes before and after each call. The calls of each worker count from 0; a slice is
 /// one call.
 pub trait Gate {
+    /// It let this call of a worker pass. Only `before` can show it.
+    ghost has_passed: { Self → Worker → ℕ → Type 0 } = { λ _ _ _. Unit {0} };
+
+    /// It refused this call of a worker. Only `before` can show it.
+    ghost has_refused: { Self → Worker → ℕ → Type 0 } = { λ _ _ _. Unit {0} };
+
+    /// It was told that this call of a worker was made. Only `after` can show it.
+    ghost has_heard: { Self → Worker → ℕ → Type 0 } = { λ _ _ _. Unit {0} };
+
     /// Whether the call may be made; else the worker ends.
-    fn before(&self, worker: Worker, call: u32) -> bool;
+    fn before(&self, worker: Worker, call: u32) -> bool
+        ensures passed { result ≡ true → has_passed self.now worker call }
+        ensures refused { result ≡ false → has_refused self.now worker call };
 
     /// The call was made, and its frame was sent.
-    fn after(&self, worker: Worker, call: u32);
+    fn after(&self, worker: Worker, call: u32)
+        ensures { has_heard self.now worker call };
 }
 
 /// A worker at its gate, and how many calls it has made.
@@ -48,7 +61,10 @@ pub struct Watch<'g, G: Gate> {
 
 impl<'g, G: Gate> Watch<'g, G> {
     /// Before the first call.
-    pub fn new(gate: &'g G, worker: Worker) -> Watch<'g, G> {
+    pub fn new(gate: &'g G, worker: Worker) -> Watch<'g, G>
+        ensures worker { result.worker ≡ worker }
+        ensures none { result.calls ≡ 0 }
+    {
         Watch {
             gate,
             worker,
@@ -58,7 +74,9 @@ impl<'g, G: Gate> Watch<'g, G> {
 
     /// Waits until the next call may be made, or ends the worker.
     pub fn before(&self) -> Result<(), WorkEnd>
-        ensures { IfErr result (λ e. e ≡ WorkEnd.Stopped) }
+        ensures passed { OnOk result (G.has_passed self.now.gate.now self.now.worker self.now.calls) }
+        ensures refused { IfErr result (λ e. G.has_refused self.now.gate.now self.now.worker self.now.calls) }
+        ensures stopped { IfErr result (λ e. e ≡ WorkEnd.Stopped) }
     {
         if self.gate.before(self.worker, self.calls) {
             Ok(())
@@ -67,8 +85,12 @@ impl<'g, G: Gate> Watch<'g, G> {
         }
     }
 
-    /// The call was made.
-    pub fn after(&mut self) {
+    /// The call was made. Behind the last number calls are not told apart.
+    pub fn after(&mut self)
+        ensures heard { G.has_heard self.old.gate.now self.old.worker self.old.calls }
+        ensures worker { self.new.worker ≡ self.old.worker }
+        ensures counted { self.new.calls ≡ min (self.old.calls + 1) (2 ^ 32 - 1) }
+    {
         self.gate.after(self.worker, self.calls);
         self.calls = self.calls.saturating_add(1);
     }

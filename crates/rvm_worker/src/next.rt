@@ -31,6 +31,7 @@ pub enum Next {
 fn after_refusal(why: HostRefusal) -> Next
     ensures next { result ≡ after_refusal why }
     ensures done { result ≡ Next.Done → says_no_move (HostReply.Refused why) ≡ true }
+    ensures gone { result ≡ Next.Resend → is_gone (HostReply.Refused why) ≡ true }
 {
     match why {
         HostRefusal::Busy => Next::Wait(SHORT_PAUSE),
@@ -44,6 +45,7 @@ fn after_refusal(why: HostRefusal) -> Next
 pub(crate) fn after_copy(reply: &HostReply) -> Next
     ensures next { result ≡ after_copy reply.now }
     ensures done { result ≡ Next.Done → says_no_move reply.now ≡ true }
+    ensures gone { result ≡ Next.Resend → is_gone reply.now ≡ true }
 {
     match reply {
         HostReply::StateSent | HostReply::PartSent { .. } => Next::Wait(LONG_PAUSE),

@@ -5,8 +5,8 @@ ghost use Rattle.std.specs.Io.KnownBytes.{Consumes, IsAtEnd, Keeps};
 ghost use Rattle.rvm_cell.specs.Runs.{all_of};
 ghost use Rattle.rvm_frame.specs.Reader.{at_start};
 ghost use Rattle.rvm_frame.specs.Verdict.{verdict};
-ghost use Rattle.rvm_worker.specs.Endings.{TellsOver, last_of};
-ghost use Rattle.rvm_worker.specs.Heard.{AreHeard, Hears, IsHeard, IsHeardOf, IsHeardUpTo, IsReceiverEnd, for_host, frames_in};
+ghost use Rattle.rvm_worker.specs.Endings.{last_of};
+ghost use Rattle.rvm_worker.specs.Heard.{AreHeard, Hears, IsFrameEnd, IsHeard, IsHeardOf, IsHeardUpTo, IsReceiverEnd, for_host, frames_in};
 ghost use Rattle.rvm_worker.specs.Work.{AreOfReceiver, IsWork};
 
 use crate::end::{WorkEnd, Worked};
@@ -39,9 +39,9 @@ struct Stream {
 }
 
 /// Hears the frames that host `from` sends over a link: each but Hello comes to this side's host, and
-/// the frame that the host makes is sent back. It ends when the move is over, at the end of the stream
-/// between two frames, or where the stream is refused; a link that fails, or ends inside a frame, or
-/// gives nothing for too long, ends it with LinkFault.
+/// the frame that the host makes is sent back. It is done when the move is over; it ends with `LinkEnded` at the
+/// end of the stream between two frames, or where the stream is refused; a link that fails, or ends inside a
+/// frame, or gives nothing for too long, ends it with `LinkFault`.
 #[tactic(auto, using(crate::proofs::Heard::heard_of))]
 pub fn receiver_worker<
     L: Seating,
@@ -66,6 +66,7 @@ pub fn receiver_worker<
         IsHeardOf bytes result.end (frames_in (all_of result.receipts.items))) }
     ensures ended { IsReceiverEnd result.end (last_of (all_of result.receipts.items)) (I.remaining link.old)
         (frames_in (all_of result.receipts.items)) }
+    ensures link { result.end ≡ WorkEnd.LinkEnded → I.has_ended link.new }
 {
     let mut hearing = Hearing::new(alloc, seat, from);
     let mut watch = Watch::new(gate, worker);
@@ -91,6 +92,7 @@ fn hear<L: Seating, M: PagedMemory + Drop, K: Link + Drop, I: Link, G: Gate, R: 
     ensures heard { IfSome (I.remaining link.old) (λ bytes.
         IsHeardUpTo result at_start bytes [] hearing.new.heard) }
     ensures end { IsReceiverEnd result hearing.new.last (I.remaining link.old) hearing.new.heard }
+    ensures link { result ≡ WorkEnd.LinkEnded → I.has_ended link.new }
 {
     let mut stream = Stream {
         reader: FrameReader::new(alloc),
@@ -121,7 +123,7 @@ fn hear<L: Seating, M: PagedMemory + Drop, K: Link + Drop, I: Link, G: Gate, R: 
 }
 
 /// Reads a link once, and takes the frames of what came: whether anything did. Else the receiver ends.
-#[tactic(auto, using(crate::proofs::Heard::hears_nothing, crate::proofs::Heard::hears_piece, crate::proofs::Heard::piece_up_to, crate::proofs::Heard::ends_heard,))]
+#[tactic(auto, using(crate::proofs::Heard::hears_nothing, crate::proofs::Heard::hears_piece, crate::proofs::Heard::piece_up_to, crate::proofs::Heard::ends_heard, crate::proofs::Endings::not_the_links, crate::proofs::Endings::read_end))]
 fn hear_once<L: Seating, M: PagedMemory + Drop, K: Link + Drop, I: Link, G: Gate, R: Wait>(
     rt: &R,
     alloc: Global,
@@ -141,8 +143,10 @@ fn hear_once<L: Seating, M: PagedMemory + Drop, K: Link + Drop, I: Link, G: Gate
     ensures some { IfErr result (λ end. IfSome (I.remaining link.old) (λ bytes.
         IsHeardUpTo end stream.old.reader bytes hearing.old.heard hearing.new.heard)) }
     ensures between { IfOk result (λ came. stream.new.is_inside ≡ false → stream.new.reader.bytes ≡ []) }
-    ensures done { result ≡ Err WorkEnd.Done → TellsOver hearing.new.last ⊎ (IsAtEnd (I.remaining link.old)
-        × (hearing.new ≡ hearing.old) × (stream.old.reader.bytes ≡ [])) }
+    ensures end { IfErr result (λ end. IsFrameEnd end hearing.new.last ⊎ (end ≡ WorkEnd.LinkEnded)) }
+    ensures ended { result ≡ Err WorkEnd.LinkEnded → IsAtEnd (I.remaining link.old)
+        × (hearing.new ≡ hearing.old) × (stream.old.reader.bytes ≡ []) }
+    ensures link { result ≡ Err WorkEnd.LinkEnded → I.has_ended link.new }
 {
     match read_link(link, buffer, stream.is_inside)? {
         None => Ok(false),
@@ -166,7 +170,9 @@ fn read_link<'b, I: Link>(
         (Keeps (I.remaining link.old) (I.remaining link.new))
         (λ piece. Consumes (I.remaining link.old) (I.remaining link.new) piece.now)) }
     ensures none { IfErr result (λ end. Keeps (I.remaining link.old) (I.remaining link.new)) }
-    ensures end { result ≡ Err WorkEnd.Done → IsAtEnd (I.remaining link.old) × (is_inside ≡ false) }
+    ensures end { result ≡ Err WorkEnd.LinkEnded → IsAtEnd (I.remaining link.old) × (is_inside ≡ false) }
+    ensures link { result ≡ Err WorkEnd.LinkEnded → I.has_ended link.new }
+    ensures fault { IfErr result (λ end. (end ≡ WorkEnd.LinkFault) ⊎ (end ≡ WorkEnd.LinkEnded)) }
 {
     match link.recv(buffer) {
         LinkRead::Bytes(count) => Ok(Some(&buffer[..count])),
@@ -178,12 +184,12 @@ fn read_link<'b, I: Link>(
 
 /// How a receiver ends where the stream does.
 fn end_of_stream(is_inside: bool) -> WorkEnd
-    ensures { result ≡ (if is_inside then WorkEnd.LinkFault else WorkEnd.Done) }
+    ensures { result ≡ (if is_inside then WorkEnd.LinkFault else WorkEnd.LinkEnded) }
 {
     if is_inside {
         WorkEnd::LinkFault
     } else {
-        WorkEnd::Done
+        WorkEnd::LinkEnded
     }
 }
 
@@ -205,7 +211,7 @@ fn take<L: Seating, M: PagedMemory + Drop, K: Link + Drop, G: Gate, R: Wait>(
     ensures between { IfOk result (λ u. stream.new.is_inside ≡ false → stream.new.reader.bytes ≡ []) }
     ensures some { IfErr result (λ end. IsHeardUpTo end stream.old.reader piece.now
         hearing.old.heard hearing.new.heard) }
-    ensures over { result ≡ Err WorkEnd.Done → TellsOver hearing.new.last }
+    ensures end { IfErr result (λ end. IsFrameEnd end hearing.new.last) }
 {
     let mut rest = piece;
     while !rest.is_empty() {
@@ -216,7 +222,7 @@ fn take<L: Seating, M: PagedMemory + Drop, K: Link + Drop, G: Gate, R: Wait>(
 }
 
 /// Feeds the reader up to the end of the next frame, which comes to the host: how many bytes it took.
-#[tactic(auto, using(crate::proofs::Endings::unread_is_undone))]
+#[tactic(auto, using(crate::proofs::Endings::unread_end, crate::proofs::Endings::unread_is_undone))]
 fn feed<L: Seating, M: PagedMemory + Drop, K: Link + Drop, G: Gate, R: Wait>(
     rt: &R,
     alloc: Global,
@@ -235,7 +241,7 @@ fn feed<L: Seating, M: PagedMemory + Drop, K: Link + Drop, G: Gate, R: Wait>(
     ensures between { IfOk result (λ n. stream.new.is_inside ≡ false → stream.new.reader.bytes ≡ []) }
     ensures some { IfErr result (λ end. IsHeardUpTo end stream.old.reader piece.now
         hearing.old.heard hearing.new.heard) }
-    ensures over { result ≡ Err WorkEnd.Done → TellsOver hearing.new.last }
+    ensures end { IfErr result (λ end. IsFrameEnd end hearing.new.last) }
 {
     let (taken, received) = stream.reader.feed(alloc, piece)?;
     stream.is_inside = received.is_none();
@@ -246,7 +252,7 @@ fn feed<L: Seating, M: PagedMemory + Drop, K: Link + Drop, G: Gate, R: Wait>(
 }
 
 /// A frame comes to the host, unless it is Hello.
-#[tactic(auto, using(crate::proofs::Endings::uncalled_is_undone, crate::proofs::Endings::unsent_is_undone,))]
+#[tactic(auto, using(crate::proofs::Endings::uncalled_is_undone, crate::proofs::Endings::unsent_is_undone, crate::proofs::Endings::uncalled_end, crate::proofs::Endings::unsent_end))]
 fn came<L: Seating, M: PagedMemory + Drop, K: Link + Drop, G: Gate, R: Wait>(
     rt: &R,
     alloc: Global,
@@ -257,7 +263,7 @@ fn came<L: Seating, M: PagedMemory + Drop, K: Link + Drop, G: Gate, R: Wait>(
 ) -> Result<(), WorkEnd>
     ensures same { hearing.new ≡ record hearing.old { heard = hearing.new.heard; last = hearing.new.last } }
     ensures heard { IsHeard result frame hearing.old.heard hearing.new.heard }
-    ensures over { result ≡ Err WorkEnd.Done → TellsOver hearing.new.last }
+    ensures end { IfErr result (λ end. IsFrameEnd end hearing.new.last) }
 {
     if is_hello(&frame) {
         return Ok(());

@@ -1,6 +1,6 @@
 //! A call at a gate, with the frame that it makes.
 
-ghost use Rattle.std.specs.Prelude.{◌≡◌, true, IfErr, IfOk, OnErr};
+ghost use Rattle.std.specs.Prelude.{◌≡◌, ◌+◌, ◌-◌, ◌^◌, true, min, IfErr, IfOk, OnErr, OnOk};
 ghost use Rattle.rvm_worker.specs.Endings.{is_uncalled};
 ghost use Rattle.rvm_worker.specs.Work.{IsCall};
 
@@ -43,6 +43,9 @@ pub(crate) fn tell<L: Seating, M: PagedMemory + Drop, K: Link + Drop, G: Gate, R
         caller.new.seat caller.new.receipts c.reply) }
     ensures err { OnErr result (caller.new ≡ caller.old) }
     ensures uncalled { IfErr result (λ e. is_uncalled e ≡ true) }
+    ensures passed { OnOk result (G.has_passed watch.old.gate.now watch.old.worker watch.old.calls) }
+    ensures heard { OnOk result (G.has_heard watch.old.gate.now watch.old.worker watch.old.calls) }
+    ensures counted { OnOk result (watch.new.calls ≡ min (watch.old.calls + 1) (2 ^ 32 - 1)) }
 {
     watch.before()?;
     let (reply, frame) = caller.call(rt, alloc, side.host, event)?;

@@ -61,6 +61,7 @@ returns-in_err-drain-2 g c =
           c.args.harts c.loop-turn.turn c.args.steps c.loop-turn.invariant.within c.loop-turn.invariant.come
           (c.turns.new.self.at_a, c.turns.new.self.at_b) c.in_ok-slice.slice.made c.in_ok-slice.slice.then c.in_ok-slice.ensures.some room c.in_ok-slice.ensures.made
           c.from_residual-in_err-drain-2.result (c.drain-then-turn-eq0.new.pair.at_a, c.drain-then-turn-eq0.new.pair.at_b) (g.W.Write.contents c.drain-then-turn-eq0.new.writer) failed;
+      fails = search rules;
     }
 
 pub loop-turn-preserved : goal.loop-turn-preserved

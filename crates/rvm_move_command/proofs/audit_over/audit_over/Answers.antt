@@ -21,7 +21,7 @@ returns-in-Ok-clause-failed g c =
     let m = c.in-Ok.moved in
     not_audited c.audit_moved.result (λ a. a.status) c.args.arguments.now c.args.image.now m.ends m.a.fault m.b.fault
     m.a.recorded.journal m.b.recorded.journal (g.E.Write.contents c.args.errors.now) (g.E.Write.contents c.audit_moved.new.errors)
-    c.in-Ok.ensures.opened c.audit_moved.ensures.failed
+    (record { opened = c.in-Ok.ensures.opened; of_first = c.in-Ok.ensures.a; of_second = c.in-Ok.ensures.b }) c.audit_moved.ensures.failed
 
 pub returns-in-Err-clause-failed : goal.returns-in-Err-clause-failed
 returns-in-Err-clause-failed g c =
@@ -32,7 +32,7 @@ pub returns-in-Ok-clause-untold : goal.returns-in-Ok-clause-untold
 returns-in-Ok-clause-untold g c =
     let m = c.in-Ok.moved in
     untold.not_audited c.audit_moved.result c.args.arguments.now c.args.image.now m.ends m.a.fault m.b.fault
-    m.a.recorded.journal m.b.recorded.journal c.in-Ok.ensures.opened c.audit_moved.ensures.untold
+    m.a.recorded.journal m.b.recorded.journal (record { opened = c.in-Ok.ensures.opened; of_first = c.in-Ok.ensures.a; of_second = c.in-Ok.ensures.b }) c.audit_moved.ensures.untold
 
 pub returns-in-Err-clause-untold : goal.returns-in-Err-clause-untold
 returns-in-Err-clause-untold g c =

@@ -6,7 +6,7 @@ use Rattle.rvm_move_command.proofs.move_command.move_image.Goals as goal
 
 pub returns-in-Ok-clause-a : goal.returns-in-Ok-clause-a
 returns-in-Ok-clause-a g c =
-    subst (λ plan. IfOk c.move_recorded.result (λ m. IsFirstEnd plan.policy m.ends.copier m.a.fault m.a.recorded.journal.entries))
+    subst (λ plan. IfOk c.move_recorded.result (λ m. IsFirstEnd plan.policy m.ends m.a.fault m.a.recorded.journal.entries))
     c.plan_of-plan.ensures c.move_recorded.ensures.a
 
 pub returns-in-Ok-clause-run : goal.returns-in-Ok-clause-run

@@ -1,12 +1,10 @@
 use Rattle.std.proofs.Common.{inl, inr, subst}
 use Rattle.std.specs.Prelude.{IfOk}
-use Rattle.rvm_move.specs.Hosts.{IsAskedOfSecond, IsEnd, IsFirstEnd}
+use Rattle.rvm_move.specs.Hosts.{IsFirstEnd}
 use Rattle.rvm_move.specs.Runs.{IsEndRun}
-use Rattle.rvm_move_command.specs.Ended.{IsFailureOf, IsMoved, IsToldOf}
-use Rattle.rvm_move_command.specs.Hosts.{AreOpened}
-use Rattle.rvm_move_command.specs.Plans.{plan_of}
+use Rattle.rvm_move_command.specs.Ended.{AreLeft, IsFailureOf, IsMoved, IsToldOf}
 use Rattle.rvm_move_command.proofs.Failed.{failed_of, for_memory, not_moved}
-use Rattle.rvm_move_command.proofs.Moved.{if_ok, moved, moved_told, opened}
+use Rattle.rvm_move_command.proofs.Moved.{if_ok, left, moved, moved_told, opened}
 use Rattle.rvm_move_command.proofs.Untold as untold
 use Rattle.rvm_journal.specs.Replay.{IsReplay}
 use Rattle.rvm_move_command.proofs.move_over.move_over.Goals as goal
@@ -22,18 +20,18 @@ returns-in-Ok-clause-moved g c =
     c.in-Ok.ensures.loadable c.in-Ok.ensures.valid c.in-Ok.ensures.first c.in-Ok.ensures.second same.0 same.1) c.move_recorded-moved.ensures.opening in
     let run = subst (λ plan. IfOk c.move_recorded-moved.result (λ m. IsEndRun m.ends m.a.fault m.b.fault m.a.recorded.journal.entries
     m.b.recorded.journal.entries output_before output_after plan.harts plan.steps)) c.plan_of-plan.ensures c.move_recorded-moved.ensures.run in
-    let end_a = subst (λ plan. IfOk c.move_recorded-moved.result (λ m. IsFirstEnd plan.policy m.ends.copier m.a.fault m.a.recorded.journal.entries))
+    let end_a = subst (λ plan. IfOk c.move_recorded-moved.result (λ m. IsFirstEnd plan.policy m.ends m.a.fault m.a.recorded.journal.entries))
     c.plan_of-plan.ensures c.move_recorded-moved.ensures.a in
     moved_told c.tell_end.result c.move_recorded-moved.result
-    (λ m. AreOpened c.args.arguments.now c.args.image.now m.a.recorded.journal.opening m.b.recorded.journal.opening)
-    (λ m. IsFirstEnd (plan_of c.args.arguments.now).policy m.ends.copier m.a.fault m.a.recorded.journal.entries)
-    (λ m. IsEnd IsAskedOfSecond m.b.fault m.b.recorded.journal.entries)
+    (λ m. AreLeft c.args.arguments.now c.args.image.now m.ends m.a.fault m.b.fault m.a.recorded.journal m.b.recorded.journal)
     (λ m. IsEndRun m.ends m.a.fault m.b.fault m.a.recorded.journal.entries m.b.recorded.journal.entries output_before output_after
     c.args.arguments.now.guest.harts c.args.arguments.now.steps)
     (λ m. IsToldOf m.ends m.a.fault m.b.fault m.a.recorded.journal m.b.recorded.journal before after)
     (IsMoved c.args.arguments.now c.args.image.now before after output_before output_after)
     (λ m. moved c.args.arguments.now c.args.image.now m.ends m.a.fault m.b.fault m.a.recorded.journal m.b.recorded.journal before after output_before output_after)
-    begun end_a c.move_recorded-moved.ensures.b run c.tell_end.ensures.told
+    (left c.move_recorded-moved.result c.args.arguments.now c.args.image.now (λ m. m.ends) (λ m. m.a.fault) (λ m. m.b.fault)
+    (λ m. m.a.recorded.journal) (λ m. m.b.recorded.journal) begun end_a c.move_recorded-moved.ensures.b)
+    run c.tell_end.ensures.told
 
 pub returns-in-Ok-clause-failed : goal.returns-in-Ok-clause-failed
 returns-in-Ok-clause-failed g c =
@@ -42,11 +40,14 @@ returns-in-Ok-clause-failed g c =
     let begun = if_ok c.move_recorded-moved.result _ _ (λ m same. opened c.args.arguments.now c.args.image.now
     c.in-Ok.recorded.0 c.in-Ok.recorded.1 m.a.recorded.journal.opening m.b.recorded.journal.opening
     c.in-Ok.ensures.loadable c.in-Ok.ensures.valid c.in-Ok.ensures.first c.in-Ok.ensures.second same.0 same.1) c.move_recorded-moved.ensures.opening in
+    let end_a = subst (λ plan. IfOk c.move_recorded-moved.result (λ m. IsFirstEnd plan.policy m.ends m.a.fault m.a.recorded.journal.entries))
+    c.plan_of-plan.ensures c.move_recorded-moved.ensures.a in
     not_moved c.tell_end.result c.move_recorded-moved.result c.args.arguments.now c.args.image.now before after
-    (λ m. AreOpened c.args.arguments.now c.args.image.now m.a.recorded.journal.opening m.b.recorded.journal.opening)
+    (λ m. AreLeft c.args.arguments.now c.args.image.now m.ends m.a.fault m.b.fault m.a.recorded.journal m.b.recorded.journal)
     (λ m. IsFailureOf m.ends m.a.fault m.b.fault m.a.recorded.journal m.b.recorded.journal before after)
     (λ m. failed_of c.args.arguments.now c.args.image.now m.ends m.a.fault m.b.fault m.a.recorded.journal m.b.recorded.journal before after)
-    begun
+    (left c.move_recorded-moved.result c.args.arguments.now c.args.image.now (λ m. m.ends) (λ m. m.a.fault) (λ m. m.b.fault)
+    (λ m. m.a.recorded.journal) (λ m. m.b.recorded.journal) begun end_a c.move_recorded-moved.ensures.b)
     (for_memory c.move_recorded-moved.result c.args.arguments.now c.args.image.now c.move_recorded-moved.ensures.refused)
     c.tell_end.ensures.refused c.tell_end.ensures.failed
 
@@ -59,12 +60,10 @@ returns-in-Ok-clause-untold g c =
     c.in-Ok.ensures.loadable c.in-Ok.ensures.valid c.in-Ok.ensures.first c.in-Ok.ensures.second same.0 same.1) c.move_recorded-moved.ensures.opening in
     let run = subst (λ plan. IfOk c.move_recorded-moved.result (λ m. IsEndRun m.ends m.a.fault m.b.fault m.a.recorded.journal.entries
     m.b.recorded.journal.entries output_before output_after plan.harts plan.steps)) c.plan_of-plan.ensures c.move_recorded-moved.ensures.run in
-    let end_a = subst (λ plan. IfOk c.move_recorded-moved.result (λ m. IsFirstEnd plan.policy m.ends.copier m.a.fault m.a.recorded.journal.entries))
+    let end_a = subst (λ plan. IfOk c.move_recorded-moved.result (λ m. IsFirstEnd plan.policy m.ends m.a.fault m.a.recorded.journal.entries))
     c.plan_of-plan.ensures c.move_recorded-moved.ensures.a in
     untold.untold_move c.tell_end.result c.move_recorded-moved.result c.args.arguments.now c.args.image.now output_before output_after
-    (λ m. AreOpened c.args.arguments.now c.args.image.now m.a.recorded.journal.opening m.b.recorded.journal.opening)
-    (λ m. IsFirstEnd (plan_of c.args.arguments.now).policy m.ends.copier m.a.fault m.a.recorded.journal.entries)
-    (λ m. IsEnd IsAskedOfSecond m.b.fault m.b.recorded.journal.entries)
+    (λ m. AreLeft c.args.arguments.now c.args.image.now m.ends m.a.fault m.b.fault m.a.recorded.journal m.b.recorded.journal)
     (λ m. IsEndRun m.ends m.a.fault m.b.fault m.a.recorded.journal.entries m.b.recorded.journal.entries output_before output_after
     c.args.arguments.now.guest.harts c.args.arguments.now.steps)
     (λ m. IsReplay m.a.recorded.journal.opening m.a.recorded.journal.entries
@@ -74,7 +73,9 @@ returns-in-Ok-clause-untold g c =
     (λ m replays. untold.end_of m.ends m.a.fault m.b.fault m.a.recorded.journal m.b.recorded.journal replays.0 replays.1)
     (λ m before after. moved c.args.arguments.now c.args.image.now m.ends m.a.fault m.b.fault m.a.recorded.journal m.b.recorded.journal before after output_before output_after)
     (λ m before after begun failed. inr (failed_of c.args.arguments.now c.args.image.now m.ends m.a.fault m.b.fault m.a.recorded.journal m.b.recorded.journal before after begun failed))
-    begun end_a c.move_recorded-moved.ensures.b run c.tell_end.ensures.replays
+    (left c.move_recorded-moved.result c.args.arguments.now c.args.image.now (λ m. m.ends) (λ m. m.a.fault) (λ m. m.b.fault)
+    (λ m. m.a.recorded.journal) (λ m. m.b.recorded.journal) begun end_a c.move_recorded-moved.ensures.b)
+    run c.tell_end.ensures.replays
     (for_memory c.move_recorded-moved.result c.args.arguments.now c.args.image.now c.move_recorded-moved.ensures.refused)
 
 pub returns-in-Err-clause-untold : goal.returns-in-Err-clause-untold

@@ -1,8 +1,11 @@
-use Rattle.std.proofs.Common.{◌≡◌, ◌<◌}
+use Rattle.std.proofs.Common.{◌≡◌, ◌<◌, true}
+use Rattle.std.specs.Prelude.{IsSomeAnd}
+use Rattle.rvm_worker.specs.Copiers.{copies_on}
 use Rattle.rvm_worker.proofs.copier.copy_until.Given as goal
 
 abbrev pub invariant-loop-copy : goal.invariant-loop-copy
 invariant-loop-copy g l = record {
   same : l.copying ≡ record l.fn.copying { last = l.copying.last };
   few : l.pauses < 1000;
+  on : IsSomeAnd l.copying.last (λ x. copies_on x ≡ true);
 }

@@ -1,5 +1,12 @@
-use Rattle.std.proofs.Common.{◌≡◌}
+use Rattle.std.proofs.Common.{◌≡◌, ◌<◌, true}
+use Rattle.std.specs.Prelude.{IsSomeAnd}
+use Rattle.rvm_worker.specs.Copiers.{is_given}
+use Rattle.rvm_worker.specs.Endings.{tells_left}
 use Rattle.rvm_worker.proofs.copier.resend.Given as goal
 
 abbrev pub invariant-loop-try : goal.invariant-loop-try
-invariant-loop-try g l = l.copying ≡ record l.fn.copying { last = l.copying.last }
+invariant-loop-try g l = record {
+  same : l.copying ≡ record l.fn.copying { last = l.copying.last };
+  given : IsSomeAnd l.copying.last (λ x. is_given x ≡ true);
+  left : 0 < l._try → IsSomeAnd l.copying.last (λ x. tells_left x ≡ true);
+}

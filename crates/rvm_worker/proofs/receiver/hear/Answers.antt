@@ -1,4 +1,4 @@
-use Rattle.std.proofs.Common.{rules, [], Err, ap, inl, inr, subst, sym}
+use Rattle.std.proofs.Common.{rules, [], Err, ap, subst, sym}
 use Rattle.std.specs.Prelude.{IfSome}
 use Rattle.rvm_frame.specs.Reader.{at_start}
 use Rattle.rvm_worker.specs.Heard.{IsHeardUpTo, IsWholeStream}
@@ -23,13 +23,11 @@ returns-in-Err-clause-end g c =
     let first = g.I.Link.remaining c.args.link.now in
     let old = c.loop-read.hearing.heard in
     let new = c.hear_once.new.hearing.heard in
-    receiver_end c.in-Err.end c.hear_once.new.hearing.last first new (λ is. (elim (c.in-Err.ensures.done (ap Err is)) [
-      | inl over ↦ inl over
-      | inr all ↦
-          let whole = whole_heard first (g.I.Link.remaining c.loop-read.link) old c.loop-read.stream.reader
-          c.loop-read.invariant.heard all.0 all.2 in
-          inr (subst (λ h. IfSome first (λ bytes. IsWholeStream bytes h)) (ap (λ h. h.heard) (sym all.1)) whole)
-    ]))
+    receiver_end c.in-Err.end c.hear_once.new.hearing.last first new c.in-Err.ensures.end (λ is.
+    (let all = c.in-Err.ensures.ended (ap Err is) in
+    let whole = whole_heard first (g.I.Link.remaining c.loop-read.link) old c.loop-read.stream.reader
+    c.loop-read.invariant.heard all.0 all.2 in
+    subst (λ h. IfSome first (λ bytes. IsWholeStream bytes h)) (ap (λ h. h.heard) (sym all.1)) whole))
 
 pub returns-then-idle-ge-IDLE_READS-clause-heard : goal.returns-then-idle-ge-IDLE_READS-clause-heard
 returns-then-idle-ge-IDLE_READS-clause-heard g c =

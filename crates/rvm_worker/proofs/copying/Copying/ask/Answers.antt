@@ -1,12 +1,12 @@
 use Rattle.std.proofs.Common.{subst, sym}
 use Rattle.rvm_message.specs.declared.event.HostEvent.TheVariants.{Do}
-use Rattle.rvm_worker.specs.Work.{IsOfCopier}
-use Rattle.rvm_worker.proofs.Works.{copier_more}
+use Rattle.rvm_worker.specs.Copiers.{MayAsk}
+use Rattle.rvm_worker.proofs.Copiers.{copier_more}
 use Rattle.rvm_worker.proofs.copying.Copying.ask.Goals as goal
 
 pub invariant_of-self : goal.invariant_of-self
 invariant_of-self g c =
     let old = c.self.inside in
-    let here = subst (λ v. IsOfCopier v.to v.policy (Do c.args.command)) (sym c.self.view_is) c.requires in
+    let here = subst (λ v. MayAsk v.to v.policy v.last (Do c.args.command)) (sym c.self.view_is) c.requires in
     copier_more old.to old.policy (Do c.args.command) old.caller c.tell.new.caller (λ t. t.reply) c.tell.result c.self.invariant here
     c.tell.ensures.call c.tell.ensures.err
