@@ -114,7 +114,7 @@ impl<L: Seating, R: Wait> Clock for CountingClock<'_, L, R> {
 
 /// How a copier ended, and how often it waited: for a millisecond, for ten, and otherwise.
 #[derive(Clone, Copy)]
-struct Waited {
+struct CopierEnd {
     end: WorkEnd,
     short: u32,
     long: u32,
@@ -145,7 +145,7 @@ fn print_waits<R: AllocGlobal + Print + Wait>(
     };
     match waited(rt, answers) {
         Some(
-            Waited {
+            CopierEnd {
                 end,
                 short,
                 long,
@@ -160,7 +160,7 @@ fn print_waits<R: AllocGlobal + Print + Wait>(
 }
 
 /// How a copier of a new host waits.
-fn waited<R: AllocGlobal + Wait>(rt: &R, answers: Answers) -> Option<Waited> {
+fn waited<R: AllocGlobal + Wait>(rt: &R, answers: Answers) -> Option<CopierEnd> {
     match new_hosts::<PagedRam>(rt.alloc(), &to_move(STEPS, 1), LOOP) {
         Ok((a, b)) => {
             drop(b);
@@ -176,7 +176,7 @@ fn waited_at<L: Seating, R: AllocGlobal + Wait>(
     blank: Blank,
     recorded: Recorded<PagedRam>,
     answers: Answers,
-) -> Option<Waited>
+) -> Option<CopierEnd>
     requires ledger { (blank.name ≡ L.name) × (blank.parts ≡ L.parts) × (L.seats ≡ L.parts) }
     requires seats { blank.parts ≡ 2 }
     requires empty { recorded.journal.entries ≡ [] }
@@ -201,7 +201,7 @@ fn waited_by<L: Seating, R: AllocGlobal + Wait>(
     host: &SharedHost<L, PagedRam>,
     seats: Vec<Seat<L>>,
     answers: Answers,
-) -> Option<Waited> {
+) -> Option<CopierEnd> {
     let mut seats = seats;
     let (Some(copier), Some(receiver)) = (seats.pop(), seats.pop()) else {
         return None;
@@ -217,7 +217,7 @@ fn waited_by<L: Seating, R: AllocGlobal + Wait>(
         others: AtomicU32::new(0),
     };
     let end = copied_by(&clock, host, copier);
-    Some(Waited {
+    Some(CopierEnd {
         end,
         short: clock.short.load(Ordering::SeqCst),
         long: clock.long.load(Ordering::SeqCst),
