@@ -83,7 +83,7 @@ none_at [] k le = refl
 none_at (x ∷ xs) zero le = absurd (omega (arith, le))
 none_at (x ∷ xs) (suc k) le = none_at xs k (omega (arith, le))
 
--- the event behind so many of steps
+-- the event after so many of steps
 pub step_stands : (x : Side) (turn harts n k : ℕ) → k < n
     → slice_get (steps_at (number_of x) turn harts n) k ≡ Some (At (number_of x) (Board (Step ((turn + k) % harts))))
 step_stands x turn harts n k less =
@@ -120,13 +120,13 @@ none_behind e (suc k) some = refl
 
 -- ORDERS
 
--- one more behind the others
+-- one more after the others
 pub all_pushed : (ps : List Placed) (p : Placed) → all_events (ps ++ p ∷ []) ≡ all_events ps ++ events_of p
 all_pushed [] p = append-nil (events_of p)
 all_pushed (q ∷ ps) p =
     ap (λ es. events_of q ++ es) (all_pushed ps p) ∙ sym (append_assoc (events_of q) (all_events ps) (events_of p))
 
--- behind none of them
+-- after none of them
 pub from_first : (ps : List Placed) → events_behind ps 0 ≡ all_events ps
 from_first [] = refl
 from_first (p ∷ ps) = refl
@@ -144,13 +144,13 @@ ended [] (suc k) is = refl
 ended (e ∷ es) zero is = cc
 ended (e ∷ es) (suc k) is = ended es k is
 
--- behind the last event of the first
+-- after the last event of the first
 pub next_placed : (p : Placed) (ps items : List Placed) (k : ℕ) → items ≡ p ∷ ps → None ≡ slice_get (events_of p) k
     → events_behind ps 0 ≡ events_behind items k
 next_placed p ps items k is none =
     from_first ps ∙ ap (λ es. es ++ all_events ps) (sym (ended (events_of p) k none)) ∙ sym (ap (λ qs. events_behind qs k) is)
 
--- none are behind the last
+-- none are after the last
 pub nothing_behind : (items : List Placed) (k : ℕ) → length items ≡ 0 → events_behind items k ≡ []
 nothing_behind [] k is = refl
 nothing_behind (p ∷ ps) k is = absurd (omega (arith, is))

@@ -24,7 +24,7 @@ few_parts : (stamp part parts len : ℕ)
     → nat_le parts 6 ≡ true
 few_parts stamp part parts len h = grind (arith, nat_tests)
 
--- a frame that has a spelling behind Hello can come to a host
+-- a frame that has a spelling after Hello can come to a host
 comes : (version : ℕ) (hosts : Option (ℕ × ℕ)) (f : Frame) → HasSpelling (hosts, f)
     → MayStand (Some version) (hosts, f) → can_come f ≡ true
 comes version hosts (frame.Hello v) s m = absurd cc

@@ -51,7 +51,7 @@ module _ (id count : ℕ) where
   Reaches to None = Unit {0}
   Reaches to (Some f) = There to
 
-  -- behind an event
+  -- after an event
   abbrev Stays : BoardHostEvent → (partner : ℕ) → BoardOutcome → Type 0
   Stays e x o = Keeps (partner_then e o.reply x) o.next × Reaches (addressee e (partner_then e o.reply x)) o.made
 

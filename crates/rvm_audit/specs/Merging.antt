@@ -72,7 +72,7 @@ pub record IsNoted (old new : Merge) (frame : Option (List ℕ)) (mine yours : M
   pub rest : (bytes : List ℕ) → yours new bytes ≡ yours old bytes
   pub count : new.made ≡ counted frame old.made
 
--- an event was put behind the others, and its frame has a place
+-- an event was put after the others, and its frame has a place
 pub record IsTaken (old new : Merge) (event : Event) (frame : Option (List ℕ)) (mine yours : Merge → Places)
     : Type 0 where
   pub events : new.order ≡ old.order ++ event ∷ []
@@ -97,7 +97,7 @@ pub record IsEntryTaken (version : ℕ) (x : Side) (n : PlainEntry) (old new : M
   pub becomes : Becomes version x n.event (places_at (other x) old) event
   pub taken : IsTaken old new event n.frame (places_at x) (places_at (other x))
 
--- events were put behind the others, and made no frame
+-- events were put after the others, and made no frame
 pub record IsRunTaken (old new : Merge) (run : List Event) : Type 0 where
   pub events : new.order ≡ old.order ++ run
   pub first : new.first ≡ old.first

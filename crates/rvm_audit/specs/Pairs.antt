@@ -138,7 +138,7 @@ module _ (a b : PlainHost) where
   IsTurn w First left = Unit {0}
   IsTurn w Second left = CannotStand w First left
 
-  -- at each point; behind these steps the first host has `rest`
+  -- at each point; after these steps the first host has `rest`
   abbrev pub AllTurns : Pair → List (Side × PlainEntry) → List PlainEntry → Type 0
   AllTurns w [] rest = Unit {0}
   AllTurns w (s ∷ ss) rest =

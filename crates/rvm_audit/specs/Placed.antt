@@ -13,7 +13,7 @@ unfoldable pub steps_at : (host turn harts n : ℕ) → List Event
 steps_at host turn harts zero = []
 steps_at host turn harts (suc n) = At host (Board (Step (turn % harts))) ∷ steps_at host (turn + 1) harts n
 
--- n times so many steps in turn at a host, and a drain of at most so many bytes behind them
+-- n times so many steps in turn at a host, and a drain of at most so many bytes after them
 unfoldable pub rounds_at : (host turn harts steps drain n : ℕ) → List Event
 rounds_at host turn harts steps drain zero = []
 rounds_at host turn harts steps drain (suc n) =
@@ -26,12 +26,12 @@ events_of (placed.Event e) = e ∷ []
 events_of (placed.Steps x s) = steps_at (number_of x) s.turn s.harts s.count
 events_of (placed.Rounds x r) = rounds_at (number_of x) r.turn r.harts r.steps r.drain r.count
 
--- of all that is kept, one behind the other
+-- of all that is kept, one after the other
 abbrev pub all_events : List Placed → List Event
 all_events [] = []
 all_events (p ∷ ps) = events_of p ++ all_events ps
 
--- behind so many of the first of them
+-- after so many of the first of them
 abbrev pub events_behind : List Placed → ℕ → List Event
 events_behind [] k = []
 events_behind (p ∷ ps) k = drop k (events_of p) ++ all_events ps

@@ -28,7 +28,7 @@ abbrev pub seen : Side × PlainEntry → BoardEntry
 seen s = record { host = number_of s.0; event = event_of s.1.event; reply = reply_of s.1.reply }
 
 -- in a world these events are the entries of the two journals, which ends where their replays end; in each of its states
--- the guest, which was g, is that of one board that never moves, and the frames are those of its moves, each behind its
+-- the guest, which was g, is that of one board that never moves, and the frames are those of its moves, each after its
 -- cause
 pub record IsWorldRun (w : BoardWorld) (g : Guest) (a b : History) (events : List Event) : Type 0 where
   pub steps : List (Side × PlainEntry)

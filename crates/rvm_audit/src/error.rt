@@ -13,7 +13,7 @@ pub enum AuditError {
     /// A growth was refused.
     #[error("out of memory")]
     OutOfMemory,
-    /// There is no order: behind the first i entries of the first journal and the first j of the second one
+    /// There is no order: after the first i entries of the first journal and the first j of the second one
     /// neither goes on.
     #[error("the journals have no order behind entries {i} and {j}")]
     NoOrder { i: usize, j: usize },

@@ -43,7 +43,7 @@ impl Merge {
         }
     }
 
-    /// Puts the events of a host's next item behind the others, where they can stand: of how many entries it is.
+    /// Puts the events of a host's next item after the others, where they can stand: of how many entries it is.
     pub(crate) fn take_next(
         &mut self,
         alloc: Global,
@@ -62,7 +62,7 @@ impl Merge {
         }
     }
 
-    /// Puts the events of an item behind the others, where they can stand: of how many entries it is. Commands can
+    /// Puts the events of an item after the others, where they can stand: of how many entries it is. Commands can
     /// stand anywhere, so steps and rounds of them are taken at once.
     fn take_item(
         &mut self,
@@ -89,7 +89,7 @@ impl Merge {
         }
     }
 
-    /// Puts the event of an entry behind the others, where it can stand.
+    /// Puts the event of an entry after the others, where it can stand.
     fn take_entry(
         &mut self,
         alloc: Global,
@@ -130,7 +130,7 @@ impl Merge {
         event_of(alloc, side, version, entry.exchange(), others)
     }
 
-    /// Puts an event behind the others, and notes where its frame was made.
+    /// Puts an event after the others, and notes where its frame was made.
     fn take(
         &mut self,
         alloc: Global,

@@ -51,14 +51,14 @@ impl Order {
         }
     }
 
-    /// Puts an event behind the others.
+    /// Puts an event after the others.
     pub(crate) fn push(&mut self, event: Event) -> Result<(), AllocError>
         ensures { OnOk result (self.new ≡ self.old ++ event ∷ []) }
     {
         push_placed(&mut self.items, Placed::Event(event))
     }
 
-    /// Puts those of steps of a host behind the others.
+    /// Puts those of steps of a host after the others.
     pub(crate) fn push_steps(&mut self, side: Side, steps: Steps) -> Result<(), AllocError>
         ensures { OnOk result (self.new
             ≡ self.old ++ steps_at (number_of side) steps.turn steps.harts steps.count) }
@@ -66,7 +66,7 @@ impl Order {
         push_placed(&mut self.items, Placed::Steps(side, steps))
     }
 
-    /// Puts those of rounds of a host behind the others.
+    /// Puts those of rounds of a host after the others.
     pub(crate) fn push_rounds(&mut self, side: Side, rounds: Rounds) -> Result<(), AllocError>
         ensures { OnOk result (self.new ≡ self.old
             ++ rounds_at (number_of side) rounds.turn rounds.harts rounds.steps rounds.drain rounds.count) }
@@ -97,7 +97,7 @@ impl Order {
     }
 }
 
-/// Puts what stands in an order behind what does before.
+/// Puts what stands in an order after what does before.
 fn push_placed(items: &mut Vec<Placed>, placed: Placed) -> Result<(), AllocError>
     ensures { OnOk result (all_events items.new.items ≡ all_events items.old.items ++ events_of placed) }
 {
@@ -105,7 +105,7 @@ fn push_placed(items: &mut Vec<Placed>, placed: Placed) -> Result<(), AllocError
     Ok(())
 }
 
-/// The events of an order behind so many first ones.
+/// The events of an order after so many first ones.
 #[derive(Drop)]
 pub struct Events<'a> {
     /// So many events of the first of these are passed.
@@ -142,7 +142,7 @@ impl<'a> Events<'a> {
     }
 }
 
-/// The event behind so many first ones of what stands in an order.
+/// The event after so many first ones of what stands in an order.
 fn event_at(placed: &Placed, skipped: u32) -> Option<Event>
     ensures event { result ≡ slice_get (events_of placed.now) skipped }
     ensures few { IfSome result (λ e. skipped + 1 < 2 ^ 32) }
@@ -169,7 +169,7 @@ fn copy(event: &Event) -> Event
     }
 }
 
-/// The event behind so many first ones of steps of a host.
+/// The event after so many first ones of steps of a host.
 fn event_of_steps(side: Side, steps: &Steps, skipped: u32) -> Option<Event>
     ensures event { result
         ≡ slice_get (steps_at (number_of side) steps.now.turn steps.now.harts steps.now.count) skipped }
@@ -182,7 +182,7 @@ fn event_of_steps(side: Side, steps: &Steps, skipped: u32) -> Option<Event>
     Some(Event::At(side.number(), step))
 }
 
-/// The event behind so many first ones of rounds of a host.
+/// The event after so many first ones of rounds of a host.
 fn event_of_rounds(side: Side, rounds: &Rounds, skipped: u32) -> Option<Event>
     ensures event { result ≡ slice_get (rounds_at (number_of side) rounds.now.turn rounds.now.harts
         rounds.now.steps rounds.now.drain rounds.now.count) skipped }

@@ -98,7 +98,7 @@ module _ (entries : List PlainEntry) (rs : List PlainReceipt) (last : ℕ → Op
       let is = f.5 in
       let count = ap (λ (x : PlainReceipt). x.count) r_is in omega (arith, more, is, count, le)
 
-  -- none of the place: those behind are of higher ones
+  -- none of the place: those after are of higher ones
   pub fault_none : ((k : ℕ) (r : PlainReceipt) → p ≤ k → slice_get rs k ≡ Some r → p < r.place) → IsRightAt entries rs p → ⊥
   fault_none above w = elim (cases_at p w.index) [
     | inl low ↦ elim low [

@@ -12,7 +12,7 @@ use Rattle.rvm_journal.specs.Slices.{IsSliceRecorded, IsSteps, most_of, step_of}
 use Rattle.rvm_message.specs.declared.reply.HostReply.{HostReply}
 use Rattle.rvm_message.specs.Replies.{ends_steps, reply_of}
 
--- what stands in a list with one more behind is in the list, or is the one more
+-- what stands in a list with one more after is in the list, or is the one more
 got_or_last : {X : Type 0} (xs : List X) (a b : X) (k : ℕ) → slice_get (xs ++ a ∷ []) k ≡ Some b
     → (slice_get xs k ≡ Some b) ⊎ ((k ≡ length xs) × (a ≡ b))
 got_or_last [] a b zero h = inr (refl, same_Some a b h)

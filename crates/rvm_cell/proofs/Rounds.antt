@@ -1,4 +1,4 @@
--- Receipts of rounds, one behind the other.
+-- Receipts of rounds, one after the other.
 use Rattle.std.proofs.Common.{◌≡◌, ◌∙◌, ℕ, zero, suc, ◌+◌, ◌-◌, ◌*◌, ◌≤◌, List, [], ◌∷◌, ◌++◌, length, length-append, refl, sym, ap, arith}
 use Rattle.std.specs.Prelude.{slice_get, unwrap_or}
 use Rattle.std.proofs.Math.Nat.{suc-mul}
@@ -18,7 +18,7 @@ use Rattle.rvm_journal.proofs.Items.{steps_length}
 use Rattle.rvm_message.specs.declared.step.StepReply.TheVariants.{Stepped}
 use Rattle.rvm_message.specs.Exchanges.{dry_exchange, exchange}
 
--- the receipts of entries behind others
+-- the receipts of entries after others
 from_append : (xs ys : List PlainEntry) (place seat count : ℕ) → receipts_from place seat count (xs ++ ys)
     ≡ receipts_from place seat count xs ++ receipts_from (place + length xs) seat (count + length xs) ys
 from_append [] ys place seat count =
@@ -60,7 +60,7 @@ round_receipts place seat count turn harts steps drain r at of counts dry =
       reply = (sym dry i).reply;
     }) ∷ [])
 
--- those of rounds behind others
+-- those of rounds after others
 pub both_receipts : (place seat count p s c : ℕ) (first more all : Rounds) (n : ℕ) → rounds_of all ≡ rounds_of first ++ rounds_of more
     → n ≡ first.count * (first.steps + 1) → p ≡ place + n → s ≡ seat → c ≡ count + n
     → receipts_from place seat count (rounds_of all) ≡ receipts_from place seat count (rounds_of first) ++ receipts_from p s c (rounds_of more)
@@ -99,13 +99,13 @@ joined_in old rest new last item more old_is new_is item_is =
     ap all_of new_is ∙ all_push rest item ∙ ap (λ z. all_of rest ++ z) item_is ∙ sym (append_assoc (all_of rest) (receipts_of last) more)
     ∙ ap (λ z. z ++ more) (sym (ap all_of old_is ∙ all_push rest last))
 
--- an item and another one behind it
+-- an item and another one after it
 pub both_in : (old rest between new : List ReceiptItem) (last item : ReceiptItem) → old ≡ rest ++ last ∷ [] → between ≡ rest ++ last ∷ []
     → new ≡ between ++ item ∷ [] → all_of new ≡ all_of old ++ receipts_of item
 both_in old rest between new last item old_is between_is new_is =
     ap all_of new_is ∙ all_push between item ∙ ap (λ zs. all_of zs ++ receipts_of item) (between_is ∙ sym old_is)
 
--- rounds behind the items before the last one
+-- rounds after the items before the last one
 pub rounded_in : (old rest : List ReceiptItem) (new : List PlainReceipt) (last item : ReceiptItem) (more : List PlainReceipt) → old ≡ rest ++ last ∷ []
     → new ≡ all_of rest ++ receipts_of item → receipts_of item ≡ receipts_of last ++ more → new ≡ all_of old ++ more
 rounded_in old rest new last item more old_is new_is item_is =

@@ -16,7 +16,7 @@ use Rattle.rvm_message.specs.declared.step.StepReply.{StepReply}
 use Rattle.rvm_message.specs.declared.step.StepReply.TheVariants.{Stepped}
 use Rattle.rvm_message.specs.Steps.{reply_to_step}
 
--- items behind items
+-- items after items
 pub all_append : (items more : List ReceiptItem) → all_of (items ++ more) ≡ all_of items ++ all_of more
 all_append [] more = refl
 all_append (x ∷ items) more = ap (λ zs. receipts_of x ++ zs) (all_append items more) ∙ sym (append_assoc (receipts_of x) (all_of items) (all_of more))
@@ -68,7 +68,7 @@ run_length place seat count turn harts run =
     let last = last_length (place + n) seat (count + n) (turn + n) harts run.last in
     omega (arith, first, last, length-append (steps_receipts place seat count turn harts n) (last_receipt (place + n) seat (count + n) (turn + n) harts run.last))
 
--- receipts behind those of a seat
+-- receipts after those of a seat
 module _ (seat : PlainSeat) (place turn harts : ℕ) where
   one_behind : (rs : List PlainReceipt) (k p c t : ℕ) (reply : StepReply) → AreReceipts seat place turn harts rs → length rs ≡ k
       → p ≡ place + k → c ≡ seat.count + k → t ≡ turn + k

@@ -1,4 +1,4 @@
--- The receipts of an item are compared: how far the check comes, and what is wrong behind that.
+-- The receipts of an item are compared: how far the check comes, and what is wrong after that.
 use Rattle.std.proofs.Common.{◌≡◌, ◌∙◌, ◌≢◌, ℕ, zero, suc, ◌+◌, ◌-◌, ◌%◌, ◌<◌, ◌≤◌, List, [], ◌∷◌, ◌++◌, length, length-append, drop, Option, Some, None, refl, sym, ap, subst, arith, inl, inr, get_or, cond}
 use Rattle.std.specs.Prelude.{slice_get, unwrap_or, ◌⊎◌, ◌==◌}
 use Rattle.std.proofs.lemmas.Bool.{eq-eqb, ne_eqb}
@@ -49,7 +49,7 @@ some_in (item.One r) = omega arith
 some_in (item.Steps s) = s.some
 some_in (item.Rounds r) = r.some
 
--- a receipt of items is of the first, or of those behind it
+-- a receipt of items is of the first, or of those after it
 in_first : (x : ReceiptItem) (items : List ReceiptItem) (k : ℕ) (r : PlainReceipt) → slice_get (all_of (x ∷ items)) k ≡ Some r
     → k < count_in x → r ≡ receipt_at x k
 in_first x items k r at less =
@@ -101,7 +101,7 @@ first_there (x ∷ items) u is =
     let same : place_of x ≡ u = same_Some (place_of x) u is in
     (receipt_at x 0, get_left (receipts_of x) (all_of items) 0 (omega (arith, long, some)) ∙ item_at x 0 zero_less, omega (arith, place, same))
 
--- the last count of each seat behind so many receipts of an item
+-- the last count of each seat after so many receipts of an item
 abbrev noted : (ℕ → Option ℕ) → ReceiptItem → ℕ → ℕ → Option ℕ
 noted last x zero q = last q
 noted last x (suc i) q = cond (q == seat_in x) (Some (calls_before x + i)) (last q)
@@ -211,7 +211,7 @@ module _ (entries : List PlainEntry) (rs : List PlainReceipt) (last : ℕ → Op
               absurd (tells.free (u - p) (omega (arith, over, less, low, at)) (is ∙ ap Some (omega (arith, low, at))))
         ]
 
-    -- no receipt behind is of that place
+    -- no receipt after is of that place
     behind_at : (i : ℕ) → i < c → (k : ℕ) (r : PlainReceipt) → p + i + 1 ≤ k → slice_get rs k ≡ Some r → p + i < r.place
     behind_at i less k r le there =
         let few = tells.few in
@@ -360,7 +360,7 @@ module _ (x : ReceiptItem) (old now : List PlainEntry) (until : Option ℕ) (c :
     stopped = λ less. absurd (omega (arith, all, less));
   }
 
-  -- the place of the item behind is next
+  -- the place of the item after is next
   pub tells_until : (new : List PlainEntry) → c < count_in x → until ≡ Some (place_of x + c) → Tells x old new until c
   tells_until new less is = record {
     few = so.few;
@@ -533,7 +533,7 @@ few_items (x ∷ items) =
     let rest = few_items items in
     omega (arith, some, rest, item_length x, length-append (receipts_of x) (all_of items))
 
--- the items behind one have as many receipts fewer
+-- the items after one have as many receipts fewer
 pub count_left : (items : List ReceiptItem) (k : ℕ) (x : ReceiptItem) → drop k items ≡ x ∷ drop (k + 1) items
     → length (all_of (drop k items)) ≡ count_in x + length (all_of (drop (k + 1) items))
 count_left items k x is =

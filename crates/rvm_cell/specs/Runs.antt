@@ -24,7 +24,7 @@ steps_receipts place seat count turn harts (suc n) =
     step_receipt place seat count turn harts (Stepped Retired)
     ∷ steps_receipts (place + 1) seat (count + 1) (turn + 1) harts n
 
--- of a step behind others, if one was made
+-- of a step after others, if one was made
 abbrev pub last_receipt : (place seat count turn harts : ℕ) → Option StepReply → List PlainReceipt
 last_receipt place seat count turn harts None = []
 last_receipt place seat count turn harts (Some r) = step_receipt place seat count turn harts r ∷ []
@@ -35,7 +35,7 @@ run_receipts place seat count turn harts run =
     steps_receipts place seat count turn harts run.retired
     ++ last_receipt (place + run.retired) seat (count + run.retired) (turn + run.retired) harts run.last
 
--- of entries, one behind the other
+-- of entries, one after the other
 abbrev pub receipts_from : (place seat count : ℕ) → List PlainEntry → List PlainReceipt
 receipts_from place seat count [] = []
 receipts_from place seat count (e ∷ es) =
@@ -48,7 +48,7 @@ receipts_of (item.One r) = r ∷ []
 receipts_of (item.Steps s) = steps_receipts s.place s.seat s.count s.steps.turn s.steps.harts s.steps.count
 receipts_of (item.Rounds r) = receipts_from r.place r.seat r.count (rounds_of r.rounds)
 
--- of items, one behind the other
+-- of items, one after the other
 abbrev pub all_of : List ReceiptItem → List PlainReceipt
 all_of [] = []
 all_of (x ∷ items) = receipts_of x ++ all_of items

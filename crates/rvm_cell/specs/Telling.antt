@@ -33,7 +33,7 @@ pub record Differs (x : ReceiptItem) (left : List PlainEntry) (c : ℕ) : Type 0
   pub differ : IsOf (receipt_at x c) entry → ⊥
 
 -- the first c receipts of an item are of the first c entries that are left, and none of their places is that of the item
--- behind; where there are more, the place of the next is, or no entry is left, or it is of another one
+-- after; where there are more, the place of the next is, or no entry is left, or it is of another one
 pub record Tells (x : ReceiptItem) (old new : List PlainEntry) (until : Option ℕ) (c : ℕ) : Type 0 where
   pub few : c ≤ count_in x
   pub there : c ≤ length old
@@ -59,7 +59,7 @@ AreRising [] = Unit {0}
 AreRising (x ∷ items) = AreFrom (place_of x) items × AreRising items
 
 -- the receipts of an item from an index on are of the first n entries that are left, and none of their places is that of the
--- item behind
+-- item after
 pub record Skips (x : ReceiptItem) (index : ℕ) (old new : List PlainEntry) (until : Option ℕ) (n : ℕ) : Type 0 where
   pub few : index + n ≤ count_in x
   pub there : n ≤ length old

@@ -99,7 +99,7 @@ fn first_from(receipts: &[ReceiptItem], k: usize) -> Option<u32>
     Some(receipts.get(k)?.place())
 }
 
-/// Whether a place is so many behind another.
+/// Whether a place is so many after another.
 fn is_at(until: Option<u32>, place: u32, behind: u32) -> bool
     ensures yes { result ≡ true → until ≡ Some (place + behind) }
     ensures no { result ≡ false → until ≡ Some (place + behind) → ⊥ }
@@ -110,7 +110,7 @@ fn is_at(until: Option<u32>, place: u32, behind: u32) -> bool
     }
 }
 
-/// How many of the receipts of an item are of the entries that are left, before the place of the item behind it.
+/// How many of the receipts of an item are of the entries that are left, before the place of the item after it.
 fn tell(item: &ReceiptItem, left: &mut Left<'_>, until: Option<u32>) -> u32
     ensures { Tells item.now left.old left.new until result }
 {

@@ -1,4 +1,4 @@
-//! Receipts, one behind the other.
+//! Receipts, one after the other.
 
 ghost use Rattle.std.specs.Prelude.{◌≡◌, ℕ, [], Some, IfSome, true, false, ◌+◌, ◌-◌, ◌*◌, ◌++◌, ◌∷◌, ◌<◌, ◌≤◌, ◌^◌, vec_capacity, vec_len};
 ghost use Rattle.rvm_cell.specs.Runs.{all_of, calls_before, count_in, place_of, receipts_of, run_receipts, seat_in, step_receipt};
@@ -67,7 +67,7 @@ impl ReceiptItem {
         }
     }
 
-    /// Passes entries that are left as far as they are of the receipts from an index on, before the place of the item behind,
+    /// Passes entries that are left as far as they are of the receipts from an index on, before the place of the item after,
     /// and are kept as one item: how many.
     pub(crate) fn skip(&self, index: u32, left: &mut Left<'_>, until: Option<u32>) -> u32
         requires { index ≤ count_in self.now }
@@ -151,7 +151,7 @@ fn skip_round(rounds: &RoundReceipts, index: u32, left: &mut Left<'_>, until: Op
     left.skip(row.turn, row.harts, most)
 }
 
-/// How many of so many places behind another come before a place.
+/// How many of so many places after another come before a place.
 fn before(until: Option<u32>, place: u32, index: u32, most: u32) -> u32
     ensures few { result ≤ most }
     ensures free { (i : ℕ) → i < result → until ≡ Some (place + (index + i)) → ⊥ }
@@ -171,7 +171,7 @@ fn before(until: Option<u32>, place: u32, index: u32, most: u32) -> u32
     }
 }
 
-/// Puts the receipts of a run behind others, in room that is there: from a place, a count of the seat and a
+/// Puts the receipts of a run after others, in room that is there: from a place, a count of the seat and a
 /// turn on.
 pub(crate) fn push_run(
     receipts: &mut Vec<ReceiptItem>,
@@ -217,7 +217,7 @@ pub(crate) fn push_run(
     }
 }
 
-/// Puts a receipt behind others, in room that is there.
+/// Puts a receipt after others, in room that is there.
 pub fn push_receipt(all: &mut Vec<ReceiptItem>, receipt: Receipt)
     requires { vec_len all.old < vec_capacity all.old }
     ensures { all_of all.new.items ≡ all_of all.old.items ++ receipt ∷ [] }
@@ -235,7 +235,7 @@ pub fn push_receipt(all: &mut Vec<ReceiptItem>, receipt: Receipt)
     }
 }
 
-/// Puts receipts of rounds behind others, in room that is there.
+/// Puts receipts of rounds after others, in room that is there.
 fn push_rounds(all: &mut Vec<ReceiptItem>, rounds: RoundReceipts)
     requires { vec_len all.old < vec_capacity all.old }
     ensures { all_of all.new.items ≡ all_of all.old.items ++ receipts_of (ReceiptItem.Rounds rounds) }
@@ -253,7 +253,7 @@ fn push_rounds(all: &mut Vec<ReceiptItem>, rounds: RoundReceipts)
     }
 }
 
-/// The receipts of steps and the one of a drain behind them that found nothing, as those of a round; none where they are
+/// The receipts of steps and the one of a drain after them that found nothing, as those of a round; none where they are
 /// others.
 fn with_drain(last: &ReceiptItem, receipt: &Receipt) -> Option<RoundReceipts>
     ensures { IfSome result (λ r. receipts_of (ReceiptItem.Rounds r) ≡ receipts_of last.now ++ receipt.now ∷ []) }
@@ -267,7 +267,7 @@ fn with_drain(last: &ReceiptItem, receipt: &Receipt) -> Option<RoundReceipts>
     round_of(steps, receipt, drain)
 }
 
-/// The receipts of steps and that of the drain behind them, if it is of the next place and the next call of their seat.
+/// The receipts of steps and that of the drain after them, if it is of the next place and the next call of their seat.
 fn round_of(steps: &StepReceipts, receipt: &Receipt, drain: u32) -> Option<RoundReceipts>
     requires { exchange receipt.now.event receipt.now.reply ≡ dry_exchange drain }
     ensures { IfSome result (λ r. receipts_of (ReceiptItem.Rounds r)
@@ -298,7 +298,7 @@ fn round_of(steps: &StepReceipts, receipt: &Receipt, drain: u32) -> Option<Round
     })
 }
 
-/// The receipts of rounds with those of the rounds behind them; none where they are others.
+/// The receipts of rounds with those of the rounds after them; none where they are others.
 fn joined_with(last: &ReceiptItem, more: &RoundReceipts) -> Option<RoundReceipts>
     ensures { IfSome result (λ r. receipts_of (ReceiptItem.Rounds r)
         ≡ receipts_of last.now ++ receipts_of (ReceiptItem.Rounds more.now)) }
@@ -309,7 +309,7 @@ fn joined_with(last: &ReceiptItem, more: &RoundReceipts) -> Option<RoundReceipts
     }
 }
 
-/// The receipts of rounds with those behind them, if these are of the next place and the next call of their seat.
+/// The receipts of rounds with those after them, if these are of the next place and the next call of their seat.
 fn both(first: &RoundReceipts, more: &RoundReceipts) -> Option<RoundReceipts>
     ensures { IfSome result (λ r. receipts_of (ReceiptItem.Rounds r)
         ≡ receipts_of (ReceiptItem.Rounds first.now) ++ receipts_of (ReceiptItem.Rounds more.now)) }

@@ -4,7 +4,7 @@ ghost use Rattle.std.specs.Prelude.{◌+◌, ◌*◌, ◌<◌, ◌≤◌, ◌^�
 
 use rvm_journal::Rounds;
 
-/// Receipts of rounds of steps, each with a drain behind it that found nothing: their places and the counts of the
+/// Receipts of rounds of steps, each with a drain after it that found nothing: their places and the counts of the
 /// seat follow each other.
 #[derive(Drop)]
 pub struct RoundReceipts {

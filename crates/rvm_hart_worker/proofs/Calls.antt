@@ -1,4 +1,4 @@
--- Calls behind calls.
+-- Calls after calls.
 use Rattle.std.proofs.Common.{◌≡◌, ◌≢◌, ◌∙◌, ℕ, zero, suc, ◌+◌, ◌-◌, ◌≤◌, Bool, true, false, List, [], ◌∷◌, ◌++◌, append-nil, append_assoc, Option, Some, Result, Ok, Err, refl, sym, ap, map, subst, arith, length}
 use Rattle.std.proofs.lemmas.List.Concat.{flat_map-append}
 use Rattle.std.proofs.lemmas.List.Elements.{All-append, All-cons, All-map, All-nil}
@@ -100,7 +100,7 @@ pub made_behind_drain : {E : Type 0} (r : Result Drained E) (old mid new : Plain
 made_behind_drain (Ok d) old mid new p q = made_behind old mid new (bytes_of d) [] (is_nothing d) p q
 made_behind_drain (Err e) old mid new p q = tt
 
--- calls, of which others may come behind the last
+-- calls, of which others may come after the last
 made_on : (old new : PlainCaller × PlainCaller) (bytes : List ℕ) (ts : List Turn) → Made old new bytes ts true
     → Made old new bytes ts false
 made_on old new bytes ts p = record {
@@ -275,7 +275,7 @@ module _ (old new : PlainCaller) (turn harts made : ℕ) (last : Then) (steps : 
 pub written_none : (p : PlainCaller × PlainCaller) (w : Option (List ℕ)) → Written p p w w ⊤ [] false
 written_none p w = record { bytes = []; made = made_none p; written = λ _. Appends-nil w }
 
--- what other calls told was written behind the rest
+-- what other calls told was written after the rest
 pub written_then : (old mid new : PlainCaller × PlainCaller) (before between after : Option (List ℕ)) (works : Type 0)
     (ts us : List Turn) (first dry : Bool) → Written old mid before between ⊤ ts first
     → Written mid new between after works us dry → Written old new before after works (ts ++ us) dry
@@ -337,7 +337,7 @@ written_more old mid new before between after works ts dry p q =
     subst (λ l. Written old new before after works l dry) (append-nil ts)
     (written_then old mid new before between after works ts [] false dry p q)
 
--- calls behind which others may come
+-- calls after which others may come
 pub written_on : (old new : PlainCaller × PlainCaller) (before after : Option (List ℕ)) → Written old new before after ⊤ [] true
     → Written old new before after ⊤ [] false
 written_on old new before after p = record { bytes = p.bytes; made = made_on old new p.bytes [] p.made; written = p.written }
@@ -353,13 +353,13 @@ pub has_begun : (p : PlainCaller × PlainCaller) (w : Option (List ℕ)) (harts 
 unfolding turns
 has_begun p w harts = written_none p w
 
--- behind a turn that did not halt the board comes the next one
+-- after a turn that did not halt the board comes the next one
 pub goes_after : (last : Then) → ((status : ℕ) → last ≡ Halted status → ⊥) → after_turns last ≡ GoOn
 goes_after GoOn none = refl
 goes_after Elsewhere none = refl
 goes_after (Halted status) none = absurd (none status refl)
 
--- it failed behind so many turns
+-- it failed after so many turns
 failed_behind : (old mid new : PlainCaller × PlainCaller) (before between after : Option (List ℕ)) (harts steps count : ℕ)
     (last : Then) (e : WorkEnd) → count ≤ steps → Written old mid before between ⊤ (turns harts 0 count last) false
     → Written mid new between after (e ≢ LinkFault) [] false → HasRun old new before after harts steps (Err e)
@@ -418,14 +418,14 @@ module _ (old mid : PlainCaller × PlainCaller) (before between : Option (List �
     pub goes_on : after_turns last ≡ GoOn → HasCome old next before between harts (turn + made)
     goes_on is = subst (λ t. Written old next before between ⊤ (turns harts 0 (turn + made) t) false) is with_slice
 
-    -- behind a drain
+    -- after a drain
     pub goes_on_drained : (new : PlainCaller × PlainCaller) (after : Option (List ℕ)) → after_turns last ≡ GoOn
         → Written next new between after ⊤ [] true → HasCome old new before after harts (turn + made)
     goes_on_drained new after is drained =
         written_more old next new before between after ⊤ (turns harts 0 (turn + made) GoOn) false (goes_on is)
         (written_on next new between after drained)
 
-    -- the drain behind it failed
+    -- the drain after it failed
     pub drain_failed : {T : Type 0} (r : Result T WorkEnd) (new : PlainCaller × PlainCaller) (after : Option (List ℕ))
         → IfErr r (λ e. Written next new between after (e ≢ LinkFault) [] false)
         → IfErr r (λ e. HasRun old new before after harts steps (Err e))

@@ -1,4 +1,4 @@
--- The turns of a slice, and turns behind turns.
+-- The turns of a slice, and turns after turns.
 use Rattle.std.proofs.Common.{◌≡◌, ◌∙◌, ℕ, zero, suc, ◌+◌, ◌-◌, ◌<◌, ◌≤◌, ◌%◌, false, List, [], ◌∷◌, ◌++◌, length, map, Some, refl, sym, ap, arith}
 use Rattle.std.specs.List.{flat_map}
 use Rattle.std.specs.Prelude.{slice_get}
@@ -22,7 +22,7 @@ unfolding turns
 first_turn harts from zero = refl
 first_turn harts from (suc n) = refl
 
--- turns behind turns
+-- turns after turns
 turns_behind : (harts from m n k : ℕ) (last : Then) → k ≡ m + suc n
     → turns harts from m GoOn ++ turns harts (from + m) (suc n) last ≡ turns harts from k last
 unfolding turns
@@ -99,7 +99,7 @@ one_step harts turn GoOn = refl
 one_step harts turn Elsewhere = refl
 one_step harts turn (Halted s) = refl
 
--- a step, and others behind it
+-- a step, and others after it
 step_before : (harts turn n : ℕ) (last : Then)
     → (turn % harts, GoOn) ∷ turns harts (suc turn) (turns_of last (suc n)) (after_turns last)
     ≡ turns harts turn (turns_of last (suc (suc n))) (after_turns last)

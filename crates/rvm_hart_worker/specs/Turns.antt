@@ -49,7 +49,7 @@ after_turns t = t
 abbrev pub Turn : Type 0
 Turn = ℕ × Then
 
--- so many turns of so many harts, which step one after another, from a turn on: behind the last comes this, behind each
+-- so many turns of so many harts, which step one after another, from a turn on: after the last comes this, after each
 -- other one the next turn
 unfoldable pub turns : (harts from count : ℕ) → Then → List Turn
 turns harts from zero last = []
@@ -91,7 +91,7 @@ pub record Begins (harts steps : ℕ) (made : List Turn) : Type 0 where
   pub are : made ≡ turns harts 0 count last
 
 -- the turns of a run of at most so many, by how it ended: all were made, or the last one halted the board, or it failed
--- behind some
+-- after some
 abbrev pub AreTurns : (harts steps : ℕ) → Result TurnsEnd WorkEnd → List Turn → Type 0
 AreTurns harts steps (Ok ended.StepsSpent) made = made ≡ turns harts 0 steps GoOn
 AreTurns harts steps (Ok (ended.Halted status)) made = Halts harts steps status made

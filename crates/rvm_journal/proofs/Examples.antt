@@ -3,10 +3,10 @@ use Rattle.std.proofs.Common.{◌≡◌, [], ◌∷◌, refl}
 use Rattle.rvm_frame.specs.Pages.{zeros}
 use Rattle.rvm_journal.specs.Keeping.{told}
 
--- behind a 0 stand all bytes, zeros among them
+-- after a 0 stand all bytes, zeros among them
 three_bytes : told (0 ∷ 7 ∷ 0 ∷ 1 ∷ []) ≡ 7 ∷ 0 ∷ 1 ∷ []
 three_bytes = refl
 
--- behind a 1 those before a page of zeros
+-- after a 1 those before a page of zeros
 a_page_behind_two : told (1 ∷ 7 ∷ 8 ∷ []) ≡ 7 ∷ 8 ∷ zeros
 a_page_behind_two = refl

@@ -21,7 +21,7 @@ no_rounds : (turn harts steps drain : ℕ) → rounds_in_turn turn harts steps d
 unfolding rounds_in_turn
 no_rounds turn harts steps drain = refl
 
--- steps with a drain behind them
+-- steps with a drain after them
 pub one_round : (turn harts steps drain : ℕ) → rounds_in_turn turn harts steps drain 1 ≡ steps_in_turn turn harts steps ++ dry_entry drain ∷ []
 one_round turn harts steps drain =
     rounds_first turn harts steps drain 0
@@ -36,7 +36,7 @@ rounds_length turn harts steps drain (suc n) =
     ap length (rounds_first turn harts steps drain n)
     ∙ omega (arith, more, first, suc-mul n (steps + 1), length-append (steps_in_turn turn harts steps) (dry_entry drain ∷ rest))
 
--- rounds behind rounds
+-- rounds after rounds
 rounds_append : (n turn harts steps drain m : ℕ) → rounds_in_turn turn harts steps drain (n + m)
     ≡ rounds_in_turn turn harts steps drain n ++ rounds_in_turn (turn + n * steps) harts steps drain m
 rounds_append zero turn harts steps drain m =
@@ -62,14 +62,14 @@ rounds_joined turn harts steps drain n m k t h s d many at same as_many too =
     ap (rounds_in_turn turn harts steps drain) many ∙ rounds_append n turn harts steps drain m
     ∙ (λ i. rounds_in_turn turn harts steps drain n ++ rounds_in_turn (sym at i) (sym same i) (sym as_many i) (sym too i) m)
 
--- a drain behind the last item, which it makes a round
+-- a drain after the last item, which it makes a round
 pub rounded_in : (old rest : List (List PlainEntry)) (last round one new : List PlainEntry) → old ≡ rest ++ last ∷ []
     → round ≡ last ++ one → new ≡ all_of rest ++ round → new ≡ all_of old ++ one
 rounded_in old rest last round one new old_is round_is new_is =
     new_is ∙ ap (λ z. all_of rest ++ z) round_is ∙ sym (append_assoc (all_of rest) last one)
     ∙ ap (λ z. z ++ one) (sym (ap all_of old_is ∙ all_push rest last))
 
--- the entries by index: behind q rounds
+-- the entries by index: after q rounds
 module _ (harts steps drain : ℕ) where
   in_round : (q turn n r k : ℕ) (x : PlainEntry) → k ≡ q * (steps + 1) + r → q < n
       → slice_get (steps_in_turn (turn + q * steps) harts steps ++ dry_entry drain ∷ []) r ≡ Some x → r ≤ steps

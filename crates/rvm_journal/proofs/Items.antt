@@ -1,4 +1,4 @@
--- Runs of steps, one behind the other.
+-- Runs of steps, one after the other.
 use Rattle.std.proofs.Common.{◌≡◌, ◌∙◌, ℕ, zero, suc, ◌+◌, List, [], ◌∷◌, ◌++◌, length, length-append, Option, Some, None, refl, sym, ap, arith}
 use Rattle.std.proofs.lemmas.List.{append_assoc, append-nil}
 use Rattle.rvm_hart.specs.declared.outcome.Stepped.TheVariants.{Retired}
@@ -8,7 +8,7 @@ use Rattle.rvm_journal.specs.declared.run.StepRun.{StepRun}
 use Rattle.rvm_message.specs.declared.step.StepReply.{StepReply}
 use Rattle.rvm_message.specs.declared.step.StepReply.TheVariants.{Stepped}
 
--- items behind items
+-- items after items
 pub all_append : (items more : List (List PlainEntry)) → all_of (items ++ more) ≡ all_of items ++ all_of more
 all_append [] more = refl
 all_append (xs ∷ items) more = ap (λ zs. xs ++ zs) (all_append items more) ∙ sym (append_assoc xs (all_of items) (all_of more))
@@ -31,7 +31,7 @@ unfolding steps_in_turn
 steps_length turn harts zero = refl
 steps_length turn harts (suc n) = ap suc (steps_length (turn + 1) harts n)
 
--- steps of the turns behind others
+-- steps of the turns after others
 pub steps_append : (turn harts n m : ℕ) → steps_in_turn turn harts (n + m) ≡ steps_in_turn turn harts n ++ steps_in_turn (turn + n) harts m
 unfolding steps_in_turn
 steps_append turn harts zero m =

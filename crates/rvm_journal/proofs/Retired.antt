@@ -16,7 +16,7 @@ use Rattle.rvm_message.specs.declared.step.StepReply.TheVariants.{Stepped}
 use Rattle.rvm_message.specs.Exchanges.{step_of_hart}
 use Rattle.rvm_message.specs.Steps.{reply_to_step}
 
--- with entries behind its own, and room for so many more
+-- with entries after its own, and room for so many more
 abbrev pub grown : History → List PlainEntry → (reserved : ℕ) → History
 grown h xs n = record h { entries = h.entries ++ xs; reserved = n }
 

@@ -129,7 +129,7 @@ going_as old n n' turn harts c c' rs rs' so is same to =
     subst (λ x. IsGoing old turn harts c' rs' x) to
     (subst (λ x. IsGoing old turn harts c' x n) same (subst (λ x. IsGoing old turn harts x rs n) is so))
 
--- entries behind entries
+-- entries after entries
 twice : (r : Recording) (xs ys : List PlainEntry) (n m : ℕ) → with_entries (with_entries r xs n) ys m ≡ with_entries r (xs ++ ys) m
 twice r xs ys n m = ap (λ zs. with_all r zs m) (append_assoc r.journal.entries xs ys)
 
@@ -179,7 +179,7 @@ module _ (old now new : Recording) (turn harts count k : ℕ) (replies : List St
   abbrev so_far : List StepReply
   so_far = replies ++ replicate k (Stepped Retired)
 
-  -- one more behind them
+  -- one more after them
   last_to : (r : StepReply) → new ≡ with_entries now (steps_in_turn (turn + count) harts k ++ last_of (turn + count + k) harts (Some r)) (now.journal.reserved - (k + 1))
       → new ≡ with_entries mid (silent (step_of_hart ((turn + (count + k)) % harts)) (reply_to_step r) ∷ []) (mid.journal.reserved - 1)
   last_to r to =

@@ -1,4 +1,4 @@
--- What is left of entries behind so many.
+-- What is left of entries after so many.
 use Rattle.std.proofs.Common.{◌≡◌, ◌∙◌, ℕ, zero, suc, ◌+◌, ◌-◌, ◌<◌, ◌≤◌, List, [], ◌∷◌, ◌++◌, length, drop, Some, refl, sym, ap, arith}
 use Rattle.std.specs.Prelude.{slice_get}
 use Rattle.std.proofs.lemmas.Option.{same_Some, slice_get_within}
@@ -59,7 +59,7 @@ entry_at (suc i) turn harts (suc n) less =
     let t : turn + 1 + i ≡ turn + suc i = omega arith in
     entry_at i (turn + 1) harts n (omega (arith, less)) ∙ ap (λ k. Some (step_entry k harts (Stepped Retired))) t
 
--- what is left behind so many entries, of which the next is a step
+-- what is left after so many entries, of which the next is a step
 pub step_next : (turn harts n s : ℕ) (rest : List PlainEntry) → s < n
     → drop s (steps_in_turn turn harts n ++ rest) ≡ step_entry (turn + s) harts (Stepped Retired) ∷ drop (s + 1) (steps_in_turn turn harts n ++ rest)
 step_next turn harts n s rest less =
@@ -72,7 +72,7 @@ pub entry_next : (xs rest : List PlainEntry) (k : ℕ) (x : PlainEntry) → slic
     → drop k (xs ++ rest) ≡ x ∷ drop (k + 1) (xs ++ rest)
 entry_next xs rest k x at = drop_at (xs ++ rest) k x (get_left xs rest k (slice_get_within xs k x at) ∙ at)
 
--- the first of what is left behind so many
+-- the first of what is left after so many
 pub next_at : {X : Type 0} (xs : List X) (i : ℕ) (x : X) (ys : List X) → drop i xs ≡ x ∷ ys → slice_get xs i ≡ Some x
 next_at xs i x ys is =
     let same : i + 0 ≡ i = omega arith in

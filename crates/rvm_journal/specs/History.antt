@@ -36,7 +36,7 @@ outcome_of r e = outcome_at r.journal.opening (host_now r) (event_of e)
 abbrev pub count_of : Recording → ℕ
 count_of r = length r.journal.entries
 
--- with these entries behind its own, and room for so many more
+-- with these entries after its own, and room for so many more
 abbrev pub with_entries : Recording → List PlainEntry → (reserved : ℕ) → Recording
 with_entries r xs n =
     record r { journal = record r.journal { entries = r.journal.entries ++ xs; reserved = n } }

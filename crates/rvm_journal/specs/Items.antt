@@ -29,7 +29,7 @@ steps_in_turn turn harts (suc n) = step_entry turn harts (Stepped Retired) ∷ s
 abbrev pub dry_entry : (drain : ℕ) → PlainEntry
 dry_entry n = silent (dry_exchange n).event (dry_exchange n).reply
 
--- n times so many steps in turn, and such a drain behind them
+-- n times so many steps in turn, and such a drain after them
 unfoldable pub rounds_in_turn : (turn harts steps drain n : ℕ) → List PlainEntry
 rounds_in_turn turn harts steps drain zero = []
 rounds_in_turn turn harts steps drain (suc n) =
@@ -51,12 +51,12 @@ entries_at (look.Entry e) = e.now ∷ []
 entries_at (look.Steps s) = steps_in_turn s.turn s.harts s.count
 entries_at (look.Rounds r) = rounds_of r
 
--- of items, one behind the other
+-- of items, one after the other
 abbrev pub all_of : List (List PlainEntry) → List PlainEntry
 all_of [] = []
 all_of (xs ∷ items) = xs ++ all_of items
 
--- a step behind others, if one was made
+-- a step after others, if one was made
 abbrev pub last_of : (turn harts : ℕ) → Option StepReply → List PlainEntry
 last_of turn harts None = []
 last_of turn harts (Some r) = step_entry turn harts r ∷ []
@@ -66,7 +66,7 @@ abbrev pub entries_in : (turn harts : ℕ) → StepRun → List PlainEntry
 entries_in turn harts run =
     steps_in_turn turn harts run.retired ++ last_of (turn + run.retired) harts run.last
 
--- the reply behind others, if there is one
+-- the reply after others, if there is one
 abbrev pub last_reply : Option StepReply → List StepReply
 last_reply None = []
 last_reply (Some r) = r ∷ []
@@ -75,7 +75,7 @@ last_reply (Some r) = r ∷ []
 abbrev pub replies_in : StepRun → List StepReply
 replies_in run = replicate run.retired (Stepped Retired) ++ last_reply run.last
 
--- of runs, one behind the other
+-- of runs, one after the other
 abbrev pub replies_of_all : List StepRun → List StepReply
 replies_of_all [] = []
 replies_of_all (run ∷ runs) = replies_in run ++ replies_of_all runs

@@ -14,7 +14,7 @@ abbrev pub CanBeKept : (version most : ℕ) → Option Addressed → Type 0
 CanBeKept version most None = Unit {0}
 CanBeKept version most (Some a) = Fits version most a
 
--- bytes, by what is kept of them: behind a 0 all, behind any other number those before a page of zeros
+-- bytes, by what is kept of them: after a 0 all, after any other number those before a page of zeros
 abbrev pub told : List ℕ → List ℕ
 told [] = []
 told (first ∷ front) = if first == 0 then front else front ++ zeros

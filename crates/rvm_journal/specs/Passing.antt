@@ -3,7 +3,7 @@ use Rattle.std.specs.Prelude.{◌≡◌, ℕ, ◌+◌, List, ◌++◌, drop}
 use Rattle.rvm_journal.specs.Entries.{PlainEntry}
 use Rattle.rvm_journal.specs.Items.{steps_in_turn}
 
--- behind so many of these entries, before a rest, the next n are the steps of so many harts from a turn on
+-- after so many of these entries, before a rest, the next n are the steps of so many harts from a turn on
 abbrev pub IsPassed : List PlainEntry → (skipped turn harts n : ℕ) → List PlainEntry → Type 0
 IsPassed xs skipped turn harts n rest =
     drop skipped (xs ++ rest) ≡ steps_in_turn turn harts n ++ drop (skipped + n) (xs ++ rest)

@@ -1,4 +1,4 @@
--- Rounds behind rounds, and what is left of one.
+-- Rounds after rounds, and what is left of one.
 use Rattle.std.specs.Prelude.{◌≡◌, ℕ, ◌+◌, ◌-◌, ◌*◌, ◌/◌, ◌%◌, ◌<◌}
 use Rattle.rvm_journal.specs.declared.rounds.Rounds.{Rounds}
 use Rattle.rvm_journal.specs.declared.steps.Steps.{Steps}
@@ -11,7 +11,7 @@ pub record GoesOn (rounds more : Rounds) (n : ℕ) : Type 0 where
   pub drain : more.drain ≡ rounds.drain
   pub count : n ≡ rounds.count + more.count
 
--- behind k entries of rounds these steps are left of the round to which they come
+-- after k entries of rounds these steps are left of the round to which they come
 pub record IsRowAt (r : Rounds) (k : ℕ) (s : Steps) : Type 0 where
   pub inside : k < r.count * (r.steps + 1)
   pub turn : s.turn ≡ r.turn + (k - k / (r.steps + 1))

@@ -1,4 +1,4 @@
--- A slice: steps of harts in turn, recorded one behind the other.
+-- A slice: steps of harts in turn, recorded one after the other.
 use Rattle.std.specs.Prelude.{◌≡◌, ℕ, suc, ◌+◌, ◌-◌, ◌%◌, ◌<◌, ◌≤◌, min, true, false, List, length, map, slice_get, Some, None}
 use Rattle.rvm_journal.specs.Entries.{PlainEntry}
 use Rattle.rvm_journal.specs.History.{Recording, count_of, with_entries, with_room}

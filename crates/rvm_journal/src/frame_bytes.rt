@@ -13,10 +13,10 @@ use std::marker::Model;
 /// How many bytes a page has.
 const PAGE: usize = PAGE_SIZE as usize;
 
-/// The first byte where nothing stands behind those that are kept.
+/// The first byte where nothing stands after those that are kept.
 const WHOLE: u8 = 0;
 
-/// The first byte where a page of zeros stands behind them.
+/// The first byte where a page of zeros stands after them.
 const BEFORE_ZEROS: u8 = 1;
 
 /// The bytes of a frame. Those of a page of zeros at their end are not kept.
@@ -83,7 +83,7 @@ impl FrameBytes {
     }
 }
 
-/// Bytes and a page of zeros behind them.
+/// Bytes and a page of zeros after them.
 fn with_zeros(alloc: Global, front: &[u8]) -> Result<Vec<u8>, AllocError>
     ensures { IfOk result (λ v. v.items ≡ front.now ++ zeros) }
 {
@@ -106,7 +106,7 @@ fn leave_out(kept: &mut Vec<u8>, page: &[u8; PAGE])
     kept[0] = BEFORE_ZEROS;
 }
 
-/// Whether bytes are a page behind so many first ones.
+/// Whether bytes are a page after so many first ones.
 fn is_behind(bytes: &[u8], front: usize, page: &[u8; PAGE]) -> bool
     requires { front ≤ length bytes.now }
     ensures { result ≡ true → drop front bytes.now ≡ page.now }

@@ -81,7 +81,7 @@ impl Item {
         }
     }
 
-    /// With these steps behind it, where it is the steps of the turns before them; else it comes back.
+    /// With these steps after it, where it is the steps of the turns before them; else it comes back.
     fn joined(self, more: Steps) -> Result<Item, Item>
         ensures joined { IfOk result (λ i. i ≡ self ++ steps_in_turn more.turn more.harts more.count) }
         ensures alone { IfErr result (λ i. i ≡ self) }
@@ -99,7 +99,7 @@ impl Item {
         }))
     }
 
-    /// The round that steps are with a drain of at most so many bytes behind them that found none; any other item comes back.
+    /// The round that steps are with a drain of at most so many bytes after them that found none; any other item comes back.
     fn with_drain(self, drain: u32) -> Result<Rounds, Item>
         ensures round { IfOk result (λ r. rounds_of r ≡ self ++ dry_entry drain ∷ []) }
         ensures alone { IfErr result (λ i. i ≡ self) }
@@ -119,7 +119,7 @@ impl Item {
         })
     }
 
-    /// With these rounds behind it, where it is rounds that they go on; else it comes back.
+    /// With these rounds after it, where it is rounds that they go on; else it comes back.
     fn joined_rounds(self, more: Rounds) -> Result<Item, Item>
         ensures joined { IfOk result (λ i. i ≡ self ++ rounds_of more) }
         ensures alone { IfErr result (λ i. i ≡ self) }
@@ -134,8 +134,8 @@ impl Item {
     }
 }
 
-/// Rounds with those of the turns behind them, where they are as many steps of as many harts each, and have the same
-/// drain; none where others are behind them.
+/// Rounds with those of the turns after them, where they are as many steps of as many harts each, and have the same
+/// drain; none where others are after them.
 pub fn joined(rounds: Rounds, more: Rounds) -> Option<Rounds>
     ensures { IfSome result (λ r. rounds_of r ≡ rounds_of rounds ++ rounds_of more) }
 {
@@ -149,7 +149,7 @@ pub fn joined(rounds: Rounds, more: Rounds) -> Option<Rounds>
     })
 }
 
-/// How many rounds they are with those behind them; none where others are behind them.
+/// How many rounds they are with those after them; none where others are after them.
 fn rounds_with(rounds: Rounds, more: Rounds) -> Option<u32>
     ensures goes_on { IfSome result (λ n. GoesOn rounds more n) }
     ensures few { IfSome result (λ n. n * (rounds.steps + 1) < 2 ^ 32) }
@@ -173,7 +173,7 @@ fn rounds_with(rounds: Rounds, more: Rounds) -> Option<u32>
     Some(count)
 }
 
-/// How many steps they are with those of the turns behind them; none where others are behind them.
+/// How many steps they are with those of the turns after them; none where others are after them.
 fn count_with(steps: Steps, more: Steps) -> Option<u32>
     ensures { IfSome result (λ n. (n ≡ steps.count + more.count) × (more.turn ≡ steps.turn + steps.count)
         × (more.harts ≡ steps.harts)) }
@@ -188,7 +188,7 @@ fn count_with(steps: Steps, more: Steps) -> Option<u32>
     steps.count.checked_add(more.count)
 }
 
-/// Puts steps behind items, in room that is there.
+/// Puts steps after items, in room that is there.
 pub(crate) fn push_steps(items: &mut Vec<Item>, steps: Steps)
     requires { vec_len items.old < vec_capacity items.old }
     ensures items { all_of items.new.items
@@ -209,7 +209,7 @@ pub(crate) fn push_steps(items: &mut Vec<Item>, steps: Steps)
     }
 }
 
-/// Puts rounds behind items, in room that is there.
+/// Puts rounds after items, in room that is there.
 fn push_rounds(items: &mut Vec<Item>, rounds: Rounds)
     requires { vec_len items.old < vec_capacity items.old }
     ensures items { all_of items.new.items
@@ -230,7 +230,7 @@ fn push_rounds(items: &mut Vec<Item>, rounds: Rounds)
     }
 }
 
-/// Puts a drain of at most so many bytes that found none behind items, in room that is there.
+/// Puts a drain of at most so many bytes that found none after items, in room that is there.
 pub(crate) fn push_dry(items: &mut Vec<Item>, drain: u32)
     requires { vec_len items.old < vec_capacity items.old }
     ensures items { all_of items.new.items ≡ all_of items.old.items ++ dry_entry drain ∷ [] }

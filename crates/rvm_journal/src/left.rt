@@ -15,7 +15,7 @@ use rvm_hart::Stepped;
 use rvm_message::{Exchange, StepReply};
 use std::marker::Model;
 
-/// The entries of items behind so many first ones.
+/// The entries of items after so many first ones.
 #[derive(Drop)]
 pub struct Left<'a> {
     items: &'a [Item],
@@ -107,7 +107,7 @@ impl<'a> Left<'a> {
     }
 }
 
-/// The hart whose step is the entry of rounds behind so many first ones; none where it is a drain.
+/// The hart whose step is the entry of rounds after so many first ones; none where it is a drain.
 fn hart_in(rounds: &Rounds, skipped: u32) -> Option<u32>
     requires { skipped < rounds.now.count * (rounds.now.steps + 1) }
     ensures { MatchOption result (slice_get (rounds_of rounds.now) skipped ≡ Some (dry_entry rounds.now.drain))
@@ -121,7 +121,7 @@ fn hart_in(rounds: &Rounds, skipped: u32) -> Option<u32>
     Some(hart_behind(&rounds.first(), skipped - passed))
 }
 
-/// The entry of rounds behind so many first ones.
+/// The entry of rounds after so many first ones.
 fn told_in<'a>(rounds: &Rounds, skipped: u32) -> Told<'a>
     requires { skipped < rounds.now.count * (rounds.now.steps + 1) }
     ensures { slice_get (rounds_of rounds.now) skipped ≡ Some (told_entry result) }
@@ -132,7 +132,7 @@ fn told_in<'a>(rounds: &Rounds, skipped: u32) -> Told<'a>
     }
 }
 
-/// The event and the reply of the entry of rounds behind so many first ones.
+/// The event and the reply of the entry of rounds after so many first ones.
 pub fn exchange_in(rounds: &Rounds, skipped: u32) -> Exchange
     requires { skipped < rounds.now.count * (rounds.now.steps + 1) }
     ensures { slice_get (rounds_of rounds.now) skipped ≡ Some (silent result.event result.reply) }
@@ -160,7 +160,7 @@ pub fn row_at(rounds: &Rounds, skipped: u32) -> Option<Steps>
     })
 }
 
-/// How many steps of so many harts from a turn on are kept in a row behind so many first entries.
+/// How many steps of so many harts from a turn on are kept in a row after so many first entries.
 fn in_a_row(item: ItemRef<'_>, skipped: u32, turn: u64, harts: u32) -> u32
     ensures few { skipped + result < 2 ^ 32 }
     ensures there { (n : ℕ) → n ≤ result → (rest : List PlainEntry) → IsPassed (entries_at item.entry) skipped turn harts n rest }
@@ -172,7 +172,7 @@ fn in_a_row(item: ItemRef<'_>, skipped: u32, turn: u64, harts: u32) -> u32
     }
 }
 
-/// How many steps are left of those behind so many first ones, if the next of them is that of a turn of so many harts.
+/// How many steps are left of those after so many first ones, if the next of them is that of a turn of so many harts.
 fn left_of_steps(steps: &Steps, skipped: u32, turn: u64, harts: u32) -> u32
     ensures few { skipped + result < 2 ^ 32 }
     ensures there { (n : ℕ) → n ≤ result → (rest : List PlainEntry)
@@ -200,7 +200,7 @@ fn left_of_round(rounds: &Rounds, skipped: u32, turn: u64, harts: u32) -> u32
     row.count
 }
 
-/// Whether the step behind so many first ones is that of a turn of so many harts.
+/// Whether the step after so many first ones is that of a turn of so many harts.
 fn is_next(steps: &Steps, skipped: u32, turn: u64, harts: u32) -> bool
     ensures { result ≡ true → (skipped ≤ steps.now.count) × (turn ≡ steps.now.turn + skipped) × (harts ≡ steps.now.harts) }
 {
@@ -213,7 +213,7 @@ fn is_next(steps: &Steps, skipped: u32, turn: u64, harts: u32) -> bool
     }
 }
 
-/// The hart whose turn it is so many turns behind the first of steps.
+/// The hart whose turn it is so many turns after the first of steps.
 pub fn hart_behind(steps: &Steps, behind: u32) -> u32
     ensures { result ≡ (steps.now.turn + behind) % steps.now.harts }
 {

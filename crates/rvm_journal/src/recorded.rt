@@ -238,7 +238,7 @@ impl<M: PagedMemory + Drop> Recorded<M> {
     }
 }
 
-/// Puts steps behind items, and one more with another reply, in room that is there.
+/// Puts steps after items, and one more with another reply, in room that is there.
 fn push_run(items: &mut Vec<Item>, steps: Steps, last: Option<StepReply>)
     requires harts { 1 ≤ steps.harts }
     requires room { vec_len items.old + (steps.count + one_if last) ≤ vec_capacity items.old }
@@ -256,7 +256,7 @@ fn push_run(items: &mut Vec<Item>, steps: Steps, last: Option<StepReply>)
     }
 }
 
-/// The hart whose turn it is behind steps.
+/// The hart whose turn it is after steps.
 fn hart_behind(steps: Steps) -> u32
     requires { 1 ≤ steps.harts }
     ensures { result ≡ (steps.turn + steps.count) % steps.harts }

@@ -1,10 +1,10 @@
-//! Rounds of steps, each with a drain behind it.
+//! Rounds of steps, each with a drain after it.
 
 ghost use Rattle.std.specs.Prelude.{◌≡◌, ◌+◌, ◌*◌, ◌<◌, ◌≤◌, ◌^◌};
 
 use crate::steps::Steps;
 
-/// So many times steps of so many harts in turn, from a turn on, each of which retired an instruction, and behind
+/// So many times steps of so many harts in turn, from a turn on, each of which retired an instruction, and after
 /// them a drain of at most so many bytes that found none.
 #[derive(Clone, Copy)]
 pub struct Rounds {

@@ -6,7 +6,7 @@ ghost use Rattle.rvm_journal.specs.Items.{ends_run, run_of, steps_of};
 use rvm_debug::Retired;
 use rvm_message::StepReply;
 
-/// Replies to steps, one behind the other: so many that retired an instruction, and behind them another one,
+/// Replies to steps, one after the other: so many that retired an instruction, and after them another one,
 /// if there is one.
 #[derive(Clone, Copy, Debug, PartialEq, Eq)]
 pub struct StepRun {
@@ -39,7 +39,7 @@ impl StepRun {
         }
     }
 
-    /// Whether no step is made behind it.
+    /// Whether no step is made after it.
     pub fn ends_steps(self) -> bool
         ensures { result ≡ ends_run self }
     {

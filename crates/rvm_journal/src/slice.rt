@@ -19,7 +19,7 @@ pub const MAX_SLICE: u32 = 64;
 
 impl<M: PagedMemory + Drop> Recorded<M> {
     /// Records the steps of harts in turn, from a turn on, as if each were recorded by itself: at most n
-    /// of them, or as many as there are places. It ends behind a breakpoint, a halt or a refusal. The
+    /// of them, or as many as there are places. It ends after a breakpoint, a halt or a refusal. The
     /// place of the first, and the replies. n is 1 to 64, and there are 1 to 8 harts. Where a growth is
     /// refused or no place is free, nothing is recorded. Room is made for as many as there may be, and
     /// what they do not take stays for later entries.
@@ -129,7 +129,7 @@ pub fn is_slice_in_range(harts: u32, n: u32) -> bool
     1 <= harts && harts <= MAX_HARTS && 1 <= n && n <= MAX_SLICE
 }
 
-/// The hart whose turn it is so many turns behind a turn, where the harts step in turn.
+/// The hart whose turn it is so many turns after a turn, where the harts step in turn.
 pub fn hart_of_turn(turn: u32, behind: u32, harts: u32) -> u32
     requires { 1 ≤ harts }
     ensures { result ≡ (turn + behind) % harts }

@@ -51,7 +51,7 @@ fn task_of(rt: &HostRuntime) -> Task {
     }
 }
 
-/// The arguments, behind the name of the program.
+/// The arguments, after the name of the program.
 fn words_of(rt: &HostRuntime) -> Option<Vec<String>> {
     env::args(rt).ok()?.collect(rt.alloc()).ok()
 }

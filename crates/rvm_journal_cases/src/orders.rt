@@ -220,7 +220,7 @@ fn second_host(alloc: Global, entries: u32, version: u32) -> Option<Recorded<Pag
     Recorded::new(alloc, host, entries).ok()
 }
 
-/// The order of two journals behind a story, for so many entries each, of hosts that speak a version.
+/// The order of two journals after a story, for so many entries each, of hosts that speak a version.
 fn order_behind(
     alloc: Global,
     entries: u32,

@@ -114,7 +114,7 @@ fn is_all(run: &StepRun, wanted: StepReply) -> bool {
     is_retired && is_last
 }
 
-/// A slice ends behind a breakpoint.
+/// A slice ends after a breakpoint.
 fn stop_at_a_breakpoint<R: AllocGlobal + Print>(
     rt: &R,
     host: &mut Recorded<PagedRam>,

@@ -45,7 +45,7 @@ pub trait Link {
         ensures out { OnOk result (is_flushed self.new) };
 
     /// Reads what came. It takes a buffer of any length, puts the bytes at its front, and gives how many
-    /// they are, at most the buffer's length. What stands behind them may have changed too.
+    /// they are, at most the buffer's length. What stands after them may have changed too.
     fn recv(&mut self, buffer: &mut [u8]) -> LinkRead
         ensures most { GivesAtMost result (length buffer.new) }
         ensures bytes { IsRead (remaining self.old) (remaining self.new) result buffer.new }

@@ -80,7 +80,7 @@ same_front x y xs ys a b x_in y_in = elim (in_cases y x ys x_in) [
   ]
 ]
 
--- what is behind the first of one is behind that of the other
+-- what is after the first of one is after that of the other
 behind : (x y : PlainReceipt) (xs ys : List PlainReceipt) → y ≡ x → All (λ s. x.count < s.count) xs
     → ((r : PlainReceipt) → Contains (x ∷ xs) r → Contains (y ∷ ys) r) → (r : PlainReceipt) → Contains xs r → Contains ys r
 behind x y xs ys is a into r c = elim (in_cases y r ys (into r (tail_in x r xs c))) [

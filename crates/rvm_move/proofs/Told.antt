@@ -24,7 +24,7 @@ use Rattle.rvm_worker.specs.declared.end.WorkEnd.{WorkEnd}
 
 -- WHAT IS GIVEN BACK
 
--- the receipts of two workers, one behind the other
+-- the receipts of two workers, one after the other
 pub all_of_two : (entries : List PlainEntry) (none own others one two : List PlainReceipt) → none ≡ []
     → one ≡ none ++ own → two ≡ one ++ others → AreAll entries two → AreAll entries (own ++ others)
 all_of_two entries none own others one two is first second told =

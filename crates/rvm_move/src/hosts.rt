@@ -95,7 +95,7 @@ impl<L: Seating> Returned<L> {
     }
 }
 
-/// Puts receipts behind others, unless a growth is refused.
+/// Puts receipts after others, unless a growth is refused.
 fn append(all: &mut Vec<ReceiptItem>, more: Vec<ReceiptItem>) -> bool
     ensures { result ≡ true → all_of all.new.items ≡ all_of all.old.items ++ all_of more.items }
 {

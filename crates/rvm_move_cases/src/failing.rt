@@ -42,7 +42,7 @@ impl<K: Link + Drop> Link for Failing<K> {
     }
 }
 
-/// Links of which the sending one fails behind so many sends.
+/// Links of which the sending one fails after so many sends.
 fn failing_links<K: Link + Drop>(links: Links<K>, left: u32) -> Links<Failing<K>> {
     let Links { sending, receiving } = links;
     Links {

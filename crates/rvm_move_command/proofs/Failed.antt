@@ -14,7 +14,7 @@ use Rattle.rvm_move_command.specs.Answers.{answers_text}
 use Rattle.rvm_move_command.specs.Ended.{AreLeft, IsFailed, IsFailureOf, IsMoveRefusal, IsNotMoved, IsSound, failure_line}
 use Rattle.rvm_refusal.specs.declared.refusal.Refusal.TheVariants as refusal
 
--- the answers of both hosts, and the line behind them
+-- the answers of both hosts, and the line after them
 pub failure_told : (ends : Ends) (a b : Option CloseKind) (first second : History) (before one two after : Option (List ℕ))
     → IsReplay first.opening first.entries → IsReplay second.opening second.entries
     → Appends before one (answers_text first.entries) → Appends one two (answers_text second.entries)

@@ -1,4 +1,4 @@
--- A host behind a move may go to any thread, where its memory may.
+-- A host after a move may go to any thread, where its memory may.
 use denote.RattleType.{RattleType}
 use denote.Param.Send.{IsSend, sendable}
 use Rattle.std.proofs.Crossing.{crosses}

@@ -127,7 +127,7 @@ pub record AreLeft (a : MoveArguments) (file : List ℕ) (ends : Ends) (fault_a 
   pub of_first : IsFirstEnd (plan_of a).policy ends fault_a first.entries
   pub of_second : IsSecondEnd ends fault_b second.entries
 
--- of a move that failed, what both hosts answered was told, and behind it the line with which it failed; each answer is the
+-- of a move that failed, what both hosts answered was told, and after it the line with which it failed; each answer is the
 -- law's
 pub record IsFailureOf (ends : Ends) (a b : Option CloseKind) (first second : History) (before after : Option (List ℕ))
     : Type 0 where

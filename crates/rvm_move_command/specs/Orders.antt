@@ -58,7 +58,7 @@ pub record HasFailed (ends : Ends) (a b : Option CloseKind) (before after : Opti
   pub failed : IsSound ends a b → ⊥
   pub told : Appends before after (failure_line ends a b)
 
--- behind the move of these hosts there was nothing to audit, or it has no order
+-- after the move of these hosts there was nothing to audit, or it has no order
 abbrev pub HasNoOrder : Ends → (a b : Option CloseKind) → (first second : History) → (before after : Option (List ℕ)) → Type 0
 HasNoOrder ends a b first second before after = HasFailed ends a b before after ⊎ IsUnordered first second before after
 

@@ -1,4 +1,4 @@
--- The calls of a copier, one behind another.
+-- The calls of a copier, one after another.
 use Rattle.std.proofs.Common.{◌≡◌, ◌∙◌, ℕ, suc, ◌-◌, not, true, false, List, [], ◌∷◌, ◌++◌, length, Option, None, Some, Result, Ok, Err, ap, refl, sym, subst, arith}
 use Rattle.std.proofs.lemmas.List.Elements.{All-cons, All-nil}
 use Rattle.std.specs.List.{All}
@@ -70,7 +70,7 @@ follows_asked to policy = follows_all to policy None
 abbrev exchange_by : PlainReceipt → PlainExchange
 exchange_by r = exchange r.event r.reply
 
--- the last of some calls, behind another
+-- the last of some calls, after another
 abbrev last_behind : Option PlainExchange → List PlainReceipt → Option PlainExchange
 last_behind last [] = last
 last_behind last (r ∷ rs) = last_behind (Some (exchange_by r)) rs

@@ -172,7 +172,7 @@ waits_run [] old new waits run = subst Waits (sym run) waits
 waits_run (f ∷ cs) old new waits run =
     waits_run cs (next_of old f.piece f.frame) new (waits_next old f.piece f.taken f.frame run.1) run.2
 
--- a reader that waits for more does so behind frames that were heard
+-- a reader that waits for more does so after frames that were heard
 pub waits_heard : (old : Gathered) (bytes : List ℕ) (before behind : List Frame) (new : Gathered) → verdict old.version old.bytes ≡ Ok None
     → AreHeard old bytes before behind new → verdict new.version new.bytes ≡ Ok None
 waits_heard old bytes before behind new waits heard = waits_run heard.feeds old new waits heard.run
@@ -309,7 +309,7 @@ kept_at_end (Some xs) (Some ys) same end = sym same ∙ end
 pub kept_end : (before after : Option (List ℕ)) → Keeps before after × IsAtEnd after → IsAtEnd before
 kept_end before after both = kept_at_end before after both.0 both.1
 
--- where nothing is left behind the last frame, the whole stream was heard
+-- where nothing is left after the last frame, the whole stream was heard
 pub whole_heard : (first last : Option (List ℕ)) (heard : List Frame) (g : Gathered) → Hears first last at_start [] heard g
     → IsAtEnd last → g.bytes ≡ [] → IfSome first (λ bytes. IsWholeStream bytes heard)
 whole_heard None last heard g h end between = tt

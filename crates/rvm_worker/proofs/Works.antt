@@ -1,4 +1,4 @@
--- Receipts behind those that are there.
+-- Receipts after those that are there.
 use Rattle.std.proofs.Common.{◌≡◌, ◌∙◌, ℕ, zero, suc, ◌+◌, ◌-◌, ◌<◌, List, [], ◌∷◌, ◌++◌, append-nil, get_or, length, length-append, Some, Result, Ok, Err, ap, refl, sym, subst, arith, inl, inr}
 use Rattle.std.proofs.lemmas.List.Elements.{All-push}
 use Rattle.std.proofs.lemmas.List.Concat.{flat_map-append}
@@ -32,7 +32,7 @@ got_either {X} (x ∷ xs) ys b (suc k) h = elim (got_either xs ys b k h) [
       let at : suc k ≡ length (x ∷ xs) + behind.0 = omega (arith, behind.1) in inr (behind.0, at, behind.2)
 ]
 
--- a slice is work, behind work
+-- a slice is work, after work
 pub work_slice : (first seat new : PlainSeat) (turn harts : ℕ) (before slice : List PlainReceipt)
     → IsWork first seat before → AreOfSeat seat turn harts slice → new ≡ seat_of seat.id (seat.count + length slice)
     → IsWork first new (before ++ slice)
@@ -59,7 +59,7 @@ in_one first seat e r s before k zero of id count at is =
     (ap (λ (x : PlainReceipt). x.seat) (sym r_is) ∙ of.seat_is ∙ id, omega (arith, n, count, at, ap (λ (x : PlainReceipt). x.count) r_is))
 in_one first seat e r s before k (suc j) of id count at is = cc
 
--- a call is work, behind work
+-- a call is work, after work
 pub work_call : (first seat new : PlainSeat) (e : HostEvent) (before : List PlainReceipt) (r : PlainReceipt)
     → IsWork first seat before → IsReceipt seat e r → new ≡ seat_of seat.id (seat.count + 1) → IsWork first new (before ++ r ∷ [])
 work_call first seat new e before r work of is =
@@ -93,7 +93,7 @@ last_got (y ∷ items) x reply is told =
     same_Some (get_or all (length all - 1) x) x (sym (slice_get-get_or all (length all - 1) x within) ∙ sym is) in
     subst (λ o. IfSome o (λ r. r.reply ≡ reply)) (sym (last_is all x some got)) (sym told)
 
--- what stands behind others is the last
+-- what stands after others is the last
 got_last : {X : Type 0} (xs : List X) (x : X) → slice_get (xs ++ x ∷ []) (length xs) ≡ Some x
 got_last [] x = refl
 got_last (y ∷ xs) x = got_last xs x

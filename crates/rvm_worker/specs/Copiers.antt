@@ -1,4 +1,4 @@
--- What a copier asks of its host, one call behind another.
+-- What a copier asks of its host, one call after another.
 use Rattle.std.specs.Prelude.{◌≡◌, ℕ, Bool, true, false, ◌||◌, List, [], ◌∷◌, Option, None, Some, IsSomeAnd}
 use Rattle.rvm_cell.specs.Receipts.{PlainReceipt}
 use Rattle.rvm_message.specs.declared.event.Command.TheVariants as command
@@ -20,7 +20,7 @@ copies next.Copy = true
 copies (next.Wait millis) = true
 copies n = false
 
--- it copies behind the call that begins the move, and behind a copy after which it is to copy
+-- it copies after the call that begins the move, and after a copy after which it is to copy
 abbrev pub goes_on : HostEvent → HostReply → Bool
 goes_on (event.Do (command.Begin to policy)) r = true
 goes_on (event.Do command.Copy) r = copies (after_copy r)
@@ -34,7 +34,7 @@ copies_on x = goes_on x.event x.reply
 abbrev pub is_given : PlainExchange → Bool
 is_given x = asks_again x.event || is_gone x.reply
 
--- what a copier may ask behind its last call: first it begins the move to this host with this policy. Then it copies until
+-- what a copier may ask after its last call: first it begins the move to this host with this policy. Then it copies until
 -- something else is to be done. It has the last frame sent again only once the guest was given up, and may give up the move
 -- at any time
 abbrev pub MayAsk : (to : ℕ) → Policy → (last : Option PlainExchange) → HostEvent → Type 0
@@ -44,7 +44,7 @@ MayAsk to policy (Some x) (event.Do command.Copy) = copies_on x ≡ true
 MayAsk to policy (Some x) (event.Do command.Resend) = is_given x ≡ true
 MayAsk to policy last e = ⊥
 
--- each of these calls it may ask behind the one before it, and the first of them behind this one
+-- each of these calls it may ask after the one before it, and the first of them after this one
 abbrev pub Follows : (to : ℕ) → Policy → (last : Option PlainExchange) → List PlainReceipt → Type 0
 Follows to policy last [] = Unit {0}
 Follows to policy last (r ∷ rs) = MayAsk to policy last r.event × Follows to policy (Some (exchange r.event r.reply)) rs

@@ -39,7 +39,7 @@ abbrev pub IsAllButLast : WorkEnd → (heard all : List Frame) → Type 0
 IsAllButLast Done heard all = heard ≡ all
 IsAllButLast end heard all = (heard ≡ all) ⊎ ((last : Frame) × (all ≡ heard ++ last ∷ []))
 
--- of the bytes that a link gives, the first ones are frames one behind the other, and those that come to a host were heard
+-- of the bytes that a link gives, the first ones are frames one after the other, and those that come to a host were heard
 pub record IsHeardOf (bytes : List ℕ) (end : WorkEnd) (heard : List Frame) : Type 0 where
   pub read : List ℕ
   pub rest : List ℕ

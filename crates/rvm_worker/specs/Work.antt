@@ -60,7 +60,7 @@ pub record PlainCaller : Type 0 where
   pub seat : PlainSeat
   pub receipts : List PlainReceipt
 
--- one call: its receipt stands behind the others
+-- one call: its receipt stands after the others
 pub record IsCall (old : PlainSeat) (event : HostEvent) (before : List PlainReceipt) (new : PlainSeat)
     (behind : List PlainReceipt) (reply : HostReply) : Type 0 where
   pub receipt : PlainReceipt
@@ -74,7 +74,7 @@ pub record AreSliceSteps (receipts : List PlainReceipt) (steps : SliceSteps) : T
   pub count : steps.count ≡ length receipts
   pub last : IfSome (slice_get receipts (length receipts - 1)) (λ r. r.reply ≡ steps.last)
 
--- one slice: the receipts of its steps stand behind the others
+-- one slice: the receipts of its steps stand after the others
 pub record IsSliceCall (old : PlainSeat) (turn harts : ℕ) (before : List PlainReceipt) (new : PlainSeat)
     (behind : List PlainReceipt) (steps : SliceSteps) : Type 0 where
   pub receipts : List PlainReceipt

@@ -166,7 +166,7 @@ impl<L: Seating> Caller<L> {
     }
 }
 
-/// Puts receipts behind others, in room that is there: the room that they had.
+/// Puts receipts after others, in room that is there: the room that they had.
 fn append(all: &mut Vec<ReceiptItem>, more: Vec<ReceiptItem>) -> Vec<ReceiptItem>
     requires { vec_len all.old + vec_len more ≤ vec_capacity all.old }
     ensures { all_of all.new.items ≡ all_of all.old.items ++ all_of more.items }
