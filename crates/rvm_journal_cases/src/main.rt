@@ -24,6 +24,7 @@ fn main(rt: HostRuntime) {
             slices::record_slices(&rt).is_some()
                 && sharing::write_and_read(&rt).is_some()
                 && sharing::fill_a_journal(&rt).is_some()
+                && sharing::miss_places(&rt).is_some()
                 && sharing::hand_out_frames(&rt).is_some()
                 && sizes::refuse_sizes(&rt).is_some()
                 && orders::put_in_order(&rt).is_some()

@@ -36,6 +36,12 @@ pub fn fill_a_journal<R: AllocGlobal + Print + Wait>(rt: &R) -> Option<()> {
     fill_and_close::<Brand, R>(rt, Blank::new(2), host)
 }
 
+/// A host is not closed without a receipt, nor without its seat, and the place that is missed is told.
+pub fn miss_places<R: AllocGlobal + Print + Wait>(rt: &R) -> Option<()> {
+    let host = recorded(rt.alloc(), 0, 1, 2)?;
+    call_and_miss::<Brand, R>(rt, Blank::new(1), host)
+}
+
 /// Each frame that a call makes is handed out: those of a move at its source.
 pub fn hand_out_frames<R: AllocGlobal + Print + Wait>(rt: &R) -> Option<()> {
     let host = recorded(rt.alloc(), 0, 1, 100)?;
@@ -240,6 +246,123 @@ fn close_with<L: Seating, R: AllocGlobal + Print + Wait>(
         None => {
             drop(opened);
             drop(seats);
+            None
+        }
+    }
+}
+
+/// Calls a host twice by its one seat, and closes it without what it gave.
+fn call_and_miss<L: Seating, R: AllocGlobal + Print + Wait>(
+    rt: &R,
+    blank: Blank,
+    recorded: Recorded<PagedRam>,
+) -> Option<()>
+    requires ledger { (blank.name ≡ L.name) × (blank.parts ≡ L.parts) × (L.seats ≡ L.parts) }
+    requires seats { blank.parts ≡ 1 }
+    requires empty { recorded.journal.entries ≡ [] }
+    requires opening { recorded.journal.opening ≡ L.opening }
+{
+    let (host, mut seats) = share_host::<L>(rt.alloc(), blank, recorded, 1)?;
+    match call_twice(rt, &host, seats.as_mut_slice()) {
+        Some((first, second)) => miss_a_receipt(rt, host, seats, first, second),
+        None => {
+            drop(host);
+            drop(seats);
+            None
+        }
+    }
+}
+
+/// Makes two steps by the first of these seats: their receipts.
+fn call_twice<L: Seating, R: AllocGlobal + Wait>(
+    rt: &R,
+    host: &SharedHost<L, PagedRam>,
+    seats: &mut [Seat<L>],
+) -> Option<(Receipt, Receipt)> {
+    let seat = seats.get_mut(0)?;
+    let (first, frame) = call(rt, host, seat, board(BoardEvent::Step(0)))?;
+    drop(frame);
+    match call(rt, host, seat, board(BoardEvent::Step(0))) {
+        Some((second, frame)) => {
+            drop(frame);
+            Some((first, second))
+        }
+        None => {
+            drop(first);
+            None
+        }
+    }
+}
+
+/// Closes a host without its second receipt, which cannot be.
+fn miss_a_receipt<L: Seating, R: AllocGlobal + Print + Wait>(
+    rt: &R,
+    host: SharedHost<L, PagedRam>,
+    seats: Vec<Seat<L>>,
+    first: Receipt,
+    second: Receipt,
+) -> Option<()>
+    requires { L.seats ≡ L.parts }
+{
+    let Some(receipts) = with_one_more(Vec::new(rt.alloc()), first) else {
+        drop(host);
+        drop(seats);
+        drop(second);
+        return None;
+    };
+    match close_again(rt, host, seats, receipts) {
+        Err(error) => miss_a_seat(rt, error, second),
+        Ok(recorded) => {
+            drop(recorded);
+            drop(second);
+            None
+        }
+    }
+}
+
+/// Closes the host that came back with both receipts and without its seat, which cannot be either.
+fn miss_a_seat<L: Seating, R: AllocGlobal + Print + Wait>(
+    rt: &R,
+    error: CloseError<L, PagedRam>,
+    second: Receipt,
+) -> Option<()>
+    requires { L.seats ≡ L.parts }
+{
+    let CloseError {
+        kind,
+        opened,
+        seats,
+        receipts,
+    } = error;
+    drop(seats);
+    match with_one_more(receipts, second) {
+        Some(receipts) => tell_missed(rt, kind, opened.share_again(), receipts),
+        None => {
+            drop(opened);
+            None
+        }
+    }
+}
+
+/// Tells which place was missed without the second receipt, and which is without a seat.
+fn tell_missed<L: Seating, R: AllocGlobal + Print + Wait>(
+    rt: &R,
+    kind: CloseKind,
+    host: SharedHost<L, PagedRam>,
+    receipts: Vec<ReceiptItem>,
+) -> Option<()>
+    requires { L.seats ≡ L.parts }
+{
+    match close_again(rt, host, Vec::new(rt.alloc()), receipts) {
+        Err(error) => {
+            let of_receipt = kind == CloseKind::Mismatch(1);
+            let of_seat = error.kind == CloseKind::Mismatch(2);
+            drop(error);
+            println!(rt; "closed without its second receipt: place 1 is missed {of_receipt}").ok()?;
+            println!(rt; "closed without its seat: place 2 is missed {of_seat}").ok()
+        }
+        Ok(recorded) => {
+            drop(recorded);
             None
         }
     }

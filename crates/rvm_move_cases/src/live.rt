@@ -46,7 +46,9 @@ fn print_end<R: AllocGlobal + Print>(
     image: &[u8],
     ended: &MoveResult,
 ) -> anyhow::Result<()> {
-    let moved = ended.has("committed 1") && ended.has("started") && ended.has("finished");
+    let ends = ended.has("committed 1") && ended.has("started") && ended.has("finished");
+    // The end of a round came too.
+    let moved = ends && ended.has("noted");
     let is_as_run = ended.is_as_run(rt.alloc(), image);
     let good = ended.status == Ok(0);
     println!(rt;
