@@ -377,7 +377,7 @@ line_refused all left bs b number k start old new before mid after OutOfMemory o
 line_refused all left bs b number k start old new before mid after TooLong o is p same more run = absurd run
 line_refused all left bs b number k start old new before mid after LinkFault None is p same more run = absurd run
 line_refused all left bs b number k start old new before mid after LinkFault (Some l) is p same more run =
-    let made = line_left b l new p is run.1 in
+    let made = line_left b l new p is (run.1, run.2) in
     record {
       done = p.done ++ b ∷ [];
       left = bs;
