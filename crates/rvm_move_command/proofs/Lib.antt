@@ -5,6 +5,5 @@ pub mod Orders
 pub mod Failed
 pub mod Unordered
 pub mod Answered
-pub mod Lines
 pub mod Pieces
 pub mod Untold
