@@ -83,7 +83,7 @@ none_at [] k le = refl
 none_at (x ∷ xs) zero le = absurd (omega (arith, le))
 none_at (x ∷ xs) (suc k) le = none_at xs k (omega (arith, le))
 
--- the event after so many of steps
+-- the event of steps with this index
 pub step_stands : (x : Side) (turn harts n k : ℕ) → k < n
     → slice_get (steps_at (number_of x) turn harts n) k ≡ Some (At (number_of x) (Board (Step ((turn + k) % harts))))
 step_stands x turn harts n k less =

@@ -8,30 +8,30 @@ use Rattle.rvm_audit.specs.declared.placed.Placed.{Placed}
 use Rattle.rvm_audit.specs.declared.placed.Placed.TheVariants as placed
 use Rattle.rvm_audit.specs.Pairs.{number_of}
 
--- n steps of so many harts in turn at a host, from this turn on
+-- n steps at a host, by its harts in turn, from this turn on
 unfoldable pub steps_at : (host turn harts n : ℕ) → List Event
 steps_at host turn harts zero = []
 steps_at host turn harts (suc n) = At host (Board (Step (turn % harts))) ∷ steps_at host (turn + 1) harts n
 
--- n times so many steps in turn at a host, and a drain of at most so many bytes after them
+-- n rounds at a host: `steps` steps by its harts in turn, and a drain of at most `drain` bytes after them
 unfoldable pub rounds_at : (host turn harts steps drain n : ℕ) → List Event
 rounds_at host turn harts steps drain zero = []
 rounds_at host turn harts steps drain (suc n) =
     steps_at host turn harts steps
     ++ (At host (Board (Drain drain)) ∷ rounds_at host (turn + steps) harts steps drain n)
 
--- as they are kept
+-- the events of what is kept in one piece
 abbrev pub events_of : Placed → List Event
 events_of (placed.Event e) = e ∷ []
 events_of (placed.Steps x s) = steps_at (number_of x) s.turn s.harts s.count
 events_of (placed.Rounds x r) = rounds_at (number_of x) r.turn r.harts r.steps r.drain r.count
 
--- of all that is kept, one after the other
+-- the events of all that is kept, one after the other
 abbrev pub all_events : List Placed → List Event
 all_events [] = []
 all_events (p ∷ ps) = events_of p ++ all_events ps
 
--- after so many of the first of them
+-- of all that is kept, the events after the first k
 abbrev pub events_behind : List Placed → ℕ → List Event
 events_behind [] k = []
 events_behind (p ∷ ps) k = drop k (events_of p) ++ all_events ps

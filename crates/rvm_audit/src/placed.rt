@@ -84,7 +84,7 @@ impl Order {
         }
     }
 
-    /// The events as a list, for which room for so many is made at once.
+    /// The events as a list. Room for `count` of them is made at once.
     pub(crate) fn spelled(&self, alloc: Global, count: usize) -> Result<Vec<Event>, AllocError>
         ensures { IfOk result (λ events. events.items ≡ self.now) }
     {
@@ -105,10 +105,10 @@ fn push_placed(items: &mut Vec<Placed>, placed: Placed) -> Result<(), AllocError
     Ok(())
 }
 
-/// The events of an order after so many first ones.
+/// The events of an order that have not been given yet.
 #[derive(Drop)]
 pub struct Events<'a> {
-    /// So many events of the first of these are passed.
+    /// What is left of the order; of the first of these, `skipped` events have been given.
     items: &'a [Placed],
     skipped: u32,
 }
@@ -142,7 +142,7 @@ impl<'a> Events<'a> {
     }
 }
 
-/// The event after so many first ones of what stands in an order.
+/// The event with this index, from 0, of what stands in an order.
 fn event_at(placed: &Placed, skipped: u32) -> Option<Event>
     ensures event { result ≡ slice_get (events_of placed.now) skipped }
     ensures few { IfSome result (λ e. skipped + 1 < 2 ^ 32) }
@@ -169,7 +169,7 @@ fn copy(event: &Event) -> Event
     }
 }
 
-/// The event after so many first ones of steps of a host.
+/// The event with this index, from 0, of a host's steps.
 fn event_of_steps(side: Side, steps: &Steps, skipped: u32) -> Option<Event>
     ensures event { result
         ≡ slice_get (steps_at (number_of side) steps.now.turn steps.now.harts steps.now.count) skipped }
@@ -182,7 +182,7 @@ fn event_of_steps(side: Side, steps: &Steps, skipped: u32) -> Option<Event>
     Some(Event::At(side.number(), step))
 }
 
-/// The event after so many first ones of rounds of a host.
+/// The event with this index, from 0, of a host's rounds.
 fn event_of_rounds(side: Side, rounds: &Rounds, skipped: u32) -> Option<Event>
     ensures event { result ≡ slice_get (rounds_at (number_of side) rounds.now.turn rounds.now.harts
         rounds.now.steps rounds.now.drain rounds.now.count) skipped }
