@@ -1,4 +1,5 @@
-# make hi: proves, builds and runs the program on examples/hi.bin. make test: the merge gate.
+# make hi: builds the program without its proofs, and runs it on examples/hi.bin. make build: proves and builds it.
+# make test: the merge gate.
 # make wrong: all wrong bodies, or those of one crate, as in make wrong CRATE=rvm_hart.
 # make times: the merge gate, and the processor seconds of each crate.
 # make faults: the tests, with growths of memory refused in turn, at most 60 of a test; with MOST=0 each one.
@@ -8,7 +9,7 @@
 # make live IMAGES=..: guests are moved while they run, 200 times, and their output compared with that of run.
 PREFIX ?= /usr/local
 
-.PHONY: build hi test wrong times faults docs-check stress live bench bench-programs bench-journals count install clean
+.PHONY: build hi test wrong times faults docs-check stress live bench bench-programs bench-journals count install uninstall clean
 
 # The program lies in build/rvmove afterwards.
 build:
@@ -16,8 +17,9 @@ build:
 	mkdir -p build
 	cp crates/rvmove/out/rvmove build/rvmove
 
-hi: build
-	./build/rvmove run examples/hi.bin --raw
+hi:
+	cd crates/rvmove && rt try --data hi.bin=../../examples/hi.bin -- run hi.bin --raw
+	@echo 'This build is not proved. make build proves the program, and puts it into build/.' >&2
 
 test:
 	rt ci
@@ -59,8 +61,12 @@ bench-journals: build
 	cd crates/rvm_journal_cases && rt run > /dev/null
 	cp crates/rvm_journal_cases/out/rvm_journal_cases build/rvm_journal_cases
 
-install: build
-	install -D build/rvmove $(PREFIX)/bin/rvmove
+# Installs what make build made.
+install:
+	install -D build/rvmove $(DESTDIR)$(PREFIX)/bin/rvmove
+
+uninstall:
+	rm -f $(DESTDIR)$(PREFIX)/bin/rvmove
 
 clean:
 	rm -rf build

@@ -1,5 +1,5 @@
 -- The receipts of an item are compared: how far the check comes, and what is wrong after that.
-use Rattle.std.proofs.Common.{◌≡◌, ◌∙◌, ◌≢◌, ℕ, zero, suc, ◌+◌, ◌-◌, ◌%◌, ◌<◌, ◌≤◌, List, [], ◌∷◌, ◌++◌, length, length-append, drop, Option, Some, None, refl, sym, ap, subst, arith, inl, inr, get_or, cond}
+use Rattle.std.proofs.Common.{◌≡◌, ◌∙◌, ◌≢◌, ℕ, zero, suc, ◌+◌, ◌-◌, ◌*◌, ◌%◌, ◌<◌, ◌≤◌, List, [], ◌∷◌, ◌++◌, length, length-append, drop, take, Option, Some, None, refl, sym, ap, subst, arith, inl, inr, get_or, cond}
 use Rattle.std.specs.Prelude.{slice_get, unwrap_or, ◌⊎◌, ◌==◌}
 use Rattle.std.proofs.lemmas.Bool.{eq-eqb, ne_eqb}
 use Rattle.std.proofs.lemmas.Option.{same_Some, slice_get-get_or}
@@ -13,13 +13,13 @@ use Rattle.rvm_cell.specs.declared.step_receipts.StepReceipts.{StepReceipts}
 use Rattle.rvm_cell.specs.Telling.{AreFrom, AreRising, Differs, IsOf, Skips, Tells, entry_in, first_place, receipt_at}
 use Rattle.rvm_hart.specs.declared.outcome.Stepped.TheVariants.{Retired}
 use Rattle.rvm_journal.specs.declared.steps.Steps.{Steps}
-use Rattle.rvm_journal.specs.Items.{dry_entry, step_entry, steps_in_turn}
+use Rattle.rvm_journal.specs.Items.{dry_entry, rounds_of, step_entry, steps_in_turn}
 use Rattle.rvm_journal.specs.Rounds.{IsRowAt}
-use Rattle.rvm_journal.proofs.InRounds.{row_fits, row_inside, row_step}
+use Rattle.rvm_journal.proofs.InRounds.{rounds_length, row_fits, row_inside, row_step}
 use Rattle.rvm_journal.proofs.Items.{steps_length}
 use Rattle.rvm_message.specs.declared.step.StepReply.TheVariants.{Stepped}
 use Rattle.rvm_message.specs.Exchanges.{step_of_hart}
-use Rattle.std.proofs.lemmas.List.{append-nil}
+use Rattle.std.proofs.lemmas.List.{append-nil, length-take-le}
 use Rattle.rvm_cell.proofs.Checks.{Checked, all_below, all_checked, fault_above, fault_none, fault_told, fault_twice, no_entry, one_more}
 use Rattle.rvm_cell.proofs.Spans.{at_count, at_place, at_seat, item_at, item_length}
 use Rattle.rvm_journal.proofs.Spans.{drop_all_of, drop_drop, entry_at, get_drop, get_left, get_right, next_at, next_left, next_within, none_next}
@@ -36,6 +36,13 @@ le_self n = omega arith
 
 lower : (a b : ℕ) → a ≤ b → b ≢ a → a < b
 lower a b le differ = elim (same_or b a) [ inl is ↦ absurd (differ is) | inr other ↦ grind (arith, le, other) ]
+
+get_take : {X : Type 0} (xs : List X) (n i : ℕ) → i < n → slice_get (take n xs) i ≡ slice_get xs i
+get_take [] zero i less = refl
+get_take [] (suc n) i less = refl
+get_take (x ∷ xs) zero i less = absurd (omega (arith, less))
+get_take (x ∷ xs) (suc n) zero less = refl
+get_take (x ∷ xs) (suc n) (suc i) less = get_take xs n i (omega (arith, less))
 
 length_drop : {X : Type 0} (xs : List X) (p : ℕ) → length (drop p xs) ≡ length xs - p
 length_drop [] zero = refl
@@ -470,6 +477,29 @@ skipped_row r index n row old new until at le is free =
           let kept : entry_in rs (index + i) ≡ e =
           ap (λ o. unwrap_or o (dry_entry 0)) (row_step rs.harts rs.steps rs.drain rs.turn rs.count index i row.turn at.inside (omega (arith, fits, less)) at.turn)
           ∙ ap (λ h. step_entry (row.turn + i) h (Stepped Retired)) (sym at.harts) ∙ e_is in
+          (ap (λ (x : PlainEntry). x.event) kept, ap (λ (x : PlainEntry). x.reply) kept));
+      free = free;
+    }
+
+-- the first receipts of rounds
+pub skipped_rounds : (r : RoundReceipts) (n : ℕ) (old new : List PlainEntry) (until : Option ℕ)
+    → n ≤ r.rounds.count * (r.rounds.steps + 1) → old ≡ take n (rounds_of r.rounds) ++ new
+    → ((i : ℕ) → i < n → until ≡ Some (r.place + (0 + i)) → ⊥) → Skips (item.Rounds r) 0 old new until n
+skipped_rounds r n old new until le is free =
+    let rs = r.rounds in
+    let whole = rounds_length rs.turn rs.harts rs.steps rs.drain rs.count in
+    let first = take n (rounds_of rs) in
+    let long : length first ≡ n = length-take-le n (rounds_of rs) (omega (arith, whole, le)) in
+    record {
+      few = omega (arith, le);
+      there = omega (arith, ap length is, long, length-append first new);
+      left = sym (ap (drop n) is ∙ ap (λ k. drop k (first ++ new)) (sym long) ∙ drop_all_of first new);
+      told = λ i e less there.
+          (let z : 0 + i ≡ i = omega arith in
+          let at : slice_get (rounds_of rs) (0 + i) ≡ Some e =
+          ap (slice_get (rounds_of rs)) z ∙ sym (get_take (rounds_of rs) n i less)
+          ∙ sym (get_left first new i (omega (arith, long, less))) ∙ ap (λ zs. slice_get zs i) (sym is) ∙ there in
+          let kept : entry_in rs (0 + i) ≡ e = ap (λ o. unwrap_or o (dry_entry 0)) at in
           (ap (λ (x : PlainEntry). x.event) kept, ap (λ (x : PlainEntry). x.reply) kept));
       free = free;
     }

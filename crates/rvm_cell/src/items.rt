@@ -76,6 +76,7 @@ impl ReceiptItem {
         match self {
             ReceiptItem::One(_) => 0,
             ReceiptItem::Steps(steps) => skip_steps(steps, index, left, until),
+            ReceiptItem::Rounds(rounds) if index == 0 => skip_rounds(rounds, left, until),
             ReceiptItem::Rounds(rounds) => skip_round(rounds, index, left, until),
         }
     }
@@ -137,6 +138,14 @@ fn skip_steps(steps: &StepReceipts, index: u32, left: &mut Left<'_>, until: Opti
     };
     let most = before(until, steps.place, index, steps.steps.count - index);
     left.skip(turn, steps.steps.harts, most)
+}
+
+/// The same of rounds from their first receipt on.
+fn skip_rounds(rounds: &RoundReceipts, left: &mut Left<'_>, until: Option<u32>) -> u32
+    ensures { Skips (ReceiptItem.Rounds rounds.now) 0 left.old left.new until result }
+{
+    let most = before(until, rounds.place, 0, rounds.rounds.len());
+    left.skip_rounds(&rounds.rounds, most)
 }
 
 /// The same of the steps that are left of a round.

@@ -151,8 +151,9 @@ fn write_command<W: Write>(
     Ok(())
 }
 
-/// Writes an event as a line.
-fn write_event<W: Write>(writer: &mut W, hosts: u8, event: &Event) -> Result<(), LinkFault>
+/// Writes an event of a world of so many hosts as a line. The line of a move names its target, unless that is the
+/// other one of two hosts. `LinkFault` if the writer failed.
+pub fn write_event<W: Write>(writer: &mut W, hosts: u8, event: &Event) -> Result<(), LinkFault>
     ensures { OnOk result (Appends (W.contents writer.old) (W.contents writer.new)
         (event_line hosts event.now)) }
 {
@@ -167,8 +168,7 @@ fn write_event<W: Write>(writer: &mut W, hosts: u8, event: &Event) -> Result<(),
     Ok(())
 }
 
-/// Writes events of a world of so many hosts, a line each. The line of a move names its target, unless that is the
-/// other one of two hosts. `LinkFault` if the writer failed.
+/// Writes events of a world of so many hosts, a line each, as `write_event` does.
 pub fn write_events<W: Write>(writer: &mut W, hosts: u8, events: &[Event]) -> Result<(), LinkFault>
     ensures { OnOk result (Appends (W.contents writer.old) (W.contents writer.new)
         (event_lines hosts events.now)) }

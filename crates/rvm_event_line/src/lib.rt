@@ -5,4 +5,4 @@
 
 mod events;
 
-pub use events::write_events;
+pub use events::{write_event, write_events};

@@ -1,14 +1,15 @@
 -- The entries of rounds.
-use Rattle.std.proofs.Common.{◌≡◌, ◌≢◌, ◌∙◌, ℕ, zero, suc, ◌+◌, ◌-◌, ◌*◌, ◌/◌, ◌%◌, ◌<◌, ◌≤◌, List, [], ◌∷◌, ◌++◌, length, length-append, drop, Some, refl, sym, ap, subst, arith}
+use Rattle.std.proofs.Common.{◌≡◌, ◌≢◌, ◌∙◌, ℕ, zero, suc, ◌+◌, ◌-◌, ◌*◌, ◌/◌, ◌%◌, ◌<◌, ◌≤◌, List, [], ◌∷◌, ◌++◌, length, length-append, drop, take, Some, refl, sym, ap, subst, arith}
 use Rattle.std.specs.Prelude.{slice_get}
 use Rattle.std.proofs.Math.Nat.{div-le_self, div-lt_iff_lt-mul, mod-lt, mul-le-mul_right, mul-suc, suc-mul}
 use Rattle.std.proofs.lemmas.Nat.{div-add-mod'}
-use Rattle.std.proofs.lemmas.List.{append_assoc, append-nil}
+use Rattle.std.proofs.lemmas.List.{append_assoc, append-nil, take-append-drop, take-append-le}
 use Rattle.rvm_hart.specs.declared.outcome.Stepped.TheVariants.{Retired}
+use Rattle.rvm_journal.specs.declared.rounds.Rounds.{Rounds}
 use Rattle.rvm_journal.specs.Entries.{PlainEntry}
-use Rattle.rvm_journal.specs.Items.{all_of, dry_entry, rounds_in_turn, step_entry, steps_in_turn}
+use Rattle.rvm_journal.specs.Items.{all_of, dry_entry, rounds_in_turn, rounds_of, step_entry, steps_in_turn}
 use Rattle.rvm_journal.proofs.Items.{all_push, no_steps, steps_length}
-use Rattle.rvm_journal.specs.Passing.{IsPassed}
+use Rattle.rvm_journal.specs.Passing.{AreFirst, IsPassed}
 use Rattle.rvm_journal.proofs.Spans.{drop_drop, drop_all_of, entry_at, get_left, get_right, skip_some}
 use Rattle.rvm_message.specs.declared.step.StepReply.TheVariants.{Stepped}
 
@@ -230,3 +231,47 @@ none_passed xs skipped turn harts zero rest few =
     let same : skipped ≡ skipped + 0 = omega arith in
     ap (λ k. drop k (xs ++ rest)) same ∙ ap (λ zs. zs ++ drop (skipped + 0) (xs ++ rest)) (sym (no_steps turn harts))
 none_passed xs skipped turn harts (suc n) rest few = absurd (omega (arith, few))
+
+-- ROUNDS THAT BEGIN ALIKE
+
+few_of : (n : ℕ) → 0 ≤ n
+few_of n = omega arith
+
+module _ (harts steps drain : ℕ) where
+  first_of_more : (turn n m k : ℕ) → k ≤ n * (steps + 1)
+      → take k (rounds_in_turn turn harts steps drain (n + m)) ≡ take k (rounds_in_turn turn harts steps drain n)
+  first_of_more turn n m k le =
+      let first = rounds_in_turn turn harts steps drain n in
+      let long = rounds_length turn harts steps drain n in
+      ap (take k) (rounds_append n turn harts steps drain m)
+      ∙ take-append-le k first (rounds_in_turn (turn + n * steps) harts steps drain m) (omega (arith, long, le))
+
+  -- the first entries of fewer and of more
+  first_alike : (turn n m k : ℕ) → k ≤ n * (steps + 1) → k ≤ m * (steps + 1)
+      → take k (rounds_in_turn turn harts steps drain n) ≡ take k (rounds_in_turn turn harts steps drain m)
+  first_alike turn n m k le more =
+      let swapped : n + m ≡ m + n = omega arith in
+      sym (first_of_more turn n m k le) ∙ ap (λ c. take k (rounds_in_turn turn harts steps drain c)) swapped
+      ∙ first_of_more turn m n k more
+
+-- rounds of which a round is the same
+pub are_first : (kept rounds : Rounds) (n : ℕ) → kept.turn ≡ rounds.turn → kept.harts ≡ rounds.harts → kept.steps ≡ rounds.steps
+    → kept.drain ≡ rounds.drain → n ≤ kept.count * (kept.steps + 1) → n ≤ rounds.count * (rounds.steps + 1)
+    → AreFirst n (rounds_of rounds) (rounds_of kept)
+are_first kept rounds n turn harts steps drain le more =
+    let long = rounds_length kept.turn kept.harts kept.steps kept.drain kept.count in
+    let few : n ≤ rounds.count * (kept.steps + 1) = subst (λ s. n ≤ rounds.count * (s + 1)) (sym steps) more in
+    record {
+      there = omega (arith, long, le);
+      same = first_alike kept.harts kept.steps kept.drain kept.turn kept.count rounds.count n le few
+          ∙ (λ i. take n (rounds_in_turn (turn i) (harts i) (steps i) (drain i) rounds.count));
+    }
+
+pub none_first : (others xs : List PlainEntry) (n : ℕ) → n ≤ 0 → AreFirst n others xs
+none_first others xs zero few = record { there = few_of (length xs); same = refl }
+none_first others xs (suc n) few = absurd (omega (arith, few))
+
+-- what is left after them
+pub first_passed : (n : ℕ) (others xs rest : List PlainEntry) → AreFirst n others xs → xs ++ rest ≡ take n others ++ drop n (xs ++ rest)
+first_passed n others xs rest are =
+    sym (take-append-drop n (xs ++ rest)) ∙ ap (λ z. z ++ drop n (xs ++ rest)) (take-append-le n xs rest are.there ∙ are.same)

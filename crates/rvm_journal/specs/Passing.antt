@@ -1,5 +1,5 @@
--- Steps that are passed at once.
-use Rattle.std.specs.Prelude.{◌≡◌, ℕ, ◌+◌, List, ◌++◌, drop}
+-- Entries that are passed at once.
+use Rattle.std.specs.Prelude.{◌≡◌, ℕ, ◌+◌, ◌≤◌, List, ◌++◌, drop, length, take}
 use Rattle.rvm_journal.specs.Entries.{PlainEntry}
 use Rattle.rvm_journal.specs.Items.{steps_in_turn}
 
@@ -7,3 +7,8 @@ use Rattle.rvm_journal.specs.Items.{steps_in_turn}
 abbrev pub IsPassed : List PlainEntry → (skipped turn harts n : ℕ) → List PlainEntry → Type 0
 IsPassed xs skipped turn harts n rest =
     drop skipped (xs ++ rest) ≡ steps_in_turn turn harts n ++ drop (skipped + n) (xs ++ rest)
+
+-- these entries begin as others do: the first n of both are the same
+pub record AreFirst (n : ℕ) (others xs : List PlainEntry) : Type 0 where
+  pub there : n ≤ length xs
+  pub same : take n xs ≡ take n others

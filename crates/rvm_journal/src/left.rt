@@ -1,11 +1,11 @@
 //! The entries of a journal, one after the other.
 
-ghost use Rattle.std.specs.Prelude.{◌≡◌, ◌≤◌, ◌↔◌, ◌+◌, ◌%◌, ◌*◌, ◌<◌, ◌^◌, ℕ, List, ◌∷◌, ◌++◌, [], IfSome, MatchOption, Some, slice_get, true};
+ghost use Rattle.std.specs.Prelude.{◌≡◌, ◌≤◌, ◌↔◌, ◌+◌, ◌%◌, ◌*◌, ◌<◌, ◌^◌, ℕ, List, ◌∷◌, ◌++◌, [], IfSome, MatchOption, Some, slice_get, take, true};
 ghost use Rattle.rvm_journal.specs.Rounds.{IsRowAt};
 ghost use Rattle.rvm_journal.specs.Told.{exchange_told, retired_entry, told_entry};
 ghost use Rattle.rvm_journal.specs.Items.{all_of, dry_entry, entries_at, rounds_of, steps_in_turn};
 ghost use Rattle.rvm_journal.specs.Entries.{PlainEntry, silent};
-ghost use Rattle.rvm_journal.specs.Passing.{IsPassed};
+ghost use Rattle.rvm_journal.specs.Passing.{AreFirst, IsPassed};
 
 use crate::entry::Entry;
 use crate::item::{Item, ItemRef};
@@ -105,6 +105,55 @@ impl<'a> Left<'a> {
         self.skipped += n;
         n
     }
+
+    /// Passes the next entries, at most so many, as far as they are the first of rounds and are kept as one item that
+    /// begins with them: how many.
+    pub fn skip_rounds(&mut self, rounds: &Rounds, most: u32) -> u32
+        ensures few { result ≤ most }
+        ensures within { result ≤ rounds.now.count * (rounds.now.steps + 1) }
+        ensures skipped { self.old ≡ take result (rounds_of rounds.now) ++ self.new }
+    {
+        if self.skipped != 0 || self.passed >= self.items.len() {
+            return 0;
+        }
+        let item = &self.items[self.passed];
+        let n = most.min(in_common(item.look(), rounds));
+        self.skipped = n;
+        n
+    }
+}
+
+/// How many entries an item and rounds have in common, from their first ones on; 0 where the item is no rounds.
+fn in_common(item: ItemRef<'_>, rounds: &Rounds) -> u32
+    ensures within { result ≤ rounds.now.count * (rounds.now.steps + 1) }
+    ensures same { (n : ℕ) → n ≤ result → AreFirst n (rounds_of rounds.now) (entries_at item.entry) }
+{
+    match item {
+        ItemRef::Rounds(kept) => shared(&kept, rounds),
+        _ => 0,
+    }
+}
+
+/// How many entries two rounds have in common, from their first ones on; 0 where one round of them is another.
+fn shared(kept: &Rounds, rounds: &Rounds) -> u32
+    ensures within { result ≤ rounds.now.count * (rounds.now.steps + 1) }
+    ensures same { (n : ℕ) → n ≤ result → AreFirst n (rounds_of rounds.now) (rounds_of kept.now) }
+{
+    if !is_alike(kept, rounds) {
+        return 0;
+    }
+    kept.len().min(rounds.len())
+}
+
+/// Whether two rounds begin with the same turn, and a round of them is the same.
+fn is_alike(kept: &Rounds, rounds: &Rounds) -> bool
+    ensures { result ≡ true → (kept.now.turn ≡ rounds.now.turn) × (kept.now.harts ≡ rounds.now.harts)
+        × (kept.now.steps ≡ rounds.now.steps) × (kept.now.drain ≡ rounds.now.drain) }
+{
+    kept.turn == rounds.turn
+        && kept.harts == rounds.harts
+        && kept.steps == rounds.steps
+        && kept.drain == rounds.drain
 }
 
 /// The hart whose step is the entry of rounds after so many first ones; none where it is a drain.

@@ -95,7 +95,7 @@ impl<M: PagedMemory + Drop> Recorded<M> {
 
     /// Applies one event, and keeps it with its reply and the bytes of its frame: its place in the
     /// journal from 0, the reply, and the frame. Where a growth is refused, or the journal is full,
-    /// nothing is recorded and the event comes back. After `reserve(n)` the next n events of the guest
+    /// nothing is recorded and the event comes back. Of the n events after `reserve(n)` those of the guest
     /// take no memory.
     pub fn record(
         &mut self,
@@ -213,8 +213,8 @@ impl<M: PagedMemory + Drop> Recorded<M> {
         made
     }
 
-    /// Makes room for n more entries, so that as many events of the guest take no memory. Where fewer
-    /// than n places are free, or a growth is refused, nothing has changed.
+    /// Makes room for n more entries: of the next n events those of the guest take no memory. If fewer
+    /// than n places are free, or an allocation fails, nothing has changed.
     pub fn reserve(&mut self, alloc: Global, n: u32) -> Result<(), RecordError>
         ensures room { OnOk result (self.new ≡ with_room self.old n) }
         ensures err { OnErr result (self.new ≡ self.old) }

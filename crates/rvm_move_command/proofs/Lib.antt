@@ -6,4 +6,5 @@ pub mod Failed
 pub mod Unordered
 pub mod Answered
 pub mod Pieces
+pub mod Lines
 pub mod Untold

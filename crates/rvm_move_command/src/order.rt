@@ -8,14 +8,13 @@ ghost use Rattle.rvm_event_line.specs.EventLines.{event_lines};
 ghost use Rattle.rvm_move_command.specs.Ended.{IsUntold};
 ghost use Rattle.rvm_move_command.specs.Orders.{IsUnordered, IsWritten};
 
-use rvm_audit::audit;
+use rvm_audit::{Order, audit_in_runs};
 use rvm_command::flush::flush;
 use rvm_command::refused::{Refused, tell};
-use rvm_event_line::write_events;
+use rvm_event_line::write_event;
 use rvm_journal::Journal;
 use rvm_mem::PagedMemory;
 use rvm_refusal::{LinkFault, Refusal};
-use rvm_world::Event;
 use std::alloc::Global;
 use std::io::{BufWriter, Write};
 
@@ -40,8 +39,8 @@ pub(crate) fn write_order<M: PagedMemory + Drop, O: Write + Drop, E: Write>(
         → IsUnordered first.now second.now (E.contents errors.old) (E.contents errors.new)) }
     ensures untold { OnErr result (IsUntold (IsUnordered first.now second.now)) }
 {
-    match audit(alloc, first, second) {
-        Ok(events) => match write_whole(output, events.as_slice()) {
+    match audit_in_runs(alloc, first, second) {
+        Ok(order) => match write_whole(output, &order) {
             Ok(()) => Ok(0),
             Err(fault) => tell(Refused::from(fault), errors),
         },
@@ -49,15 +48,27 @@ pub(crate) fn write_order<M: PagedMemory + Drop, O: Write + Drop, E: Write>(
     }
 }
 
-/// Writes events, and what the writer held back.
+/// Writes the events of an order, and what the writer held back.
 fn write_whole<O: Write + Drop>(
     output: &mut BufWriter<O>,
-    events: &[Event],
+    order: &Order,
 ) -> Result<(), LinkFault>
     ensures written { OnOk result (Appends (writer_contents O.contents output.old)
-        (writer_contents O.contents output.new) (event_lines 2 events.now)) }
+        (writer_contents O.contents output.new) (event_lines 2 order.now)) }
     ensures out { OnOk result (is_flushed output.new) }
 {
-    write_events(output, HOSTS, events)?;
+    write_lines(output, order)?;
     flush(output)
+}
+
+/// Writes the events of an order, a line each.
+#[tactic(auto, using(crate::proofs::Lines::no_lines, crate::proofs::Lines::line_more, crate::proofs::Lines::all_lines))]
+fn write_lines<W: Write>(writer: &mut W, order: &Order) -> Result<(), LinkFault>
+    ensures { OnOk result (Appends (W.contents writer.old) (W.contents writer.new) (event_lines 2 order.now)) }
+{
+    let mut left = order.events();
+    while let Some(event) = left.next() {
+        write_event(writer, HOSTS, &event)?;
+    }
+    Ok(())
 }
