@@ -4,8 +4,9 @@ ghost use Rattle.std.specs.Prelude.{◌≡◌, [], IfSome};
 
 use rvm_cell::{Seat, Seating, SharedHost, share};
 use rvm_core::Host;
+use rvm_frame::{Addressed, Frame};
 use rvm_journal::{MAX_CAPACITY, Recorded};
-use rvm_link::{Link, LinkRead, Outgoing};
+use rvm_link::{Link, LinkRead, Outgoing, SendError};
 use rvm_move_command::OpenGate;
 use rvm_paged::PagedRam;
 use rvm_refusal::LinkFault;
@@ -142,7 +143,19 @@ pub fn hear_links<R: AllocGlobal + Print + Wait>(rt: &R) -> anyhow::Result<()> {
     println!(rt; "a stream cut at each of its 67 bytes: ends as it must {is_cut_well}")?;
     hear_each(rt, LINKS.as_slice())?;
     hear_without_end(rt)?;
-    hear_without_answer(rt)
+    hear_without_answer(rt)?;
+    hear_without_room(rt)
+}
+
+/// Hears the stream at a host whose journal takes one entry, and prints how the receiver ends, and whether its side sends
+/// nothing more.
+fn hear_without_room<R: AllocGlobal + Print + Wait>(rt: &R) -> anyhow::Result<()> {
+    let stream = STREAM;
+    let mut given = Given::new(&stream, 1);
+    let heard = hear_with(rt, 1, &mut given);
+    print_end(rt, "a journal of 1 entry", heard.end, given.reads)?;
+    println!(rt; "its side is closed {}", heard.is_closed)?;
+    Ok(())
 }
 
 /// Hears the stream where no answer can be sent, and prints how the receiver ends.
@@ -202,20 +215,38 @@ fn ends_at_each_cut<R: AllocGlobal + Wait>(rt: &R, at_once: usize) -> bool {
     true
 }
 
+/// How a receiver ended, and whether its side can send nothing more.
+#[derive(Clone, Copy)]
+struct Heard {
+    end: WorkEnd,
+    is_closed: bool,
+}
+
+/// What is told where no receiver was made.
+const UNHEARD: Heard = Heard {
+    end: WorkEnd::OutOfMemory,
+    is_closed: false,
+};
+
 /// How a receiver at a new host ends that hears a link.
 pub fn hear<R: AllocGlobal + Wait>(rt: &R, given: &mut Given<'_>) -> WorkEnd {
-    match recorded(rt.alloc()) {
+    hear_with(rt, MAX_CAPACITY, given).end
+}
+
+/// How a receiver ends that hears a link at a new host whose journal takes so many entries.
+fn hear_with<R: AllocGlobal + Wait>(rt: &R, capacity: u32, given: &mut Given<'_>) -> Heard {
+    match recorded(rt.alloc(), capacity) {
         Some(recorded) => hear_at::<Brand, R>(rt, Blank::new(1), recorded, given),
-        None => WorkEnd::OutOfMemory,
+        None => UNHEARD,
     }
 }
 
-/// The second of two hosts, without a guest and with an empty journal.
-fn recorded(alloc: Global) -> Option<Recorded<PagedRam>>
+/// The second of two hosts, without a guest and with an empty journal for so many entries.
+fn recorded(alloc: Global, capacity: u32) -> Option<Recorded<PagedRam>>
     ensures { IfSome result (λ r. r.journal.entries ≡ []) }
 {
     let host = Host::with_version(None, 1, 2, 4096, 1).ok()?;
-    Recorded::new(alloc, host, MAX_CAPACITY).ok()
+    Recorded::new(alloc, host, capacity).ok()
 }
 
 /// How a receiver at this host ends.
@@ -224,7 +255,7 @@ fn hear_at<L: Seating, R: AllocGlobal + Wait>(
     blank: Blank,
     recorded: Recorded<PagedRam>,
     given: &mut Given<'_>,
-) -> WorkEnd
+) -> Heard
     requires ledger { (blank.name ≡ L.name) × (blank.parts ≡ L.parts) × (L.seats ≡ L.parts) }
     requires seats { blank.parts ≡ 1 }
     requires empty { recorded.journal.entries ≡ [] }
@@ -232,13 +263,13 @@ fn hear_at<L: Seating, R: AllocGlobal + Wait>(
 {
     match share::<L, PagedRam>(rt.alloc(), blank, recorded, 1) {
         Ok((host, seats)) => {
-            let end = hear_by(rt, &host, seats, given);
+            let heard = hear_by(rt, &host, seats, given);
             drop(host);
-            end
+            heard
         }
         Err((_, _, recorded)) => {
             drop(recorded);
-            WorkEnd::OutOfMemory
+            UNHEARD
         }
     }
 }
@@ -249,11 +280,11 @@ fn hear_by<L: Seating, R: AllocGlobal + Wait>(
     host: &SharedHost<L, PagedRam>,
     seats: Vec<Seat<L>>,
     given: &mut Given<'_>,
-) -> WorkEnd {
+) -> Heard {
     let mut seats = seats;
     match seats.pop() {
         Some(seat) => hear_in(rt, host, seat, given),
-        None => WorkEnd::OutOfMemory,
+        None => UNHEARD,
     }
 }
 
@@ -263,17 +294,26 @@ fn hear_in<L: Seating, R: AllocGlobal + Wait>(
     host: &SharedHost<L, PagedRam>,
     seat: Seat<L>,
     given: &mut Given<'_>,
-) -> WorkEnd {
+) -> Heard {
     let mut answers = Given::new(&[], 1);
     answers.is_mute = given.is_mute;
     let Ok(outgoing) = Outgoing::open(rt.alloc(), answers, 1) else {
         drop(seat);
-        return WorkEnd::OutOfMemory;
+        return UNHEARD;
     };
     let side = Side {
         host,
         outgoing: &outgoing,
     };
     let worker = Worker::ReceiverAtB;
-    receiver_worker(rt, rt.alloc(), &side, seat, &OpenGate, worker, 0, given).end
+    let end = receiver_worker(rt, rt.alloc(), &side, seat, &OpenGate, worker, 0, given).end;
+    let accept = Addressed {
+        from: 1,
+        to: 0,
+        frame: Frame::Accept { move_number: 1 },
+    };
+    Heard {
+        end,
+        is_closed: outgoing.send(rt, &accept) == Err(SendError::LinkFault),
+    }
 }

@@ -1,4 +1,4 @@
-use Rattle.rvm_move_cases.proofs.hearing.hear.Given as goal
+use Rattle.rvm_move_cases.proofs.hearing.hear_with.Given as goal
 
 -- the ledger of the blank that was just made
 abbrev pub ghosts-hear_at-L-Ledger : goal.ghosts-hear_at-L-Ledger
