@@ -8,6 +8,9 @@
   in a move of one step; of a guest that sends nothing, and of one that sends a byte at each 20 steps;
 - the pause as it is seen from outside: the largest gap between two pieces of the output of a guest that sends a byte at
   each second step, in 20 moves;
+- the guest's speed while 4096 filled pages are copied: the guest fills a pipe that nobody reads, so that it waits, and
+  then makes turns in silence; the pipe is read while the target still makes its RAM, and no page is copied, or in the
+  midst of the copies;
 - the time of a move of 4096 pages that nobody writes, all of them zeros or none, in each version, best of some runs that
   alternate with those it is compared with: a run of the same image, that is to load it; and a plain copy of as many
   pages over a loopback socket in C (`pages.c`), whose target throws them away, puts them into memory, or also keeps them
@@ -17,16 +20,19 @@
 
     bench/threads.py [TIMES [ROUNDS]]      TIMES runs each, 5 where it is not given, in so many rounds, 1 where it is not
                                            given, of which the lowest and the highest are printed
-    bench/threads.py steps|memory|pauses   one of these alone
+    bench/threads.py steps|memory|pauses|speed    one of these alone
 
 Wants valgrind, gcc, and what `make build` builds."""
+import fcntl
 import functools
 import os
 import re
 import statistics
+import struct
 import subprocess
 import sys
 import tempfile
+import termios
 import time
 
 from count import instructions
@@ -95,6 +101,21 @@ SENDS_ALWAYS = HEAD + """handler:
     j handler
 """
 
+# Sends SENT bytes, more than its pipe holds, makes SILENT turns, and sends one more.
+SENT, SILENT = 6000, 70_000
+SENDS_THEN_SILENT = f"""
+_start: lui s0, 0x10000
+    li t0, {SENT}
+send: sw t0, 0(s0)
+    addi t0, t0, -1
+    bnez t0, send
+    li t1, {SILENT // 2}
+wait: addi t1, t1, -1
+    bnez t1, wait
+    sw t1, 0(s0)
+stop: j stop
+"""
+
 
 def assembled(name, text):
     """The image of a guest."""
@@ -161,6 +182,53 @@ def measure_pauses(times=20):
     if gaps:
         print(f"largest gap in the output, {len(gaps)} of {times} moves: median {statistics.median(gaps):.2f} ms, "
               f"{gaps[0]:.2f} to {gaps[-1]:.2f}", flush=True)
+
+
+def bytes_of(image):
+    """The bytes of the first segment of an ELF file."""
+    with open(image, "rb") as file:
+        elf = file.read()
+    header, = struct.unpack_from("<I", elf, 28)
+    begins, size = (struct.unpack_from("<I", elf, header + place)[0] for place in (4, 16))
+    return elf[begins:begins + size]
+
+
+def waiting_in(pipe):
+    """How many bytes wait in a pipe."""
+    return struct.unpack("i", fcntl.ioctl(pipe, termios.FIONREAD, b"\0" * 4))[0]
+
+
+def silent_turns(image, delay):
+    """The turns a second of a guest that is woken so many seconds after it filled its pipe; none if it halted at the
+    target, or its move was given up."""
+    words = [PROGRAM, "move", image, "--raw", "--pages", str(PAGES), "--steps", str(MORE)]
+    process = subprocess.Popen(words, stdout=subprocess.PIPE, stderr=subprocess.PIPE, pipesize=4096)
+    pipe, came = process.stdout.fileno(), 0
+    while waiting_in(pipe) < 4096:
+        pass
+    begun = time.perf_counter()
+    while time.perf_counter() < begun + delay:
+        pass
+    while came < SENT:
+        came += len(os.read(pipe, SENT - came))
+    woken = time.perf_counter()
+    last = os.read(pipe, 1)
+    ended = time.perf_counter()
+    answers = process.communicate()[1]
+    if process.returncode or not last or b"finished" not in answers:
+        sys.exit(f"{' '.join(words)}: status {process.returncode}")
+    return SILENT / (ended - woken)
+
+
+def measure_speed(times=20):
+    """Prints the guest's speed while no page is copied, and while pages are."""
+    image = os.path.join(BUILD, "silent.bin")
+    code = bytes_of(assembled("silent", SENDS_THEN_SILENT))
+    with open(image, "wb") as file:
+        file.write(code + b"\xff" * (PAGES * 4096 - len(code)))
+    for name, delay in (("no page is copied", 0.001), *((f"pages are copied, {d} ms later", d / 1000) for d in (12, 15, 18, 21))):
+        rates = sorted(silent_turns(image, delay) / 1e6 for _ in range(times))
+        print(f"million turns a second, {name}: median {statistics.median(rates):.1f}, {rates[0]:.1f} to {rates[-1]:.1f}", flush=True)
 
 
 def copied(mode):
@@ -232,7 +300,7 @@ def measure_pages(times, rounds):
 
 
 def main():
-    alone = {"steps": measure_steps, "memory": measure_memory, "pauses": measure_pauses}
+    alone = {"steps": measure_steps, "memory": measure_memory, "pauses": measure_pauses, "speed": measure_speed}
     if len(sys.argv) == 2 and sys.argv[1] in alone:
         alone[sys.argv[1]]()
         return
