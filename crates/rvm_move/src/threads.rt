@@ -96,13 +96,14 @@ fn hear<L: Seating, M: PagedMemory + Drop, K: Link + Drop, G: Gate, R: Wait>(
     gate: &G,
     worker: Worker,
     from: u8,
+    to: u8,
     receiving: K,
 ) -> Worked<L>
     ensures { IsReceived from (K.remaining receiving) result.end (all_of result.receipts.items) }
 {
     let mut link = receiving;
     let side = Side { host, outgoing };
-    receiver_worker(rt, alloc, &side, seat, gate, worker, from, &mut link)
+    receiver_worker(rt, alloc, &side, seat, gate, worker, from, to, &mut link)
 }
 
 /// Copies the guest of host A, and hears host B beside it. The first seat is the copier's. Where no thread can
@@ -141,6 +142,7 @@ fn copy_and_hear<
                 gate,
                 Worker::ReceiverAtA,
                 B,
+                A,
                 receiving,
             )
         },
@@ -230,6 +232,7 @@ fn work_at_b<L: Seating, M: PagedMemory + Drop, K: Link + Drop, G: Gate, R: Wait
         gate,
         Worker::ReceiverAtB,
         A,
+        B,
         receiving,
     );
     outgoing.close(rt);

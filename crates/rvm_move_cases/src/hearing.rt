@@ -49,6 +49,38 @@ const DROPPED: [u8; 46] = [
     11, 1, 0, 0, 0, 0, 0, 0, 0, 0, 0, 0, 0,
 ];
 
+/// Hello of version 2, and an offer.
+const SECOND: [u8; 33] = [
+    0, 0, 0, 0, 0, 0, 0, 0, 0, 4, 0, 0, 0, 2, 0, 0, 0, //
+    1, 1, 0, 0, 0, 0, 0, 0, 0, 3, 0, 0, 0, 4, 0, 1,
+];
+
+/// Hello of version 3, and an offer of host 0 to host 1.
+const THIRD: [u8; 35] = [
+    0, 0, 0, 0, 0, 0, 0, 0, 0, 4, 0, 0, 0, 3, 0, 0, 0, //
+    1, 0, 1, 1, 0, 0, 0, 0, 0, 0, 0, 3, 0, 0, 0, 4, 0, 1,
+];
+
+/// The same of host 2 to host 1.
+const OF_OTHERS: [u8; 35] = [
+    0, 0, 0, 0, 0, 0, 0, 0, 0, 4, 0, 0, 0, 3, 0, 0, 0, //
+    1, 2, 1, 1, 0, 0, 0, 0, 0, 0, 0, 3, 0, 0, 0, 4, 0, 1,
+];
+
+/// The same of host 0 to host 2.
+const FOR_OTHERS: [u8; 35] = [
+    0, 0, 0, 0, 0, 0, 0, 0, 0, 4, 0, 0, 0, 3, 0, 0, 0, //
+    1, 0, 2, 1, 0, 0, 0, 0, 0, 0, 0, 3, 0, 0, 0, 4, 0, 1,
+];
+
+/// What host 1 hears in streams of each version.
+const VERSIONS: [(&str, u32, &[u8]); 4] = [
+    ("an offer in version 2", 2, &SECOND),
+    ("an offer in version 3", 3, &THIRD),
+    ("an offer of another host", 3, &OF_OTHERS),
+    ("an offer to another host", 3, &FOR_OTHERS),
+];
+
 /// What links give: their stream, how many reads before each of its bytes and before its end give nothing, and
 /// whether they fail in place of the end.
 const LINKS: [(&str, &[u8], u32, bool); 10] = [
@@ -142,6 +174,7 @@ pub fn hear_links<R: AllocGlobal + Print + Wait>(rt: &R) -> anyhow::Result<()> {
     let is_cut_well = ends_at_each_cut(rt, 1) && ends_at_each_cut(rt, STREAM.len());
     println!(rt; "a stream cut at each of its 67 bytes: ends as it must {is_cut_well}")?;
     hear_each(rt, LINKS.as_slice())?;
+    hear_versions(rt, VERSIONS.as_slice())?;
     hear_without_end(rt)?;
     hear_without_answer(rt)?;
     hear_without_room(rt)
@@ -152,7 +185,7 @@ pub fn hear_links<R: AllocGlobal + Print + Wait>(rt: &R) -> anyhow::Result<()> {
 fn hear_without_room<R: AllocGlobal + Print + Wait>(rt: &R) -> anyhow::Result<()> {
     let stream = STREAM;
     let mut given = Given::new(&stream, 1);
-    let heard = hear_with(rt, 1, &mut given);
+    let heard = hear_with(rt, 1, 1, &mut given);
     print_end(rt, "a journal of 1 entry", heard.end, given.reads)?;
     println!(rt; "its side is closed {}", heard.is_closed)?;
     Ok(())
@@ -186,6 +219,19 @@ fn hear_each<R: AllocGlobal + Print + Wait>(
         given.pauses = *pauses;
         given.fails = *fails;
         let end = hear(rt, &mut given);
+        print_end(rt, name, end, given.reads)?;
+    }
+    Ok(())
+}
+
+/// Hears streams of each version, and prints how the receivers end.
+fn hear_versions<R: AllocGlobal + Print + Wait>(
+    rt: &R,
+    streams: &[(&str, u32, &[u8])],
+) -> anyhow::Result<()> {
+    for (name, version, stream) in streams {
+        let mut given = Given::new(stream, 1);
+        let end = hear_with(rt, *version, MAX_CAPACITY, &mut given).end;
         print_end(rt, name, end, given.reads)?;
     }
     Ok(())
@@ -230,22 +276,27 @@ const UNHEARD: Heard = Heard {
 
 /// How a receiver at a new host ends that hears a link.
 pub fn hear<R: AllocGlobal + Wait>(rt: &R, given: &mut Given<'_>) -> WorkEnd {
-    hear_with(rt, MAX_CAPACITY, given).end
+    hear_with(rt, 1, MAX_CAPACITY, given).end
 }
 
-/// How a receiver ends that hears a link at a new host whose journal takes so many entries.
-fn hear_with<R: AllocGlobal + Wait>(rt: &R, capacity: u32, given: &mut Given<'_>) -> Heard {
-    match recorded(rt.alloc(), capacity) {
-        Some(recorded) => hear_at::<Brand, R>(rt, Blank::new(1), recorded, given),
+/// How a receiver ends that hears a link at a new host of this version whose journal takes so many entries.
+fn hear_with<R: AllocGlobal + Wait>(
+    rt: &R,
+    version: u32,
+    capacity: u32,
+    given: &mut Given<'_>,
+) -> Heard {
+    match recorded(rt.alloc(), version, capacity) {
+        Some(recorded) => hear_at::<Brand, R>(rt, Blank::new(1), recorded, version, given),
         None => UNHEARD,
     }
 }
 
-/// The second of two hosts, without a guest and with an empty journal for so many entries.
-fn recorded(alloc: Global, capacity: u32) -> Option<Recorded<PagedRam>>
+/// The second of two hosts of this version, without a guest and with an empty journal for so many entries.
+fn recorded(alloc: Global, version: u32, capacity: u32) -> Option<Recorded<PagedRam>>
     ensures { IfSome result (λ r. r.journal.entries ≡ []) }
 {
-    let host = Host::with_version(None, 1, 2, 4096, 1).ok()?;
+    let host = Host::with_version(None, 1, 2, 4096, version).ok()?;
     Recorded::new(alloc, host, capacity).ok()
 }
 
@@ -254,6 +305,7 @@ fn hear_at<L: Seating, R: AllocGlobal + Wait>(
     rt: &R,
     blank: Blank,
     recorded: Recorded<PagedRam>,
+    version: u32,
     given: &mut Given<'_>,
 ) -> Heard
     requires ledger { (blank.name ≡ L.name) × (blank.parts ≡ L.parts) × (L.seats ≡ L.parts) }
@@ -263,7 +315,7 @@ fn hear_at<L: Seating, R: AllocGlobal + Wait>(
 {
     match share::<L, PagedRam>(rt.alloc(), blank, recorded, 1) {
         Ok((host, seats)) => {
-            let heard = hear_by(rt, &host, seats, given);
+            let heard = hear_by(rt, &host, seats, version, given);
             drop(host);
             heard
         }
@@ -279,11 +331,12 @@ fn hear_by<L: Seating, R: AllocGlobal + Wait>(
     rt: &R,
     host: &SharedHost<L, PagedRam>,
     seats: Vec<Seat<L>>,
+    version: u32,
     given: &mut Given<'_>,
 ) -> Heard {
     let mut seats = seats;
     match seats.pop() {
-        Some(seat) => hear_in(rt, host, seat, given),
+        Some(seat) => hear_in(rt, host, seat, version, given),
         None => UNHEARD,
     }
 }
@@ -293,11 +346,12 @@ fn hear_in<L: Seating, R: AllocGlobal + Wait>(
     rt: &R,
     host: &SharedHost<L, PagedRam>,
     seat: Seat<L>,
+    version: u32,
     given: &mut Given<'_>,
 ) -> Heard {
     let mut answers = Given::new(&[], 1);
     answers.is_mute = given.is_mute;
-    let Ok(outgoing) = Outgoing::open(rt.alloc(), answers, 1) else {
+    let Ok(outgoing) = Outgoing::open(rt.alloc(), answers, version) else {
         drop(seat);
         return UNHEARD;
     };
@@ -306,7 +360,7 @@ fn hear_in<L: Seating, R: AllocGlobal + Wait>(
         outgoing: &outgoing,
     };
     let worker = Worker::ReceiverAtB;
-    let end = receiver_worker(rt, rt.alloc(), &side, seat, &OpenGate, worker, 0, given).end;
+    let end = receiver_worker(rt, rt.alloc(), &side, seat, &OpenGate, worker, 0, 1, given).end;
     let accept = Addressed {
         from: 1,
         to: 0,

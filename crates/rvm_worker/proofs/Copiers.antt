@@ -1,5 +1,5 @@
 -- The calls of a copier, one after another.
-use Rattle.std.proofs.Common.{◌≡◌, ◌∙◌, ℕ, suc, ◌-◌, not, true, false, List, [], ◌∷◌, ◌++◌, length, Option, None, Some, Result, Ok, Err, ap, refl, sym, subst, arith}
+use Rattle.std.proofs.Common.{◌≡◌, ◌∙◌, ℕ, suc, ◌-◌, ◌≤◌, not, true, false, List, [], ◌∷◌, ◌++◌, length, Option, None, Some, Result, Ok, Err, ap, refl, sym, subst, arith, inl, inr}
 use Rattle.std.proofs.lemmas.List.Elements.{All-cons, All-nil}
 use Rattle.std.specs.List.{All}
 use Rattle.std.specs.Prelude.{IfOk, IsSomeAnd, OnErr, option_map, slice_get}
@@ -13,7 +13,7 @@ use Rattle.rvm_precopy.specs.declared.policy.Policy.{Policy}
 use Rattle.rvm_worker.specs.declared.end.WorkEnd.{WorkEnd}
 use Rattle.rvm_worker.specs.declared.next.Next.{Next}
 use Rattle.rvm_worker.specs.declared.next.Next.TheVariants as next
-use Rattle.rvm_worker.specs.Copiers.{Follows, IsNext, MayAsk, copies, copies_on, is_given}
+use Rattle.rvm_worker.specs.Copiers.{Follows, HasTried, IsNext, MayAsk, copies, copies_on, is_given}
 use Rattle.rvm_worker.specs.Endings.{last_of, tells_left}
 use Rattle.rvm_worker.specs.Next.{after_copy, is_gone, says_no_move}
 use Rattle.rvm_worker.specs.Work.{AreOfCopier, IsCall, IsOfCopier, PlainCaller, PlainCopier}
@@ -120,14 +120,30 @@ next_by r next.Done is done gone = done refl
 
 -- the reply to a copy tells it
 pub next_told : (old new : PlainCopier) (r : HostReply) (n : Next)
-    → new ≡ record old { last = Some (exchange (event.Do command.Copy) r) } → n ≡ after_copy r
+    → new ≡ record old { last = Some (exchange (event.Do command.Copy) r); refused = 0 } → n ≡ after_copy r
     → (n ≡ next.Done → says_no_move r ≡ true) → (n ≡ next.Resend → is_gone r ≡ true) → IsNext n new.last
 next_told old new r n is same done gone =
     subst (λ (c : PlainCopier). IsNext n c.last) (sym is) (next_by r n same done gone)
 
 -- the last frame was asked for, and a move is left
 pub left_told : (old new : PlainCopier) (r : HostReply)
-    → new ≡ record old { last = Some (exchange (event.Do command.Resend) r) } → says_no_move r ≡ false
+    → new ≡ record old { last = Some (exchange (event.Do command.Resend) r); refused = 0 } → says_no_move r ≡ false
     → IsSomeAnd new.last (λ x. tells_left x ≡ true)
 left_told old new r is none =
     subst (λ (c : PlainCopier). IsSomeAnd c.last (λ x. tells_left x ≡ true)) (sym is) (ap not none)
+
+-- WITHOUT MEMORY
+
+-- the move was to be given up
+pub tried_once : (old new : PlainCopier) (r : HostReply)
+    → new ≡ record old { last = Some (exchange (event.Do command.Abort) r); refused = 0 } → HasTried new.last new.refused
+tried_once old new r is = subst (λ (c : PlainCopier). HasTried c.last c.refused) (sym is) (inl refl)
+
+-- the guest was given up
+pub tried_given : (last : Option PlainExchange) (refused : ℕ) → IsSomeAnd last (λ x. is_given x ≡ true)
+    → HasTried last refused
+tried_given last refused given = inr (inl given)
+
+-- a thousand times
+pub tried_often : (last : Option PlainExchange) (refused : ℕ) → 1000 ≤ refused → HasTried last refused
+tried_often last refused often = inr (inr often)

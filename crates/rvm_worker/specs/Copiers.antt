@@ -1,5 +1,5 @@
 -- What a copier asks of its host, one call after another.
-use Rattle.std.specs.Prelude.{◌≡◌, ℕ, Bool, true, false, ◌||◌, List, [], ◌∷◌, Option, None, Some, IsSomeAnd}
+use Rattle.std.specs.Prelude.{◌≡◌, ◌⊎◌, ℕ, ◌+◌, ◌-◌, ◌^◌, ◌≤◌, min, Bool, true, false, ◌||◌, List, [], ◌∷◌, Option, None, Some, IsSomeAnd}
 use Rattle.rvm_cell.specs.Receipts.{PlainReceipt}
 use Rattle.rvm_message.specs.declared.event.Command.TheVariants as command
 use Rattle.rvm_message.specs.declared.event.HostEvent.{HostEvent}
@@ -8,9 +8,10 @@ use Rattle.rvm_message.specs.declared.reply.HostReply.{HostReply}
 use Rattle.rvm_message.specs.Exchanges.{PlainExchange, exchange}
 use Rattle.rvm_precopy.specs.declared.policy.Policy.{Policy}
 use Rattle.rvm_worker.specs.declared.end.WorkEnd.{WorkEnd}
+use Rattle.rvm_worker.specs.declared.end.WorkEnd.TheVariants.{OutOfMemory}
 use Rattle.rvm_worker.specs.declared.next.Next.{Next}
 use Rattle.rvm_worker.specs.declared.next.Next.TheVariants as next
-use Rattle.rvm_worker.specs.Endings.{IsCopierEnd, asks_again, last_of, tells_done}
+use Rattle.rvm_worker.specs.Endings.{IsCopierEnd, asks_again, gives_up, last_of, tells_done}
 use Rattle.rvm_worker.specs.Next.{after_copy, is_gone}
 use Rattle.rvm_worker.specs.Work.{AreOfCopier}
 
@@ -55,6 +56,17 @@ IsNext next.Done last = IsSomeAnd last (λ x. tells_done x ≡ true)
 IsNext next.Resend last = IsSomeAnd last (λ x. is_given x ≡ true)
 IsNext next.GiveUp last = Unit {0}
 IsNext n last = IsSomeAnd last (λ x. copies_on x ≡ true)
+
+-- for how many calls in a row there was no memory, after one that was not made, for this reason
+abbrev pub refused_after : (refused : ℕ) → WorkEnd → ℕ
+refused_after refused OutOfMemory = min (refused + 1) (2 ^ 32 - 1)
+refused_after refused end = refused
+
+-- a copier that ends for want of memory has asked to give up its move, or the guest was given up before, or there was no
+-- memory for a thousand calls in a row
+abbrev pub HasTried : (last : Option PlainExchange) → (refused : ℕ) → Type 0
+HasTried last refused =
+    IsSomeAnd last (λ x. gives_up x.event ≡ true) ⊎ IsSomeAnd last (λ x. is_given x ≡ true) ⊎ (1000 ≤ refused)
 
 -- what a copier leaves that ended so: it made these calls, to move its guest to this host with this policy
 pub record IsCopied (to : ℕ) (policy : Policy) (end : WorkEnd) (receipts : List PlainReceipt) : Type 0 where

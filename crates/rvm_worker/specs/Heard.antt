@@ -1,7 +1,7 @@
 -- Which frames a receiver hears: those of the stream that its link gives.
 use Rattle.std.specs.Io.KnownBytes.{Consumes}
 use Rattle.std.specs.List.{flat_map}
-use Rattle.std.specs.Prelude.{◌≡◌, ◌⊎◌, ℕ, Bool, true, List, [], ◌∷◌, ◌++◌, Option, None, Result, Ok, Err, IfSome}
+use Rattle.std.specs.Prelude.{◌≡◌, ◌⊎◌, ℕ, Bool, true, ◌==◌, ◌&&◌, List, [], ◌∷◌, ◌++◌, Option, None, Some, Result, Ok, Err, IfSome}
 use Rattle.rvm_cell.specs.Receipts.{PlainReceipt}
 use Rattle.rvm_frame.specs.declared.frame.Frame.{Frame}
 use Rattle.rvm_frame.specs.declared.frame.Frame.TheVariants.{Hello}
@@ -15,6 +15,11 @@ use Rattle.rvm_worker.specs.declared.end.WorkEnd.{WorkEnd}
 use Rattle.rvm_worker.specs.declared.end.WorkEnd.TheVariants.{BadFrame, Done, Failed, LinkEnded, LinkFault, TooLong}
 use Rattle.rvm_worker.specs.Endings.{TellsOver, is_uncalled, last_of}
 use Rattle.rvm_worker.specs.Work.{AreOfReceiver}
+
+-- a frame that one host sends another names these two, or none
+abbrev pub is_between : (from to : ℕ) → Option (ℕ × ℕ) → Bool
+is_between from to None = true
+is_between from to (Some h) = (h.0 == from) && (h.1 == to)
 
 -- what of a frame comes to a host: Hello does not
 abbrev pub for_host : Frame → List Frame

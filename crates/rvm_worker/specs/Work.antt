@@ -40,16 +40,19 @@ AreOfCopier to policy receipts = All (λ r. IsOfCopier to policy r.event) receip
 abbrev pub AreOfReceiver : (from : ℕ) → List PlainReceipt → Type 0
 AreOfReceiver from receipts = All (λ r. IsOfReceiver from r.event) receipts
 
--- where a copier moves its guest and with which policy, where its seat was first, and its last call
+-- where a copier moves its guest and with which policy, where its seat was first, its last call, and for how many calls in a
+-- row there was no memory since
 pub record PlainCopier : Type 0 where
   pub to : ℕ
   pub policy : Policy
   pub start : PlainSeat
   pub last : Option PlainExchange
+  pub refused : ℕ
 
--- whose frames a receiver hears, where its seat was first, the frames that came, and its last call
+-- whose frames a receiver hears, and to whom, where its seat was first, the frames that came, and its last call
 pub record PlainReceiver : Type 0 where
   pub from : ℕ
+  pub to : ℕ
   pub start : PlainSeat
   pub heard : List Frame
   pub last : Option PlainExchange

@@ -2,7 +2,7 @@
 
 ghost use Rattle.std.specs.Prelude.{◌≡◌, true, None, IfErr, IfOk, IsSomeAnd};
 ghost use Rattle.rvm_cell.specs.Runs.{all_of};
-ghost use Rattle.rvm_worker.specs.Copiers.{IsCopied, IsNext, copies_on, is_given};
+ghost use Rattle.rvm_worker.specs.Copiers.{HasTried, IsCopied, IsNext, copies_on, is_given};
 ghost use Rattle.rvm_worker.specs.Endings.{IsCopierEnd, is_uncalled};
 ghost use Rattle.rvm_worker.specs.Work.{IsWork};
 
@@ -64,8 +64,9 @@ fn move_guest<L: Seating, M: PagedMemory + Drop, K: Link + Drop, G: Gate, R: Wai
     watch: &mut Watch<'_, G>,
 ) -> WorkEnd
     requires { copying.old.last ≡ None }
-    ensures same { copying.new ≡ record copying.old { last = copying.new.last } }
+    ensures same { copying.new ≡ record copying.old { last = copying.new.last; refused = copying.new.refused } }
     ensures end { IsCopierEnd result copying.new.last }
+    ensures out { result ≡ WorkEnd.OutOfMemory → HasTried copying.new.last copying.new.refused }
 {
     match copy_guest(rt, alloc, side, copying, watch) {
         Ok(Next::Done) => WorkEnd::Done,
@@ -85,7 +86,7 @@ fn copy_guest<L: Seating, M: PagedMemory + Drop, K: Link + Drop, G: Gate, R: Wai
     watch: &mut Watch<'_, G>,
 ) -> Result<Next, WorkEnd>
     requires { copying.old.last ≡ None }
-    ensures same { copying.new ≡ record copying.old { last = copying.new.last } }
+    ensures same { copying.new ≡ record copying.old { last = copying.new.last; refused = copying.new.refused } }
     ensures next { IfOk result (λ n. IsNext n copying.new.last) }
     ensures uncalled { IfErr result (λ e. is_uncalled e ≡ true) }
 {
@@ -106,7 +107,7 @@ fn copy_until<L: Seating, M: PagedMemory + Drop, K: Link + Drop, G: Gate, R: Wai
     watch: &mut Watch<'_, G>,
 ) -> Result<Next, WorkEnd>
     requires { IsSomeAnd copying.old.last (λ x. copies_on x ≡ true) }
-    ensures same { copying.new ≡ record copying.old { last = copying.new.last } }
+    ensures same { copying.new ≡ record copying.old { last = copying.new.last; refused = copying.new.refused } }
     ensures next { IfOk result (λ n. IsNext n copying.new.last) }
     ensures uncalled { IfErr result (λ e. is_uncalled e ≡ true) }
 {
@@ -137,7 +138,7 @@ fn copy<L: Seating, M: PagedMemory + Drop, K: Link + Drop, G: Gate, R: Wait>(
     watch: &mut Watch<'_, G>,
 ) -> Result<Next, WorkEnd>
     requires { IsSomeAnd copying.old.last (λ x. copies_on x ≡ true) }
-    ensures same { copying.new ≡ record copying.old { last = copying.new.last } }
+    ensures same { copying.new ≡ record copying.old { last = copying.new.last; refused = copying.new.refused } }
     ensures next { IfOk result (λ n. IsNext n copying.new.last) }
     ensures uncalled { IfErr result (λ e. is_uncalled e ≡ true) }
 {
@@ -150,7 +151,7 @@ fn copy<L: Seating, M: PagedMemory + Drop, K: Link + Drop, G: Gate, R: Wait>(
 }
 
 /// Has the last frame sent again, until no move is left here.
-#[tactic(auto, using(crate::proofs::Endings::uncalled_copier, crate::proofs::Copiers::again_asked, crate::proofs::Copiers::left_told))]
+#[tactic(auto, using(crate::proofs::Endings::uncalled_copier, crate::proofs::Copiers::again_asked, crate::proofs::Copiers::left_told, crate::proofs::Copiers::tried_given))]
 fn resend<L: Seating, M: PagedMemory + Drop, K: Link + Drop, G: Gate, R: Wait + Clock>(
     rt: &R,
     alloc: Global,
@@ -159,8 +160,9 @@ fn resend<L: Seating, M: PagedMemory + Drop, K: Link + Drop, G: Gate, R: Wait + 
     watch: &mut Watch<'_, G>,
 ) -> WorkEnd
     requires { IsSomeAnd copying.old.last (λ x. is_given x ≡ true) }
-    ensures same { copying.new ≡ record copying.old { last = copying.new.last } }
+    ensures same { copying.new ≡ record copying.old { last = copying.new.last; refused = copying.new.refused } }
     ensures end { IsCopierEnd result copying.new.last }
+    ensures out { result ≡ WorkEnd.OutOfMemory → HasTried copying.new.last copying.new.refused }
 {
     for _try in 0..TRIES {
         pause(rt, LONG_PAUSE);
@@ -185,8 +187,9 @@ fn give_up<L: Seating, M: PagedMemory + Drop, K: Link + Drop, G: Gate, R: Wait +
     copying: &mut Copying<L>,
     watch: &mut Watch<'_, G>,
 ) -> WorkEnd
-    ensures same { copying.new ≡ record copying.old { last = copying.new.last } }
+    ensures same { copying.new ≡ record copying.old { last = copying.new.last; refused = copying.new.refused } }
     ensures end { IsCopierEnd result copying.new.last }
+    ensures out { result ≡ WorkEnd.OutOfMemory → HasTried copying.new.last copying.new.refused }
 {
     match copying.ask(rt, alloc, side, watch, Command::Abort) {
         Err(WorkEnd::OutOfMemory) => abort_without_memory(rt, alloc, side, copying, watch),
@@ -201,7 +204,8 @@ fn give_up<L: Seating, M: PagedMemory + Drop, K: Link + Drop, G: Gate, R: Wait +
     }
 }
 
-/// Tries to give up the move where memory ran out.
+/// Tries to give up the move where memory ran out, so often at most.
+#[tactic(auto, using(crate::proofs::Endings::uncalled_copier, crate::proofs::Copiers::tried_once, crate::proofs::Copiers::tried_often))]
 fn abort_without_memory<
     L: Seating,
     M: PagedMemory + Drop,
@@ -215,13 +219,15 @@ fn abort_without_memory<
     copying: &mut Copying<L>,
     watch: &mut Watch<'_, G>,
 ) -> WorkEnd
-    ensures end { result ≡ WorkEnd.OutOfMemory }
-    ensures same { copying.new ≡ record copying.old { last = copying.new.last } }
+    ensures same { copying.new ≡ record copying.old { last = copying.new.last; refused = copying.new.refused } }
+    ensures end { IsCopierEnd result copying.new.last }
+    ensures out { result ≡ WorkEnd.OutOfMemory → HasTried copying.new.last copying.new.refused }
 {
     for _try in 0..TRIES {
         match copying.ask(rt, alloc, side, watch, Command::Abort) {
             Err(WorkEnd::OutOfMemory) => pause(rt, SHORT_PAUSE),
-            _ => return WorkEnd::OutOfMemory,
+            Err(end) => return end,
+            Ok(_) => return WorkEnd::OutOfMemory,
         }
     }
     WorkEnd::OutOfMemory

@@ -1,10 +1,10 @@
 //! The calls of a copier.
 
-ghost use Rattle.std.specs.Prelude.{◌≡◌, true, None, Some, IfErr, IfOk, IsSomeAnd, OnErr, OnOk};
+ghost use Rattle.std.specs.Prelude.{◌≡◌, true, None, Some, IfErr, IfOk, IsSomeAnd, OnOk};
 ghost use Rattle.rvm_cell.specs.Runs.{all_of};
 ghost use Rattle.rvm_message.specs.declared.event.HostEvent.TheVariants.{Do};
 ghost use Rattle.rvm_message.specs.Exchanges.{exchange};
-ghost use Rattle.rvm_worker.specs.Copiers.{Follows, MayAsk, copies_on};
+ghost use Rattle.rvm_worker.specs.Copiers.{Follows, MayAsk, copies_on, refused_after};
 ghost use Rattle.rvm_worker.specs.Endings.{is_uncalled, last_of};
 ghost use Rattle.rvm_worker.specs.Work.{AreOfCopier, IsWork};
 
@@ -27,6 +27,8 @@ pub(crate) struct Copying<L: Seating> {
     caller: Caller<L>,
     to: u8,
     policy: Policy,
+    /// How many calls in a row there was no memory for.
+    refused: u32,
 }
 
 impl<L: Seating> Model for Copying<L> {
@@ -42,20 +44,32 @@ impl<L: Seating> Model for Copying<L> {
       policy = c.policy;
       start = c.caller.start;
       last = last_of c.caller.receipts;
+      refused = c.refused;
     } };
 
     ghost invariant = { λ c. Follows c.to c.policy None c.caller.receipts };
 }
 
+/// How many calls in a row there was no memory for, after a call that was not made.
+fn refused_after(refused: u32, end: WorkEnd) -> u32
+    ensures { result ≡ refused_after refused end }
+{
+    match end {
+        WorkEnd::OutOfMemory => refused.saturating_add(1),
+        _ => refused,
+    }
+}
+
 impl<L: Seating> Copying<L> {
     /// Before the first call of a move to this host.
     pub(crate) fn new(alloc: Global, seat: Seat<L>, to: u8, policy: Policy) -> Copying<L>
-        ensures { result ≡ record { to = to; policy = policy; start = seat; last = None } }
+        ensures { result ≡ record { to = to; policy = policy; start = seat; last = None; refused = 0 } }
     {
         Copying {
             caller: Caller::new(alloc, seat),
             to,
             policy,
+            refused: 0,
         }
     }
 
@@ -69,7 +83,7 @@ impl<L: Seating> Copying<L> {
         watch: &mut Watch<'_, G>,
     ) -> Result<Called, WorkEnd>
         requires { self.old.last ≡ None }
-        ensures same { self.new ≡ record self.old { last = self.new.last } }
+        ensures same { self.new ≡ record self.old { last = self.new.last; refused = self.new.refused } }
         ensures on { OnOk result (IsSomeAnd self.new.last (λ x. copies_on x ≡ true)) }
         ensures uncalled { IfErr result (λ e. is_uncalled e ≡ true) }
     {
@@ -91,18 +105,20 @@ impl<L: Seating> Copying<L> {
         command: Command,
     ) -> Result<Called, WorkEnd>
         requires { MayAsk self.old.to self.old.policy self.old.last (Do command) }
-        ensures last { IfOk result (λ c. self.new ≡ record self.old { last = Some (exchange (Do command) c.reply) }) }
-        ensures err { OnErr result (self.new ≡ self.old) }
+        ensures last { IfOk result (λ c. self.new ≡ record self.old {
+          last = Some (exchange (Do command) c.reply);
+          refused = 0;
+        }) }
+        ensures err { IfErr result (λ e. self.new ≡ record self.old { refused = refused_after self.old.refused e }) }
         ensures uncalled { IfErr result (λ e. is_uncalled e ≡ true) }
     {
-        tell(
-            rt,
-            alloc,
-            side,
-            &mut self.caller,
-            watch,
-            HostEvent::Do(command),
-        )
+        let event = HostEvent::Do(command);
+        let told = tell(rt, alloc, side, &mut self.caller, watch, event);
+        self.refused = match &told {
+            Ok(_) => 0,
+            Err(end) => refused_after(self.refused, *end),
+        };
+        told
     }
 
     /// What the copier gives back that ended so.

@@ -5,7 +5,7 @@ ghost use Rattle.rvm_cell.specs.Runs.{all_of};
 ghost use Rattle.rvm_message.specs.declared.event.HostEvent.TheVariants.{Came};
 ghost use Rattle.rvm_message.specs.Exchanges.{exchange};
 ghost use Rattle.rvm_worker.specs.Endings.{is_uncalled, last_of};
-ghost use Rattle.rvm_worker.specs.Heard.{frames_in};
+ghost use Rattle.rvm_worker.specs.Heard.{frames_in, is_between};
 ghost use Rattle.rvm_worker.specs.Work.{AreOfReceiver, IsWork};
 
 use crate::caller::Caller;
@@ -21,11 +21,12 @@ use std::alloc::Global;
 use std::marker::Model;
 use std::sync::Wait;
 
-/// A receiver's seat, and its receipts: frames of one host come, and nothing else.
+/// A receiver's seat, and its receipts: frames of one host to another come, and nothing else.
 #[derive(Drop)]
 pub(crate) struct Hearing<L: Seating> {
     caller: Caller<L>,
     from: u8,
+    to: u8,
 }
 
 impl<L: Seating> Model for Hearing<L> {
@@ -37,6 +38,7 @@ impl<L: Seating> Model for Hearing<L> {
 
     ghost view = { λ h. record {
       from = h.from;
+      to = h.to;
       start = h.caller.start;
       heard = frames_in h.caller.receipts;
       last = last_of h.caller.receipts;
@@ -46,13 +48,24 @@ impl<L: Seating> Model for Hearing<L> {
 }
 
 impl<L: Seating> Hearing<L> {
-    /// Before the first frame of a host.
-    pub(crate) fn new(alloc: Global, seat: Seat<L>, from: u8) -> Hearing<L>
-        ensures { result ≡ record { from = from; start = seat; heard = []; last = None } }
+    /// Before the first frame of host `from` to host `to`.
+    pub(crate) fn new(alloc: Global, seat: Seat<L>, from: u8, to: u8) -> Hearing<L>
+        ensures { result ≡ record { from = from; to = to; start = seat; heard = []; last = None } }
     {
         Hearing {
             caller: Caller::new(alloc, seat),
             from,
+            to,
+        }
+    }
+
+    /// Whether a frame may come that names these hosts, or none.
+    pub(crate) fn is_between(&self, hosts: Option<(u8, u8)>) -> bool
+        ensures { result ≡ is_between self.now.from self.now.to hosts }
+    {
+        match hosts {
+            None => true,
+            Some((from, to)) => from == self.from && to == self.to,
         }
     }
 

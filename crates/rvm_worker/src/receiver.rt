@@ -1,12 +1,12 @@
 //! Receivers: each hears the frames of the other side.
 
-ghost use Rattle.std.specs.Prelude.{◌≡◌, ◌⊎◌, ◌<◌, ◌≤◌, ◌∷◌, true, false, [], length, take, None, Some, Ok, Err, IfErr, IfOk, IfSome, MatchOption, if◌then◌else◌};
+ghost use Rattle.std.specs.Prelude.{◌≡◌, ◌⊎◌, ◌<◌, ◌≤◌, ◌∷◌, true, false, [], length, take, None, Some, Ok, Err, IfErr, IfOk, IfSome, MatchOption, OnOk, if◌then◌else◌};
 ghost use Rattle.std.specs.Io.KnownBytes.{Consumes, IsAtEnd, Keeps};
 ghost use Rattle.rvm_cell.specs.Runs.{all_of};
 ghost use Rattle.rvm_frame.specs.Reader.{at_start};
 ghost use Rattle.rvm_frame.specs.Verdict.{verdict};
 ghost use Rattle.rvm_worker.specs.Endings.{last_of};
-ghost use Rattle.rvm_worker.specs.Heard.{AreHeard, Hears, IsFrameEnd, IsHeard, IsHeardOf, IsHeardUpTo, IsReceiverEnd, for_host, frames_in};
+ghost use Rattle.rvm_worker.specs.Heard.{AreHeard, Hears, IsFrameEnd, IsHeard, IsHeardOf, IsHeardUpTo, IsReceiverEnd, for_host, frames_in, is_between};
 ghost use Rattle.rvm_worker.specs.Work.{AreOfReceiver, IsWork};
 
 use crate::end::{WorkEnd, Worked};
@@ -38,10 +38,11 @@ struct Stream {
     is_inside: bool,
 }
 
-/// Hears the frames that host `from` sends over a link: each but Hello comes to this side's host, and
+/// Hears the frames that host `from` sends to host `to` over a link: each but Hello comes to this side's host, and
 /// the frame that the host makes is sent back. It is done when the move is over; it ends with `LinkEnded` at the
 /// end of the stream between two frames, or where the stream is refused; a link that fails, or ends inside a
-/// frame, or gives nothing for too long, ends it with `LinkFault`.
+/// frame, or gives nothing for too long, ends it with `LinkFault`; and a frame that names other hosts, with
+/// `BadFrame`.
 #[tactic(auto, using(crate::proofs::Heard::heard_of))]
 pub fn receiver_worker<
     L: Seating,
@@ -58,6 +59,7 @@ pub fn receiver_worker<
     gate: &G,
     worker: Worker,
     from: u8,
+    to: u8,
     link: &mut I,
 ) -> Worked<L>
     ensures work { IsWork seat result.seat (all_of result.receipts.items) }
@@ -68,7 +70,7 @@ pub fn receiver_worker<
         (frames_in (all_of result.receipts.items)) }
     ensures link { result.end ≡ WorkEnd.LinkEnded → I.has_ended link.new }
 {
-    let mut hearing = Hearing::new(alloc, seat, from);
+    let mut hearing = Hearing::new(alloc, seat, from, to);
     let mut watch = Watch::new(gate, worker);
     let end = hear(rt, alloc, side, &mut hearing, &mut watch, link);
     if end.is_short_of_room() {
@@ -245,13 +247,13 @@ fn feed<L: Seating, M: PagedMemory + Drop, K: Link + Drop, G: Gate, R: Wait>(
 {
     let (taken, received) = stream.reader.feed(alloc, piece)?;
     stream.is_inside = received.is_none();
-    if let Some((_hosts, frame)) = received {
-        came(rt, alloc, side, hearing, watch, frame)?;
+    if let Some((hosts, frame)) = received {
+        came(rt, alloc, side, hearing, watch, hosts, frame)?;
     }
     Ok(taken)
 }
 
-/// A frame comes to the host, unless it is Hello.
+/// A frame comes to the host, unless it is Hello or names other hosts than those of the link.
 #[tactic(auto, using(crate::proofs::Endings::uncalled_is_undone, crate::proofs::Endings::unsent_is_undone, crate::proofs::Endings::uncalled_end, crate::proofs::Endings::unsent_end))]
 fn came<L: Seating, M: PagedMemory + Drop, K: Link + Drop, G: Gate, R: Wait>(
     rt: &R,
@@ -259,12 +261,18 @@ fn came<L: Seating, M: PagedMemory + Drop, K: Link + Drop, G: Gate, R: Wait>(
     side: &Side<'_, L, M, K>,
     hearing: &mut Hearing<L>,
     watch: &mut Watch<'_, G>,
+    hosts: Option<(u8, u8)>,
     frame: Frame,
 ) -> Result<(), WorkEnd>
     ensures same { hearing.new ≡ record hearing.old { heard = hearing.new.heard; last = hearing.new.last } }
     ensures heard { IsHeard result frame hearing.old.heard hearing.new.heard }
+    ensures between { OnOk result (is_between hearing.old.from hearing.old.to hosts ≡ true) }
+    ensures named { is_between hearing.old.from hearing.old.to hosts ≡ false → result ≡ Err WorkEnd.BadFrame }
     ensures end { IfErr result (λ end. IsFrameEnd end hearing.new.last) }
 {
+    if !hearing.is_between(hosts) {
+        return Err(WorkEnd::BadFrame);
+    }
     if is_hello(&frame) {
         return Ok(());
     }

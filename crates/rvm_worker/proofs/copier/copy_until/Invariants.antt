@@ -5,7 +5,7 @@ use Rattle.rvm_worker.proofs.copier.copy_until.Given as goal
 
 abbrev pub invariant-loop-copy : goal.invariant-loop-copy
 invariant-loop-copy g l = record {
-  same : l.copying ≡ record l.fn.copying { last = l.copying.last };
+  same : l.copying ≡ record l.fn.copying { last = l.copying.last; refused = l.copying.refused };
   few : l.pauses < 1000;
   on : IsSomeAnd l.copying.last (λ x. copies_on x ≡ true);
 }

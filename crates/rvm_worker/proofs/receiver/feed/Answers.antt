@@ -8,19 +8,19 @@ use Rattle.rvm_worker.proofs.receiver.feed.Goals as goal
 pub returns-in_err-came-clause-some : goal.returns-in_err-came-clause-some
 returns-in_err-came-clause-some g c =
     let reader = c.args.stream.now.reader in
-    let d : Decides reader.version reader.bytes c.args.piece.now c.in_ok-taken.taken (Ok (Some (c.in-Some._hosts, c.in-Some.frame))) = search rules in
+    let d : Decides reader.version reader.bytes c.args.piece.now c.in_ok-taken.taken (Ok (Some (c.in-Some.hosts, c.in-Some.frame))) = search rules in
     let h : IsAllButLast c.in_err-came.field-0.0 c.came.new.hearing.heard (c.args.hearing.now.heard ++ for_host c.in-Some.frame) = search rules in
-    let up = ended_with c.in_err-came.field-0.0 reader c.args.piece.now c.in_ok-taken.taken (c.in-Some._hosts, c.in-Some.frame)
+    let up = ended_with c.in_err-came.field-0.0 reader c.args.piece.now c.in_ok-taken.taken (c.in-Some.hosts, c.in-Some.frame)
     c.args.hearing.now.heard c.came.new.hearing.heard (λ i. omega (arith, c.type_inv.piece i)) d h in
     search (up, rules)
 
 pub returns-in_ok-came-clause-all : goal.returns-in_ok-came-clause-all
 returns-in_ok-came-clause-all g c =
     let reader = c.args.stream.now.reader in
-    let d : Decides reader.version reader.bytes c.args.piece.now c.in_ok-taken.taken (Ok (Some (c.in-Some._hosts, c.in-Some.frame))) = search rules in
-    let next : c.feed.new.self ≡ next_of reader c.args.piece.now (Some (c.in-Some._hosts, c.in-Some.frame)) = search rules in
+    let d : Decides reader.version reader.bytes c.args.piece.now c.in_ok-taken.taken (Ok (Some (c.in-Some.hosts, c.in-Some.frame))) = search rules in
+    let next : c.feed.new.self ≡ next_of reader c.args.piece.now (Some (c.in-Some.hosts, c.in-Some.frame)) = search rules in
     let h : c.came.new.hearing.heard ≡ c.args.hearing.now.heard ++ for_host c.in-Some.frame = search rules in
-    one_heard reader c.feed.new.self c.args.piece.now c.in_ok-taken.taken (c.in-Some._hosts, c.in-Some.frame)
+    one_heard reader c.feed.new.self c.args.piece.now c.in_ok-taken.taken (c.in-Some.hosts, c.in-Some.frame)
     c.args.hearing.now.heard c.came.new.hearing.heard (λ i. omega (arith, c.type_inv.piece i)) d next h
 
 pub returns-in_default-clause-all : goal.returns-in_default-clause-all

@@ -8,5 +8,5 @@ pub invariant_of-self : goal.invariant_of-self
 invariant_of-self g c =
     let old = c.self.inside in
     let here = subst (λ v. MayAsk v.to v.policy v.last (Do c.args.command)) (sym c.self.view_is) c.requires in
-    copier_more old.to old.policy (Do c.args.command) old.caller c.tell.new.caller (λ t. t.reply) c.tell.result c.self.invariant here
-    c.tell.ensures.call c.tell.ensures.err
+    copier_more old.to old.policy (Do c.args.command) old.caller c.tell-told.new.caller (λ t. t.reply) c.tell-told.result c.self.invariant here
+    c.tell-told.ensures.call c.tell-told.ensures.err
