@@ -12,23 +12,23 @@ use Rattle.rvm_debug.specs.Marks.{marks_of, none_stops, with_marks}
 
 -- the place of an address's mark
 abbrev place : ℕ → ℕ
-place a = a / 4 % 1024
+place a = a % 4096
 
-inside : (a : ℕ) (marks : List Bool) → length marks ≡ 1024 → place a < length marks
-inside a marks size = let below = mod-lt (a / 4) {m = 1024} (omega arith) in omega (arith, size, below)
+inside : (a : ℕ) (marks : List Bool) → length marks ≡ 4096 → place a < length marks
+inside a marks size = let below = mod-lt a {m = 4096} (omega arith) in omega (arith, size, below)
 
 -- one mark more
-there : (a : ℕ) (marks : List Bool) → length marks ≡ 1024 → is_marked a (marked a marks) ≡ true
+there : (a : ℕ) (marks : List Bool) → length marks ≡ 4096 → is_marked a (marked a marks) ≡ true
 there a marks size = get_or-set_same marks (place a) true false (inside a marks size)
 
-still : (a i : ℕ) (marks : List Bool) → length marks ≡ 1024 → get_or marks i false ≡ true → get_or (marked a marks) i false ≡ true
+still : (a i : ℕ) (marks : List Bool) → length marks ≡ 4096 → get_or marks i false ≡ true → get_or (marked a marks) i false ≡ true
 still a i marks size e =
     elim (cases_eq i (place a)) [
       | inl same ↦ subst (λ k. get_or (marked a marks) k false ≡ true) (sym same) (there a marks size)
       | inr other ↦ get_or-set_other marks (place a) i true false other ∙ e
     ]
 
-kept : (xs : List ℕ) (i : ℕ) (marks : List Bool) → length marks ≡ 1024 → get_or marks i false ≡ true → get_or (with_marks xs marks) i false ≡ true
+kept : (xs : List ℕ) (i : ℕ) (marks : List Bool) → length marks ≡ 4096 → get_or marks i false ≡ true → get_or (with_marks xs marks) i false ≡ true
 kept [] i marks size e = e
 kept (a ∷ xs) i marks size e = kept xs i (marked a marks) (length-set marks (place a) true ∙ size) (still a i marks size e)
 
@@ -36,10 +36,10 @@ either : (p q : Bool) {G : Type 0} → (p || q) ≡ true → (p ≡ true → G) 
 either true q e first second = first refl
 either false q e first second = second e
 
-all_marked : (xs : List ℕ) (a : ℕ) (marks : List Bool) → length marks ≡ 1024 → is_in a xs ≡ true → is_marked a (with_marks xs marks) ≡ true
+all_marked : (xs : List ℕ) (a : ℕ) (marks : List Bool) → length marks ≡ 4096 → is_in a xs ≡ true → is_marked a (with_marks xs marks) ≡ true
 all_marked [] a marks size e = absurd cc
 all_marked (b ∷ bs) a marks size e =
-    let more : length (marked b marks) ≡ 1024 = length-set marks (place b) true ∙ size in
+    let more : length (marked b marks) ≡ 4096 = length-set marks (place b) true ∙ size in
     either (b == a) (is_in a bs) e
     (λ same. kept bs (place a) (marked b marks) more (subst (λ x. is_marked x (marked b marks) ≡ true) (eqb-true b a same) (there b marks size)))
     (λ later. all_marked bs a (marked b marks) more later)
@@ -52,7 +52,7 @@ contrary true q implies never = sym (implies refl) ∙ never
 pub not_in : (a : ℕ) (xs : List ℕ) → is_marked a (marks_of xs) ≡ false → is_in a xs ≡ false
 unfolding marks_of
 not_in a xs unmarked =
-    contrary (is_in a xs) (is_marked a (marks_of xs)) (λ is. all_marked xs a (replicate 1024 false) (length-replicate 1024 false) is) unmarked
+    contrary (is_in a xs) (is_marked a (marks_of xs)) (λ is. all_marked xs a (replicate 4096 false) (length-replicate 4096 false) is) unmarked
 
 not_so : (b : Bool) → not b ≡ true → b ≡ false
 not_so false e = refl

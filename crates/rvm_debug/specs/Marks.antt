@@ -14,7 +14,7 @@ with_marks (a ∷ xs) marks = with_marks xs (marked a marks)
 
 -- the marks of some addresses
 unfoldable pub marks_of : List ℕ → List Bool
-marks_of xs = with_marks xs (replicate 1024 false)
+marks_of xs = with_marks xs (replicate 4096 false)
 
 -- none of the first n steps of a hart begins at a breakpoint
 unfoldable pub none_stops : (breakpoints : List ℕ) → (n : ℕ) → Machine → Bool

@@ -6,4 +6,5 @@ pub mod Whole
 pub mod Still
 pub mod Made
 pub mod Running
+pub mod Places
 mod Examples

@@ -1,13 +1,13 @@
--- Marks, each of which stands for the addresses that are equal in bits 11 to 2.
-use Rattle.std.specs.Prelude.{ℕ, ◌/◌, ◌%◌, Bool, true, false, ◌&&◌, not, List, get_or, slice_set}
+-- Marks, each of which stands for the addresses that are equal in their low 12 bits.
+use Rattle.std.specs.Prelude.{ℕ, ◌%◌, Bool, true, false, ◌&&◌, not, List, get_or, slice_set}
 
 -- an address has a mark
 abbrev pub is_marked : ℕ → List Bool → Bool
-is_marked a marks = get_or marks (a / 4 % 1024) false
+is_marked a marks = get_or marks (a % 4096) false
 
 -- the marks with that of one address more
 abbrev pub marked : ℕ → List Bool → List Bool
-marked a marks = slice_set marks (a / 4 % 1024) true
+marked a marks = slice_set marks (a % 4096) true
 
 -- an address has no mark, or nobody looks
 abbrev pub passes : (watched : Bool) → List Bool → ℕ → Bool

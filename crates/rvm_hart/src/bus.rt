@@ -13,6 +13,7 @@ ghost use Rattle.rvm_hart.specs.Bus.{in_ram, ram_base, ram_load, word_loaded, af
 
 use crate::atomics::Amo;
 use crate::outcome::Written;
+use crate::straight::offset_of;
 use rvm_csr::Interrupts;
 use rvm_dev::{DeviceFields, Devices, InputFull, Register};
 use rvm_mem::{Memory, OutOfRange, PageSet, PagedMemory, clear_bytes, read_bytes, write_bytes};
@@ -190,12 +191,7 @@ impl<M: Memory> Bus<M> {
     pub fn ram_load8(&self, address: u32) -> Option<u8>
         ensures { result ≡ ram_load 1 address self.now.shared.bytes }
     {
-        let at = address.wrapping_sub(RAM_BASE);
-        if at < self.ram.len() {
-            Some(self.ram.load8(at))
-        } else {
-            None
-        }
+        self.ram_byte(offset_of(address))
     }
 
     /// The two bytes of RAM at an aligned address.
@@ -204,12 +200,7 @@ impl<M: Memory> Bus<M> {
         requires { address % 2 ≡ 0 }
         ensures { result ≡ ram_load 2 address self.now.shared.bytes }
     {
-        let at = address.wrapping_sub(RAM_BASE);
-        if at < self.ram.len() {
-            Some(self.ram.load16(at))
-        } else {
-            None
-        }
+        self.ram_half(offset_of(address))
     }
 
     /// The word of RAM at an aligned address.
@@ -218,12 +209,7 @@ impl<M: Memory> Bus<M> {
         requires { address % 4 ≡ 0 }
         ensures { result ≡ ram_load 4 address self.now.shared.bytes }
     {
-        let at = address.wrapping_sub(RAM_BASE);
-        if at < self.ram.len() {
-            Some(self.ram.load32(at))
-        } else {
-            None
-        }
+        self.ram_word(offset_of(address))
     }
 
     /// The word of RAM at an aligned place, as seen from its first byte.
@@ -235,6 +221,33 @@ impl<M: Memory> Bus<M> {
     {
         if at < self.ram.len() {
             Some(self.ram.load32(at))
+        } else {
+            None
+        }
+    }
+
+    /// The byte of RAM at a place, as seen from its first byte.
+    #[inline(always)]
+    #[tactic(auto, unfolding(crate::specs::Straight::based))]
+    pub(crate) fn ram_byte(&self, at: u32) -> Option<u8>
+        ensures { result ≡ ram_load 1 (based at) self.now.shared.bytes }
+    {
+        if at < self.ram.len() {
+            Some(self.ram.load8(at))
+        } else {
+            None
+        }
+    }
+
+    /// The two bytes of RAM at an aligned place.
+    #[inline(always)]
+    #[tactic(auto, unfolding(crate::specs::Straight::based))]
+    pub(crate) fn ram_half(&self, at: u32) -> Option<u16>
+        requires { at % 2 ≡ 0 }
+        ensures { result ≡ ram_load 2 (based at) self.now.shared.bytes }
+    {
+        if at < self.ram.len() {
+            Some(self.ram.load16(at))
         } else {
             None
         }
@@ -263,14 +276,7 @@ impl<M: Memory> Bus<M> {
         ensures bus { self.new ≡ left_by (ram_stored 1 hart address value self.old.shared) self.old }
         ensures stored { result ≡ is_some (ram_stored 1 hart address value self.old.shared) }
     {
-        let at = address.wrapping_sub(RAM_BASE);
-        if at < self.ram.len() {
-            self.ram.store8(at, value);
-            self.reservations.stored(hart as usize, address);
-            true
-        } else {
-            false
-        }
+        self.store_byte(hart, offset_of(address), value)
     }
 
     /// Hart `hart` stores two bytes of RAM at an aligned address.
@@ -281,14 +287,7 @@ impl<M: Memory> Bus<M> {
         ensures bus { self.new ≡ left_by (ram_stored 2 hart address value self.old.shared) self.old }
         ensures stored { result ≡ is_some (ram_stored 2 hart address value self.old.shared) }
     {
-        let at = address.wrapping_sub(RAM_BASE);
-        if at < self.ram.len() {
-            self.ram.store16(at, value);
-            self.reservations.stored(hart as usize, address);
-            true
-        } else {
-            false
-        }
+        self.store_half(hart, offset_of(address), value)
     }
 
     /// Hart `hart` stores a word of RAM at an aligned address.
@@ -299,14 +298,60 @@ impl<M: Memory> Bus<M> {
         ensures bus { self.new ≡ left_by (ram_stored 4 hart address value self.old.shared) self.old }
         ensures stored { result ≡ is_some (ram_stored 4 hart address value self.old.shared) }
     {
-        let at = address.wrapping_sub(RAM_BASE);
-        if at < self.ram.len() {
-            self.ram.store32(at, value);
-            self.reservations.stored(hart as usize, address);
-            true
-        } else {
-            false
+        self.store_word(hart, offset_of(address), value)
+    }
+
+    /// Hart `hart` stores a byte of RAM at a place, as seen from RAM's first byte.
+    #[inline(always)]
+    #[tactic(auto, unfolding(crate::specs::Straight::based))]
+    pub(crate) fn store_byte(&mut self, hart: u32, at: u32, value: u8) -> bool
+        requires { hart < length self.old.shared.reservations }
+        ensures bus { self.new ≡ left_by (ram_stored 1 hart (based at) value self.old.shared) self.old }
+        ensures stored { result ≡ is_some (ram_stored 1 hart (based at) value self.old.shared) }
+    {
+        if at >= self.ram.len() {
+            return false;
         }
+        self.ram.store8(at, value);
+        self.reservations
+            .stored(hart as usize, at.wrapping_add(RAM_BASE));
+        true
+    }
+
+    /// Hart `hart` stores two bytes of RAM at an aligned place, as seen from RAM's first byte.
+    #[inline(always)]
+    #[tactic(auto, unfolding(crate::specs::Straight::based))]
+    pub(crate) fn store_half(&mut self, hart: u32, at: u32, value: u16) -> bool
+        requires aligned { at % 2 ≡ 0 }
+        requires hart { hart < length self.old.shared.reservations }
+        ensures bus { self.new ≡ left_by (ram_stored 2 hart (based at) value self.old.shared) self.old }
+        ensures stored { result ≡ is_some (ram_stored 2 hart (based at) value self.old.shared) }
+    {
+        if at >= self.ram.len() {
+            return false;
+        }
+        self.ram.store16(at, value);
+        self.reservations
+            .stored(hart as usize, at.wrapping_add(RAM_BASE));
+        true
+    }
+
+    /// Hart `hart` stores a word of RAM at an aligned place, as seen from RAM's first byte.
+    #[inline(always)]
+    #[tactic(auto, unfolding(crate::specs::Straight::based))]
+    pub(crate) fn store_word(&mut self, hart: u32, at: u32, value: u32) -> bool
+        requires aligned { at % 4 ≡ 0 }
+        requires hart { hart < length self.old.shared.reservations }
+        ensures bus { self.new ≡ left_by (ram_stored 4 hart (based at) value self.old.shared) self.old }
+        ensures stored { result ≡ is_some (ram_stored 4 hart (based at) value self.old.shared) }
+    {
+        if at >= self.ram.len() {
+            return false;
+        }
+        self.ram.store32(at, value);
+        self.reservations
+            .stored(hart as usize, at.wrapping_add(RAM_BASE));
+        true
     }
 
     /// Hart `hart` stores a word at an aligned address, of RAM or a device.

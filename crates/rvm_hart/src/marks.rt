@@ -6,9 +6,9 @@ ghost use Rattle.rvm_hart.specs.Marks.{is_marked, marked};
 use std::marker::Model;
 
 /// How many marks there are.
-const MARKS: usize = 1024;
+const MARKS: usize = 4096;
 
-/// 1024 marks. Each stands for all addresses that are equal in bits 11 to 2.
+/// 4096 marks. Each stands for all addresses that are equal in their low 12 bits, which one mask finds.
 #[derive(Drop)]
 pub struct Marks {
     flags: [bool; MARKS],
@@ -21,13 +21,13 @@ impl Model for Marks {
 
     ghost view = { λ m. m.flags };
 
-    ghost invariant = { λ m. length m.flags ≡ 1024 };
+    ghost invariant = { λ m. length m.flags ≡ 4096 };
 }
 
 impl Marks {
     /// No mark.
     pub fn new() -> Marks
-        ensures { result ≡ replicate 1024 false }
+        ensures { result ≡ replicate 4096 false }
     {
         Marks {
             flags: [false; MARKS],
@@ -38,7 +38,7 @@ impl Marks {
     pub fn add(&mut self, address: u32)
         ensures { self.new ≡ marked address self.old }
     {
-        self.flags[(address / 4 % 1024) as usize] = true;
+        self.flags[(address % 4096) as usize] = true;
     }
 
     /// Whether an address has a mark.
@@ -46,6 +46,6 @@ impl Marks {
     pub fn has(&self, address: u32) -> bool
         ensures { result ≡ is_marked address self.now }
     {
-        self.flags[(address / 4 % 1024) as usize]
+        self.flags[(address % 4096) as usize]
     }
 }

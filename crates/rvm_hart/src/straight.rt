@@ -18,7 +18,7 @@ use crate::bus::{Bus, RAM_BASE};
 use crate::hart::Hart;
 use crate::jumps::Comparison;
 use crate::marks::Marks;
-use rvm_isa::{Imm12, Ins, Off13, Reg, Shamt, decode_straight};
+use rvm_isa::{Imm12, Ins, Off13, Off21, Reg, Shamt, decode_straight};
 use rvm_mem::Memory;
 use rvm_word::{add_signed, sext};
 
@@ -261,6 +261,32 @@ impl Hart {
     }
 
     #[inline]
+    fn straight_jump_by<M: Memory>(
+        &mut self,
+        rd: Reg,
+        offset: Off21,
+        at: u32,
+        bus: &mut Bus<M>,
+    ) -> Option<u32>
+        requires at { at % 4 ≡ 0 }
+        requires hart { self.old.csrs.hart < length bus.old.shared.reservations }
+        ensures goes { IfSome result (λ next. Goes (jump rd (sum (based at) offset)) (based at) self.old bus.old (based next) self.new bus.new) }
+        ensures aligned { IfSome result (λ next. next % 4 ≡ 0) }
+        ensures hart { IfNone result (self.new ≡ self.old) }
+        ensures bus { IfNone result (bus.new ≡ bus.old) }
+        ensures csrs { self.new.csrs ≡ self.old.csrs }
+        ensures devices { bus.new.shared.devices ≡ bus.old.shared.devices }
+        ensures reservations { length bus.new.shared.reservations ≡ length bus.old.shared.reservations }
+    {
+        let Some(target) = moved(at, offset.value()) else {
+            return None;
+        };
+        self.regs[rd.index()] = address_of(at).wrapping_add(4);
+        self.regs[0] = 0;
+        Some(target)
+    }
+
+    #[inline]
     fn straight_branch<M: Memory>(
         &mut self,
         comparison: Comparison,
@@ -283,10 +309,9 @@ impl Hart {
         if !comparison.holds(self.get(rs1), self.get(rs2)) {
             return Some(next_of(at));
         }
-        let next = offset_of(add_signed(address_of(at), offset.value()));
-        if next % 4 != 0 {
+        let Some(next) = moved(at, offset.value()) else {
             return None;
-        }
+        };
         Some(next)
     }
 
@@ -308,7 +333,7 @@ impl Hart {
         ensures devices { bus.new.shared.devices ≡ bus.old.shared.devices }
         ensures reservations { length bus.new.shared.reservations ≡ length bus.old.shared.reservations }
     {
-        match bus.ram_load8(address) {
+        match bus.ram_byte(offset_of(address)) {
             Some(value) => self.put(rd, sext(u32::from(value), 8), at, bus),
             None => None,
         }
@@ -332,7 +357,7 @@ impl Hart {
         ensures devices { bus.new.shared.devices ≡ bus.old.shared.devices }
         ensures reservations { length bus.new.shared.reservations ≡ length bus.old.shared.reservations }
     {
-        match bus.ram_load8(address) {
+        match bus.ram_byte(offset_of(address)) {
             Some(value) => self.put(rd, u32::from(value), at, bus),
             None => None,
         }
@@ -356,10 +381,11 @@ impl Hart {
         ensures devices { bus.new.shared.devices ≡ bus.old.shared.devices }
         ensures reservations { length bus.new.shared.reservations ≡ length bus.old.shared.reservations }
     {
-        if address % 2 != 0 {
+        let place = offset_of(address);
+        if place % 2 != 0 {
             return None;
         }
-        match bus.ram_load16(address) {
+        match bus.ram_half(place) {
             Some(value) => self.put(rd, sext(u32::from(value), 16), at, bus),
             None => None,
         }
@@ -383,10 +409,11 @@ impl Hart {
         ensures devices { bus.new.shared.devices ≡ bus.old.shared.devices }
         ensures reservations { length bus.new.shared.reservations ≡ length bus.old.shared.reservations }
     {
-        if address % 2 != 0 {
+        let place = offset_of(address);
+        if place % 2 != 0 {
             return None;
         }
-        match bus.ram_load16(address) {
+        match bus.ram_half(place) {
             Some(value) => self.put(rd, u32::from(value), at, bus),
             None => None,
         }
@@ -411,10 +438,11 @@ impl Hart {
         ensures devices { bus.new.shared.devices ≡ bus.old.shared.devices }
         ensures reservations { length bus.new.shared.reservations ≡ length bus.old.shared.reservations }
     {
-        if address % 4 != 0 {
+        let place = offset_of(address);
+        if place % 4 != 0 {
             return None;
         }
-        match bus.ram_load32(address) {
+        match bus.ram_word(place) {
             Some(value) => self.put(rd, value, at, bus),
             None => None,
         }
@@ -438,7 +466,7 @@ impl Hart {
         ensures devices { bus.new.shared.devices ≡ bus.old.shared.devices }
         ensures reservations { length bus.new.shared.reservations ≡ length bus.old.shared.reservations }
     {
-        if !bus.ram_store8(self.csrs.hart(), address, (value & 0xFF) as u8) {
+        if !bus.store_byte(self.csrs.hart(), offset_of(address), (value & 0xFF) as u8) {
             return None;
         }
         Some(next_of(at))
@@ -462,10 +490,11 @@ impl Hart {
         ensures devices { bus.new.shared.devices ≡ bus.old.shared.devices }
         ensures reservations { length bus.new.shared.reservations ≡ length bus.old.shared.reservations }
     {
-        if address % 2 != 0 {
+        let place = offset_of(address);
+        if place % 2 != 0 {
             return None;
         }
-        if !bus.ram_store16(self.csrs.hart(), address, (value & 0xFFFF) as u16) {
+        if !bus.store_half(self.csrs.hart(), place, (value & 0xFFFF) as u16) {
             return None;
         }
         Some(next_of(at))
@@ -490,10 +519,11 @@ impl Hart {
         ensures devices { bus.new.shared.devices ≡ bus.old.shared.devices }
         ensures reservations { length bus.new.shared.reservations ≡ length bus.old.shared.reservations }
     {
-        if address % 4 != 0 {
+        let place = offset_of(address);
+        if place % 4 != 0 {
             return None;
         }
-        if !bus.ram_store32(self.csrs.hart(), address, value) {
+        if !bus.store_word(self.csrs.hart(), place, value) {
             return None;
         }
         Some(next_of(at))
@@ -767,12 +797,7 @@ impl Hart {
                 at,
                 bus,
             ),
-            Ins::Jal { rd, offset } => self.straight_jump(
-                rd,
-                add_signed(address_of(at), offset.value()),
-                at,
-                bus,
-            ),
+            Ins::Jal { rd, offset } => self.straight_jump_by(rd, offset, at, bus),
             Ins::Jalr { rd, rs1, imm } => self.straight_jump(
                 rd,
                 add_signed(self.get(rs1), imm.value()) & !1,
@@ -1149,4 +1174,21 @@ fn next_of(at: u32) -> u32
     ensures aligned { at % 4 ≡ 0 → result % 4 ≡ 0 }
 {
     at.wrapping_add(4)
+}
+
+/// The place at so many bytes from another, if an instruction can be there. The offset is looked at and not the place,
+/// so that the path need not keep both.
+#[inline(always)]
+#[tactic(auto, using(crate::proofs::Places::moved, crate::proofs::Places::moved_to_four), unfolding(crate::specs::Straight::based))]
+fn moved(at: u32, offset: i32) -> Option<u32>
+    requires { at % 4 ≡ 0 }
+    ensures address { IfSome result (λ next. based next ≡ sum (based at) offset) }
+    ensures target { IfSome result (λ next. sum (based at) offset % 4 ≡ 0) }
+    ensures aligned { IfSome result (λ next. next % 4 ≡ 0) }
+{
+    let by = offset.cast_unsigned();
+    if by % 4 != 0 {
+        return None;
+    }
+    Some(at.wrapping_add(by))
 }

@@ -1,6 +1,0 @@
-use Rattle.rvm_hart.proofs.Reserved.{store_keeps}
-use Rattle.rvm_hart.proofs.bus.Bus.ram_store32.Goals as goal
-
-pub invariant_of-self : goal.invariant_of-self
-invariant_of-self g c =
-    store_keeps 4 c.args.hart _ c.args.value c.args.address _ _ c.self.inside.reservations c.stored.new.self c.store32.ensures.bytes c.stored.ensures c.self.invariant
