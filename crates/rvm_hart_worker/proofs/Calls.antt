@@ -3,7 +3,7 @@ use Rattle.std.proofs.Common.{◌≡◌, ◌≢◌, ◌∙◌, ℕ, zero, suc, �
 use Rattle.std.proofs.lemmas.List.Concat.{flat_map-append}
 use Rattle.std.proofs.lemmas.List.Elements.{All-append, All-cons, All-map, All-nil}
 use Rattle.std.proofs.KnownBytes.{Appends-nil, Appends-trans}
-use Rattle.std.specs.Prelude.{slice_get, ◌%◌, IfErr, IfOk, IfSome, OnErr, ⊤}
+use Rattle.std.specs.Prelude.{slice_get, ◌%◌, ◌==◌, nat_eq, IfErr, IfOk, IfSome, OnErr, ⊤}
 use Rattle.std.specs.Io.KnownBytes.{Appends}
 use Rattle.std.specs.List.{All, flat_map}
 use Rattle.rvm_cell.specs.Receipts.{PlainReceipt}
@@ -16,16 +16,16 @@ use Rattle.rvm_worker.specs.declared.end.WorkEnd.{WorkEnd}
 use Rattle.rvm_worker.specs.declared.end.WorkEnd.TheVariants.{LinkFault}
 use Rattle.rvm_worker.specs.declared.steps.SliceSteps.{SliceSteps}
 use Rattle.rvm_worker.specs.Work.{IsCall, IsSliceCall, PlainCaller}
-use Rattle.rvm_hart_worker.specs.Calls.{AtA, AtB, Call, EndsDry, HasRun, Made, Written, IsRun, bytes_in, bytes_of, drained_by, event_in, found_nothing, in_a, in_b, is_of_run, turns_in}
+use Rattle.rvm_hart_worker.specs.Calls.{AtA, AtB, Call, EndsDry, HasRun, Made, Written, IsRun, bytes_in, bytes_of, drained_by, event_in, in_a, in_b, is_of_run, marks_in}
 use Rattle.rvm_hart_worker.specs.declared.pair.Drained.{Drained}
-use Rattle.rvm_hart_worker.specs.Drains.{is_nothing, told_by}
-use Rattle.rvm_hart_worker.specs.Turns.{AreTurns, Turn, after_step, after_turns, turn_made, turns, turns_of}
+use Rattle.rvm_hart_worker.specs.Drains.{found_nothing, is_nothing, told_by}
+use Rattle.rvm_hart_worker.specs.Turns.{AreTurns, Dry, Mark, Turned, after_step, after_turns, drained, if_dry, mark_made, turns, turns_of}
 use Rattle.rvm_hart_worker.specs.declared.harts.TurnsEnd.{TurnsEnd}
 use Rattle.rvm_hart_worker.specs.declared.harts.TurnsEnd.TheVariants as ended
 use Rattle.rvm_hart_worker.specs.declared.harts.TurnsEnd.TheVariants.{StepsSpent}
 use Rattle.rvm_hart_worker.specs.declared.slices.Then.{Then}
 use Rattle.rvm_hart_worker.specs.declared.slices.Then.TheVariants.{GoOn, Elsewhere, Halted}
-use Rattle.rvm_hart_worker.proofs.Turns.{slice_turns, told_a, told_b, turns_on}
+use Rattle.rvm_hart_worker.proofs.Turns.{drained_last, drained_on, slice_turns, told_a, told_b}
 
 -- by this call a run goes on
 abbrev IsOfRun : Call → Type 0
@@ -55,7 +55,7 @@ ends_behind xs ys e = record {
 }
 
 -- calls, and then others
-pub made_both : (old mid new : PlainCaller × PlainCaller) (xs ys : List ℕ) (ts us : List Turn) (first dry : Bool)
+pub made_both : (old mid new : PlainCaller × PlainCaller) (xs ys : List ℕ) (ts us : List Mark) (first dry : Bool)
     → Made old mid xs ts first → Made mid new ys us dry → Made old new (xs ++ ys) (ts ++ us) dry
 made_both old mid new xs ys ts us first dry p q = record {
   calls = p.calls ++ q.calls;
@@ -70,18 +70,18 @@ made_both old mid new xs ys ts us first dry p q = record {
   only = All-append IsOfRun p.calls q.calls p.only q.only;
   told = flat_map-append bytes_in p.calls q.calls ∙ ap (λ l. l ++ flat_map bytes_in q.calls) p.told
       ∙ ap (λ l. xs ++ l) q.told;
-  turned = flat_map-append turns_in p.calls q.calls ∙ ap (λ l. l ++ flat_map turns_in q.calls) p.turned
+  turned = flat_map-append marks_in p.calls q.calls ∙ ap (λ l. l ++ flat_map marks_in q.calls) p.turned
       ∙ ap (λ l. ts ++ l) q.turned;
   ends = λ is. ends_behind p.calls q.calls (q.ends is);
 }
 
 -- calls that were neither a turn nor told anything, and then others
-pub made_behind : (old mid new : PlainCaller × PlainCaller) (bytes : List ℕ) (ts : List Turn) (dry : Bool)
+pub made_behind : (old mid new : PlainCaller × PlainCaller) (bytes : List ℕ) (ts : List Mark) (dry : Bool)
     → Made old mid [] [] false → Made mid new bytes ts dry → Made old new bytes ts dry
 made_behind old mid new bytes ts dry p q = made_both old mid new [] bytes [] ts false dry p q
 
 -- a slice of no turn, and then other calls
-pub made_behind_none : (old mid new : PlainCaller × PlainCaller) (bytes : List ℕ) (ts : List Turn) (dry : Bool)
+pub made_behind_none : (old mid new : PlainCaller × PlainCaller) (bytes : List ℕ) (ts : List Mark) (dry : Bool)
     (harts turn made : ℕ) (last : Then) → made ≡ 0 → Made old mid [] (turns harts turn made last) false
     → Made mid new bytes ts dry → Made old new bytes ts dry
 unfolding turns
@@ -96,12 +96,13 @@ made_behind_err (Err e) old mid new p q = made_behind old mid new [] [] false p 
 
 -- the same of what a drain answers
 pub made_behind_drain : {E : Type 0} (r : Result Drained E) (old mid new : PlainCaller × PlainCaller) → Made old mid [] [] false
-    → IfOk r (λ d. Made mid new (bytes_of d) [] (is_nothing d)) → IfOk r (λ d. Made old new (bytes_of d) [] (is_nothing d))
-made_behind_drain (Ok d) old mid new p q = made_behind old mid new (bytes_of d) [] (is_nothing d) p q
+    → IfOk r (λ d. Made mid new (bytes_of d) (if_dry (is_nothing d)) (is_nothing d))
+    → IfOk r (λ d. Made old new (bytes_of d) (if_dry (is_nothing d)) (is_nothing d))
+made_behind_drain (Ok d) old mid new p q = made_behind old mid new (bytes_of d) (if_dry (is_nothing d)) (is_nothing d) p q
 made_behind_drain (Err e) old mid new p q = tt
 
 -- calls, of which others may come after the last
-made_on : (old new : PlainCaller × PlainCaller) (bytes : List ℕ) (ts : List Turn) → Made old new bytes ts true
+made_on : (old new : PlainCaller × PlainCaller) (bytes : List ℕ) (ts : List Mark) → Made old new bytes ts true
     → Made old new bytes ts false
 made_on old new bytes ts p = record {
   calls = p.calls;
@@ -118,7 +119,7 @@ made_on old new bytes ts p = record {
 -- a drain
 pub made_drain_at_a : (old new b : PlainCaller) (reply : HostReply) → new.start ≡ old.start
     → IsCall old.seat (event.Do (command.Board (asked.Drain 256))) old.receipts new.seat new.receipts reply
-    → Made (old, b) (new, b) (bytes_of (told_by reply)) [] (is_nothing (told_by reply))
+    → Made (old, b) (new, b) (bytes_of (told_by reply)) (if_dry (is_nothing (told_by reply))) (is_nothing (told_by reply))
 made_drain_at_a old new b reply same c = record {
   calls = AtA c.receipt ∷ [];
   start_a = same;
@@ -128,7 +129,8 @@ made_drain_at_a old new b reply same c = record {
   only = All-cons IsOfRun (AtA c.receipt) [] (ap is_of_run c.of_event.event_is) (All-nil IsOfRun);
   told = append-nil (drained_by c.receipt.event c.receipt.reply)
       ∙ ap (λ e. drained_by e c.receipt.reply) c.of_event.event_is ∙ ap (λ r. bytes_of (told_by r)) c.answered;
-  turned = append-nil (turn_made c.receipt.event c.receipt.reply) ∙ ap (λ e. turn_made e c.receipt.reply) c.of_event.event_is;
+  turned = append-nil (mark_made c.receipt.event c.receipt.reply) ∙ ap (λ e. mark_made e c.receipt.reply) c.of_event.event_is
+      ∙ ap (λ r. if_dry (is_nothing (told_by r))) c.answered;
   ends = λ is. record {
     before = [];
     last = AtA c.receipt;
@@ -139,7 +141,7 @@ made_drain_at_a old new b reply same c = record {
 
 pub made_drain_at_b : (a old new : PlainCaller) (reply : HostReply) → new.start ≡ old.start
     → IsCall old.seat (event.Do (command.Board (asked.Drain 256))) old.receipts new.seat new.receipts reply
-    → Made (a, old) (a, new) (bytes_of (told_by reply)) [] (is_nothing (told_by reply))
+    → Made (a, old) (a, new) (bytes_of (told_by reply)) (if_dry (is_nothing (told_by reply))) (is_nothing (told_by reply))
 made_drain_at_b a old new reply same c = record {
   calls = AtB c.receipt ∷ [];
   start_a = refl;
@@ -149,7 +151,8 @@ made_drain_at_b a old new reply same c = record {
   only = All-cons IsOfRun (AtB c.receipt) [] (ap is_of_run c.of_event.event_is) (All-nil IsOfRun);
   told = append-nil (drained_by c.receipt.event c.receipt.reply)
       ∙ ap (λ e. drained_by e c.receipt.reply) c.of_event.event_is ∙ ap (λ r. bytes_of (told_by r)) c.answered;
-  turned = append-nil (turn_made c.receipt.event c.receipt.reply) ∙ ap (λ e. turn_made e c.receipt.reply) c.of_event.event_is;
+  turned = append-nil (mark_made c.receipt.event c.receipt.reply) ∙ ap (λ e. mark_made e c.receipt.reply) c.of_event.event_is
+      ∙ ap (λ r. if_dry (is_nothing (told_by r))) c.answered;
   ends = λ is. record {
     before = [];
     last = AtB c.receipt;
@@ -161,12 +164,12 @@ made_drain_at_b a old new reply same c = record {
 -- a drain that found nothing, if it was made
 pub made_dry_at_a : (old new b : PlainCaller) (made : Bool) → new.start ≡ old.start
     → (made ≡ true → IsCall old.seat (dry_exchange 256).event old.receipts new.seat new.receipts (dry_exchange 256).reply)
-    → made ≡ true → Made (old, b) (new, b) [] [] true
+    → made ≡ true → Made (old, b) (new, b) [] (Dry ∷ []) true
 made_dry_at_a old new b made same call is = made_drain_at_a old new b (dry_exchange 256).reply same (call is)
 
 pub made_dry_at_b : (a old new : PlainCaller) (made : Bool) → new.start ≡ old.start
     → (made ≡ true → IsCall old.seat (dry_exchange 256).event old.receipts new.seat new.receipts (dry_exchange 256).reply)
-    → made ≡ true → Made (a, old) (a, new) [] [] true
+    → made ≡ true → Made (a, old) (a, new) [] (Dry ∷ []) true
 made_dry_at_b a old new made same call is = made_drain_at_b a old new (dry_exchange 256).reply same (call is)
 
 pub made_none_at_a : (old new b : PlainCaller) (made : Bool) → (made ≡ false → new ≡ old) → made ≡ false
@@ -237,7 +240,7 @@ module _ (old new : PlainCaller) (turn harts made : ℕ) (last : Then) (steps : 
       subst (λ o. IfSome o (λ (x : PlainReceipt). x.reply ≡ steps.last)) there
       (subst (λ n. IfSome (slice_get c.receipts n) (λ (x : PlainReceipt). x.reply ≡ steps.last)) (omega (arith, is)) c.told.last)
 
-  turned_is : flat_map (λ (r : PlainReceipt). turn_made r.event r.reply) c.receipts ≡ turns harts turn made (after_turns last)
+  turned_is : flat_map (λ (r : PlainReceipt). mark_made r.event r.reply) c.receipts ≡ turns harts turn made (after_turns last)
   turned_is =
       slice_turns c.receipts harts turn steps.last (λ k r there. (c.of_seat.receipts.each k r there).event_is)
       c.of_seat.goes_on is_last
@@ -277,7 +280,7 @@ written_none p w = record { bytes = []; made = made_none p; written = λ _. Appe
 
 -- what other calls told was written after the rest
 pub written_then : (old mid new : PlainCaller × PlainCaller) (before between after : Option (List ℕ)) (works : Type 0)
-    (ts us : List Turn) (first dry : Bool) → Written old mid before between ⊤ ts first
+    (ts us : List Mark) (first dry : Bool) → Written old mid before between ⊤ ts first
     → Written mid new between after works us dry → Written old new before after works (ts ++ us) dry
 written_then old mid new before between after works ts us first dry p q = record {
   bytes = p.bytes ++ q.bytes;
@@ -294,16 +297,16 @@ written_next old mid new before between after bytes p q more =
 
 -- further calls told nothing
 pub written_still : (old mid new : PlainCaller × PlainCaller) (before after : Option (List ℕ)) (works : Type 0)
-    (ts us : List Turn) (dry : Bool) → Written old mid before after ⊤ ts false → Made mid new [] us dry
+    (ts us : List Mark) (dry : Bool) → Written old mid before after ⊤ ts false → Made mid new [] us dry
     → Written old new before after works (ts ++ us) dry
 written_still old mid new before after works ts us dry p q =
     written_then old mid new before after after works ts us false dry p
     (record { bytes = []; made = q; written = λ _. Appends-nil after })
 
--- of which none was a turn
+-- of which none was a turn, and the last found nothing
 pub written_dry : (old mid new : PlainCaller × PlainCaller) (before after : Option (List ℕ)) (works : Type 0) (dry : Bool)
-    → Written old mid before after ⊤ [] false → Made mid new [] [] dry → Written old new before after works [] dry
-written_dry old mid new before after works dry p q = written_still old mid new before after works [] [] dry p q
+    → Written old mid before after ⊤ [] false → Made mid new [] (if_dry dry) dry → Written old new before after works (if_dry dry) dry
+written_dry old mid new before after works dry p q = written_still old mid new before after works [] (if_dry dry) dry p q
 
 -- what further calls told could not be written
 pub written_failed : (old mid new : PlainCaller × PlainCaller) (before between after : Option (List ℕ)) (bytes : List ℕ)
@@ -329,28 +332,21 @@ written_failed_err (Ok x) old mid new before between after bytes p q is = tt
 written_failed_err (Err e) old mid new before between after bytes p q is =
     written_failed old mid new before between after bytes e p q is
 
--- further calls, of which none was a turn
-pub written_more : (old mid new : PlainCaller × PlainCaller) (before between after : Option (List ℕ)) (works : Type 0)
-    (ts : List Turn) (dry : Bool) → Written old mid before between ⊤ ts false → Written mid new between after works [] dry
-    → Written old new before after works ts dry
-written_more old mid new before between after works ts dry p q =
-    subst (λ l. Written old new before after works l dry) (append-nil ts)
-    (written_then old mid new before between after works ts [] false dry p q)
-
 -- calls after which others may come
-pub written_on : (old new : PlainCaller × PlainCaller) (before after : Option (List ℕ)) → Written old new before after ⊤ [] true
-    → Written old new before after ⊤ [] false
-written_on old new before after p = record { bytes = p.bytes; made = made_on old new p.bytes [] p.made; written = p.written }
+pub written_on : (old new : PlainCaller × PlainCaller) (before after : Option (List ℕ)) (ts : List Mark)
+    → Written old new before after ⊤ ts true → Written old new before after ⊤ ts false
+written_on old new before after ts p =
+    record { bytes = p.bytes; made = made_on old new p.bytes ts p.made; written = p.written }
 
 -- A RUN
 
--- where a run has come: so many turns were made, and each is followed by the next
+-- where a run has come: so many turns were made, each is followed by the next, and drains came between
 abbrev pub HasCome : (old new : PlainCaller × PlainCaller) (before after : Option (List ℕ)) (harts turn : ℕ) → Type 0
-HasCome old new before after harts turn = Written old new before after ⊤ (turns harts 0 turn GoOn) false
+HasCome old new before after harts turn = Written old new before after ⊤ (drained 0 (turns harts 0 turn GoOn)) false
 
 -- before the first turn
 pub has_begun : (p : PlainCaller × PlainCaller) (w : Option (List ℕ)) (harts : ℕ) → HasCome p p w w harts 0
-unfolding turns
+unfolding drained turns
 has_begun p w harts = written_none p w
 
 -- after a turn that did not halt the board comes the next one
@@ -359,24 +355,32 @@ goes_after GoOn none = refl
 goes_after Elsewhere none = refl
 goes_after (Halted status) none = absurd (none status refl)
 
--- it failed after so many turns
+-- it failed, and would have gone on so
 failed_behind : (old mid new : PlainCaller × PlainCaller) (before between after : Option (List ℕ)) (harts steps count : ℕ)
-    (last : Then) (e : WorkEnd) → count ≤ steps → Written old mid before between ⊤ (turns harts 0 count last) false
-    → Written mid new between after (e ≢ LinkFault) [] false → HasRun old new before after harts steps (Err e)
-failed_behind old mid new before between after harts steps count last e within so failed =
-    let all = written_more old mid new before between after (e ≢ LinkFault) (turns harts 0 count last) false so failed in record {
-      turns = turns harts 0 count last;
-      are = record { count = count; last = last; within = within; are = refl };
+    (last : Then) (e : WorkEnd) (ts rest : List Mark) → count ≤ steps → ts ++ rest ≡ drained 0 (turns harts 0 count last)
+    → Written old mid before between ⊤ ts false → Written mid new between after (e ≢ LinkFault) [] false
+    → HasRun old new before after harts steps (Err e)
+failed_behind old mid new before between after harts steps count last e ts rest within are so failed =
+    let all = written_then old mid new before between after (e ≢ LinkFault) ts [] false false so failed in record {
+      marks = ts ++ [];
+      are = record {
+        count = count;
+        last = last;
+        within = within;
+        rest = rest;
+        are = ap (λ l. l ++ rest) (append-nil ts) ∙ are;
+      };
       written = record { bytes = all.bytes; made = all.made; written = λ works. all.written (λ is. works (ap Err is)) };
     }
 
 -- a run that came to its end with a drain
 ended_with : (old mid new : PlainCaller × PlainCaller) (before between after : Option (List ℕ)) (harts steps : ℕ)
-    (ts : List Turn) (end : TurnsEnd) → AreTurns harts steps (Ok end) ts → Written old mid before between ⊤ ts false
-    → Written mid new between after ⊤ [] true → HasRun old new before after harts steps (Ok end)
-ended_with old mid new before between after harts steps ts end are so drained =
-    let all = written_more old mid new before between after ⊤ ts true so drained in record {
-      turns = ts;
+    (ts : List Mark) (end : TurnsEnd) → AreTurns harts steps (Ok end) (ts ++ Dry ∷ [])
+    → Written old mid before between ⊤ ts false → Written mid new between after ⊤ (Dry ∷ []) true
+    → HasRun old new before after harts steps (Ok end)
+ended_with old mid new before between after harts steps ts end are so dry =
+    let all = written_then old mid new before between after ⊤ ts (Dry ∷ []) false true so dry in record {
+      marks = ts ++ Dry ∷ [];
       are = are;
       written = record { bytes = all.bytes; made = all.made; written = λ _. all.written tt };
     }
@@ -388,7 +392,8 @@ module _ (old mid : PlainCaller × PlainCaller) (before between : Option (List �
       → IfErr r (λ e. HasRun old new before between harts steps (Err e))
   slice_failed (Ok x) new made = tt
   slice_failed (Err e) new made =
-      failed_behind old mid new before between between harts steps turn GoOn e within so
+      failed_behind old mid new before between between harts steps turn GoOn e (drained 0 (turns harts 0 turn GoOn)) [] within
+      (append-nil (drained 0 (turns harts 0 turn GoOn))) so
       (record { bytes = []; made = made; written = λ _. Appends-nil between })
 
   -- all turns were made, and the drain failed
@@ -397,33 +402,53 @@ module _ (old mid : PlainCaller × PlainCaller) (before between : Option (List �
       → IfErr r (λ e. HasRun old new before after harts steps (Err e))
   last_drain_failed (Ok x) new after failed = tt
   last_drain_failed (Err e) new after failed =
-      failed_behind old mid new before between after harts steps turn GoOn e within so failed
+      failed_behind old mid new before between after harts steps turn GoOn e (drained 0 (turns harts 0 turn GoOn)) [] within
+      (append-nil (drained 0 (turns harts 0 turn GoOn))) so failed
 
   -- or it found all
   pub all_spent : (new : PlainCaller × PlainCaller) (after : Option (List ℕ)) → steps ≤ turn
-      → Written mid new between after ⊤ [] true → HasRun old new before after harts steps (Ok StepsSpent)
-  all_spent new after all drained =
-      ended_with old mid new before between after harts steps (turns harts 0 turn GoOn) StepsSpent
-      (ap (λ n. turns harts 0 n GoOn) (omega (arith, within, all))) so drained
+      → Written mid new between after ⊤ (Dry ∷ []) true → HasRun old new before after harts steps (Ok StepsSpent)
+  all_spent new after all dry =
+      ended_with old mid new before between after harts steps (drained 0 (turns harts 0 turn GoOn)) StepsSpent
+      (ap (λ n. drained 0 (turns harts 0 n GoOn) ++ Dry ∷ []) (omega (arith, within, all))) so dry
 
   module _ (next : PlainCaller × PlainCaller) (made : ℕ) (last : Then) (some : 1 ≤ made) (room : turn + made ≤ steps)
+      (short : made ≤ 64 - turn % 64)
       (slice : Made mid next [] (turns harts turn made (after_turns last)) false) where
-    -- with the turns of the next slice
-    with_slice : Written old next before between ⊤ (turns harts 0 (turn + made) (after_turns last)) false
+    -- the turns and drains before, and the turns of the next slice
+    abbrev marks : List Mark
+    marks = drained 0 (turns harts 0 turn GoOn) ++ turns harts turn made (after_turns last)
+
+    with_slice : Written old next before between ⊤ marks false
     with_slice =
-        subst (λ l. Written old next before between ⊤ l false) (turns_on harts turn made (after_turns last) some)
-        (written_still old mid next before between ⊤ (turns harts 0 turn GoOn) (turns harts turn made (after_turns last)) false so slice)
+        written_still old mid next before between ⊤ (drained 0 (turns harts 0 turn GoOn))
+        (turns harts turn made (after_turns last)) false so slice
 
-    -- it goes on
-    pub goes_on : after_turns last ≡ GoOn → HasCome old next before between harts (turn + made)
-    goes_on is = subst (λ t. Written old next before between ⊤ (turns harts 0 (turn + made) t) false) is with_slice
+    -- so a run goes on, with a drain where one is to come
+    goes_so : marks ++ if_dry ((turn + made) % 64 == 0) ≡ drained 0 (turns harts 0 (turn + made) (after_turns last))
+    goes_so =
+        append_assoc (drained 0 (turns harts 0 turn GoOn)) (turns harts turn made (after_turns last))
+        (if_dry ((turn + made) % 64 == 0))
+        ∙ drained_on harts turn made (after_turns last) some short
 
-    -- after a drain
+    -- none is to come
+    pub goes_on : after_turns last ≡ GoOn → (turn + made) % 64 ≢ 0 → HasCome old next before between harts (turn + made)
+    goes_on is none =
+        let here : nat_eq ((turn + made) % 64) 0 ≡ false = grind (arith, none) in
+        subst (λ l. Written old next before between ⊤ l false)
+        (sym (append-nil marks) ∙ ap (λ b. marks ++ if_dry b) (sym here) ∙ goes_so
+        ∙ ap (λ t. drained 0 (turns harts 0 (turn + made) t)) is) with_slice
+
+    -- one came
     pub goes_on_drained : (new : PlainCaller × PlainCaller) (after : Option (List ℕ)) → after_turns last ≡ GoOn
-        → Written next new between after ⊤ [] true → HasCome old new before after harts (turn + made)
-    goes_on_drained new after is drained =
-        written_more old next new before between after ⊤ (turns harts 0 (turn + made) GoOn) false (goes_on is)
-        (written_on next new between after drained)
+        → (turn + made) % 64 ≡ 0 → Written next new between after ⊤ (Dry ∷ []) true
+        → HasCome old new before after harts (turn + made)
+    goes_on_drained new after is some dry =
+        let yes : nat_eq ((turn + made) % 64) 0 ≡ true = grind (arith, some) in
+        subst (λ l. Written old new before after ⊤ l false)
+        (ap (λ b. marks ++ if_dry b) (sym yes) ∙ goes_so ∙ ap (λ t. drained 0 (turns harts 0 (turn + made) t)) is)
+        (written_then old next new before between after ⊤ marks (Dry ∷ []) false false with_slice
+        (written_on next new between after (Dry ∷ []) dry))
 
     -- the drain after it failed
     pub drain_failed : {T : Type 0} (r : Result T WorkEnd) (new : PlainCaller × PlainCaller) (after : Option (List ℕ))
@@ -431,19 +456,23 @@ module _ (old mid : PlainCaller × PlainCaller) (before between : Option (List �
         → IfErr r (λ e. HasRun old new before after harts steps (Err e))
     drain_failed (Ok x) new after failed = tt
     drain_failed (Err e) new after failed =
-        failed_behind old next new before between after harts steps (turn + made) (after_turns last) e room with_slice failed
+        failed_behind old next new before between after harts steps (turn + made) (after_turns last) e marks
+        (if_dry ((turn + made) % 64 == 0)) room goes_so with_slice failed
 
     -- the last turn halted the board
     pub has_halted : (status : ℕ) (new : PlainCaller × PlainCaller) (after : Option (List ℕ)) → last ≡ Halted status
-        → Written next new between after ⊤ [] true → HasRun old new before after harts steps (Ok (ended.Halted status))
-    has_halted status new after is drained =
-        ended_with old next new before between after harts steps (turns harts 0 (turn + made) (after_turns last)) (ended.Halted status)
+        → Written next new between after ⊤ (Dry ∷ []) true → HasRun old new before after harts steps (Ok (ended.Halted status))
+    has_halted status new after is dry =
+        let one : made ≡ suc (made - 1) = omega (arith, some) in
+        let near : suc (made - 1) ≤ 64 - turn % 64 = omega (arith, some, short) in
+        ended_with old next new before between after harts steps marks (ended.Halted status)
         (record {
-          before = turn + made - 1;
+          before = turn + (made - 1);
           within = omega (arith, some, room);
-          are = ap (λ n. turns harts 0 n (after_turns last)) (omega (arith, some))
-              ∙ ap (λ t. turns harts 0 (suc (turn + made - 1)) (after_turns t)) is;
-        }) with_slice drained
+          are = ap (λ t. (drained 0 (turns harts 0 turn GoOn) ++ turns harts turn made (after_turns t)) ++ Dry ∷ []) is
+              ∙ ap (λ n. (drained 0 (turns harts 0 turn GoOn) ++ turns harts turn n (Halted status)) ++ Dry ∷ []) one
+              ∙ drained_last harts turn (made - 1) (Halted status) near;
+        }) with_slice dry
 
 -- the calls of a run from the first one on
 run_told : (old new : PlainCaller × PlainCaller) (before after : Option (List ℕ)) (harts steps : ℕ)

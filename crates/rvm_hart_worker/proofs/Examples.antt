@@ -1,5 +1,5 @@
 -- What calls tell, worked out by hand.
-use Rattle.std.proofs.Common.{◌≡◌, true, false, List, [], ◌∷◌, ◌++◌, length, codes, refl}
+use Rattle.std.proofs.Common.{◌≡◌, true, false, List, [], ◌∷◌, ◌++◌, Ok, arith, length, codes, refl}
 use Rattle.std.specs.List.{flat_map}
 use Rattle.rvm_cell.specs.Receipts.{PlainReceipt}
 use Rattle.rvm_debug.specs.declared.event.BoardEvent.{BoardEvent}
@@ -10,9 +10,10 @@ use Rattle.rvm_message.specs.declared.event.HostEvent.TheVariants as event
 use Rattle.rvm_message.specs.declared.reply.HostRefusal.TheVariants as refusal
 use Rattle.rvm_message.specs.declared.reply.HostReply.{HostReply}
 use Rattle.rvm_message.specs.declared.reply.HostReply.TheVariants as reply
-use Rattle.rvm_hart_worker.specs.Calls.{AtA, AtB, Call, EndsDry, bytes_in, in_a, in_b, is_dry, is_of_run, turns_in}
+use Rattle.rvm_hart_worker.specs.Calls.{AtA, AtB, Call, EndsDry, bytes_in, in_a, in_b, is_dry, is_of_run, marks_in}
 use Rattle.rvm_hart_worker.specs.declared.slices.Then.TheVariants.{GoOn, Halted}
-use Rattle.rvm_hart_worker.specs.Turns.{turns}
+use Rattle.rvm_hart_worker.specs.declared.harts.TurnsEnd.TheVariants as ended
+use Rattle.rvm_hart_worker.specs.Turns.{AreTurns, Dry, Mark, Turned, drained, turns}
 
 -- a receipt of what a guest was asked
 abbrev receipt : BoardEvent → HostReply → PlainReceipt
@@ -77,7 +78,7 @@ no_run_goes_on_by_a_poke : is_of_run (event.Do (command.Board (asked.PokeMem 0x8
 no_run_goes_on_by_a_poke = refl
 
 -- of two harts, from turn 3 on: the third turn halts the board
-three_turns : turns 2 3 3 (Halted 7) ≡ (1, GoOn) ∷ (0, GoOn) ∷ (1, Halted 7) ∷ []
+three_turns : turns 2 3 3 (Halted 7) ≡ Turned 1 GoOn ∷ Turned 0 GoOn ∷ Turned 1 (Halted 7) ∷ []
 unfolding turns
 three_turns = refl
 
@@ -89,10 +90,30 @@ steps =
     ∷ AtB (receipt (asked.Step 1) (reply.Board (answer.Halted 7)))
     ∷ []
 
-a_refused_step_is_no_turn : flat_map turns_in steps ≡ turns 2 0 2 (Halted 7)
+a_refused_step_is_no_turn : flat_map marks_in steps ≡ turns 2 0 2 (Halted 7)
 unfolding turns
 a_refused_step_is_no_turn = refl
 
--- neither drains nor a look at registers are turns
-other_events_are_no_turns : flat_map turns_in (AtA (receipt (asked.Regs 0) (reply.Board answer.Done)) ∷ last ∷ []) ≡ []
-other_events_are_no_turns = refl
+-- of drains only one that found nothing is told beside the turns, and a look at registers is not
+drains_that_found_nothing_are_told : flat_map marks_in (AtA (receipt (asked.Regs 0) (reply.Board answer.Done)) ∷ calls)
+    ≡ Turned 0 GoOn ∷ Dry ∷ []
+drains_that_found_nothing_are_told = refl
+
+-- a drain comes after the 64th turn, which is number 63
+a_drain_after_the_64th_turn : drained 62 (turns 2 62 3 GoOn) ≡ Turned 0 GoOn ∷ Turned 1 GoOn ∷ Dry ∷ Turned 0 GoOn ∷ []
+unfolding drained turns
+a_drain_after_the_64th_turn = refl
+
+-- and at the end of a run, after a turn that halts the board too
+a_drain_at_the_end : AreTurns 1 1 (Ok ended.StepsSpent) (Turned 0 GoOn ∷ Dry ∷ [])
+unfolding drained turns
+a_drain_at_the_end = refl
+
+a_drain_after_a_halt : AreTurns 1 5 (Ok (ended.Halted 7)) (Turned 0 GoOn ∷ Turned 0 (Halted 7) ∷ Dry ∷ [])
+unfolding drained turns
+a_drain_after_a_halt = record { before = 1; within = omega arith; are = refl }
+
+-- so it is not where the drain is missing
+no_drain_at_the_end : AreTurns 1 1 (Ok ended.StepsSpent) (Turned 0 GoOn ∷ []) → ⊥
+unfolding drained turns
+no_drain_at_the_end is = absurd cc

@@ -1,5 +1,5 @@
 -- What a worker at two hosts was told by its calls, and which turns they made.
-use Rattle.std.specs.Prelude.{◌≡◌, ◌≢◌, ℕ, Bool, true, false, ◌==◌, ◌&&◌, List, [], ◌∷◌, ◌++◌, Option, None, Some, Result, Err, is_ok}
+use Rattle.std.specs.Prelude.{◌≡◌, ◌≢◌, ℕ, Bool, true, false, ◌==◌, List, [], ◌∷◌, ◌++◌, Option, None, Some, Result, Err, is_ok}
 use Rattle.std.specs.Io.KnownBytes.{Appends}
 use Rattle.std.specs.List.{All, flat_map}
 use Rattle.rvm_cell.specs.Receipts.{PlainReceipt}
@@ -12,8 +12,8 @@ use Rattle.rvm_worker.specs.Work.{PlainCaller}
 use Rattle.rvm_hart_worker.specs.declared.harts.TurnsEnd.{TurnsEnd}
 use Rattle.rvm_hart_worker.specs.declared.pair.Drained.{Drained}
 use Rattle.rvm_hart_worker.specs.declared.pair.Drained.TheVariants as drained
-use Rattle.rvm_hart_worker.specs.Drains.{is_nothing, told_by}
-use Rattle.rvm_hart_worker.specs.Turns.{AreTurns, Turn, turn_made}
+use Rattle.rvm_hart_worker.specs.Drains.{found_nothing, told_by}
+use Rattle.rvm_hart_worker.specs.Turns.{AreTurns, Mark, mark_made}
 use Rattle.rvm_worker.specs.declared.end.WorkEnd.{WorkEnd}
 use Rattle.rvm_worker.specs.declared.end.WorkEnd.TheVariants.{LinkFault}
 
@@ -47,10 +47,10 @@ abbrev pub bytes_in : Call → List ℕ
 bytes_in (AtA r) = drained_by r.event r.reply
 bytes_in (AtB r) = drained_by r.event r.reply
 
--- the turn that a call made, if it made one
-abbrev pub turns_in : Call → List Turn
-turns_in (AtA r) = turn_made r.event r.reply
-turns_in (AtB r) = turn_made r.event r.reply
+-- the turn that a call made, if it made one, or that it found nothing
+abbrev pub marks_in : Call → List Mark
+marks_in (AtA r) = mark_made r.event r.reply
+marks_in (AtB r) = mark_made r.event r.reply
 
 -- the event of a call
 abbrev pub event_in : Call → HostEvent
@@ -62,11 +62,6 @@ abbrev pub is_of_run : HostEvent → Bool
 is_of_run (event.Do (command.Board (asked.Step hart))) = true
 is_of_run (event.Do (command.Board (asked.Drain n))) = n == 256
 is_of_run e = false
-
--- whether an event was a drain of up to 256 bytes that found nothing, by the reply to it
-abbrev pub found_nothing : HostEvent → HostReply → Bool
-found_nothing (event.Do (command.Board (asked.Drain n))) r = (n == 256) && is_nothing (told_by r)
-found_nothing e r = false
 
 -- whether a call was such a drain
 abbrev pub is_dry : Call → Bool
@@ -91,8 +86,8 @@ has_none None = true
 has_none (Some bs) = false
 
 -- calls were made by a caller at each of two hosts, none but steps and drains: the drains told these bytes, and the
--- steps made these turns; where `dry`, the last call found nothing
-pub record Made (old new : PlainCaller × PlainCaller) (bytes : List ℕ) (turns : List Turn) (dry : Bool) : Type 0 where
+-- calls left these turns and drains that found nothing; where `dry`, the last call found nothing
+pub record Made (old new : PlainCaller × PlainCaller) (bytes : List ℕ) (marks : List Mark) (dry : Bool) : Type 0 where
   pub calls : List Call
   pub start_a : new.0.start ≡ old.0.start
   pub start_b : new.1.start ≡ old.1.start
@@ -100,32 +95,32 @@ pub record Made (old new : PlainCaller × PlainCaller) (bytes : List ℕ) (turns
   pub at_b : new.1.receipts ≡ old.1.receipts ++ flat_map in_b calls
   pub only : All (λ c. is_of_run (event_in c) ≡ true) calls
   pub told : flat_map bytes_in calls ≡ bytes
-  pub turned : flat_map turns_in calls ≡ turns
+  pub turned : flat_map marks_in calls ≡ marks
   pub ends : dry ≡ true → EndsDry calls
 
 -- calls were made, and a writer was given the bytes that their drains told, unless it failed
 pub record Written (old new : PlainCaller × PlainCaller) (before after : Option (List ℕ)) (works : Type 0)
-    (turns : List Turn) (dry : Bool) : Type 0 where
+    (marks : List Mark) (dry : Bool) : Type 0 where
   pub bytes : List ℕ
-  pub made : Made old new bytes turns dry
+  pub made : Made old new bytes marks dry
   pub written : works → Appends before after bytes
 
 -- the calls of a run that ended so, and what a writer was given of them
 pub record HasRun (old new : PlainCaller × PlainCaller) (before after : Option (List ℕ)) (harts steps : ℕ)
     (end : Result TurnsEnd WorkEnd) : Type 0 where
-  pub turns : List Turn
-  pub are : AreTurns harts steps end turns
-  pub written : Written old new before after (end ≢ Err LinkFault) turns (is_ok end)
+  pub marks : List Mark
+  pub are : AreTurns harts steps end marks
+  pub written : Written old new before after (end ≢ Err LinkFault) marks (is_ok end)
 
--- receipts of calls at two hosts, none but steps and drains, in an order in which the steps are the turns of a run, and
--- of which a writer was given the bytes that drains told, unless it failed; where the run came to its end, the last
--- call is a drain that found nothing
+-- receipts of calls at two hosts, none but steps and drains, in an order in which the steps are the turns of a run, with a
+-- drain that found nothing after each 64th turn and at the end, and of which a writer was given the bytes that drains
+-- told, unless it failed; where the run came to its end, the last call is a drain that found nothing
 pub record IsRun (at_a at_b : List PlainReceipt) (before after : Option (List ℕ)) (works : Type 0) (harts steps : ℕ)
     (end : Result TurnsEnd WorkEnd) : Type 0 where
   pub calls : List Call
   pub first : at_a ≡ flat_map in_a calls
   pub second : at_b ≡ flat_map in_b calls
   pub only : All (λ c. is_of_run (event_in c) ≡ true) calls
-  pub turned : AreTurns harts steps end (flat_map turns_in calls)
+  pub turned : AreTurns harts steps end (flat_map marks_in calls)
   pub written : works → Appends before after (flat_map bytes_in calls)
   pub ends : is_ok end ≡ true → EndsDry calls

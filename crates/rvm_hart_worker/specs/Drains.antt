@@ -1,6 +1,10 @@
 -- What a drain took.
-use Rattle.std.specs.Prelude.{Bool, true, false, [], ◌∷◌}
+use Rattle.std.specs.Prelude.{Bool, true, false, ◌==◌, ◌&&◌, [], ◌∷◌}
+use Rattle.rvm_debug.specs.declared.event.BoardEvent.TheVariants as asked
 use Rattle.rvm_debug.specs.declared.event.BoardReply.TheVariants as answer
+use Rattle.rvm_message.specs.declared.event.Command.TheVariants as command
+use Rattle.rvm_message.specs.declared.event.HostEvent.{HostEvent}
+use Rattle.rvm_message.specs.declared.event.HostEvent.TheVariants as event
 use Rattle.rvm_message.specs.declared.reply.HostReply.{HostReply}
 use Rattle.rvm_message.specs.declared.reply.HostReply.TheVariants as reply
 use Rattle.rvm_hart_worker.specs.declared.pair.Drained.{Drained}
@@ -16,3 +20,8 @@ told_by r = drained.Elsewhere
 abbrev pub is_nothing : Drained → Bool
 is_nothing drained.Nothing = true
 is_nothing d = false
+
+-- whether an event was a drain of up to 256 bytes that found nothing, by the reply to it
+abbrev pub found_nothing : HostEvent → HostReply → Bool
+found_nothing (event.Do (command.Board (asked.Drain n))) r = (n == 256) && is_nothing (told_by r)
+found_nothing e r = false

@@ -1,5 +1,5 @@
 -- Turns, and what comes after them.
-use Rattle.std.specs.Prelude.{◌≡◌, ℕ, zero, suc, ◌-◌, ◌%◌, ◌≤◌, ◌<◌, Bool, true, false, List, [], ◌∷◌, Result, Ok, Err, if◌then◌else◌}
+use Rattle.std.specs.Prelude.{◌≡◌, ℕ, zero, suc, ◌-◌, ◌%◌, ◌≤◌, ◌<◌, ◌==◌, Bool, true, false, List, [], ◌∷◌, ◌++◌, Result, Ok, Err, if◌then◌else◌}
 use Rattle.rvm_debug.specs.declared.event.BoardEvent.TheVariants as asked
 use Rattle.rvm_debug.specs.declared.event.BoardReply.{BoardReply}
 use Rattle.rvm_debug.specs.declared.event.BoardReply.TheVariants as answer
@@ -17,6 +17,7 @@ use Rattle.rvm_hart_worker.specs.declared.slices.Then.TheVariants.{GoOn, Elsewhe
 use Rattle.rvm_worker.specs.declared.end.WorkEnd.{WorkEnd}
 use Rattle.rvm_worker.specs.declared.end.WorkEnd.TheVariants.{GuestStopped, LinkFault, OutOfRange}
 use Rattle.rvm_worker.specs.Endings.{is_uncalled}
+use Rattle.rvm_hart_worker.specs.Drains.{found_nothing}
 
 -- after the board's answer: a hart that stops at a breakpoint has had its turn
 abbrev pub after_answer : BoardReply → Then
@@ -45,26 +46,37 @@ abbrev pub after_turns : Then → Then
 after_turns Elsewhere = GoOn
 after_turns t = t
 
--- a turn: the hart that stepped, and what comes then
-abbrev pub Turn : Type 0
-Turn = ℕ × Then
+-- what a call leaves of a run: a hart made its turn, after which this comes, or a drain found nothing
+pub data Mark : Type 0 where
+  Turned : (hart : ℕ) → Then → Mark
+  Dry : Mark
 
 -- so many turns of so many harts, which step one after another, from a turn on: after the last comes this, after each
 -- other one the next turn
-unfoldable pub turns : (harts from count : ℕ) → Then → List Turn
+unfoldable pub turns : (harts from count : ℕ) → Then → List Mark
 turns harts from zero last = []
-turns harts from (suc zero) last = (from % harts, last) ∷ []
-turns harts from (suc (suc n)) last = (from % harts, GoOn) ∷ turns harts (suc from) (suc n) last
+turns harts from (suc zero) last = Turned (from % harts) last ∷ []
+turns harts from (suc (suc n)) last = Turned (from % harts) GoOn ∷ turns harts (suc from) (suc n) last
+
+-- a drain that found nothing, if there was one
+abbrev pub if_dry : (dry : Bool) → List Mark
+if_dry true = Dry ∷ []
+if_dry false = []
+
+-- turns of a run that has made so many before, with a drain after each 64th turn of the run
+unfoldable pub drained : (made : ℕ) → List Mark → List Mark
+drained made [] = []
+drained made (t ∷ ts) = t ∷ if_dry (made % 64 == 63) ++ drained (suc made) ts
 
 -- the turn that a hart's step was, if this comes after it
-abbrev pub turn_of_step : (hart : ℕ) → Then → List Turn
+abbrev pub turn_of_step : (hart : ℕ) → Then → List Mark
 turn_of_step hart Elsewhere = []
-turn_of_step hart t = (hart, t) ∷ []
+turn_of_step hart t = Turned hart t ∷ []
 
--- the turn that an event was, by the reply to it, if it was one
-abbrev pub turn_made : HostEvent → HostReply → List Turn
-turn_made (event.Do (command.Board (asked.Step hart))) r = turn_of_step hart (after_step r)
-turn_made e r = []
+-- the turn that an event was, by the reply to it, if it was one, or that it found nothing
+abbrev pub mark_made : HostEvent → HostReply → List Mark
+mark_made (event.Do (command.Board (asked.Step hart))) r = turn_of_step hart (after_step r)
+mark_made e r = if_dry (found_nothing e r)
 
 -- how turns and drains fail: neither host takes one, a slice has not so many turns, or the call was not made
 abbrev pub fails_calling : WorkEnd → Bool
@@ -77,22 +89,23 @@ abbrev pub fails_running : WorkEnd → Bool
 fails_running LinkFault = true
 fails_running end = fails_calling end
 
--- turns of a run, of which the last halted the board
-pub record Halts (harts steps status : ℕ) (made : List Turn) : Type 0 where
+-- a run whose last turn halted the board, and one drain after it
+pub record Halts (harts steps status : ℕ) (made : List Mark) : Type 0 where
   pub before : ℕ
   pub within : before < steps
-  pub are : made ≡ turns harts 0 (suc before) (Halted status)
+  pub are : made ≡ drained 0 (turns harts 0 before GoOn) ++ Turned (before % harts) (Halted status) ∷ Dry ∷ []
 
--- the first turns of a run
-pub record Begins (harts steps : ℕ) (made : List Turn) : Type 0 where
+-- the first turns and drains of a run
+pub record Begins (harts steps : ℕ) (made : List Mark) : Type 0 where
   pub count : ℕ
   pub last : Then
   pub within : count ≤ steps
-  pub are : made ≡ turns harts 0 count last
+  pub rest : List Mark
+  pub are : made ++ rest ≡ drained 0 (turns harts 0 count last)
 
--- the turns of a run of at most so many, by how it ended: all were made, or the last one halted the board, or it failed
--- after some
-abbrev pub AreTurns : (harts steps : ℕ) → Result TurnsEnd WorkEnd → List Turn → Type 0
-AreTurns harts steps (Ok ended.StepsSpent) made = made ≡ turns harts 0 steps GoOn
+-- the turns and the drains of a run of at most so many turns, by how it ended: all turns were made, or the last one halted
+-- the board, and a drain came then; or it failed after some
+abbrev pub AreTurns : (harts steps : ℕ) → Result TurnsEnd WorkEnd → List Mark → Type 0
+AreTurns harts steps (Ok ended.StepsSpent) made = made ≡ drained 0 (turns harts 0 steps GoOn) ++ Dry ∷ []
 AreTurns harts steps (Ok (ended.Halted status)) made = Halts harts steps status made
 AreTurns harts steps (Err why) made = Begins harts steps made

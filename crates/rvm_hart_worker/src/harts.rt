@@ -1,11 +1,11 @@
 //! The hart worker: it makes the turns of the guest's harts, wherever the guest is.
 
-ghost use Rattle.std.specs.Prelude.{◌≡◌, ◌≢◌, true, false, [], OnOk, IfOk, IfErr, Ok, Err, ⊤};
+ghost use Rattle.std.specs.Prelude.{◌≡◌, ◌≢◌, true, false, [], ◌∷◌, OnOk, IfOk, IfErr, Ok, Err, ⊤};
 ghost use Rattle.std.specs.Io.KnownBytes.{Appends};
 ghost use Rattle.rvm_cell.specs.Runs.{all_of};
 ghost use Rattle.rvm_worker.specs.Work.{IsWork};
 ghost use Rattle.rvm_hart_worker.specs.Calls.{HasRun, IsRun, Written};
-ghost use Rattle.rvm_hart_worker.specs.Turns.{fails_running};
+ghost use Rattle.rvm_hart_worker.specs.Turns.{Dry, fails_running};
 
 use crate::pair::{Hosts, Pair};
 use crate::slices::{Then, until_drain};
@@ -150,7 +150,7 @@ fn drain<A: Seating, B: Seating, M: PagedMemory + Drop, W: Write, G: Gate, R: Wa
     writer: &mut W,
 ) -> Result<(), WorkEnd>
     ensures written { OnOk result (Written (pair.old.at_a, pair.old.at_b) (pair.new.at_a, pair.new.at_b)
-        (W.contents writer.old) (W.contents writer.new) ⊤ [] true) }
+        (W.contents writer.old) (W.contents writer.new) ⊤ (Dry ∷ []) true) }
     ensures err { IfErr result (λ e. Written (pair.old.at_a, pair.old.at_b) (pair.new.at_a, pair.new.at_b)
         (W.contents writer.old) (W.contents writer.new) (e ≢ WorkEnd.LinkFault) [] false) }
     ensures fails { IfErr result (λ e. fails_running e ≡ true) }

@@ -1,10 +1,10 @@
 //! The guest's host, of two.
 
-ghost use Rattle.std.specs.Prelude.{◌≡◌, ◌≢◌, ◌≤◌, true, false, [], IfErr, IfOk, OnErr};
+ghost use Rattle.std.specs.Prelude.{◌≡◌, ◌≢◌, ◌≤◌, true, false, [], ◌∷◌, IfErr, IfOk, OnErr};
 ghost use Rattle.rvm_hart_worker.specs.Calls.{Made, bytes_of, given, has_none};
 ghost use Rattle.rvm_hart_worker.specs.declared.slices.Then.TheVariants.{Elsewhere};
 ghost use Rattle.rvm_hart_worker.specs.Drains.{is_nothing, told_by};
-ghost use Rattle.rvm_hart_worker.specs.Turns.{after_turns, fails_calling, turns};
+ghost use Rattle.rvm_hart_worker.specs.Turns.{Dry, after_turns, fails_calling, if_dry, turns};
 
 use crate::slices::{Slice, Then, made_by};
 use rvm_cell::{Seating, SharedHost};
@@ -208,7 +208,7 @@ impl<A: Seating, B: Seating> Pair<A, B> {
         rt: &R,
         hosts: &Hosts<'_, A, B, M>,
     ) -> bool
-        ensures dry { result ≡ true → Made (self.old.at_a, self.old.at_b) (self.new.at_a, self.new.at_b) [] [] true }
+        ensures dry { result ≡ true → Made (self.old.at_a, self.old.at_b) (self.new.at_a, self.new.at_b) [] (Dry ∷ []) true }
         ensures none { result ≡ false → Made (self.old.at_a, self.old.at_b) (self.new.at_a, self.new.at_b) [] [] false }
     {
         if self.is_at_a {
@@ -227,7 +227,7 @@ impl<A: Seating, B: Seating> Pair<A, B> {
         hosts: &Hosts<'_, A, B, M>,
     ) -> Result<Drained, WorkEnd>
         ensures made { IfOk result (λ d. Made (self.old.at_a, self.old.at_b)
-            (self.new.at_a, self.new.at_b) (bytes_of d) [] (is_nothing d)) }
+            (self.new.at_a, self.new.at_b) (bytes_of d) (if_dry (is_nothing d)) (is_nothing d)) }
         ensures err { OnErr result (Made (self.old.at_a, self.old.at_b) (self.new.at_a, self.new.at_b) [] [] false) }
         ensures fails { IfErr result (λ e. fails_calling e ≡ true) }
     {
@@ -249,7 +249,7 @@ impl<A: Seating, B: Seating> Pair<A, B> {
         hosts: &Hosts<'_, A, B, M>,
     ) -> Result<Drained, WorkEnd>
         ensures made { IfOk result (λ d. Made (self.old.at_a, self.old.at_b)
-            (self.new.at_a, self.new.at_b) (bytes_of d) [] (is_nothing d)) }
+            (self.new.at_a, self.new.at_b) (bytes_of d) (if_dry (is_nothing d)) (is_nothing d)) }
         ensures err { OnErr result (Made (self.old.at_a, self.old.at_b) (self.new.at_a, self.new.at_b) [] [] false) }
         ensures fails { IfErr result (λ e. fails_calling e ≡ true) }
     {
@@ -269,7 +269,7 @@ impl<A: Seating, B: Seating> Pair<A, B> {
         watch: &mut Watch<'_, G>,
     ) -> Result<Drained, WorkEnd>
         ensures made { IfOk result (λ d. Made (self.old.at_a, self.old.at_b)
-            (self.new.at_a, self.new.at_b) (bytes_of d) [] (is_nothing d)) }
+            (self.new.at_a, self.new.at_b) (bytes_of d) (if_dry (is_nothing d)) (is_nothing d)) }
         ensures err { OnErr result (Made (self.old.at_a, self.old.at_b) (self.new.at_a, self.new.at_b) [] [] false) }
         ensures fails { IfErr result (λ e. fails_calling e ≡ true) }
     {
@@ -292,7 +292,7 @@ impl<A: Seating, B: Seating> Pair<A, B> {
         watch: &mut Watch<'_, G>,
     ) -> Result<Drained, WorkEnd>
         ensures made { IfOk result (λ d. Made (self.old.at_a, self.old.at_b)
-            (self.new.at_a, self.new.at_b) (bytes_of d) [] (is_nothing d)) }
+            (self.new.at_a, self.new.at_b) (bytes_of d) (if_dry (is_nothing d)) (is_nothing d)) }
         ensures err { OnErr result (Made (self.old.at_a, self.old.at_b) (self.new.at_a, self.new.at_b) [] [] false) }
         ensures fails { IfErr result (λ e. fails_calling e ≡ true) }
     {
@@ -313,7 +313,7 @@ impl<A: Seating, B: Seating> Pair<A, B> {
         watch: &mut Watch<'_, G>,
     ) -> Result<Option<View>, WorkEnd>
         ensures made { IfOk result (λ o. Made (self.old.at_a, self.old.at_b)
-            (self.new.at_a, self.new.at_b) (given o) [] (has_none o)) }
+            (self.new.at_a, self.new.at_b) (given o) (if_dry (has_none o)) (has_none o)) }
         ensures err { OnErr result (Made (self.old.at_a, self.old.at_b) (self.new.at_a, self.new.at_b) [] [] false) }
         ensures fails { IfErr result (λ e. fails_calling e ≡ true) }
     {

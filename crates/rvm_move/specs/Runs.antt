@@ -5,7 +5,7 @@ use Rattle.std.specs.Prelude.{◌≡◌, ◌≢◌, ℕ, true, List, map, Option
 use Rattle.rvm_cell.specs.declared.closing.CloseKind.{CloseKind}
 use Rattle.rvm_cell.specs.Receipts.{PlainReceipt}
 use Rattle.rvm_cell.specs.Seats.{PlainSeat}
-use Rattle.rvm_hart_worker.specs.Calls.{Call, EndsDry, bytes_in, event_in, in_a, in_b, is_of_run, turns_in}
+use Rattle.rvm_hart_worker.specs.Calls.{Call, EndsDry, bytes_in, event_in, in_a, in_b, is_of_run, marks_in}
 use Rattle.rvm_hart_worker.specs.Turns.{AreTurns}
 use Rattle.rvm_hart_worker.specs.declared.harts.TurnsEnd.{TurnsEnd}
 use Rattle.rvm_journal.specs.Entries.{PlainEntry, exchange_of}
@@ -31,15 +31,16 @@ pub record AreOfOne (receipts : List PlainReceipt) : Type 0 where
   pub work : IsWork first last receipts
 
 -- of two journals: the events of the guest in both are calls that were made one after the other, steps and drains alone. The
--- steps are the turns of a run that ended so, and what was written are the bytes that the drains told, in that order; where
--- the run came to its end, the last call is a drain that found nothing
+-- steps are the turns of a run that ended so, with a drain that found nothing after each 64th turn and at the end, and what
+-- was written are the bytes that the drains told, in that order; where the run came to its end, the last call is a drain that
+-- found nothing
 pub record IsRunOf (first second : List PlainEntry) (before after : Option (List ℕ)) (harts steps : ℕ)
     (end : Result TurnsEnd WorkEnd) : Type 0 where
   pub calls : List Call
   pub of_first : of_guest first ≡ called_of_guest (flat_map in_a calls)
   pub of_second : of_guest second ≡ called_of_guest (flat_map in_b calls)
   pub only : All (λ c. is_of_run (event_in c) ≡ true) calls
-  pub turned : AreTurns harts steps end (flat_map turns_in calls)
+  pub turned : AreTurns harts steps end (flat_map marks_in calls)
   pub written : Appends before after (flat_map bytes_in calls)
   pub ends : is_ok end ≡ true → EndsDry calls
 
