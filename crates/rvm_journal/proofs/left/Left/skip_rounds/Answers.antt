@@ -11,8 +11,9 @@ returns-clause-skipped c =
     let x = c.index-self-self.result in
     let rest = all_of (drop (l.passed + 1) l.items.now) in
     let split : all_of (drop l.passed l.items.now) ≡ entries_at c.look.result ++ rest =
-    ap all_of (drop_more l.items.now l.passed x ?)
+    ap all_of (drop_more l.items.now l.passed x (omega (arith, c.if-self.false)))
     ∙ ap (λ z. z ++ rest) (sym c.look.ensures) in
-    sym c.self.view_is ∙ ap (λ k. drop k (all_of (drop l.passed l.items.now))) ? ∙ split
-    ∙ first_passed n (rounds_of c.args.rounds.now) (entries_at c.look.result) rest (c.in_common.ensures.same n ?)
+    let none : l.skipped ≡ 0 = c.if-self-ne0.false in
+    sym c.self.view_is ∙ ap (λ k. drop k (all_of (drop l.passed l.items.now))) none ∙ split
+    ∙ first_passed n (rounds_of c.args.rounds.now) (entries_at c.look.result) rest (c.in_common.ensures.same n (omega (arith, c.min-n.ensures)))
     ∙ ap (λ z. take n (rounds_of c.args.rounds.now) ++ drop n z) (sym split)
