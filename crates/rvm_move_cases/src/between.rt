@@ -160,7 +160,7 @@ fn pass<L: Seating, N: Seating, R: AllocGlobal + Wait>(
 
 /// How the worker of the harts ended, and how often it waited: for a millisecond, and otherwise.
 #[derive(Clone, Copy)]
-struct Tried {
+struct Tries {
     end: Result<TurnsEnd, WorkEnd>,
     short: u32,
     others: u32,
@@ -169,7 +169,7 @@ struct Tried {
 /// Makes turns of a guest that came to a host and is paused there, and prints how they are tried.
 pub fn try_turns<R: AllocGlobal + Print + Wait>(rt: &R) -> anyhow::Result<()> {
     match tried(rt) {
-        Some(Tried { end, short, others }) => println!(rt;
+        Some(Tries { end, short, others }) => println!(rt;
             "a paused guest: {end:?}, waits of 1 ms {short}, others {others}"
         )?,
         None => println!(rt; "a paused guest: no host")?,
@@ -178,7 +178,7 @@ pub fn try_turns<R: AllocGlobal + Print + Wait>(rt: &R) -> anyhow::Result<()> {
 }
 
 /// How the turns of such a guest are tried.
-fn tried<R: AllocGlobal + Wait>(rt: &R) -> Option<Tried> {
+fn tried<R: AllocGlobal + Wait>(rt: &R) -> Option<Tries> {
     match new_hosts::<PagedRam>(rt.alloc(), &to_move(STEPS, 1), LOOP) {
         Ok((a, b)) => tried_at::<Brand, Brand, R>(rt, (Blank::new(2), Blank::new(2)), a, b),
         Err(_) => None,
@@ -191,7 +191,7 @@ fn tried_at<L: Seating, N: Seating, R: AllocGlobal + Wait>(
     blanks: (Blank, Blank),
     a: Recorded<PagedRam>,
     b: Recorded<PagedRam>,
-) -> Option<Tried>
+) -> Option<Tries>
     requires ledger_a { (blanks.0.name ≡ L.name) × (blanks.0.parts ≡ L.parts) × (L.seats ≡ L.parts) }
     requires ledger_b { (blanks.1.name ≡ N.name) × (blanks.1.parts ≡ N.parts) × (N.seats ≡ N.parts) }
     requires seats { (blanks.0.parts ≡ 2) × (blanks.1.parts ≡ 2) }
@@ -220,7 +220,7 @@ fn tried_beside<L: Seating, N: Seating, R: AllocGlobal + Wait>(
     seats: Vec<Seat<L>>,
     blank: Blank,
     recorded: Recorded<PagedRam>,
-) -> Option<Tried>
+) -> Option<Tries>
     requires ledger { (blank.name ≡ N.name) × (blank.parts ≡ N.parts) × (N.seats ≡ N.parts) }
     requires seats { blank.parts ≡ 2 }
     requires empty { recorded.journal.entries ≡ [] }
@@ -246,7 +246,7 @@ fn tried_by<L: Seating, N: Seating, R: AllocGlobal + Wait>(
     hosts: &Hosts<'_, L, N, PagedRam>,
     at_a: Vec<Seat<L>>,
     at_b: Vec<Seat<N>>,
-) -> Option<Tried> {
+) -> Option<Tries> {
     let (mut at_a, mut at_b) = (at_a, at_b);
     let (Some(carrier_a), Some(harts_a)) = (at_a.pop(), at_a.pop()) else {
         return None;
@@ -274,7 +274,7 @@ fn turned<L: Seating, N: Seating, R: AllocGlobal + Wait>(
     rt: &R,
     hosts: &Hosts<'_, L, N, PagedRam>,
     seats: (Seat<L>, Seat<N>),
-) -> Tried {
+) -> Tries {
     let clock = Counting {
         rt,
         short: AtomicU32::new(0),
@@ -291,7 +291,7 @@ fn turned<L: Seating, N: Seating, R: AllocGlobal + Wait>(
         1,
         STEPS,
     );
-    Tried {
+    Tries {
         end: worked.end,
         short: clock.short.load(Ordering::SeqCst),
         others: clock.others.load(Ordering::SeqCst),
