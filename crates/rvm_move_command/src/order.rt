@@ -49,10 +49,7 @@ pub(crate) fn write_order<M: PagedMemory + Drop, O: Write + Drop, E: Write>(
 }
 
 /// Writes the events of an order, and what the writer held back.
-fn write_whole<O: Write + Drop>(
-    output: &mut BufWriter<O>,
-    order: &Order,
-) -> Result<(), LinkFault>
+fn write_whole<O: Write + Drop>(output: &mut BufWriter<O>, order: &Order) -> Result<(), LinkFault>
     ensures written { OnOk result (Appends (writer_contents O.contents output.old)
         (writer_contents O.contents output.new) (event_lines 2 order.now)) }
     ensures out { OnOk result (is_flushed output.new) }
