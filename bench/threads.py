@@ -199,19 +199,19 @@ def waiting_in(pipe):
 
 
 def silent_turns(image, delay):
-    """The turns a second of a guest that is woken so many seconds after it filled its pipe; none if it halted at the
-    target, or its move was given up."""
+    """The turns a second of a guest that is woken so many seconds after it filled its pipe. What it still sends then
+    counts as time, so that this is a little less than its speed."""
     words = [PROGRAM, "move", image, "--raw", "--pages", str(PAGES), "--steps", str(MORE)]
     process = subprocess.Popen(words, stdout=subprocess.PIPE, stderr=subprocess.PIPE, pipesize=4096)
     pipe, came = process.stdout.fileno(), 0
-    while waiting_in(pipe) < 4096:
+    while waiting_in(pipe) < 4096 - 256:
         pass
     begun = time.perf_counter()
     while time.perf_counter() < begun + delay:
         pass
+    woken = time.perf_counter()
     while came < SENT:
         came += len(os.read(pipe, SENT - came))
-    woken = time.perf_counter()
     last = os.read(pipe, 1)
     ended = time.perf_counter()
     answers = process.communicate()[1]
