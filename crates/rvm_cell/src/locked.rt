@@ -71,7 +71,8 @@ impl<L: Seating, M: PagedMemory + Drop> Locked<L, M> {
         }
     }
 
-    /// Records an event for a seat. `copy` is the same event, for the receipt, which takes this room.
+    /// Records an event for a seat. `copy` is the same event, for the receipt, which takes this room; the bytes of its frame
+    /// may take the other one.
     pub(crate) fn call(
         &mut self,
         alloc: Global,
@@ -79,6 +80,7 @@ impl<L: Seating, M: PagedMemory + Drop> Locked<L, M> {
         event: HostEvent,
         copy: HostEvent,
         room: ExchangeRoom,
+        frame: &mut Vec<u8>,
     ) -> Result<(Receipt, Option<Addressed>), (RecordError, HostEvent)>
         requires { copy ≡ event }
         ensures called { IfOk result (λ r. IsCalled self.old seat.old event r self.new) }
@@ -101,7 +103,7 @@ impl<L: Seating, M: PagedMemory + Drop> Locked<L, M> {
             slices: _,
         } = seat;
         book.audit(share);
-        match recorded.record(alloc, event) {
+        match recorded.record_into(alloc, event, frame) {
             Err(e) => Err(e),
             Ok((place, reply, frame)) => {
                 book.add(share, 1);

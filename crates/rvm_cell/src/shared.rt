@@ -15,17 +15,37 @@ use crate::receipt::Receipt;
 use crate::seat::{Seat, Seating};
 use rvm_frame::Addressed;
 use rvm_journal::{RecordError, Recorded, SliceError, is_slice_in_range};
-use rvm_mem::PagedMemory;
-use rvm_message::HostEvent;
+use rvm_mem::{PAGE_SIZE, PagedMemory};
+use rvm_message::{Command, HostEvent};
 use rvm_refusal::Refusal;
 use std::alloc::Global;
+use std::hint::spin_loop;
 use std::sync::ledger::{Blank, Share};
-use std::sync::{Condvar, Mutex, Wait};
+use std::sync::{Condvar, Mutex, MutexGuard, Wait};
 use std::time::{Clock, Duration};
 use thiserror::Error;
 
 /// The most seats of a host.
 const MAX_SEATS: u32 = 16;
+
+/// How often the lock is tried before a thread waits for it: some tens of microseconds.
+const TRIES: u32 = 1000;
+
+/// How many bytes the frame of a page has at most, in each version, and one more.
+const PAGE_FRAME: usize = PAGE_SIZE as usize + 64;
+
+/// Room for the frame that a copy makes, whose memory has been written to: the system finds memory for it before the lock
+/// is held, and not under it. None for other events, or where memory lacks.
+fn frame_room(alloc: Global, event: &HostEvent) -> Vec<u8>
+    ensures { result.items ≡ [] }
+{
+    let mut room = Vec::new(alloc);
+    if matches!(event, HostEvent::Do(Command::Copy)) {
+        let _written = room.resize(PAGE_FRAME, 0);
+        room.clear();
+    }
+    room
+}
 
 /// Why a host was not shared.
 #[derive(Clone, Copy, PartialEq, Eq, Debug, Error)]
@@ -145,11 +165,24 @@ impl<L: Seating, M: PagedMemory + Drop> SharedHost<L, M> {
         let Ok(room) = seat.take_room(alloc) else {
             return Err((RecordError::OutOfMemory, event));
         };
-        let mut locked = self.lock.lock(rt);
+        let mut frame = frame_room(alloc, &event);
+        let mut locked = self.hold(rt);
         let had_started = locked.has_started;
-        let called = locked.call(alloc, seat, event, copy, room);
+        let called = locked.call(alloc, seat, event, copy, room, &mut frame);
         self.wake(had_started, locked.has_started);
         called
+    }
+
+    /// Holds the lock. Others hold it for a few microseconds, less than a thread takes to sleep and to be woken: it is tried
+    /// for a while before it is waited for.
+    fn hold<R: Wait>(&self, rt: &R) -> MutexGuard<'_, Locked<L, M>> {
+        for _try in 0..TRIES {
+            if let Some(locked) = self.lock.try_lock() {
+                return locked;
+            }
+            spin_loop();
+        }
+        self.lock.lock(rt)
     }
 
     /// Wakes who waits, where the guest has started to run here.
@@ -179,7 +212,7 @@ impl<L: Seating, M: PagedMemory + Drop> SharedHost<L, M> {
         ensures seat { IfSome result (λ r. seat.new ≡ seat_of seat.old.id (seat.old.count + 1)) }
         ensures none { IfNone result (seat.new ≡ seat.old) }
     {
-        self.lock.lock(rt).call_dry(seat, bytes)
+        self.hold(rt).call_dry(seat, bytes)
     }
 
     /// Records a slice of at most n steps, 1 to 64, under one hold of the lock, as `Recorded::record_slice`
@@ -206,8 +239,7 @@ impl<L: Seating, M: PagedMemory + Drop> SharedHost<L, M> {
         let Ok(receipts) = seat.take_slice_room(alloc) else {
             return Err(SliceError::OutOfMemory);
         };
-        self.lock
-            .lock(rt)
+        self.hold(rt)
             .call_slice(alloc, seat, turn, harts, n, receipts)
     }
 }

@@ -12,6 +12,10 @@ use std::alloc::Global;
 use std::process::Abort;
 use std::test::Fail;
 
+/// How many bytes of RAM an answer has, and how many such answers four pages are.
+const VIEW: u32 = 256;
+const VIEWS: u32 = 64;
+
 /// A world whose first host has a guest of so many pages that loops.
 pub fn world(
     alloc: Global,
@@ -51,7 +55,7 @@ fn turn(
 }
 
 /// A number over all that a world shows: the host of its guest, the bytes of each frame, and at each host what
-/// registers the guest has and what its RAM begins with. Takes no memory.
+/// registers the guest has and what its first four pages have. Takes no memory.
 fn digest(alloc: Global, world: &mut World<FlatMemory>) -> Result<u64, Fail> {
     let mut sum = u64::from(world.current());
     for place in 0..world.sent() {
@@ -67,18 +71,26 @@ fn digest(alloc: Global, world: &mut World<FlatMemory>) -> Result<u64, Fail> {
 
 /// What a guest at this host shows, or why none answers.
 fn guest_digest(alloc: Global, world: &mut World<FlatMemory>, host: u8) -> Result<u64, Fail> {
-    let mut sum = 0;
-    for event in [
-        BoardEvent::Regs(0),
-        BoardEvent::Mem {
-            address: RAM_BASE,
-            length: 4096,
-        },
-    ] {
-        let reply = world.apply(alloc, &rvm_world::Event::At(host, Command::Board(event)))?;
-        sum = more(sum, reply_digest(&reply.reply));
+    let mut sum = event_digest(alloc, world, host, BoardEvent::Regs(0))?;
+    for view in 0..VIEWS {
+        let event = BoardEvent::Mem {
+            address: RAM_BASE.wrapping_add(view * VIEW),
+            length: VIEW,
+        };
+        sum = more(sum, event_digest(alloc, world, host, event)?);
     }
     Ok(sum)
+}
+
+/// A number over what a host answers to an event of its guest.
+fn event_digest(
+    alloc: Global,
+    world: &mut World<FlatMemory>,
+    host: u8,
+    event: BoardEvent,
+) -> Result<u64, Fail> {
+    let reply = world.apply(alloc, &rvm_world::Event::At(host, Command::Board(event)))?;
+    Ok(reply_digest(&reply.reply))
 }
 
 /// A number over the answer of a guest.

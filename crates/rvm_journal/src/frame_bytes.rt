@@ -9,6 +9,7 @@ use rvm_frame::{Addressed, Frame, append_frame};
 use rvm_mem::PAGE_SIZE;
 use std::alloc::{AllocError, Global};
 use std::marker::Model;
+use std::mem;
 
 /// How many bytes a page has.
 const PAGE: usize = PAGE_SIZE as usize;
@@ -36,14 +37,22 @@ impl Model for FrameBytes {
 }
 
 impl FrameBytes {
-    /// Room for the bytes of a frame that has at most so many; none for 0.
-    pub(crate) fn room(alloc: Global, most: usize) -> Result<Vec<u8>, AllocError>
+    /// Room for the bytes of a frame that has at most so many; none for 0. Where they may be those of a page, the room that is
+    /// there is taken, if it is enough.
+    pub(crate) fn room(
+        alloc: Global,
+        most: usize,
+        spare: &mut Vec<u8>,
+    ) -> Result<Vec<u8>, AllocError>
         ensures empty { IfOk result (λ v. v.items ≡ []) }
         ensures room { IfOk result (λ v. most ≤ vec_capacity v - 1) }
         ensures none { most ≡ 0 → IsOk result }
     {
         if most == 0 {
             return Ok(Vec::new(alloc));
+        }
+        if most >= PAGE && spare.is_empty() && spare.capacity() > most {
+            return Ok(mem::replace(spare, Vec::new(alloc)));
         }
         let Some(count) = most.checked_add(1) else {
             return Err(AllocError);

@@ -108,6 +108,22 @@ impl<M: PagedMemory + Drop> Recorded<M> {
         ensures fault { IfErr result (λ e. IsRecordError e.0 (count_of self.old) self.old.capacity) }
         ensures board { is_board event ≡ true → 0 < self.old.journal.reserved → IsOk result }
     {
+        self.record_into(alloc, event, &mut Vec::new(alloc))
+    }
+
+    /// The same, where the bytes of a frame as long as a page's may take room that is there, which is then gone.
+    pub fn record_into(
+        &mut self,
+        alloc: Global,
+        event: HostEvent,
+        spare: &mut Vec<u8>,
+    ) -> Result<(u32, HostReply, Option<Addressed>), (RecordError, HostEvent)>
+        ensures recorded { IfOk result (λ r. IsRecorded self.old event r self.new) }
+        ensures err { OnErr result (self.new ≡ self.old) }
+        ensures event { IfErr result (λ e. e.1 ≡ event) }
+        ensures fault { IfErr result (λ e. IsRecordError e.0 (count_of self.old) self.old.capacity) }
+        ensures board { is_board event ≡ true → 0 < self.old.journal.reserved → IsOk result }
+    {
         let Recorded {
             host,
             journal,
@@ -121,7 +137,7 @@ impl<M: PagedMemory + Drop> Recorded<M> {
         if make_room(alloc, &mut journal.items, &mut journal.rooms, 1).is_err() {
             return Err((RecordError::OutOfMemory, event));
         }
-        let Ok(room) = FrameBytes::room(alloc, host.frame_bound(&event)) else {
+        let Ok(room) = FrameBytes::room(alloc, host.frame_bound(&event), spare) else {
             return Err((RecordError::OutOfMemory, event));
         };
         let Ok((reply, frame)) = host.apply(alloc, &event) else {

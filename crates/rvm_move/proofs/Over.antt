@@ -100,20 +100,20 @@ module _ (bytes : Option (List ℕ)) (entries : List PlainEntry) (others heard :
       let last = last_is Q heard is in
       told_of Q entries (others ++ heard) all last.0 (Contains-append_right others heard last.0 last.1) last.2
 
-  pub receiver_ended : (end : WorkEnd) → IsReceiverEnd end (last_of heard) bytes (frames_in heard) → IsHeardEnd end entries
-  receiver_ended Done is = by_receiver is
-  receiver_ended LinkEnded is = refl
-  receiver_ended GivenUp is = is
-  receiver_ended Stopped is = is
-  receiver_ended GuestStopped is = is
-  receiver_ended NoThread is = absurd cc
-  receiver_ended OutOfMemory is = is
-  receiver_ended (RecorderFull n) is = is
-  receiver_ended OutOfRange is = is
-  receiver_ended LinkFault is = is
-  receiver_ended BadFrame is = is
-  receiver_ended TooLong is = is
-  receiver_ended Failed is = is
+  pub receiver_ended : (from to : ℕ) (end : WorkEnd) → IsReceiverEnd from to end (last_of heard) bytes (frames_in heard) → IsHeardEnd end entries
+  receiver_ended from to Done is = by_receiver is
+  receiver_ended from to LinkEnded is = refl
+  receiver_ended from to GivenUp is = is
+  receiver_ended from to Stopped is = is
+  receiver_ended from to GuestStopped is = is
+  receiver_ended from to NoThread is = absurd cc
+  receiver_ended from to OutOfMemory is = is
+  receiver_ended from to (RecorderFull n) is = is
+  receiver_ended from to OutOfRange is = is
+  receiver_ended from to LinkFault is = is
+  receiver_ended from to BadFrame is = is
+  receiver_ended from to TooLong is = is
+  receiver_ended from to Failed is = is
 
   -- the receiver at the second host
   pub second_ended : (end : WorkEnd) → All (λ r. is_of_run r.event ≡ true) others → IsReceivedAtB bytes end heard
@@ -123,7 +123,7 @@ module _ (bytes : Option (List ℕ)) (entries : List PlainEntry) (others heard :
       (all_asked (λ e. is_of_run e ≡ true) entries (others ++ heard) all
       (subst (λ l. All (λ r. is_of_run r.event ≡ true) (others ++ l)) (sym none.1)
       (subst (λ l. All (λ r. is_of_run r.event ≡ true) l) (sym (append-nil others)) turns)))
-  second_ended end turns (inr received) = receiver_ended end received.ended
+  second_ended end turns (inr received) = receiver_ended 0 1 end received.ended
 
 -- WHAT IT TELLS
 

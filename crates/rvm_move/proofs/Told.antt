@@ -70,10 +70,10 @@ heard_at_b bytes end rs (inl none) = subst (AreOfReceiver 0) (sym none.1) (All-n
 heard_at_b bytes end rs (inr received) = received.told
 
 -- what a receiver leaves
-pub received : (from : ℕ) (bytes : Option (List ℕ)) (end : WorkEnd) (rs : List PlainReceipt) → AreOfReceiver from rs
-    → IfSome bytes (λ l. IsHeardOf l end (frames_in rs)) → IsReceiverEnd end (last_of rs) bytes (frames_in rs)
-    → IsReceived from bytes end rs
-received from bytes end rs told heard ended = record { told = told; heard = heard; ended = ended }
+pub received : (from to : ℕ) (bytes : Option (List ℕ)) (end : WorkEnd) (rs : List PlainReceipt) → AreOfReceiver from rs
+    → IfSome bytes (λ l. IsHeardOf from to l end (frames_in rs)) → IsReceiverEnd from to end (last_of rs) bytes (frames_in rs)
+    → IsReceived from to bytes end rs
+received from to bytes end rs told heard ended = record { told = told; heard = heard; ended = ended }
 
 abbrev IsOfRun : PlainReceipt → Type 0
 IsOfRun r = is_of_run r.event ≡ true

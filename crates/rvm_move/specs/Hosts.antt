@@ -24,14 +24,14 @@ pub record AreAll (entries : List PlainEntry) (receipts : List PlainReceipt) : T
 
 -- what the receiver at host 1 leaves: no thread was had for whom it is to hear, and nothing came; or it heard host 0
 abbrev pub IsReceivedAtB : (bytes : Option (List ℕ)) → WorkEnd → List PlainReceipt → Type 0
-IsReceivedAtB bytes end receipts = ((end ≡ NoThread) × (receipts ≡ [])) ⊎ IsReceived 0 bytes end receipts
+IsReceivedAtB bytes end receipts = ((end ≡ NoThread) × (receipts ≡ [])) ⊎ IsReceived 0 1 bytes end receipts
 
 -- the calls of the workers that move a guest from host 0 to host 1, and how each of them ended; their links were to give
 -- these bytes
 pub record AreCarried (policy : Policy) (bytes_a bytes_b : Option (List ℕ)) (copied ended_a ended_b : WorkEnd)
     (copier receiver_a receiver_b : List PlainReceipt) : Type 0 where
   pub of_copier : IsCopied 1 policy copied copier
-  pub of_first : IsReceived 1 bytes_a ended_a receiver_a
+  pub of_first : IsReceived 1 0 bytes_a ended_a receiver_a
   pub of_second : IsReceivedAtB bytes_b ended_b receiver_b
 
 -- what is asked of host 0: the turns of its guest, or its move to host 1 with this policy, or a frame came from there

@@ -99,7 +99,7 @@ fn hear<L: Seating, M: PagedMemory + Drop, K: Link + Drop, G: Gate, R: Wait>(
     to: u8,
     receiving: K,
 ) -> Worked<L>
-    ensures { IsReceived from (K.remaining receiving) result.end (all_of result.receipts.items) }
+    ensures { IsReceived from to (K.remaining receiving) result.end (all_of result.receipts.items) }
 {
     let mut link = receiving;
     let side = Side { host, outgoing };
@@ -125,13 +125,13 @@ fn copy_and_hear<
     receiving: K,
 ) -> (Worked<L>, Worked<L>)
     ensures copier { IsCopied 1 policy result.0.end (all_of result.0.receipts.items) }
-    ensures receiver { IsReceived 1 (K.remaining receiving) result.1.end (all_of result.1.receipts.items) }
+    ensures receiver { IsReceived 1 0 (K.remaining receiving) result.1.end (all_of result.1.receipts.items) }
 {
     let (copier, receiver) = seats;
     let (heard, copied) = thread::join(
         rt,
         move || -> Worked<L>
-            ensures { IsReceived 1 (K.remaining receiving) result.end (all_of result.receipts.items) }
+            ensures { IsReceived 1 0 (K.remaining receiving) result.end (all_of result.receipts.items) }
         {
             hear(
                 rt,
@@ -169,7 +169,7 @@ fn work_at_a<
     gate: &G,
 ) -> (Worked<L>, Worked<L>)
     ensures copier { IsCopied 1 taken.policy result.0.end (all_of result.0.receipts.items) }
-    ensures receiver { IsReceived 1 (K.remaining taken.receiving) result.1.end (all_of result.1.receipts.items) }
+    ensures receiver { IsReceived 1 0 (K.remaining taken.receiving) result.1.end (all_of result.1.receipts.items) }
 {
     let TakenAtA {
         copier,
@@ -268,7 +268,7 @@ fn carry<
         rt,
         move || -> (Worked<L>, Worked<L>)
             ensures copier { IsCopied 1 at_a.policy result.0.end (all_of result.0.receipts.items) }
-            ensures receiver { IsReceived 1 (K.remaining at_a.receiving) result.1.end (all_of result.1.receipts.items) }
+            ensures receiver { IsReceived 1 0 (K.remaining at_a.receiving) result.1.end (all_of result.1.receipts.items) }
         {
             begun.store(true, Ordering::Relaxed);
             work_at_a(rt, alloc, host_a, to_b, at_a, gate)

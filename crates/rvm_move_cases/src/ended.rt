@@ -26,15 +26,23 @@ pub struct MoveResult {
 }
 
 impl MoveResult {
-    /// What became of a guest that is moved by a stream of version 1, over these links and past a gate.
+    /// What became of a guest that is moved by a stream of this version, over these links and past a gate.
     pub fn over_links<
         K: Link + Drop + Send,
         G: Gate + Sync,
         R: AllocGlobal + Threads + Wait + Clock + Sync,
-    >(rt: &R, image: &[u8], links: (Links<K>, Links<K>), gate: &G) -> MoveResult {
+    >(
+        rt: &R,
+        image: &[u8],
+        stream: u32,
+        links: (Links<K>, Links<K>),
+        gate: &G,
+    ) -> MoveResult
+        requires { (1 ≤ stream) × (stream ≤ 3) }
+    {
         let alloc = rt.alloc();
         let (mut output, mut errors) = (Vec::new(alloc), Vec::new(alloc));
-        let arguments = to_move(STEPS, 1);
+        let arguments = to_move(STEPS, stream);
         let status = move_over::<PagedRam, _, _, _, _, _>(
             rt,
             alloc,

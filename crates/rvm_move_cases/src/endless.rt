@@ -79,7 +79,7 @@ where
     match connect_both(rt, rt.alloc()) {
         Ok((a, b)) => {
             let links = (endless_links(a, false), endless_links(b, true));
-            let ended = MoveResult::over_links(rt, HELLO, links, &OpenGate);
+            let ended = MoveResult::over_links(rt, HELLO, 1, links, &OpenGate);
             print_end(rt, &ended)
         }
         Err(_) => print_no_connection(rt),

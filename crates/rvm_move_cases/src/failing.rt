@@ -87,7 +87,7 @@ where
         Ok((a, b)) => {
             let links = (failing_links(a, at_a), failing_links(b, at_b));
             let gate = CountingGate::new();
-            let ended = MoveResult::over_links(rt, POINTS, links, &gate);
+            let ended = MoveResult::over_links(rt, POINTS, 1, links, &gate);
             is_allowed(rt.alloc(), &ended, gate.calls(Worker::Harts))
         }
         Err(_) => false,

@@ -2,7 +2,7 @@
 //! fail, and prints what became of each; plays the order of a move as a script; and prints how receivers end,
 //! by what their links give, how copiers wait, and how the turns of a paused guest are tried.
 //!
-//! To be read in this order: `asked`, `ended`, `live`, `stranger`, `counting`, `meeting`, `audited`, `endless`, `hearing`,
+//! To be read in this order: `asked`, `ended`, `live`, `greeting`, `stranger`, `counting`, `meeting`, `audited`, `endless`, `hearing`,
 //! `cut`, `waiting`, `between`, `printing`, `broken`, `failing`.
 #![tactic(auto)]
 
@@ -15,6 +15,7 @@ mod cut;
 mod ended;
 mod endless;
 mod failing;
+mod greeting;
 mod hearing;
 mod live;
 mod meeting;
@@ -24,6 +25,7 @@ mod waiting;
 
 fn main(rt: HostRuntime) -> anyhow::Result<()> {
     live::move_guests(&rt)?;
+    greeting::note_versions(&rt)?;
     stranger::meet_a_stranger(&rt)?;
     meeting::meet(&rt)?;
     audited::play_order(&rt)?;

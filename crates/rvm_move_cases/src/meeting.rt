@@ -82,7 +82,7 @@ where
     };
     match connect_both(rt, rt.alloc()) {
         Ok(links) => {
-            print_end(rt, &MoveResult::over_links(rt, LOOP, links, &gate))?;
+            print_end(rt, &MoveResult::over_links(rt, LOOP, 1, links, &gate))?;
             print_gate(rt, &gate)
         }
         Err(_) => print_no_connection(rt),

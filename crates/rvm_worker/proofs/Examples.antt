@@ -97,15 +97,19 @@ that_ends_the_move = refl
 
 -- WHICH FRAMES ARE HEARD
 
-hello_comes_to_no_host : all_for_host ((None, Hello 1) ∷ (None, Accept 1) ∷ []) ≡ Accept 1 ∷ []
+hello_comes_to_no_host : all_for_host 0 1 ((None, Hello 1) ∷ (None, Accept 1) ∷ []) ≡ Accept 1 ∷ []
 hello_comes_to_no_host = refl
+
+-- a frame that names other hosts comes to none of these
+a_frame_of_another_host_does_not_come : all_for_host 0 1 ((Some (2, 1), Accept 1) ∷ (Some (0, 1), Accept 2) ∷ []) ≡ Accept 2 ∷ []
+a_frame_of_another_host_does_not_come = refl
 
 -- the bytes of Hello in version 1: kind, move number, length of the body, version
 abbrev hello : List ℕ
 hello = 0 ∷ 0 ∷ 0 ∷ 0 ∷ 0 ∷ 0 ∷ 0 ∷ 0 ∷ 0 ∷ 4 ∷ 0 ∷ 0 ∷ 0 ∷ 1 ∷ 0 ∷ 0 ∷ 0 ∷ []
 
 -- of it nothing is heard
-hello_is_a_whole_stream : IsWholeStream hello []
+hello_is_a_whole_stream : IsWholeStream 0 1 hello []
 hello_is_a_whole_stream = record {
   frames = (None, Hello 1) ∷ [];
   stream = (
@@ -116,14 +120,14 @@ hello_is_a_whole_stream = record {
   told = refl;
 }
 
-so_a_receiver_may_end_with_its_link : IsReceiverEnd LinkEnded None (Some hello) []
+so_a_receiver_may_end_with_its_link : IsReceiverEnd 0 1 LinkEnded None (Some hello) []
 so_a_receiver_may_end_with_its_link = hello_is_a_whole_stream
 
 -- but it is not done, for which a call has to tell so
-it_is_not_done : IsReceiverEnd Done None (Some hello) [] → ⊥
+it_is_not_done : IsReceiverEnd 0 1 Done None (Some hello) [] → ⊥
 it_is_not_done is = is
 
-it_never_ends_as_a_worker_without_a_thread : IsReceiverEnd NoThread None (Some hello) [] → ⊥
+it_never_ends_as_a_worker_without_a_thread : IsReceiverEnd 0 1 NoThread None (Some hello) [] → ⊥
 it_never_ends_as_a_worker_without_a_thread is = absurd cc
 
 -- where it is not done one frame may be missing, and no more

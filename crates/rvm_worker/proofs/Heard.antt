@@ -13,7 +13,7 @@ use Rattle.rvm_frame.specs.Verdict.{Decides, verdict}
 use Rattle.rvm_message.specs.Exchanges.{PlainExchange}
 use Rattle.rvm_worker.specs.declared.end.WorkEnd.{WorkEnd}
 use Rattle.rvm_worker.specs.declared.end.WorkEnd.TheVariants.{BadFrame, Done, Failed, GivenUp, GuestStopped, LinkEnded, LinkFault, NoThread, OutOfMemory, OutOfRange, RecorderFull, Stopped, TooLong}
-use Rattle.rvm_worker.specs.Heard.{AreHeard, Hears, IsAllButLast, IsFrameEnd, IsHeardOf, IsHeardUpTo, IsReceiverEnd, IsWholeStream, all_for_host, for_host}
+use Rattle.rvm_worker.specs.Heard.{AreHeard, Hears, IsAllButLast, IsFrameEnd, IsHeardOf, IsHeardUpTo, IsReceiverEnd, IsWholeStream, all_for_host, comes}
 
 -- each is below 256
 abbrev AreBytes : List ℕ → Type 0
@@ -55,29 +55,29 @@ last_unheard TooLong heard all last undone is = inr (last, is)
 last_unheard Failed heard all last undone is = inr (last, is)
 
 -- a receiver that ends at a frame
-frame_end : (end : WorkEnd) (last : Option PlainExchange) (bytes : Option (List ℕ)) (heard : List Frame) → IsFrameEnd end last
-    → IsReceiverEnd end last bytes heard
-frame_end Done last bytes heard is = is
-frame_end LinkEnded last bytes heard is = absurd is
-frame_end GivenUp last bytes heard is = is
-frame_end Stopped last bytes heard is = is
-frame_end GuestStopped last bytes heard is = is
-frame_end NoThread last bytes heard is = is
-frame_end OutOfMemory last bytes heard is = is
-frame_end (RecorderFull n) last bytes heard is = is
-frame_end OutOfRange last bytes heard is = is
-frame_end LinkFault last bytes heard is = is
-frame_end BadFrame last bytes heard is = is
-frame_end TooLong last bytes heard is = is
-frame_end Failed last bytes heard is = is
+frame_end : (from to : ℕ) (end : WorkEnd) (last : Option PlainExchange) (bytes : Option (List ℕ)) (heard : List Frame) → IsFrameEnd end last
+    → IsReceiverEnd from to end last bytes heard
+frame_end from to Done last bytes heard is = is
+frame_end from to LinkEnded last bytes heard is = absurd is
+frame_end from to GivenUp last bytes heard is = is
+frame_end from to Stopped last bytes heard is = is
+frame_end from to GuestStopped last bytes heard is = is
+frame_end from to NoThread last bytes heard is = is
+frame_end from to OutOfMemory last bytes heard is = is
+frame_end from to (RecorderFull n) last bytes heard is = is
+frame_end from to OutOfRange last bytes heard is = is
+frame_end from to LinkFault last bytes heard is = is
+frame_end from to BadFrame last bytes heard is = is
+frame_end from to TooLong last bytes heard is = is
+frame_end from to Failed last bytes heard is = is
 
 -- at a frame, or with its link, whose whole stream it heard
-pub receiver_end : (end : WorkEnd) (last : Option PlainExchange) (bytes : Option (List ℕ)) (heard : List Frame)
-    → IsFrameEnd end last ⊎ (end ≡ LinkEnded) → (end ≡ LinkEnded → IfSome bytes (λ all. IsWholeStream all heard))
-    → IsReceiverEnd end last bytes heard
-receiver_end end last bytes heard (inl is) whole = frame_end end last bytes heard is
-receiver_end end last bytes heard (inr is) whole =
-    subst (λ e. IsReceiverEnd e last bytes heard) (sym is) (whole is)
+pub receiver_end : (from to : ℕ) (end : WorkEnd) (last : Option PlainExchange) (bytes : Option (List ℕ)) (heard : List Frame)
+    → IsFrameEnd end last ⊎ (end ≡ LinkEnded) → (end ≡ LinkEnded → IfSome bytes (λ all. IsWholeStream from to all heard))
+    → IsReceiverEnd from to end last bytes heard
+receiver_end from to end last bytes heard (inl is) whole = frame_end from to end last bytes heard is
+receiver_end from to end last bytes heard (inr is) whole =
+    subst (λ e. IsReceiverEnd from to e last bytes heard) (sym is) (whole is)
 
 -- RUNS OF A READER
 
@@ -103,36 +103,36 @@ given_join [] ds = refl
 given_join (f ∷ cs) ds =
     ap (with_frame f.frame) (given_join cs ds) ∙ with_join f.frame (frames_given cs) (frames_given ds)
 
-heard_join : (before : List Frame) (cs ds : List Feed)
-    → before ++ all_for_host (frames_given (cs ++ ds))
-    ≡ (before ++ all_for_host (frames_given cs)) ++ all_for_host (frames_given ds)
-heard_join before cs ds =
-    ap (λ l. before ++ all_for_host l) (given_join cs ds)
-    ∙ ap (λ l. before ++ l) (flat_map-append (λ x. for_host x.1) (frames_given cs) (frames_given ds))
-    ∙ sym (append_assoc before (all_for_host (frames_given cs)) (all_for_host (frames_given ds)))
+heard_join : (from to : ℕ) (before : List Frame) (cs ds : List Feed)
+    → before ++ all_for_host from to (frames_given (cs ++ ds))
+    ≡ (before ++ all_for_host from to (frames_given cs)) ++ all_for_host from to (frames_given ds)
+heard_join from to before cs ds =
+    ap (λ l. before ++ all_for_host from to l) (given_join cs ds)
+    ∙ ap (λ l. before ++ l) (flat_map-append (λ x. comes from to x) (frames_given cs) (frames_given ds))
+    ∙ sym (append_assoc before (all_for_host from to (frames_given cs)) (all_for_host from to (frames_given ds)))
 
 -- nothing was fed
-pub none_heard : (g : Gathered) (heard : List Frame) → AreHeard g [] heard heard g
-none_heard g heard = record { feeds = []; run = refl; taken = refl; heard = sym (append-nil heard) }
+pub none_heard : (from to : ℕ) (g : Gathered) (heard : List Frame) → AreHeard from to g [] heard heard g
+none_heard from to g heard = record { feeds = []; run = refl; taken = refl; heard = sym (append-nil heard) }
 
 -- and then more
-pub heard_more : (a b c : Gathered) (one two : List ℕ) (before between behind : List Frame) → AreHeard a one before between b
-    → AreHeard b two between behind c → AreHeard a (one ++ two) before behind c
-heard_more a b c one two before between behind first second = record {
+pub heard_more : (from to : ℕ) (a b c : Gathered) (one two : List ℕ) (before between behind : List Frame) → AreHeard from to a one before between b
+    → AreHeard from to b two between behind c → AreHeard from to a (one ++ two) before behind c
+heard_more from to a b c one two before between behind first second = record {
   feeds = first.feeds ++ second.feeds;
   run = run_join first.feeds second.feeds a b c first.run second.run;
   taken =
       taken_join first.feeds second.feeds ∙ ap (λ l. l ++ bytes_taken second.feeds) first.taken
       ∙ ap (λ l. one ++ l) second.taken;
   heard =
-      second.heard ∙ ap (λ l. l ++ all_for_host (frames_given second.feeds)) first.heard
-      ∙ sym (heard_join before first.feeds second.feeds);
+      second.heard ∙ ap (λ l. l ++ all_for_host from to (frames_given second.feeds)) first.heard
+      ∙ sym (heard_join from to before first.feeds second.feeds);
 }
 
 -- and then the worker ended
-pub heard_up_to : (end : WorkEnd) (a b : Gathered) (one two : List ℕ) (before between behind : List Frame)
-    → AreHeard a one before between b → IsHeardUpTo end b two between behind → IsHeardUpTo end a (one ++ two) before behind
-heard_up_to end a b one two before between behind first second = record {
+pub heard_up_to : (from to : ℕ) (end : WorkEnd) (a b : Gathered) (one two : List ℕ) (before between behind : List Frame)
+    → AreHeard from to a one before between b → IsHeardUpTo from to end b two between behind → IsHeardUpTo from to end a (one ++ two) before behind
+heard_up_to from to end a b one two before between behind first second = record {
   feeds = first.feeds ++ second.feeds;
   new = second.new;
   rest = second.rest;
@@ -143,13 +143,13 @@ heard_up_to end a b one two before between behind first second = record {
       ∙ ap (λ l. l ++ second.rest) (sym (taken_join first.feeds second.feeds));
   heard =
       subst (IsAllButLast end behind)
-      (ap (λ l. l ++ all_for_host (frames_given second.feeds)) first.heard ∙ sym (heard_join before first.feeds second.feeds))
+      (ap (λ l. l ++ all_for_host from to (frames_given second.feeds)) first.heard ∙ sym (heard_join from to before first.feeds second.feeds))
       second.heard;
 }
 
 -- nothing more was fed of these bytes before it ended
-pub heard_no_more : (end : WorkEnd) (g : Gathered) (bytes : List ℕ) (heard : List Frame) → IsHeardUpTo end g bytes heard heard
-heard_no_more end g bytes heard = record {
+pub heard_no_more : (from to : ℕ) (end : WorkEnd) (g : Gathered) (bytes : List ℕ) (heard : List Frame) → IsHeardUpTo from to end g bytes heard heard
+heard_no_more from to end g bytes heard = record {
   feeds = [];
   new = g;
   rest = bytes;
@@ -173,9 +173,9 @@ waits_run (f ∷ cs) old new waits run =
     waits_run cs (next_of old f.piece f.frame) new (waits_next old f.piece f.taken f.frame run.1) run.2
 
 -- a reader that waits for more does so after frames that were heard
-pub waits_heard : (old : Gathered) (bytes : List ℕ) (before behind : List Frame) (new : Gathered) → verdict old.version old.bytes ≡ Ok None
-    → AreHeard old bytes before behind new → verdict new.version new.bytes ≡ Ok None
-waits_heard old bytes before behind new waits heard = waits_run heard.feeds old new waits heard.run
+pub waits_heard : (from to : ℕ) (old : Gathered) (bytes : List ℕ) (before behind : List Frame) (new : Gathered) → verdict old.version old.bytes ≡ Ok None
+    → AreHeard from to old bytes before behind new → verdict new.version new.bytes ≡ Ok None
+waits_heard from to old bytes before behind new waits heard = waits_run heard.feeds old new waits heard.run
 
 -- it takes a byte at least
 pub takes_some : (old : Gathered) (piece : List ℕ) (n : ℕ) (o : Option Received) → verdict old.version old.bytes ≡ Ok None
@@ -188,20 +188,20 @@ takes_some old piece zero (Some x) waits some d =
 takes_some old piece (suc n) o waits some d = omega arith
 
 -- the frame that it gave was heard
-pub one_heard : (old new : Gathered) (piece : List ℕ) (n : ℕ) (x : Received) (before behind : List Frame) → AreBytes piece
-    → Decides old.version old.bytes piece n (Ok (Some x)) → new ≡ next_of old piece (Some x) → behind ≡ before ++ for_host x.1
-    → AreHeard old (take n piece) before behind new
-one_heard old new piece n x before behind fits d is heard = record {
+pub one_heard : (from to : ℕ) (old new : Gathered) (piece : List ℕ) (n : ℕ) (x : Received) (before behind : List Frame) → AreBytes piece
+    → Decides old.version old.bytes piece n (Ok (Some x)) → new ≡ next_of old piece (Some x) → behind ≡ before ++ comes from to x
+    → AreHeard from to old (take n piece) before behind new
+one_heard from to old new piece n x before behind fits d is heard = record {
   feeds = record { piece = piece; taken = n; frame = Some x } ∷ [];
   run = (fits, d, is);
   taken = append-nil (take n piece);
-  heard = heard ∙ ap (λ l. before ++ l) (sym (append-nil (for_host x.1)));
+  heard = heard ∙ ap (λ l. before ++ l) (sym (append-nil (comes from to x)));
 }
 
 -- it gave none
-pub no_frame : (old new : Gathered) (piece : List ℕ) (n : ℕ) (heard : List Frame) → AreBytes piece
-    → Decides old.version old.bytes piece n (Ok None) → new ≡ next_of old piece None → AreHeard old (take n piece) heard heard new
-no_frame old new piece n heard fits d is = record {
+pub no_frame : (from to : ℕ) (old new : Gathered) (piece : List ℕ) (n : ℕ) (heard : List Frame) → AreBytes piece
+    → Decides old.version old.bytes piece n (Ok None) → new ≡ next_of old piece None → AreHeard from to old (take n piece) heard heard new
+no_frame from to old new piece n heard fits d is = record {
   feeds = record { piece = piece; taken = n; frame = None } ∷ [];
   run = (fits, d, is);
   taken = append-nil (take n piece);
@@ -209,16 +209,16 @@ no_frame old new piece n heard fits d is = record {
 }
 
 -- the worker ended with the frame that it gave
-pub ended_with : (end : WorkEnd) (old : Gathered) (piece : List ℕ) (n : ℕ) (x : Received) (before behind : List Frame) → AreBytes piece
-    → Decides old.version old.bytes piece n (Ok (Some x)) → IsAllButLast end behind (before ++ for_host x.1)
-    → IsHeardUpTo end old piece before behind
-ended_with end old piece n x before behind fits d heard = record {
+pub ended_with : (from to : ℕ) (end : WorkEnd) (old : Gathered) (piece : List ℕ) (n : ℕ) (x : Received) (before behind : List Frame) → AreBytes piece
+    → Decides old.version old.bytes piece n (Ok (Some x)) → IsAllButLast end behind (before ++ comes from to x)
+    → IsHeardUpTo from to end old piece before behind
+ended_with from to end old piece n x before behind fits d heard = record {
   feeds = record { piece = piece; taken = n; frame = Some x } ∷ [];
   new = next_of old piece (Some x);
   rest = drop n piece;
   run = (fits, d, refl);
   taken = sym (ap (λ l. l ++ drop n piece) (append-nil (take n piece)) ∙ take-append-drop n piece);
-  heard = subst (λ l. IsAllButLast end behind (before ++ l)) (sym (append-nil (for_host x.1))) heard;
+  heard = subst (λ l. IsAllButLast end behind (before ++ l)) (sym (append-nil (comes from to x))) heard;
 }
 
 -- WHAT A LINK GIVES
@@ -241,46 +241,46 @@ kept None = tt
 kept (Some xs) = refl
 
 -- it gave nothing
-pub hears_nothing : (before after : Option (List ℕ)) (g : Gathered) (heard : List Frame) → Keeps before after
-    → Hears before after g heard heard g
-hears_nothing before after g heard same =
-    record { read = []; consumed = consumed_none before after same; heard = none_heard g heard }
+pub hears_nothing : (from to : ℕ) (before after : Option (List ℕ)) (g : Gathered) (heard : List Frame) → Keeps before after
+    → Hears from to before after g heard heard g
+hears_nothing from to before after g heard same =
+    record { read = []; consumed = consumed_none before after same; heard = none_heard from to g heard }
 
 -- it was not read yet
-pub hears_none : (bytes : Option (List ℕ)) (g : Gathered) (heard : List Frame) → Hears bytes bytes g heard heard g
-hears_none bytes g heard = hears_nothing bytes bytes g heard (kept bytes)
+pub hears_none : (from to : ℕ) (bytes : Option (List ℕ)) (g : Gathered) (heard : List Frame) → Hears from to bytes bytes g heard heard g
+hears_none from to bytes g heard = hears_nothing from to bytes bytes g heard (kept bytes)
 
 -- it gave a piece
-pub hears_piece : (before after : Option (List ℕ)) (piece : List ℕ) (old new : Gathered) (first last : List Frame)
-    → Consumes before after piece → AreHeard old piece first last new → Hears before after old first last new
-hears_piece before after piece old new first last consumed heard =
+pub hears_piece : (from to : ℕ) (before after : Option (List ℕ)) (piece : List ℕ) (old new : Gathered) (first last : List Frame)
+    → Consumes before after piece → AreHeard from to old piece first last new → Hears from to before after old first last new
+hears_piece from to before after piece old new first last consumed heard =
     record { read = piece; consumed = consumed; heard = heard }
 
 -- and then more
-pub hears_more : (first between last : Option (List ℕ)) (a b c : Gathered) (one two three : List Frame)
-    → Hears first between a one two b → Hears between last b two three c → Hears first last a one three c
-hears_more first between last a b c one two three x y = record {
+pub hears_more : (from to : ℕ) (first between last : Option (List ℕ)) (a b c : Gathered) (one two three : List Frame)
+    → Hears from to first between a one two b → Hears from to between last b two three c → Hears from to first last a one three c
+hears_more from to first between last a b c one two three x y = record {
   read = x.read ++ y.read;
   consumed = consumed_more first between last x.read y.read x.consumed y.consumed;
-  heard = heard_more a b c x.read y.read one two three x.heard y.heard;
+  heard = heard_more from to a b c x.read y.read one two three x.heard y.heard;
 }
 
 -- and then the worker ended
-pub hears_up_to : (end : WorkEnd) (first last : Option (List ℕ)) (a b : Gathered) (one two three : List Frame)
-    → Hears first last a one two b → IfSome last (λ bytes. IsHeardUpTo end b bytes two three)
-    → IfSome first (λ bytes. IsHeardUpTo end a bytes one three)
-hears_up_to end None last a b one two three x up = tt
-hears_up_to end (Some xs) None a b one two three x up = let c = x.consumed in absurd c
-hears_up_to end (Some xs) (Some ys) a b one two three x up =
-    subst (λ l. IsHeardUpTo end a l one three) (sym x.consumed) (heard_up_to end a b x.read ys one two three x.heard up)
+pub hears_up_to : (from to : ℕ) (end : WorkEnd) (first last : Option (List ℕ)) (a b : Gathered) (one two three : List Frame)
+    → Hears from to first last a one two b → IfSome last (λ bytes. IsHeardUpTo from to end b bytes two three)
+    → IfSome first (λ bytes. IsHeardUpTo from to end a bytes one three)
+hears_up_to from to end None last a b one two three x up = tt
+hears_up_to from to end (Some xs) None a b one two three x up = let c = x.consumed in absurd c
+hears_up_to from to end (Some xs) (Some ys) a b one two three x up =
+    subst (λ l. IsHeardUpTo from to end a l one three) (sym x.consumed) (heard_up_to from to end a b x.read ys one two three x.heard up)
 
 -- within a piece
-pub piece_up_to : (end : WorkEnd) (first last : Option (List ℕ)) (piece : List ℕ) (g : Gathered) (before behind : List Frame)
-    → Consumes first last piece → IsHeardUpTo end g piece before behind
-    → IfSome first (λ bytes. IsHeardUpTo end g bytes before behind)
-piece_up_to end None last piece g before behind consumed up = tt
-piece_up_to end (Some xs) None piece g before behind consumed up = absurd consumed
-piece_up_to end (Some xs) (Some ys) piece g before behind consumed up = record {
+pub piece_up_to : (from to : ℕ) (end : WorkEnd) (first last : Option (List ℕ)) (piece : List ℕ) (g : Gathered) (before behind : List Frame)
+    → Consumes first last piece → IsHeardUpTo from to end g piece before behind
+    → IfSome first (λ bytes. IsHeardUpTo from to end g bytes before behind)
+piece_up_to from to end None last piece g before behind consumed up = tt
+piece_up_to from to end (Some xs) None piece g before behind consumed up = absurd consumed
+piece_up_to from to end (Some xs) (Some ys) piece g before behind consumed up = record {
   feeds = up.feeds;
   new = up.new;
   rest = up.rest ++ ys;
@@ -290,15 +290,15 @@ piece_up_to end (Some xs) (Some ys) piece g before behind consumed up = record {
 }
 
 -- without one
-pub ends_heard : (end : WorkEnd) (bytes : Option (List ℕ)) (g : Gathered) (heard : List Frame)
-    → IfSome bytes (λ l. IsHeardUpTo end g l heard heard)
-ends_heard end None g heard = tt
-ends_heard end (Some l) g heard = heard_no_more end g l heard
+pub ends_heard : (from to : ℕ) (end : WorkEnd) (bytes : Option (List ℕ)) (g : Gathered) (heard : List Frame)
+    → IfSome bytes (λ l. IsHeardUpTo from to end g l heard heard)
+ends_heard from to end None g heard = tt
+ends_heard from to end (Some l) g heard = heard_no_more from to end g l heard
 
 -- a reader that was fed from the first byte on waits for more
-pub waits_hears : (before after : Option (List ℕ)) (first last : List Frame) (g : Gathered) → Hears before after at_start first last g
+pub waits_hears : (from to : ℕ) (before after : Option (List ℕ)) (first last : List Frame) (g : Gathered) → Hears from to before after at_start first last g
     → verdict g.version g.bytes ≡ Ok None
-waits_hears before after first last g h = waits_heard at_start h.read first last g refl h.heard
+waits_hears from to before after first last g h = waits_heard from to at_start h.read first last g refl h.heard
 
 kept_at_end : (before after : Option (List ℕ)) → Keeps before after → IsAtEnd after → IsAtEnd before
 kept_at_end None after same end = tt
@@ -310,11 +310,11 @@ pub kept_end : (before after : Option (List ℕ)) → Keeps before after × IsAt
 kept_end before after both = kept_at_end before after both.0 both.1
 
 -- where nothing is left after the last frame, the whole stream was heard
-pub whole_heard : (first last : Option (List ℕ)) (heard : List Frame) (g : Gathered) → Hears first last at_start [] heard g
-    → IsAtEnd last → g.bytes ≡ [] → IfSome first (λ bytes. IsWholeStream bytes heard)
-whole_heard None last heard g h end between = tt
-whole_heard (Some xs) None heard g h end between = let c = h.consumed in absurd c
-whole_heard (Some xs) (Some ys) heard g h end between =
+pub whole_heard : (from to : ℕ) (first last : Option (List ℕ)) (heard : List Frame) (g : Gathered) → Hears from to first last at_start [] heard g
+    → IsAtEnd last → g.bytes ≡ [] → IfSome first (λ bytes. IsWholeStream from to bytes heard)
+whole_heard from to None last heard g h end between = tt
+whole_heard from to (Some xs) None heard g h end between = let c = h.consumed in absurd c
+whole_heard from to (Some xs) (Some ys) heard g h end between =
     let feeds = h.heard.feeds in
     let all : xs ≡ bytes_taken feeds = h.consumed ∙ ap (λ l. h.read ++ l) end ∙ append-nil h.read ∙ sym h.heard.taken in
     record {
@@ -325,9 +325,9 @@ whole_heard (Some xs) (Some ys) heard g h end between =
     }
 
 -- of the bytes of the whole stream a reader was fed the first ones
-pub heard_of : (bytes : List ℕ) (end : WorkEnd) (heard : List Frame) → IsHeardUpTo end at_start bytes [] heard
-    → IsHeardOf bytes end heard
-heard_of bytes end heard up = record {
+pub heard_of : (from to : ℕ) (bytes : List ℕ) (end : WorkEnd) (heard : List Frame) → IsHeardUpTo from to end at_start bytes [] heard
+    → IsHeardOf from to bytes end heard
+heard_of from to bytes end heard up = record {
   read = bytes_taken up.feeds;
   rest = up.rest;
   frames = frames_given up.feeds;

@@ -65,8 +65,8 @@ pub fn receiver_worker<
     ensures work { IsWork seat result.seat (all_of result.receipts.items) }
     ensures of { AreOfReceiver from (all_of result.receipts.items) }
     ensures heard { IfSome (I.remaining link.old) (λ bytes.
-        IsHeardOf bytes result.end (frames_in (all_of result.receipts.items))) }
-    ensures ended { IsReceiverEnd result.end (last_of (all_of result.receipts.items)) (I.remaining link.old)
+        IsHeardOf from to bytes result.end (frames_in (all_of result.receipts.items))) }
+    ensures ended { IsReceiverEnd from to result.end (last_of (all_of result.receipts.items)) (I.remaining link.old)
         (frames_in (all_of result.receipts.items)) }
     ensures link { result.end ≡ WorkEnd.LinkEnded → I.has_ended link.new }
 {
@@ -92,8 +92,9 @@ fn hear<L: Seating, M: PagedMemory + Drop, K: Link + Drop, I: Link, G: Gate, R: 
     requires { hearing.old.heard ≡ [] }
     ensures same { hearing.new ≡ record hearing.old { heard = hearing.new.heard; last = hearing.new.last } }
     ensures heard { IfSome (I.remaining link.old) (λ bytes.
-        IsHeardUpTo result at_start bytes [] hearing.new.heard) }
-    ensures end { IsReceiverEnd result hearing.new.last (I.remaining link.old) hearing.new.heard }
+        IsHeardUpTo hearing.old.from hearing.old.to result at_start bytes [] hearing.new.heard) }
+    ensures end { IsReceiverEnd hearing.old.from hearing.old.to result hearing.new.last (I.remaining link.old)
+        hearing.new.heard }
     ensures link { result ≡ WorkEnd.LinkEnded → I.has_ended link.new }
 {
     let mut stream = Stream {
@@ -140,10 +141,11 @@ fn hear_once<L: Seating, M: PagedMemory + Drop, K: Link + Drop, I: Link, G: Gate
     requires between { stream.old.is_inside ≡ false → stream.old.reader.bytes ≡ [] }
     requires room { 0 < length buffer.old }
     ensures same { hearing.new ≡ record hearing.old { heard = hearing.new.heard; last = hearing.new.last } }
-    ensures heard { IfOk result (λ came. Hears (I.remaining link.old) (I.remaining link.new) stream.old.reader
-        hearing.old.heard hearing.new.heard stream.new.reader) }
+    ensures heard { IfOk result (λ came. Hears hearing.old.from hearing.old.to (I.remaining link.old) (I.remaining link.new)
+        stream.old.reader hearing.old.heard hearing.new.heard stream.new.reader) }
     ensures some { IfErr result (λ end. IfSome (I.remaining link.old) (λ bytes.
-        IsHeardUpTo end stream.old.reader bytes hearing.old.heard hearing.new.heard)) }
+        IsHeardUpTo hearing.old.from hearing.old.to end stream.old.reader bytes hearing.old.heard
+        hearing.new.heard)) }
     ensures between { IfOk result (λ came. stream.new.is_inside ≡ false → stream.new.reader.bytes ≡ []) }
     ensures end { IfErr result (λ end. IsFrameEnd end hearing.new.last ⊎ (end ≡ WorkEnd.LinkEnded)) }
     ensures ended { result ≡ Err WorkEnd.LinkEnded → IsAtEnd (I.remaining link.old)
@@ -208,10 +210,10 @@ fn take<L: Seating, M: PagedMemory + Drop, K: Link + Drop, G: Gate, R: Wait>(
     requires waits { verdict stream.old.reader.version stream.old.reader.bytes ≡ Ok None }
     requires between { stream.old.is_inside ≡ false → stream.old.reader.bytes ≡ [] }
     ensures same { hearing.new ≡ record hearing.old { heard = hearing.new.heard; last = hearing.new.last } }
-    ensures all { IfOk result (λ u. AreHeard stream.old.reader piece.now hearing.old.heard hearing.new.heard
-        stream.new.reader) }
+    ensures all { IfOk result (λ u. AreHeard hearing.old.from hearing.old.to stream.old.reader piece.now
+        hearing.old.heard hearing.new.heard stream.new.reader) }
     ensures between { IfOk result (λ u. stream.new.is_inside ≡ false → stream.new.reader.bytes ≡ []) }
-    ensures some { IfErr result (λ end. IsHeardUpTo end stream.old.reader piece.now
+    ensures some { IfErr result (λ end. IsHeardUpTo hearing.old.from hearing.old.to end stream.old.reader piece.now
         hearing.old.heard hearing.new.heard) }
     ensures end { IfErr result (λ end. IsFrameEnd end hearing.new.last) }
 {
@@ -238,10 +240,10 @@ fn feed<L: Seating, M: PagedMemory + Drop, K: Link + Drop, G: Gate, R: Wait>(
     requires some { 0 < length piece.now }
     ensures same { hearing.new ≡ record hearing.old { heard = hearing.new.heard; last = hearing.new.last } }
     ensures taken { IfOk result (λ n. (0 < n) × (n ≤ length piece.now)) }
-    ensures all { IfOk result (λ n. AreHeard stream.old.reader (take n piece.now) hearing.old.heard
-        hearing.new.heard stream.new.reader) }
+    ensures all { IfOk result (λ n. AreHeard hearing.old.from hearing.old.to stream.old.reader (take n piece.now)
+        hearing.old.heard hearing.new.heard stream.new.reader) }
     ensures between { IfOk result (λ n. stream.new.is_inside ≡ false → stream.new.reader.bytes ≡ []) }
-    ensures some { IfErr result (λ end. IsHeardUpTo end stream.old.reader piece.now
+    ensures some { IfErr result (λ end. IsHeardUpTo hearing.old.from hearing.old.to end stream.old.reader piece.now
         hearing.old.heard hearing.new.heard) }
     ensures end { IfErr result (λ end. IsFrameEnd end hearing.new.last) }
 {
@@ -265,7 +267,8 @@ fn came<L: Seating, M: PagedMemory + Drop, K: Link + Drop, G: Gate, R: Wait>(
     frame: Frame,
 ) -> Result<(), WorkEnd>
     ensures same { hearing.new ≡ record hearing.old { heard = hearing.new.heard; last = hearing.new.last } }
-    ensures heard { IsHeard result frame hearing.old.heard hearing.new.heard }
+    ensures heard { IsHeard hearing.old.from hearing.old.to result (hosts, frame) hearing.old.heard
+        hearing.new.heard }
     ensures between { OnOk result (is_between hearing.old.from hearing.old.to hosts ≡ true) }
     ensures named { is_between hearing.old.from hearing.old.to hosts ≡ false → result ≡ Err WorkEnd.BadFrame }
     ensures end { IfErr result (λ end. IsFrameEnd end hearing.new.last) }

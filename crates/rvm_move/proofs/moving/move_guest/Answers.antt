@@ -24,7 +24,7 @@ returns-clause-a g c =
       heard = λ closed. subst (λ end. IsHeardEnd end entries) (sym c.close_both.ensures.receivers.0)
           (receiver_ended (g.K.Link.remaining c.args.links.0.receiving) entries (turns ++ copier) heard
           (subst (AreAll entries) (sym (append_assoc turns copier heard)) (c.close_both.ensures.told_a closed))
-          carried.receiver_a.end are.of_first.ended);
+          1 0 carried.receiver_a.end are.of_first.ended);
     }
 
 pub returns-clause-b : goal.returns-clause-b

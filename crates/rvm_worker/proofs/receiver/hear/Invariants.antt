@@ -8,5 +8,5 @@ invariant-loop-read g l = record {
   same : l.hearing ≡ record l.fn.hearing { heard = l.hearing.heard; last = l.hearing.last };
   few : l.idle < 1000;
   between : l.stream.is_inside ≡ false → l.stream.reader.bytes ≡ [];
-  heard : Hears (g.I.Link.remaining l.fn.link) (g.I.Link.remaining l.link) at_start [] l.hearing.heard l.stream.reader;
+  heard : Hears l.fn.hearing.from l.fn.hearing.to (g.I.Link.remaining l.fn.link) (g.I.Link.remaining l.link) at_start [] l.hearing.heard l.stream.reader;
 }

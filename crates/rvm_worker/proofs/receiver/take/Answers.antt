@@ -10,9 +10,9 @@ returns-in_err-taken-clause-some g c =
     let before = c.args.hearing.now.heard in
     let behind = c.feed.new.hearing.heard in
     let i = c.loop-rest.invariant.heard in
-    let more : IsHeardUpTo end c.loop-rest.stream.reader c.loop-rest.rest.now c.loop-rest.hearing.heard behind = search rules in
-    let up = subst (λ l. IsHeardUpTo end reader l before behind) (sym i.1)
-    (heard_up_to end reader c.loop-rest.stream.reader i.0 c.loop-rest.rest.now before c.loop-rest.hearing.heard behind i.2 more) in
+    let more : IsHeardUpTo c.args.hearing.now.from c.args.hearing.now.to end c.loop-rest.stream.reader c.loop-rest.rest.now c.loop-rest.hearing.heard behind = search rules in
+    let up = subst (λ l. IsHeardUpTo c.args.hearing.now.from c.args.hearing.now.to end reader l before behind) (sym i.1)
+    (heard_up_to c.args.hearing.now.from c.args.hearing.now.to end reader c.loop-rest.stream.reader i.0 c.loop-rest.rest.now before c.loop-rest.hearing.heard behind i.2 more) in
     search (up, rules)
 
 pub loop-rest-preserved : goal.loop-rest-preserved
@@ -24,14 +24,14 @@ loop-rest-preserved g c =
     let middle = c.loop-rest.hearing.heard in
     let behind = c.feed.new.hearing.heard in
     let i = c.loop-rest.invariant in
-    let more : AreHeard reader (take n rest) middle behind new = search rules in
+    let more : AreHeard c.args.hearing.now.from c.args.hearing.now.to reader (take n rest) middle behind new = search rules in
     record {
       same = search rules;
-      waits = waits_heard reader (take n rest) middle behind new i.waits more;
+      waits = waits_heard c.args.hearing.now.from c.args.hearing.now.to reader (take n rest) middle behind new i.waits more;
       between = search rules;
       heard = (
         i.heard.0 ++ take n rest,
         goes_on c.args.piece.now i.heard.0 rest n i.heard.1,
-        heard_more c.args.stream.now.reader reader new i.heard.0 (take n rest) c.args.hearing.now.heard middle behind i.heard.2 more,
+        heard_more c.args.hearing.now.from c.args.hearing.now.to c.args.stream.now.reader reader new i.heard.0 (take n rest) c.args.hearing.now.heard middle behind i.heard.2 more,
       );
     }

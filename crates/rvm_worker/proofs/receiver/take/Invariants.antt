@@ -9,7 +9,7 @@ invariant-loop-rest g l = record {
   waits : verdict l.stream.reader.version l.stream.reader.bytes ≡ Ok None;
   between : l.stream.is_inside ≡ false → l.stream.reader.bytes ≡ [];
   heard : (read : List ℕ) × (l.fn.piece ≡ read ++ l.rest)
-      × AreHeard l.fn.stream.reader read l.fn.hearing.heard l.hearing.heard l.stream.reader;
+      × AreHeard l.fn.hearing.from l.fn.hearing.to l.fn.stream.reader read l.fn.hearing.heard l.hearing.heard l.stream.reader;
 }
 
 abbrev pub decreases-loop-rest : goal.decreases-loop-rest
