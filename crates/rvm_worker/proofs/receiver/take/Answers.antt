@@ -1,6 +1,6 @@
-use Rattle.std.proofs.Common.{rules, ◌++◌, take, subst, sym}
+use Rattle.std.proofs.Common.{rules, [], ◌++◌, refl, take, subst, sym}
 use Rattle.rvm_worker.specs.Heard.{AreHeard, IsHeardUpTo}
-use Rattle.rvm_worker.proofs.Heard.{goes_on, heard_more, heard_up_to, waits_heard}
+use Rattle.rvm_worker.proofs.Heard.{goes_on, heard_more, heard_up_to, none_heard, waits_heard}
 use Rattle.rvm_worker.proofs.receiver.take.Goals as goal
 
 pub returns-in_err-taken-clause-some : goal.returns-in_err-taken-clause-some
@@ -14,6 +14,16 @@ returns-in_err-taken-clause-some g c =
     let up = subst (λ l. IsHeardUpTo c.args.hearing.now.from c.args.hearing.now.to end reader l before behind) (sym i.1)
     (heard_up_to c.args.hearing.now.from c.args.hearing.now.to end reader c.loop-rest.stream.reader i.0 c.loop-rest.rest.now before c.loop-rest.hearing.heard behind i.2 more) in
     search (up, rules)
+
+pub loop-rest-init : goal.loop-rest-init
+loop-rest-init g c =
+    let hearing = c.args.hearing.now in
+    record {
+      same = refl;
+      waits = c.requires.waits;
+      between = c.requires.between;
+      heard = ([], refl, none_heard hearing.from hearing.to c.args.stream.now.reader hearing.heard);
+    }
 
 pub loop-rest-preserved : goal.loop-rest-preserved
 loop-rest-preserved g c =

@@ -5,8 +5,8 @@ use Rattle.rvm_journal.specs.History.{History, IsKept, IsRecorded}
 use Rattle.rvm_journal.specs.Items.{all_of}
 use Rattle.rvm_journal.proofs.Items.{all_push}
 use Rattle.rvm_journal.proofs.Replays.{entry_of, is_recorded, replays, still_kept}
-use Rattle.rvm_journal.proofs.recorded.Recorded.record.Given.{Over}
-use Rattle.rvm_journal.proofs.recorded.Recorded.record.Goals as goal
+use Rattle.rvm_journal.proofs.recorded.Recorded.record_into.Given.{Over}
+use Rattle.rvm_journal.proofs.recorded.Recorded.record_into.Goals as goal
 use Rattle.rvm_message.specs.Events.{event_of}
 
 module _ (g : Over) (c : goal.After-journal-3-1 g) where
