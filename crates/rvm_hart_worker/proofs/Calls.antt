@@ -16,9 +16,10 @@ use Rattle.rvm_worker.specs.declared.end.WorkEnd.{WorkEnd}
 use Rattle.rvm_worker.specs.declared.end.WorkEnd.TheVariants.{LinkFault}
 use Rattle.rvm_worker.specs.declared.steps.SliceSteps.{SliceSteps}
 use Rattle.rvm_worker.specs.Work.{IsCall, IsSliceCall, PlainCaller}
-use Rattle.rvm_hart_worker.specs.Calls.{AtA, AtB, Call, EndsDry, HasRun, Made, Written, IsRun, bytes_in, bytes_of, drained_by, event_in, in_a, in_b, is_of_run, marks_in}
+use Rattle.rvm_hart_worker.specs.Calls.{AtA, AtB, Call, EndsDry, HasRun, Made, Written, IsRun, bytes_in, drained_by, event_in, in_a, in_b, is_of_run, marks_in}
 use Rattle.rvm_hart_worker.specs.declared.pair.Drained.{Drained}
-use Rattle.rvm_hart_worker.specs.Drains.{found_nothing, is_nothing, told_by}
+use Rattle.rvm_hart_worker.specs.declared.pair.Drained.TheVariants as found
+use Rattle.rvm_hart_worker.specs.Drains.{bytes_of, bytes_told, found_nothing, is_nothing, told_by}
 use Rattle.rvm_hart_worker.specs.Turns.{AreTurns, Dry, Mark, Turned, after_step, after_turns, drained, if_dry, mark_made, turns, turns_of}
 use Rattle.rvm_hart_worker.specs.declared.harts.TurnsEnd.{TurnsEnd}
 use Rattle.rvm_hart_worker.specs.declared.harts.TurnsEnd.TheVariants as ended
@@ -95,11 +96,13 @@ made_behind_err (Ok x) old mid new p q = tt
 made_behind_err (Err e) old mid new p q = made_behind old mid new [] [] false p q
 
 -- the same of what a drain answers
-pub made_behind_drain : {E : Type 0} (r : Result Drained E) (old mid new : PlainCaller × PlainCaller) → Made old mid [] [] false
-    → IfOk r (λ d. Made mid new (bytes_of d) (if_dry (is_nothing d)) (is_nothing d))
-    → IfOk r (λ d. Made old new (bytes_of d) (if_dry (is_nothing d)) (is_nothing d))
-made_behind_drain (Ok d) old mid new p q = made_behind old mid new (bytes_of d) (if_dry (is_nothing d)) (is_nothing d) p q
-made_behind_drain (Err e) old mid new p q = tt
+pub made_behind_drain : {E : Type 0} (r : Result Drained E) (taken : List ℕ) (old mid new : PlainCaller × PlainCaller)
+    → Made old mid [] [] false
+    → IfOk r (λ d. Made mid new (bytes_of d taken) (if_dry (is_nothing d)) (is_nothing d))
+    → IfOk r (λ d. Made old new (bytes_of d taken) (if_dry (is_nothing d)) (is_nothing d))
+made_behind_drain (Ok d) taken old mid new p q =
+    made_behind old mid new (bytes_of d taken) (if_dry (is_nothing d)) (is_nothing d) p q
+made_behind_drain (Err e) taken old mid new p q = tt
 
 -- calls, of which others may come after the last
 made_on : (old new : PlainCaller × PlainCaller) (bytes : List ℕ) (ts : List Mark) → Made old new bytes ts true
@@ -117,10 +120,11 @@ made_on old new bytes ts p = record {
 }
 
 -- a drain
-pub made_drain_at_a : (old new b : PlainCaller) (reply : HostReply) → new.start ≡ old.start
+pub made_drain_at_a : (old new b : PlainCaller) (reply : HostReply) (d : Drained) (taken : List ℕ)
+    → d ≡ told_by reply → bytes_of d taken ≡ bytes_told reply → new.start ≡ old.start
     → IsCall old.seat (event.Do (command.Board (asked.Drain 256))) old.receipts new.seat new.receipts reply
-    → Made (old, b) (new, b) (bytes_of (told_by reply)) (if_dry (is_nothing (told_by reply))) (is_nothing (told_by reply))
-made_drain_at_a old new b reply same c = record {
+    → Made (old, b) (new, b) (bytes_of d taken) (if_dry (is_nothing d)) (is_nothing d)
+made_drain_at_a old new b reply d taken d_is bytes_are same c = record {
   calls = AtA c.receipt ∷ [];
   start_a = same;
   start_b = refl;
@@ -128,21 +132,23 @@ made_drain_at_a old new b reply same c = record {
   at_b = sym (append-nil b.receipts);
   only = All-cons IsOfRun (AtA c.receipt) [] (ap is_of_run c.of_event.event_is) (All-nil IsOfRun);
   told = append-nil (drained_by c.receipt.event c.receipt.reply)
-      ∙ ap (λ e. drained_by e c.receipt.reply) c.of_event.event_is ∙ ap (λ r. bytes_of (told_by r)) c.answered;
+      ∙ ap (λ e. drained_by e c.receipt.reply) c.of_event.event_is ∙ ap bytes_told c.answered ∙ sym bytes_are;
   turned = append-nil (mark_made c.receipt.event c.receipt.reply) ∙ ap (λ e. mark_made e c.receipt.reply) c.of_event.event_is
-      ∙ ap (λ r. if_dry (is_nothing (told_by r))) c.answered;
+      ∙ ap (λ r. if_dry (is_nothing (told_by r))) c.answered ∙ ap (λ x. if_dry (is_nothing x)) (sym d_is);
   ends = λ is. record {
     before = [];
     last = AtA c.receipt;
     is_last = refl;
-    dry = ap (λ e. found_nothing e c.receipt.reply) c.of_event.event_is ∙ ap (λ r. is_nothing (told_by r)) c.answered ∙ is;
+    dry = ap (λ e. found_nothing e c.receipt.reply) c.of_event.event_is ∙ ap (λ r. is_nothing (told_by r)) c.answered
+        ∙ ap is_nothing (sym d_is) ∙ is;
   };
 }
 
-pub made_drain_at_b : (a old new : PlainCaller) (reply : HostReply) → new.start ≡ old.start
+pub made_drain_at_b : (a old new : PlainCaller) (reply : HostReply) (d : Drained) (taken : List ℕ)
+    → d ≡ told_by reply → bytes_of d taken ≡ bytes_told reply → new.start ≡ old.start
     → IsCall old.seat (event.Do (command.Board (asked.Drain 256))) old.receipts new.seat new.receipts reply
-    → Made (a, old) (a, new) (bytes_of (told_by reply)) (if_dry (is_nothing (told_by reply))) (is_nothing (told_by reply))
-made_drain_at_b a old new reply same c = record {
+    → Made (a, old) (a, new) (bytes_of d taken) (if_dry (is_nothing d)) (is_nothing d)
+made_drain_at_b a old new reply d taken d_is bytes_are same c = record {
   calls = AtB c.receipt ∷ [];
   start_a = refl;
   start_b = same;
@@ -150,14 +156,15 @@ made_drain_at_b a old new reply same c = record {
   at_b = c.added;
   only = All-cons IsOfRun (AtB c.receipt) [] (ap is_of_run c.of_event.event_is) (All-nil IsOfRun);
   told = append-nil (drained_by c.receipt.event c.receipt.reply)
-      ∙ ap (λ e. drained_by e c.receipt.reply) c.of_event.event_is ∙ ap (λ r. bytes_of (told_by r)) c.answered;
+      ∙ ap (λ e. drained_by e c.receipt.reply) c.of_event.event_is ∙ ap bytes_told c.answered ∙ sym bytes_are;
   turned = append-nil (mark_made c.receipt.event c.receipt.reply) ∙ ap (λ e. mark_made e c.receipt.reply) c.of_event.event_is
-      ∙ ap (λ r. if_dry (is_nothing (told_by r))) c.answered;
+      ∙ ap (λ r. if_dry (is_nothing (told_by r))) c.answered ∙ ap (λ x. if_dry (is_nothing x)) (sym d_is);
   ends = λ is. record {
     before = [];
     last = AtB c.receipt;
     is_last = refl;
-    dry = ap (λ e. found_nothing e c.receipt.reply) c.of_event.event_is ∙ ap (λ r. is_nothing (told_by r)) c.answered ∙ is;
+    dry = ap (λ e. found_nothing e c.receipt.reply) c.of_event.event_is ∙ ap (λ r. is_nothing (told_by r)) c.answered
+        ∙ ap is_nothing (sym d_is) ∙ is;
   };
 }
 
@@ -165,12 +172,14 @@ made_drain_at_b a old new reply same c = record {
 pub made_dry_at_a : (old new b : PlainCaller) (made : Bool) → new.start ≡ old.start
     → (made ≡ true → IsCall old.seat (dry_exchange 256).event old.receipts new.seat new.receipts (dry_exchange 256).reply)
     → made ≡ true → Made (old, b) (new, b) [] (Dry ∷ []) true
-made_dry_at_a old new b made same call is = made_drain_at_a old new b (dry_exchange 256).reply same (call is)
+made_dry_at_a old new b made same call is =
+    made_drain_at_a old new b (dry_exchange 256).reply found.Nothing [] refl refl same (call is)
 
 pub made_dry_at_b : (a old new : PlainCaller) (made : Bool) → new.start ≡ old.start
     → (made ≡ true → IsCall old.seat (dry_exchange 256).event old.receipts new.seat new.receipts (dry_exchange 256).reply)
     → made ≡ true → Made (a, old) (a, new) [] (Dry ∷ []) true
-made_dry_at_b a old new made same call is = made_drain_at_b a old new (dry_exchange 256).reply same (call is)
+made_dry_at_b a old new made same call is =
+    made_drain_at_b a old new (dry_exchange 256).reply found.Nothing [] refl refl same (call is)
 
 pub made_none_at_a : (old new b : PlainCaller) (made : Bool) → (made ≡ false → new ≡ old) → made ≡ false
     → Made (old, b) (new, b) [] [] false

@@ -1,5 +1,5 @@
 -- What a worker at two hosts was told by its calls, and which turns they made.
-use Rattle.std.specs.Prelude.{◌≡◌, ◌≢◌, ℕ, Bool, true, false, ◌==◌, List, [], ◌∷◌, ◌++◌, Option, None, Some, Result, Err, is_ok}
+use Rattle.std.specs.Prelude.{◌≡◌, ◌≢◌, ℕ, Bool, true, false, ◌==◌, List, [], ◌∷◌, ◌++◌, Option, Result, Err, is_ok}
 use Rattle.std.specs.Io.KnownBytes.{Appends}
 use Rattle.std.specs.List.{All, flat_map}
 use Rattle.rvm_cell.specs.Receipts.{PlainReceipt}
@@ -10,9 +10,7 @@ use Rattle.rvm_message.specs.declared.event.HostEvent.TheVariants as event
 use Rattle.rvm_message.specs.declared.reply.HostReply.{HostReply}
 use Rattle.rvm_worker.specs.Work.{PlainCaller}
 use Rattle.rvm_hart_worker.specs.declared.harts.TurnsEnd.{TurnsEnd}
-use Rattle.rvm_hart_worker.specs.declared.pair.Drained.{Drained}
-use Rattle.rvm_hart_worker.specs.declared.pair.Drained.TheVariants as drained
-use Rattle.rvm_hart_worker.specs.Drains.{found_nothing, told_by}
+use Rattle.rvm_hart_worker.specs.Drains.{bytes_told, found_nothing}
 use Rattle.rvm_hart_worker.specs.Turns.{AreTurns, Mark, mark_made}
 use Rattle.rvm_worker.specs.declared.end.WorkEnd.{WorkEnd}
 use Rattle.rvm_worker.specs.declared.end.WorkEnd.TheVariants.{LinkFault}
@@ -32,14 +30,9 @@ abbrev pub in_b : Call → List PlainReceipt
 in_b (AtA r) = []
 in_b (AtB r) = r ∷ []
 
--- the bytes that a drain took
-abbrev pub bytes_of : Drained → List ℕ
-bytes_of (drained.Bytes bs) = bs
-bytes_of d = []
-
 -- the bytes that the reply to an event tells, if the event was a drain
 abbrev pub drained_by : HostEvent → HostReply → List ℕ
-drained_by (event.Do (command.Board (asked.Drain n))) r = bytes_of (told_by r)
+drained_by (event.Do (command.Board (asked.Drain n))) r = bytes_told r
 drained_by e r = []
 
 -- the bytes that the reply to a call tells, if the call was a drain
@@ -74,16 +67,6 @@ pub record EndsDry (calls : List Call) : Type 0 where
   pub last : Call
   pub is_last : calls ≡ before ++ last ∷ []
   pub dry : is_dry last ≡ true
-
--- the bytes that are there, if any
-abbrev pub given : Option (List ℕ) → List ℕ
-given None = []
-given (Some bs) = bs
-
--- whether no bytes are there
-abbrev pub has_none : Option (List ℕ) → Bool
-has_none None = true
-has_none (Some bs) = false
 
 -- calls were made by a caller at each of two hosts, none but steps and drains: the drains told these bytes, and the
 -- calls left these turns and drains that found nothing; where `dry`, the last call found nothing

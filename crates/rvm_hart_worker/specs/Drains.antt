@@ -1,5 +1,5 @@
 -- What a drain took.
-use Rattle.std.specs.Prelude.{Bool, true, false, ◌==◌, ◌&&◌, [], ◌∷◌}
+use Rattle.std.specs.Prelude.{ℕ, Bool, true, false, ◌==◌, ◌&&◌, List, [], ◌∷◌}
 use Rattle.rvm_debug.specs.declared.event.BoardEvent.TheVariants as asked
 use Rattle.rvm_debug.specs.declared.event.BoardReply.TheVariants as answer
 use Rattle.rvm_message.specs.declared.event.Command.TheVariants as command
@@ -10,11 +10,26 @@ use Rattle.rvm_message.specs.declared.reply.HostReply.TheVariants as reply
 use Rattle.rvm_hart_worker.specs.declared.pair.Drained.{Drained}
 use Rattle.rvm_hart_worker.specs.declared.pair.Drained.TheVariants as drained
 
--- what a host's reply to a drain says: any that has no bytes, not even none, sends the drain to the other host
+-- the bytes that a host's reply to a drain tells
+abbrev pub bytes_told : HostReply → List ℕ
+bytes_told (reply.Board (answer.Bytes bs)) = bs
+bytes_told r = []
+
+-- what the reply says: any that has no bytes, not even none, sends the drain to the other host
 abbrev pub told_by : HostReply → Drained
 told_by (reply.Board (answer.Bytes [])) = drained.Nothing
-told_by (reply.Board (answer.Bytes (b ∷ bs))) = drained.Bytes (b ∷ bs)
+told_by (reply.Board (answer.Bytes (b ∷ bs))) = drained.Bytes
 told_by r = drained.Elsewhere
+
+-- the bytes that a drain took, if it was the last that took some
+abbrev pub bytes_of : Drained → (taken : List ℕ) → List ℕ
+bytes_of drained.Bytes taken = taken
+bytes_of d taken = []
+
+-- the bytes that were taken last, if the guest had sent some
+abbrev pub if_sent : Bool → (taken : List ℕ) → List ℕ
+if_sent true taken = taken
+if_sent false taken = []
 
 -- whether the guest was there, and had sent nothing more
 abbrev pub is_nothing : Drained → Bool

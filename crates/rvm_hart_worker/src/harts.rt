@@ -10,7 +10,7 @@ ghost use Rattle.rvm_hart_worker.specs.Turns.{Dry, fails_running};
 use crate::pair::{Hosts, Pair};
 use crate::slices::{Then, until_drain};
 use rvm_cell::{ReceiptItem, Seat, Seating};
-use rvm_debug::DRAIN_EVERY;
+use rvm_debug::{DRAIN_EVERY, View};
 use rvm_mem::PagedMemory;
 use rvm_worker::{Caller, Gate, Watch, WorkEnd, Worker};
 use std::alloc::Global;
@@ -71,6 +71,7 @@ pub fn hart_worker<
         at_a: Caller::new(alloc, a),
         at_b: Caller::new(alloc, b),
         is_at_a: true,
+        taken: View::empty(),
     };
     let mut watch = Watch::new(gate, Worker::Harts);
     let end = run(
@@ -94,6 +95,7 @@ fn give_back<A: Seating, B: Seating>(
         at_a,
         at_b,
         is_at_a: _,
+        taken: _,
     } = pair;
     let (a, from_a) = at_a.into_parts();
     let (b, from_b) = at_b.into_parts();
@@ -156,10 +158,10 @@ fn drain<A: Seating, B: Seating, M: PagedMemory + Drop, W: Write, G: Gate, R: Wa
     ensures fails { IfErr result (λ e. fails_running e ≡ true) }
 {
     for _drain in 0..u64::MAX {
-        match pair.sent_by_guest(rt, alloc, hosts, watch)? {
-            Some(bytes) => write(writer, bytes.as_slice())?,
-            None => return Ok(()),
+        if !pair.sent_by_guest(rt, alloc, hosts, watch)? {
+            return Ok(());
         }
+        write(writer, pair.taken.as_slice())?;
     }
     Err(WorkEnd::GuestStopped)
 }

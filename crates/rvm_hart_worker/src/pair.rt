@@ -1,9 +1,9 @@
 //! The guest's host, of two.
 
-ghost use Rattle.std.specs.Prelude.{◌≡◌, ◌≢◌, ◌≤◌, true, false, [], ◌∷◌, IfErr, IfOk, OnErr};
-ghost use Rattle.rvm_hart_worker.specs.Calls.{Made, bytes_of, given, has_none};
+ghost use Rattle.std.specs.Prelude.{◌≡◌, ◌≢◌, ◌≤◌, true, false, not, [], ◌∷◌, IfErr, IfOk, OnErr};
+ghost use Rattle.rvm_hart_worker.specs.Calls.{Made};
 ghost use Rattle.rvm_hart_worker.specs.declared.slices.Then.TheVariants.{Elsewhere};
-ghost use Rattle.rvm_hart_worker.specs.Drains.{is_nothing, told_by};
+ghost use Rattle.rvm_hart_worker.specs.Drains.{bytes_of, bytes_told, if_sent, is_nothing, told_by};
 ghost use Rattle.rvm_hart_worker.specs.Turns.{Dry, after_turns, fails_calling, if_dry, turns};
 
 use crate::slices::{Slice, Then, made_by};
@@ -30,19 +30,21 @@ pub struct Hosts<'h, A: Seating, B: Seating, M: PagedMemory + Drop> {
     pub b: &'h SharedHost<B, M>,
 }
 
-/// A worker's seats at two hosts, and whether it met the guest at the first of them.
+/// A worker's seats at two hosts, whether it met the guest at the first of them, and what the last drain that found
+/// bytes took.
 #[derive(Drop)]
 pub(crate) struct Pair<A: Seating, B: Seating> {
     pub(crate) at_a: Caller<A>,
     pub(crate) at_b: Caller<B>,
     pub(crate) is_at_a: bool,
+    pub(crate) taken: View,
 }
 
-/// What one drain took.
-#[derive(Drop)]
+/// What one drain found. The bytes lie elsewhere, so that a drain that finds none moves none.
+#[derive(Clone, Copy, Debug, PartialEq, Eq)]
 pub(crate) enum Drained {
-    /// These bytes.
-    Bytes(View),
+    /// Bytes.
+    Bytes,
     /// Nothing.
     Nothing,
     /// Nothing: the guest is elsewhere.
@@ -69,25 +71,28 @@ fn pause<A: Seating, B: Seating, M: PagedMemory + Drop, R: Wait + Clock>(
     }
 }
 
-/// What the reply to a drain says. Where it has no bytes, not even none, the guest is elsewhere.
-fn told_by(reply: HostReply) -> Drained
-    ensures { result ≡ told_by reply }
+/// What the reply to a drain says: the bytes that it has, if it has some, become what was taken. Where it has no bytes,
+/// not even none, the guest is elsewhere.
+fn told_by(reply: HostReply, taken: &mut View) -> Drained
+    ensures drained { result ≡ told_by reply }
+    ensures bytes { bytes_of result taken.new ≡ bytes_told reply }
 {
     match reply {
-        HostReply::Board(BoardReply::Bytes(bytes)) => taken(bytes),
+        HostReply::Board(BoardReply::Bytes(bytes)) => take(bytes, taken),
         _ => Drained::Elsewhere,
     }
 }
 
-/// What a drain took.
-fn taken(bytes: View) -> Drained
-    ensures { result ≡ told_by (HostReply.Board (BoardReply.Bytes bytes)) }
+/// What a drain of these bytes found: they become what was taken, if they are some.
+fn take(bytes: View, taken: &mut View) -> Drained
+    ensures drained { result ≡ told_by (HostReply.Board (BoardReply.Bytes bytes)) }
+    ensures bytes { bytes_of result taken.new ≡ bytes }
 {
     if bytes.as_slice().is_empty() {
-        Drained::Nothing
-    } else {
-        Drained::Bytes(bytes)
+        return Drained::Nothing;
     }
+    *taken = bytes;
+    Drained::Bytes
 }
 
 impl<A: Seating, B: Seating> Pair<A, B> {
@@ -218,7 +223,9 @@ impl<A: Seating, B: Seating> Pair<A, B> {
         }
     }
 
-    /// Drains where the guest was met last, whatever the drain finds.
+    /// Drains where the guest was met last, whatever the drain finds: bytes are what was taken then.
+    #[cold]
+    #[inline(never)]
     #[tactic(auto, using(crate::proofs::Calls::made_drain_at_a, crate::proofs::Calls::made_drain_at_b, crate::proofs::Calls::made_none, crate::proofs::Failing::short_fails))]
     fn drain_any<M: PagedMemory + Drop, R: Wait>(
         &mut self,
@@ -227,7 +234,7 @@ impl<A: Seating, B: Seating> Pair<A, B> {
         hosts: &Hosts<'_, A, B, M>,
     ) -> Result<Drained, WorkEnd>
         ensures made { IfOk result (λ d. Made (self.old.at_a, self.old.at_b)
-            (self.new.at_a, self.new.at_b) (bytes_of d) (if_dry (is_nothing d)) (is_nothing d)) }
+            (self.new.at_a, self.new.at_b) (bytes_of d self.new.taken) (if_dry (is_nothing d)) (is_nothing d)) }
         ensures err { OnErr result (Made (self.old.at_a, self.old.at_b) (self.new.at_a, self.new.at_b) [] [] false) }
         ensures fails { IfErr result (λ e. fails_calling e ≡ true) }
     {
@@ -237,10 +244,10 @@ impl<A: Seating, B: Seating> Pair<A, B> {
         } else {
             self.at_b.call(rt, alloc, hosts.b, event)?
         };
-        Ok(told_by(reply))
+        Ok(told_by(reply, &mut self.taken))
     }
 
-    /// Drains where the guest was met last.
+    /// Drains where the guest was met last: bytes are what was taken then.
     #[tactic(auto, using(crate::proofs::Calls::made_behind, crate::proofs::Calls::made_behind_err))]
     fn drain<M: PagedMemory + Drop, R: Wait>(
         &mut self,
@@ -249,7 +256,7 @@ impl<A: Seating, B: Seating> Pair<A, B> {
         hosts: &Hosts<'_, A, B, M>,
     ) -> Result<Drained, WorkEnd>
         ensures made { IfOk result (λ d. Made (self.old.at_a, self.old.at_b)
-            (self.new.at_a, self.new.at_b) (bytes_of d) (if_dry (is_nothing d)) (is_nothing d)) }
+            (self.new.at_a, self.new.at_b) (bytes_of d self.new.taken) (if_dry (is_nothing d)) (is_nothing d)) }
         ensures err { OnErr result (Made (self.old.at_a, self.old.at_b) (self.new.at_a, self.new.at_b) [] [] false) }
         ensures fails { IfErr result (λ e. fails_calling e ≡ true) }
     {
@@ -269,14 +276,14 @@ impl<A: Seating, B: Seating> Pair<A, B> {
         watch: &mut Watch<'_, G>,
     ) -> Result<Drained, WorkEnd>
         ensures made { IfOk result (λ d. Made (self.old.at_a, self.old.at_b)
-            (self.new.at_a, self.new.at_b) (bytes_of d) (if_dry (is_nothing d)) (is_nothing d)) }
+            (self.new.at_a, self.new.at_b) (bytes_of d self.new.taken) (if_dry (is_nothing d)) (is_nothing d)) }
         ensures err { OnErr result (Made (self.old.at_a, self.old.at_b) (self.new.at_a, self.new.at_b) [] [] false) }
         ensures fails { IfErr result (λ e. fails_calling e ≡ true) }
     {
         watch.before()?;
         let drained = self.drain(rt, alloc, hosts)?;
         watch.after();
-        if matches!(drained, Drained::Elsewhere) {
+        if drained == Drained::Elsewhere {
             self.is_at_a = !self.is_at_a;
         }
         Ok(drained)
@@ -292,7 +299,7 @@ impl<A: Seating, B: Seating> Pair<A, B> {
         watch: &mut Watch<'_, G>,
     ) -> Result<Drained, WorkEnd>
         ensures made { IfOk result (λ d. Made (self.old.at_a, self.old.at_b)
-            (self.new.at_a, self.new.at_b) (bytes_of d) (if_dry (is_nothing d)) (is_nothing d)) }
+            (self.new.at_a, self.new.at_b) (bytes_of d self.new.taken) (if_dry (is_nothing d)) (is_nothing d)) }
         ensures err { OnErr result (Made (self.old.at_a, self.old.at_b) (self.new.at_a, self.new.at_b) [] [] false) }
         ensures fails { IfErr result (λ e. fails_calling e ≡ true) }
     {
@@ -302,8 +309,8 @@ impl<A: Seating, B: Seating> Pair<A, B> {
         }
     }
 
-    /// The next bytes that the guest sent, if there are any. While both hosts refuse the drain it is
-    /// tried again each millisecond.
+    /// Whether the guest sent bytes that no drain took yet: the next of them are what was taken then. Where it sent none,
+    /// nothing is said of what was taken. While both hosts refuse the drain it is tried again each millisecond.
     #[tactic(auto, using(crate::proofs::Calls::made_none, crate::proofs::Calls::made_behind))]
     pub(crate) fn sent_by_guest<M: PagedMemory + Drop, G: Gate, R: Wait + Clock>(
         &mut self,
@@ -311,17 +318,17 @@ impl<A: Seating, B: Seating> Pair<A, B> {
         alloc: Global,
         hosts: &Hosts<'_, A, B, M>,
         watch: &mut Watch<'_, G>,
-    ) -> Result<Option<View>, WorkEnd>
-        ensures made { IfOk result (λ o. Made (self.old.at_a, self.old.at_b)
-            (self.new.at_a, self.new.at_b) (given o) (if_dry (has_none o)) (has_none o)) }
+    ) -> Result<bool, WorkEnd>
+        ensures made { IfOk result (λ sent. Made (self.old.at_a, self.old.at_b)
+            (self.new.at_a, self.new.at_b) (if_sent sent self.new.taken) (if_dry (not sent)) (not sent)) }
         ensures err { OnErr result (Made (self.old.at_a, self.old.at_b) (self.new.at_a, self.new.at_b) [] [] false) }
         ensures fails { IfErr result (λ e. fails_calling e ≡ true) }
     {
         let mut heard = false;
         for _try in 0..TRIES {
             match self.drain_at_either(rt, alloc, hosts, watch)? {
-                Drained::Bytes(bytes) => return Ok(Some(bytes)),
-                Drained::Nothing => return Ok(None),
+                Drained::Bytes => return Ok(true),
+                Drained::Nothing => return Ok(false),
                 Drained::Elsewhere => heard = pause(rt, hosts, self.is_at_a, heard),
             }
         }
