@@ -1,10 +1,11 @@
 -- The receipts of a slice, one more of them.
 use Rattle.std.proofs.Common.{◌≡◌, ◌∙◌, ℕ, zero, suc, ◌+◌, List, [], ◌∷◌, ◌++◌, ◌-◌, ◌≤◌, min, length, map, Some, refl, sym, ap, subst, arith, inl, inr}
 use Rattle.std.specs.Prelude.{slice_get, ◌⊎◌}
+use Rattle.std.proofs.lemmas.Bool.{cases_lt}
 use Rattle.std.proofs.lemmas.List.{append_assoc, length-map, map-append}
 use Rattle.std.proofs.lemmas.Option.{same_Some}
 use Rattle.rvm_cell.specs.Receipts.{PlainReceipt}
-use Rattle.rvm_cell.specs.Calls.{AreOfSeat, AreReceipts, IsReceipt, IsSliceCalled, replies_of}
+use Rattle.rvm_cell.specs.Calls.{AreOfSeat, AreReceipts, IsReceipt, IsSliceCalled, IsWhole, replies_of}
 use Rattle.rvm_cell.specs.Seats.{PlainSeat, seat_of}
 use Rattle.rvm_journal.specs.Entries.{PlainEntry}
 use Rattle.rvm_journal.specs.History.{Recording, count_of, with_room}
@@ -92,6 +93,22 @@ same_at (s ∷ rs) [] k r same here = cc
 same_at (s ∷ rs) (x ∷ xs) zero r same here =
     (x, refl, ap (λ (y : PlainReceipt). y.reply) (sym (same_Some s r here)) ∙ head_is _ _ _ _ same)
 same_at (s ∷ rs) (x ∷ xs) (suc k) r same here = same_at rs xs k r (tail_is _ _ _ _ same) here
+
+-- where it has fewer steps than it was asked for, they go up to the last place, or the last of them ends it
+pub slice_is_whole : (old new : Recording) (seat : PlainSeat) (capacity turn harts n : ℕ) (rs : List PlainReceipt)
+    → old.capacity ≡ capacity → IsSliceCalled old seat turn harts n rs new → IsWhole capacity n rs
+slice_is_whole old new seat capacity turn harts n rs takes is k r here last short =
+    let steps = is.recorded.steps in
+    let same : length rs ≡ length steps.entries =
+    sym (length-map rs (λ (x : PlainReceipt). x.reply)) ∙ ap length steps.replies_are ∙ length-map steps.entries (λ x. x.reply) in
+    let entry = same_at rs steps.entries k r steps.replies_are here in
+    elim (cases_lt (length steps.entries) (min n (old.capacity - count_of old))) [
+      | inl less ↦
+          inr (ap (λ y. ends_steps (reply_of y)) entry.2
+          ∙ steps.slice.ended k entry.0 entry.1 (omega (arith, same, last)) less)
+      | inr all ↦
+          inl (omega (arith, same, last, short, all, takes, steps.slice.some, steps.slice.bound, is.receipts.place_is k r here))
+    ]
 
 -- all but the last of its steps go on
 pub slice_of_seat : (old new : Recording) (seat : PlainSeat) (turn harts n : ℕ) (rs : List PlainReceipt)

@@ -1,5 +1,5 @@
 -- What a call of a shared host answers and records.
-use Rattle.std.specs.Prelude.{◌≡◌, ℕ, suc, ◌+◌, ◌<◌, false, List, length, map, Option, Some, slice_get}
+use Rattle.std.specs.Prelude.{◌≡◌, ◌⊎◌, ℕ, suc, ◌+◌, ◌<◌, false, true, List, length, map, Option, Some, slice_get}
 use Rattle.rvm_cell.specs.Receipts.{PlainReceipt}
 use Rattle.rvm_cell.specs.Seats.{PlainSeat, seat_of}
 use Rattle.rvm_frame.specs.declared.addressed.Addressed.{Addressed}
@@ -33,6 +33,11 @@ pub record AreOfSeat (seat : PlainSeat) (turn harts : ℕ) (rs : List PlainRecei
   pub receipts : AreReceipts seat place turn harts rs
   pub goes_on : (k : ℕ) (r : PlainReceipt) → slice_get rs k ≡ Some r → suc k < length rs
       → ends_steps (reply_of r.reply) ≡ false
+
+-- a slice that is shorter than it was asked for ends at the last place of the journal, or with a reply that ends a slice
+abbrev pub IsWhole : (capacity n : ℕ) → List PlainReceipt → Type 0
+IsWhole capacity n rs = (k : ℕ) (r : PlainReceipt) → slice_get rs k ≡ Some r → suc k ≡ length rs → length rs < n
+    → (suc r.place ≡ capacity) ⊎ (ends_steps (reply_of r.reply) ≡ true)
 
 -- what these receipts were answered
 abbrev pub replies_of : List PlainReceipt → List HostReply

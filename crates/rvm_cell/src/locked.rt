@@ -1,7 +1,7 @@
 //! What lies under the lock of a shared host.
 
 ghost use Rattle.std.specs.Prelude.{◌≡◌, ◌+◌, ◌<◌, ◌≤◌, ◌^◌, [], length, IfNone, IfOk, IfErr, IfSome, None, OnOk, OnErr, vec_capacity};
-ghost use Rattle.rvm_cell.specs.Calls.{AreReceipts, IsCalled, IsSliceCalled, replies_of};
+ghost use Rattle.rvm_cell.specs.Calls.{AreReceipts, IsCalled, IsSliceCalled, IsWhole, replies_of};
 ghost use Rattle.rvm_cell.specs.Runs.{all_of};
 ghost use Rattle.rvm_cell.specs.Seats.{seat_of};
 ghost use Rattle.rvm_journal.specs.Errors.{IsRecordError, IsSized, IsSliceError};
@@ -44,7 +44,7 @@ impl<L: Seating, M: PagedMemory + Drop> Model for Locked<L, M> {
     ghost view = { λ l. l.recorded };
 
     ghost invariant = { λ l. (l.seats ≡ L.seats) × (l.book.total ≡ count_of l.recorded) × (l.spare.parts ≡ 0)
-        × (l.recorded.journal.opening ≡ L.opening) };
+        × (l.recorded.journal.opening ≡ L.opening) × (l.recorded.capacity ≡ L.capacity) };
 }
 
 impl<L: Seating, M: PagedMemory + Drop> Locked<L, M> {
@@ -163,6 +163,7 @@ impl<L: Seating, M: PagedMemory + Drop> Locked<L, M> {
     ) -> Result<Vec<ReceiptItem>, SliceError>
         requires { (receipts.items ≡ []) × (64 ≤ vec_capacity receipts) }
         ensures called { IfOk result (λ v. IsSliceCalled self.old seat.old turn harts n (all_of v.items) self.new) }
+        ensures whole { IfOk result (λ v. IsWhole L.capacity n (all_of v.items)) }
         ensures seat { IfOk result (λ v. seat.new ≡ seat_of seat.old.id (seat.old.count + length (all_of v.items))) }
         ensures err { OnErr result ((self.new ≡ self.old) × (seat.new ≡ seat.old)) }
         ensures fault { IfErr result (λ e. IsSliceError e harts n (count_of self.old) self.old.capacity) }

@@ -12,17 +12,21 @@ use std::marker::{Brand, Model};
 use std::sync::ledger::{Ledger, Share};
 
 /// The ledger of one shared host: it counts the calls of all seats, of which there are so many. The host
-/// was as `opening` when its journal was opened.
+/// was as `opening` when its journal was opened, and the journal takes `capacity` entries.
 pub trait Seating: Ledger {
     ghost seats: { ℕ };
 
     ghost opening: { PlainHost };
+
+    ghost capacity: { ℕ };
 }
 
 impl Seating for Brand {
     ghost seats = { 0 };
 
     ghost opening = { new_host None 0 2 1 1 };
+
+    ghost capacity = { 0 };
 }
 
 /// The right to call a host, and the number of its calls.

@@ -1,7 +1,7 @@
 //! A recorded host under a lock.
 
 ghost use Rattle.std.specs.Prelude.{◌≡◌, ◌⊎◌, ◌↔◌, ◌+◌, ◌<◌, ◌≤◌, ℕ, [], length, IfNone, IfOk, IfErr, IfSome, OnOk, OnErr, Some, slice_get, vec_len, vec_capacity};
-ghost use Rattle.rvm_cell.specs.Calls.{AreOfSeat, IsReceipt};
+ghost use Rattle.rvm_cell.specs.Calls.{AreOfSeat, IsReceipt, IsWhole};
 ghost use Rattle.rvm_cell.specs.declared.shared.ShareError.TheVariants.{BadSize};
 ghost use Rattle.rvm_cell.specs.Runs.{all_of};
 ghost use Rattle.rvm_cell.specs.Seats.{seat_of, share_refusal};
@@ -89,6 +89,7 @@ pub fn share<L: Seating, M: PagedMemory + Drop>(
     requires seats { blank.parts ≡ seats }
     requires empty { recorded.journal.entries ≡ [] }
     requires opening { recorded.journal.opening ≡ L.opening }
+    requires capacity { recorded.capacity ≡ L.capacity }
     ensures seats { IfOk result (λ r. vec_len r.1 ≡ seats) }
     ensures fresh { IfOk result (λ r. (k : ℕ) → k < seats → slice_get r.1.items k ≡ Some (seat_of k 0)) }
     ensures few { OnOk result ((1 ≤ seats) × (seats ≤ 16)) }
@@ -216,8 +217,8 @@ impl<L: Seating, M: PagedMemory + Drop> SharedHost<L, M> {
     }
 
     /// Records a slice of at most n steps, 1 to 64, under one hold of the lock, as `Recorded::record_slice`
-    /// has it: a receipt for each step. It may wait for another thread. Memory is asked for only where the
-    /// slice is in range.
+    /// has it: a receipt for each step. It has less than n only where a step ends it or the journal is full.
+    /// It may wait for another thread. Memory is asked for only where the slice is in range.
     pub fn call_slice<R: Wait>(
         &self,
         rt: &R,
@@ -229,6 +230,7 @@ impl<L: Seating, M: PagedMemory + Drop> SharedHost<L, M> {
     ) -> Result<Vec<ReceiptItem>, SliceError>
         ensures receipts { IfOk result (λ v. AreOfSeat seat.old turn harts (all_of v.items)) }
         ensures steps { IfOk result (λ v. (1 ≤ length (all_of v.items)) × (length (all_of v.items) ≤ n)) }
+        ensures whole { IfOk result (λ v. IsWhole L.capacity n (all_of v.items)) }
         ensures seat { IfOk result (λ v. seat.new ≡ seat_of seat.old.id (seat.old.count + length (all_of v.items))) }
         ensures err { OnErr result (seat.new ≡ seat.old) }
         ensures range { (result ≡ Err OutOfRange) ↔ (IsSized harts n → ⊥) }

@@ -237,9 +237,9 @@ of_run (r ∷ rs) steps =
     (of_run rs (λ k s there. steps (suc k) s there))
 
 -- a slice
-module _ (old new : PlainCaller) (turn harts made : ℕ) (last : Then) (steps : SliceSteps) (last_is : last ≡ after_step steps.last)
-    (made_is : made ≡ turns_of last steps.count) (same : new.start ≡ old.start)
-    (c : IsSliceCall old.seat turn harts old.receipts new.seat new.receipts steps) where
+module _ (old new : PlainCaller) (capacity turn harts n made : ℕ) (last : Then) (steps : SliceSteps)
+    (last_is : last ≡ after_step steps.last) (made_is : made ≡ turns_of last steps.count) (same : new.start ≡ old.start)
+    (c : IsSliceCall old.seat capacity turn harts n old.receipts new.seat new.receipts steps) where
   of_step : (k : ℕ) (r : PlainReceipt) → slice_get c.receipts k ≡ Some r
       → (hart : ℕ) × (r.event ≡ event.Do (command.Board (asked.Step hart)))
   of_step k r there = ((turn + k) % harts, (c.of_seat.receipts.each k r there).event_is)

@@ -58,6 +58,7 @@ fn share_and_move<L: Seating, R: AllocGlobal + Print + Wait>(
     requires seats { blank.parts ≡ 2 }
     requires empty { recorded.journal.entries ≡ [] }
     requires opening { recorded.journal.opening ≡ L.opening }
+    requires capacity { recorded.capacity ≡ L.capacity }
 {
     let (host, mut seats) = share_host::<L>(rt.alloc(), blank, recorded, 2)?;
     let done = tell_frames(rt, &host, seats.as_mut_slice());
@@ -104,6 +105,7 @@ fn poke_and_look<L: Seating, R: AllocGlobal + Print + Wait>(
     requires seats { blank.parts ≡ 2 }
     requires empty { recorded.journal.entries ≡ [] }
     requires opening { recorded.journal.opening ≡ L.opening }
+    requires capacity { recorded.capacity ≡ L.capacity }
 {
     let (host, mut seats) = share_host::<L>(rt.alloc(), blank, recorded, 2)?;
     let done = poke_and_tell(rt, &host, seats.as_mut_slice());
@@ -158,6 +160,7 @@ fn fill_and_close<L: Seating, R: AllocGlobal + Print + Wait>(
     requires seats { blank.parts ≡ 2 }
     requires empty { recorded.journal.entries ≡ [] }
     requires opening { recorded.journal.opening ≡ L.opening }
+    requires capacity { recorded.capacity ≡ L.capacity }
 {
     let (host, mut seats) = share_host::<L>(rt.alloc(), blank, recorded, 2)?;
     match fill(rt, &host, seats.as_mut_slice()) {
@@ -261,6 +264,7 @@ fn call_and_miss<L: Seating, R: AllocGlobal + Print + Wait>(
     requires seats { blank.parts ≡ 1 }
     requires empty { recorded.journal.entries ≡ [] }
     requires opening { recorded.journal.opening ≡ L.opening }
+    requires capacity { recorded.capacity ≡ L.capacity }
 {
     let (host, mut seats) = share_host::<L>(rt.alloc(), blank, recorded, 1)?;
     match call_twice(rt, &host, seats.as_mut_slice()) {
@@ -411,6 +415,7 @@ pub fn share_host<L: Seating>(
     requires seats { blank.parts ≡ seats }
     requires empty { recorded.journal.entries ≡ [] }
     requires opening { recorded.journal.opening ≡ L.opening }
+    requires capacity { recorded.capacity ≡ L.capacity }
 {
     match share::<L, PagedRam>(alloc, blank, recorded, seats) {
         Ok(shared) => Some(shared),

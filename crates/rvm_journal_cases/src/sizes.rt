@@ -80,6 +80,7 @@ fn refuse_share<L: Seating>(
     requires seats { blank.parts ≡ seats }
     requires empty { host.journal.entries ≡ [] }
     requires opening { host.journal.opening ≡ L.opening }
+    requires capacity { host.capacity ≡ L.capacity }
     ensures { IfSome result (λ r. r.journal.entries ≡ []) }
 {
     match share::<L, PagedRam>(alloc, blank, host, seats) {
@@ -101,6 +102,7 @@ fn tell_seats<L: Seating, R: AllocGlobal + Print>(
     requires seats { blank.parts ≡ 16 }
     requires empty { host.journal.entries ≡ [] }
     requires opening { host.journal.opening ≡ L.opening }
+    requires capacity { host.capacity ≡ L.capacity }
 {
     let (host, seats) = share_host::<L>(rt.alloc(), blank, host, 16)?;
     drop(host);

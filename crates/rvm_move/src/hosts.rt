@@ -50,6 +50,7 @@ pub(crate) fn open_host<L: Seating, M: PagedMemory + Drop, K: Link + Drop>(
     requires few { (1 ≤ seats) × (seats ≤ 16) }
     requires empty { recorded.journal.entries ≡ [] }
     requires opening { recorded.journal.opening ≡ L.opening }
+    requires capacity { recorded.capacity ≡ L.capacity }
     ensures seats { IfOk result (λ r. vec_len r.1 ≡ seats) }
     ensures version { IfOk result (λ r. r.0.outgoing.version ≡ version) }
 {

@@ -65,6 +65,7 @@ pub fn move_guest<
     requires seats { (blanks.0.parts ≡ 3) × (blanks.1.parts ≡ 2) }
     requires empty { (recorded.0.journal.entries ≡ []) × (recorded.1.journal.entries ≡ []) }
     requires opening { (recorded.0.journal.opening ≡ L.opening) × (recorded.1.journal.opening ≡ N.opening) }
+    requires capacity { (recorded.0.capacity ≡ L.capacity) × (recorded.1.capacity ≡ N.capacity) }
     ensures opening { IfOk result (λ m. (m.a.recorded.journal.opening ≡ recorded.0.journal.opening)
         × (m.b.recorded.journal.opening ≡ recorded.1.journal.opening)) }
     ensures a { IfOk result (λ m. IsFirstEnd plan.now.policy m.ends m.a.fault m.a.recorded.journal.entries) }

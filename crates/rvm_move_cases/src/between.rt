@@ -197,6 +197,7 @@ fn tried_at<L: Seating, N: Seating, R: AllocGlobal + Wait>(
     requires seats { (blanks.0.parts ≡ 2) × (blanks.1.parts ≡ 2) }
     requires empty { (a.journal.entries ≡ []) × (b.journal.entries ≡ []) }
     requires opening { (a.journal.opening ≡ L.opening) × (b.journal.opening ≡ N.opening) }
+    requires capacity { (a.capacity ≡ L.capacity) × (b.capacity ≡ N.capacity) }
 {
     let (first, second) = blanks;
     match share::<L, PagedRam>(rt.alloc(), first, a, 2) {
@@ -225,6 +226,7 @@ fn tried_beside<L: Seating, N: Seating, R: AllocGlobal + Wait>(
     requires seats { blank.parts ≡ 2 }
     requires empty { recorded.journal.entries ≡ [] }
     requires opening { recorded.journal.opening ≡ N.opening }
+    requires capacity { recorded.capacity ≡ N.capacity }
 {
     match share::<N, PagedRam>(rt.alloc(), blank, recorded, 2) {
         Ok((host, more)) => {

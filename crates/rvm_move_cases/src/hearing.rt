@@ -312,6 +312,7 @@ fn hear_at<L: Seating, R: AllocGlobal + Wait>(
     requires seats { blank.parts ≡ 1 }
     requires empty { recorded.journal.entries ≡ [] }
     requires opening { recorded.journal.opening ≡ L.opening }
+    requires capacity { recorded.capacity ≡ L.capacity }
 {
     match share::<L, PagedRam>(rt.alloc(), blank, recorded, 1) {
         Ok((host, seats)) => {

@@ -181,6 +181,7 @@ fn waited_at<L: Seating, R: AllocGlobal + Wait>(
     requires seats { blank.parts ≡ 2 }
     requires empty { recorded.journal.entries ≡ [] }
     requires opening { recorded.journal.opening ≡ L.opening }
+    requires capacity { recorded.capacity ≡ L.capacity }
 {
     match share::<L, PagedRam>(rt.alloc(), blank, recorded, 2) {
         Ok((host, seats)) => {

@@ -1,7 +1,7 @@
 -- What the calls of a seat leave.
 use Rattle.std.specs.List.{All}
 use Rattle.std.specs.Prelude.{◌≡◌, ℕ, ◌+◌, ◌-◌, List, [], ◌∷◌, ◌++◌, length, IfSome, Option, Some, slice_get}
-use Rattle.rvm_cell.specs.Calls.{AreOfSeat, IsReceipt}
+use Rattle.rvm_cell.specs.Calls.{AreOfSeat, IsReceipt, IsWhole}
 use Rattle.rvm_cell.specs.Seats.{PlainSeat, seat_of}
 use Rattle.rvm_cell.specs.Receipts.{PlainReceipt}
 use Rattle.rvm_frame.specs.declared.frame.Frame.{Frame}
@@ -77,11 +77,12 @@ pub record AreSliceSteps (receipts : List PlainReceipt) (steps : SliceSteps) : T
   pub count : steps.count ≡ length receipts
   pub last : IfSome (slice_get receipts (length receipts - 1)) (λ r. r.reply ≡ steps.last)
 
--- one slice: the receipts of its steps stand after the others
-pub record IsSliceCall (old : PlainSeat) (turn harts : ℕ) (before : List PlainReceipt) (new : PlainSeat)
+-- one slice of at most n steps, at a journal that takes so many entries: the receipts of its steps stand after the others
+pub record IsSliceCall (old : PlainSeat) (capacity turn harts n : ℕ) (before : List PlainReceipt) (new : PlainSeat)
     (behind : List PlainReceipt) (steps : SliceSteps) : Type 0 where
   pub receipts : List PlainReceipt
   pub of_seat : AreOfSeat old turn harts receipts
+  pub whole : IsWhole capacity n receipts
   pub told : AreSliceSteps receipts steps
   pub added : behind ≡ before ++ receipts
   pub counted : new ≡ seat_of old.id (old.count + length receipts)

@@ -149,7 +149,7 @@ impl<L: Seating> Caller<L> {
         n: u32,
     ) -> Result<SliceSteps, WorkEnd>
         ensures start { self.new.start ≡ self.old.start }
-        ensures slice { IfOk result (λ s. IsSliceCall self.old.seat turn harts self.old.receipts
+        ensures slice { IfOk result (λ s. IsSliceCall self.old.seat L.capacity turn harts n self.old.receipts
             self.new.seat self.new.receipts s) }
         ensures within { IfOk result (λ s. s.count ≤ n) }
         ensures err { OnErr result (self.new ≡ self.old) }

@@ -6,4 +6,4 @@ ghosts-fill_and_close-L-Ledger g a = record { name = a.blank.name; parts = a.bla
 
 -- a seat for each of its parts, and the host that is shared
 abbrev pub ghosts-fill_and_close-L-Seating : goal.ghosts-fill_and_close-L-Seating
-ghosts-fill_and_close-L-Seating g a = record { seats = a.blank.parts; opening = a.recorded.journal.opening }
+ghosts-fill_and_close-L-Seating g a = record { seats = a.blank.parts; opening = a.recorded.journal.opening; capacity = a.recorded.capacity }

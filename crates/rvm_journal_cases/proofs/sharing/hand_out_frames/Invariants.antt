@@ -6,4 +6,4 @@ ghosts-share_and_move-L-Ledger g a = record { name = a.blank.name; parts = a.bla
 
 -- a seat for each of its parts, and the host that is shared
 abbrev pub ghosts-share_and_move-L-Seating : goal.ghosts-share_and_move-L-Seating
-ghosts-share_and_move-L-Seating g a = record { seats = a.blank.parts; opening = a.recorded.journal.opening }
+ghosts-share_and_move-L-Seating g a = record { seats = a.blank.parts; opening = a.recorded.journal.opening; capacity = a.recorded.capacity }

@@ -6,4 +6,4 @@ ghosts-call_and_miss-L-Ledger g a = record { name = a.blank.name; parts = a.blan
 
 -- a seat for each of its parts, and the host that is shared
 abbrev pub ghosts-call_and_miss-L-Seating : goal.ghosts-call_and_miss-L-Seating
-ghosts-call_and_miss-L-Seating g a = record { seats = a.blank.parts; opening = a.recorded.journal.opening }
+ghosts-call_and_miss-L-Seating g a = record { seats = a.blank.parts; opening = a.recorded.journal.opening; capacity = a.recorded.capacity }

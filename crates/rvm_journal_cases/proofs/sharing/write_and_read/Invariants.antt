@@ -6,4 +6,4 @@ ghosts-poke_and_look-L-Ledger g a = record { name = a.blank.name; parts = a.blan
 
 -- a seat for each of its parts, and the host that is shared
 abbrev pub ghosts-poke_and_look-L-Seating : goal.ghosts-poke_and_look-L-Seating
-ghosts-poke_and_look-L-Seating g a = record { seats = a.blank.parts; opening = a.recorded.journal.opening }
+ghosts-poke_and_look-L-Seating g a = record { seats = a.blank.parts; opening = a.recorded.journal.opening; capacity = a.recorded.capacity }

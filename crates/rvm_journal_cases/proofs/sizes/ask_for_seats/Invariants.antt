@@ -6,4 +6,4 @@ ghosts-tell_seats-L-Ledger g a = record { name = a.blank.name; parts = a.blank.p
 
 -- a seat for each of its parts, and the host that is shared
 abbrev pub ghosts-tell_seats-L-Seating : goal.ghosts-tell_seats-L-Seating
-ghosts-tell_seats-L-Seating g a = record { seats = a.blank.parts; opening = a.host.journal.opening }
+ghosts-tell_seats-L-Seating g a = record { seats = a.blank.parts; opening = a.host.journal.opening; capacity = a.host.capacity }

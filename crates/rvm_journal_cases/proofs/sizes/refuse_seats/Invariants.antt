@@ -6,4 +6,4 @@ ghosts-refuse_share-L-Ledger a = record { name = a.blank.name; parts = a.blank.p
 
 -- a seat for each of its parts, and the host that is shared
 abbrev pub ghosts-refuse_share-L-Seating : goal.ghosts-refuse_share-L-Seating
-ghosts-refuse_share-L-Seating a = record { seats = a.blank.parts; opening = a.host.journal.opening }
+ghosts-refuse_share-L-Seating a = record { seats = a.blank.parts; opening = a.host.journal.opening; capacity = a.host.capacity }

@@ -9,7 +9,7 @@ ghosts-tried_at-N-Ledger g a = record { name = a.blanks.1.name; parts = a.blanks
 
 -- a seat for each of their parts, and the hosts that are shared
 abbrev pub ghosts-tried_at-L-Seating : goal.ghosts-tried_at-L-Seating
-ghosts-tried_at-L-Seating g a = record { seats = a.blanks.0.parts; opening = a.a.journal.opening }
+ghosts-tried_at-L-Seating g a = record { seats = a.blanks.0.parts; opening = a.a.journal.opening; capacity = a.a.capacity }
 
 abbrev pub ghosts-tried_at-N-Seating : goal.ghosts-tried_at-N-Seating
-ghosts-tried_at-N-Seating g a = record { seats = a.blanks.1.parts; opening = a.b.journal.opening }
+ghosts-tried_at-N-Seating g a = record { seats = a.blanks.1.parts; opening = a.b.journal.opening; capacity = a.b.capacity }

@@ -6,4 +6,4 @@ ghosts-hear_at-L-Ledger g a = record { name = a.blank.name; parts = a.blank.part
 
 -- a seat for each of its parts, and the host that is shared
 abbrev pub ghosts-hear_at-L-Seating : goal.ghosts-hear_at-L-Seating
-ghosts-hear_at-L-Seating g a = record { seats = a.blank.parts; opening = a.recorded.journal.opening }
+ghosts-hear_at-L-Seating g a = record { seats = a.blank.parts; opening = a.recorded.journal.opening; capacity = a.recorded.capacity }

@@ -6,4 +6,4 @@ ghosts-waited_at-L-Ledger g a = record { name = a.blank.name; parts = a.blank.pa
 
 -- a seat for each of its parts, and the host that is shared
 abbrev pub ghosts-waited_at-L-Seating : goal.ghosts-waited_at-L-Seating
-ghosts-waited_at-L-Seating g a = record { seats = a.blank.parts; opening = a.recorded.journal.opening }
+ghosts-waited_at-L-Seating g a = record { seats = a.blank.parts; opening = a.recorded.journal.opening; capacity = a.recorded.capacity }

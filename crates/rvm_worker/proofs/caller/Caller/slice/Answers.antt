@@ -26,10 +26,11 @@ returns-clause-slice g c =
     c.append-room.ensures ∙ ap (λ xs. all_of xs ++ more) c.reserve.ensures.items in
     let told : AreSliceSteps (all_of c.as_slice.result.now) c.steps_of-steps.result =
     record { count = c.steps_of-steps.ensures.count; last = c.steps_of-steps.ensures.last } in
-    subst (λ (v : PlainCaller). IsSliceCall v.seat c.args.turn c.args.harts v.receipts c.give_back.new.self
-    (all_of c.append-room.new.all.items) c.steps_of-steps.result) c.self.view_is (record {
+    subst (λ (v : PlainCaller). IsSliceCall v.seat g.L.Seating.capacity c.args.turn c.args.harts c.args.n v.receipts
+    c.give_back.new.self (all_of c.append-room.new.all.items) c.steps_of-steps.result) c.self.view_is (record {
       receipts = more;
       of_seat = said.receipts;
+      whole = said.whole;
       told = subst (λ l. AreSliceSteps (all_of l) c.steps_of-steps.result) c.as_slice.ensures.value told;
       added = added;
       counted = c.give_back.ensures ∙ said.seat;
