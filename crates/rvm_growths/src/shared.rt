@@ -80,10 +80,15 @@ struct Share;
 
 impl Trial for Share {
     fn attempt(&mut self, alloc: Global, heap: &mut Heap, room: usize) -> Tried {
-        match recorded(alloc) {
-            Some(recorded) => shared_in::<Brand>(alloc, heap, room, Blank::new(2), recorded),
-            None => Tried::Wrong,
-        }
+        share_new(alloc, heap, room)
+    }
+}
+
+/// The same of a new host.
+fn share_new(alloc: Global, heap: &mut Heap, room: usize) -> Tried {
+    match recorded(alloc) {
+        Some(recorded) => shared_in::<Brand>(alloc, heap, room, Blank::new(2), recorded),
+        None => Tried::Wrong,
     }
 }
 
@@ -99,6 +104,7 @@ fn shared_in<L: Seating>(
     requires seats { blank.parts ≡ 2 }
     requires empty { recorded.journal.entries ≡ [] }
     requires opening { recorded.journal.opening ≡ L.opening }
+    requires capacity { recorded.capacity ≡ L.capacity }
 {
     if heap.leave(alloc, room).is_none() {
         drop(recorded);
@@ -132,12 +138,15 @@ struct Call<'r, R: Wait> {
 
 impl<R: Wait> Trial for Call<'_, R> {
     fn attempt(&mut self, alloc: Global, heap: &mut Heap, room: usize) -> Tried {
-        match recorded(alloc) {
-            Some(recorded) => {
-                called_in::<Brand, R>(self.rt, alloc, heap, room, Blank::new(2), recorded)
-            }
-            None => Tried::Wrong,
-        }
+        call_new(self.rt, alloc, heap, room)
+    }
+}
+
+/// The same of a new host.
+fn call_new<R: Wait>(rt: &R, alloc: Global, heap: &mut Heap, room: usize) -> Tried {
+    match recorded(alloc) {
+        Some(recorded) => called_in::<Brand, R>(rt, alloc, heap, room, Blank::new(2), recorded),
+        None => Tried::Wrong,
     }
 }
 
@@ -154,6 +163,7 @@ fn called_in<L: Seating, R: Wait>(
     requires seats { blank.parts ≡ 2 }
     requires empty { recorded.journal.entries ≡ [] }
     requires opening { recorded.journal.opening ≡ L.opening }
+    requires capacity { recorded.capacity ≡ L.capacity }
 {
     match share::<L, FlatMemory>(alloc, blank, recorded, 2) {
         Ok((host, seats)) => {
@@ -202,12 +212,15 @@ struct Close<'r, R: Wait> {
 
 impl<R: Wait> Trial for Close<'_, R> {
     fn attempt(&mut self, alloc: Global, heap: &mut Heap, room: usize) -> Tried {
-        match recorded(alloc) {
-            Some(recorded) => {
-                closed_in::<Brand, R>(self.rt, alloc, heap, room, Blank::new(2), recorded)
-            }
-            None => Tried::Wrong,
-        }
+        close_new(self.rt, alloc, heap, room)
+    }
+}
+
+/// The same of a new host.
+fn close_new<R: Wait>(rt: &R, alloc: Global, heap: &mut Heap, room: usize) -> Tried {
+    match recorded(alloc) {
+        Some(recorded) => closed_in::<Brand, R>(rt, alloc, heap, room, Blank::new(2), recorded),
+        None => Tried::Wrong,
     }
 }
 
@@ -224,6 +237,7 @@ fn closed_in<L: Seating, R: Wait>(
     requires seats { blank.parts ≡ 2 }
     requires empty { recorded.journal.entries ≡ [] }
     requires opening { recorded.journal.opening ≡ L.opening }
+    requires capacity { recorded.capacity ≡ L.capacity }
 {
     match share::<L, FlatMemory>(alloc, blank, recorded, 2) {
         Ok((host, seats)) => {
