@@ -13,10 +13,11 @@ use Rattle.rvm_world.specs.declared.event.Event.TheVariants.{At, Deliver}
 use Rattle.rvm_audit.specs.declared.side.Side.{Side}
 use Rattle.rvm_audit.specs.declared.side.Side.TheVariants.{First, Second}
 use Rattle.rvm_audit.specs.Merging.{IsUnmade, IsWaiting, Places}
-use Rattle.rvm_audit.specs.Orders.{CameUnmade, IsDeadEnd, IsOrder, IsStuck, MadeBelow}
+use Rattle.rvm_interleaving.specs.Orders.{MadeBelow}
+use Rattle.rvm_audit.specs.Orders.{CameUnmade, IsDeadEnd, IsOrder, IsStuck}
 use Rattle.rvm_audit.specs.Pairs.{HasBytes, IsRun, Made, Makes, Pair, after, after_all, entries_at, made_more, number_of, opened, opening_at, other}
 use Rattle.rvm_audit.proofs.Merged.{IsIndex, Merged}
-use Rattle.rvm_audit.proofs.Gets.{get_end, get_front, get_last, get_nothing, get_take}
+use Rattle.rvm_interleaving.proofs.Gets.{get_end, get_front, get_last, get_nothing, get_take}
 
 module _ (a b : PlainHost) where
   made_stays : (w : Pair) (ss : List (Side × PlainEntry)) (i : ℕ) (s : Made) → slice_get w.made i ≡ Some s

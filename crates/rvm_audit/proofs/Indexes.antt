@@ -13,7 +13,7 @@ use Rattle.rvm_audit.specs.declared.merge.Merge.{Merge}
 use Rattle.rvm_audit.specs.Merging.{Places, counted, noted, places_at, places_of}
 use Rattle.rvm_audit.proofs.Merged.{IsIndex}
 use Rattle.rvm_audit.specs.Pairs.{Made, made_more, other}
-use Rattle.rvm_audit.proofs.Gets.{get_end, get_front, get_last, get_nothing}
+use Rattle.rvm_interleaving.proofs.Gets.{get_end, get_front, get_last, get_nothing}
 
 -- the number of frames
 pub more_length : (x : Side) (frame : Option (List ℕ)) (made : List Made) (count : ℕ) → length made ≡ count

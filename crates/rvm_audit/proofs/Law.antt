@@ -16,6 +16,7 @@ use Rattle.rvm_journal.specs.Replay.{IsAnswered, LawHost, Outcome}
 use Rattle.rvm_message.specs.declared.event.Command.{Command}
 use Rattle.rvm_message.specs.declared.event.HostEvent.{HostEvent}
 use Rattle.rvm_message.specs.Events.{BoardHostEvent, command_of, event_of}
+use Rattle.rvm_message.specs.Frames.{frame_heard}
 use Rattle.rvm_protocol.specs.Commands as protocol
 use Rattle.rvm_protocol.specs.Course.{RunsNeverMove, RunsTellTheirPast}
 use Rattle.rvm_protocol.specs.Frames.{Addressed}
@@ -31,8 +32,8 @@ use Rattle.rvm_audit.specs.declared.side.Side.TheVariants.{First, Second}
 use Rattle.rvm_audit.specs.Orders.{IsOrder}
 use Rattle.rvm_audit.specs.Pairs.{HasBytes, IsEvent, IsRun, Made, Pair, after, after_all, host_at, made_more, number_of, opened, opening_at, other, outcome_in}
 use Rattle.rvm_audit.specs.Worlds.{AreNew, IsWorldRun, seen}
-use Rattle.rvm_audit.proofs.Heard.{heard}
-use Rattle.rvm_audit.proofs.Moves.{Keeps, goes_there, keeps_on}
+use Rattle.rvm_interleaving.proofs.Heard.{heard}
+use Rattle.rvm_interleaving.proofs.Moves.{Keeps, goes_there, keeps_on}
 
 -- THE GUEST
 
@@ -44,6 +45,13 @@ allowed g valid = valid
 
 abbrev Posted : Type 0
 Posted = Addressed (List ℕ) (List ℕ)
+
+-- a frame that comes is the one that its bytes are
+heard_at : (version : ℕ) (x : Side) (f : Frame) (bytes : List ℕ) (s : Posted) → IsSpelled version s bytes
+    → HasBytes version x f bytes → s.frame ≡ frame_heard f
+heard_at version x f bytes s is so =
+    heard version (number_of (other x)) (number_of x) f bytes s is
+    (record { spelled = so.spelled; bytes_are = so.bytes_are })
 
 -- bytes and their host, and the frame of the law
 record IsSame (version : ℕ) (m : Made) (s : Posted) : Type 0 where
@@ -149,7 +157,7 @@ module _ (version : ℕ) (g : GuestState) (limits : ℕ → ℕ) where
     means (Deliver k) x v is =
         let at = same_at version w.made sent k (other x, is.bytes) so.same is.there in
         let s = at.0 in
-        let frame_is = heard version x is.frame is.bytes s at.2.spelled (bytes_at x is.frame is.bytes is.same) in
+        let frame_is = heard_at version x is.frame is.bytes s at.2.spelled (bytes_at x is.frame is.bytes is.same) in
         ap (frame_for board) at.1
         ∙ (λ j. Some ((at.2.to ∙ other_twice x) j, protocol.Came (at.2.from j) (frame_is j)))
         ∙ ap (λ (y : HostEvent). Some (number_of x, event_of y)) (sym is.event)

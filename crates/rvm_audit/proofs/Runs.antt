@@ -19,7 +19,7 @@ use Rattle.rvm_audit.specs.Merging.{Becomes, IsTaken, IsUnmade, IsWaiting, Place
 use Rattle.rvm_audit.specs.Orders.{IsMerge}
 use Rattle.rvm_audit.specs.Pairs.{AllLowest, AllTurns, CannotStand, HasBytes, IsEvent, IsLowestAt, IsRun, IsTurn, Makes, Pair, after, after_all, entries_at, host_at, made_more, number_of, opened, opening_at, other, outcome_in, put}
 use Rattle.rvm_audit.proofs.Merged.{IsIndex, Merged}
-use Rattle.rvm_audit.proofs.Gets.{drop_end, drop_get, take_get}
+use Rattle.rvm_interleaving.proofs.Gets.{drop_end, drop_get, take_get}
 use Rattle.rvm_audit.proofs.Indexes.{index_rest, index_own, more_length}
 
 module _ (a b : PlainHost) where

@@ -6,6 +6,7 @@ use Rattle.rvm_journal.specs.History.{History}
 use Rattle.rvm_journal.specs.Replay.{replay}
 use Rattle.rvm_message.specs.declared.event.HostEvent.TheVariants.{Came}
 use Rattle.rvm_world.specs.declared.event.Event.{Event}
+use Rattle.rvm_interleaving.specs.Orders.{MadeBelow}
 use Rattle.rvm_audit.specs.declared.side.Side.{Side}
 use Rattle.rvm_audit.specs.declared.side.Side.TheVariants.{First, Second}
 use Rattle.rvm_audit.specs.Pairs.{AllLowest, AllTurns, HasBytes, IsRun, after_all, entries_at, number_of, opened, other}
@@ -27,14 +28,6 @@ pub record IsMerge (a b : History) (events : List Event) : Type 0 where
   pub order : IsOrder a b events
   pub lowest : AllLowest a.opening b.opening (opened a.opening b.opening) events order.steps
   pub turns : AllTurns a.opening b.opening (opened a.opening b.opening) order.steps []
-
--- one of the first j entries made a frame of these bytes
-pub record MadeBelow (entries : List PlainEntry) (j : ℕ) (bytes : List ℕ) : Type 0 where
-  pub place : ℕ
-  pub entry : PlainEntry
-  pub below : place < j
-  pub stands : slice_get entries place ≡ Some entry
-  pub made : entry.frame ≡ Some bytes
 
 -- the entry at i is a frame that came, and not from the other host, or that host's first j entries made none of its bytes
 pub record CameUnmade (version : ℕ) (x : Side) (entries : List PlainEntry) (i : ℕ) (others : List PlainEntry) (j : ℕ)

@@ -3,7 +3,8 @@ use Rattle.std.proofs.Common.{◌≡◌, ℕ, zero, suc, ◌<◌, ◌≤◌, Lis
 use Rattle.std.specs.Prelude.{slice_get, ◌⊎◌}
 use Rattle.std.proofs.lemmas.Option.{same_Some}
 
-pub get_front : {X : Type 0} (xs ys : List X) (i : ℕ) (s : X) → slice_get xs i ≡ Some s → slice_get (xs ++ ys) i ≡ Some s
+pub get_front : {X : Type 0} (xs ys : List X) (i : ℕ) (s : X) → slice_get xs i ≡ Some s
+    → slice_get (xs ++ ys) i ≡ Some s
 get_front [] ys i s h = cc
 get_front (x ∷ xs) ys zero s h = h
 get_front (x ∷ xs) ys (suc i) s h = get_front xs ys i s h
@@ -12,7 +13,8 @@ pub get_end : {X : Type 0} (xs : List X) (s : X) → slice_get (xs ++ s ∷ []) 
 get_end [] s = refl
 get_end (x ∷ xs) s = get_end xs s
 
-pub get_either : {X : Type 0} (xs ys : List X) (k : ℕ) (s : X) → slice_get (xs ++ ys) k ≡ Some s → (slice_get xs k ≡ Some s) ⊎ ((m : ℕ) × (slice_get ys m ≡ Some s))
+pub get_either : {X : Type 0} (xs ys : List X) (k : ℕ) (s : X) → slice_get (xs ++ ys) k ≡ Some s
+    → (slice_get xs k ≡ Some s) ⊎ ((m : ℕ) × (slice_get ys m ≡ Some s))
 get_either [] ys k s h = inr (k, h)
 get_either (x ∷ xs) ys zero s h = inl h
 get_either (x ∷ xs) ys (suc k) s h = get_either xs ys k s h
@@ -24,7 +26,8 @@ get_take (x ∷ xs) zero k lt = absurd (omega arith)
 get_take (x ∷ xs) (suc j) zero lt = refl
 get_take (x ∷ xs) (suc j) (suc k) lt = get_take xs j k (omega arith)
 
-pub take_get : {X : Type 0} (xs : List X) (i : ℕ) (n : X) → slice_get xs i ≡ Some n → take (suc i) xs ≡ take i xs ++ n ∷ []
+pub take_get : {X : Type 0} (xs : List X) (i : ℕ) (n : X) → slice_get xs i ≡ Some n
+    → take (suc i) xs ≡ take i xs ++ n ∷ []
 take_get [] i n h = cc
 take_get (x ∷ xs) zero n h = let e : x ≡ n = cc in ap (λ y. y ∷ []) e
 take_get (x ∷ xs) (suc i) n h = ap (λ ys. x ∷ ys) (take_get xs i n h)

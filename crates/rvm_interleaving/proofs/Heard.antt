@@ -1,0 +1,103 @@
+-- A frame that comes is the one that its bytes are, and was sent from its host to this one.
+use Rattle.std.proofs.Common.{◌≡◌, ℕ, ◌-◌, ◌^◌, ◌<◌, ◌==◌, ◌&&◌, Bool, true, false, nat_le, nat_lt, if◌then◌else◌, List, [], ◌++◌, length, Option, Some, None, is_some, sym, ap, ◌∙◌, arith, inl, inr}
+use Rattle.std.proofs.lemmas.Bool.Decides.{nat_tests}
+use Rattle.std.proofs.lemmas.Option.{same_Some}
+use Rattle.rvm_codec.specs.Numbers.{within}
+use Rattle.rvm_core.specs.Hosts.{is_spoken}
+use Rattle.rvm_core.specs.Spelled.{IsSpelled}
+use Rattle.rvm_frame.specs.declared.frame.Frame.{Frame}
+use Rattle.rvm_frame.specs.Grammar.{HasSpelling, MayStand, Received, known_at, sent}
+use Rattle.rvm_frame.specs.Kinds.{names_hosts}
+use Rattle.rvm_frame.proofs.Verdicts.{no_prefix_sent}
+use Rattle.rvm_message.specs.Frames.{can_come, frame_heard, frame_of, no_frame}
+use Rattle.rvm_protocol.specs.Frames as protocol
+use Rattle.rvm_protocol.specs.Host.{is_there}
+use Rattle.rvm_frame.specs.Bodies.{is_piece}
+use Rattle.rvm_frame.specs.declared.frame.Frame.TheVariants as frame
+use Rattle.rvm_interleaving.specs.Hosts.{HasBytes, coming}
+use Rattle.rvm_interleaving.proofs.Steps.{and_both, or_true}
+
+above : (n : ℕ) → within 1 (2 ^ 64 - 1) n ≡ true → nat_lt 0 n ≡ true
+above n h = grind (arith, nat_tests)
+
+some_pages : (pages harts : ℕ) → (within 1 4096 pages && within 1 8 harts) ≡ true → nat_lt 0 pages ≡ true
+some_pages pages harts h = grind (arith, nat_tests)
+
+few_parts : (stamp part parts len : ℕ)
+    → ((within 1 (2 ^ 32 - 1) stamp && (within 0 5 part && within 1 6 parts)) && is_piece part parts len) ≡ true
+    → nat_le parts 6 ≡ true
+few_parts stamp part parts len h = grind (arith, nat_tests)
+
+-- a frame that has a spelling behind Hello can come to a host
+comes : (version : ℕ) (hosts : Option (ℕ × ℕ)) (f : Frame) → HasSpelling (hosts, f)
+    → MayStand (Some version) (hosts, f) → can_come f ≡ true
+comes version hosts (frame.Hello v) s m = absurd cc
+comes version hosts (frame.Offer n pages harts) s m =
+    let a = above n s.move_number in let b = some_pages pages harts s.body in cc
+comes version hosts (frame.Accept n) s m = let a = above n s.move_number in cc
+comes version hosts (frame.Refuse n limit) s m = let a = above n s.move_number in cc
+comes version hosts (frame.Page n page number bytes) s m = let a = above n s.move_number in cc
+comes version hosts (frame.RoundEnd n round made skipped left) s m = let a = above n s.move_number in cc
+comes version hosts (frame.Lost n pages) s m = let a = above n s.move_number in cc
+comes version hosts (frame.State n numbers state) s m = let a = above n s.move_number in cc
+comes version hosts (frame.Ready n) s m = let a = above n s.move_number in cc
+comes version hosts (frame.Go n) s m = let a = above n s.move_number in cc
+comes version hosts (frame.Started n) s m = let a = above n s.move_number in cc
+comes version hosts (frame.Abort n) s m = let a = above n s.move_number in cc
+comes version hosts (frame.Zero n page number) s m = let a = above n s.move_number in cc
+comes version hosts (frame.Part n stamp part parts bytes) s m =
+    let a = above n s.move_number in let b = few_parts stamp part parts (length bytes) s.body in cc
+
+abbrev Posted : Type 0
+Posted = protocol.Addressed (List ℕ) (List ℕ)
+
+-- what stands in the stream is the same
+same_sent : (version from to : ℕ) (f : Frame) (bytes : List ℕ) (s : Posted) (is : IsSpelled version s bytes)
+    → HasBytes version from to f bytes → sent version is.frame ≡ sent version (coming from to f)
+same_sent version from to f bytes s is so =
+    (no_prefix_sent version is.frame (coming from to f) [] [] is.spells.0 so.spelled
+    (ap (λ (ys : List ℕ). ys ++ []) (sym is.spells.2 ∙ so.bytes_are))).0
+
+pub heard : (version from to : ℕ) (f : Frame) (bytes : List ℕ) (s : Posted) → IsSpelled version s bytes
+    → HasBytes version from to f bytes → s.frame ≡ frame_heard f
+heard version from to f bytes s is so =
+    let g = is.frame in
+    let same : g.frame ≡ f = ap (λ (r : Received). r.1) (same_sent version from to f bytes s is so) in
+    let may = comes version (sent version g).0 g.frame is.spells.0 is.spells.1 in
+    ap (λ (a : Posted). a.frame) (sym is.is)
+    ∙ ap (λ b. if b then frame_of g.frame else no_frame) (sym may)
+    ∙ ap frame_heard same
+
+-- where headers name hosts, they are the same ones
+named : (p q : Bool) (a b : ℕ × ℕ) (t : Bool) → t ≡ true
+    → is_some (if◌then◌else◌ {A = Option (ℕ × ℕ)} p (Some a) None) ≡ t
+    → (if p then Some a else None) ≡ (if q then Some b else None) → a ≡ b
+named true true a b t holds is same = same_Some a b same
+named true false a b t holds is same = absurd cc
+named false q a b t holds is same = absurd cc
+
+to_named : (version from to : ℕ) (f : Frame) (bytes : List ℕ) (s : Posted) → (version == 3) ≡ true
+    → IsSpelled version s bytes → HasBytes version from to f bytes → s.to ≡ to
+to_named version from to f bytes s three is so =
+    let g = is.frame in
+    let hosts : (g.from, g.to) ≡ (from, to) =
+    named (names_hosts (known_at version g.frame)) (names_hosts (known_at version f)) (g.from, g.to) (from, to)
+    (version == 3) three is.spells.1.1
+    (ap (λ (r : Received). r.0) (same_sent version from to f bytes s is so))
+    in
+    ap (λ (a : Posted). a.to) (sym is.is) ∙ ap (λ (h : ℕ × ℕ). h.1) hosts
+
+-- of two hosts the only other one
+to_other : (x from to count : ℕ) → (count == 2) ≡ true → x < count → is_there x count from ≡ true
+    → is_there from count to ≡ true → to ≡ x
+to_other x from to count two lt other there = grind (arith, nat_tests)
+
+-- in each version that so many hosts speak
+pub goes_to : (version count x from : ℕ) (f : Frame) (bytes : List ℕ) (s : Posted) → is_spoken version count ≡ true
+    → x < count → is_there x count from ≡ true → is_there from count s.to ≡ true → IsSpelled version s bytes
+    → HasBytes version from x f bytes → s.to ≡ x
+goes_to version count x from f bytes s spoken lt other there is so =
+    elim (or_true (version == 3) (count == 2 && within 1 2 version) (and_both _ _ spoken).1) [
+      | inl three ↦ to_named version from x f bytes s three is so
+      | inr two ↦ to_other x from s.to count (and_both _ _ two).0 lt other there
+    ]
