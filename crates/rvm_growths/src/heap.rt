@@ -7,6 +7,7 @@ const LARGEST: usize = 1 << 34;
 
 /// Blocks of half the size are asked for, down to this one, and then of each size of a step less.
 const LAST_HALF: usize = 2048;
+
 const STEP: usize = 16;
 
 /// How many blocks there may be of a size.
@@ -15,6 +16,7 @@ const MOST: usize = 16384;
 /// How many blocks are kept free while the rest is held, and how long they are: what a trial has. It is much, since the C
 /// library keeps some small blocks that are given back apart, wherever they lie.
 const FREE: usize = 1024;
+
 const FREE_SIZE: usize = 65536;
 
 /// A block that lies after them, so that the C library does not give them back to the system while they are free.

@@ -308,5 +308,9 @@ fn told_of<L: Seating>(error: CloseError<L, FlatMemory>) -> Tried {
         && error.seats.len() == 2
         && error.receipts.len() == 1;
     drop(error);
-    if is_refused { Tried::Refused } else { Tried::Wrong }
+    if is_refused {
+        Tried::Refused
+    } else {
+        Tried::Wrong
+    }
 }

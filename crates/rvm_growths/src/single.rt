@@ -127,10 +127,8 @@ impl Trial for ReadState {
         let Some(guest) = guest(alloc) else {
             return Tried::Wrong;
         };
-        let (Ok(bytes), Ok(ram)) = (
-            write_state(alloc, &guest),
-            FlatMemory::zeroed(alloc, PAGES),
-        ) else {
+        let (Ok(bytes), Ok(ram)) = (write_state(alloc, &guest), FlatMemory::zeroed(alloc, PAGES))
+        else {
             return Tried::Wrong;
         };
         if heap.leave(alloc, room).is_none() {

@@ -87,7 +87,11 @@ impl Trial for InWorld<'_> {
 pub fn try_moves<R: AllocGlobal + Print>(rt: &R, heap: &mut Heap) -> Option<()> {
     for worked in &MOVES {
         let is_moved = try_move(rt.alloc(), heap, *worked) == Some(true);
-        println!(rt; "{}: each event refused each growth, and then made {is_moved}", worked.name).ok()?;
+        println!(rt;
+            "{}: each event refused each growth, and then made {is_moved}",
+            worked.name
+        )
+        .ok()?;
     }
     Some(())
 }
@@ -151,12 +155,7 @@ fn digest(alloc: Global, world: &mut World<FlatMemory>) -> Option<u64> {
 }
 
 /// The same of the guest at a host.
-fn guest_digest(
-    alloc: Global,
-    world: &mut World<FlatMemory>,
-    host: u8,
-    sum: u64,
-) -> Option<u64> {
+fn guest_digest(alloc: Global, world: &mut World<FlatMemory>, host: u8, sum: u64) -> Option<u64> {
     let mut sum = reply_digest(alloc, world, host, BoardEvent::Regs(0), sum)?;
     for view in 0..PAGES * PAGE_SIZE / VIEW {
         let address = RAM_BASE.wrapping_add(view * VIEW);
@@ -215,7 +214,13 @@ fn next_event(
         *came = came.saturating_add(1);
     }
     if events == 0 {
-        return Event::At(0, Command::Begin { to: 1, policy: POLICY });
+        return Event::At(
+            0,
+            Command::Begin {
+                to: 1,
+                policy: POLICY,
+            },
+        );
     }
     if *came < world.sent() {
         let place = *came as u64;

@@ -14,6 +14,7 @@ use std::test::Fail;
 
 /// How many bytes of RAM an answer has, and how many such answers four pages are.
 const VIEW: u32 = 256;
+
 const VIEWS: u32 = 64;
 
 /// A world whose first host has a guest of so many pages that loops.

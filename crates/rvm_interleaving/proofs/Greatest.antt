@@ -149,15 +149,16 @@ module _ (j : Journals) (places q : ℕ → ℕ) (members : ℕ → Bool) (close
   stuck_by x lt here (inl is) = let r = take_short (q x) (j.entries x) in let s = r.1 in inl (omega (arith, is, s))
   stuck_by x lt here (inr c) = elim (cases_lt (places x) (q x)) [
     | inl before ↦ inr (
-        c.entry,
-        c.from,
-        c.frame,
-        get_take (j.entries x) (q x) (places x) before ∙ c.stands,
-        c.came,
-        λ bytes other has.
-            ((there_below x j.openings.count c.from other, closed x c.from c.frame c.entry bytes lt here c.stands c.came other has),
-            c.unmade bytes other has),
-      )
+      c.entry,
+      c.from,
+      c.frame,
+      get_take (j.entries x) (q x) (places x) before ∙ c.stands,
+      c.came,
+      λ bytes other has. (
+        (there_below x j.openings.count c.from other, closed x c.from c.frame c.entry bytes lt here c.stands c.came other has),
+        c.unmade bytes other has,
+      ),
+    )
     | inr le ↦ let r = take_short (q x) (j.entries x) in let s = r.0 in inl (omega (arith, le, s))
   ]
 

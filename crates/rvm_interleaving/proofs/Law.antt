@@ -250,8 +250,7 @@ unfolding RunsNeverMove RunsTellTheirPast
 own_run version g limits j events valid are o =
     let u = new version g limits j.openings are in
     let begun = begins version g limits j.openings are in
-    let t = runs version g limits j.openings are events o.sequence (opened j.openings) u.hosts [] begun o.run in
-    (
+    let t = runs version g limits j.openings are events o.sequence (opened j.openings) u.hosts [] begun o.run in (
       record {
         sequence = o.sequence;
         entries = o.entries;

@@ -65,8 +65,7 @@ module _ (o : Openings) where
       let rest =
       run_made ss (after o w x n) all.1
       (λ y lt. replay_next w y x n (entries_at y ss) (y == x) (eqb-true y x) (replays y lt))
-      in
-      (
+      in (
         e.0 ∷ rest.0,
         (record { there = first.there; event = e.1; answer = own.0 }, rest.1),
       )
@@ -87,8 +86,7 @@ interleaved j ss is =
     let run =
     run_made o ss (opened o) is.follow
     (λ x lt. subst (λ xs. IsReplayFrom (o.host x) (host_of (o.host x)) xs) (sym (is.entries x lt)) (is.replays x lt))
-    in
-    (
+    in (
       run.0,
       record {
         sequence = ss;

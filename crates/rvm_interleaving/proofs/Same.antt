@@ -253,14 +253,12 @@ module _ (o : Openings) where
         let rest =
         begins_alike ss (f.pre ++ f.post) (after o w x n) (goes w x n good r.0) r.1 front.can
         (λ z lt.
-        let q = same z lt in
-        (
+        let q = same z lt in (
           q.0,
           cancel (z == x) n _ _
               (sym (ap (entries_at z) f.is ∙ front.entries z) ∙ q.1 ∙ sym (cons_append (z == x) n (entries_at z ss) q.0)),
         ))
-        in
-        (
+        in (
           rest.0,
           ap accepted_entries f.is ∙ front.accepted ∙ ap (cons_if (is_accepted n) (x, n)) rest.1
               ∙ cons_append (is_accepted n) (x, n) (accepted_entries ss) rest.0,

@@ -46,7 +46,7 @@ pub take_short : {X : Type 0} (q : ℕ) (xs : List X) → (length (take q xs) �
 take_short zero [] = (omega arith, omega arith)
 take_short zero (x ∷ xs) = (omega arith, omega arith)
 take_short (suc q) [] = (omega arith, omega arith)
-take_short (suc q) (x ∷ xs) = 
+take_short (suc q) (x ∷ xs) =
     let r = take_short q xs in let a = r.0 in let b = r.1 in (omega (arith, a), omega (arith, b))
 
 pub take_within : {X : Type 0} (q : ℕ) (xs : List X) → q ≤ length xs → length (take q xs) ≡ q

@@ -86,7 +86,9 @@ where
 {
     if let Some(ends) = ends_at_a(rt, 64, 1000000) {
         let (harts, copier, receiver) = (ends.harts, ends.copier, ends.receiver_b);
-        println!(rt; "64 entries at A: harts {harts:?}, copier {copier:?}, receiver at B {receiver:?}")?;
+        println!(rt;
+            "64 entries at A: harts {harts:?}, copier {copier:?}, receiver at B {receiver:?}"
+        )?;
     }
     if let Some(ends) = ends_at_a(rt, 1000000, 4) {
         let (receiver, copier) = (ends.receiver_b, ends.copier);

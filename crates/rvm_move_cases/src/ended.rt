@@ -31,13 +31,7 @@ impl MoveResult {
         K: Link + Drop + Send,
         G: Gate + Sync,
         R: AllocGlobal + Threads + Wait + Clock + Sync,
-    >(
-        rt: &R,
-        image: &[u8],
-        stream: u32,
-        links: (Links<K>, Links<K>),
-        gate: &G,
-    ) -> MoveResult
+    >(rt: &R, image: &[u8], stream: u32, links: (Links<K>, Links<K>), gate: &G) -> MoveResult
         requires { (1 ≤ stream) × (stream ≤ 3) }
     {
         let alloc = rt.alloc();

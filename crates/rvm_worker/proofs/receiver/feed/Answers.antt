@@ -9,7 +9,7 @@ pub returns-in_err-came-clause-some : goal.returns-in_err-came-clause-some
 returns-in_err-came-clause-some g c =
     let reader = c.args.stream.now.reader in
     let d : Decides reader.version reader.bytes c.args.piece.now c.in_ok-taken.taken (Ok (Some (c.in-Some.hosts, c.in-Some.frame))) = search rules in
-    let h : IsAllButLast c.in_err-came.field-0.0 c.came.new.hearing.heard 
+    let h : IsAllButLast c.in_err-came.field-0.0 c.came.new.hearing.heard
     (c.args.hearing.now.heard ++ comes c.args.hearing.now.from c.args.hearing.now.to (c.in-Some.hosts, c.in-Some.frame)) = search rules in
     let up = ended_with c.args.hearing.now.from c.args.hearing.now.to c.in_err-came.field-0.0 reader c.args.piece.now c.in_ok-taken.taken (c.in-Some.hosts, c.in-Some.frame)
     c.args.hearing.now.heard c.came.new.hearing.heard (λ i. omega (arith, c.type_inv.piece i)) d h in
