@@ -47,6 +47,11 @@ pub fn try_calls<R: AllocGlobal + Print + Wait>(rt: &R, heap: &mut Heap) -> Opti
     print_tried(rt, heap, "close", &mut Close { rt })
 }
 
+/// Whether memory lacked, and the event came back.
+fn is_handed_back(why: RecordError, event: &HostEvent) -> bool {
+    why == RecordError::OutOfMemory && *event == BEGIN
+}
+
 /// An event is recorded, or comes back, and the journal is as it was.
 #[derive(Drop)]
 struct Record;
@@ -65,11 +70,11 @@ impl Trial for Record {
         let count = recorded.count();
         drop(recorded);
         match told {
-            Ok(_) if count == 1 => Tried::Made,
-            Err((RecordError::OutOfMemory, event)) if count == 0 && event == BEGIN => {
-                Tried::Refused
+            Ok(answer) => {
+                drop(answer);
+                Tried::Made
             }
-            _ => Tried::Wrong,
+            Err((why, event)) => Tried::refused(is_handed_back(why, &event) && count == 0),
         }
     }
 }
@@ -121,11 +126,7 @@ fn shared_in<L: Seating>(
         Err((why, _, recorded)) => {
             let count = recorded.count();
             drop(recorded);
-            if why == ShareError::OutOfMemory && count == 0 {
-                Tried::Refused
-            } else {
-                Tried::Wrong
-            }
+            Tried::refused(why == ShareError::OutOfMemory && count == 0)
         }
     }
 }
@@ -198,9 +199,11 @@ fn called<L: Seating, R: Wait>(
     let told = host.call(rt, alloc, seat, BEGIN);
     heap.release();
     match told {
-        Ok(_) => Tried::Made,
-        Err((RecordError::OutOfMemory, event)) if event == BEGIN => Tried::Refused,
-        Err(_) => Tried::Wrong,
+        Ok(answer) => {
+            drop(answer);
+            Tried::Made
+        }
+        Err((why, event)) => Tried::refused(is_handed_back(why, &event)),
     }
 }
 
@@ -308,9 +311,5 @@ fn told_of<L: Seating>(error: CloseError<L, FlatMemory>) -> Tried {
         && error.seats.len() == 2
         && error.receipts.len() == 1;
     drop(error);
-    if is_refused {
-        Tried::Refused
-    } else {
-        Tried::Wrong
-    }
+    Tried::refused(is_refused)
 }

@@ -75,8 +75,9 @@ fn new_world(
             drop(world);
             Tried::Made
         }
-        Err((WorldError::OutOfMemory, guest)) if are_same(alloc, &guest, same) => Tried::Refused,
-        Err(_) => Tried::Wrong,
+        Err((why, guest)) => {
+            Tried::refused(why == WorldError::OutOfMemory && are_same(alloc, &guest, same))
+        }
     }
 }
 
@@ -92,7 +93,9 @@ fn are_same(alloc: Global, one: &Debugged<FlatMemory>, other: &Debugged<FlatMemo
 /// The bytes of a page.
 fn page_of(ram: &FlatMemory, page: u32) -> [u8; PAGE_SIZE as usize] {
     let mut bytes = [1; PAGE_SIZE as usize];
-    ram.copy_page(page, &mut bytes);
+    if page < ram.pages() {
+        ram.copy_page(page, &mut bytes);
+    }
     bytes
 }
 
@@ -137,9 +140,11 @@ impl Trial for ReadState {
         let read = read_state(alloc, bytes.as_slice(), ram);
         heap.release();
         match read {
-            Ok(_) => Tried::Made,
-            Err((StateFault::OutOfMemory, ram)) if is_empty(&ram) => Tried::Refused,
-            Err(_) => Tried::Wrong,
+            Ok(guest) => {
+                drop(guest);
+                Tried::Made
+            }
+            Err((why, ram)) => Tried::refused(why == StateFault::OutOfMemory && is_empty(&ram)),
         }
     }
 }

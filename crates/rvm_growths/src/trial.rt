@@ -17,6 +17,17 @@ pub enum Tried {
     Wrong,
 }
 
+impl Tried {
+    /// What became of a call that answered with an error: whether it was for want of memory, and all was as before.
+    pub fn refused(as_before: bool) -> Tried {
+        if as_before {
+            Tried::Refused
+        } else {
+            Tried::Wrong
+        }
+    }
+}
+
 /// A call, which may be made again.
 pub trait Trial {
     /// Makes the call where so many bytes are left.
