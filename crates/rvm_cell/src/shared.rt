@@ -31,11 +31,11 @@ const MAX_SEATS: u32 = 16;
 /// How often the lock is tried before a thread waits for it: some tens of microseconds.
 const TRIES: u32 = 1000;
 
-/// How many bytes the frame of a page has at most, in each version, and one more.
+/// Enough bytes for the frame of a page in each version: the page, its numbers and a header.
 const PAGE_FRAME: usize = PAGE_SIZE as usize + 64;
 
-/// Room for the frame that a copy makes, whose memory has been written to: the system finds memory for it before the lock
-/// is held, and not under it. None for other events, or where memory lacks.
+/// Room for the frame that a copy makes, in memory that has been written to, so that the system finds that memory before the
+/// lock is taken. No room for any other event, or if memory lacks.
 fn frame_room(alloc: Global, event: &HostEvent) -> Vec<u8>
     ensures { result.items ≡ [] }
 {

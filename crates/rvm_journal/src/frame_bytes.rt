@@ -37,8 +37,8 @@ impl Model for FrameBytes {
 }
 
 impl FrameBytes {
-    /// Room for the bytes of a frame that has at most so many; none for 0. Where they may be those of a page, the room that is
-    /// there is taken, if it is enough.
+    /// Room for the bytes of a frame of at most `most` bytes; none for 0. If they may be those of a page, `spare` is taken,
+    /// provided that it is empty and large enough.
     pub(crate) fn room(
         alloc: Global,
         most: usize,

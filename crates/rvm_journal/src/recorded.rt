@@ -111,7 +111,8 @@ impl<M: PagedMemory + Drop> Recorded<M> {
         self.record_into(alloc, event, &mut Vec::new(alloc))
     }
 
-    /// The same, where the bytes of a frame as long as a page's may take room that is there, which is then gone.
+    /// Records as `record` does. The bytes of a frame that may be as long as a page's take `spare`, if it has room for them:
+    /// then nothing is left of it.
     pub fn record_into(
         &mut self,
         alloc: Global,
