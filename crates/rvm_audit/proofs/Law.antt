@@ -235,7 +235,7 @@ module _ (version : ℕ) (g : GuestState) (limits : ℕ → ℕ) where
       }
 
   abbrev new : BoardWorld
-  new = new_world board version g.guest 2 limits
+  new = new_world board version 0 g.guest 2 limits
 
   begins : Linked (opened one two) new.hosts []
   begins = record { first = refl; second = refl; same = tt; first_keeps = tt; second_keeps = tt }

@@ -37,5 +37,5 @@ pub record IsWorldRun (w : BoardWorld) (g : Guest) (a b : History) (events : Lis
   pub seen_are : history board w (map meant events) ≡ map seen steps
   pub first_ends : (run board w (map meant events)).hosts 0 ≡ replay a.opening a.entries
   pub second_ends : (run board w (map meant events)).hosts 1 ≡ replay b.opening b.entries
-  pub never_moved : NeverMoves board (at_start g) w (map meant events)
+  pub never_moved : NeverMoves board (at_start 0 g) w (map meant events)
   pub past : InEachState board (PastIsTrue board) w (map meant events)

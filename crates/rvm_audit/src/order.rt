@@ -95,5 +95,5 @@ pub fn dead_ends_have_no_order()
 pub fn the_guest_of_an_order_never_moves()
     ensures { (version : ℕ) (g : GuestState) (limits : ℕ → ℕ) (a b : History) (events : List Event)
         → is_valid g.guest ≡ true → AreNew version g limits a.opening b.opening → IsOrder a b events
-        → IsWorldRun (new_world board version g.guest 2 limits) g.guest a b events }
+        → IsWorldRun (new_world board version 0 g.guest 2 limits) g.guest a b events }
 {}

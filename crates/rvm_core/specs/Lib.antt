@@ -5,3 +5,4 @@ pub mod Bounds
 pub mod Spelled
 pub mod Turns
 pub mod Retiring
+pub mod Statuses

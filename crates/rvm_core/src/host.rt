@@ -15,11 +15,13 @@ ghost use Rattle.rvm_core.specs.Bounds.{CanBePosted, addressed, frame_bound};
 ghost use Rattle.rvm_core.specs.Hosts.{Steps, host_of, is_sized, new_host, partner_of, step_of, version_of};
 ghost use Rattle.rvm_core.specs.Memory.{asks_memory, needs_memory, takes_memory};
 ghost use Rattle.rvm_core.specs.Retiring.{HostRetires};
+ghost use Rattle.rvm_core.specs.Statuses.{status_of};
 ghost use Rattle.rvm_core.specs.Turns.{HasLog, turned};
 
 use crate::bound::{came_body, with_header};
 use crate::limits::{BadSize, is_spoken, version_of};
 use crate::mode::Mode;
+use crate::status::HostStatus;
 use rvm_debug::{Debugged, Retired, Turns};
 use rvm_frame::{Addressed, Frame};
 use rvm_mem::PagedMemory;
@@ -39,6 +41,17 @@ pub struct Host<M: PagedMemory> {
     count: u8,
     /// The most pages of a guest that it takes.
     limit: u16,
+    /// Where it stands.
+    pub fn status(&self) -> HostStatus
+        ensures { result ≡ status_of self.now }
+    {
+        HostStatus {
+            kind: self.mode.kind(),
+            move_number: self.mode.move_number(),
+            partner: self.partner,
+        }
+    }
+
     /// The version of its streams.
     version: u32,
 }

@@ -5,7 +5,7 @@
 //! Stands on `rvm_source`, `rvm_handover` and `rvm_message`, and knows nothing of worlds, threads or
 //! links.
 //!
-//! To be read in this order: `mode`, `source`, `target`, `bound`, `limits`, `host`.
+//! To be read in this order: `mode`, `source`, `target`, `status`, `bound`, `limits`, `host`.
 #![tactic(auto)]
 
 mod bound;
@@ -13,7 +13,9 @@ mod host;
 mod limits;
 mod mode;
 mod source;
+mod status;
 mod target;
 
 pub use host::Host;
 pub use limits::{BadSize, MAX_HOSTS, is_spoken, version_of};
+pub use status::{HostStatus, ModeKind};

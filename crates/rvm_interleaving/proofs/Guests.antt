@@ -48,27 +48,27 @@ unfolding run
 run_more w [] e = refl
 run_more w (d ∷ es) e = run_more (step board w d) es e
 
-module _ (version : ℕ) (g : GuestState) (limits : ℕ → ℕ) (o : Openings) (are : AreNew version g limits o)
+module _ (version origin : ℕ) (g : GuestState) (limits : ℕ → ℕ) (o : Openings) (are : AreNew version origin g limits o)
     (valid : is_valid g.guest ≡ true) where
   abbrev at_new : BoardWorld
-  at_new = new version g limits o are
+  at_new = new version origin g limits o are
 
   abbrev in_world : (ℕ → LawHost) → List Posted → BoardWorld
-  in_world hosts sent = world version g limits o are hosts sent
+  in_world hosts sent = world version origin g limits o are hosts sent
 
   -- some events of the law lead there
   record IsReached (w : Hosts) : Type 0 where
     events : List (law.Event BoardEvent)
     hosts : ℕ → LawHost
     sent : List Posted
-    linked : Linked version g limits o are w hosts sent
+    linked : Linked version origin g limits o are w hosts sent
     is : in_world hosts sent ≡ run board at_new events
 
   goes : (w : Hosts) (x : ℕ) (n : PlainEntry) → IsReached w → CanStep o w x n → IsReached (after o w x n)
   goes w x n r can =
       let e = event_made o w x n.event n.event refl can.came in
       let makes : Makes o w e.0 x n = record { there = can.there; event = e.1; answer = can.answer } in
-      let one = goes_on version g limits o are w r.hosts r.sent r.linked e.0 x n makes in
+      let one = goes_on version origin g limits o are w r.hosts r.sent r.linked e.0 x n makes in
       let q = outcome_in o w x n.event in
       record {
         events = r.events ++ meant e.0 ∷ [];
@@ -89,7 +89,7 @@ module _ (version : ℕ) (g : GuestState) (limits : ℕ → ℕ) (o : Openings) 
       ∙ ap (λ (b : Bool). is_answer (reply_or board (in_world r.hosts r.sent) (Refused BadHost)
       (if b then Some (x, protocol.Do (protocol.Board e)) else None))) (lt-ltb x o.count can.there)
       ∙ ap (λ z. is_answer z.reply)
-      (result_is version g limits o are w r.hosts r.sent r.linked x can.there (Do (command.Board e)))
+      (result_is version origin g limits o are w r.hosts r.sent r.linked x can.there (Do (command.Board e)))
       ∙ ap (λ (v : HostEvent). is_answer (outcome_in o w x v).reply) (sym is)
       ∙ ap is_answer (sym can.answer.reply) ∙ answer
 
@@ -118,7 +118,7 @@ module _ (version : ℕ) (g : GuestState) (limits : ℕ → ℕ) (o : Openings) 
     events = [];
     hosts = at_new.hosts;
     sent = [];
-    linked = begins version g limits o are;
+    linked = begins version origin g limits o are;
     is = refl;
   }
 
@@ -127,24 +127,24 @@ module _ (version : ℕ) (g : GuestState) (limits : ℕ → ℕ) (o : Openings) 
   one_history ss ts can_s can_t same =
       same_accepted o IsReached goes one ss ts (opened o) at_first can_s can_t same
 
-pub every_order : (version : ℕ) (g : GuestState) (limits : ℕ → ℕ) (j : Journals) (es fs : List Event)
-    → is_valid g.guest ≡ true → AreNew version g limits j.openings → (a : IsOrder j es) → (b : IsOrder j fs)
+pub every_order : (version origin : ℕ) (g : GuestState) (limits : ℕ → ℕ) (j : Journals) (es fs : List Event)
+    → is_valid g.guest ≡ true → AreNew version origin g limits j.openings → (a : IsOrder j es) → (b : IsOrder j fs)
     → accepted_entries a.sequence ≡ accepted_entries b.sequence
-every_order version g limits j es fs valid are a b =
-    one_history version g limits j.openings are valid a.sequence b.sequence
+every_order version origin g limits j es fs valid are a b =
+    one_history version origin g limits j.openings are valid a.sequence b.sequence
     (can_run j.openings es a.sequence (opened j.openings) a.run)
     (can_run j.openings fs b.sequence (opened j.openings) b.run)
     (λ z lt. a.entries z lt ∙ sym (b.entries z lt))
 
 -- what was cut off comes after what is left
-pub every_cut : (version : ℕ) (g : GuestState) (limits : ℕ → ℕ) (j : Journals) (q : ℕ → ℕ) (es fs : List Event)
-    → is_valid g.guest ≡ true → AreNew version g limits j.openings → (a : IsOrder (cut q j) es) → (b : IsOrder j fs)
+pub every_cut : (version origin : ℕ) (g : GuestState) (limits : ℕ → ℕ) (j : Journals) (q : ℕ → ℕ) (es fs : List Event)
+    → is_valid g.guest ≡ true → AreNew version origin g limits j.openings → (a : IsOrder (cut q j) es) → (b : IsOrder j fs)
     → (rest : List HostEntry) × (accepted_entries b.sequence ≡ accepted_entries a.sequence ++ rest)
-every_cut version g limits j q es fs valid are a b =
-    begins_alike j.openings (IsReached version g limits j.openings are valid)
-    (goes version g limits j.openings are valid)
-    (one version g limits j.openings are valid) a.sequence b.sequence (opened j.openings)
-    (at_first version g limits j.openings are valid) (can_run j.openings es a.sequence (opened j.openings) a.run)
+every_cut version origin g limits j q es fs valid are a b =
+    begins_alike j.openings (IsReached version origin g limits j.openings are valid)
+    (goes version origin g limits j.openings are valid)
+    (one version origin g limits j.openings are valid) a.sequence b.sequence (opened j.openings)
+    (at_first version origin g limits j.openings are valid) (can_run j.openings es a.sequence (opened j.openings) a.run)
     (can_run j.openings fs b.sequence (opened j.openings) b.run)
     (λ z lt. (
       drop (q z) (j.entries z),
@@ -187,15 +187,15 @@ only_accepted : (ss : List HostEntry) → SameGuest ss (accepted_entries ss)
 only_accepted [] = record { accepted_so = refl; answered_so = refl }
 only_accepted ((x, n) ∷ ss) = one_step x n ss (accepted_entries ss) (only_accepted ss) (is_accepted n) refl
 
-pub one_guest : (version : ℕ) (g : GuestState) (limits : ℕ → ℕ) (j : Journals) (es fs : List Event)
-    → is_valid g.guest ≡ true → AreNew version g limits j.openings → IsOrder j es → IsOrder j fs
-    → AreOneHistory (new_world board version g.guest j.openings.count limits) es fs
-one_guest version g limits j es fs valid are a b =
-    let u = new version g limits j.openings are in
-    let begun = begins version g limits j.openings are in
-    let s = runs version g limits j.openings are es a.sequence (opened j.openings) u.hosts [] begun a.run in
-    let t = runs version g limits j.openings are fs b.sequence (opened j.openings) u.hosts [] begun b.run in
-    let same = every_order version g limits j es fs valid are a b in
+pub one_guest : (version origin : ℕ) (g : GuestState) (limits : ℕ → ℕ) (j : Journals) (es fs : List Event)
+    → is_valid g.guest ≡ true → AreNew version origin g limits j.openings → IsOrder j es → IsOrder j fs
+    → AreOneHistory (new_world board version origin g.guest j.openings.count limits) es fs
+one_guest version origin g limits j es fs valid are a b =
+    let u = new version origin g limits j.openings are in
+    let begun = begins version origin g limits j.openings are in
+    let s = runs version origin g limits j.openings are es a.sequence (opened j.openings) u.hosts [] begun a.run in
+    let t = runs version origin g limits j.openings are fs b.sequence (opened j.openings) u.hosts [] begun b.run in
+    let same = every_order version origin g limits j es fs valid are a b in
     let p = only_accepted a.sequence in
     let q = only_accepted b.sequence in
     record {

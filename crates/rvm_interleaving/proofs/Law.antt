@@ -91,8 +91,8 @@ first_host : (b : Bool) (g : GuestState) (x count limit version : ℕ)
 first_host true g x count limit version = refl
 first_host false g x count limit version = refl
 
-module _ (version : ℕ) (g : GuestState) (limits : ℕ → ℕ) (o : Openings)
-    (are : AreNew version g limits o) where
+module _ (version origin : ℕ) (g : GuestState) (limits : ℕ → ℕ) (o : Openings)
+    (are : AreNew version origin g limits o) where
   abbrev pub world : (ℕ → LawHost) → List Posted → BoardWorld
   world hosts sent = record { version = version; count = o.count; limits = limits; hosts = hosts; sent = sent }
 
@@ -223,7 +223,7 @@ module _ (version : ℕ) (g : GuestState) (limits : ℕ → ℕ) (o : Openings)
       }
 
   abbrev pub new : BoardWorld
-  new = new_world board version g.guest o.count limits
+  new = new_world board version origin g.guest o.count limits
 
   at_first : (b : Bool) (x : ℕ)
       → (let h = host_of (new_host (if b then Some g else None) x o.count (limits x) version) in
@@ -234,48 +234,48 @@ module _ (version : ℕ) (g : GuestState) (limits : ℕ → ℕ) (o : Openings)
   pub begins : Linked (opened o) new.hosts []
   begins = record {
     there = λ x lt.
-        sym (ap host_of (are.each x lt) ∙ first_host (x == 0) g x o.count (limits x) version);
+        sym (ap host_of (are.each x lt) ∙ first_host (x == origin) g x o.count (limits x) version);
     same = tt;
     keeps = λ x lt.
         subst (λ h. Keeps x o.count (host_of h).partner (host_of h).mode) (sym (are.each x lt))
-        (at_first (x == 0) x);
+        (at_first (x == origin) x);
   }
 
 -- an order is a run of the world, in its own sequence
-pub own_run : (version : ℕ) (g : GuestState) (limits : ℕ → ℕ) (j : Journals) (events : List Event)
-    → is_valid g.guest ≡ true → AreNew version g limits j.openings → (o : IsOrder j events)
-    → (r : IsWorldRun (new_world board version g.guest j.openings.count limits) g.guest j events)
+pub own_run : (version origin : ℕ) (g : GuestState) (limits : ℕ → ℕ) (j : Journals) (events : List Event)
+    → is_valid g.guest ≡ true → AreNew version origin g limits j.openings → (o : IsOrder j events)
+    → (r : IsWorldRun (new_world board version origin g.guest j.openings.count limits) origin g.guest j events)
     × (r.sequence ≡ o.sequence)
 unfolding RunsNeverMove RunsTellTheirPast
-own_run version g limits j events valid are o =
-    let u = new version g limits j.openings are in
-    let begun = begins version g limits j.openings are in
-    let t = runs version g limits j.openings are events o.sequence (opened j.openings) u.hosts [] begun o.run in (
+own_run version origin g limits j events valid are o =
+    let u = new version origin g limits j.openings are in
+    let begun = begins version origin g limits j.openings are in
+    let t = runs version origin g limits j.openings are events o.sequence (opened j.openings) u.hosts [] begun o.run in (
       record {
         sequence = o.sequence;
         entries = o.entries;
         seen_are = t.seen_so;
         ends = λ x lt. t.there x lt ∙ o.ends x lt;
-        never_moved = course_law board board_laws g.guest version j.openings.count limits (map meant events)
+        never_moved = course_law board board_laws g.guest version origin j.openings.count limits (map meant events)
             (allowed g.guest valid);
-        past = past_law board board_laws g.guest version j.openings.count limits (map meant events)
+        past = past_law board board_laws g.guest version origin j.openings.count limits (map meant events)
             (allowed g.guest valid);
       },
       refl,
     )
 
-pub is_world_run : (version : ℕ) (g : GuestState) (limits : ℕ → ℕ) (j : Journals) (events : List Event)
-    → is_valid g.guest ≡ true → AreNew version g limits j.openings → IsOrder j events
-    → IsWorldRun (new_world board version g.guest j.openings.count limits) g.guest j events
-is_world_run version g limits j events valid are o = (own_run version g limits j events valid are o).0
+pub is_world_run : (version origin : ℕ) (g : GuestState) (limits : ℕ → ℕ) (j : Journals) (events : List Event)
+    → is_valid g.guest ≡ true → AreNew version origin g limits j.openings → IsOrder j events
+    → IsWorldRun (new_world board version origin g.guest j.openings.count limits) origin g.guest j events
+is_world_run version origin g limits j events valid are o = (own_run version origin g limits j events valid are o).0
 
 -- so is an interleaving
-pub interleaved_run : (version : ℕ) (g : GuestState) (limits : ℕ → ℕ) (j : Journals) (sequence : List HostEntry)
-    → is_valid g.guest ≡ true → AreNew version g limits j.openings → IsInterleaving j sequence
+pub interleaved_run : (version origin : ℕ) (g : GuestState) (limits : ℕ → ℕ) (j : Journals) (sequence : List HostEntry)
+    → is_valid g.guest ≡ true → AreNew version origin g limits j.openings → IsInterleaving j sequence
     → (events : List Event)
-    × (r : IsWorldRun (new_world board version g.guest j.openings.count limits) g.guest j events)
+    × (r : IsWorldRun (new_world board version origin g.guest j.openings.count limits) origin g.guest j events)
     × (r.sequence ≡ sequence)
-interleaved_run version g limits j sequence valid are is =
+interleaved_run version origin g limits j sequence valid are is =
     let o = interleaved j sequence is in
-    let r = own_run version g limits j o.0 valid are o.1 in
+    let r = own_run version origin g limits j o.0 valid are o.1 in
     (o.0, r.0, r.1 ∙ o.2)

@@ -19,10 +19,10 @@ use Rattle.rvm_interleaving.specs.Hosts.{HostEntry, Openings, cons_if, entries_a
 use Rattle.rvm_interleaving.specs.Orders.{Journals}
 
 -- the hosts of a new world: the guest is at host 0
-pub record AreNew (version : ℕ) (g : GuestState) (limits : ℕ → ℕ) (openings : Openings) : Type 0 where
+pub record AreNew (version origin : ℕ) (g : GuestState) (limits : ℕ → ℕ) (openings : Openings) : Type 0 where
   pub spoken : is_spoken version openings.count ≡ true
   pub each : (x : ℕ) → x < openings.count
-      → openings.host x ≡ new_host (if x == 0 then Some g else None) x openings.count (limits x) version
+      → openings.host x ≡ new_host (if x == origin then Some g else None) x openings.count (limits x) version
 
 -- an entry of a host, as it is seen in a world
 abbrev pub seen : HostEntry → BoardEntry
@@ -31,13 +31,13 @@ seen s = record { host = s.0; event = event_of s.1.event; reply = reply_of s.1.r
 -- in a world these events are the entries of the journals, which ends where their replays end; in each of its states
 -- the guest, which was g, is that of one board that never moves, and the frames are those of its moves, each after
 -- its cause
-pub record IsWorldRun (w : BoardWorld) (g : Guest) (j : Journals) (events : List Event) : Type 0 where
+pub record IsWorldRun (w : BoardWorld) (origin : ℕ) (g : Guest) (j : Journals) (events : List Event) : Type 0 where
   pub sequence : List HostEntry
   pub entries : (x : ℕ) → x < j.openings.count → entries_at x sequence ≡ j.entries x
   pub seen_are : history board w (map meant events) ≡ map seen sequence
   pub ends : (x : ℕ) → x < j.openings.count
       → (run board w (map meant events)).hosts x ≡ replay (j.openings.host x) (j.entries x)
-  pub never_moved : NeverMoves board (at_start g) w (map meant events)
+  pub never_moved : NeverMoves board (at_start origin g) w (map meant events)
   pub past : InEachState board (PastIsTrue board) w (map meant events)
 
 -- an entry is an event of the guest that was answered

@@ -21,18 +21,18 @@ pub fn interleavings_are_orders()
 /// the entries of the journals, it ends where their replays end, in each of its states the guest is that of one board
 /// that never moves, and the frames are those of its moves.
 pub fn the_guest_of_an_order_never_moves()
-    ensures { (version : ℕ) (g : GuestState) (limits : ℕ → ℕ) (j : Journals) (events : List Event)
-        → is_valid g.guest ≡ true → AreNew version g limits j.openings → IsOrder j events
-        → IsWorldRun (new_world board version g.guest j.openings.count limits) g.guest j events }
+    ensures { (version origin : ℕ) (g : GuestState) (limits : ℕ → ℕ) (j : Journals) (events : List Event)
+        → is_valid g.guest ≡ true → AreNew version origin g limits j.openings → IsOrder j events
+        → IsWorldRun (new_world board version origin g.guest j.openings.count limits) origin g.guest j events }
 {}
 
 /// So an interleaving of what the hosts of a new world did, each by itself, is such a run, in the same sequence: the
 /// guest of all these hosts never moved.
 pub fn interleavings_are_runs_of_one_world()
-    ensures { (version : ℕ) (g : GuestState) (limits : ℕ → ℕ) (j : Journals) (sequence : List HostEntry)
-        → is_valid g.guest ≡ true → AreNew version g limits j.openings → IsInterleaving j sequence
+    ensures { (version origin : ℕ) (g : GuestState) (limits : ℕ → ℕ) (j : Journals) (sequence : List HostEntry)
+        → is_valid g.guest ≡ true → AreNew version origin g limits j.openings → IsInterleaving j sequence
         → (events : List Event)
-        × (r : IsWorldRun (new_world board version g.guest j.openings.count limits) g.guest j events)
+        × (r : IsWorldRun (new_world board version origin g.guest j.openings.count limits) origin g.guest j events)
         × (r.sequence ≡ sequence) }
 {}
 
@@ -40,16 +40,16 @@ pub fn interleavings_are_runs_of_one_world()
 /// order: so the guest, its answers and its console are those of any order that is found. Those of an order of journals
 /// that are cut are the beginning of those of any order of the whole ones.
 pub fn every_order_has_one_guest()
-    ensures accepted { (version : ℕ) (g : GuestState) (limits : ℕ → ℕ) (j : Journals) (events others : List Event)
-        → is_valid g.guest ≡ true → AreNew version g limits j.openings → (a : IsOrder j events)
+    ensures accepted { (version origin : ℕ) (g : GuestState) (limits : ℕ → ℕ) (j : Journals) (events others : List Event)
+        → is_valid g.guest ≡ true → AreNew version origin g limits j.openings → (a : IsOrder j events)
         → (b : IsOrder j others) → accepted_entries a.sequence ≡ accepted_entries b.sequence }
-    ensures cuts { (version : ℕ) (g : GuestState) (limits : ℕ → ℕ) (j : Journals) (places : ℕ → ℕ)
-        (events others : List Event) → is_valid g.guest ≡ true → AreNew version g limits j.openings
+    ensures cuts { (version origin : ℕ) (g : GuestState) (limits : ℕ → ℕ) (j : Journals) (places : ℕ → ℕ)
+        (events others : List Event) → is_valid g.guest ≡ true → AreNew version origin g limits j.openings
         → (a : IsOrder (cut places j) events) → (b : IsOrder j others)
         → (rest : List HostEntry) × (accepted_entries b.sequence ≡ accepted_entries a.sequence ++ rest) }
-    ensures guest { (version : ℕ) (g : GuestState) (limits : ℕ → ℕ) (j : Journals) (events others : List Event)
-        → is_valid g.guest ≡ true → AreNew version g limits j.openings → IsOrder j events → IsOrder j others
-        → AreOneHistory (new_world board version g.guest j.openings.count limits) events others }
+    ensures guest { (version origin : ℕ) (g : GuestState) (limits : ℕ → ℕ) (j : Journals) (events others : List Event)
+        → is_valid g.guest ≡ true → AreNew version origin g limits j.openings → IsOrder j events → IsOrder j others
+        → AreOneHistory (new_world board version origin g.guest j.openings.count limits) events others }
 {}
 
 /// If no journal can go on, and one of them is not at its end, they have no order.

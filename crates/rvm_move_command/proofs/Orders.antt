@@ -34,11 +34,11 @@ nothing T some = cc
 never_moves : (a : MoveArguments) (file : List ℕ) (first second : History) (events : List Event) → AreOpened a file first.opening second.opening
     → IsOrder first second events → ((version : ℕ) (g : GuestState) (limits : ℕ → ℕ) (a b : History) (events : List Event)
     → is_valid g.guest ≡ true → AreNew version g limits a.opening b.opening → IsOrder a b events
-    → IsWorldRun (new_world board version g.guest 2 limits) g.guest a b events)
+    → IsWorldRun (new_world board version 0 g.guest 2 limits) g.guest a b events)
     → NeverMoves a file first second events
 never_moves a file first second events opened order law =
     of_image (image_of a.guest.raw file) (λ i. is_valid (guest_in a i) ≡ true) (λ i. first.opening ≡ host_before 0 a.stream (Run 0 (guest_in a i)))
-    (λ i. IsWorldRun (new_world board a.stream (guest_in a i) 2 (λ k. 4096)) (guest_in a i) first second events)
+    (λ i. IsWorldRun (new_world board a.stream 0 (guest_in a i) 2 (λ k. 4096)) (guest_in a i) first second events)
     (λ i valid is. law a.stream (record { guest = guest_in a i; dirty = [] }) (λ k. 4096) first second events valid
     (record { first = is; second = opened.has_none }) order)
     opened.valid opened.has_guest
@@ -51,7 +51,7 @@ pub audited : (a : MoveArguments) (file : List ℕ) (status : ℕ) (hosts : Opti
     → IfSome hosts (λ h. IsWritten h.0.journal h.1.journal before after)
     → ((version : ℕ) (g : GuestState) (limits : ℕ → ℕ) (a b : History) (events : List Event)
     → is_valid g.guest ≡ true → AreNew version g limits a.opening b.opening → IsOrder a b events
-    → IsWorldRun (new_world board version g.guest 2 limits) g.guest a b events)
+    → IsWorldRun (new_world board version 0 g.guest 2 limits) g.guest a b events)
     → status ≡ 0 → IsAudited a file before after
 audited a file status None before after are opened made order law is = absurd (nothing (Recording × Recording) (are.0 is))
 audited a file status (Some h) before after are opened made order law is = record {

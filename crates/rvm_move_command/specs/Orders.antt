@@ -29,7 +29,7 @@ pub record IsWritten (first second : History) (before after : Option (List ℕ))
 abbrev pub NeverMoves : MoveArguments → (file : List ℕ) → (first second : History) → List Event → Type 0
 NeverMoves a file first second events =
     IfOk (image_of a.guest.raw file) (λ i.
-    IsWorldRun (new_world board a.stream (guest_in a i) 2 (λ k. 4096)) (guest_in a i) first second events)
+    IsWorldRun (new_world board a.stream 0 (guest_in a i) 2 (λ k. 4096)) (guest_in a i) first second events)
 
 -- an order of the journals of two hosts was written, of which the first began with the guest of a file; the guest in it is
 -- the one that never moves. Of what the guest sent nothing was written

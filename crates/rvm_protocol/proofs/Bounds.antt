@@ -247,12 +247,12 @@ module _ {S P E A B : Type 0} (m : Guest S P E A B) (laws : IsGuest m) where
   run_bound (ev ∷ events) w ok x =
       run_bound events (happened m w (meaning m w ev)) (happened_bound w (meaning m w ev) ok) x
 
-  pub new_bound : (g : S) (x : ℕ) → Bounded (new_host m g x).mode
-  new_bound g x = either Bounded (x == 0) (Run 0 g) (Empty 0) (λ _. tt) (λ _. tt)
+  pub new_bound : (origin : ℕ) (g : S) (x : ℕ) → Bounded (new_host m origin g x).mode
+  new_bound origin g x = either Bounded (x == origin) (Run 0 g) (Empty 0) (λ _. tt) (λ _. tt)
 
   pub bound_law : CopiesAreBounded m
   unfolding CopiesAreBounded
   bound_law =
-      λ g version count limits events x. few
-      (mode_at m (run m (new_world m version g count limits) events) x)
-      (run_bound events (new_world m version g count limits) (new_bound g) x)
+      λ g version origin count limits events x. few
+      (mode_at m (run m (new_world m version origin g count limits) events) x)
+      (run_bound events (new_world m version origin g count limits) (new_bound origin g) x)

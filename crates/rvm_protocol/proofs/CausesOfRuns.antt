@@ -641,17 +641,19 @@ module _ {S P E A B : Type 0} (m : Guest S P E A B) (laws : IsGuest m) where
       (run_followed events (happened m w q) (told m t (entry_of m w q))
       (past ++ entry_of m w q) s' p'))
 
-  new_followed : (version : ℕ) (g : S) (count : ℕ) (limits : ℕ → ℕ)
-      → Followed (new_world m version g count limits) (at_start g) []
+  new_followed : (version origin : ℕ) (g : S) (count : ℕ) (limits : ℕ → ℕ)
+      → Followed (new_world m version origin g count limits) (at_start origin g) []
   unfolding Has Somewhere read
-  new_followed version g count limits =
+  new_followed version origin g count limits =
       record {
         backed = λ x. either (λ (q : Mode S P). Backed (WasReady {P = P} {E = E} {A = A} {B = B} [])
-            (WasCommitted {P = P} {E = E} {A = A} {B = B} []) q) (x == 0) (Run 0 g) (Empty 0)
+            (WasCommitted {P = P} {E = E} {A = A} {B = B} []) q) (x == origin) (Run 0 g) (Empty 0)
             (λ _. tt) (λ _. tt);
         frames = λ a h. absurd h;
         gone = λ k h. absurd h;
-        fresh = inl (λ k h. absurd h);
+        fresh = either (λ (q : Mode S P). Fresh (WasCommitted {P = P} {E = E} {A = A} {B = B} [])
+            (WasStarted {P = P} {E = E} {A = A} {B = B} []) q) (origin == origin) (Run 0 g) (Empty 0)
+            (λ _. inl (λ k h. absurd h)) (λ _. tt);
       }
 
   caused_plain : (R C T : ℕ → Type 0) (f : Frame P B) → IsCaused R C T (plain m f)
@@ -661,9 +663,9 @@ module _ {S P E A B : Type 0} (m : Guest S P E A B) (laws : IsGuest m) where
 
   pub follow_law : FramesFollowTheirCauses m
   unfolding FramesFollowTheirCauses
-  follow_law = λ g version count limits events a v h.
-      let end = run_followed events (new_world m version g count limits) (at_start g) []
-      (new_sound m laws version g count limits v) (new_followed version g count limits) in
+  follow_law = λ g version origin count limits events a v h.
+      let end = run_followed events (new_world m version origin g count limits) (at_start origin g) []
+      (new_sound m laws version origin g count limits v) (new_followed version origin g count limits) in
       caused_plain _ _ _ a.frame
       (end.frames (record { from = a.from; to = a.to; frame = plain m a.frame })
-      (has_read m laws (run m (new_world m version g count limits) events).sent a h))
+      (has_read m laws (run m (new_world m version origin g count limits) events).sent a h))

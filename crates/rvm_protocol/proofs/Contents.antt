@@ -276,9 +276,9 @@ module _ {S P E A B : Type 0} (m : Guest S P E A B) (laws : IsGuest m) where
 
   pub carry_law : FramesCarryTheGuest m
   unfolding FramesCarryTheGuest
-  carry_law = λ g version count limits events ev x e a v is made.
-      let past = history m (new_world m version g count limits) events in
-      subst (λ z. Carries m z a.frame) (told_guest m laws past (at_start g))
-      (carry_at (run m (new_world m version g count limits) events) (told m (at_start g) past)
-      (run_sound m laws events (new_world m version g count limits) (at_start g)
-      (new_sound m laws version g count limits v)) ev x e a is made)
+  carry_law = λ g version origin count limits events ev x e a v is made.
+      let past = history m (new_world m version origin g count limits) events in
+      subst (λ z. Carries m z a.frame) (told_guest m laws past (at_start origin g))
+      (carry_at (run m (new_world m version origin g count limits) events) (told m (at_start origin g) past)
+      (run_sound m laws events (new_world m version origin g count limits) (at_start origin g)
+      (new_sound m laws version origin g count limits v)) ev x e a is made)

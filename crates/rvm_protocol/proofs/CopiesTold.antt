@@ -186,8 +186,8 @@ module _ {S P E A B : Type 0} (m : Guest S P E A B) where
       (sym (copies_more x (k x) (entry_of m w q) (history m (happened m w q) events)))
       (run_told events (happened m w q) (λ z. copies_told z (k z) (entry_of m w q)) (happened_told w q k ok) x)
 
-  new_told : (g : S) (x : ℕ) → Tells 0 (new_host m g x).mode
-  new_told g x = either (Tells 0) (x == 0) (Run 0 g) (Empty 0) (λ _. tt) (λ _. tt)
+  new_told : (origin : ℕ) (g : S) (x : ℕ) → Tells 0 (new_host m origin g x).mode
+  new_told origin g x = either (Tells 0) (x == origin) (Run 0 g) (Empty 0) (λ _. tt) (λ _. tt)
 
   are_told : (k : ℕ) (O : Mode S P) → Tells k O → AreTold m k O
   are_told k (Empty n) ok = tt
@@ -201,7 +201,7 @@ module _ {S P E A B : Type 0} (m : Guest S P E A B) where
 
   pub told_law : CopiesAreTold m
   unfolding CopiesAreTold
-  told_law = λ g version count limits events x.
-      let new = new_world m version g count limits in
+  told_law = λ g version origin count limits events x.
+      let new = new_world m version origin g count limits in
       are_told (copies_told x 0 (history m new events)) (mode_at m (run m new events) x)
-      (run_told events new (λ z. 0) (new_told g) x)
+      (run_told events new (λ z. 0) (new_told origin g) x)

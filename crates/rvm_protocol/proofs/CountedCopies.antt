@@ -14,7 +14,7 @@ use Rattle.rvm_protocol.proofs.Counter.{Counter, CounterEvent, Write, counter, f
 
 -- two hosts, a guest of four pages
 abbrev start : World Counter ℕ ℕ
-start = new_world counter 1 (fresh 4) 2 (λ x. 4)
+start = new_world counter 1 0 (fresh 4) 2 (λ x. 4)
 
 abbrev opening : List (Event CounterEvent)
 opening = At 0 (Begin 1 (policy 3 1 3)) ∷ Deliver 0 ∷ Deliver 1 ∷ []

@@ -40,23 +40,23 @@ module _ {S P E A B : Type 0} (m : Guest S P E A B) (laws : IsGuest m) where
 
   pub course_law : RunsNeverMove m
   unfolding RunsNeverMove
-  course_law = λ g version count limits events v.
-      never_moves (new_world m version g count limits) (at_start g) events
-      (new_sound m laws version g count limits v) (new_bound m laws g)
+  course_law = λ g version origin count limits events v.
+      never_moves (new_world m version origin g count limits) (at_start origin g) events
+      (new_sound m laws version origin g count limits v) (new_bound m laws origin g)
 
   pub course_law_from_any_world : RunsNeverMoveFromAnyWorld m
   unfolding RunsNeverMoveFromAnyWorld
-  course_law_from_any_world = λ g version count limits before events t v h.
-      let new = new_world m version g count limits in
+  course_law_from_any_world = λ g version origin count limits before events t v h.
+      let new = new_world m version origin g count limits in
       never_moves (run m new before) t events
-      (shown_sound m laws (run m new before) (told m (at_start g) (history m new before)) t
-      (run_sound m laws before new (at_start g) (new_sound m laws version g count limits v)) h)
-      (run_bound m laws before new (new_bound m laws g))
+      (shown_sound m laws (run m new before) (told m (at_start origin g) (history m new before)) t
+      (run_sound m laws before new (at_start origin g) (new_sound m laws version origin g count limits v)) h)
+      (run_bound m laws before new (new_bound m laws origin g))
 
   pub past_law : RunsTellTheirPast m
   unfolding RunsTellTheirPast FramesFollowTheirCauses CopiesAreTold
-  past_law = λ g version count limits events v before after parts.
+  past_law = λ g version origin count limits events v before after parts.
       record {
-        causes = λ a sent. follow_law m laws g version count limits before a v sent;
-        copies = λ x. told_law m g version count limits before x;
+        causes = λ a sent. follow_law m laws g version origin count limits before a v sent;
+        copies = λ x. told_law m g version origin count limits before x;
       }

@@ -78,15 +78,15 @@ module _ {S P E A B : Type 0} (m : Guest S P E A B) (laws : IsGuest m) where
   pub drive_law : ADrivenMoveArrives m
   unfolding ADrivenMoveArrives
   drive_law =
-      λ start g version count limits events from to e policy.
+      λ start g version origin count limits events from to e policy.
       λ v is below allowed here there room some few.
-      let w = run m (new_world m version start count limits) events in
-      let s = run_sound m laws events (new_world m version start count limits) (at_start start)
-      (new_sound m laws version start count limits v) in
+      let w = run m (new_world m version origin start count limits) events in
+      let s = run_sound m laws events (new_world m version origin start count limits) (at_start origin start)
+      (new_sound m laws version origin start count limits v) in
       let apart = there_apart from count to there in
       let b = behind_run w _ from to e g s is apart in
       let T = mode_at m w to in
-      let fixed = run_version events (new_world m version start count limits) in
+      let fixed = run_version events (new_world m version origin start count limits) in
       let ok : Drivable m version count limits from to e policy g = record {
         apart = apart;
         here = lt-ltb from count here;
@@ -132,13 +132,13 @@ module _ {S P E A B : Type 0} (m : Guest S P E A B) (laws : IsGuest m) where
   pub declined_law : ATooLargeGuestIsDeclined m
   unfolding ATooLargeGuestIsDeclined
   declined_law =
-      λ start g version count limits events from to e policy v is below allowed here there large.
-      let w = run m (new_world m version start count limits) events in
-      let s = run_sound m laws events (new_world m version start count limits) (at_start start)
-      (new_sound m laws version start count limits v) in
+      λ start g version origin count limits events from to e policy v is below allowed here there large.
+      let w = run m (new_world m version origin start count limits) events in
+      let s = run_sound m laws events (new_world m version origin start count limits) (at_start origin start)
+      (new_sound m laws version origin start count limits v) in
       let apart = there_apart from count to there in
       let b = behind_run w _ from to e g s is apart in
-      let fixed = run_version events (new_world m version start count limits) in
+      let fixed = run_version events (new_world m version origin start count limits) in
       let back = and_true (nat_lt from count) (not (from == to)) (lt-ltb from count here)
       (ap not (ne_eqb from to (λ q. apart (sym q)))) in
       let goes = declining m version count limits from to e policy g (w.hosts from).partner

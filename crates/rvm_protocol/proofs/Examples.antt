@@ -18,7 +18,7 @@ some_policy = policy 3 1 3
 -- the replies of hosts of this stream version to a guest of n pages
 abbrev told : (version hosts n : ℕ) → List (Event CounterEvent) → List (Reply ℕ)
 told version hosts n events =
-    replies counter (new_world counter version (fresh n) hosts (λ x. 4096)) events
+    replies counter (new_world counter version 0 (fresh n) hosts (λ x. 4096)) events
 
 -- two hosts, four pages, stream version 1
 abbrev told_two : List (Event CounterEvent) → List (Reply ℕ)
@@ -102,7 +102,7 @@ a_lost_page_is_copied_again = refl
 
 -- of four pages, from hosts that take four and three
 abbrev to_a_small_host : List (Event CounterEvent) → World Counter ℕ ℕ
-to_a_small_host events = run counter (new_world counter 1 (fresh 4) 2 (λ x. 4 - x)) events
+to_a_small_host events = run counter (new_world counter 1 0 (fresh 4) 2 (λ x. 4 - x)) events
 
 a_host_that_takes_fewer_pages_declines : replies counter (to_a_small_host []) opening ≡ Begun 1
     ∷ Declined 3 ∷ MoveDeclined 3 ∷ []
@@ -115,14 +115,14 @@ then_the_guest_runs_on_at_its_source = refl
 
 -- 65 pages: the peek at the dirty log is for pages 0 to 63, then for page 64
 a_page_written_before_its_peek_is_skipped : replies counter
-    (run counter (new_world counter 1 (fresh 65) 2 (λ x. 4096))
+    (run counter (new_world counter 1 0 (fresh 65) 2 (λ x. 4096))
     (opening ++ copies ∷ writes_at 64 ∷ listed (λ i. copies) 0 63))
     (copies ∷ []) ≡ RoundEnded 1 64 1 1 ∷ []
 unfolding run replies least size listed
 a_page_written_before_its_peek_is_skipped = refl
 
 a_page_written_after_its_peek_is_copied_all_the_same : replies counter
-    (run counter (new_world counter 1 (fresh 65) 2 (λ x. 4096))
+    (run counter (new_world counter 1 0 (fresh 65) 2 (λ x. 4096))
     (opening ++ copies ∷ writes_at 63 ∷ listed (λ i. copies) 0 64))
     (copies ∷ []) ≡ RoundEnded 1 65 0 1 ∷ []
 unfolding run replies least size listed
@@ -192,7 +192,7 @@ the_state_goes_in_parts = refl
 
 -- the frames of host 0 in such a move
 pages_of_zeros_go_as_zero :
-    (run counter (new_world counter 2 (fresh 2) 2 (λ x. 4096))
+    (run counter (new_world counter 2 0 (fresh 2) 2 (λ x. 4096))
     (begins 0 1 ∷ d 0 ∷ d 1 ∷ At 0 (Board (Write 1 9)) ∷ At 0 Copy ∷ At 0 Copy ∷ At 0 Copy
     ∷ [])).sent
     ≡ record { from = 0; to = 1; frame = Offer 1 2 1 }
@@ -217,7 +217,7 @@ parts_of_an_older_state_are_ignored = refl
 -- a guest of one page whose state has two parts: frame 2 is its page, then come the round's end,
 -- the parts and the reports of what is lost
 abbrev told_split : List (Event CounterEvent) → List (Reply ℕ)
-told_split events = replies split_counter (new_world split_counter 2 (fresh 1) 2 (λ x. 4096)) events
+told_split events = replies split_counter (new_world split_counter 2 0 (fresh 1) 2 (λ x. 4096)) events
 
 parts_come_in_turn_and_from_the_first_after_a_copy : told_split
     (opening ++ copies ∷ copies ∷ copies ∷ copies ∷ copies ∷ At 0 Resend ∷ d 4 ∷ d 4 ∷ d 5 ∷ d 7
@@ -230,7 +230,7 @@ unfolding replies least size listed members gathered is_in
 parts_come_in_turn_and_from_the_first_after_a_copy = refl
 
 a_driven_move_of_two_parts : replies split_counter
-    (new_world split_counter 2 (fresh 4) 2 (λ x. 4096))
+    (new_world split_counter 2 0 (fresh 4) 2 (λ x. 4096))
     (drive 0 1 some_policy 0 4 (state_frames split_counter 2 (fresh 4))) ≡ drive_replies 2 1 4 2
 unfolding replies least size listed members gathered is_in
 a_driven_move_of_two_parts = refl

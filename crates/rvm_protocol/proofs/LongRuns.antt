@@ -9,7 +9,7 @@ use Rattle.rvm_protocol.proofs.Counter.{CounterEvent, Tick, Write, counter, spli
 abbrev d : ℕ → Event CounterEvent
 d k = Deliver k
 
-late_offers : replies counter (new_world counter 3 (fresh 2) 3 (λ x. 4096))
+late_offers : replies counter (new_world counter 3 0 (fresh 2) 3 (λ x. 4096))
     (At 0 (Begin 1 (policy 3 1 3)) ∷ d 0 ∷ d 1 ∷ At 0 Copy ∷ At 0 AbortMove
     ∷ At 0 (Begin 2 (policy 3 1 3)) ∷ d 4 ∷ d 0 ∷ d 4 ∷ d 5 ∷ At 0 Copy ∷ At 0 Copy ∷ At 0 AbortMove
     ∷ At 0 (Begin 1 (policy 3 1 3)) ∷ d 0 ∷ d 4 ∷ d 9 ∷ d 0 ∷ d 3 ∷ d 4 ∷ d 10 ∷ At 0 Copy
@@ -27,7 +27,7 @@ late_offers : replies counter (new_world counter 3 (fresh 2) 3 (λ x. 4096))
 unfolding replies least size listed members gathered is_in
 late_offers = refl
 
-resends : replies counter (new_world counter 1 (fresh 2) 2 (λ x. 4096))
+resends : replies counter (new_world counter 1 0 (fresh 2) 2 (λ x. 4096))
     (At 0 Resend ∷ At 1 Resend ∷ At 0 (Begin 1 (policy 3 1 3)) ∷ At 0 Resend ∷ At 1 Resend ∷ d 0
     ∷ At 1 Resend ∷ At 0 Resend ∷ d 1 ∷ d 0 ∷ d 2 ∷ d 4 ∷ At 0 Resend ∷ At 0 Copy ∷ At 0 Resend
     ∷ At 0 Copy ∷ At 0 Copy ∷ At 0 Resend ∷ At 0 Copy ∷ At 0 Resend ∷ d 7 ∷ d 8 ∷ At 1 Resend ∷ [])
@@ -38,7 +38,7 @@ resends : replies counter (new_world counter 1 (fresh 2) 2 (λ x. 4096))
 unfolding replies least size listed members gathered is_in
 resends = refl
 
-abort_at_each_point : replies counter (new_world counter 1 (fresh 2) 2 (λ x. 4096))
+abort_at_each_point : replies counter (new_world counter 1 0 (fresh 2) 2 (λ x. 4096))
     (At 0 (Begin 1 (policy 3 1 3)) ∷ At 0 AbortMove ∷ At 0 (Board Tick) ∷ At 1 (Board Tick)
     ∷ At 0 AbortMove ∷ At 1 AbortMove ∷ At 0 (Begin 1 (policy 3 1 3)) ∷ d 2 ∷ At 0 AbortMove
     ∷ At 0 (Board Tick) ∷ At 1 (Board Tick) ∷ At 0 AbortMove ∷ At 1 AbortMove
@@ -88,7 +88,7 @@ abort_at_each_point : replies counter (new_world counter 1 (fresh 2) 2 (λ x. 40
 unfolding replies least size listed members gathered is_in
 abort_at_each_point = refl
 
-peeks : replies counter (new_world counter 1 (fresh 130) 2 (λ x. 4096))
+peeks : replies counter (new_world counter 1 0 (fresh 130) 2 (λ x. 4096))
     (At 0 (Begin 1 (policy 5 1 3)) ∷ d 0 ∷ d 1 ∷ At 0 (Board (Write 70 1))
     ∷ At 0 (Board (Write 129 1)) ∷ At 0 Copy ∷ At 0 Copy ∷ At 0 Copy ∷ At 0 Copy ∷ At 0 Copy
     ∷ At 0 Copy ∷ At 0 Copy ∷ At 0 Copy ∷ At 0 Copy ∷ At 0 Copy ∷ At 0 Copy ∷ At 0 Copy ∷ At 0 Copy
@@ -142,7 +142,7 @@ peeks : replies counter (new_world counter 1 (fresh 130) 2 (λ x. 4096))
 unfolding replies least size listed members gathered is_in
 peeks = refl
 
-factor : replies counter (new_world counter 1 (fresh 2) 2 (λ x. 4096))
+factor : replies counter (new_world counter 1 0 (fresh 2) 2 (λ x. 4096))
     (At 0 (Begin 1 (policy 1000 1 1)) ∷ d 0 ∷ d 1 ∷ At 0 Copy ∷ At 0 Copy ∷ At 0 (Board (Write 0 1))
     ∷ At 0 (Board (Write 1 1)) ∷ At 0 Copy ∷ At 0 Copy ∷ At 0 Copy ∷ At 0 (Board (Write 0 1))
     ∷ At 0 Copy ∷ At 0 (Board (Write 1 4)) ∷ At 0 Copy ∷ At 0 Copy ∷ At 0 Copy ∷ At 0 Copy ∷ d 2
@@ -154,7 +154,7 @@ factor : replies counter (new_world counter 1 (fresh 2) 2 (λ x. 4096))
 unfolding replies least size listed members gathered is_in
 factor = refl
 
-small_third_host : replies counter (new_world counter 3 (fresh 3) 3 (λ x. if x == 0 then 3 else if x == 1 then 3 else 2))
+small_third_host : replies counter (new_world counter 3 0 (fresh 3) 3 (λ x. if x == 0 then 3 else if x == 1 then 3 else 2))
     (At 0 (Begin 2 (policy 3 1 3)) ∷ d 0 ∷ d 1 ∷ At 0 (Begin 1 (policy 3 1 3)) ∷ d 2 ∷ d 3
     ∷ At 0 Copy ∷ At 0 Copy ∷ At 0 Copy ∷ At 0 Copy ∷ At 0 Copy ∷ d 4 ∷ d 5 ∷ d 6 ∷ At 0 Copy ∷ d 8
     ∷ At 0 Copy ∷ d 8 ∷ d 7 ∷ d 9 ∷ At 0 AbortMove ∷ At 0 (Begin 2 (policy 3 1 3)) ∷ d 9 ∷ d 8
@@ -167,7 +167,7 @@ small_third_host : replies counter (new_world counter 3 (fresh 3) 3 (λ x. if x 
 unfolding replies least size listed members gathered is_in
 small_third_host = refl
 
-parts : replies split_counter (new_world split_counter 2 (fresh 2) 2 (λ x. 4096))
+parts : replies split_counter (new_world split_counter 2 0 (fresh 2) 2 (λ x. 4096))
     (At 0 (Begin 1 (policy 3 1 3)) ∷ d 0 ∷ d 1 ∷ At 0 (Board (Write 0 1)) ∷ At 0 Copy ∷ At 0 Copy
     ∷ At 0 Copy ∷ At 0 Copy ∷ At 0 Resend ∷ At 0 Copy ∷ At 0 Copy ∷ At 0 Copy ∷ At 0 Resend
     ∷ At 0 Resend ∷ d 2 ∷ d 9 ∷ d 8 ∷ d 7 ∷ d 9 ∷ At 0 (Board (Write 1 1)) ∷ d 10 ∷ d 5 ∷ d 6
@@ -182,7 +182,7 @@ parts : replies split_counter (new_world split_counter 2 (fresh 2) 2 (λ x. 4096
 unfolding replies least size listed members gathered is_in
 parts = refl
 
-random_0 : replies counter (new_world counter 1 (fresh 2) 2 (λ x. 4096))
+random_0 : replies counter (new_world counter 1 0 (fresh 2) 2 (λ x. 4096))
     (At 0 Copy ∷ At 0 (Begin 1 (policy 29 50 3)) ∷ At 0 Copy ∷ d 0 ∷ At 0 Copy ∷ d 0
     ∷ At 0 (Board (Write 0 0)) ∷ d 0 ∷ At 0 (Board (Write 0 1)) ∷ At 0 (Board (Write 1 1)) ∷ d 3
     ∷ d 0 ∷ At 0 Copy ∷ At 0 AbortMove ∷ At 0 (Board (Write 1 0)) ∷ At 0 Copy ∷ d 4
@@ -225,7 +225,7 @@ random_0 : replies counter (new_world counter 1 (fresh 2) 2 (λ x. 4096))
 unfolding replies least size listed members gathered is_in
 random_0 = refl
 
-random_1 : replies counter (new_world counter 3 (fresh 2) 3 (λ x. 4096))
+random_1 : replies counter (new_world counter 3 0 (fresh 2) 3 (λ x. 4096))
     (At 0 Copy ∷ At 0 (Board (Write 1 1)) ∷ At 0 Copy ∷ At 1 Copy ∷ At 0 Copy
     ∷ At 0 (Board (Write 0 1)) ∷ At 0 Copy ∷ At 0 (Begin 1 (policy 0 1 1)) ∷ At 0 Copy ∷ At 0 Copy
     ∷ At 0 Copy ∷ At 0 Copy ∷ At 1 Copy ∷ At 0 Copy ∷ At 0 Copy ∷ At 0 Copy ∷ At 0 Copy ∷ At 0 Copy
@@ -269,7 +269,7 @@ random_1 : replies counter (new_world counter 3 (fresh 2) 3 (λ x. 4096))
 unfolding replies least size listed members gathered is_in
 random_1 = refl
 
-random_2 : replies split_counter (new_world split_counter 2 (fresh 2) 2 (λ x. 4096))
+random_2 : replies split_counter (new_world split_counter 2 0 (fresh 2) 2 (λ x. 4096))
     (At 0 Copy ∷ At 0 Copy ∷ At 0 Copy ∷ At 0 Copy ∷ At 0 Copy ∷ At 0 Copy ∷ At 1 (Board Tick)
     ∷ At 0 Copy ∷ At 0 Copy ∷ At 0 Copy ∷ At 0 (Board Tick) ∷ At 0 Copy ∷ At 0 Copy ∷ At 0 Copy
     ∷ At 0 Copy ∷ At 0 Copy ∷ At 0 Copy ∷ At 0 AbortMove ∷ At 0 (Board Tick) ∷ At 0 Copy ∷ At 0 Copy
@@ -312,7 +312,7 @@ random_2 : replies split_counter (new_world split_counter 2 (fresh 2) 2 (λ x. 4
 unfolding replies least size listed members gathered is_in
 random_2 = refl
 
-random_3 : replies split_counter (new_world split_counter 3 (fresh 1) 4 (λ x. 4096))
+random_3 : replies split_counter (new_world split_counter 3 0 (fresh 1) 4 (λ x. 4096))
     (At 0 (Board (Write 0 2)) ∷ At 0 Copy ∷ At 0 Copy ∷ At 0 Copy ∷ At 0 Copy ∷ At 0 Copy
     ∷ At 0 Copy ∷ At 0 Copy ∷ At 0 Copy ∷ At 0 Copy ∷ At 0 (Begin 3 (policy 1 1 1))
     ∷ At 0 (Begin 1 (policy 3 1 3)) ∷ d 0 ∷ At 0 Copy ∷ d 1 ∷ At 0 (Board (Write 0 2)) ∷ d 1
@@ -354,7 +354,7 @@ random_3 : replies split_counter (new_world split_counter 3 (fresh 1) 4 (λ x. 4
 unfolding replies least size listed members gathered is_in
 random_3 = refl
 
-random_4 : replies counter (new_world counter 2 (fresh 3) 2 (λ x. 4096))
+random_4 : replies counter (new_world counter 2 0 (fresh 3) 2 (λ x. 4096))
     (At 0 (Board (Write 0 2)) ∷ At 0 (Begin 0 (policy 1 1 1)) ∷ At 0 Resend ∷ At 0 (Board Tick)
     ∷ At 0 (Board Tick) ∷ At 0 Copy ∷ At 0 Copy ∷ At 0 Copy ∷ At 0 (Board (Write 2 0)) ∷ At 0 Copy
     ∷ At 0 Copy ∷ At 0 Copy ∷ At 0 Copy ∷ At 0 Copy ∷ At 1 Resend ∷ At 0 Copy ∷ At 0 Copy
@@ -395,7 +395,7 @@ random_4 : replies counter (new_world counter 2 (fresh 3) 2 (λ x. 4096))
 unfolding replies least size listed members gathered is_in
 random_4 = refl
 
-random_5 : replies split_counter (new_world split_counter 3 (fresh 2) 8 (λ x. 4096))
+random_5 : replies split_counter (new_world split_counter 3 0 (fresh 2) 8 (λ x. 4096))
     (At 5 (Board Tick) ∷ At 0 Copy ∷ At 0 Copy ∷ At 0 Copy ∷ At 2 AbortMove
     ∷ At 0 (Begin 6 (policy 0 1 1)) ∷ At 0 (Board (Write 1 2)) ∷ At 0 Copy ∷ At 3 (Board Tick)
     ∷ At 0 Copy ∷ At 4 Copy ∷ At 0 Copy ∷ At 1 Resend ∷ At 0 Copy ∷ At 0 Copy ∷ At 6 Resend

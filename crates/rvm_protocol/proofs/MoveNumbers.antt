@@ -275,16 +275,16 @@ module _ {S P E A B : Type 0} (m : Guest S P E A B) where
       run_numbered events (happened m w (meaning m w ev))
       (happened_numbered w (meaning m w ev) ok (event_fair w ev ok))
 
-  new_numbered : (g : S) (version count : ℕ) (limits : ℕ → ℕ) → AreNumbered (new_world m version g count limits)
+  new_numbered : (g : S) (version origin count : ℕ) (limits : ℕ → ℕ) → AreNumbered (new_world m version origin g count limits)
   unfolding Has
-  new_numbered g version count limits =
+  new_numbered g version origin count limits =
       record {
-        hosts = λ x. either IsNumbered (x == 0) (Run 0 g) (Empty 0) (λ _. omega arith) (λ _. omega arith);
+        hosts = λ x. either IsNumbered (x == origin) (Run 0 g) (Empty 0) (λ _. omega arith) (λ _. omega arith);
         sent = λ a h. absurd h;
       }
 
   -- the number of the last move that a host of a world of any run knows
-  pub moves_are_numbered : (g : S) (version count : ℕ) (limits : ℕ → ℕ) (events : List (Event E)) (x : ℕ)
-      → move_of ((run m (new_world m version g count limits) events).hosts x).mode < 2 ^ 64
-  moves_are_numbered g version count limits events x =
-      (run_numbered events (new_world m version g count limits) (new_numbered g version count limits)).hosts x
+  pub moves_are_numbered : (g : S) (version origin count : ℕ) (limits : ℕ → ℕ) (events : List (Event E)) (x : ℕ)
+      → move_of ((run m (new_world m version origin g count limits) events).hosts x).mode < 2 ^ 64
+  moves_are_numbered g version origin count limits events x =
+      (run_numbered events (new_world m version origin g count limits) (new_numbered g version origin count limits)).hosts x

@@ -167,8 +167,8 @@ module _ {S P E A B : Type 0} (m : Guest S P E A B) (laws : IsGuest m) where
 
   pub stale_law : NoStalePage m
   unfolding NoStalePage
-  stale_law = λ g version count limits events x v.
-      stale_at (run m (new_world m version g count limits) events)
-      (told m (at_start g) (history m (new_world m version g count limits) events))
-      (run_sound m laws events (new_world m version g count limits) (at_start g)
-      (new_sound m laws version g count limits v)) x
+  stale_law = λ g version origin count limits events x v.
+      stale_at (run m (new_world m version origin g count limits) events)
+      (told m (at_start origin g) (history m (new_world m version origin g count limits) events))
+      (run_sound m laws events (new_world m version origin g count limits) (at_start origin g)
+      (new_sound m laws version origin g count limits v)) x

@@ -466,13 +466,13 @@ module _ {S P E A B : Type 0} (m : Guest S P E A B) (laws : IsGuest m) where
   pub the_law : AlwaysOneGuest m
   unfolding AlwaysOneGuest
   the_law =
-      λ g version count limits events v. one_guest (new_world m version g count limits)
-      (at_start g) events (new_sound m laws version g count limits v)
+      λ g version origin count limits events v. one_guest (new_world m version origin g count limits)
+      (at_start origin g) events (new_sound m laws version origin g count limits v)
 
   pub the_law_from_any_world : OneGuestFromAnyWorld m
   unfolding OneGuestFromAnyWorld
-  the_law_from_any_world = λ g version count limits before events t v h.
-      let w = new_world m version g count limits in
+  the_law_from_any_world = λ g version origin count limits before events t v h.
+      let w = new_world m version origin g count limits in
       one_guest (run m w before) t events
-      (shown_sound (run m w before) (told m (at_start g) (history m w before)) t
-      (run_sound m laws before w (at_start g) (new_sound m laws version g count limits v)) h)
+      (shown_sound (run m w before) (told m (at_start origin g) (history m w before)) t
+      (run_sound m laws before w (at_start origin g) (new_sound m laws version origin g count limits v)) h)

@@ -1,7 +1,7 @@
 -- The invariant is kept by each event of a world, so it holds in whole runs.
 use Rattle.std.proofs.Common.{◌≡◌, ◌≢◌, inl, inr, ℕ, zero, suc, ◌<◌, ◌==◌, nat_lt, Bool, true, false, if◌then◌else◌, List, [], ◌∷◌, ◌++◌, Option, Some, None, refl, sym, ap, subst, arith}
 use Rattle.std.specs.Prelude.{slice_get}
-use Rattle.std.proofs.lemmas.Bool.{ne_eqb}
+use Rattle.std.proofs.lemmas.Bool.{eq-eqb, ne_eqb}
 use Rattle.rvm_protocol.specs.Commands.{Command, HostEvent, Do, Came}
 use Rattle.rvm_protocol.specs.Frames.{Addressed, posted, Zero, read, plain}
 use Rattle.rvm_protocol.specs.Guest.{Guest, IsGuest}
@@ -18,7 +18,7 @@ use Rattle.rvm_protocol.proofs.Behind.{GivenOk}
 use Rattle.rvm_protocol.proofs.WorldInvariant.{Made, reach, made_new}
 use Rattle.rvm_protocol.specs.Shown.{is_held}
 use Rattle.rvm_protocol.proofs.ReadFrames.{has_read, read_sent}
-use Rattle.rvm_protocol.proofs.CurrentHost.{After, Obeyed, Sound, current_came, current_obeys}
+use Rattle.rvm_protocol.proofs.CurrentHost.{After, Obeyed, Sound, current_came, current_obeys, sound}
 use Rattle.rvm_protocol.proofs.OtherHosts.{none_at, obey_other, other_came, other_do, then_other}
 
 pub has_got : {X : Type 0} (xs : List X) (k : ℕ) (x : X) → slice_get xs k ≡ Some x → Has xs x
@@ -168,37 +168,39 @@ module _ {S P E A B : Type 0} (m : Guest S P E A B) (laws : IsGuest m) where
       (sym (told_more t (entry_of m w q) (history m (happened m w q) events)))
       (run_sound events (happened m w q) (told m t (entry_of m w q)) next)
 
-  new_other : (g : S) (x : ℕ) → x ≢ 0 → (new_host m g x).mode ≡ Empty 0
-  new_other g x n = ap (λ (t : Bool). if t then Run 0 g else Empty 0) (ne_eqb x 0 n)
+  new_origin : (origin : ℕ) (g : S) → (new_host m origin g origin).mode ≡ Run 0 g
+  new_origin origin g = ap (λ (t : Bool). if t then Run 0 g else Empty 0) (eq-eqb origin origin refl)
 
-  pub new_sound : (version : ℕ) (g : S) (count : ℕ) (limits : ℕ → ℕ) → m.valid g ≡ true
-      → SoundAt (new_world m version g count limits) (at_start g)
+  new_other : (origin : ℕ) (g : S) (x : ℕ) → x ≢ origin → (new_host m origin g x).mode ≡ Empty 0
+  new_other origin g x n = ap (λ (t : Bool). if t then Run 0 g else Empty 0) (ne_eqb x origin n)
+
+  pub new_sound : (version origin : ℕ) (g : S) (count : ℕ) (limits : ℕ → ℕ) → m.valid g ≡ true
+      → SoundAt (new_world m version origin g count limits) (at_start origin g)
   unfolding Has read
-  new_sound version g count limits v =
-      record {
-        c = 0;
-        d = 1;
-        good = record {
-          current = refl;
-          apart = λ q. cc;
-          is_c = refl;
-          is_d = refl;
-          partner = λ h. cc;
-          modes = record { meet = omega arith; own = λ f h. absurd h; their = λ f h. absurd h };
-          pages = tt;
-          guest = refl;
-          valid = v;
-          paused = refl;
-          waits = λ x. either (λ (q : Mode S P). false ≡ is_held q) (x == 0) (Run 0 g) (Empty 0)
-              (λ _. refl) (λ _. refl);
-          target = tt;
-          others = λ x nc nd. subst (λ (q : Mode S P). HoldsNone q × (move_of q < 1))
-              (sym (new_other g x nc)) (tt, omega arith);
-          near = inl (omega arith);
-          past = λ x y f h. absurd h;
-          took = λ x y f h. absurd h;
-          given = λ x nc. subst (λ (q : Mode S P). GivenOk (reach (new_host m g) 0 (Run 0 g) x) q)
-              (sym (new_other g x nc)) tt;
-          from = λ x y f nc h. absurd h;
-        };
-      }
+  new_sound version origin g count limits v =
+      sound m laws (record { mode = Run 0 g; partner = origin }) (record { mode = Empty 0; partner = suc origin })
+      (new_host m origin g) [] origin (suc origin) (at_start origin g)
+      (record {
+        current = refl;
+        apart = λ q. omega (arith, q);
+        is_c = ap (λ (q : Mode S P). record { mode = q; partner = origin }) (sym (new_origin origin g));
+        is_d = ap (λ (q : Mode S P). record { mode = q; partner = suc origin })
+            (sym (new_other origin g (suc origin) (λ q. omega (arith, q))));
+        partner = λ h. cc;
+        modes = record { meet = omega arith; own = λ f h. absurd h; their = λ f h. absurd h };
+        pages = tt;
+        guest = refl;
+        valid = v;
+        paused = refl;
+        waits = λ x. either (λ (q : Mode S P). false ≡ is_held q) (x == origin) (Run 0 g) (Empty 0)
+            (λ _. refl) (λ _. refl);
+        target = tt;
+        others = λ x nc nd. subst (λ (q : Mode S P). HoldsNone q × (move_of q < 1))
+            (sym (new_other origin g x nc)) (tt, omega arith);
+        near = inl (omega arith);
+        past = λ x y f h. absurd h;
+        took = λ x y f h. absurd h;
+        given = λ x nc. subst (λ (q : Mode S P). GivenOk (reach (new_host m origin g) origin (Run 0 g) x) q)
+            (sym (new_other origin g x nc)) tt;
+        from = λ x y f nc h. absurd h;
+      })

@@ -4,12 +4,13 @@
 use Rattle.std.proofs.Common.{◌≡◌, ℕ, ◌==◌, ◌&&◌, Bool, true, false, List, [], ◌∷◌, Option, Some, None, refl}
 use Rattle.rvm_protocol.specs.Commands.{Board, Begin, Copy, AbortMove}
 use Rattle.rvm_protocol.specs.Guest.{Guest}
-use Rattle.rvm_protocol.specs.Modes.{guest_in}
+use Rattle.rvm_protocol.specs.Modes.{Empty, guest_in}
 use Rattle.rvm_protocol.specs.NeverMoving.{accepted, fold, is_answer}
-use Rattle.rvm_protocol.specs.Pages.{least, size, listed, members, gathered, is_in}
+use Rattle.rvm_protocol.specs.Replies.{Answered, NotHere, Refused}
+use Rattle.rvm_protocol.specs.Pages.{least, put, size, listed, members, gathered, is_in}
 use Rattle.rvm_protocol.specs.Told.{told, at_start}
-use Rattle.rvm_protocol.specs.World.{World, Event, At, Deliver, mode_at, run, history, reply_to, new_world}
-use Rattle.rvm_protocol.proofs.Counter.{Counter, CounterEvent, Tick, Write, counter, split_counter}
+use Rattle.rvm_protocol.specs.World.{World, Event, At, Deliver, mode_at, run, history, replies, reply_to, new_world}
+use Rattle.rvm_protocol.proofs.Counter.{Counter, CounterEvent, Tick, Write, counter, fresh, split_counter}
 
 unfoldable same_pages : List ℕ → List ℕ → Bool
 same_pages [] [] = true
@@ -26,13 +27,13 @@ module _ (m : Guest Counter ℕ CounterEvent ℕ ℕ) (version : ℕ) (pages : L
   start = record { count = 0; pages = pages }
 
   abbrev world : World Counter ℕ ℕ
-  world = new_world m version start 3 (λ x. 4096)
+  world = new_world m version 0 start 3 (λ x. 4096)
 
   -- the guest at the current host is the one that never moved
   abbrev is_one : Bool
   is_one =
       let past = history m world events in
-      same_guest (guest_in (mode_at m (run m world events) (told m (at_start start) past).current))
+      same_guest (guest_in (mode_at m (run m world events) (told m (at_start 0 start) past).current))
       (fold m start (accepted past))
 
   -- hosts 0 and 1 would both answer the guest's next event
@@ -128,3 +129,24 @@ pages_that_all_go_as_zero_would_be_lost : is_one counter 2 (5 ∷ [])
     (b ∷ d 0 ∷ d 1 ∷ c ∷ c ∷ c ∷ c ∷ d 2 ∷ d 4 ∷ d 5 ∷ d 6 ∷ []) ≡ true
 unfolding run history told least size listed members gathered is_in accepted fold same_pages
 pages_that_all_go_as_zero_would_be_lost = refl
+
+-- RESTARTS
+
+-- a host that begins anew under its number: it forgets which moves it saw
+abbrev anew : World Counter ℕ ℕ → ℕ → World Counter ℕ ℕ
+anew world x = record world { hosts = put world.hosts x (record { mode = Empty 0; partner = x }) }
+
+-- from host 0 to host 1, from there to host 2
+abbrev two_moves : List (Event CounterEvent)
+two_moves =
+    begins_with 0 1 3 ∷ d 0 ∷ d 1 ∷ c ∷ c ∷ c ∷ c ∷ d 2 ∷ d 4 ∷ d 5 ∷ d 6 ∷ d 7
+    ∷ begins_with 1 2 3 ∷ d 8 ∷ d 9 ∷ At 1 Copy ∷ At 1 Copy ∷ At 1 Copy ∷ At 1 Copy ∷ d 10 ∷ d 12 ∷ d 13 ∷ d 14 ∷ []
+
+-- the frames of the first move come to host 1 once more, which runs then, and so does host 2
+a_host_that_begins_anew_under_its_number_would_make_two : (
+    let w1 = run counter (new_world counter 1 0 (fresh 1) 3 (λ x. 4096)) two_moves in
+    let w2 = run counter (anew w1 1) (d 0 ∷ d 2 ∷ d 4 ∷ d 6 ∷ []) in
+    replies counter w2 (At 0 (Board Tick) ∷ At 1 (Board Tick) ∷ At 2 (Board Tick) ∷ [])
+    ) ≡ Refused NotHere ∷ Answered 0 ∷ Answered 0 ∷ []
+unfolding run replies least size listed members gathered is_in
+a_host_that_begins_anew_under_its_number_would_make_two = refl

@@ -57,19 +57,19 @@ module _ {S P E A B : Type 0} (m : Guest S P E A B) where
   -- from a new world
   unfoldable pub RunsNeverMove : Type 0
   RunsNeverMove =
-      (g : S) (version count : ℕ) (limits : ℕ → ℕ) (events : List (Event E)) → m.valid g ≡ true
-      → NeverMoves (at_start g) (new_world m version g count limits) events
+      (g : S) (version origin count : ℕ) (limits : ℕ → ℕ) (events : List (Event E)) → m.valid g ≡ true
+      → NeverMoves (at_start origin g) (new_world m version origin g count limits) events
 
   -- and from any world of a run, where what its modes show is known
   unfoldable pub RunsNeverMoveFromAnyWorld : Type 0
   RunsNeverMoveFromAnyWorld =
-      (g : S) (version count : ℕ) (limits : ℕ → ℕ) (before events : List (Event E)) (t : Told S)
+      (g : S) (version origin count : ℕ) (limits : ℕ → ℕ) (before events : List (Event E)) (t : Told S)
       → m.valid g ≡ true
-      → Shown (run m (new_world m version g count limits) before).hosts t
-      → NeverMoves t (run m (new_world m version g count limits) before) events
+      → Shown (run m (new_world m version origin g count limits) before).hosts t
+      → NeverMoves t (run m (new_world m version origin g count limits) before) events
 
   -- from a new world, where all that was seen is known
   unfoldable pub RunsTellTheirPast : Type 0
   RunsTellTheirPast =
-      (g : S) (version count : ℕ) (limits : ℕ → ℕ) (events : List (Event E)) → m.valid g ≡ true
-      → InEachState PastIsTrue (new_world m version g count limits) events
+      (g : S) (version origin count : ℕ) (limits : ℕ → ℕ) (events : List (Event E)) → m.valid g ≡ true
+      → InEachState PastIsTrue (new_world m version origin g count limits) events

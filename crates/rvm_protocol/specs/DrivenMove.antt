@@ -66,14 +66,14 @@ module _ {S P E A B : Type 0} (m : Guest S P E A B) where
   -- from a world of any run whose host `from` is in Run, to another host that takes that many pages
   unfoldable pub ADrivenMoveArrives : Type 0
   ADrivenMoveArrives =
-      (start g : S) (version count : ℕ) (limits : ℕ → ℕ) (events : List (Event E))
+      (start g : S) (version origin count : ℕ) (limits : ℕ → ℕ) (events : List (Event E))
       (from to e : ℕ) (policy : Policy) → m.valid start ≡ true
-      → mode_at m (run m (new_world m version start count limits) events) from ≡ Run e g
+      → mode_at m (run m (new_world m version origin start count limits) events) from ≡ Run e g
       → e < 2 ^ 64 - 1 → is_allowed policy ≡ true → from < count → is_there from count to ≡ true
       → page_count m g ≤ limits to → 0 < page_count m g → page_count m g < 2 ^ 32
-      → Arrives (run m (new_world m version start count limits) events) from to e g
+      → Arrives (run m (new_world m version origin start count limits) events) from to e g
       (drive from to policy
-      (length (run m (new_world m version start count limits) events).sent) (page_count m g)
+      (length (run m (new_world m version origin start count limits) events).sent) (page_count m g)
       (state_frames version g))
 
 -- the events up to the target's answer
@@ -91,14 +91,14 @@ module _ {S P E A B : Type 0} (m : Guest S P E A B) where
   -- to a host that takes fewer pages
   unfoldable pub ATooLargeGuestIsDeclined : Type 0
   ATooLargeGuestIsDeclined =
-      (start g : S) (version count : ℕ) (limits : ℕ → ℕ) (events : List (Event E))
+      (start g : S) (version origin count : ℕ) (limits : ℕ → ℕ) (events : List (Event E))
       (from to e : ℕ) (policy : Policy) → m.valid start ≡ true
-      → mode_at m (run m (new_world m version start count limits) events) from ≡ Run e g
+      → mode_at m (run m (new_world m version origin start count limits) events) from ≡ Run e g
       → e < 2 ^ 64 - 1 → is_allowed policy ≡ true → from < count → is_there from count to ≡ true
       → limits to < page_count m g
-      → IsDeclined (run m (new_world m version start count limits) events) from to e g
+      → IsDeclined (run m (new_world m version origin start count limits) events) from to e g
       (drive_opening from to policy
-      (length (run m (new_world m version start count limits) events).sent))
+      (length (run m (new_world m version origin start count limits) events).sent))
 
 -- how many events that are
 unfoldable pub DriveCount : (E : Type 0) → Type 0

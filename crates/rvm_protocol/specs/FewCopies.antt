@@ -32,12 +32,12 @@ module _ {S P E A B : Type 0} (m : Guest S P E A B) where
   -- at each host, after any run of a world, pre-copy has made no more copies than that
   unfoldable pub CopiesAreBounded : Type 0
   CopiesAreBounded =
-      (g : S) (version count : ℕ) (limits : ℕ → ℕ) (events : List (Event E)) (x : ℕ)
-      → FewCopies (mode_at m (run m (new_world m version g count limits) events) x)
+      (g : S) (version origin count : ℕ) (limits : ℕ → ℕ) (events : List (Event E)) (x : ℕ)
+      → FewCopies (mode_at m (run m (new_world m version origin g count limits) events) x)
 
   -- and as many as it was answered
   unfoldable pub CopiesAreTold : Type 0
   CopiesAreTold =
-      (g : S) (version count : ℕ) (limits : ℕ → ℕ) (events : List (Event E)) (x : ℕ)
-      → AreTold (copies_told x 0 (history m (new_world m version g count limits) events))
-      (mode_at m (run m (new_world m version g count limits) events) x)
+      (g : S) (version origin count : ℕ) (limits : ℕ → ℕ) (events : List (Event E)) (x : ℕ)
+      → AreTold (copies_told x 0 (history m (new_world m version origin g count limits) events))
+      (mode_at m (run m (new_world m version origin g count limits) events) x)

@@ -54,9 +54,9 @@ module _ {S P E A B : Type 0} (m : Guest S P E A B) where
   -- Committed or Started
   unfoldable pub FramesFollowTheirCauses : Type 0
   FramesFollowTheirCauses =
-      (g : S) (version count : ℕ) (limits : ℕ → ℕ) (events : List (Event E)) (a : Addressed P B)
+      (g : S) (version origin count : ℕ) (limits : ℕ → ℕ) (events : List (Event E)) (a : Addressed P B)
       → m.valid g ≡ true
-      → Has (run m (new_world m version g count limits) events).sent a
-      → IsCaused (WasReady (history m (new_world m version g count limits) events))
-      (WasCommitted (history m (new_world m version g count limits) events))
-      (WasStarted (history m (new_world m version g count limits) events)) a.frame
+      → Has (run m (new_world m version origin g count limits) events).sent a
+      → IsCaused (WasReady (history m (new_world m version origin g count limits) events))
+      (WasCommitted (history m (new_world m version origin g count limits) events))
+      (WasStarted (history m (new_world m version origin g count limits) events)) a.frame

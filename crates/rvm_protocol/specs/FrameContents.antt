@@ -35,9 +35,9 @@ module _ {S P E A B : Type 0} (m : Guest S P E A B) where
   -- the guest is the one that never moves, at the event that makes the frame
   unfoldable pub FramesCarryTheGuest : Type 0
   FramesCarryTheGuest =
-      (g : S) (version count : ℕ) (limits : ℕ → ℕ) (events : List (Event E)) (ev : Event E) (x : ℕ)
+      (g : S) (version origin count : ℕ) (limits : ℕ → ℕ) (events : List (Event E)) (ev : Event E) (x : ℕ)
       (e : HostEvent P E B) (a : Addressed P B) → m.valid g ≡ true
-      → meaning m (run m (new_world m version g count limits) events) ev ≡ Some (x, e)
-      → (result_at m (run m (new_world m version g count limits) events) x e).made ≡ Some a
-      → Carries (fold m g (accepted (history m (new_world m version g count limits) events)))
+      → meaning m (run m (new_world m version origin g count limits) events) ev ≡ Some (x, e)
+      → (result_at m (run m (new_world m version origin g count limits) events) x e).made ≡ Some a
+      → Carries (fold m g (accepted (history m (new_world m version origin g count limits) events)))
       a.frame

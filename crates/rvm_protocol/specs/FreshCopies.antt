@@ -83,7 +83,7 @@ module _ {S P E A B : Type 0} (m : Guest S P E A B) where
   -- at each host after any events from a new world
   unfoldable pub NoStalePage : Type 0
   NoStalePage =
-      (g : S) (version count : ℕ) (limits : ℕ → ℕ) (events : List (Event E)) (x : ℕ)
+      (g : S) (version origin count : ℕ) (limits : ℕ → ℕ) (events : List (Event E)) (x : ℕ)
       → m.valid g ≡ true
-      → CopiesAreFresh (read m (run m (new_world m version g count limits) events).sent) x
-      (mode_at m (run m (new_world m version g count limits) events) x)
+      → CopiesAreFresh (read m (run m (new_world m version origin g count limits) events).sent) x
+      (mode_at m (run m (new_world m version origin g count limits) events) x)

@@ -36,15 +36,15 @@ module _ {S P E A B : Type 0} (m : Guest S P E A B) where
   -- after any events from a new world
   unfoldable pub AlwaysOneGuest : Type 0
   AlwaysOneGuest =
-      (g : S) (version count : ℕ) (limits : ℕ → ℕ) (events : List (Event E)) → m.valid g ≡ true
-      → OneGuest (at_start g) (run m (new_world m version g count limits) events)
-      (history m (new_world m version g count limits) events)
+      (g : S) (version origin count : ℕ) (limits : ℕ → ℕ) (events : List (Event E)) → m.valid g ≡ true
+      → OneGuest (at_start origin g) (run m (new_world m version origin g count limits) events)
+      (history m (new_world m version origin g count limits) events)
 
   -- and from any world of a run, where what its modes show is known
   unfoldable pub OneGuestFromAnyWorld : Type 0
   OneGuestFromAnyWorld =
-      (g : S) (version count : ℕ) (limits : ℕ → ℕ) (before events : List (Event E)) (t : Told S)
+      (g : S) (version origin count : ℕ) (limits : ℕ → ℕ) (before events : List (Event E)) (t : Told S)
       → m.valid g ≡ true
-      → Shown (run m (new_world m version g count limits) before).hosts t
-      → OneGuest t (run m (run m (new_world m version g count limits) before) events)
-      (history m (run m (new_world m version g count limits) before) events)
+      → Shown (run m (new_world m version origin g count limits) before).hosts t
+      → OneGuest t (run m (run m (new_world m version origin g count limits) before) events)
+      (history m (run m (new_world m version origin g count limits) before) events)

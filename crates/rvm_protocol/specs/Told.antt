@@ -42,11 +42,11 @@ reply_waits Dropped b = false
 reply_waits StartedHere b = false
 reply_waits r b = b
 
--- at the start the guest runs at host 0
-abbrev pub at_start : {S : Type 0} → S → Told S
-at_start g =
+-- at the start the guest runs at the origin
+abbrev pub at_start : {S : Type 0} → (origin : ℕ) → S → Told S
+at_start origin g =
     record {
-      current = 0;
+      current = origin;
       paused = false;
       waiting = λ x. false;
       targets = λ n. 0;

@@ -112,17 +112,17 @@ module _ {S P E A B : Type 0} (m : Guest S P E A B) where
   replies w [] = []
   replies w (e ∷ es) = reply_to w e ∷ replies (step w e) es
 
-  -- the guest starts at host 0
-  abbrev pub new_host : S → ℕ → Host S P
-  new_host g x = record { mode = if x == 0 then Run 0 g else Empty 0; partner = x }
+  -- the guest starts at the origin
+  abbrev pub new_host : (origin : ℕ) → S → ℕ → Host S P
+  new_host origin g x = record { mode = if x == origin then Run 0 g else Empty 0; partner = x }
 
-  -- a world at its start: the guest runs at host 0, and no frame was sent
-  abbrev pub new_world : (version : ℕ) → S → (count : ℕ) → (limits : ℕ → ℕ) → World S P B
-  new_world version g count limits =
+  -- a world at its start: the guest runs at the origin, and no frame was sent
+  abbrev pub new_world : (version origin : ℕ) → S → (count : ℕ) → (limits : ℕ → ℕ) → World S P B
+  new_world version origin g count limits =
       record {
         version = version;
         count = count;
         limits = limits;
-        hosts = new_host g;
+        hosts = new_host origin g;
         sent = [];
       }

@@ -100,6 +100,13 @@ impl<M: PagedMemory> Source<M> {
         self.move_number
     }
 
+    /// What is done of the move.
+    pub fn phase(&self) -> Phase
+        ensures { result ≡ self.now.phase }
+    {
+        self.phase
+    }
+
     /// Whether this move is offered.
     pub fn is_offering(&self, move_number: u64) -> bool
         ensures { result ≡ is_offering move_number (mode_of self.now) }

@@ -30,13 +30,13 @@ known : (w : BoardWorld) → IsReached w → Known w
 unfolding AlwaysOneGuest
 known w r =
     let valid = allowed r.start r.valid in
-    let first = new_world board w.version r.start w.count r.limits in
+    let first = new_world board w.version 0 r.start w.count r.limits in
     subst Known (sym r.reached)
     (record {
-      t = told board (at_start r.start) (history board first r.before);
-      sound = run_sound board board_laws r.before first (at_start r.start)
+      t = told board (at_start 0 r.start) (history board first r.before);
+      sound = run_sound board board_laws r.before first (at_start 0 r.start)
           (new_sound board board_laws w.version r.start w.count r.limits valid);
-      shown = (the_law board board_laws r.start w.version w.count r.limits r.before valid).shown;
+      shown = (the_law board board_laws r.start w.version 0 w.count r.limits r.before valid).shown;
     })
 
 pub same_current : (w : BoardWorld) → IsReached w → (t t' : Told BoardGuest) → Shown w.hosts t → Shown w.hosts t'

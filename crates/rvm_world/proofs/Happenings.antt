@@ -206,7 +206,7 @@ reached_more : (w new : BoardWorld) (e : Event BoardEvent) → new ≡ step boar
 reached_more w new e is r =
     let version = ap (λ (z : BoardWorld). z.version) is ∙ same_version w (meaning board w e) in
     let count = ap (λ (z : BoardWorld). z.count) is ∙ same_count w (meaning board w e) in
-    let first = new_world board w.version r.start w.count r.limits in
+    let first = new_world board w.version 0 r.start w.count r.limits in
     let made : new ≡ run board first (r.before ++ e ∷ []) =
     is ∙ ap (λ z. step board z e) r.reached ∙ sym (run_more first r.before e) in
     record {
@@ -215,7 +215,7 @@ reached_more w new e is r =
       before = r.before ++ e ∷ [];
       valid = r.valid;
       reached = made
-          ∙ (λ i. run board (new_world board (sym version i) r.start (sym count i) r.limits) (r.before ++ e ∷ []));
+          ∙ (λ i. run board (new_world board (sym version i) 0 r.start (sym count i) r.limits) (r.before ++ e ∷ []));
     }
 
 placed_still : (w : PlainWorld) (x : ℕ) (h : PlainHost) → IsWorld w → x < length w.hosts

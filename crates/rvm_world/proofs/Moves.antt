@@ -86,11 +86,11 @@ pub runs_valid : (w : BoardWorld) (x e : ℕ) (g : Guest) → IsReached w → x 
 unfolding AlwaysOneGuest
 runs_valid w x e g r here is =
     let valid = allowed r.start r.valid in
-    let w0 = new_world board w.version r.start w.count r.limits in
+    let w0 = new_world board w.version 0 r.start w.count r.limits in
     let past = history board w0 r.before in
-    let one = the_law board board_laws r.start w.version w.count r.limits r.before valid in
+    let one = the_law board board_laws r.start w.version 0 w.count r.limits r.before valid in
     let same =
-    one_runs (at_start r.start) w past x e g (subst (λ z. OneGuest board (at_start r.start) z past) (sym r.reached) one)
+    one_runs (at_start 0 r.start) w past x e g (subst (λ z. OneGuest board (at_start 0 r.start) z past) (sym r.reached) one)
     here is
     in
     subst (λ z. board.valid z ≡ true) (sym same) (fold_valid r.start (accepted past) valid)
@@ -125,19 +125,19 @@ run_limits (e ∷ events) w = run_limits events (step board w e) ∙ kept (meani
 limits_are : (w : BoardWorld) (r : IsReached w) → w.limits ≡ r.limits
 limits_are w r =
     ap (λ (z : BoardWorld). z.limits) r.reached
-    ∙ run_limits r.before (new_world board w.version r.start w.count r.limits)
+    ∙ run_limits r.before (new_world board w.version 0 r.start w.count r.limits)
 
 pub arrives : (w : BoardWorld) (from to : ℕ) (p : Policy) (e : ℕ) (g : Guest) → IsReached w
     → CanBegin w from to p e g → page_count board g ≤ w.limits to → Arrives board w from to e g (drive_of w from to p g)
 unfolding ADrivenMoveArrives
 arrives w from to p e g r can fits =
-    let w0 = new_world board w.version r.start w.count r.limits in
+    let w0 = new_world board w.version 0 r.start w.count r.limits in
     let pages = has_pages g (runs_valid w from e g r can.here can.runs) in
     let most = pages.1 in
     subst (λ z. Arrives board z from to e g
     (drive from to p (length z.sent) (page_count board g) (state_frames board w.version g)))
     (sym r.reached)
-    (drive_law board board_laws r.start g w.version w.count r.limits r.before from to e p (allowed r.start r.valid)
+    (drive_law board board_laws r.start g w.version 0 w.count r.limits r.before from to e p (allowed r.start r.valid)
     (ap (λ z. mode_at board z from) (sym r.reached) ∙ can.runs) can.number can.allowed can.here can.there
     (subst (λ z. page_count board g ≤ z to) (limits_are w r) fits) pages.0 (omega (arith, most)))
 
@@ -146,9 +146,9 @@ pub declines : (w : BoardWorld) (from to : ℕ) (p : Policy) (e : ℕ) (g : Gues
     → IsDeclined board w from to e g (drive_opening from to p (length w.sent))
 unfolding ATooLargeGuestIsDeclined
 declines w from to p e g r can large =
-    let w0 = new_world board w.version r.start w.count r.limits in
+    let w0 = new_world board w.version 0 r.start w.count r.limits in
     subst (λ z. IsDeclined board z from to e g (drive_opening from to p (length z.sent))) (sym r.reached)
-    (declined_law board board_laws r.start g w.version w.count r.limits r.before from to e p (allowed r.start r.valid)
+    (declined_law board board_laws r.start g w.version 0 w.count r.limits r.before from to e p (allowed r.start r.valid)
     (ap (λ z. mode_at board z from) (sym r.reached) ∙ can.runs) can.number can.allowed can.here can.there
     (subst (λ z. z to < page_count board g) (limits_are w r) large))
 

@@ -94,7 +94,7 @@ module _ (g : GuestState) (version : ℕ) (limits : List ℕ) (hosts : List Plai
             ∙ sym (get_or_past limits x 0 past)
       ])
 
-  hosts_are : (λ x. host_of (host_at hosts x)) ≡ worlds.new_host board g.guest
+  hosts_are : (λ x. host_of (host_at hosts x)) ≡ worlds.new_host board 0 g.guest
   hosts_are =
       fun_ext (λ x. elim (cases_lt x (length limits)) [
         | inl less ↦
@@ -109,13 +109,13 @@ module _ (g : GuestState) (version : ℕ) (limits : List ℕ) (hosts : List Plai
   abbrev world : PlainWorld
   world = record { version = version; hosts = hosts; sent = []; current = 0 }
 
-  pub world_is : world_of world ≡ new_world board version g.guest (length limits) (limit_at limits)
+  pub world_is : world_of world ≡ new_world board version 0 g.guest (length limits) (limit_at limits)
   world_is =
       λ i. record { version = version; count = new.count i; limits = limits_are i; hosts = hosts_are i; sent = [] }
 
-  pub new_shown : Shown (world_of world).hosts (at_start g.guest)
+  pub new_shown : Shown (world_of world).hosts (at_start 0 g.guest)
   new_shown =
-      subst (λ z. Shown z (at_start g.guest)) (sym hosts_are)
+      subst (λ z. Shown z (at_start 0 g.guest)) (sym hosts_are)
       (record { current = tt; guest = refl; paused = refl; waiting = λ x. none_waits (x == 0) g; target = tt })
 
   limits_again : map (λ (h : PlainHost). h.limit) hosts ≡ limits
@@ -135,8 +135,8 @@ module _ (g : GuestState) (version : ℕ) (limits : List ℕ) (hosts : List Plai
         before = [];
         valid = valid;
         reached = world_is
-            ∙ (λ i. new_world board version g.guest (sym new.count i) (limit_at limits))
-            ∙ sym (no_event (new_world board version g.guest (length hosts) (limit_at limits)));
+            ∙ (λ i. new_world board version 0 g.guest (sym new.count i) (limit_at limits))
+            ∙ sym (no_event (new_world board version 0 g.guest (length hosts) (limit_at limits)));
       }
 
   pub new_is_world : is_valid g.guest ≡ true → IsWorld world
@@ -150,5 +150,5 @@ module _ (g : GuestState) (version : ℕ) (limits : List ℕ) (hosts : List Plai
         kept = λ k lt. absurd (omega (arith, lt));
         reached = new_reached valid;
         current = λ t shown.
-            same_current (world_of world) (new_reached valid) (at_start g.guest) t new_shown shown;
+            same_current (world_of world) (new_reached valid) (at_start 0 g.guest) t new_shown shown;
       }

@@ -27,5 +27,5 @@ NeverMoved old new =
 unfoldable pub TellsItsPast : (old new : BoardWorld) → Type 0
 TellsItsPast old new =
     (start : Guest) (limits : ℕ → ℕ) (events : List (Event BoardEvent)) → is_valid start ≡ true
-    → old ≡ new_world board old.version start old.count limits → new ≡ run board old events
+    → old ≡ new_world board old.version 0 start old.count limits → new ≡ run board old events
     → InEachState board (PastIsTrue board) old events

@@ -143,7 +143,7 @@ pub record IsReached (w : BoardWorld) : Type 0 where
   pub limits : ℕ → ℕ
   pub before : List (protocol.Event BoardEvent)
   pub valid : is_valid start ≡ true
-  pub reached : w ≡ protocol.run board (protocol.new_world board w.version start w.count limits) before
+  pub reached : w ≡ protocol.run board (protocol.new_world board w.version 0 start w.count limits) before
 
 -- the first so many of some events made the world `new` of the world `old`
 pub record IsPartOf (events : List (protocol.Event BoardEvent)) (old new : BoardWorld) : Type 0 where

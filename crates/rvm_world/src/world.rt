@@ -68,9 +68,9 @@ impl<M: PagedMemory + Drop> World<M> {
         version: u32,
     ) -> Result<World<M>, (WorldError, Debugged<M>)>
         ensures world { IfOk result (λ w. world_of w
-            ≡ new_world board version guest.guest (length limits.now) (limit_at limits.now)) }
+            ≡ new_world board version 0 guest.guest (length limits.now) (limit_at limits.now)) }
         ensures valid { OnOk result (is_valid guest.guest ≡ true) }
-        ensures shown { IfOk result (λ w. Shown (world_of w).hosts (at_start guest.guest)) }
+        ensures shown { IfOk result (λ w. Shown (world_of w).hosts (at_start 0 guest.guest)) }
         ensures sized { OnOk result (is_sized version limits.now ≡ true) }
         ensures size { IfErr result (λ e. (e.0 ≡ BadSize) ↔ (is_sized version limits.now ≡ false)) }
         ensures guest { IfErr result (λ e. e.1 ≡ guest) }
@@ -100,10 +100,10 @@ impl<M: PagedMemory + Drop> World<M> {
         limits: &[u16],
     ) -> Result<World<M>, (WorldError, Debugged<M>)>
         ensures world { IfOk result (λ w. world_of w
-            ≡ new_world board (version_of (length limits.now)) guest.guest (length limits.now)
+            ≡ new_world board (version_of (length limits.now)) 0 guest.guest (length limits.now)
             (limit_at limits.now)) }
         ensures valid { OnOk result (is_valid guest.guest ≡ true) }
-        ensures shown { IfOk result (λ w. Shown (world_of w).hosts (at_start guest.guest)) }
+        ensures shown { IfOk result (λ w. Shown (world_of w).hosts (at_start 0 guest.guest)) }
         ensures sized { OnOk result (is_sized (version_of (length limits.now)) limits.now ≡ true) }
         ensures size { IfErr result (λ e. (e.0 ≡ BadSize)
             ↔ (is_sized (version_of (length limits.now)) limits.now ≡ false)) }

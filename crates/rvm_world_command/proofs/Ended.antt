@@ -98,19 +98,19 @@ pub sized_hosts : (version hosts : ℕ) → hosts ≤ 8 → is_sized version (ta
 sized_hosts version hosts few sized = ap (is_sized version) (sym (take-replicate hosts 8 4096 few)) ∙ sized
 
 pub world_of_hosts : (w : BoardWorld) (version hosts : ℕ) (g : Guest) → hosts ≤ 8
-    → w ≡ new_world board version g (length {A = ℕ} (take hosts (replicate 8 4096))) (limit_at (take hosts (replicate 8 4096)))
-    → w ≡ new_world board version g hosts (limit_at (limits_of hosts))
+    → w ≡ new_world board version 0 g (length {A = ℕ} (take hosts (replicate 8 4096))) (limit_at (take hosts (replicate 8 4096)))
+    → w ≡ new_world board version 0 g hosts (limit_at (limits_of hosts))
 world_of_hosts w version hosts g few made =
-    made ∙ ap (λ (l : List ℕ). new_world board version g (length {A = ℕ} l) (limit_at l)) (take-replicate hosts 8 4096 few)
-    ∙ ap (λ (n : ℕ). new_world board version g n (limit_at (limits_of hosts))) (length-replicate hosts 4096)
+    made ∙ ap (λ (l : List ℕ). new_world board version 0 g (length {A = ℕ} l) (limit_at l)) (take-replicate hosts 8 4096 few)
+    ∙ ap (λ (n : ℕ). new_world board version 0 g n (limit_at (limits_of hosts))) (length-replicate hosts 4096)
 
 -- what a script is answered in a new world with the guest of an image
 pub answered_first : (image : FileImage) (harts pages version hosts : ℕ) (w : BoardWorld) (remaining : Option (List ℕ)) (answered : Result (Unit {0}) WorldScriptError) (before after : Option (List ℕ))
-    → IfOk image (λ i. w ≡ new_world board version (guest_of harts pages i.0 i.1) hosts (limit_at (limits_of hosts)))
-    → IfOk image (λ i. Shown w.hosts (at_start (guest_of harts pages i.0 i.1)))
+    → IfOk image (λ i. w ≡ new_world board version 0 (guest_of harts pages i.0 i.1) hosts (limit_at (limits_of hosts)))
+    → IfOk image (λ i. Shown w.hosts (at_start 0 (guest_of harts pages i.0 i.1)))
     → ((t : Told Guest) → Shown w.hosts t → IsWorldScriptEndOf remaining (standing w t) answered before after)
     → IfOk image (λ i. IsWorldScriptEndOf remaining (at_first version hosts (guest_of harts pages i.0 i.1)) answered before after)
 answered_first (Err e) harts pages version hosts w remaining answered before after made shown run = tt
 answered_first (Ok i) harts pages version hosts w remaining answered before after made shown run =
     let g = guest_of harts pages i.0 i.1 in
-    subst (λ (v : BoardWorld). IsWorldScriptEndOf remaining (standing v (at_start g)) answered before after) made (run (at_start g) shown)
+    subst (λ (v : BoardWorld). IsWorldScriptEndOf remaining (standing v (at_start 0 g)) answered before after) made (run (at_start 0 g) shown)

@@ -25,4 +25,4 @@ version_asked a = version_if a.stream a.hosts
 
 -- where a script begins: no host but the first has a guest, and nothing was sent
 abbrev pub at_first : (version hosts : ℕ) → Guest → Standing
-at_first version hosts g = standing (new_world board version g hosts (limit_at (limits_of hosts))) (at_start g)
+at_first version hosts g = standing (new_world board version 0 g hosts (limit_at (limits_of hosts))) (at_start 0 g)

@@ -33,12 +33,12 @@ pub(crate) fn load_world<M: PagedMemory + Drop>(
         (IsLoadable (image_of arguments.now.guest.raw image.now) arguments.now.guest.pages) }
     ensures sized { OnOk result (is_sized (version_asked arguments.now) (limits_of arguments.now.hosts) ≡ true) }
     ensures world { IfOk result (λ w. IfOk (image_of arguments.now.guest.raw image.now) (λ i.
-        world_of w ≡ new_world board (version_asked arguments.now)
+        world_of w ≡ new_world board (version_asked arguments.now) 0
         (guest_of arguments.now.guest.harts arguments.now.guest.pages i.0 i.1) arguments.now.hosts
         (limit_at (limits_of arguments.now.hosts)))) }
     ensures shown { IfOk result (λ w. IfOk (image_of arguments.now.guest.raw image.now) (λ i.
         Shown (world_of w).hosts
-        (at_start (guest_of arguments.now.guest.harts arguments.now.guest.pages i.0 i.1)))) }
+        (at_start 0 (guest_of arguments.now.guest.harts arguments.now.guest.pages i.0 i.1)))) }
     ensures refused { IfErr result (IsBeginRefusal arguments.now image.now) }
 {
     let guest = load_guest(alloc, &arguments.guest, image)?;
@@ -65,8 +65,8 @@ fn new_world<M: PagedMemory + Drop>(
     requires { hosts ≤ 8 }
     ensures sized { OnOk result (is_sized version (limits_of hosts) ≡ true) }
     ensures world { IfOk result (λ w. world_of w
-        ≡ new_world board version guest.guest hosts (limit_at (limits_of hosts))) }
-    ensures shown { IfOk result (λ w. Shown (world_of w).hosts (at_start guest.guest)) }
+        ≡ new_world board version 0 guest.guest hosts (limit_at (limits_of hosts))) }
+    ensures shown { IfOk result (λ w. Shown (world_of w).hosts (at_start 0 guest.guest)) }
     ensures refused { IfErr result (IsWorldRefusal version hosts) }
 {
     let limits = [MAX_PAGES as u16; MAX_HOSTS];

@@ -14,7 +14,7 @@ use Rattle.rvm_world_script.proofs.Spending.{spent_before_the_end}
 
 -- two hosts, the first of which has the guest
 start : Guest → Standing
-start g = standing (new_world board 1 g 2 (λ x. 1)) (at_start g)
+start g = standing (new_world board 1 0 g 2 (λ x. 1)) (at_start 0 g)
 
 of_two_hosts_the_other_is_the_target : target 0 None ≡ 1
 of_two_hosts_the_other_is_the_target = refl

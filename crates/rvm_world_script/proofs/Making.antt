@@ -63,7 +63,7 @@ shown_after_all : (s : Standing) (es : List (Event BoardEvent)) → IsReached s.
 unfolding OneGuestFromAnyWorld
 shown_after_all s es r shown =
     let law =
-    the_law_from_any_world board board_laws r.start s.world.version s.world.count r.limits r.before es s.told
+    the_law_from_any_world board board_laws r.start s.world.version 0 s.world.count r.limits r.before es s.told
     (allowed r.start r.valid) (subst (λ z. Shown z.hosts s.told) r.reached shown)
     in
     let here =

@@ -92,7 +92,7 @@ begin_told : (w : BoardWorld) (from to : ℕ) (p : protocol.Policy) → IsReache
 begin_told w from to p r =
     begin_if w from to p (nat_lt from w.count)
     (subst (λ (z : BoardWorld). move_of (z.hosts from).mode < 2 ^ 64) (sym r.reached)
-    (moves_are_numbered board r.start w.version w.count r.limits r.before from))
+    (moves_are_numbered board r.start w.version 0 w.count r.limits r.before from))
     refl
 
 -- each refusal of the law is a host's

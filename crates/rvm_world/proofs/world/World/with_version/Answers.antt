@@ -19,7 +19,7 @@ returns-in-Ok-clause-world g c =
     let a = c.args in
     let hosts = c.add_hosts.new.hosts.items in
     subst (λ (z : List Kept). world_of (record { version = a.version; hosts = hosts; sent = z; current = 0 })
-    ≡ new_world board a.version a.guest.guest (length a.limits.now) (limit_at a.limits.now)) (sym c.new.ensures.items)
+    ≡ new_world board a.version 0 a.guest.guest (length a.limits.now) (limit_at a.limits.now)) (sym c.new.ensures.items)
     (world_is a.guest a.version a.limits.now hosts (sym c.if-not-is_sized.ensures) c.add_hosts.ensures)
 
 pub returns-in-Ok-clause-shown : goal.returns-in-Ok-clause-shown

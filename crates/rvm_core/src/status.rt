@@ -1,0 +1,66 @@
+//! Where a host stands.
+
+ghost use Rattle.std.specs.Prelude.{◌≡◌};
+ghost use Rattle.rvm_core.specs.Modes.{plain_of};
+ghost use Rattle.rvm_core.specs.Statuses.{kind_of, phase_kind};
+
+use crate::mode::Mode;
+use rvm_mem::PagedMemory;
+use rvm_source::Phase;
+
+/// The kinds of a host's mode. Where the host is the source of a move, they tell its phase.
+#[derive(Clone, Copy, Debug, PartialEq, Eq)]
+pub enum ModeKind {
+    /// There is no guest.
+    Empty,
+    /// The guest runs, and no move is going on.
+    Running,
+    /// The guest runs, and another host was asked to take it.
+    Offering,
+    /// The guest runs, and its pages are copied to another host.
+    Copying,
+    /// The guest is paused, and what is left of it is sent to another host.
+    Stopped,
+    /// The guest was given to another host, and a copy of it is kept until that host has started it.
+    Given,
+    /// The pages of another host's guest come.
+    Staging,
+    /// The whole guest of another host waits here until that host has given it.
+    Held,
+}
+
+/// Where a host stands: its mode, the highest number of a move that it has begun or staged, and the host that the last
+/// one was with.
+#[derive(Clone, Copy, Debug, PartialEq, Eq)]
+pub struct HostStatus {
+    pub kind: ModeKind,
+    pub move_number: u64,
+    pub partner: u8,
+}
+
+impl<M: PagedMemory + Drop> Mode<M> {
+    /// Its kind.
+    pub(crate) fn kind(&self) -> ModeKind
+        ensures { result ≡ kind_of (plain_of self.now) }
+    {
+        match self {
+            Mode::Empty { .. } => ModeKind::Empty,
+            Mode::Run { .. } => ModeKind::Running,
+            Mode::Leaving(source) => phase_kind(source.phase()),
+            Mode::Given { .. } => ModeKind::Given,
+            Mode::Staging { .. } => ModeKind::Staging,
+            Mode::Held { .. } => ModeKind::Held,
+        }
+    }
+}
+
+/// The kind of a source's mode.
+fn phase_kind(phase: Phase) -> ModeKind
+    ensures { result ≡ phase_kind phase }
+{
+    match phase {
+        Phase::Offering => ModeKind::Offering,
+        Phase::Copying => ModeKind::Copying,
+        Phase::Stopped { .. } => ModeKind::Stopped,
+    }
+}
