@@ -41,17 +41,6 @@ pub struct Host<M: PagedMemory> {
     count: u8,
     /// The most pages of a guest that it takes.
     limit: u16,
-    /// Where it stands.
-    pub fn status(&self) -> HostStatus
-        ensures { result ≡ status_of self.now }
-    {
-        HostStatus {
-            kind: self.mode.kind(),
-            move_number: self.mode.move_number(),
-            partner: self.partner,
-        }
-    }
-
     /// The version of its streams.
     version: u32,
 }
@@ -323,6 +312,17 @@ impl<M: PagedMemory + Drop> Host<M> {
     {
         self.is_there(from)
             && (from == self.partner || is_offer_above(self.mode.move_number(), frame))
+    }
+
+    /// Where it stands.
+    pub fn status(&self) -> HostStatus
+        ensures { result ≡ status_of self.now }
+    {
+        HostStatus {
+            kind: self.mode.kind(),
+            move_number: self.mode.move_number(),
+            partner: self.partner,
+        }
     }
 
     /// The version of its streams.
