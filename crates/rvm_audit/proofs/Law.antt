@@ -262,6 +262,6 @@ module _ (version : ℕ) (g : GuestState) (limits : ℕ → ℕ) where
             t.second_there
             ∙ (λ j. (after_all (sym are.first j) (sym are.second j) (opened (sym are.first j) (sym are.second j)) o.steps).second)
             ∙ o.second_ends;
-        never_moved = course_law board board_laws g.guest version 2 limits (map meant events) (allowed g.guest valid);
-        past = past_law board board_laws g.guest version 2 limits (map meant events) (allowed g.guest valid);
+        never_moved = course_law board board_laws g.guest version 0 2 limits (map meant events) (allowed g.guest valid);
+        past = past_law board board_laws g.guest version 0 2 limits (map meant events) (allowed g.guest valid);
       }

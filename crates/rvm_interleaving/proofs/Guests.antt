@@ -103,7 +103,7 @@ module _ (version origin : ℕ) (g : GuestState) (limits : ℕ → ℕ) (o : Ope
       let f = board_event m.event q.0 in
       let here = answered_there w x n r can_n e.0 e.1 p.1 in
       let there = answered_there w y m r can_m f.0 f.1 q.1 in
-      let law_of = the_law board board_laws g.guest version o.count limits r.events (allowed g.guest valid) in
+      let law_of = the_law board board_laws g.guest version origin o.count limits r.events (allowed g.guest valid) in
       let never = law_of.one_host x y e.0 f.0 ne in
       both_not _ _ here there never
     where

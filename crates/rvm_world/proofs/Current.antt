@@ -35,7 +35,7 @@ known w r =
     (record {
       t = told board (at_start 0 r.start) (history board first r.before);
       sound = run_sound board board_laws r.before first (at_start 0 r.start)
-          (new_sound board board_laws w.version r.start w.count r.limits valid);
+          (new_sound board board_laws w.version 0 r.start w.count r.limits valid);
       shown = (the_law board board_laws r.start w.version 0 w.count r.limits r.before valid).shown;
     })
 

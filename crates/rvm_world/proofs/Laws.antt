@@ -21,7 +21,7 @@ pub never_moved : (old new : BoardWorld) → IsReached old → NeverMoved old ne
 unfolding NeverMoved RunsNeverMoveFromAnyWorld
 never_moved old new r t events shown made =
     subst (λ z. NeverMoves board t z events) (sym r.reached)
-    (course_law_from_any_world board board_laws r.start old.version old.count r.limits r.before events t
+    (course_law_from_any_world board board_laws r.start old.version 0 old.count r.limits r.before events t
     (allowed r.start r.valid) (subst (λ z. Shown z.hosts t) r.reached shown))
 
 -- from a new world
@@ -29,4 +29,4 @@ pub tells_its_past : (old new : BoardWorld) → TellsItsPast old new
 unfolding TellsItsPast RunsTellTheirPast
 tells_its_past old new start limits events valid is_new made =
     subst (λ z. InEachState board (PastIsTrue board) z events) (sym is_new)
-    (past_law board board_laws start old.version old.count limits events (allowed start valid))
+    (past_law board board_laws start old.version 0 old.count limits events (allowed start valid))
