@@ -1,0 +1,82 @@
+-- Three pieces, one after the other, and a number of eight bytes.
+use Rattle.std.proofs.Common.{◌≡◌, ◌∙◌, ℕ, ◌+◌, ◌-◌, ◌≤◌, List, [], ◌∷◌, ◌++◌, append-nil, append_assoc, arith, drop, length, replicate, slice_index_or, Option, None, Some, true, ap, refl, subst, sym}
+use Rattle.std.proofs.lemmas.List.{drop_all, drop_at, length-replicate, replicate-append-replicate}
+use Rattle.std.specs.Io.KnownBytes.{Appends, Consumes}
+use Rattle.byteorder.specs.Endian.{little_bytes, little_number}
+use Rattle.rvm_codec.specs.Exact.{IsBytes}
+use Rattle.rvm_greeting.specs.declared.facts.Facts.{Facts}
+use Rattle.rvm_greeting.specs.declared.opening.Opening.{Opening}
+use Rattle.rvm_greeting.specs.declared.opening.Role.{Role}
+use Rattle.rvm_greeting.specs.Facts.{facts_bytes}
+use Rattle.rvm_greeting.specs.Greetings.{AreGreeted}
+use Rattle.rvm_greeting.specs.Hmac.{zero_padded}
+use Rattle.rvm_greeting.specs.Openings.{answers, magic, opening_bytes, other_role, proof_by}
+use Rattle.rvm_codec.proofs.Numbers.{written_back}
+
+pub both_added : (old mid new : Option (List ℕ)) (xs ys : List ℕ) → Appends old mid xs → Appends mid new ys
+    → Appends old new (xs ++ ys)
+both_added None mid new xs ys a b = tt
+both_added (Some o) (Some m) (Some n) xs ys a b = b ∙ (ap (λ l. l ++ ys) a ∙ append_assoc o xs ys)
+both_added (Some o) (Some m) None xs ys a b = absurd b
+both_added (Some o) None new xs ys a b = absurd a
+
+pub both_taken : (old mid new : Option (List ℕ)) (xs ys : List ℕ) → Consumes old mid xs → Consumes mid new ys
+    → Consumes old new (xs ++ ys)
+both_taken None mid new xs ys a b = tt
+both_taken (Some o) (Some m) (Some n) xs ys a b = a ∙ (ap (λ l. xs ++ l) b ∙ sym (append_assoc xs ys n))
+both_taken (Some o) (Some m) None xs ys a b = absurd b
+both_taken (Some o) None new xs ys a b = absurd a
+
+pub three_taken : (a b c d : Option (List ℕ)) (xs ys zs : List ℕ) → Consumes a b xs → Consumes b c ys → Consumes c d zs
+    → Consumes a d (xs ++ (ys ++ zs))
+three_taken a b c d xs ys zs x y z = both_taken a b d xs (ys ++ zs) x (both_taken b c d ys zs y z)
+
+pub number_back : (bytes : List ℕ) → length bytes ≡ 8 → IsBytes bytes → little_bytes 8 (little_number 8 bytes) ≡ bytes
+number_back bytes len fit =
+    let rest : drop 8 bytes ≡ [] = drop_all 8 bytes (omega (arith, len)) in
+    sym (written_back 8 bytes (omega (arith, len)) fit ∙ ap (λ l. little_bytes 8 (little_number 8 bytes) ++ l) rest ∙ append-nil _)
+
+-- a list of three
+three_of : (xs : List ℕ) → length xs ≡ 3
+    → slice_index_or xs 0 0 ∷ slice_index_or xs 1 0 ∷ slice_index_or xs 2 0 ∷ [] ≡ xs
+three_of [] len = absurd (omega (arith, len))
+three_of (a ∷ []) len = absurd (omega (arith, len))
+three_of (a ∷ b ∷ []) len = absurd (omega (arith, len))
+three_of (a ∷ b ∷ c ∷ []) len = refl
+three_of (a ∷ b ∷ c ∷ d ∷ xs) len = absurd (omega (arith, len))
+
+pub opening_is : (name hosts nonce : List ℕ) → name ≡ magic → length hosts ≡ 3
+    → name ++ (hosts ++ nonce)
+    ≡ magic ++ ((slice_index_or hosts 0 0 ∷ slice_index_or hosts 1 0 ∷ slice_index_or hosts 2 0 ∷ []) ++ nonce)
+opening_is name hosts nonce named len =
+    ap (λ l. l ++ (hosts ++ nonce)) named ∙ ap (λ l. magic ++ (l ++ nonce)) (sym (three_of hosts len))
+
+-- zeros without the first of them
+zeros_but : (n : ℕ) → n ≤ 64 → drop {A = ℕ} n (replicate 64 0) ≡ replicate (64 - n) 0
+zeros_but n few =
+    let all : n + (64 - n) ≡ 64 = omega (arith, few) in
+    let whole : replicate {A = ℕ} n 0 ++ replicate (64 - n) 0 ≡ replicate 64 0 =
+    replicate-append-replicate n (64 - n) 0 ∙ ap (λ (k : ℕ). replicate {A = ℕ} k 0) all in
+    ap (λ (l : List ℕ). drop n l) (sym whole)
+    ∙ drop_at (replicate {A = ℕ} n 0) (replicate (64 - n) 0) n (length-replicate n 0)
+
+pub zeros_left : (bytes : List ℕ) → length bytes ≤ 64
+    → bytes ++ drop {A = ℕ} (length bytes) (replicate 64 0) ≡ zero_padded bytes
+zeros_left bytes few = ap (λ l. bytes ++ l) (zeros_but (length bytes) few)
+
+three_added : (a b c d : Option (List ℕ)) (xs ys zs : List ℕ) → Appends a b xs → Appends b c ys → Appends c d zs
+    → Appends a d (xs ++ (ys ++ zs))
+three_added a b c d xs ys zs x y z = both_added a b d xs (ys ++ zs) x (both_added b c d ys zs y z)
+
+-- both ends said their three pieces
+pub are_greeted : (block : List ℕ) (role : Role) (own other : Opening) (told wrote heard : Facts)
+    (a b c d : Option (List ℕ)) (e f g h : Option (List ℕ)) → answers own other ≡ true → wrote ≡ told
+    → Consumes a b (opening_bytes other) → Consumes b c (proof_by block (other_role role) other own)
+    → Consumes c d (facts_bytes heard)
+    → Appends e f (opening_bytes own) → Appends f g (proof_by block role own other) → Appends g h (facts_bytes wrote)
+    → AreGreeted block role own other told heard a d e h
+are_greeted block role own other told wrote heard a b c d e f g h ok same t0 t1 t2 a0 a1 a2 = record {
+  answered = ok;
+  came = three_taken a b c d _ _ _ t0 t1 t2;
+  went = three_added e f g h _ _ _ a0 a1 (subst (λ q. Appends g h (facts_bytes q)) same a2);
+}

@@ -1,0 +1,4 @@
+pub mod Hmac
+pub mod Openings
+pub mod Facts
+pub mod Greetings

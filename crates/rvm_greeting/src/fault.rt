@@ -1,0 +1,38 @@
+//! Why two ends of a connection do not speak with each other.
+
+ghost use Rattle.std.specs.Prelude.{◌≡◌};
+ghost use Rattle.rvm_greeting.specs.declared.fault.GreetingFault.TheVariants as fault;
+
+use std::io;
+use thiserror::Error;
+
+/// Why a greeting failed.
+#[derive(Clone, Copy, Debug, PartialEq, Eq, Error)]
+pub enum GreetingFault {
+    /// The connection failed or ended, or nothing came in time.
+    #[error("the connection broke")]
+    Broken,
+    /// What came is no greeting.
+    #[error("no greeting came")]
+    NotGreeting,
+    /// The greeting is for another host, of another host, or for a world of another number of hosts.
+    #[error("the greeting is between other hosts")]
+    OtherHosts,
+    /// The other end does not know the secret.
+    #[error("the other end does not know the secret")]
+    WrongSecret,
+    /// The other host is of another world.
+    #[error("the other host is of another world")]
+    OtherWorld,
+    /// The process of this host is not the one that was met before: what it knew of the world is gone.
+    #[error("host {0} began anew")]
+    BeganAnew(u8),
+}
+
+impl From<io::Error> for GreetingFault {
+    ghost from_gives = { λ _ told. told ≡ fault.Broken };
+
+    fn from(_error: io::Error) -> GreetingFault {
+        GreetingFault::Broken
+    }
+}

@@ -1,0 +1,236 @@
+//! Greetings.
+
+ghost use Rattle.std.specs.Prelude.{◌≡◌, ◌≢◌, ◌++◌, Err, IfErr, IfOk, IfSome, OnOk, true};
+ghost use Rattle.std.specs.Io.KnownBytes.{Appends, Consumes};
+ghost use Rattle.byteorder.specs.Endian.{little_bytes};
+ghost use Rattle.rvm_greeting.specs.declared.fault.GreetingFault.TheVariants as fault;
+ghost use Rattle.rvm_greeting.specs.declared.opening.Opening.{Opening as PlainOpening};
+ghost use Rattle.rvm_greeting.specs.declared.opening.Role.TheVariants as role;
+ghost use Rattle.rvm_greeting.specs.Facts.{facts_bytes, facts_for};
+ghost use Rattle.rvm_greeting.specs.Greetings.{AreGreeted, is_for};
+ghost use Rattle.rvm_greeting.specs.Openings.{answers, opening_bytes, proof_by};
+
+use crate::facts::Facts;
+use crate::fault::GreetingFault;
+use crate::message::Message;
+use crate::opening::{MAGIC, Opening, Role};
+use crate::registry::Registry;
+use crate::secret::Secret;
+use byteorder::{ByteOrder, LittleEndian};
+use std::io;
+use std::io::{Read, Write};
+
+/// Another host, as a greeting showed it.
+#[derive(Clone, Copy, Debug)]
+pub struct Greeted {
+    /// The openings of both ends.
+    pub own: Opening,
+    pub other: Opening,
+    /// What the other end told of itself.
+    pub facts: Facts,
+}
+
+/// Greets the host at the other end of a connection that was made to it.
+pub fn greet<I: Read, W: Write>(
+    input: &mut I,
+    output: &mut W,
+    secret: &Secret,
+    own: &Opening,
+    told: &Facts,
+) -> Result<Greeted, GreetingFault>
+    ensures greeted { IfOk result (λ g. AreGreeted secret.now role.Connector own.now g.other told.now g.facts
+        (I.remaining input.old) (I.remaining input.new) (W.contents output.old) (W.contents output.new)) }
+    ensures own { IfOk result (λ g. g.own ≡ own.now) }
+{
+    write_opening(output, own)?;
+    let other = read_opening(input)?;
+    if !own.is_answered_by(&other) {
+        return Err(GreetingFault::OtherHosts);
+    }
+    write_proof(output, secret, Role::Connector, own, &other)?;
+    read_proof(input, secret, Role::Acceptor, &other, own)?;
+    let facts = read_facts(input)?;
+    write_facts(output, told)?;
+    Ok(Greeted {
+        own: *own,
+        other,
+        facts,
+    })
+}
+
+/// Answers the greeting of a host that made a connection to this one. Who does not show that it knows the secret is told the
+/// opening and nothing else.
+pub fn accept<I: Read, W: Write>(
+    input: &mut I,
+    output: &mut W,
+    secret: &Secret,
+    registry: &Registry,
+    hosts: u8,
+    nonce: &[u8; 32],
+) -> Result<Greeted, GreetingFault>
+    ensures greeted { IfOk result (λ g. AreGreeted secret.now role.Acceptor g.own g.other (facts_for registry.now g.other.from)
+        g.facts (I.remaining input.old) (I.remaining input.new) (W.contents output.old) (W.contents output.new)) }
+    ensures other { IfOk result (λ g. is_for registry.now.host hosts g.other ≡ true) }
+    ensures nonce { IfOk result (λ g. g.own.nonce ≡ nonce.now) }
+    ensures silent { result ≡ Err fault.WrongSecret → (own : PlainOpening)
+        × Appends (W.contents output.old) (W.contents output.new) (opening_bytes own) }
+{
+    let other = read_opening(input)?;
+    if !registry.is_for(hosts, &other) {
+        return Err(GreetingFault::OtherHosts);
+    }
+    let own = Opening {
+        from: registry.host(),
+        to: other.from,
+        hosts,
+        nonce: *nonce,
+    };
+    write_opening(output, &own)?;
+    read_proof(input, secret, Role::Connector, &other, &own)?;
+    write_proof(output, secret, Role::Acceptor, &own, &other)?;
+    write_facts(output, &registry.facts_for(other.from))?;
+    let facts = read_facts(input)?;
+    Ok(Greeted { own, other, facts })
+}
+
+/// Writes an opening.
+fn write_opening<W: Write>(output: &mut W, opening: &Opening) -> io::Result<()>
+    ensures { OnOk result (Appends (W.contents output.old) (W.contents output.new) (opening_bytes opening.now)) }
+{
+    output.write_all(opening.append_to(Message::new()).as_slice())?;
+    output.flush()
+}
+
+/// Reads an opening.
+fn read_opening<I: Read>(input: &mut I) -> Result<Opening, GreetingFault>
+    ensures opening { IfOk result (λ o. Consumes (I.remaining input.old) (I.remaining input.new) (opening_bytes o)) }
+    ensures fault { IfErr result (λ e. e ≢ fault.WrongSecret) }
+{
+    let mut name = [0u8; 8];
+    let mut hosts = [0u8; 3];
+    let mut nonce = [0u8; 32];
+    read_pieces(input, &mut name, &mut hosts, &mut nonce)?;
+    match opening_of(&name, &hosts, &nonce) {
+        Some(opening) => Ok(opening),
+        None => Err(GreetingFault::NotGreeting),
+    }
+}
+
+/// The opening with these pieces, if they are those of one.
+fn opening_of(name: &[u8; 8], hosts: &[u8; 3], nonce: &[u8; 32]) -> Option<Opening>
+    ensures { IfSome result (λ o. name.now ++ (hosts.now ++ nonce.now) ≡ opening_bytes o) }
+{
+    if *name != MAGIC {
+        return None;
+    }
+    let [from, to, hosts] = *hosts;
+    Some(Opening {
+        from,
+        to,
+        hosts,
+        nonce: *nonce,
+    })
+}
+
+/// Reads the three pieces of an opening.
+#[tactic(auto, using(crate::proofs::Pieces::three_taken))]
+fn read_pieces<I: Read>(
+    input: &mut I,
+    name: &mut [u8; 8],
+    hosts: &mut [u8; 3],
+    nonce: &mut [u8; 32],
+) -> io::Result<()>
+    ensures { OnOk result (Consumes (I.remaining input.old) (I.remaining input.new)
+        (name.new ++ (hosts.new ++ nonce.new))) }
+{
+    input.read_exact(name)?;
+    input.read_exact(hosts)?;
+    input.read_exact(nonce)?;
+    Ok(())
+}
+
+/// Writes the proof of the end with a role.
+fn write_proof<W: Write>(
+    output: &mut W,
+    secret: &Secret,
+    role: Role,
+    own: &Opening,
+    other: &Opening,
+) -> io::Result<()>
+    ensures { OnOk result (Appends (W.contents output.old) (W.contents output.new)
+        (proof_by secret.now role own.now other.now)) }
+{
+    output.write_all(&secret.proof(role, own, other))?;
+    output.flush()
+}
+
+/// Reads the proof of the end with a role.
+fn read_proof<I: Read>(
+    input: &mut I,
+    secret: &Secret,
+    role: Role,
+    own: &Opening,
+    other: &Opening,
+) -> Result<(), GreetingFault>
+    ensures { OnOk result (Consumes (I.remaining input.old) (I.remaining input.new)
+        (proof_by secret.now role own.now other.now)) }
+{
+    let mut proof = [0u8; 32];
+    input.read_exact(&mut proof)?;
+    if proof != secret.proof(role, own, other) {
+        return Err(GreetingFault::WrongSecret);
+    }
+    Ok(())
+}
+
+/// Writes what a host tells of itself.
+fn write_facts<W: Write>(output: &mut W, facts: &Facts) -> io::Result<()>
+    ensures { OnOk result (Appends (W.contents output.old) (W.contents output.new) (facts_bytes facts.now)) }
+{
+    output.write_all(facts.bytes().as_slice())?;
+    output.flush()
+}
+
+/// Reads what a host tells of itself.
+fn read_facts<I: Read>(input: &mut I) -> Result<Facts, GreetingFault>
+    ensures facts { IfOk result (λ f. Consumes (I.remaining input.old) (I.remaining input.new) (facts_bytes f)) }
+    ensures fault { IfErr result (λ e. e ≢ fault.WrongSecret) }
+{
+    let (world, process, known) = read_numbers(input)?;
+    if process == 0 {
+        return Err(GreetingFault::NotGreeting);
+    }
+    Ok(Facts {
+        world,
+        process,
+        known,
+    })
+}
+
+/// Reads three numbers.
+#[tactic(auto, using(crate::proofs::Pieces::three_taken))]
+fn read_numbers<I: Read>(input: &mut I) -> io::Result<(u64, u64, u64)>
+    ensures { IfOk result (λ n. Consumes (I.remaining input.old) (I.remaining input.new)
+        (little_bytes 8 n.0 ++ (little_bytes 8 n.1 ++ little_bytes 8 n.2))) }
+{
+    let first = read_number(input)?;
+    let second = read_number(input)?;
+    let third = read_number(input)?;
+    Ok((first, second, third))
+}
+
+/// Reads a number.
+fn read_number<I: Read>(input: &mut I) -> io::Result<u64>
+    ensures { IfOk result (λ n. Consumes (I.remaining input.old) (I.remaining input.new) (little_bytes 8 n)) }
+{
+    let mut bytes = [0u8; 8];
+    input.read_exact(&mut bytes)?;
+    Ok(number_of(&bytes))
+}
+
+/// The number with these bytes.
+fn number_of(bytes: &[u8; 8]) -> u64
+    ensures { little_bytes 8 result ≡ bytes.now }
+{
+    LittleEndian::read_u64(bytes)
+}

@@ -1,0 +1,119 @@
+//! What a host knows of its world and of the processes of the other hosts.
+
+ghost use Rattle.std.specs.Prelude.{◌≡◌, ◌<◌, Some, None, IfErr, OnOk, OnErr, replicate};
+ghost use Rattle.rvm_greeting.specs.Greetings.{is_for};
+ghost use Rattle.rvm_greeting.specs.Facts.{after_meeting, differ, facts_for, met, refusal_of};
+
+use crate::facts::Facts;
+use crate::fault::GreetingFault;
+use crate::opening::Opening;
+
+/// The most hosts of a world.
+const MAX_HOSTS: usize = 8;
+
+/// What the process of a host knows of its world: its number, once there is one, and the processes of the other hosts that
+/// it has met. A number that is not known is 0.
+#[derive(Clone, Copy, Debug)]
+pub struct Registry {
+    host: u8,
+    process: u64,
+    world: u64,
+    met: [u64; MAX_HOSTS],
+}
+
+impl Registry {
+    /// That of a process that has met nobody.
+    pub fn new(host: u8, process: u64, world: u64) -> Registry
+        ensures host { result.host ≡ host }
+        ensures process { result.process ≡ process }
+        ensures world { result.world ≡ world }
+        ensures met { result.met ≡ replicate 8 0 }
+    {
+        Registry {
+            host,
+            process,
+            world,
+            met: [0; MAX_HOSTS],
+        }
+    }
+
+    /// The number of this host.
+    pub(crate) fn host(&self) -> u8
+        ensures { result ≡ self.now.host }
+    {
+        self.host
+    }
+
+    /// Whether an opening is for this host, from another of as many.
+    pub(crate) fn is_for(&self, hosts: u8, opening: &Opening) -> bool
+        ensures { result ≡ is_for self.now.host hosts opening.now }
+    {
+        opening.to == self.host
+            && opening.hosts == hosts
+            && opening.from != self.host
+            && opening.from < hosts
+    }
+
+    /// What it tells a host of itself.
+    pub fn facts_for(&self, host: u8) -> Facts
+        ensures { result ≡ facts_for self.now host }
+    {
+        Facts {
+            world: self.world,
+            process: self.process,
+            known: self.met(host),
+        }
+    }
+
+    /// Meets a host, by what it told. Refused where it is of another world, or where one of the two processes began anew after
+    /// the other had met it: then all stays as it was.
+    pub fn meet(&mut self, host: u8, facts: &Facts) -> Result<(), GreetingFault>
+        requires { host < 8 }
+        ensures met { OnOk result (self.new ≡ after_meeting self.old host facts.now) }
+        ensures welcome { OnOk result (refusal_of self.old host facts.now ≡ None) }
+        ensures refused { IfErr result (λ e. refusal_of self.old host facts.now ≡ Some e) }
+        ensures kept { OnErr result (self.new ≡ self.old) }
+    {
+        if let Some(fault) = self.refusal_of(host, facts) {
+            return Err(fault);
+        }
+        if self.world == 0 {
+            self.world = facts.world;
+        }
+        self.met[host as usize] = facts.process;
+        Ok(())
+    }
+
+    /// Why it refuses what a host tells, if it does.
+    fn refusal_of(&self, host: u8, facts: &Facts) -> Option<GreetingFault>
+        ensures { result ≡ refusal_of self.now host facts.now }
+    {
+        if differ(self.world, facts.world) {
+            return Some(GreetingFault::OtherWorld);
+        }
+        if differ(self.met(host), facts.process) {
+            return Some(GreetingFault::BeganAnew(host));
+        }
+        if differ(facts.known, self.process) {
+            return Some(GreetingFault::BeganAnew(self.host));
+        }
+        None
+    }
+
+    /// The process of a host, where it was met.
+    fn met(&self, host: u8) -> u64
+        ensures { result ≡ met self.now host }
+    {
+        match self.met.get(host as usize) {
+            Some(process) => *process,
+            None => 0,
+        }
+    }
+}
+
+/// Whether both are known, and are not the same.
+fn differ(a: u64, b: u64) -> bool
+    ensures { result ≡ differ a b }
+{
+    a != 0 && b != 0 && a != b
+}
