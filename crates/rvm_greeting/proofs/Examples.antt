@@ -16,7 +16,7 @@ jefe = refl
 
 -- host 2 of a world whose number is 9; its process is 70, and it has met process 55 of host 0
 abbrev own : Registry
-own = record { host = 2; process = 70; world = 9; met = 55 ∷ 0 ∷ 0 ∷ 0 ∷ 0 ∷ 0 ∷ 0 ∷ 0 ∷ [] }
+own = record { host = 2; hosts = 3; process = 70; world = 9; met = 55 ∷ 0 ∷ 0 ∷ 0 ∷ 0 ∷ 0 ∷ 0 ∷ 0 ∷ [] }
 
 abbrev tells : (world process known : ℕ) → Facts
 tells world process known = record { world = world; process = process; known = known }
@@ -43,14 +43,14 @@ takes_a_world : (after_meeting (record own { world = 0 }) 1 (tells 9 56 0)).worl
 takes_a_world = refl
 
 -- an opening of host 1 for host 2, of three
-for_two : is_for 2 3 (record { from = 1; to = 2; hosts = 3; nonce = [] }) ≡ true
+for_two : is_for own (record { from = 1; to = 2; hosts = 3; nonce = [] }) ≡ true
 for_two = refl
 
-own_opening : is_for 2 3 (record { from = 2; to = 2; hosts = 3; nonce = [] }) ≡ false
+own_opening : is_for own (record { from = 2; to = 2; hosts = 3; nonce = [] }) ≡ false
 own_opening = refl
 
-past_the_last : is_for 2 3 (record { from = 3; to = 2; hosts = 3; nonce = [] }) ≡ false
+past_the_last : is_for own (record { from = 3; to = 2; hosts = 3; nonce = [] }) ≡ false
 past_the_last = refl
 
-other_count : is_for 2 3 (record { from = 1; to = 2; hosts = 4; nonce = [] }) ≡ false
+other_count : is_for own (record { from = 1; to = 2; hosts = 4; nonce = [] }) ≡ false
 other_count = refl

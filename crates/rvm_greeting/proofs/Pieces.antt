@@ -80,3 +80,8 @@ are_greeted block role own other told wrote heard a b c d e f g h ok same t0 t1 
   came = three_taken a b c d _ _ _ t0 t1 t2;
   went = three_added e f g h _ _ _ a0 a1 (subst (λ q. Appends g h (facts_bytes q)) same a2);
 }
+
+-- an opening was written, which is this one
+pub written_as : (old new : Option (List ℕ)) (written own : Opening) → written ≡ own
+    → Appends old new (opening_bytes written) → Appends old new (opening_bytes own)
+written_as old new written own same added = subst (λ o. Appends old new (opening_bytes o)) same added

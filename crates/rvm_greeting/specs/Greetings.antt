@@ -4,6 +4,7 @@ use Rattle.std.specs.Prelude.{◌≡◌, ℕ, ◌==◌, ◌&&◌, Bool, true, no
 use Rattle.rvm_greeting.specs.declared.facts.Facts.{Facts}
 use Rattle.rvm_greeting.specs.declared.opening.Opening.{Opening}
 use Rattle.rvm_greeting.specs.declared.opening.Role.{Role}
+use Rattle.rvm_greeting.specs.declared.registry.Registry.{Registry}
 use Rattle.rvm_greeting.specs.Facts.{facts_bytes}
 use Rattle.rvm_greeting.specs.Openings.{answers, opening_bytes, other_role, proof_by}
 
@@ -11,10 +12,13 @@ use Rattle.rvm_greeting.specs.Openings.{answers, opening_bytes, other_role, proo
 abbrev pub said : (block : List ℕ) → Role → (own other : Opening) → Facts → List ℕ
 said block role own other f = opening_bytes own ++ (proof_by block role own other ++ facts_bytes f)
 
--- the opening is for this host from another of as many hosts
-abbrev pub is_for : (host hosts : ℕ) → Opening → Bool
-is_for host hosts o =
-    (o.to == host) && ((o.hosts == hosts) && (not (o.from == host) && nat_lt o.from hosts))
+-- the opening of a host to another
+abbrev pub opening_for : Registry → (to : ℕ) → (nonce : List ℕ) → Opening
+opening_for r to nonce = record { from = r.host; to = to; hosts = r.hosts; nonce = nonce }
+
+-- the opening is for this host, from another of as many
+abbrev pub is_for : Registry → Opening → Bool
+is_for r o = (o.to == r.host) && ((o.hosts == r.hosts) && (not (o.from == r.host) && nat_lt o.from r.hosts))
 
 -- both ends greeted each other: all that this one said went out, and all that the other said came, whose opening answers
 -- this one and whose proof shows that it knows the secret

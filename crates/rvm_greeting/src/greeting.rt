@@ -1,14 +1,13 @@
 //! Greetings.
 
-ghost use Rattle.std.specs.Prelude.{◌≡◌, ◌≢◌, ◌++◌, Err, IfErr, IfOk, IfSome, OnOk, true};
+ghost use Rattle.std.specs.Prelude.{◌≡◌, ◌≢◌, ◌++◌, Err, IfErr, IfOk, IfSome, OnOk, true, ℕ};
 ghost use Rattle.std.specs.Io.KnownBytes.{Appends, Consumes};
 ghost use Rattle.byteorder.specs.Endian.{little_bytes};
 ghost use Rattle.rvm_greeting.specs.declared.fault.GreetingFault.TheVariants as fault;
-ghost use Rattle.rvm_greeting.specs.declared.opening.Opening.{Opening as PlainOpening};
 ghost use Rattle.rvm_greeting.specs.declared.opening.Role.TheVariants as role;
 ghost use Rattle.rvm_greeting.specs.Facts.{facts_bytes, facts_for};
-ghost use Rattle.rvm_greeting.specs.Greetings.{AreGreeted, is_for};
-ghost use Rattle.rvm_greeting.specs.Openings.{answers, opening_bytes, proof_by};
+ghost use Rattle.rvm_greeting.specs.Greetings.{AreGreeted, is_for, opening_for};
+ghost use Rattle.rvm_greeting.specs.Openings.{opening_bytes, proof_by};
 
 use crate::facts::Facts;
 use crate::fault::GreetingFault;
@@ -20,71 +19,62 @@ use byteorder::{ByteOrder, LittleEndian};
 use std::io;
 use std::io::{Read, Write};
 
-/// Another host, as a greeting showed it.
+/// What a greeting showed: the openings of both ends, and what the other end told of itself.
 #[derive(Clone, Copy, Debug)]
 pub struct Greeted {
-    /// The openings of both ends.
     pub own: Opening,
     pub other: Opening,
-    /// What the other end told of itself.
     pub facts: Facts,
 }
 
-/// Greets the host at the other end of a connection that was made to it.
+/// Greets a host at the other end of a connection that was made to it. The nonce is drawn at random for this connection.
 pub fn greet<I: Read, W: Write>(
     input: &mut I,
     output: &mut W,
     secret: &Secret,
-    own: &Opening,
-    told: &Facts,
+    registry: &Registry,
+    to: u8,
+    nonce: &[u8; 32],
 ) -> Result<Greeted, GreetingFault>
-    ensures greeted { IfOk result (λ g. AreGreeted secret.now role.Connector own.now g.other told.now g.facts
+    ensures greeted { IfOk result (λ g. AreGreeted secret.now role.Connector g.own g.other (facts_for registry.now to) g.facts
         (I.remaining input.old) (I.remaining input.new) (W.contents output.old) (W.contents output.new)) }
-    ensures own { IfOk result (λ g. g.own ≡ own.now) }
+    ensures own { IfOk result (λ g. g.own ≡ opening_for registry.now to nonce.now) }
 {
-    write_opening(output, own)?;
+    let own = registry.opening(to, nonce);
+    write_opening(output, &own)?;
     let other = read_opening(input)?;
     if !own.is_answered_by(&other) {
         return Err(GreetingFault::OtherHosts);
     }
-    write_proof(output, secret, Role::Connector, own, &other)?;
-    read_proof(input, secret, Role::Acceptor, &other, own)?;
+    write_proof(output, secret, Role::Connector, &own, &other)?;
+    read_proof(input, secret, Role::Acceptor, &other, &own)?;
     let facts = read_facts(input)?;
-    write_facts(output, told)?;
-    Ok(Greeted {
-        own: *own,
-        other,
-        facts,
-    })
+    write_facts(output, &registry.facts_for(to))?;
+    Ok(Greeted { own, other, facts })
 }
 
-/// Answers the greeting of a host that made a connection to this one. Who does not show that it knows the secret is told the
-/// opening and nothing else.
+/// Answers the greeting of a host that made a connection to this one. Whoever does not speak for another host of this world is
+/// told nothing, and whoever does not show that it knows the secret is told the opening and nothing else.
 pub fn accept<I: Read, W: Write>(
     input: &mut I,
     output: &mut W,
     secret: &Secret,
     registry: &Registry,
-    hosts: u8,
     nonce: &[u8; 32],
 ) -> Result<Greeted, GreetingFault>
     ensures greeted { IfOk result (λ g. AreGreeted secret.now role.Acceptor g.own g.other (facts_for registry.now g.other.from)
         g.facts (I.remaining input.old) (I.remaining input.new) (W.contents output.old) (W.contents output.new)) }
-    ensures other { IfOk result (λ g. is_for registry.now.host hosts g.other ≡ true) }
-    ensures nonce { IfOk result (λ g. g.own.nonce ≡ nonce.now) }
-    ensures silent { result ≡ Err fault.WrongSecret → (own : PlainOpening)
-        × Appends (W.contents output.old) (W.contents output.new) (opening_bytes own) }
+    ensures own { IfOk result (λ g. g.own ≡ opening_for registry.now g.other.from nonce.now) }
+    ensures other { IfOk result (λ g. is_for registry.now g.other ≡ true) }
+    ensures untold { result ≡ Err fault.OtherHosts → output.new ≡ output.old }
+    ensures silent { result ≡ Err fault.WrongSecret → (to : ℕ)
+        × Appends (W.contents output.old) (W.contents output.new) (opening_bytes (opening_for registry.now to nonce.now)) }
 {
     let other = read_opening(input)?;
-    if !registry.is_for(hosts, &other) {
+    if !registry.is_for(&other) {
         return Err(GreetingFault::OtherHosts);
     }
-    let own = Opening {
-        from: registry.host(),
-        to: other.from,
-        hosts,
-        nonce: *nonce,
-    };
+    let own = registry.opening(other.from, nonce);
     write_opening(output, &own)?;
     read_proof(input, secret, Role::Connector, &other, &own)?;
     write_proof(output, secret, Role::Acceptor, &own, &other)?;
@@ -104,7 +94,7 @@ fn write_opening<W: Write>(output: &mut W, opening: &Opening) -> io::Result<()>
 /// Reads an opening.
 fn read_opening<I: Read>(input: &mut I) -> Result<Opening, GreetingFault>
     ensures opening { IfOk result (λ o. Consumes (I.remaining input.old) (I.remaining input.new) (opening_bytes o)) }
-    ensures fault { IfErr result (λ e. e ≢ fault.WrongSecret) }
+    ensures fault { IfErr result (λ e. (e ≢ fault.WrongSecret) × (e ≢ fault.OtherHosts)) }
 {
     let mut name = [0u8; 8];
     let mut hosts = [0u8; 3];
@@ -172,8 +162,9 @@ fn read_proof<I: Read>(
     own: &Opening,
     other: &Opening,
 ) -> Result<(), GreetingFault>
-    ensures { OnOk result (Consumes (I.remaining input.old) (I.remaining input.new)
+    ensures proof { OnOk result (Consumes (I.remaining input.old) (I.remaining input.new)
         (proof_by secret.now role own.now other.now)) }
+    ensures fault { IfErr result (λ e. e ≢ fault.OtherHosts) }
 {
     let mut proof = [0u8; 32];
     input.read_exact(&mut proof)?;
@@ -194,7 +185,7 @@ fn write_facts<W: Write>(output: &mut W, facts: &Facts) -> io::Result<()>
 /// Reads what a host tells of itself.
 fn read_facts<I: Read>(input: &mut I) -> Result<Facts, GreetingFault>
     ensures facts { IfOk result (λ f. Consumes (I.remaining input.old) (I.remaining input.new) (facts_bytes f)) }
-    ensures fault { IfErr result (λ e. e ≢ fault.WrongSecret) }
+    ensures fault { IfErr result (λ e. (e ≢ fault.WrongSecret) × (e ≢ fault.OtherHosts)) }
 {
     let (world, process, known) = read_numbers(input)?;
     if process == 0 {

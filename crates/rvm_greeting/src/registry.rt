@@ -1,7 +1,7 @@
 //! What a host knows of its world and of the processes of the other hosts.
 
-ghost use Rattle.std.specs.Prelude.{◌≡◌, ◌<◌, Some, None, IfErr, OnOk, OnErr, replicate};
-ghost use Rattle.rvm_greeting.specs.Greetings.{is_for};
+ghost use Rattle.std.specs.Prelude.{◌≡◌, Some, None, IfErr, OnOk, OnErr, replicate};
+ghost use Rattle.rvm_greeting.specs.Greetings.{is_for, opening_for};
 ghost use Rattle.rvm_greeting.specs.Facts.{after_meeting, differ, facts_for, met, refusal_of};
 
 use crate::facts::Facts;
@@ -16,42 +16,50 @@ const MAX_HOSTS: usize = 8;
 #[derive(Clone, Copy, Debug)]
 pub struct Registry {
     host: u8,
+    hosts: u8,
     process: u64,
     world: u64,
     met: [u64; MAX_HOSTS],
 }
 
 impl Registry {
-    /// That of a process that has met nobody.
-    pub fn new(host: u8, process: u64, world: u64) -> Registry
+    /// That of the process of a host, of so many hosts, which has met nobody.
+    pub fn new(host: u8, hosts: u8, process: u64, world: u64) -> Registry
         ensures host { result.host ≡ host }
+        ensures hosts { result.hosts ≡ hosts }
         ensures process { result.process ≡ process }
         ensures world { result.world ≡ world }
         ensures met { result.met ≡ replicate 8 0 }
     {
         Registry {
             host,
+            hosts,
             process,
             world,
             met: [0; MAX_HOSTS],
         }
     }
 
-    /// The number of this host.
-    pub(crate) fn host(&self) -> u8
-        ensures { result ≡ self.now.host }
+    /// The opening of this host to another.
+    pub(crate) fn opening(&self, to: u8, nonce: &[u8; 32]) -> Opening
+        ensures { result ≡ opening_for self.now to nonce.now }
     {
-        self.host
+        Opening {
+            from: self.host,
+            to,
+            hosts: self.hosts,
+            nonce: *nonce,
+        }
     }
 
     /// Whether an opening is for this host, from another of as many.
-    pub(crate) fn is_for(&self, hosts: u8, opening: &Opening) -> bool
-        ensures { result ≡ is_for self.now.host hosts opening.now }
+    pub(crate) fn is_for(&self, opening: &Opening) -> bool
+        ensures { result ≡ is_for self.now opening.now }
     {
         opening.to == self.host
-            && opening.hosts == hosts
+            && opening.hosts == self.hosts
             && opening.from != self.host
-            && opening.from < hosts
+            && opening.from < self.hosts
     }
 
     /// What it tells a host of itself.
@@ -68,7 +76,6 @@ impl Registry {
     /// Meets a host, by what it told. Refused where it is of another world, or where one of the two processes began anew after
     /// the other had met it: then all stays as it was.
     pub fn meet(&mut self, host: u8, facts: &Facts) -> Result<(), GreetingFault>
-        requires { host < 8 }
         ensures met { OnOk result (self.new ≡ after_meeting self.old host facts.now) }
         ensures welcome { OnOk result (refusal_of self.old host facts.now ≡ None) }
         ensures refused { IfErr result (λ e. refusal_of self.old host facts.now ≡ Some e) }
@@ -80,7 +87,9 @@ impl Registry {
         if self.world == 0 {
             self.world = facts.world;
         }
-        self.met[host as usize] = facts.process;
+        if (host as usize) < MAX_HOSTS {
+            self.met[host as usize] = facts.process;
+        }
         Ok(())
     }
 
