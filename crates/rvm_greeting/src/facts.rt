@@ -7,8 +7,8 @@ ghost use Rattle.rvm_greeting.specs.Facts.{facts_bytes};
 use crate::message::Message;
 use byteorder::{ByteOrder, LittleEndian};
 
-/// What a host tells another, once each has shown that it knows the secret. Each number was drawn at random, from 1 on; 0 says
-/// that there is none.
+/// What a host tells another, once each has shown that it knows the secret. Each number was drawn at random, from 1 on;
+/// 0 says that there is none.
 #[derive(Clone, Copy, Debug, PartialEq, Eq)]
 pub struct Facts {
     /// The number of the world, which the host with the image drew, where the sender knows it.

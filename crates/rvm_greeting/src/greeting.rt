@@ -27,7 +27,8 @@ pub struct Greeted {
     pub facts: Facts,
 }
 
-/// Greets a host at the other end of a connection that was made to it. The nonce is drawn at random for this connection.
+/// Greets a host at the other end of a connection that was made to it. The nonce is drawn at random for this connection
+/// alone.
 pub fn greet<I: Read, W: Write>(
     input: &mut I,
     output: &mut W,
@@ -36,7 +37,8 @@ pub fn greet<I: Read, W: Write>(
     to: u8,
     nonce: &[u8; 32],
 ) -> Result<Greeted, GreetingFault>
-    ensures greeted { IfOk result (λ g. AreGreeted secret.now role.Connector g.own g.other (facts_for registry.now to) g.facts
+    ensures greeted { IfOk result (λ g. AreGreeted secret.now role.Connector g.own g.other
+        (facts_for registry.now to) g.facts
         (I.remaining input.old) (I.remaining input.new) (W.contents output.old) (W.contents output.new)) }
     ensures own { IfOk result (λ g. g.own ≡ opening_for registry.now to nonce.now) }
 {
@@ -53,8 +55,9 @@ pub fn greet<I: Read, W: Write>(
     Ok(Greeted { own, other, facts })
 }
 
-/// Answers the greeting of a host that made a connection to this one. Whoever does not speak for another host of this world is
-/// told nothing, and whoever does not show that it knows the secret is told the opening and nothing else.
+/// Answers the greeting of a host that made a connection to this one, with a nonce that is drawn at random for it alone.
+/// Whoever does not speak for another host of this world is told nothing, and whoever does not show that it knows the
+/// secret is told the opening and nothing else.
 pub fn accept<I: Read, W: Write>(
     input: &mut I,
     output: &mut W,
@@ -62,13 +65,15 @@ pub fn accept<I: Read, W: Write>(
     registry: &Registry,
     nonce: &[u8; 32],
 ) -> Result<Greeted, GreetingFault>
-    ensures greeted { IfOk result (λ g. AreGreeted secret.now role.Acceptor g.own g.other (facts_for registry.now g.other.from)
-        g.facts (I.remaining input.old) (I.remaining input.new) (W.contents output.old) (W.contents output.new)) }
+    ensures greeted { IfOk result (λ g. AreGreeted secret.now role.Acceptor g.own g.other
+        (facts_for registry.now g.other.from) g.facts
+        (I.remaining input.old) (I.remaining input.new) (W.contents output.old) (W.contents output.new)) }
     ensures own { IfOk result (λ g. g.own ≡ opening_for registry.now g.other.from nonce.now) }
     ensures other { IfOk result (λ g. is_for registry.now g.other ≡ true) }
     ensures untold { result ≡ Err fault.OtherHosts → output.new ≡ output.old }
     ensures silent { result ≡ Err fault.WrongSecret → (to : ℕ)
-        × Appends (W.contents output.old) (W.contents output.new) (opening_bytes (opening_for registry.now to nonce.now)) }
+        × Appends (W.contents output.old) (W.contents output.new)
+        (opening_bytes (opening_for registry.now to nonce.now)) }
 {
     let other = read_opening(input)?;
     if !registry.is_for(&other) {

@@ -11,8 +11,8 @@ use crate::opening::Opening;
 /// The most hosts of a world.
 const MAX_HOSTS: usize = 8;
 
-/// What the process of a host knows of its world: its number, once there is one, and the processes of the other hosts that
-/// it has met. A number that is not known is 0.
+/// What the process of a host knows of its world: its number, once there is one, and the processes of the other hosts
+/// that it has met. A number that is not known is 0.
 #[derive(Clone, Copy, Debug)]
 pub struct Registry {
     host: u8,
@@ -73,7 +73,7 @@ impl Registry {
         }
     }
 
-    /// Meets a host, by what it told. Refused where it is of another world, or where one of the two processes began anew after
+    /// Meets a host, by what it told. Refused if it is of another world, or if one of the two processes began anew after
     /// the other had met it: then all stays as it was.
     pub fn meet(&mut self, host: u8, facts: &Facts) -> Result<(), GreetingFault>
         ensures met { OnOk result (self.new ≡ after_meeting self.old host facts.now) }
