@@ -26,65 +26,62 @@ static ACCEPTOR: [u8; 99] = [
 ];
 
 #[test]
-fn both_ends_greet_each_other(rt: HostRuntime) -> Result<(), Fail> {
+fn the_connector_greets(rt: HostRuntime) -> Result<(), Fail> {
+    let registry = Registry::new(1, 3, 86, 9);
     let secret = Secret::new(SECRET);
-    let mut one = Registry::new(1, 3, 86, 9);
-    let mut two = Registry::new(2, 3, 70, 0);
     let mut input = ACCEPTOR.as_slice();
     let mut room = [0u8; 99];
-    let greeted = greet(
-        &mut input,
-        &mut room.as_mut_slice(),
-        &secret,
-        &one,
-        2,
-        &[17; 32],
-    );
-    assert_eq!(rt; room, CONNECTOR);
-    assert_eq!(rt; greeted.map(|g| one.meet(2, &g.facts)), Ok(Ok(())));
+    let mut output = room.as_mut_slice();
+    let greeted = greet(&mut input, &mut output, &secret, &registry, 2, &[17; 32]);
+    assert!(rt; greeted.is_ok());
+    assert!(rt; room.as_slice() == CONNECTOR.as_slice());
+    Ok(())
+}
+
+#[test]
+fn the_acceptor_answers(rt: HostRuntime) -> Result<(), Fail> {
+    let registry = Registry::new(2, 3, 70, 0);
+    let secret = Secret::new(SECRET);
     let mut input = CONNECTOR.as_slice();
-    let greeted = accept(
-        &mut input,
-        &mut room.as_mut_slice(),
-        &secret,
-        &two,
-        &[34; 32],
-    );
-    assert_eq!(rt; room, ACCEPTOR);
-    assert_eq!(rt;
-        greeted.map(|g| two.meet(g.other.from, &g.facts)),
-        Ok(Ok(()))
-    );
-    let known = Facts {
-        world: 9,
-        process: 70,
-        known: 86,
-    };
-    assert_eq!(rt; two.facts_for(1), known);
-    let anew = Facts {
-        world: 9,
-        process: 87,
-        known: 0,
-    };
-    assert_eq!(rt; two.meet(1, &anew), Err(GreetingFault::BeganAnew(1)));
+    let mut room = [0u8; 99];
+    let mut output = room.as_mut_slice();
+    let greeted = accept(&mut input, &mut output, &secret, &registry, &[34; 32]);
+    assert!(rt; greeted.is_ok());
+    assert!(rt; room.as_slice() == ACCEPTOR.as_slice());
     Ok(())
 }
 
 #[test]
 fn a_stranger_is_told_the_opening_alone(rt: HostRuntime) -> Result<(), Fail> {
-    let secret = Secret::new("another".as_bytes());
     let registry = Registry::new(2, 3, 70, 0);
+    let secret = Secret::new("another".as_bytes());
     let mut input = CONNECTOR.as_slice();
     // There is room for an opening, and a longer write would fail.
     let mut room = [0u8; 43];
-    let greeted = accept(
-        &mut input,
-        &mut room.as_mut_slice(),
-        &secret,
-        &registry,
-        &[34; 32],
-    );
-    assert_eq!(rt; greeted.map(|_| ()), Err(GreetingFault::WrongSecret));
+    let mut output = room.as_mut_slice();
+    let refused = accept(&mut input, &mut output, &secret, &registry, &[34; 32]);
+    assert!(rt; matches!(refused, Err(GreetingFault::WrongSecret)));
     assert!(rt; ACCEPTOR.starts_with(&room));
     Ok(())
+}
+
+#[test]
+fn a_host_is_met_and_not_its_successor(rt: HostRuntime) -> Result<(), Fail> {
+    let mut registry = Registry::new(2, 3, 70, 0);
+    assert_eq!(rt; registry.meet(1, &facts(86)), Ok(()));
+    assert_eq!(rt; registry.facts_for(1).known, 86);
+    assert_eq!(rt;
+        registry.meet(1, &facts(87)),
+        Err(GreetingFault::BeganAnew(1))
+    );
+    Ok(())
+}
+
+/// What a process of world 9 tells.
+fn facts(process: u64) -> Facts {
+    Facts {
+        world: 9,
+        process,
+        known: 0,
+    }
 }
