@@ -85,3 +85,11 @@ are_greeted block role own other told wrote heard a b c d e f g h ok same t0 t1 
 pub written_as : (old new : Option (List ℕ)) (written own : Opening) → written ≡ own
     → Appends old new (opening_bytes written) → Appends old new (opening_bytes own)
 written_as old new written own same added = subst (λ o. Appends old new (opening_bytes o)) same added
+
+-- an opening and a proof were written, and the opening is this one
+pub proof_written : (old mid new : Option (List ℕ)) (block : List ℕ) (role : Role) (written own other : Opening)
+    → written ≡ own → Appends old mid (opening_bytes written) → Appends mid new (proof_by block role written other)
+    → Appends old new (opening_bytes own ++ proof_by block role own other)
+proof_written old mid new block role written own other same first then =
+    subst (λ o. Appends old new (opening_bytes o ++ proof_by block role o other)) same
+    (both_added old mid new _ _ first then)

@@ -1,9 +1,10 @@
 //! Greetings.
 
-ghost use Rattle.std.specs.Prelude.{◌≡◌, ◌≢◌, ◌++◌, Err, IfErr, IfOk, IfSome, OnOk, true, ℕ};
+ghost use Rattle.std.specs.Prelude.{◌≡◌, ◌≢◌, ◌<◌, ◌++◌, Err, IfErr, IfOk, IfSome, OnOk, true, ℕ};
 ghost use Rattle.std.specs.Io.KnownBytes.{Appends, Consumes};
 ghost use Rattle.byteorder.specs.Endian.{little_bytes};
 ghost use Rattle.rvm_greeting.specs.declared.fault.GreetingFault.TheVariants as fault;
+ghost use Rattle.rvm_greeting.specs.declared.opening.Opening.{Opening as PlainOpening};
 ghost use Rattle.rvm_greeting.specs.declared.opening.Role.TheVariants as role;
 ghost use Rattle.rvm_greeting.specs.Facts.{facts_bytes, facts_for};
 ghost use Rattle.rvm_greeting.specs.Greetings.{AreGreeted, is_for, opening_for};
@@ -27,8 +28,9 @@ pub struct Greeted {
     pub facts: Facts,
 }
 
-/// Greets a host at the other end of a connection that was made to it. The nonce is drawn at random for this connection
-/// alone.
+/// Greets a host at the other end of a connection that was made to it, with a nonce that is drawn at random for it alone.
+/// Whoever does not answer as that host is told the opening and nothing else, and whoever does not show that it knows the
+/// secret is told the opening and the proof alone.
 pub fn greet<I: Read, W: Write>(
     input: &mut I,
     output: &mut W,
@@ -41,6 +43,13 @@ pub fn greet<I: Read, W: Write>(
         (facts_for registry.now to) g.facts
         (I.remaining input.old) (I.remaining input.new) (W.contents output.old) (W.contents output.new)) }
     ensures own { IfOk result (λ g. g.own ≡ opening_for registry.now to nonce.now) }
+    ensures process { IfOk result (λ g. 0 < g.facts.process) }
+    ensures unproved { result ≡ Err fault.OtherHosts → Appends (W.contents output.old) (W.contents output.new)
+        (opening_bytes (opening_for registry.now to nonce.now)) }
+    ensures silent { result ≡ Err fault.WrongSecret → (other : PlainOpening)
+        × Appends (W.contents output.old) (W.contents output.new)
+        (opening_bytes (opening_for registry.now to nonce.now)
+        ++ proof_by secret.now role.Connector (opening_for registry.now to nonce.now) other) }
 {
     let own = registry.opening(to, nonce);
     write_opening(output, &own)?;
@@ -70,6 +79,7 @@ pub fn accept<I: Read, W: Write>(
         (I.remaining input.old) (I.remaining input.new) (W.contents output.old) (W.contents output.new)) }
     ensures own { IfOk result (λ g. g.own ≡ opening_for registry.now g.other.from nonce.now) }
     ensures other { IfOk result (λ g. is_for registry.now g.other ≡ true) }
+    ensures process { IfOk result (λ g. 0 < g.facts.process) }
     ensures untold { result ≡ Err fault.OtherHosts → output.new ≡ output.old }
     ensures silent { result ≡ Err fault.WrongSecret → (to : ℕ)
         × Appends (W.contents output.old) (W.contents output.new)
@@ -190,6 +200,7 @@ fn write_facts<W: Write>(output: &mut W, facts: &Facts) -> io::Result<()>
 /// Reads what a host tells of itself.
 fn read_facts<I: Read>(input: &mut I) -> Result<Facts, GreetingFault>
     ensures facts { IfOk result (λ f. Consumes (I.remaining input.old) (I.remaining input.new) (facts_bytes f)) }
+    ensures process { IfOk result (λ f. 0 < f.process) }
     ensures fault { IfErr result (λ e. (e ≢ fault.WrongSecret) × (e ≢ fault.OtherHosts)) }
 {
     let (world, process, known) = read_numbers(input)?;

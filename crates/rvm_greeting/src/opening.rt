@@ -1,7 +1,7 @@
 //! What each end of a connection says first.
 
 ghost use Rattle.std.specs.Prelude.{◌≡◌, ◌+◌, ◌≤◌, ◌++◌, length};
-ghost use Rattle.rvm_greeting.specs.Openings.{answers, opening_bytes, other_role, role_number};
+ghost use Rattle.rvm_greeting.specs.Openings.{answers, opening_bytes, role_number};
 
 use crate::message::Message;
 
@@ -23,16 +23,6 @@ impl Role {
         match self {
             Role::Connector => 0,
             Role::Acceptor => 1,
-        }
-    }
-
-    /// That of the other end.
-    pub fn other(self) -> Role
-        ensures { result ≡ other_role self }
-    {
-        match self {
-            Role::Connector => Role::Acceptor,
-            Role::Acceptor => Role::Connector,
         }
     }
 }

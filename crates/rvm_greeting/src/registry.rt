@@ -23,7 +23,7 @@ pub struct Registry {
 }
 
 impl Registry {
-    /// That of the process of a host, of so many hosts, which has met nobody.
+    /// The registry of a process that has met nobody yet, for a host of a world of `hosts` hosts.
     pub fn new(host: u8, hosts: u8, process: u64, world: u64) -> Registry
         ensures host { result.host ≡ host }
         ensures hosts { result.hosts ≡ hosts }

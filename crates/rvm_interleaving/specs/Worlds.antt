@@ -18,7 +18,7 @@ use Rattle.rvm_world.specs.Worlds.{BoardWorld, meant}
 use Rattle.rvm_interleaving.specs.Hosts.{HostEntry, Openings, cons_if, entries_at}
 use Rattle.rvm_interleaving.specs.Orders.{Journals}
 
--- the hosts of a new world: the guest is at host 0
+-- the hosts of a new world: the guest is at the origin
 pub record AreNew (version origin : ℕ) (g : GuestState) (limits : ℕ → ℕ) (openings : Openings) : Type 0 where
   pub spoken : is_spoken version openings.count ≡ true
   pub each : (x : ℕ) → x < openings.count

@@ -22,7 +22,7 @@ abbrev pub host_naming : (count : ℕ) → (first : List ℕ) → List (List ℕ
 host_naming count first (address ∷ []) = if is_letter_of count first then Host address else Fault
 host_naming count first rest = Fault
 
--- what the words of a line name after lines that named the first so many hosts
+-- what the words of a line name, after lines that named `count` hosts
 abbrev pub naming_of : (count : ℕ) → (words : List (List ℕ)) → Naming
 naming_of count [] = Nothing
 naming_of count (first ∷ rest) = if is_comment first then Nothing else host_naming count first rest
