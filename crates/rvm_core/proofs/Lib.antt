@@ -8,3 +8,4 @@ pub mod Running
 pub mod Retiring
 pub mod Drying
 mod Refused
+pub mod Sends

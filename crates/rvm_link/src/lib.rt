@@ -2,13 +2,15 @@
 //!
 //! Stands on `rvm_frame` and `rvm_spelling`, and knows nothing of hosts, of workers or of sockets.
 //!
-//! To be read in this order: `link`, `error`, `outgoing`.
+//! To be read in this order: `link`, `error`, `spelled`, `outgoing`.
 #![tactic(auto)]
 
 mod error;
 mod link;
 mod outgoing;
+mod spelled;
 
 pub use error::SendError;
 pub use link::{Link, LinkRead};
 pub use outgoing::Outgoing;
+pub use spelled::{may_wait, spell};

@@ -7,9 +7,9 @@ ghost use Rattle.rvm_link.specs.Waiting.{may_wait};
 
 use crate::error::SendError;
 use crate::link::Link;
-use rvm_frame::{Addressed, Frame, append_frame, frame_len};
+use crate::spelled::{may_wait, spell};
+use rvm_frame::{Addressed, Frame};
 use rvm_refusal::LinkFault;
-use rvm_spelling::has_spelling;
 use std::alloc::Global;
 use std::sync::{Mutex, Wait};
 
@@ -103,16 +103,6 @@ impl<K: Link + Drop> Outgoing<K> {
     }
 }
 
-/// Whether a frame may wait for the next one, as the copy of a page may: another frame always follows it.
-fn may_wait(frame: &Frame) -> bool
-    ensures { result ≡ may_wait frame.now }
-{
-    match frame {
-        Frame::Page { .. } | Frame::Zero { .. } => true,
-        _ => false,
-    }
-}
-
 /// Sends bytes, and unless they may wait, has them go out.
 fn send_bytes<K: Link>(link: &mut K, bytes: &[u8], may_wait: bool) -> Result<(), LinkFault>
     ensures sent { OnOk result (Appends (K.contents link.old) (K.contents link.new) bytes.now) }
@@ -123,21 +113,4 @@ fn send_bytes<K: Link>(link: &mut K, bytes: &[u8], may_wait: bool) -> Result<(),
         return Ok(());
     }
     link.flush()
-}
-
-/// Puts the bytes of a frame in place of those that are there.
-fn spell(version: u32, addressed: &Addressed, bytes: &mut Vec<u8>) -> Result<(), SendError>
-    ensures bytes { OnOk result (bytes.new.items ≡ spelling (sent version addressed.now)) }
-    ensures fault { IfErr result (λ e. e ≡ SendError.BadFrame → HasSpelling (sent version addressed.now) → ⊥) }
-    ensures unsent { IfErr result (λ e. e ≢ SendError.LinkFault) }
-{
-    if !has_spelling(version, addressed) {
-        return Err(SendError::BadFrame);
-    }
-    bytes.clear();
-    if bytes.reserve(frame_len(version, addressed)).is_err() {
-        return Err(SendError::OutOfMemory);
-    }
-    append_frame(version, addressed, bytes);
-    Ok(())
 }

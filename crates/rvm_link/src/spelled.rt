@@ -1,0 +1,37 @@
+//! Frames as they go out.
+
+ghost use Rattle.std.specs.Prelude.{◌≡◌, ◌≢◌, IfErr, OnOk};
+ghost use Rattle.rvm_frame.specs.Grammar.{HasSpelling, sent, spelling};
+ghost use Rattle.rvm_link.specs.Waiting.{may_wait};
+
+use crate::error::SendError;
+use rvm_frame::{Addressed, Frame, append_frame, frame_len};
+use rvm_spelling::has_spelling;
+
+/// Whether a frame may wait for the next one, as the copy of a page may: another frame always follows it.
+pub fn may_wait(frame: &Frame) -> bool
+    ensures { result ≡ may_wait frame.now }
+{
+    match frame {
+        Frame::Page { .. } | Frame::Zero { .. } => true,
+        _ => false,
+    }
+}
+
+/// Puts the bytes of a frame in a stream of this version in place of those that are there. `BadFrame` where it has no
+/// spelling there, and `OutOfMemory`.
+pub fn spell(version: u32, addressed: &Addressed, bytes: &mut Vec<u8>) -> Result<(), SendError>
+    ensures bytes { OnOk result (bytes.new.items ≡ spelling (sent version addressed.now)) }
+    ensures fault { IfErr result (λ e. e ≡ SendError.BadFrame → HasSpelling (sent version addressed.now) → ⊥) }
+    ensures unsent { IfErr result (λ e. e ≢ SendError.LinkFault) }
+{
+    if !has_spelling(version, addressed) {
+        return Err(SendError::BadFrame);
+    }
+    bytes.clear();
+    if bytes.reserve(frame_len(version, addressed)).is_err() {
+        return Err(SendError::OutOfMemory);
+    }
+    append_frame(version, addressed, bytes);
+    Ok(())
+}
