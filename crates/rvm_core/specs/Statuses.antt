@@ -1,4 +1,5 @@
 -- Where a host stands.
+use Rattle.std.specs.Prelude.{ℕ, Option, Some, None, length}
 use Rattle.rvm_core.specs.declared.status.HostStatus.{HostStatus}
 use Rattle.rvm_core.specs.declared.status.ModeKind.{ModeKind}
 use Rattle.rvm_core.specs.declared.status.ModeKind.TheVariants as kind
@@ -26,3 +27,9 @@ kind_of (Held k g) = kind.Held
 -- a host's mode, the highest number of a move that it has begun or staged, and its partner
 abbrev pub status_of : PlainHost → HostStatus
 status_of h = record { kind = kind_of h.mode; move_number = move_of (mode_of h.mode); partner = h.partner }
+
+-- how many harts the guest has that runs at a host, or leaves it
+abbrev pub harts_of : PlainMode → Option ℕ
+harts_of (Run k g) = Some (length g.board.harts)
+harts_of (Leaving s) = Some (length s.guest.guest.board.harts)
+harts_of m = None

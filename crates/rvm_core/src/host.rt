@@ -1,6 +1,6 @@
 //! A host.
 
-ghost use Rattle.std.specs.Prelude.{◌≡◌, ◌↔◌, ℕ, true, false, IfOk, IfErr, IsErr, OnErr, None};
+ghost use Rattle.std.specs.Prelude.{◌≡◌, ◌↔◌, ◌<◌, ◌≤◌, ℕ, true, false, IfOk, IfErr, IfSome, IsErr, OnErr, None};
 ghost use Rattle.rvm_message.specs.Events.{command_of, event_of};
 ghost use Rattle.rvm_message.specs.Exchanges.{dry_exchange, step_of_hart};
 ghost use Rattle.rvm_message.specs.Replies.{is_refused_outright};
@@ -15,7 +15,7 @@ ghost use Rattle.rvm_core.specs.Bounds.{CanBePosted, addressed, frame_bound};
 ghost use Rattle.rvm_core.specs.Hosts.{Steps, host_of, is_sized, new_host, partner_of, step_of, version_of};
 ghost use Rattle.rvm_core.specs.Memory.{asks_memory, needs_memory, takes_memory};
 ghost use Rattle.rvm_core.specs.Retiring.{HostRetires};
-ghost use Rattle.rvm_core.specs.Statuses.{status_of};
+ghost use Rattle.rvm_core.specs.Statuses.{harts_of, status_of};
 ghost use Rattle.rvm_core.specs.Turns.{HasLog, turned};
 
 use crate::bound::{came_body, with_header};
@@ -323,6 +323,14 @@ impl<M: PagedMemory + Drop> Host<M> {
             move_number: self.mode.move_number(),
             partner: self.partner,
         }
+    }
+
+    /// How many harts the guest has that runs here, or leaves: 1 to 8. None where there is none.
+    pub fn harts(&self) -> Option<u32>
+        ensures count { result ≡ harts_of self.now.mode }
+        ensures bound { IfSome result (λ n. (0 < n) × (n ≤ 8)) }
+    {
+        self.mode.harts()
     }
 
     /// The version of its streams.

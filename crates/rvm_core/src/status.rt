@@ -1,8 +1,8 @@
 //! Where a host stands.
 
-ghost use Rattle.std.specs.Prelude.{◌≡◌};
+ghost use Rattle.std.specs.Prelude.{◌≡◌, ◌≤◌, ◌<◌, IfSome};
 ghost use Rattle.rvm_core.specs.Modes.{plain_of};
-ghost use Rattle.rvm_core.specs.Statuses.{kind_of, phase_kind};
+ghost use Rattle.rvm_core.specs.Statuses.{harts_of, kind_of, phase_kind};
 
 use crate::mode::Mode;
 use rvm_mem::PagedMemory;
@@ -50,6 +50,18 @@ impl<M: PagedMemory + Drop> Mode<M> {
             Mode::Given { .. } => ModeKind::Given,
             Mode::Staging { .. } => ModeKind::Staging,
             Mode::Held { .. } => ModeKind::Held,
+        }
+    }
+
+    /// How many harts the guest has that runs here, or leaves.
+    pub(crate) fn harts(&self) -> Option<u32>
+        ensures count { result ≡ harts_of (plain_of self.now) }
+        ensures bound { IfSome result (λ n. (0 < n) × (n ≤ 8)) }
+    {
+        match self {
+            Mode::Run { guest, .. } => Some(guest.harts()),
+            Mode::Leaving(source) => Some(source.harts()),
+            _ => None,
         }
     }
 }

@@ -100,6 +100,15 @@ impl<M: PagedMemory> Source<M> {
         self.move_number
     }
 
+    /// How many harts its guest has, 1 to 8.
+    pub fn harts(&self) -> u32
+        ensures count { result ≡ length self.now.guest.guest.board.harts }
+        ensures some { 0 < result }
+        ensures bound { result ≤ 8 }
+    {
+        self.guest.harts()
+    }
+
     /// What is done of the move.
     pub fn phase(&self) -> Phase
         ensures { result ≡ self.now.phase }
