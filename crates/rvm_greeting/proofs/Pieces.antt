@@ -13,29 +13,6 @@ use Rattle.rvm_greeting.specs.Hmac.{zero_padded}
 use Rattle.rvm_greeting.specs.Openings.{answers, magic, opening_bytes, other_role, proof_by}
 use Rattle.rvm_codec.proofs.Numbers.{written_back}
 
-pub both_added : (old mid new : Option (List ℕ)) (xs ys : List ℕ) → Appends old mid xs → Appends mid new ys
-    → Appends old new (xs ++ ys)
-both_added None mid new xs ys a b = tt
-both_added (Some o) (Some m) (Some n) xs ys a b = b ∙ (ap (λ l. l ++ ys) a ∙ append_assoc o xs ys)
-both_added (Some o) (Some m) None xs ys a b = absurd b
-both_added (Some o) None new xs ys a b = absurd a
-
-pub both_taken : (old mid new : Option (List ℕ)) (xs ys : List ℕ) → Consumes old mid xs → Consumes mid new ys
-    → Consumes old new (xs ++ ys)
-both_taken None mid new xs ys a b = tt
-both_taken (Some o) (Some m) (Some n) xs ys a b = a ∙ (ap (λ l. xs ++ l) b ∙ sym (append_assoc xs ys n))
-both_taken (Some o) (Some m) None xs ys a b = absurd b
-both_taken (Some o) None new xs ys a b = absurd a
-
-pub three_taken : (a b c d : Option (List ℕ)) (xs ys zs : List ℕ) → Consumes a b xs → Consumes b c ys → Consumes c d zs
-    → Consumes a d (xs ++ (ys ++ zs))
-three_taken a b c d xs ys zs x y z = both_taken a b d xs (ys ++ zs) x (both_taken b c d ys zs y z)
-
-pub number_back : (bytes : List ℕ) → length bytes ≡ 8 → IsBytes bytes → little_bytes 8 (little_number 8 bytes) ≡ bytes
-number_back bytes len fit =
-    let rest : drop 8 bytes ≡ [] = drop_all 8 bytes (omega (arith, len)) in
-    sym (written_back 8 bytes (omega (arith, len)) fit ∙ ap (λ l. little_bytes 8 (little_number 8 bytes) ++ l) rest ∙ append-nil _)
-
 -- a list of three
 three_of : (xs : List ℕ) → length xs ≡ 3
     → slice_index_or xs 0 0 ∷ slice_index_or xs 1 0 ∷ slice_index_or xs 2 0 ∷ [] ≡ xs
@@ -63,10 +40,6 @@ zeros_but n few =
 pub zeros_left : (bytes : List ℕ) → length bytes ≤ 64
     → bytes ++ drop {A = ℕ} (length bytes) (replicate 64 0) ≡ zero_padded bytes
 zeros_left bytes few = ap (λ l. bytes ++ l) (zeros_but (length bytes) few)
-
-three_added : (a b c d : Option (List ℕ)) (xs ys zs : List ℕ) → Appends a b xs → Appends b c ys → Appends c d zs
-    → Appends a d (xs ++ (ys ++ zs))
-three_added a b c d xs ys zs x y z = both_added a b d xs (ys ++ zs) x (both_added b c d ys zs y z)
 
 -- both ends said their three pieces
 pub are_greeted : (block : List ℕ) (role : Role) (own other : Opening) (told wrote heard : Facts)

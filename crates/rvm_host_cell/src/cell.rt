@@ -1,0 +1,72 @@
+//! A host under a lock.
+
+ghost use Rattle.std.specs.Prelude.{◌≡◌, ◌≤◌, IfOk};
+ghost use Rattle.rvm_host_cell.specs.Events.{IsAnswer};
+ghost use Rattle.rvm_message.specs.Events.{command_of};
+ghost use Rattle.rvm_message.specs.Frames.{frame_heard};
+ghost use Rattle.rvm_protocol.specs.Commands as commands;
+
+use crate::origin::{Hosting, Of};
+use crate::reached::Reached;
+use crate::turns::{Slice, make_slice};
+use rvm_core::{Host, HostStatus};
+use rvm_frame::Frame;
+use rvm_mem::PagedMemory;
+use rvm_message::{Command, HostReply};
+use rvm_route::Made;
+use std::alloc::{AllocError, Global};
+use std::sync::{Mutex, Wait};
+
+/// A host that several threads call. Each call may wait for another thread.
+#[derive(Drop)]
+pub struct HostCell<L: Hosting, M: PagedMemory + Drop> {
+    lock: Mutex<Reached<L, M>>,
+}
+
+impl<L: Hosting, M: PagedMemory + Drop> HostCell<L, M> {
+    /// The host that a process begins with.
+    pub fn new(host: Host<M>) -> HostCell<L, M>
+        requires { host ≡ L.opening }
+    {
+        HostCell {
+            lock: Mutex::new(Reached::new(host)),
+        }
+    }
+
+    /// A command: the reply, and the frame that the host made. After a refused growth nothing has changed.
+    pub fn obey<R: Wait>(
+        &self,
+        rt: &R,
+        alloc: Global,
+        command: &Command,
+    ) -> Result<(HostReply, Option<Made<Of<L>>>), AllocError>
+        ensures { IfOk result (λ a. IsAnswer L.opening (commands.Do (command_of command.now)) a.0) }
+    {
+        self.lock.lock(rt).obey(alloc, command)
+    }
+
+    /// A frame of a host: the reply, and the frame that the host made. After a refused growth nothing has changed.
+    pub fn came<R: Wait>(
+        &self,
+        rt: &R,
+        alloc: Global,
+        from: u8,
+        frame: &Frame,
+    ) -> Result<(HostReply, Option<Made<Of<L>>>), AllocError>
+        ensures { IfOk result (λ a. IsAnswer L.opening (commands.Came from (frame_heard frame.now)) a.0) }
+    {
+        self.lock.lock(rt).came(alloc, from, frame)
+    }
+
+    /// Turns of the harts, one after the other, under one hold of the lock: at most `count`, from turn `turn` on.
+    pub fn slice<R: Wait>(&self, rt: &R, turn: u64, count: u32) -> Slice
+        ensures { result.made ≤ count }
+    {
+        make_slice(&mut self.lock.lock(rt), turn, count)
+    }
+
+    /// Where the host stands, as it was found.
+    pub fn status<R: Wait>(&self, rt: &R) -> HostStatus {
+        self.lock.lock(rt).status()
+    }
+}

@@ -1,0 +1,104 @@
+//! The sending end to one other host.
+
+ghost use Rattle.std.specs.Prelude.{◌≡◌, IsErr, None, OnOk, OnErr, IsSome, is_some};
+
+use crate::made::{Made, Origin};
+use crate::stream::Stream;
+use rvm_link::SendError;
+use rvm_refusal::LinkFault;
+use std::alloc::Global;
+use std::io::Write;
+
+/// The stream to another host, while there is a connection to it.
+#[derive(Drop)]
+pub(crate) struct Route<L: Origin, W: Write + Drop> {
+    stream: Option<Stream<L, W>>,
+    /// The bytes of the frame that goes out, whose memory the next one takes.
+    bytes: Vec<u8>,
+}
+
+impl<L: Origin, W: Write + Drop> Route<L, W> {
+    /// Without a connection.
+    pub(crate) fn new(alloc: Global) -> Route<L, W>
+        ensures { result.stream ≡ None }
+    {
+        Route {
+            stream: None,
+            bytes: Vec::new(alloc),
+        }
+    }
+
+    /// A connection to a host takes the place of the one that is there: a stream of this version begins on it. One that
+    /// fails is dropped.
+    pub(crate) fn open(&mut self, version: u32, host: u8, output: W) -> Result<(), SendError>
+        ensures opened { OnOk result (IsSome self.new.stream) }
+        ensures lost { OnErr result (self.new.stream ≡ None) }
+    {
+        self.stream = None;
+        self.stream = Some(Stream::begin(version, host, output, &mut self.bytes)?);
+        Ok(())
+    }
+
+    /// Sends a frame that was made here, whole. A connection that fails is dropped.
+    pub(crate) fn send(&mut self, made: &Made<L>) -> Result<(), SendError>
+        ensures sent { OnOk result (IsSome self.new.stream) }
+        ensures closed { self.old.stream ≡ None → IsErr result }
+    {
+        let Some(stream) = self.stream.take() else {
+            return Err(SendError::LinkFault);
+        };
+        let (stream, sent) = stream.send(made, &mut self.bytes);
+        self.stream = stream;
+        sent
+    }
+
+    /// Asks whether all that was sent has come. A connection that fails is dropped.
+    pub(crate) fn ask(&mut self, number: u64) -> Result<(), LinkFault>
+        ensures sent { OnOk result (IsSome self.new.stream) }
+        ensures closed { self.old.stream ≡ None → IsErr result }
+    {
+        let Some(stream) = self.stream.take() else {
+            return Err(LinkFault);
+        };
+        self.stream = stream.ask(number);
+        self.stays_open()
+    }
+
+    /// Answers a question. A connection that fails is dropped.
+    pub(crate) fn answer(&mut self, number: u64) -> Result<(), LinkFault>
+        ensures sent { OnOk result (IsSome self.new.stream) }
+        ensures closed { self.old.stream ≡ None → IsErr result }
+    {
+        let Some(stream) = self.stream.take() else {
+            return Err(LinkFault);
+        };
+        self.stream = stream.answer(number);
+        self.stays_open()
+    }
+
+    /// `LinkFault` where there is no connection.
+    fn stays_open(&self) -> Result<(), LinkFault>
+        ensures { OnOk result (IsSome self.now.stream) }
+        ensures closed { self.now.stream ≡ None → IsErr result }
+    {
+        if self.is_open() {
+            Ok(())
+        } else {
+            Err(LinkFault)
+        }
+    }
+
+    /// Drops the connection.
+    pub(crate) fn close(&mut self)
+        ensures { self.new.stream ≡ None }
+    {
+        self.stream = None;
+    }
+
+    /// Whether there is a connection.
+    pub(crate) fn is_open(&self) -> bool
+        ensures { result ≡ is_some self.now.stream }
+    {
+        self.stream.is_some()
+    }
+}

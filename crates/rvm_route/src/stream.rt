@@ -1,0 +1,200 @@
+//! The stream of frames on a connection to another host.
+
+ghost use Rattle.std.specs.Prelude.{◌≡◌, ◌≢◌, IfErr, IsSome, OnOk};
+ghost use Rattle.std.specs.Io.KnownBytes.{Appends};
+ghost use Rattle.rvm_frame.specs.Grammar.{HasSpelling, sent, spelling};
+ghost use Rattle.rvm_record.specs.Records.{Answer, Carries, Question, record_bytes};
+ghost use Rattle.rvm_route.specs.Streams.{hello};
+
+use crate::made::{Made, Origin};
+use rvm_frame::{Addressed, Frame};
+use rvm_link::{SendError, may_wait, spell};
+use rvm_record::{write_answer, write_data, write_question};
+use std::io;
+use std::io::Write;
+use std::marker::{Model, PhantomData};
+use std::snapshot::Snapshot;
+
+/// A connection to a host, on which a stream of frames was begun. What was written on it, since it was as contracts alone
+/// see it, are records that carry Hello and frames that were made here for that host.
+#[derive(Drop)]
+pub(crate) struct Stream<L: Origin, W: Write + Drop> {
+    version: u32,
+    host: u8,
+    first: Snapshot<W>,
+    output: W,
+    origin: PhantomData<L>,
+}
+
+impl<L: Origin, W: Write + Drop> Model for Stream<L, W> {
+    ghost use Rattle.std.specs.Prelude.{ℕ};
+    ghost use Rattle.rvm_route.specs.Streams.{IsSent};
+
+    ghost Value = { W };
+
+    ghost view = { λ s. s.output };
+
+    ghost invariant = { λ s. IsSent L.is_made s.version s.host (W.contents s.first.value) (W.contents s.output) };
+}
+
+impl<L: Origin, W: Write + Drop> Stream<L, W> {
+    /// Begins a stream of this version on a connection to a host: Hello is sent. A connection that fails is dropped.
+    #[tactic(auto, using(crate::proofs::Streams::begun))]
+    pub(crate) fn begin(
+        version: u32,
+        host: u8,
+        output: W,
+        bytes: &mut Vec<u8>,
+    ) -> Result<Stream<L, W>, SendError> {
+        let first = Snapshot::of(&output);
+        let mut output = output;
+        say_hello(version, &mut output, bytes)?;
+        Ok(Stream {
+            version,
+            host,
+            first,
+            output,
+            origin: PhantomData,
+        })
+    }
+
+    /// Sends a frame that was made here, whole. Unless it may wait, it has gone out then, and all before it. A connection
+    /// that fails is dropped; where the frame is for another host, has no spelling, or there is no memory, nothing was sent.
+    #[tactic(auto, using(crate::proofs::Streams::more))]
+    pub(crate) fn send(
+        self,
+        made: &Made<L>,
+        bytes: &mut Vec<u8>,
+    ) -> (Option<Stream<L, W>>, Result<(), SendError>)
+        ensures kept { OnOk result.1 (IsSome result.0) }
+    {
+        let addressed = made.get();
+        if addressed.to != self.host {
+            return (Some(self), Err(SendError::BadFrame));
+        }
+        let Stream {
+            version,
+            host,
+            first,
+            output,
+            origin,
+        } = self;
+        let mut output = output;
+        let sent = send_frame(version, &mut output, addressed, bytes);
+        if sent == Err(SendError::LinkFault) {
+            return (None, sent);
+        }
+        let stream = Stream {
+            version,
+            host,
+            first,
+            output,
+            origin,
+        };
+        (Some(stream), sent)
+    }
+
+    /// Asks whether all that was sent has come. A connection that fails is dropped.
+    #[tactic(auto, using(crate::proofs::Streams::asked))]
+    pub(crate) fn ask(self, number: u64) -> Option<Stream<L, W>> {
+        let Stream {
+            version,
+            host,
+            first,
+            output,
+            origin,
+        } = self;
+        let mut output = output;
+        if put_question(&mut output, number).is_err() {
+            return None;
+        }
+        Some(Stream {
+            version,
+            host,
+            first,
+            output,
+            origin,
+        })
+    }
+
+    /// Answers a question. A connection that fails is dropped.
+    #[tactic(auto, using(crate::proofs::Streams::answered))]
+    pub(crate) fn answer(self, number: u64) -> Option<Stream<L, W>> {
+        let Stream {
+            version,
+            host,
+            first,
+            output,
+            origin,
+        } = self;
+        let mut output = output;
+        if put_answer(&mut output, number).is_err() {
+            return None;
+        }
+        Some(Stream {
+            version,
+            host,
+            first,
+            output,
+            origin,
+        })
+    }
+}
+
+/// Sends Hello.
+fn say_hello<W: Write>(version: u32, output: &mut W, bytes: &mut Vec<u8>) -> Result<(), SendError>
+    ensures sent { OnOk result (Carries (hello version) (W.contents output.old) (W.contents output.new)) }
+{
+    let addressed = Addressed {
+        from: 0,
+        to: 1,
+        frame: Frame::Hello { version },
+    };
+    send_frame(version, output, &addressed, bytes)
+}
+
+/// Sends a frame whole. Where there is no memory, or the frame has no spelling, nothing was sent.
+fn send_frame<W: Write>(
+    version: u32,
+    output: &mut W,
+    addressed: &Addressed,
+    bytes: &mut Vec<u8>,
+) -> Result<(), SendError>
+    ensures sent { OnOk result (Carries (spelling (sent version addressed.now))
+        (W.contents output.old) (W.contents output.new)) }
+    ensures unsent { IfErr result (λ e. e ≢ SendError.LinkFault → output.new ≡ output.old) }
+    ensures spelled { IfErr result (λ e. e ≡ SendError.BadFrame → HasSpelling (sent version addressed.now) → ⊥) }
+{
+    spell(version, addressed, bytes)?;
+    if put_data(output, bytes.as_slice(), may_wait(&addressed.frame)).is_err() {
+        return Err(SendError::LinkFault);
+    }
+    Ok(())
+}
+
+/// Writes bytes of the stream, and unless they may wait, has them go out.
+fn put_data<W: Write>(output: &mut W, bytes: &[u8], may_wait: bool) -> io::Result<()>
+    ensures { OnOk result (Carries bytes.now (W.contents output.old) (W.contents output.new)) }
+{
+    write_data(output, bytes)?;
+    if may_wait {
+        return Ok(());
+    }
+    output.flush()
+}
+
+/// Has a question go out.
+fn put_question<W: Write>(output: &mut W, number: u64) -> io::Result<()>
+    ensures { OnOk result (Appends (W.contents output.old) (W.contents output.new) (record_bytes (Question number))) }
+{
+    write_question(output, number)?;
+    output.flush()
+}
+
+/// Has an answer go out.
+fn put_answer<W: Write>(output: &mut W, number: u64) -> io::Result<()>
+    ensures { OnOk result (Appends (W.contents output.old) (W.contents output.new) (record_bytes (Answer number))) }
+{
+    write_answer(output, number)?;
+    output.flush()
+}
