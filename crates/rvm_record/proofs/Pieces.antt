@@ -1,10 +1,6 @@
 -- Pieces of bytes, one after the other.
-use Rattle.std.proofs.Common.{◌≡◌, ◌∙◌, ℕ, List, [], ◌++◌, append-nil, append_assoc, arith, drop, length, Option, None, Some, ap, sym}
-use Rattle.std.proofs.lemmas.List.{drop_all}
+use Rattle.std.proofs.Common.{◌∙◌, ℕ, List, ◌++◌, append_assoc, Option, None, Some, ap, sym}
 use Rattle.std.specs.Io.KnownBytes.{Appends, Consumes}
-use Rattle.byteorder.specs.Endian.{little_bytes, little_number}
-use Rattle.rvm_codec.specs.Exact.{IsBytes}
-use Rattle.rvm_codec.proofs.Numbers.{written_back}
 
 pub both_added : (old mid new : Option (List ℕ)) (xs ys : List ℕ) → Appends old mid xs → Appends mid new ys
     → Appends old new (xs ++ ys)
@@ -23,11 +19,6 @@ both_taken (Some o) None new xs ys a b = absurd a
 pub three_taken : (a b c d : Option (List ℕ)) (xs ys zs : List ℕ) → Consumes a b xs → Consumes b c ys → Consumes c d zs
     → Consumes a d (xs ++ (ys ++ zs))
 three_taken a b c d xs ys zs x y z = both_taken a b d xs (ys ++ zs) x (both_taken b c d ys zs y z)
-
-pub number_back : (bytes : List ℕ) → length bytes ≡ 8 → IsBytes bytes → little_bytes 8 (little_number 8 bytes) ≡ bytes
-number_back bytes len fit =
-    let rest : drop 8 bytes ≡ [] = drop_all 8 bytes (omega (arith, len)) in
-    sym (written_back 8 bytes (omega (arith, len)) fit ∙ ap (λ l. little_bytes 8 (little_number 8 bytes) ++ l) rest ∙ append-nil _)
 
 pub three_added : (a b c d : Option (List ℕ)) (xs ys zs : List ℕ) → Appends a b xs → Appends b c ys → Appends c d zs
     → Appends a d (xs ++ (ys ++ zs))

@@ -1,7 +1,7 @@
 -- Records on a connection: what each one carries, and its bytes.
 use Rattle.std.specs.Io.KnownBytes.{Appends}
 use Rattle.std.specs.List.{All, flat_map}
-use Rattle.std.specs.Prelude.{◌≡◌, ◌<◌, ◌≤◌, ⊤, ℕ, List, [], ◌∷◌, ◌++◌, length, Option, take}
+use Rattle.std.specs.Prelude.{◌≡◌, ◌<◌, ◌≤◌, ◌^◌, ⊤, ℕ, List, [], ◌∷◌, ◌++◌, length, Option, take}
 use Rattle.byteorder.specs.Endian.{little_bytes}
 use Rattle.rvm_record.specs.declared.record.RecordRead.{RecordRead}
 use Rattle.rvm_record.specs.declared.record.RecordRead.TheVariants as read
@@ -18,10 +18,11 @@ record_bytes (Data bytes) = 0 ∷ (little_bytes 2 (length bytes) ++ bytes)
 record_bytes (Question n) = 1 ∷ little_bytes 8 n
 record_bytes (Answer n) = 2 ∷ little_bytes 8 n
 
--- the data has at most 65535 bytes
+-- the data has at most 65535 bytes, or the number has eight
 abbrev pub Fits : Record → Type 0
 Fits (Data bytes) = length bytes ≤ 65535
-Fits r = ⊤
+Fits (Question number) = number < 2 ^ 64
+Fits (Answer number) = number < 2 ^ 64
 
 -- the bytes of records, one behind the other
 abbrev pub bytes_in : List Record → List ℕ

@@ -4,7 +4,7 @@ ghost use Rattle.std.specs.Prelude.{◌≡◌, ◌<◌, ◌≤◌, ◌++◌, ◌
 ghost use Rattle.std.specs.Io.KnownBytes.{Appends, Consumes};
 ghost use Rattle.byteorder.specs.Endian.{little_bytes};
 ghost use Rattle.rvm_record.specs.declared.fault.RecordFault.TheVariants as fault;
-ghost use Rattle.rvm_record.specs.Records.{Answer, Carries, Data, IsInside, Question, record_bytes, record_read};
+ghost use Rattle.rvm_record.specs.Records.{Answer, Carries, Data, Fits, IsInside, Question, record_bytes, record_read};
 
 use crate::fault::RecordFault;
 use crate::number::{number_bytes, read_number};
@@ -41,6 +41,7 @@ pub fn read_record<I: Read>(input: &mut I, buffer: &mut [u8]) -> Result<RecordRe
     requires { 65535 ≤ length buffer.old }
     ensures record { IfOk result (λ r. Consumes (I.remaining input.old) (I.remaining input.new)
         (record_bytes (record_read r buffer.new))) }
+    ensures fits { IfOk result (λ r. Fits (record_read r buffer.new)) }
     ensures inside { IfOk result (λ r. IsInside r (length buffer.new)) }
     ensures size { length buffer.new ≡ length buffer.old }
     ensures other { result ≡ Err fault.NotRecord → (kind : ℕ) × (2 < kind)
@@ -71,13 +72,20 @@ fn read_len<I: Read>(input: &mut I) -> io::Result<u16>
 {
     let mut bytes = [0u8; 2];
     input.read_exact(&mut bytes)?;
-    Ok(LittleEndian::read_u16(&bytes))
+    Ok(len_of(&bytes))
+}
+
+/// The length with these bytes.
+fn len_of(bytes: &[u8; 2]) -> u16
+    ensures { little_bytes 2 result ≡ bytes.now }
+{
+    LittleEndian::read_u16(bytes)
 }
 
 /// Reads the length of data, and the data.
 fn read_data<I: Read>(input: &mut I, buffer: &mut [u8]) -> Result<RecordRead, RecordFault>
     requires { 65535 ≤ length buffer.old }
-    ensures data { IfOk result (λ r. (n : ℕ) × (r ≡ RecordRead.Data n) × (n ≤ length buffer.new)
+    ensures data { IfOk result (λ r. (n : ℕ) × (r ≡ RecordRead.Data n) × (n ≤ 65535) × (n ≤ length buffer.new)
         × Consumes (I.remaining input.old) (I.remaining input.new) (little_bytes 2 n ++ take n buffer.new)) }
     ensures size { length buffer.new ≡ length buffer.old }
     ensures broken { result ≡ Err fault.NotRecord → ⊥ }
