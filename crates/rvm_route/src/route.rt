@@ -78,7 +78,7 @@ impl<L: Origin, W: Write + Drop> Route<L, W> {
 
     /// `LinkFault` where there is no connection.
     fn stays_open(&self) -> Result<(), LinkFault>
-        ensures { OnOk result (IsSome self.now.stream) }
+        ensures open { OnOk result (IsSome self.now.stream) }
         ensures closed { self.now.stream ≡ None → IsErr result }
     {
         if self.is_open() {
