@@ -1,9 +1,7 @@
--- Three pieces, one after the other, and a number of eight bytes.
-use Rattle.std.proofs.Common.{◌≡◌, ◌∙◌, ℕ, ◌+◌, ◌-◌, ◌≤◌, List, [], ◌∷◌, ◌++◌, append-nil, append_assoc, arith, drop, length, replicate, slice_index_or, Option, None, Some, true, ap, refl, subst, sym}
-use Rattle.std.proofs.lemmas.List.{drop_all, drop_at, length-replicate, replicate-append-replicate}
+-- The pieces of a greeting, and zeros that fill a block.
+use Rattle.std.proofs.Common.{◌≡◌, ◌∙◌, ℕ, ◌+◌, ◌-◌, ◌≤◌, List, [], ◌∷◌, ◌++◌, arith, drop, length, replicate, slice_index_or, Option, true, ap, refl, subst, sym}
+use Rattle.std.proofs.lemmas.List.{drop_at, length-replicate, replicate-append-replicate}
 use Rattle.std.specs.Io.KnownBytes.{Appends, Consumes}
-use Rattle.byteorder.specs.Endian.{little_bytes, little_number}
-use Rattle.rvm_codec.specs.Exact.{IsBytes}
 use Rattle.rvm_greeting.specs.declared.facts.Facts.{Facts}
 use Rattle.rvm_greeting.specs.declared.opening.Opening.{Opening}
 use Rattle.rvm_greeting.specs.declared.opening.Role.{Role}
@@ -11,7 +9,7 @@ use Rattle.rvm_greeting.specs.Facts.{facts_bytes}
 use Rattle.rvm_greeting.specs.Greetings.{AreGreeted}
 use Rattle.rvm_greeting.specs.Hmac.{zero_padded}
 use Rattle.rvm_greeting.specs.Openings.{answers, magic, opening_bytes, other_role, proof_by}
-use Rattle.rvm_codec.proofs.Numbers.{written_back}
+use Rattle.rvm_record.proofs.Pieces.{both_added, three_added, three_taken}
 
 -- a list of three
 three_of : (xs : List ℕ) → length xs ≡ 3

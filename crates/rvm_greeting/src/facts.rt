@@ -1,11 +1,10 @@
 //! What two hosts tell each other of themselves.
 
 ghost use Rattle.std.specs.Prelude.{◌≡◌};
-ghost use Rattle.byteorder.specs.Endian.{little_bytes};
 ghost use Rattle.rvm_greeting.specs.Facts.{facts_bytes};
 
 use crate::message::Message;
-use byteorder::{ByteOrder, LittleEndian};
+use rvm_record::number_bytes;
 
 /// What a host tells another, once each has shown that it knows the secret. Each number was drawn at random, from 1 on;
 /// 0 says that there is none.
@@ -29,13 +28,4 @@ impl Facts {
             .with(&number_bytes(self.process))
             .with(&number_bytes(self.known))
     }
-}
-
-/// The bytes of a number, the low ones first.
-fn number_bytes(number: u64) -> [u8; 8]
-    ensures { result ≡ little_bytes 8 number }
-{
-    let mut bytes = [0u8; 8];
-    LittleEndian::write_u64(&mut bytes, number);
-    bytes
 }

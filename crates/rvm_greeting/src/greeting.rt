@@ -16,7 +16,7 @@ use crate::message::Message;
 use crate::opening::{MAGIC, Opening, Role};
 use crate::registry::Registry;
 use crate::secret::Secret;
-use byteorder::{ByteOrder, LittleEndian};
+use rvm_record::read_number;
 use std::io;
 use std::io::{Read, Write};
 
@@ -138,7 +138,7 @@ fn opening_of(name: &[u8; 8], hosts: &[u8; 3], nonce: &[u8; 32]) -> Option<Openi
 }
 
 /// Reads the three pieces of an opening.
-#[tactic(auto, using(crate::proofs::Pieces::three_taken))]
+#[tactic(auto, using(rvm_record::proofs::Pieces::three_taken))]
 fn read_pieces<I: Read>(
     input: &mut I,
     name: &mut [u8; 8],
@@ -215,7 +215,7 @@ fn read_facts<I: Read>(input: &mut I) -> Result<Facts, GreetingFault>
 }
 
 /// Reads three numbers.
-#[tactic(auto, using(crate::proofs::Pieces::three_taken))]
+#[tactic(auto, using(rvm_record::proofs::Pieces::three_taken))]
 fn read_numbers<I: Read>(input: &mut I) -> io::Result<(u64, u64, u64)>
     ensures { IfOk result (λ n. Consumes (I.remaining input.old) (I.remaining input.new)
         (little_bytes 8 n.0 ++ (little_bytes 8 n.1 ++ little_bytes 8 n.2))) }
@@ -224,20 +224,4 @@ fn read_numbers<I: Read>(input: &mut I) -> io::Result<(u64, u64, u64)>
     let second = read_number(input)?;
     let third = read_number(input)?;
     Ok((first, second, third))
-}
-
-/// Reads a number.
-fn read_number<I: Read>(input: &mut I) -> io::Result<u64>
-    ensures { IfOk result (λ n. Consumes (I.remaining input.old) (I.remaining input.new) (little_bytes 8 n)) }
-{
-    let mut bytes = [0u8; 8];
-    input.read_exact(&mut bytes)?;
-    Ok(number_of(&bytes))
-}
-
-/// The number with these bytes.
-fn number_of(bytes: &[u8; 8]) -> u64
-    ensures { little_bytes 8 result ≡ bytes.now }
-{
-    LittleEndian::read_u64(bytes)
 }

@@ -1,6 +1,9 @@
 //! The sending end to one other host.
 
-ghost use Rattle.std.specs.Prelude.{◌≡◌, IsErr, None, OnOk, OnErr, IsSome, is_some};
+ghost use Rattle.std.specs.Prelude.{◌≡◌, ◌≢◌, Err, IfErr, IfSome, IsErr, IsSome, None, OnErr, OnOk, is_some};
+ghost use Rattle.rvm_frame.specs.Grammar.{sent, spelling};
+ghost use Rattle.rvm_record.specs.Records.{Answer, Question};
+ghost use Rattle.rvm_route.specs.Streams.{Adds, Begins, GoesOn};
 
 use crate::made::{Made, Origin};
 use crate::stream::Stream;
@@ -32,6 +35,7 @@ impl<L: Origin, W: Write + Drop> Route<L, W> {
     /// fails is dropped.
     pub(crate) fn open(&mut self, version: u32, host: u8, output: W) -> Result<(), SendError>
         ensures opened { OnOk result (IsSome self.new.stream) }
+        ensures begun { OnOk result (IfSome self.new.stream (Begins version host (W.contents output))) }
         ensures lost { OnErr result (self.new.stream ≡ None) }
     {
         self.stream = None;
@@ -41,8 +45,12 @@ impl<L: Origin, W: Write + Drop> Route<L, W> {
 
     /// Sends a frame that was made here, whole. A connection that fails is dropped.
     pub(crate) fn send(&mut self, made: &Made<L>) -> Result<(), SendError>
-        ensures sent { OnOk result (IsSome self.new.stream) }
+        ensures sent { OnOk result (IfSome self.old.stream (λ old. IfSome self.new.stream
+            (GoesOn (spelling (sent old.version made.now)) old))) }
+        ensures kept { OnOk result (IsSome self.new.stream) }
         ensures closed { self.old.stream ≡ None → IsErr result }
+        ensures fault { result ≡ Err SendError.LinkFault → self.new.stream ≡ None }
+        ensures unsent { IfErr result (λ e. e ≢ SendError.LinkFault → self.new.stream ≡ self.old.stream) }
     {
         let Some(stream) = self.stream.take() else {
             return Err(SendError::LinkFault);
@@ -54,8 +62,10 @@ impl<L: Origin, W: Write + Drop> Route<L, W> {
 
     /// Asks whether all that was sent has come. A connection that fails is dropped.
     pub(crate) fn ask(&mut self, number: u64) -> Result<(), LinkFault>
-        ensures sent { OnOk result (IsSome self.new.stream) }
+        ensures sent { OnOk result (IfSome self.old.stream (λ old. IfSome self.new.stream (Adds (Question number) old))) }
+        ensures kept { OnOk result (IsSome self.new.stream) }
         ensures closed { self.old.stream ≡ None → IsErr result }
+        ensures lost { OnErr result (self.new.stream ≡ None) }
     {
         let Some(stream) = self.stream.take() else {
             return Err(LinkFault);
@@ -66,8 +76,10 @@ impl<L: Origin, W: Write + Drop> Route<L, W> {
 
     /// Answers a question. A connection that fails is dropped.
     pub(crate) fn answer(&mut self, number: u64) -> Result<(), LinkFault>
-        ensures sent { OnOk result (IsSome self.new.stream) }
+        ensures sent { OnOk result (IfSome self.old.stream (λ old. IfSome self.new.stream (Adds (Answer number) old))) }
+        ensures kept { OnOk result (IsSome self.new.stream) }
         ensures closed { self.old.stream ≡ None → IsErr result }
+        ensures lost { OnErr result (self.new.stream ≡ None) }
     {
         let Some(stream) = self.stream.take() else {
             return Err(LinkFault);
@@ -79,7 +91,7 @@ impl<L: Origin, W: Write + Drop> Route<L, W> {
     /// `LinkFault` where there is no connection.
     fn stays_open(&self) -> Result<(), LinkFault>
         ensures open { OnOk result (IsSome self.now.stream) }
-        ensures closed { self.now.stream ≡ None → IsErr result }
+        ensures closed { OnErr result (self.now.stream ≡ None) }
     {
         if self.is_open() {
             Ok(())

@@ -1,10 +1,10 @@
 //! The stream of frames on a connection to another host.
 
-ghost use Rattle.std.specs.Prelude.{◌≡◌, ◌≢◌, IfErr, IsSome, OnOk};
+ghost use Rattle.std.specs.Prelude.{◌≡◌, ◌≢◌, Err, IfErr, IfOk, IfSome, IsSome, None, OnOk, Some};
 ghost use Rattle.std.specs.Io.KnownBytes.{Appends};
 ghost use Rattle.rvm_frame.specs.Grammar.{HasSpelling, sent, spelling};
 ghost use Rattle.rvm_record.specs.Records.{Answer, Carries, Question, record_bytes};
-ghost use Rattle.rvm_route.specs.Streams.{hello};
+ghost use Rattle.rvm_route.specs.Streams.{Adds, Begins, GoesOn, hello};
 
 use crate::made::{Made, Origin};
 use rvm_frame::{Addressed, Frame};
@@ -15,8 +15,8 @@ use std::io::Write;
 use std::marker::{Model, PhantomData};
 use std::snapshot::Snapshot;
 
-/// A connection to a host, on which a stream of frames was begun. What was written on it, since it was as contracts alone
-/// see it, are records that carry Hello and frames that were made here for that host.
+/// A connection to a host, on which a stream of frames was begun. What was written on it since then are records that carry
+/// Hello and frames that were made here for that host.
 #[derive(Drop)]
 pub(crate) struct Stream<L: Origin, W: Write + Drop> {
     version: u32,
@@ -27,12 +27,16 @@ pub(crate) struct Stream<L: Origin, W: Write + Drop> {
 }
 
 impl<L: Origin, W: Write + Drop> Model for Stream<L, W> {
-    ghost use Rattle.std.specs.Prelude.{ℕ};
-    ghost use Rattle.rvm_route.specs.Streams.{IsSent};
+    ghost use Rattle.rvm_route.specs.Streams.{IsSent, PlainStream};
 
-    ghost Value = { W };
+    ghost Value = { PlainStream };
 
-    ghost view = { λ s. s.output };
+    ghost view = { λ s. record {
+      version = s.version;
+      host = s.host;
+      before = W.contents s.first.value;
+      now = W.contents s.output;
+    } };
 
     ghost invariant = { λ s. IsSent L.is_made s.version s.host (W.contents s.first.value) (W.contents s.output) };
 }
@@ -45,7 +49,9 @@ impl<L: Origin, W: Write + Drop> Stream<L, W> {
         host: u8,
         output: W,
         bytes: &mut Vec<u8>,
-    ) -> Result<Stream<L, W>, SendError> {
+    ) -> Result<Stream<L, W>, SendError>
+        ensures { IfOk result (Begins version host (W.contents output)) }
+    {
         let first = Snapshot::of(&output);
         let mut output = output;
         say_hello(version, &mut output, bytes)?;
@@ -67,6 +73,9 @@ impl<L: Origin, W: Write + Drop> Stream<L, W> {
         bytes: &mut Vec<u8>,
     ) -> (Option<Stream<L, W>>, Result<(), SendError>)
         ensures kept { OnOk result.1 (IsSome result.0) }
+        ensures sent { OnOk result.1 (IfSome result.0 (GoesOn (spelling (sent self.version made.now)) self)) }
+        ensures fault { result.1 ≡ Err SendError.LinkFault → result.0 ≡ None }
+        ensures unsent { IfErr result.1 (λ e. e ≢ SendError.LinkFault → result.0 ≡ Some self) }
     {
         let addressed = made.get();
         if addressed.to != self.host {
@@ -96,7 +105,9 @@ impl<L: Origin, W: Write + Drop> Stream<L, W> {
 
     /// Asks whether all that was sent has come. A connection that fails is dropped.
     #[tactic(auto, using(crate::proofs::Streams::asked))]
-    pub(crate) fn ask(self, number: u64) -> Option<Stream<L, W>> {
+    pub(crate) fn ask(self, number: u64) -> Option<Stream<L, W>>
+        ensures { IfSome result (Adds (Question number) self) }
+    {
         let Stream {
             version,
             host,
@@ -119,7 +130,9 @@ impl<L: Origin, W: Write + Drop> Stream<L, W> {
 
     /// Answers a question. A connection that fails is dropped.
     #[tactic(auto, using(crate::proofs::Streams::answered))]
-    pub(crate) fn answer(self, number: u64) -> Option<Stream<L, W>> {
+    pub(crate) fn answer(self, number: u64) -> Option<Stream<L, W>>
+        ensures { IfSome result (Adds (Answer number) self) }
+    {
         let Stream {
             version,
             host,
