@@ -46,11 +46,13 @@ pub struct HostPlan {
 }
 
 /// Works at a host until it is told to stop. What the guest sends while it is here goes to `output`, and `input` comes to its
-/// console. Connections of other hosts come to one listener, which takes no other, and operators to the other.
+/// console; `errors` is told that the guest is halted. Connections of other hosts come to one listener, and operators to the
+/// other.
 pub fn host_command<
     M: PagedMemory + Drop + Send,
     N: OpenListener + Sync,
     O: Write,
+    E: Write,
     R: Net + Threads + Wait + Clock + RandomSource + Sync,
 >(
     rt: &R,
@@ -63,6 +65,7 @@ pub fn host_command<
     operators: &N,
     input: &InputQueue,
     output: &mut O,
+    errors: &mut E,
 ) -> Result<HartsEnd, Refusal>
 where
     R::Stream: Send,
@@ -78,7 +81,7 @@ where
         drop(host);
         return Err(Refusal::LinkFault);
     };
-    host_over::<Brand, M, N, O, R>(
+    host_over::<Brand, M, N, O, E, R>(
         rt,
         alloc,
         host,
@@ -91,6 +94,7 @@ where
         },
         input,
         output,
+        errors,
     )
 }
 
@@ -119,6 +123,7 @@ fn host_over<
     M: PagedMemory + Drop + Send,
     N: OpenListener + Sync,
     O: Write,
+    E: Write,
     R: Net + Threads + Wait + Clock + RandomSource + Sync,
 >(
     rt: &R,
@@ -130,6 +135,7 @@ fn host_over<
     listeners: &Listeners<'_, R::Listener, N>,
     input: &InputQueue,
     output: &mut O,
+    errors: &mut E,
 ) -> Result<HartsEnd, Refusal>
 where
     R::Stream: Send,
@@ -145,7 +151,7 @@ where
     {
         return Err(Refusal::LinkFault);
     }
-    match work(rt, alloc, &process, peers, listeners, input, output) {
+    match work(rt, alloc, &process, peers, listeners, input, output, errors) {
         Some(end) => Ok(end),
         None => Err(Refusal::OutOfMemory),
     }
@@ -182,7 +188,7 @@ fn new_process<L: Hosting, M: PagedMemory + Drop, R: Net>(
             stop: AtomicBool::new(false),
             moves: AtomicBool::new(false),
             turns: AtomicU64::new(0),
-            halted: AtomicU64::new(0),
+            halted: AtomicBool::new(false),
         },
         registry: Mutex::new(registry),
         secret,

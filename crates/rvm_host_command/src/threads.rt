@@ -42,6 +42,7 @@ pub(crate) fn work<
     M: PagedMemory + Drop + Send,
     N: OpenListener + Sync,
     O: Write,
+    E: Write,
     R: Net + Threads + Wait + Clock + RandomSource + Sync,
 >(
     rt: &R,
@@ -51,6 +52,7 @@ pub(crate) fn work<
     listeners: &Listeners<'_, R::Listener, N>,
     input: &InputQueue,
     output: &mut O,
+    errors: &mut E,
 ) -> Option<HartsEnd>
 where
     R::Stream: Send,
@@ -85,7 +87,15 @@ where
                         .is_ok();
             }
             let end = if begun {
-                Some(harts_worker(rt, alloc, &process.station, &process.harts, input, output))
+                Some(harts_worker(
+                    rt,
+                    alloc,
+                    &process.station,
+                    &process.harts,
+                    input,
+                    output,
+                    errors,
+                ))
             } else {
                 None
             };

@@ -7,7 +7,7 @@ use rvm_debug::Debugged;
 use rvm_greeting::Secret;
 use rvm_host_command::host_command::{HostPlan, host_command};
 use rvm_host_command::tell_command::tell_command;
-use rvm_host_worker::{HartsEnd, InputQueue, read_input};
+use rvm_host_worker::{InputQueue, read_input};
 use rvm_paged::PagedRam;
 use rvm_peers::{Peers, read_peers};
 use rvm_refusal::Refusal;
@@ -112,7 +112,7 @@ fn main(rt: HostRuntime) -> anyhow::Result<ExitCode> {
     };
     let listener = TcpListener::bind(&rt, address)?;
     let operators = TcpListener::bind(&rt, words[4].as_str())?;
-    let ended = host_command::<PagedRam, _, _, _>(
+    let ended = host_command::<PagedRam, _, _, _, _>(
         &rt,
         rt.alloc(),
         &plan,
@@ -123,12 +123,9 @@ fn main(rt: HostRuntime) -> anyhow::Result<ExitCode> {
         &operators,
         &queue,
         &mut rt.stdout(),
+        &mut rt.stderr(),
     );
     match ended {
-        Ok(HartsEnd::Halted(status)) => {
-            eprintln!(rt; "halted {status}")?;
-            Ok(ExitCode::from(0))
-        }
         Ok(_) => Ok(ExitCode::from(0)),
         Err(refusal) => {
             eprintln!(rt; "{refusal}")?;

@@ -33,8 +33,8 @@ pub struct HartsPlan {
     pub moves: AtomicBool,
     /// How many turns were made.
     pub turns: AtomicU64,
-    /// The status of the halted guest, plus 1.
-    pub halted: AtomicU64,
+    /// It was told that the guest is halted.
+    pub halted: AtomicBool,
 }
 
 /// Why the worker of the harts ended.
@@ -60,14 +60,22 @@ impl HartsPlan {
 }
 
 /// Makes turns of the guest's harts while the guest is here, writes what it sends, and hands it what is typed, until it is
-/// told to end, the console cannot be written, or the guest is halted and it ends with it.
-pub fn harts_worker<L: Hosting, M: PagedMemory + Drop, W: Write + Drop, O: Write, R: Wait + Clock>(
+/// told to end, the console cannot be written, or the guest is halted and it ends with it; `errors` is told that it is.
+pub fn harts_worker<
+    L: Hosting,
+    M: PagedMemory + Drop,
+    W: Write + Drop,
+    O: Write,
+    E: Write,
+    R: Wait + Clock,
+>(
     rt: &R,
     alloc: Global,
     station: &Station<L, M, W>,
     plan: &HartsPlan,
     input: &InputQueue,
     output: &mut O,
+    errors: &mut E,
 ) -> HartsEnd
     ensures { result ≢ HartsEnd.ConsoleFault → IsShown L.opening (O.contents output.old) (O.contents output.new) }
 {
@@ -88,7 +96,8 @@ pub fn harts_worker<L: Hosting, M: PagedMemory + Drop, W: Write + Drop, O: Write
             Then::GoOn => type_in(rt, alloc, station, input),
             Then::Elsewhere => await_guest(rt, station, seen),
             Then::Halted(status) => {
-                if is_end(plan, status) {
+                tell_halted(plan, status, errors);
+                if plan.until_halt {
                     return HartsEnd::Halted(status);
                 }
                 await_guest(rt, station, seen);
@@ -98,10 +107,11 @@ pub fn harts_worker<L: Hosting, M: PagedMemory + Drop, W: Write + Drop, O: Write
     unreachable!()
 }
 
-/// The guest is halted here with this status: whether the worker ends with it.
-fn is_end(plan: &HartsPlan, status: u8) -> bool {
-    plan.halted.store(u64::from(status) + 1, Ordering::SeqCst);
-    plan.until_halt
+/// Tells that the guest is halted here with this status, unless that was told before. Where it cannot be told, it is not.
+fn tell_halted<E: Write>(plan: &HartsPlan, status: u8, errors: &mut E) {
+    if !plan.halted.swap(true, Ordering::SeqCst) {
+        let _untold = writeln!(errors, "halted {status}");
+    }
 }
 
 /// Waits until something has come, which may be the guest.
