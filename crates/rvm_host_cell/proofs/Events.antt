@@ -1,14 +1,20 @@
 -- A host behind one event more.
-use Rattle.std.proofs.Common.{◌≡◌, ◌∙◌, List, [], ◌∷◌, ◌++◌, Option, None, Some, ap, refl, subst, sym, ℕ}
+use Rattle.std.proofs.Common.{◌≡◌, ◌∙◌, ℕ, zero, suc, ◌+◌, ◌%◌, List, [], ◌∷◌, ◌++◌, Option, None, Some, Result, Ok, Err, ap, refl, subst, sym}
 use Rattle.std.proofs.lemmas.Grind.{fold-append}
 use Rattle.std.specs.List.{fold}
-use Rattle.std.specs.Prelude.{IfSome}
+use Rattle.std.specs.Prelude.{IfOk, IfSome, OnErr}
 use Rattle.rvm_core.specs.Hosts.{PlainHost, Steps, host_of, step_of}
-use Rattle.rvm_frame.specs.declared.addressed.Addressed.{Addressed}
-use Rattle.rvm_message.specs.declared.reply.HostReply.{HostReply}
-use Rattle.rvm_message.specs.Events.{BoardHostEvent}
-use Rattle.rvm_host_cell.specs.Events.{IsAnswer, IsMade, IsReached, next_at}
 use Rattle.rvm_core.specs.Retiring.{AreRetired, HostRetires, IsLast}
+use Rattle.rvm_debug.specs.declared.retiring.Retired as told
+use Rattle.rvm_frame.specs.declared.addressed.Addressed.{Addressed}
+use Rattle.rvm_hart.specs.declared.outcome.Stepped.{Stepped}
+use Rattle.rvm_hart.specs.declared.outcome.Stepped.TheVariants.{Retired}
+use Rattle.rvm_message.specs.declared.reply.HostReply.{HostReply}
+use Rattle.rvm_message.specs.declared.step.StepReply.TheVariants as step
+use Rattle.rvm_message.specs.Events.{BoardHostEvent, event_of}
+use Rattle.rvm_message.specs.Exchanges.{step_of_hart}
+use Rattle.rvm_message.specs.Steps.{reply_to_step}
+use Rattle.rvm_host_cell.specs.Events.{IsAnswer, IsMade, IsReached, next_at}
 
 -- before any event
 pub at_first : (o : PlainHost) → IsReached o o
@@ -46,12 +52,34 @@ made_in o old new e reply (Some a) r s = made o old new e reply a r s
 pub kept : (o old new : PlainHost) → new ≡ old → IsReached o old → IsReached o new
 kept o old new same r = subst (λ h. IsReached o h) (sym same) r
 
+-- behind a call, which may have been refused
+pub called : {E : Type 0} (o old new : PlainHost) (e : BoardHostEvent) (r : Result (HostReply × Option Addressed) E) → IsReached o old
+    → IfOk r (λ a. Steps old e a new) → OnErr r (new ≡ old) → IsReached o new
+called o old new e (Ok a) r steps same = stepped o old new e a r steps
+called o old new e (Err x) r steps same = kept o old new same r
+
 -- the reply that it gave
 pub answered : (o old new : PlainHost) (e : BoardHostEvent) (reply : HostReply) (frame : Option Addressed)
     → IsReached o old → Steps old e (reply, frame) new → IsAnswer o e reply
 answered o old new e reply frame r s = record { host = old; reached = r; replied = s.reply }
 
 -- behind steps that retired
-retired : (o : PlainHost) (harts n turn : ℕ) (old new : PlainHost) → IsReached o old
+all_retired : (o : PlainHost) (harts n turn : ℕ) (old new : PlainHost) → IsReached o old
     → AreRetired harts n turn old new → IsReached o new
-retired o harts n turn old new r all = ?
+all_retired o harts zero turn old new r all = kept o old new all r
+all_retired o harts (suc n) turn old new r all =
+    let one = stepped o old all.0 (event_of (step_of_hart (turn % harts))) (reply_to_step (step.Stepped Retired), None) r all.1 in
+    all_retired o harts n (turn + 1) all.0 new one all.2
+
+-- behind a step that may have been made
+last_made : (o : PlainHost) (h : ℕ) (s : Option Stepped) (old new : PlainHost) → IsReached o old → IsLast h s old new
+    → IsReached o new
+last_made o h None old new r is = kept o old new is r
+last_made o h (Some s) old new r is = stepped o old new (event_of (step_of_hart h)) (reply_to_step (step.Stepped s), None) r is
+
+-- behind them and the last one
+pub retired : (o : PlainHost) (harts turn count : ℕ) (old new : PlainHost) (made : told.Retired) → IsReached o old
+    → HostRetires harts turn count old new made → IsReached o new
+retired o harts turn count old new made r h =
+    last_made o ((turn + made.count) % harts) made.last h.between new
+    (all_retired o harts made.count turn old h.between r h.retired) h.last

@@ -53,7 +53,7 @@ impl<L: Hosting, M: PagedMemory + Drop> Reached<L, M> {
     }
 
     /// What a command does: the reply, and the frame that was made. After a refused growth nothing has changed.
-    #[tactic(auto, using(crate::proofs::Events::stepped, crate::proofs::Events::made_in, crate::proofs::Events::answered))]
+    #[tactic(auto, using(crate::proofs::Events::answered))]
     pub(crate) fn obey(
         &mut self,
         alloc: Global,
@@ -70,7 +70,7 @@ impl<L: Hosting, M: PagedMemory + Drop> Reached<L, M> {
     }
 
     /// What a frame of a host does: the reply, and the frame that was made. After a refused growth nothing has changed.
-    #[tactic(auto, using(crate::proofs::Events::stepped, crate::proofs::Events::made_in, crate::proofs::Events::answered))]
+    #[tactic(auto, using(crate::proofs::Events::answered))]
     pub(crate) fn came(
         &mut self,
         alloc: Global,
@@ -88,7 +88,6 @@ impl<L: Hosting, M: PagedMemory + Drop> Reached<L, M> {
     }
 
     /// A step of a hart.
-    #[tactic(auto, using(crate::proofs::Events::stepped))]
     pub(crate) fn step(&mut self, hart: u32) -> StepReply
         ensures { Steps self.old (event_of (step_of_hart hart)) (reply_to_step result, None) self.new }
     {
@@ -97,7 +96,6 @@ impl<L: Hosting, M: PagedMemory + Drop> Reached<L, M> {
 
     /// Steps of so many harts in turn, at most `count`, from turn `turn` on, as long as each retires an instruction; the
     /// first that does not is the last. It may make none.
-    #[tactic(auto, using(crate::proofs::Events::retired))]
     pub(crate) fn retire(&mut self, turn: u64, harts: u32, count: u32) -> Retired
         ensures { HostRetires harts turn count self.old self.new result }
     {
