@@ -18,5 +18,6 @@ answer_258 = refl
 in_between : data_in (Data (7 ∷ 8 ∷ []) ∷ Question 5 ∷ Data (9 ∷ []) ∷ Answer 258 ∷ []) ≡ 7 ∷ 8 ∷ 9 ∷ []
 in_between = refl
 
-one_behind_the_other : bytes_in (Data (7 ∷ []) ∷ Question 5 ∷ []) ≡ 0 ∷ 1 ∷ 0 ∷ 7 ∷ 1 ∷ 5 ∷ 0 ∷ 0 ∷ 0 ∷ 0 ∷ 0 ∷ 0 ∷ 0 ∷ []
+one_behind_the_other : bytes_in (Data (7 ∷ []) ∷ Question 5 ∷ [])
+    ≡ 0 ∷ 1 ∷ 0 ∷ 7 ∷ 1 ∷ 5 ∷ 0 ∷ 0 ∷ 0 ∷ 0 ∷ 0 ∷ 0 ∷ 0 ∷ []
 one_behind_the_other = refl

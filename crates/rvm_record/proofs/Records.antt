@@ -1,15 +1,18 @@
 -- Records one after the other, and that they are read in one way only.
-use Rattle.std.proofs.Common.{◌≡◌, ◌∙◌, ℕ, ◌≤◌, ◌<◌, ◌^◌, List, [], ◌∷◌, ◌++◌, append-nil, append_assoc, arith, drop, length, take, Option, None, Some, ap, refl, subst, sym}
+use Rattle.std.proofs.Common.{◌≡◌, ◌∙◌, ap, arith, refl, subst, sym}
+use Rattle.std.proofs.Common.{ℕ, ◌≤◌, ◌<◌, ◌^◌, List, [], ◌∷◌, ◌++◌, append-nil, append_assoc, drop, length, take}
+use Rattle.std.proofs.Common.{Option, None, Some}
 use Rattle.std.proofs.lemmas.List.{drop_at, flat_map_more, nil_from_length, take_at}
 use Rattle.std.proofs.lemmas.List.Elements.{All-append, All-cons, All-head, All-nil, All-tail}
 use Rattle.std.proofs.lemmas.List.Concat.{flat_map-append}
-use Rattle.std.specs.Io.KnownBytes.{Appends}
+use Rattle.std.specs.Io.KnownBytes.{Appends, Consumes}
 use Rattle.std.specs.List.{All}
 use Rattle.byteorder.specs.Endian.{little_bytes}
 use Rattle.rvm_codec.specs.Numbers.{number_at}
 use Rattle.rvm_codec.proofs.Numbers.{number_again}
 use Rattle.rvm_codec.proofs.Steps.{some_is}
-use Rattle.rvm_record.specs.Records.{Answer, Carries, Data, Fits, Question, Record, bytes_in, data_in, data_of, record_bytes}
+use Rattle.rvm_record.specs.Records.{Answer, Data, Question, Record, bytes_in, data_in, data_of, record_bytes}
+use Rattle.rvm_record.specs.Records.{Carries, Fits}
 use Rattle.rvm_record.proofs.Pieces.{both_added}
 
 -- nothing was written
@@ -62,18 +65,22 @@ goes_on all rest piece behind before mid now parts fit u added = record {
 pub is_done : (all rest : List ℕ) (before now : Option (List ℕ)) → length rest ≡ 0 → IsUnderWay all rest before now
     → Carries all before now
 is_done all rest before now none u =
-    let whole : u.done ≡ all = sym (append-nil u.done) ∙ ap (λ l. u.done ++ l) (sym (nil_from_length rest none)) ∙ u.parts in
+    let no_rest : [] ≡ rest = sym (nil_from_length rest none) in
+    let whole : u.done ≡ all = sym (append-nil u.done) ∙ ap (λ l. u.done ++ l) no_rest ∙ u.parts in
     subst (λ l. Carries l before now) whole u.carries
 
 -- bytes that begin with a number of so many bytes begin with no other one
 numbers_are : (size n m : ℕ) (xs ys : List ℕ) → n < 256 ^ size → m < 256 ^ size
     → little_bytes size n ++ xs ≡ little_bytes size m ++ ys → (n ≡ m) × (xs ≡ ys)
 numbers_are size n m xs ys n_fits m_fits e =
-    let both = some_is (n, xs) (m, ys) (sym (number_again size n xs n_fits) ∙ ap (number_at size) e ∙ number_again size m ys m_fits) in
+    let first = number_again size n xs n_fits in
+    let second = number_again size m ys m_fits in
+    let both = some_is (n, xs) (m, ys) (sym first ∙ ap (number_at size) e ∙ second) in
     (ap (λ (p : ℕ × List ℕ). p.0) both, ap (λ (p : ℕ × List ℕ). p.1) both)
 
 -- bytes of one length that come first
-fronts_are : (n : ℕ) (xs ys zs ws : List ℕ) → length xs ≡ n → length ys ≡ n → xs ++ zs ≡ ys ++ ws → (xs ≡ ys) × (zs ≡ ws)
+fronts_are : (n : ℕ) (xs ys zs ws : List ℕ) → length xs ≡ n → length ys ≡ n → xs ++ zs ≡ ys ++ ws
+    → (xs ≡ ys) × (zs ≡ ws)
 fronts_are n xs ys zs ws long also e = (
   sym (take_at xs zs n long) ∙ ap (take n) e ∙ take_at ys ws n also,
   sym (drop_at xs zs n long) ∙ ap (drop n) e ∙ drop_at ys ws n also,
@@ -90,8 +97,10 @@ others (x ∷ xs) = xs
 data_are : (xs ys zs ws : List ℕ) → length xs ≤ 65535 → length ys ≤ 65535
     → (little_bytes 2 (length xs) ++ xs) ++ zs ≡ (little_bytes 2 (length ys) ++ ys) ++ ws → (xs ≡ ys) × (zs ≡ ws)
 data_are xs ys zs ws x_fits y_fits e =
-    let parts = sym (append_assoc (little_bytes 2 (length xs)) xs zs) ∙ e ∙ append_assoc (little_bytes 2 (length ys)) ys ws in
-    let lens = numbers_are 2 (length xs) (length ys) (xs ++ zs) (ys ++ ws) (omega (arith, x_fits)) (omega (arith, y_fits)) parts in
+    let n = length xs in
+    let m = length ys in
+    let parts = sym (append_assoc (little_bytes 2 n) xs zs) ∙ e ∙ append_assoc (little_bytes 2 m) ys ws in
+    let lens = numbers_are 2 n m (xs ++ zs) (ys ++ ws) (omega (arith, x_fits)) (omega (arith, y_fits)) parts in
     fronts_are (length xs) xs ys zs ws refl (sym lens.0) lens.1
 
 -- bytes that begin with a record begin with no other one
@@ -112,6 +121,14 @@ records_are (Question n) (Data d) xs ys r_fits s_fits e = absurd (omega (arith, 
 records_are (Question n) (Answer m) xs ys r_fits s_fits e = absurd (omega (arith, ap first e))
 records_are (Answer n) (Data d) xs ys r_fits s_fits e = absurd (omega (arith, ap first e))
 records_are (Answer n) (Question m) xs ys r_fits s_fits e = absurd (omega (arith, ap first e))
+
+-- whoever reads a record where records were written reads the first of them, and the others are to come
+pub comes_next : (r s : Record) (ss : List Record) (after : Option (List ℕ)) → Fits r → Fits s
+    → Consumes (Some (bytes_in (s ∷ ss))) after (record_bytes r) → (r ≡ s) × (after ≡ Some (bytes_in ss))
+comes_next r s ss None r_fits s_fits e = absurd e
+comes_next r s ss (Some xs) r_fits s_fits e =
+    let both = records_are r s xs (bytes_in ss) r_fits s_fits (sym e) in
+    (both.0, ap Some both.1)
 
 -- some bytes stand in front of none
 some_behind : (r : Record) (xs : List ℕ) → [] ≡ record_bytes r ++ xs → ⊥

@@ -1,5 +1,6 @@
-//! Records on a connection between two hosts: they carry the bytes of the stream of frames, questions, and the answers to
-//! these. Whoever hears a question answers it at once; so its answer says that all that was written before it has come.
+//! Records on a connection between two hosts: they carry the bytes of the stream of frames, questions, and the answers
+//! to these. Whoever hears a question answers it at once; so its answer says that all that was written before it has
+//! come.
 //!
 //! Stands on `byteorder`, and knows nothing of frames, hosts or sockets.
 //!

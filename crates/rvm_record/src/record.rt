@@ -35,8 +35,8 @@ pub enum RecordRead {
     Answer(u64),
 }
 
-/// Reads a record; its data is put at the front of a buffer, which has room for all that a record can have. After a fault a
-/// part of a record may have been read.
+/// Reads a record; its data is put at the front of a buffer, which has room for all that a record can have. After a
+/// fault a part of a record may have been read.
 pub fn read_record<I: Read>(input: &mut I, buffer: &mut [u8]) -> Result<RecordRead, RecordFault>
     requires { 65535 ≤ length buffer.old }
     ensures record { IfOk result (λ r. Consumes (I.remaining input.old) (I.remaining input.new)

@@ -7,16 +7,20 @@ use Rattle.rvm_frame.specs.declared.frame.Frame.TheVariants.{Hello}
 use Rattle.rvm_frame.specs.Grammar.{sent, spelling}
 use Rattle.rvm_record.specs.Records.{Record, Carries, record_bytes}
 
--- the bytes of Hello, which is written without the hosts that it goes between
+-- Hello, which is written without the hosts that it goes between
+abbrev pub hello_frame : (version : ℕ) → Addressed
+hello_frame version = record { from = 0; to = 1; frame = Hello version }
+
+-- the bytes of Hello
 abbrev pub hello : (version : ℕ) → List ℕ
-hello version = spelling (sent version (record { from = 0; to = 1; frame = Hello version }))
+hello version = spelling (sent version (hello_frame version))
 
 -- the bytes of Hello and of these frames
 abbrev pub stream_of : (version : ℕ) → List Addressed → List ℕ
 stream_of version frames = hello version ++ flat_map (λ a. spelling (sent version a)) frames
 
--- what was written on a connection to a host since these bytes, where they are known: records that carry Hello and whole
--- frames, each of which was made here for that host
+-- what was written on a connection to a host since these bytes, where they are known: records that carry Hello and
+-- whole frames, each of which was made here for that host
 pub record IsSent (is_made : Addressed → Type 0) (version host : ℕ) (before now : Option (List ℕ)) : Type 0 where
   pub frames : List Addressed
   pub made : All is_made frames

@@ -1,9 +1,9 @@
 //! The sending end to one other host.
 
 ghost use Rattle.std.specs.Prelude.{◌≡◌, ◌≢◌, Err, IfErr, IfSome, IsErr, IsSome, None, OnErr, OnOk, is_some};
-ghost use Rattle.rvm_frame.specs.Grammar.{sent, spelling};
+ghost use Rattle.rvm_frame.specs.Grammar.{HasSpelling, sent, spelling};
 ghost use Rattle.rvm_record.specs.Records.{Answer, Question};
-ghost use Rattle.rvm_route.specs.Streams.{Adds, Begins, GoesOn};
+ghost use Rattle.rvm_route.specs.Streams.{Adds, Begins, GoesOn, hello_frame};
 
 use crate::made::{Made, Origin};
 use crate::stream::Stream;
@@ -37,32 +37,36 @@ impl<L: Origin, W: Write + Drop> Route<L, W> {
         ensures opened { OnOk result (IsSome self.new.stream) }
         ensures begun { OnOk result (IfSome self.new.stream (Begins version host (W.contents output))) }
         ensures lost { OnErr result (self.new.stream ≡ None) }
+        ensures spelled { IfErr result (λ e. e ≡ SendError.BadFrame
+            → HasSpelling (sent version (hello_frame version)) → ⊥) }
     {
         self.stream = None;
         self.stream = Some(Stream::begin(version, host, output, &mut self.bytes)?);
         Ok(())
     }
 
-    /// Sends a frame that was made here, whole. A connection that fails is dropped.
-    pub(crate) fn send(&mut self, made: &Made<L>) -> Result<(), SendError>
+    /// Sends a frame that was made here, whole, in a stream of this version. A connection that fails is dropped.
+    pub(crate) fn send(&mut self, version: u32, made: &Made<L>) -> Result<(), SendError>
         ensures sent { OnOk result (IfSome self.old.stream (λ old. IfSome self.new.stream
-            (GoesOn (spelling (sent old.version made.now)) old))) }
+            (GoesOn (spelling (sent version made.now)) old))) }
         ensures kept { OnOk result (IsSome self.new.stream) }
         ensures closed { self.old.stream ≡ None → IsErr result }
         ensures fault { result ≡ Err SendError.LinkFault → self.new.stream ≡ None }
         ensures unsent { IfErr result (λ e. e ≢ SendError.LinkFault → self.new.stream ≡ self.old.stream) }
+        ensures spelled { IfErr result (λ e. e ≡ SendError.BadFrame → HasSpelling (sent version made.now) → ⊥) }
     {
         let Some(stream) = self.stream.take() else {
             return Err(SendError::LinkFault);
         };
-        let (stream, sent) = stream.send(made, &mut self.bytes);
+        let (stream, sent) = stream.send(version, made, &mut self.bytes);
         self.stream = stream;
         sent
     }
 
     /// Asks whether all that was sent has come. A connection that fails is dropped.
     pub(crate) fn ask(&mut self, number: u64) -> Result<(), LinkFault>
-        ensures sent { OnOk result (IfSome self.old.stream (λ old. IfSome self.new.stream (Adds (Question number) old))) }
+        ensures sent { OnOk result (IfSome self.old.stream (λ old. IfSome self.new.stream
+            (Adds (Question number) old))) }
         ensures kept { OnOk result (IsSome self.new.stream) }
         ensures closed { self.old.stream ≡ None → IsErr result }
         ensures lost { OnErr result (self.new.stream ≡ None) }
@@ -76,7 +80,8 @@ impl<L: Origin, W: Write + Drop> Route<L, W> {
 
     /// Answers a question. A connection that fails is dropped.
     pub(crate) fn answer(&mut self, number: u64) -> Result<(), LinkFault>
-        ensures sent { OnOk result (IfSome self.old.stream (λ old. IfSome self.new.stream (Adds (Answer number) old))) }
+        ensures sent { OnOk result (IfSome self.old.stream (λ old. IfSome self.new.stream
+            (Adds (Answer number) old))) }
         ensures kept { OnOk result (IsSome self.new.stream) }
         ensures closed { self.old.stream ≡ None → IsErr result }
         ensures lost { OnErr result (self.new.stream ≡ None) }

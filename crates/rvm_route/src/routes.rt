@@ -2,6 +2,7 @@
 
 ghost use Rattle.std.specs.Prelude.{◌≡◌, IfErr, IfOk};
 ghost use Rattle.rvm_frame.specs.Grammar.{HasSpelling, sent};
+ghost use Rattle.rvm_route.specs.Streams.{hello_frame};
 
 use crate::made::{Made, Origin};
 use crate::route::Route;
@@ -20,7 +21,9 @@ pub struct Routes<L: Origin, W: Write + Drop> {
 
 impl<L: Origin, W: Write + Drop> Routes<L, W> {
     /// Sending ends to so many hosts, none of which is open, for streams of this version.
-    pub fn new(alloc: Global, hosts: u8, version: u32) -> Result<Routes<L, W>, AllocError> {
+    pub fn new(alloc: Global, hosts: u8, version: u32) -> Result<Routes<L, W>, AllocError>
+        ensures { IfOk result (λ r. r.version ≡ version) }
+    {
         let mut ends = Vec::new(alloc);
         for _host in 0..hosts {
             ends.push(Mutex::new(Route::new(alloc)))?;
@@ -28,9 +31,13 @@ impl<L: Origin, W: Write + Drop> Routes<L, W> {
         Ok(Routes { version, ends })
     }
 
-    /// A connection to a host takes the place of the last one; Hello is sent. `LinkFault` where it fails, or there is no
-    /// such host: then it is dropped. It may wait for another thread.
-    pub fn open<R: Wait>(&self, rt: &R, host: u8, output: W) -> Result<(), SendError> {
+    /// A connection to a host takes the place of the last one; Hello is sent. `LinkFault` where it fails, or there is
+    /// no such host, `OutOfMemory`, or `BadFrame` where there is no stream of this version: then it is dropped. It may
+    /// wait for another thread.
+    pub fn open<R: Wait>(&self, rt: &R, host: u8, output: W) -> Result<(), SendError>
+        ensures { IfErr result (λ e. e ≡ SendError.BadFrame
+            → HasSpelling (sent self.now.version (hello_frame self.now.version)) → ⊥) }
+    {
         match self.ends.get(usize::from(host)) {
             Some(end) => end.lock(rt).open(self.version, host, output),
             None => {
@@ -40,11 +47,13 @@ impl<L: Origin, W: Write + Drop> Routes<L, W> {
         }
     }
 
-    /// Sends a frame whole to the host that it is for. `LinkFault` where no connection to it is open, or it fails: then the
-    /// frame is lost. `OutOfMemory`, or `BadFrame` where it has no spelling. It may wait for another thread.
-    pub fn send<R: Wait>(&self, rt: &R, made: &Made<L>) -> Result<(), SendError> {
+    /// Sends a frame whole to the host that it is for. `LinkFault` where no connection to it is open, or it fails: then
+    /// the frame is lost. `OutOfMemory`, or `BadFrame` where it has no spelling. It may wait for another thread.
+    pub fn send<R: Wait>(&self, rt: &R, made: &Made<L>) -> Result<(), SendError>
+        ensures { IfErr result (λ e. e ≡ SendError.BadFrame → HasSpelling (sent self.now.version made.now) → ⊥) }
+    {
         match self.ends.get(usize::from(made.get().to)) {
-            Some(end) => end.lock(rt).send(made),
+            Some(end) => end.lock(rt).send(self.version, made),
             None => Err(SendError::LinkFault),
         }
     }

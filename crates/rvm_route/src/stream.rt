@@ -4,7 +4,7 @@ ghost use Rattle.std.specs.Prelude.{◌≡◌, ◌≢◌, Err, IfErr, IfOk, IfSo
 ghost use Rattle.std.specs.Io.KnownBytes.{Appends};
 ghost use Rattle.rvm_frame.specs.Grammar.{HasSpelling, sent, spelling};
 ghost use Rattle.rvm_record.specs.Records.{Answer, Carries, Question, record_bytes};
-ghost use Rattle.rvm_route.specs.Streams.{Adds, Begins, GoesOn, hello};
+ghost use Rattle.rvm_route.specs.Streams.{Adds, Begins, GoesOn, hello, hello_frame};
 
 use crate::made::{Made, Origin};
 use rvm_frame::{Addressed, Frame};
@@ -15,8 +15,8 @@ use std::io::Write;
 use std::marker::{Model, PhantomData};
 use std::snapshot::Snapshot;
 
-/// A connection to a host, on which a stream of frames was begun. What was written on it since then are records that carry
-/// Hello and frames that were made here for that host.
+/// A connection to a host, on which a stream of frames was begun. What was written on it since then are records that
+/// carry Hello and frames that were made here for that host. Contracts see what was written, where it is known.
 #[derive(Drop)]
 pub(crate) struct Stream<L: Origin, W: Write + Drop> {
     version: u32,
@@ -50,7 +50,9 @@ impl<L: Origin, W: Write + Drop> Stream<L, W> {
         output: W,
         bytes: &mut Vec<u8>,
     ) -> Result<Stream<L, W>, SendError>
-        ensures { IfOk result (Begins version host (W.contents output)) }
+        ensures begun { IfOk result (Begins version host (W.contents output)) }
+        ensures spelled { IfErr result (λ e. e ≡ SendError.BadFrame
+            → HasSpelling (sent version (hello_frame version)) → ⊥) }
     {
         let first = Snapshot::of(&output);
         let mut output = output;
@@ -64,22 +66,26 @@ impl<L: Origin, W: Write + Drop> Stream<L, W> {
         })
     }
 
-    /// Sends a frame that was made here, whole. Unless it may wait, it has gone out then, and all before it. A connection
-    /// that fails is dropped; where the frame is for another host, has no spelling, or there is no memory, nothing was sent.
+    /// Sends a frame that was made here, whole, in a stream of this version. Unless it may wait, it has gone out then,
+    /// and all before it. A connection that fails is dropped, and so is one to another host than that of the frame, or
+    /// with a stream of another version. Where the frame has no spelling, or there is no memory, nothing was sent.
     #[tactic(auto, using(crate::proofs::Streams::more))]
     pub(crate) fn send(
         self,
+        version: u32,
         made: &Made<L>,
         bytes: &mut Vec<u8>,
     ) -> (Option<Stream<L, W>>, Result<(), SendError>)
         ensures kept { OnOk result.1 (IsSome result.0) }
-        ensures sent { OnOk result.1 (IfSome result.0 (GoesOn (spelling (sent self.version made.now)) self)) }
+        ensures sent { OnOk result.1 (IfSome result.0 (GoesOn (spelling (sent version made.now)) self)) }
         ensures fault { result.1 ≡ Err SendError.LinkFault → result.0 ≡ None }
         ensures unsent { IfErr result.1 (λ e. e ≢ SendError.LinkFault → result.0 ≡ Some self) }
+        ensures spelled { IfErr result.1 (λ e. e ≡ SendError.BadFrame
+            → HasSpelling (sent version made.now) → ⊥) }
     {
         let addressed = made.get();
-        if addressed.to != self.host {
-            return (Some(self), Err(SendError::BadFrame));
+        if addressed.to != self.host || version != self.version {
+            return (None, Err(SendError::LinkFault));
         }
         let Stream {
             version,
@@ -157,6 +163,8 @@ impl<L: Origin, W: Write + Drop> Stream<L, W> {
 /// Sends Hello.
 fn say_hello<W: Write>(version: u32, output: &mut W, bytes: &mut Vec<u8>) -> Result<(), SendError>
     ensures sent { OnOk result (Carries (hello version) (W.contents output.old) (W.contents output.new)) }
+    ensures spelled { IfErr result (λ e. e ≡ SendError.BadFrame
+        → HasSpelling (sent version (hello_frame version)) → ⊥) }
 {
     let addressed = Addressed {
         from: 0,

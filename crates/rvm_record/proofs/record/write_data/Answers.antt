@@ -21,8 +21,8 @@ loop-data-preserved g c =
       is_finite = tt;
       size = size;
       written =
-          goes_on _ _ _ (chunks_rest c.next.new.self) _ _ _ steps.1.0 (omega (arith, fits)) c.loop-data.invariant.written
-          c.in_ok-write_piece.ensures;
+          goes_on _ _ _ (chunks_rest c.next.new.self) _ _ _ steps.1.0 (omega (arith, fits))
+          c.loop-data.invariant.written c.in_ok-write_piece.ensures;
     }
 
 pub returns : goal.returns

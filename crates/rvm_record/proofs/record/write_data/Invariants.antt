@@ -8,5 +8,6 @@ invariant-loop-data g l = record {
   can_next : (goal.iterator-loop-data g).can_next l.data-iterator;
   is_finite : (goal.iterator-loop-data g).is_finite l.data-iterator;
   size : chunks_size l.data-iterator ≡ 65535;
-  written : IsUnderWay l.bytes (chunks_rest l.data-iterator) (g.W.Write.contents l.initial.output) (g.W.Write.contents l.output);
+  written : IsUnderWay l.bytes (chunks_rest l.data-iterator)
+      (g.W.Write.contents l.initial.output) (g.W.Write.contents l.output);
 }
