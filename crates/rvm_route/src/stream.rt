@@ -69,7 +69,6 @@ impl<L: Origin, W: Write + Drop> Stream<L, W> {
     /// Sends a frame that was made here, whole, in a stream of this version. Unless it may wait, it has gone out then,
     /// and all before it. A connection that fails is dropped, and so is one to another host than that of the frame, or
     /// with a stream of another version. Where the frame has no spelling, or there is no memory, nothing was sent.
-    #[tactic(auto, using(crate::proofs::Streams::more))]
     pub(crate) fn send(
         self,
         version: u32,
@@ -87,6 +86,25 @@ impl<L: Origin, W: Write + Drop> Stream<L, W> {
         if addressed.to != self.host || version != self.version {
             return (None, Err(SendError::LinkFault));
         }
+        self.put(addressed, bytes)
+    }
+
+    /// Sends a frame that was made here for its host.
+    #[tactic(auto, using(crate::proofs::Streams::more))]
+    fn put(
+        self,
+        addressed: &Addressed,
+        bytes: &mut Vec<u8>,
+    ) -> (Option<Stream<L, W>>, Result<(), SendError>)
+        requires made { L.is_made addressed.now }
+        requires to { addressed.now.to ≡ self.host }
+        ensures kept { OnOk result.1 (IsSome result.0) }
+        ensures sent { OnOk result.1 (IfSome result.0 (GoesOn (spelling (sent self.version addressed.now)) self)) }
+        ensures fault { result.1 ≡ Err SendError.LinkFault → result.0 ≡ None }
+        ensures unsent { IfErr result.1 (λ e. e ≢ SendError.LinkFault → result.0 ≡ Some self) }
+        ensures spelled { IfErr result.1 (λ e. e ≡ SendError.BadFrame
+            → HasSpelling (sent self.version addressed.now) → ⊥) }
+    {
         let Stream {
             version,
             host,
