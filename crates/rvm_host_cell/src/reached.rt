@@ -82,7 +82,7 @@ impl<L: Hosting, M: PagedMemory + Drop> Reached<L, M> {
         ensures err { OnErr result (self.new ≡ self.old) }
     {
         match self.host.came(alloc, from, frame) {
-            Ok((reply, frame)) => Ok((reply, handed_out(frame))),
+            Ok((reply, made)) => Ok((reply, handed_out(made))),
             Err(error) => Err(error),
         }
     }
