@@ -99,21 +99,21 @@ fn read_data<I: Read>(input: &mut I, buffer: &mut [u8]) -> Result<RecordRead, Re
 pub fn write_data<W: Write>(output: &mut W, bytes: &[u8]) -> io::Result<()>
     ensures { OnOk result (Carries bytes.now (W.contents output.old) (W.contents output.new)) }
 {
-    for data in bytes.chunks(MAX_DATA) {
-        write_piece(output, data)?;
+    for piece in bytes.chunks(MAX_DATA) {
+        write_piece(output, piece)?;
     }
     Ok(())
 }
 
 /// Writes a record of data.
-fn write_piece<W: Write>(output: &mut W, data: &[u8]) -> io::Result<()>
-    requires { length data.now ≤ 65535 }
-    ensures { OnOk result (Appends (W.contents output.old) (W.contents output.new) (record_bytes (Data data.now))) }
+fn write_piece<W: Write>(output: &mut W, piece: &[u8]) -> io::Result<()>
+    requires { length piece.now ≤ 65535 }
+    ensures { OnOk result (Appends (W.contents output.old) (W.contents output.new) (record_bytes (Data piece.now))) }
 {
     let mut head = [DATA, 0, 0];
-    LittleEndian::write_u16(&mut head[1..], data.len() as u16);
+    LittleEndian::write_u16(&mut head[1..], piece.len() as u16);
     output.write_all(&head)?;
-    output.write_all(data)
+    output.write_all(piece)
 }
 
 /// Writes a question.
