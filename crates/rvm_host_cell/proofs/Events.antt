@@ -1,7 +1,6 @@
 -- A host behind one event more.
-use Rattle.std.proofs.Common.{◌≡◌, ◌∙◌, ℕ, zero, suc, ◌+◌, ◌%◌, List, [], ◌∷◌, ◌++◌, Option, None, Some, Result, Ok, Err, ap, refl, subst, sym}
+use Rattle.std.proofs.Common.{◌≡◌, ◌∙◌, ℕ, zero, suc, ◌+◌, ◌%◌, [], ◌∷◌, ◌++◌, Option, None, Some, Result, Ok, Err, ap, refl, subst, sym}
 use Rattle.std.proofs.lemmas.Grind.{fold-append}
-use Rattle.std.specs.List.{fold}
 use Rattle.std.specs.Prelude.{IfOk, IfSome, OnErr}
 use Rattle.rvm_core.specs.Hosts.{PlainHost, Steps, host_of, step_of}
 use Rattle.rvm_core.specs.Retiring.{AreRetired, HostRetires, IsLast}

@@ -1,5 +1,6 @@
-//! A host that several threads call, and that keeps no journal: whatever is under its lock is a host that events made of
-//! the one that its process began with, each reply is one that such a host gave, and each frame one that such a host made.
+//! A host that several threads call, and that keeps no journal: whatever is under its lock is a host that events made
+//! of the one that its process began with, each reply is one that such a host gave, and each frame one that such a
+//! host made.
 //!
 //! Stands on `rvm_core` and `rvm_route`, and knows nothing of connections or workers.
 //!

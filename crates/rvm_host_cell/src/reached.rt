@@ -94,8 +94,8 @@ impl<L: Hosting, M: PagedMemory + Drop> Reached<L, M> {
         self.host.step(hart)
     }
 
-    /// Steps of so many harts in turn, at most `count`, from turn `turn` on, as long as each retires an instruction; the
-    /// first that does not is the last. It may make none.
+    /// Steps of so many harts in turn, at most `count`, from turn `turn` on, as long as each retires an instruction;
+    /// the first that does not is the last. It may make none.
     pub(crate) fn retire(&mut self, turn: u64, harts: u32, count: u32) -> Retired
         ensures { HostRetires harts turn count self.old self.new result }
     {

@@ -1,6 +1,6 @@
 //! Slices of turns.
 
-ghost use Rattle.std.specs.Prelude.{◌≡◌, ◌≤◌, ◌<◌, ◌%◌, None};
+ghost use Rattle.std.specs.Prelude.{◌≤◌, ◌<◌, ◌%◌, None};
 ghost use Rattle.rvm_core.specs.Hosts.{Steps};
 ghost use Rattle.rvm_message.specs.Events.{event_of};
 ghost use Rattle.rvm_message.specs.Exchanges.{step_of_hart};

@@ -1,0 +1,166 @@
+//! The threads that answer operators.
+
+ghost use Rattle.std.specs.Prelude.{◌≤◌, length, IfOk, IfSome};
+
+use crate::answers::{Outcome, answer_line};
+use crate::process::Process;
+use rvm_host_cell::Hosting;
+use rvm_mem::PagedMemory;
+use rvm_refusal::LinkFault;
+use std::alloc::Global;
+use std::io::{ErrorKind, Read, Write};
+use std::net::{OpenListener, OpenStream};
+use std::sync::Wait;
+use std::thread;
+use std::time::{Clock, Duration};
+
+/// How many bytes a line has at most.
+const MAX_LINE: usize = 1 << 12;
+
+/// How many milliseconds lie between two looks whether the process is to end.
+const LOOK: u64 = 10;
+
+/// How many milliseconds a read waits before it is looked whether the process is to end.
+const READ: u64 = 100;
+
+/// How many milliseconds an operator may take to read an answer.
+const WRITE: u64 = 2000;
+
+/// Answers operators, one connection after another, until the process is to end.
+pub(crate) fn control_worker<
+    L: Hosting,
+    M: PagedMemory + Drop,
+    S: Read + Write + OpenStream + Drop,
+    N: OpenListener,
+    R: Wait + Clock,
+>(rt: &R, alloc: Global, process: &Process<L, M, S>, listener: &N)
+where
+    N::Stream: Read + Write + OpenStream + Drop,
+{
+    for _look in rt.forever() {
+        if process.is_stopping() {
+            return;
+        }
+        match listener.accept() {
+            Ok((stream, _from)) => {
+                let _ended = answer(rt, alloc, process, stream);
+            }
+            Err(_) => thread::sleep(rt, Duration::from_millis(LOOK)),
+        }
+    }
+    unreachable!()
+}
+
+/// Answers the lines of a connection, to its end.
+fn answer<
+    L: Hosting,
+    M: PagedMemory + Drop,
+    S: Read + Write + OpenStream + Drop,
+    C: Read + Write + OpenStream + Drop,
+    R: Wait + Clock,
+>(rt: &R, alloc: Global, process: &Process<L, M, S>, stream: C) -> Result<(), LinkFault> {
+    let mut stream = stream;
+    stream.set_nonblocking(false)?;
+    stream.set_read_timeout(Some(Duration::from_millis(READ)))?;
+    stream.set_write_timeout(Some(Duration::from_millis(WRITE)))?;
+    let mut output = stream.try_clone()?;
+    let mut line = Vec::new(alloc);
+    let mut buffer = [0u8; 1024];
+    for _read in rt.forever() {
+        if process.is_stopping() {
+            return Ok(());
+        }
+        let Some(count) = read_some(&mut stream, &mut buffer)? else {
+            continue;
+        };
+        if count == 0 {
+            return answer_last(rt, alloc, process, line.as_slice(), &mut output);
+        }
+        take_bytes(rt, alloc, process, &buffer[..count], &mut line, &mut output)?;
+    }
+    unreachable!()
+}
+
+/// Reads what came: nothing yet, or so many bytes, none at the end.
+fn read_some<C: Read>(stream: &mut C, buffer: &mut [u8]) -> Result<Option<usize>, LinkFault>
+    ensures { IfOk result (λ o. IfSome o (λ n. n ≤ length buffer.new)) }
+{
+    match stream.read(buffer) {
+        Ok(count) => Ok(Some(count)),
+        Err(error) => {
+            match error.kind() {
+                ErrorKind::WouldBlock | ErrorKind::Interrupted => Ok(None),
+                _ => Err(LinkFault),
+            }
+        }
+    }
+}
+
+/// Takes bytes that came, and answers each line that they end. A line that is too long ends the connection.
+fn take_bytes<
+    L: Hosting,
+    M: PagedMemory + Drop,
+    S: Read + Write + OpenStream + Drop,
+    O: Write,
+    R: Wait + Clock,
+>(
+    rt: &R,
+    alloc: Global,
+    process: &Process<L, M, S>,
+    bytes: &[u8],
+    line: &mut Vec<u8>,
+    output: &mut O,
+) -> Result<(), LinkFault> {
+    for byte in bytes {
+        if *byte == b'\n' {
+            answer_and_end(rt, alloc, process, line.as_slice(), output)?;
+            line.clear();
+        } else if line.len() >= MAX_LINE || line.push(*byte).is_err() {
+            return Err(LinkFault);
+        }
+    }
+    Ok(())
+}
+
+/// Answers a last line that does not end, if there is one.
+fn answer_last<
+    L: Hosting,
+    M: PagedMemory + Drop,
+    S: Read + Write + OpenStream + Drop,
+    O: Write,
+    R: Wait + Clock,
+>(
+    rt: &R,
+    alloc: Global,
+    process: &Process<L, M, S>,
+    line: &[u8],
+    output: &mut O,
+) -> Result<(), LinkFault> {
+    if line.is_empty() {
+        return Ok(());
+    }
+    answer_and_end(rt, alloc, process, line, output)
+}
+
+/// Answers a line. The last line of the answer says whether what was asked happened: `end 0` if it did, else `end 1`.
+fn answer_and_end<
+    L: Hosting,
+    M: PagedMemory + Drop,
+    S: Read + Write + OpenStream + Drop,
+    O: Write,
+    R: Wait + Clock,
+>(
+    rt: &R,
+    alloc: Global,
+    process: &Process<L, M, S>,
+    line: &[u8],
+    output: &mut O,
+) -> Result<(), LinkFault> {
+    let status = match answer_line(rt, alloc, process, line, output)? {
+        Outcome::Done => 0,
+        Outcome::Refused => 1,
+    };
+    writeln!(output, "end {status}")?;
+    output.flush()?;
+    Ok(())
+}

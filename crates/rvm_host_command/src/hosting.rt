@@ -1,0 +1,195 @@
+//! A host works in a process of its own.
+
+ghost use Rattle.std.specs.Prelude.{◌≡◌};
+
+use crate::door::Door;
+use crate::process::Process;
+use crate::threads::{Listeners, work};
+use rvm_core::Host;
+use rvm_debug::Debugged;
+use rvm_greeting::{Registry, Secret};
+use rvm_host_cell::{HostCell, Hosting};
+use rvm_host_worker::{HartsEnd, HartsPlan, InputQueue, News, Station};
+use rvm_mem::{MAX_PAGES, PagedMemory};
+use rvm_peers::Peers;
+use rvm_refusal::Refusal;
+use rvm_route::Routes;
+use std::alloc::{AllocError, Global};
+use std::io;
+use std::io::Write;
+use std::marker::Brand;
+use std::net::{Net, OpenListener};
+use std::random::RandomSource;
+use std::sync::atomic::{AtomicBool, AtomicU64};
+use std::sync::{Mutex, Wait};
+use std::thread::Threads;
+use std::time::{Clock, Duration};
+
+/// The version of the streams between hosts.
+const VERSION: u32 = 3;
+
+/// How many turns are made under one hold of the lock, while no move is going on.
+const SLICE: u32 = 1 << 14;
+
+/// How many are made while one is.
+const SLICE_IN_MOVE: u32 = 512;
+
+/// How a host process is run.
+#[derive(Drop)]
+pub struct HostPlan {
+    /// The number of this host.
+    pub id: u8,
+    /// For how long nothing may be heard in a move before it is given up, while that may be.
+    pub patience: Duration,
+    /// Whether the process ends once its guest is halted here.
+    pub until_halt: bool,
+}
+
+/// Works at a host until it is told to stop. What the guest sends while it is here goes to `output`, and `input` comes
+/// to its console; `errors` is told that the guest is halted. Connections of other hosts come to one listener, and
+/// operators to the other.
+pub fn work_at<
+    M: PagedMemory + Drop + Send,
+    O: Write,
+    E: Write,
+    R: Net + Threads + Wait + Clock + RandomSource + Sync,
+>(
+    rt: &R,
+    alloc: Global,
+    plan: &HostPlan,
+    peers: &Peers,
+    secret: Secret,
+    guest: Option<Debugged<M>>,
+    listener: &R::Listener,
+    operators: &R::Listener,
+    input: &InputQueue,
+    output: &mut O,
+    errors: &mut E,
+) -> Result<HartsEnd, Refusal>
+where
+    R::Stream: Send,
+    R::Listener: Send + Sync,
+{
+    let hosts = peers.count() as u8;
+    let has_guest = guest.is_some();
+    let Ok(host) = Host::with_version(guest, plan.id, hosts, MAX_PAGES as u16, VERSION) else {
+        return Err(Refusal::BadSize);
+    };
+    let Ok(registry) = new_registry(rt, plan.id, hosts, has_guest) else {
+        drop(host);
+        return Err(Refusal::LinkFault);
+    };
+    host_over::<Brand, M, O, E, R>(
+        rt,
+        alloc,
+        host,
+        plan,
+        peers,
+        (registry, secret),
+        &Listeners {
+            hosts: listener,
+            operators,
+        },
+        input,
+        output,
+        errors,
+    )
+}
+
+/// A number that is drawn at random, from 1 on.
+fn draw_number<R: RandomSource>(rt: &R) -> io::Result<u64> {
+    let mut bytes = [0u8; 8];
+    rt.fill_bytes(&mut bytes)?;
+    Ok(u64::from_le_bytes(bytes).max(1))
+}
+
+/// What the process of a host knows of its world at its start: the world's number, where it has the image.
+fn new_registry<R: RandomSource>(
+    rt: &R,
+    host: u8,
+    hosts: u8,
+    has_guest: bool,
+) -> io::Result<Registry> {
+    let process = draw_number(rt)?;
+    let world = if has_guest { draw_number(rt)? } else { 0 };
+    Ok(Registry::new(host, hosts, process, world))
+}
+
+/// Works at this host.
+fn host_over<
+    L: Hosting + Send + Sync,
+    M: PagedMemory + Drop + Send,
+    O: Write,
+    E: Write,
+    R: Net + Threads + Wait + Clock + RandomSource + Sync,
+>(
+    rt: &R,
+    alloc: Global,
+    host: Host<M>,
+    plan: &HostPlan,
+    peers: &Peers,
+    known: (Registry, Secret),
+    listeners: &Listeners<'_, R::Listener>,
+    input: &InputQueue,
+    output: &mut O,
+    errors: &mut E,
+) -> Result<HartsEnd, Refusal>
+where
+    R::Stream: Send,
+    R::Listener: Send + Sync,
+    requires { host ≡ L.opening }
+{
+    let Ok(process) = new_process::<L, M, R>(alloc, host, plan, peers.count() as u8, known) else {
+        return Err(Refusal::OutOfMemory);
+    };
+    if listeners.hosts.set_nonblocking(true).is_err()
+        || listeners.operators.set_nonblocking(true).is_err()
+    {
+        return Err(Refusal::LinkFault);
+    }
+    match work(rt, alloc, &process, peers, listeners, input, output, errors) {
+        Some(end) => Ok(end),
+        None => Err(Refusal::OutOfMemory),
+    }
+}
+
+/// What the threads of the process share.
+fn new_process<L: Hosting, M: PagedMemory + Drop, R: Net>(
+    alloc: Global,
+    host: Host<M>,
+    plan: &HostPlan,
+    hosts: u8,
+    known: (Registry, Secret),
+) -> Result<Process<L, M, R::Stream>, AllocError>
+    requires { host ≡ L.opening }
+{
+    let (registry, secret) = known;
+    let mut doors = Vec::new(alloc);
+    for _host in 0..hosts {
+        doors.push(Door::new())?;
+    }
+    Ok(Process {
+        station: Station {
+            id: plan.id,
+            cell: HostCell::new(host),
+            routes: Routes::new(alloc, hosts, VERSION)?,
+            news: News::new(),
+            console: Mutex::new(()),
+            questions: AtomicU64::new(0),
+        },
+        harts: HartsPlan {
+            slice: SLICE,
+            slice_in_move: SLICE_IN_MOVE,
+            until_halt: plan.until_halt,
+            stop: AtomicBool::new(false),
+            moves: AtomicBool::new(false),
+            turns: AtomicU64::new(0),
+            halted: AtomicBool::new(false),
+        },
+        registry: Mutex::new(registry),
+        secret,
+        doors,
+        hosts,
+        patience: plan.patience,
+    })
+}

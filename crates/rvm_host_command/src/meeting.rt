@@ -1,0 +1,75 @@
+//! Two hosts meet on a connection.
+
+use crate::process::Process;
+use crate::timed::Timed;
+use rvm_greeting::{Greeted, GreetingFault, accept, greet};
+use rvm_host_cell::Hosting;
+use rvm_mem::PagedMemory;
+use std::io;
+use std::io::{Read, Write};
+use std::net::OpenStream;
+use std::random::RandomSource;
+use std::sync::Wait;
+use std::time::{Clock, Duration};
+
+/// How many milliseconds a whole greeting may take.
+const GREETING: u64 = 1000;
+
+/// How many milliseconds a write may take before the connection is given up.
+const WRITE: u64 = 2000;
+
+/// A number of 32 bytes that is drawn at random.
+fn draw_nonce<R: RandomSource>(rt: &R) -> io::Result<[u8; 32]> {
+    let mut nonce = [0u8; 32];
+    rt.fill_bytes(&mut nonce)?;
+    Ok(nonce)
+}
+
+/// Greets a host at the other end of a connection that was made to it.
+pub(crate) fn meet_connected<
+    L: Hosting,
+    M: PagedMemory + Drop,
+    S: Read + Write + OpenStream + Drop,
+    R: Wait + Clock + RandomSource,
+>(rt: &R, process: &Process<L, M, S>, to: u8, stream: &mut S) -> Result<(), GreetingFault> {
+    let nonce = draw_nonce(rt)?;
+    let registry = *process.registry.lock(rt);
+    let mut output = prepare(stream)?;
+    let mut input = Timed::new(rt, stream, Duration::from_millis(GREETING));
+    let greeted = greet(
+        &mut input,
+        &mut output,
+        &process.secret,
+        &registry,
+        to,
+        &nonce,
+    )?;
+    process.registry.lock(rt).meet(to, &greeted.facts)
+}
+
+/// Answers the greeting of a host that made a connection: its number.
+pub(crate) fn meet_accepted<
+    L: Hosting,
+    M: PagedMemory + Drop,
+    S: Read + Write + OpenStream + Drop,
+    R: Wait + Clock + RandomSource,
+>(rt: &R, process: &Process<L, M, S>, stream: &mut S) -> Result<u8, GreetingFault> {
+    let nonce = draw_nonce(rt)?;
+    let registry = *process.registry.lock(rt);
+    let mut output = prepare(stream)?;
+    let mut input = Timed::new(rt, stream, Duration::from_millis(GREETING));
+    let Greeted {
+        own: _,
+        other,
+        facts,
+    } = accept(&mut input, &mut output, &process.secret, &registry, &nonce)?;
+    process.registry.lock(rt).meet(other.from, &facts)?;
+    Ok(other.from)
+}
+
+/// Another handle of a connection, to write to it; no write takes longer than it may.
+fn prepare<S: OpenStream>(stream: &S) -> io::Result<S> {
+    stream.set_nodelay(true)?;
+    stream.set_write_timeout(Some(Duration::from_millis(WRITE)))?;
+    stream.try_clone()
+}

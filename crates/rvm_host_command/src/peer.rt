@@ -1,0 +1,132 @@
+//! The thread that keeps the connection with one other host, and hears it.
+
+use crate::meeting::meet_connected;
+use crate::outbound::Outbound;
+use crate::process::Process;
+use rvm_host_cell::Hosting;
+use rvm_host_worker::hear;
+use rvm_mem::PagedMemory;
+use std::alloc::Global;
+use std::io::{BufReader, ErrorKind};
+use std::net::{Net, OpenStream, SocketAddr, TcpStream, ToSocketAddrs};
+use std::random::RandomSource;
+use std::sync::Wait;
+use std::time::{Clock, Duration};
+use std::{io, str};
+
+/// How many milliseconds a connection may take to be made.
+const CONNECT: u64 = 1000;
+
+/// How many milliseconds lie between two tries.
+const RETRY: u64 = 50;
+
+/// How many milliseconds a connection may be silent: the ticker of the other host asks more often.
+const SILENCE: u64 = 1000;
+
+/// How many bytes are read together at most.
+const TOGETHER: usize = 1 << 17;
+
+/// Keeps the connection with a host, and hears it, until the process is to end. The host of the lower number makes it;
+/// the other one takes those that arrive.
+pub(crate) fn peer_worker<L: Hosting, M: PagedMemory + Drop, R: Net + Wait + Clock + RandomSource>(
+    rt: &R,
+    alloc: Global,
+    process: &Process<L, M, R::Stream>,
+    other: u8,
+    address: &[u8],
+) {
+    for _connection in rt.forever() {
+        if process.is_stopping() {
+            return;
+        }
+        if let Some(stream) = next_connection(rt, process, other, address) {
+            let _ended = keep(rt, alloc, process, other, stream);
+        }
+    }
+    unreachable!()
+}
+
+/// The next connection with a host, if there is one soon.
+fn next_connection<L: Hosting, M: PagedMemory + Drop, R: Net + Wait + Clock + RandomSource>(
+    rt: &R,
+    process: &Process<L, M, R::Stream>,
+    other: u8,
+    address: &[u8],
+) -> Option<R::Stream> {
+    let door = process.door(other)?;
+    if process.station.id < other {
+        if let Some(stream) = connect(rt, process, other, address) {
+            return Some(stream);
+        }
+    }
+    door.take(rt, Duration::from_millis(RETRY))
+}
+
+/// Makes a connection with a host; none where that cannot be, or it refuses it.
+fn connect<L: Hosting, M: PagedMemory + Drop, R: Net + Wait + Clock + RandomSource>(
+    rt: &R,
+    process: &Process<L, M, R::Stream>,
+    other: u8,
+    address: &[u8],
+) -> Option<R::Stream> {
+    let Ok(address) = address_of(rt, address) else {
+        return None;
+    };
+    let timeout = Duration::from_millis(CONNECT);
+    let Ok(mut stream) = TcpStream::connect_timeout(rt, &address, timeout) else {
+        return None;
+    };
+    match meet_connected(rt, process, other, &mut stream) {
+        Ok(()) => Some(stream),
+        Err(_) => None,
+    }
+}
+
+/// The first address of a text.
+fn address_of<R: Net>(rt: &R, address: &[u8]) -> io::Result<SocketAddr> {
+    let Ok(address) = str::from_utf8(address) else {
+        return Err(io::Error::from(ErrorKind::InvalidInput));
+    };
+    match address.to_socket_addrs(rt)?.next() {
+        Some(found) => Ok(found),
+        None => Err(io::Error::from(ErrorKind::NotFound)),
+    }
+}
+
+/// Opens the route to a host over a connection, and hears it until the connection ends.
+fn keep<L: Hosting, M: PagedMemory + Drop, R: Net + Wait + Clock>(
+    rt: &R,
+    alloc: Global,
+    process: &Process<L, M, R::Stream>,
+    other: u8,
+    stream: R::Stream,
+) -> io::Result<()> {
+    let Some(door) = process.door(other) else {
+        return Ok(());
+    };
+    stream.set_read_timeout(Some(Duration::from_millis(SILENCE)))?;
+    door.hear(rt, stream.try_clone()?);
+    let heard = open_and_hear(rt, alloc, process, other, stream);
+    door.end(rt);
+    process.station.routes.close(rt, other);
+    heard
+}
+
+/// Opens the route to a host over a connection, and hears it.
+fn open_and_hear<L: Hosting, M: PagedMemory + Drop, R: Net + Wait + Clock>(
+    rt: &R,
+    alloc: Global,
+    process: &Process<L, M, R::Stream>,
+    other: u8,
+    stream: R::Stream,
+) -> io::Result<()> {
+    let Ok(output) = Outbound::new(alloc, stream.try_clone()?) else {
+        return Err(io::Error::from(ErrorKind::OutOfMemory));
+    };
+    let mut input = BufReader::with_capacity(alloc, TOGETHER, stream)?;
+    if process.station.routes.open(rt, other, output).is_ok() {
+        process.station.news.raise(rt);
+        let _end = hear(rt, alloc, &process.station, other, &mut input);
+    }
+    Ok(())
+}

@@ -1,0 +1,45 @@
+//! What the threads of a host process share.
+
+use crate::door::Door;
+use crate::outbound::Outbound;
+use rvm_greeting::{Registry, Secret};
+use rvm_host_cell::Hosting;
+use rvm_host_worker::{HartsPlan, Station};
+use rvm_mem::PagedMemory;
+use std::io::{Read, Write};
+use std::net::OpenStream;
+use std::sync::Mutex;
+use std::sync::atomic::Ordering;
+use std::time::Duration;
+
+/// What the threads of a host process share.
+#[derive(Drop)]
+pub(crate) struct Process<L: Hosting, M: PagedMemory + Drop, S: Read + Write + OpenStream + Drop> {
+    pub(crate) station: Station<L, M, Outbound<S>>,
+    pub(crate) harts: HartsPlan,
+    pub(crate) registry: Mutex<Registry>,
+    pub(crate) secret: Secret,
+    /// By the number of the other host.
+    pub(crate) doors: Vec<Door<S>>,
+    /// How many hosts there are.
+    pub(crate) hosts: u8,
+    /// For how long nothing may be heard in a move before it is given up, while that may be.
+    pub(crate) patience: Duration,
+}
+
+impl<L: Hosting, M: PagedMemory + Drop, S: Read + Write + OpenStream + Drop> Process<L, M, S> {
+    /// Whether the process is to end.
+    pub(crate) fn is_stopping(&self) -> bool {
+        self.harts.stop.load(Ordering::SeqCst)
+    }
+
+    /// The process is to end.
+    pub(crate) fn stop(&self) {
+        self.harts.stop.store(true, Ordering::SeqCst);
+    }
+
+    /// The door of another host.
+    pub(crate) fn door(&self, host: u8) -> Option<&Door<S>> {
+        self.doors.get(usize::from(host))
+    }
+}

@@ -1,0 +1,5 @@
+use Rattle.rvm_host_worker.specs.Console.{IsShown}
+use Rattle.rvm_host_worker.proofs.console.show.Given as goal
+
+abbrev pub invariant-loop-drain : goal.invariant-loop-drain
+invariant-loop-drain g l = IsShown g.L.Hosting.opening (g.O.Write.contents l.fn.output) (g.O.Write.contents l.output)

@@ -1,0 +1,5 @@
+use Rattle.rvm_host_worker.specs.Console.{IsShown}
+use Rattle.rvm_host_worker.proofs.harts.harts_worker.Given as goal
+
+abbrev pub invariant-loop-slice : goal.invariant-loop-slice
+invariant-loop-slice g l = IsShown g.L.Hosting.opening (g.O.Write.contents l.fn.output) (g.O.Write.contents l.output)

@@ -1,0 +1,10 @@
+use Rattle.std.proofs.Common.{◌≤◌, length}
+use Rattle.rvm_frame.specs.Reader.{at_start}
+use Rattle.rvm_host_worker.specs.Hearing.{AreRead}
+use Rattle.rvm_host_worker.proofs.hearing.hear.Given as goal
+
+abbrev pub invariant-loop-record : goal.invariant-loop-record
+invariant-loop-record g l = record {
+  size : 65535 ≤ length l.buffer;
+  read : AreRead g.L.Hosting.opening l.from l.station.id (g.I.Read.remaining l.fn.input) (g.I.Read.remaining l.input) at_start l.reader;
+}

@@ -1,0 +1,4 @@
+pub mod Ends
+pub mod Hearing
+pub mod Console
+pub mod Movers

@@ -1,0 +1,193 @@
+//! Another host is heard.
+
+ghost use Rattle.std.specs.Prelude.{◌≡◌, ◌<◌, ◌≤◌, ◌∷◌, true, false, [], All, length, take, None, Ok, Err, IfErr, IfOk, IfSome, OnOk};
+ghost use Rattle.rvm_frame.specs.Verdict.{verdict};
+ghost use Rattle.rvm_host_worker.specs.Hearing.{AreRead, AreReadUpTo, AreTold, AreToldUpTo, IsHeardOn, IsTold, of_frame, of_record};
+ghost use Rattle.rvm_worker.specs.Heard.{comes, for_host, is_between};
+
+use crate::station::Station;
+use rvm_frame::{Frame, FrameFault, FrameReader};
+use rvm_host_cell::Hosting;
+use rvm_mem::PagedMemory;
+use rvm_record::{MAX_DATA, RecordFault, RecordRead, read_record};
+use std::alloc::Global;
+use std::io::{Read, Write};
+use std::sync::Wait;
+
+/// Why a host is heard no more on a connection.
+#[derive(Clone, Copy, Debug, PartialEq, Eq)]
+pub enum HearEnd {
+    /// The connection ended or failed, or nothing came in time.
+    Closed,
+    /// What came are no records, or no frames, or frames of other hosts.
+    BadStream,
+    /// A growth was refused.
+    OutOfMemory,
+}
+
+impl From<RecordFault> for HearEnd {
+    ghost from_gives = { λ fault end. end ≡ of_record fault };
+
+    fn from(fault: RecordFault) -> HearEnd {
+        match fault {
+            RecordFault::Broken => HearEnd::Closed,
+            RecordFault::NotRecord => HearEnd::BadStream,
+        }
+    }
+}
+
+impl From<FrameFault> for HearEnd {
+    ghost from_gives = { λ fault end. end ≡ of_frame fault };
+
+    fn from(fault: FrameFault) -> HearEnd {
+        match fault {
+            FrameFault::OutOfMemory => HearEnd::OutOfMemory,
+            FrameFault::BadFrame | FrameFault::TooLong | FrameFault::Failed => HearEnd::BadStream,
+        }
+    }
+}
+
+/// Hears another host until its connection ends: each frame of it but Hello comes to this host, each question is
+/// answered, once all before it has come, and each answer is told to whoever waits for it.
+#[tactic(auto, using(crate::proofs::Records::none_read, crate::proofs::Records::read_more))]
+pub fn hear<L: Hosting, M: PagedMemory + Drop, W: Write + Drop, I: Read, R: Wait>(
+    rt: &R,
+    alloc: Global,
+    station: &Station<L, M, W>,
+    from: u8,
+    input: &mut I,
+) -> HearEnd
+    ensures { IfSome (I.remaining input.old) (IsHeardOn L.opening from station.now.id result) }
+{
+    let mut reader = FrameReader::new(alloc);
+    let mut buffer = [0u8; MAX_DATA];
+    for _record in rt.forever() {
+        if let Err(end) = hear_record(rt, alloc, station, from, input, &mut reader, &mut buffer) {
+            return end;
+        }
+    }
+    unreachable!()
+}
+
+/// Hears one record.
+#[tactic(auto, using(crate::proofs::Records::answer_read, crate::proofs::Records::data_read, crate::proofs::Records::data_up_to, crate::proofs::Records::question_read))]
+fn hear_record<L: Hosting, M: PagedMemory + Drop, W: Write + Drop, I: Read, R: Wait>(
+    rt: &R,
+    alloc: Global,
+    station: &Station<L, M, W>,
+    from: u8,
+    input: &mut I,
+    reader: &mut FrameReader,
+    buffer: &mut [u8],
+) -> Result<(), HearEnd>
+    requires waits { verdict reader.old.version reader.old.bytes ≡ Ok None }
+    requires unfailed { reader.old.failed ≡ false }
+    requires room { 65535 ≤ length buffer.old }
+    ensures read { OnOk result (AreRead L.opening from station.now.id (I.remaining input.old) (I.remaining input.new)
+        reader.old reader.new) }
+    ensures some { IfErr result (λ end. IfSome (I.remaining input.old)
+        (AreReadUpTo L.opening from station.now.id end reader.old)) }
+    ensures size { length buffer.new ≡ length buffer.old }
+{
+    match read_record(input, buffer)? {
+        RecordRead::Data(count) => take(rt, alloc, station, from, reader, &buffer[..count])?,
+        RecordRead::Question(number) => {
+            let _lost = station.routes.answer(rt, from, number);
+        }
+        RecordRead::Answer(number) => station.news.answer(rt, from, number),
+    }
+    Ok(())
+}
+
+/// Takes the frames of a piece of the stream.
+fn take<L: Hosting, M: PagedMemory + Drop, W: Write + Drop, R: Wait>(
+    rt: &R,
+    alloc: Global,
+    station: &Station<L, M, W>,
+    from: u8,
+    reader: &mut FrameReader,
+    piece: &[u8],
+) -> Result<(), HearEnd>
+    requires waits { verdict reader.old.version reader.old.bytes ≡ Ok None }
+    requires unfailed { reader.old.failed ≡ false }
+    ensures all { OnOk result (AreTold L.opening from station.now.id reader.old piece.now reader.new) }
+    ensures some { IfErr result (λ end. AreToldUpTo L.opening from station.now.id end reader.old piece.now) }
+{
+    let mut rest = piece;
+    while !rest.is_empty() {
+        let taken = feed(rt, alloc, station, from, reader, rest)?;
+        rest = &rest[taken..];
+    }
+    Ok(())
+}
+
+/// Feeds the reader up to the end of the next frame, which comes to the host: how many bytes it took.
+#[tactic(auto, using(crate::proofs::Records::not_fed))]
+fn feed<L: Hosting, M: PagedMemory + Drop, W: Write + Drop, R: Wait>(
+    rt: &R,
+    alloc: Global,
+    station: &Station<L, M, W>,
+    from: u8,
+    reader: &mut FrameReader,
+    piece: &[u8],
+) -> Result<usize, HearEnd>
+    requires waits { verdict reader.old.version reader.old.bytes ≡ Ok None }
+    requires unfailed { reader.old.failed ≡ false }
+    requires some { 0 < length piece.now }
+    ensures taken { IfOk result (λ n. (0 < n) × (n ≤ length piece.now)) }
+    ensures all { IfOk result (λ n. AreTold L.opening from station.now.id reader.old (take n piece.now) reader.new) }
+    ensures some { IfErr result (λ end. AreToldUpTo L.opening from station.now.id end reader.old piece.now) }
+{
+    let (taken, received) = reader.feed(alloc, piece)?;
+    if let Some((hosts, frame)) = received {
+        came(rt, alloc, station, from, hosts, &frame)?;
+    }
+    Ok(taken)
+}
+
+/// A frame comes to the host, unless it is Hello.
+#[tactic(auto, using(crate::proofs::Records::none_came, crate::proofs::Records::one_came))]
+fn came<L: Hosting, M: PagedMemory + Drop, W: Write + Drop, R: Wait>(
+    rt: &R,
+    alloc: Global,
+    station: &Station<L, M, W>,
+    from: u8,
+    hosts: Option<(u8, u8)>,
+    frame: &Frame,
+) -> Result<(), HearEnd>
+    ensures told { OnOk result (All (IsTold L.opening from) (comes from station.now.id (hosts, frame.now))) }
+    ensures between { OnOk result (is_between from station.now.id hosts ≡ true) }
+    ensures others { result ≡ Err HearEnd.BadStream → is_between from station.now.id hosts ≡ false }
+{
+    if !is_between(from, station.id, hosts) {
+        return Err(HearEnd::BadStream);
+    }
+    if is_hello(frame) {
+        return Ok(());
+    }
+    match station.came(rt, alloc, from, frame) {
+        Ok(_reply) => Ok(()),
+        Err(_) => Err(HearEnd::OutOfMemory),
+    }
+}
+
+/// Whether a frame goes between two hosts that names these, or none.
+fn is_between(from: u8, to: u8, hosts: Option<(u8, u8)>) -> bool
+    ensures { result ≡ is_between from to hosts }
+{
+    match hosts {
+        None => true,
+        Some(hosts) => hosts.0 == from && hosts.1 == to,
+    }
+}
+
+/// Whether the frame is the first one of a stream.
+fn is_hello(frame: &Frame) -> bool
+    ensures yes { result ≡ true → for_host frame.now ≡ [] }
+    ensures no { result ≡ false → for_host frame.now ≡ frame.now ∷ [] }
+{
+    match frame {
+        Frame::Hello { .. } => true,
+        _ => false,
+    }
+}

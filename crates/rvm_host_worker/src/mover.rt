@@ -1,0 +1,328 @@
+//! The mover: it moves the guest of this host to another one.
+
+ghost use Rattle.std.specs.Prelude.{IfErr, IfSome};
+ghost use Rattle.rvm_host_worker.specs.Ends.{IsNews};
+ghost use Rattle.rvm_host_worker.specs.Movers.{IsMoveEnd, IsToBegin};
+
+use crate::course::{Course, Figures};
+use crate::news::MoveNews;
+use crate::station::Station;
+use rvm_core::ModeKind;
+use rvm_host_cell::Hosting;
+use rvm_mem::PagedMemory;
+use rvm_message::{Command, HostRefusal, HostReply};
+use rvm_precopy::Policy;
+use std::alloc::Global;
+use std::io::Write;
+use std::sync::Wait;
+use std::sync::atomic::{AtomicBool, Ordering};
+use std::thread;
+use std::time::{Clock, Duration};
+
+/// How many milliseconds lie at most between two looks for a connection, or for what a host was told.
+const LOOK: u64 = 20;
+
+/// A move, as it was asked for.
+#[derive(Clone, Copy, Debug)]
+pub struct MovePlan {
+    /// The number of the target.
+    pub to: u8,
+    pub policy: Policy,
+    /// For how long nothing may be heard or done before the move is given up, while that may be.
+    pub patience: Duration,
+}
+
+/// How a move ended.
+#[derive(Clone, Copy, Debug, PartialEq, Eq)]
+pub enum MoveEnd {
+    /// The guest runs at its target.
+    Moved(Figures),
+    /// The target takes no more pages than this; the guest runs on here.
+    Declined(u16),
+    /// The host refused to begin it.
+    Refused(HostRefusal),
+    /// It was given up, since nothing was heard or done for too long; the guest runs on here.
+    GivenUp,
+    /// It was given up by somebody else; the guest runs on here.
+    Aborted,
+    /// A growth was refused before it began.
+    OutOfMemory,
+    /// The mover was told to end before it knew how the move ends.
+    Stopped,
+}
+
+/// Moves the guest of this host to another one. Where a connection breaks while pages are copied, the move is given up
+/// and begun anew once there is one again, so that the guest is not paused for what was lost; once the guest is paused
+/// the last frames are sent again. It is given up where nothing is heard for too long, and never once the guest is
+/// committed: then the mover ends only when it is told to.
+pub fn move_guest<L: Hosting, M: PagedMemory + Drop, W: Write + Drop, R: Wait + Clock>(
+    rt: &R,
+    alloc: Global,
+    station: &Station<L, M, W>,
+    plan: &MovePlan,
+    stop: &AtomicBool,
+) -> MoveEnd
+    ensures { IsMoveEnd L.opening result }
+{
+    let mut course = match begin(rt, alloc, station, plan) {
+        Ok(number) => Course::new(rt, number),
+        Err(end) => return end,
+    };
+    for _step in rt.forever() {
+        if let Some(news) = station.news.of(rt, course.number) {
+            return end_of::<L>(course.figures(rt), news);
+        }
+        if stop.load(Ordering::SeqCst) {
+            return MoveEnd::Stopped;
+        }
+        if let Some(end) = go_on(rt, alloc, station, plan, &mut course) {
+            return end;
+        }
+    }
+    unreachable!()
+}
+
+/// How a move ended, of which this is told.
+fn end_of<L: Hosting>(figures: Figures, news: MoveNews) -> MoveEnd
+    requires { IsNews L.opening figures.number news }
+    ensures { IsMoveEnd L.opening result }
+{
+    match news {
+        MoveNews::Finished => MoveEnd::Moved(figures),
+        MoveNews::Declined(limit) => MoveEnd::Declined(limit),
+        MoveNews::Aborted => MoveEnd::Aborted,
+    }
+}
+
+/// Begins a move: its number.
+fn begin<L: Hosting, M: PagedMemory + Drop, W: Write + Drop, R: Wait>(
+    rt: &R,
+    alloc: Global,
+    station: &Station<L, M, W>,
+    plan: &MovePlan,
+) -> Result<u64, MoveEnd>
+    ensures { IfErr result (IsMoveEnd L.opening) }
+{
+    let command = Command::Begin {
+        to: plan.to,
+        policy: plan.policy,
+    };
+    let Ok(reply) = station.obey(rt, alloc, &command) else {
+        return Err(MoveEnd::OutOfMemory);
+    };
+    let number = begun::<L>(reply)?;
+    station.news.await_move(rt, number);
+    Ok(number)
+}
+
+/// The number of the move that a host has begun, where it did not refuse.
+#[tactic(auto, using(crate::proofs::Begins::begins))]
+fn begun<L: Hosting>(reply: HostReply) -> Result<u64, MoveEnd>
+    requires { IsToBegin L.opening reply }
+    ensures { IfErr result (IsMoveEnd L.opening) }
+{
+    match reply {
+        HostReply::Begun(number) => Ok(number),
+        HostReply::Refused(why) => Err(MoveEnd::Refused(why)),
+        _ => unreachable!(),
+    }
+}
+
+/// Does what is to be done next, and says how the move ended, if it did.
+fn go_on<L: Hosting, M: PagedMemory + Drop, W: Write + Drop, R: Wait + Clock>(
+    rt: &R,
+    alloc: Global,
+    station: &Station<L, M, W>,
+    plan: &MovePlan,
+    course: &mut Course,
+) -> Option<MoveEnd>
+    ensures { IfSome result (IsMoveEnd L.opening) }
+{
+    let seen = station.news.count(rt);
+    let kind = station.status(rt).kind;
+    let may_end = matches!(
+        kind,
+        ModeKind::Offering | ModeKind::Copying | ModeKind::Stopped
+    );
+    if may_end && course.is_silent(rt, plan.patience) {
+        return give_up(rt, alloc, station);
+    }
+    match kind {
+        ModeKind::Given => ask_again(rt, alloc, station, course, seen),
+        ModeKind::Running | ModeKind::Empty | ModeKind::Staging | ModeKind::Held => {
+            let _told = station.news.wait(rt, seen, Duration::from_millis(LOOK));
+        }
+        _ => return send_more(rt, alloc, station, plan, course, kind, seen),
+    }
+    None
+}
+
+/// Gives up the move, unless the guest was committed in the meantime.
+fn give_up<L: Hosting, M: PagedMemory + Drop, W: Write + Drop, R: Wait>(
+    rt: &R,
+    alloc: Global,
+    station: &Station<L, M, W>,
+) -> Option<MoveEnd>
+    ensures { IfSome result (IsMoveEnd L.opening) }
+{
+    match station.obey(rt, alloc, &Command::Abort) {
+        Ok(HostReply::Aborted) => Some(MoveEnd::GivenUp),
+        _ => None,
+    }
+}
+
+/// Waits for the target, and has the last frame sent again where nothing came.
+fn ask_again<L: Hosting, M: PagedMemory + Drop, W: Write + Drop, R: Wait + Clock>(
+    rt: &R,
+    alloc: Global,
+    station: &Station<L, M, W>,
+    course: &mut Course,
+    seen: u64,
+) {
+    if !listen(rt, station, course, seen) {
+        let _reply = station.obey(rt, alloc, &Command::Resend);
+    }
+}
+
+/// Waits for the target, longer each time: whether something was heard.
+fn listen<L: Hosting, M: PagedMemory + Drop, W: Write + Drop, R: Wait + Clock>(
+    rt: &R,
+    station: &Station<L, M, W>,
+    course: &mut Course,
+    seen: u64,
+) -> bool {
+    let is_heard = station.news.wait(rt, seen, course.wait());
+    if is_heard {
+        course.heard(rt);
+    } else {
+        course.wait_longer();
+    }
+    is_heard
+}
+
+/// Goes on with the move of a guest that is here, where there is a connection. Where there is one again, pages that
+/// were copied may be lost.
+fn send_more<L: Hosting, M: PagedMemory + Drop, W: Write + Drop, R: Wait + Clock>(
+    rt: &R,
+    alloc: Global,
+    station: &Station<L, M, W>,
+    plan: &MovePlan,
+    course: &mut Course,
+    kind: ModeKind,
+    seen: u64,
+) -> Option<MoveEnd>
+    ensures { IfSome result (IsMoveEnd L.opening) }
+{
+    if !station.routes.is_open(rt, plan.to) {
+        course.was_open = false;
+        thread::sleep(rt, Duration::from_millis(1));
+        return None;
+    }
+    let is_anew = !course.was_open;
+    course.was_open = true;
+    match kind {
+        ModeKind::Copying if is_anew => return begin_anew(rt, alloc, station, plan, course),
+        ModeKind::Offering if is_anew => {
+            let _reply = station.obey(rt, alloc, &Command::Resend);
+        }
+        ModeKind::Stopped => copy_last(rt, alloc, station, course, seen),
+        _ => return copy(rt, alloc, station, plan, course, seen),
+    }
+    None
+}
+
+/// Gives up the move and begins it anew.
+fn begin_anew<L: Hosting, M: PagedMemory + Drop, W: Write + Drop, R: Wait + Clock>(
+    rt: &R,
+    alloc: Global,
+    station: &Station<L, M, W>,
+    plan: &MovePlan,
+    course: &mut Course,
+) -> Option<MoveEnd>
+    ensures { IfSome result (IsMoveEnd L.opening) }
+{
+    let Ok(HostReply::Aborted) = station.obey(rt, alloc, &Command::Abort) else {
+        return None;
+    };
+    match begin(rt, alloc, station, plan) {
+        Ok(number) => {
+            course.number = number;
+            course.heard(rt);
+            None
+        }
+        Err(end) => Some(end),
+    }
+}
+
+/// Copies a page while the guest runs, or takes the move's next step.
+fn copy<L: Hosting, M: PagedMemory + Drop, W: Write + Drop, R: Wait + Clock>(
+    rt: &R,
+    alloc: Global,
+    station: &Station<L, M, W>,
+    plan: &MovePlan,
+    course: &mut Course,
+    seen: u64,
+) -> Option<MoveEnd>
+    ensures { IfSome result (IsMoveEnd L.opening) }
+{
+    match station.obey(rt, alloc, &Command::Copy) {
+        Ok(HostReply::Copied { .. }) => {
+            course.copies = course.copies.saturating_add(1);
+            course.heard(rt);
+        }
+        Ok(HostReply::RoundEnded { .. }) => {
+            course.rounds = course.rounds.saturating_add(1);
+            await_arrival(rt, station, plan, course);
+        }
+        Ok(HostReply::Stopping) => {
+            course.pause(rt);
+            // What the guest sent before it was paused is written here before it can send more elsewhere.
+            drop(station.console.lock(rt));
+        }
+        Ok(HostReply::Refused(HostRefusal::Busy)) => ask_again(rt, alloc, station, course, seen),
+        Ok(HostReply::Refused(HostRefusal::SeqSpent)) => return give_up(rt, alloc, station),
+        Ok(_) => {}
+        Err(_) => thread::sleep(rt, Duration::from_millis(1)),
+    }
+    None
+}
+
+/// Waits until all that was sent has come, so that the guest is not paused for what is still under way.
+fn await_arrival<L: Hosting, M: PagedMemory + Drop, W: Write + Drop, R: Wait + Clock>(
+    rt: &R,
+    station: &Station<L, M, W>,
+    plan: &MovePlan,
+    course: &mut Course,
+) {
+    let question = station.next_question();
+    if station.routes.ask(rt, plan.to, question).is_ok()
+        && station
+            .news
+            .wait_for_answer(rt, plan.to, question, plan.patience)
+    {
+        course.heard(rt);
+    }
+}
+
+/// Sends what is left of the paused guest, until the target has it.
+fn copy_last<L: Hosting, M: PagedMemory + Drop, W: Write + Drop, R: Wait + Clock>(
+    rt: &R,
+    alloc: Global,
+    station: &Station<L, M, W>,
+    course: &mut Course,
+    seen: u64,
+) {
+    match station.obey(rt, alloc, &Command::Copy) {
+        Ok(HostReply::Copied { .. }) => course.copies = course.copies.saturating_add(1),
+        Ok(HostReply::PartSent { part, parts }) => {
+            if part.saturating_add(1) >= parts {
+                let _heard = listen(rt, station, course, seen);
+            }
+        }
+        Ok(HostReply::StateSent) => {
+            let _heard = listen(rt, station, course, seen);
+        }
+        Ok(_) => {}
+        Err(_) => thread::sleep(rt, Duration::from_millis(1)),
+    }
+}

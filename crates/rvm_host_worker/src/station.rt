@@ -1,0 +1,118 @@
+//! A host, its routes and its news.
+
+ghost use Rattle.std.specs.Prelude.{ℕ, IfOk};
+ghost use Rattle.rvm_host_cell.specs.Events.{IsAnswer};
+ghost use Rattle.rvm_message.specs.Events.{command_of};
+ghost use Rattle.rvm_message.specs.Frames.{frame_heard};
+ghost use Rattle.rvm_protocol.specs.Commands as commands;
+
+use crate::news::{MoveNews, News};
+use rvm_core::HostStatus;
+use rvm_frame::Frame;
+use rvm_host_cell::{HostCell, Hosting, Of};
+use rvm_mem::PagedMemory;
+use rvm_message::{Command, HostRefusal, HostReply};
+use rvm_route::{Made, Routes};
+use std::alloc::{AllocError, Global};
+use std::io::Write;
+use std::sync::atomic::{AtomicU64, Ordering};
+use std::sync::{Mutex, Wait};
+
+/// A host that workers share, its routes to other hosts, and news of its moves. Each call may wait for another thread.
+#[derive(Drop)]
+pub struct Station<L: Hosting, M: PagedMemory + Drop, W: Write + Drop> {
+    /// The number of the host.
+    pub id: u8,
+    pub cell: HostCell<L, M>,
+    pub routes: Routes<Of<L>, W>,
+    pub news: News<L>,
+    /// Held from a drain until what it took is written.
+    pub console: Mutex<()>,
+    /// How many questions were asked.
+    pub questions: AtomicU64,
+}
+
+impl<L: Hosting, M: PagedMemory + Drop, W: Write + Drop> Station<L, M, W> {
+    /// Where the host stands, as it was found.
+    pub fn status<R: Wait>(&self, rt: &R) -> HostStatus {
+        self.cell.status(rt)
+    }
+
+    /// The number of a question that was not asked yet, from 1 on.
+    pub fn next_question(&self) -> u64 {
+        self.questions
+            .fetch_add(1, Ordering::SeqCst)
+            .wrapping_add(1)
+    }
+
+    /// Tells the host something; the frame that it makes is sent, or lost where it cannot be. After a refused growth
+    /// nothing has changed.
+    pub fn obey<R: Wait>(
+        &self,
+        rt: &R,
+        alloc: Global,
+        command: &Command,
+    ) -> Result<HostReply, AllocError>
+        ensures { IfOk result (IsAnswer L.opening (commands.Do (command_of command.now))) }
+    {
+        let (reply, frame) = self.cell.obey(rt, alloc, command)?;
+        self.send(rt, frame);
+        self.note_command(rt, command, &reply);
+        Ok(reply)
+    }
+
+    /// A frame of another host comes; the frame that the host makes is sent, or lost where it cannot be. After a
+    /// refused growth nothing has changed.
+    pub fn came<R: Wait>(
+        &self,
+        rt: &R,
+        alloc: Global,
+        from: u8,
+        frame: &Frame,
+    ) -> Result<HostReply, AllocError>
+        ensures { IfOk result (IsAnswer L.opening (commands.Came from (frame_heard frame.now))) }
+    {
+        let (reply, made) = self.cell.came(rt, alloc, from, frame)?;
+        self.send(rt, made);
+        self.note_frame(rt, frame, &reply);
+        Ok(reply)
+    }
+
+    /// Sends a frame that the host made, if it made one.
+    fn send<R: Wait>(&self, rt: &R, made: Option<Made<Of<L>>>) {
+        if let Some(made) = made {
+            let _lost = self.routes.send(rt, &made);
+        }
+    }
+
+    /// Notes that a move was given up.
+    fn note_command<R: Wait>(&self, rt: &R, command: &Command, reply: &HostReply)
+        requires { IsAnswer L.opening (commands.Do (command_of command.now)) reply.now }
+    {
+        if let (Command::Abort, HostReply::Aborted) = (command, reply) {
+            self.news.tell_aborted(rt);
+        }
+    }
+
+    /// Notes what a mover may wait for. Copies and what a host ignores are nothing to it.
+    fn note_frame<R: Wait>(&self, rt: &R, frame: &Frame, reply: &HostReply)
+        requires { (from : ℕ) × IsAnswer L.opening (commands.Came from (frame_heard frame.now)) reply.now }
+    {
+        match (frame, reply) {
+            (Frame::Started { move_number }, HostReply::Finished) => self
+                .news
+                .tell(rt, *move_number, MoveNews::Finished),
+            (Frame::Refuse { move_number, limit }, HostReply::MoveDeclined(_)) => self
+                .news
+                .tell(rt, *move_number, MoveNews::Declined(*limit)),
+            (
+                _,
+                HostReply::Stored { .. }
+                | HostReply::Noted
+                | HostReply::Kept { .. }
+                | HostReply::Refused(HostRefusal::Ignored),
+            ) => {}
+            _ => self.news.raise(rt),
+        }
+    }
+}
