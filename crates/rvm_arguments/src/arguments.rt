@@ -14,6 +14,8 @@ pub enum Arguments<'a> {
     Script(ScriptArguments<'a>),
     Move(MoveArguments<'a>),
     Audit(MoveArguments<'a>),
+    Host(HostArguments<'a>),
+    Tell(TellArguments<'a>),
 }
 
 /// A guest: the file of its image, and its board. Each number is within its limits.
@@ -94,4 +96,37 @@ pub struct MoveArguments<'a> {
     ghost left_allowed: { (1 ≤ left) × (left ≤ 4096) },
     ghost factor_allowed: { (1 ≤ factor) × (factor ≤ 100) },
     ghost stream_allowed: { (1 ≤ stream) × (stream ≤ 3) },
+}
+
+/// The arguments of `rvmove host`.
+#[derive(Debug, Drop)]
+pub struct HostArguments<'a> {
+    /// The name of the host, as the file of the world's hosts has it.
+    pub name: &'a str,
+    /// The file of the world's hosts.
+    pub peers: &'a str,
+    /// The guest that begins at this host, if one does.
+    pub guest: Option<GuestArguments<'a>>,
+    /// The address at which other hosts reach it, if it is not the one that the file has for its name.
+    pub listen: Option<&'a str>,
+    /// The address at which operators reach it.
+    pub control: &'a str,
+    /// The file of the secret that the hosts of the world share, if they do.
+    pub secret: Option<&'a str>,
+    /// The file whose bytes come to the console, if any.
+    pub input: Option<&'a str>,
+    /// How many milliseconds a move waits for an answer before it is given up, 1 to 1000000000.
+    pub patience: u32,
+    /// Whether the process ends once the guest has halted here.
+    pub until_halt: bool,
+    ghost patience_allowed: { (1 ≤ patience) × (patience ≤ 1000000000) },
+}
+
+/// The arguments of `rvmove tell`.
+#[derive(Debug, Drop)]
+pub struct TellArguments<'a> {
+    /// The address at which the host answers operators.
+    pub control: &'a str,
+    /// The line that it is told; without one, all lines of standard input.
+    pub line: Option<&'a str>,
 }

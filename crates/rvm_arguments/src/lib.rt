@@ -6,6 +6,6 @@
 mod arguments;
 
 pub use arguments::{
-    Arguments, AsmArguments, DisArguments, GuestArguments, MoveArguments, RunArguments,
-    ScriptArguments,
+    Arguments, AsmArguments, DisArguments, GuestArguments, HostArguments, MoveArguments,
+    RunArguments, ScriptArguments, TellArguments,
 };
