@@ -4,11 +4,13 @@ use Rattle.std.specs.Str.Parse.{IsNumeral, digits_value}
 use Rattle.clap.specs.Walk.{Row, Text, first_of, one_of}
 use Rattle.std.specs.Prelude.{List}
 use Rattle.rvm_arguments.specs.declared.arguments.Arguments.{Arguments}
-use Rattle.rvm_arguments.specs.declared.arguments.Arguments.TheVariants.{Run, Asm, Dis, Debug, Script, Move, Audit}
+use Rattle.rvm_arguments.specs.declared.arguments.Arguments.TheVariants.{Run, Asm, Dis, Debug, Script, Move, Audit, Host, Tell}
 use Rattle.rvm_arguments.specs.declared.arguments.GuestArguments.{GuestArguments}
+use Rattle.rvm_arguments.specs.declared.arguments.HostArguments.{HostArguments}
 use Rattle.rvm_arguments.specs.declared.arguments.MoveArguments.{MoveArguments}
 use Rattle.rvm_arguments.specs.declared.arguments.RunArguments.{RunArguments}
 use Rattle.rvm_arguments.specs.declared.arguments.ScriptArguments.{ScriptArguments}
+use Rattle.rvm_arguments.specs.declared.arguments.TellArguments.{TellArguments}
 
 -- a text was given, and it writes this number in decimal digits alone
 abbrev pub IsNumber : Option Text → ℕ → Type 0
@@ -56,6 +58,28 @@ pub record IsMove (rows : List Row) (asked : MoveArguments) : Type 0 where
   pub factor : IsNumber (first_of (codes "factor") rows) asked.factor
   pub stream : IsNumber (first_of (codes "stream") rows) asked.stream
 
+-- there is a guest just where an image was named, and it is that one
+abbrev pub IsOptionalGuest : List Row → Option GuestArguments → Type 0
+IsOptionalGuest rows None = first_of (codes "image") rows ≡ None
+IsOptionalGuest rows (Some guest) = IsGuest rows guest
+
+-- a host by its name, its guest if it has one, where it is reached, and how long it waits
+pub record IsHost (rows : List Row) (host : HostArguments) : Type 0 where
+  pub name : first_of (codes "name") rows ≡ Some host.name.now
+  pub peers : first_of (codes "peers") rows ≡ Some host.peers.now
+  pub guest : IsOptionalGuest rows host.guest
+  pub listen : first_of (codes "listen") rows ≡ option_map (λ s. s.now) host.listen
+  pub control : first_of (codes "control") rows ≡ Some host.control.now
+  pub secret : first_of (codes "secret") rows ≡ option_map (λ s. s.now) host.secret
+  pub input : first_of (codes "input") rows ≡ option_map (λ s. s.now) host.input
+  pub patience : IsNumber (first_of (codes "patience") rows) host.patience
+  pub until_halt : IsFlag (one_of (codes "until-halt") rows) host.until_halt
+
+-- the host that is told something, and the line, if one was given
+pub record IsTell (rows : List Row) (tell : TellArguments) : Type 0 where
+  pub control : first_of (codes "address") rows ≡ Some tell.control.now
+  pub line : first_of (codes "line") rows ≡ option_map (λ s. s.now) tell.line
+
 -- what the words of a command with this name ask for
 abbrev pub Gives : Text → List Row → Arguments → Type 0
 Gives name rows (Run run) = (name ≡ codes "run") × IsRun rows run
@@ -63,6 +87,8 @@ Gives name rows (Debug guest) = (name ≡ codes "debug") × IsGuest rows guest
 Gives name rows (Script script) = (name ≡ codes "script") × IsScript rows script
 Gives name rows (Move asked) = (name ≡ codes "move") × IsMove rows asked
 Gives name rows (Audit asked) = (name ≡ codes "audit") × IsMove rows asked
+Gives name rows (Host host) = (name ≡ codes "host") × IsHost rows host
+Gives name rows (Tell tell) = (name ≡ codes "tell") × IsTell rows tell
 Gives name rows (Asm asm) =
     (name ≡ codes "asm") × (first_of (codes "source") rows ≡ Some asm.source.now)
     × (first_of (codes "output") rows ≡ Some asm.output.now)

@@ -12,6 +12,10 @@ use Rattle.clap.specs.declared.error.kind.ErrorKind.TheVariants as kind
 abbrev pub needed : Text → Rule
 needed id = record (new_rule id) { value_names = 1; required = true }
 
+-- a word that may be there
+abbrev pub allowed : Text → Rule
+allowed id = record (new_rule id) { value_names = 1 }
+
 -- a flag
 abbrev pub flag : Text → Rule
 flag name = record (new_rule name) { long = Some name; action = Some SetTrue }
@@ -19,6 +23,10 @@ flag name = record (new_rule name) { long = Some name; action = Some SetTrue }
 -- an option with a text
 abbrev pub option : Text → Rule
 option name = record (new_rule name) { long = Some name; value_names = 1 }
+
+-- an option with a text, which must be given
+abbrev pub needed_option : Text → Rule
+needed_option name = record (option name) { required = true }
 
 -- an option with a number within limits
 abbrev pub bounded : Text → (least most : ℕ) → Rule
@@ -32,13 +40,15 @@ with_default default rule = record rule { defaults = default ∷ [] }
 abbrev pub number : Text → (default : Text) → (most : ℕ) → Rule
 number name default most = with_default default (bounded name 1 most)
 
+-- a command that takes the words of an image's form and of its board
+abbrev pub with_board : App → App
+with_board command =
+    with_rule (with_rule (with_rule command (flag (codes "raw"))) (number (codes "harts") (codes "1") 8))
+    (number (codes "pages") (codes "256") 4096)
+
 -- a command that takes the words of a guest
 abbrev pub with_guest : App → App
-with_guest command =
-    with_rule
-    (with_rule (with_rule (with_rule command (needed (codes "image"))) (flag (codes "raw")))
-    (number (codes "harts") (codes "1") 8))
-    (number (codes "pages") (codes "256") 4096)
+with_guest command = with_board (with_rule command (needed (codes "image")))
 
 -- a command that takes the words of a guest and of its hosts
 abbrev pub with_world : App → App
@@ -92,6 +102,32 @@ move = with_move (new_app (codes "move"))
 abbrev pub audit : App
 audit = with_move (new_app (codes "audit"))
 
+-- a command that takes the words that say where a host is reached, and by whom
+abbrev pub with_addresses : App → App
+with_addresses command =
+    with_rule
+    (with_rule
+    (with_rule (with_rule command (needed_option (codes "peers"))) (option (codes "listen")))
+    (needed_option (codes "control")))
+    (option (codes "secret"))
+
+-- the command that runs a host, at which a guest begins if an image is named
+abbrev pub host : App
+host =
+    with_rule
+    (with_rule
+    (with_rule
+    (with_addresses
+    (with_board
+    (with_rule (with_rule (new_app (codes "host")) (needed (codes "name"))) (allowed (codes "image")))))
+    (option (codes "input")))
+    (number (codes "patience") (codes "10000") 1000000000))
+    (flag (codes "until-halt"))
+
+-- the command that tells a host lines
+abbrev pub tell : App
+tell = with_rule (with_rule (new_app (codes "tell")) (needed (codes "address"))) (allowed (codes "line"))
+
 -- the program, which wants a command
 abbrev pub top : App
 top =
@@ -104,8 +140,10 @@ program =
     with_subcommand
     (with_subcommand
     (with_subcommand
+    (with_subcommand
+    (with_subcommand
     (with_subcommand (with_subcommand (with_subcommand (with_subcommand top run.top) asm.top) dis.top)
-    debug.top) script.top) move.top) audit.top
+    debug.top) script.top) move.top) audit.top) host.top) tell.top
 
 -- of which kinds the fault of a command line is: what `clap` finds in its words, or else a value that `clap` takes and
 -- the program does not

@@ -7,7 +7,7 @@ ghost use Rattle.clap.specs.Walk.{rule_of};
 ghost use Rattle.clap.specs.Words.{kind_of};
 ghost use Rattle.clap.specs.declared.builder.command.Command.TheViews.{out-Command as fields_of};
 ghost use Rattle.clap.specs.declared.error.kind.ErrorKind.TheVariants as kind;
-ghost use Rattle.rvm_command_line.specs.Program.{asm, audit, bounded, debug, dis, flag, move, needed, number, option, program, run, script, top, with_default, with_guest, with_move, with_policy, with_world};
+ghost use Rattle.rvm_command_line.specs.Program.{allowed, asm, audit, bounded, debug, dis, flag, host, move, needed, needed_option, number, option, program, run, script, tell, top, with_addresses, with_board, with_default, with_guest, with_move, with_policy, with_world};
 
 use clap::{Arg, ArgAction, Command, Error, value_parser};
 use std::alloc::Global;
@@ -86,6 +86,27 @@ Standard output has one order of what both hosts did: a script that `rvmove scri
 The guest is paused after R rounds of copies, or once fewer than L pages are left, or more copies made than
 F times its pages.";
 
+/// What stands below the help of `host`.
+const HOST_HELP: &str = "\
+Example: rvmove host A hello.elf --peers hosts.txt --control 127.0.0.1:7101
+
+FILE has a line for each host of the world, such as `A 127.0.0.1:7001`, in the order A, B, C. Each host is a
+process; at one of them a guest begins, from an IMAGE. Standard output has what the guest sends while it is
+here. Operators talk to the host by `rvmove tell`, at the address of --control.
+Without --secret all addresses must be of this machine (127.0.0.0/8 or ::1).";
+
+/// What stands below the help of `tell`.
+const TELL_HELP: &str = "\
+Example: rvmove tell 127.0.0.1:7101 'move B'
+
+Lines, beside those of `rvmove debug`:
+  move [HOST] [R L F]   moves the guest to a host: `moved` once it runs there
+  status                the mode of the host, its connections and the turns that the guest made here
+  stop [now]            ends the process; without `now` only while no guest is here
+  begin [HOST] [R L F], copy, resend, abort   the steps of a move, as in `rvmove script`
+The status is 0 if all that was asked happened, 1 if something did not, 3 if an answer was lost: then ask for
+the status of the host.";
+
 /// The command line that the program takes.
 pub(crate) fn program<'a>(alloc: Global) -> Result<Command<'a>, Error>
     ensures app { IfOk result (λ c. app_of c ≡ program) }
@@ -97,7 +118,9 @@ pub(crate) fn program<'a>(alloc: Global) -> Result<Command<'a>, Error>
     let program = with_command(program, debug_command(alloc))?;
     let program = with_command(program, script_command(alloc))?;
     let program = with_command(program, move_command(alloc))?;
-    with_command(program, audit_command(alloc))
+    let program = with_command(program, audit_command(alloc))?;
+    let program = with_command(program, host_command(alloc))?;
+    with_command(program, tell_command(alloc))
 }
 
 /// The program with a command more, if that was made.
@@ -319,6 +342,135 @@ fn move_stream_argument<'a>(alloc: Global) -> Arg<'a>
         .help("The version of the streams, 1 to 3")
 }
 
+/// The name of a host.
+fn name_argument<'a>(alloc: Global) -> Arg<'a>
+    ensures rule { rule_of result ≡ needed (codes "name") }
+    ensures local { result.global ≡ false }
+{
+    Arg::new(alloc, "name")
+        .value_name("NAME")
+        .required(true)
+        .help("The name of this host in the file of the world's hosts, A to H")
+}
+
+/// The file of the image of a guest that begins at a host, if one does.
+fn optional_image_argument<'a>(alloc: Global) -> Arg<'a>
+    ensures rule { rule_of result ≡ allowed (codes "image") }
+    ensures local { result.global ≡ false }
+{
+    Arg::new(alloc, "image").value_name("IMAGE").help(
+        "The image of the guest that begins here, if one does: an ELF file, or plain bytes",
+    )
+}
+
+/// The file of the world's hosts.
+fn peers_argument<'a>(alloc: Global) -> Arg<'a>
+    ensures rule { rule_of result ≡ needed_option (codes "peers") }
+    ensures local { result.global ≡ false }
+{
+    Arg::new(alloc, "peers")
+        .long("peers")
+        .value_name("FILE")
+        .required(true)
+        .help("The file of the world's hosts: a line `NAME ADDRESS:PORT` for each, 2 to 8")
+}
+
+/// The address at which other hosts reach a host.
+fn listen_argument<'a>(alloc: Global) -> Arg<'a>
+    ensures rule { rule_of result ≡ option (codes "listen") }
+    ensures local { result.global ≡ false }
+{
+    Arg::new(alloc, "listen")
+        .long("listen")
+        .value_name("ADDR")
+        .help(
+            "The address at which it listens for other hosts, if it is not that of its name in FILE",
+        )
+}
+
+/// The address at which operators reach a host.
+fn control_argument<'a>(alloc: Global) -> Arg<'a>
+    ensures rule { rule_of result ≡ needed_option (codes "control") }
+    ensures local { result.global ≡ false }
+{
+    Arg::new(alloc, "control")
+        .long("control")
+        .value_name("ADDR")
+        .required(true)
+        .help("The address at which it listens for operators, of this machine alone")
+}
+
+/// The file of the secret that hosts share.
+fn secret_argument<'a>(alloc: Global) -> Arg<'a>
+    ensures rule { rule_of result ≡ option (codes "secret") }
+    ensures local { result.global ≡ false }
+{
+    Arg::new(alloc, "secret")
+        .long("secret")
+        .value_name("FILE")
+        .help("The file of the secret that the hosts of the world share")
+}
+
+/// How long a move waits for an answer.
+fn patience_argument<'a>(alloc: Global) -> Arg<'a>
+    ensures rule { rule_of result ≡ number (codes "patience") (codes "10000") 1000000000 }
+    ensures local { result.global ≡ false }
+{
+    Arg::new(alloc, "patience")
+        .long("patience")
+        .value_name("MS")
+        .default_value("10000")
+        .value_parser(value_parser!(u32).range(1..=1_000_000_000))
+        .help("Gives a move up after so many milliseconds without an answer, 1 to 1000000000")
+}
+
+/// Whether a process ends once its guest has halted.
+fn until_halt_argument<'a>(alloc: Global) -> Arg<'a>
+    ensures rule { rule_of result ≡ flag (codes "until-halt") }
+    ensures local { result.global ≡ false }
+{
+    Arg::new(alloc, "until-halt")
+        .long("until-halt")
+        .action(ArgAction::SetTrue)
+        .help("Ends once the guest has halted here")
+}
+
+/// The address of a host that is told something.
+fn address_argument<'a>(alloc: Global) -> Arg<'a>
+    ensures rule { rule_of result ≡ needed (codes "address") }
+    ensures local { result.global ≡ false }
+{
+    Arg::new(alloc, "address")
+        .value_name("ADDR")
+        .required(true)
+        .help("The address that the host was given by --control")
+}
+
+/// The line that a host is told.
+fn line_argument<'a>(alloc: Global) -> Arg<'a>
+    ensures rule { rule_of result ≡ allowed (codes "line") }
+    ensures local { result.global ≡ false }
+{
+    Arg::new(alloc, "line")
+        .value_name("LINE")
+        .help("The line; without it, those of standard input")
+}
+
+/// A command over an image, with the words that describe its form and its board.
+fn board_command<'a>(command: Command<'a>, alloc: Global) -> Result<Command<'a>, Error>
+    ensures app { IfOk result (λ c. app_of c ≡ with_board (app_of command.entry)) }
+    ensures local { (fields_of command.entry).has_globals ≡ false
+        → IfOk result (λ c. (fields_of c).has_globals ≡ false) }
+    ensures memory { IfErr result (λ e. kind_of e ≡ kind.OutOfMemory) }
+{
+    Ok(
+        command
+            .arg(raw_argument(alloc))?
+            .arg(harts_argument(alloc))?
+            .arg(pages_argument(alloc))?,
+    )
+}
+
 /// A command over a guest, with the words that describe it.
 fn guest_command<'a>(command: Command<'a>, alloc: Global) -> Result<Command<'a>, Error>
     ensures app { IfOk result (λ c. app_of c ≡ with_guest (app_of command.entry)) }
@@ -326,13 +478,7 @@ fn guest_command<'a>(command: Command<'a>, alloc: Global) -> Result<Command<'a>,
         → IfOk result (λ c. (fields_of c).has_globals ≡ false) }
     ensures memory { IfErr result (λ e. kind_of e ≡ kind.OutOfMemory) }
 {
-    Ok(
-        command
-            .arg(image_argument(alloc))?
-            .arg(raw_argument(alloc))?
-            .arg(harts_argument(alloc))?
-            .arg(pages_argument(alloc))?,
-    )
+    board_command(command.arg(image_argument(alloc))?, alloc)
 }
 
 /// A command over a guest that moves between hosts, with the words that describe them.
@@ -464,4 +610,54 @@ fn audit_command<'a>(alloc: Global) -> Result<Command<'a>, Error>
         .about("Moves a guest as `move` does, and writes one order of what both hosts did")
         .after_help(AUDIT_HELP);
     moving_command(audit, alloc)
+}
+
+/// A command over a host, with the words that say where it is reached, and by whom.
+fn addresses_command<'a>(command: Command<'a>, alloc: Global) -> Result<Command<'a>, Error>
+    ensures app { IfOk result (λ c. app_of c ≡ with_addresses (app_of command.entry)) }
+    ensures local { (fields_of command.entry).has_globals ≡ false
+        → IfOk result (λ c. (fields_of c).has_globals ≡ false) }
+    ensures memory { IfErr result (λ e. kind_of e ≡ kind.OutOfMemory) }
+{
+    Ok(
+        command
+            .arg(peers_argument(alloc))?
+            .arg(listen_argument(alloc))?
+            .arg(control_argument(alloc))?
+            .arg(secret_argument(alloc))?,
+    )
+}
+
+/// The words that `host` takes.
+fn host_command<'a>(alloc: Global) -> Result<Command<'a>, Error>
+    ensures app { IfOk result (λ c. app_of c ≡ host) }
+    ensures local { IfOk result (λ c. (fields_of c).has_globals ≡ false) }
+    ensures memory { IfErr result (λ e. kind_of e ≡ kind.OutOfMemory) }
+{
+    let host = Command::new(alloc, "host")
+        .about("Runs a host of a world whose hosts are processes, between which a guest moves")
+        .after_help(HOST_HELP)
+        .arg(name_argument(alloc))?
+        .arg(optional_image_argument(alloc))?;
+    Ok(
+        addresses_command(board_command(host, alloc)?, alloc)?
+            .arg(input_argument(alloc))?
+            .arg(patience_argument(alloc))?
+            .arg(until_halt_argument(alloc))?,
+    )
+}
+
+/// The words that `tell` takes.
+fn tell_command<'a>(alloc: Global) -> Result<Command<'a>, Error>
+    ensures app { IfOk result (λ c. app_of c ≡ tell) }
+    ensures local { IfOk result (λ c. (fields_of c).has_globals ≡ false) }
+    ensures memory { IfErr result (λ e. kind_of e ≡ kind.OutOfMemory) }
+{
+    Ok(
+        Command::new(alloc, "tell")
+            .about("Tells a host lines of an operator, and writes its answers")
+            .after_help(TELL_HELP)
+            .arg(address_argument(alloc))?
+            .arg(line_argument(alloc))?,
+    )
 }

@@ -6,15 +6,15 @@ ghost use Rattle.clap.specs.Kinds.{HasKind};
 ghost use Rattle.clap.specs.Matches.{found_of};
 ghost use Rattle.clap.specs.Simple.{app_of, subcommand_of, subcommand_rows_of};
 ghost use Rattle.clap.specs.Walk.{first_of, one_of, rows_of};
-ghost use Rattle.rvm_command_line.specs.Given.{Gives, IsAsked, IsFlag, IsGuest, IsMove, IsNumber, IsOptionalNumber};
+ghost use Rattle.rvm_command_line.specs.Given.{Gives, IsAsked, IsFlag, IsGuest, IsHost, IsMove, IsNumber, IsOptionalGuest, IsOptionalNumber, IsTell};
 ghost use Rattle.rvm_command_line.specs.Program.{faults_of, program};
 
 use crate::program::program;
 use clap::error::ErrorKind;
 use clap::{ArgMatches, Command, Error};
 use rvm_arguments::{
-    Arguments, AsmArguments, DisArguments, GuestArguments, MoveArguments, RunArguments,
-    ScriptArguments,
+    Arguments, AsmArguments, DisArguments, GuestArguments, HostArguments, MoveArguments,
+    RunArguments, ScriptArguments, TellArguments,
 };
 use rvm_mem::MAX_PAGES;
 use std::alloc::Global;
@@ -40,6 +40,9 @@ const MAX_ROUNDS: u32 = 1000;
 
 /// The most copies for each page before it is paused.
 const MAX_FACTOR: u32 = 100;
+
+/// The most milliseconds that a move waits for an answer.
+const MAX_PATIENCE: u32 = 1_000_000_000;
 
 /// Reads the command line, whose first word is the program's name. The error has `clap`'s text, and
 /// `exit_code` says what the program ends with.
@@ -81,6 +84,8 @@ fn read_matches<'a>(matches: &ArgMatches<'a>) -> Result<Arguments<'a>, &'static 
         Some(("script", script)) => read_script(script),
         Some(("move", words)) => Ok(Arguments::Move(read_move(words)?)),
         Some(("audit", words)) => Ok(Arguments::Audit(read_move(words)?)),
+        Some(("host", host)) => Ok(Arguments::Host(read_host(host)?)),
+        Some(("tell", tell)) => Ok(Arguments::Tell(read_tell(tell)?)),
         _ => Err("a command is missing"),
     }
 }
@@ -217,6 +222,60 @@ fn read_move<'a>(words: &ArgMatches<'a>) -> Result<MoveArguments<'a>, &'static s
         left,
         factor,
         stream,
+    })
+}
+
+/// The arguments of `host`, or which of them is not what it must be.
+fn read_host<'a>(host: &ArgMatches<'a>) -> Result<HostArguments<'a>, &'static str>
+    ensures { IfOk result (IsHost (rows_of (found_of host.now))) }
+{
+    let Some(name) = text(host, "name") else {
+        return Err("NAME is missing");
+    };
+    let Some(peers) = text(host, "peers") else {
+        return Err("--peers is missing");
+    };
+    let Some(control) = text(host, "control") else {
+        return Err("--control is missing");
+    };
+    let Some(patience) = number(host, "patience", 1, MAX_PATIENCE) else {
+        return Err("--patience takes a decimal number from 1 to 1000000000");
+    };
+    Ok(HostArguments {
+        name,
+        peers,
+        guest: read_optional_guest(host)?,
+        listen: text(host, "listen"),
+        control,
+        secret: text(host, "secret"),
+        input: text(host, "input"),
+        patience,
+        until_halt: flag(host, "until-halt"),
+    })
+}
+
+/// The guest of a command that may have none, or which of its arguments is not what it must be.
+fn read_optional_guest<'a>(
+    command: &ArgMatches<'a>,
+) -> Result<Option<GuestArguments<'a>>, &'static str>
+    ensures { IfOk result (IsOptionalGuest (rows_of (found_of command.now))) }
+{
+    if text(command, "image").is_none() {
+        return Ok(None);
+    }
+    Ok(Some(read_guest(command)?))
+}
+
+/// The arguments of `tell`, or which of them is not what it must be.
+fn read_tell<'a>(tell: &ArgMatches<'a>) -> Result<TellArguments<'a>, &'static str>
+    ensures { IfOk result (IsTell (rows_of (found_of tell.now))) }
+{
+    let Some(control) = text(tell, "address") else {
+        return Err("ADDR is missing");
+    };
+    Ok(TellArguments {
+        control,
+        line: text(tell, "line"),
     })
 }
 

@@ -1,4 +1,4 @@
-use Rattle.rvm_command_line.specs.Program.{asm, audit, debug, dis, move, run, script}
+use Rattle.rvm_command_line.specs.Program.{asm, audit, debug, dis, host, move, run, script, tell}
 use Rattle.rvm_command_line.proofs.Commands.{adds, adds_last}
 use Rattle.rvm_command_line.proofs.program.program.Goals as goal
 
@@ -11,7 +11,9 @@ returns-clause-app c =
     let fourth = adds debug _ c.in_ok-program-4.ensures.app third c.debug_command.ensures.app c.debug_command.ensures.local in
     let fifth = adds script _ c.in_ok-program-5.ensures.app fourth c.script_command.ensures.app c.script_command.ensures.local in
     let sixth = adds move _ c.in_ok-program-6.ensures.app fifth c.move_command.ensures.app c.move_command.ensures.local in
-    adds_last audit _ _ c.with_command-7.ensures.app sixth c.audit_command.ensures.app c.audit_command.ensures.local
+    let seventh = adds audit _ c.in_ok-program-7.ensures.app sixth c.audit_command.ensures.app c.audit_command.ensures.local in
+    let eighth = adds host _ c.in_ok-program-8.ensures.app seventh c.host_command.ensures.app c.host_command.ensures.local in
+    adds_last tell _ _ c.with_command-9.ensures.app eighth c.tell_command.ensures.app c.tell_command.ensures.local
 
 pub returns-clause-memory : goal.returns-clause-memory
-returns-clause-memory c = c.with_command-7.ensures.memory c.audit_command.ensures.memory
+returns-clause-memory c = c.with_command-9.ensures.memory c.tell_command.ensures.memory
