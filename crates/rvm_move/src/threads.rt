@@ -9,7 +9,7 @@ ghost use Rattle.rvm_worker.specs.Copiers.{IsCopied};
 ghost use Rattle.rvm_worker.specs.Heard.{IsReceived};
 ghost use Rattle.rvm_worker.specs.declared.end.WorkEnd.TheVariants.{LinkFault};
 
-use crate::beside::{beside, take_back};
+use crate::beside::beside;
 use crate::plan::Plan;
 use crate::turns::Turns;
 use rvm_cell::{Seat, Seating, SharedHost};
@@ -17,7 +17,7 @@ use rvm_hart_worker::{HartsWorked, Hosts};
 use rvm_link::{Link, Outgoing};
 use rvm_mem::PagedMemory;
 use rvm_precopy::Policy;
-use rvm_worker::{Gate, Side, WorkEnd, Worked, Worker, copier_worker, receiver_worker};
+use rvm_worker::{Gate, Side, WorkEnd, Worked, Worker, copier_worker, receiver_worker, take_back};
 use std::alloc::Global;
 use std::io::Write;
 use std::sync::Wait;

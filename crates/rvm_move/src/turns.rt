@@ -6,12 +6,11 @@ ghost use Rattle.rvm_hart_worker.specs.Calls.{IsRun};
 ghost use Rattle.rvm_worker.specs.Work.{IsWork};
 ghost use Rattle.rvm_worker.specs.declared.end.WorkEnd.TheVariants.{LinkFault};
 
-use crate::beside::Task;
 use crate::plan::Plan;
 use rvm_cell::{Seat, Seating};
 use rvm_hart_worker::{HartsWorked, Hosts, hart_worker};
 use rvm_mem::PagedMemory;
-use rvm_worker::Gate;
+use rvm_worker::{Gate, Task};
 use std::alloc::Global;
 use std::io::Write;
 use std::sync::Wait;

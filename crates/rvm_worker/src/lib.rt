@@ -5,7 +5,7 @@
 //! Stands on `rvm_cell` and `rvm_link`, and knows nothing of sockets, of how workers are started, or of
 //! what becomes of their receipts.
 //!
-//! To be read in this order: `gate`, `end`, `steps`, `heap`, `caller`, `telling`, `next`, `copying`, `copier`,
+//! To be read in this order: `task`, `gate`, `end`, `steps`, `heap`, `caller`, `telling`, `next`, `copying`, `copier`,
 //! `hearing`, `receiver`.
 #![tactic(auto)]
 
@@ -19,6 +19,7 @@ mod hearing;
 mod next;
 mod receiver;
 mod steps;
+mod task;
 mod telling;
 
 pub use caller::Caller;
@@ -27,4 +28,5 @@ pub use end::{WorkEnd, Worked};
 pub use gate::{Gate, Watch, Worker};
 pub use receiver::receiver_worker;
 pub use steps::SliceSteps;
+pub use task::{Task, take_back};
 pub use telling::Side;
