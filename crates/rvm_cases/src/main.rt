@@ -12,6 +12,7 @@ use rvm_paged::PagedRam;
 use rvm_program::perform;
 use std::io::{self, Write};
 use std::net::Net;
+use std::random::RandomSource;
 use std::rt::Files;
 use std::sync::Wait;
 use std::thread::Threads;
@@ -29,12 +30,13 @@ fn main(rt: HostRuntime) -> anyhow::Result<()> {
 }
 
 /// Prints each line of a transcript, and after each command what it answers.
-fn replay<R: Files + AllocGlobal + Print + Net + Threads + Wait + Clock + Sync>(
+fn replay<R: Files + AllocGlobal + Print + Net + Threads + Wait + Clock + RandomSource + Sync>(
     rt: &R,
     transcript: &str,
 ) -> anyhow::Result<()>
 where
     R::Stream: Send,
+    R::Listener: Send + Sync,
 {
     let mut command = None;
     let mut typed = String::new(rt.alloc());
@@ -53,13 +55,14 @@ where
 }
 
 /// Prints what a command answers, if there is one.
-fn answer<R: Files + AllocGlobal + Print + Net + Threads + Wait + Clock + Sync>(
+fn answer<R: Files + AllocGlobal + Print + Net + Threads + Wait + Clock + RandomSource + Sync>(
     rt: &R,
     command: Option<&str>,
     typed: &[u8],
 ) -> anyhow::Result<()>
 where
     R::Stream: Send,
+    R::Listener: Send + Sync,
 {
     let Some(command) = command else {
         return Ok(());
@@ -128,14 +131,12 @@ struct Targets<'a> {
 
 /// Does what the words of a command ask for, and prints what it wrote, or puts it into a file. It is done over both
 /// memories, and a line is printed where they differ in what is printed.
-fn perform_and_print<R: Files + AllocGlobal + Print + Net + Threads + Wait + Clock + Sync>(
-    rt: &R,
-    command: &str,
-    input: &[u8],
-    targets: Targets<'_>,
-) -> anyhow::Result<()>
+fn perform_and_print<
+    R: Files + AllocGlobal + Print + Net + Threads + Wait + Clock + RandomSource + Sync,
+>(rt: &R, command: &str, input: &[u8], targets: Targets<'_>) -> anyhow::Result<()>
 where
     R::Stream: Send,
+    R::Listener: Send + Sync,
 {
     let words: Vec<&str> = command.split_whitespace().collect(rt.alloc())?;
     let flat = perform_over::<FlatMemory, R>(rt, words.as_slice(), input);
@@ -180,10 +181,11 @@ impl Performed {
 /// Does what the words of a command ask for, over a memory.
 fn perform_over<
     M: PagedMemory + Drop + Send + 'static,
-    R: Files + AllocGlobal + Net + Threads + Wait + Clock + Sync,
+    R: Files + AllocGlobal + Net + Threads + Wait + Clock + RandomSource + Sync,
 >(rt: &R, words: &[&str], input: &[u8]) -> Performed
 where
     R::Stream: Send,
+    R::Listener: Send + Sync,
 {
     let (mut output, mut errors) = (Vec::new(rt.alloc()), Vec::new(rt.alloc()));
     let mut input = input;

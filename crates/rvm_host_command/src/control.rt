@@ -6,7 +6,7 @@ use crate::answers::{Outcome, answer_line};
 use crate::process::Process;
 use rvm_host_cell::Hosting;
 use rvm_mem::PagedMemory;
-use rvm_refusal::LinkFault;
+use rvm_refusal::{LinkFault, Refusal};
 use std::alloc::Global;
 use std::io::{ErrorKind, Read, Write};
 use std::net::{OpenListener, OpenStream};
@@ -96,7 +96,8 @@ fn read_some<C: Read>(stream: &mut C, buffer: &mut [u8]) -> Result<Option<usize>
     }
 }
 
-/// Takes bytes that came, and answers each line that they end. A line that is too long ends the connection.
+/// Takes bytes that came, and answers each line that they end. A line that is too long is refused, and ends the
+/// connection.
 fn take_bytes<
     L: Hosting,
     M: PagedMemory + Drop,
@@ -115,11 +116,21 @@ fn take_bytes<
         if *byte == b'\n' {
             answer_and_end(rt, alloc, process, line.as_slice(), output)?;
             line.clear();
-        } else if line.len() >= MAX_LINE || line.push(*byte).is_err() {
-            return Err(LinkFault);
+        } else if line.len() >= MAX_LINE {
+            return refuse_and_end(output, Refusal::TooLong);
+        } else if line.push(*byte).is_err() {
+            return refuse_and_end(output, Refusal::OutOfMemory);
         }
     }
     Ok(())
+}
+
+/// Refuses a line whose end has not come, and ends the connection.
+fn refuse_and_end<O: Write>(output: &mut O, why: Refusal) -> Result<(), LinkFault> {
+    writeln!(output, "{why}")?;
+    writeln!(output, "end 1")?;
+    output.flush()?;
+    Err(LinkFault)
 }
 
 /// Answers a last line that does not end, if there is one.

@@ -1,10 +1,15 @@
 //! A host works in a process of its own.
 
-ghost use Rattle.std.specs.Prelude.{◌≡◌};
+ghost use Rattle.std.specs.Prelude.{◌≡◌, ◌≢◌, IfErr, IfOk, length};
+ghost use Rattle.rvm_host_command.specs.Hosted.{opening_of};
+ghost use Rattle.rvm_host_worker.specs.Console.{IsShown};
+ghost use Rattle.rvm_host_worker.specs.declared.harts.HartsEnd.TheVariants.{ConsoleFault};
 
 use crate::door::Door;
+use crate::fault::HostFault;
 use crate::process::Process;
-use crate::threads::{Listeners, work};
+use crate::threads::{Listeners, work_beside};
+use crate::turns::Turns;
 use rvm_core::Host;
 use rvm_debug::Debugged;
 use rvm_greeting::{Registry, Secret};
@@ -12,8 +17,8 @@ use rvm_host_cell::{HostCell, Hosting};
 use rvm_host_worker::{HartsEnd, HartsPlan, InputQueue, News, Station};
 use rvm_mem::{MAX_PAGES, PagedMemory};
 use rvm_peers::Peers;
-use rvm_refusal::Refusal;
 use rvm_route::Routes;
+use rvm_worker::take_back;
 use std::alloc::{AllocError, Global};
 use std::io;
 use std::io::Write;
@@ -60,24 +65,26 @@ pub fn work_at<
     peers: &Peers,
     secret: Secret,
     guest: Option<Debugged<M>>,
-    listener: &R::Listener,
-    operators: &R::Listener,
+    listeners: &Listeners<'_, R::Listener>,
     input: &InputQueue,
     output: &mut O,
     errors: &mut E,
-) -> Result<HartsEnd, Refusal>
+) -> Result<HartsEnd, HostFault>
 where
     R::Stream: Send,
     R::Listener: Send + Sync,
+    ensures shown { IfOk result (λ end. end ≢ ConsoleFault
+        → IsShown (opening_of guest plan.now.id (length peers.now)) (O.contents output.old) (O.contents output.new)) }
+    ensures unbegun { IfErr result (λ fault. O.contents output.new ≡ O.contents output.old) }
 {
     let hosts = peers.count() as u8;
     let has_guest = guest.is_some();
     let Ok(host) = Host::with_version(guest, plan.id, hosts, MAX_PAGES as u16, VERSION) else {
-        return Err(Refusal::BadSize);
+        return Err(HostFault::NoSuchHost);
     };
     let Ok(registry) = new_registry(rt, plan.id, hosts, has_guest) else {
         drop(host);
-        return Err(Refusal::LinkFault);
+        return Err(HostFault::NoRandom);
     };
     host_over::<Brand, M, O, E, R>(
         rt,
@@ -86,10 +93,7 @@ where
         plan,
         peers,
         (registry, secret),
-        &Listeners {
-            hosts: listener,
-            operators,
-        },
+        listeners,
         input,
         output,
         errors,
@@ -133,23 +137,60 @@ fn host_over<
     input: &InputQueue,
     output: &mut O,
     errors: &mut E,
-) -> Result<HartsEnd, Refusal>
+) -> Result<HartsEnd, HostFault>
 where
     R::Stream: Send,
     R::Listener: Send + Sync,
     requires { host ≡ L.opening }
+    ensures shown { IfOk result (λ end. end ≢ ConsoleFault
+        → IsShown L.opening (O.contents output.old) (O.contents output.new)) }
+    ensures unbegun { IfErr result (λ fault. O.contents output.new ≡ O.contents output.old) }
 {
-    let Ok(process) = new_process::<L, M, R>(alloc, host, plan, peers.count() as u8, known) else {
-        return Err(Refusal::OutOfMemory);
+    let process = new_process::<L, M, R>(alloc, host, plan, peers.count() as u8, known)?;
+    work_in(rt, alloc, &process, peers, listeners, input, output, errors)
+}
+
+/// Works in this process.
+fn work_in<
+    L: Hosting + Send + Sync,
+    M: PagedMemory + Drop + Send,
+    O: Write,
+    E: Write,
+    R: Net + Threads + Wait + Clock + RandomSource + Sync,
+>(
+    rt: &R,
+    alloc: Global,
+    process: &Process<L, M, R::Stream>,
+    peers: &Peers,
+    listeners: &Listeners<'_, R::Listener>,
+    input: &InputQueue,
+    output: &mut O,
+    errors: &mut E,
+) -> Result<HartsEnd, HostFault>
+where
+    R::Stream: Send,
+    R::Listener: Send + Sync,
+    ensures shown { IfOk result (λ end. end ≢ ConsoleFault
+        → IsShown L.opening (O.contents output.old) (O.contents output.new)) }
+    ensures unbegun { IfErr result (λ fault. O.contents output.new ≡ O.contents output.old) }
+{
+    let turns = Turns {
+        rt,
+        alloc,
+        process,
+        input,
+        output,
+        errors,
     };
-    if listeners.hosts.set_nonblocking(true).is_err()
-        || listeners.operators.set_nonblocking(true).is_err()
-    {
-        return Err(Refusal::LinkFault);
-    }
-    match work(rt, alloc, &process, peers, listeners, input, output, errors) {
-        Some(end) => Ok(end),
-        None => Err(Refusal::OutOfMemory),
+    match work_beside(rt, alloc, process, peers, listeners, turns) {
+        Ok((end, output)) => {
+            take_back(output);
+            Ok(end)
+        }
+        Err(turns) => {
+            take_back(turns.output);
+            Err(HostFault::OutOfMemory)
+        }
     }
 }
 

@@ -1,15 +1,18 @@
 //! A host in a process of its own, whose guest moves to hosts in other processes while it runs, and how it is told to.
 //!
-//! Stands on the workers of a host, on greetings and on sockets of the runtime.
+//! Stands on the workers of a host, on greetings and on sockets of the runtime, and knows nothing of files.
 //!
-//! To be read in this order: `outbound`, `timed`, `door`, `process`, `meeting`, `peer`, `accepter`, `ticker`,
-//! `answers`, `control`, `threads`, `hosting`, `tell_command`.
+//! To be read in this order: `fault`, `address`, `outbound`, `timed`, `door`, `process`, `meeting`, `peer`, `accepter`,
+//! `ticker`, `answers`, `control`, `threads`, `turns`, `hosting`, `host_command`, `tell_command`.
 #![tactic(auto)]
 
 mod accepter;
+mod address;
 mod answers;
 mod control;
 mod door;
+pub mod fault;
+pub mod host_command;
 pub mod hosting;
 mod meeting;
 mod outbound;
@@ -19,3 +22,6 @@ pub mod tell_command;
 mod threads;
 mod ticker;
 mod timed;
+mod turns;
+
+pub use threads::Listeners;

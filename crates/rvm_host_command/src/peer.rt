@@ -1,5 +1,6 @@
 //! The thread that keeps the connection with one other host, and hears it.
 
+use crate::address::address_of;
 use crate::meeting::meet_connected;
 use crate::outbound::Outbound;
 use crate::process::Process;
@@ -7,12 +8,12 @@ use rvm_host_cell::Hosting;
 use rvm_host_worker::hear;
 use rvm_mem::PagedMemory;
 use std::alloc::Global;
+use std::io;
 use std::io::{BufReader, ErrorKind};
-use std::net::{Net, OpenStream, SocketAddr, TcpStream, ToSocketAddrs};
+use std::net::{Net, OpenStream, TcpStream};
 use std::random::RandomSource;
 use std::sync::Wait;
 use std::time::{Clock, Duration};
-use std::{io, str};
 
 /// How many milliseconds a connection may take to be made.
 const CONNECT: u64 = 1000;
@@ -79,17 +80,6 @@ fn connect<L: Hosting, M: PagedMemory + Drop, R: Net + Wait + Clock + RandomSour
     match meet_connected(rt, process, other, &mut stream) {
         Ok(()) => Some(stream),
         Err(_) => None,
-    }
-}
-
-/// The first address of a text.
-fn address_of<R: Net>(rt: &R, address: &[u8]) -> io::Result<SocketAddr> {
-    let Ok(address) = str::from_utf8(address) else {
-        return Err(io::Error::from(ErrorKind::InvalidInput));
-    };
-    match address.to_socket_addrs(rt)?.next() {
-        Some(found) => Ok(found),
-        None => Err(io::Error::from(ErrorKind::NotFound)),
     }
 }
 

@@ -1,5 +1,6 @@
 //! The threads of a host process.
 
+ghost use Rattle.std.specs.Prelude.{◌≡◌, IfErr, IfOk};
 ghost use Rattle.std.specs.Thread.{IsSend, IsSync};
 
 use crate::accepter::accepter;
@@ -8,63 +9,59 @@ use crate::peer::peer_worker;
 use crate::process::Process;
 use crate::ticker::ticker;
 use rvm_host_cell::Hosting;
-use rvm_host_worker::{HartsEnd, InputQueue, harts_worker};
 use rvm_mem::PagedMemory;
 use rvm_peers::Peers;
+use rvm_worker::Task;
 use std::alloc::Global;
-use std::io::Write;
 use std::net::Net;
 use std::random::RandomSource;
 use std::sync::Wait;
 use std::thread;
 use std::thread::Threads;
-use std::time::{Clock, Duration};
+use std::time::Clock;
 
 /// How many operators are answered at once.
 const CONTROLS: u32 = 4;
 
-/// How many milliseconds a process lingers whose guest is halted, so that the host that it came from is told that it
-/// runs.
-const LINGER: u64 = 300;
-
-/// Where a host process listens.
+/// Where a host process listens. Neither listener waits when a connection is to be accepted.
 #[derive(Drop)]
-pub(crate) struct Listeners<'a, N> {
+pub struct Listeners<'a, N> {
     /// For other hosts.
-    pub(crate) hosts: &'a N,
+    pub hosts: &'a N,
     /// For operators.
-    pub(crate) operators: &'a N,
+    pub operators: &'a N,
 }
 
-/// Has all threads of a host work until they end; the harts are made to take their turns in this one. None where a
-/// thread could not be made.
-pub(crate) fn work<
+/// Has the threads of a host process work, and does a task in this one; once that is done, all others end. The task comes
+/// back where a thread could not be made.
+pub(crate) fn work_beside<
     L: Hosting + Send + Sync,
     M: PagedMemory + Drop + Send,
-    O: Write,
-    E: Write,
     R: Net + Threads + Wait + Clock + RandomSource + Sync,
+    T: Task + Drop,
 >(
     rt: &R,
     alloc: Global,
     process: &Process<L, M, R::Stream>,
     peers: &Peers,
     listeners: &Listeners<'_, R::Listener>,
-    input: &InputQueue,
-    output: &mut O,
-    errors: &mut E,
-) -> Option<HartsEnd>
+    task: T,
+) -> Result<T::Output, T>
 where
     R::Stream: Send,
     R::Listener: Send + Sync,
+    requires { T.can_run task }
+    ensures done { IfOk result (T.gives task) }
+    ensures undone { IfErr result (λ t. t ≡ task) }
 {
     let hosts = listeners.hosts;
     let operators = listeners.operators;
     thread::scope(
         thread::scope_env(),
         rt,
-        |scope| -> Option<HartsEnd>
-            requires { IsSync R.row × IsSend M.row × IsSend R.Stream.row × IsSync R.Listener.row }
+        move |scope| -> Result<T::Output, T>
+            requires { (IsSync R.row × IsSend M.row × IsSend R.Stream.row × IsSync R.Listener.row) × T.can_run task }
+            ensures { IfOk result (T.gives task) × IfErr result (λ t. t ≡ task) }
         {
             let mut begun = scope.spawn(move || accepter(rt, process, hosts)).is_ok();
             begun = begun && scope.spawn(move || ticker(rt, process)).is_ok();
@@ -85,34 +82,18 @@ where
                         .spawn(move || control_worker(rt, alloc, process, operators))
                         .is_ok();
             }
-            let end = if begun {
-                Some(harts_worker(
-                    rt,
-                    alloc,
-                    &process.station,
-                    &process.harts,
-                    input,
-                    output,
-                    errors,
-                ))
-            } else {
-                None
-            };
-            end_all(rt, process, end);
-            end
+            let done = if begun { Ok(task.run()) } else { Err(task) };
+            end_all(rt, process);
+            done
         },
     )
 }
 
 /// Has all threads end.
-fn end_all<L: Hosting, M: PagedMemory + Drop, R: Net + Wait + Clock>(
+fn end_all<L: Hosting, M: PagedMemory + Drop, R: Net + Wait>(
     rt: &R,
     process: &Process<L, M, R::Stream>,
-    end: Option<HartsEnd>,
 ) {
-    if let Some(HartsEnd::Halted(_)) = end {
-        thread::sleep(rt, Duration::from_millis(LINGER));
-    }
     process.stop();
     for host in 0..process.hosts {
         if let Some(door) = process.door(host) {

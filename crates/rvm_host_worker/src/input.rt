@@ -1,6 +1,6 @@
 //! What is typed for the guest's console.
 
-use std::alloc::Global;
+use std::alloc::{AllocError, Global};
 use std::collections::VecDeque;
 use std::io::Read;
 use std::sync::{Condvar, Mutex, Wait};
@@ -8,7 +8,8 @@ use std::sync::{Condvar, Mutex, Wait};
 /// How many bytes wait at most.
 const MAX_WAITING: usize = 4096;
 
-/// Bytes that wait for the guest's console, at most 4096. Each call may wait for another thread.
+/// Bytes that wait for the guest's console; those that are read while it runs, at most 4096. Each call may wait for
+/// another thread.
 #[derive(Drop)]
 pub struct InputQueue {
     bytes: Mutex<VecDeque<u8>>,
@@ -23,6 +24,18 @@ impl InputQueue {
             bytes: Mutex::new(VecDeque::new(alloc)),
             taken: Condvar::new(),
         }
+    }
+
+    /// These bytes, however many they are.
+    pub fn with(alloc: Global, bytes: &[u8]) -> Result<InputQueue, AllocError> {
+        let mut waiting = VecDeque::new(alloc);
+        for byte in bytes {
+            waiting.push_back(*byte)?;
+        }
+        Ok(InputQueue {
+            bytes: Mutex::new(waiting),
+            taken: Condvar::new(),
+        })
     }
 
     /// The next byte, which stays.

@@ -1,19 +1,21 @@
 -- How a command ended that was given the files that it names.
-use Rattle.std.specs.Prelude.{◌≡◌, ◌⊎◌, ℕ, zero, suc, List, [], Option, Some}
+use Rattle.std.specs.Prelude.{◌≡◌, ◌⊎◌, ⊤, ℕ, zero, suc, List, [], Option, Some}
 use Rattle.rvm_arguments.specs.declared.arguments.Arguments.{Arguments}
-use Rattle.rvm_arguments.specs.declared.arguments.Arguments.TheVariants.{Run, Asm, Dis, Debug, Script, Move, Audit}
+use Rattle.rvm_arguments.specs.declared.arguments.Arguments.TheVariants.{Run, Asm, Dis, Debug, Script, Move, Audit, Host, Tell}
 use Rattle.rvm_arguments.specs.declared.arguments.AsmArguments.{AsmArguments}
 use Rattle.rvm_arguments.specs.declared.arguments.DisArguments.{DisArguments}
 use Rattle.rvm_arguments.specs.declared.arguments.GuestArguments.{GuestArguments}
+use Rattle.rvm_arguments.specs.declared.arguments.HostArguments.{HostArguments}
 use Rattle.rvm_arguments.specs.declared.arguments.MoveArguments.{MoveArguments}
 use Rattle.rvm_arguments.specs.declared.arguments.RunArguments.{RunArguments}
 use Rattle.rvm_arguments.specs.declared.arguments.ScriptArguments.{ScriptArguments}
 use Rattle.rvm_command.specs.Command.{image_of}
 use Rattle.rvm_command.specs.Ends.{HasStatus, IsAsmEnd, IsDebugEnd, IsListEnd, IsRunEnd, RunHasStatus}
 use Rattle.rvm_command.specs.Refusals.{IsTold, refused}
+use Rattle.rvm_host_command.specs.Hosted.{IsHosted}
 use Rattle.rvm_move_command.specs.Ended.{IsMoved, IsNotMoved}
 use Rattle.rvm_move_command.specs.Orders.{IsAudited, IsNotAudited}
-use Rattle.rvm_program.specs.Files.{IsCreated, IsFile, IsFileRefusal, IsInput, IsOpened, Named}
+use Rattle.rvm_program.specs.Files.{IsCreated, IsFile, IsFileRefusal, IsImage, IsInput, IsOpened, Named}
 use Rattle.rvm_refusal.specs.declared.refusal.Refusal.{Refusal}
 use Rattle.rvm_world_command.specs.Ends.{IsScriptEnd}
 
@@ -97,6 +99,24 @@ pub record AuditEnded (files : Named) (a : MoveArguments) (status : ℕ) (output
   pub image_is : IsFile (files a.guest.image.now) image
   pub ended : AuditHasStatus status a image output told errors.before errors.after
 
+-- `host` was given the files that it names, and its console shows what the guest sent while it was there
+pub record HasHosted (files : Named) (a : HostArguments) (output : Written) : Type 0 where
+  pub peers : List ℕ
+  pub image : List ℕ
+  pub peers_is : IsFile (files a.peers.now) peers
+  pub image_is : IsImage files a.guest image
+  pub hosted : IsHosted a peers image output.before output.after
+
+-- `host` did so; or it did not begin, or its console could not be written, by the status
+abbrev pub HostEnded : (files : Named) → HostArguments → (status : ℕ) → (output : Written) → Type 0
+HostEnded files a zero output = HasHosted files a output
+HostEnded files a (suc zero) output = ⊤
+HostEnded files a (suc (suc n)) output = ⊥
+
+-- all that a host was told happened, something did not, or an answer was lost, by the status
+abbrev pub TellEnded : (status : ℕ) → Type 0
+TellEnded status = (status ≡ 0) ⊎ ((status ≡ 1) ⊎ (status ≡ 3))
+
 -- what a command line asks for ended with this status
 abbrev pub HasEnded : (files created : Named) → Arguments → (status : ℕ) → (script : Option (List ℕ))
     → (output errors : Written) → Type 0
@@ -107,6 +127,8 @@ HasEnded files created (Debug a) status script output errors = DebugEnded files 
 HasEnded files created (Script a) status script output errors = ScriptEnded files a status output.before errors
 HasEnded files created (Move a) status script output errors = MoveEnded files a status output errors
 HasEnded files created (Audit a) status script output errors = AuditEnded files a status output.before errors
+HasEnded files created (Host a) status script output errors = HostEnded files a status output
+HasEnded files created (Tell a) status script output errors = TellEnded status
 
 -- a command did not begin, since a file or a buffer could not be had, and that was told
 pub record IsUnbegun (status : ℕ) (errors : Written) : Type 0 where

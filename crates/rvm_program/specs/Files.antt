@@ -1,6 +1,7 @@
 -- What is read of files.
 use Rattle.std.specs.Prelude.{◌≡◌, ◌⊎◌, ℕ, List, [], Option, None, Some, IfSome}
 use Rattle.std.specs.Borrow.{Bor}
+use Rattle.rvm_arguments.specs.declared.arguments.GuestArguments.{GuestArguments}
 use Rattle.rvm_refusal.specs.declared.refusal.Refusal.{Refusal}
 use Rattle.rvm_refusal.specs.declared.refusal.Refusal.TheVariants as refusal
 
@@ -28,3 +29,7 @@ IsInput files (Some name) bytes = IsFile (files name.now) bytes
 -- why there is no such file: memory ran out, or it cannot be had
 abbrev pub IsFileRefusal : Refusal → Type 0
 IsFileRefusal r = (r ≡ refusal.OutOfMemory) ⊎ (r ≡ refusal.LinkFault)
+
+-- these are all bytes of the image of a guest, if there is one
+abbrev pub IsImage : Named → Option GuestArguments → (bytes : List ℕ) → Type 0
+IsImage files guest bytes = IfSome guest (λ g. IsFile (files g.image.now) bytes)

@@ -1,11 +1,12 @@
 -- What words of a command line have come to.
-use Rattle.std.specs.Prelude.{◌≡◌, ◌⊎◌, ℕ, List, [], Option}
+use Rattle.std.specs.Prelude.{◌≡◌, ◌⊎◌, ⊤, ℕ, List, [], Option}
 use Rattle.clap.specs.Faults.{fault_of}
 use Rattle.clap.specs.Kinds.{IsAmong}
 use Rattle.clap.specs.Simple.{subcommand_of}
 use Rattle.clap.specs.Walk.{Text}
 use Rattle.clap.specs.declared.error.kind.ErrorKind.TheVariants as kind
 use Rattle.rvm_arguments.specs.declared.arguments.Arguments.{Arguments}
+use Rattle.rvm_arguments.specs.declared.arguments.Arguments.TheVariants.{Tell}
 use Rattle.rvm_command_line.specs.Given.{IsAsked}
 use Rattle.rvm_command_line.specs.Program.{faults_of, program}
 use Rattle.rvm_program.specs.Ended.{HasEnded, IsUnbegun, IsUntold, Written}
@@ -33,6 +34,18 @@ pub record IsRefused (files created : Named) (words : List Text) (script : Optio
   pub arguments : Arguments
   pub asked : IsAsked (subcommand_of program words) arguments
   pub failed : HasFailed files created arguments script output errors
+
+-- a host is told something
+abbrev pub IsTelling : Arguments → Type 0
+IsTelling (Tell a) = ⊤
+IsTelling other = ⊥
+
+-- words have no fault for `clap`, and ask for a host to be told something
+pub record AreTelling (words : List Text) : Type 0 where
+  pub faultless : fault_of program words ≡ []
+  pub arguments : Arguments
+  pub asked : IsAsked (subcommand_of program words) arguments
+  pub telling : IsTelling arguments
 
 -- words may ask for help
 abbrev pub AskHelp : (words : List Text) → Type 0

@@ -4,25 +4,29 @@
 
 ghost use Rattle.std.specs.Prelude.{◌≡◌, ◌⊎◌, IfErr, IfOk, OnErr};
 ghost use Rattle.std.specs.Io.Buffered.{writer_contents};
-ghost use Rattle.rvm_program.specs.Ended.{AsmEnded, AuditEnded, DebugEnded, DisEnded, MoveEnded, RunEnded, ScriptEnded, ToTell, written};
-ghost use Rattle.rvm_program.specs.Files.{IsFileRefusal, IsInput};
+ghost use Rattle.rvm_program.specs.Ended.{AsmEnded, AuditEnded, DebugEnded, DisEnded, HostEnded, MoveEnded, RunEnded, ScriptEnded, TellEnded, ToTell, written};
+ghost use Rattle.rvm_program.specs.Files.{IsFile, IsFileRefusal, IsImage, IsInput};
 
 use crate::files::{NamedFiles, read_file, refusal_of};
 use rvm_arguments::{
-    AsmArguments, DisArguments, GuestArguments, MoveArguments, RunArguments, ScriptArguments,
+    AsmArguments, DisArguments, GuestArguments, HostArguments, MoveArguments, RunArguments,
+    ScriptArguments, TellArguments,
 };
 use rvm_command::asm_command::asm_command;
 use rvm_command::debug_command::debug_command;
 use rvm_command::dis_command::dis_command;
 use rvm_command::run_command::run_command;
+use rvm_host_command::host_command::{HostBytes, host_command};
+use rvm_host_command::tell_command::tell_command;
 use rvm_mem::PagedMemory;
 use rvm_move_command::audit_command::audit_command;
 use rvm_move_command::move_command::move_command;
 use rvm_refusal::{LinkFault, Refusal};
 use rvm_world_command::script_command::script_command;
 use std::alloc::Global;
-use std::io::{BufWriter, Read, Write};
-use std::net::Net;
+use std::io::{BufReader, BufWriter, Read, Write};
+use std::net::{Net, TcpStream};
+use std::random::RandomSource;
 use std::sync::Wait;
 use std::thread::Threads;
 use std::time::Clock;
@@ -30,6 +34,9 @@ use std::time::Clock;
 /// What a command over values answers: its status, or `LinkFault` where a write to standard error failed, so
 /// that it is not told how the command ended.
 pub(crate) type Told = Result<u8, LinkFault>;
+
+/// The status where an answer of a host was lost.
+const LOST: u8 = 3;
 
 /// Reads the image and the bytes for the console, and runs.
 pub(crate) fn run<M: PagedMemory + Drop, F: NamedFiles, O: Write, E: Write>(
@@ -198,6 +205,127 @@ where
     let image = read_file(files, rt.alloc(), arguments.guest.image)?;
     let mut output = buffered(rt.alloc(), output)?;
     Ok(audit_command::<M, _, E, Rt>(rt, rt.alloc(), arguments, &image, &mut output, errors))
+}
+
+/// Reads the files of a host, and works at it. The name of a file that cannot be had is told here.
+pub(crate) fn host<
+    M: PagedMemory + Drop + Send,
+    Rt: AllocGlobal + Net + Threads + Wait + Clock + RandomSource + Sync,
+    F: NamedFiles,
+    O: Write,
+    E: Write,
+>(rt: &Rt, files: &F, arguments: &HostArguments, output: &mut O, errors: &mut E) -> Told
+where
+    Rt::Stream: Send,
+    Rt::Listener: Send + Sync,
+    ensures ended { IfOk result (λ status. HostEnded (F.bytes_of files.now) arguments.now status
+        (written (O.contents output.old) (O.contents output.new))) }
+{
+    match read_host(files, rt.alloc(), arguments) {
+        Ok(read) => {
+            let bytes = HostBytes {
+                peers: read.peers.as_slice(),
+                image: read.image.as_slice(),
+                secret: read.secret.as_deref(),
+                input: read.input.as_slice(),
+            };
+            host_command::<M, O, E, Rt>(rt, rt.alloc(), arguments, &bytes, output, errors)
+        }
+        Err((path, why)) => {
+            writeln!(errors, "{path}: {why}")?;
+            Ok(1)
+        }
+    }
+}
+
+/// What the files of a host hold.
+#[derive(Drop)]
+struct HostFiles {
+    peers: Vec<u8>,
+    image: Vec<u8>,
+    secret: Option<Vec<u8>>,
+    input: Vec<u8>,
+}
+
+/// The files of a host, or the first that cannot be had, and why.
+fn read_host<'a, F: NamedFiles>(
+    files: &F,
+    alloc: Global,
+    arguments: &HostArguments<'a>,
+) -> Result<HostFiles, (&'a str, Refusal)>
+    ensures peers { IfOk result (λ r. IsFile (F.bytes_of files.now arguments.now.peers.now) r.peers.items) }
+    ensures image { IfOk result (λ r. IsImage (F.bytes_of files.now) arguments.now.guest r.image.items) }
+{
+    let image = match &arguments.guest {
+        Some(guest) => read_told(files, alloc, guest.image)?,
+        None => Vec::new(alloc),
+    };
+    let secret = match arguments.secret {
+        Some(path) => Some(read_told(files, alloc, path)?),
+        None => None,
+    };
+    let input = match arguments.input {
+        Some(path) => read_told(files, alloc, path)?,
+        None => Vec::new(alloc),
+    };
+    Ok(HostFiles {
+        peers: read_told(files, alloc, arguments.peers)?,
+        image,
+        secret,
+        input,
+    })
+}
+
+/// All bytes of a file, or its name, and why they cannot be had.
+fn read_told<'a, F: NamedFiles>(
+    files: &F,
+    alloc: Global,
+    path: &'a str,
+) -> Result<Vec<u8>, (&'a str, Refusal)>
+    ensures { IfOk result (λ v. IsFile (F.bytes_of files.now path.now) v.items) }
+{
+    match read_file(files, alloc, path) {
+        Ok(bytes) => Ok(bytes),
+        Err(why) => Err((path, why)),
+    }
+}
+
+/// Tells a host a line, or those of standard input, and writes its answers. Where it cannot be reached, that is told
+/// here, and so is that an answer was lost.
+pub(crate) fn tell<Rt: AllocGlobal + Net, I: Read, O: Write, E: Write>(
+    rt: &Rt,
+    arguments: &TellArguments,
+    input: &mut I,
+    output: &mut O,
+    errors: &mut E,
+) -> Told
+    ensures { IfOk result TellEnded }
+{
+    let stream = match TcpStream::connect(rt, arguments.control) {
+        Ok(stream) => stream,
+        Err(error) => {
+            writeln!(errors, "{}: {error}", arguments.control)?;
+            return Ok(1);
+        }
+    };
+    let status = match arguments.line {
+        Some(line) => {
+            let mut lines = line.as_bytes();
+            tell_command(rt.alloc(), stream, &mut lines, output)
+        }
+        None => {
+            let mut lines = BufReader::new(rt.alloc(), input)?;
+            tell_command(rt.alloc(), stream, &mut lines, output)
+        }
+    };
+    if status == LOST {
+        writeln!(
+            errors,
+            "an answer of {} was lost: ask for its status",
+            arguments.control
+        )?;
+    }
+    Ok(status)
 }
 
 /// A buffer in front of a writer, with nothing in it.

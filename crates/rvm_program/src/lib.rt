@@ -12,7 +12,7 @@ ghost use Rattle.clap.specs.Words.{kind_of};
 ghost use Rattle.clap.specs.declared.error.kind.ErrorKind.TheVariants as kind;
 ghost use Rattle.rvm_program.specs.Ended.{HasEnded, IsUnbegun, IsUntold, ToTell, written};
 ghost use Rattle.rvm_program.specs.Files.{IsFileRefusal};
-ghost use Rattle.rvm_program.specs.Performed.{AreFaulty, HasFailed, IsDone, IsRefused, IsShown};
+ghost use Rattle.rvm_program.specs.Performed.{AreFaulty, AreTelling, HasFailed, IsDone, IsRefused, IsShown, IsTelling};
 
 mod commands;
 mod descriptors;
@@ -31,6 +31,7 @@ use rvm_refusal::Refusal;
 use std::convert::AsStr;
 use std::io::{Read, Write};
 use std::net::Net;
+use std::random::RandomSource;
 use std::rt::Files;
 use std::sync::Wait;
 use std::thread::Threads;
@@ -40,13 +41,13 @@ use std::time::Clock;
 const UNTOLD: u8 = 1;
 
 /// Does what the words of a command line ask for, of which the first is the program's name, and answers
-/// the status: 0, 1 where it was refused, or 2 for a fault of the command line, which writes nothing to
-/// `output`. `input` stands for standard input, `output` and `errors` for standard output and standard
+/// the status: 0, 1 where it was refused, 2 for a fault of the command line, which writes nothing to
+/// `output`, or 3 where an answer of a host was lost that was told something. `input` stands for standard input, `output` and `errors` for standard output and standard
 /// error. Each guest's memory is an `M`. A guest that moves does so by threads, which may wait for one
 /// another, and over TCP. The files are those of the runtime.
 pub fn perform<
     M: PagedMemory + Drop + Send + 'static,
-    Rt: Files + AllocGlobal + Net + Threads + Wait + Clock + Sync,
+    Rt: Files + AllocGlobal + Net + Threads + Wait + Clock + RandomSource + Sync,
     S: AsStr,
     I: Read,
     O: Write,
@@ -54,7 +55,9 @@ pub fn perform<
 >(rt: &Rt, words: &[S], input: &mut I, output: &mut O, errors: &mut E) -> u8
 where
     Rt::Stream: Send,
-    ensures status { (result ≡ 0) ⊎ ((result ≡ 1) ⊎ (result ≡ 2)) }
+    Rt::Listener: Send + Sync,
+    ensures status { (result ≡ 0) ⊎ ((result ≡ 1) ⊎ ((result ≡ 2) ⊎ (result ≡ 3))) }
+    ensures lost { result ≡ 3 → AreTelling (map S.text words.now) }
     ensures fault { result ≡ 2 → O.contents output.new ≡ O.contents output.old }
     ensures done { result ≡ 0 → IsShown (map S.text words.now) (written (E.contents errors.old) (E.contents errors.new))
         ⊎ IsDone (λ name. None) (λ name. None) (map S.text words.now) (I.remaining input.old)
@@ -78,7 +81,7 @@ where
 /// Does what `perform` does, over any files.
 pub fn perform_over<
     M: PagedMemory + Drop + Send + 'static,
-    Rt: AllocGlobal + Net + Threads + Wait + Clock + Sync,
+    Rt: AllocGlobal + Net + Threads + Wait + Clock + RandomSource + Sync,
     F: NamedFiles,
     S: AsStr,
     I: Read,
@@ -87,7 +90,9 @@ pub fn perform_over<
 >(rt: &Rt, files: &F, words: &[S], input: &mut I, output: &mut O, errors: &mut E) -> u8
 where
     Rt::Stream: Send,
-    ensures status { (result ≡ 0) ⊎ ((result ≡ 1) ⊎ (result ≡ 2)) }
+    Rt::Listener: Send + Sync,
+    ensures status { (result ≡ 0) ⊎ ((result ≡ 1) ⊎ ((result ≡ 2) ⊎ (result ≡ 3))) }
+    ensures lost { result ≡ 3 → AreTelling (map S.text words.now) }
     ensures fault { result ≡ 2 → O.contents output.new ≡ O.contents output.old }
     ensures done { result ≡ 0 → IsShown (map S.text words.now) (written (E.contents errors.old) (E.contents errors.new))
         ⊎ IsDone (F.bytes_of files.now) (F.created_of files.now) (map S.text words.now) (I.remaining input.old)
@@ -106,10 +111,11 @@ where
     }
 }
 
-/// Does what a command line asks for, and answers the status: 0, or 1 where it was refused.
+/// Does what a command line asks for, and answers the status: 0, 1 where it was refused, or 3 where an answer of a host
+/// was lost that was told something.
 fn do_command<
     M: PagedMemory + Drop + Send + 'static,
-    Rt: AllocGlobal + Net + Threads + Wait + Clock + Sync,
+    Rt: AllocGlobal + Net + Threads + Wait + Clock + RandomSource + Sync,
     F: NamedFiles,
     I: Read,
     O: Write,
@@ -117,7 +123,8 @@ fn do_command<
 >(rt: &Rt, files: &F, arguments: &Arguments, input: &mut I, output: &mut O, errors: &mut E) -> u8
 where
     Rt::Stream: Send,
-    ensures status { (result ≡ 0) ⊎ (result ≡ 1) }
+    Rt::Listener: Send + Sync,
+    ensures status { (result ≡ 0) ⊎ ((result ≡ 1) ⊎ ((result ≡ 3) × IsTelling arguments.now)) }
     ensures done { result ≡ 0 → HasEnded (F.bytes_of files.now) (F.created_of files.now) arguments.now 0 (I.remaining input.old)
         (written (O.contents output.old) (O.contents output.new))
         (written (E.contents errors.old) (E.contents errors.new)) }
@@ -139,7 +146,7 @@ fn status_of(told: Told) -> u8
 /// Does what a command line asks for. A refusal that the command has not told itself is told here.
 fn tell_end<
     M: PagedMemory + Drop + Send + 'static,
-    Rt: AllocGlobal + Net + Threads + Wait + Clock + Sync,
+    Rt: AllocGlobal + Net + Threads + Wait + Clock + RandomSource + Sync,
     F: NamedFiles,
     I: Read,
     O: Write,
@@ -147,6 +154,7 @@ fn tell_end<
 >(rt: &Rt, files: &F, arguments: &Arguments, input: &mut I, output: &mut O, errors: &mut E) -> Told
 where
     Rt::Stream: Send,
+    Rt::Listener: Send + Sync,
     ensures told { IfOk result (λ status. HasEnded (F.bytes_of files.now) (F.created_of files.now) arguments.now
         status (I.remaining input.old) (written (O.contents output.old) (O.contents output.new))
         (written (E.contents errors.old) (E.contents errors.new))
@@ -163,7 +171,7 @@ where
 /// Calls the command of a command line. It is refused where a file or a buffer cannot be had.
 fn begin<
     M: PagedMemory + Drop + Send + 'static,
-    Rt: AllocGlobal + Net + Threads + Wait + Clock + Sync,
+    Rt: AllocGlobal + Net + Threads + Wait + Clock + RandomSource + Sync,
     F: NamedFiles,
     I: Read,
     O: Write,
@@ -178,6 +186,7 @@ fn begin<
 ) -> Result<Told, Refusal>
 where
     Rt::Stream: Send,
+    Rt::Listener: Send + Sync,
     ensures ended { IfOk result (λ told. IfOk told (λ status. HasEnded (F.bytes_of files.now) (F.created_of files.now) arguments.now status
         (I.remaining input.old) (written (O.contents output.old) (O.contents output.new))
         (written (E.contents errors.old) (E.contents errors.new)))) }
@@ -217,6 +226,10 @@ where
         Arguments::Audit(arguments) => commands::audit::<M, Rt, F, O, E>(
             rt, files, arguments, output, errors,
         ),
+        Arguments::Host(arguments) => Ok(commands::host::<M, Rt, F, O, E>(
+            rt, files, arguments, output, errors,
+        )),
+        Arguments::Tell(arguments) => Ok(commands::tell(rt, arguments, input, output, errors)),
     }
 }
 

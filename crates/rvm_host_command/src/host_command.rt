@@ -1,0 +1,200 @@
+//! `rvmove host`: a host in this process.
+
+ghost use Rattle.std.specs.Prelude.{◌≡◌, ◌⊎◌, ◌≢◌, IfErr, IfOk, IfSome, length};
+ghost use Rattle.rvm_host_command.specs.Hosted.{HasBegun, IsGuestOf, IsHosted, IsNamed};
+ghost use Rattle.rvm_host_worker.specs.declared.harts.HartsEnd.TheVariants.{ConsoleFault};
+
+use crate::address::{checked_address, listen_at};
+use crate::answers::letter_of;
+use crate::fault::{HostFault, Place};
+use crate::hosting::{HostPlan, work_at};
+use crate::threads::Listeners;
+use rvm_arguments::{GuestArguments, HostArguments};
+use rvm_command::guest::load_guest;
+use rvm_debug::Debugged;
+use rvm_greeting::Secret;
+use rvm_host_worker::{HartsEnd, InputQueue};
+use rvm_mem::PagedMemory;
+use rvm_peers::{Peers, read_peers};
+use rvm_refusal::LinkFault;
+use std::alloc::Global;
+use std::io::Write;
+use std::net::{Net, OpenListener};
+use std::random::RandomSource;
+use std::sync::Wait;
+use std::thread::Threads;
+use std::time::{Clock, Duration};
+
+/// The bytes of the files that a host is given.
+#[derive(Clone, Copy, Debug)]
+pub struct HostBytes<'a> {
+    /// Which hosts the world has.
+    pub peers: &'a [u8],
+    /// The image of the guest that begins here; of no use where none does.
+    pub image: &'a [u8],
+    /// The secret that the hosts share, if they do.
+    pub secret: Option<&'a [u8]>,
+    /// What comes to the guest's console.
+    pub input: &'a [u8],
+}
+
+/// Works at a host until an operator ends it, or its guest has halted where it is to end then. Where it does not begin,
+/// or the console cannot be written, the status is 1, and `errors` is told why.
+pub fn host_command<
+    M: PagedMemory + Drop + Send,
+    O: Write,
+    E: Write,
+    R: Net + Threads + Wait + Clock + RandomSource + Sync,
+>(
+    rt: &R,
+    alloc: Global,
+    arguments: &HostArguments,
+    files: &HostBytes<'_>,
+    output: &mut O,
+    errors: &mut E,
+) -> Result<u8, LinkFault>
+where
+    R::Stream: Send,
+    R::Listener: Send + Sync,
+    ensures status { IfOk result (λ status. (status ≡ 0) ⊎ (status ≡ 1)) }
+    ensures done { IfOk result (λ status. status ≡ 0 → IsHosted arguments.now files.now.peers.now files.now.image.now
+        (O.contents output.old) (O.contents output.new)) }
+{
+    let ended = run_host::<M, O, E, R>(rt, alloc, arguments, files, output, errors);
+    tell_end(ended, errors)
+}
+
+/// Tells why a host did not begin, and answers the status.
+fn tell_end<E: Write>(ended: Result<HartsEnd, HostFault>, errors: &mut E) -> Result<u8, LinkFault>
+    ensures status { IfOk result (λ status. (status ≡ 0) ⊎ (status ≡ 1)) }
+    ensures done { IfOk result (λ status. status ≡ 0 → HasBegun ended.entry) }
+{
+    match ended {
+        Ok(HartsEnd::ConsoleFault) => Ok(1),
+        Ok(_) => Ok(0),
+        Err(fault) => {
+            writeln!(errors, "{fault}")?;
+            Ok(1)
+        }
+    }
+}
+
+/// Works at a host, unless something that it is given is not as it must be.
+fn run_host<
+    M: PagedMemory + Drop + Send,
+    O: Write,
+    E: Write,
+    R: Net + Threads + Wait + Clock + RandomSource + Sync,
+>(
+    rt: &R,
+    alloc: Global,
+    arguments: &HostArguments,
+    files: &HostBytes<'_>,
+    output: &mut O,
+    errors: &mut E,
+) -> Result<HartsEnd, HostFault>
+where
+    R::Stream: Send,
+    R::Listener: Send + Sync,
+    ensures shown { IfOk result (λ end. end ≢ ConsoleFault → IsHosted arguments.now files.now.peers.now
+        files.now.image.now (O.contents output.old) (O.contents output.new)) }
+    ensures unbegun { IfErr result (λ fault. O.contents output.new ≡ O.contents output.old) }
+{
+    let peers = read_peers(alloc, files.peers)?;
+    let id = number_of(arguments.name, peers.count())?;
+    let secret = secret_of(files.secret)?;
+    let only_loopback = files.secret.is_none();
+    check_addresses(rt, &peers, only_loopback)?;
+    let hosts = listen_for_hosts(rt, arguments, &peers, id, only_loopback)?;
+    let operators = listen_at(rt, Place::Control, arguments.control.as_bytes(), true)?;
+    let input = InputQueue::with(alloc, files.input)?;
+    let plan = HostPlan {
+        id,
+        patience: Duration::from_millis(u64::from(arguments.patience)),
+        until_halt: arguments.until_halt,
+    };
+    let guest = load(alloc, arguments.guest.as_ref(), files.image)?;
+    tell_addresses(&hosts, &operators, errors);
+    let listeners = Listeners {
+        hosts: &hosts,
+        operators: &operators,
+    };
+    work_at::<M, O, E, R>(
+        rt, alloc, &plan, &peers, secret, guest, &listeners, &input, output, errors,
+    )
+}
+
+/// The number of the host with a name, among so many.
+fn number_of(name: &str, count: usize) -> Result<u8, HostFault>
+    requires { count ≤ 8 }
+    ensures { IfOk result (IsNamed name.now count) }
+{
+    match name.as_bytes() {
+        [letter] if *letter >= b'A' && usize::from(*letter - b'A') < count => Ok(*letter - b'A'),
+        _ => Err(HostFault::NoSuchHost),
+    }
+}
+
+/// The secret of these bytes, of which there must be one; that of none where there is no secret.
+fn secret_of(bytes: Option<&[u8]>) -> Result<Secret, HostFault> {
+    match bytes {
+        Some([]) => Err(HostFault::EmptySecret),
+        Some(bytes) => Ok(Secret::new(bytes)),
+        None => Ok(Secret::new(b"".as_slice())),
+    }
+}
+
+/// Looks that each host of the world has an address, which may have to be one of this machine.
+fn check_addresses<R: Net>(rt: &R, peers: &Peers, only_loopback: bool) -> Result<(), HostFault> {
+    if !only_loopback {
+        return Ok(());
+    }
+    for host in 0..peers.count() as u8 {
+        if let Some(address) = peers.address(usize::from(host)) {
+            let place = Place::Peer(letter_of(host));
+            let _address = checked_address(rt, place, address, true)?;
+        }
+    }
+    Ok(())
+}
+
+/// Listens for other hosts, at the address of this one or at another that was given.
+fn listen_for_hosts<R: Net>(
+    rt: &R,
+    arguments: &HostArguments,
+    peers: &Peers,
+    id: u8,
+    only_loopback: bool,
+) -> Result<R::Listener, HostFault> {
+    if let Some(address) = arguments.listen {
+        return listen_at(rt, Place::Listen, address.as_bytes(), only_loopback);
+    }
+    match peers.address(usize::from(id)) {
+        Some(address) => listen_at(rt, Place::Peer(letter_of(id)), address, only_loopback),
+        None => Err(HostFault::NoSuchHost),
+    }
+}
+
+/// The guest that begins here, if one does.
+fn load<M: PagedMemory + Drop>(
+    alloc: Global,
+    arguments: Option<&GuestArguments>,
+    image: &[u8],
+) -> Result<Option<Debugged<M>>, HostFault>
+    ensures { IfOk result (IsGuestOf arguments.now image.now) }
+{
+    let Some(arguments) = arguments else {
+        return Ok(None);
+    };
+    match load_guest::<M>(alloc, arguments, image) {
+        Ok(guest) => Ok(Some(guest)),
+        Err(refused) => Err(HostFault::Image(refused)),
+    }
+}
+
+/// Tells where the host listens. Where that cannot be told, it is not.
+fn tell_addresses<N: OpenListener, E: Write>(hosts: &N, operators: &N, errors: &mut E) {
+    if let (Ok(hosts), Ok(operators)) = (hosts.local_addr(), operators.local_addr()) {
+        let _untold = writeln!(errors, "listens at {hosts}, for operators at {operators}");
+    }
+}

@@ -1,0 +1,120 @@
+//! The turns of the guest's harts, as what the main thread does beside the others.
+
+ghost use Rattle.std.specs.Prelude.{◌≡◌, ◌≢◌, ⊤};
+ghost use Rattle.rvm_host_worker.specs.Console.{IsShown};
+ghost use Rattle.rvm_host_worker.specs.declared.harts.HartsEnd.TheVariants.{ConsoleFault};
+
+use crate::process::Process;
+use rvm_host_cell::Hosting;
+use rvm_host_worker::{HartsEnd, InputQueue, harts_worker};
+use rvm_mem::PagedMemory;
+use rvm_worker::Task;
+use std::alloc::Global;
+use std::io::{Read, Write};
+use std::net::OpenStream;
+use std::sync::Wait;
+use std::thread;
+use std::time::{Clock, Duration};
+
+/// How many milliseconds a process lingers whose guest is halted, so that the host that it came from is told that it
+/// runs.
+const LINGER: u64 = 300;
+
+/// How many milliseconds lie between two looks whether the process is to end.
+const LOOK: u64 = 10;
+
+/// The turns of the guest's harts, in a process, until it is to end.
+#[derive(Drop)]
+pub(crate) struct Turns<
+    't,
+    L: Hosting,
+    M: PagedMemory + Drop,
+    S: Read + Write + OpenStream + Drop,
+    O: Write,
+    E: Write,
+    R: Wait + Clock,
+> {
+    pub(crate) rt: &'t R,
+    pub(crate) alloc: Global,
+    pub(crate) process: &'t Process<L, M, S>,
+    pub(crate) input: &'t InputQueue,
+    pub(crate) output: &'t mut O,
+    pub(crate) errors: &'t mut E,
+}
+
+impl<
+    't,
+    L: Hosting,
+    M: PagedMemory + Drop,
+    S: Read + Write + OpenStream + Drop,
+    O: Write,
+    E: Write,
+    R: Wait + Clock,
+> Task for Turns<'t, L, M, S, O, E, R> {
+    type Output = (HartsEnd, &'t mut O);
+
+    ghost can_run = { λ _. ⊤ };
+
+    ghost gives = { λ t r. (r.1.ghost_name ≡ t.output.ghost_name)
+        × (r.0 ≢ ConsoleFault → IsShown L.opening (O.contents t.output.now) (O.contents r.1.now)) };
+
+    fn run(self) -> (HartsEnd, &'t mut O) {
+        let Turns {
+            rt,
+            alloc,
+            process,
+            input,
+            output,
+            errors,
+        } = self;
+        let end = harts_worker(
+            rt,
+            alloc,
+            &process.station,
+            &process.harts,
+            input,
+            output,
+            errors,
+        );
+        stay(rt, process, end, errors);
+        (end, output)
+    }
+}
+
+/// Stays for what others may still want of a process whose harts stand still. Where the console cannot be written, that
+/// is told, and the guest can be moved away, until an operator ends the process.
+fn stay<
+    L: Hosting,
+    M: PagedMemory + Drop,
+    S: Read + Write + OpenStream + Drop,
+    E: Write,
+    R: Wait + Clock,
+>(rt: &R, process: &Process<L, M, S>, end: HartsEnd, errors: &mut E) {
+    match end {
+        HartsEnd::Stopped => {}
+        HartsEnd::Halted(_) => thread::sleep(rt, Duration::from_millis(LINGER)),
+        HartsEnd::ConsoleFault => {
+            let _untold = writeln!(
+                errors,
+                "the console cannot be written: the guest stands still, and can be moved away"
+            );
+            await_stop(rt, process);
+        }
+    }
+}
+
+/// Waits until the process is to end.
+fn await_stop<
+    L: Hosting,
+    M: PagedMemory + Drop,
+    S: Read + Write + OpenStream + Drop,
+    R: Wait + Clock,
+>(rt: &R, process: &Process<L, M, S>) {
+    for _look in rt.forever() {
+        if process.is_stopping() {
+            return;
+        }
+        thread::sleep(rt, Duration::from_millis(LOOK));
+    }
+    unreachable!()
+}
