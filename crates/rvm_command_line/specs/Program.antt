@@ -111,18 +111,20 @@ with_addresses command =
     (needed_option (codes "control")))
     (option (codes "secret"))
 
+-- a command that takes the words that say how a host works
+abbrev pub with_hosting : App → App
+with_hosting command =
+    with_rule
+    (with_rule (with_rule command (option (codes "input"))) (number (codes "patience") (codes "10000") 1000000000))
+    (flag (codes "until-halt"))
+
+-- a command that takes the name of a host, and perhaps the image of a guest
+abbrev pub with_name : App → App
+with_name command = with_rule (with_rule command (needed (codes "name"))) (allowed (codes "image"))
+
 -- the command that runs a host, at which a guest begins if an image is named
 abbrev pub host : App
-host =
-    with_rule
-    (with_rule
-    (with_rule
-    (with_addresses
-    (with_board
-    (with_rule (with_rule (new_app (codes "host")) (needed (codes "name"))) (allowed (codes "image")))))
-    (option (codes "input")))
-    (number (codes "patience") (codes "10000") 1000000000))
-    (flag (codes "until-halt"))
+host = with_hosting (with_addresses (with_board (with_name (new_app (codes "host")))))
 
 -- the command that tells a host lines
 abbrev pub tell : App

@@ -7,7 +7,7 @@ ghost use Rattle.clap.specs.Walk.{rule_of};
 ghost use Rattle.clap.specs.Words.{kind_of};
 ghost use Rattle.clap.specs.declared.builder.command.Command.TheViews.{out-Command as fields_of};
 ghost use Rattle.clap.specs.declared.error.kind.ErrorKind.TheVariants as kind;
-ghost use Rattle.rvm_command_line.specs.Program.{allowed, asm, audit, bounded, debug, dis, flag, host, move, needed, needed_option, number, option, program, run, script, tell, top, with_addresses, with_board, with_default, with_guest, with_move, with_policy, with_world};
+ghost use Rattle.rvm_command_line.specs.Program.{allowed, asm, audit, bounded, debug, dis, flag, host, move, needed, needed_option, number, option, program, run, script, tell, top, with_addresses, with_board, with_default, with_guest, with_hosting, with_move, with_name, with_policy, with_world};
 
 use clap::{Arg, ArgAction, Command, Error, value_parser};
 use std::alloc::Global;
@@ -628,6 +628,35 @@ fn addresses_command<'a>(command: Command<'a>, alloc: Global) -> Result<Command<
     )
 }
 
+/// A command with the name of a host, and perhaps the image of a guest.
+fn named_command<'a>(command: Command<'a>, alloc: Global) -> Result<Command<'a>, Error>
+    ensures app { IfOk result (λ c. app_of c ≡ with_name (app_of command.entry)) }
+    ensures local { (fields_of command.entry).has_globals ≡ false
+        → IfOk result (λ c. (fields_of c).has_globals ≡ false) }
+    ensures memory { IfErr result (λ e. kind_of e ≡ kind.OutOfMemory) }
+{
+    Ok(
+        command
+            .arg(name_argument(alloc))?
+            .arg(optional_image_argument(alloc))?,
+    )
+}
+
+/// A command over a host, with the words that say how it works.
+fn hosting_command<'a>(command: Command<'a>, alloc: Global) -> Result<Command<'a>, Error>
+    ensures app { IfOk result (λ c. app_of c ≡ with_hosting (app_of command.entry)) }
+    ensures local { (fields_of command.entry).has_globals ≡ false
+        → IfOk result (λ c. (fields_of c).has_globals ≡ false) }
+    ensures memory { IfErr result (λ e. kind_of e ≡ kind.OutOfMemory) }
+{
+    Ok(
+        command
+            .arg(input_argument(alloc))?
+            .arg(patience_argument(alloc))?
+            .arg(until_halt_argument(alloc))?,
+    )
+}
+
 /// The words that `host` takes.
 fn host_command<'a>(alloc: Global) -> Result<Command<'a>, Error>
     ensures app { IfOk result (λ c. app_of c ≡ host) }
@@ -636,15 +665,9 @@ fn host_command<'a>(alloc: Global) -> Result<Command<'a>, Error>
 {
     let host = Command::new(alloc, "host")
         .about("Runs a host of a world whose hosts are processes, between which a guest moves")
-        .after_help(HOST_HELP)
-        .arg(name_argument(alloc))?
-        .arg(optional_image_argument(alloc))?;
-    Ok(
-        addresses_command(board_command(host, alloc)?, alloc)?
-            .arg(input_argument(alloc))?
-            .arg(patience_argument(alloc))?
-            .arg(until_halt_argument(alloc))?,
-    )
+        .after_help(HOST_HELP);
+    let host = board_command(named_command(host, alloc)?, alloc)?;
+    hosting_command(addresses_command(host, alloc)?, alloc)
 }
 
 /// The words that `tell` takes.
