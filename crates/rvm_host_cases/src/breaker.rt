@@ -1,0 +1,101 @@
+//! Connections that break.
+
+use std::io::{ErrorKind, Read, Write};
+use std::net::{Net, OpenListener, OpenStream, Shutdown, SocketAddr, TcpStream};
+use std::sync::Wait;
+use std::sync::atomic::{AtomicBool, AtomicU32, Ordering};
+use std::time::{Clock, Duration};
+use std::{io, thread};
+
+/// How many bytes the first connection carries before it breaks, and how many more each one after it.
+const FIRST: u64 = 20_000;
+
+const MORE: u64 = 60_000;
+
+/// How many milliseconds lie between two looks at the listener.
+const LOOK: u64 = 5;
+
+/// Connections that break, and until when.
+#[derive(Drop)]
+pub struct Breaker {
+    /// No connection is to be carried any more.
+    pub stop: AtomicBool,
+    /// How many were broken.
+    pub broken: AtomicU32,
+}
+
+/// Carries connections, one after another, to an address, and breaks each after so many bytes, until it is to end.
+pub fn carry_and_break<R: Net + Wait + Clock>(
+    rt: &R,
+    listener: &R::Listener,
+    to: SocketAddr,
+    breaker: &Breaker,
+) {
+    let mut most = FIRST;
+    for _look in rt.forever() {
+        if breaker.stop.load(Ordering::SeqCst) {
+            return;
+        }
+        match listener.accept() {
+            Ok((client, _from)) => {
+                if let Ok(server) = TcpStream::connect(rt, to) {
+                    let _broken = carry(rt, client, server, most, breaker);
+                    most = most.saturating_add(MORE);
+                }
+            }
+            Err(_) => thread::sleep(rt, Duration::from_millis(LOOK)),
+        }
+    }
+    unreachable!()
+}
+
+/// Carries what each end of two connections sends to the other, until so many bytes were carried, and breaks both.
+fn carry<S: Read + Write + OpenStream + Drop, R: Wait>(
+    rt: &R,
+    client: S,
+    server: S,
+    most: u64,
+    breaker: &Breaker,
+) -> io::Result<()> {
+    let (mut client, mut server) = (client, server);
+    prepare(&client)?;
+    prepare(&server)?;
+    let mut carried = 0u64;
+    for _turn in rt.forever() {
+        if breaker.stop.load(Ordering::SeqCst) {
+            return Ok(());
+        }
+        if carried >= most {
+            breaker.broken.fetch_add(1, Ordering::SeqCst);
+            client.shutdown(Shutdown::Both)?;
+            return server.shutdown(Shutdown::Both);
+        }
+        let there = pass(&mut client, &mut server)?;
+        let back = pass(&mut server, &mut client)?;
+        carried = carried.saturating_add(there).saturating_add(back);
+    }
+    unreachable!()
+}
+
+/// A connection whose reads wait for a millisecond at most.
+fn prepare<S: OpenStream>(stream: &S) -> io::Result<()> {
+    stream.set_nonblocking(false)?;
+    stream.set_nodelay(true)?;
+    stream.set_read_timeout(Some(Duration::from_millis(1)))
+}
+
+/// Passes on what came, if something did: how many bytes. The end of the connection is an error.
+fn pass<S: Read + Write>(from: &mut S, to: &mut S) -> io::Result<u64> {
+    let mut buffer = [0u8; 4096];
+    match from.read(&mut buffer) {
+        Ok(0) => Err(io::Error::from(ErrorKind::UnexpectedEof)),
+        Ok(count) => {
+            to.write_all(&buffer[..count])?;
+            Ok(count as u64)
+        }
+        Err(error) => match error.kind() {
+            ErrorKind::WouldBlock | ErrorKind::Interrupted => Ok(0),
+            _ => Err(error),
+        },
+    }
+}
