@@ -77,7 +77,7 @@ pub record IsHost (rows : List Row) (host : HostArguments) : Type 0 where
 
 -- the host that is told something, and the line, if one was given
 pub record IsTell (rows : List Row) (tell : TellArguments) : Type 0 where
-  pub control : first_of (codes "address") rows ≡ Some tell.control.now
+  pub control : first_of (codes "socket") rows ≡ Some tell.control.now
   pub line : first_of (codes "line") rows ≡ option_map (λ s. s.now) tell.line
 
 -- what the words of a command with this name ask for

@@ -128,7 +128,7 @@ host = with_hosting (with_addresses (with_board (with_name (new_app (codes "host
 
 -- the command that tells a host lines
 abbrev pub tell : App
-tell = with_rule (with_rule (new_app (codes "tell")) (needed (codes "address"))) (allowed (codes "line"))
+tell = with_rule (with_rule (new_app (codes "tell")) (needed (codes "socket"))) (allowed (codes "line"))
 
 -- the program, which wants a command
 abbrev pub top : App

@@ -88,16 +88,16 @@ F times its pages.";
 
 /// What stands below the help of `host`.
 const HOST_HELP: &str = "\
-Example: rvmove host A hello.elf --peers hosts.txt --control 127.0.0.1:7101
+Example: rvmove host A hello.elf --peers hosts.txt --control ./a.socket
 
 FILE has a line for each host of the world, such as `A 127.0.0.1:7001`, in the order A, B, C. Each host is a
 process; at one of them a guest begins, from an IMAGE. Standard output has what the guest sends while it is
-here. Operators talk to the host by `rvmove tell`, at the address of --control.
+here. Operators talk to the host by `rvmove tell`, at the socket of --control, which has a `/` if it is a path.
 Without --secret all addresses must be of this machine (127.0.0.0/8 or ::1).";
 
 /// What stands below the help of `tell`.
 const TELL_HELP: &str = "\
-Example: rvmove tell 127.0.0.1:7101 'move B'
+Example: rvmove tell ./a.socket 'move B'
 
 Lines, beside those of `rvmove debug`:
   move [HOST] [R L F]   moves the guest to a host: `moved` once it runs there
@@ -388,16 +388,18 @@ fn listen_argument<'a>(alloc: Global) -> Arg<'a>
         )
 }
 
-/// The address at which operators reach a host.
+/// Where operators reach a host.
 fn control_argument<'a>(alloc: Global) -> Arg<'a>
     ensures rule { rule_of result ≡ needed_option (codes "control") }
     ensures local { result.global ≡ false }
 {
     Arg::new(alloc, "control")
         .long("control")
-        .value_name("ADDR")
+        .value_name("SOCKET")
         .required(true)
-        .help("The address at which it listens for operators, of this machine alone")
+        .help(
+            "Where it listens for operators: the path of a Unix socket, or an address of this machine",
+        )
 }
 
 /// The file of the secret that hosts share.
@@ -435,15 +437,15 @@ fn until_halt_argument<'a>(alloc: Global) -> Arg<'a>
         .help("Ends once the guest has halted here")
 }
 
-/// The address of a host that is told something.
-fn address_argument<'a>(alloc: Global) -> Arg<'a>
-    ensures rule { rule_of result ≡ needed (codes "address") }
+/// Where a host is told something.
+fn socket_argument<'a>(alloc: Global) -> Arg<'a>
+    ensures rule { rule_of result ≡ needed (codes "socket") }
     ensures local { result.global ≡ false }
 {
-    Arg::new(alloc, "address")
-        .value_name("ADDR")
+    Arg::new(alloc, "socket")
+        .value_name("SOCKET")
         .required(true)
-        .help("The address that the host was given by --control")
+        .help("What the host was given by --control: a path, which has a `/`, or an address")
 }
 
 /// The line that a host is told.
@@ -680,7 +682,7 @@ fn tell_command<'a>(alloc: Global) -> Result<Command<'a>, Error>
         Command::new(alloc, "tell")
             .about("Tells a host lines of an operator, and writes its answers")
             .after_help(TELL_HELP)
-            .arg(address_argument(alloc))?
+            .arg(socket_argument(alloc))?
             .arg(line_argument(alloc))?,
     )
 }

@@ -270,8 +270,8 @@ fn read_optional_guest<'a>(
 fn read_tell<'a>(tell: &ArgMatches<'a>) -> Result<TellArguments<'a>, &'static str>
     ensures { IfOk result (IsTell (rows_of (found_of tell.now))) }
 {
-    let Some(control) = text(tell, "address") else {
-        return Err("ADDR is missing");
+    let Some(control) = text(tell, "socket") else {
+        return Err("SOCKET is missing");
     };
     Ok(TellArguments {
         control,

@@ -10,6 +10,7 @@ use rvm_debug::Debugged;
 use rvm_greeting::Secret;
 use rvm_host_command::Listeners;
 use rvm_host_command::hosting::{HostPlan, work_at};
+use rvm_host_command::operators::Operators;
 use rvm_host_worker::InputQueue;
 use rvm_paged::PagedRam;
 use rvm_peers::read_peers;
@@ -28,8 +29,7 @@ use std::time::{Clock, Duration};
 pub struct Seat<N: Drop> {
     /// For other hosts.
     hosts: N,
-    /// For operators.
-    operators: N,
+    operators: Operators<N>,
     pub address: SocketAddr,
     pub control: SocketAddr,
 }
@@ -64,7 +64,7 @@ pub fn new_seat<R: Net>(rt: &R) -> anyhow::Result<Seat<R::Listener>> {
     let control = operators.local_addr()?;
     Ok(Seat {
         hosts,
-        operators,
+        operators: Operators::Tcp(operators),
         address,
         control,
     })

@@ -3,13 +3,14 @@
 ghost use Rattle.std.specs.Prelude.{◌≤◌, length, IfOk, IfSome};
 
 use crate::answers::{Outcome, answer_line};
+use crate::operators::Operators;
 use crate::process::Process;
 use rvm_host_cell::Hosting;
 use rvm_mem::PagedMemory;
 use rvm_refusal::{LinkFault, Refusal};
 use std::alloc::Global;
 use std::io::{ErrorKind, Read, Write};
-use std::net::{OpenListener, OpenStream};
+use std::net::{Net, OpenStream};
 use std::sync::Wait;
 use std::thread;
 use std::time::{Clock, Duration};
@@ -27,22 +28,18 @@ const READ: u64 = 100;
 const WRITE: u64 = 2000;
 
 /// Answers operators, one connection after another, until the process is to end.
-pub(crate) fn control_worker<
-    L: Hosting,
-    M: PagedMemory + Drop,
-    S: Read + Write + OpenStream + Drop,
-    N: OpenListener,
-    R: Wait + Clock,
->(rt: &R, alloc: Global, process: &Process<L, M, S>, listener: &N)
-where
-    N::Stream: Read + Write + OpenStream + Drop,
-{
+pub(crate) fn control_worker<L: Hosting, M: PagedMemory + Drop, R: Net + Wait + Clock>(
+    rt: &R,
+    alloc: Global,
+    process: &Process<L, M, R::Stream>,
+    operators: &Operators<R::Listener>,
+) {
     for _look in rt.forever() {
         if process.is_stopping() {
             return;
         }
-        match listener.accept() {
-            Ok((stream, _from)) => {
+        match operators.accept() {
+            Ok(stream) => {
                 let _ended = answer(rt, alloc, process, stream);
             }
             Err(_) => thread::sleep(rt, Duration::from_millis(LOOK)),

@@ -4,10 +4,11 @@ ghost use Rattle.std.specs.Prelude.{◌≡◌, ◌⊎◌, ◌≢◌, IfErr, IfOk
 ghost use Rattle.rvm_host_command.specs.Hosted.{HasBegun, IsGuestOf, IsHosted, IsNamed};
 ghost use Rattle.rvm_host_worker.specs.declared.harts.HartsEnd.TheVariants.{ConsoleFault};
 
-use crate::address::{checked_address, listen_at};
+use crate::address::{checked_address, is_path, listen_at, listen_for_operators};
 use crate::answers::letter_of;
 use crate::fault::{HostFault, Place};
 use crate::hosting::{HostPlan, work_at};
+use crate::operators::Operators;
 use crate::threads::Listeners;
 use rvm_arguments::{GuestArguments, HostArguments};
 use rvm_command::guest::load_guest;
@@ -18,9 +19,11 @@ use rvm_mem::PagedMemory;
 use rvm_peers::{Peers, read_peers};
 use rvm_refusal::LinkFault;
 use std::alloc::Global;
+use std::fs;
 use std::io::Write;
 use std::net::{Net, OpenListener};
 use std::random::RandomSource;
+use std::rt::Files;
 use std::sync::Wait;
 use std::thread::Threads;
 use std::time::{Clock, Duration};
@@ -44,7 +47,7 @@ pub fn host_command<
     M: PagedMemory + Drop + Send,
     O: Write,
     E: Write,
-    R: Net + Threads + Wait + Clock + RandomSource + Sync,
+    R: Files + Net + Threads + Wait + Clock + RandomSource + Sync,
 >(
     rt: &R,
     alloc: Global,
@@ -84,7 +87,7 @@ fn run_host<
     M: PagedMemory + Drop + Send,
     O: Write,
     E: Write,
-    R: Net + Threads + Wait + Clock + RandomSource + Sync,
+    R: Files + Net + Threads + Wait + Clock + RandomSource + Sync,
 >(
     rt: &R,
     alloc: Global,
@@ -105,23 +108,27 @@ where
     let secret = secret_of(files.secret)?;
     let only_loopback = files.secret.is_none();
     check_addresses(rt, &peers, only_loopback)?;
-    let hosts = listen_for_hosts(rt, arguments, &peers, id, only_loopback)?;
-    let operators = listen_at(rt, Place::Control, arguments.control.as_bytes(), true)?;
     let input = InputQueue::with(alloc, files.input)?;
+    let hosts = listen_for_hosts(rt, arguments, &peers, id, only_loopback)?;
+    let operators = listen_for_operators(rt, arguments.control)?;
     let plan = HostPlan {
         id,
         patience: Duration::from_millis(u64::from(arguments.patience)),
         until_halt: arguments.until_halt,
     };
     let guest = load(alloc, arguments.guest.as_ref(), files.image)?;
-    tell_addresses(&hosts, &operators, errors);
+    tell_addresses(&hosts, &operators, arguments.control, errors);
     let listeners = Listeners {
         hosts: &hosts,
         operators: &operators,
     };
-    work_at::<M, O, E, R>(
+    let ended = work_at::<M, O, E, R>(
         rt, alloc, &plan, &peers, secret, guest, &listeners, &input, output, errors,
-    )
+    );
+    if is_path(arguments.control) {
+        let _left = fs::remove_file(rt, arguments.control);
+    }
+    ended
 }
 
 /// The number of the host with a name, among so many.
@@ -193,8 +200,21 @@ fn load<M: PagedMemory + Drop>(
 }
 
 /// Tells where the host listens. Where that cannot be told, it is not.
-fn tell_addresses<N: OpenListener, E: Write>(hosts: &N, operators: &N, errors: &mut E) {
-    if let (Ok(hosts), Ok(operators)) = (hosts.local_addr(), operators.local_addr()) {
-        let _untold = writeln!(errors, "listens at {hosts}, for operators at {operators}");
-    }
+fn tell_addresses<N: OpenListener + Drop, E: Write>(
+    hosts: &N,
+    operators: &Operators<N>,
+    control: &str,
+    errors: &mut E,
+) {
+    let Ok(hosts) = hosts.local_addr() else {
+        return;
+    };
+    let _untold = write!(errors, "listens at {hosts}, for operators at ");
+    let _untold = match operators {
+        Operators::Tcp(listener) => match listener.local_addr() {
+            Ok(address) => writeln!(errors, "{address}"),
+            Err(_) => writeln!(errors, "{control}"),
+        },
+        Operators::Unix(_) => writeln!(errors, "{control}"),
+    };
 }

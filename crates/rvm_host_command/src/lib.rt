@@ -1,9 +1,9 @@
 //! A host in a process of its own, whose guest moves to hosts in other processes while it runs, and how it is told to.
 //!
-//! Stands on the workers of a host, on greetings and on sockets of the runtime, and knows nothing of files.
+//! Stands on the workers of a host, on greetings and on sockets of the runtime, and knows no files but the socket of operators.
 //!
 //! To be read in this order: `fault`, `address`, `outbound`, `timed`, `door`, `process`, `meeting`, `peer`, `accepter`,
-//! `ticker`, `answers`, `control`, `threads`, `turns`, `hosting`, `host_command`, `tell_command`.
+//! `ticker`, `operators`, `answers`, `control`, `threads`, `turns`, `hosting`, `host_command`, `tell_command`.
 #![tactic(auto)]
 
 mod accepter;
@@ -15,6 +15,7 @@ pub mod fault;
 pub mod host_command;
 pub mod hosting;
 mod meeting;
+pub mod operators;
 mod outbound;
 mod peer;
 mod process;

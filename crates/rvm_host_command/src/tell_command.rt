@@ -2,10 +2,22 @@
 
 ghost use Rattle.std.specs.Prelude.{◌≡◌, ◌⊎◌, IfOk};
 
+use crate::address::is_path;
+use crate::operators::Operator;
 use std::alloc::Global;
 use std::io;
 use std::io::{BufRead, BufReader, Read, Write};
-use std::net::{OpenStream, Shutdown};
+use std::net::{Net, OpenStream, Shutdown, TcpStream};
+use std::os::unix::net::UnixStream;
+
+/// Connects to a host as an operator: at an address, or at a Unix socket, where the text is a path.
+pub fn connect_to<R: Net>(rt: &R, control: &str) -> io::Result<Operator<R::Stream>> {
+    if is_path(control) {
+        Ok(Operator::Unix(UnixStream::connect(rt, control)?))
+    } else {
+        Ok(Operator::Tcp(TcpStream::connect(rt, control)?))
+    }
+}
 
 /// What came of what was asked.
 #[derive(Clone, Copy, Debug, PartialEq, Eq)]

@@ -5,6 +5,7 @@ ghost use Rattle.std.specs.Thread.{IsSend, IsSync};
 
 use crate::accepter::accepter;
 use crate::control::control_worker;
+use crate::operators::Operators;
 use crate::peer::peer_worker;
 use crate::process::Process;
 use crate::ticker::ticker;
@@ -23,13 +24,13 @@ use std::time::Clock;
 /// How many operators are answered at once.
 const CONTROLS: u32 = 4;
 
-/// Where a host process listens. Neither listener waits when a connection is to be accepted.
+/// Where a host process listens. Neither waits when a connection is to be accepted.
 #[derive(Drop)]
-pub struct Listeners<'a, N> {
+pub struct Listeners<'a, N: Drop> {
     /// For other hosts.
     pub hosts: &'a N,
     /// For operators.
-    pub operators: &'a N,
+    pub operators: &'a Operators<N>,
 }
 
 /// Has the threads of a host process work, and does a task in this one; once that is done, all others end. The task comes

@@ -17,7 +17,7 @@ use rvm_command::debug_command::debug_command;
 use rvm_command::dis_command::dis_command;
 use rvm_command::run_command::run_command;
 use rvm_host_command::host_command::{HostBytes, host_command};
-use rvm_host_command::tell_command::tell_command;
+use rvm_host_command::tell_command::{connect_to, tell_command};
 use rvm_mem::PagedMemory;
 use rvm_move_command::audit_command::audit_command;
 use rvm_move_command::move_command::move_command;
@@ -25,8 +25,9 @@ use rvm_refusal::{LinkFault, Refusal};
 use rvm_world_command::script_command::script_command;
 use std::alloc::Global;
 use std::io::{BufReader, BufWriter, Read, Write};
-use std::net::{Net, TcpStream};
+use std::net::Net;
 use std::random::RandomSource;
+use std::rt::Files;
 use std::sync::Wait;
 use std::thread::Threads;
 use std::time::Clock;
@@ -210,7 +211,7 @@ where
 /// Reads the files of a host, and works at it. The name of a file that cannot be had is told here.
 pub(crate) fn host<
     M: PagedMemory + Drop + Send,
-    Rt: AllocGlobal + Net + Threads + Wait + Clock + RandomSource + Sync,
+    Rt: Files + AllocGlobal + Net + Threads + Wait + Clock + RandomSource + Sync,
     F: NamedFiles,
     O: Write,
     E: Write,
@@ -301,7 +302,7 @@ pub(crate) fn tell<Rt: AllocGlobal + Net, I: Read, O: Write, E: Write>(
 ) -> Told
     ensures { IfOk result TellEnded }
 {
-    let stream = match TcpStream::connect(rt, arguments.control) {
+    let stream = match connect_to(rt, arguments.control) {
         Ok(stream) => stream,
         Err(error) => {
             writeln!(errors, "{}: {error}", arguments.control)?;

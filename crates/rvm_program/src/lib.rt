@@ -81,7 +81,7 @@ where
 /// Does what `perform` does, over any files.
 pub fn perform_over<
     M: PagedMemory + Drop + Send + 'static,
-    Rt: AllocGlobal + Net + Threads + Wait + Clock + RandomSource + Sync,
+    Rt: Files + AllocGlobal + Net + Threads + Wait + Clock + RandomSource + Sync,
     F: NamedFiles,
     S: AsStr,
     I: Read,
@@ -115,7 +115,7 @@ where
 /// was lost that was told something.
 fn do_command<
     M: PagedMemory + Drop + Send + 'static,
-    Rt: AllocGlobal + Net + Threads + Wait + Clock + RandomSource + Sync,
+    Rt: Files + AllocGlobal + Net + Threads + Wait + Clock + RandomSource + Sync,
     F: NamedFiles,
     I: Read,
     O: Write,
@@ -146,7 +146,7 @@ fn status_of(told: Told) -> u8
 /// Does what a command line asks for. A refusal that the command has not told itself is told here.
 fn tell_end<
     M: PagedMemory + Drop + Send + 'static,
-    Rt: AllocGlobal + Net + Threads + Wait + Clock + RandomSource + Sync,
+    Rt: Files + AllocGlobal + Net + Threads + Wait + Clock + RandomSource + Sync,
     F: NamedFiles,
     I: Read,
     O: Write,
@@ -171,7 +171,7 @@ where
 /// Calls the command of a command line. It is refused where a file or a buffer cannot be had.
 fn begin<
     M: PagedMemory + Drop + Send + 'static,
-    Rt: AllocGlobal + Net + Threads + Wait + Clock + RandomSource + Sync,
+    Rt: Files + AllocGlobal + Net + Threads + Wait + Clock + RandomSource + Sync,
     F: NamedFiles,
     I: Read,
     O: Write,
