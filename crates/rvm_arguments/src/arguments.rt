@@ -109,7 +109,7 @@ pub struct HostArguments<'a> {
     pub guest: Option<GuestArguments<'a>>,
     /// The address at which other hosts reach it, if it is not the one that the file has for its name.
     pub listen: Option<&'a str>,
-    /// The address at which operators reach it.
+    /// Where operators reach it: the path of a Unix socket, which has a `/`, or an address.
     pub control: &'a str,
     /// The file of the secret that the hosts of the world share, if they do.
     pub secret: Option<&'a str>,
@@ -117,15 +117,18 @@ pub struct HostArguments<'a> {
     pub input: Option<&'a str>,
     /// How many milliseconds a move waits for an answer before it is given up, 1 to 1000000000.
     pub patience: u32,
+    /// How many turns are made in a second at most, 1 to 1000000000, if that has a limit.
+    pub rate: Option<u32>,
     /// Whether the process ends once the guest has halted here.
     pub until_halt: bool,
     ghost patience_allowed: { (1 ≤ patience) × (patience ≤ 1000000000) },
+    ghost rate_allowed: { ForSome rate (λ r. (1 ≤ r) × (r ≤ 1000000000)) },
 }
 
 /// The arguments of `rvmove tell`.
 #[derive(Debug, Drop)]
 pub struct TellArguments<'a> {
-    /// The address at which the host answers operators.
+    /// Where the host answers operators: the path of a Unix socket, which has a `/`, or an address.
     pub control: &'a str,
     /// The line that it is told; without one, all lines of standard input.
     pub line: Option<&'a str>,

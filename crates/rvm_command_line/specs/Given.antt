@@ -73,6 +73,7 @@ pub record IsHost (rows : List Row) (host : HostArguments) : Type 0 where
   pub secret : first_of (codes "secret") rows ≡ option_map (λ s. s.now) host.secret
   pub input : first_of (codes "input") rows ≡ option_map (λ s. s.now) host.input
   pub patience : IsNumber (first_of (codes "patience") rows) host.patience
+  pub rate : IsOptionalNumber (first_of (codes "rate") rows) host.rate
   pub until_halt : IsFlag (one_of (codes "until-halt") rows) host.until_halt
 
 -- the host that is told something, and the line, if one was given

@@ -115,7 +115,9 @@ with_addresses command =
 abbrev pub with_hosting : App → App
 with_hosting command =
     with_rule
+    (with_rule
     (with_rule (with_rule command (option (codes "input"))) (number (codes "patience") (codes "10000") 1000000000))
+    (bounded (codes "rate") 1 1000000000))
     (flag (codes "until-halt"))
 
 -- a command that takes the name of a host, and perhaps the image of a guest

@@ -426,6 +426,20 @@ fn patience_argument<'a>(alloc: Global) -> Arg<'a>
         .help("Gives a move up after so many milliseconds without an answer, 1 to 1000000000")
 }
 
+/// How many turns a guest makes in a second at most.
+fn rate_argument<'a>(alloc: Global) -> Arg<'a>
+    ensures rule { rule_of result ≡ bounded (codes "rate") 1 1000000000 }
+    ensures local { result.global ≡ false }
+{
+    Arg::new(alloc, "rate")
+        .long("rate")
+        .value_name("N")
+        .value_parser(value_parser!(u32).range(1..=1_000_000_000))
+        .help(
+            "How many turns the guest makes in a second at most, 1 to 1000000000; if not given, as many as it can",
+        )
+}
+
 /// Whether a process ends once its guest has halted.
 fn until_halt_argument<'a>(alloc: Global) -> Arg<'a>
     ensures rule { rule_of result ≡ flag (codes "until-halt") }
@@ -655,6 +669,7 @@ fn hosting_command<'a>(command: Command<'a>, alloc: Global) -> Result<Command<'a
         command
             .arg(input_argument(alloc))?
             .arg(patience_argument(alloc))?
+            .arg(rate_argument(alloc))?
             .arg(until_halt_argument(alloc))?,
     )
 }

@@ -44,6 +44,9 @@ const MAX_FACTOR: u32 = 100;
 /// The most milliseconds that a move waits for an answer.
 const MAX_PATIENCE: u32 = 1_000_000_000;
 
+/// The most turns that a guest makes in a second.
+const MAX_RATE: u32 = 1_000_000_000;
+
 /// Reads the command line, whose first word is the program's name. The error has `clap`'s text, and
 /// `exit_code` says what the program ends with.
 pub fn parse_args<'a, S: AsStr>(alloc: Global, words: &'a [S]) -> Result<Arguments<'a>, Error>
@@ -171,28 +174,15 @@ fn read_script<'a>(script: &ArgMatches<'a>) -> Result<Arguments<'a>, &'static st
     let Some(hosts) = number(script, "hosts", 2, MAX_HOSTS) else {
         return Err("--hosts takes a decimal number from 2 to 8");
     };
-    let stream = read_stream(script)?;
+    let Some(stream) = optional_number(script, "stream", 1, MAX_STREAM) else {
+        return Err("--stream takes a decimal number from 1 to 3");
+    };
     Ok(Arguments::Script(ScriptArguments {
         guest,
         script: file,
         hosts,
         stream,
     }))
-}
-
-/// The version of streams, if one is given, or that it is none.
-fn read_stream(script: &ArgMatches) -> Result<Option<u32>, &'static str>
-    ensures within { IfOk result (λ version. IfSome version (λ v. (1 ≤ v) × (v ≤ 3))) }
-    ensures given { IfOk result
-        (IsOptionalNumber (first_of (codes "stream") (rows_of (found_of script.now)))) }
-{
-    if text(script, "stream").is_none() {
-        return Ok(None);
-    }
-    match number(script, "stream", 1, MAX_STREAM) {
-        Some(version) => Ok(Some(version)),
-        None => Err("--stream takes a decimal number from 1 to 3"),
-    }
 }
 
 /// The arguments of `move` and of `audit`, or which of them is not what it must be.
@@ -241,6 +231,9 @@ fn read_host<'a>(host: &ArgMatches<'a>) -> Result<HostArguments<'a>, &'static st
     let Some(patience) = number(host, "patience", 1, MAX_PATIENCE) else {
         return Err("--patience takes a decimal number from 1 to 1000000000");
     };
+    let Some(rate) = optional_number(host, "rate", 1, MAX_RATE) else {
+        return Err("--rate takes a decimal number from 1 to 1000000000");
+    };
     Ok(HostArguments {
         name,
         peers,
@@ -250,6 +243,7 @@ fn read_host<'a>(host: &ArgMatches<'a>) -> Result<HostArguments<'a>, &'static st
         secret: text(host, "secret"),
         input: text(host, "input"),
         patience,
+        rate,
         until_halt: flag(host, "until-halt"),
     })
 }
@@ -301,6 +295,17 @@ fn number(command: &ArgMatches, option: &str, least: u32, most: u32) -> Option<u
     ensures given { IfSome result (IsNumber (first_of option.now (rows_of (found_of command.now)))) }
 {
     within(unsigned(text(command, option)?)?, least, most)
+}
+
+/// The number of an option that need not be given, within limits. None where what is given is no such number.
+fn optional_number(command: &ArgMatches, option: &str, least: u32, most: u32) -> Option<Option<u32>>
+    ensures within { IfSome result (λ number. IfSome number (λ n. (least ≤ n) × (n ≤ most))) }
+    ensures given { IfSome result (IsOptionalNumber (first_of option.now (rows_of (found_of command.now)))) }
+{
+    if text(command, option).is_none() {
+        return Some(None);
+    }
+    Some(Some(number(command, option, least, most)?))
 }
 
 /// The number that a text writes in decimal digits alone.

@@ -150,6 +150,7 @@ where
     let plan = HostPlan {
         id,
         patience: Duration::from_millis(farm.patience),
+        rate: None,
         until_halt: false,
     };
     let input = InputQueue::new(alloc);

@@ -114,6 +114,7 @@ where
     let plan = HostPlan {
         id,
         patience: Duration::from_millis(u64::from(arguments.patience)),
+        rate: arguments.rate,
         until_halt: arguments.until_halt,
     };
     let guest = load(alloc, arguments.guest.as_ref(), files.image)?;

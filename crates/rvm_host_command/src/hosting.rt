@@ -46,6 +46,8 @@ pub struct HostPlan {
     pub id: u8,
     /// For how long nothing may be heard in a move before it is given up, while that may be.
     pub patience: Duration,
+    /// How many turns are made in a second at most, if that has a limit.
+    pub rate: Option<u32>,
     /// Whether the process ends once its guest is halted here.
     pub until_halt: bool,
 }
@@ -221,6 +223,7 @@ fn new_process<L: Hosting, M: PagedMemory + Drop, R: Net>(
         harts: HartsPlan {
             slice: SLICE,
             slice_in_move: SLICE_IN_MOVE,
+            rate: plan.rate,
             until_halt: plan.until_halt,
             stop: AtomicBool::new(false),
             moves: AtomicBool::new(false),

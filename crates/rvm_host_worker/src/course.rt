@@ -42,7 +42,7 @@ pub(crate) struct Course {
 }
 
 /// The time since some start.
-fn now<R: Clock>(rt: &R) -> Duration {
+pub(crate) fn now<R: Clock>(rt: &R) -> Duration {
     rt.monotonic().unwrap_or(Duration::ZERO)
 }
 

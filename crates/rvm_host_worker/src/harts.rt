@@ -5,6 +5,7 @@ ghost use Rattle.rvm_host_worker.specs.Console.{IsShown};
 
 use crate::console::show;
 use crate::input::InputQueue;
+use crate::pace::Pace;
 use crate::station::Station;
 use rvm_debug::{BoardEvent, BoardReply};
 use rvm_host_cell::{Hosting, Then};
@@ -26,6 +27,8 @@ pub struct HartsPlan {
     /// How many turns are made under one hold of the lock, while no move is going on, and while one is.
     pub slice: u32,
     pub slice_in_move: u32,
+    /// How many turns are made in a second at most, if that has a limit.
+    pub rate: Option<u32>,
     /// Whether the worker ends once the guest is halted here.
     pub until_halt: bool,
     /// The worker is to end.
@@ -50,12 +53,16 @@ pub enum HartsEnd {
 }
 
 impl HartsPlan {
-    /// How many turns the next slice has at most.
+    /// How many turns the next slice has at most; at a rate, so many as take a hundredth of a second.
     fn next_slice(&self) -> u32 {
-        if self.moves.load(Ordering::SeqCst) {
+        let slice = if self.moves.load(Ordering::SeqCst) {
             self.slice_in_move
         } else {
             self.slice
+        };
+        match self.rate {
+            Some(rate) => slice.min((rate / 100).max(1)),
+            None => slice,
         }
     }
 }
@@ -83,6 +90,7 @@ pub fn harts_worker<
     ensures { result ≢ HartsEnd.ConsoleFault → IsShown L.opening (O.contents output.old) (O.contents output.new) }
 {
     let mut turn = 0u64;
+    let mut pace = Pace::new(rt);
     for _slice in rt.forever() {
         if plan.stop.load(Ordering::SeqCst) {
             return HartsEnd::Stopped;
@@ -96,16 +104,23 @@ pub fn harts_worker<
             return HartsEnd::ConsoleFault;
         };
         match slice.then {
-            Then::GoOn => type_in(rt, alloc, station, input),
-            Then::Elsewhere => await_guest(rt, station, seen),
+            Then::GoOn => {
+                type_in(rt, alloc, station, input);
+                if let Some(rate) = plan.rate {
+                    pace.keep(rt, rate, slice.made);
+                }
+                continue;
+            }
+            Then::Elsewhere => {}
             Then::Halted(status) => {
                 tell_halted(plan, status, errors);
                 if plan.until_halt {
                     return HartsEnd::Halted(status);
                 }
-                await_guest(rt, station, seen);
             }
         }
+        await_guest(rt, station, seen);
+        pace = Pace::new(rt);
     }
     unreachable!()
 }

@@ -4,7 +4,8 @@
 //!
 //! Stands on `rvm_host_cell`, `rvm_route` and `rvm_record`, and knows nothing of sockets, files or operators.
 //!
-//! To be read in this order: `news`, `station`, `hearing`, `input`, `console`, `harts`, `course`, `mover`.
+//! To be read in this order: `news`, `station`, `hearing`, `input`, `console`, `course`, `pace`,
+//! `harts`, `mover`.
 #![tactic(auto)]
 
 mod console;
@@ -14,6 +15,7 @@ mod hearing;
 mod input;
 mod mover;
 mod news;
+mod pace;
 mod station;
 
 pub use course::Figures;
