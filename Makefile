@@ -6,10 +6,11 @@
 # make docs-check: the commands of README and docs are run, also with standard streams closed, links and the table of
 # crates looked at.
 # make stress: random scripts for worlds of hosts, against a board that never moves.
+# make hosts: guests are moved between processes, over connections that break.
 # make live IMAGES=..: guests are moved while they run, 200 times, and their output compared with that of run.
 PREFIX ?= /usr/local
 
-.PHONY: build hi test wrong times faults docs-check stress live bench bench-programs bench-journals count install uninstall clean
+.PHONY: build hi test wrong times faults docs-check stress hosts live bench bench-programs bench-journals count install uninstall clean
 
 # The program lies in build/rvmove afterwards.
 build:
@@ -40,6 +41,9 @@ docs-check: build
 
 stress: build
 	cd bench && python3 stress.py
+
+hosts: build
+	tools/try-hosts $(TRIAL)
 
 live: build
 	python3 bench/live.py $(IMAGES)
