@@ -6,6 +6,7 @@ use Rattle.std.specs.Result.{IfOk}
 use Rattle.rvm_arguments.specs.declared.arguments.AsmArguments.{AsmArguments}
 use Rattle.rvm_arguments.specs.declared.arguments.DisArguments.{DisArguments}
 use Rattle.rvm_arguments.specs.declared.arguments.GuestArguments.{GuestArguments}
+use Rattle.rvm_arguments.specs.declared.arguments.HostArguments.{HostArguments}
 use Rattle.rvm_arguments.specs.declared.arguments.MoveArguments.{MoveArguments}
 use Rattle.rvm_arguments.specs.declared.arguments.RunArguments.{RunArguments}
 use Rattle.rvm_arguments.specs.declared.arguments.ScriptArguments.{ScriptArguments}
@@ -15,7 +16,7 @@ use Rattle.rvm_command.specs.Command.{end_text, image_of, refused_text}
 use Rattle.rvm_command.specs.Ends.{HasStatus, IsAsmEnd, IsDebugEnd, IsListEnd, IsRunEnd, RunHasStatus}
 use Rattle.rvm_move_command.specs.Ended.{IsMoved, IsNotMoved, IsUntold}
 use Rattle.rvm_move_command.specs.Orders.{IsAudited, IsNotAudited}
-use Rattle.rvm_program.specs.Ended.{AsmEnded, AuditEnded, DebugEnded, DisEnded, MoveEnded, MoveHasStatus, RunEnded, ScriptEnded, ToTell, Written}
+use Rattle.rvm_program.specs.Ended.{AsmEnded, AuditEnded, DebugEnded, DisEnded, HostEnded, MoveEnded, MoveHasStatus, RunEnded, ScriptEnded, TellEnded, ToTell, Written}
 use Rattle.rvm_program.specs.Files.{IsCreated, IsFile, IsInput, IsOpened, Named}
 use Rattle.rvm_world_command.specs.Ends.{IsScriptEnd}
 
@@ -268,3 +269,14 @@ module _ {F : Type 0} (files : Named) where
         | inl moved ↦ (0, untold.0, record { image = image; image_is = image_is; ended = moved })
         | inr failed ↦ (1, untold.0, record { image = image; image_is = image_is; ended = failed })
       ]
+
+-- where it is not told how a host ended, it did not do what it was asked
+pub host_untold : {F : Type 0} (files : Named) (a : HostArguments) (output : Written) (r : Result ℕ F)
+    → OnErr r (ToTell (λ status errors. HostEnded files a status output))
+host_untold files a output (Ok status) = tt
+host_untold files a output (Err fault) = (1, [], tt)
+
+-- and so it is of what a host was told
+pub tell_untold : {F : Type 0} (r : Result ℕ F) → OnErr r (ToTell (λ status errors. TellEnded status))
+tell_untold (Ok status) = tt
+tell_untold (Err fault) = (1, [], inr (inl refl))

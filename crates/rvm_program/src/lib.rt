@@ -124,7 +124,8 @@ fn do_command<
 where
     Rt::Stream: Send,
     Rt::Listener: Send + Sync,
-    ensures status { (result ≡ 0) ⊎ ((result ≡ 1) ⊎ ((result ≡ 3) × IsTelling arguments.now)) }
+    ensures status { (result ≡ 0) ⊎ ((result ≡ 1) ⊎ (result ≡ 3)) }
+    ensures lost { result ≡ 3 → IsTelling arguments.now }
     ensures done { result ≡ 0 → HasEnded (F.bytes_of files.now) (F.created_of files.now) arguments.now 0 (I.remaining input.old)
         (written (O.contents output.old) (O.contents output.new))
         (written (E.contents errors.old) (E.contents errors.new)) }

@@ -1,6 +1,7 @@
 use Rattle.std.proofs.Common.{subst, sym}
 use Rattle.std.specs.Prelude.{IfOk, OnErr}
 use Rattle.rvm_program.specs.Ended.{HasEnded, ToTell, written}
+use Rattle.rvm_program.proofs.Ended.{host_untold, tell_untold}
 use Rattle.rvm_program.proofs.begin.Goals as goal
 
 pub returns-in-Run-clause-untold : goal.returns-in-Run-clause-untold
@@ -37,3 +38,17 @@ returns-in-Audit-clause-untold g c =
     subst (λ a. IfOk c.audit.result (λ told. OnErr told (ToTell (λ status errors.
     HasEnded (g.F.NamedFiles.bytes_of c.args.files.now) (g.F.NamedFiles.created_of c.args.files.now) a status
     (g.I.Read.remaining c.args.input.now) output errors)))) (sym c.in-Audit.is) c.audit.ensures.untold
+
+pub returns-in-Host-clause-untold : goal.returns-in-Host-clause-untold
+returns-in-Host-clause-untold g c =
+    let output = written (g.O.Write.contents c.args.output.now) (g.O.Write.contents c.host.new.output) in
+    subst (λ a. OnErr c.host.result (ToTell (λ status errors.
+    HasEnded (g.F.NamedFiles.bytes_of c.args.files.now) (g.F.NamedFiles.created_of c.args.files.now) a status
+    (g.I.Read.remaining c.args.input.now) output errors))) (sym c.in-Host.is) (host_untold _ _ output c.host.result)
+
+pub returns-in-Tell-clause-untold : goal.returns-in-Tell-clause-untold
+returns-in-Tell-clause-untold g c =
+    let output = written (g.O.Write.contents c.args.output.now) (g.O.Write.contents c.tell.new.output) in
+    subst (λ a. OnErr c.tell.result (ToTell (λ status errors.
+    HasEnded (g.F.NamedFiles.bytes_of c.args.files.now) (g.F.NamedFiles.created_of c.args.files.now) a status
+    (g.I.Read.remaining c.args.input.now) output errors))) (sym c.in-Tell.is) (tell_untold c.tell.result)
