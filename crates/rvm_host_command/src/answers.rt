@@ -197,10 +197,11 @@ fn tell_end<O: Write>(output: &mut O, end: MoveEnd) -> Result<Outcome, LinkFault
 fn tell_figures<O: Write>(output: &mut O, figures: &Figures) -> Result<Outcome, LinkFault> {
     writeln!(
         output,
-        "moved {} rounds {} copies {} ms {} paused {}",
+        "moved {} rounds {} copies {} bytes {} ms {} paused {}",
         figures.number,
         figures.rounds,
         figures.copies,
+        figures.bytes,
         figures.time.as_millis(),
         figures.pause.as_millis()
     )?;

@@ -14,7 +14,7 @@ use rvm_core::Host;
 use rvm_debug::Debugged;
 use rvm_greeting::{Registry, Secret};
 use rvm_host_cell::{HostCell, Hosting};
-use rvm_host_worker::{HartsEnd, HartsPlan, InputQueue, News, Station};
+use rvm_host_worker::{HartsEnd, HartsPlan, InputQueue, News, STREAM_VERSION, Station};
 use rvm_mem::{MAX_PAGES, PagedMemory};
 use rvm_peers::Peers;
 use rvm_route::Routes;
@@ -29,9 +29,6 @@ use std::sync::atomic::{AtomicBool, AtomicU64};
 use std::sync::{Mutex, Wait};
 use std::thread::Threads;
 use std::time::{Clock, Duration};
-
-/// The version of the streams between hosts.
-const VERSION: u32 = 3;
 
 /// How many turns are made under one hold of the lock, while no move is going on.
 const SLICE: u32 = 1 << 14;
@@ -81,7 +78,8 @@ where
 {
     let hosts = peers.count() as u8;
     let has_guest = guest.is_some();
-    let Ok(host) = Host::with_version(guest, plan.id, hosts, MAX_PAGES as u16, VERSION) else {
+    let Ok(host) = Host::with_version(guest, plan.id, hosts, MAX_PAGES as u16, STREAM_VERSION)
+    else {
         return Err(HostFault::NoSuchHost);
     };
     let Ok(registry) = new_registry(rt, plan.id, hosts, has_guest) else {
@@ -215,10 +213,11 @@ fn new_process<L: Hosting, M: PagedMemory + Drop, R: Net>(
         station: Station {
             id: plan.id,
             cell: HostCell::new(host),
-            routes: Routes::new(alloc, hosts, VERSION)?,
+            routes: Routes::new(alloc, hosts, STREAM_VERSION)?,
             news: News::new(),
             console: Mutex::new(()),
             questions: AtomicU64::new(0),
+            sent: AtomicU64::new(0),
         },
         harts: HartsPlan {
             slice: SLICE,

@@ -96,6 +96,11 @@ fn keep<L: Hosting, M: PagedMemory + Drop, R: Net + Wait + Clock>(
     };
     stream.set_read_timeout(Some(Duration::from_millis(SILENCE)))?;
     door.hear(rt, stream.try_clone()?);
+    // Whoever has the process end ends what the doors hear from then on; this one may be too late for that.
+    if process.is_stopping() {
+        door.end(rt);
+        return Ok(());
+    }
     let heard = open_and_hear(rt, alloc, process, other, stream);
     door.end(rt);
     process.station.routes.close(rt, other);

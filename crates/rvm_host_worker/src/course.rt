@@ -19,6 +19,8 @@ pub struct Figures {
     pub rounds: u64,
     /// How many copies of pages were sent.
     pub copies: u64,
+    /// How many bytes the frames had that this host sent meanwhile.
+    pub bytes: u64,
     /// How long it took.
     pub time: Duration,
     /// For how long the guest was paused, until it was known that it runs at its target.
@@ -34,6 +36,8 @@ pub(crate) struct Course {
     /// Whether there was a connection when it was looked last.
     pub(crate) was_open: bool,
     began: Duration,
+    /// How many bytes this host had sent before.
+    sent: u64,
     paused: Option<Duration>,
     /// When something was heard or done last.
     heard: Duration,
@@ -47,8 +51,8 @@ pub(crate) fn now<R: Clock>(rt: &R) -> Duration {
 }
 
 impl Course {
-    /// A move with this number begins.
-    pub(crate) fn new<R: Clock>(rt: &R, number: u64) -> Course {
+    /// A move with this number begins, at a host that has sent so many bytes.
+    pub(crate) fn new<R: Clock>(rt: &R, number: u64, sent: u64) -> Course {
         let began = now(rt);
         Course {
             number,
@@ -56,6 +60,7 @@ impl Course {
             copies: 0,
             was_open: true,
             began,
+            sent,
             paused: None,
             heard: began,
             wait: FIRST_WAIT,
@@ -89,8 +94,8 @@ impl Course {
         self.paused = Some(self.heard);
     }
 
-    /// What the move came to.
-    pub(crate) fn figures<R: Clock>(&self, rt: &R) -> Figures
+    /// What the move came to, at a host that has sent so many bytes by now.
+    pub(crate) fn figures<R: Clock>(&self, rt: &R, sent: u64) -> Figures
         ensures { result.number ≡ self.now.number }
     {
         let end = now(rt);
@@ -98,6 +103,7 @@ impl Course {
             number: self.number,
             rounds: self.rounds,
             copies: self.copies,
+            bytes: sent.saturating_sub(self.sent),
             time: end.saturating_sub(self.began),
             pause: end.saturating_sub(self.paused.unwrap_or(end)),
         }

@@ -24,4 +24,4 @@ pub use hearing::{HearEnd, hear};
 pub use input::{InputQueue, read_input};
 pub use mover::{MoveEnd, MovePlan, move_guest};
 pub use news::{MoveNews, News};
-pub use station::Station;
+pub use station::{STREAM_VERSION, Station};

@@ -64,13 +64,14 @@ pub fn move_guest<L: Hosting, M: PagedMemory + Drop, W: Write + Drop, R: Wait + 
 ) -> MoveEnd
     ensures { IsMoveEnd L.opening result }
 {
+    let sent = station.bytes_sent();
     let mut course = match begin(rt, alloc, station, plan) {
-        Ok(number) => Course::new(rt, number),
+        Ok(number) => Course::new(rt, number, sent),
         Err(end) => return end,
     };
     for _step in rt.forever() {
         if let Some(news) = station.news.of(rt, course.number) {
-            return end_of::<L>(course.figures(rt), news);
+            return end_of::<L>(course.figures(rt, station.bytes_sent()), news);
         }
         if stop.load(Ordering::SeqCst) {
             return MoveEnd::Stopped;

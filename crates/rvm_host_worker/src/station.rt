@@ -8,15 +8,28 @@ ghost use Rattle.rvm_protocol.specs.Commands as commands;
 
 use crate::news::{MoveNews, News};
 use rvm_core::HostStatus;
-use rvm_frame::Frame;
+use rvm_frame::{Addressed, Frame, frame_len};
 use rvm_host_cell::{HostCell, Hosting, Of};
 use rvm_mem::PagedMemory;
 use rvm_message::{Command, HostRefusal, HostReply};
 use rvm_route::{Made, Routes};
+use rvm_spelling::has_spelling;
 use std::alloc::{AllocError, Global};
 use std::io::Write;
 use std::sync::atomic::{AtomicU64, Ordering};
 use std::sync::{Mutex, Wait};
+
+/// The version of the stream between hosts.
+pub const STREAM_VERSION: u32 = 3;
+
+/// How many bytes a frame has in the stream, if it can stand there.
+fn bytes_of(frame: &Addressed) -> u64 {
+    if has_spelling(STREAM_VERSION, frame) {
+        frame_len(STREAM_VERSION, frame) as u64
+    } else {
+        0
+    }
+}
 
 /// A host that workers share, its routes to other hosts, and news of its moves. Each call may wait for another thread.
 #[derive(Drop)]
@@ -30,12 +43,19 @@ pub struct Station<L: Hosting, M: PagedMemory + Drop, W: Write + Drop> {
     pub console: Mutex<()>,
     /// How many questions were asked.
     pub questions: AtomicU64,
+    /// How many bytes the frames have that were sent.
+    pub sent: AtomicU64,
 }
 
 impl<L: Hosting, M: PagedMemory + Drop, W: Write + Drop> Station<L, M, W> {
     /// Where the host stands, as it was found.
     pub fn status<R: Wait>(&self, rt: &R) -> HostStatus {
         self.cell.status(rt)
+    }
+
+    /// How many bytes the frames have that were sent.
+    pub fn bytes_sent(&self) -> u64 {
+        self.sent.load(Ordering::SeqCst)
     }
 
     /// The number of a question that was not asked yet, from 1 on.
@@ -81,7 +101,9 @@ impl<L: Hosting, M: PagedMemory + Drop, W: Write + Drop> Station<L, M, W> {
     /// Sends a frame that the host made, if it made one.
     fn send<R: Wait>(&self, rt: &R, made: Option<Made<Of<L>>>) {
         if let Some(made) = made {
-            let _lost = self.routes.send(rt, &made);
+            if self.routes.send(rt, &made).is_ok() {
+                self.sent.fetch_add(bytes_of(made.get()), Ordering::SeqCst);
+            }
         }
     }
 
