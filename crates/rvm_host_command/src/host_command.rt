@@ -1,6 +1,6 @@
 //! `rvmove host`: a host in this process.
 
-ghost use Rattle.std.specs.Prelude.{◌≡◌, ◌⊎◌, ◌≢◌, IfErr, IfOk, IfSome, length};
+ghost use Rattle.std.specs.Prelude.{◌≡◌, ◌≢◌, ◌≤◌, ◌⊎◌, IfErr, IfOk};
 ghost use Rattle.rvm_host_command.specs.Hosted.{HasBegun, IsGuestOf, IsHosted, IsNamed};
 ghost use Rattle.rvm_host_worker.specs.declared.harts.HartsEnd.TheVariants.{ConsoleFault};
 
@@ -10,7 +10,7 @@ use crate::fault::{HostFault, Place};
 use crate::hosting::{HostPlan, work_at};
 use crate::operators::Operators;
 use crate::threads::Listeners;
-use rvm_arguments::{GuestArguments, HostArguments};
+use rvm_arguments::HostArguments;
 use rvm_command::guest::load_guest;
 use rvm_debug::Debugged;
 use rvm_greeting::Secret;
@@ -70,7 +70,7 @@ where
 /// Tells why a host did not begin, and answers the status.
 fn tell_end<E: Write>(ended: Result<HartsEnd, HostFault>, errors: &mut E) -> Result<u8, LinkFault>
     ensures status { IfOk result (λ status. (status ≡ 0) ⊎ (status ≡ 1)) }
-    ensures done { IfOk result (λ status. status ≡ 0 → HasBegun ended.entry) }
+    ensures done { IfOk result (λ status. status ≡ 0 → HasBegun ended) }
 {
     match ended {
         Ok(HartsEnd::ConsoleFault) => Ok(1),
@@ -117,7 +117,7 @@ where
         rate: arguments.rate,
         until_halt: arguments.until_halt,
     };
-    let guest = load(alloc, arguments.guest.as_ref(), files.image)?;
+    let guest = load(alloc, arguments, files.image)?;
     tell_addresses(&hosts, &operators, arguments.control, errors);
     let listeners = Listeners {
         hosts: &hosts,
@@ -186,15 +186,15 @@ fn listen_for_hosts<R: Net>(
 /// The guest that begins here, if one does.
 fn load<M: PagedMemory + Drop>(
     alloc: Global,
-    arguments: Option<&GuestArguments>,
+    arguments: &HostArguments,
     image: &[u8],
 ) -> Result<Option<Debugged<M>>, HostFault>
-    ensures { IfOk result (IsGuestOf arguments.now image.now) }
+    ensures { IfOk result (IsGuestOf arguments.now.guest image.now) }
 {
-    let Some(arguments) = arguments else {
+    let Some(guest) = &arguments.guest else {
         return Ok(None);
     };
-    match load_guest::<M>(alloc, arguments, image) {
+    match load_guest::<M>(alloc, guest, image) {
         Ok(guest) => Ok(Some(guest)),
         Err(refused) => Err(HostFault::Image(refused)),
     }

@@ -188,7 +188,15 @@ where
             Ok(end)
         }
         Err(turns) => {
-            take_back(turns.output);
+            let Turns {
+                rt: _,
+                alloc: _,
+                process: _,
+                input: _,
+                output,
+                errors: _,
+            } = turns;
+            take_back(output);
             Err(HostFault::OutOfMemory)
         }
     }

@@ -58,7 +58,10 @@ fn tell_lines<S: Read + Write + OpenStream + Drop, I: BufRead, O: Write>(
     let mut answers = BufReader::new(alloc, stream)?;
     let mut line = Vec::new(alloc);
     let mut told = Told::Done;
-    while read_line(lines, &mut line)? {
+    for _line in 0..u64::MAX {
+        if !read_line(lines, &mut line)? {
+            break;
+        }
         sending.write_all(&line)?;
         sending.flush()?;
         if read_answer(&mut answers, &mut line, output)? == Told::NotDone {
