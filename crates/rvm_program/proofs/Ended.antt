@@ -1,5 +1,5 @@
 -- How commands end that were given their files.
-use Rattle.std.proofs.Common.{◌≡◌, ◌⊎◌, ℕ, zero, suc, List, [], ◌++◌, Option, Some, Result, Ok, Err, codes, inl, inr}
+use Rattle.std.proofs.Common.{◌≡◌, ◌⊎◌, ℕ, zero, suc, List, [], ◌++◌, Option, Result, Ok, Err, codes, inl, inr}
 use Rattle.std.proofs.Common.{refl, subst, sym}
 use Rattle.std.specs.Prelude.{OnErr}
 use Rattle.std.specs.Result.{IfOk}
@@ -16,7 +16,7 @@ use Rattle.rvm_command.specs.Command.{end_text, image_of, refused_text}
 use Rattle.rvm_command.specs.Ends.{HasStatus, IsAsmEnd, IsDebugEnd, IsListEnd, IsRunEnd, RunHasStatus}
 use Rattle.rvm_move_command.specs.Ended.{IsMoved, IsNotMoved, IsUntold}
 use Rattle.rvm_move_command.specs.Orders.{IsAudited, IsNotAudited}
-use Rattle.rvm_program.specs.Ended.{AsmEnded, AuditEnded, DebugEnded, DisEnded, HostEnded, MoveEnded, MoveHasStatus, RunEnded, ScriptEnded, TellEnded, ToTell, Written}
+use Rattle.rvm_program.specs.Ended.{AsmEnded, AuditEnded, DebugEnded, DisEnded, HostEnded, MoveEnded, RunEnded, ScriptEnded, TellEnded, ToTell, Written}
 use Rattle.rvm_program.specs.Files.{IsCreated, IsFile, IsInput, IsOpened, Named}
 use Rattle.rvm_world_command.specs.Ends.{IsScriptEnd}
 
