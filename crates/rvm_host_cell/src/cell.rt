@@ -6,6 +6,7 @@ ghost use Rattle.rvm_message.specs.Events.{command_of};
 ghost use Rattle.rvm_message.specs.Frames.{frame_heard};
 ghost use Rattle.rvm_protocol.specs.Commands as commands;
 
+use crate::copies::copy_some;
 use crate::origin::{Hosting, Of};
 use crate::reached::Reached;
 use crate::turns::{Slice, make_slice};
@@ -43,6 +44,21 @@ impl<L: Hosting, M: PagedMemory + Drop> HostCell<L, M> {
         ensures { IfOk result (λ a. IsAnswer L.opening (commands.Do (command_of command.now)) a.0) }
     {
         self.lock.lock(rt).obey(alloc, command)
+    }
+
+    /// Copies of pages, one after the other under one hold of the lock, at most `most` and at least one: the last reply,
+    /// which may be another one, and how many came before it. Frames that the host made are put behind those of `made`,
+    /// where `made` has room for them; after a refused growth those of the copies before it are there.
+    pub fn copy<R: Wait>(
+        &self,
+        rt: &R,
+        alloc: Global,
+        most: u32,
+        made: &mut Vec<Made<Of<L>>>,
+    ) -> Result<(HostReply, u32), AllocError>
+        ensures { IfOk result (λ a. IsAnswer L.opening (commands.Do commands.Copy) a.0) }
+    {
+        copy_some(&mut self.lock.lock(rt), alloc, most, made)
     }
 
     /// A frame of a host: the reply, and the frame that the host made. After a refused growth nothing has changed.

@@ -4,10 +4,11 @@
 //!
 //! Stands on `rvm_core` and `rvm_route`, and knows nothing of connections or workers.
 //!
-//! To be read in this order: `origin`, `reached`, `turns`, `cell`.
+//! To be read in this order: `origin`, `reached`, `turns`, `copies`, `cell`.
 #![tactic(auto)]
 
 mod cell;
+mod copies;
 mod origin;
 mod reached;
 mod turns;

@@ -255,7 +255,7 @@ fn begin_anew<L: Hosting, M: PagedMemory + Drop, W: Write + Drop, R: Wait + Cloc
     }
 }
 
-/// Copies a page while the guest runs, or takes the move's next step.
+/// Copies pages while the guest runs, or takes the move's next step.
 fn copy<L: Hosting, M: PagedMemory + Drop, W: Write + Drop, R: Wait + Clock>(
     rt: &R,
     alloc: Global,
@@ -266,24 +266,28 @@ fn copy<L: Hosting, M: PagedMemory + Drop, W: Write + Drop, R: Wait + Clock>(
 ) -> Option<MoveEnd>
     ensures { IfSome result (IsMoveEnd L.opening) }
 {
-    match station.obey(rt, alloc, &Command::Copy) {
-        Ok(HostReply::Copied { .. }) => {
+    let Ok((reply, copies)) = station.copy(rt, alloc) else {
+        thread::sleep(rt, Duration::from_millis(1));
+        return None;
+    };
+    course.copies = course.copies.saturating_add(u64::from(copies));
+    match reply {
+        HostReply::Copied { .. } => {
             course.copies = course.copies.saturating_add(1);
             course.heard(rt);
         }
-        Ok(HostReply::RoundEnded { .. }) => {
+        HostReply::RoundEnded { .. } => {
             course.rounds = course.rounds.saturating_add(1);
             await_arrival(rt, station, plan, course);
         }
-        Ok(HostReply::Stopping) => {
+        HostReply::Stopping => {
             course.pause(rt);
             // What the guest sent before it was paused is written here before it can send more elsewhere.
             drop(station.console.lock(rt));
         }
-        Ok(HostReply::Refused(HostRefusal::Busy)) => ask_again(rt, alloc, station, course, seen),
-        Ok(HostReply::Refused(HostRefusal::SeqSpent)) => return give_up(rt, alloc, station),
-        Ok(_) => {}
-        Err(_) => thread::sleep(rt, Duration::from_millis(1)),
+        HostReply::Refused(HostRefusal::Busy) => ask_again(rt, alloc, station, course, seen),
+        HostReply::Refused(HostRefusal::SeqSpent) => return give_up(rt, alloc, station),
+        _ => {}
     }
     None
 }

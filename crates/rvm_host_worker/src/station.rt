@@ -22,6 +22,9 @@ use std::sync::{Mutex, Wait};
 /// The version of the stream between hosts.
 pub const STREAM_VERSION: u32 = 3;
 
+/// How many pages are copied under one hold of the host's lock.
+const TOGETHER: u32 = 16;
+
 /// How many bytes a frame has in the stream, if it can stand there.
 fn bytes_of(frame: &Addressed) -> u64 {
     if has_spelling(STREAM_VERSION, frame) {
@@ -79,6 +82,24 @@ impl<L: Hosting, M: PagedMemory + Drop, W: Write + Drop> Station<L, M, W> {
         self.send(rt, frame);
         self.note_command(rt, command, &reply);
         Ok(reply)
+    }
+
+    /// Has the host copy pages, several under one hold of its lock; the frames are sent, or lost where they cannot be. The
+    /// last reply, which may be another one, and how many copies came before it. After a refused growth those stand.
+    pub(crate) fn copy<R: Wait>(
+        &self,
+        rt: &R,
+        alloc: Global,
+    ) -> Result<(HostReply, u32), AllocError>
+        ensures { IfOk result (λ a. IsAnswer L.opening (commands.Do commands.Copy) a.0) }
+    {
+        let mut frames = Vec::new(alloc);
+        frames.reserve(TOGETHER as usize)?;
+        let copied = self.cell.copy(rt, alloc, TOGETHER, &mut frames);
+        for frame in frames {
+            self.send(rt, Some(frame));
+        }
+        copied
     }
 
     /// A frame of another host comes; the frame that the host makes is sent, or lost where it cannot be. After a
