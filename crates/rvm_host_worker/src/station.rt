@@ -23,7 +23,7 @@ use std::sync::{Mutex, Wait};
 pub const STREAM_VERSION: u32 = 3;
 
 /// How many pages are copied under one hold of the host's lock.
-const TOGETHER: u32 = 16;
+const TOGETHER: u32 = 64;
 
 /// How many bytes a frame has in the stream, if it can stand there.
 fn bytes_of(frame: &Addressed) -> u64 {
