@@ -1,12 +1,16 @@
 #!/usr/bin/env python3
-"""How long a guest of 16 MiB takes from one process to another, and for how long it stands still, beside QEMU.
+"""How long a guest of 16 MiB takes from one process to another, and for how long it stands still, beside QEMU; and how fast
+a guest runs in a host process, beside `run`.
 
-    hosts.py [--rvmove PROGRAM] [--moves N] [--qemu PROGRAM]
+    hosts.py [--rvmove PROGRAM] [--moves N] [--qemu PROGRAM] [--turns N]
 
 Both move the same guest over loopback: examples/farm/fill.s, which fills 4096 pages and then writes 16 of them all the
 time, and count.s, which leaves nearly all pages zero. Moves of both alternate, N of each (20). rvmove's figures are those that
 `tell` writes; the pause ends when the source has heard that the guest runs. QEMU's are `total-time` and `downtime` of
 `query-migrate`, with no limit of its bandwidth; they count whole milliseconds. Wants qemu-system-riscv32.
+
+Then count.s makes N turns (1000000000) by `run` and in a host that is not asked to move it, with one hart and with four: millions of
+turns a second, and the most memory that the host has used after a tenth of the turns and at their end.
 """
 import argparse
 import json
@@ -127,6 +131,40 @@ def ask(stream, command, **arguments):
     return told["return"]
 
 
+def turns_of(program, control):
+    status = subprocess.run([program, "tell", control, "status"], capture_output=True, text=True).stdout
+    return int(status.split()[-1])
+
+
+def most_memory(process):
+    return next(line for line in Path(f"/proc/{process.pid}/status").read_text().splitlines() if "VmHWM" in line).split()[1]
+
+
+def speeds(program, folder, image, harts, turns):
+    """Millions of turns a second in `run` and in a host, and the host's memory in kB, early and at the end."""
+    words = [image, "--harts", str(harts)]
+    begun = time.monotonic()
+    subprocess.run([program, "run", *words, "--steps", str(turns)], stdout=subprocess.DEVNULL, stderr=subprocess.DEVNULL)
+    run = turns / (time.monotonic() - begun) / 1e6
+    peers, control = folder / "peers", folder / "speed.socket"
+    peers.write_text(f"A 127.0.0.1:{free_port()}\nB 127.0.0.1:{free_port()}\n")
+    process = subprocess.Popen(
+        [program, "host", "A", *words, "--peers", peers, "--control", control],
+        stdin=subprocess.DEVNULL, stdout=subprocess.DEVNULL, stderr=subprocess.DEVNULL,
+    )
+    while not control.exists():
+        time.sleep(0.01)
+    first, begun, early = turns_of(program, control), time.monotonic(), None
+    while (made := turns_of(program, control) - first) < turns:
+        if early is None and made >= turns / 10:
+            early = most_memory(process)
+        time.sleep(0.1)
+    host, late = made / (time.monotonic() - begun) / 1e6, most_memory(process)
+    subprocess.run([program, "tell", control, "stop now"], stdout=subprocess.DEVNULL)
+    process.wait(10)
+    return run, host, early, late
+
+
 def line(name, moves):
     times, pauses = zip(*moves)
     return (
@@ -140,6 +178,7 @@ def main():
     parser.add_argument("--rvmove", type=Path, default=ROOT / "build" / "rvmove")
     parser.add_argument("--qemu", default="qemu-system-riscv32")
     parser.add_argument("--moves", type=int, default=20)
+    parser.add_argument("--turns", type=int, default=1_000_000_000)
     given = parser.parse_args()
     program = given.rvmove.resolve()
     for guest in ("fill", "count"):
@@ -155,6 +194,13 @@ def main():
             for rival in rivals:
                 rivals[rival].end()
                 print(guest, line(rival, moves[rival]), flush=True)
+    with tempfile.TemporaryDirectory() as name:
+        folder = Path(name)
+        image = folder / "guest.elf"
+        subprocess.run([program, "asm", FARM / "count.s", image], check=True)
+        for harts in (1, 4):
+            run, host, early, late = speeds(program, folder, image, harts, given.turns)
+            print(f"{harts} harts: run {run:.1f}, host {host:.1f} million turns a second; {early} kB, at the end {late} kB", flush=True)
 
 
 if __name__ == "__main__":
