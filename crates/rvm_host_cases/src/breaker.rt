@@ -8,9 +8,9 @@ use std::time::{Clock, Duration};
 use std::{io, thread};
 
 /// How many bytes the first connection carries before it breaks, and how many more each one after it.
-const FIRST: u64 = 20_000;
+const FIRST: u64 = 2_000;
 
-const MORE: u64 = 60_000;
+const MORE: u64 = 1_000;
 
 /// How many milliseconds lie between two looks at the listener.
 const LOOK: u64 = 5;

@@ -15,7 +15,7 @@ use std::time::{Clock, Duration};
 /// How often the guest is moved.
 const MOVES: u32 = 8;
 
-/// How many connections carry less than all pages of the guest before they break.
+/// How many connections break at least: all moves together need more bytes than so many carry.
 const BREAKS: u32 = 4;
 
 /// How many looks at the screen, 10 milliseconds apart, are made before it is too late.
