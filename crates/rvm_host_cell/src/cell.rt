@@ -47,8 +47,8 @@ impl<L: Hosting, M: PagedMemory + Drop> HostCell<L, M> {
     }
 
     /// Copies of pages, one after the other under one hold of the lock, at most `most` and at least one: the last reply,
-    /// which may be another one, and how many came before it. Frames that the host made are put behind those of `made`,
-    /// where `made` has room for them; after a refused growth those of the copies before it are there.
+    /// which may be another one, and how many copies came before it. The frames that the host made are appended to `made`.
+    /// After a refused growth, those of the copies before it are there.
     pub fn copy<R: Wait>(
         &self,
         rt: &R,

@@ -12,7 +12,7 @@ use rvm_route::Made;
 use std::alloc::{AllocError, Global};
 
 /// Has a host copy pages, at most `most` and at least one, up to the first reply that is no copy: the last reply, and how
-/// many copies came before it. Frames that were made are put behind those of `made`.
+/// many copies came before it. The frames that it made are appended to `made`.
 pub(crate) fn copy_some<L: Hosting, M: PagedMemory + Drop>(
     host: &mut Reached<L, M>,
     alloc: Global,
@@ -31,7 +31,7 @@ pub(crate) fn copy_some<L: Hosting, M: PagedMemory + Drop>(
     Ok((reply, most.saturating_sub(1)))
 }
 
-/// Has a host copy a page. A frame that was made is put behind those of `made`.
+/// Has a host copy a page. The frame that it made, if it made one, is appended to `made`.
 fn copy_one<L: Hosting, M: PagedMemory + Drop>(
     host: &mut Reached<L, M>,
     alloc: Global,
