@@ -9,14 +9,12 @@
 
 use rvm_mem::{FlatMemory, PagedMemory};
 use rvm_paged::PagedRam;
-use rvm_program::perform;
+use rvm_program::{System, perform};
 use std::io::{self, Write};
 use std::net::Net;
-use std::random::RandomSource;
 use std::rt::Files;
 use std::sync::Wait;
 use std::thread::Threads;
-use std::time::Clock;
 use std::{env, fs};
 
 fn main(rt: HostRuntime) -> anyhow::Result<()> {
@@ -30,7 +28,7 @@ fn main(rt: HostRuntime) -> anyhow::Result<()> {
 }
 
 /// Prints each line of a transcript, and after each command what it answers.
-fn replay<R: Files + AllocGlobal + Print + Net + Threads + Wait + Clock + RandomSource + Sync>(
+fn replay<R: System + Print + Net + Threads + Wait + 'static>(
     rt: &R,
     transcript: &str,
 ) -> anyhow::Result<()>
@@ -55,7 +53,7 @@ where
 }
 
 /// Prints what a command answers, if there is one.
-fn answer<R: Files + AllocGlobal + Print + Net + Threads + Wait + Clock + RandomSource + Sync>(
+fn answer<R: System + Print + Net + Threads + Wait + 'static>(
     rt: &R,
     command: Option<&str>,
     typed: &[u8],
@@ -131,9 +129,12 @@ struct Targets<'a> {
 
 /// Does what the words of a command ask for, and prints what it wrote, or puts it into a file. It is done over both
 /// memories, and a line is printed where they differ in what is printed.
-fn perform_and_print<
-    R: Files + AllocGlobal + Print + Net + Threads + Wait + Clock + RandomSource + Sync,
->(rt: &R, command: &str, input: &[u8], targets: Targets<'_>) -> anyhow::Result<()>
+fn perform_and_print<R: System + Print + Net + Threads + Wait + 'static>(
+    rt: &R,
+    command: &str,
+    input: &[u8],
+    targets: Targets<'_>,
+) -> anyhow::Result<()>
 where
     R::Stream: Send,
     R::Listener: Send + Sync,
@@ -179,10 +180,11 @@ impl Performed {
 }
 
 /// Does what the words of a command ask for, over a memory.
-fn perform_over<
-    M: PagedMemory + Drop + Send + 'static,
-    R: Files + AllocGlobal + Net + Threads + Wait + Clock + RandomSource + Sync,
->(rt: &R, words: &[&str], input: &[u8]) -> Performed
+fn perform_over<M: PagedMemory + Drop + Send + 'static, R: System + 'static>(
+    rt: &R,
+    words: &[&str],
+    input: &[u8],
+) -> Performed
 where
     R::Stream: Send,
     R::Listener: Send + Sync,

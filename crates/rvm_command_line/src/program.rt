@@ -92,7 +92,8 @@ Example: rvmove host A hello.elf --peers hosts.txt --control ./a.socket
 
 FILE has a line for each host of the world, such as `A 127.0.0.1:7001`, in the order A, B, C. Each host is a
 process; at one of them a guest begins, from an IMAGE. Standard output has what the guest sends while it is
-here. Operators talk to the host by `rvmove tell`, at the socket of --control, which has a `/` if it is a path.
+here; with `--input -`, standard input comes to its console as it is typed. Operators talk to the host by
+`rvmove tell`, at the socket of --control, which has a `/` if it is a path.
 Without --secret all addresses must be of this machine (127.0.0.0/8 or ::1).";
 
 /// What stands below the help of `tell`.
@@ -104,8 +105,8 @@ Lines, beside those of `rvmove debug`:
   status                the mode of the host, its connections and the turns that the guest made here
   stop [now]            ends the process; without `now` only while no guest is here
   begin [HOST] [R L F], copy, resend, abort   the steps of a move, as in `rvmove script`
-The status is 0 if all that was asked happened, 1 if something did not, 3 if an answer was lost: then ask for
-the status of the host.";
+Where standard error is a terminal, it shows how far a move has come. The status is 0 if all that was asked
+happened, 1 if something did not, 3 if an answer was lost: then ask for the status of the host.";
 
 /// The command line that the program takes.
 pub(crate) fn program<'a>(alloc: Global) -> Result<Command<'a>, Error>

@@ -3,8 +3,8 @@
 use rvm_host_command::tell_command::tell_command;
 use std::net::{Net, SocketAddr, TcpStream};
 use std::sync::Wait;
-use std::thread;
 use std::time::{Clock, Duration};
+use std::{io, thread};
 
 /// How often a host is asked for its status, 10 milliseconds apart, before it is too late.
 const TRIES: u32 = 6000;
@@ -35,7 +35,7 @@ pub fn tell<R: AllocGlobal + Net>(rt: &R, host: SocketAddr, line: &str) -> anyho
     let stream = TcpStream::connect(rt, host)?;
     let mut text = Vec::new(rt.alloc());
     let mut lines = line.as_bytes();
-    let status = tell_command(rt.alloc(), stream, &mut lines, &mut text);
+    let status = tell_command(rt.alloc(), stream, &mut lines, &mut text, &mut io::sink());
     Ok(Answer { text, status })
 }
 

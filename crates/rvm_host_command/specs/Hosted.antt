@@ -3,6 +3,7 @@ use Rattle.std.specs.Prelude.{◌≡◌, ◌≢◌, ◌<◌, ℕ, List, true, le
 use Rattle.rvm_arguments.specs.declared.arguments.GuestArguments.{GuestArguments}
 use Rattle.rvm_arguments.specs.declared.arguments.HostArguments.{HostArguments}
 use Rattle.rvm_command.specs.Command.{guest_of, image_of}
+use Rattle.rvm_command.specs.Ends.{IsLoadable}
 use Rattle.rvm_core.specs.Hosts.{PlainHost, new_host}
 use Rattle.rvm_debug.specs.Guest.{GuestState}
 use Rattle.rvm_host_worker.specs.Console.{IsShown}
@@ -20,7 +21,8 @@ abbrev pub IsGuestOf : Option GuestArguments → (image : List ℕ) → Option G
 IsGuestOf None image guest = guest ≡ None
 IsGuestOf (Some a) image None = ⊥
 IsGuestOf (Some a) image (Some g) =
-    IfOk (image_of a.raw image) (λ i. g.guest ≡ guest_of a.harts a.pages i.0 i.1)
+    IsLoadable (image_of a.raw image) a.pages
+    × IfOk (image_of a.raw image) (λ i. g.guest ≡ guest_of a.harts a.pages i.0 i.1)
 
 -- the host of this number, among so many, has this name
 abbrev pub IsNamed : (name : List ℕ) → (count number : ℕ) → Type 0

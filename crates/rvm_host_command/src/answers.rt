@@ -1,10 +1,14 @@
 //! What a host answers to a line of an operator.
 
+ghost use Rattle.std.specs.Prelude.{◌≡◌, IfOk};
+ghost use Rattle.rvm_host_command.specs.Told.{IsMoveTold};
+ghost use Rattle.rvm_host_worker.specs.Movers.{IsMoveEnd};
+
 use crate::process::Process;
 use rvm_core::ModeKind;
 use rvm_debug::{BoardEvent, BoardReply};
 use rvm_host_cell::Hosting;
-use rvm_host_worker::{Figures, MoveEnd, MovePlan, move_guest};
+use rvm_host_worker::{Figures, MoveEnd, MovePlan, Progress, Watch, move_guest};
 use rvm_mem::PagedMemory;
 use rvm_message::{Command, HostReply};
 use rvm_precopy::Policy;
@@ -16,7 +20,7 @@ use std::io::{Read, Write};
 use std::net::OpenStream;
 use std::sync::Wait;
 use std::sync::atomic::Ordering;
-use std::time::Clock;
+use std::time::{Clock, Duration};
 
 /// Whether what a line asked for happened.
 #[derive(Clone, Copy, Debug, PartialEq, Eq)]
@@ -26,7 +30,9 @@ pub(crate) enum Outcome {
 }
 
 /// Refuses a line.
-fn refuse<O: Write>(output: &mut O, why: Refusal) -> Result<Outcome, LinkFault> {
+fn refuse<O: Write>(output: &mut O, why: Refusal) -> Result<Outcome, LinkFault>
+    ensures { IfOk result (λ outcome. outcome ≡ Outcome.Refused) }
+{
     writeln!(output, "{why}")?;
     Ok(Outcome::Refused)
 }
@@ -153,7 +159,40 @@ pub(crate) fn letter_of(host: u8) -> char {
     char::from(b'A'.saturating_add(host))
 }
 
-/// Moves the guest to another host, and writes how the move ended.
+/// How many milliseconds lie at least between two lines that tell how far a move has come.
+const PROGRESS: u64 = 500;
+
+/// An operator who is told from time to time how far a move has come.
+#[derive(Drop)]
+struct Watcher<'w, O: Write, R: Clock> {
+    rt: &'w R,
+    output: &'w mut O,
+    told: Duration,
+}
+
+impl<'w, O: Write, R: Clock> Watch for Watcher<'w, O, R> {
+    fn tell(&mut self, progress: Progress) {
+        let now = self.rt.monotonic().unwrap_or(Duration::ZERO);
+        if now.saturating_sub(self.told) < Duration::from_millis(PROGRESS) {
+            return;
+        }
+        self.told = now;
+        let _untold = tell_progress(self.output, progress);
+    }
+}
+
+/// Writes how far a move has come.
+fn tell_progress<O: Write>(output: &mut O, progress: Progress) -> Result<(), LinkFault> {
+    writeln!(
+        output,
+        "progress round {} copies {} left {}",
+        progress.rounds, progress.copies, progress.left
+    )?;
+    output.flush()?;
+    Ok(())
+}
+
+/// Moves the guest to another host, tells meanwhile how far the move has come, and writes how it ended.
 fn answer_move<
     L: Hosting,
     M: PagedMemory + Drop,
@@ -167,20 +206,37 @@ fn answer_move<
     to: u8,
     policy: Policy,
     output: &mut O,
-) -> Result<Outcome, LinkFault> {
+) -> Result<Outcome, LinkFault>
+    ensures { IfOk result (IsMoveTold L.opening) }
+{
     let plan = MovePlan {
         to,
         policy,
         patience: process.patience,
     };
     process.harts.moves.store(true, Ordering::SeqCst);
-    let end = move_guest(rt, alloc, &process.station, &plan, &process.harts.stop);
+    let mut watcher = Watcher {
+        rt,
+        output: &mut *output,
+        told: rt.monotonic().unwrap_or(Duration::ZERO),
+    };
+    let end = move_guest(
+        rt,
+        alloc,
+        &process.station,
+        &plan,
+        &process.harts.stop,
+        &mut watcher,
+    );
     process.harts.moves.store(false, Ordering::SeqCst);
-    tell_end(output, end)
+    tell_end::<L, O>(output, end)
 }
 
 /// Writes how a move ended.
-fn tell_end<O: Write>(output: &mut O, end: MoveEnd) -> Result<Outcome, LinkFault> {
+fn tell_end<L: Hosting, O: Write>(output: &mut O, end: MoveEnd) -> Result<Outcome, LinkFault>
+    requires { IsMoveEnd L.opening end }
+    ensures { IfOk result (IsMoveTold L.opening) }
+{
     match end {
         MoveEnd::Moved(figures) => return tell_figures(output, &figures),
         MoveEnd::Declined(limit) => writeln!(output, "declined {limit}")?,

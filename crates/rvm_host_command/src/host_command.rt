@@ -37,12 +37,11 @@ pub struct HostBytes<'a> {
     pub image: &'a [u8],
     /// The secret that the hosts share, if they do.
     pub secret: Option<&'a [u8]>,
-    /// What comes to the guest's console.
-    pub input: &'a [u8],
 }
 
-/// Works at a host until an operator ends it, or its guest has halted where it is to end then. Where it does not begin,
-/// or the console cannot be written, the status is 1, and `errors` is told why.
+/// Works at a host until an operator ends it, or its guest has halted where it is to end then. `input` comes to the guest's
+/// console while it is here. Where the host does not begin, or the console cannot be written, the status is 1, and `errors`
+/// is told why.
 pub fn host_command<
     M: PagedMemory + Drop + Send,
     O: Write,
@@ -53,6 +52,7 @@ pub fn host_command<
     alloc: Global,
     arguments: &HostArguments,
     files: &HostBytes<'_>,
+    input: &InputQueue,
     output: &mut O,
     errors: &mut E,
 ) -> Result<u8, LinkFault>
@@ -63,7 +63,7 @@ where
     ensures done { IfOk result (λ status. status ≡ 0 → IsHosted arguments.now files.now.peers.now files.now.image.now
         (O.contents output.old) (O.contents output.new)) }
 {
-    let ended = run_host::<M, O, E, R>(rt, alloc, arguments, files, output, errors);
+    let ended = run_host::<M, O, E, R>(rt, alloc, arguments, files, input, output, errors);
     tell_end(ended, errors)
 }
 
@@ -93,6 +93,7 @@ fn run_host<
     alloc: Global,
     arguments: &HostArguments,
     files: &HostBytes<'_>,
+    input: &InputQueue,
     output: &mut O,
     errors: &mut E,
 ) -> Result<HartsEnd, HostFault>
@@ -108,7 +109,6 @@ where
     let secret = secret_of(files.secret)?;
     let only_loopback = files.secret.is_none();
     check_addresses(rt, &peers, only_loopback)?;
-    let input = InputQueue::with(alloc, files.input)?;
     let hosts = listen_for_hosts(rt, arguments, &peers, id, only_loopback)?;
     let operators = listen_for_operators(rt, arguments.control)?;
     let plan = HostPlan {
@@ -124,7 +124,7 @@ where
         operators: &operators,
     };
     let ended = work_at::<M, O, E, R>(
-        rt, alloc, &plan, &peers, secret, guest, &listeners, &input, output, errors,
+        rt, alloc, &plan, &peers, secret, guest, &listeners, input, output, errors,
     );
     if is_path(arguments.control) {
         let _left = fs::remove_file(rt, arguments.control);

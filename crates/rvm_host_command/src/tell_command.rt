@@ -1,6 +1,6 @@
 //! `rvmove tell`: tells a host lines, and writes its answers.
 
-ghost use Rattle.std.specs.Prelude.{◌≡◌, ◌⊎◌, IfOk};
+ghost use Rattle.std.specs.Prelude.{◌≡◌, ◌⊎◌, IfErr, IfOk, IsOkAnd};
 
 use crate::address::is_path;
 use crate::operators::Operator;
@@ -27,20 +27,34 @@ enum Told {
 }
 
 /// The status where an answer was lost.
-const LOST: u8 = 3;
+pub const LOST: u8 = 3;
 
-/// Tells a host lines over a connection, each once the answer to the one before is there, and writes its answers. The
-/// status: 0 where all that was asked happened, 1 where something did not, and 3 where an answer was lost, so that it is
-/// not known.
-pub fn tell_command<S: Read + Write + OpenStream + Drop, I: BufRead, O: Write>(
+/// What a line begins with that tells how far a move has come.
+const PROGRESS: &[u8] = b"progress ";
+
+/// Tells a host lines over a connection, each once the answer to the one before is there, and writes its answers;
+/// `progress` is given the lines that tell meanwhile how far a move has come. The status: 0 where all that was asked
+/// happened, 1 where something did not, and 3 where an answer was lost, so that it is not known.
+pub fn tell_command<S: Read + Write + OpenStream + Drop, I: BufRead, O: Write, P: Write>(
     alloc: Global,
     stream: S,
     lines: &mut I,
     output: &mut O,
+    progress: &mut P,
 ) -> u8
     ensures { (result ≡ 0) ⊎ ((result ≡ 1) ⊎ (result ≡ 3)) }
 {
-    match tell_lines(alloc, stream, lines, output) {
+    status_of(tell_lines(alloc, stream, lines, output, progress))
+}
+
+/// The status of what came of what was asked.
+fn status_of(told: io::Result<Told>) -> u8
+    ensures done { result ≡ 0 → IsOkAnd told (λ t. t ≡ Told.Done) }
+    ensures not_done { result ≡ 1 → IsOkAnd told (λ t. t ≡ Told.NotDone) }
+    ensures lost { IfErr told (λ fault. result ≡ 3) }
+    ensures others { (result ≡ 0) ⊎ ((result ≡ 1) ⊎ (result ≡ 3)) }
+{
+    match told {
         Ok(Told::Done) => 0,
         Ok(Told::NotDone) => 1,
         Err(_) => LOST,
@@ -48,11 +62,12 @@ pub fn tell_command<S: Read + Write + OpenStream + Drop, I: BufRead, O: Write>(
 }
 
 /// Tells a host lines, and writes its answers: whether all that was asked happened.
-fn tell_lines<S: Read + Write + OpenStream + Drop, I: BufRead, O: Write>(
+fn tell_lines<S: Read + Write + OpenStream + Drop, I: BufRead, O: Write, P: Write>(
     alloc: Global,
     stream: S,
     lines: &mut I,
     output: &mut O,
+    progress: &mut P,
 ) -> io::Result<Told> {
     let mut sending = stream.try_clone()?;
     let mut answers = BufReader::new(alloc, stream)?;
@@ -64,7 +79,7 @@ fn tell_lines<S: Read + Write + OpenStream + Drop, I: BufRead, O: Write>(
         }
         sending.write_all(&line)?;
         sending.flush()?;
-        if read_answer(&mut answers, &mut line, output)? == Told::NotDone {
+        if read_answer(&mut answers, &mut line, output, progress)? == Told::NotDone {
             told = Told::NotDone;
         }
     }
@@ -84,11 +99,13 @@ fn read_line<I: BufRead>(lines: &mut I, line: &mut Vec<u8>) -> io::Result<bool> 
     Ok(true)
 }
 
-/// Reads an answer, and writes it but for its last line, which says whether what was asked happened.
-fn read_answer<I: BufRead, O: Write>(
+/// Reads an answer, and writes it but for its last line, which says whether what was asked happened. Where a line cannot
+/// be written that tells how far a move has come, it is not.
+fn read_answer<I: BufRead, O: Write, P: Write>(
     answers: &mut I,
     line: &mut Vec<u8>,
     output: &mut O,
+    progress: &mut P,
 ) -> io::Result<Told> {
     for _line in 0..u64::MAX {
         line.clear();
@@ -104,7 +121,12 @@ fn read_answer<I: BufRead, O: Write>(
                 output.flush()?;
                 return Ok(Told::NotDone);
             }
-            text => output.write_all(text)?,
+            text => match text.strip_prefix(PROGRESS) {
+                Some(text) => {
+                    let _untold = progress.write_all(text);
+                }
+                None => output.write_all(text)?,
+            },
         }
     }
     Err(io::Error::from(io::ErrorKind::UnexpectedEof))

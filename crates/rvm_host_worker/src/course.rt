@@ -27,12 +27,31 @@ pub struct Figures {
     pub pause: Duration,
 }
 
+/// How far a move has come.
+#[derive(Clone, Copy, Debug, PartialEq, Eq)]
+pub struct Progress {
+    /// How many rounds of copies were made.
+    pub rounds: u64,
+    /// How many copies of pages were sent.
+    pub copies: u64,
+    /// How many pages were to be copied again when the last round ended.
+    pub left: u16,
+}
+
+/// Who is told how far a move has come.
+pub trait Watch {
+    /// The move has come so far. This is told after each few pages, and after each wait.
+    fn tell(&mut self, progress: Progress);
+}
+
 /// What a mover has done so far.
 #[derive(Clone, Copy)]
 pub(crate) struct Course {
     pub(crate) number: u64,
     pub(crate) rounds: u64,
     pub(crate) copies: u64,
+    /// How many pages were to be copied again when the last round ended.
+    pub(crate) left: u16,
     /// Whether there was a connection when it was looked last.
     pub(crate) was_open: bool,
     began: Duration,
@@ -58,6 +77,7 @@ impl Course {
             number,
             rounds: 0,
             copies: 0,
+            left: 0,
             was_open: true,
             began,
             sent,
@@ -92,6 +112,15 @@ impl Course {
     pub(crate) fn pause<R: Clock>(&mut self, rt: &R) {
         self.heard(rt);
         self.paused = Some(self.heard);
+    }
+
+    /// How far the move has come.
+    pub(crate) fn progress(&self) -> Progress {
+        Progress {
+            rounds: self.rounds,
+            copies: self.copies,
+            left: self.left,
+        }
     }
 
     /// What the move came to, at a host that has sent so many bytes by now.

@@ -61,7 +61,8 @@ impl InputQueue {
     }
 }
 
-/// Reads bytes for the console to their end, as fast as the guest takes them.
+/// Reads bytes for the console to their end, as fast as the guest takes them. It ends with them, with a read that fails,
+/// or where memory runs out.
 pub fn read_input<I: Read, R: Wait>(rt: &R, reader: &mut I, queue: &InputQueue) {
     let mut buffer = [0u8; 256];
     for _read in rt.forever() {

@@ -18,7 +18,7 @@ mod news;
 mod pace;
 mod station;
 
-pub use course::Figures;
+pub use course::{Figures, Progress, Watch};
 pub use harts::{HartsEnd, HartsPlan, harts_worker};
 pub use hearing::{HearEnd, hear};
 pub use input::{InputQueue, read_input};

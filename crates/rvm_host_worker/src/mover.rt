@@ -4,7 +4,7 @@ ghost use Rattle.std.specs.Prelude.{IfErr, IfSome};
 ghost use Rattle.rvm_host_worker.specs.Ends.{IsNews};
 ghost use Rattle.rvm_host_worker.specs.Movers.{IsMoveEnd, IsToBegin};
 
-use crate::course::{Course, Figures};
+use crate::course::{Course, Figures, Watch};
 use crate::news::MoveNews;
 use crate::station::Station;
 use rvm_core::ModeKind;
@@ -54,13 +54,14 @@ pub enum MoveEnd {
 /// Moves the guest of this host to another one. Where a connection breaks while pages are copied, the move is given up
 /// and begun anew once there is one again, so that the guest is not paused for what was lost; once the guest is paused
 /// the last frames are sent again. It is given up where nothing is heard for too long, and never once the guest is
-/// committed: then the mover ends only when it is told to.
-pub fn move_guest<L: Hosting, M: PagedMemory + Drop, W: Write + Drop, R: Wait + Clock>(
+/// committed: then the mover ends only when it is told to. `watch` is told how far the move has come.
+pub fn move_guest<L: Hosting, M: PagedMemory + Drop, W: Write + Drop, V: Watch, R: Wait + Clock>(
     rt: &R,
     alloc: Global,
     station: &Station<L, M, W>,
     plan: &MovePlan,
     stop: &AtomicBool,
+    watch: &mut V,
 ) -> MoveEnd
     ensures { IsMoveEnd L.opening result }
 {
@@ -79,6 +80,7 @@ pub fn move_guest<L: Hosting, M: PagedMemory + Drop, W: Write + Drop, R: Wait + 
         if let Some(end) = go_on(rt, alloc, station, plan, &mut course) {
             return end;
         }
+        watch.tell(course.progress());
     }
     unreachable!()
 }
@@ -276,8 +278,9 @@ fn copy<L: Hosting, M: PagedMemory + Drop, W: Write + Drop, R: Wait + Clock>(
             course.copies = course.copies.saturating_add(1);
             course.heard(rt);
         }
-        HostReply::RoundEnded { .. } => {
+        HostReply::RoundEnded { left, .. } => {
             course.rounds = course.rounds.saturating_add(1);
+            course.left = left;
             await_arrival(rt, station, plan, course);
         }
         HostReply::Stopping => {

@@ -8,6 +8,7 @@ ghost use Rattle.rvm_program.specs.Ended.{AsmEnded, AuditEnded, DebugEnded, DisE
 ghost use Rattle.rvm_program.specs.Files.{IsFile, IsFileRefusal, IsImage, IsInput};
 
 use crate::files::{NamedFiles, read_file, refusal_of};
+use crate::system::System;
 use rvm_arguments::{
     AsmArguments, DisArguments, GuestArguments, HostArguments, MoveArguments, RunArguments,
     ScriptArguments, TellArguments,
@@ -17,27 +18,27 @@ use rvm_command::debug_command::debug_command;
 use rvm_command::dis_command::dis_command;
 use rvm_command::run_command::run_command;
 use rvm_host_command::host_command::{HostBytes, host_command};
-use rvm_host_command::tell_command::{connect_to, tell_command};
+use rvm_host_command::tell_command::{LOST, connect_to, tell_command};
+use rvm_host_worker::{InputQueue, read_input as read_console_input};
 use rvm_mem::PagedMemory;
 use rvm_move_command::audit_command::audit_command;
 use rvm_move_command::move_command::move_command;
 use rvm_refusal::{LinkFault, Refusal};
 use rvm_world_command::script_command::script_command;
-use std::alloc::Global;
-use std::io::{BufReader, BufWriter, Read, Write};
-use std::net::Net;
-use std::random::RandomSource;
-use std::rt::Files;
-use std::sync::Wait;
+use std::alloc::{AllocError, Global};
+use std::io::{BufRead, BufReader, BufWriter, Read, Write};
+use std::net::{Net, OpenStream};
+use std::sync::{Arc, Wait};
 use std::thread::Threads;
 use std::time::Clock;
+use std::{io, thread};
 
 /// What a command over values answers: its status, or `LinkFault` where a write to standard error failed, so
 /// that it is not told how the command ended.
 pub(crate) type Told = Result<u8, LinkFault>;
 
-/// The status where an answer of a host was lost.
-const LOST: u8 = 3;
+/// The name of a file that stands for standard input.
+const STANDARD_INPUT: &str = "-";
 
 /// Reads the image and the bytes for the console, and runs.
 pub(crate) fn run<M: PagedMemory + Drop, F: NamedFiles, O: Write, E: Write>(
@@ -211,7 +212,7 @@ where
 /// Reads the files of a host, and works at it. The name of a file that cannot be had is told here.
 pub(crate) fn host<
     M: PagedMemory + Drop + Send,
-    Rt: Files + AllocGlobal + Net + Threads + Wait + Clock + RandomSource + Sync,
+    Rt: System + Net + Threads + Wait + 'static,
     F: NamedFiles,
     O: Write,
     E: Write,
@@ -222,15 +223,22 @@ where
     ensures ended { IfOk result (λ status. HostEnded (F.bytes_of files.now) arguments.now status
         (written (O.contents output.old) (O.contents output.new))) }
 {
-    match read_host(files, rt.alloc(), arguments) {
+    match read_host(rt, files, arguments) {
         Ok(read) => {
             let bytes = HostBytes {
                 peers: read.peers.as_slice(),
                 image: read.image.as_slice(),
                 secret: read.secret.as_deref(),
-                input: read.input.as_slice(),
             };
-            host_command::<M, O, E, Rt>(rt, rt.alloc(), arguments, &bytes, output, errors)
+            host_command::<M, O, E, Rt>(
+                rt,
+                rt.alloc(),
+                arguments,
+                &bytes,
+                &read.input,
+                output,
+                errors,
+            )
         }
         Err((path, why)) => {
             writeln!(errors, "{path}: {why}")?;
@@ -245,36 +253,72 @@ struct HostFiles {
     peers: Vec<u8>,
     image: Vec<u8>,
     secret: Option<Vec<u8>>,
-    input: Vec<u8>,
+    input: Arc<InputQueue>,
 }
 
 /// The files of a host, or the first that cannot be had, and why.
-fn read_host<'a, F: NamedFiles>(
+fn read_host<'a, Rt: System + Threads + Wait + 'static, F: NamedFiles>(
+    rt: &Rt,
     files: &F,
-    alloc: Global,
     arguments: &HostArguments<'a>,
 ) -> Result<HostFiles, (&'a str, Refusal)>
     ensures peers { IfOk result (λ r. IsFile (F.bytes_of files.now arguments.now.peers.now) r.peers.items) }
     ensures image { IfOk result (λ r. IsImage (F.bytes_of files.now) arguments.now.guest r.image.items) }
 {
     let image = match &arguments.guest {
-        Some(guest) => read_told(files, alloc, guest.image)?,
-        None => Vec::new(alloc),
+        Some(guest) => read_told(files, rt.alloc(), guest.image)?,
+        None => Vec::new(rt.alloc()),
     };
     let secret = match arguments.secret {
-        Some(path) => Some(read_told(files, alloc, path)?),
+        Some(path) => Some(read_told(files, rt.alloc(), path)?),
         None => None,
     };
-    let input = match arguments.input {
-        Some(path) => read_told(files, alloc, path)?,
-        None => Vec::new(alloc),
-    };
     Ok(HostFiles {
-        peers: read_told(files, alloc, arguments.peers)?,
+        peers: read_told(files, rt.alloc(), arguments.peers)?,
         image,
         secret,
-        input,
+        input: host_input(rt, files, arguments.input)?,
     })
+}
+
+/// What comes to the guest's console: the bytes of a file, or of standard input as they come.
+fn host_input<'a, Rt: System + Threads + Wait + 'static, F: NamedFiles>(
+    rt: &Rt,
+    files: &F,
+    input: Option<&'a str>,
+) -> Result<Arc<InputQueue>, (&'a str, Refusal)> {
+    let path = input.unwrap_or(STANDARD_INPUT);
+    let queue = match input {
+        None => queued(rt, &[]),
+        Some(STANDARD_INPUT) => live_input(rt),
+        Some(path) => queued(rt, &read_told(files, rt.alloc(), path)?),
+    };
+    match queue {
+        Ok(queue) => Ok(queue),
+        Err(_) => Err((path, Refusal::OutOfMemory)),
+    }
+}
+
+/// These bytes, for a guest's console.
+fn queued<Rt: System>(rt: &Rt, bytes: &[u8]) -> Result<Arc<InputQueue>, AllocError> {
+    Ok(Arc::new(rt.alloc(), InputQueue::with(rt.alloc(), bytes)?)?)
+}
+
+/// What comes from standard input, for a guest's console. A thread reads it that ends with the process, since nothing else
+/// ends a read.
+fn live_input<Rt: System + Threads + Wait + 'static>(
+    rt: &Rt,
+) -> Result<Arc<InputQueue>, AllocError> {
+    let queue = Arc::new(rt.alloc(), InputQueue::new(rt.alloc()))?;
+    let theirs = Arc::try_clone(&queue)?;
+    let runtime = *rt;
+    let reader = thread::spawn(rt, move || {
+        read_console_input(&runtime, &mut runtime.live_input(), &theirs);
+    });
+    match reader {
+        Ok(_reads_on) => Ok(queue),
+        Err(_) => Err(AllocError),
+    }
 }
 
 /// All bytes of a file, or its name, and why they cannot be had.
@@ -293,7 +337,7 @@ fn read_told<'a, F: NamedFiles>(
 
 /// Tells a host a line, or those of standard input, and writes its answers. Where it cannot be reached, that is told
 /// here, and so is that an answer was lost.
-pub(crate) fn tell<Rt: AllocGlobal + Net, I: Read, O: Write, E: Write>(
+pub(crate) fn tell<Rt: System + Net, I: Read, O: Write, E: Write>(
     rt: &Rt,
     arguments: &TellArguments,
     input: &mut I,
@@ -310,13 +354,10 @@ pub(crate) fn tell<Rt: AllocGlobal + Net, I: Read, O: Write, E: Write>(
         }
     };
     let status = match arguments.line {
-        Some(line) => {
-            let mut lines = line.as_bytes();
-            tell_command(rt.alloc(), stream, &mut lines, output)
-        }
+        Some(line) => tell_lines(rt, stream, &mut line.as_bytes(), output, errors),
         None => {
             let mut lines = BufReader::new(rt.alloc(), input)?;
-            tell_command(rt.alloc(), stream, &mut lines, output)
+            tell_lines(rt, stream, &mut lines, output, errors)
         }
     };
     if status == LOST {
@@ -327,6 +368,23 @@ pub(crate) fn tell<Rt: AllocGlobal + Net, I: Read, O: Write, E: Write>(
         )?;
     }
     Ok(status)
+}
+
+/// Tells a host lines. Where somebody may look at `errors`, how far a move has come goes there.
+fn tell_lines<Rt: System, S: Read + Write + OpenStream + Drop, I: BufRead, O: Write, E: Write>(
+    rt: &Rt,
+    stream: S,
+    lines: &mut I,
+    output: &mut O,
+    errors: &mut E,
+) -> u8
+    ensures { TellEnded result }
+{
+    if rt.shows_errors() {
+        tell_command(rt.alloc(), stream, lines, output, errors)
+    } else {
+        tell_command(rt.alloc(), stream, lines, output, &mut io::sink())
+    }
 }
 
 /// A buffer in front of a writer, with nothing in it.

@@ -4,7 +4,7 @@
 //! Stands on the commands and `clap`, and reaches files through the runtime or another `NamedFiles` alone,
 //! so that another program can call what `rvmove` does.
 //!
-//! To be read in this order: `perform`, `commands`, `files`, `descriptors`.
+//! To be read in this order: `perform`, `commands`, `files`, `system`, `descriptors`.
 #![tactic(auto)]
 
 ghost use Rattle.std.specs.Prelude.{◌≡◌, ◌≢◌, ◌⊎◌, None, IfErr, IfOk, OnErr, map};
@@ -17,6 +17,7 @@ ghost use Rattle.rvm_program.specs.Performed.{AreFaulty, AreTelling, HasFailed, 
 mod commands;
 mod descriptors;
 mod files;
+mod system;
 
 use clap::Error;
 use commands::Told;
@@ -31,23 +32,22 @@ use rvm_refusal::Refusal;
 use std::convert::AsStr;
 use std::io::{Read, Write};
 use std::net::Net;
-use std::random::RandomSource;
-use std::rt::Files;
 use std::sync::Wait;
 use std::thread::Threads;
-use std::time::Clock;
+pub use system::System;
 
 /// The status where a write to standard error failed, so that it is not told how the command ended.
 const UNTOLD: u8 = 1;
 
 /// Does what the words of a command line ask for, of which the first is the program's name, and answers
 /// the status: 0, 1 where it was refused, 2 for a fault of the command line, which writes nothing to
-/// `output`, or 3 where an answer of a host was lost that was told something. `input` stands for standard input, `output` and `errors` for standard output and standard
-/// error. Each guest's memory is an `M`. A guest that moves does so by threads, which may wait for one
-/// another, and over TCP. The files are those of the runtime.
+/// `output`, or 3 where an answer of a host was lost that was told something. `input` stands for standard input, `output`
+/// and `errors` for standard output and standard error. Each guest's memory is an `M`. A guest that moves does so by
+/// threads, which may wait for one another, and over TCP. The files are those of the runtime, and so is the standard input
+/// that a thread of its own reads for `host --input -`, until the process ends.
 pub fn perform<
     M: PagedMemory + Drop + Send + 'static,
-    Rt: Files + AllocGlobal + Net + Threads + Wait + Clock + RandomSource + Sync,
+    Rt: System + Net + Threads + Wait + 'static,
     S: AsStr,
     I: Read,
     O: Write,
@@ -81,7 +81,7 @@ where
 /// Does what `perform` does, over any files.
 pub fn perform_over<
     M: PagedMemory + Drop + Send + 'static,
-    Rt: Files + AllocGlobal + Net + Threads + Wait + Clock + RandomSource + Sync,
+    Rt: System + Net + Threads + Wait + 'static,
     F: NamedFiles,
     S: AsStr,
     I: Read,
@@ -115,7 +115,7 @@ where
 /// was lost that was told something.
 fn do_command<
     M: PagedMemory + Drop + Send + 'static,
-    Rt: Files + AllocGlobal + Net + Threads + Wait + Clock + RandomSource + Sync,
+    Rt: System + Net + Threads + Wait + 'static,
     F: NamedFiles,
     I: Read,
     O: Write,
@@ -147,7 +147,7 @@ fn status_of(told: Told) -> u8
 /// Does what a command line asks for. A refusal that the command has not told itself is told here.
 fn tell_end<
     M: PagedMemory + Drop + Send + 'static,
-    Rt: Files + AllocGlobal + Net + Threads + Wait + Clock + RandomSource + Sync,
+    Rt: System + Net + Threads + Wait + 'static,
     F: NamedFiles,
     I: Read,
     O: Write,
@@ -172,7 +172,7 @@ where
 /// Calls the command of a command line. It is refused where a file or a buffer cannot be had.
 fn begin<
     M: PagedMemory + Drop + Send + 'static,
-    Rt: Files + AllocGlobal + Net + Threads + Wait + Clock + RandomSource + Sync,
+    Rt: System + Net + Threads + Wait + 'static,
     F: NamedFiles,
     I: Read,
     O: Write,
