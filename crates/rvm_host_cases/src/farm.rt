@@ -8,7 +8,6 @@ use rvm_arguments::GuestArguments;
 use rvm_command::guest::load_guest;
 use rvm_debug::Debugged;
 use rvm_greeting::Secret;
-use rvm_host_command::Listeners;
 use rvm_host_command::hosting::{HostPlan, work_at};
 use rvm_host_command::operators::Operators;
 use rvm_host_worker::InputQueue;
@@ -147,16 +146,16 @@ where
     writeln!(text, "A {}", farm.a.address)?;
     writeln!(text, "B {}", farm.between.address)?;
     let peers = read_peers(alloc, &text)?;
+    let input = InputQueue::new(alloc);
     let plan = HostPlan {
         id,
+        peers: &peers,
+        hosts: &seat.hosts,
+        operators: &seat.operators,
+        input: &input,
         patience: Duration::from_millis(farm.patience),
         rate: None,
         until_halt: false,
-    };
-    let input = InputQueue::new(alloc);
-    let listeners = Listeners {
-        hosts: &seat.hosts,
-        operators: &seat.operators,
     };
     let secret = Secret::new(secret);
     let mut errors = Vec::new(alloc);
@@ -165,11 +164,8 @@ where
         rt,
         alloc,
         &plan,
-        &peers,
         secret,
         guest,
-        &listeners,
-        &input,
         console,
         &mut errors,
     );

@@ -9,7 +9,6 @@ use crate::answers::letter_of;
 use crate::fault::{HostFault, Place};
 use crate::hosting::{HostPlan, work_at};
 use crate::operators::Operators;
-use crate::threads::Listeners;
 use rvm_arguments::HostArguments;
 use rvm_command::guest::load_guest;
 use rvm_debug::Debugged;
@@ -109,23 +108,21 @@ where
     let secret = secret_of(files.secret)?;
     let only_loopback = files.secret.is_none();
     check_addresses(rt, &peers, only_loopback)?;
+    let guest = load(alloc, arguments, files.image)?;
     let hosts = listen_for_hosts(rt, arguments, &peers, id, only_loopback)?;
     let operators = listen_for_operators(rt, arguments.control)?;
     let plan = HostPlan {
         id,
+        peers: &peers,
+        hosts: &hosts,
+        operators: &operators,
+        input,
         patience: Duration::from_millis(u64::from(arguments.patience)),
         rate: arguments.rate,
         until_halt: arguments.until_halt,
     };
-    let guest = load(alloc, arguments, files.image)?;
     tell_addresses(&hosts, &operators, arguments.control, errors);
-    let listeners = Listeners {
-        hosts: &hosts,
-        operators: &operators,
-    };
-    let ended = work_at::<M, O, E, R>(
-        rt, alloc, &plan, &peers, secret, guest, &listeners, input, output, errors,
-    );
+    let ended = work_at::<M, O, E, R>(rt, alloc, &plan, secret, guest, output, errors);
     if is_path(arguments.control) {
         let _left = fs::remove_file(rt, arguments.control);
     }

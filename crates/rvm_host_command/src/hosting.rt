@@ -7,8 +7,9 @@ ghost use Rattle.rvm_host_worker.specs.declared.harts.HartsEnd.TheVariants.{Cons
 
 use crate::door::Door;
 use crate::fault::HostFault;
+use crate::operators::Operators;
 use crate::process::Process;
-use crate::threads::{Listeners, work_beside};
+use crate::threads::work_beside;
 use crate::turns::Turns;
 use rvm_core::Host;
 use rvm_debug::Debugged;
@@ -36,11 +37,19 @@ const SLICE: u32 = 1 << 14;
 /// How many are made while one is.
 const SLICE_IN_MOVE: u32 = 512;
 
-/// How a host process is run.
+/// What a host process works with, and how. Neither listener waits when a connection is to be accepted.
 #[derive(Drop)]
-pub struct HostPlan {
+pub struct HostPlan<'a, N: Drop> {
     /// The number of this host.
     pub id: u8,
+    /// The hosts of the world.
+    pub peers: &'a Peers,
+    /// Where other hosts connect to this one.
+    pub hosts: &'a N,
+    /// Where operators do.
+    pub operators: &'a Operators<N>,
+    /// What comes to the guest's console while it is here.
+    pub input: &'a InputQueue,
     /// For how long nothing may be heard in a move before it is given up, while that may be.
     pub patience: Duration,
     /// How many turns are made in a second at most, if that has a limit.
@@ -49,9 +58,8 @@ pub struct HostPlan {
     pub until_halt: bool,
 }
 
-/// Works at a host until it is told to stop. What the guest sends while it is here goes to `output`, and `input` comes
-/// to its console; `errors` is told that the guest is halted. Connections of other hosts come to one listener, and
-/// operators to the other.
+/// Works at a host until it is told to stop. What the guest sends while it is here goes to `output`; `errors` is told that
+/// the guest is halted.
 pub fn work_at<
     M: PagedMemory + Drop + Send,
     O: Write,
@@ -60,12 +68,9 @@ pub fn work_at<
 >(
     rt: &R,
     alloc: Global,
-    plan: &HostPlan,
-    peers: &Peers,
+    plan: &HostPlan<'_, R::Listener>,
     secret: Secret,
     guest: Option<Debugged<M>>,
-    listeners: &Listeners<'_, R::Listener>,
-    input: &InputQueue,
     output: &mut O,
     errors: &mut E,
 ) -> Result<HartsEnd, HostFault>
@@ -73,10 +78,10 @@ where
     R::Stream: Send,
     R::Listener: Send + Sync,
     ensures shown { IfOk result (λ end. end ≢ ConsoleFault
-        → IsShown (opening_of guest plan.now.id (length peers.now)) (O.contents output.old) (O.contents output.new)) }
+        → IsShown (opening_of guest plan.now.id (length plan.now.peers.now)) (O.contents output.old) (O.contents output.new)) }
     ensures unbegun { IfErr result (λ fault. O.contents output.new ≡ O.contents output.old) }
 {
-    let hosts = peers.count() as u8;
+    let hosts = plan.peers.count() as u8;
     let has_guest = guest.is_some();
     let Ok(host) = Host::with_version(guest, plan.id, hosts, MAX_PAGES as u16, STREAM_VERSION)
     else {
@@ -86,18 +91,8 @@ where
         drop(host);
         return Err(HostFault::NoRandom);
     };
-    host_over::<Brand, M, O, E, R>(
-        rt,
-        alloc,
-        host,
-        plan,
-        peers,
-        (registry, secret),
-        listeners,
-        input,
-        output,
-        errors,
-    )
+    let known = Known { registry, secret };
+    host_over::<Brand, M, O, E, R>(rt, alloc, host, plan, known, output, errors)
 }
 
 /// A number that is drawn at random, from 1 on.
@@ -119,6 +114,13 @@ fn new_registry<R: RandomSource>(
     Ok(Registry::new(host, hosts, process, world))
 }
 
+/// What a host knows of the others at its start.
+#[derive(Drop)]
+struct Known {
+    registry: Registry,
+    secret: Secret,
+}
+
 /// Works at this host.
 fn host_over<
     L: Hosting + Send + Sync,
@@ -130,11 +132,8 @@ fn host_over<
     rt: &R,
     alloc: Global,
     host: Host<M>,
-    plan: &HostPlan,
-    peers: &Peers,
-    known: (Registry, Secret),
-    listeners: &Listeners<'_, R::Listener>,
-    input: &InputQueue,
+    plan: &HostPlan<'_, R::Listener>,
+    known: Known,
     output: &mut O,
     errors: &mut E,
 ) -> Result<HartsEnd, HostFault>
@@ -146,8 +145,8 @@ where
         → IsShown L.opening (O.contents output.old) (O.contents output.new)) }
     ensures unbegun { IfErr result (λ fault. O.contents output.new ≡ O.contents output.old) }
 {
-    let process = new_process::<L, M, R>(alloc, host, plan, peers.count() as u8, known)?;
-    work_in(rt, alloc, &process, peers, listeners, input, output, errors)
+    let process = new_process::<L, M, R>(alloc, host, plan, known)?;
+    work_in(rt, alloc, &process, plan, output, errors)
 }
 
 /// Works in this process.
@@ -161,9 +160,7 @@ fn work_in<
     rt: &R,
     alloc: Global,
     process: &Process<L, M, R::Stream>,
-    peers: &Peers,
-    listeners: &Listeners<'_, R::Listener>,
-    input: &InputQueue,
+    plan: &HostPlan<'_, R::Listener>,
     output: &mut O,
     errors: &mut E,
 ) -> Result<HartsEnd, HostFault>
@@ -178,11 +175,11 @@ where
         rt,
         alloc,
         process,
-        input,
+        input: plan.input,
         output,
         errors,
     };
-    match work_beside(rt, alloc, process, peers, listeners, turns) {
+    match work_beside(rt, alloc, process, plan, turns) {
         Ok((end, output)) => {
             take_back(output);
             Ok(end)
@@ -206,13 +203,13 @@ where
 fn new_process<L: Hosting, M: PagedMemory + Drop, R: Net>(
     alloc: Global,
     host: Host<M>,
-    plan: &HostPlan,
-    hosts: u8,
-    known: (Registry, Secret),
+    plan: &HostPlan<'_, R::Listener>,
+    known: Known,
 ) -> Result<Process<L, M, R::Stream>, AllocError>
     requires { host ≡ L.opening }
 {
-    let (registry, secret) = known;
+    let Known { registry, secret } = known;
+    let hosts = plan.peers.count() as u8;
     let mut doors = Vec::new(alloc);
     for _host in 0..hosts {
         doors.push(Door::new())?;

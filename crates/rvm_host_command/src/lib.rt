@@ -24,5 +24,3 @@ mod threads;
 mod ticker;
 mod timed;
 mod turns;
-
-pub use threads::Listeners;

@@ -5,13 +5,12 @@ ghost use Rattle.std.specs.Thread.{IsSend, IsSync};
 
 use crate::accepter::accepter;
 use crate::control::control_worker;
-use crate::operators::Operators;
+use crate::hosting::HostPlan;
 use crate::peer::peer_worker;
 use crate::process::Process;
 use crate::ticker::ticker;
 use rvm_host_cell::Hosting;
 use rvm_mem::PagedMemory;
-use rvm_peers::Peers;
 use rvm_worker::Task;
 use std::alloc::Global;
 use std::net::Net;
@@ -24,15 +23,6 @@ use std::time::Clock;
 /// How many operators are answered at once.
 const CONTROLS: u32 = 4;
 
-/// Where a host process listens. Neither waits when a connection is to be accepted.
-#[derive(Drop)]
-pub struct Listeners<'a, N: Drop> {
-    /// For other hosts.
-    pub hosts: &'a N,
-    /// For operators.
-    pub operators: &'a Operators<N>,
-}
-
 /// Has the threads of a host process work, and does a task in this one; once that is done, all others end. The task comes
 /// back where a thread could not be made.
 pub(crate) fn work_beside<
@@ -44,8 +34,7 @@ pub(crate) fn work_beside<
     rt: &R,
     alloc: Global,
     process: &Process<L, M, R::Stream>,
-    peers: &Peers,
-    listeners: &Listeners<'_, R::Listener>,
+    plan: &HostPlan<'_, R::Listener>,
     task: T,
 ) -> Result<T::Output, T>
 where
@@ -55,8 +44,9 @@ where
     ensures done { IfOk result (T.gives task) }
     ensures undone { IfErr result (λ t. t ≡ task) }
 {
-    let hosts = listeners.hosts;
-    let operators = listeners.operators;
+    let hosts = plan.hosts;
+    let operators = plan.operators;
+    let peers = plan.peers;
     thread::scope(
         thread::scope_env(),
         rt,

@@ -32,6 +32,16 @@ one_more bytes r before mid now fit c added = record {
       (both_added before mid now (bytes_in c.records) (record_bytes r) c.written added);
 }
 
+-- one record of data, whose head and bytes were written one after the other
+pub one_record : (bytes : List ℕ) (count : ℕ) (before mid now : Option (List ℕ)) → length bytes ≤ 65535
+    → count ≡ length bytes → Appends before mid (0 ∷ little_bytes 2 count) → Appends mid now bytes
+    → Carries bytes before now
+one_record bytes count before mid now fit is head added =
+    let whole : Appends before now (0 ∷ (little_bytes 2 count ++ bytes)) =
+    both_added before mid now (0 ∷ little_bytes 2 count) bytes head added in
+    one_more [] (Data bytes) before before now fit (none_written before)
+    (subst (λ n. Appends before now (0 ∷ (little_bytes 2 n ++ bytes))) is whole)
+
 -- records that carry bytes, and then records that carry more
 pub both_carried : (xs ys : List ℕ) (before mid now : Option (List ℕ)) → Carries xs before mid → Carries ys mid now
     → Carries (xs ++ ys) before now

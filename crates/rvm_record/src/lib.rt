@@ -13,4 +13,6 @@ mod record;
 
 pub use fault::RecordFault;
 pub use number::{number_bytes, read_number};
-pub use record::{MAX_DATA, RecordRead, read_record, write_answer, write_data, write_question};
+pub use record::{
+    MAX_DATA, RecordRead, read_record, write_answer, write_data, write_head, write_question,
+};

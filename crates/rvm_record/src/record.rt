@@ -110,10 +110,17 @@ fn write_piece<W: Write>(output: &mut W, piece: &[u8]) -> io::Result<()>
     requires { length piece.now ≤ 65535 }
     ensures { OnOk result (Appends (W.contents output.old) (W.contents output.new) (record_bytes (Data piece.now))) }
 {
-    let mut head = [DATA, 0, 0];
-    LittleEndian::write_u16(&mut head[1..], piece.len() as u16);
-    output.write_all(&head)?;
+    write_head(output, piece.len() as u16)?;
     output.write_all(piece)
+}
+
+/// Writes the head of a record of data: so many bytes of the stream have to follow it.
+pub fn write_head<W: Write>(output: &mut W, count: u16) -> io::Result<()>
+    ensures { OnOk result (Appends (W.contents output.old) (W.contents output.new) (0 ∷ little_bytes 2 count)) }
+{
+    let mut head = [DATA, 0, 0];
+    LittleEndian::write_u16(&mut head[1..], count);
+    output.write_all(&head)
 }
 
 /// Writes a question.

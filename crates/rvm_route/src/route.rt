@@ -9,26 +9,20 @@ use crate::made::{Made, Origin};
 use crate::stream::Stream;
 use rvm_link::SendError;
 use rvm_refusal::LinkFault;
-use std::alloc::Global;
 use std::io::Write;
 
 /// The stream to another host, while there is a connection to it.
 #[derive(Drop)]
 pub(crate) struct Route<L: Origin, W: Write + Drop> {
     stream: Option<Stream<L, W>>,
-    /// The bytes of the frame that goes out, whose memory the next one takes.
-    bytes: Vec<u8>,
 }
 
 impl<L: Origin, W: Write + Drop> Route<L, W> {
     /// Without a connection.
-    pub(crate) fn new(alloc: Global) -> Route<L, W>
+    pub(crate) fn new() -> Route<L, W>
         ensures { result.stream ≡ None }
     {
-        Route {
-            stream: None,
-            bytes: Vec::new(alloc),
-        }
+        Route { stream: None }
     }
 
     /// A connection to a host takes the place of the one that is there: a stream of this version begins on it. One that
@@ -41,7 +35,7 @@ impl<L: Origin, W: Write + Drop> Route<L, W> {
             → HasSpelling (sent version (hello_frame version)) → ⊥) }
     {
         self.stream = None;
-        self.stream = Some(Stream::begin(version, host, output, &mut self.bytes)?);
+        self.stream = Some(Stream::begin(version, host, output)?);
         Ok(())
     }
 
@@ -58,7 +52,7 @@ impl<L: Origin, W: Write + Drop> Route<L, W> {
         let Some(stream) = self.stream.take() else {
             return Err(SendError::LinkFault);
         };
-        let (stream, sent) = stream.send(version, made, &mut self.bytes);
+        let (stream, sent) = stream.send(version, made);
         self.stream = stream;
         sent
     }

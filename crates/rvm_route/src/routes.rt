@@ -26,14 +26,14 @@ impl<L: Origin, W: Write + Drop> Routes<L, W> {
     {
         let mut ends = Vec::new(alloc);
         for _host in 0..hosts {
-            ends.push(Mutex::new(Route::new(alloc)))?;
+            ends.push(Mutex::new(Route::new()))?;
         }
         Ok(Routes { version, ends })
     }
 
     /// A connection to a host takes the place of the last one; Hello is sent. `LinkFault` where it fails, or there is
-    /// no such host, `OutOfMemory`, or `BadFrame` where there is no stream of this version: then it is dropped. It may
-    /// wait for another thread.
+    /// no such host, or `BadFrame` where there is no stream of this version: then it is dropped. It may wait for another
+    /// thread.
     pub fn open<R: Wait>(&self, rt: &R, host: u8, output: W) -> Result<(), SendError>
         ensures { IfErr result (λ e. e ≡ SendError.BadFrame
             → HasSpelling (sent self.now.version (hello_frame self.now.version)) → ⊥) }
@@ -48,7 +48,7 @@ impl<L: Origin, W: Write + Drop> Routes<L, W> {
     }
 
     /// Sends a frame whole to the host that it is for. `LinkFault` where no connection to it is open, or it fails: then
-    /// the frame is lost. `OutOfMemory`, or `BadFrame` where it has no spelling. It may wait for another thread.
+    /// the frame is lost. `BadFrame` where it has no spelling. It may wait for another thread.
     pub fn send<R: Wait>(&self, rt: &R, made: &Made<L>) -> Result<(), SendError>
         ensures { IfErr result (λ e. e ≡ SendError.BadFrame → HasSpelling (sent self.now.version made.now) → ⊥) }
     {

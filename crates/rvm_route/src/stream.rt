@@ -1,15 +1,16 @@
 //! The stream of frames on a connection to another host.
 
-ghost use Rattle.std.specs.Prelude.{◌≡◌, ◌≢◌, Err, IfErr, IfOk, IfSome, IsSome, None, OnOk, Some};
+ghost use Rattle.std.specs.Prelude.{◌≡◌, ◌≢◌, Err, IfErr, IfOk, IfSome, IsSome, None, OnOk, Some, length};
 ghost use Rattle.std.specs.Io.KnownBytes.{Appends};
 ghost use Rattle.rvm_frame.specs.Grammar.{HasSpelling, sent, spelling};
 ghost use Rattle.rvm_record.specs.Records.{Answer, Carries, Question, record_bytes};
 ghost use Rattle.rvm_route.specs.Streams.{Adds, Begins, GoesOn, hello, hello_frame};
 
 use crate::made::{Made, Origin};
-use rvm_frame::{Addressed, Frame};
-use rvm_link::{SendError, may_wait, spell};
-use rvm_record::{write_answer, write_data, write_question};
+use rvm_frame::{Addressed, Frame, frame_len, write_frame};
+use rvm_link::{SendError, may_wait};
+use rvm_record::{write_answer, write_head, write_question};
+use rvm_spelling::has_spelling;
 use std::io;
 use std::io::Write;
 use std::marker::{Model, PhantomData};
@@ -44,19 +45,14 @@ impl<L: Origin, W: Write + Drop> Model for Stream<L, W> {
 impl<L: Origin, W: Write + Drop> Stream<L, W> {
     /// Begins a stream of this version on a connection to a host: Hello is sent. A connection that fails is dropped.
     #[tactic(auto, using(crate::proofs::Streams::begun))]
-    pub(crate) fn begin(
-        version: u32,
-        host: u8,
-        output: W,
-        bytes: &mut Vec<u8>,
-    ) -> Result<Stream<L, W>, SendError>
+    pub(crate) fn begin(version: u32, host: u8, output: W) -> Result<Stream<L, W>, SendError>
         ensures begun { IfOk result (Begins version host (W.contents output)) }
         ensures spelled { IfErr result (λ e. e ≡ SendError.BadFrame
             → HasSpelling (sent version (hello_frame version)) → ⊥) }
     {
         let first = Snapshot::of(&output);
         let mut output = output;
-        say_hello(version, &mut output, bytes)?;
+        say_hello(version, &mut output)?;
         Ok(Stream {
             version,
             host,
@@ -68,12 +64,12 @@ impl<L: Origin, W: Write + Drop> Stream<L, W> {
 
     /// Sends a frame that was made here, whole, in a stream of this version. Unless it may wait, it has gone out then,
     /// and all before it. A connection that fails is dropped, and so is one to another host than that of the frame, or
-    /// with a stream of another version. Where the frame has no spelling, or there is no memory, nothing was sent.
+    /// with a stream of another version. Where the frame has no spelling, nothing was sent.
+    #[tactic(auto, using(crate::proofs::Streams::unspelled))]
     pub(crate) fn send(
         self,
         version: u32,
         made: &Made<L>,
-        bytes: &mut Vec<u8>,
     ) -> (Option<Stream<L, W>>, Result<(), SendError>)
         ensures kept { OnOk result.1 (IsSome result.0) }
         ensures sent { OnOk result.1 (IfSome result.0 (GoesOn (spelling (sent version made.now)) self)) }
@@ -86,16 +82,12 @@ impl<L: Origin, W: Write + Drop> Stream<L, W> {
         if addressed.to != self.host || version != self.version {
             return (None, Err(SendError::LinkFault));
         }
-        self.put(addressed, bytes)
+        self.put(addressed)
     }
 
     /// Sends a frame that was made here for its host.
     #[tactic(auto, using(crate::proofs::Streams::more))]
-    fn put(
-        self,
-        addressed: &Addressed,
-        bytes: &mut Vec<u8>,
-    ) -> (Option<Stream<L, W>>, Result<(), SendError>)
+    fn put(self, addressed: &Addressed) -> (Option<Stream<L, W>>, Result<(), SendError>)
         requires made { L.is_made addressed.now }
         requires to { addressed.now.to ≡ self.host }
         ensures kept { OnOk result.1 (IsSome result.0) }
@@ -113,7 +105,7 @@ impl<L: Origin, W: Write + Drop> Stream<L, W> {
             origin,
         } = self;
         let mut output = output;
-        let sent = send_frame(version, &mut output, addressed, bytes);
+        let sent = send_frame(version, &mut output, addressed);
         if sent == Err(SendError::LinkFault) {
             return (None, sent);
         }
@@ -179,7 +171,7 @@ impl<L: Origin, W: Write + Drop> Stream<L, W> {
 }
 
 /// Sends Hello.
-fn say_hello<W: Write>(version: u32, output: &mut W, bytes: &mut Vec<u8>) -> Result<(), SendError>
+fn say_hello<W: Write>(version: u32, output: &mut W) -> Result<(), SendError>
     ensures sent { OnOk result (Carries (hello version) (W.contents output.old) (W.contents output.new)) }
     ensures spelled { IfErr result (λ e. e ≡ SendError.BadFrame
         → HasSpelling (sent version (hello_frame version)) → ⊥) }
@@ -189,37 +181,59 @@ fn say_hello<W: Write>(version: u32, output: &mut W, bytes: &mut Vec<u8>) -> Res
         to: 1,
         frame: Frame::Hello { version },
     };
-    send_frame(version, output, &addressed, bytes)
+    send_frame(version, output, &addressed)
 }
 
-/// Sends a frame whole. Where there is no memory, or the frame has no spelling, nothing was sent.
+/// Sends a frame whole. Where it has no spelling, nothing was sent.
 fn send_frame<W: Write>(
     version: u32,
     output: &mut W,
     addressed: &Addressed,
-    bytes: &mut Vec<u8>,
 ) -> Result<(), SendError>
     ensures sent { OnOk result (Carries (spelling (sent version addressed.now))
         (W.contents output.old) (W.contents output.new)) }
     ensures unsent { IfErr result (λ e. e ≢ SendError.LinkFault → output.new ≡ output.old) }
     ensures spelled { IfErr result (λ e. e ≡ SendError.BadFrame → HasSpelling (sent version addressed.now) → ⊥) }
 {
-    spell(version, addressed, bytes)?;
-    if put_data(output, bytes.as_slice(), may_wait(&addressed.frame)).is_err() {
+    if !has_spelling(version, addressed) {
+        return Err(SendError::BadFrame);
+    }
+    if put_frame(version, output, addressed).is_err() {
         return Err(SendError::LinkFault);
     }
     Ok(())
 }
 
-/// Writes bytes of the stream, and unless they may wait, has them go out.
-fn put_data<W: Write>(output: &mut W, bytes: &[u8], may_wait: bool) -> io::Result<()>
-    ensures { OnOk result (Carries bytes.now (W.contents output.old) (W.contents output.new)) }
+/// Writes a record that carries a frame, and unless it may wait, has it go out.
+fn put_frame<W: Write>(version: u32, output: &mut W, addressed: &Addressed) -> io::Result<()>
+    requires { HasSpelling (sent version addressed.now) }
+    ensures { OnOk result (Carries (spelling (sent version addressed.now))
+        (W.contents output.old) (W.contents output.new)) }
 {
-    write_data(output, bytes)?;
-    if may_wait {
+    write_record(version, output, addressed)?;
+    if may_wait(&addressed.frame) {
         return Ok(());
     }
     output.flush()
+}
+
+/// Writes a record that carries a frame.
+fn write_record<W: Write>(version: u32, output: &mut W, addressed: &Addressed) -> io::Result<()>
+    requires { HasSpelling (sent version addressed.now) }
+    ensures { OnOk result (Carries (spelling (sent version addressed.now))
+        (W.contents output.old) (W.contents output.new)) }
+{
+    write_head(output, record_len(version, addressed))?;
+    write_frame(version, addressed, output)
+}
+
+/// How many bytes a frame has in a stream of this version: no more than a record carries.
+#[tactic(auto, using(crate::proofs::Streams::frame_fits))]
+fn record_len(version: u32, addressed: &Addressed) -> u16
+    requires { HasSpelling (sent version addressed.now) }
+    ensures { result ≡ length (spelling (sent version addressed.now)) }
+{
+    frame_len(version, addressed) as u16
 }
 
 /// Has a question go out.
