@@ -7,6 +7,8 @@
 # crates looked at.
 # make stress: random scripts for worlds of hosts, against a board that never moves.
 # make hosts: guests are moved between processes, over connections that break.
+# make install: installs what make build made, with manual pages (wants help2man), completions, documents and examples;
+# DESTDIR and PREFIX say where.
 # make live IMAGES=..: guests are moved while they run, 200 times, and their output compared with that of run.
 PREFIX ?= /usr/local
 
@@ -65,12 +67,25 @@ bench-journals: build
 	cd crates/rvm_journal_cases && rt run > /dev/null
 	cp crates/rvm_journal_cases/out/rvm_journal_cases build/rvm_journal_cases
 
-# Installs what make build made.
+# Installs what make build made, with what a package has beside it. DESTDIR stands before each place.
+SHARE = $(DESTDIR)$(PREFIX)/share
+
 install:
 	install -D build/rvmove $(DESTDIR)$(PREFIX)/bin/rvmove
+	tools/completions build/rvmove build/completions
+	install -D -m 644 build/completions/rvmove.bash $(SHARE)/bash-completion/completions/rvmove
+	install -D -m 644 build/completions/_rvmove $(SHARE)/zsh/site-functions/_rvmove
+	install -D -m 644 build/completions/rvmove.fish $(SHARE)/fish/vendor_completions.d/rvmove.fish
+	tools/man-pages build/rvmove build/man
+	install -D -m 644 -t $(SHARE)/man/man1 build/man/*.1
+	install -D -m 644 -t $(SHARE)/doc/rvmove README.md
+	cp -r docs examples $(SHARE)/doc/rvmove/
 
 uninstall:
-	rm -f $(DESTDIR)$(PREFIX)/bin/rvmove
+	rm -f $(DESTDIR)$(PREFIX)/bin/rvmove $(SHARE)/bash-completion/completions/rvmove
+	rm -f $(SHARE)/zsh/site-functions/_rvmove $(SHARE)/fish/vendor_completions.d/rvmove.fish
+	rm -f $(SHARE)/man/man1/rvmove.1 $(SHARE)/man/man1/rvmove-*.1
+	rm -rf $(SHARE)/doc/rvmove
 
 clean:
 	rm -rf build
