@@ -33,6 +33,18 @@ pub struct GuestArguments<'a> {
     ghost pages_allowed: { (1 ≤ pages) × (pages ≤ 4096) },
 }
 
+/// What the status of `rvmove run` tells of a run that ended.
+#[derive(Clone, Copy, Debug, PartialEq, Eq)]
+pub enum StatusOf {
+    /// That the command was done: 0, however the run ended.
+    Command,
+    /// How the run ended: 0 if the guest halted with 0, 3 if it halted with another status, 4 if all steps were
+    /// spent.
+    Verdict,
+    /// The status with which the guest halted, 0 to 255, or 4 if all steps were spent.
+    Guest,
+}
+
 /// The arguments of `rvmove run`.
 #[derive(Debug, Drop)]
 pub struct RunArguments<'a> {
@@ -41,6 +53,8 @@ pub struct RunArguments<'a> {
     pub input: Option<&'a str>,
     /// 1 to 1000000000 turns.
     pub steps: u32,
+    /// What the status tells.
+    pub status: StatusOf,
     ghost steps_allowed: { (1 ≤ steps) × (steps ≤ 1000000000) },
 }
 

@@ -3,7 +3,9 @@ use Rattle.std.proofs.Common.{◌≡◌, ℕ, List, [], ◌∷◌, Option, Some,
 use Rattle.rvm_hart.specs.Machine.{HartState, Shared}
 use Rattle.rvm_debug.specs.declared.event.BoardEvent.TheVariants.{Step, Input, Drain}
 use Rattle.rvm_debug.specs.Guest.{Guest}
+use Rattle.rvm_arguments.specs.declared.arguments.StatusOf.TheVariants as tells
 use Rattle.rvm_command.specs.declared.run.Ended.TheVariants.{HaltedWith, StepsSpent}
+use Rattle.rvm_command.specs.Ends.{run_status}
 use Rattle.rvm_command.specs.Run.{after, left, ran, run_from}
 
 -- two harts, each of which stops at a breakpoint in its next turn
@@ -52,3 +54,13 @@ more_than_256_bytes_are_taken_by_two h r = refl
 a_halted_board_ends_the_run : (h : HartState) (r : Shared) → run_from 5 0 (65 ∷ []) (two_harts h r [] (7 ∷ []) (Some 3)) ≡ record { events = Input 65 ∷ Step 0 ∷ Drain 256 ∷ []; ended = HaltedWith 3 }
 unfolding run_from after
 a_halted_board_ends_the_run h r = refl
+
+-- the status of a run that halted with 0, with 7 and with 255, and of one whose steps were spent
+the_command_is_done : run_status tells.Command (HaltedWith 7) ∷ run_status tells.Command StepsSpent ∷ [] ≡ 0 ∷ 0 ∷ []
+the_command_is_done = refl
+
+a_verdict : run_status tells.Verdict (HaltedWith 0) ∷ run_status tells.Verdict (HaltedWith 7) ∷ run_status tells.Verdict (HaltedWith 255) ∷ run_status tells.Verdict StepsSpent ∷ [] ≡ 0 ∷ 3 ∷ 3 ∷ 4 ∷ []
+a_verdict = refl
+
+a_guest_s_own : run_status tells.Guest (HaltedWith 0) ∷ run_status tells.Guest (HaltedWith 7) ∷ run_status tells.Guest (HaltedWith 255) ∷ run_status tells.Guest StepsSpent ∷ [] ≡ 0 ∷ 7 ∷ 255 ∷ 4 ∷ []
+a_guest_s_own = refl

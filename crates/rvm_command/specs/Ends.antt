@@ -18,8 +18,11 @@ use Rattle.rvm_script.specs.Words.{lines}
 use Rattle.rvm_refusal.specs.declared.refusal.Refusal.TheVariants.{OutOfMemory, OutsideRam, BadToken, LinkFault}
 use Rattle.rvm_arguments.specs.declared.arguments.GuestArguments.{GuestArguments}
 use Rattle.rvm_arguments.specs.declared.arguments.RunArguments.{RunArguments}
+use Rattle.rvm_arguments.specs.declared.arguments.StatusOf.{StatusOf}
+use Rattle.rvm_arguments.specs.declared.arguments.StatusOf.TheVariants as tells
 use Rattle.rvm_command.specs.declared.refused.Refused.{Refused}
 use Rattle.rvm_command.specs.declared.run.Ended.{Ended}
+use Rattle.rvm_command.specs.declared.run.Ended.TheVariants.{HaltedWith, StepsSpent}
 use Rattle.rvm_command.specs.Assembled.{IsFileOf}
 use Rattle.rvm_command.specs.Command.{FileImage, end_text, guest_of, image_of, listing, run_of}
 use Rattle.rvm_command.specs.Refusals.{IsTold, refused, refused_at, refused_of_text, refused_of_script}
@@ -128,10 +131,19 @@ HasStatus zero End before after = End (Ok tt) × (after ≡ before)
 HasStatus (suc zero) End before after = (r : Refused) × End (Err r) × IsTold r before after
 HasStatus (suc (suc n)) End before after = ⊥
 
--- the same of a run, which tells how it ended
-abbrev pub RunHasStatus : (status : ℕ) → (End : Result Ended Refused → Type 0)
+-- what the command of a run answers that ended so, by what its status was asked to tell
+abbrev pub run_status : StatusOf → Ended → ℕ
+run_status tells.Command ended = 0
+run_status tells.Verdict (HaltedWith zero) = 0
+run_status tells.Verdict (HaltedWith (suc n)) = 3
+run_status tells.Verdict StepsSpent = 4
+run_status tells.Guest (HaltedWith n) = n
+run_status tells.Guest StepsSpent = 4
+
+-- what the command of a run answers, by what its status was asked to tell: that of its end, which it tells to
+-- `errors`, or 1 where it was refused, with the refusal told
+abbrev pub RunHasStatus : StatusOf → (status : ℕ) → (End : Result Ended Refused → Type 0)
     → (before after : Option (List ℕ)) → Type 0
-RunHasStatus zero End before after =
-    (e : Ended) × End (Ok e) × Appends before after (end_text e ++ codes "\n")
-RunHasStatus (suc zero) End before after = (r : Refused) × End (Err r) × IsTold r before after
-RunHasStatus (suc (suc n)) End before after = ⊥
+RunHasStatus asked status End before after =
+    ((e : Ended) × (status ≡ run_status asked e) × End (Ok e) × Appends before after (end_text e ++ codes "\n"))
+    ⊎ ((r : Refused) × (status ≡ 1) × End (Err r) × IsTold r before after)

@@ -3,20 +3,27 @@
 ghost use Rattle.std.specs.Prelude.{◌≡◌, ◌*◌, ◌++◌, Result, IfOk, IsErr, codes, false};
 ghost use Rattle.std.specs.Io.KnownBytes.{Appends};
 ghost use Rattle.rvm_elf.specs.Load.{fits};
+ghost use Rattle.rvm_arguments.specs.declared.arguments.StatusOf.TheVariants as tells;
 ghost use Rattle.rvm_command.specs.declared.refused.Refused.{Refused};
 ghost use Rattle.rvm_command.specs.declared.run.Ended.{Ended};
 ghost use Rattle.rvm_command.specs.Command.{end_text, image_of};
-ghost use Rattle.rvm_command.specs.Ends.{IsRunEnd, RunHasStatus};
+ghost use Rattle.rvm_command.specs.Ends.{IsRunEnd, RunHasStatus, run_status};
 
 use crate::guest::load_guest;
 use crate::refused::{Refused, tell};
 use crate::run::{Ended, run};
-use rvm_arguments::RunArguments;
+use rvm_arguments::{RunArguments, StatusOf};
 use rvm_mem::PagedMemory;
 use rvm_refusal::LinkFault;
 use std::alloc::Global;
 use std::fmt;
 use std::io::Write;
+
+/// The status of a verdict on a guest that halted with another status than 0.
+const FAILED: u8 = 3;
+
+/// The status where all steps were spent, of a verdict and in place of the guest's own.
+const SPENT: u8 = 4;
 
 /// `halted S`, or `steps spent`.
 impl fmt::Display for Ended {
@@ -33,8 +40,8 @@ impl fmt::Display for Ended {
     }
 }
 
-/// Runs the guest whose file `image` is, and answers the status: 0, or 1 where it was refused. What
-/// the guest sends goes to `output`; `errors` gets one line, how the run ended or the refusal: that
+/// Runs the guest whose file `image` is, and answers the status: what `arguments.status` says of how the
+/// run ended, or 1 where it was refused. What the guest sends goes to `output`; `errors` gets one line, how the run ended or the refusal: that
 /// of the file, `OutsideRam` for an image that does not lie in RAM, `OutOfMemory`, which leaves
 /// `output` as it was, and `LinkFault` where a write to `output` failed, of which a part may have
 /// gone out. Whether a writer fails is not said. `LinkFault` as the answer: a write to `errors`
@@ -47,7 +54,7 @@ pub fn run_command<M: PagedMemory + Drop, O: Write, E: Write>(
     output: &mut O,
     errors: &mut E,
 ) -> Result<u8, LinkFault>
-    ensures status { IfOk result (λ status. RunHasStatus status
+    ensures status { IfOk result (λ status. RunHasStatus arguments.now.status status
         (λ end. IsRunEnd arguments.now image.now input.now end (O.contents output.old) (O.contents output.new))
         (E.contents errors.old) (E.contents errors.new)) }
     ensures output { (end : Result Ended Refused) × IsRunEnd arguments.now image.now input.now end
@@ -59,19 +66,51 @@ pub fn run_command<M: PagedMemory + Drop, O: Write, E: Write>(
         → O.contents output.new ≡ O.contents output.old) }
 {
     match run_image::<M, O>(alloc, arguments, image, input, output) {
-        Ok(ended) => tell_end(ended, errors),
+        Ok(ended) => tell_end(ended, arguments.status, errors),
         Err(refused) => tell(refused, errors),
     }
 }
 
-/// Tells how a run ended, and answers the status 0. `LinkFault` where it cannot be told.
-fn tell_end<E: Write>(ended: Ended, errors: &mut E) -> Result<u8, LinkFault>
-    ensures { IfOk result (λ status. (status ≡ 0)
+/// Tells how a run ended, and answers the status that was asked for. `LinkFault` where it cannot be told.
+fn tell_end<E: Write>(ended: Ended, asked: StatusOf, errors: &mut E) -> Result<u8, LinkFault>
+    ensures { IfOk result (λ status. (status ≡ run_status asked ended)
         × Appends (E.contents errors.old) (E.contents errors.new) (end_text ended ++ codes "\n")) }
 {
     match writeln!(errors, "{ended}") {
-        Ok(()) => Ok(0),
+        Ok(()) => Ok(run_status(asked, ended)),
         Err(_) => Err(LinkFault),
+    }
+}
+
+/// The status of a run that ended so, by what it was asked to tell.
+fn run_status(asked: StatusOf, ended: Ended) -> u8
+    ensures { result ≡ run_status asked ended }
+{
+    match asked {
+        StatusOf::Command => 0,
+        StatusOf::Verdict => verdict(ended),
+        StatusOf::Guest => guest_status(ended),
+    }
+}
+
+/// 0 if the guest halted with 0, and else why the run is no success.
+fn verdict(ended: Ended) -> u8
+    ensures { result ≡ run_status tells.Verdict ended }
+{
+    match ended {
+        Ended::HaltedWith(0) => 0,
+        Ended::HaltedWith(_) => FAILED,
+        Ended::StepsSpent => SPENT,
+    }
+}
+
+/// The status with which the guest halted, if it did.
+fn guest_status(ended: Ended) -> u8
+    ensures { result ≡ run_status tells.Guest ended }
+{
+    match ended {
+        Ended::HaltedWith(status) => status,
+        Ended::StepsSpent => SPENT,
     }
 }
 

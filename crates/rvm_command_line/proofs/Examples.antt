@@ -1,7 +1,7 @@
 -- What words ask for, worked out by hand.
 use Rattle.std.proofs.Common.{◌≡◌, [], ◌∷◌, Option, Some, List, codes, option_map, refl}
 use Rattle.clap.specs.Simple.{subcommand_of}
-use Rattle.clap.specs.Walk.{Text, first_of, walked}
+use Rattle.clap.specs.Walk.{Text, first_of, one_of, walked}
 use Rattle.rvm_command_line.specs.Program.{program}
 
 -- the value of an option of the command that words name
@@ -19,3 +19,20 @@ pages_left_are_no_factor = refl
 pub a_file_is_no_option : value (codes "rvmove" ∷ codes "asm" ∷ codes "a.s" ∷ codes "a.elf" ∷ []) (codes "output") ≡ Some (Some (codes "a.elf"))
 unfolding walked
 a_file_is_no_option = refl
+
+-- the two flags of a command that words name
+abbrev flags : List Text → Option (Option Text × Option Text)
+flags words = option_map (λ command. (one_of (codes "verdict") command.1, one_of (codes "exit-status") command.1))
+    (subcommand_of program words)
+
+pub no_status_is_asked_for : flags (codes "rvmove" ∷ codes "run" ∷ codes "a" ∷ []) ≡ Some (Some (codes "false"), Some (codes "false"))
+unfolding walked
+no_status_is_asked_for = refl
+
+pub a_verdict_is_no_exit_status : flags (codes "rvmove" ∷ codes "run" ∷ codes "a" ∷ codes "--verdict" ∷ []) ≡ Some (Some (codes "true"), Some (codes "false"))
+unfolding walked
+a_verdict_is_no_exit_status = refl
+
+pub an_exit_status_is_no_verdict : flags (codes "rvmove" ∷ codes "run" ∷ codes "--exit-status" ∷ codes "a" ∷ []) ≡ Some (Some (codes "false"), Some (codes "true"))
+unfolding walked
+an_exit_status_is_no_verdict = refl

@@ -10,6 +10,8 @@ use Rattle.rvm_arguments.specs.declared.arguments.HostArguments.{HostArguments}
 use Rattle.rvm_arguments.specs.declared.arguments.MoveArguments.{MoveArguments}
 use Rattle.rvm_arguments.specs.declared.arguments.RunArguments.{RunArguments}
 use Rattle.rvm_arguments.specs.declared.arguments.ScriptArguments.{ScriptArguments}
+use Rattle.rvm_arguments.specs.declared.arguments.StatusOf.{StatusOf}
+use Rattle.rvm_arguments.specs.declared.arguments.StatusOf.TheVariants.{Command, Verdict, Guest}
 use Rattle.rvm_arguments.specs.declared.arguments.TellArguments.{TellArguments}
 
 -- a text was given, and it writes this number in decimal digits alone
@@ -36,11 +38,18 @@ pub record IsGuest (rows : List Row) (guest : GuestArguments) : Type 0 where
   pub harts : IsNumber (first_of (codes "harts") rows) guest.harts
   pub pages : IsNumber (first_of (codes "pages") rows) guest.pages
 
--- a guest, its input and its turns
+-- what the status of `run` tells, by its two flags, of which at most one is given
+abbrev pub IsStatusOf : (verdict exit_status : Option Text) → StatusOf → Type 0
+IsStatusOf verdict exit_status Command = IsFlag verdict false × IsFlag exit_status false
+IsStatusOf verdict exit_status Verdict = IsFlag verdict true × IsFlag exit_status false
+IsStatusOf verdict exit_status Guest = IsFlag verdict false × IsFlag exit_status true
+
+-- a guest, its input, its turns, and what the status tells
 pub record IsRun (rows : List Row) (run : RunArguments) : Type 0 where
   pub guest : IsGuest rows run.guest
   pub input : first_of (codes "input") rows ≡ option_map (λ s. s.now) run.input
   pub steps : IsNumber (first_of (codes "steps") rows) run.steps
+  pub status : IsStatusOf (one_of (codes "verdict") rows) (one_of (codes "exit-status") rows) run.status
 
 -- a guest, its script, and its hosts with the version of their streams
 pub record IsScript (rows : List Row) (asked : ScriptArguments) : Type 0 where

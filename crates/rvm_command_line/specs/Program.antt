@@ -71,12 +71,17 @@ with_move command =
     (with_policy (with_rule (with_guest command) (number (codes "steps") (codes "10000") 100000)))
     (number (codes "stream") (codes "1") 3)
 
+-- a command that takes the words that say what its status tells
+abbrev pub with_status : App → App
+with_status command = with_rule (with_rule command (flag (codes "verdict"))) (flag (codes "exit-status"))
+
 -- the commands
 abbrev pub run : App
 run =
-    with_rule
+    with_status
+    (with_rule
     (with_rule (with_guest (new_app (codes "run"))) (number (codes "steps") (codes "1000000") 1000000000))
-    (option (codes "input"))
+    (option (codes "input")))
 
 -- the command that makes an ELF file of an assembly text
 abbrev pub asm : App

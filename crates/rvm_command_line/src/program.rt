@@ -7,7 +7,7 @@ ghost use Rattle.clap.specs.Walk.{rule_of};
 ghost use Rattle.clap.specs.Words.{kind_of};
 ghost use Rattle.clap.specs.declared.builder.command.Command.TheViews.{out-Command as fields_of};
 ghost use Rattle.clap.specs.declared.error.kind.ErrorKind.TheVariants as kind;
-ghost use Rattle.rvm_command_line.specs.Program.{allowed, asm, audit, bounded, debug, dis, flag, host, move, needed, needed_option, number, option, program, run, script, tell, top, with_addresses, with_board, with_default, with_guest, with_hosting, with_move, with_name, with_policy, with_world};
+ghost use Rattle.rvm_command_line.specs.Program.{allowed, asm, audit, bounded, debug, dis, flag, host, move, needed, needed_option, number, option, program, run, script, tell, top, with_addresses, with_board, with_default, with_guest, with_hosting, with_move, with_name, with_policy, with_status, with_world};
 
 use clap::{Arg, ArgAction, Command, Error, value_parser};
 use std::alloc::Global;
@@ -23,7 +23,14 @@ Assembles, disassembles, runs and debugs guests of a small RISC-V board, and mov
 const RUN_HELP: &str = "\
 Example: rvmove run hello.elf --steps 5000 --input keys.txt
 
-Harts take turns of one instruction each. At the end standard error has `halted S` or `steps spent`.";
+Harts take turns of one instruction each. At the end standard error has `halted S` or `steps spent`.
+
+The status:      halted 0  halted S  steps spent  refused
+                 0         0         0            1
+  --verdict      0         3         4            1
+  --exit-status  0         S         4            1
+It is 2 for a fault of the command line. With --exit-status these 1, 2 and 4 cannot be told from a guest's
+own; with --verdict each means one thing. The two options exclude each other.";
 
 /// What stands below the help of `asm`.
 const ASM_HELP: &str = "\
@@ -218,6 +225,28 @@ fn input_argument<'a>(alloc: Global) -> Arg<'a>
         .long("input")
         .value_name("FILE")
         .help("The file whose bytes come to the guest's console")
+}
+
+/// Whether the status tells how a run ended.
+fn verdict_argument<'a>(alloc: Global) -> Arg<'a>
+    ensures rule { rule_of result ≡ flag (codes "verdict") }
+    ensures local { result.global ≡ false }
+{
+    Arg::new(alloc, "verdict")
+        .long("verdict")
+        .action(ArgAction::SetTrue)
+        .help("The status tells how the run ended")
+}
+
+/// Whether the status is that with which the guest halted.
+fn exit_status_argument<'a>(alloc: Global) -> Arg<'a>
+    ensures rule { rule_of result ≡ flag (codes "exit-status") }
+    ensures local { result.global ≡ false }
+{
+    Arg::new(alloc, "exit-status")
+        .long("exit-status")
+        .action(ArgAction::SetTrue)
+        .help("The status is that with which the guest halted")
 }
 
 /// The file of the assembly text.
@@ -538,6 +567,20 @@ fn moving_command<'a>(command: Command<'a>, alloc: Global) -> Result<Command<'a>
     Ok(policy_command(guest, alloc)?.arg(move_stream_argument(alloc))?)
 }
 
+/// A command that runs a guest, with the words that say what its status tells.
+fn status_command<'a>(command: Command<'a>, alloc: Global) -> Result<Command<'a>, Error>
+    ensures app { IfOk result (λ c. app_of c ≡ with_status (app_of command.entry)) }
+    ensures local { (fields_of command.entry).has_globals ≡ false
+        → IfOk result (λ c. (fields_of c).has_globals ≡ false) }
+    ensures memory { IfErr result (λ e. kind_of e ≡ kind.OutOfMemory) }
+{
+    Ok(
+        command
+            .arg(verdict_argument(alloc))?
+            .arg(exit_status_argument(alloc))?,
+    )
+}
+
 /// The words that `run` takes.
 fn run_command<'a>(alloc: Global) -> Result<Command<'a>, Error>
     ensures app { IfOk result (λ c. app_of c ≡ run) }
@@ -547,11 +590,10 @@ fn run_command<'a>(alloc: Global) -> Result<Command<'a>, Error>
     let run = Command::new(alloc, "run")
         .about("Runs a guest, and writes what it sends")
         .after_help(RUN_HELP);
-    Ok(
-        guest_command(run, alloc)?
-            .arg(steps_argument(alloc))?
-            .arg(input_argument(alloc))?,
-    )
+    let run = guest_command(run, alloc)?
+        .arg(steps_argument(alloc))?
+        .arg(input_argument(alloc))?;
+    status_command(run, alloc)
 }
 
 /// The words that `asm` takes.

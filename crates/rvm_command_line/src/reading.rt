@@ -6,7 +6,7 @@ ghost use Rattle.clap.specs.Kinds.{HasKind};
 ghost use Rattle.clap.specs.Matches.{found_of};
 ghost use Rattle.clap.specs.Simple.{app_of, subcommand_of, subcommand_rows_of};
 ghost use Rattle.clap.specs.Walk.{first_of, one_of, rows_of};
-ghost use Rattle.rvm_command_line.specs.Given.{Gives, IsAsked, IsFlag, IsGuest, IsHost, IsMove, IsNumber, IsOptionalGuest, IsOptionalNumber, IsTell};
+ghost use Rattle.rvm_command_line.specs.Given.{Gives, IsAsked, IsFlag, IsGuest, IsHost, IsMove, IsNumber, IsOptionalGuest, IsOptionalNumber, IsStatusOf, IsTell};
 ghost use Rattle.rvm_command_line.specs.Program.{faults_of, program};
 
 use crate::program::program;
@@ -14,7 +14,7 @@ use clap::error::ErrorKind;
 use clap::{ArgMatches, Command, Error};
 use rvm_arguments::{
     Arguments, AsmArguments, DisArguments, GuestArguments, HostArguments, MoveArguments,
-    RunArguments, ScriptArguments, TellArguments,
+    RunArguments, ScriptArguments, StatusOf, TellArguments,
 };
 use rvm_mem::MAX_PAGES;
 use std::alloc::Global;
@@ -101,11 +101,26 @@ fn read_run<'a>(run: &ArgMatches<'a>) -> Result<Arguments<'a>, &'static str>
     let Some(steps) = number(run, "steps", 1, MAX_STEPS) else {
         return Err("--steps takes a decimal number from 1 to 1000000000");
     };
+    let status = read_status(run)?;
     Ok(Arguments::Run(RunArguments {
         guest,
         input: text(run, "input"),
         steps,
+        status,
     }))
+}
+
+/// What the status of `run` tells, or that its two flags are both given.
+fn read_status(run: &ArgMatches) -> Result<StatusOf, &'static str>
+    ensures { IfOk result (IsStatusOf (one_of (codes "verdict") (rows_of (found_of run.now)))
+        (one_of (codes "exit-status") (rows_of (found_of run.now)))) }
+{
+    match (flag(run, "verdict"), flag(run, "exit-status")) {
+        (false, false) => Ok(StatusOf::Command),
+        (true, false) => Ok(StatusOf::Verdict),
+        (false, true) => Ok(StatusOf::Guest),
+        (true, true) => Err("--verdict and --exit-status exclude each other"),
+    }
 }
 
 /// The guest of a command, or which of its arguments is not what it must be.

@@ -2,7 +2,7 @@
 
 ghost use Rattle.std.specs.Prelude.{◌≤◌};
 
-use rvm_arguments::{GuestArguments, MoveArguments, RunArguments, ScriptArguments};
+use rvm_arguments::{GuestArguments, MoveArguments, RunArguments, ScriptArguments, StatusOf};
 
 /// How many turns each guest makes at most.
 pub const STEPS: u32 = 20000;
@@ -65,6 +65,7 @@ pub fn to_run() -> RunArguments<'static> {
         guest: guest(),
         input: None,
         steps: STEPS,
+        status: StatusOf::Command,
     }
 }
 

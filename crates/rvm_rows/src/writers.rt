@@ -1,6 +1,6 @@
 //! The commands, where a write fails.
 
-use rvm_arguments::{GuestArguments, RunArguments};
+use rvm_arguments::{GuestArguments, RunArguments, StatusOf};
 use rvm_command::asm_command::asm_command;
 use rvm_command::debug_command::debug_command;
 use rvm_command::run_command::run_command;
@@ -120,6 +120,7 @@ fn a_run_writes_in_large_pieces_and_before_it_ends(rt: HostRuntime) -> Result<()
         guest: guest(),
         input: None,
         steps: 1_000_000,
+        status: StatusOf::Command,
     };
     let mut falling = Vec::new(alloc);
     for number in (1..=10_000u32).rev() {
@@ -159,6 +160,7 @@ fn a_failed_write_of_a_run_is_told(rt: HostRuntime) -> Result<(), Fail> {
         guest: guest(),
         input: None,
         steps: 1000,
+        status: StatusOf::Command,
     };
     let letters = bytes_of(alloc, &LETTERS)?;
     // The output fails in the middle of a piece, or at once.
