@@ -40,12 +40,12 @@ impl fmt::Display for Ended {
     }
 }
 
-/// Runs the guest whose file `image` is, and answers the status: what `arguments.status` says of how the
-/// run ended, or 1 where it was refused. What the guest sends goes to `output`; `errors` gets one line, how the run ended or the refusal: that
-/// of the file, `OutsideRam` for an image that does not lie in RAM, `OutOfMemory`, which leaves
-/// `output` as it was, and `LinkFault` where a write to `output` failed, of which a part may have
-/// gone out. Whether a writer fails is not said. `LinkFault` as the answer: a write to `errors`
-/// failed.
+/// Runs the guest whose file `image` is, and answers the status: what `arguments.status` says of how the run
+/// ended, or 1 where it was refused. What the guest sends goes to `output`; `errors` gets one line, how the
+/// run ended or the refusal: that of the file, `OutsideRam` for an image that does not lie in RAM,
+/// `OutOfMemory`, which leaves `output` as it was, and `LinkFault` where a write to `output` failed, of which
+/// a part may have gone out. Whether a writer fails is not said. `LinkFault` as the answer: a write to
+/// `errors` failed.
 pub fn run_command<M: PagedMemory + Drop, O: Write, E: Write>(
     alloc: Global,
     arguments: &RunArguments,
