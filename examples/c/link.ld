@@ -1,19 +1,23 @@
-/* All of the program in RAM, from its start on. */
+/* All of the program in RAM, from its start on: what runs, and what is written. */
 OUTPUT_ARCH(riscv)
 ENTRY(_start)
-PHDRS { ram PT_LOAD; }
+PHDRS { text PT_LOAD FLAGS(5); data PT_LOAD FLAGS(6); }
 MEMORY { ram : ORIGIN = 0x80000000, LENGTH = 1M }
 SECTIONS {
-  .text : { *(.text.start) *(.text .text.*) } > ram : ram
-  .rodata : { *(.rodata .rodata.* .srodata .srodata.*) } > ram : ram
-  .data : { *(.data .data.* .sdata .sdata.*) } > ram : ram
+  .text : { *(.text.start) *(.text .text.*) } > ram : text
+  .rodata : { *(.rodata .rodata.* .srodata .srodata.*) } > ram : text
+  .data : {
+    *(.data .data.*)
+    __global_pointer$ = . + 0x800;
+    *(.sdata .sdata.*)
+  } > ram : data
   .bss (NOLOAD) : {
     . = ALIGN(4);
     bss_start = .;
     *(.bss .bss.* .sbss .sbss.* COMMON)
     . = ALIGN(4);
     bss_end = .;
-  } > ram : ram
+  } > ram : data
   stack_end = ORIGIN(ram) + LENGTH(ram);
   /DISCARD/ : { *(.comment) *(.eh_frame*) *(.riscv.attributes) *(.note*) }
 }
