@@ -24,7 +24,8 @@ pub struct Breaker {
     pub broken: AtomicU32,
 }
 
-/// Carries connections, one after another, to an address, and breaks each after so many bytes, until it is to end.
+/// Carries connections to an address, one at a time, until it is told to stop. Each one breaks after a number of bytes,
+/// which grows with every connection.
 pub fn carry_and_break<R: Net + Wait + Clock>(
     rt: &R,
     listener: &R::Listener,
@@ -49,7 +50,7 @@ pub fn carry_and_break<R: Net + Wait + Clock>(
     unreachable!()
 }
 
-/// Carries what each end of two connections sends to the other, until so many bytes were carried, and breaks both.
+/// Joins two connections, and breaks both once `most` bytes have passed between them.
 fn carry<S: Read + Write + OpenStream + Drop, R: Wait>(
     rt: &R,
     client: S,

@@ -7,7 +7,7 @@ use std::io::Write;
 /// How many numbers the guest sends.
 pub const COUNT: u32 = 400;
 
-/// Sends the numbers from 0 on, each with four hexadecimal digits on a line, with a pause behind each, and halts.
+/// Sends the numbers from 0 on, four hexadecimal digits and a line feed each, pauses after each, and halts.
 const SOURCE: &str = "\
 .equ transmit, 0x10000000
 .equ halt, 0x00100000

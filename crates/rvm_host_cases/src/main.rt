@@ -11,8 +11,10 @@ mod operator;
 mod scenes;
 mod screen;
 
+use scenes::{Scene, play};
+
 fn main(rt: HostRuntime) -> anyhow::Result<()> {
-    scenes::move_over_broken_connections(&rt)?;
-    scenes::meet_another_secret(&rt)?;
-    scenes::write_to_no_console(&rt)
+    play(&rt, Scene::BrokenConnections)?;
+    play(&rt, Scene::AnotherSecret)?;
+    play(&rt, Scene::NoConsole)
 }

@@ -15,28 +15,66 @@ use std::time::{Clock, Duration};
 /// How often the guest is moved.
 const MOVES: u32 = 8;
 
-/// How many connections break at least: all moves together need more bytes than so many carry.
+/// The fewest connections that break: the moves need more bytes than these can carry.
 const BREAKS: u32 = 4;
 
 /// How many looks at the screen, 10 milliseconds apart, are made before it is too late.
 const LOOKS: u32 = 6000;
 
-/// The guest moves to and fro over connections that break, while it counts.
-pub fn move_over_broken_connections<
-    R: AllocGlobal + Print + Net + Threads + Wait + Clock + RandomSource + Sync,
->(rt: &R) -> anyhow::Result<()>
+/// What is tried.
+#[derive(Clone, Copy)]
+pub enum Scene {
+    /// The guest moves to and fro over connections that break, while it counts.
+    BrokenConnections,
+    /// The other host has another secret: it is not met, and what would move the guest is answered as it has to be.
+    AnotherSecret,
+    /// Nothing can be written to the console of the first host: the guest stands still there, and can be moved away.
+    NoConsole,
+}
+
+impl Scene {
+    /// What the two hosts begin with.
+    fn starts(self) -> (Start<'static>, Start<'static>) {
+        let first = Start {
+            secret: b"a secret".as_slice(),
+            has_console: !matches!(self, Scene::NoConsole),
+        };
+        let second = Start {
+            secret: match self {
+                Scene::AnotherSecret => b"another".as_slice(),
+                Scene::BrokenConnections | Scene::NoConsole => b"a secret".as_slice(),
+            },
+            has_console: true,
+        };
+        (first, second)
+    }
+
+    /// For how many milliseconds nothing may be heard in a move before it is given up.
+    fn patience(self) -> u64 {
+        match self {
+            Scene::AnotherSecret => 300,
+            Scene::BrokenConnections | Scene::NoConsole => 30_000,
+        }
+    }
+}
+
+/// Has two hosts work, does with them what a scene has, and prints what came of it.
+pub fn play<R: AllocGlobal + Print + Net + Threads + Wait + Clock + RandomSource + Sync>(
+    rt: &R,
+    scene: Scene,
+) -> anyhow::Result<()>
 where
     R::Stream: Send,
     R::Listener: Send + Sync,
 {
     let image = counting_image(rt.alloc())?;
-    let farm = new_farm(rt, &image, 30_000)?;
-    let start = Start {
-        secret: b"a secret".as_slice(),
-        has_console: true,
-    };
-    work_both(rt, &farm, (start, start), || -> anyhow::Result<()> {
-        move_about(rt, &farm)
+    let farm = new_farm(rt, &image, scene.patience())?;
+    work_both(rt, &farm, scene.starts(), || -> anyhow::Result<()> {
+        match scene {
+            Scene::BrokenConnections => move_about(rt, &farm),
+            Scene::AnotherSecret => ask_in_vain(rt, &farm),
+            Scene::NoConsole => move_away(rt, &farm),
+        }
     })
 }
 
@@ -108,29 +146,6 @@ fn end_both<R: AllocGlobal + Net>(rt: &R, farm: &Farm<'_, R::Listener>) -> anyho
     Ok(())
 }
 
-/// The other host has another secret: it is not met, and what would move the guest is answered as it has to be.
-pub fn meet_another_secret<
-    R: AllocGlobal + Print + Net + Threads + Wait + Clock + RandomSource + Sync,
->(rt: &R) -> anyhow::Result<()>
-where
-    R::Stream: Send,
-    R::Listener: Send + Sync,
-{
-    let image = counting_image(rt.alloc())?;
-    let farm = new_farm(rt, &image, 300)?;
-    let first = Start {
-        secret: b"a secret".as_slice(),
-        has_console: true,
-    };
-    let second = Start {
-        secret: b"another".as_slice(),
-        has_console: true,
-    };
-    work_both(rt, &farm, (first, second), || -> anyhow::Result<()> {
-        ask_in_vain(rt, &farm)
-    })
-}
-
 /// Asks for what cannot be, and prints the answers.
 fn ask_in_vain<R: AllocGlobal + Print + Net + Wait + Clock>(
     rt: &R,
@@ -153,29 +168,6 @@ fn print_answer<R: AllocGlobal + Print>(rt: &R, line: &str, answer: &Answer) -> 
     let text = String::from_utf8_lossy(rt.alloc(), &answer.text)?;
     println!(rt; "{line}: status {}, {}", answer.status, text.trim_end())?;
     Ok(())
-}
-
-/// Nothing can be written to the console of the first host: the guest stands still there, and can be moved away.
-pub fn write_to_no_console<
-    R: AllocGlobal + Print + Net + Threads + Wait + Clock + RandomSource + Sync,
->(rt: &R) -> anyhow::Result<()>
-where
-    R::Stream: Send,
-    R::Listener: Send + Sync,
-{
-    let image = counting_image(rt.alloc())?;
-    let farm = new_farm(rt, &image, 30_000)?;
-    let first = Start {
-        secret: b"a secret".as_slice(),
-        has_console: false,
-    };
-    let second = Start {
-        secret: b"a secret".as_slice(),
-        has_console: true,
-    };
-    work_both(rt, &farm, (first, second), || -> anyhow::Result<()> {
-        move_away(rt, &farm)
-    })
 }
 
 /// Moves the guest away, and prints whether it runs at the other host.
