@@ -10,10 +10,11 @@ use Rattle.rvm_arguments.specs.declared.arguments.HostArguments.{HostArguments}
 use Rattle.rvm_arguments.specs.declared.arguments.MoveArguments.{MoveArguments}
 use Rattle.rvm_arguments.specs.declared.arguments.RunArguments.{RunArguments}
 use Rattle.rvm_arguments.specs.declared.arguments.ScriptArguments.{ScriptArguments}
+use Rattle.rvm_arguments.specs.declared.arguments.StatusOf.{StatusOf}
 use Rattle.rvm_command.specs.declared.refused.Refused.{Refused}
 use Rattle.rvm_command.specs.declared.run.Ended.{Ended}
 use Rattle.rvm_command.specs.Command.{end_text, image_of, refused_text}
-use Rattle.rvm_command.specs.Ends.{HasStatus, IsAsmEnd, IsDebugEnd, IsListEnd, IsRunEnd, RunHasStatus}
+use Rattle.rvm_command.specs.Ends.{HasStatus, IsAsmEnd, IsDebugEnd, IsListEnd, IsRunEnd, RunHasStatus, run_status}
 use Rattle.rvm_move_command.specs.Ended.{IsMoved, IsNotMoved, IsUntold}
 use Rattle.rvm_move_command.specs.Orders.{IsAudited, IsNotAudited}
 use Rattle.rvm_program.specs.Ended.{AsmEnded, AuditEnded, DebugEnded, DisEnded, HostEnded, MoveEnded, RunEnded, ScriptEnded, TellEnded, ToTell, Written}
@@ -38,12 +39,28 @@ to_tell End (Ok tt, is) = (0, [], (is, refl))
 to_tell End (Err r, is) = (1, refused_text r ++ codes "\n", (r, is, refl))
 
 -- and a run, which tells its end
-run_to_tell : (End : Result Ended Refused → Type 0) → (end : Result Ended Refused) × End end
-    → ToTell (λ status errors. RunHasStatus status End errors.before errors.after)
-run_to_tell End (Ok ended, is) = (0, end_text ended ++ codes "\n", (ended, is, refl))
-run_to_tell End (Err r, is) = (1, refused_text r ++ codes "\n", (r, is, refl))
+run_to_tell : (asked : StatusOf) (End : Result Ended Refused → Type 0) → (end : Result Ended Refused) × End end
+    → ToTell (λ status errors. RunHasStatus asked status End errors.before errors.after)
+run_to_tell asked End (Ok ended, is) =
+    (run_status asked ended, end_text ended ++ codes "\n", inl (ended, refl, is, refl))
+run_to_tell asked End (Err r, is) = (1, refused_text r ++ codes "\n", inr (r, refl, is, refl))
 
 module _ {F : Type 0} (files : Named) (errors : Written) where
+  -- `run` was told the image and the input of its files
+  pub run_ended : (a : RunArguments) (image bytes input given : List ℕ) (output : Written) (r : Result ℕ F)
+      → image ≡ bytes → input ≡ given → IsFile (files a.guest.image.now) bytes → IsInput files a.input given
+      → IfOk r (λ status. RunHasStatus a.status status (λ end. IsRunEnd a image input end output.before output.after)
+      errors.before errors.after)
+      → IfOk r (λ status. RunEnded files a status output errors)
+  run_ended a image bytes input given output (Err e) same given_same is given_is ended = tt
+  run_ended a image bytes input given output (Ok status) same given_same is given_is ended = record {
+    image = image;
+    input = input;
+    image_is = subst (IsFile (files a.guest.image.now)) (sym same) is;
+    input_is = subst (IsInput files a.input) (sym given_same) given_is;
+    ended = ended;
+  }
+
   -- `asm` was told the text of its file, and wrote to its file
   pub asm_ended : (created : Named) (a : AsmArguments) (text bytes : List ℕ) (file : Written) (r : Result ℕ F)
       → text ≡ bytes → IsFile (files a.source.now) bytes → IsCreated (created a.output.now) file.before
@@ -156,7 +173,7 @@ module _ {F : Type 0} (files : Named) where
       → OnErr r (ToTell (λ status errors. RunEnded files a status output errors))
   run_untold a image bytes input given output (Ok s) same given_same is given_is end = tt
   run_untold a image bytes input given output (Err e) same given_same is given_is end =
-      let t = run_to_tell (λ e. IsRunEnd a image input e output.before output.after) end in (
+      let t = run_to_tell a.status (λ e. IsRunEnd a image input e output.before output.after) end in (
         t.0,
         t.1,
         record {

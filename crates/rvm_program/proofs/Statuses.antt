@@ -1,88 +1,138 @@
 -- The statuses of commands.
-use Rattle.std.proofs.Common.{◌≡◌, ◌⊎◌, ℕ, zero, suc, List, ◌++◌, codes, Option, Result, Ok, Err, refl, inl, inr, subst, sym, ◌∙◌}
+use Rattle.std.proofs.Common.{◌≡◌, ◌⊎◌, ◌<◌, ℕ, zero, suc, List, ◌++◌, codes, Option, Result, Ok, Err, refl, inl, inr, subst, sym, ◌∙◌, arith}
 use Rattle.std.specs.Result.{IfErr, IfOk}
 use Rattle.std.specs.Prelude.{OnErr}
 use Rattle.rvm_arguments.specs.declared.arguments.Arguments.{Arguments}
 use Rattle.rvm_arguments.specs.declared.arguments.Arguments.TheVariants.{Run, Asm, Dis, Debug, Script, Move, Audit, Host, Tell}
 use Rattle.rvm_program.specs.Ended.{HasEnded, IsUnbegun, IsUntold, TellEnded, Written}
-use Rattle.rvm_program.specs.Performed.{HasFailed, IsTelling}
+use Rattle.rvm_program.specs.Performed.{HasFailed, IsJudged, IsPassingOn, IsTelling, TellsMore}
+use Rattle.rvm_arguments.specs.declared.arguments.RunArguments.{RunArguments}
+use Rattle.rvm_arguments.specs.declared.arguments.StatusOf.{StatusOf}
+use Rattle.rvm_arguments.specs.declared.arguments.StatusOf.TheVariants.{Command, Verdict, Guest}
+use Rattle.rvm_arguments.specs.declared.arguments.TellArguments.{TellArguments}
+use Rattle.rvm_command.specs.declared.refused.Refused.{Refused}
+use Rattle.rvm_command.specs.declared.run.Ended.{Ended}
+use Rattle.rvm_command.specs.declared.run.Ended.TheVariants.{HaltedWith, StepsSpent}
 use Rattle.rvm_command.specs.Command.{refused_text}
+use Rattle.rvm_command.specs.Ends.{IsRunEnd, RunHasStatus, run_status}
 use Rattle.rvm_command.specs.Refusals.{refused}
 use Rattle.rvm_program.specs.Files.{IsFileRefusal, Named}
 use Rattle.rvm_refusal.specs.declared.refusal.Refusal.{Refusal}
 
--- neither 0 nor 1
-abbrev IsMore : ℕ → Type 0
-IsMore zero = ⊥
-IsMore (suc zero) = ⊥
-IsMore (suc (suc n)) = Unit {0}
+-- what a command was asked for that has ended with this status, if it is more than 1
+pub record IsAskedFor (a : Arguments) (s : ℕ) : Type 0 where
+  pub passing : s ≡ 2 → IsPassingOn a
+  pub lost : s ≡ 3 → IsTelling a ⊎ IsJudged a
+  pub judged : 3 < s → IsJudged a
 
--- of three statuses, one that is more than 1 is the third
-is_third : (n : ℕ) → TellEnded (suc (suc n)) → suc (suc n) ≡ 3
-is_third n (inl none) = absurd (subst IsMore none tt)
-is_third n (inr (inl one)) = absurd (subst IsMore one tt)
-is_third n (inr (inr three)) = three
+-- a status of 0 or 1 may be that of each
+little : (a : Arguments) (s : ℕ) → s < 2 → IsAskedFor a s
+little a s below = record {
+  passing = λ two. absurd (omega (arith, below, two));
+  lost = λ three. absurd (omega (arith, below, three));
+  judged = λ more. absurd (omega (arith, below, more));
+}
 
--- a command that ended with more than 1 has told a host something, and its status is 3
-third : (files created : Named) (a : Arguments) (n : ℕ) (script : Option (List ℕ)) (output errors : Written)
-    → HasEnded files created a (suc (suc n)) script output errors → (suc (suc n) ≡ 3) × IsTelling a
-third files created (Run a) n script output errors e = absurd e.ended
-third files created (Asm a) n script output errors e = absurd e.ended
-third files created (Dis a) n script output errors e = absurd e.ended
-third files created (Debug a) n script output errors e = absurd e.ended
-third files created (Script a) n script output errors e = absurd e.ended
-third files created (Move a) n script output errors e = absurd e.ended
-third files created (Audit a) n script output errors e = absurd e.ended
-third files created (Host a) n script output errors e = absurd e
-third files created (Tell a) n script output errors e = (is_third n e, tt)
+-- a run that was asked for a verdict has any status
+judged_run : (a : RunArguments) (s : ℕ) → TellsMore a.status → (s ≡ 2 → ⊥) → IsAskedFor (Run a) s
+judged_run a s more other = record {
+  passing = λ two. absurd (other two);
+  lost = λ three. inr more;
+  judged = λ above. more;
+}
 
--- a command's status: 0, 1, or 3 where it has told a host something
-abbrev IsStatus : (a : Arguments) → ℕ → Type 0
-IsStatus a status = (status ≡ 0) ⊎ ((status ≡ 1) ⊎ ((status ≡ 3) × IsTelling a))
+-- and one that was asked for the status of its guest
+passing_run : (a : RunArguments) (s : ℕ) → TellsMore a.status → a.status ≡ Guest → IsAskedFor (Run a) s
+passing_run a s more passing = record {
+  passing = λ two. passing;
+  lost = λ three. inr more;
+  judged = λ above. more;
+}
 
--- a command that has ended has such a status
-ended : (files created : Named) (a : Arguments) (status : ℕ) (script : Option (List ℕ)) (output errors : Written)
-    → HasEnded files created a status script output errors → IsStatus a status
-ended files created a zero script output errors e = inl refl
-ended files created a (suc zero) script output errors e = inr (inl refl)
-ended files created a (suc (suc n)) script output errors e = inr (inr (third files created a n script output errors e))
+-- a verdict is 0, 3 or 4
+no_verdict : (e : Ended) → run_status Verdict e ≡ 2 → ⊥
+no_verdict (HaltedWith zero) is = let it : 0 ≡ 2 = is in absurd (omega (arith, it))
+no_verdict (HaltedWith (suc n)) is = let it : 3 ≡ 2 = is in absurd (omega (arith, it))
+no_verdict StepsSpent is = let it : 4 ≡ 2 = is in absurd (omega (arith, it))
 
--- and so has one that did not begin
-either : (files created : Named) (a : Arguments) (status : ℕ) (script : Option (List ℕ)) (output errors : Written)
-    → HasEnded files created a status script output errors ⊎ IsUnbegun status errors → IsStatus a status
-either files created a status script output errors (inl e) = ended files created a status script output errors e
-either files created a status script output errors (inr u) = inr (inl u.status_is)
+-- a run has the status that was asked for
+run_asked : (a : RunArguments) (asked : StatusOf) (s : ℕ) (e : Ended) → a.status ≡ asked → s ≡ run_status asked e
+    → IsAskedFor (Run a) s
+run_asked a Command s e same is = let it : s ≡ 0 = is in little (Run a) s (omega (arith, it))
+run_asked a Verdict s e same is =
+    judged_run a s (subst TellsMore (sym same) tt) (λ two. no_verdict e (sym is ∙ two))
+run_asked a Guest s e same is = passing_run a s (subst TellsMore (sym same) tt) same
 
--- and one that was not told how it ended
-known : {F : Type 0} (files created : Named) (a : Arguments) (script : Option (List ℕ)) (output errors : Written) (s : ℕ)
-    (told : Result ℕ F)
-    → IfOk told (λ status. HasEnded files created a status script output errors ⊎ IsUnbegun status errors)
-    → IfOk told (λ status. s ≡ status) → IfErr told (λ fault. s ≡ 1) → IsStatus a s
-known files created a script output errors s (Ok status) ended is untold =
-    subst (IsStatus a) (sym is) (either files created a status script output errors ended)
-known files created a script output errors s (Err fault) ended is untold = inr (inl untold)
+-- and so has one that was refused
+run_ended : (a : RunArguments) (s : ℕ) (End : Result Ended Refused → Type 0) (before after : Option (List ℕ))
+    → RunHasStatus a.status s End before after → IsAskedFor (Run a) s
+run_ended a s End before after (inl e) = run_asked a a.status s e.0 refl e.1
+run_ended a s End before after (inr r) = little (Run a) s (omega (arith, r.1))
 
--- without what it says of the third
-plain : (a : Arguments) (s : ℕ) → IsStatus a s → (s ≡ 0) ⊎ ((s ≡ 1) ⊎ (s ≡ 3))
-plain a s (inl none) = inl none
-plain a s (inr (inl one)) = inr (inl one)
-plain a s (inr (inr three)) = inr (inr three.0)
+-- what a host was told has one of three statuses
+told : (a : TellArguments) (s : ℕ) → TellEnded s → IsAskedFor (Tell a) s
+told a s (inl none) = little (Tell a) s (omega (arith, none))
+told a s (inr (inl one)) = little (Tell a) s (omega (arith, one))
+told a s (inr (inr three)) = record {
+  passing = λ two. absurd (omega (arith, three, two));
+  lost = λ is. inl tt;
+  judged = λ above. absurd (omega (arith, three, above));
+}
 
--- and of the third alone
-telling : (a : Arguments) (s : ℕ) → IsStatus a s → s ≡ 3 → IsTelling a
-telling a s (inl none) is = absurd (subst IsMore (sym is ∙ none) tt)
-telling a s (inr (inl one)) is = absurd (subst IsMore (sym is ∙ one) tt)
-telling a s (inr (inr three)) is = three.1
+-- a command that ended with more than 1 was asked for such a status
+more : (files created : Named) (a : Arguments) (n : ℕ) (script : Option (List ℕ)) (output errors : Written)
+    → HasEnded files created a (suc (suc n)) script output errors → IsAskedFor a (suc (suc n))
+more files created (Run a) n script output errors e =
+    run_ended a (suc (suc n)) (λ end. IsRunEnd a e.image e.input end output.before output.after) errors.before errors.after
+    e.ended
+more files created (Asm a) n script output errors e = absurd e.ended
+more files created (Dis a) n script output errors e = absurd e.ended
+more files created (Debug a) n script output errors e = absurd e.ended
+more files created (Script a) n script output errors e = absurd e.ended
+more files created (Move a) n script output errors e = absurd e.ended
+more files created (Audit a) n script output errors e = absurd e.ended
+more files created (Host a) n script output errors e = absurd e
+more files created (Tell a) n script output errors e = told a (suc (suc n)) e
+
+-- a command that has ended was asked for its status
+ended : (files created : Named) (a : Arguments) (s : ℕ) (script : Option (List ℕ)) (output errors : Written)
+    → HasEnded files created a s script output errors → IsAskedFor a s
+ended files created a zero script output errors e = little a 0 (omega arith)
+ended files created a (suc zero) script output errors e = little a 1 (omega arith)
+ended files created a (suc (suc n)) script output errors e = more files created a n script output errors e
+
+-- and so was one that did not begin
+either : (files created : Named) (a : Arguments) (s : ℕ) (script : Option (List ℕ)) (output errors : Written)
+    → HasEnded files created a s script output errors ⊎ IsUnbegun s errors → IsAskedFor a s
+either files created a s script output errors (inl e) = ended files created a s script output errors e
+either files created a s script output errors (inr u) = little a s (omega (arith, u.status_is))
+
+-- a command whose status is more than 1 did begin
+begun : (files created : Named) (a : Arguments) (s : ℕ) (script : Option (List ℕ)) (output errors : Written)
+    → HasEnded files created a s script output errors ⊎ IsUnbegun s errors → 1 < s
+    → HasEnded files created a s script output errors
+begun files created a s script output errors (inl e) above = e
+begun files created a s script output errors (inr u) above = absurd (omega (arith, u.status_is, above))
 
 module _ {F : Type 0} (files created : Named) (a : Arguments) (script : Option (List ℕ)) (output errors : Written) (s : ℕ)
-    (told : Result ℕ F) where
-  pub of_three : IfOk told (λ status. HasEnded files created a status script output errors ⊎ IsUnbegun status errors)
-      → IfOk told (λ status. s ≡ status) → IfErr told (λ fault. s ≡ 1) → (s ≡ 0) ⊎ ((s ≡ 1) ⊎ (s ≡ 3))
-  of_three ended is untold = plain a s (known files created a script output errors s told ended is untold)
+  where
+    -- a command was asked for its status, also where it was not told how it ended
+    pub asked_for : (told : Result ℕ F)
+        → IfOk told (λ status. HasEnded files created a status script output errors ⊎ IsUnbegun status errors)
+        → IfOk told (λ status. s ≡ status) → IfErr told (λ fault. s ≡ 1) → IsAskedFor a s
+    asked_for (Ok status) has_ended is untold =
+        subst (IsAskedFor a) (sym is) (either files created a status script output errors has_ended)
+    asked_for (Err fault) has_ended is untold = little a s (omega (arith, untold))
 
-  pub lost : IfOk told (λ status. HasEnded files created a status script output errors ⊎ IsUnbegun status errors)
-      → IfOk told (λ status. s ≡ status) → IfErr told (λ fault. s ≡ 1) → s ≡ 3 → IsTelling a
-  lost ended is untold = telling a s (known files created a script output errors s told ended is untold)
+    -- a command whose status is more than 1 has ended with it
+    pub has_ended_so : (told : Result ℕ F)
+        → IfOk told (λ status. HasEnded files created a status script output errors ⊎ IsUnbegun status errors)
+        → IfOk told (λ status. s ≡ status) → IfErr told (λ fault. s ≡ 1) → 1 < s
+        → HasEnded files created a s script output errors
+    has_ended_so (Ok status) has_ended is untold above =
+        begun files created a s script output errors
+        (subst (λ n. HasEnded files created a n script output errors ⊎ IsUnbegun n errors) (sym is) has_ended) above
+    has_ended_so (Err fault) has_ended is untold above = absurd (omega (arith, untold, above))
 
 -- a command that has the status 1 has failed
 pub failed : {F : Type 0} (files created : Named) (a : Arguments) (script : Option (List ℕ)) (output errors : Written) (s : ℕ)

@@ -28,13 +28,13 @@ pub record Written : Type 0 where
 abbrev pub written : (before after : Option (List ℕ)) → Written
 written before after = record { before = before; after = after }
 
--- `run` was given the image that it names, and the input, if it names one
+-- `run` was given the image that it names, and the input, if it names one, and has the status that was asked for
 pub record RunEnded (files : Named) (a : RunArguments) (status : ℕ) (output errors : Written) : Type 0 where
   pub image : List ℕ
   pub input : List ℕ
   pub image_is : IsFile (files a.guest.image.now) image
   pub input_is : IsInput files a.input input
-  pub ended : RunHasStatus status (λ end. IsRunEnd a image input end output.before output.after)
+  pub ended : RunHasStatus a.status status (λ end. IsRunEnd a image input end output.before output.after)
       errors.before errors.after
 
 -- `asm` was given the text that it names, and wrote to the file that it names

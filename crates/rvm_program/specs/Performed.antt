@@ -6,28 +6,30 @@ use Rattle.clap.specs.Simple.{subcommand_of}
 use Rattle.clap.specs.Walk.{Text}
 use Rattle.clap.specs.declared.error.kind.ErrorKind.TheVariants as kind
 use Rattle.rvm_arguments.specs.declared.arguments.Arguments.{Arguments}
-use Rattle.rvm_arguments.specs.declared.arguments.Arguments.TheVariants.{Tell}
+use Rattle.rvm_arguments.specs.declared.arguments.Arguments.TheVariants.{Run, Tell}
+use Rattle.rvm_arguments.specs.declared.arguments.StatusOf.{StatusOf}
+use Rattle.rvm_arguments.specs.declared.arguments.StatusOf.TheVariants.{Command, Verdict, Guest}
 use Rattle.rvm_command_line.specs.Given.{IsAsked}
 use Rattle.rvm_command_line.specs.Program.{faults_of, program}
 use Rattle.rvm_program.specs.Ended.{HasEnded, IsUnbegun, IsUntold, Written}
 use Rattle.rvm_program.specs.Files.{Named}
 
--- words have no fault for `clap`, and what they ask for is done
-pub record IsDone (files created : Named) (words : List Text) (script : Option (List ℕ)) (output errors : Written)
-    : Type 0 where
+-- words have no fault for `clap`, and what they ask for has ended with this status
+pub record IsEnded (files created : Named) (words : List Text) (status : ℕ) (script : Option (List ℕ))
+    (output errors : Written) : Type 0 where
   pub faultless : fault_of program words ≡ []
   pub arguments : Arguments
   pub asked : IsAsked (subcommand_of program words) arguments
-  pub ended : HasEnded files created arguments 0 script output errors
+  pub ended : HasEnded files created arguments status script output errors
 
--- what a command came to that did not do what it was asked: it was refused, or did not begin, and that was told; or a write
--- to the errors failed
+-- what a command came to whose status is 1: it was refused, or passes on the 1 of a guest, or did not begin, and that was
+-- told; or a write to the errors failed
 abbrev pub HasFailed : (files created : Named) → Arguments → (script : Option (List ℕ)) → (output errors : Written) → Type 0
 HasFailed files created a script output errors =
     HasEnded files created a 1 script output errors
     ⊎ (IsUnbegun 1 errors ⊎ IsUntold files created a script output)
 
--- words have no fault for `clap`, and what they ask for has failed
+-- words have no fault for `clap`, and what they ask for has come to this
 pub record IsRefused (files created : Named) (words : List Text) (script : Option (List ℕ)) (output errors : Written)
     : Type 0 where
   pub faultless : fault_of program words ≡ []
@@ -46,6 +48,36 @@ pub record AreTelling (words : List Text) : Type 0 where
   pub arguments : Arguments
   pub asked : IsAsked (subcommand_of program words) arguments
   pub telling : IsTelling arguments
+
+-- a status tells more than that a run ended
+abbrev pub TellsMore : StatusOf → Type 0
+TellsMore Command = ⊥
+TellsMore Verdict = ⊤
+TellsMore Guest = ⊤
+
+-- a run has a status that tells how it ended
+abbrev pub IsJudged : Arguments → Type 0
+IsJudged (Run a) = TellsMore a.status
+IsJudged other = ⊥
+
+-- words have no fault for `clap`, and ask for a run with a status that tells how it ended
+pub record AreJudged (words : List Text) : Type 0 where
+  pub faultless : fault_of program words ≡ []
+  pub arguments : Arguments
+  pub asked : IsAsked (subcommand_of program words) arguments
+  pub judged : IsJudged arguments
+
+-- a run has the status of its guest
+abbrev pub IsPassingOn : Arguments → Type 0
+IsPassingOn (Run a) = a.status ≡ Guest
+IsPassingOn other = ⊥
+
+-- words have no fault for `clap`, and ask for a run with the status of its guest
+pub record ArePassingOn (words : List Text) : Type 0 where
+  pub faultless : fault_of program words ≡ []
+  pub arguments : Arguments
+  pub asked : IsAsked (subcommand_of program words) arguments
+  pub passing : IsPassingOn arguments
 
 -- words may ask for help
 abbrev pub AskHelp : (words : List Text) → Type 0

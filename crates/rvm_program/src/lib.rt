@@ -7,12 +7,12 @@
 //! To be read in this order: `perform`, `commands`, `files`, `system`, `descriptors`.
 #![tactic(auto)]
 
-ghost use Rattle.std.specs.Prelude.{◌≡◌, ◌≢◌, ◌⊎◌, None, IfErr, IfOk, OnErr, map};
+ghost use Rattle.std.specs.Prelude.{◌≡◌, ◌≢◌, ◌⊎◌, ◌<◌, None, IfErr, IfOk, OnErr, map};
 ghost use Rattle.clap.specs.Words.{kind_of};
 ghost use Rattle.clap.specs.declared.error.kind.ErrorKind.TheVariants as kind;
 ghost use Rattle.rvm_program.specs.Ended.{HasEnded, IsUnbegun, IsUntold, ToTell, written};
 ghost use Rattle.rvm_program.specs.Files.{IsFileRefusal};
-ghost use Rattle.rvm_program.specs.Performed.{AreFaulty, AreTelling, HasFailed, IsDone, IsRefused, IsShown, IsTelling};
+ghost use Rattle.rvm_program.specs.Performed.{AreFaulty, AreJudged, ArePassingOn, AreTelling, HasFailed, IsEnded, IsJudged, IsPassingOn, IsRefused, IsShown, IsTelling};
 
 mod commands;
 mod descriptors;
@@ -41,7 +41,8 @@ const UNTOLD: u8 = 1;
 
 /// Does what the words of a command line ask for, of which the first is the program's name, and answers
 /// the status: 0, 1 where it was refused, 2 for a fault of the command line, which writes nothing to
-/// `output`, or 3 where an answer of a host was lost that was told something. `input` stands for standard input, `output`
+/// `output`, or 3 where an answer of a host was lost that was told something. A run whose status tells how it ended
+/// has that status (`StatusOf`), which may be any. `input` stands for standard input, `output`
 /// and `errors` for standard output and standard error. Each guest's memory is an `M`. A guest that moves does so by
 /// threads, which may wait for one another, and over TCP. The files are those of the runtime, and so is the standard input
 /// that a thread of its own reads for `host --input -`, until the process ends.
@@ -56,11 +57,17 @@ pub fn perform<
 where
     Rt::Stream: Send,
     Rt::Listener: Send + Sync,
-    ensures status { (result ≡ 0) ⊎ ((result ≡ 1) ⊎ ((result ≡ 2) ⊎ (result ≡ 3))) }
-    ensures lost { result ≡ 3 → AreTelling (map S.text words.now) }
-    ensures fault { result ≡ 2 → O.contents output.new ≡ O.contents output.old }
+    ensures status { 3 < result → AreJudged (map S.text words.now) }
+    ensures lost { result ≡ 3 → AreTelling (map S.text words.now) ⊎ AreJudged (map S.text words.now) }
+    ensures fault { result ≡ 2 → (O.contents output.new ≡ O.contents output.old) ⊎ (ArePassingOn (map S.text words.now)
+        × IsEnded (λ name. None) (λ name. None) (map S.text words.now) 2 (I.remaining input.old)
+        (written (O.contents output.old) (O.contents output.new))
+        (written (E.contents errors.old) (E.contents errors.new))) }
     ensures done { result ≡ 0 → IsShown (map S.text words.now) (written (E.contents errors.old) (E.contents errors.new))
-        ⊎ IsDone (λ name. None) (λ name. None) (map S.text words.now) (I.remaining input.old)
+        ⊎ IsEnded (λ name. None) (λ name. None) (map S.text words.now) 0 (I.remaining input.old)
+        (written (O.contents output.old) (O.contents output.new))
+        (written (E.contents errors.old) (E.contents errors.new)) }
+    ensures others { 2 < result → IsEnded (λ name. None) (λ name. None) (map S.text words.now) result (I.remaining input.old)
         (written (O.contents output.old) (O.contents output.new))
         (written (E.contents errors.old) (E.contents errors.new)) }
     ensures refused { result ≡ 1 → IsRefused (λ name. None) (λ name. None) (map S.text words.now)
@@ -91,11 +98,17 @@ pub fn perform_over<
 where
     Rt::Stream: Send,
     Rt::Listener: Send + Sync,
-    ensures status { (result ≡ 0) ⊎ ((result ≡ 1) ⊎ ((result ≡ 2) ⊎ (result ≡ 3))) }
-    ensures lost { result ≡ 3 → AreTelling (map S.text words.now) }
-    ensures fault { result ≡ 2 → O.contents output.new ≡ O.contents output.old }
+    ensures status { 3 < result → AreJudged (map S.text words.now) }
+    ensures lost { result ≡ 3 → AreTelling (map S.text words.now) ⊎ AreJudged (map S.text words.now) }
+    ensures fault { result ≡ 2 → (O.contents output.new ≡ O.contents output.old) ⊎ (ArePassingOn (map S.text words.now)
+        × IsEnded (F.bytes_of files.now) (F.created_of files.now) (map S.text words.now) 2 (I.remaining input.old)
+        (written (O.contents output.old) (O.contents output.new))
+        (written (E.contents errors.old) (E.contents errors.new))) }
     ensures done { result ≡ 0 → IsShown (map S.text words.now) (written (E.contents errors.old) (E.contents errors.new))
-        ⊎ IsDone (F.bytes_of files.now) (F.created_of files.now) (map S.text words.now) (I.remaining input.old)
+        ⊎ IsEnded (F.bytes_of files.now) (F.created_of files.now) (map S.text words.now) 0 (I.remaining input.old)
+        (written (O.contents output.old) (O.contents output.new))
+        (written (E.contents errors.old) (E.contents errors.new)) }
+    ensures others { 2 < result → IsEnded (F.bytes_of files.now) (F.created_of files.now) (map S.text words.now) result (I.remaining input.old)
         (written (O.contents output.old) (O.contents output.new))
         (written (E.contents errors.old) (E.contents errors.new)) }
     ensures refused { result ≡ 1 → IsRefused (F.bytes_of files.now) (F.created_of files.now) (map S.text words.now)
@@ -111,8 +124,8 @@ where
     }
 }
 
-/// Does what a command line asks for, and answers the status: 0, 1 where it was refused, or 3 where an answer of a host
-/// was lost that was told something.
+/// Does what a command line asks for, and answers the status: 0, 1 where it was refused, 3 where an answer of a host
+/// was lost that was told something, or that of a run whose status tells how it ended.
 fn do_command<
     M: PagedMemory + Drop + Send + 'static,
     Rt: System + Net + Threads + Wait + 'static,
@@ -124,8 +137,12 @@ fn do_command<
 where
     Rt::Stream: Send,
     Rt::Listener: Send + Sync,
-    ensures status { (result ≡ 0) ⊎ ((result ≡ 1) ⊎ (result ≡ 3)) }
-    ensures lost { result ≡ 3 → IsTelling arguments.now }
+    ensures status { 3 < result → IsJudged arguments.now }
+    ensures lost { result ≡ 3 → IsTelling arguments.now ⊎ IsJudged arguments.now }
+    ensures passed { result ≡ 2 → IsPassingOn arguments.now }
+    ensures others { 1 < result → HasEnded (F.bytes_of files.now) (F.created_of files.now) arguments.now result (I.remaining input.old)
+        (written (O.contents output.old) (O.contents output.new))
+        (written (E.contents errors.old) (E.contents errors.new)) }
     ensures done { result ≡ 0 → HasEnded (F.bytes_of files.now) (F.created_of files.now) arguments.now 0 (I.remaining input.old)
         (written (O.contents output.old) (O.contents output.new))
         (written (E.contents errors.old) (E.contents errors.new)) }

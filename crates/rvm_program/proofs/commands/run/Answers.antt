@@ -1,6 +1,15 @@
 use Rattle.rvm_program.specs.Ended.{written}
-use Rattle.rvm_program.proofs.Ended.{run_untold}
+use Rattle.rvm_program.proofs.Ended.{run_ended, run_untold}
 use Rattle.rvm_program.proofs.commands.run.Goals as goal
+
+pub returns-clause-ended : goal.returns-clause-ended
+returns-clause-ended g c =
+    run_ended (g.F.NamedFiles.bytes_of c.args.files.now)
+    (written (g.E.Write.contents c.args.errors.now) (g.E.Write.contents c.run_command.new.errors))
+    c.args.arguments.now c.deref.result.now c.in_ok-image.image.items c.deref-2.result.now c.in_ok-input.input.items
+    (written (g.O.Write.contents c.args.output.now) (g.O.Write.contents c.run_command.new.output))
+    c.run_command.result c.deref.ensures.value c.deref-2.ensures.value c.in_ok-image.ensures.bytes c.in_ok-input.ensures.given
+    c.run_command.ensures.status
 
 pub returns-clause-untold : goal.returns-clause-untold
 returns-clause-untold g c =
