@@ -304,19 +304,29 @@ fn queued<Rt: System>(rt: &Rt, bytes: &[u8]) -> Result<Arc<InputQueue>, AllocErr
     Ok(Arc::new(rt.alloc(), InputQueue::with(rt.alloc(), bytes)?)?)
 }
 
-/// What comes from standard input, for a guest's console. A thread reads it that ends with the process, since nothing else
-/// ends a read.
+/// What comes from standard input, for a guest's console. A thread of its own reads it, since nothing else than the end of
+/// the process ends a read.
 fn live_input<Rt: System + Threads + Wait + 'static>(
     rt: &Rt,
 ) -> Result<Arc<InputQueue>, AllocError> {
     let queue = Arc::new(rt.alloc(), InputQueue::new(rt.alloc()))?;
-    let theirs = Arc::try_clone(&queue)?;
+    read_beside(rt, rt.live_input(), Arc::try_clone(&queue)?)?;
+    Ok(queue)
+}
+
+/// Has a thread read bytes for a guest's console, which ends with the process at the latest.
+fn read_beside<Rt: Threads + Wait + Copy + Send + 'static, I: Read + Drop + Send + 'static>(
+    rt: &Rt,
+    reader: I,
+    queue: Arc<InputQueue>,
+) -> Result<(), AllocError> {
     let runtime = *rt;
-    let reader = thread::spawn(rt, move || {
-        read_console_input(&runtime, &mut runtime.live_input(), &theirs);
+    let begun = thread::spawn(rt, move || {
+        let mut reader = reader;
+        read_console_input(&runtime, &mut reader, &queue);
     });
-    match reader {
-        Ok(_reads_on) => Ok(queue),
+    match begun {
+        Ok(_reads_on) => Ok(()),
         Err(_) => Err(AllocError),
     }
 }

@@ -8,7 +8,7 @@ use std::time::Clock;
 /// The system that a program runs on: memory, files, clock, random numbers and standard streams.
 pub trait System: Files + AllocGlobal + Clock + RandomSource + Copy + Send + Sync {
     /// A reader of standard input.
-    type Live: Read + Drop;
+    type Live: Read + Drop + Send + 'static;
 
     /// Standard input, to be read as it comes.
     fn live_input(&self) -> Self::Live;
