@@ -180,7 +180,7 @@ impl Performed {
 }
 
 /// Does what the words of a command ask for, over a memory.
-fn perform_over<M: PagedMemory + Drop + Send + 'static, R: System + 'static>(
+fn perform_over<M: PagedMemory + Drop + Send + 'static, R: System + Net + Threads + Wait + 'static>(
     rt: &R,
     words: &[&str],
     input: &[u8],
