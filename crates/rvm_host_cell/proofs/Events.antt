@@ -8,6 +8,7 @@ use Rattle.rvm_debug.specs.declared.retiring.Retired as told
 use Rattle.rvm_frame.specs.declared.addressed.Addressed.{Addressed}
 use Rattle.rvm_hart.specs.declared.outcome.Stepped.{Stepped}
 use Rattle.rvm_hart.specs.declared.outcome.Stepped.TheVariants.{Retired}
+use Rattle.rvm_message.specs.declared.event.HostEvent.{HostEvent}
 use Rattle.rvm_message.specs.declared.reply.HostReply.{HostReply}
 use Rattle.rvm_message.specs.declared.step.StepReply.TheVariants as step
 use Rattle.rvm_message.specs.Events.{BoardHostEvent, event_of}
@@ -58,8 +59,8 @@ called o old new e (Ok a) r steps same = stepped o old new e a r steps
 called o old new e (Err x) r steps same = kept o old new same r
 
 -- the reply that it gave
-pub answered : (o old new : PlainHost) (e : BoardHostEvent) (reply : HostReply) (frame : Option Addressed)
-    → IsReached o old → Steps old e (reply, frame) new → IsAnswer o e reply
+pub answered : (o old new : PlainHost) (e : HostEvent) (reply : HostReply) (frame : Option Addressed)
+    → IsReached o old → Steps old (event_of e) (reply, frame) new → IsAnswer o e reply
 answered o old new e reply frame r s = record { host = old; reached = r; replied = s.reply }
 
 -- behind steps that retired

@@ -5,8 +5,9 @@ use Rattle.rvm_core.specs.Hosts.{PlainHost, host_of, step_of}
 use Rattle.rvm_debug.specs.Guest.{Guest}
 use Rattle.rvm_frame.specs.declared.addressed.Addressed.{Addressed}
 use Rattle.rvm_guest.specs.TheGuest.{board}
+use Rattle.rvm_message.specs.declared.event.HostEvent.{HostEvent}
 use Rattle.rvm_message.specs.declared.reply.HostReply.{HostReply}
-use Rattle.rvm_message.specs.Events.{BoardHostEvent}
+use Rattle.rvm_message.specs.Events.{BoardHostEvent, event_of}
 use Rattle.rvm_message.specs.Frames.{addressed_made}
 use Rattle.rvm_message.specs.Replies.{reply_of}
 use Rattle.rvm_protocol.specs.Host as protocol
@@ -22,13 +23,23 @@ pub record IsReached (opening h : PlainHost) : Type 0 where
   pub reached : host_of h ≡ fold (next_at opening) (host_of opening) events
   pub rest : h ≡ record opening { mode = h.mode; partner = h.partner }
 
--- a host that events made of the one that began so gave this reply to another event
-pub record IsAnswer (opening : PlainHost) (event : BoardHostEvent) (reply : HostReply) : Type 0 where
+-- some host replies so to this event
+pub record IsReply (event : HostEvent) (reply : HostReply) : Type 0 where
+  pub host : PlainHost
+  pub replied : reply_of reply ≡ (step_of host (event_of event)).reply
+
+-- a host does that events make of the one that began so
+pub record IsAnswer (opening : PlainHost) (event : HostEvent) (reply : HostReply) : Type 0 where
   pub host : PlainHost
   pub reached : IsReached opening host
-  pub replied : reply_of reply ≡ (step_of host event).reply
+  pub replied : reply_of reply ≡ (step_of host (event_of event)).reply
 
--- a host that events made of the one that began so made this frame at another event
+-- which is one that some host does
+pub reply_in : (opening : PlainHost) (event : HostEvent) (reply : HostReply) → IsAnswer opening event reply
+    → IsReply event reply
+reply_in opening event reply a = record { host = a.host; replied = a.replied }
+
+-- a host that events make of the one that began so makes this frame at another event
 pub record IsMade (opening : PlainHost) (frame : Addressed) : Type 0 where
   pub host : PlainHost
   pub reached : IsReached opening host

@@ -2,12 +2,11 @@
 
 ghost use Rattle.std.specs.Prelude.{◌≡◌, ◌≤◌, IfOk};
 ghost use Rattle.rvm_host_cell.specs.Events.{IsAnswer};
-ghost use Rattle.rvm_message.specs.Events.{command_of};
-ghost use Rattle.rvm_message.specs.Frames.{frame_heard};
-ghost use Rattle.rvm_protocol.specs.Commands as commands;
+ghost use Rattle.rvm_message.specs.declared.event.Command.TheVariants.{Copy};
+ghost use Rattle.rvm_message.specs.declared.event.HostEvent.TheVariants.{Came, Do};
 
 use crate::copies::copy_some;
-use crate::origin::{Hosting, Of};
+use crate::origin::{Of, Opening};
 use crate::reached::Reached;
 use crate::turns::{Slice, make_slice};
 use rvm_core::{Host, HostStatus};
@@ -20,11 +19,11 @@ use std::sync::{Mutex, Wait};
 
 /// A host that several threads call. Each call may wait for another thread.
 #[derive(Drop)]
-pub struct HostCell<L: Hosting, M: PagedMemory + Drop> {
+pub struct HostCell<L: Opening, M: PagedMemory + Drop> {
     lock: Mutex<Reached<L, M>>,
 }
 
-impl<L: Hosting, M: PagedMemory + Drop> HostCell<L, M> {
+impl<L: Opening, M: PagedMemory + Drop> HostCell<L, M> {
     /// The host that a process begins with.
     pub fn new(host: Host<M>) -> HostCell<L, M>
         requires { host ≡ L.opening }
@@ -41,7 +40,7 @@ impl<L: Hosting, M: PagedMemory + Drop> HostCell<L, M> {
         alloc: Global,
         command: &Command,
     ) -> Result<(HostReply, Option<Made<Of<L>>>), AllocError>
-        ensures { IfOk result (λ a. IsAnswer L.opening (commands.Do (command_of command.now)) a.0) }
+        ensures { IfOk result (λ a. IsAnswer L.opening (Do command.now) a.0) }
     {
         self.lock.lock(rt).obey(alloc, command)
     }
@@ -56,7 +55,7 @@ impl<L: Hosting, M: PagedMemory + Drop> HostCell<L, M> {
         most: u32,
         made: &mut Vec<Made<Of<L>>>,
     ) -> Result<(HostReply, u32), AllocError>
-        ensures { IfOk result (λ a. IsAnswer L.opening (commands.Do commands.Copy) a.0) }
+        ensures { IfOk result (λ a. IsAnswer L.opening (Do Copy) a.0) }
     {
         copy_some(&mut self.lock.lock(rt), alloc, most, made)
     }
@@ -69,7 +68,7 @@ impl<L: Hosting, M: PagedMemory + Drop> HostCell<L, M> {
         from: u8,
         frame: &Frame,
     ) -> Result<(HostReply, Option<Made<Of<L>>>), AllocError>
-        ensures { IfOk result (λ a. IsAnswer L.opening (commands.Came from (frame_heard frame.now)) a.0) }
+        ensures { IfOk result (λ a. IsAnswer L.opening (Came from frame.now) a.0) }
     {
         self.lock.lock(rt).came(alloc, from, frame)
     }

@@ -5,13 +5,12 @@ ghost use Rattle.rvm_host_cell.specs.Events.{IsAnswer, IsMade};
 ghost use Rattle.rvm_core.specs.Hosts.{Steps};
 ghost use Rattle.rvm_core.specs.Retiring.{HostRetires};
 ghost use Rattle.rvm_core.specs.Statuses.{harts_of, status_of};
-ghost use Rattle.rvm_message.specs.Events.{command_of, event_of};
+ghost use Rattle.rvm_message.specs.declared.event.HostEvent.TheVariants.{Came, Do};
+ghost use Rattle.rvm_message.specs.Events.{event_of};
 ghost use Rattle.rvm_message.specs.Exchanges.{dry_exchange, step_of_hart};
-ghost use Rattle.rvm_message.specs.Frames.{frame_heard};
 ghost use Rattle.rvm_message.specs.Steps.{reply_to_step};
-ghost use Rattle.rvm_protocol.specs.Commands as commands;
 
-use crate::origin::{Hosting, Of};
+use crate::origin::{Of, Opening};
 use rvm_core::{Host, HostStatus};
 use rvm_debug::Retired;
 use rvm_frame::{Addressed, Frame};
@@ -23,12 +22,12 @@ use std::marker::{Model, PhantomData};
 
 /// A host that events made of the one that its process began with.
 #[derive(Drop)]
-pub(crate) struct Reached<L: Hosting, M: PagedMemory + Drop> {
+pub(crate) struct Reached<L: Opening, M: PagedMemory + Drop> {
     host: Host<M>,
     hosting: PhantomData<L>,
 }
 
-impl<L: Hosting, M: PagedMemory + Drop> Model for Reached<L, M> {
+impl<L: Opening, M: PagedMemory + Drop> Model for Reached<L, M> {
     ghost use Rattle.rvm_core.specs.Hosts.{PlainHost};
     ghost use Rattle.rvm_host_cell.specs.Events.{IsReached};
 
@@ -39,7 +38,7 @@ impl<L: Hosting, M: PagedMemory + Drop> Model for Reached<L, M> {
     ghost invariant = { λ r. IsReached L.opening r.host };
 }
 
-impl<L: Hosting, M: PagedMemory + Drop> Reached<L, M> {
+impl<L: Opening, M: PagedMemory + Drop> Reached<L, M> {
     /// The host that the process begins with.
     #[tactic(auto, using(crate::proofs::Events::at_first))]
     pub(crate) fn new(host: Host<M>) -> Reached<L, M>
@@ -59,8 +58,8 @@ impl<L: Hosting, M: PagedMemory + Drop> Reached<L, M> {
         alloc: Global,
         command: &Command,
     ) -> Result<(HostReply, Option<Made<Of<L>>>), AllocError>
-        ensures steps { IfOk result (λ a. Steps self.old (commands.Do (command_of command.now)) a self.new) }
-        ensures answer { IfOk result (λ a. IsAnswer L.opening (commands.Do (command_of command.now)) a.0) }
+        ensures steps { IfOk result (λ a. Steps self.old (event_of (Do command.now)) a self.new) }
+        ensures answer { IfOk result (λ a. IsAnswer L.opening (Do command.now) a.0) }
         ensures err { OnErr result (self.new ≡ self.old) }
     {
         match self.host.obey(alloc, command) {
@@ -77,8 +76,8 @@ impl<L: Hosting, M: PagedMemory + Drop> Reached<L, M> {
         from: u8,
         frame: &Frame,
     ) -> Result<(HostReply, Option<Made<Of<L>>>), AllocError>
-        ensures steps { IfOk result (λ a. Steps self.old (commands.Came from (frame_heard frame.now)) a self.new) }
-        ensures answer { IfOk result (λ a. IsAnswer L.opening (commands.Came from (frame_heard frame.now)) a.0) }
+        ensures steps { IfOk result (λ a. Steps self.old (event_of (Came from frame.now)) a self.new) }
+        ensures answer { IfOk result (λ a. IsAnswer L.opening (Came from frame.now) a.0) }
         ensures err { OnErr result (self.new ≡ self.old) }
     {
         match self.host.came(alloc, from, frame) {
@@ -127,7 +126,7 @@ impl<L: Hosting, M: PagedMemory + Drop> Reached<L, M> {
 }
 
 /// A frame that was made, if one was.
-fn handed_out<L: Hosting>(frame: Option<Addressed>) -> Option<Made<Of<L>>>
+fn handed_out<L: Opening>(frame: Option<Addressed>) -> Option<Made<Of<L>>>
     requires { IfSome frame (IsMade L.opening) }
     ensures { result ≡ frame }
 {

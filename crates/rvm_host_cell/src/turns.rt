@@ -6,7 +6,7 @@ ghost use Rattle.rvm_message.specs.Events.{event_of};
 ghost use Rattle.rvm_message.specs.Exchanges.{step_of_hart};
 ghost use Rattle.rvm_message.specs.Steps.{reply_to_step};
 
-use crate::origin::Hosting;
+use crate::origin::Opening;
 use crate::reached::Reached;
 use rvm_debug::DRAIN_SIZE;
 use rvm_hart::Stepped;
@@ -36,7 +36,7 @@ pub struct Slice {
 
 /// Makes turns of the harts, one after the other, at most `count`, from turn `turn` on: as many as the guest makes here
 /// before it halts.
-pub(crate) fn make_slice<L: Hosting, M: PagedMemory + Drop>(
+pub(crate) fn make_slice<L: Opening, M: PagedMemory + Drop>(
     reached: &mut Reached<L, M>,
     turn: u64,
     count: u32,
@@ -55,7 +55,7 @@ pub(crate) fn make_slice<L: Hosting, M: PagedMemory + Drop>(
 }
 
 /// Makes turns of so many harts, at most `count`: how many, and what comes then.
-fn make_turns<L: Hosting, M: PagedMemory + Drop>(
+fn make_turns<L: Opening, M: PagedMemory + Drop>(
     reached: &mut Reached<L, M>,
     turn: u64,
     harts: u32,
@@ -85,7 +85,7 @@ fn make_turns<L: Hosting, M: PagedMemory + Drop>(
 }
 
 /// Makes turn `turn` by a step of its hart.
-fn step_of<L: Hosting, M: PagedMemory + Drop>(
+fn step_of<L: Opening, M: PagedMemory + Drop>(
     reached: &mut Reached<L, M>,
     turn: u64,
     harts: u32,

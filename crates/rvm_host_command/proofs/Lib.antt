@@ -1,1 +1,2 @@
 mod Sends
+pub mod Answered

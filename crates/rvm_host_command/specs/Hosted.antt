@@ -6,6 +6,7 @@ use Rattle.rvm_command.specs.Command.{guest_of, image_of}
 use Rattle.rvm_command.specs.Ends.{IsLoadable}
 use Rattle.rvm_core.specs.Hosts.{PlainHost, new_host}
 use Rattle.rvm_debug.specs.Guest.{GuestState}
+use Rattle.rvm_host_cell.specs.Events.{IsAnswer}
 use Rattle.rvm_host_worker.specs.Console.{IsShown}
 use Rattle.rvm_host_worker.specs.declared.harts.HartsEnd.{HartsEnd}
 use Rattle.rvm_host_worker.specs.declared.harts.HartsEnd.TheVariants.{ConsoleFault}
@@ -28,6 +29,10 @@ IsGuestOf (Some a) image (Some g) =
 abbrev pub IsNamed : (name : List ℕ) → (count number : ℕ) → Type 0
 IsNamed name count number = (number < count) × (is_letter_of number name ≡ true)
 
+-- the console shows what drains take of hosts that events make of the one that began so
+abbrev pub IsShownBy : (opening : PlainHost) → (before now : Option (List ℕ)) → Type 0
+IsShownBy opening before now = IsShown (IsAnswer opening) None None before now
+
 -- a host worked, and its console shows what the guest sent while it was here: the world is that of its file, the host
 -- that of its name, and what it began with is the guest of the image, if it was given one
 pub record IsHosted (a : HostArguments) (peers image : List ℕ) (before now : Option (List ℕ)) : Type 0 where
@@ -37,7 +42,7 @@ pub record IsHosted (a : HostArguments) (peers image : List ℕ) (before now : O
   pub world_is : peers_in (lines peers) ≡ Some world
   pub named : IsNamed a.name.now (length world) number
   pub guest_is : IsGuestOf a.guest image guest
-  pub shown : IsShown (opening_of guest number (length world)) before now
+  pub shown : IsShownBy (opening_of guest number (length world)) before now
 
 -- a host worked until it was ended, and wrote all that it had to write
 abbrev pub HasBegun : {F : Type 0} → Result HartsEnd F → Type 0

@@ -1,2 +1,3 @@
 pub mod Hosted
 pub mod Told
+pub mod Answered

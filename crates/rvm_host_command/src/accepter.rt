@@ -3,7 +3,6 @@
 use crate::meeting::meet_accepted;
 use crate::process::Process;
 use rvm_host_cell::Hosting;
-use rvm_mem::PagedMemory;
 use std::net::{Net, OpenListener, OpenStream};
 use std::random::RandomSource;
 use std::sync::Wait;
@@ -15,9 +14,9 @@ const LOOK: u64 = 10;
 
 /// Accepts connections until the process is to end, one after the other. Those of another host of this world come to
 /// its door; all others are closed.
-pub(crate) fn accepter<L: Hosting, M: PagedMemory + Drop, R: Net + Wait + Clock + RandomSource>(
+pub(crate) fn accepter<L: Hosting, R: Net + Wait + Clock + RandomSource>(
     rt: &R,
-    process: &Process<L, M, R::Stream>,
+    process: &Process<L, R::Stream>,
     listener: &R::Listener,
 ) {
     for _look in rt.forever() {
@@ -33,9 +32,9 @@ pub(crate) fn accepter<L: Hosting, M: PagedMemory + Drop, R: Net + Wait + Clock 
 }
 
 /// Brings a connection of another host to its door.
-fn receive<L: Hosting, M: PagedMemory + Drop, R: Net + Wait + Clock + RandomSource>(
+fn receive<L: Hosting, R: Net + Wait + Clock + RandomSource>(
     rt: &R,
-    process: &Process<L, M, R::Stream>,
+    process: &Process<L, R::Stream>,
     stream: R::Stream,
 ) {
     let mut stream = stream;

@@ -7,15 +7,13 @@ ghost use Rattle.rvm_host_worker.specs.Movers.{IsMoveEnd};
 use crate::process::Process;
 use rvm_core::ModeKind;
 use rvm_debug::{BoardEvent, BoardReply};
-use rvm_host_cell::Hosting;
+use rvm_host_cell::{Access, Hosting};
 use rvm_host_worker::{Figures, MoveEnd, MovePlan, Progress, Watch, move_guest};
-use rvm_mem::PagedMemory;
 use rvm_message::{Command, HostReply};
 use rvm_precopy::Policy;
 use rvm_refusal::{LinkFault, Refusal};
 use rvm_script::{HexText, Line, address_of, is_refused};
 use rvm_world_line::{Asked, WorldLine, write_guest_reply, write_move_reply, write_steps_reply};
-use std::alloc::Global;
 use std::io::{Read, Write};
 use std::net::OpenStream;
 use std::sync::Wait;
@@ -40,21 +38,21 @@ fn refuse<O: Write>(output: &mut O, why: Refusal) -> Result<Outcome, LinkFault>
 /// Does what a line asks for, and writes the answer.
 pub(crate) fn answer_line<
     L: Hosting,
-    M: PagedMemory + Drop,
+    A: Access<L>,
     S: Read + Write + OpenStream + Drop,
     O: Write,
     R: Wait + Clock,
 >(
     rt: &R,
-    alloc: Global,
-    process: &Process<L, M, S>,
+    process: &Process<L, S>,
+    access: &mut A,
     line: &[u8],
     output: &mut O,
 ) -> Result<Outcome, LinkFault> {
     if line == b"status".as_slice() {
-        return tell_status(rt, process, output);
+        return tell_status(rt, process, access, output);
     }
-    if line == b"stop".as_slice() && process.station.status(rt).kind != ModeKind::Empty {
+    if line == b"stop".as_slice() && access.status().kind != ModeKind::Empty {
         return refuse(output, Refusal::Busy);
     }
     if line == b"stop".as_slice() || line == b"stop now".as_slice() {
@@ -65,7 +63,7 @@ pub(crate) fn answer_line<
     match WorldLine::read(line, process.hosts) {
         Some(WorldLine::Empty) => Ok(Outcome::Done),
         Some(WorldLine::Host { host, asked }) if is_for(process.station.id, host) => answer_asked(
-            rt, alloc, process, asked, output,
+            rt, process, access, asked, output,
         ),
         _ => refuse(output, Refusal::BadToken),
     }
@@ -79,35 +77,35 @@ fn is_for(id: u8, host: Option<u8>) -> bool {
 /// Does what the host is asked, and writes the answer.
 fn answer_asked<
     L: Hosting,
-    M: PagedMemory + Drop,
+    A: Access<L>,
     S: Read + Write + OpenStream + Drop,
     O: Write,
     R: Wait + Clock,
 >(
     rt: &R,
-    alloc: Global,
-    process: &Process<L, M, S>,
+    process: &Process<L, S>,
+    access: &mut A,
     asked: Asked<'_>,
     output: &mut O,
 ) -> Result<Outcome, LinkFault> {
     let other = other_host(process.station.id);
     match asked {
-        Asked::Guest(line) => answer_guest(rt, alloc, process, line, output),
+        Asked::Guest(line) => answer_guest(rt, process, access, line, output),
         Asked::Move { to, policy } => answer_move(
             rt,
-            alloc,
             process,
+            access,
             to.unwrap_or(other),
             policy,
             output,
         ),
         Asked::Begin { to, policy } => {
             let to = to.unwrap_or(other);
-            answer_command(rt, alloc, process, &Command::Begin { to, policy }, output)
+            answer_command(rt, process, access, &Command::Begin { to, policy }, output)
         }
-        Asked::Copy => answer_command(rt, alloc, process, &Command::Copy, output),
-        Asked::Resend => answer_command(rt, alloc, process, &Command::Resend, output),
-        Asked::Abort => answer_command(rt, alloc, process, &Command::Abort, output),
+        Asked::Copy => answer_command(rt, process, access, &Command::Copy, output),
+        Asked::Resend => answer_command(rt, process, access, &Command::Resend, output),
+        Asked::Abort => answer_command(rt, process, access, &Command::Abort, output),
     }
 }
 
@@ -117,14 +115,13 @@ fn other_host(id: u8) -> u8 {
 }
 
 /// Writes where the host stands, with which hosts it has a connection, and how many turns it made.
-fn tell_status<
-    L: Hosting,
-    M: PagedMemory + Drop,
-    S: Read + Write + OpenStream + Drop,
-    O: Write,
-    R: Wait,
->(rt: &R, process: &Process<L, M, S>, output: &mut O) -> Result<Outcome, LinkFault> {
-    let status = process.station.status(rt);
+fn tell_status<L: Hosting, A: Access<L>, S: Read + Write + OpenStream + Drop, O: Write, R: Wait>(
+    rt: &R,
+    process: &Process<L, S>,
+    access: &A,
+    output: &mut O,
+) -> Result<Outcome, LinkFault> {
+    let status = access.status();
     write!(output, "{} {}", name_of(status.kind), status.move_number)?;
     if status.partner != process.station.id {
         write!(output, " with {}", letter_of(status.partner))?;
@@ -195,19 +192,19 @@ fn tell_progress<O: Write>(output: &mut O, progress: Progress) -> Result<(), Lin
 /// Moves the guest to another host, tells meanwhile how far the move has come, and writes how it ended.
 fn answer_move<
     L: Hosting,
-    M: PagedMemory + Drop,
+    A: Access<L>,
     S: Read + Write + OpenStream + Drop,
     O: Write,
     R: Wait + Clock,
 >(
     rt: &R,
-    alloc: Global,
-    process: &Process<L, M, S>,
+    process: &Process<L, S>,
+    access: &mut A,
     to: u8,
     policy: Policy,
     output: &mut O,
 ) -> Result<Outcome, LinkFault>
-    ensures { IfOk result (IsMoveTold L.opening) }
+    ensures { IfOk result (IsMoveTold L.gave) }
 {
     let plan = MovePlan {
         to,
@@ -222,8 +219,8 @@ fn answer_move<
     };
     let end = move_guest(
         rt,
-        alloc,
         &process.station,
+        access,
         &plan,
         &process.harts.stop,
         &mut watcher,
@@ -234,8 +231,8 @@ fn answer_move<
 
 /// Writes how a move ended.
 fn tell_end<L: Hosting, O: Write>(output: &mut O, end: MoveEnd) -> Result<Outcome, LinkFault>
-    requires { IsMoveEnd L.opening end }
-    ensures { IfOk result (IsMoveTold L.opening) }
+    requires { IsMoveEnd L.gave end }
+    ensures { IfOk result (IsMoveTold L.gave) }
 {
     match end {
         MoveEnd::Moved(figures) => return tell_figures(output, &figures),
@@ -265,20 +262,14 @@ fn tell_figures<O: Write>(output: &mut O, figures: &Figures) -> Result<Outcome, 
 }
 
 /// Gives the host a command of a move, and writes the reply.
-fn answer_command<
-    L: Hosting,
-    M: PagedMemory + Drop,
-    S: Read + Write + OpenStream + Drop,
-    O: Write,
-    R: Wait,
->(
+fn answer_command<L: Hosting, A: Access<L>, S: Read + Write + OpenStream + Drop, O: Write, R: Wait>(
     rt: &R,
-    alloc: Global,
-    process: &Process<L, M, S>,
+    process: &Process<L, S>,
+    access: &mut A,
     command: &Command,
     output: &mut O,
 ) -> Result<Outcome, LinkFault> {
-    let Ok(reply) = process.station.obey(rt, alloc, command) else {
+    let Ok(reply) = process.station.obey(rt, access, command) else {
         return refuse(output, Refusal::OutOfMemory);
     };
     write_move_reply(output, &reply, None)?;
@@ -301,26 +292,22 @@ fn outcome_of(reply: &HostReply) -> Outcome {
 }
 
 /// Does what a line asks of the guest, and writes the answer.
-fn answer_guest<
-    L: Hosting,
-    M: PagedMemory + Drop,
-    S: Read + Write + OpenStream + Drop,
-    O: Write,
-    R: Wait,
->(
+fn answer_guest<L: Hosting, A: Access<L>, S: Read + Write + OpenStream + Drop, O: Write, R: Wait>(
     rt: &R,
-    alloc: Global,
-    process: &Process<L, M, S>,
+    process: &Process<L, S>,
+    access: &mut A,
     line: Line<'_>,
     output: &mut O,
 ) -> Result<Outcome, LinkFault> {
     let (address, reply) = match line {
         Line::Empty => return Ok(Outcome::Done),
-        Line::Steps { hart, count } => return answer_steps(rt, alloc, process, hart, count, output),
-        Line::Input(bytes) => (None, type_in(rt, alloc, process, bytes)),
+        Line::Steps { hart, count } => return answer_steps(
+            rt, process, access, hart, count, output,
+        ),
+        Line::Input(bytes) => (None, type_in(rt, process, access, bytes)),
         Line::Ask(event) => {
             let address = address_of(&event);
-            (address, ask_guest(rt, alloc, process, event))
+            (address, ask_guest(rt, process, access, event))
         }
     };
     let Some(reply) = reply else {
@@ -331,26 +318,23 @@ fn answer_guest<
 }
 
 /// Gives the guest an event: none where memory lacks.
-fn ask_guest<L: Hosting, M: PagedMemory + Drop, S: Read + Write + OpenStream + Drop, R: Wait>(
+fn ask_guest<L: Hosting, A: Access<L>, S: Read + Write + OpenStream + Drop, R: Wait>(
     rt: &R,
-    alloc: Global,
-    process: &Process<L, M, S>,
+    process: &Process<L, S>,
+    access: &mut A,
     event: BoardEvent,
 ) -> Option<HostReply> {
-    process.station.obey(rt, alloc, &Command::Board(event)).ok()
+    process
+        .station
+        .obey(rt, access, &Command::Board(event))
+        .ok()
 }
 
 /// Makes steps of a hart, up to the first that retires no instruction, and writes the last answer.
-fn answer_steps<
-    L: Hosting,
-    M: PagedMemory + Drop,
-    S: Read + Write + OpenStream + Drop,
-    O: Write,
-    R: Wait,
->(
+fn answer_steps<L: Hosting, A: Access<L>, S: Read + Write + OpenStream + Drop, O: Write, R: Wait>(
     rt: &R,
-    alloc: Global,
-    process: &Process<L, M, S>,
+    process: &Process<L, S>,
+    access: &mut A,
     hart: u32,
     count: u32,
     output: &mut O,
@@ -358,7 +342,7 @@ fn answer_steps<
     let mut made = 0;
     let mut last = HostReply::Board(BoardReply::Done);
     for step in 0..count {
-        let Some(reply) = ask_guest(rt, alloc, process, BoardEvent::Step(hart)) else {
+        let Some(reply) = ask_guest(rt, process, access, BoardEvent::Step(hart)) else {
             return refuse(output, Refusal::OutOfMemory);
         };
         made = step + 1;
@@ -372,16 +356,16 @@ fn answer_steps<
 }
 
 /// Bytes come to the console, up to the first that is not taken: the last reply, or none where memory lacks.
-fn type_in<L: Hosting, M: PagedMemory + Drop, S: Read + Write + OpenStream + Drop, R: Wait>(
+fn type_in<L: Hosting, A: Access<L>, S: Read + Write + OpenStream + Drop, R: Wait>(
     rt: &R,
-    alloc: Global,
-    process: &Process<L, M, S>,
+    process: &Process<L, S>,
+    access: &mut A,
     bytes: HexText<'_>,
 ) -> Option<HostReply> {
     let mut left = bytes;
     let mut last = HostReply::Board(BoardReply::Done);
     while let Some((byte, behind)) = left.split_first() {
-        last = ask_guest(rt, alloc, process, BoardEvent::Input(byte))?;
+        last = ask_guest(rt, process, access, BoardEvent::Input(byte))?;
         if outcome_of(&last) == Outcome::Refused {
             break;
         }

@@ -5,10 +5,8 @@ ghost use Rattle.std.specs.Prelude.{◌≤◌, length, IfOk, IfSome};
 use crate::answers::{Outcome, answer_line};
 use crate::operators::Operators;
 use crate::process::Process;
-use rvm_host_cell::Hosting;
-use rvm_mem::PagedMemory;
+use rvm_host_cell::{Access, Hosting};
 use rvm_refusal::{LinkFault, Refusal};
-use std::alloc::Global;
 use std::io::{ErrorKind, Read, Write};
 use std::net::{Net, OpenStream};
 use std::sync::Wait;
@@ -28,10 +26,10 @@ const READ: u64 = 100;
 const WRITE: u64 = 2000;
 
 /// Answers operators, one connection after another, until the process is to end.
-pub(crate) fn control_worker<L: Hosting, M: PagedMemory + Drop, R: Net + Wait + Clock>(
+pub(crate) fn control_worker<L: Hosting, A: Access<L>, R: Net + Wait + Clock>(
     rt: &R,
-    alloc: Global,
-    process: &Process<L, M, R::Stream>,
+    process: &Process<L, R::Stream>,
+    access: &mut A,
     operators: &Operators<R::Listener>,
 ) {
     for _look in rt.forever() {
@@ -40,7 +38,7 @@ pub(crate) fn control_worker<L: Hosting, M: PagedMemory + Drop, R: Net + Wait + 
         }
         match operators.accept() {
             Ok(stream) => {
-                let _ended = answer(rt, alloc, process, stream);
+                let _ended = answer(rt, process, access, stream);
             }
             Err(_) => thread::sleep(rt, Duration::from_millis(LOOK)),
         }
@@ -51,17 +49,17 @@ pub(crate) fn control_worker<L: Hosting, M: PagedMemory + Drop, R: Net + Wait + 
 /// Answers the lines of a connection, to its end.
 fn answer<
     L: Hosting,
-    M: PagedMemory + Drop,
+    A: Access<L>,
     S: Read + Write + OpenStream + Drop,
     C: Read + Write + OpenStream + Drop,
     R: Wait + Clock,
->(rt: &R, alloc: Global, process: &Process<L, M, S>, stream: C) -> Result<(), LinkFault> {
+>(rt: &R, process: &Process<L, S>, access: &mut A, stream: C) -> Result<(), LinkFault> {
     let mut stream = stream;
     stream.set_nonblocking(false)?;
     stream.set_read_timeout(Some(Duration::from_millis(READ)))?;
     stream.set_write_timeout(Some(Duration::from_millis(WRITE)))?;
     let mut output = stream.try_clone()?;
-    let mut line = Vec::new(alloc);
+    let mut line = Vec::new(process.station.alloc);
     let mut buffer = [0u8; 1024];
     for _read in rt.forever() {
         if process.is_stopping() {
@@ -71,9 +69,16 @@ fn answer<
             continue;
         };
         if count == 0 {
-            return answer_last(rt, alloc, process, line.as_slice(), &mut output);
+            return answer_last(rt, process, access, line.as_slice(), &mut output);
         }
-        take_bytes(rt, alloc, process, &buffer[..count], &mut line, &mut output)?;
+        take_bytes(
+            rt,
+            process,
+            access,
+            &buffer[..count],
+            &mut line,
+            &mut output,
+        )?;
     }
     unreachable!()
 }
@@ -97,21 +102,21 @@ fn read_some<C: Read>(stream: &mut C, buffer: &mut [u8]) -> Result<Option<usize>
 /// connection.
 fn take_bytes<
     L: Hosting,
-    M: PagedMemory + Drop,
+    A: Access<L>,
     S: Read + Write + OpenStream + Drop,
     O: Write,
     R: Wait + Clock,
 >(
     rt: &R,
-    alloc: Global,
-    process: &Process<L, M, S>,
+    process: &Process<L, S>,
+    access: &mut A,
     bytes: &[u8],
     line: &mut Vec<u8>,
     output: &mut O,
 ) -> Result<(), LinkFault> {
     for byte in bytes {
         if *byte == b'\n' {
-            answer_and_end(rt, alloc, process, line.as_slice(), output)?;
+            answer_and_end(rt, process, access, line.as_slice(), output)?;
             line.clear();
         } else if line.len() >= MAX_LINE {
             return refuse_and_end(output, Refusal::TooLong);
@@ -133,38 +138,38 @@ fn refuse_and_end<O: Write>(output: &mut O, why: Refusal) -> Result<(), LinkFaul
 /// Answers a last line that does not end, if there is one.
 fn answer_last<
     L: Hosting,
-    M: PagedMemory + Drop,
+    A: Access<L>,
     S: Read + Write + OpenStream + Drop,
     O: Write,
     R: Wait + Clock,
 >(
     rt: &R,
-    alloc: Global,
-    process: &Process<L, M, S>,
+    process: &Process<L, S>,
+    access: &mut A,
     line: &[u8],
     output: &mut O,
 ) -> Result<(), LinkFault> {
     if line.is_empty() {
         return Ok(());
     }
-    answer_and_end(rt, alloc, process, line, output)
+    answer_and_end(rt, process, access, line, output)
 }
 
 /// Answers a line. The last line of the answer says whether what was asked happened: `end 0` if it did, else `end 1`.
 fn answer_and_end<
     L: Hosting,
-    M: PagedMemory + Drop,
+    A: Access<L>,
     S: Read + Write + OpenStream + Drop,
     O: Write,
     R: Wait + Clock,
 >(
     rt: &R,
-    alloc: Global,
-    process: &Process<L, M, S>,
+    process: &Process<L, S>,
+    access: &mut A,
     line: &[u8],
     output: &mut O,
 ) -> Result<(), LinkFault> {
-    let status = match answer_line(rt, alloc, process, line, output)? {
+    let status = match answer_line(rt, process, access, line, output)? {
         Outcome::Done => 0,
         Outcome::Refused => 1,
     };

@@ -1,8 +1,7 @@
 //! A host works in a process of its own.
 
 ghost use Rattle.std.specs.Prelude.{◌≡◌, ◌≢◌, IfErr, IfOk, length};
-ghost use Rattle.rvm_host_command.specs.Hosted.{opening_of};
-ghost use Rattle.rvm_host_worker.specs.Console.{IsShown};
+ghost use Rattle.rvm_host_command.specs.Hosted.{IsShownBy, opening_of};
 ghost use Rattle.rvm_host_worker.specs.declared.harts.HartsEnd.TheVariants.{ConsoleFault};
 
 use crate::door::Door;
@@ -14,7 +13,7 @@ use crate::turns::Turns;
 use rvm_core::Host;
 use rvm_debug::Debugged;
 use rvm_greeting::{Registry, Secret};
-use rvm_host_cell::{HostCell, Hosting};
+use rvm_host_cell::{HostCell, Hosting, Of, Opening};
 use rvm_host_worker::{HartsEnd, HartsPlan, InputQueue, News, STREAM_VERSION, Station};
 use rvm_mem::{MAX_PAGES, PagedMemory};
 use rvm_peers::Peers;
@@ -78,7 +77,7 @@ where
     R::Stream: Send,
     R::Listener: Send + Sync,
     ensures shown { IfOk result (λ end. end ≢ ConsoleFault
-        → IsShown (opening_of guest plan.now.id (length plan.now.peers.now)) (O.contents output.old) (O.contents output.new)) }
+        → IsShownBy (opening_of guest plan.now.id (length plan.now.peers.now)) (O.contents output.old) (O.contents output.new)) }
     ensures unbegun { IfErr result (λ fault. O.contents output.new ≡ O.contents output.old) }
 {
     let hosts = plan.peers.count() as u8;
@@ -123,7 +122,7 @@ struct Known {
 
 /// Works at this host.
 fn host_over<
-    L: Hosting + Send + Sync,
+    L: Opening + Send + Sync,
     M: PagedMemory + Drop + Send,
     O: Write,
     E: Write,
@@ -142,24 +141,31 @@ where
     R::Listener: Send + Sync,
     requires { host ≡ L.opening }
     ensures shown { IfOk result (λ end. end ≢ ConsoleFault
-        → IsShown L.opening (O.contents output.old) (O.contents output.new)) }
+        → IsShownBy L.opening (O.contents output.old) (O.contents output.new)) }
     ensures unbegun { IfErr result (λ fault. O.contents output.new ≡ O.contents output.old) }
 {
-    let process = new_process::<L, M, R>(alloc, host, plan, known)?;
-    work_in(rt, alloc, &process, plan, output, errors)
+    let process = match new_process::<Of<L>, R>(alloc, plan, known) {
+        Ok(process) => process,
+        Err(error) => {
+            drop(host);
+            return Err(HostFault::from(error));
+        }
+    };
+    let cell = HostCell::<L, M>::new(host);
+    work_in(rt, &cell, &process, plan, output, errors)
 }
 
 /// Works in this process.
 fn work_in<
-    L: Hosting + Send + Sync,
+    L: Opening + Send + Sync,
     M: PagedMemory + Drop + Send,
     O: Write,
     E: Write,
     R: Net + Threads + Wait + Clock + RandomSource + Sync,
 >(
     rt: &R,
-    alloc: Global,
-    process: &Process<L, M, R::Stream>,
+    cell: &HostCell<L, M>,
+    process: &Process<Of<L>, R::Stream>,
     plan: &HostPlan<'_, R::Listener>,
     output: &mut O,
     errors: &mut E,
@@ -168,18 +174,18 @@ where
     R::Stream: Send,
     R::Listener: Send + Sync,
     ensures shown { IfOk result (λ end. end ≢ ConsoleFault
-        → IsShown L.opening (O.contents output.old) (O.contents output.new)) }
+        → IsShownBy L.opening (O.contents output.old) (O.contents output.new)) }
     ensures unbegun { IfErr result (λ fault. O.contents output.new ≡ O.contents output.old) }
 {
     let turns = Turns {
         rt,
-        alloc,
+        cell,
         process,
         input: plan.input,
         output,
         errors,
     };
-    match work_beside(rt, alloc, process, plan, turns) {
+    match work_beside(rt, cell, process, plan, turns) {
         Ok((end, output)) => {
             take_back(output);
             Ok(end)
@@ -187,7 +193,7 @@ where
         Err(turns) => {
             let Turns {
                 rt: _,
-                alloc: _,
+                cell: _,
                 process: _,
                 input: _,
                 output,
@@ -199,15 +205,12 @@ where
     }
 }
 
-/// What the threads of the process share.
-fn new_process<L: Hosting, M: PagedMemory + Drop, R: Net>(
+/// What the threads of the process share beside the host.
+fn new_process<L: Hosting, R: Net>(
     alloc: Global,
-    host: Host<M>,
     plan: &HostPlan<'_, R::Listener>,
     known: Known,
-) -> Result<Process<L, M, R::Stream>, AllocError>
-    requires { host ≡ L.opening }
-{
+) -> Result<Process<L, R::Stream>, AllocError> {
     let Known { registry, secret } = known;
     let hosts = plan.peers.count() as u8;
     let mut doors = Vec::new(alloc);
@@ -217,7 +220,7 @@ fn new_process<L: Hosting, M: PagedMemory + Drop, R: Net>(
     Ok(Process {
         station: Station {
             id: plan.id,
-            cell: HostCell::new(host),
+            alloc,
             routes: Routes::new(alloc, hosts, STREAM_VERSION)?,
             news: News::new(),
             console: Mutex::new(()),

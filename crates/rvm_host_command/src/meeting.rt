@@ -4,7 +4,6 @@ use crate::process::Process;
 use crate::timed::Timed;
 use rvm_greeting::{Greeted, GreetingFault, accept, greet};
 use rvm_host_cell::Hosting;
-use rvm_mem::PagedMemory;
 use std::io;
 use std::io::{Read, Write};
 use std::net::OpenStream;
@@ -28,10 +27,9 @@ fn draw_nonce<R: RandomSource>(rt: &R) -> io::Result<[u8; 32]> {
 /// Greets a host at the other end of a connection that was made to it.
 pub(crate) fn meet_connected<
     L: Hosting,
-    M: PagedMemory + Drop,
     S: Read + Write + OpenStream + Drop,
     R: Wait + Clock + RandomSource,
->(rt: &R, process: &Process<L, M, S>, to: u8, stream: &mut S) -> Result<(), GreetingFault> {
+>(rt: &R, process: &Process<L, S>, to: u8, stream: &mut S) -> Result<(), GreetingFault> {
     let nonce = draw_nonce(rt)?;
     let registry = *process.registry.lock(rt);
     let mut output = prepare(stream)?;
@@ -50,10 +48,9 @@ pub(crate) fn meet_connected<
 /// Answers the greeting of a host that made a connection: its number.
 pub(crate) fn meet_accepted<
     L: Hosting,
-    M: PagedMemory + Drop,
     S: Read + Write + OpenStream + Drop,
     R: Wait + Clock + RandomSource,
->(rt: &R, process: &Process<L, M, S>, stream: &mut S) -> Result<u8, GreetingFault> {
+>(rt: &R, process: &Process<L, S>, stream: &mut S) -> Result<u8, GreetingFault> {
     let nonce = draw_nonce(rt)?;
     let registry = *process.registry.lock(rt);
     let mut output = prepare(stream)?;

@@ -4,10 +4,8 @@ use crate::address::address_of;
 use crate::meeting::meet_connected;
 use crate::outbound::Outbound;
 use crate::process::Process;
-use rvm_host_cell::Hosting;
+use rvm_host_cell::{Access, Hosting};
 use rvm_host_worker::hear;
-use rvm_mem::PagedMemory;
-use std::alloc::Global;
 use std::io;
 use std::io::{BufReader, ErrorKind};
 use std::net::{Net, OpenStream, TcpStream};
@@ -29,10 +27,10 @@ const TOGETHER: usize = 1 << 17;
 
 /// Keeps the connection with a host, and hears it, until the process is to end. The host of the lower number makes it;
 /// the other one takes those that arrive.
-pub(crate) fn peer_worker<L: Hosting, M: PagedMemory + Drop, R: Net + Wait + Clock + RandomSource>(
+pub(crate) fn peer_worker<L: Hosting, A: Access<L>, R: Net + Wait + Clock + RandomSource>(
     rt: &R,
-    alloc: Global,
-    process: &Process<L, M, R::Stream>,
+    process: &Process<L, R::Stream>,
+    access: &mut A,
     other: u8,
     address: &[u8],
 ) {
@@ -41,16 +39,16 @@ pub(crate) fn peer_worker<L: Hosting, M: PagedMemory + Drop, R: Net + Wait + Clo
             return;
         }
         if let Some(stream) = next_connection(rt, process, other, address) {
-            let _ended = keep(rt, alloc, process, other, stream);
+            let _ended = keep(rt, process, access, other, stream);
         }
     }
     unreachable!()
 }
 
 /// The next connection with a host, if there is one soon.
-fn next_connection<L: Hosting, M: PagedMemory + Drop, R: Net + Wait + Clock + RandomSource>(
+fn next_connection<L: Hosting, R: Net + Wait + Clock + RandomSource>(
     rt: &R,
-    process: &Process<L, M, R::Stream>,
+    process: &Process<L, R::Stream>,
     other: u8,
     address: &[u8],
 ) -> Option<R::Stream> {
@@ -64,9 +62,9 @@ fn next_connection<L: Hosting, M: PagedMemory + Drop, R: Net + Wait + Clock + Ra
 }
 
 /// Makes a connection with a host; none where that cannot be, or it refuses it.
-fn connect<L: Hosting, M: PagedMemory + Drop, R: Net + Wait + Clock + RandomSource>(
+fn connect<L: Hosting, R: Net + Wait + Clock + RandomSource>(
     rt: &R,
-    process: &Process<L, M, R::Stream>,
+    process: &Process<L, R::Stream>,
     other: u8,
     address: &[u8],
 ) -> Option<R::Stream> {
@@ -84,10 +82,10 @@ fn connect<L: Hosting, M: PagedMemory + Drop, R: Net + Wait + Clock + RandomSour
 }
 
 /// Opens the route to a host over a connection, and hears it until the connection ends.
-fn keep<L: Hosting, M: PagedMemory + Drop, R: Net + Wait + Clock>(
+fn keep<L: Hosting, A: Access<L>, R: Net + Wait + Clock>(
     rt: &R,
-    alloc: Global,
-    process: &Process<L, M, R::Stream>,
+    process: &Process<L, R::Stream>,
+    access: &mut A,
     other: u8,
     stream: R::Stream,
 ) -> io::Result<()> {
@@ -101,27 +99,27 @@ fn keep<L: Hosting, M: PagedMemory + Drop, R: Net + Wait + Clock>(
         door.end(rt);
         return Ok(());
     }
-    let heard = open_and_hear(rt, alloc, process, other, stream);
+    let heard = open_and_hear(rt, process, access, other, stream);
     door.end(rt);
     process.station.routes.close(rt, other);
     heard
 }
 
 /// Opens the route to a host over a connection, and hears it.
-fn open_and_hear<L: Hosting, M: PagedMemory + Drop, R: Net + Wait + Clock>(
+fn open_and_hear<L: Hosting, A: Access<L>, R: Net + Wait + Clock>(
     rt: &R,
-    alloc: Global,
-    process: &Process<L, M, R::Stream>,
+    process: &Process<L, R::Stream>,
+    access: &mut A,
     other: u8,
     stream: R::Stream,
 ) -> io::Result<()> {
-    let Ok(output) = Outbound::new(alloc, stream.try_clone()?) else {
+    let Ok(output) = Outbound::new(process.station.alloc, stream.try_clone()?) else {
         return Err(io::Error::from(ErrorKind::OutOfMemory));
     };
-    let mut input = BufReader::with_capacity(alloc, TOGETHER, stream)?;
+    let mut input = BufReader::with_capacity(process.station.alloc, TOGETHER, stream)?;
     if process.station.routes.open(rt, other, output).is_ok() {
         process.station.news.raise(rt);
-        let _end = hear(rt, alloc, &process.station, other, &mut input);
+        let _end = hear(rt, &process.station, access, other, &mut input);
     }
     Ok(())
 }

@@ -1,21 +1,20 @@
-//! What the threads of a host process share.
+//! What the threads of a host process share beside the host.
 
 use crate::door::Door;
 use crate::outbound::Outbound;
 use rvm_greeting::{Registry, Secret};
 use rvm_host_cell::Hosting;
 use rvm_host_worker::{HartsPlan, Station};
-use rvm_mem::PagedMemory;
 use std::io::{Read, Write};
 use std::net::OpenStream;
 use std::sync::Mutex;
 use std::sync::atomic::Ordering;
 use std::time::Duration;
 
-/// What the threads of a host process share.
+/// What the threads of a host process share beside the host.
 #[derive(Drop)]
-pub(crate) struct Process<L: Hosting, M: PagedMemory + Drop, S: Read + Write + OpenStream + Drop> {
-    pub(crate) station: Station<L, M, Outbound<S>>,
+pub(crate) struct Process<L: Hosting, S: Read + Write + OpenStream + Drop> {
+    pub(crate) station: Station<L, Outbound<S>>,
     pub(crate) harts: HartsPlan,
     pub(crate) registry: Mutex<Registry>,
     pub(crate) secret: Secret,
@@ -27,7 +26,7 @@ pub(crate) struct Process<L: Hosting, M: PagedMemory + Drop, S: Read + Write + O
     pub(crate) patience: Duration,
 }
 
-impl<L: Hosting, M: PagedMemory + Drop, S: Read + Write + OpenStream + Drop> Process<L, M, S> {
+impl<L: Hosting, S: Read + Write + OpenStream + Drop> Process<L, S> {
     /// Whether the process is to end.
     pub(crate) fn is_stopping(&self) -> bool {
         self.harts.stop.load(Ordering::SeqCst)

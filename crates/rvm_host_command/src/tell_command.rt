@@ -1,6 +1,9 @@
 //! `rvmove tell`: tells a host lines, and writes its answers.
 
-ghost use Rattle.std.specs.Prelude.{◌≡◌, ◌⊎◌, IfErr, IfOk, IsOkAnd};
+ghost use Rattle.std.specs.Io.BufRead.{drop_through};
+ghost use Rattle.std.specs.Io.KnownBytes.{IsAtEnd};
+ghost use Rattle.std.specs.Prelude.{◌≡◌, ◌≢◌, ◌⊎◌, List, ℕ, [], None, Some, Ok, true, false, IfErr, IfOk, IfSome, IsOkAnd};
+ghost use Rattle.rvm_host_command.specs.Answered.{AreAnswered, GoesOn, Says, both_done, last_line};
 
 use crate::address::is_path;
 use crate::operators::Operator;
@@ -42,7 +45,9 @@ pub fn tell_command<S: Read + Write + OpenStream + Drop, I: BufRead, O: Write, P
     output: &mut O,
     progress: &mut P,
 ) -> u8
-    ensures { (result ≡ 0) ⊎ ((result ≡ 1) ⊎ (result ≡ 3)) }
+    ensures done { result ≡ 0 → AreAnswered (I.remaining lines.old) (S.remaining stream) Told.Done }
+    ensures not_done { result ≡ 1 → AreAnswered (I.remaining lines.old) (S.remaining stream) Told.NotDone }
+    ensures others { (result ≡ 0) ⊎ ((result ≡ 1) ⊎ (result ≡ 3)) }
 {
     status_of(tell_lines(alloc, stream, lines, output, progress))
 }
@@ -62,33 +67,50 @@ fn status_of(told: io::Result<Told>) -> u8
 }
 
 /// Tells a host lines, and writes its answers: whether all that was asked happened.
+#[tactic(auto, using(crate::proofs::Answered::all_answered))]
 fn tell_lines<S: Read + Write + OpenStream + Drop, I: BufRead, O: Write, P: Write>(
     alloc: Global,
     stream: S,
     lines: &mut I,
     output: &mut O,
     progress: &mut P,
-) -> io::Result<Told> {
+) -> io::Result<Told>
+    ensures { IfOk result (AreAnswered (I.remaining lines.old) (S.remaining stream)) }
+{
     let mut sending = stream.try_clone()?;
     let mut answers = BufReader::new(alloc, stream)?;
     let mut line = Vec::new(alloc);
     let mut told = Told::Done;
     for _line in 0..u64::MAX {
         if !read_line(lines, &mut line)? {
-            break;
+            sending.shutdown(Shutdown::Write)?;
+            return Ok(told);
         }
         sending.write_all(&line)?;
         sending.flush()?;
-        if read_answer(&mut answers, &mut line, output, progress)? == Told::NotDone {
-            told = Told::NotDone;
-        }
+        let answer = read_answer(&mut answers, &mut line, output, progress)?;
+        told = both(told, answer);
     }
-    sending.shutdown(Shutdown::Write)?;
-    Ok(told)
+    Err(io::Error::from(io::ErrorKind::UnexpectedEof))
+}
+
+/// Whether both happened.
+fn both(one: Told, other: Told) -> Told
+    ensures { result ≡ both_done one other }
+{
+    match other {
+        Told::Done => one,
+        Told::NotDone => Told::NotDone,
+    }
 }
 
 /// Reads a line, and ends it where it does not end itself: whether there is one.
-fn read_line<I: BufRead>(lines: &mut I, line: &mut Vec<u8>) -> io::Result<bool> {
+#[tactic(auto, using(crate::proofs::Answered::line_read))]
+fn read_line<I: BufRead>(lines: &mut I, line: &mut Vec<u8>) -> io::Result<bool>
+    ensures end { result ≡ Ok false → IsAtEnd (I.remaining lines.old) }
+    ensures one { result ≡ Ok true → IfSome (I.remaining lines.old)
+        (λ bytes. (bytes ≢ []) × (I.remaining lines.new ≡ Some (drop_through 10 bytes))) }
+{
     line.clear();
     if lines.read_until(b'\n', line)? == 0 {
         return Ok(false);
@@ -99,35 +121,54 @@ fn read_line<I: BufRead>(lines: &mut I, line: &mut Vec<u8>) -> io::Result<bool> 
     Ok(true)
 }
 
-/// Reads an answer, and writes it but for its last line, which says whether what was asked happened. Where a line cannot
-/// be written that tells how far a move has come, it is not.
+/// Reads an answer, and writes it but for its last line, which says whether what was asked happened.
+#[tactic(auto, using(crate::proofs::Answered::says_so))]
 fn read_answer<I: BufRead, O: Write, P: Write>(
     answers: &mut I,
     line: &mut Vec<u8>,
     output: &mut O,
     progress: &mut P,
-) -> io::Result<Told> {
+) -> io::Result<Told>
+    ensures { IfOk result (λ told. IfSome (I.remaining answers.old)
+        (λ bytes. (behind : List ℕ) × (I.remaining answers.new ≡ Some behind) × Says told bytes behind)) }
+{
     for _line in 0..u64::MAX {
         line.clear();
         if answers.read_until(b'\n', line)? == 0 {
             break;
         }
-        match line.as_slice() {
-            b"end 0\n" => {
+        match end_of(line) {
+            Some(told) => {
                 output.flush()?;
-                return Ok(Told::Done);
+                return Ok(told);
             }
-            b"end 1\n" => {
-                output.flush()?;
-                return Ok(Told::NotDone);
-            }
-            text => match text.strip_prefix(PROGRESS) {
-                Some(text) => {
-                    let _untold = progress.write_all(text);
-                }
-                None => output.write_all(text)?,
-            },
+            None => show_line(line, output, progress)?,
         }
     }
     Err(io::Error::from(io::ErrorKind::UnexpectedEof))
+}
+
+/// What a line says that is the last one of an answer.
+fn end_of(line: &[u8]) -> Option<Told>
+    ensures says { IfSome result (λ told. line.now ≡ last_line told) }
+    ensures none { result ≡ None → GoesOn line.now }
+{
+    if line == b"end 0\n".as_slice() {
+        return Some(Told::Done);
+    }
+    if line == b"end 1\n".as_slice() {
+        return Some(Told::NotDone);
+    }
+    None
+}
+
+/// Writes a line of an answer. Where one cannot be written that tells how far a move has come, it is not.
+fn show_line<O: Write, P: Write>(line: &[u8], output: &mut O, progress: &mut P) -> io::Result<()> {
+    match line.strip_prefix(PROGRESS) {
+        Some(text) => {
+            let _untold = progress.write_all(text);
+            Ok(())
+        }
+        None => output.write_all(line),
+    }
 }

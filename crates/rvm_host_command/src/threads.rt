@@ -9,10 +9,9 @@ use crate::hosting::HostPlan;
 use crate::peer::peer_worker;
 use crate::process::Process;
 use crate::ticker::ticker;
-use rvm_host_cell::Hosting;
+use rvm_host_cell::{CellAccess, HostCell, Hosting, Of, Opening};
 use rvm_mem::PagedMemory;
 use rvm_worker::Task;
-use std::alloc::Global;
 use std::net::Net;
 use std::random::RandomSource;
 use std::sync::Wait;
@@ -23,17 +22,17 @@ use std::time::Clock;
 /// How many operators are answered at once.
 const CONTROLS: u32 = 4;
 
-/// Has the threads of a host process work, and does a task in this one; once that is done, all others end. The task comes
-/// back where a thread could not be made.
+/// Has the threads of a host process work, each with an access of its own to the host, and does a task in this one; once
+/// that is done, all others end. The task comes back where a thread could not be made.
 pub(crate) fn work_beside<
-    L: Hosting + Send + Sync,
+    L: Opening + Send + Sync,
     M: PagedMemory + Drop + Send,
     R: Net + Threads + Wait + Clock + RandomSource + Sync,
     T: Task + Drop,
 >(
     rt: &R,
-    alloc: Global,
-    process: &Process<L, M, R::Stream>,
+    cell: &HostCell<L, M>,
+    process: &Process<Of<L>, R::Stream>,
     plan: &HostPlan<'_, R::Listener>,
     task: T,
 ) -> Result<T::Output, T>
@@ -63,14 +62,20 @@ where
                 if other != process.station.id {
                     begun = begun
                         && scope
-                            .spawn(move || peer_worker(rt, alloc, process, other, address))
+                            .spawn(move || {
+                                let mut access = CellAccess::new(rt, process.station.alloc, cell);
+                                peer_worker(rt, process, &mut access, other, address);
+                            })
                             .is_ok();
                 }
             }
             for _operator in 0..CONTROLS {
                 begun = begun
                     && scope
-                        .spawn(move || control_worker(rt, alloc, process, operators))
+                        .spawn(move || {
+                            let mut access = CellAccess::new(rt, process.station.alloc, cell);
+                            control_worker(rt, process, &mut access, operators);
+                        })
                         .is_ok();
             }
             let done = if begun { Ok(task.run()) } else { Err(task) };
@@ -81,10 +86,7 @@ where
 }
 
 /// Has all threads end.
-fn end_all<L: Hosting, M: PagedMemory + Drop, R: Net + Wait>(
-    rt: &R,
-    process: &Process<L, M, R::Stream>,
-) {
+fn end_all<L: Hosting, R: Net + Wait>(rt: &R, process: &Process<L, R::Stream>) {
     process.stop();
     for host in 0..process.hosts {
         if let Some(door) = process.door(host) {

@@ -2,7 +2,6 @@
 
 use crate::process::Process;
 use rvm_host_cell::Hosting;
-use rvm_mem::PagedMemory;
 use std::io::{Read, Write};
 use std::net::OpenStream;
 use std::sync::Wait;
@@ -16,12 +15,10 @@ const PERIOD: u64 = 250;
 const LOOK: u64 = 10;
 
 /// Asks all other hosts now and then, until the process is to end.
-pub(crate) fn ticker<
-    L: Hosting,
-    M: PagedMemory + Drop,
-    S: Read + Write + OpenStream + Drop,
-    R: Wait + Clock,
->(rt: &R, process: &Process<L, M, S>) {
+pub(crate) fn ticker<L: Hosting, S: Read + Write + OpenStream + Drop, R: Wait + Clock>(
+    rt: &R,
+    process: &Process<L, S>,
+) {
     for _period in rt.forever() {
         for _look in 0..PERIOD / LOOK {
             if process.is_stopping() {

@@ -1,15 +1,14 @@
 //! The turns of the guest's harts, as what the main thread does beside the others.
 
 ghost use Rattle.std.specs.Prelude.{◌≡◌, ◌≢◌, ⊤};
-ghost use Rattle.rvm_host_worker.specs.Console.{IsShown};
+ghost use Rattle.rvm_host_command.specs.Hosted.{IsShownBy};
 ghost use Rattle.rvm_host_worker.specs.declared.harts.HartsEnd.TheVariants.{ConsoleFault};
 
 use crate::process::Process;
-use rvm_host_cell::Hosting;
+use rvm_host_cell::{CellAccess, HostCell, Hosting, Of, Opening};
 use rvm_host_worker::{HartsEnd, InputQueue, harts_worker};
 use rvm_mem::PagedMemory;
 use rvm_worker::Task;
-use std::alloc::Global;
 use std::io::{Read, Write};
 use std::net::OpenStream;
 use std::sync::Wait;
@@ -27,7 +26,7 @@ const LOOK: u64 = 10;
 #[derive(Drop)]
 pub(crate) struct Turns<
     't,
-    L: Hosting,
+    L: Opening,
     M: PagedMemory + Drop,
     S: Read + Write + OpenStream + Drop,
     O: Write,
@@ -35,8 +34,8 @@ pub(crate) struct Turns<
     R: Wait + Clock,
 > {
     pub(crate) rt: &'t R,
-    pub(crate) alloc: Global,
-    pub(crate) process: &'t Process<L, M, S>,
+    pub(crate) cell: &'t HostCell<L, M>,
+    pub(crate) process: &'t Process<Of<L>, S>,
     pub(crate) input: &'t InputQueue,
     pub(crate) output: &'t mut O,
     pub(crate) errors: &'t mut E,
@@ -44,7 +43,7 @@ pub(crate) struct Turns<
 
 impl<
     't,
-    L: Hosting,
+    L: Opening,
     M: PagedMemory + Drop,
     S: Read + Write + OpenStream + Drop,
     O: Write,
@@ -56,21 +55,22 @@ impl<
     ghost can_run = { λ _. ⊤ };
 
     ghost gives = { λ t r. (r.1.ghost_name ≡ t.output.ghost_name)
-        × (r.0 ≢ ConsoleFault → IsShown L.opening (O.contents t.output.now) (O.contents r.1.now)) };
+        × (r.0 ≢ ConsoleFault → IsShownBy L.opening (O.contents t.output.now) (O.contents r.1.now)) };
 
     fn run(self) -> (HartsEnd, &'t mut O) {
         let Turns {
             rt,
-            alloc,
+            cell,
             process,
             input,
             output,
             errors,
         } = self;
+        let mut access = CellAccess::new(rt, process.station.alloc, cell);
         let end = harts_worker(
             rt,
-            alloc,
             &process.station,
+            &mut access,
             &process.harts,
             input,
             output,
@@ -83,13 +83,12 @@ impl<
 
 /// Stays for what others may still want of a process whose harts stand still. Where the console cannot be written, that
 /// is told, and the guest can be moved away, until an operator ends the process.
-fn stay<
-    L: Hosting,
-    M: PagedMemory + Drop,
-    S: Read + Write + OpenStream + Drop,
-    E: Write,
-    R: Wait + Clock,
->(rt: &R, process: &Process<L, M, S>, end: HartsEnd, errors: &mut E) {
+fn stay<L: Hosting, S: Read + Write + OpenStream + Drop, E: Write, R: Wait + Clock>(
+    rt: &R,
+    process: &Process<L, S>,
+    end: HartsEnd,
+    errors: &mut E,
+) {
     match end {
         HartsEnd::Stopped => {}
         HartsEnd::Halted(_) => thread::sleep(rt, Duration::from_millis(LINGER)),
@@ -104,12 +103,10 @@ fn stay<
 }
 
 /// Waits until the process is to end.
-fn await_stop<
-    L: Hosting,
-    M: PagedMemory + Drop,
-    S: Read + Write + OpenStream + Drop,
-    R: Wait + Clock,
->(rt: &R, process: &Process<L, M, S>) {
+fn await_stop<L: Hosting, S: Read + Write + OpenStream + Drop, R: Wait + Clock>(
+    rt: &R,
+    process: &Process<L, S>,
+) {
     for _look in rt.forever() {
         if process.is_stopping() {
             return;

@@ -1,11 +1,15 @@
 -- A host that is told to begin a move begins it or refuses.
 use Rattle.std.proofs.Common.{◌≡◌, ℕ, ◌-◌, ◌^◌, ◌==◌, Bool, true, false, List, refl, subst, sym}
 use Rattle.std.specs.Prelude.{⊤, if◌then◌else◌}
-use Rattle.rvm_core.specs.Hosts.{PlainHost}
 use Rattle.rvm_core.specs.Modes.{mode_of}
 use Rattle.rvm_debug.specs.declared.event.BoardReply.{BoardReply}
 use Rattle.rvm_debug.specs.Guest.{Guest}
 use Rattle.rvm_guest.specs.TheGuest.{board}
+use Rattle.rvm_host_cell.specs.Asked.{Answers}
+use Rattle.rvm_host_cell.specs.Events.{IsReply}
+use Rattle.rvm_message.specs.declared.event.Command.TheVariants as command
+use Rattle.rvm_message.specs.declared.event.HostEvent.{HostEvent}
+use Rattle.rvm_message.specs.declared.event.HostEvent.TheVariants.{Do}
 use Rattle.rvm_message.specs.declared.reply.HostRefusal.{HostRefusal}
 use Rattle.rvm_message.specs.declared.reply.HostReply.{HostReply}
 use Rattle.rvm_message.specs.declared.reply.HostReply.TheVariants as reply
@@ -71,9 +75,10 @@ of_law reply.Started is begun refused = absurd is
 of_law reply.Dropped is begun refused = absurd is
 of_law (reply.Refused why) is begun refused = refused why refl
 
-pub begins : (opening : PlainHost) (r : HostReply) → IsToBegin opening r → ((n : ℕ) → r ≡ reply.Begun n → ⊥)
-    → ((why : HostRefusal) → r ≡ reply.Refused why → ⊥) → ⊥
-begins opening r asked begun refused =
-    let h = asked.2.host in
+pub begins : (gave : Answers) → ((event : HostEvent) (r : HostReply) → gave event r → IsReply event r) → (r : HostReply)
+    → IsToBegin gave r → ((n : ℕ) → r ≡ reply.Begun n → ⊥) → ((why : HostRefusal) → r ≡ reply.Refused why → ⊥) → ⊥
+begins gave is_reply r asked begun refused =
+    let a = is_reply (Do (command.Begin asked.0 asked.1)) r asked.2 in
+    let h = a.host in
     let at = at_mode h.version h.id h.count asked.0 (policy_of asked.1) (mode_of h.mode) in
-    of_law r (subst Begins (sym asked.2.replied) at) begun refused
+    of_law r (subst Begins (sym a.replied) at) begun refused

@@ -3,9 +3,8 @@ use denote.RattleType.{RattleType}
 use denote.Param.Send.{IsSend, IsSync, sendable}
 use Rattle.std.proofs.Crossing.{crosses}
 use Rattle.std.specs.declared.io.traits.Write as Write
-use Rattle.rvm_mem.specs.declared.memory.Memory as Memory
 use Rattle.rvm_host_cell.specs.declared.origin.Hosting as Hosting
-use Rattle.rvm_core.proofs.Sends.{host_send}
+use Rattle.rvm_route.specs.declared.made.Origin as Origin
 use Rattle.rvm_host_worker.specs.contracts.harts.HartsPlan as HartsPlan
 use Rattle.rvm_host_worker.specs.contracts.input.InputQueue as InputQueue
 use Rattle.rvm_host_worker.specs.contracts.news.Awaited as Awaited
@@ -13,18 +12,18 @@ use Rattle.rvm_host_worker.specs.contracts.news.News as News
 use Rattle.rvm_host_worker.specs.contracts.news.Told as Told
 use Rattle.rvm_host_worker.specs.contracts.station.Station as Station
 
-awaited_send : (L : RattleType) (o : Hosting.Ghosts L.Denot) → IsSend (Awaited.the_row L o)
-awaited_send L o = search (sendable, crosses) depth 40 fits 10000
+awaited_send : (L : RattleType) (o : Hosting.Ghosts L.Denot) (r : Origin.Ghosts L.Denot) → IsSend (Awaited.the_row L o r)
+awaited_send L o r = search (sendable, crosses) depth 40 fits 10000
 
-told_send : (L : RattleType) (o : Hosting.Ghosts L.Denot) → IsSend (Told.the_row L o)
-told_send L o = search (awaited_send, sendable, crosses) depth 40 fits 10000
+told_send : (L : RattleType) (o : Hosting.Ghosts L.Denot) (r : Origin.Ghosts L.Denot) → IsSend (Told.the_row L o r)
+told_send L o r = search (awaited_send, sendable, crosses) depth 40 fits 10000
 
-pub news_sync : (L : RattleType) (o : Hosting.Ghosts L.Denot) → IsSync (News.the_row L o)
-news_sync L o = search (told_send, sendable, crosses) depth 40 fits 10000
+pub news_sync : (L : RattleType) (o : Hosting.Ghosts L.Denot) (r : Origin.Ghosts L.Denot) → IsSync (News.the_row L o r)
+news_sync L o r = search (told_send, sendable, crosses) depth 40 fits 10000
 
-pub station_sync : (L M W : RattleType) (o : Hosting.Ghosts L.Denot) (g : Memory.Ghosts M.Denot) (w : Write.Ghosts W.Denot)
-    → IsSend M → IsSend W → IsSync (Station.the_row L M W o g w)
-station_sync L M W o g w s t = search (host_send, sendable, crosses) depth 60 fits 40000
+pub station_sync : (L W : RattleType) (o : Hosting.Ghosts L.Denot) (r : Origin.Ghosts L.Denot) (w : Write.Ghosts W.Denot)
+    → IsSend W → IsSync (Station.the_row L W o r w)
+station_sync L W o r w s = search (told_send, sendable, crosses) depth 60 fits 40000
 
 pub queue_sync : IsSync InputQueue.the_row
 queue_sync = search (sendable, crosses) depth 40 fits 10000

@@ -1,20 +1,38 @@
 -- What a host's console shows.
 use Rattle.std.specs.Io.KnownBytes.{Appends}
-use Rattle.std.specs.List.{All, concat}
-use Rattle.std.specs.Prelude.{ℕ, List, Option}
-use Rattle.rvm_core.specs.Hosts.{PlainHost}
-use Rattle.rvm_debug.specs.declared.event.BoardEvent.TheVariants.{Drain}
+use Rattle.std.specs.List.{flat_map}
+use Rattle.std.specs.Prelude.{◌≡◌, ℕ, List, [], Option}
+use Rattle.rvm_debug.specs.declared.event.BoardEvent.TheVariants.{Drain, Input}
 use Rattle.rvm_debug.specs.declared.event.BoardReply.TheVariants.{Bytes}
-use Rattle.rvm_host_cell.specs.Events.{IsAnswer}
+use Rattle.rvm_host_cell.specs.Asked.{Answers, AreAnswered}
+use Rattle.rvm_message.specs.declared.event.Command.TheVariants.{Board}
+use Rattle.rvm_message.specs.declared.event.HostEvent.{HostEvent}
+use Rattle.rvm_message.specs.declared.event.HostEvent.TheVariants.{Do}
+use Rattle.rvm_message.specs.declared.reply.HostReply.{HostReply}
 use Rattle.rvm_message.specs.declared.reply.HostReply.TheVariants.{Board as Answered}
-use Rattle.rvm_protocol.specs.Commands as commands
+use Rattle.rvm_message.specs.Exchanges.{PlainExchange}
 
--- a host that began so answered a drain with these bytes
-abbrev pub IsTaken : (opening : PlainHost) → (bytes : List ℕ) → Type 0
-IsTaken opening bytes = (count : ℕ) × IsAnswer opening (commands.Do (commands.Board (Drain count))) (Answered (Bytes bytes))
+-- the bytes that a reply has
+abbrev pub bytes_in : HostReply → List ℕ
+bytes_in (Answered (Bytes bytes)) = bytes
+bytes_in reply = []
 
--- what drains took was written, in order
-pub record IsShown (opening : PlainHost) (before now : Option (List ℕ)) : Type 0 where
-  pub pieces : List (List ℕ)
-  pub taken : All (IsTaken opening) pieces
-  pub written : Appends before now (concat pieces)
+-- what a drain takes
+abbrev pub taken_by : HostEvent → HostReply → List ℕ
+taken_by (Do (Board (Drain count))) reply = bytes_in reply
+taken_by event reply = []
+
+-- what the drains among these took, in order
+abbrev pub all_taken : List PlainExchange → List ℕ
+all_taken exchanges = flat_map (λ x. taken_by x.event x.reply) exchanges
+
+-- a byte comes to the console
+abbrev pub IsInput : HostEvent → Type 0
+IsInput event = (byte : ℕ) × (event ≡ Do (Board (Input byte)))
+
+-- of what a host was asked, and gave, what drains took was written, each byte once and in order, and nothing else
+pub record IsShown (gave : Answers) (asked_before asked_now : Option (List PlainExchange))
+    (before now : Option (List ℕ)) : Type 0 where
+  pub exchanges : List PlainExchange
+  pub answered : AreAnswered gave asked_before asked_now exchanges
+  pub written : Appends before now (all_taken exchanges)

@@ -1,8 +1,7 @@
 -- What is heard on the connection of another host.
 use Rattle.std.specs.Io.KnownBytes.{Consumes}
 use Rattle.std.specs.List.{All}
-use Rattle.std.specs.Prelude.{◌≡◌, ◌<◌, ◌⊎◌, ⊤, ℕ, false, List, [], ◌∷◌, ◌++◌, Option, None, Err}
-use Rattle.rvm_core.specs.Hosts.{PlainHost}
+use Rattle.std.specs.Prelude.{◌≡◌, ◌<◌, ◌⊎◌, ⊤, ℕ, false, List, [], ◌∷◌, ◌++◌, map, Option, None, Err}
 use Rattle.rvm_frame.specs.declared.fault.FrameFault.{FrameFault}
 use Rattle.rvm_frame.specs.declared.fault.FrameFault.TheVariants as frame
 use Rattle.rvm_frame.specs.declared.fault.ReadFault.{ReadFault}
@@ -11,10 +10,9 @@ use Rattle.rvm_frame.specs.Grammar.{Received}
 use Rattle.rvm_frame.specs.Reader.{Gathered, at_start}
 use Rattle.rvm_frame.specs.Stream.{Feed, Run, Splits, bytes_taken, frames_given}
 use Rattle.rvm_frame.specs.Verdict.{Decides}
-use Rattle.rvm_host_cell.specs.Events.{IsAnswer}
-use Rattle.rvm_message.specs.declared.reply.HostReply.{HostReply}
-use Rattle.rvm_message.specs.Frames.{frame_heard}
-use Rattle.rvm_protocol.specs.Commands as commands
+use Rattle.rvm_host_cell.specs.Asked.{Answers, AreAnswered}
+use Rattle.rvm_message.specs.declared.event.HostEvent.TheVariants as event
+use Rattle.rvm_message.specs.Exchanges.{PlainExchange}
 use Rattle.rvm_record.specs.declared.fault.RecordFault.{RecordFault}
 use Rattle.rvm_record.specs.declared.fault.RecordFault.TheVariants as record_fault
 use Rattle.rvm_record.specs.Records.{Fits, Record, bytes_in, data_in}
@@ -34,9 +32,12 @@ of_frame frame.BadFrame = BadStream
 of_frame frame.TooLong = BadStream
 of_frame frame.Failed = BadStream
 
--- a host that began so answered this frame of another one
-abbrev pub IsTold : (opening : PlainHost) → (from : ℕ) → Frame → Type 0
-IsTold opening from frame = (reply : HostReply) × IsAnswer opening (commands.Came from (frame_heard frame)) reply
+-- these frames of that host came to this one, one after the other, each once, and nothing else did
+pub record HaveCome (gave : Answers) (from : ℕ) (before now : Option (List PlainExchange))
+    (frames : List Frame) : Type 0 where
+  pub exchanges : List PlainExchange
+  pub answered : AreAnswered gave before now exchanges
+  pub events : map (λ x. x.event) exchanges ≡ map (event.Came from) frames
 
 -- these frames came, or all but the last
 abbrev pub AllButLast : (told all : List Frame) → Type 0
@@ -64,7 +65,8 @@ IsBad from to end rest carried frames = ⊤
 -- of the bytes of a connection the first are records one behind the other; the first bytes that these carry are
 -- frames, and of those that go between these two hosts all, or all but the last, came to this one, in order; it ended
 -- so for a reason
-pub record IsHeardOn (opening : PlainHost) (from to : ℕ) (end : HearEnd) (bytes : List ℕ) : Type 0 where
+pub record IsHeardOn (gave : Answers) (from to : ℕ) (end : HearEnd)
+    (before now : Option (List PlainExchange)) (bytes : List ℕ) : Type 0 where
   pub records : List Record
   pub rest : List ℕ
   pub read : List ℕ
@@ -77,15 +79,16 @@ pub record IsHeardOn (opening : PlainHost) (from to : ℕ) (end : HearEnd) (byte
   pub carried : data_in records ≡ read ++ unread
   pub stream : Splits None read frames unfinished
   pub in_order : AllButLast told (all_for_host from to frames)
-  pub came : All (IsTold opening from) told
+  pub came : HaveCome gave from before now told
   pub bad : IsBad from to end rest (data_in records) frames
 
 -- a reader was fed these bytes, and all frames that it gave and that go between these two hosts came to this one
-pub record AreTold (opening : PlainHost) (from to : ℕ) (old : Gathered) (bytes : List ℕ) (new : Gathered) : Type 0 where
+pub record AreTold (gave : Answers) (from to : ℕ) (before now : Option (List PlainExchange))
+    (old : Gathered) (bytes : List ℕ) (new : Gathered) : Type 0 where
   pub feeds : List Feed
   pub run : Run old feeds new
   pub taken : bytes_taken feeds ≡ bytes
-  pub came : All (IsTold opening from) (all_for_host from to (frames_given feeds))
+  pub came : HaveCome gave from before now (all_for_host from to (frames_given feeds))
 
 -- a reader refuses these bytes
 abbrev pub IsRefused : Gathered → List ℕ → Type 0
@@ -99,7 +102,8 @@ IsBadData from to end g left frames = ⊤
 
 -- of these bytes a reader was fed the first ones before it ended so; of the frames that it gave all came, or all but
 -- the last
-pub record AreToldUpTo (opening : PlainHost) (from to : ℕ) (end : HearEnd) (old : Gathered) (bytes : List ℕ) : Type 0 where
+pub record AreToldUpTo (gave : Answers) (from to : ℕ) (end : HearEnd)
+    (before now : Option (List PlainExchange)) (old : Gathered) (bytes : List ℕ) : Type 0 where
   pub feeds : List Feed
   pub new : Gathered
   pub left : List ℕ
@@ -107,27 +111,30 @@ pub record AreToldUpTo (opening : PlainHost) (from to : ℕ) (end : HearEnd) (ol
   pub run : Run old feeds new
   pub taken : bytes ≡ bytes_taken feeds ++ left
   pub in_order : AllButLast told (all_for_host from to (frames_given feeds))
-  pub came : All (IsTold opening from) told
+  pub came : HaveCome gave from before now told
   pub bad : IsBadData from to end new left (frames_given feeds)
 
 -- of what was left on a connection records were read, and all frames came that a reader gave of what they carry
-pub record AreRead (opening : PlainHost) (from to : ℕ) (first last : Option (List ℕ)) (old new : Gathered) : Type 0 where
+pub record AreRead (gave : Answers) (from to : ℕ) (before now : Option (List PlainExchange))
+    (first last : Option (List ℕ)) (old new : Gathered) : Type 0 where
   pub records : List Record
   pub fit : All Fits records
   pub consumed : Consumes first last (bytes_in records)
-  pub told : AreTold opening from to old (data_in records) new
+  pub told : AreTold gave from to before now old (data_in records) new
 
 -- it ended so at what records carry, or behind them
-abbrev pub EndsBehind : (opening : PlainHost) → (from to : ℕ) → HearEnd → Gathered → (carried rest : List ℕ) → Type 0
-EndsBehind opening from to end old carried rest =
-    AreToldUpTo opening from to end old carried
-    ⊎ (AreToldUpTo opening from to Closed old carried × (end ≡ BadStream → IsNoRecord rest))
+abbrev pub EndsBehind : (gave : Answers) → (from to : ℕ) → HearEnd
+    → (before now : Option (List PlainExchange)) → Gathered → (carried rest : List ℕ) → Type 0
+EndsBehind gave from to end before now old carried rest =
+    AreToldUpTo gave from to end before now old carried
+    ⊎ (AreToldUpTo gave from to Closed before now old carried × (end ≡ BadStream → IsNoRecord rest))
 
 -- of these bytes the first are records; of the frames that a reader gave of what they carry all came, or all but the
 -- last, before it ended so
-pub record AreReadUpTo (opening : PlainHost) (from to : ℕ) (end : HearEnd) (old : Gathered) (bytes : List ℕ) : Type 0 where
+pub record AreReadUpTo (gave : Answers) (from to : ℕ) (end : HearEnd)
+    (before now : Option (List PlainExchange)) (old : Gathered) (bytes : List ℕ) : Type 0 where
   pub records : List Record
   pub rest : List ℕ
   pub fit : All Fits records
   pub whole : bytes ≡ bytes_in records ++ rest
-  pub ended : EndsBehind opening from to end old (data_in records) rest
+  pub ended : EndsBehind gave from to end before now old (data_in records) rest

@@ -1,34 +1,32 @@
 //! What the guest sends is written.
 
-ghost use Rattle.std.specs.Prelude.{IfOk, MatchOption, OnOk};
-ghost use Rattle.std.specs.Io.KnownBytes.{Appends, Keeps};
-ghost use Rattle.rvm_host_worker.specs.Console.{IsShown, IsTaken};
+ghost use Rattle.std.specs.Prelude.{IfOk, OnOk};
+ghost use Rattle.rvm_host_worker.specs.Console.{IsShown};
 
 use crate::station::Station;
-use rvm_debug::{BoardEvent, BoardReply, DRAIN_SIZE, View};
-use rvm_host_cell::Hosting;
-use rvm_mem::PagedMemory;
+use rvm_debug::{BoardEvent, BoardReply, DRAIN_SIZE};
+use rvm_host_cell::{Access, Hosting};
 use rvm_message::{Command, HostReply};
 use rvm_refusal::LinkFault;
-use std::alloc::Global;
 use std::io::Write;
 use std::sync::Wait;
 
 /// Writes what the guest sent, until nothing is left. `LinkFault` where it cannot be written. The console is held
 /// until it is, so that a mover can wait for it.
-#[tactic(auto, using(crate::proofs::Shown::none_shown, crate::proofs::Shown::shown_kept, crate::proofs::Shown::shown_some))]
-pub(crate) fn show<L: Hosting, M: PagedMemory + Drop, W: Write + Drop, O: Write, R: Wait>(
+#[tactic(auto, using(crate::proofs::Shown::none_shown, crate::proofs::Shown::shown_kept, crate::proofs::Shown::shown_more))]
+pub(crate) fn show<L: Hosting, A: Access<L>, W: Write + Drop, O: Write, R: Wait>(
     rt: &R,
-    alloc: Global,
-    station: &Station<L, M, W>,
+    station: &Station<L, W>,
+    access: &mut A,
     output: &mut O,
 ) -> Result<(), LinkFault>
-    ensures { OnOk result (IsShown L.opening (O.contents output.old) (O.contents output.new)) }
+    ensures { OnOk result (IsShown L.gave (A.asked access.old) (A.asked access.new)
+        (O.contents output.old) (O.contents output.new)) }
 {
     let _held = station.console.lock(rt);
     for _drain in rt.forever() {
-        let shown = show_some(rt, alloc, station, output)?;
-        if shown.is_none() {
+        let is_some = show_some(rt, station, access, output)?;
+        if !is_some {
             output.flush()?;
             return Ok(());
         }
@@ -36,28 +34,24 @@ pub(crate) fn show<L: Hosting, M: PagedMemory + Drop, W: Write + Drop, O: Write,
     unreachable!()
 }
 
-/// Writes what one drain takes, and gives it back, if it took any.
-#[tactic(auto, using(crate::proofs::Shown::kept))]
-fn show_some<L: Hosting, M: PagedMemory + Drop, W: Write + Drop, O: Write, R: Wait>(
+/// Writes what one drain takes: whether it took any.
+#[tactic(auto, using(crate::proofs::Shown::no_bytes_shown, crate::proofs::Shown::nothing_shown, crate::proofs::Shown::one_shown))]
+fn show_some<L: Hosting, A: Access<L>, W: Write + Drop, O: Write, R: Wait>(
     rt: &R,
-    alloc: Global,
-    station: &Station<L, M, W>,
+    station: &Station<L, W>,
+    access: &mut A,
     output: &mut O,
-) -> Result<Option<View>, LinkFault>
-    ensures { IfOk result (λ shown. MatchOption shown
-        (Keeps (O.contents output.old) (O.contents output.new))
-        (λ bytes. IsTaken L.opening bytes × Appends (O.contents output.old) (O.contents output.new) bytes)) }
+) -> Result<bool, LinkFault>
+    ensures { OnOk result (IsShown L.gave (A.asked access.old) (A.asked access.new)
+        (O.contents output.old) (O.contents output.new)) }
 {
     let command = Command::Board(BoardEvent::Drain(DRAIN_SIZE));
-    let Ok(reply) = station.obey(rt, alloc, &command) else {
-        return Ok(None);
+    let Ok(reply) = station.obey(rt, access, &command) else {
+        return Ok(false);
     };
     let HostReply::Board(BoardReply::Bytes(bytes)) = reply else {
-        return Ok(None);
+        return Ok(false);
     };
-    if bytes.as_slice().is_empty() {
-        return Ok(None);
-    }
     output.write_all(bytes.as_slice())?;
-    Ok(Some(bytes))
+    Ok(!bytes.as_slice().is_empty())
 }

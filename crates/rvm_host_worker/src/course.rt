@@ -54,6 +54,8 @@ pub(crate) struct Course {
     pub(crate) left: u16,
     /// Whether there was a connection when it was looked last.
     pub(crate) was_open: bool,
+    /// How often something had come by then.
+    pub(crate) seen: u64,
     began: Duration,
     /// How many bytes this host had sent before.
     sent: u64,
@@ -79,6 +81,7 @@ impl Course {
             copies: 0,
             left: 0,
             was_open: true,
+            seen: 0,
             began,
             sent,
             paused: None,

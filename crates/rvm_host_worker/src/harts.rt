@@ -1,18 +1,17 @@
 //! The worker that makes the turns of the guest's harts.
 
 ghost use Rattle.std.specs.Prelude.{◌≢◌, OnOk};
-ghost use Rattle.rvm_host_worker.specs.Console.{IsShown};
+ghost use Rattle.rvm_host_cell.specs.Asked.{AreAllOf};
+ghost use Rattle.rvm_host_worker.specs.Console.{IsInput, IsShown};
 
 use crate::console::show;
 use crate::input::InputQueue;
 use crate::pace::Pace;
 use crate::station::Station;
 use rvm_debug::{BoardEvent, BoardReply};
-use rvm_host_cell::{Hosting, Then};
-use rvm_mem::PagedMemory;
+use rvm_host_cell::{Access, Hosting, Then};
 use rvm_message::{Command, HostReply};
 use rvm_refusal::LinkFault;
-use std::alloc::Global;
 use std::io::Write;
 use std::sync::Wait;
 use std::sync::atomic::{AtomicBool, AtomicU64, Ordering};
@@ -70,24 +69,18 @@ impl HartsPlan {
 /// Makes turns of the guest's harts while the guest is here, writes what it sends, and hands it what is typed, until
 /// it is told to end, the console cannot be written, or the guest is halted and it ends with it; `errors` is told that
 /// it is.
-#[tactic(auto, using(crate::proofs::Shown::none_shown, crate::proofs::Shown::shown_more))]
-pub fn harts_worker<
-    L: Hosting,
-    M: PagedMemory + Drop,
-    W: Write + Drop,
-    O: Write,
-    E: Write,
-    R: Wait + Clock,
->(
+#[tactic(auto, using(crate::proofs::Shown::none_shown))]
+pub fn harts_worker<L: Hosting, A: Access<L>, W: Write + Drop, O: Write, E: Write, R: Wait + Clock>(
     rt: &R,
-    alloc: Global,
-    station: &Station<L, M, W>,
+    station: &Station<L, W>,
+    access: &mut A,
     plan: &HartsPlan,
     input: &InputQueue,
     output: &mut O,
     errors: &mut E,
 ) -> HartsEnd
-    ensures { result ≢ HartsEnd.ConsoleFault → IsShown L.opening (O.contents output.old) (O.contents output.new) }
+    ensures { result ≢ HartsEnd.ConsoleFault → IsShown L.gave (A.asked access.old) (A.asked access.new)
+        (O.contents output.old) (O.contents output.new) }
 {
     let mut turn = 0u64;
     let mut pace = Pace::new(rt);
@@ -96,16 +89,16 @@ pub fn harts_worker<
             return HartsEnd::Stopped;
         }
         let seen = station.news.count(rt);
-        let slice = station.cell.slice(rt, turn, plan.next_slice());
+        let slice = access.slice(turn, plan.next_slice());
         turn = turn.wrapping_add(u64::from(slice.made));
         plan.turns
             .fetch_add(u64::from(slice.made), Ordering::SeqCst);
-        let Ok(()) = show_sent(rt, alloc, station, slice.has_output, output) else {
+        let Ok(()) = show_sent(rt, station, access, slice.has_output, output) else {
             return HartsEnd::ConsoleFault;
         };
         match slice.then {
             Then::GoOn => {
-                type_in(rt, alloc, station, input);
+                type_in(rt, station, access, input);
                 if let Some(rate) = plan.rate {
                     pace.keep(rt, rate, slice.made);
                 }
@@ -127,17 +120,18 @@ pub fn harts_worker<
 
 /// Writes what the guest sent, where a drain may find some.
 #[tactic(auto, using(crate::proofs::Shown::none_shown))]
-fn show_sent<L: Hosting, M: PagedMemory + Drop, W: Write + Drop, O: Write, R: Wait>(
+fn show_sent<L: Hosting, A: Access<L>, W: Write + Drop, O: Write, R: Wait>(
     rt: &R,
-    alloc: Global,
-    station: &Station<L, M, W>,
+    station: &Station<L, W>,
+    access: &mut A,
     has_output: bool,
     output: &mut O,
 ) -> Result<(), LinkFault>
-    ensures { OnOk result (IsShown L.opening (O.contents output.old) (O.contents output.new)) }
+    ensures { OnOk result (IsShown L.gave (A.asked access.old) (A.asked access.new)
+        (O.contents output.old) (O.contents output.new)) }
 {
     if has_output {
-        show(rt, alloc, station, output)
+        show(rt, station, access, output)
     } else {
         Ok(())
     }
@@ -152,27 +146,30 @@ fn tell_halted<E: Write>(plan: &HartsPlan, status: u8, errors: &mut E) {
 }
 
 /// Waits until something has come, which may be the guest.
-fn await_guest<L: Hosting, M: PagedMemory + Drop, W: Write + Drop, R: Wait + Clock>(
+fn await_guest<L: Hosting, W: Write + Drop, R: Wait + Clock>(
     rt: &R,
-    station: &Station<L, M, W>,
+    station: &Station<L, W>,
     seen: u64,
 ) {
     let _came = station.news.wait(rt, seen, Duration::from_millis(LOOK));
 }
 
 /// Hands the guest the bytes that were typed, up to the first for which its console has no room.
-fn type_in<L: Hosting, M: PagedMemory + Drop, W: Write + Drop, R: Wait>(
+#[tactic(auto, using(crate::proofs::Shown::none_typed, crate::proofs::Shown::typed_none, crate::proofs::Shown::typed_one))]
+fn type_in<L: Hosting, A: Access<L>, W: Write + Drop, R: Wait>(
     rt: &R,
-    alloc: Global,
-    station: &Station<L, M, W>,
+    station: &Station<L, W>,
+    access: &mut A,
     input: &InputQueue,
-) {
+)
+    ensures { AreAllOf IsInput L.gave (A.asked access.old) (A.asked access.new) }
+{
     for _byte in rt.forever() {
         let Some(byte) = input.first(rt) else {
             return;
         };
         let command = Command::Board(BoardEvent::Input(byte));
-        let Ok(HostReply::Board(BoardReply::Done)) = station.obey(rt, alloc, &command) else {
+        let Ok(HostReply::Board(BoardReply::Done)) = station.obey(rt, access, &command) else {
             return;
         };
         input.take_first(rt);

@@ -1,16 +1,14 @@
 //! Another host is heard.
 
-ghost use Rattle.std.specs.Prelude.{◌≡◌, ◌<◌, ◌≤◌, ◌∷◌, true, false, [], All, length, take, None, Ok, Err, IfErr, IfOk, IfSome, OnOk};
+ghost use Rattle.std.specs.Prelude.{◌≡◌, ◌<◌, ◌≤◌, ◌∷◌, true, false, [], length, take, None, Ok, Err, IfErr, IfOk, IfSome, OnErr, OnOk};
 ghost use Rattle.rvm_frame.specs.Verdict.{verdict};
-ghost use Rattle.rvm_host_worker.specs.Hearing.{AreRead, AreReadUpTo, AreTold, AreToldUpTo, IsHeardOn, IsTold, of_frame, of_record};
+ghost use Rattle.rvm_host_worker.specs.Hearing.{AreRead, AreReadUpTo, AreTold, AreToldUpTo, HaveCome, IsHeardOn, of_frame, of_record};
 ghost use Rattle.rvm_worker.specs.Heard.{comes, for_host, is_between};
 
 use crate::station::Station;
 use rvm_frame::{Frame, FrameFault, FrameReader};
-use rvm_host_cell::Hosting;
-use rvm_mem::PagedMemory;
+use rvm_host_cell::{Access, Hosting};
 use rvm_record::{MAX_DATA, RecordFault, RecordRead, read_record};
-use std::alloc::Global;
 use std::io::{Read, Write};
 use std::sync::Wait;
 
@@ -50,19 +48,20 @@ impl From<FrameFault> for HearEnd {
 /// Hears another host until its connection ends: each frame of it but Hello comes to this host, each question is
 /// answered, once all before it has come, and each answer is told to whoever waits for it.
 #[tactic(auto, using(crate::proofs::Records::none_read, crate::proofs::Records::read_more))]
-pub fn hear<L: Hosting, M: PagedMemory + Drop, W: Write + Drop, I: Read, R: Wait>(
+pub fn hear<L: Hosting, A: Access<L>, W: Write + Drop, I: Read, R: Wait>(
     rt: &R,
-    alloc: Global,
-    station: &Station<L, M, W>,
+    station: &Station<L, W>,
+    access: &mut A,
     from: u8,
     input: &mut I,
 ) -> HearEnd
-    ensures { IfSome (I.remaining input.old) (IsHeardOn L.opening from station.now.id result) }
+    ensures { IfSome (I.remaining input.old) (IsHeardOn L.gave from station.now.id result
+        (A.asked access.old) (A.asked access.new)) }
 {
-    let mut reader = FrameReader::new(alloc);
+    let mut reader = FrameReader::new(station.alloc);
     let mut buffer = [0u8; MAX_DATA];
     for _record in rt.forever() {
-        if let Err(end) = hear_record(rt, alloc, station, from, input, &mut reader, &mut buffer) {
+        if let Err(end) = hear_record(rt, station, access, from, input, &mut reader, &mut buffer) {
             return end;
         }
     }
@@ -71,10 +70,10 @@ pub fn hear<L: Hosting, M: PagedMemory + Drop, W: Write + Drop, I: Read, R: Wait
 
 /// Hears one record.
 #[tactic(auto, using(crate::proofs::Records::answer_read, crate::proofs::Records::data_read, crate::proofs::Records::data_up_to, crate::proofs::Records::question_read))]
-fn hear_record<L: Hosting, M: PagedMemory + Drop, W: Write + Drop, I: Read, R: Wait>(
+fn hear_record<L: Hosting, A: Access<L>, W: Write + Drop, I: Read, R: Wait>(
     rt: &R,
-    alloc: Global,
-    station: &Station<L, M, W>,
+    station: &Station<L, W>,
+    access: &mut A,
     from: u8,
     input: &mut I,
     reader: &mut FrameReader,
@@ -83,14 +82,14 @@ fn hear_record<L: Hosting, M: PagedMemory + Drop, W: Write + Drop, I: Read, R: W
     requires waits { verdict reader.old.version reader.old.bytes ≡ Ok None }
     requires unfailed { reader.old.failed ≡ false }
     requires room { 65535 ≤ length buffer.old }
-    ensures read { OnOk result (AreRead L.opening from station.now.id (I.remaining input.old) (I.remaining input.new)
-        reader.old reader.new) }
+    ensures read { OnOk result (AreRead L.gave from station.now.id (A.asked access.old) (A.asked access.new)
+        (I.remaining input.old) (I.remaining input.new) reader.old reader.new) }
     ensures some { IfErr result (λ end. IfSome (I.remaining input.old)
-        (AreReadUpTo L.opening from station.now.id end reader.old)) }
+        (AreReadUpTo L.gave from station.now.id end (A.asked access.old) (A.asked access.new) reader.old)) }
     ensures size { length buffer.new ≡ length buffer.old }
 {
     match read_record(input, buffer)? {
-        RecordRead::Data(count) => take(rt, alloc, station, from, reader, &buffer[..count])?,
+        RecordRead::Data(count) => take(rt, station, access, from, reader, &buffer[..count])?,
         RecordRead::Question(number) => {
             let _lost = station.routes.answer(rt, from, number);
         }
@@ -100,22 +99,24 @@ fn hear_record<L: Hosting, M: PagedMemory + Drop, W: Write + Drop, I: Read, R: W
 }
 
 /// Takes the frames of a piece of the stream.
-fn take<L: Hosting, M: PagedMemory + Drop, W: Write + Drop, R: Wait>(
+fn take<L: Hosting, A: Access<L>, W: Write + Drop, R: Wait>(
     rt: &R,
-    alloc: Global,
-    station: &Station<L, M, W>,
+    station: &Station<L, W>,
+    access: &mut A,
     from: u8,
     reader: &mut FrameReader,
     piece: &[u8],
 ) -> Result<(), HearEnd>
     requires waits { verdict reader.old.version reader.old.bytes ≡ Ok None }
     requires unfailed { reader.old.failed ≡ false }
-    ensures all { OnOk result (AreTold L.opening from station.now.id reader.old piece.now reader.new) }
-    ensures some { IfErr result (λ end. AreToldUpTo L.opening from station.now.id end reader.old piece.now) }
+    ensures all { OnOk result (AreTold L.gave from station.now.id (A.asked access.old) (A.asked access.new)
+        reader.old piece.now reader.new) }
+    ensures some { IfErr result (λ end. AreToldUpTo L.gave from station.now.id end (A.asked access.old) (A.asked access.new)
+        reader.old piece.now) }
 {
     let mut rest = piece;
     while !rest.is_empty() {
-        let taken = feed(rt, alloc, station, from, reader, rest)?;
+        let taken = feed(rt, station, access, from, reader, rest)?;
         rest = &rest[taken..];
     }
     Ok(())
@@ -123,10 +124,10 @@ fn take<L: Hosting, M: PagedMemory + Drop, W: Write + Drop, R: Wait>(
 
 /// Feeds the reader up to the end of the next frame, which comes to the host: how many bytes it took.
 #[tactic(auto, using(crate::proofs::Records::not_fed))]
-fn feed<L: Hosting, M: PagedMemory + Drop, W: Write + Drop, R: Wait>(
+fn feed<L: Hosting, A: Access<L>, W: Write + Drop, R: Wait>(
     rt: &R,
-    alloc: Global,
-    station: &Station<L, M, W>,
+    station: &Station<L, W>,
+    access: &mut A,
     from: u8,
     reader: &mut FrameReader,
     piece: &[u8],
@@ -135,27 +136,31 @@ fn feed<L: Hosting, M: PagedMemory + Drop, W: Write + Drop, R: Wait>(
     requires unfailed { reader.old.failed ≡ false }
     requires some { 0 < length piece.now }
     ensures taken { IfOk result (λ n. (0 < n) × (n ≤ length piece.now)) }
-    ensures all { IfOk result (λ n. AreTold L.opening from station.now.id reader.old (take n piece.now) reader.new) }
-    ensures some { IfErr result (λ end. AreToldUpTo L.opening from station.now.id end reader.old piece.now) }
+    ensures all { IfOk result (λ n. AreTold L.gave from station.now.id (A.asked access.old) (A.asked access.new)
+        reader.old (take n piece.now) reader.new) }
+    ensures some { IfErr result (λ end. AreToldUpTo L.gave from station.now.id end (A.asked access.old) (A.asked access.new)
+        reader.old piece.now) }
 {
-    let (taken, received) = reader.feed(alloc, piece)?;
+    let (taken, received) = reader.feed(station.alloc, piece)?;
     if let Some((hosts, frame)) = received {
-        came(rt, alloc, station, from, hosts, &frame)?;
+        came(rt, station, access, from, hosts, &frame)?;
     }
     Ok(taken)
 }
 
 /// A frame comes to the host, unless it is Hello.
-#[tactic(auto, using(crate::proofs::Records::none_came, crate::proofs::Records::one_came))]
-fn came<L: Hosting, M: PagedMemory + Drop, W: Write + Drop, R: Wait>(
+#[tactic(auto, using(crate::proofs::Records::none_came, crate::proofs::Records::one_came, crate::proofs::Records::unasked))]
+fn came<L: Hosting, A: Access<L>, W: Write + Drop, R: Wait>(
     rt: &R,
-    alloc: Global,
-    station: &Station<L, M, W>,
+    station: &Station<L, W>,
+    access: &mut A,
     from: u8,
     hosts: Option<(u8, u8)>,
     frame: &Frame,
 ) -> Result<(), HearEnd>
-    ensures told { OnOk result (All (IsTold L.opening from) (comes from station.now.id (hosts, frame.now))) }
+    ensures told { OnOk result (HaveCome L.gave from (A.asked access.old) (A.asked access.new)
+        (comes from station.now.id (hosts, frame.now))) }
+    ensures untold { OnErr result (HaveCome L.gave from (A.asked access.old) (A.asked access.new) []) }
     ensures between { OnOk result (is_between from station.now.id hosts ≡ true) }
     ensures others { result ≡ Err HearEnd.BadStream → is_between from station.now.id hosts ≡ false }
 {
@@ -165,7 +170,7 @@ fn came<L: Hosting, M: PagedMemory + Drop, W: Write + Drop, R: Wait>(
     if is_hello(frame) {
         return Ok(());
     }
-    match station.came(rt, alloc, from, frame) {
+    match station.came(rt, access, from, frame) {
         Ok(_reply) => Ok(()),
         Err(_) => Err(HearEnd::OutOfMemory),
     }

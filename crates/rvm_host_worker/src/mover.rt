@@ -8,11 +8,9 @@ use crate::course::{Course, Figures, Watch};
 use crate::news::MoveNews;
 use crate::station::Station;
 use rvm_core::ModeKind;
-use rvm_host_cell::Hosting;
-use rvm_mem::PagedMemory;
+use rvm_host_cell::{Access, Hosting};
 use rvm_message::{Command, HostRefusal, HostReply};
 use rvm_precopy::Policy;
-use std::alloc::Global;
 use std::io::Write;
 use std::sync::Wait;
 use std::sync::atomic::{AtomicBool, Ordering};
@@ -55,18 +53,18 @@ pub enum MoveEnd {
 /// and begun anew once there is one again, so that the guest is not paused for what was lost; once the guest is paused
 /// the last frames are sent again. It is given up where nothing is heard for too long, and never once the guest is
 /// committed: then the mover ends only when it is told to. `watch` is told how far the move has come.
-pub fn move_guest<L: Hosting, M: PagedMemory + Drop, W: Write + Drop, V: Watch, R: Wait + Clock>(
+pub fn move_guest<L: Hosting, A: Access<L>, W: Write + Drop, V: Watch, R: Wait + Clock>(
     rt: &R,
-    alloc: Global,
-    station: &Station<L, M, W>,
+    station: &Station<L, W>,
+    access: &mut A,
     plan: &MovePlan,
     stop: &AtomicBool,
     watch: &mut V,
 ) -> MoveEnd
-    ensures { IsMoveEnd L.opening result }
+    ensures { IsMoveEnd L.gave result }
 {
     let sent = station.bytes_sent();
-    let mut course = match begin(rt, alloc, station, plan) {
+    let mut course = match begin(rt, station, access, plan) {
         Ok(number) => Course::new(rt, number, sent),
         Err(end) => return end,
     };
@@ -77,7 +75,7 @@ pub fn move_guest<L: Hosting, M: PagedMemory + Drop, W: Write + Drop, V: Watch, 
         if stop.load(Ordering::SeqCst) {
             return MoveEnd::Stopped;
         }
-        if let Some(end) = go_on(rt, alloc, station, plan, &mut course) {
+        if let Some(end) = go_on(rt, station, access, plan, &mut course) {
             return end;
         }
         watch.tell(course.progress());
@@ -87,8 +85,8 @@ pub fn move_guest<L: Hosting, M: PagedMemory + Drop, W: Write + Drop, V: Watch, 
 
 /// How a move ended, of which this is told.
 fn end_of<L: Hosting>(figures: Figures, news: MoveNews) -> MoveEnd
-    requires { IsNews L.opening figures.number news }
-    ensures { IsMoveEnd L.opening result }
+    requires { IsNews L.gave figures.number news }
+    ensures { IsMoveEnd L.gave result }
 {
     match news {
         MoveNews::Finished => MoveEnd::Moved(figures),
@@ -98,19 +96,19 @@ fn end_of<L: Hosting>(figures: Figures, news: MoveNews) -> MoveEnd
 }
 
 /// Begins a move: its number.
-fn begin<L: Hosting, M: PagedMemory + Drop, W: Write + Drop, R: Wait>(
+fn begin<L: Hosting, A: Access<L>, W: Write + Drop, R: Wait>(
     rt: &R,
-    alloc: Global,
-    station: &Station<L, M, W>,
+    station: &Station<L, W>,
+    access: &mut A,
     plan: &MovePlan,
 ) -> Result<u64, MoveEnd>
-    ensures { IfErr result (IsMoveEnd L.opening) }
+    ensures { IfErr result (IsMoveEnd L.gave) }
 {
     let command = Command::Begin {
         to: plan.to,
         policy: plan.policy,
     };
-    let Ok(reply) = station.obey(rt, alloc, &command) else {
+    let Ok(reply) = station.obey(rt, access, &command) else {
         return Err(MoveEnd::OutOfMemory);
     };
     let number = begun::<L>(reply)?;
@@ -119,10 +117,9 @@ fn begin<L: Hosting, M: PagedMemory + Drop, W: Write + Drop, R: Wait>(
 }
 
 /// The number of the move that a host has begun, where it did not refuse.
-#[tactic(auto, using(crate::proofs::Begins::begins))]
 fn begun<L: Hosting>(reply: HostReply) -> Result<u64, MoveEnd>
-    requires { IsToBegin L.opening reply }
-    ensures { IfErr result (IsMoveEnd L.opening) }
+    requires { IsToBegin L.gave reply }
+    ensures { IfErr result (IsMoveEnd L.gave) }
 {
     match reply {
         HostReply::Begun(number) => Ok(number),
@@ -132,69 +129,69 @@ fn begun<L: Hosting>(reply: HostReply) -> Result<u64, MoveEnd>
 }
 
 /// Does what is to be done next, and says how the move ended, if it did.
-fn go_on<L: Hosting, M: PagedMemory + Drop, W: Write + Drop, R: Wait + Clock>(
+fn go_on<L: Hosting, A: Access<L>, W: Write + Drop, R: Wait + Clock>(
     rt: &R,
-    alloc: Global,
-    station: &Station<L, M, W>,
+    station: &Station<L, W>,
+    access: &mut A,
     plan: &MovePlan,
     course: &mut Course,
 ) -> Option<MoveEnd>
-    ensures { IfSome result (IsMoveEnd L.opening) }
+    ensures { IfSome result (IsMoveEnd L.gave) }
 {
-    let seen = station.news.count(rt);
-    let kind = station.status(rt).kind;
+    course.seen = station.news.count(rt);
+    let kind = access.status().kind;
     let may_end = matches!(
         kind,
         ModeKind::Offering | ModeKind::Copying | ModeKind::Stopped
     );
     if may_end && course.is_silent(rt, plan.patience) {
-        return give_up(rt, alloc, station);
+        return give_up(rt, station, access);
     }
     match kind {
-        ModeKind::Given => ask_again(rt, alloc, station, course, seen),
+        ModeKind::Given => ask_again(rt, station, access, course),
         ModeKind::Running | ModeKind::Empty | ModeKind::Staging | ModeKind::Held => {
-            let _told = station.news.wait(rt, seen, Duration::from_millis(LOOK));
+            let _told = station
+                .news
+                .wait(rt, course.seen, Duration::from_millis(LOOK));
         }
-        _ => return send_more(rt, alloc, station, plan, course, kind, seen),
+        _ => return send_more(rt, station, access, plan, course, kind),
     }
     None
 }
 
 /// Gives up the move, unless the guest was committed in the meantime.
-fn give_up<L: Hosting, M: PagedMemory + Drop, W: Write + Drop, R: Wait>(
+fn give_up<L: Hosting, A: Access<L>, W: Write + Drop, R: Wait>(
     rt: &R,
-    alloc: Global,
-    station: &Station<L, M, W>,
+    station: &Station<L, W>,
+    access: &mut A,
 ) -> Option<MoveEnd>
-    ensures { IfSome result (IsMoveEnd L.opening) }
+    ensures { IfSome result (IsMoveEnd L.gave) }
 {
-    match station.obey(rt, alloc, &Command::Abort) {
+    match station.obey(rt, access, &Command::Abort) {
         Ok(HostReply::Aborted) => Some(MoveEnd::GivenUp),
         _ => None,
     }
 }
 
 /// Waits for the target, and has the last frame sent again where nothing came.
-fn ask_again<L: Hosting, M: PagedMemory + Drop, W: Write + Drop, R: Wait + Clock>(
+fn ask_again<L: Hosting, A: Access<L>, W: Write + Drop, R: Wait + Clock>(
     rt: &R,
-    alloc: Global,
-    station: &Station<L, M, W>,
+    station: &Station<L, W>,
+    access: &mut A,
     course: &mut Course,
-    seen: u64,
 ) {
-    if !listen(rt, station, course, seen) {
-        let _reply = station.obey(rt, alloc, &Command::Resend);
+    if !listen(rt, station, course) {
+        let _reply = station.obey(rt, access, &Command::Resend);
     }
 }
 
 /// Waits for the target, longer each time: whether something was heard.
-fn listen<L: Hosting, M: PagedMemory + Drop, W: Write + Drop, R: Wait + Clock>(
+fn listen<L: Hosting, W: Write + Drop, R: Wait + Clock>(
     rt: &R,
-    station: &Station<L, M, W>,
+    station: &Station<L, W>,
     course: &mut Course,
-    seen: u64,
 ) -> bool {
-    let is_heard = station.news.wait(rt, seen, course.wait());
+    let is_heard = station.news.wait(rt, course.seen, course.wait());
     if is_heard {
         course.heard(rt);
     } else {
@@ -205,16 +202,15 @@ fn listen<L: Hosting, M: PagedMemory + Drop, W: Write + Drop, R: Wait + Clock>(
 
 /// Goes on with the move of a guest that is here, where there is a connection. Where there is one again, pages that
 /// were copied may be lost.
-fn send_more<L: Hosting, M: PagedMemory + Drop, W: Write + Drop, R: Wait + Clock>(
+fn send_more<L: Hosting, A: Access<L>, W: Write + Drop, R: Wait + Clock>(
     rt: &R,
-    alloc: Global,
-    station: &Station<L, M, W>,
+    station: &Station<L, W>,
+    access: &mut A,
     plan: &MovePlan,
     course: &mut Course,
     kind: ModeKind,
-    seen: u64,
 ) -> Option<MoveEnd>
-    ensures { IfSome result (IsMoveEnd L.opening) }
+    ensures { IfSome result (IsMoveEnd L.gave) }
 {
     if !station.routes.is_open(rt, plan.to) {
         course.was_open = false;
@@ -224,30 +220,30 @@ fn send_more<L: Hosting, M: PagedMemory + Drop, W: Write + Drop, R: Wait + Clock
     let is_anew = !course.was_open;
     course.was_open = true;
     match kind {
-        ModeKind::Copying if is_anew => return begin_anew(rt, alloc, station, plan, course),
+        ModeKind::Copying if is_anew => return begin_anew(rt, station, access, plan, course),
         ModeKind::Offering if is_anew => {
-            let _reply = station.obey(rt, alloc, &Command::Resend);
+            let _reply = station.obey(rt, access, &Command::Resend);
         }
-        ModeKind::Stopped => copy_last(rt, alloc, station, course, seen),
-        _ => return copy(rt, alloc, station, plan, course, seen),
+        ModeKind::Stopped => copy_last(rt, station, access, course),
+        _ => return copy(rt, station, access, plan, course),
     }
     None
 }
 
 /// Gives up the move and begins it anew.
-fn begin_anew<L: Hosting, M: PagedMemory + Drop, W: Write + Drop, R: Wait + Clock>(
+fn begin_anew<L: Hosting, A: Access<L>, W: Write + Drop, R: Wait + Clock>(
     rt: &R,
-    alloc: Global,
-    station: &Station<L, M, W>,
+    station: &Station<L, W>,
+    access: &mut A,
     plan: &MovePlan,
     course: &mut Course,
 ) -> Option<MoveEnd>
-    ensures { IfSome result (IsMoveEnd L.opening) }
+    ensures { IfSome result (IsMoveEnd L.gave) }
 {
-    let Ok(HostReply::Aborted) = station.obey(rt, alloc, &Command::Abort) else {
+    let Ok(HostReply::Aborted) = station.obey(rt, access, &Command::Abort) else {
         return None;
     };
-    match begin(rt, alloc, station, plan) {
+    match begin(rt, station, access, plan) {
         Ok(number) => {
             course.number = number;
             course.heard(rt);
@@ -258,17 +254,16 @@ fn begin_anew<L: Hosting, M: PagedMemory + Drop, W: Write + Drop, R: Wait + Cloc
 }
 
 /// Copies pages while the guest runs, or takes the move's next step.
-fn copy<L: Hosting, M: PagedMemory + Drop, W: Write + Drop, R: Wait + Clock>(
+fn copy<L: Hosting, A: Access<L>, W: Write + Drop, R: Wait + Clock>(
     rt: &R,
-    alloc: Global,
-    station: &Station<L, M, W>,
+    station: &Station<L, W>,
+    access: &mut A,
     plan: &MovePlan,
     course: &mut Course,
-    seen: u64,
 ) -> Option<MoveEnd>
-    ensures { IfSome result (IsMoveEnd L.opening) }
+    ensures { IfSome result (IsMoveEnd L.gave) }
 {
-    let Ok((reply, copies)) = station.copy(rt, alloc) else {
+    let Ok((reply, copies)) = station.copy(rt, access) else {
         thread::sleep(rt, Duration::from_millis(1));
         return None;
     };
@@ -288,17 +283,17 @@ fn copy<L: Hosting, M: PagedMemory + Drop, W: Write + Drop, R: Wait + Clock>(
             // What the guest sent before it was paused is written here before it can send more elsewhere.
             drop(station.console.lock(rt));
         }
-        HostReply::Refused(HostRefusal::Busy) => ask_again(rt, alloc, station, course, seen),
-        HostReply::Refused(HostRefusal::SeqSpent) => return give_up(rt, alloc, station),
+        HostReply::Refused(HostRefusal::Busy) => ask_again(rt, station, access, course),
+        HostReply::Refused(HostRefusal::SeqSpent) => return give_up(rt, station, access),
         _ => {}
     }
     None
 }
 
 /// Waits until all that was sent has come, so that the guest is not paused for what is still under way.
-fn await_arrival<L: Hosting, M: PagedMemory + Drop, W: Write + Drop, R: Wait + Clock>(
+fn await_arrival<L: Hosting, W: Write + Drop, R: Wait + Clock>(
     rt: &R,
-    station: &Station<L, M, W>,
+    station: &Station<L, W>,
     plan: &MovePlan,
     course: &mut Course,
 ) {
@@ -313,22 +308,21 @@ fn await_arrival<L: Hosting, M: PagedMemory + Drop, W: Write + Drop, R: Wait + C
 }
 
 /// Sends what is left of the paused guest, until the target has it.
-fn copy_last<L: Hosting, M: PagedMemory + Drop, W: Write + Drop, R: Wait + Clock>(
+fn copy_last<L: Hosting, A: Access<L>, W: Write + Drop, R: Wait + Clock>(
     rt: &R,
-    alloc: Global,
-    station: &Station<L, M, W>,
+    station: &Station<L, W>,
+    access: &mut A,
     course: &mut Course,
-    seen: u64,
 ) {
-    match station.obey(rt, alloc, &Command::Copy) {
+    match station.obey(rt, access, &Command::Copy) {
         Ok(HostReply::Copied { .. }) => course.copies = course.copies.saturating_add(1),
         Ok(HostReply::PartSent { part, parts }) => {
             if part.saturating_add(1) >= parts {
-                let _heard = listen(rt, station, course, seen);
+                let _heard = listen(rt, station, course);
             }
         }
         Ok(HostReply::StateSent) => {
-            let _heard = listen(rt, station, course, seen);
+            let _heard = listen(rt, station, course);
         }
         Ok(_) => {}
         Err(_) => thread::sleep(rt, Duration::from_millis(1)),

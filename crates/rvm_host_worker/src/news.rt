@@ -38,7 +38,7 @@ impl<L: Hosting> Model for Awaited<L> {
 
     ghost view = { λ a. record { number = a.number; news = a.news } };
 
-    ghost invariant = { λ a. IfSome a.news (IsNews L.opening a.number) };
+    ghost invariant = { λ a. IfSome a.news (IsNews L.gave a.number) };
 }
 
 impl<L: Hosting> Awaited<L> {
@@ -55,7 +55,7 @@ impl<L: Hosting> Awaited<L> {
 
     /// It came to this end.
     fn told(number: u64, news: MoveNews) -> Awaited<L>
-        requires { IsNews L.opening number news }
+        requires { IsNews L.gave number news }
         ensures { result ≡ record { number = number; news = Some news } }
     {
         Awaited {
@@ -74,7 +74,7 @@ impl<L: Hosting> Awaited<L> {
 
     /// How the move with a number ended, where that is known.
     fn of(&self, number: u64) -> Option<MoveNews>
-        ensures { IfSome result (IsNews L.opening number) }
+        ensures { IfSome result (IsNews L.gave number) }
     {
         if self.number == number {
             self.news
@@ -135,7 +135,7 @@ impl<L: Hosting> News<L> {
 
     /// A move came to its end.
     pub(crate) fn tell<R: Wait>(&self, rt: &R, number: u64, news: MoveNews)
-        requires { IsNews L.opening number news }
+        requires { IsNews L.gave number news }
     {
         let mut told = self.told.lock(rt);
         if told.awaited.number() == number {
@@ -147,7 +147,7 @@ impl<L: Hosting> News<L> {
 
     /// The move that is going on was given up.
     pub(crate) fn tell_aborted<R: Wait>(&self, rt: &R)
-        requires { IsAborted L.opening }
+        requires { IsAborted L.gave }
     {
         let mut told = self.told.lock(rt);
         let number = told.awaited.number();
@@ -158,7 +158,7 @@ impl<L: Hosting> News<L> {
 
     /// How the move with a number ended, where that is known.
     pub(crate) fn of<R: Wait>(&self, rt: &R, number: u64) -> Option<MoveNews>
-        ensures { IfSome result (IsNews L.opening number) }
+        ensures { IfSome result (IsNews L.gave number) }
     {
         self.told.lock(rt).awaited.of(number)
     }

@@ -1,16 +1,14 @@
-//! A host, its routes and its news.
+//! What the workers of a host share beside the host: its routes and its news.
 
-ghost use Rattle.std.specs.Prelude.{ℕ, IfOk};
-ghost use Rattle.rvm_host_cell.specs.Events.{IsAnswer};
-ghost use Rattle.rvm_message.specs.Events.{command_of};
-ghost use Rattle.rvm_message.specs.Frames.{frame_heard};
-ghost use Rattle.rvm_protocol.specs.Commands as commands;
+ghost use Rattle.std.specs.Prelude.{ℕ, ◌∷◌, [], IfOk, OnErr};
+ghost use Rattle.rvm_host_cell.specs.Asked.{AreAnswered};
+ghost use Rattle.rvm_message.specs.declared.event.Command.TheVariants.{Copy};
+ghost use Rattle.rvm_message.specs.declared.event.HostEvent.TheVariants.{Came, Do};
+ghost use Rattle.rvm_message.specs.Exchanges.{exchange};
 
 use crate::news::{MoveNews, News};
-use rvm_core::HostStatus;
 use rvm_frame::{Addressed, Frame, frame_len};
-use rvm_host_cell::{HostCell, Hosting, Of};
-use rvm_mem::PagedMemory;
+use rvm_host_cell::{Access, Hosting};
 use rvm_message::{Command, HostRefusal, HostReply};
 use rvm_route::{Made, Routes};
 use rvm_spelling::has_spelling;
@@ -34,13 +32,14 @@ fn bytes_of(frame: &Addressed) -> u64 {
     }
 }
 
-/// A host that workers share, its routes to other hosts, and news of its moves. Each call may wait for another thread.
+/// What the workers of a host share beside the host: its routes to other hosts, and news of its moves. Each has an access
+/// of its own to the host. Each call may wait for another thread.
 #[derive(Drop)]
-pub struct Station<L: Hosting, M: PagedMemory + Drop, W: Write + Drop> {
+pub struct Station<L: Hosting, W: Write + Drop> {
     /// The number of the host.
     pub id: u8,
-    pub cell: HostCell<L, M>,
-    pub routes: Routes<Of<L>, W>,
+    pub alloc: Global,
+    pub routes: Routes<L, W>,
     pub news: News<L>,
     /// Held from a drain until what it took is written.
     pub console: Mutex<()>,
@@ -50,12 +49,7 @@ pub struct Station<L: Hosting, M: PagedMemory + Drop, W: Write + Drop> {
     pub sent: AtomicU64,
 }
 
-impl<L: Hosting, M: PagedMemory + Drop, W: Write + Drop> Station<L, M, W> {
-    /// Where the host stands, as it was found.
-    pub fn status<R: Wait>(&self, rt: &R) -> HostStatus {
-        self.cell.status(rt)
-    }
-
+impl<L: Hosting, W: Write + Drop> Station<L, W> {
     /// How many bytes the frames have that were sent.
     pub fn bytes_sent(&self) -> u64 {
         self.sent.load(Ordering::SeqCst)
@@ -70,15 +64,18 @@ impl<L: Hosting, M: PagedMemory + Drop, W: Write + Drop> Station<L, M, W> {
 
     /// Tells the host something; the frame that it makes is sent, or lost where it cannot be. After a refused growth
     /// nothing has changed.
-    pub fn obey<R: Wait>(
+    pub fn obey<A: Access<L>, R: Wait>(
         &self,
         rt: &R,
-        alloc: Global,
+        access: &mut A,
         command: &Command,
     ) -> Result<HostReply, AllocError>
-        ensures { IfOk result (IsAnswer L.opening (commands.Do (command_of command.now))) }
+        ensures asked { IfOk result (λ r. AreAnswered L.gave (A.asked access.old) (A.asked access.new)
+            (exchange (Do command.now) r ∷ [])) }
+        ensures gave { IfOk result (L.gave (Do command.now)) }
+        ensures err { OnErr result (AreAnswered L.gave (A.asked access.old) (A.asked access.new) []) }
     {
-        let (reply, frame) = self.cell.obey(rt, alloc, command)?;
+        let (reply, frame) = access.obey(command)?;
         self.send(rt, frame);
         self.note_command(rt, command, &reply);
         Ok(reply)
@@ -86,16 +83,16 @@ impl<L: Hosting, M: PagedMemory + Drop, W: Write + Drop> Station<L, M, W> {
 
     /// Has the host copy pages, several under one hold of its lock; the frames are sent, or lost where they cannot be. The
     /// last reply, which may be another one, and how many copies came before it. After a refused growth those stand.
-    pub(crate) fn copy<R: Wait>(
+    pub(crate) fn copy<A: Access<L>, R: Wait>(
         &self,
         rt: &R,
-        alloc: Global,
+        access: &mut A,
     ) -> Result<(HostReply, u32), AllocError>
-        ensures { IfOk result (λ a. IsAnswer L.opening (commands.Do commands.Copy) a.0) }
+        ensures { IfOk result (λ a. L.gave (Do Copy) a.0) }
     {
-        let mut frames = Vec::new(alloc);
+        let mut frames = Vec::new(self.alloc);
         frames.reserve(TOGETHER as usize)?;
-        let copied = self.cell.copy(rt, alloc, TOGETHER, &mut frames);
+        let copied = access.copy(TOGETHER, &mut frames);
         for frame in frames {
             self.send(rt, Some(frame));
         }
@@ -104,23 +101,25 @@ impl<L: Hosting, M: PagedMemory + Drop, W: Write + Drop> Station<L, M, W> {
 
     /// A frame of another host comes; the frame that the host makes is sent, or lost where it cannot be. After a
     /// refused growth nothing has changed.
-    pub fn came<R: Wait>(
+    pub fn came<A: Access<L>, R: Wait>(
         &self,
         rt: &R,
-        alloc: Global,
+        access: &mut A,
         from: u8,
         frame: &Frame,
     ) -> Result<HostReply, AllocError>
-        ensures { IfOk result (IsAnswer L.opening (commands.Came from (frame_heard frame.now))) }
+        ensures asked { IfOk result (λ r. AreAnswered L.gave (A.asked access.old) (A.asked access.new)
+            (exchange (Came from frame.now) r ∷ [])) }
+        ensures err { OnErr result (AreAnswered L.gave (A.asked access.old) (A.asked access.new) []) }
     {
-        let (reply, made) = self.cell.came(rt, alloc, from, frame)?;
+        let (reply, made) = access.came(from, frame)?;
         self.send(rt, made);
         self.note_frame(rt, frame, &reply);
         Ok(reply)
     }
 
     /// Sends a frame that the host made, if it made one.
-    fn send<R: Wait>(&self, rt: &R, made: Option<Made<Of<L>>>) {
+    fn send<R: Wait>(&self, rt: &R, made: Option<Made<L>>) {
         if let Some(made) = made {
             if self.routes.send(rt, &made).is_ok() {
                 self.sent.fetch_add(bytes_of(made.get()), Ordering::SeqCst);
@@ -130,7 +129,7 @@ impl<L: Hosting, M: PagedMemory + Drop, W: Write + Drop> Station<L, M, W> {
 
     /// Notes that a move was given up.
     fn note_command<R: Wait>(&self, rt: &R, command: &Command, reply: &HostReply)
-        requires { IsAnswer L.opening (commands.Do (command_of command.now)) reply.now }
+        requires { L.gave (Do command.now) reply.now }
     {
         if let (Command::Abort, HostReply::Aborted) = (command, reply) {
             self.news.tell_aborted(rt);
@@ -139,13 +138,13 @@ impl<L: Hosting, M: PagedMemory + Drop, W: Write + Drop> Station<L, M, W> {
 
     /// Notes what a mover may wait for. Copies and what a host ignores are nothing to it.
     fn note_frame<R: Wait>(&self, rt: &R, frame: &Frame, reply: &HostReply)
-        requires { (from : ℕ) × IsAnswer L.opening (commands.Came from (frame_heard frame.now)) reply.now }
+        requires { (from : ℕ) × L.gave (Came from frame.now) reply.now }
     {
         match (frame, reply) {
             (Frame::Started { move_number }, HostReply::Finished) => self
                 .news
                 .tell(rt, *move_number, MoveNews::Finished),
-            (Frame::Refuse { move_number, limit }, HostReply::MoveDeclined(_)) => self
+            (Frame::Refuse { move_number, .. }, HostReply::MoveDeclined(limit)) => self
                 .news
                 .tell(rt, *move_number, MoveNews::Declined(*limit)),
             (

@@ -7,7 +7,7 @@ use rvm_core::{Host, ModeKind};
 use rvm_debug::Debugged;
 use rvm_frame::Frame;
 use rvm_hart::RAM_BASE;
-use rvm_host_cell::{HostCell, Hosting, Slice, Then};
+use rvm_host_cell::{HostCell, Opening, Slice, Then};
 use rvm_mem::{FlatMemory, PagedMemory, write_bytes};
 use rvm_message::{Command, HostReply};
 use rvm_precopy::Policy;
@@ -31,7 +31,7 @@ fn guest(alloc: Global) -> Result<Debugged<FlatMemory>, Fail> {
 }
 
 /// What a host that has a guest, and is host 0 of two, answers under its lock.
-fn play<L: Hosting, R: Abort + Wait>(
+fn play<L: Opening, R: Abort + Wait>(
     rt: &R,
     alloc: Global,
     host: Host<FlatMemory>,
@@ -71,7 +71,7 @@ fn a_host_answers_under_its_lock(rt: HostRuntime) -> Result<(), Fail> {
 }
 
 /// What a host without a guest answers under its lock.
-fn play_empty<L: Hosting, R: Abort + Wait>(
+fn play_empty<L: Opening, R: Abort + Wait>(
     rt: &R,
     alloc: Global,
     host: Host<FlatMemory>,

@@ -6,5 +6,6 @@ use Rattle.rvm_host_worker.proofs.hearing.hear.Given as goal
 abbrev pub invariant-loop-record : goal.invariant-loop-record
 invariant-loop-record g l = record {
   size : 65535 ≤ length l.buffer;
-  read : AreRead g.L.Hosting.opening l.from l.station.id (g.I.Read.remaining l.fn.input) (g.I.Read.remaining l.input) at_start l.reader;
+  read : AreRead g.L.Hosting.gave l.from l.station.id (g.A.Access.asked l.fn.access) (g.A.Access.asked l.access)
+      (g.I.Read.remaining l.fn.input) (g.I.Read.remaining l.input) at_start l.reader;
 }

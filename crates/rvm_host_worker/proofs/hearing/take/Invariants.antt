@@ -7,7 +7,8 @@ abbrev pub invariant-loop-rest : goal.invariant-loop-rest
 invariant-loop-rest g l = record {
   waits : verdict l.reader.version l.reader.bytes ≡ Ok None;
   unfailed : l.reader.failed ≡ false;
-  told : (read : List ℕ) × (l.fn.piece ≡ read ++ l.rest) × AreTold g.L.Hosting.opening l.from l.station.id l.fn.reader read l.reader;
+  told : (read : List ℕ) × (l.fn.piece ≡ read ++ l.rest) × AreTold g.L.Hosting.gave l.from l.station.id
+      (g.A.Access.asked l.fn.access) (g.A.Access.asked l.access) l.fn.reader read l.reader;
 }
 
 abbrev pub decreases-loop-rest : goal.decreases-loop-rest

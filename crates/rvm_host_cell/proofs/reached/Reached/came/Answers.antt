@@ -5,10 +5,10 @@ use Rattle.rvm_host_cell.proofs.reached.Reached.came.Goals as goal
 
 pub handed_out-requires : goal.handed_out-requires
 handed_out-requires g c =
-    made_in g.L.Hosting.opening c.self.inside.host c.came.new.self (commands.Came c.args.from (frame_heard c.args.frame.now)) c.in-Ok.reply
+    made_in g.L.Opening.opening c.self.inside.host c.came.new.self (commands.Came c.args.from (frame_heard c.args.frame.now)) c.in-Ok.reply
     c.in-Ok.made c.self.invariant c.in-Ok.ensures.steps
 
 pub invariant_of-self : goal.invariant_of-self
 invariant_of-self g c =
-    called g.L.Hosting.opening c.self.inside.host c.came.new.self (commands.Came c.args.from (frame_heard c.args.frame.now)) c.came.result
+    called g.L.Opening.opening c.self.inside.host c.came.new.self (commands.Came c.args.from (frame_heard c.args.frame.now)) c.came.result
     c.self.invariant c.came.ensures.steps c.came.ensures.err
