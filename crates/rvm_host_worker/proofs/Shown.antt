@@ -1,10 +1,10 @@
 -- What drains took is written in order.
 use Rattle.std.proofs.Common.{◌≡◌, ◌∙◌, ℕ, List, [], ◌∷◌, ◌++◌, append-nil, Option, None, Some, ap, refl, subst, sym}
 use Rattle.std.proofs.lemmas.List.Concat.{flat_map-append}
-use Rattle.std.proofs.lemmas.List.Elements.{All-append, All-cons, All-head, All-nil, All-tail}
+use Rattle.std.proofs.lemmas.List.Elements.{All-head, All-tail}
 use Rattle.std.specs.Io.KnownBytes.{Appends, Keeps}
 use Rattle.std.specs.List.{All}
-use Rattle.rvm_debug.specs.declared.event.BoardEvent.TheVariants.{Drain, Input}
+use Rattle.rvm_debug.specs.declared.event.BoardEvent.TheVariants.{Drain}
 use Rattle.rvm_debug.specs.declared.event.BoardReply.TheVariants as answer
 use Rattle.rvm_host_cell.proofs.Asked.{both_answered, none_answered}
 use Rattle.rvm_host_cell.specs.Asked.{Answers, AreAllOf, AreAnswered, IsTurn}
@@ -151,32 +151,3 @@ module _ (gave : Answers) where
     answered = x.answered;
     written = kept_added before mid now (all_taken x.exchanges) x.written same;
   }
-
-  -- no byte was typed
-  pub none_typed : (asked : Option (List PlainExchange)) → AreAllOf IsInput gave asked asked
-  none_typed asked = record {
-    exchanges = [];
-    kind = All-nil (λ (x : PlainExchange). IsInput x.event);
-    answered = none_answered gave asked;
-  }
-
-  -- and then one, or there was no memory for it
-  pub typed_none : (before mid now : Option (List PlainExchange)) → AreAllOf IsInput gave before mid
-      → AreAnswered gave mid now [] → AreAllOf IsInput gave before now
-  typed_none before mid now x answered = record {
-    exchanges = x.exchanges ++ [];
-    kind = All-append (λ (y : PlainExchange). IsInput y.event) x.exchanges [] x.kind (All-nil (λ (y : PlainExchange). IsInput y.event));
-    answered = both_answered gave before mid now x.exchanges [] x.answered answered;
-  }
-
-  pub typed_one : (before mid now : Option (List PlainExchange)) (byte : ℕ) (r : HostReply) → AreAllOf IsInput gave before mid
-      → AreAnswered gave mid now (exchange (Do (Board (Input byte))) r ∷ []) → AreAllOf IsInput gave before now
-  typed_one before mid now byte r x answered =
-      let one = exchange (Do (Board (Input byte))) r in
-      record {
-        exchanges = x.exchanges ++ one ∷ [];
-        kind =
-            All-append (λ (y : PlainExchange). IsInput y.event) x.exchanges (one ∷ []) x.kind
-            (All-cons (λ (y : PlainExchange). IsInput y.event) one [] (byte, refl) (All-nil (λ (y : PlainExchange). IsInput y.event)));
-        answered = both_answered gave before mid now x.exchanges (one ∷ []) x.answered answered;
-      }

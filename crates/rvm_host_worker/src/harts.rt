@@ -155,7 +155,7 @@ fn await_guest<L: Hosting, W: Write + Drop, R: Wait + Clock>(
 }
 
 /// Hands the guest the bytes that were typed, up to the first for which its console has no room.
-#[tactic(auto, using(crate::proofs::Shown::none_typed, crate::proofs::Shown::typed_none, crate::proofs::Shown::typed_one))]
+#[tactic(auto, using(crate::proofs::AllOf::kept_of, crate::proofs::AllOf::more_of, crate::proofs::AllOf::none_of))]
 fn type_in<L: Hosting, A: Access<L>, W: Write + Drop, R: Wait>(
     rt: &R,
     station: &Station<L, W>,
@@ -169,9 +169,12 @@ fn type_in<L: Hosting, A: Access<L>, W: Write + Drop, R: Wait>(
             return;
         };
         let command = Command::Board(BoardEvent::Input(byte));
-        let Ok(HostReply::Board(BoardReply::Done)) = station.obey(rt, access, &command) else {
+        let Ok(reply) = station.obey(rt, access, &command) else {
             return;
         };
+        if reply != HostReply::Board(BoardReply::Done) {
+            return;
+        }
         input.take_first(rt);
     }
 }

@@ -1,6 +1,9 @@
 //! The mover: it moves the guest of this host to another one.
 
-ghost use Rattle.std.specs.Prelude.{IfErr, IfSome};
+ghost use Rattle.std.specs.Prelude.{ℕ, IfErr, IfSome};
+ghost use Rattle.rvm_host_cell.specs.Asked.{AreAllOf};
+ghost use Rattle.rvm_precopy.specs.declared.policy.Policy.{Policy as PlainPolicy};
+ghost use Rattle.rvm_worker.specs.Work.{IsOfCopier};
 ghost use Rattle.rvm_host_worker.specs.Ends.{IsNews};
 ghost use Rattle.rvm_host_worker.specs.Movers.{IsMoveEnd, IsToBegin};
 
@@ -53,6 +56,7 @@ pub enum MoveEnd {
 /// and begun anew once there is one again, so that the guest is not paused for what was lost; once the guest is paused
 /// the last frames are sent again. It is given up where nothing is heard for too long, and never once the guest is
 /// committed: then the mover ends only when it is told to. `watch` is told how far the move has come.
+#[tactic(auto, using(crate::proofs::AllOf::both_of))]
 pub fn move_guest<L: Hosting, A: Access<L>, W: Write + Drop, V: Watch, R: Wait + Clock>(
     rt: &R,
     station: &Station<L, W>,
@@ -61,7 +65,8 @@ pub fn move_guest<L: Hosting, A: Access<L>, W: Write + Drop, V: Watch, R: Wait +
     stop: &AtomicBool,
     watch: &mut V,
 ) -> MoveEnd
-    ensures { IsMoveEnd L.gave result }
+    ensures asked { AreAllOf (IsOfCopier plan.now.to plan.now.policy) L.gave (A.asked access.old) (A.asked access.new) }
+    ensures end { IsMoveEnd L.gave result }
 {
     let sent = station.bytes_sent();
     let mut course = match begin(rt, station, access, plan) {
@@ -96,13 +101,15 @@ fn end_of<L: Hosting>(figures: Figures, news: MoveNews) -> MoveEnd
 }
 
 /// Begins a move: its number.
+#[tactic(auto, using(crate::proofs::AllOf::one_of, crate::proofs::AllOf::unasked_of))]
 fn begin<L: Hosting, A: Access<L>, W: Write + Drop, R: Wait>(
     rt: &R,
     station: &Station<L, W>,
     access: &mut A,
     plan: &MovePlan,
 ) -> Result<u64, MoveEnd>
-    ensures { IfErr result (IsMoveEnd L.gave) }
+    ensures asked { AreAllOf (IsOfCopier plan.now.to plan.now.policy) L.gave (A.asked access.old) (A.asked access.new) }
+    ensures end { IfErr result (IsMoveEnd L.gave) }
 {
     let command = Command::Begin {
         to: plan.to,
@@ -129,6 +136,7 @@ fn begun<L: Hosting>(reply: HostReply) -> Result<u64, MoveEnd>
 }
 
 /// Does what is to be done next, and says how the move ended, if it did.
+#[tactic(auto, using(crate::proofs::AllOf::none_of))]
 fn go_on<L: Hosting, A: Access<L>, W: Write + Drop, R: Wait + Clock>(
     rt: &R,
     station: &Station<L, W>,
@@ -136,7 +144,8 @@ fn go_on<L: Hosting, A: Access<L>, W: Write + Drop, R: Wait + Clock>(
     plan: &MovePlan,
     course: &mut Course,
 ) -> Option<MoveEnd>
-    ensures { IfSome result (IsMoveEnd L.gave) }
+    ensures asked { AreAllOf (IsOfCopier plan.now.to plan.now.policy) L.gave (A.asked access.old) (A.asked access.new) }
+    ensures end { IfSome result (IsMoveEnd L.gave) }
 {
     course.seen = station.news.count(rt);
     let kind = access.status().kind;
@@ -160,12 +169,14 @@ fn go_on<L: Hosting, A: Access<L>, W: Write + Drop, R: Wait + Clock>(
 }
 
 /// Gives up the move, unless the guest was committed in the meantime.
+#[tactic(auto, using(crate::proofs::AllOf::one_of, crate::proofs::AllOf::unasked_of))]
 fn give_up<L: Hosting, A: Access<L>, W: Write + Drop, R: Wait>(
     rt: &R,
     station: &Station<L, W>,
     access: &mut A,
 ) -> Option<MoveEnd>
-    ensures { IfSome result (IsMoveEnd L.gave) }
+    ensures asked { (to : ℕ) → (policy : PlainPolicy) → AreAllOf (IsOfCopier to policy) L.gave (A.asked access.old) (A.asked access.new) }
+    ensures end { IfSome result (IsMoveEnd L.gave) }
 {
     match station.obey(rt, access, &Command::Abort) {
         Ok(HostReply::Aborted) => Some(MoveEnd::GivenUp),
@@ -174,12 +185,15 @@ fn give_up<L: Hosting, A: Access<L>, W: Write + Drop, R: Wait>(
 }
 
 /// Waits for the target, and has the last frame sent again where nothing came.
+#[tactic(auto, using(crate::proofs::AllOf::none_of, crate::proofs::AllOf::one_of, crate::proofs::AllOf::unasked_of))]
 fn ask_again<L: Hosting, A: Access<L>, W: Write + Drop, R: Wait + Clock>(
     rt: &R,
     station: &Station<L, W>,
     access: &mut A,
     course: &mut Course,
-) {
+)
+    ensures asked { (to : ℕ) → (policy : PlainPolicy) → AreAllOf (IsOfCopier to policy) L.gave (A.asked access.old) (A.asked access.new) }
+{
     if !listen(rt, station, course) {
         let _reply = station.obey(rt, access, &Command::Resend);
     }
@@ -202,6 +216,7 @@ fn listen<L: Hosting, W: Write + Drop, R: Wait + Clock>(
 
 /// Goes on with the move of a guest that is here, where there is a connection. Where there is one again, pages that
 /// were copied may be lost.
+#[tactic(auto, using(crate::proofs::AllOf::none_of, crate::proofs::AllOf::one_of, crate::proofs::AllOf::unasked_of))]
 fn send_more<L: Hosting, A: Access<L>, W: Write + Drop, R: Wait + Clock>(
     rt: &R,
     station: &Station<L, W>,
@@ -210,7 +225,8 @@ fn send_more<L: Hosting, A: Access<L>, W: Write + Drop, R: Wait + Clock>(
     course: &mut Course,
     kind: ModeKind,
 ) -> Option<MoveEnd>
-    ensures { IfSome result (IsMoveEnd L.gave) }
+    ensures asked { AreAllOf (IsOfCopier plan.now.to plan.now.policy) L.gave (A.asked access.old) (A.asked access.new) }
+    ensures end { IfSome result (IsMoveEnd L.gave) }
 {
     if !station.routes.is_open(rt, plan.to) {
         course.was_open = false;
@@ -231,6 +247,7 @@ fn send_more<L: Hosting, A: Access<L>, W: Write + Drop, R: Wait + Clock>(
 }
 
 /// Gives up the move and begins it anew.
+#[tactic(auto, using(crate::proofs::AllOf::both_of, crate::proofs::AllOf::one_of, crate::proofs::AllOf::unasked_of))]
 fn begin_anew<L: Hosting, A: Access<L>, W: Write + Drop, R: Wait + Clock>(
     rt: &R,
     station: &Station<L, W>,
@@ -238,7 +255,8 @@ fn begin_anew<L: Hosting, A: Access<L>, W: Write + Drop, R: Wait + Clock>(
     plan: &MovePlan,
     course: &mut Course,
 ) -> Option<MoveEnd>
-    ensures { IfSome result (IsMoveEnd L.gave) }
+    ensures asked { AreAllOf (IsOfCopier plan.now.to plan.now.policy) L.gave (A.asked access.old) (A.asked access.new) }
+    ensures end { IfSome result (IsMoveEnd L.gave) }
 {
     let Ok(HostReply::Aborted) = station.obey(rt, access, &Command::Abort) else {
         return None;
@@ -254,6 +272,7 @@ fn begin_anew<L: Hosting, A: Access<L>, W: Write + Drop, R: Wait + Clock>(
 }
 
 /// Copies pages while the guest runs, or takes the move's next step.
+#[tactic(auto, using(crate::proofs::AllOf::both_of, crate::proofs::AllOf::copies_of))]
 fn copy<L: Hosting, A: Access<L>, W: Write + Drop, R: Wait + Clock>(
     rt: &R,
     station: &Station<L, W>,
@@ -261,7 +280,8 @@ fn copy<L: Hosting, A: Access<L>, W: Write + Drop, R: Wait + Clock>(
     plan: &MovePlan,
     course: &mut Course,
 ) -> Option<MoveEnd>
-    ensures { IfSome result (IsMoveEnd L.gave) }
+    ensures asked { AreAllOf (IsOfCopier plan.now.to plan.now.policy) L.gave (A.asked access.old) (A.asked access.new) }
+    ensures end { IfSome result (IsMoveEnd L.gave) }
 {
     let Ok((reply, copies)) = station.copy(rt, access) else {
         thread::sleep(rt, Duration::from_millis(1));
@@ -308,12 +328,15 @@ fn await_arrival<L: Hosting, W: Write + Drop, R: Wait + Clock>(
 }
 
 /// Sends what is left of the paused guest, until the target has it.
+#[tactic(auto, using(crate::proofs::AllOf::one_of, crate::proofs::AllOf::unasked_of))]
 fn copy_last<L: Hosting, A: Access<L>, W: Write + Drop, R: Wait + Clock>(
     rt: &R,
     station: &Station<L, W>,
     access: &mut A,
     course: &mut Course,
-) {
+)
+    ensures asked { (to : ℕ) → (policy : PlainPolicy) → AreAllOf (IsOfCopier to policy) L.gave (A.asked access.old) (A.asked access.new) }
+{
     match station.obey(rt, access, &Command::Copy) {
         Ok(HostReply::Copied { .. }) => course.copies = course.copies.saturating_add(1),
         Ok(HostReply::PartSent { part, parts }) => {

@@ -1,7 +1,7 @@
 //! What the workers of a host share beside the host: its routes and its news.
 
 ghost use Rattle.std.specs.Prelude.{ℕ, ◌∷◌, [], IfOk, OnErr};
-ghost use Rattle.rvm_host_cell.specs.Asked.{AreAnswered};
+ghost use Rattle.rvm_host_cell.specs.Asked.{AreAllOf, AreAnswered, IsCopy};
 ghost use Rattle.rvm_message.specs.declared.event.Command.TheVariants.{Copy};
 ghost use Rattle.rvm_message.specs.declared.event.HostEvent.TheVariants.{Came, Do};
 ghost use Rattle.rvm_message.specs.Exchanges.{exchange};
@@ -83,12 +83,14 @@ impl<L: Hosting, W: Write + Drop> Station<L, W> {
 
     /// Has the host copy pages, several under one hold of its lock; the frames are sent, or lost where they cannot be. The
     /// last reply, which may be another one, and how many copies came before it. After a refused growth those stand.
+    #[tactic(auto, using(crate::proofs::AllOf::none_of))]
     pub(crate) fn copy<A: Access<L>, R: Wait>(
         &self,
         rt: &R,
         access: &mut A,
     ) -> Result<(HostReply, u32), AllocError>
-        ensures { IfOk result (λ a. L.gave (Do Copy) a.0) }
+        ensures asked { AreAllOf IsCopy L.gave (A.asked access.old) (A.asked access.new) }
+        ensures last { IfOk result (λ a. L.gave (Do Copy) a.0) }
     {
         let mut frames = Vec::new(self.alloc);
         frames.reserve(TOGETHER as usize)?;

@@ -11,8 +11,8 @@ loop-slice-preserved-in-Some-rate g c =
     let shown_new = g.O.Write.contents c.show_sent.new.output in
     let mid = g.A.Access.asked c.show_sent.new.access in
     let shown : IsShown gave first mid shown_first shown_new =
-        slice_shown gave first (g.A.Access.asked c.loop-slice.access) (g.A.Access.asked c.slice-slice.new.self) mid shown_first
-        (g.O.Write.contents c.loop-slice.output) shown_new c.loop-slice.invariant c.slice-slice.ensures.asked (search rules) in
+    slice_shown gave first (g.A.Access.asked c.loop-slice.access) (g.A.Access.asked c.slice-slice.new.self) mid shown_first
+    (g.O.Write.contents c.loop-slice.output) shown_new c.loop-slice.invariant c.slice-slice.ensures.asked (search rules) in
     input_shown gave first mid (g.A.Access.asked c.type_in.new.access) shown_first shown_new shown c.type_in.ensures
 
 pub loop-slice-preserved-in_default-rate : goal.loop-slice-preserved-in_default-rate
@@ -23,8 +23,8 @@ loop-slice-preserved-in_default-rate g c =
     let shown_new = g.O.Write.contents c.show_sent.new.output in
     let mid = g.A.Access.asked c.show_sent.new.access in
     let shown : IsShown gave first mid shown_first shown_new =
-        slice_shown gave first (g.A.Access.asked c.loop-slice.access) (g.A.Access.asked c.slice-slice.new.self) mid shown_first
-        (g.O.Write.contents c.loop-slice.output) shown_new c.loop-slice.invariant c.slice-slice.ensures.asked (search rules) in
+    slice_shown gave first (g.A.Access.asked c.loop-slice.access) (g.A.Access.asked c.slice-slice.new.self) mid shown_first
+    (g.O.Write.contents c.loop-slice.output) shown_new c.loop-slice.invariant c.slice-slice.ensures.asked (search rules) in
     input_shown gave first mid (g.A.Access.asked c.type_in.new.access) shown_first shown_new shown c.type_in.ensures
 
 pub returns-then-plan : goal.returns-then-plan
