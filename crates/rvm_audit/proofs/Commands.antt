@@ -15,25 +15,23 @@ use Rattle.rvm_message.specs.declared.event.HostEvent.TheVariants.{Do}
 use Rattle.rvm_world.specs.declared.event.Event.{Event}
 use Rattle.rvm_world.specs.declared.event.Event.TheVariants.{At}
 use Rattle.rvm_audit.specs.declared.placed.Placed.{Placed}
-use Rattle.rvm_audit.specs.declared.side.Side.{Side}
-use Rattle.rvm_audit.specs.Pairs.{number_of}
 use Rattle.rvm_audit.specs.Placed.{all_events, events_behind, events_of, rounds_at, steps_at}
 
 -- an entry is of a command, which made no frame, and this is its event
-pub record IsCommand (x : Side) (n : PlainEntry) (e : Event) : Type 0 where
+pub record IsCommand (x : ℕ) (n : PlainEntry) (e : Event) : Type 0 where
   pub command : Command
   pub event : n.event ≡ Do command
-  pub stands : e ≡ At (number_of x) command
+  pub stands : e ≡ At x command
   pub silent : n.frame ≡ None
 
 -- so are all of them
-abbrev pub AreCommands : Side → List PlainEntry → List Event → Type 0
+abbrev pub AreCommands : ℕ → List PlainEntry → List Event → Type 0
 AreCommands x [] [] = Unit {0}
 AreCommands x [] (e ∷ es) = ⊥
 AreCommands x (n ∷ ns) [] = ⊥
 AreCommands x (n ∷ ns) (e ∷ es) = IsCommand x n e × AreCommands x ns es
 
-commands_append : (x : Side) (xs ys : List PlainEntry) (es fs : List Event) → AreCommands x xs es → AreCommands x ys fs
+commands_append : (x : ℕ) (xs ys : List PlainEntry) (es fs : List Event) → AreCommands x xs es → AreCommands x ys fs
     → AreCommands x (xs ++ ys) (es ++ fs)
 commands_append x [] ys [] fs so more = more
 commands_append x [] ys (e ∷ es) fs so more = absurd so
@@ -41,7 +39,7 @@ commands_append x (n ∷ ns) ys [] fs so more = absurd so
 commands_append x (n ∷ ns) ys (e ∷ es) fs so more = (so.0, commands_append x ns ys es fs so.1 more)
 
 -- steps in turn
-pub steps_are : (x : Side) (turn harts n : ℕ) → AreCommands x (steps_in_turn turn harts n) (steps_at (number_of x) turn harts n)
+pub steps_are : (x : ℕ) (turn harts n : ℕ) → AreCommands x (steps_in_turn turn harts n) (steps_at x turn harts n)
 unfolding steps_in_turn steps_at
 steps_are x turn harts zero = tt
 steps_are x turn harts (suc n) = (
@@ -50,28 +48,28 @@ steps_are x turn harts (suc n) = (
 )
 
 -- rounds of them
-pub rounds_are : (x : Side) (turn harts steps drain n : ℕ)
-    → AreCommands x (rounds_in_turn turn harts steps drain n) (rounds_at (number_of x) turn harts steps drain n)
+pub rounds_are : (x : ℕ) (turn harts steps drain n : ℕ)
+    → AreCommands x (rounds_in_turn turn harts steps drain n) (rounds_at x turn harts steps drain n)
 unfolding rounds_in_turn rounds_at
 rounds_are x turn harts steps drain zero = tt
 rounds_are x turn harts steps drain (suc n) =
     commands_append x (steps_in_turn turn harts steps)
-    (dry_entry drain ∷ rounds_in_turn (turn + steps) harts steps drain n) (steps_at (number_of x) turn harts steps)
-    (At (number_of x) (Board (Drain drain)) ∷ rounds_at (number_of x) (turn + steps) harts steps drain n)
+    (dry_entry drain ∷ rounds_in_turn (turn + steps) harts steps drain n) (steps_at x turn harts steps)
+    (At x (Board (Drain drain)) ∷ rounds_at x (turn + steps) harts steps drain n)
     (steps_are x turn harts steps) (
       record { command = Board (Drain drain); event = refl; stands = refl; silent = refl },
       rounds_are x (turn + steps) harts steps drain n,
     )
 
 -- as many events as entries
-commands_length : (x : Side) (xs : List PlainEntry) (es : List Event) → AreCommands x xs es → length es ≡ length xs
+commands_length : (x : ℕ) (xs : List PlainEntry) (es : List Event) → AreCommands x xs es → length es ≡ length xs
 commands_length x [] [] so = refl
 commands_length x [] (e ∷ es) so = absurd so
 commands_length x (n ∷ ns) [] so = absurd so
 commands_length x (n ∷ ns) (e ∷ es) so = ap suc (commands_length x ns es so.1)
 
 -- the event of an entry
-command_at : (x : Side) (xs : List PlainEntry) (es : List Event) (k : ℕ) (n : PlainEntry) → AreCommands x xs es
+command_at : (x : ℕ) (xs : List PlainEntry) (es : List Event) (k : ℕ) (n : PlainEntry) → AreCommands x xs es
     → slice_get xs k ≡ Some n → (e : Event) × (slice_get es k ≡ Some e) × IsCommand x n e
 command_at x [] es k n so at = cc
 command_at x (m ∷ ns) [] k n so at = absurd so
@@ -84,35 +82,35 @@ none_at (x ∷ xs) zero le = absurd (omega (arith, le))
 none_at (x ∷ xs) (suc k) le = none_at xs k (omega (arith, le))
 
 -- the event of steps with this index
-pub step_stands : (x : Side) (turn harts n k : ℕ) → k < n
-    → slice_get (steps_at (number_of x) turn harts n) k ≡ Some (At (number_of x) (Board (Step ((turn + k) % harts))))
+pub step_stands : (x : ℕ) (turn harts n k : ℕ) → k < n
+    → slice_get (steps_at x turn harts n) k ≡ Some (At x (Board (Step ((turn + k) % harts))))
 step_stands x turn harts n k less =
-    let at = command_at x (steps_in_turn turn harts n) (steps_at (number_of x) turn harts n) k _
+    let at = command_at x (steps_in_turn turn harts n) (steps_at x turn harts n) k _
     (steps_are x turn harts n) (entry_at k turn harts n less) in
     let is : Board (Step ((turn + k) % harts)) ≡ at.2.command = let same = at.2.event in cc in
-    at.1 ∙ ap Some (at.2.stands ∙ ap (λ c. At (number_of x) c) (sym is))
+    at.1 ∙ ap Some (at.2.stands ∙ ap (λ c. At x c) (sym is))
 
-pub steps_end : (x : Side) (turn harts n k : ℕ) → n ≤ k → None ≡ slice_get (steps_at (number_of x) turn harts n) k
+pub steps_end : (x : ℕ) (turn harts n k : ℕ) → n ≤ k → None ≡ slice_get (steps_at x turn harts n) k
 steps_end x turn harts n k le =
-    let long = commands_length x (steps_in_turn turn harts n) (steps_at (number_of x) turn harts n) (steps_are x turn harts n) ∙ steps_length turn harts n in
-    sym (none_at (steps_at (number_of x) turn harts n) k (omega (arith, long, le)))
+    let long = commands_length x (steps_in_turn turn harts n) (steps_at x turn harts n) (steps_are x turn harts n) ∙ steps_length turn harts n in
+    sym (none_at (steps_at x turn harts n) k (omega (arith, long, le)))
 
 -- the same of rounds, whose entry is told
-pub round_stands : (x : Side) (turn harts steps drain n k : ℕ) (entry : PlainEntry) (result : Option Event)
+pub round_stands : (x : ℕ) (turn harts steps drain n k : ℕ) (entry : PlainEntry) (result : Option Event)
     → slice_get (rounds_in_turn turn harts steps drain n) k ≡ Some entry
-    → ((c : Command) → entry.event ≡ Do c → result ≡ Some (At (number_of x) c))
-    → result ≡ slice_get (rounds_at (number_of x) turn harts steps drain n) k
+    → ((c : Command) → entry.event ≡ Do c → result ≡ Some (At x c))
+    → result ≡ slice_get (rounds_at x turn harts steps drain n) k
 round_stands x turn harts steps drain n k entry result there told =
-    let at = command_at x (rounds_in_turn turn harts steps drain n) (rounds_at (number_of x) turn harts steps drain n) k entry
+    let at = command_at x (rounds_in_turn turn harts steps drain n) (rounds_at x turn harts steps drain n) k entry
     (rounds_are x turn harts steps drain n) there in
     told at.2.command at.2.event ∙ ap Some (sym at.2.stands) ∙ sym at.1
 
-pub rounds_end : (x : Side) (turn harts steps drain n k : ℕ) → n * (steps + 1) ≤ k
-    → None ≡ slice_get (rounds_at (number_of x) turn harts steps drain n) k
+pub rounds_end : (x : ℕ) (turn harts steps drain n k : ℕ) → n * (steps + 1) ≤ k
+    → None ≡ slice_get (rounds_at x turn harts steps drain n) k
 rounds_end x turn harts steps drain n k le =
-    let long = commands_length x (rounds_in_turn turn harts steps drain n) (rounds_at (number_of x) turn harts steps drain n)
+    let long = commands_length x (rounds_in_turn turn harts steps drain n) (rounds_at x turn harts steps drain n)
     (rounds_are x turn harts steps drain n) ∙ rounds_length turn harts steps drain n in
-    sym (none_at (rounds_at (number_of x) turn harts steps drain n) k (omega (arith, long, le)))
+    sym (none_at (rounds_at x turn harts steps drain n) k (omega (arith, long, le)))
 
 pub none_behind : (e : Event) (k : ℕ) → k ≢ 0 → None ≡ slice_get (e ∷ []) k
 none_behind e zero some = absurd (some refl)

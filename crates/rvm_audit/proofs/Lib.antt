@@ -1,9 +1,8 @@
-pub mod Merged
 pub mod Spellings
 pub mod Commands
-pub mod Indexes
-pub mod Runs
+pub mod Merges
 pub mod Taken
-pub mod Dead
-pub mod Law
+pub mod Parts
+pub mod Lists
+pub mod Two
 mod Keys

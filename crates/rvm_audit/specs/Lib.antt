@@ -1,6 +1,9 @@
-pub mod Pairs
+pub mod Rule
 pub mod Orders
+pub mod Worlds
 pub mod Placed
 pub mod Merging
+pub mod Merged
+pub mod Parts
+pub mod Audits
 pub mod Errors
-pub mod Worlds

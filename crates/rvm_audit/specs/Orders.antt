@@ -1,53 +1,36 @@
--- Orders of two journals.
-use Rattle.std.specs.Prelude.{◌≡◌, ◌⊎◌, ℕ, ◌<◌, ◌≤◌, List, [], Some, slice_get, length}
-use Rattle.rvm_frame.specs.declared.frame.Frame.{Frame}
-use Rattle.rvm_journal.specs.Entries.{PlainEntry}
+-- Orders of the journals of a list, and of two.
+use Rattle.std.specs.Prelude.{ℕ, List, [], ◌∷◌, None, get_or, length}
+use Rattle.rvm_core.specs.Hosts.{new_host}
 use Rattle.rvm_journal.specs.History.{History}
-use Rattle.rvm_journal.specs.Replay.{replay}
-use Rattle.rvm_message.specs.declared.event.HostEvent.TheVariants.{Came}
 use Rattle.rvm_world.specs.declared.event.Event.{Event}
-use Rattle.rvm_interleaving.specs.Orders.{MadeBelow}
-use Rattle.rvm_audit.specs.declared.side.Side.{Side}
-use Rattle.rvm_audit.specs.declared.side.Side.TheVariants.{First, Second}
-use Rattle.rvm_audit.specs.Pairs.{AllLowest, AllTurns, HasBytes, IsRun, after_all, entries_at, number_of, opened, other}
+use Rattle.rvm_interleaving.specs.Orders.{Journals}
+use Rattle.rvm_interleaving.specs.Orders as every
+use Rattle.rvm_audit.specs.Rule as rule
+
+-- where a list has no journal
+abbrev pub no_history : History
+no_history = record { opening = new_host None 0 0 0 0; entries = []; reserved = 0 }
+
+-- the journals of a list, by number
+abbrev pub journals_of : List History → Journals
+journals_of hs = record {
+  openings = record { count = length hs; host = λ x. (get_or hs x no_history).opening };
+  entries = λ x. (get_or hs x no_history).entries;
+}
+
+-- two journals
+abbrev pub both : (a b : History) → Journals
+both a b = journals_of (a ∷ b ∷ [])
 
 -- a run from the two opening hosts, whose events at each host are the entries of its journal, with their replies and
 -- frames, and which ends where their replays end
-pub record IsOrder (a b : History) (events : List Event) : Type 0 where
-  pub steps : List (Side × PlainEntry)
-  pub run : IsRun a.opening b.opening (opened a.opening b.opening) events steps
-  pub at_first : entries_at First steps ≡ a.entries
-  pub at_second : entries_at Second steps ≡ b.entries
-  pub first_ends : (after_all a.opening b.opening (opened a.opening b.opening) steps).first ≡ replay a.opening a.entries
-  pub second_ends :
-      (after_all a.opening b.opening (opened a.opening b.opening) steps).second ≡ replay b.opening b.entries
+abbrev pub IsOrder : (a b : History) → List Event → Type 0
+IsOrder a b events = every.IsOrder (both a b) events
 
--- the order of the rule: each frame that comes is the lowest one of its bytes, and at each point the first host's next
--- entry is taken where it can stand
-pub record IsMerge (a b : History) (events : List Event) : Type 0 where
-  pub order : IsOrder a b events
-  pub lowest : AllLowest a.opening b.opening (opened a.opening b.opening) events order.steps
-  pub turns : AllTurns a.opening b.opening (opened a.opening b.opening) order.steps []
+-- the order of the rule
+abbrev pub IsMerge : (a b : History) → List Event → Type 0
+IsMerge a b events = rule.IsMerge (both a b) events
 
--- the entry at i is a frame that came, and not from the other host, or that host's first j entries made none of its bytes
-pub record CameUnmade (version : ℕ) (x : Side) (entries : List PlainEntry) (i : ℕ) (others : List PlainEntry) (j : ℕ)
-    : Type 0 where
-  pub entry : PlainEntry
-  pub from : ℕ
-  pub frame : Frame
-  pub stands : slice_get entries i ≡ Some entry
-  pub came : entry.event ≡ Came from frame
-  pub unmade : (bytes : List ℕ) → from ≡ number_of (other x) → HasBytes version x frame bytes
-      → MadeBelow others j bytes → ⊥
-
--- a host has no next entry, or one that cannot stand
-abbrev pub IsStuck : (version : ℕ) → Side → List PlainEntry → ℕ → List PlainEntry → ℕ → Type 0
-IsStuck version x entries i others j = (i ≡ length entries) ⊎ CameUnmade version x entries i others j
-
--- neither journal can go on from here, and one of them is not at its end
-pub record IsDeadEnd (a b : History) (i j : ℕ) : Type 0 where
-  pub i_le : i ≤ length a.entries
-  pub j_le : j ≤ length b.entries
-  pub rest : (i < length a.entries) ⊎ (j < length b.entries)
-  pub first_stuck : IsStuck a.opening.version First a.entries i b.entries j
-  pub second_stuck : IsStuck b.opening.version Second b.entries j a.entries i
+-- neither journal can go on after its first i and j entries, and one of them is not at its end
+abbrev pub IsDeadEnd : (a b : History) → (i j : ℕ) → Type 0
+IsDeadEnd a b i j = every.IsDeadEnd (both a b) (λ x. get_or (i ∷ j ∷ []) x 0)

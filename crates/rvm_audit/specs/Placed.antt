@@ -6,7 +6,6 @@ use Rattle.rvm_world.specs.declared.event.Event.{Event}
 use Rattle.rvm_world.specs.declared.event.Event.TheVariants.{At}
 use Rattle.rvm_audit.specs.declared.placed.Placed.{Placed}
 use Rattle.rvm_audit.specs.declared.placed.Placed.TheVariants as placed
-use Rattle.rvm_audit.specs.Pairs.{number_of}
 
 -- n steps at a host, by its harts in turn, from this turn on
 unfoldable pub steps_at : (host turn harts n : ℕ) → List Event
@@ -23,8 +22,8 @@ rounds_at host turn harts steps drain (suc n) =
 -- the events of what is kept in one piece
 abbrev pub events_of : Placed → List Event
 events_of (placed.Event e) = e ∷ []
-events_of (placed.Steps x s) = steps_at (number_of x) s.turn s.harts s.count
-events_of (placed.Rounds x r) = rounds_at (number_of x) r.turn r.harts r.steps r.drain r.count
+events_of (placed.Steps host s) = steps_at host s.turn s.harts s.count
+events_of (placed.Rounds host r) = rounds_at host r.turn r.harts r.steps r.drain r.count
 
 -- the events of all that is kept, one after the other
 abbrev pub all_events : List Placed → List Event

@@ -1,14 +1,12 @@
 //! What was put in order.
 
-ghost use Rattle.std.specs.Prelude.{◌≡◌, ◌<◌, ◌^◌, ◌-◌, IfOk, OnOk, MatchOption, [], ℕ, List, Some, None, length};
-ghost use Rattle.rvm_audit.specs.Merging.{AreTaken, AreWaiting, Becomes, IsEntryTaken, IsNoted, IsPlaced, IsTaken, IsUnmade, IsUnplaced, Takes, Waits, places_at, places_of};
-ghost use Rattle.rvm_audit.specs.Pairs.{other};
+ghost use Rattle.std.specs.Prelude.{◌≡◌, ◌∷◌, ◌++◌, ◌<◌, ◌^◌, ◌-◌, IfOk, OnOk, MatchOption, [], ℕ, List, None, drop, length};
+ghost use Rattle.rvm_audit.specs.Merging.{AreTaken, AreWaiting, Becomes, IsEntryTaken, IsPlaced, IsTaken, IsUnmade, IsUnplaced, Takes, Waits, counted, key_of, noted, places_of};
 ghost use Rattle.rvm_journal.specs.Items.{entries_at};
 ghost use Rattle.rvm_message.specs.declared.event.HostEvent.TheVariants.{Came};
 
 use crate::placed::Order;
 use crate::places::{Places, lookup, note};
-use crate::side::Side;
 use rvm_debug::BoardEvent;
 use rvm_frame::{Addressed, Frame, frame_bytes};
 use rvm_journal::{Entry, Item, ItemRef};
@@ -18,12 +16,11 @@ use rvm_world::Event;
 use std::alloc::{AllocError, Global};
 use std::collections::BTreeMap;
 
-/// The events that were put in order, and where the frames of each host were first made.
+/// The events that were put in order, and where each frame was first made.
 #[derive(Drop)]
 pub(crate) struct Merge {
     pub(crate) order: Order,
-    pub(crate) first: Places,
-    pub(crate) second: Places,
+    pub(crate) places: Places,
     /// How many frames were made.
     pub(crate) made: u64,
 }
@@ -32,33 +29,35 @@ impl Merge {
     /// Nothing.
     pub(crate) fn new(alloc: Global) -> Merge
         ensures order { result.order ≡ [] }
-        ensures places { (x : Side) (bytes : List ℕ) → places_at x result bytes ≡ None }
+        ensures places { (key : List ℕ) → places_of result.places key ≡ None }
         ensures made { result.made ≡ 0 }
     {
         Merge {
             order: Order::new(alloc),
-            first: BTreeMap::new(alloc),
-            second: BTreeMap::new(alloc),
+            places: BTreeMap::new(alloc),
             made: 0,
         }
     }
 
-    /// Puts the events of a host's next item after the others, where they can stand: of how many entries it is.
+    /// Puts the events of the host's item with this index after the others, if there is one and it can stand, and returns
+    /// how many entries it has.
     pub(crate) fn take_next(
         &mut self,
         alloc: Global,
-        side: Side,
+        host: u8,
+        count: u8,
         version: u32,
         items: &[Item],
+        index: usize,
     ) -> Result<Option<u32>, AllocError>
         requires { self.old.made < 2 ^ 64 - 1 }
         ensures { IfOk result (λ o. MatchOption o
-            (AreWaiting version side items.now self.old self.new)
-            (λ n. AreTaken version side items.now n self.old self.new)) }
+            (AreWaiting version count host (drop index items.now) self.old self.new)
+            (λ n. AreTaken version count host (drop index items.now) n self.old self.new)) }
     {
-        match items.split_first() {
+        match items.get(index) {
             None => Ok(None),
-            Some((item, _rest)) => self.take_item(alloc, side, version, item.look()),
+            Some(item) => self.take_item(alloc, host, count, version, item.look()),
         }
     }
 
@@ -67,23 +66,24 @@ impl Merge {
     fn take_item(
         &mut self,
         alloc: Global,
-        side: Side,
+        host: u8,
+        count: u8,
         version: u32,
         item: ItemRef<'_>,
     ) -> Result<Option<u32>, AllocError>
         requires { self.old.made < 2 ^ 64 - 1 }
         ensures { IfOk result (λ o. MatchOption o
-            (Waits version side item.entry self.old self.new)
-            (λ n. (n ≡ length (entries_at item.entry)) × Takes version side item.entry self.old self.new)) }
+            (Waits version count host item.entry self.old self.new)
+            (λ n. (n ≡ length (entries_at item.entry)) × Takes version count host item.entry self.old self.new)) }
     {
         match item {
-            ItemRef::Entry(entry) => self.take_entry(alloc, side, version, entry),
+            ItemRef::Entry(entry) => self.take_entry(alloc, host, count, version, entry),
             ItemRef::Steps(steps) => {
-                self.order.push_steps(side, steps)?;
+                self.order.push_steps(host, steps)?;
                 Ok(Some(steps.count))
             }
             ItemRef::Rounds(rounds) => {
-                self.order.push_rounds(side, rounds)?;
+                self.order.push_rounds(host, rounds)?;
                 Ok(Some(rounds.len()))
             }
         }
@@ -93,178 +93,168 @@ impl Merge {
     fn take_entry(
         &mut self,
         alloc: Global,
-        side: Side,
+        host: u8,
+        count: u8,
         version: u32,
         entry: &Entry,
     ) -> Result<Option<u32>, AllocError>
         requires { self.old.made < 2 ^ 64 - 1 }
         ensures { IfOk result (λ o. MatchOption o
-            (IsUnmade version side entry.now.event (places_at (other side) self.old) × (self.new ≡ self.old))
-            (λ n. (n ≡ 1) × IsEntryTaken version side entry.now self.old self.new)) }
+            (IsUnmade version count host entry.now.event (places_of self.old.places) × (self.new ≡ self.old))
+            (λ n. (n ≡ 1) × IsEntryTaken version count host entry.now self.old self.new)) }
     {
-        match self.event(alloc, side, version, entry)? {
+        match event_of(alloc, host, count, version, entry.exchange(), &self.places)? {
             None => Ok(None),
             Some(event) => {
-                self.take(alloc, side, entry, event)?;
+                self.take(alloc, host, entry, event)?;
                 Ok(Some(1))
             }
         }
     }
 
-    /// The event of an entry of a host, where it can stand.
-    fn event(
-        &self,
-        alloc: Global,
-        side: Side,
-        version: u32,
-        entry: &Entry,
-    ) -> Result<Option<Event>, AllocError>
-        ensures { IfOk result (λ o. MatchOption o
-            (IsUnmade version side entry.now.event (places_at (other side) self.now))
-            (λ e. Becomes version side entry.now.event (places_at (other side) self.now) e)) }
-    {
-        let others = match side {
-            Side::First => &self.second,
-            Side::Second => &self.first,
-        };
-        event_of(alloc, side, version, entry.exchange(), others)
-    }
-
-    /// Puts an event after the others, and notes where its frame was made.
+    /// Puts an event of a host after the others, and notes where its frame was made.
     fn take(
         &mut self,
         alloc: Global,
-        side: Side,
+        host: u8,
         entry: &Entry,
         event: Event,
     ) -> Result<(), AllocError>
         requires { self.old.made < 2 ^ 64 - 1 }
-        ensures { OnOk result (IsTaken self.old self.new event entry.now.frame
-            (places_at side) (places_at (other side))) }
+        ensures { OnOk result (IsTaken self.old self.new host event entry.now.frame) }
     {
         self.order.push(event)?;
-        self.note_frame(alloc, side, entry)
+        self.note_frame(alloc, host, entry)
     }
 
     /// Notes where the frame of an entry was made, if it made one.
-    fn note_frame(&mut self, alloc: Global, side: Side, entry: &Entry) -> Result<(), AllocError>
+    fn note_frame(&mut self, alloc: Global, host: u8, entry: &Entry) -> Result<(), AllocError>
         requires { self.old.made < 2 ^ 64 - 1 }
         ensures order { OnOk result (self.new.order ≡ self.old.order) }
-        ensures noted { OnOk result (IsNoted self.old self.new entry.now.frame
-            (places_at side) (places_at (other side))) }
+        ensures places { OnOk result ((key : List ℕ) → places_of self.new.places key
+            ≡ noted (key_of host entry.now.frame) self.old.made (places_of self.old.places) key) }
+        ensures made { OnOk result (self.new.made ≡ counted entry.now.frame self.old.made) }
     {
-        match entry.frame() {
-            None => Ok(()),
-            Some(frame) => self.note(side, frame.to_vec(alloc)?),
-        }
-    }
-
-    /// Notes where a frame was made.
-    fn note(&mut self, side: Side, bytes: Vec<u8>) -> Result<(), AllocError>
-        requires { self.old.made < 2 ^ 64 - 1 }
-        ensures order { OnOk result (self.new.order ≡ self.old.order) }
-        ensures noted { OnOk result (IsNoted self.old self.new (Some bytes.items)
-            (places_at side) (places_at (other side))) }
-    {
-        match side {
-            Side::First => note(&mut self.first, bytes, self.made)?,
-            Side::Second => note(&mut self.second, bytes, self.made)?,
-        }
+        let Some(frame) = entry.frame() else {
+            return Ok(());
+        };
+        let bytes = frame.to_vec(alloc)?;
+        let key = frame_key(alloc, host, bytes.as_slice())?;
+        note(&mut self.places, key, self.made)?;
         self.made += 1;
         Ok(())
     }
 }
 
+/// A frame's maker and its bytes, as one key.
+fn frame_key(alloc: Global, maker: u8, bytes: &[u8]) -> Result<Vec<u8>, AllocError>
+    ensures { IfOk result (λ key. key.items ≡ maker ∷ bytes.now) }
+{
+    let mut key = Vec::new(alloc);
+    key.push(maker)?;
+    key.extend_from_slice(bytes)?;
+    Ok(key)
+}
+
 /// The event of the world that a host's event is, where it can stand.
 fn event_of(
     alloc: Global,
-    side: Side,
+    host: u8,
+    count: u8,
     version: u32,
     exchange: &Exchange,
-    others: &Places,
+    places: &Places,
 ) -> Result<Option<Event>, AllocError>
     ensures { IfOk result (λ o. MatchOption o
-        (IsUnmade version side exchange.now.event (places_of others.now))
-        (λ e. Becomes version side exchange.now.event (places_of others.now) e)) }
+        (IsUnmade version count host exchange.now.event (places_of places.now))
+        (λ e. Becomes version count host exchange.now.event (places_of places.now) e)) }
 {
     match exchange.look() {
         ExchangeRef::Step { hart, reply: _ } => {
             let step = Command::Board(BoardEvent::Step(hart));
-            Ok(Some(Event::At(side.number(), step)))
+            Ok(Some(Event::At(host, step)))
         }
-        ExchangeRef::Dry(count) => {
-            let drain = Command::Board(BoardEvent::Drain(count));
-            Ok(Some(Event::At(side.number(), drain)))
+        ExchangeRef::Dry(bytes) => {
+            let drain = Command::Board(BoardEvent::Drain(bytes));
+            Ok(Some(Event::At(host, drain)))
         }
-        ExchangeRef::Copied { .. } => Ok(Some(Event::At(side.number(), Command::Copy))),
+        ExchangeRef::Copied { .. } => Ok(Some(Event::At(host, Command::Copy))),
         ExchangeRef::Stored { from, frame, .. } => {
-            delivery(alloc, side, version, from, frame, others)
+            delivery(alloc, host, count, version, from, frame, places)
         }
-        ExchangeRef::Other { event, reply: _ } => world_event(alloc, side, version, event, others),
+        ExchangeRef::Other { event, reply: _ } => {
+            world_event(alloc, host, count, version, event, places)
+        }
     }
 }
 
 /// The event of the world that an event is, where it can stand.
 fn world_event(
     alloc: Global,
-    side: Side,
+    host: u8,
+    count: u8,
     version: u32,
     event: &HostEvent,
-    others: &Places,
+    places: &Places,
 ) -> Result<Option<Event>, AllocError>
     ensures { IfOk result (λ o. MatchOption o
-        (IsUnmade version side event.now (places_of others.now))
-        (λ e. Becomes version side event.now (places_of others.now) e)) }
+        (IsUnmade version count host event.now (places_of places.now))
+        (λ e. Becomes version count host event.now (places_of places.now) e)) }
 {
     match event {
-        HostEvent::Do(command) => Ok(Some(Event::At(side.number(), command.copy()))),
-        HostEvent::Came(from, frame) => delivery(alloc, side, version, *from, frame, others),
+        HostEvent::Do(command) => Ok(Some(Event::At(host, command.copy()))),
+        HostEvent::Came(from, frame) => {
+            delivery(alloc, host, count, version, *from, frame, places)
+        }
     }
 }
 
 /// The delivery that a frame from a host is, where it can stand.
 fn delivery(
     alloc: Global,
-    side: Side,
+    host: u8,
+    count: u8,
     version: u32,
     from: u8,
     frame: &Shared<Frame>,
-    others: &Places,
+    places: &Places,
 ) -> Result<Option<Event>, AllocError>
     ensures { IfOk result (λ o. MatchOption o
-        (IsUnmade version side (Came from frame.now) (places_of others.now))
-        (λ e. Becomes version side (Came from frame.now) (places_of others.now) e)) }
+        (IsUnmade version count host (Came from frame.now) (places_of places.now))
+        (λ e. Becomes version count host (Came from frame.now) (places_of places.now) e)) }
 {
-    match place_of(alloc, side, version, from, frame.get(), others)? {
+    match place_of(alloc, host, count, version, from, frame.get(), places)? {
         None => Ok(None),
         Some(place) => Ok(Some(Event::Deliver(place))),
     }
 }
 
-/// Where the other host made a frame first, if it did.
+/// Where another host made a frame first, if it did.
 fn place_of(
     alloc: Global,
-    side: Side,
+    host: u8,
+    count: u8,
     version: u32,
     from: u8,
     frame: &Frame,
-    others: &Places,
+    places: &Places,
 ) -> Result<Option<u64>, AllocError>
     ensures { IfOk result (λ o. MatchOption o
-        (IsUnplaced version side from frame.now (places_of others.now))
-        (λ k. IsPlaced version side from frame.now (places_of others.now) k)) }
+        (IsUnplaced version count host from frame.now (places_of places.now))
+        (λ k. IsPlaced version count host from frame.now (places_of places.now) k)) }
 {
-    if from != side.other().number() {
+    if from >= count || from == host {
         return Ok(None);
     }
     let coming = Addressed {
         from,
-        to: side.number(),
+        to: host,
         frame: frame.copy(alloc)?,
     };
     if !has_spelling(version, &coming) {
         return Ok(None);
     }
     let bytes = frame_bytes(alloc, version, &coming)?;
-    Ok(lookup(others, bytes.as_slice()))
+    let key = frame_key(alloc, from, bytes.as_slice())?;
+    Ok(lookup(places, key.as_slice()))
 }

@@ -1,6 +1,6 @@
 //! The order of two journals.
 
-ghost use Rattle.std.specs.Prelude.{◌≡◌, ℕ, List, IfOk, IfErr, drop, true};
+ghost use Rattle.std.specs.Prelude.{◌≡◌, ℕ, List, IfOk, IfErr, true};
 ghost use Rattle.rvm_debug.specs.Guest.{GuestState};
 ghost use Rattle.rvm_guest.specs.TheGuest.{board};
 ghost use Rattle.rvm_guest.specs.Valid.{is_valid};
@@ -12,10 +12,10 @@ ghost use Rattle.rvm_audit.specs.Orders.{IsDeadEnd, IsMerge, IsOrder};
 ghost use Rattle.rvm_audit.specs.Worlds.{AreNew, IsWorldRun};
 
 use crate::error::AuditError;
-use crate::merge::Merge;
+use crate::merging::merge_all;
+use crate::part::Part;
 use crate::placed::Order;
-use crate::side::Side;
-use rvm_journal::{Item, Journal};
+use rvm_journal::Journal;
 use rvm_mem::PagedMemory;
 use rvm_world::Event;
 use std::alloc::Global;
@@ -48,39 +48,14 @@ pub fn audit_in_runs<M: PagedMemory + Drop, N: PagedMemory + Drop>(
     ensures merge { IfOk result (λ order. IsMerge first.now second.now order) }
     ensures none { IfErr result (λ why. IsAuditError why first.now second.now) }
 {
-    let n = first.count() as usize;
-    let m = second.count() as usize;
-    let mut xs = first.items();
-    let mut ys = second.items();
-    let mut merge = Merge::new(alloc);
-    let mut i: usize = 0;
-    let mut j: usize = 0;
-    while i < n || j < m {
-        match merge.take_next(alloc, Side::First, first.version(), xs)? {
-            Some(count) => {
-                xs = behind_first(xs);
-                i += count as usize;
-            }
-            None => match merge.take_next(alloc, Side::Second, second.version(), ys)? {
-                Some(count) => {
-                    ys = behind_first(ys);
-                    j += count as usize;
-                }
-                None => return Err(AuditError::NoOrder { i, j }),
-            },
-        }
+    let parts = [Part::of(first), Part::of(second)];
+    let ended = merge_all(alloc, &parts)?;
+    let i = ended.places[0].entries;
+    let j = ended.places[1].entries;
+    if i < first.count() as usize || j < second.count() as usize {
+        return Err(AuditError::NoOrder { i, j });
     }
-    Ok(merge.order)
-}
-
-/// All items but the first.
-fn behind_first(items: &[Item]) -> &[Item]
-    ensures { result.now ≡ drop 1 items.now }
-{
-    match items.split_first() {
-        None => items,
-        Some((_first, rest)) => rest,
-    }
+    Ok(ended.order)
 }
 
 /// Where neither journal can go on, they have no order.

@@ -1,13 +1,11 @@
 //! Events in order. Those of steps and of rounds are kept as the runs that they are in a journal.
 
 ghost use Rattle.std.specs.Prelude.{◌≡◌, ◌∷◌, ◌++◌, ◌+◌, ◌<◌, ◌^◌, [], IfOk, IfSome, MatchOption, OnOk, Some, slice_get};
-ghost use Rattle.rvm_audit.specs.Pairs.{number_of};
 ghost use Rattle.rvm_audit.specs.Placed.{all_events, events_of, rounds_at, steps_at};
 ghost use Rattle.rvm_message.specs.declared.event.Command.{Command};
 ghost use Rattle.rvm_message.specs.declared.event.HostEvent.TheVariants.{Do};
 ghost use Rattle.rvm_world.specs.declared.event.Event.TheVariants.{At};
 
-use crate::side::Side;
 use rvm_debug::BoardEvent;
 use rvm_journal::{Rounds, Steps, exchange_in, hart_behind};
 use rvm_message::{Command, Exchange, ExchangeRef, HostEvent};
@@ -25,8 +23,8 @@ pub struct Order {
 #[derive(Drop)]
 enum Placed {
     Event(Event),
-    Steps(Side, Steps),
-    Rounds(Side, Rounds),
+    Steps(u8, Steps),
+    Rounds(u8, Rounds),
 }
 
 impl Model for Order {
@@ -59,19 +57,19 @@ impl Order {
     }
 
     /// Puts those of steps of a host after the others.
-    pub(crate) fn push_steps(&mut self, side: Side, steps: Steps) -> Result<(), AllocError>
+    pub(crate) fn push_steps(&mut self, host: u8, steps: Steps) -> Result<(), AllocError>
         ensures { OnOk result (self.new
-            ≡ self.old ++ steps_at (number_of side) steps.turn steps.harts steps.count) }
+            ≡ self.old ++ steps_at host steps.turn steps.harts steps.count) }
     {
-        push_placed(&mut self.items, Placed::Steps(side, steps))
+        push_placed(&mut self.items, Placed::Steps(host, steps))
     }
 
     /// Puts those of rounds of a host after the others.
-    pub(crate) fn push_rounds(&mut self, side: Side, rounds: Rounds) -> Result<(), AllocError>
+    pub(crate) fn push_rounds(&mut self, host: u8, rounds: Rounds) -> Result<(), AllocError>
         ensures { OnOk result (self.new ≡ self.old
-            ++ rounds_at (number_of side) rounds.turn rounds.harts rounds.steps rounds.drain rounds.count) }
+            ++ rounds_at host rounds.turn rounds.harts rounds.steps rounds.drain rounds.count) }
     {
-        push_placed(&mut self.items, Placed::Rounds(side, rounds))
+        push_placed(&mut self.items, Placed::Rounds(host, rounds))
     }
 
     /// The events, one after the other.
@@ -154,8 +152,8 @@ fn event_at(placed: &Placed, skipped: u32) -> Option<Event>
             }
             Some(copy(event))
         }
-        Placed::Steps(side, steps) => event_of_steps(*side, steps, skipped),
-        Placed::Rounds(side, rounds) => event_of_rounds(*side, rounds, skipped),
+        Placed::Steps(host, steps) => event_of_steps(*host, steps, skipped),
+        Placed::Rounds(host, rounds) => event_of_rounds(*host, rounds, skipped),
     }
 }
 
@@ -170,33 +168,33 @@ fn copy(event: &Event) -> Event
 }
 
 /// The event with this index, from 0, of a host's steps.
-fn event_of_steps(side: Side, steps: &Steps, skipped: u32) -> Option<Event>
+fn event_of_steps(host: u8, steps: &Steps, skipped: u32) -> Option<Event>
     ensures event { result
-        ≡ slice_get (steps_at (number_of side) steps.now.turn steps.now.harts steps.now.count) skipped }
+        ≡ slice_get (steps_at host steps.now.turn steps.now.harts steps.now.count) skipped }
     ensures few { IfSome result (λ e. skipped + 1 < 2 ^ 32) }
 {
     if skipped >= steps.count {
         return None;
     }
     let step = Command::Board(BoardEvent::Step(hart_behind(steps, skipped)));
-    Some(Event::At(side.number(), step))
+    Some(Event::At(host, step))
 }
 
 /// The event with this index, from 0, of a host's rounds.
-fn event_of_rounds(side: Side, rounds: &Rounds, skipped: u32) -> Option<Event>
-    ensures event { result ≡ slice_get (rounds_at (number_of side) rounds.now.turn rounds.now.harts
+fn event_of_rounds(host: u8, rounds: &Rounds, skipped: u32) -> Option<Event>
+    ensures event { result ≡ slice_get (rounds_at host rounds.now.turn rounds.now.harts
         rounds.now.steps rounds.now.drain rounds.now.count) skipped }
     ensures few { IfSome result (λ e. skipped + 1 < 2 ^ 32) }
 {
     if skipped >= rounds.len() {
         return None;
     }
-    command_of(side, &exchange_in(rounds, skipped))
+    command_of(host, &exchange_in(rounds, skipped))
 }
 
 /// The event of the world that an exchange of a host is, where it is told to do something.
-fn command_of(side: Side, exchange: &Exchange) -> Option<Event>
-    ensures { (c : Command) → exchange.now.event ≡ Do c → result ≡ Some (At (number_of side) c) }
+fn command_of(host: u8, exchange: &Exchange) -> Option<Event>
+    ensures { (c : Command) → exchange.now.event ≡ Do c → result ≡ Some (At host c) }
 {
     let command = match exchange.look() {
         ExchangeRef::Step { hart, reply: _ } => Command::Board(BoardEvent::Step(hart)),
@@ -208,5 +206,5 @@ fn command_of(side: Side, exchange: &Exchange) -> Option<Event>
             HostEvent::Came(..) => return None,
         },
     };
-    Some(Event::At(side.number(), command))
+    Some(Event::At(host, command))
 }

@@ -1,4 +1,4 @@
-//! Where frames were made, by their bytes.
+//! Where frames were made, by their host and their bytes.
 
 ghost use Rattle.std.specs.Prelude.{◌≡◌, ℕ, List, OnOk, Some, if◌then◌else◌};
 ghost use Rattle.std.specs.Str.{bytes_eq};
@@ -7,34 +7,34 @@ ghost use Rattle.rvm_audit.specs.Merging.{noted, places_of};
 use std::alloc::AllocError;
 use std::collections::BTreeMap;
 
-/// The place of the first frame of some bytes, found in logarithmic time.
+/// The place of the first frame of a key, found in logarithmic time.
 pub(crate) type Places = BTreeMap<Vec<u8>, u64>;
 
-/// The place of the first frame of these bytes.
+/// The place of the first frame of this key.
 #[tactic(auto, unfolding(crate::specs::Merging::places_of))]
-pub(crate) fn lookup(places: &Places, bytes: &[u8]) -> Option<u64>
-    ensures { result ≡ places_of places.now bytes.now }
+pub(crate) fn lookup(places: &Places, key: &[u8]) -> Option<u64>
+    ensures { result ≡ places_of places.now key.now }
 {
-    places.get(bytes).copied()
+    places.get(key).copied()
 }
 
-/// Gives bytes a place, instead of the one that they may have.
+/// Gives a key a place, instead of the one that it may have.
 #[tactic(auto, unfolding(crate::specs::Merging::places_of))]
-pub(crate) fn insert(places: &mut Places, bytes: Vec<u8>, place: u64) -> Result<(), AllocError>
+pub(crate) fn insert(places: &mut Places, key: Vec<u8>, place: u64) -> Result<(), AllocError>
     ensures { OnOk result ((other : List ℕ) → places_of places.new other
-        ≡ (if bytes_eq bytes.items other then Some place else places_of places.old other)) }
+        ≡ (if bytes_eq key.items other then Some place else places_of places.old other)) }
 {
-    places.insert(bytes, place)?;
+    places.insert(key, place)?;
     Ok(())
 }
 
-/// Notes the place of bytes that have none yet.
-pub(crate) fn note(places: &mut Places, bytes: Vec<u8>, place: u64) -> Result<(), AllocError>
+/// Notes the place of a key that has none yet.
+pub(crate) fn note(places: &mut Places, key: Vec<u8>, place: u64) -> Result<(), AllocError>
     ensures { OnOk result ((other : List ℕ) → places_of places.new other
-        ≡ noted (Some bytes.items) place (places_of places.old) other) }
+        ≡ noted (Some key.items) place (places_of places.old) other) }
 {
-    if lookup(places, bytes.as_slice()).is_none() {
-        insert(places, bytes, place)?;
+    if lookup(places, key.as_slice()).is_none() {
+        insert(places, key, place)?;
     }
     Ok(())
 }

@@ -3,7 +3,6 @@ use Rattle.std.proofs.Common.{◌≡◌, ℕ, ◌-◌, ◌^◌, ◌<◌, ◌==�
 use Rattle.std.proofs.lemmas.Bool.Decides.{nat_tests}
 use Rattle.std.proofs.lemmas.Option.{same_Some}
 use Rattle.rvm_codec.specs.Numbers.{within}
-use Rattle.rvm_core.specs.Hosts.{is_spoken}
 use Rattle.rvm_core.specs.Spelled.{IsSpelled}
 use Rattle.rvm_frame.specs.declared.frame.Frame.{Frame}
 use Rattle.rvm_frame.specs.Grammar.{HasSpelling, MayStand, Received, known_at, sent}
@@ -15,7 +14,8 @@ use Rattle.rvm_protocol.specs.Host.{is_there}
 use Rattle.rvm_frame.specs.Bodies.{is_piece}
 use Rattle.rvm_frame.specs.declared.frame.Frame.TheVariants as frame
 use Rattle.rvm_interleaving.specs.Hosts.{HasBytes, coming}
-use Rattle.rvm_interleaving.proofs.Steps.{and_both, or_true}
+use Rattle.rvm_interleaving.specs.Worlds.{knows_hosts}
+use Rattle.rvm_interleaving.proofs.Steps.{or_true}
 
 above : (n : ℕ) → within 1 (2 ^ 64 - 1) n ≡ true → nat_lt 0 n ≡ true
 above n h = grind (arith, nat_tests)
@@ -92,12 +92,11 @@ to_other : (x from to count : ℕ) → (count == 2) ≡ true → x < count → i
     → is_there from count to ≡ true → to ≡ x
 to_other x from to count two lt other there = grind (arith, nat_tests)
 
--- in each version that so many hosts speak
-pub goes_to : (version count x from : ℕ) (f : Frame) (bytes : List ℕ) (s : Posted) → is_spoken version count ≡ true
+-- where it is known which host a frame goes to
+pub goes_to : (version count x from : ℕ) (f : Frame) (bytes : List ℕ) (s : Posted) → knows_hosts version count ≡ true
     → x < count → is_there x count from ≡ true → is_there from count s.to ≡ true → IsSpelled version s bytes
     → HasBytes version from x f bytes → s.to ≡ x
-goes_to version count x from f bytes s spoken lt other there is so =
-    elim (or_true (version == 3) (count == 2 && within 1 2 version) (and_both _ _ spoken).1) [
-      | inl three ↦ to_named version from x f bytes s three is so
-      | inr two ↦ to_other x from s.to count (and_both _ _ two).0 lt other there
-    ]
+goes_to version count x from f bytes s spoken lt other there is so = elim (or_true (count == 2) (version == 3) spoken) [
+  | inl two ↦ to_other x from s.to count two lt other there
+  | inr three ↦ to_named version from x f bytes s three is so
+]

@@ -12,7 +12,7 @@ use Rattle.rvm_world.specs.declared.event.Event.TheVariants.{At, Deliver}
 use Rattle.rvm_interleaving.proofs.Gets.{get_either, get_front}
 use Rattle.rvm_interleaving.specs.Hosts.{CameMade, HostEntry, Hosts, IsEvent, IsRun, Made, Openings, after, cons_if, entries_at, made_more, outcome_in}
 use Rattle.rvm_interleaving.specs.Worlds.{accepted_entries, is_accepted}
-use Rattle.rvm_interleaving.proofs.Steps.{put_other, own_entries}
+use Rattle.rvm_interleaving.proofs.Steps.{cons_append, put_other, own_entries}
 
 -- LISTS
 
@@ -49,10 +49,6 @@ swap : {X : Type 0} (p q : Bool) (x y : X) (xs : List X) → (p ≡ true → q �
 swap true true x y xs nay = absurd (nay refl refl)
 swap true false x y xs nay = refl
 swap false q x y xs nay = refl
-
-cons_append : {X : Type 0} (b : Bool) (x : X) (xs ys : List X) → cons_if b x (xs ++ ys) ≡ cons_if b x xs ++ ys
-cons_append true x xs ys = refl
-cons_append false x xs ys = refl
 
 swap_if : (p q : Bool) (a b h : LawHost) → (p ≡ true → q ≡ true → ⊥)
     → (if p then b else (if q then a else h)) ≡ (if q then a else (if p then b else h))

@@ -27,6 +27,10 @@ put_other f p q v h = ap (λ (t : Bool). if t then v else f q) (ne_eqb q p h)
 
 -- STEPS
 
+pub cons_append : {X : Type 0} (b : Bool) (x : X) (xs ys : List X) → cons_if b x (xs ++ ys) ≡ cons_if b x xs ++ ys
+cons_append true x xs ys = refl
+cons_append false x xs ys = refl
+
 -- an entry of a host's own
 pub own_entries : (x : ℕ) (n : PlainEntry) (ss : List HostEntry) → entries_at x ((x, n) ∷ ss) ≡ n ∷ entries_at x ss
 own_entries x n ss = ap (λ b. cons_if b n (entries_at x ss)) (eq-eqb x x refl)

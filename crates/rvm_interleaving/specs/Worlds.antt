@@ -1,6 +1,6 @@
 -- Orders as runs of the law of live migration.
-use Rattle.std.specs.Prelude.{◌≡◌, ℕ, ◌<◌, ◌==◌, ◌&&◌, Bool, true, if◌then◌else◌, List, [], ◌∷◌, map, Some, None}
-use Rattle.rvm_core.specs.Hosts.{is_spoken, new_host}
+use Rattle.std.specs.Prelude.{◌≡◌, ℕ, ◌<◌, ◌==◌, ◌&&◌, ◌||◌, Bool, true, if◌then◌else◌, List, [], ◌∷◌, map, Some, None}
+use Rattle.rvm_core.specs.Hosts.{new_host}
 use Rattle.rvm_debug.specs.Guest.{Guest, GuestState}
 use Rattle.rvm_guest.specs.TheGuest.{board}
 use Rattle.rvm_journal.specs.Entries.{PlainEntry}
@@ -18,9 +18,13 @@ use Rattle.rvm_world.specs.Worlds.{BoardWorld, meant}
 use Rattle.rvm_interleaving.specs.Hosts.{HostEntry, Openings, cons_if, entries_at}
 use Rattle.rvm_interleaving.specs.Orders.{Journals}
 
+-- which of so many hosts a frame goes to is known: there is one other, or streams of this version name hosts
+abbrev pub knows_hosts : (version count : ℕ) → Bool
+knows_hosts version count = count == 2 || version == 3
+
 -- the hosts of a new world: the guest is at the origin
 pub record AreNew (version origin : ℕ) (g : GuestState) (limits : ℕ → ℕ) (openings : Openings) : Type 0 where
-  pub spoken : is_spoken version openings.count ≡ true
+  pub spoken : knows_hosts version openings.count ≡ true
   pub each : (x : ℕ) → x < openings.count
       → openings.host x ≡ new_host (if x == origin then Some g else None) x openings.count (limits x) version
 

@@ -1,5 +1,7 @@
-use Rattle.rvm_audit.proofs.Dead.{no_order}
+use Rattle.std.proofs.Common.{get_or, ◌∷◌, []}
+use Rattle.rvm_interleaving.proofs.Greatest.{no_order}
+use Rattle.rvm_audit.specs.Orders.{both}
 use Rattle.rvm_audit.proofs.order.dead_ends_have_no_order.Goals as goal
 
 pub returns : goal.returns
-returns c = no_order
+returns c = λ a b i j events dead order. no_order (both a b) (λ x. get_or (i ∷ j ∷ []) x 0) events dead order

@@ -7,10 +7,10 @@ use Rattle.rvm_audit.proofs.placed.event_of_steps.Goals as goal
 
 pub returns-then-skipped-steps-clause-event : goal.returns-then-skipped-steps-clause-event
 returns-then-skipped-steps-clause-event c =
-    let s = c.args.steps.now in steps_end c.args.side s.turn s.harts s.count c.args.skipped c.if-skipped-steps.true
+    let s = c.args.steps.now in steps_end c.args.host s.turn s.harts s.count c.args.skipped c.if-skipped-steps.true
 
 pub returns-clause-event : goal.returns-clause-event
 returns-clause-event c =
     let s = c.args.steps.now in
-    (λ i. Some (At (c.number.ensures i) (Board (Step (c.hart_behind.ensures i)))))
-    ∙ sym (step_stands c.args.side s.turn s.harts s.count c.args.skipped c.if-skipped-steps.false)
+    (λ i. Some (At c.args.host (Board (Step (c.hart_behind.ensures i)))))
+    ∙ sym (step_stands c.args.host s.turn s.harts s.count c.args.skipped c.if-skipped-steps.false)

@@ -4,4 +4,4 @@ use Rattle.rvm_audit.proofs.places.insert.Goals as goal
 
 pub returns : goal.returns
 unfolding places_of
-returns c = updates c.args.bytes.items c.args.places.now c.insert.new.self _ c.in_ok-insert.ensures.updates
+returns c = updates c.args.key.items c.args.places.now c.insert.new.self _ c.in_ok-insert.ensures.updates

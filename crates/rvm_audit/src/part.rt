@@ -1,0 +1,39 @@
+//! What a merge reads of a journal, and how far it is.
+
+ghost use Rattle.std.specs.Prelude.{◌≡◌, ◌<◌, ◌^◌, length};
+ghost use Rattle.rvm_journal.specs.Items.{all_of};
+ghost use Rattle.rvm_journal.specs.Replay.{IsReplay};
+
+use rvm_journal::{Item, Journal};
+use rvm_mem::PagedMemory;
+
+/// The items of a journal, and the version of its host's streams.
+#[derive(Clone, Copy)]
+pub(crate) struct Part<'a> {
+    pub(crate) version: u32,
+    pub(crate) items: &'a [Item],
+}
+
+/// How much of a journal was taken: so many items, which have so many entries.
+#[derive(Clone, Copy)]
+pub struct Place {
+    pub items: usize,
+    pub entries: usize,
+}
+
+impl<'a> Part<'a> {
+    /// What a merge reads of this journal.
+    pub(crate) fn of<M: PagedMemory + Drop>(journal: &'a Journal<M>) -> Part<'a>
+        ensures version { result.version ≡ journal.now.opening.version }
+        ensures entries { all_of result.items.now ≡ journal.now.entries }
+        ensures replay { IsReplay journal.now.opening journal.now.entries }
+        ensures items { length result.items.now < 2 ^ 63 }
+        ensures few { length journal.now.entries < 2 ^ 32 }
+    {
+        let _count = journal.count(); // for the proof
+        Part {
+            version: journal.version(),
+            items: journal.items(),
+        }
+    }
+}
