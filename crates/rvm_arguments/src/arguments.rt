@@ -105,6 +105,8 @@ pub struct MoveArguments<'a> {
     pub factor: u32,
     /// The version of the streams, 1 to 3.
     pub stream: u32,
+    /// Whether the status of `move` tells how the guest's turns ended; of `audit`, which has no such option, false.
+    pub verdict: bool,
     ghost steps_allowed: { (1 ≤ steps) × (steps ≤ 100000) },
     ghost rounds_allowed: { (1 ≤ rounds) × (rounds ≤ 1000) },
     ghost left_allowed: { (1 ≤ left) × (left ≤ 4096) },

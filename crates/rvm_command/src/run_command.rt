@@ -66,13 +66,17 @@ pub fn run_command<M: PagedMemory + Drop, O: Write, E: Write>(
         → O.contents output.new ≡ O.contents output.old) }
 {
     match run_image::<M, O>(alloc, arguments, image, input, output) {
-        Ok(ended) => tell_end(ended, arguments.status, errors),
+        Ok(ended) => tell_run_end(ended, arguments.status, errors),
         Err(refused) => tell(refused, errors),
     }
 }
 
 /// Tells how a run ended, and answers the status that was asked for. `LinkFault` where it cannot be told.
-fn tell_end<E: Write>(ended: Ended, asked: StatusOf, errors: &mut E) -> Result<u8, LinkFault>
+pub fn tell_run_end<E: Write>(
+    ended: Ended,
+    asked: StatusOf,
+    errors: &mut E,
+) -> Result<u8, LinkFault>
     ensures { IfOk result (λ status. (status ≡ run_status asked ended)
         × Appends (E.contents errors.old) (E.contents errors.new) (end_text ended ++ codes "\n")) }
 {

@@ -1,5 +1,5 @@
 -- What words ask for, worked out by hand.
-use Rattle.std.proofs.Common.{◌≡◌, [], ◌∷◌, Option, Some, List, codes, option_map, refl}
+use Rattle.std.proofs.Common.{◌≡◌, [], ◌∷◌, Option, None, Some, List, codes, option_map, refl}
 use Rattle.clap.specs.Simple.{subcommand_of}
 use Rattle.clap.specs.Walk.{Text, first_of, one_of, walked}
 use Rattle.rvm_command_line.specs.Program.{program}
@@ -36,3 +36,19 @@ a_verdict_is_no_exit_status = refl
 pub an_exit_status_is_no_verdict : flags (codes "rvmove" ∷ codes "run" ∷ codes "--exit-status" ∷ codes "a" ∷ []) ≡ Some (Some (codes "false"), Some (codes "true"))
 unfolding walked
 an_exit_status_is_no_verdict = refl
+
+-- whether a verdict is asked for
+abbrev verdict : List Text → Option (Option Text)
+verdict words = option_map (λ command. one_of (codes "verdict") command.1) (subcommand_of program words)
+
+pub a_move_is_not_judged_unasked : verdict (codes "rvmove" ∷ codes "move" ∷ codes "a" ∷ []) ≡ Some (Some (codes "false"))
+unfolding walked
+a_move_is_not_judged_unasked = refl
+
+pub a_move_is_judged : verdict (codes "rvmove" ∷ codes "move" ∷ codes "--verdict" ∷ codes "a" ∷ []) ≡ Some (Some (codes "true"))
+unfolding walked
+a_move_is_judged = refl
+
+pub an_audit_is_not_judged : verdict (codes "rvmove" ∷ codes "audit" ∷ codes "a" ∷ []) ≡ Some None
+unfolding walked
+an_audit_is_not_judged = refl

@@ -101,7 +101,7 @@ script = with_rule (with_world (new_app (codes "script"))) (needed (codes "scrip
 
 -- the command that moves a guest to another host while it runs
 abbrev pub move : App
-move = with_move (new_app (codes "move"))
+move = with_rule (with_move (new_app (codes "move"))) (flag (codes "verdict"))
 
 -- the command that makes such a move and writes an order of both hosts' journals
 abbrev pub audit : App

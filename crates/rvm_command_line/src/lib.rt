@@ -9,4 +9,4 @@
 mod program;
 mod reading;
 
-pub use reading::{MAX_STEPS, parse_args};
+pub use reading::{MAX_STEPS, parse_args, word_fault};

@@ -81,9 +81,14 @@ const MOVE_HELP: &str = "\
 Example: rvmove move hello.elf --steps 5000 --rounds 3
 
 Standard output has what `rvmove run` would write with the same steps. At the end standard error has the
-answers of both hosts.
+answers of both hosts, and with --verdict after them `halted S` or `steps spent`.
 The guest is paused after R rounds of copies, or once fewer than L pages are left, or more copies made than
-F times its pages.";
+F times its pages.
+
+The status:  halted 0  halted S  steps spent  refused, or the move failed
+             0         0         0            1
+  --verdict  0         3         4            1
+It is 2 for a fault of the command line.";
 
 /// What stands below the help of `audit`.
 const AUDIT_HELP: &str = "\
@@ -656,7 +661,7 @@ fn move_command<'a>(alloc: Global) -> Result<Command<'a>, Error>
     let command = Command::new(alloc, "move")
         .about("Moves a guest from one host to another while it runs, and writes what it sends")
         .after_help(MOVE_HELP);
-    moving_command(command, alloc)
+    Ok(moving_command(command, alloc)?.arg(verdict_argument(alloc))?)
 }
 
 /// The words that `audit` takes.

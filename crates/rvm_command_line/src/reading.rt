@@ -1,11 +1,13 @@
 //! From words to arguments.
 
-ghost use Rattle.std.specs.Prelude.{◌≡◌, ◌≤◌, ◌&&◌, nat_le, if◌then◌else◌, [], Some, IfErr, IfOk, IfSome, codes, map, option_map};
+ghost use Rattle.std.specs.Prelude.{◌≡◌, ◌≤◌, ◌&&◌, nat_le, if◌then◌else◌, [], ◌∷◌, Some, IfErr, IfOk, IfSome, codes, map, option_map};
 ghost use Rattle.clap.specs.Faults.{fault_of};
 ghost use Rattle.clap.specs.Kinds.{HasKind};
 ghost use Rattle.clap.specs.Matches.{found_of};
 ghost use Rattle.clap.specs.Simple.{app_of, subcommand_of, subcommand_rows_of};
 ghost use Rattle.clap.specs.Walk.{first_of, one_of, rows_of};
+ghost use Rattle.clap.specs.Words.{kind_of};
+ghost use Rattle.clap.specs.declared.error.kind.ErrorKind.TheVariants as kind;
 ghost use Rattle.rvm_command_line.specs.Given.{Gives, IsAsked, IsFlag, IsGuest, IsHost, IsMove, IsNumber, IsOptionalGuest, IsOptionalNumber, IsStatusOf, IsTell};
 ghost use Rattle.rvm_command_line.specs.Program.{faults_of, program};
 
@@ -56,6 +58,26 @@ pub fn parse_args<'a, S: AsStr>(alloc: Global, words: &'a [S]) -> Result<Argumen
 {
     let mut command = program(alloc)?;
     read_words(&mut command, words)
+}
+
+/// The fault of a command line whose word at this place is not UTF-8, with `clap`'s text; the program's name has the place 0.
+pub fn word_fault(alloc: Global, place: usize) -> Error
+    ensures { HasKind (kind.ValueValidation ∷ []) result }
+{
+    match refuse_word(alloc, place) {
+        Ok(fault) => fault,
+        Err(error) => error,
+    }
+}
+
+/// The fault of a command line whose word at this place is not UTF-8, or that there is no memory for it.
+fn refuse_word(alloc: Global, place: usize) -> Result<Error, Error>
+    ensures kind { IfOk result (λ e. kind_of e ≡ kind.ValueValidation) }
+    ensures memory { IfErr result (λ e. kind_of e ≡ kind.OutOfMemory) }
+{
+    let mut parser = program(alloc)?;
+    let text = format!(in alloc; "word {place} of the command line is not UTF-8")?;
+    Ok(parser.error(ErrorKind::ValueValidation, text.as_str())?)
 }
 
 /// Reads a command line by the words that the program takes.
@@ -227,6 +249,7 @@ fn read_move<'a>(words: &ArgMatches<'a>) -> Result<MoveArguments<'a>, &'static s
         left,
         factor,
         stream,
+        verdict: flag(words, "verdict"),
     })
 }
 

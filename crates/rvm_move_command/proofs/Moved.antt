@@ -1,21 +1,26 @@
 -- What a sound move leaves.
-use Rattle.std.proofs.Common.{◌∙◌, Bool, true, false, ap, refl}
-use Rattle.std.specs.Prelude.{◌≡◌, ◌≢◌, ℕ, List, Option, None, Some, Result, Ok, Err, IfOk, if◌then◌else◌}
+use Rattle.std.proofs.Common.{◌∙◌, Bool, true, false, ap, arith, refl, subst, sym}
+use Rattle.std.proofs.KnownBytes.{Appends-trans}
+use Rattle.std.specs.Io.KnownBytes.{Appends}
+use Rattle.std.specs.Prelude.{◌≡◌, ◌≢◌, ◌++◌, ℕ, zero, suc, List, Option, None, Some, Result, Ok, Err, IfOk, if◌then◌else◌}
 use Rattle.std.specs.Result.{IsOkAnd}
 use Rattle.rvm_arguments.specs.declared.arguments.MoveArguments.{MoveArguments}
 use Rattle.rvm_cell.specs.declared.closing.CloseKind.{CloseKind}
 use Rattle.rvm_hart_worker.specs.declared.harts.TurnsEnd.{TurnsEnd}
+use Rattle.rvm_hart_worker.specs.declared.harts.TurnsEnd.TheVariants.{Halted, StepsSpent}
 use Rattle.rvm_command.specs.Command.{image_of}
 use Rattle.rvm_command.specs.Ends.{IsLoadable}
 use Rattle.rvm_core.specs.Hosts.{PlainHost}
 use Rattle.rvm_journal.specs.Entries.{PlainEntry}
 use Rattle.rvm_journal.specs.History.{History, Recording}
+use Rattle.rvm_journal.specs.Replay.{IsReplay}
 use Rattle.rvm_move.specs.declared.ends.Ends.{Ends}
 use Rattle.rvm_move.specs.Hosts.{IsFirstEnd, IsSecondEnd}
 use Rattle.rvm_move.proofs.Over.{move_is_over}
 use Rattle.rvm_move.specs.Ends.{failure_of_turns, fails_copying}
 use Rattle.rvm_move.specs.Runs.{IsEndRun, IsRunOf}
-use Rattle.rvm_move_command.specs.Ended.{AreLeft, IsMade, IsMoved, IsSound, IsToldOf}
+use Rattle.rvm_move_command.specs.Answers.{answers_text}
+use Rattle.rvm_move_command.specs.Ended.{AreLeft, IsMade, IsMoved, IsSound, IsToldOf, end_line, move_status}
 use Rattle.rvm_move_command.specs.Hosts.{AreOpened, HasValidGuest, IsFirstHost, IsSecondHost}
 use Rattle.rvm_move_command.specs.Plans.{plan_of}
 use Rattle.rvm_worker.specs.declared.end.WorkEnd.{WorkEnd}
@@ -26,10 +31,18 @@ if_ok (Ok x) P Q f p = f x p
 if_ok (Err e) P Q f p = tt
 
 -- the turns of a sound move came to their end
-turned : (P : Result TurnsEnd WorkEnd → Type 0) (harts : Result TurnsEnd WorkEnd) (rest : Option WorkEnd)
-    → failure_of_turns harts rest ≡ None → (harts ≢ Err LinkFault → P harts) → (end : TurnsEnd) × P (Ok end)
-turned P (Ok end) rest none run = (end, run (λ is. absurd cc))
-turned P (Err end) rest none run = absurd cc
+turned : (harts : Result TurnsEnd WorkEnd) (rest : Option WorkEnd) → failure_of_turns harts rest ≡ None
+    → (end : TurnsEnd) × (harts ≡ Ok end)
+turned (Ok end) rest none = (end, refl)
+turned (Err end) rest none = absurd cc
+
+-- and so they did of a move that was closed at both hosts
+pub sound_end : (ends : Ends) (a b : Option CloseKind) → IsSound ends a b → (end : TurnsEnd) × (ends.harts ≡ Ok end)
+sound_end ends a b sound = turned ends.harts _ sound.0
+
+-- turns that came to their end are no fault of a link
+is_no_fault : (harts : Result TurnsEnd WorkEnd) (end : TurnsEnd) → harts ≡ Ok end → harts ≢ Err LinkFault
+is_no_fault harts end is fault = absurd cc
 
 unfailed : (b : Bool) (copier : WorkEnd) (rest : Option WorkEnd) → (if b then Some copier else rest) ≡ None → b ≡ false
 unfailed false copier rest none = refl
@@ -63,46 +76,111 @@ left (Ok x) a file ends fault_a fault_b first second opened end_a end_b =
     record { opened = opened; of_first = end_a; of_second = end_b }
 left (Err e) a file ends fault_a fault_b first second opened end_a end_b = tt
 
--- what stands in the journals of a sound move
+-- what stands in the journals of a sound move whose turns ended so
+made_so : (a : MoveArguments) (ends : Ends) (fault_a fault_b : Option CloseKind) (first second : List PlainEntry)
+    (before after : Option (List ℕ)) → IsFirstEnd (plan_of a).policy ends fault_a first → IsSecondEnd ends fault_b second
+    → IsEndRun ends fault_a fault_b first second before after a.guest.harts a.steps → IsSound ends fault_a fault_b
+    → (end : TurnsEnd) → ends.harts ≡ Ok end → IsMade a first second before after
+made_so a ends fault_a fault_b first second before after end_a end_b run sound end is = record {
+  asked = record { of_first = end_a.asked sound.1; of_second = end_b.asked sound.2 };
+  ends = ends;
+  unfailed = sound.0;
+  worked = record {
+    copied = end_a.copied sound.1;
+    heard_a = end_a.heard sound.1;
+    heard_b = end_b.heard sound.2;
+  };
+  over = move_is_over ends.copier first (end_a.copied sound.1) (copied ends.harts ends.copier _ sound.0);
+  end = end;
+  run = subst (IsRunOf first second before after a.guest.harts a.steps) is
+      (run (is_no_fault ends.harts end is) sound.1 sound.2);
+}
+
+-- the same of any sound move
 pub made : (a : MoveArguments) (ends : Ends) (fault_a fault_b : Option CloseKind) (first second : List PlainEntry)
     (before after : Option (List ℕ)) → IsFirstEnd (plan_of a).policy ends fault_a first → IsSecondEnd ends fault_b second
     → IsEndRun ends fault_a fault_b first second before after a.guest.harts a.steps → IsSound ends fault_a fault_b
     → IsMade a first second before after
 made a ends fault_a fault_b first second before after end_a end_b run sound =
-    let all = turned (IsRunOf first second before after a.guest.harts a.steps) ends.harts _ sound.0
-    (λ works. run works sound.1 sound.2) in record {
-      asked = record { of_first = end_a.asked sound.1; of_second = end_b.asked sound.2 };
-      ends = ends;
-      unfailed = sound.0;
-      worked = record {
-        copied = end_a.copied sound.1;
-        heard_a = end_a.heard sound.1;
-        heard_b = end_b.heard sound.2;
-      };
-      over = move_is_over ends.copier first (end_a.copied sound.1) (copied ends.harts ends.copier _ sound.0);
-      end = all.0;
-      run = all.1;
-    }
+    let end = sound_end ends fault_a fault_b sound in
+    made_so a ends fault_a fault_b first second before after end_a end_b run sound end.0 end.1
 
 -- where that was told, it was a move
-pub moved : (arguments : MoveArguments) (file : List ℕ) (ends : Ends) (a b : Option CloseKind) (first second : History)
-    (before after output_before output_after : Option (List ℕ)) → AreLeft arguments file ends a b first second
+pub moved : (arguments : MoveArguments) (file : List ℕ) (status : ℕ) (ends : Ends) (a b : Option CloseKind)
+    (first second : History) (before after output_before output_after : Option (List ℕ)) → AreLeft arguments file ends a b first second
     → IsEndRun ends a b first.entries second.entries output_before output_after arguments.guest.harts arguments.steps
-    → IsToldOf ends a b first second before after → IsMoved arguments file before after output_before output_after
-moved arguments file ends a b first second before after output_before output_after left run told = record {
+    → IsToldOf arguments.verdict status ends a b first second before after
+    → IsMoved arguments file status before after output_before output_after
+unfolding made_so
+moved arguments file status ends a b first second before after output_before output_after left run told = record {
   first = first;
   second = second;
   opened = left.opened;
   first_replays = told.first_replays;
   second_replays = told.second_replays;
-  made = made arguments ends a b first.entries second.entries output_before output_after left.of_first left.of_second run told.sound;
+  made = made_so arguments ends a b first.entries second.entries output_before output_after left.of_first left.of_second run told.sound
+      told.end told.turned;
+  status_is = told.status_is;
   written = told.written;
 }
 
 -- the same of what a call answers
-pub moved_told : {X E F : Type 0} (r : Result ℕ F) (m : Result X E) (left output told : X → Type 0) (Z : Type 0)
-    → ((x : X) → left x → output x → told x → Z) → IfOk m left → IfOk m output
-    → IfOk r (λ s. s ≡ 0 → IsOkAnd m told) → IfOk r (λ s. s ≡ 0 → Z)
-moved_told (Ok s) (Ok x) left output told Z f n o t = λ is. f x n o (t is)
-moved_told (Ok s) (Err e) left output told Z f n o t = λ is. absurd (t is)
+pub moved_told : {X E F : Type 0} (r : Result ℕ F) (m : Result X E) (left output : X → Type 0) (told : ℕ → X → Type 0)
+    (Z : ℕ → Type 0) → ((s : ℕ) (x : X) → left x → output x → told s x → Z s) → IfOk m left → IfOk m output
+    → IfOk r (λ s. s ≢ 1 → IsOkAnd m (told s)) → IfOk r (λ s. s ≢ 1 → Z s)
+moved_told (Ok s) (Ok x) left output told Z f n o t = λ other. f s x n o (t other)
+moved_told (Ok s) (Err e) left output told Z f n o t = λ other. absurd (t other)
 moved_told (Err e) m left output told Z f n o t = tt
+
+-- what both hosts answered was told, and then how the turns ended
+told_end : (verdict : Bool) (s : ℕ) (ends : Ends) (a b : Option CloseKind) (first second : History)
+    (before one two three after : Option (List ℕ)) → IsReplay first.opening first.entries
+    → IsReplay second.opening second.entries → Appends before one (answers_text first.entries)
+    → Appends one two (answers_text second.entries) → three ≡ two → IsSound ends a b
+    → IfOk ends.harts (λ end. (s ≡ move_status verdict end) × Appends three after (end_line verdict end))
+    → IsToldOf verdict s ends a b first second before after
+told_end verdict s ends a b first second before one two three after replay_a replay_b of_first of_second silent sound ended =
+    let end = sound_end ends a b sound in
+    let told = subst (λ h. IfOk h (λ end. (s ≡ move_status verdict end) × Appends three after (end_line verdict end))) end.1 ended in
+    record {
+      sound = sound;
+      end = end.0;
+      turned = end.1;
+      status_is = told.0;
+      first_replays = replay_a;
+      second_replays = replay_b;
+      written =
+          Appends-trans before one after (answers_text first.entries)
+          (answers_text second.entries ++ end_line verdict end.0) of_first
+          (Appends-trans one two after (answers_text second.entries) (end_line verdict end.0) of_second
+          (subst (λ w. Appends w after (end_line verdict end.0)) silent told.1));
+    }
+
+-- the same of the call that tells it
+pub end_answered : {F : Type 0} (r : Result ℕ F) (verdict : Bool) (ends : Ends) (a b : Option CloseKind) (first second : History)
+    (before one two three after : Option (List ℕ)) → IsReplay first.opening first.entries
+    → IsReplay second.opening second.entries → Appends before one (answers_text first.entries)
+    → Appends one two (answers_text second.entries) → three ≡ two → IsSound ends a b
+    → IfOk r (λ s. IfOk ends.harts (λ end. (s ≡ move_status verdict end) × Appends three after (end_line verdict end)))
+    → IfOk r (λ s. s ≢ 1 → IsToldOf verdict s ends a b first second before after)
+end_answered (Ok s) verdict ends a b first second before one two three after ra rb fa fb silent sound ended =
+    λ other. told_end verdict s ends a b first second before one two three after ra rb fa fb silent sound ended
+end_answered (Err e) verdict ends a b first second before one two three after ra rb fa fb silent sound ended = tt
+
+-- a verdict, and that a command was done, are never 1
+no_one : (verdict : Bool) (end : TurnsEnd) → move_status verdict end ≡ 1 → ⊥
+no_one false (Halted s) is = let it : 0 ≡ 1 = is in absurd (omega (arith, it))
+no_one false StepsSpent is = let it : 0 ≡ 1 = is in absurd (omega (arith, it))
+no_one true (Halted zero) is = let it : 0 ≡ 1 = is in absurd (omega (arith, it))
+no_one true (Halted (suc n)) is = let it : 3 ≡ 1 = is in absurd (omega (arith, it))
+no_one true StepsSpent is = let it : 4 ≡ 1 = is in absurd (omega (arith, it))
+
+-- where the call told how the turns ended, its status is not 1
+pub never_one : {F : Type 0} (r : Result ℕ F) (verdict : Bool) (ends : Ends) (a b : Option CloseKind)
+    (P : ℕ → TurnsEnd → Type 0) (Z : Type 0) → IsSound ends a b
+    → IfOk r (λ s. IfOk ends.harts (λ end. (s ≡ move_status verdict end) × P s end)) → IfOk r (λ s. s ≡ 1 → Z)
+never_one (Err e) verdict ends a b P Z sound ended = tt
+never_one (Ok s) verdict ends a b P Z sound ended =
+    let end = sound_end ends a b sound in
+    let told = subst (λ h. IfOk h (λ end. (s ≡ move_status verdict end) × P s end)) end.1 ended in
+    λ one. absurd (no_one verdict end.0 (sym told.0 ∙ one))

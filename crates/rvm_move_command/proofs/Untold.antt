@@ -1,5 +1,5 @@
 -- What was to be told of a move where a write to the errors failed.
-use Rattle.std.proofs.Common.{◌≡◌, ◌⊎◌, ℕ, List, [], ◌++◌, Option, None, Some, Result, Ok, Err, codes, inl, inr, refl}
+use Rattle.std.proofs.Common.{◌≡◌, ◌⊎◌, Bool, ℕ, List, [], ◌++◌, Option, None, Some, Result, Ok, Err, codes, inl, inr, refl}
 use Rattle.std.specs.Prelude.{IfErr, IfOk, OnErr}
 use Rattle.rvm_arguments.specs.declared.arguments.MoveArguments.{MoveArguments}
 use Rattle.rvm_audit.specs.declared.error.AuditError.{AuditError}
@@ -13,8 +13,9 @@ use Rattle.rvm_journal.specs.Replay.{IsReplay}
 use Rattle.rvm_move.specs.declared.ends.Ends.{Ends}
 use Rattle.rvm_move.specs.Ends.{failure}
 use Rattle.rvm_move_command.specs.Answers.{answers_text}
-use Rattle.rvm_move_command.specs.Ended.{AreLeft, IsFailureOf, IsMoveRefusal, IsMoved, IsNotMoved, IsSound, IsToldOf, IsUntold, failure_line}
+use Rattle.rvm_move_command.specs.Ended.{AreLeft, IsFailureOf, IsMoveRefusal, IsMoved, IsNotMoved, IsSound, IsToldOf, IsUntold, end_line, failure_line, move_status}
 use Rattle.rvm_move_command.specs.Orders.{HasNoOrder, IsNotAudited, IsOrderRefusal, IsUnordered}
+use Rattle.rvm_move_command.proofs.Moved.{sound_end}
 use Rattle.rvm_move_command.proofs.Unordered.{reason_of}
 use Rattle.rvm_refusal.specs.declared.refusal.Refusal.TheVariants as refusal
 
@@ -95,24 +96,33 @@ three o a b =
 sound_or_not : (ends : Ends) (a b : Option CloseKind) → IsSound ends a b ⊎ (IsSound ends a b → ⊥)
 sound_or_not ends a b = three (failure ends) a b
 
--- what both hosts answered, and why the move failed, if it did
-abbrev pub IsEndOf : Ends → (a b : Option CloseKind) → (first second : History) → (before after : Option (List ℕ)) → Type 0
-IsEndOf ends a b first second before after =
-    IsToldOf ends a b first second before after ⊎ IsFailureOf ends a b first second before after
+-- what both hosts answered, and why the move failed, if it did, or how the turns ended, with this status
+abbrev pub IsEndOf : (verdict : Bool) → Ends → (a b : Option CloseKind) → (first second : History)
+    → (before after : Option (List ℕ)) → Type 0
+IsEndOf verdict ends a b first second before after =
+    ((status : ℕ) × IsToldOf verdict status ends a b first second before after)
+    ⊎ IsFailureOf ends a b first second before after
 
-pub end_of : (ends : Ends) (a b : Option CloseKind) (first second : History) → IsReplay first.opening first.entries
-    → IsReplay second.opening second.entries → IsUntold (IsEndOf ends a b first second)
-end_of ends a b first second replay_a replay_b =
+pub end_of : (verdict : Bool) (ends : Ends) (a b : Option CloseKind) (first second : History)
+    → IsReplay first.opening first.entries → IsReplay second.opening second.entries
+    → IsUntold (IsEndOf verdict ends a b first second)
+end_of verdict ends a b first second replay_a replay_b =
     elim (sound_or_not ends a b) [
-      | inl sound ↦ (
-        answers_text first.entries ++ answers_text second.entries,
-        inl (record {
-          sound = sound;
-          first_replays = replay_a;
-          second_replays = replay_b;
-          written = refl;
-        }),
-      )
+      | inl sound ↦ (let end = sound_end ends a b sound in (
+        answers_text first.entries ++ (answers_text second.entries ++ end_line verdict end.0),
+        inl (
+          move_status verdict end.0,
+          record {
+            sound = sound;
+            end = end.0;
+            turned = end.1;
+            status_is = refl;
+            first_replays = replay_a;
+            second_replays = replay_b;
+            written = refl;
+          },
+        ),
+      ))
       | inr failed ↦ (
         answers_text first.entries ++ (answers_text second.entries ++ failure_line ends a b),
         inr (record {
@@ -127,28 +137,29 @@ end_of ends a b first second replay_a replay_b =
 -- of a move that did not begin, whatever the call answers
 pub not_moved : {X F : Type 0} (r : Result X F) (a : MoveArguments) (file : List ℕ) (why : Refused)
     (output_before output_after : Option (List ℕ)) → IsMoveRefusal a file why
-    → OnErr r (IsUntold (λ before after. IsMoved a file before after output_before output_after
-    ⊎ IsNotMoved a file before after))
+    → OnErr r (IsUntold (λ before after.
+    ((status : ℕ) × IsMoved a file status before after output_before output_after) ⊎ IsNotMoved a file before after))
 not_moved (Ok x) a file why ob oa reason = tt
 not_moved (Err e) a file why ob oa reason = (line why, inr (inl (record { why = why; reason = reason; told = refl })))
 
 -- what a call answers that was to tell it
 pub untold_move : {X F : Type 0} (r : Result ℕ F) (m : Result X Refused) (a : MoveArguments) (file : List ℕ)
     (output_before output_after : Option (List ℕ)) (left output replays : X → Type 0)
-    (Moved Failed : X → (before after : Option (List ℕ)) → Type 0)
-    → ((x : X) → replays x → IsUntold (λ before after. Moved x before after ⊎ Failed x before after))
-    → ((x : X) (before after : Option (List ℕ)) → left x → output x → Moved x before after
-    → IsMoved a file before after output_before output_after)
+    (Moved : X → (status : ℕ) → (before after : Option (List ℕ)) → Type 0)
+    (Failed : X → (before after : Option (List ℕ)) → Type 0)
+    → ((x : X) → replays x → IsUntold (λ before after. ((status : ℕ) × Moved x status before after) ⊎ Failed x before after))
+    → ((x : X) (status : ℕ) (before after : Option (List ℕ)) → left x → output x → Moved x status before after
+    → IsMoved a file status before after output_before output_after)
     → ((x : X) (before after : Option (List ℕ)) → left x → Failed x before after → IsNotMoved a file before after)
     → IfOk m left → IfOk m output → IfOk m replays → IfErr m (IsMoveRefusal a file)
-    → OnErr r (IsUntold (λ before after. IsMoved a file before after output_before output_after
-    ⊎ IsNotMoved a file before after))
+    → OnErr r (IsUntold (λ before after.
+    ((status : ℕ) × IsMoved a file status before after output_before output_after) ⊎ IsNotMoved a file before after))
 untold_move (Ok s) m a file ob oa left output replays Moved Failed f g h n o t why = tt
 untold_move (Err e) (Err r) a file ob oa left output replays Moved Failed f g h n o t why =
     (line r, inr (inl (record { why = r; reason = why; told = refl })))
 untold_move (Err e) (Ok x) a file ob oa left output replays Moved Failed f g h n o t why =
     let all = f x t in
     elim all.1 [
-      | inl moved ↦ (all.0, inl (g x (Some []) (Some all.0) n o moved))
+      | inl moved ↦ (all.0, inl (moved.0, g x moved.0 (Some []) (Some all.0) n o moved.1))
       | inr failed ↦ (all.0, inr (h x (Some []) (Some all.0) n failed))
     ]

@@ -1,15 +1,21 @@
 -- How a move ended, as it is told.
-use Rattle.std.specs.Prelude.{◌≡◌, ◌⊎◌, ℕ, List, [], ◌++◌, Option, None, Some, Ok, codes}
+use Rattle.std.specs.Prelude.{◌≡◌, ◌⊎◌, ℕ, Bool, true, false, List, [], ◌++◌, Option, None, Some, Ok, codes}
 use Rattle.std.specs.Io.KnownBytes.{Appends}
 use Rattle.std.specs.List.{All}
 use Rattle.rvm_arguments.specs.declared.arguments.MoveArguments.{MoveArguments}
+use Rattle.rvm_arguments.specs.declared.arguments.StatusOf.{StatusOf}
+use Rattle.rvm_arguments.specs.declared.arguments.StatusOf.TheVariants.{Command, Verdict}
 use Rattle.rvm_cell.specs.Closing.{close_refusal}
 use Rattle.rvm_cell.specs.declared.closing.CloseKind.{CloseKind}
 use Rattle.rvm_command.specs.declared.refused.Refused.{Refused}
-use Rattle.rvm_command.specs.Command.{image_of}
-use Rattle.rvm_command.specs.Ends.{IsLoadRefusal}
+use Rattle.rvm_command.specs.declared.run.Ended.{Ended}
+use Rattle.rvm_command.specs.declared.run.Ended.TheVariants.{HaltedWith}
+use Rattle.rvm_command.specs.declared.run.Ended.TheVariants as run
+use Rattle.rvm_command.specs.Command.{end_text, image_of}
+use Rattle.rvm_command.specs.Ends.{IsLoadRefusal, run_status}
 use Rattle.rvm_command.specs.Refusals.{IsTold, refused}
 use Rattle.rvm_hart_worker.specs.declared.harts.TurnsEnd.{TurnsEnd}
+use Rattle.rvm_hart_worker.specs.declared.harts.TurnsEnd.TheVariants.{Halted, StepsSpent}
 use Rattle.rvm_journal.specs.Entries.{PlainEntry}
 use Rattle.rvm_journal.specs.History.{History}
 use Rattle.rvm_journal.specs.Replay.{IsReplay}
@@ -75,13 +81,37 @@ IsUntold Tells = (text : List ℕ) × Tells (Some []) (Some text)
 abbrev pub IsSound : Ends → (a b : Option CloseKind) → Type 0
 IsSound ends a b = (failure ends ≡ None) × (a ≡ None) × (b ≡ None)
 
--- of a sound move, what both hosts answered was told, and nothing else; each answer is the law's
-pub record IsToldOf (ends : Ends) (a b : Option CloseKind) (first second : History) (before after : Option (List ℕ))
-    : Type 0 where
+-- how the turns of a guest that moved ended, as those of a run
+abbrev pub ended_of : TurnsEnd → Ended
+ended_of (Halted s) = HaltedWith s
+ended_of StepsSpent = run.StepsSpent
+
+-- what the status of a move tells of that: it is a verdict, or that the command was done
+abbrev pub status_asked : (verdict : Bool) → StatusOf
+status_asked false = Command
+status_asked true = Verdict
+
+-- the line that tells it, if there is to be one
+abbrev pub end_line : (verdict : Bool) → TurnsEnd → List ℕ
+end_line false end = []
+end_line true end = end_text (ended_of end) ++ codes "\n"
+
+-- the status that tells it
+abbrev pub move_status : (verdict : Bool) → TurnsEnd → ℕ
+move_status verdict end = run_status (status_asked verdict) (ended_of end)
+
+-- of a sound move, what both hosts answered was told, and after it how the turns ended, if that was asked for; each answer is
+-- the law's
+pub record IsToldOf (verdict : Bool) (status : ℕ) (ends : Ends) (a b : Option CloseKind) (first second : History)
+    (before after : Option (List ℕ)) : Type 0 where
   pub sound : IsSound ends a b
+  pub end : TurnsEnd
+  pub turned : ends.harts ≡ Ok end
+  pub status_is : status ≡ move_status verdict end
   pub first_replays : IsReplay first.opening first.entries
   pub second_replays : IsReplay second.opening second.entries
-  pub written : Appends before after (answers_text first.entries ++ answers_text second.entries)
+  pub written : Appends before after
+      (answers_text first.entries ++ (answers_text second.entries ++ end_line verdict end))
 
 -- what was asked of the two hosts of a move: of the first its guest's turns and the move of it to the second, with the policy
 -- that the arguments name, and frames from there; of the second the guest's turns and frames from the first
@@ -108,17 +138,19 @@ pub record IsMade (a : MoveArguments) (first second : List PlainEntry) (output_b
   pub end : TurnsEnd
   pub run : IsRunOf first second output_before output_after a.guest.harts a.steps (Ok end)
 
--- a move of a file: what two hosts answered was told, of which the first began with the guest of the file. Each answer is
--- the law's
-pub record IsMoved (a : MoveArguments) (file : List ℕ) (before after output_before output_after : Option (List ℕ))
-    : Type 0 where
+-- a move of a file: what two hosts answered was told, of which the first began with the guest of the file, and after it how
+-- the turns ended, if that was asked for. Each answer is the law's; the status is that of this end
+pub record IsMoved (a : MoveArguments) (file : List ℕ) (status : ℕ)
+    (before after output_before output_after : Option (List ℕ)) : Type 0 where
   pub first : History
   pub second : History
   pub opened : AreOpened a file first.opening second.opening
   pub first_replays : IsReplay first.opening first.entries
   pub second_replays : IsReplay second.opening second.entries
   pub made : IsMade a first.entries second.entries output_before output_after
-  pub written : Appends before after (answers_text first.entries ++ answers_text second.entries)
+  pub status_is : status ≡ move_status a.verdict made.end
+  pub written : Appends before after
+      (answers_text first.entries ++ (answers_text second.entries ++ end_line a.verdict made.end))
 
 -- the two hosts of a move of a file as it left them: what was asked of each, and how its workers ended, by its journal
 pub record AreLeft (a : MoveArguments) (file : List ℕ) (ends : Ends) (fault_a fault_b : Option CloseKind)

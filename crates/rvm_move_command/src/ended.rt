@@ -1,13 +1,16 @@
 //! How a move ended, as it is told.
 
-ghost use Rattle.std.specs.Prelude.{◌≡◌, ◌⊎◌, ◌↔◌, ◌++◌, None, IfOk, OnErr, OnOk};
+ghost use Rattle.std.specs.Prelude.{◌≡◌, ◌≢◌, ◌⊎◌, ◌↔◌, None, IfOk, OnErr, OnOk};
 ghost use Rattle.std.specs.Io.KnownBytes.{Appends};
 ghost use Rattle.rvm_journal.specs.Replay.{IsReplay};
-ghost use Rattle.rvm_move_command.specs.Answers.{answers_text};
-ghost use Rattle.rvm_move_command.specs.Ended.{IsFailureOf, IsSound, failure_line, first_fault, line_or, refusal_of_end, words_of};
+ghost use Rattle.rvm_move_command.specs.Ended.{IsFailureOf, IsSound, IsToldOf, end_line, ended_of, failure_line, first_fault, line_or, move_status, refusal_of_end, words_of};
 
 use crate::answers::write_answers;
+use rvm_arguments::StatusOf;
 use rvm_cell::CloseKind;
+use rvm_command::run::Ended;
+use rvm_command::run_command::tell_run_end;
+use rvm_hart_worker::TurnsEnd;
 use rvm_mem::PagedMemory;
 use rvm_move::Moved;
 use rvm_refusal::{LinkFault, Refusal};
@@ -99,19 +102,48 @@ fn first_fault(a: Option<CloseKind>, b: Option<CloseKind>) -> Option<CloseKind>
     }
 }
 
-/// Tells what both hosts answered, the first one's before the second's, and why the move failed, if
-/// it did. Answers the status, as `tell_failure` does.
+/// How the turns of a guest that moved ended, as those of a run.
+fn ended_of(end: TurnsEnd) -> Ended
+    ensures { result ≡ ended_of end }
+{
+    match end {
+        TurnsEnd::Halted(status) => Ended::HaltedWith(status),
+        TurnsEnd::StepsSpent => Ended::StepsSpent,
+    }
+}
+
+/// Tells how the turns of a guest ended, if a `verdict` on that is asked for, and answers the status. `LinkFault` where it
+/// cannot be told.
+fn tell_turns<E: Write>(
+    harts: Result<TurnsEnd, WorkEnd>,
+    verdict: bool,
+    errors: &mut E,
+) -> Result<u8, LinkFault>
+    ensures { IfOk result (λ status. IfOk harts (λ end. (status ≡ move_status verdict end)
+        × Appends (E.contents errors.old) (E.contents errors.new) (end_line verdict end))) }
+{
+    let Ok(end) = harts else {
+        return Ok(0);
+    };
+    if verdict {
+        tell_run_end(ended_of(end), StatusOf::Verdict, errors)
+    } else {
+        Ok(0)
+    }
+}
+
+/// Tells what both hosts answered, the first one's before the second's, and then why the move failed, if it did, or how the
+/// guest's turns ended, if a `verdict` on that is asked for. Answers the status: 1 where the move failed, and else that of
+/// this end.
 pub(crate) fn tell_moved<M: PagedMemory + Drop, E: Write>(
     alloc: Global,
     moved: &Moved<M>,
+    verdict: bool,
     errors: &mut E,
 ) -> Result<u8, LinkFault>
-    ensures status { IfOk result (λ status. (status ≡ 0) ⊎ (status ≡ 1)) }
-    ensures sound { IfOk result (λ status. status ≡ 0
-        ↔ IsSound moved.now.ends moved.now.a.fault moved.now.b.fault) }
-    ensures told { IfOk result (λ status. status ≡ 0 → Appends (E.contents errors.old) (E.contents errors.new)
-        (answers_text moved.now.a.recorded.journal.entries
-        ++ answers_text moved.now.b.recorded.journal.entries)) }
+    ensures told { IfOk result (λ status. status ≢ 1 → IsToldOf verdict status moved.now.ends moved.now.a.fault
+        moved.now.b.fault moved.now.a.recorded.journal moved.now.b.recorded.journal
+        (E.contents errors.old) (E.contents errors.new)) }
     ensures failed { IfOk result (λ status. status ≡ 1
         → IsFailureOf moved.now.ends moved.now.a.fault moved.now.b.fault moved.now.a.recorded.journal
         moved.now.b.recorded.journal (E.contents errors.old) (E.contents errors.new)) }
@@ -122,5 +154,9 @@ pub(crate) fn tell_moved<M: PagedMemory + Drop, E: Write>(
     let b = moved.b.recorded.journal().items();
     write_answers(alloc, errors, a)?;
     write_answers(alloc, errors, b)?;
-    tell_failure(moved, errors)
+    let failure = tell_failure(moved, errors)?;
+    if failure != 0 {
+        return Ok(failure);
+    }
+    tell_turns(moved.ends.harts, verdict, errors)
 }

@@ -1,6 +1,6 @@
 //! `rvmove move`: a guest moves between two hosts in this process, over TCP.
 
-ghost use Rattle.std.specs.Prelude.{◌≡◌, ◌⊎◌, IfErr, IfOk, OnErr};
+ghost use Rattle.std.specs.Prelude.{◌≡◌, ◌≢◌, ◌⊎◌, ℕ, IfErr, IfOk, OnErr};
 ghost use Rattle.rvm_command.specs.Command.{image_of};
 ghost use Rattle.rvm_command.specs.Ends.{IsLoadable};
 ghost use Rattle.rvm_move.specs.Hosts.{IsFirstEnd, IsSecondEnd};
@@ -55,19 +55,18 @@ pub fn move_command<
 ) -> Result<u8, LinkFault>
 where
     R::Stream: Send,
-    ensures status { IfOk result (λ status. (status ≡ 0) ⊎ (status ≡ 1)) }
-    ensures moved { IfOk result (λ status. status ≡ 0 → IsMoved arguments.now image.now
+    ensures moved { IfOk result (λ status. status ≢ 1 → IsMoved arguments.now image.now status
         (E.contents errors.old) (E.contents errors.new) (O.contents output.old) (O.contents output.new)) }
     ensures failed { IfOk result (λ status. status ≡ 1
         → IsNotMoved arguments.now image.now (E.contents errors.old) (E.contents errors.new)) }
     ensures untold { OnErr result (IsUntold (λ before after.
-        IsMoved arguments.now image.now before after (O.contents output.old) (O.contents output.new)
+        ((status : ℕ) × IsMoved arguments.now image.now status before after (O.contents output.old) (O.contents output.new))
         ⊎ IsNotMoved arguments.now image.now before after)) }
     ensures unloadable { IsLoadable (image_of arguments.now.guest.raw image.now) arguments.now.guest.pages
         ⊎ (O.contents output.new ≡ O.contents output.old) }
 {
     let moved = move_image::<M, O, R>(rt, alloc, arguments, image, output);
-    tell_end(rt, alloc, moved, errors)
+    tell_end(rt, alloc, moved, arguments.verdict, errors)
 }
 
 /// Moves the guest of an image over TCP: both hosts, and how its workers ended.

@@ -1,6 +1,6 @@
 //! A move over links that are handed in.
 
-ghost use Rattle.std.specs.Prelude.{◌≡◌, ◌⊎◌, [], IfErr, IfOk, OnErr};
+ghost use Rattle.std.specs.Prelude.{◌≡◌, ◌≢◌, ◌⊎◌, ℕ, [], IfErr, IfOk, OnErr};
 ghost use Rattle.std.specs.Result.{IsOkAnd};
 ghost use Rattle.rvm_command.specs.Command.{image_of};
 ghost use Rattle.rvm_command.specs.Ends.{IsLoadable};
@@ -35,8 +35,10 @@ use std::time::Clock;
 /// Moves the guest whose file `image` is from the first host to the second one while it runs. Each side
 /// has a link that its frames go out by, and one that the other side's come by. What the guest sends goes
 /// to `output`; what both hosts answered to the commands of the move and to frames goes to `errors` when
-/// all is over, the first one's before the second's. Answers the status: 0, or 1 where the image was
-/// refused, which leaves `output` as it was, or the move failed; then the last line of `errors` says why.
+/// all is over, the first one's before the second's, and after it, if `arguments.verdict` asks for that, how the
+/// guest's turns ended. Answers the status: 1 where the image was refused, which leaves `output` as it was, or the move
+/// failed; then the last line of `errors` says why. Else it is 0, or where a verdict was asked for what `run` answers then:
+/// 0, 3 or 4.
 /// `LinkFault` as the answer: a write to `errors` failed. It may wait for other threads: it starts three,
 /// and when these have ended one for which it does not wait, and which gives back what both hosts keep.
 pub fn move_over<
@@ -56,13 +58,12 @@ pub fn move_over<
     output: &mut O,
     errors: &mut E,
 ) -> Result<u8, LinkFault>
-    ensures status { IfOk result (λ status. (status ≡ 0) ⊎ (status ≡ 1)) }
-    ensures moved { IfOk result (λ status. status ≡ 0 → IsMoved arguments.now image.now
+    ensures moved { IfOk result (λ status. status ≢ 1 → IsMoved arguments.now image.now status
         (E.contents errors.old) (E.contents errors.new) (O.contents output.old) (O.contents output.new)) }
     ensures failed { IfOk result (λ status. status ≡ 1
         → IsNotMoved arguments.now image.now (E.contents errors.old) (E.contents errors.new)) }
     ensures untold { OnErr result (IsUntold (λ before after.
-        IsMoved arguments.now image.now before after (O.contents output.old) (O.contents output.new)
+        ((status : ℕ) × IsMoved arguments.now image.now status before after (O.contents output.old) (O.contents output.new))
         ⊎ IsNotMoved arguments.now image.now before after)) }
     ensures unloadable { IsLoadable (image_of arguments.now.guest.raw image.now) arguments.now.guest.pages
         ⊎ (O.contents output.new ≡ O.contents output.old) }
@@ -71,7 +72,7 @@ pub fn move_over<
         Ok(recorded) => {
             let plan = plan_of(arguments);
             let moved = move_recorded(rt, alloc, recorded, links, gate, &plan, output);
-            tell_end(rt, alloc, moved, errors)
+            tell_end(rt, alloc, moved, arguments.verdict, errors)
         }
         Err(refused) => tell(refused, errors),
     }
@@ -93,15 +94,15 @@ pub fn plan_of(arguments: &MoveArguments) -> Plan
     }
 }
 
-/// Tells what both hosts of a move answered, or of a refusal.
+/// Tells what both hosts of a move answered, and if a `verdict` is asked for how the turns ended; or of a refusal.
 pub(crate) fn tell_end<M: PagedMemory + Drop + Send + 'static, E: Write, R: Threads>(
     rt: &R,
     alloc: Global,
     moved: Result<Moved<M>, Refused>,
+    verdict: bool,
     errors: &mut E,
 ) -> Result<u8, LinkFault>
-    ensures status { IfOk result (λ status. (status ≡ 0) ⊎ (status ≡ 1)) }
-    ensures told { IfOk result (λ status. status ≡ 0 → IsOkAnd moved (λ m. IsToldOf m.ends m.a.fault m.b.fault
+    ensures told { IfOk result (λ status. status ≢ 1 → IsOkAnd moved (λ m. IsToldOf verdict status m.ends m.a.fault m.b.fault
         m.a.recorded.journal m.b.recorded.journal (E.contents errors.old) (E.contents errors.new))) }
     ensures failed { IfOk result (λ status. IfOk moved (λ m. status ≡ 1 → IsFailureOf m.ends m.a.fault m.b.fault
         m.a.recorded.journal m.b.recorded.journal (E.contents errors.old) (E.contents errors.new))) }
@@ -112,7 +113,7 @@ pub(crate) fn tell_end<M: PagedMemory + Drop + Send + 'static, E: Write, R: Thre
 {
     match moved {
         Ok(moved) => {
-            let told = tell_moved(alloc, &moved, errors);
+            let told = tell_moved(alloc, &moved, verdict, errors);
             give_back(rt, moved);
             told
         }

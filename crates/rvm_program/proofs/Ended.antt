@@ -1,7 +1,8 @@
 -- How commands end that were given their files.
-use Rattle.std.proofs.Common.{◌≡◌, ◌⊎◌, ℕ, zero, suc, List, [], ◌++◌, Option, Result, Ok, Err, codes, inl, inr}
-use Rattle.std.proofs.Common.{refl, subst, sym}
-use Rattle.std.specs.Prelude.{OnErr}
+use Rattle.std.proofs.Common.{◌≡◌, ◌⊎◌, ◌∙◌, ℕ, zero, suc, List, [], ◌++◌, Option, None, Some, Result, Ok, Err, codes, inl, inr}
+use Rattle.std.proofs.Common.{arith, refl, subst, sym, take}
+use Rattle.std.specs.Borrow.{Bor}
+use Rattle.std.specs.Prelude.{◌≢◌, OnErr}
 use Rattle.std.specs.Result.{IfOk}
 use Rattle.rvm_arguments.specs.declared.arguments.AsmArguments.{AsmArguments}
 use Rattle.rvm_arguments.specs.declared.arguments.DisArguments.{DisArguments}
@@ -18,7 +19,8 @@ use Rattle.rvm_command.specs.Ends.{HasStatus, IsAsmEnd, IsDebugEnd, IsListEnd, I
 use Rattle.rvm_move_command.specs.Ended.{IsMoved, IsNotMoved, IsUntold}
 use Rattle.rvm_move_command.specs.Orders.{IsAudited, IsNotAudited}
 use Rattle.rvm_program.specs.Ended.{AsmEnded, AuditEnded, DebugEnded, DisEnded, HostEnded, MoveEnded, RunEnded, ScriptEnded, TellEnded, ToTell, Written}
-use Rattle.rvm_program.specs.Files.{IsCreated, IsFile, IsInput, IsOpened, Named}
+use Rattle.rvm_command.proofs.Inputs.{ends_so}
+use Rattle.rvm_program.specs.Files.{IsApart, IsCreated, IsFile, IsFirst, IsFirstInput, IsInput, IsOpened, Named}
 use Rattle.rvm_world_command.specs.Ends.{IsScriptEnd}
 
 -- neither 0 nor 1
@@ -45,32 +47,67 @@ run_to_tell asked End (Ok ended, is) =
     (run_status asked ended, end_text ended ++ codes "\n", inl (ended, refl, is, refl))
 run_to_tell asked End (Err r, is) = (1, refused_text r ++ codes "\n", inr (r, refl, is, refl))
 
+-- a run was given all of its input, or the bytes that its turns can take
+abbrev IsEnough : (steps : ℕ) → (given input : List ℕ) → Type 0
+IsEnough steps given input = (given ≡ input) ⊎ (given ≡ take steps input)
+
+-- the file of an input, of which these are the first bytes
+whole_file : (known : Option (List ℕ)) (steps : ℕ) (given : List ℕ) → IsFirst known steps given
+    → (input : List ℕ) × IsFile known input × IsEnough steps given input
+whole_file None steps given is = (given, tt, inl refl)
+whole_file (Some all) steps given is = (all, refl, inr is)
+
+-- the input of a run, of which these are the first bytes
+whole_input : (files : Named) (name : Option (Bor (List ℕ))) (steps : ℕ) (given : List ℕ) → IsFirstInput files name steps given
+    → (input : List ℕ) × IsInput files name input × IsEnough steps given input
+whole_input files None steps given none = ([], refl, inl none)
+whole_input files (Some name) steps given is = whole_file (files name.now) steps given is
+
+-- how a run ended that was given enough, so it ends with all of its input
+ends_with : (a : RunArguments) (image begun given input : List ℕ) (output : Written) (end : Result Ended Refused)
+    → begun ≡ given → IsEnough a.steps given input → IsRunEnd a image begun end output.before output.after
+    → IsRunEnd a image input end output.before output.after
+ends_with a image begun given input output end same (inl all) is =
+    subst (λ i. IsRunEnd a image i end output.before output.after) (same ∙ all) is
+ends_with a image begun given input output end same (inr part) is =
+    ends_so a image begun input end output.before output.after (same ∙ part) is
+
+-- a run that ended so has its status of each end that it has, too
+ended_so : (asked : StatusOf) (status : ℕ) (errors : Written) (P Q : Result Ended Refused → Type 0)
+    → ((end : Result Ended Refused) → P end → Q end) → RunHasStatus asked status P errors.before errors.after
+    → RunHasStatus asked status Q errors.before errors.after
+ended_so asked status errors P Q f (inl (e, is, end, told)) = inl (e, is, f (Ok e) end, told)
+ended_so asked status errors P Q f (inr (r, is, end, told)) = inr (r, is, f (Err r) end, told)
+
 module _ {F : Type 0} (files : Named) (errors : Written) where
-  -- `run` was told the image and the input of its files
-  pub run_ended : (a : RunArguments) (image bytes input given : List ℕ) (output : Written) (r : Result ℕ F)
-      → image ≡ bytes → input ≡ given → IsFile (files a.guest.image.now) bytes → IsInput files a.input given
-      → IfOk r (λ status. RunHasStatus a.status status (λ end. IsRunEnd a image input end output.before output.after)
+  -- `run` was told the image of its file, and of the input the bytes that its turns can take
+  pub run_ended : (a : RunArguments) (image bytes begun given : List ℕ) (output : Written) (r : Result ℕ F)
+      → image ≡ bytes → begun ≡ given → IsFile (files a.guest.image.now) bytes → IsFirstInput files a.input a.steps given
+      → IfOk r (λ status. RunHasStatus a.status status (λ end. IsRunEnd a image begun end output.before output.after)
       errors.before errors.after)
       → IfOk r (λ status. RunEnded files a status output errors)
-  run_ended a image bytes input given output (Err e) same given_same is given_is ended = tt
-  run_ended a image bytes input given output (Ok status) same given_same is given_is ended = record {
-    image = image;
-    input = input;
-    image_is = subst (IsFile (files a.guest.image.now)) (sym same) is;
-    input_is = subst (IsInput files a.input) (sym given_same) given_is;
-    ended = ended;
-  }
+  run_ended a image bytes begun given output (Err e) same begun_same is given_is ended = tt
+  run_ended a image bytes begun given output (Ok status) same begun_same is given_is ended =
+      let whole = whole_input files a.input a.steps given given_is in record {
+        image = image;
+        input = whole.0;
+        image_is = subst (IsFile (files a.guest.image.now)) (sym same) is;
+        input_is = whole.1;
+        ended = ended_so a.status status errors _ _ (λ end. ends_with a image begun given whole.0 output end begun_same whole.2) ended;
+      }
 
   -- `asm` was told the text of its file, and wrote to its file
   pub asm_ended : (created : Named) (a : AsmArguments) (text bytes : List ℕ) (file : Written) (r : Result ℕ F)
-      → text ≡ bytes → IsFile (files a.source.now) bytes → IsCreated (created a.output.now) file.before
+      → text ≡ bytes → IsFile (files a.source.now) bytes → IsApart (files a.output.now) text
+      → IsCreated (created a.output.now) file.before
       → IfOk r (λ status. HasStatus status (λ end. IsAsmEnd text end file.before file.after) errors.before errors.after)
       → IfOk r (λ status. AsmEnded files created a status errors)
-  asm_ended created a text bytes file (Err e) same is to ended = tt
-  asm_ended created a text bytes file (Ok status) same is to ended = record {
+  asm_ended created a text bytes file (Err e) same is apart to ended = tt
+  asm_ended created a text bytes file (Ok status) same is apart to ended = record {
     text = text;
     file = file;
     text_is = subst (IsFile (files a.source.now)) (sym same) is;
+    apart = apart;
     file_is = to;
     ended = ended;
   }
@@ -145,52 +182,56 @@ module _ {F : Type 0} (files : Named) (errors : Written) where
       }
       audit_ended a (Ok (suc (suc n))) is two done silent failed = absurd (no_third n two)
 
+-- whether a status is 1
+one_or_other : (s : ℕ) → (s ≡ 1) ⊎ (s ≢ 1)
+one_or_other zero = inr (λ is. (let it : 0 ≡ 1 = is in absurd (omega (arith, it))))
+one_or_other (suc zero) = inl refl
+one_or_other (suc (suc n)) = inr (λ is. subst IsMore is tt)
+
 -- `move` was told the image of its file
 pub move_ended : {F : Type 0} (files : Named) (output errors : Written) (image bytes : List ℕ) (a : MoveArguments)
     (r : Result ℕ F) → image ≡ bytes → IsFile (files a.guest.image.now) bytes
-    → IfOk r (λ status. (status ≡ 0) ⊎ (status ≡ 1))
-    → IfOk r (λ status. status ≡ 0 → IsMoved a image errors.before errors.after output.before output.after)
+    → IfOk r (λ status. status ≢ 1 → IsMoved a image status errors.before errors.after output.before output.after)
     → IfOk r (λ status. status ≡ 1 → IsNotMoved a image errors.before errors.after)
     → IfOk r (λ status. MoveEnded files a status output errors)
-move_ended files output errors image bytes a (Err e) same is two done failed = tt
-move_ended files output errors image bytes a (Ok zero) same is two done failed = record {
+move_ended files output errors image bytes a (Err e) same is done failed = tt
+move_ended files output errors image bytes a (Ok status) same is done failed = record {
   image = image;
   image_is = subst (IsFile (files a.guest.image.now)) (sym same) is;
-  ended = done refl;
+  ended = elim (one_or_other status) [
+    | inl one ↦ inr (one, failed one)
+    | inr other ↦ inl (done other)
+  ];
 }
-move_ended files output errors image bytes a (Ok (suc zero)) same is two done failed = record {
-  image = image;
-  image_is = subst (IsFile (files a.guest.image.now)) (sym same) is;
-  ended = failed refl;
-}
-move_ended files output errors image bytes a (Ok (suc (suc n))) same is two done failed = absurd (no_third n two)
 
 -- what the same commands were to tell where a write to the errors failed
 module _ {F : Type 0} (files : Named) where
-  pub run_untold : (a : RunArguments) (image bytes input given : List ℕ) (output : Written) (r : Result ℕ F) → image ≡ bytes
-      → input ≡ given → IsFile (files a.guest.image.now) bytes → IsInput files a.input given
-      → (end : Result Ended Refused) × IsRunEnd a image input end output.before output.after
+  pub run_untold : (a : RunArguments) (image bytes begun given : List ℕ) (output : Written) (r : Result ℕ F) → image ≡ bytes
+      → begun ≡ given → IsFile (files a.guest.image.now) bytes → IsFirstInput files a.input a.steps given
+      → (end : Result Ended Refused) × IsRunEnd a image begun end output.before output.after
       → OnErr r (ToTell (λ status errors. RunEnded files a status output errors))
-  run_untold a image bytes input given output (Ok s) same given_same is given_is end = tt
-  run_untold a image bytes input given output (Err e) same given_same is given_is end =
-      let t = run_to_tell a.status (λ e. IsRunEnd a image input e output.before output.after) end in (
+  run_untold a image bytes begun given output (Ok s) same begun_same is given_is end = tt
+  run_untold a image bytes begun given output (Err e) same begun_same is given_is end =
+      let whole = whole_input files a.input a.steps given given_is in
+      let t = run_to_tell a.status (λ e. IsRunEnd a image whole.0 e output.before output.after)
+      (end.0, ends_with a image begun given whole.0 output end.0 begun_same whole.2 end.1) in (
         t.0,
         t.1,
         record {
           image = image;
-          input = input;
+          input = whole.0;
           image_is = subst (IsFile (files a.guest.image.now)) (sym same) is;
-          input_is = subst (IsInput files a.input) (sym given_same) given_is;
+          input_is = whole.1;
           ended = t.2;
         },
       )
 
   pub asm_untold : (created : Named) (a : AsmArguments) (text bytes : List ℕ) (file : Written) (r : Result ℕ F) → text ≡ bytes
-      → IsFile (files a.source.now) bytes → IsCreated (created a.output.now) file.before
-      → (end : Result (Unit {0}) Refused) × IsAsmEnd text end file.before file.after
+      → IsFile (files a.source.now) bytes → IsApart (files a.output.now) text
+      → IsCreated (created a.output.now) file.before → (end : Result (Unit {0}) Refused) × IsAsmEnd text end file.before file.after
       → OnErr r (ToTell (λ status errors. AsmEnded files created a status errors))
-  asm_untold created a text bytes file (Ok s) same is to end = tt
-  asm_untold created a text bytes file (Err e) same is to end =
+  asm_untold created a text bytes file (Ok s) same is apart to end = tt
+  asm_untold created a text bytes file (Err e) same is apart to end =
       let t = to_tell (λ e. IsAsmEnd text e file.before file.after) end in (
         t.0,
         t.1,
@@ -198,6 +239,7 @@ module _ {F : Type 0} (files : Named) where
           text = text;
           file = file;
           text_is = subst (IsFile (files a.source.now)) (sym same) is;
+          apart = apart;
           file_is = to;
           ended = t.2;
         },
@@ -276,15 +318,15 @@ module _ {F : Type 0} (files : Named) where
 
   pub move_untold : (output : Written) (image bytes : List ℕ) (a : MoveArguments) (r : Result ℕ F) → image ≡ bytes
       → IsFile (files a.guest.image.now) bytes
-      → OnErr r (IsUntold (λ before after. IsMoved a image before after output.before output.after
-      ⊎ IsNotMoved a image before after))
+      → OnErr r (IsUntold (λ before after.
+      ((status : ℕ) × IsMoved a image status before after output.before output.after) ⊎ IsNotMoved a image before after))
       → OnErr r (ToTell (λ status errors. MoveEnded files a status output errors))
   move_untold output image bytes a (Ok s) same is untold = tt
   move_untold output image bytes a (Err e) same is untold =
       let image_is = subst (IsFile (files a.guest.image.now)) (sym same) is in
       elim untold.1 [
-        | inl moved ↦ (0, untold.0, record { image = image; image_is = image_is; ended = moved })
-        | inr failed ↦ (1, untold.0, record { image = image; image_is = image_is; ended = failed })
+        | inl moved ↦ (moved.0, untold.0, record { image = image; image_is = image_is; ended = inl moved.1 })
+        | inr failed ↦ (1, untold.0, record { image = image; image_is = image_is; ended = inr (refl, failed) })
       ]
 
 -- where it is not told how a host ended, it did not do what it was asked

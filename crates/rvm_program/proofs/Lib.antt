@@ -1,3 +1,4 @@
 pub mod Buffers
 pub mod Ended
+pub mod Reading
 pub mod Statuses

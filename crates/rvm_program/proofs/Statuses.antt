@@ -1,11 +1,12 @@
 -- The statuses of commands.
-use Rattle.std.proofs.Common.{◌≡◌, ◌⊎◌, ◌<◌, ℕ, zero, suc, List, ◌++◌, codes, Option, Result, Ok, Err, refl, inl, inr, subst, sym, ◌∙◌, arith}
+use Rattle.std.proofs.Common.{◌≡◌, ◌⊎◌, ◌<◌, Bool, true, false, ℕ, zero, suc, List, ◌++◌, codes, Option, Result, Ok, Err, refl, inl, inr, subst, sym, ◌∙◌, arith}
 use Rattle.std.specs.Result.{IfErr, IfOk}
 use Rattle.std.specs.Prelude.{OnErr}
 use Rattle.rvm_arguments.specs.declared.arguments.Arguments.{Arguments}
 use Rattle.rvm_arguments.specs.declared.arguments.Arguments.TheVariants.{Run, Asm, Dis, Debug, Script, Move, Audit, Host, Tell}
-use Rattle.rvm_program.specs.Ended.{HasEnded, IsUnbegun, IsUntold, TellEnded, Written}
+use Rattle.rvm_program.specs.Ended.{HasEnded, IsUnbegun, IsUntold, MoveHasStatus, TellEnded, Written}
 use Rattle.rvm_program.specs.Performed.{HasFailed, IsJudged, IsPassingOn, IsTelling, TellsMore}
+use Rattle.rvm_arguments.specs.declared.arguments.MoveArguments.{MoveArguments}
 use Rattle.rvm_arguments.specs.declared.arguments.RunArguments.{RunArguments}
 use Rattle.rvm_arguments.specs.declared.arguments.StatusOf.{StatusOf}
 use Rattle.rvm_arguments.specs.declared.arguments.StatusOf.TheVariants.{Command, Verdict, Guest}
@@ -16,7 +17,8 @@ use Rattle.rvm_command.specs.declared.run.Ended.TheVariants.{HaltedWith, StepsSp
 use Rattle.rvm_command.specs.Command.{refused_text}
 use Rattle.rvm_command.specs.Ends.{IsRunEnd, RunHasStatus, run_status}
 use Rattle.rvm_command.specs.Refusals.{refused}
-use Rattle.rvm_program.specs.Files.{IsFileRefusal, Named}
+use Rattle.rvm_move_command.specs.Ended.{ended_of, status_asked}
+use Rattle.rvm_program.specs.Files.{IsUnread, Named}
 use Rattle.rvm_refusal.specs.declared.refusal.Refusal.{Refusal}
 
 -- what a command was asked for that has ended with this status, if it is more than 1
@@ -69,6 +71,22 @@ run_ended : (a : RunArguments) (s : ℕ) (End : Result Ended Refused → Type 0)
 run_ended a s End before after (inl e) = run_asked a a.status s e.0 refl e.1
 run_ended a s End before after (inr r) = little (Run a) s (omega (arith, r.1))
 
+-- a move has the status that was asked for
+move_asked : (a : MoveArguments) (verdict : Bool) (s : ℕ) (e : Ended) → a.verdict ≡ verdict
+    → s ≡ run_status (status_asked verdict) e → IsAskedFor (Move a) s
+move_asked a false s e same is = let it : s ≡ 0 = is in little (Move a) s (omega (arith, it))
+move_asked a true s e same is = record {
+  passing = λ two. absurd (no_verdict e (sym is ∙ two));
+  lost = λ three. inr same;
+  judged = λ above. same;
+}
+
+-- and so has one that was refused, or failed
+move_ended : (a : MoveArguments) (s : ℕ) (image : List ℕ) (errors output : Written)
+    → MoveHasStatus s a image errors.before errors.after output.before output.after → IsAskedFor (Move a) s
+move_ended a s image errors output (inl moved) = move_asked a a.verdict s (ended_of moved.made.end) refl moved.status_is
+move_ended a s image errors output (inr failed) = little (Move a) s (omega (arith, failed.0))
+
 -- what a host was told has one of three statuses
 told : (a : TellArguments) (s : ℕ) → TellEnded s → IsAskedFor (Tell a) s
 told a s (inl none) = little (Tell a) s (omega (arith, none))
@@ -89,7 +107,7 @@ more files created (Asm a) n script output errors e = absurd e.ended
 more files created (Dis a) n script output errors e = absurd e.ended
 more files created (Debug a) n script output errors e = absurd e.ended
 more files created (Script a) n script output errors e = absurd e.ended
-more files created (Move a) n script output errors e = absurd e.ended
+more files created (Move a) n script output errors e = move_ended a (suc (suc n)) e.image errors output e.ended
 more files created (Audit a) n script output errors e = absurd e.ended
 more files created (Host a) n script output errors e = absurd e
 more files created (Tell a) n script output errors e = told a (suc (suc n)) e
@@ -103,13 +121,13 @@ ended files created a (suc (suc n)) script output errors e = more files created 
 
 -- and so was one that did not begin
 either : (files created : Named) (a : Arguments) (s : ℕ) (script : Option (List ℕ)) (output errors : Written)
-    → HasEnded files created a s script output errors ⊎ IsUnbegun s errors → IsAskedFor a s
+    → HasEnded files created a s script output errors ⊎ IsUnbegun files a s errors → IsAskedFor a s
 either files created a s script output errors (inl e) = ended files created a s script output errors e
 either files created a s script output errors (inr u) = little a s (omega (arith, u.status_is))
 
 -- a command whose status is more than 1 did begin
 begun : (files created : Named) (a : Arguments) (s : ℕ) (script : Option (List ℕ)) (output errors : Written)
-    → HasEnded files created a s script output errors ⊎ IsUnbegun s errors → 1 < s
+    → HasEnded files created a s script output errors ⊎ IsUnbegun files a s errors → 1 < s
     → HasEnded files created a s script output errors
 begun files created a s script output errors (inl e) above = e
 begun files created a s script output errors (inr u) above = absurd (omega (arith, u.status_is, above))
@@ -118,7 +136,7 @@ module _ {F : Type 0} (files created : Named) (a : Arguments) (script : Option (
   where
     -- a command was asked for its status, also where it was not told how it ended
     pub asked_for : (told : Result ℕ F)
-        → IfOk told (λ status. HasEnded files created a status script output errors ⊎ IsUnbegun status errors)
+        → IfOk told (λ status. HasEnded files created a status script output errors ⊎ IsUnbegun files a status errors)
         → IfOk told (λ status. s ≡ status) → IfErr told (λ fault. s ≡ 1) → IsAskedFor a s
     asked_for (Ok status) has_ended is untold =
         subst (IsAskedFor a) (sym is) (either files created a status script output errors has_ended)
@@ -126,31 +144,31 @@ module _ {F : Type 0} (files created : Named) (a : Arguments) (script : Option (
 
     -- a command whose status is more than 1 has ended with it
     pub has_ended_so : (told : Result ℕ F)
-        → IfOk told (λ status. HasEnded files created a status script output errors ⊎ IsUnbegun status errors)
+        → IfOk told (λ status. HasEnded files created a status script output errors ⊎ IsUnbegun files a status errors)
         → IfOk told (λ status. s ≡ status) → IfErr told (λ fault. s ≡ 1) → 1 < s
         → HasEnded files created a s script output errors
     has_ended_so (Ok status) has_ended is untold above =
         begun files created a s script output errors
-        (subst (λ n. HasEnded files created a n script output errors ⊎ IsUnbegun n errors) (sym is) has_ended) above
+        (subst (λ n. HasEnded files created a n script output errors ⊎ IsUnbegun files a n errors) (sym is) has_ended) above
     has_ended_so (Err fault) has_ended is untold above = absurd (omega (arith, untold, above))
 
 -- a command that has the status 1 has failed
 pub failed : {F : Type 0} (files created : Named) (a : Arguments) (script : Option (List ℕ)) (output errors : Written) (s : ℕ)
     (told : Result ℕ F)
-    → IfOk told (λ status. HasEnded files created a status script output errors ⊎ IsUnbegun status errors)
+    → IfOk told (λ status. HasEnded files created a status script output errors ⊎ IsUnbegun files a status errors)
     → OnErr told (IsUntold files created a script output) → IfOk told (λ status. s ≡ status) → s ≡ 1
     → HasFailed files created a script output errors
 failed files created a script output errors s (Err fault) ended untold is has_failed = inr (inr untold)
 failed files created a script output errors s (Ok status) ended untold is has_failed =
     let it : status ≡ 1 = sym is ∙ has_failed in
-    elim (subst (λ n. HasEnded files created a n script output errors ⊎ IsUnbegun n errors) it ended) [
+    elim (subst (λ n. HasEnded files created a n script output errors ⊎ IsUnbegun files a n errors) it ended) [
       | inl done ↦ inl done
       | inr unbegun ↦ inr (inl unbegun)
     ]
 
 -- what was to be told of a command that did not begin
 pub unbegun : {X F : Type 0} (files created : Named) (a : Arguments) (script : Option (List ℕ)) (output : Written) (why : Refusal)
-    (r : Result X F) → IsFileRefusal why → OnErr r (IsUntold files created a script output)
+    (r : Result X F) → IsUnread files a why → OnErr r (IsUntold files created a script output)
 unbegun files created a script output why (Ok x) reason = tt
 unbegun files created a script output why (Err e) reason =
     (1, refused_text (refused why) ++ codes "\n", inr (record { why = why; reason = reason; told = refl; status_is = refl }))

@@ -15,7 +15,7 @@ use Rattle.rvm_command.specs.Refusals.{IsTold, refused}
 use Rattle.rvm_host_command.specs.Hosted.{IsHosted}
 use Rattle.rvm_move_command.specs.Ended.{IsMoved, IsNotMoved}
 use Rattle.rvm_move_command.specs.Orders.{IsAudited, IsNotAudited}
-use Rattle.rvm_program.specs.Files.{IsCreated, IsFile, IsFileRefusal, IsImage, IsInput, IsOpened, Named}
+use Rattle.rvm_program.specs.Files.{IsApart, IsCreated, IsFile, IsImage, IsInput, IsOpened, IsUnread, Named}
 use Rattle.rvm_refusal.specs.declared.refusal.Refusal.{Refusal}
 use Rattle.rvm_world_command.specs.Ends.{IsScriptEnd}
 
@@ -37,11 +37,12 @@ pub record RunEnded (files : Named) (a : RunArguments) (status : ℕ) (output er
   pub ended : RunHasStatus a.status status (λ end. IsRunEnd a image input end output.before output.after)
       errors.before errors.after
 
--- `asm` was given the text that it names, and wrote to the file that it names
+-- `asm` was given the text that it names, and wrote to the file that it names, which had other bytes
 pub record AsmEnded (files created : Named) (a : AsmArguments) (status : ℕ) (errors : Written) : Type 0 where
   pub text : List ℕ
   pub file : Written
   pub text_is : IsFile (files a.source.now) text
+  pub apart : IsApart (files a.output.now) text
   pub file_is : IsCreated (created a.output.now) file.before
   pub ended : HasStatus status (λ end. IsAsmEnd text end file.before file.after) errors.before errors.after
 
@@ -71,12 +72,11 @@ pub record ScriptEnded (files : Named) (a : ScriptArguments) (status : ℕ) (out
   pub script_is : IsOpened (files a.script.now) script
   pub ended : HasStatus status (λ end. IsScriptEnd a image script end output told) errors.before errors.after
 
--- a move was made, or it was not, by its status
+-- a move was made and has this status, or it was not, which is 1
 abbrev pub MoveHasStatus : (status : ℕ) → MoveArguments → (image : List ℕ)
     → (errors errors' output output' : Option (List ℕ)) → Type 0
-MoveHasStatus zero a image errors errors' output output' = IsMoved a image errors errors' output output'
-MoveHasStatus (suc zero) a image errors errors' output output' = IsNotMoved a image errors errors'
-MoveHasStatus (suc (suc n)) a image errors errors' output output' = ⊥
+MoveHasStatus status a image errors errors' output output' =
+    IsMoved a image status errors errors' output output' ⊎ ((status ≡ 1) × IsNotMoved a image errors errors')
 
 -- `move` was given the image that it names
 pub record MoveEnded (files : Named) (a : MoveArguments) (status : ℕ) (output errors : Written) : Type 0 where
@@ -130,10 +130,11 @@ HasEnded files created (Audit a) status script output errors = AuditEnded files 
 HasEnded files created (Host a) status script output errors = HostEnded files a status output
 HasEnded files created (Tell a) status script output errors = TellEnded status
 
--- a command did not begin, since a file or a buffer could not be had, and that was told
-pub record IsUnbegun (status : ℕ) (errors : Written) : Type 0 where
+-- a command did not begin, since a file or a buffer could not be had, or a file has more bytes than it may have, and that
+-- was told
+pub record IsUnbegun (files : Named) (a : Arguments) (status : ℕ) (errors : Written) : Type 0 where
   pub why : Refusal
-  pub reason : IsFileRefusal why
+  pub reason : IsUnread files a why
   pub told : IsTold (refused why) errors.before errors.after
   pub status_is : status ≡ 1
 
@@ -144,4 +145,4 @@ ToTell Ends = (status : ℕ) × (text : List ℕ) × Ends status (written (Some 
 -- a write to the errors failed: how the command ended, or why it did not begin, was not told to its end
 abbrev pub IsUntold : (files created : Named) → Arguments → (script : Option (List ℕ)) → (output : Written) → Type 0
 IsUntold files created a script output =
-    ToTell (λ status errors. HasEnded files created a status script output errors ⊎ IsUnbegun status errors)
+    ToTell (λ status errors. HasEnded files created a status script output errors ⊎ IsUnbegun files a status errors)

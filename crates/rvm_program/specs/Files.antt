@@ -1,6 +1,8 @@
 -- What is read of files.
-use Rattle.std.specs.Prelude.{◌≡◌, ◌⊎◌, ℕ, List, [], Option, None, Some, IfSome}
+use Rattle.std.specs.Prelude.{◌≡◌, ◌⊎◌, ◌<◌, ◌*◌, ◌^◌, ℕ, Bool, if◌then◌else◌, true, false, List, [], Option, None, Some, IfSome, length, take}
 use Rattle.std.specs.Borrow.{Bor}
+use Rattle.rvm_arguments.specs.declared.arguments.Arguments.{Arguments}
+use Rattle.rvm_arguments.specs.declared.arguments.Arguments.TheVariants.{Run, Asm, Dis, Debug, Script, Move, Audit, Host, Tell}
 use Rattle.rvm_arguments.specs.declared.arguments.GuestArguments.{GuestArguments}
 use Rattle.rvm_refusal.specs.declared.refusal.Refusal.{Refusal}
 use Rattle.rvm_refusal.specs.declared.refusal.Refusal.TheVariants as refusal
@@ -12,6 +14,14 @@ Named = List ℕ → Option (List ℕ)
 -- these are all bytes of a file, if those are known
 abbrev pub IsFile : (known : Option (List ℕ)) → (bytes : List ℕ) → Type 0
 IsFile known bytes = IfSome known (λ all. bytes ≡ all)
+
+-- these are the first bytes of a file, so many or all that it has, if those are known
+abbrev pub IsFirst : (known : Option (List ℕ)) → (count : ℕ) → (bytes : List ℕ) → Type 0
+IsFirst known count bytes = IfSome known (λ all. bytes ≡ take count all)
+
+-- a file has other bytes than these, if its own are known
+abbrev pub IsApart : (known : Option (List ℕ)) → (bytes : List ℕ) → Type 0
+IsApart known bytes = IfSome known (λ all. all ≡ bytes → ⊥)
 
 -- a file that was created holds what a new file of its name does, if that is known
 abbrev pub IsCreated : (known held : Option (List ℕ)) → Type 0
@@ -33,3 +43,50 @@ IsFileRefusal r = (r ≡ refusal.OutOfMemory) ⊎ (r ≡ refusal.LinkFault)
 -- these are all bytes of the image of a guest, if there is one
 abbrev pub IsImage : Named → Option GuestArguments → (bytes : List ℕ) → Type 0
 IsImage files guest bytes = IfSome guest (λ g. IsFile (files g.image.now) bytes)
+
+-- the first bytes of the file that is named, so many or all that it has, or none where none is
+abbrev pub IsFirstInput : Named → (name : Option (Bor (List ℕ))) → (count : ℕ) → (bytes : List ℕ) → Type 0
+IsFirstInput files None count bytes = bytes ≡ []
+IsFirstInput files (Some name) count bytes = IsFirst (files name.now) count bytes
+
+-- a file is refused so, since it has more bytes than this, if they are known
+abbrev pub IsLong : (known : Option (List ℕ)) → (limit : ℕ) → (why r : Refusal) → Type 0
+IsLong known limit why r = (r ≡ why) × IfSome known (λ all. limit < length all)
+
+-- the most bytes of a file that is read whole
+abbrev pub max_size : ℕ
+max_size = 2 ^ 26
+
+-- the most bytes of the file of an image: those of RAM where it is plain bytes
+abbrev pub image_limit : GuestArguments → ℕ
+image_limit g = if g.raw then 4096 * g.pages else max_size
+
+-- how an image of more bytes is refused
+abbrev pub long_image : (raw : Bool) → Refusal
+long_image true = refusal.OutsideRam
+long_image false = refusal.TooLong
+
+-- an image is refused so, since its file has more bytes than it may have
+abbrev pub IsLongImage : Named → GuestArguments → Refusal → Type 0
+IsLongImage files g r = IsLong (files g.image.now) (image_limit g) (long_image g.raw) r
+
+-- and so are the bytes for the console
+abbrev pub IsLongInput : Named → (name : Option (Bor (List ℕ))) → Refusal → Type 0
+IsLongInput files None r = ⊥
+IsLongInput files (Some name) r = IsLong (files name.now) max_size refusal.TooLong r
+
+-- what a command line asks for does not begin, and is refused so, since a file has more bytes than it may have
+abbrev pub IsTooLong : Named → Arguments → Refusal → Type 0
+IsTooLong files (Run a) r = IsLongImage files a.guest r ⊎ IsLongInput files a.input r
+IsTooLong files (Asm a) r = IsLong (files a.source.now) max_size refusal.TooLong r
+IsTooLong files (Dis a) r = IsLong (files a.image.now) max_size refusal.TooLong r
+IsTooLong files (Debug g) r = IsLongImage files g r
+IsTooLong files (Script a) r = IsLongImage files a.guest r
+IsTooLong files (Move a) r = IsLongImage files a.guest r
+IsTooLong files (Audit a) r = IsLongImage files a.guest r
+IsTooLong files (Host a) r = ⊥
+IsTooLong files (Tell a) r = ⊥
+
+-- why what a command line asks for does not begin: a file cannot be had, or has more bytes than it may have
+abbrev pub IsUnread : Named → Arguments → Refusal → Type 0
+IsUnread files a r = IsFileRefusal r ⊎ IsTooLong files a r

@@ -1,3 +1,4 @@
 pub mod Files
 pub mod Ended
 pub mod Performed
+pub mod Words

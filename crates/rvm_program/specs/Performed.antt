@@ -1,12 +1,12 @@
 -- What words of a command line have come to.
-use Rattle.std.specs.Prelude.{◌≡◌, ◌⊎◌, ⊤, ℕ, List, [], Option}
+use Rattle.std.specs.Prelude.{◌≡◌, ◌⊎◌, ⊤, ℕ, true, List, [], Option}
 use Rattle.clap.specs.Faults.{fault_of}
 use Rattle.clap.specs.Kinds.{IsAmong}
 use Rattle.clap.specs.Simple.{subcommand_of}
 use Rattle.clap.specs.Walk.{Text}
 use Rattle.clap.specs.declared.error.kind.ErrorKind.TheVariants as kind
 use Rattle.rvm_arguments.specs.declared.arguments.Arguments.{Arguments}
-use Rattle.rvm_arguments.specs.declared.arguments.Arguments.TheVariants.{Run, Tell}
+use Rattle.rvm_arguments.specs.declared.arguments.Arguments.TheVariants.{Move, Run, Tell}
 use Rattle.rvm_arguments.specs.declared.arguments.StatusOf.{StatusOf}
 use Rattle.rvm_arguments.specs.declared.arguments.StatusOf.TheVariants.{Command, Verdict, Guest}
 use Rattle.rvm_command_line.specs.Given.{IsAsked}
@@ -27,7 +27,7 @@ pub record IsEnded (files created : Named) (words : List Text) (status : ℕ) (s
 abbrev pub HasFailed : (files created : Named) → Arguments → (script : Option (List ℕ)) → (output errors : Written) → Type 0
 HasFailed files created a script output errors =
     HasEnded files created a 1 script output errors
-    ⊎ (IsUnbegun 1 errors ⊎ IsUntold files created a script output)
+    ⊎ (IsUnbegun files a 1 errors ⊎ IsUntold files created a script output)
 
 -- words have no fault for `clap`, and what they ask for has come to this
 pub record IsRefused (files created : Named) (words : List Text) (script : Option (List ℕ)) (output errors : Written)
@@ -55,12 +55,13 @@ TellsMore Command = ⊥
 TellsMore Verdict = ⊤
 TellsMore Guest = ⊤
 
--- a run has a status that tells how it ended
+-- a run, or a move, has a status that tells how it ended
 abbrev pub IsJudged : Arguments → Type 0
 IsJudged (Run a) = TellsMore a.status
+IsJudged (Move a) = a.verdict ≡ true
 IsJudged other = ⊥
 
--- words have no fault for `clap`, and ask for a run with a status that tells how it ended
+-- words have no fault for `clap`, and ask for a run, or a move, with a status that tells how it ended
 pub record AreJudged (words : List Text) : Type 0 where
   pub faultless : fault_of program words ≡ []
   pub arguments : Arguments

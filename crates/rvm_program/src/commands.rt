@@ -1,13 +1,17 @@
 //! Each command over files: those that the command line names are read or opened in its order, and then
 //! the command over values is called. The answer is that command's. A refusal is answered where a file
-//! cannot be had or a buffer finds no memory; all other refusals are told by the command over values.
+//! cannot be had or has more bytes than it may have, or a buffer finds no memory; all other refusals are told by the
+//! command over values.
 
 ghost use Rattle.std.specs.Prelude.{◌≡◌, ◌⊎◌, IfErr, IfOk, OnErr};
+ghost use Rattle.rvm_arguments.specs.declared.arguments.Arguments.TheVariants as asks;
+ghost use Rattle.rvm_refusal.specs.declared.refusal.Refusal.TheVariants as refusal;
 ghost use Rattle.std.specs.Io.Buffered.{writer_contents};
 ghost use Rattle.rvm_program.specs.Ended.{AsmEnded, AuditEnded, DebugEnded, DisEnded, HostEnded, MoveEnded, RunEnded, ScriptEnded, TellEnded, ToTell, written};
-ghost use Rattle.rvm_program.specs.Files.{IsFile, IsFileRefusal, IsImage, IsInput};
+ghost use Rattle.rvm_program.specs.Files.{IsFile, IsFileRefusal, IsFirst, IsFirstInput, IsImage, IsLong, IsLongInput, IsUnread, max_size};
 
-use crate::files::{NamedFiles, read_file, refusal_of};
+use crate::files::{MAX_FILE_SIZE, NamedFiles, keep_apart, read_beginning, read_file, refusal_of};
+use crate::images::{begin_image, check_image, read_image};
 use crate::system::System;
 use rvm_arguments::{
     AsmArguments, DisArguments, GuestArguments, HostArguments, MoveArguments, RunArguments,
@@ -53,30 +57,51 @@ pub(crate) fn run<M: PagedMemory + Drop, F: NamedFiles, O: Write, E: Write>(
         (written (E.contents errors.old) (E.contents errors.new)))) }
     ensures untold { IfOk result (λ told. OnErr told (ToTell (λ status errors. RunEnded (F.bytes_of files.now)
         arguments.now status (written (O.contents output.old) (O.contents output.new)) errors))) }
-    ensures unbegun { IfErr result (λ r. IsFileRefusal r × (O.contents output.new ≡ O.contents output.old)
+    ensures unbegun { IfErr result (λ r. IsUnread (F.bytes_of files.now) (asks.Run arguments.now) r
+        × (O.contents output.new ≡ O.contents output.old)
         × (E.contents errors.new ≡ E.contents errors.old)) }
 {
-    let image = read_file(files, alloc, arguments.guest.image)?;
-    let input = read_input(files, alloc, arguments.input)?;
+    let image = begin_image(files, alloc, &arguments.guest)?;
+    let input = read_input(files, alloc, arguments)?;
+    check_image(&arguments.guest, &image)?;
     Ok(run_command::<M, O, E>(alloc, arguments, &image, &input, output, errors))
 }
 
-/// The bytes for the console: those of a file, or none if none is named.
+/// The bytes for the console: those of a file, as many as there are turns in which they can come, or none if no file is
+/// named. `TooLong` for a file of which more than `MAX_FILE_SIZE` bytes can come.
 fn read_input<F: NamedFiles>(
     files: &F,
     alloc: Global,
-    input: Option<&str>,
+    arguments: &RunArguments,
 ) -> Result<Vec<u8>, Refusal>
-    ensures given { IfOk result (λ v. IsInput (F.bytes_of files.now) input.entry v.items) }
-    ensures refused { IfErr result IsFileRefusal }
+    ensures given { IfOk result (λ v. IsFirstInput (F.bytes_of files.now) arguments.now.input arguments.now.steps v.items) }
+    ensures refused { IfErr result (λ r. IsFileRefusal r ⊎ IsLongInput (F.bytes_of files.now) arguments.now.input r) }
 {
-    match input {
-        Some(file) => read_file(files, alloc, file),
+    match arguments.input {
+        Some(file) => read_console(files, alloc, file, arguments.steps),
         None => Ok(Vec::new(alloc)),
     }
 }
 
-/// Reads the text, opens the file that is written, and assembles.
+/// The first bytes of a file, as many as there are turns. `TooLong` where these are more than `MAX_FILE_SIZE`.
+fn read_console<F: NamedFiles>(
+    files: &F,
+    alloc: Global,
+    file: &str,
+    turns: u32,
+) -> Result<Vec<u8>, Refusal>
+    ensures first { IfOk result (λ v. IsFirst (F.bytes_of files.now file.now) turns v.items) }
+    ensures refused { IfErr result (λ r. IsFileRefusal r
+        ⊎ IsLong (F.bytes_of files.now file.now) max_size refusal.TooLong r) }
+{
+    if turns > MAX_FILE_SIZE {
+        return read_file(files, alloc, file, MAX_FILE_SIZE, Refusal::TooLong);
+    }
+    read_beginning(files, alloc, file, u64::from(turns))
+}
+
+/// Reads the text, opens the file that is written, and assembles. A file that has the bytes of the text is not written: it
+/// may be the text under another name.
 pub(crate) fn asm<F: NamedFiles, E: Write>(
     alloc: Global,
     files: &F,
@@ -88,9 +113,17 @@ pub(crate) fn asm<F: NamedFiles, E: Write>(
         (written (E.contents errors.old) (E.contents errors.new)))) }
     ensures untold { IfOk result (λ told. OnErr told (ToTell (λ status errors. AsmEnded (F.bytes_of files.now)
         (F.created_of files.now) arguments.now status errors))) }
-    ensures unbegun { IfErr result (λ r. IsFileRefusal r × (E.contents errors.new ≡ E.contents errors.old)) }
+    ensures unbegun { IfErr result (λ r. IsUnread (F.bytes_of files.now) (asks.Asm arguments.now) r
+        × (E.contents errors.new ≡ E.contents errors.old)) }
 {
-    let source = read_file(files, alloc, arguments.source)?;
+    let source = read_file(
+        files,
+        alloc,
+        arguments.source,
+        MAX_FILE_SIZE,
+        Refusal::TooLong,
+    )?;
+    keep_apart(files, alloc, arguments.output, &source)?;
     let mut file = files.create(arguments.output)?;
     Ok(asm_command(alloc, &source, &mut file, errors))
 }
@@ -107,9 +140,16 @@ pub(crate) fn dis<F: NamedFiles, O: Write, E: Write>(
         (O.contents output.old) (written (E.contents errors.old) (E.contents errors.new)))) }
     ensures untold { IfOk result (λ told. OnErr told (ToTell (λ status errors. DisEnded (F.bytes_of files.now)
         arguments.now status (O.contents output.old) errors))) }
-    ensures unbegun { IfErr result (λ r. IsFileRefusal r × (E.contents errors.new ≡ E.contents errors.old)) }
+    ensures unbegun { IfErr result (λ r. IsUnread (F.bytes_of files.now) (asks.Dis arguments.now) r
+        × (E.contents errors.new ≡ E.contents errors.old)) }
 {
-    let image = read_file(files, alloc, arguments.image)?;
+    let image = read_file(
+        files,
+        alloc,
+        arguments.image,
+        MAX_FILE_SIZE,
+        Refusal::TooLong,
+    )?;
     let mut output = buffered(alloc, output)?;
     Ok(dis_command(alloc, arguments, &image, &mut output, errors))
 }
@@ -127,9 +167,10 @@ pub(crate) fn debug<M: PagedMemory + Drop, F: NamedFiles, I: Read, O: Write, E: 
         (I.remaining input.old) (O.contents output.old) (written (E.contents errors.old) (E.contents errors.new)))) }
     ensures untold { IfOk result (λ told. OnErr told (ToTell (λ status errors. DebugEnded (F.bytes_of files.now)
         arguments.now status (I.remaining input.old) (O.contents output.old) errors))) }
-    ensures unbegun { IfErr result (λ r. IsFileRefusal r × (E.contents errors.new ≡ E.contents errors.old)) }
+    ensures unbegun { IfErr result (λ r. IsUnread (F.bytes_of files.now) (asks.Debug arguments.now) r
+        × (E.contents errors.new ≡ E.contents errors.old)) }
 {
-    let image = read_file(files, alloc, arguments.image)?;
+    let image = read_image(files, alloc, arguments)?;
     let mut output = buffered(alloc, output)?;
     Ok(debug_command::<M, _, _, E>(alloc, arguments, &image, input, &mut output, errors))
 }
@@ -146,10 +187,12 @@ pub(crate) fn script<M: PagedMemory + Drop, F: NamedFiles, O: Write, E: Write>(
         (O.contents output.old) (written (E.contents errors.old) (E.contents errors.new)))) }
     ensures untold { IfOk result (λ told. OnErr told (ToTell (λ status errors. ScriptEnded (F.bytes_of files.now)
         arguments.now status (O.contents output.old) errors))) }
-    ensures unbegun { IfErr result (λ r. IsFileRefusal r × (E.contents errors.new ≡ E.contents errors.old)) }
+    ensures unbegun { IfErr result (λ r. IsUnread (F.bytes_of files.now) (asks.Script arguments.now) r
+        × (E.contents errors.new ≡ E.contents errors.old)) }
 {
-    let image = read_file(files, alloc, arguments.guest.image)?;
+    let image = begin_image(files, alloc, &arguments.guest)?;
     let mut script = files.open(arguments.script)?;
+    check_image(&arguments.guest, &image)?;
     let mut output = buffered(alloc, output)?;
     Ok(script_command::<M, _, _, E>(alloc, arguments, &image, &mut script, &mut output, errors))
 }
@@ -175,10 +218,11 @@ where
         (written (E.contents errors.old) (E.contents errors.new)))) }
     ensures untold { IfOk result (λ told. OnErr told (ToTell (λ status errors. MoveEnded (F.bytes_of files.now)
         arguments.now status (written (O.contents output.old) (O.contents output.new)) errors))) }
-    ensures unbegun { IfErr result (λ r. IsFileRefusal r × (O.contents output.new ≡ O.contents output.old)
+    ensures unbegun { IfErr result (λ r. IsUnread (F.bytes_of files.now) (asks.Move arguments.now) r
+        × (O.contents output.new ≡ O.contents output.old)
         × (E.contents errors.new ≡ E.contents errors.old)) }
 {
-    let image = read_file(files, rt.alloc(), arguments.guest.image)?;
+    let image = read_image(files, rt.alloc(), &arguments.guest)?;
     Ok(move_command::<M, O, E, Rt>(rt, rt.alloc(), arguments, &image, output, errors))
 }
 
@@ -202,9 +246,10 @@ where
         (O.contents output.old) (written (E.contents errors.old) (E.contents errors.new)))) }
     ensures untold { IfOk result (λ told. OnErr told (ToTell (λ status errors. AuditEnded (F.bytes_of files.now)
         arguments.now status (O.contents output.old) errors))) }
-    ensures unbegun { IfErr result (λ r. IsFileRefusal r × (E.contents errors.new ≡ E.contents errors.old)) }
+    ensures unbegun { IfErr result (λ r. IsUnread (F.bytes_of files.now) (asks.Audit arguments.now) r
+        × (E.contents errors.new ≡ E.contents errors.old)) }
 {
-    let image = read_file(files, rt.alloc(), arguments.guest.image)?;
+    let image = read_image(files, rt.alloc(), &arguments.guest)?;
     let mut output = buffered(rt.alloc(), output)?;
     Ok(audit_command::<M, _, E, Rt>(rt, rt.alloc(), arguments, &image, &mut output, errors))
 }
@@ -266,7 +311,7 @@ fn read_host<'a, Rt: System + Threads + Wait + 'static, F: NamedFiles>(
     ensures image { IfOk result (λ r. IsImage (F.bytes_of files.now) arguments.now.guest r.image.items) }
 {
     let image = match &arguments.guest {
-        Some(guest) => read_told(files, rt.alloc(), guest.image)?,
+        Some(guest) => read_told_image(files, rt.alloc(), guest)?,
         None => Vec::new(rt.alloc()),
     };
     let secret = match arguments.secret {
@@ -339,9 +384,23 @@ fn read_told<'a, F: NamedFiles>(
 ) -> Result<Vec<u8>, (&'a str, Refusal)>
     ensures { IfOk result (λ v. IsFile (F.bytes_of files.now path.now) v.items) }
 {
-    match read_file(files, alloc, path) {
+    match read_file(files, alloc, path, MAX_FILE_SIZE, Refusal::TooLong) {
         Ok(bytes) => Ok(bytes),
         Err(why) => Err((path, why)),
+    }
+}
+
+/// All bytes of the file of an image, or its name, and why they cannot be had.
+fn read_told_image<'a, F: NamedFiles>(
+    files: &F,
+    alloc: Global,
+    guest: &GuestArguments<'a>,
+) -> Result<Vec<u8>, (&'a str, Refusal)>
+    ensures { IfOk result (λ v. IsFile (F.bytes_of files.now guest.now.image.now) v.items) }
+{
+    match read_image(files, alloc, guest) {
+        Ok(bytes) => Ok(bytes),
+        Err(why) => Err((guest.image, why)),
     }
 }
 

@@ -1,16 +1,21 @@
 //! The files that a command line names.
 
-ghost use Rattle.std.specs.Prelude.{◌≡◌, ◌≢◌, ℕ, List, Option, None, IfErr, IfOk};
+ghost use Rattle.std.specs.Prelude.{◌≡◌, ◌≢◌, ◌⊎◌, ◌<◌, ◌≤◌, ℕ, List, Option, None, IfErr, IfOk, IfSome, IsNone, OnOk, false, length};
 ghost use Rattle.std.specs.IoError.{error_kind};
 ghost use Rattle.std.specs.declared.io.ErrorKind.TheVariants as kind;
-ghost use Rattle.rvm_program.specs.Files.{IsCreated, IsFile, IsFileRefusal, IsOpened};
+ghost use Rattle.rvm_program.specs.Files.{IsApart, IsCreated, IsFile, IsFileRefusal, IsFirst, IsLong, IsOpened};
 ghost use Rattle.rvm_refusal.specs.declared.refusal.Refusal.TheVariants as refusal;
 
 use rvm_refusal::Refusal;
 use std::alloc::Global;
+use std::fs;
 use std::fs::File;
 use std::io::{Error, ErrorKind, Read, Write};
 use std::rt::Files;
+
+/// The most bytes of a file that is read whole: an assembly text, an ELF file, the bytes for a console, and each file of
+/// `host`. A script has its own limit, which is the same.
+pub const MAX_FILE_SIZE: u32 = 1 << 26;
 
 /// Files that have names, as those of a host.
 pub trait NamedFiles {
@@ -30,6 +35,12 @@ pub trait NamedFiles {
     fn open(&self, path: &str) -> Result<Self::Opened, Refusal>
         ensures bytes { IfOk result (λ file. IsOpened (bytes_of self.now path.now) (Self.Opened.remaining file)) }
         ensures refused { IfErr result IsFileRefusal };
+
+    /// The file with a name, to be read from its beginning on, if it is one that keeps its bytes and may be read. A device, a
+    /// pipe or a terminal is none: to open it may wait, and what is read of it is gone.
+    fn open_kept(&self, path: &str) -> Option<Self::Opened>
+        ensures bytes { IfSome result (λ file. IsOpened (bytes_of self.now path.now) (Self.Opened.remaining file)) }
+        ensures none { IsNone result → bytes_of self.now path.now ≡ None };
 
     /// The file with a name, new or emptied, to be written.
     fn create(&self, path: &str) -> Result<Self::Created, Refusal>
@@ -52,34 +63,117 @@ impl<'a, R: Files> NamedFiles for HostFiles<'a, R> {
         File::open(self.rt, path).map_err(refusal_of)
     }
 
+    fn open_kept(&self, path: &str) -> Option<R::File> {
+        match fs::metadata(self.rt, path) {
+            Ok(metadata) if metadata.is_file() => File::open(self.rt, path).ok(),
+            _ => None,
+        }
+    }
+
     fn create(&self, path: &str) -> Result<R::File, Refusal> {
         File::create(self.rt, path).map_err(refusal_of)
     }
 }
 
-/// All bytes of a file. `OutOfMemory` where there is no memory for them, and `LinkFault` where it cannot
-/// be opened or read.
+/// All bytes of a file that has at most `limit`. `OutOfMemory` where there is no memory for them, `LinkFault` where it
+/// cannot be opened or read, and `long` where it has more: then no more than one byte more was read.
+#[tactic(auto, using(crate::proofs::Reading::whole, crate::proofs::Reading::longer))]
 pub(crate) fn read_file<F: NamedFiles>(
     files: &F,
     alloc: Global,
     path: &str,
+    limit: u32,
+    long: Refusal,
 ) -> Result<Vec<u8>, Refusal>
     ensures bytes { IfOk result (λ v. IsFile (F.bytes_of files.now path.now) v.items) }
-    ensures refused { IfErr result IsFileRefusal }
+    ensures few { IfOk result (λ v. length v.items ≤ limit) }
+    ensures refused { IfErr result (λ r. IsFileRefusal r ⊎ IsLong (F.bytes_of files.now path.now) limit long r) }
 {
-    read_all(alloc, &mut files.open(path)?)
+    let bytes = read_beginning(files, alloc, path, u64::from(limit) + 1)?;
+    within(&bytes, limit, long)?;
+    Ok(bytes)
 }
 
-/// All that a reader gives.
-fn read_all<R: Read>(alloc: Global, reader: &mut R) -> Result<Vec<u8>, Refusal>
-    ensures bytes { IfOk result (λ v. IsFile (R.remaining reader.old) v.items) }
+/// The first `count` bytes of a file, or all where it has no more. `OutOfMemory` where there is no memory for them, and
+/// `LinkFault` where it cannot be opened or read.
+pub(crate) fn read_beginning<F: NamedFiles>(
+    files: &F,
+    alloc: Global,
+    path: &str,
+    count: u64,
+) -> Result<Vec<u8>, Refusal>
+    ensures bytes { IfOk result (λ v. IsFirst (F.bytes_of files.now path.now) count v.items) }
+    ensures refused { IfErr result IsFileRefusal }
+{
+    read_first(alloc, &mut files.open(path)?, count)
+}
+
+/// The first `count` bytes that a reader gives, or all where it has no more.
+fn read_first<R: Read>(alloc: Global, reader: &mut R, count: u64) -> Result<Vec<u8>, Refusal>
+    ensures bytes { IfOk result (λ v. IsFirst (R.remaining reader.old) count v.items) }
     ensures refused { IfErr result IsFileRefusal }
 {
     let mut bytes = Vec::new(alloc);
-    match reader.read_to_end(&mut bytes) {
+    let mut limited = reader.take(count);
+    match limited.read_to_end(&mut bytes) {
         Ok(_) => Ok(bytes),
         Err(error) => Err(refusal_of(error)),
     }
+}
+
+/// Refuses as `long` says if there are more than `limit` bytes.
+pub(crate) fn within(bytes: &[u8], limit: u32, long: Refusal) -> Result<(), Refusal>
+    ensures few { OnOk result (length bytes.now ≤ limit) }
+    ensures many { IfErr result (λ r. (r ≡ long) × (limit < length bytes.now)) }
+{
+    if bytes.len() > limit as usize {
+        return Err(long);
+    }
+    Ok(())
+}
+
+/// Whether a file that keeps its bytes, and may be read, has these.
+fn holds<F: NamedFiles>(files: &F, alloc: Global, path: &str, bytes: &[u8]) -> Result<bool, Refusal>
+    ensures apart { IfOk result (λ same. same ≡ false → IsApart (F.bytes_of files.now path.now) bytes.now) }
+    ensures refused { IfErr result IsFileRefusal }
+{
+    match files.open_kept(path) {
+        Some(file) => gives(alloc, file, bytes),
+        None => Ok(false),
+    }
+}
+
+/// Refuses a file that is to be written and has these bytes, as one that cannot be had.
+pub(crate) fn keep_apart<F: NamedFiles>(
+    files: &F,
+    alloc: Global,
+    path: &str,
+    bytes: &[u8],
+) -> Result<(), Refusal>
+    ensures apart { OnOk result (IsApart (F.bytes_of files.now path.now) bytes.now) }
+    ensures refused { IfErr result IsFileRefusal }
+{
+    if holds(files, alloc, path, bytes)? {
+        return Err(Refusal::LinkFault);
+    }
+    Ok(())
+}
+
+/// Whether a reader gives these bytes, and nothing after them.
+#[tactic(auto, using(crate::proofs::Reading::apart))]
+fn gives<R: Read + Drop>(alloc: Global, mut reader: R, bytes: &[u8]) -> Result<bool, Refusal>
+    ensures apart { IfOk result (λ same. same ≡ false → IsApart (R.remaining reader) bytes.now) }
+    ensures refused { IfErr result IsFileRefusal }
+{
+    let given = read_first(alloc, &mut reader, bytes.len() as u64 + 1)?;
+    Ok(are_same(&given, bytes))
+}
+
+/// Whether bytes are the same.
+fn are_same(some: &[u8], others: &[u8]) -> bool
+    ensures { result ≡ false → some.now ≡ others.now → ⊥ }
+{
+    some == others
 }
 
 /// What an error of the host is told as: `OutOfMemory` for want of memory, and else `LinkFault`.

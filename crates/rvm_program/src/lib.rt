@@ -4,26 +4,28 @@
 //! Stands on the commands and `clap`, and reaches files through the runtime or another `NamedFiles` alone,
 //! so that another program can call what `rvmove` does.
 //!
-//! To be read in this order: `perform`, `commands`, `files`, `system`, `descriptors`.
+//! To be read in this order: `perform`, `commands`, `images`, `files`, `system`, `descriptors`, `words`.
 #![tactic(auto)]
 
 ghost use Rattle.std.specs.Prelude.{◌≡◌, ◌≢◌, ◌⊎◌, ◌<◌, None, IfErr, IfOk, OnErr, map};
 ghost use Rattle.clap.specs.Words.{kind_of};
 ghost use Rattle.clap.specs.declared.error.kind.ErrorKind.TheVariants as kind;
 ghost use Rattle.rvm_program.specs.Ended.{HasEnded, IsUnbegun, IsUntold, ToTell, written};
-ghost use Rattle.rvm_program.specs.Files.{IsFileRefusal};
+ghost use Rattle.rvm_program.specs.Files.{IsUnread};
 ghost use Rattle.rvm_program.specs.Performed.{AreFaulty, AreJudged, ArePassingOn, AreTelling, HasFailed, IsEnded, IsJudged, IsPassingOn, IsRefused, IsShown, IsTelling};
 
 mod commands;
 mod descriptors;
 mod files;
+mod images;
 mod system;
+mod words;
 
 use clap::Error;
 use commands::Told;
 pub use descriptors::{Descriptors, take_descriptors};
 use files::HostFiles;
-pub use files::NamedFiles;
+pub use files::{MAX_FILE_SIZE, NamedFiles};
 use rvm_arguments::Arguments;
 use rvm_command::refused::{Refused, tell};
 use rvm_command_line::parse_args;
@@ -35,6 +37,7 @@ use std::net::Net;
 use std::sync::Wait;
 use std::thread::Threads;
 pub use system::System;
+pub use words::{WordsFault, take_words, tell_words_fault, texts};
 
 /// The status where a write to standard error failed, so that it is not told how the command ended.
 const UNTOLD: u8 = 1;
@@ -42,10 +45,15 @@ const UNTOLD: u8 = 1;
 /// Does what the words of a command line ask for, of which the first is the program's name, and answers
 /// the status: 0, 1 where it was refused, 2 for a fault of the command line, which writes nothing to
 /// `output`, or 3 where an answer of a host was lost that was told something. A run whose status tells how it ended
-/// has that status (`StatusOf`), which may be any. `input` stands for standard input, `output`
+/// has that status (`StatusOf`), which may be any; of a move with a verdict it may be 3 or 4. `input` stands for standard input, `output`
 /// and `errors` for standard output and standard error. Each guest's memory is an `M`. A guest that moves does so by
 /// threads, which may wait for one another, and over TCP. The files are those of the runtime, and so is the standard input
 /// that a thread of its own reads for `host --input -`, until the process ends.
+///
+/// Of a file at most one byte more is read than it may have: as many bytes as RAM has for an image of plain bytes, which is
+/// refused `OutsideRam` if there are more, and `MAX_FILE_SIZE` for an ELF file, what `dis` lists, an assembly text and each
+/// file of `host`, which is refused `TooLong`. Of the bytes for the console `run` reads as many as it can make turns; `TooLong`
+/// if it can make more than `MAX_FILE_SIZE`, and the file has more.
 pub fn perform<
     M: PagedMemory + Drop + Send + 'static,
     Rt: System + Net + Threads + Wait + 'static,
@@ -176,7 +184,7 @@ where
     ensures told { IfOk result (λ status. HasEnded (F.bytes_of files.now) (F.created_of files.now) arguments.now
         status (I.remaining input.old) (written (O.contents output.old) (O.contents output.new))
         (written (E.contents errors.old) (E.contents errors.new))
-        ⊎ IsUnbegun status (written (E.contents errors.old) (E.contents errors.new))) }
+        ⊎ IsUnbegun (F.bytes_of files.now) arguments.now status (written (E.contents errors.old) (E.contents errors.new))) }
     ensures untold { OnErr result (IsUntold (F.bytes_of files.now) (F.created_of files.now) arguments.now
         (I.remaining input.old) (written (O.contents output.old) (O.contents output.new))) }
 {
@@ -211,7 +219,8 @@ where
     ensures untold { IfOk result (λ told. OnErr told (ToTell (λ status errors.
         HasEnded (F.bytes_of files.now) (F.created_of files.now) arguments.now status (I.remaining input.old)
         (written (O.contents output.old) (O.contents output.new)) errors))) }
-    ensures unbegun { IfErr result (λ r. IsFileRefusal r × (E.contents errors.new ≡ E.contents errors.old)) }
+    ensures unbegun { IfErr result (λ r. IsUnread (F.bytes_of files.now) arguments.now r
+        × (E.contents errors.new ≡ E.contents errors.old)) }
 {
     match arguments {
         Arguments::Run(arguments) => commands::run::<M, F, O, E>(

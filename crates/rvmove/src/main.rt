@@ -4,8 +4,7 @@
 #![tactic(auto)]
 
 use rvm_paged::PagedRam;
-use rvm_program::{perform, take_descriptors};
-use std::env;
+use rvm_program::{perform, take_descriptors, take_words, tell_words_fault, texts};
 use std::process::ExitCode;
 
 fn main(rt: HostRuntime) -> anyhow::Result<ExitCode> {
@@ -16,10 +15,23 @@ fn main(rt: HostRuntime) -> anyhow::Result<ExitCode> {
             return Ok(ExitCode::from(1));
         }
     };
-    let words: Vec<String> = env::args(&rt)?.collect(rt.alloc())?;
+    let words = match take_words(&rt) {
+        Ok(words) => words,
+        Err(fault) => {
+            let status = tell_words_fault(rt.alloc(), fault, &mut rt.stderr());
+            return Ok(ExitCode::from(status));
+        }
+    };
+    let texts = match texts(rt.alloc(), words.as_slice()) {
+        Ok(texts) => texts,
+        Err(fault) => {
+            let status = tell_words_fault(rt.alloc(), fault, &mut rt.stderr());
+            return Ok(ExitCode::from(status));
+        }
+    };
     let status = perform::<PagedRam, _, _, _, _, _>(
         &rt,
-        words.as_slice(),
+        texts.as_slice(),
         &mut rt.stdin(),
         &mut rt.stdout(),
         &mut rt.stderr(),

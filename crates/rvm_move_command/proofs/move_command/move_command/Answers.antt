@@ -17,9 +17,9 @@ returns-clause-moved g c =
     (λ m. AreLeft c.args.arguments.now c.args.image.now m.ends m.a.fault m.b.fault m.a.recorded.journal m.b.recorded.journal)
     (λ m. IsEndRun m.ends m.a.fault m.b.fault m.a.recorded.journal.entries m.b.recorded.journal.entries output_before output_after
     c.args.arguments.now.guest.harts c.args.arguments.now.steps)
-    (λ m. IsToldOf m.ends m.a.fault m.b.fault m.a.recorded.journal m.b.recorded.journal before after)
-    (IsMoved c.args.arguments.now c.args.image.now before after output_before output_after)
-    (λ m. moved c.args.arguments.now c.args.image.now m.ends m.a.fault m.b.fault m.a.recorded.journal m.b.recorded.journal before after output_before output_after)
+    (λ s m. IsToldOf c.args.arguments.now.verdict s m.ends m.a.fault m.b.fault m.a.recorded.journal m.b.recorded.journal before after)
+    (λ s. IsMoved c.args.arguments.now c.args.image.now s before after output_before output_after)
+    (λ s m. moved c.args.arguments.now c.args.image.now s m.ends m.a.fault m.b.fault m.a.recorded.journal m.b.recorded.journal before after output_before output_after)
     (left c.move_image-moved.result c.args.arguments.now c.args.image.now (λ m. m.ends) (λ m. m.a.fault) (λ m. m.b.fault)
     (λ m. m.a.recorded.journal) (λ m. m.b.recorded.journal) c.move_image-moved.ensures.opened c.move_image-moved.ensures.a c.move_image-moved.ensures.b)
     c.move_image-moved.ensures.run c.tell_end.ensures.told
@@ -46,10 +46,10 @@ returns-clause-untold g c =
     c.args.arguments.now.guest.harts c.args.arguments.now.steps)
     (λ m. IsReplay m.a.recorded.journal.opening m.a.recorded.journal.entries
     × IsReplay m.b.recorded.journal.opening m.b.recorded.journal.entries)
-    (λ m before after. IsToldOf m.ends m.a.fault m.b.fault m.a.recorded.journal m.b.recorded.journal before after)
+    (λ m s before after. IsToldOf c.args.arguments.now.verdict s m.ends m.a.fault m.b.fault m.a.recorded.journal m.b.recorded.journal before after)
     (λ m before after. IsFailureOf m.ends m.a.fault m.b.fault m.a.recorded.journal m.b.recorded.journal before after)
-    (λ m replays. end_of m.ends m.a.fault m.b.fault m.a.recorded.journal m.b.recorded.journal replays.0 replays.1)
-    (λ m before after. moved c.args.arguments.now c.args.image.now m.ends m.a.fault m.b.fault m.a.recorded.journal m.b.recorded.journal before after output_before output_after)
+    (λ m replays. end_of c.args.arguments.now.verdict m.ends m.a.fault m.b.fault m.a.recorded.journal m.b.recorded.journal replays.0 replays.1)
+    (λ m s before after. moved c.args.arguments.now c.args.image.now s m.ends m.a.fault m.b.fault m.a.recorded.journal m.b.recorded.journal before after output_before output_after)
     (λ m before after begun failed. inr (failed_of c.args.arguments.now c.args.image.now m.ends m.a.fault m.b.fault m.a.recorded.journal m.b.recorded.journal before after begun failed))
     (left c.move_image-moved.result c.args.arguments.now c.args.image.now (λ m. m.ends) (λ m. m.a.fault) (λ m. m.b.fault)
     (λ m. m.a.recorded.journal) (λ m. m.b.recorded.journal) c.move_image-moved.ensures.opened c.move_image-moved.ensures.a c.move_image-moved.ensures.b)

@@ -8,7 +8,7 @@ returns-clause-ended g c =
     (written (g.O.Write.contents c.args.output.now) (g.O.Write.contents c.move_command.new.output))
     (written (g.E.Write.contents c.args.errors.now) (g.E.Write.contents c.move_command.new.errors))
     c.deref.result.now c.in_ok-image.image.items c.args.arguments.now c.move_command.result c.deref.ensures.value
-    c.in_ok-image.ensures.bytes c.move_command.ensures.status c.move_command.ensures.moved c.move_command.ensures.failed
+    c.in_ok-image.ensures.bytes c.move_command.ensures.moved c.move_command.ensures.failed
 
 pub returns-clause-untold : goal.returns-clause-untold
 returns-clause-untold g c =

@@ -1,0 +1,118 @@
+-- A run takes at most a byte of its input in each turn, so that bytes which no turn can take change nothing.
+use Rattle.std.proofs.Common.{◌≡◌, ◌∙◌, ◌+◌, ◌%◌, ◌==◌, ◌<◌, ◌≤◌, ℕ, zero, suc, List, [], ◌∷◌, ◌++◌, Option, Result, Ok, Err, length, take, drop, get_or, refl, sym, ap, ap₂, subst, inl, inr, arith, length-take}
+use Rattle.std.proofs.lemmas.List.{take_all}
+use Rattle.std.specs.Io.KnownBytes.{Appends}
+use Rattle.std.specs.Prelude.{IfOk, if◌then◌else◌}
+use Rattle.rvm_arguments.specs.declared.arguments.RunArguments.{RunArguments}
+use Rattle.rvm_debug.specs.declared.event.BoardEvent.{BoardEvent}
+use Rattle.rvm_debug.specs.declared.event.BoardEvent.TheVariants.{Input}
+use Rattle.rvm_debug.specs.declared.event.BoardReply.{BoardReply}
+use Rattle.rvm_debug.specs.declared.event.BoardReply.TheVariants as reply
+use Rattle.rvm_debug.specs.Guest.{Guest}
+use Rattle.rvm_debug.specs.Events.{Answered, answered}
+use Rattle.rvm_command.specs.declared.refused.Refused.{Refused}
+use Rattle.rvm_command.specs.declared.run.Ended.{Ended}
+use Rattle.rvm_command.specs.Command.{guest_of, image_of}
+use Rattle.rvm_command.specs.Ends.{IsRunEnd}
+use Rattle.rvm_command.specs.Run.{Ran, Run, after, drains, first, left, offers, ran, run_from, step_of, unless_halted, unless_refused}
+
+-- lists with the same first bytes have the same first bytes but one
+fewer : (n : ℕ) (a b : List ℕ) → take (suc n) a ≡ take (suc n) b → take n a ≡ take n b
+fewer zero a b same = refl
+fewer (suc n) [] [] same = refl
+fewer (suc n) [] (y ∷ b) same = absurd cc
+fewer (suc n) (x ∷ a) [] same = absurd cc
+fewer (suc n) (x ∷ a) (y ∷ b) same =
+    ap₂ (λ (z : ℕ) (l : List ℕ). z ∷ l) (ap (λ l. get_or l 0 0) same) (fewer n a b (ap (drop 1) same))
+
+-- what is left of two lists whose next byte is offered
+left_same : (n x : ℕ) (a b : List ℕ) (r : BoardReply) → take (suc n) (x ∷ a) ≡ take (suc n) (x ∷ b)
+    → take n (unless_refused r (x ∷ a) a) ≡ take n (unless_refused r (x ∷ b) b)
+left_same n x a b (reply.Refused why) same = fewer n (x ∷ a) (x ∷ b) same
+left_same n x a b reply.Retired same = ap (drop 1) same
+left_same n x a b (reply.Trapped cause) same = ap (drop 1) same
+left_same n x a b (reply.Interrupted cause) same = ap (drop 1) same
+left_same n x a b (reply.Halted s) same = ap (drop 1) same
+left_same n x a b (reply.Break address) same = ap (drop 1) same
+left_same n x a b reply.Done same = ap (drop 1) same
+left_same n x a b (reply.Bytes bytes) same = ap (drop 1) same
+left_same n x a b (reply.Regs values) same = ap (drop 1) same
+left_same n x a b (reply.Line address word) same = ap (drop 1) same
+
+-- a turn after what was offered
+abbrev turned : (t : ℕ) → Guest → List BoardEvent → Answered
+turned t g offered = answered (step_of t g) (after offered g).guest
+
+-- what is taken after it
+abbrev taken_at : (t : ℕ) → Guest → List BoardEvent
+taken_at t g = if t % 64 == 63 then drains g else []
+
+-- the guest of the next turn
+abbrev next_guest : (t : ℕ) → Guest → List BoardEvent → Guest
+next_guest t g offered = (after (taken_at t (turned t g offered).guest) (turned t g offered).guest).guest
+
+-- a turn, and the run that follows it
+abbrev turn_of : (t : ℕ) → Guest → List BoardEvent → Run → Run
+turn_of t g offered rest =
+    first (offered ++ step_of t g ∷ [])
+    (unless_halted (turned t g offered).reply (turned t g offered).guest
+    (first (taken_at t (turned t g offered).guest) rest))
+
+turn_is : (n t : ℕ) (input : List ℕ) (g : Guest) → run_from (suc n) t input g
+    ≡ turn_of t g (offers input) (run_from n (t + 1) (left input g) (next_guest t g (offers input)))
+unfolding run_from
+turn_is n t input g = refl
+
+no_turn : (t : ℕ) (a b : List ℕ) (g : Guest) → run_from zero t a g ≡ run_from zero t b g
+unfolding run_from
+no_turn t a b g = refl
+
+-- runs of n turns with the same first n bytes of input are the same
+same_run : (n t : ℕ) (a b : List ℕ) (g : Guest) → take n a ≡ take n b → run_from n t a g ≡ run_from n t b g
+same_run zero t a b g same = no_turn t a b g
+same_run (suc n) t [] [] g same = refl
+same_run (suc n) t [] (y ∷ b) g same = absurd cc
+same_run (suc n) t (x ∷ a) [] g same = absurd cc
+same_run (suc n) t (x ∷ a) (y ∷ b) g same =
+    let next : x ≡ y = ap (λ l. get_or l 0 0) same in
+    subst (λ z. take (suc n) (x ∷ a) ≡ take (suc n) (z ∷ b) → run_from (suc n) t (x ∷ a) g ≡ run_from (suc n) t (z ∷ b) g) next
+    (λ it. turn_is n t (x ∷ a) g
+    ∙ ap (turn_of t g (Input x ∷ [])) (same_run n (t + 1) (left (x ∷ a) g) (left (x ∷ b) g) (next_guest t g (Input x ∷ []))
+    (left_same n x a b (answered (Input x) g).reply it))
+    ∙ sym (turn_is n t (x ∷ b) g)) same
+
+-- what a run leaves
+abbrev ran_of : Run → Guest → Ran
+ran_of run g =
+    let all = after run.events g in
+    record { guest = all.guest; pages = all.pages; written = all.bytes; ended = run.ended }
+
+same_ran : (steps : ℕ) (begun input : List ℕ) (g : Guest) → begun ≡ take steps input → ran steps begun g ≡ ran steps input g
+same_ran steps begun input g is =
+    let size = length-take steps input in
+    let few : length (take steps input) ≤ steps = omega (arith, size) in
+    ap (λ run. ran_of run g)
+    (same_run steps 0 begun input g (ap (take steps) is ∙ take_all steps (take steps input) few))
+
+if_ok : {X E : Type 0} (r : Result X E) (P Q : X → Type 0) → ((x : X) → P x → Q x) → IfOk r P → IfOk r Q
+if_ok (Ok x) P Q f p = f x p
+if_ok (Err e) P Q f p = tt
+
+-- how a run ended that was given the bytes of its input that its turns can take, so it ends with all of them
+pub ends_so : (a : RunArguments) (file begun input : List ℕ) (end : Result Ended Refused) (before after : Option (List ℕ))
+    → begun ≡ take a.steps input → IsRunEnd a file begun end before after → IsRunEnd a file input end before after
+ends_so a file begun input (Ok ended) before after is (loadable, came) = (
+  loadable,
+  if_ok (image_of a.guest.raw file) _ _ (λ i came.
+      let same = same_ran a.steps begun input (guest_of a.guest.harts a.guest.pages i.0 i.1) is in
+      (came.0 ∙ ap (λ (r : Ran). r.ended) same, subst (Appends before after) (ap (λ (r : Ran). r.written) same) came.1)) came,
+)
+ends_so a file begun input (Err r) before after is (inl refused) = inl refused
+ends_so a file begun input (Err r) before after is (inr (failed, loadable, came)) =
+    inr (
+      failed,
+      loadable,
+      if_ok (image_of a.guest.raw file) _ _ (λ i some.
+          let same = same_ran a.steps begun input (guest_of a.guest.harts a.guest.pages i.0 i.1) is in
+          subst (λ written. 0 < length written) (ap (λ (r : Ran). r.written) same) some) came,
+    )

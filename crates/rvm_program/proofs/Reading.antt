@@ -1,0 +1,44 @@
+-- What is read of files.
+use Rattle.std.proofs.Common.{◌≡◌, ◌∙◌, ◌<◌, ◌≤◌, ◌+◌, ℕ, List, length, Option, None, Some, Result, Ok, Err, ap, sym, arith, length-take}
+use Rattle.std.proofs.lemmas.List.{take_all}
+use Rattle.std.specs.Prelude.{IfOk, IfSome}
+use Rattle.rvm_program.specs.Files.{IsApart, IsFile, IsFirst}
+
+-- a file of which no more than so many bytes were found, when one more was looked for, was read whole
+pub whole : (known : Option (List ℕ)) (bytes : List ℕ) (limit : ℕ) → IsFirst known (limit + 1) bytes → length bytes ≤ limit
+    → IsFile known bytes
+whole None bytes limit is few = tt
+whole (Some all) bytes limit is few =
+    let size = length-take (limit + 1) all in
+    let same = ap length is in
+    is ∙ take_all (limit + 1) all (omega (arith, size, same, few))
+
+-- and one of which more were found has more
+pub longer : (known : Option (List ℕ)) (bytes : List ℕ) (limit count : ℕ) → IsFirst known count bytes
+    → limit < length bytes → IfSome known (λ all. limit < length all)
+longer None bytes limit count is more = tt
+longer (Some all) bytes limit count is more =
+    let size = length-take count all in
+    let same = ap length is in
+    omega (arith, size, same, more)
+
+-- a file is not these bytes of which others were found, when one more was looked for
+pub apart : (known : Option (List ℕ)) (held bytes : List ℕ) → IsFirst known (length bytes + 1) held
+    → (held ≡ bytes → ⊥) → IsApart known bytes
+apart None held bytes is other = tt
+apart (Some all) held bytes is other =
+    λ same. other (is ∙ take_all (length bytes + 1) all (omega (arith, ap length same)) ∙ same)
+
+-- the first bytes of a file, where more are asked for than it may have
+first_of_all : (known : Option (List ℕ)) (bytes : List ℕ) (count : ℕ) → IsFile known bytes → length bytes ≤ 67108864
+    → 67108864 < count → IsFirst known count bytes
+first_of_all None bytes count is few more = tt
+first_of_all (Some all) bytes count is few more =
+    is ∙ sym (take_all count all (omega (arith, ap length is, few, more)))
+
+-- the same of what a call answers
+pub first_given : {X E : Type 0} (r : Result X E) (items : X → List ℕ) (known : Option (List ℕ)) (count : ℕ)
+    → 67108864 < count → IfOk r (λ v. IsFile known (items v)) → IfOk r (λ v. length (items v) ≤ 67108864)
+    → IfOk r (λ v. IsFirst known count (items v))
+first_given (Ok v) items known count more is few = first_of_all known (items v) count is few more
+first_given (Err e) items known count more is few = tt
