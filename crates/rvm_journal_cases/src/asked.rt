@@ -45,12 +45,25 @@ pub fn recorded(alloc: Global, id: u8, harts: u32, capacity: u32) -> Option<Reco
 pub fn host(alloc: Global, id: u8, harts: u32, version: u32) -> Option<Host<PagedRam>>
     requires { (1 ≤ harts) × (harts ≤ 8) }
 {
+    host_among(alloc, id, 2, harts, version)
+}
+
+/// The same among so many hosts.
+pub fn host_among(
+    alloc: Global,
+    id: u8,
+    count: u8,
+    harts: u32,
+    version: u32,
+) -> Option<Host<PagedRam>>
+    requires { (1 ≤ harts) × (harts ≤ 8) }
+{
     let guest = if id == 0 {
         Some(looping(alloc, harts)?)
     } else {
         None
     };
-    Host::with_version(guest, id, 2, 4096, version).ok()
+    Host::with_version(guest, id, count, 4096, version).ok()
 }
 
 /// A guest of so many harts and four pages that jumps to itself.

@@ -1,12 +1,13 @@
 //! What hosts write down, by call: slices, room for entries, hosts that two seats call, what is refused for
-//! its size, and one order of two journals. It prints what came of each, and makes a call that was refused
+//! its size, and one order of two journals and of three. It prints what came of each, and makes a call that was refused
 //! memory once more, so that it prints the same whichever growth is refused. With a number as its argument it
 //! puts two journals of so many entries in order instead; with `list` or `runs` and three numbers, two journals of
 //! steps among which frames come, as `runs` tells.
 //!
-//! To be read in this order: `asked`, `slices`, `sharing`, `sizes`, `orders`, `runs`.
+//! To be read in this order: `asked`, `slices`, `sharing`, `sizes`, `orders`, `around`, `runs`.
 #![tactic(auto)]
 
+mod around;
 mod asked;
 mod orders;
 mod runs;
@@ -28,6 +29,7 @@ fn main(rt: HostRuntime) {
                 && sharing::hand_out_frames(&rt).is_some()
                 && sizes::refuse_sizes(&rt).is_some()
                 && orders::put_in_order(&rt).is_some()
+                && around::order_three_journals(&rt).is_some()
         }
     };
     if !is_whole {

@@ -24,14 +24,17 @@ const PAGES: u32 = 4;
 /// How many entries each journal takes.
 const ENTRIES: u32 = 100;
 
+/// How pages are copied.
+pub const POLICY: Policy = Policy {
+    max_rounds: 3,
+    min_left: 1,
+    factor: 3,
+};
+
 /// The move begins.
 pub const BEGIN: Command = Command::Begin {
     to: 1,
-    policy: Policy {
-        max_rounds: 3,
-        min_left: 1,
-        factor: 3,
-    },
+    policy: POLICY,
 };
 
 /// What two hosts do before their journals are put in order.
