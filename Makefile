@@ -64,8 +64,8 @@ bench-programs: build
 
 # Long journals, put in order: its proof takes minutes.
 bench-journals: build
-	cd crates/rvm_journal_cases && rt run > /dev/null
-	cp crates/rvm_journal_cases/out/rvm_journal_cases build/rvm_journal_cases
+	cd crates/rvm_test_journals && rt run > /dev/null
+	cp crates/rvm_test_journals/out/rvm_test_journals build/rvm_test_journals
 
 # Installs what make build made, with what a package has beside it. DESTDIR stands before each place.
 SHARE = $(DESTDIR)$(PREFIX)/share

@@ -97,11 +97,11 @@ pub struct MoveArguments<'a> {
     pub guest: GuestArguments<'a>,
     /// 1 to 100000 turns.
     pub steps: u32,
-    /// The guest is paused after so many rounds of copies, 1 to 1000.
+    /// The guest is paused after this many rounds of copies, 1 to 1000.
     pub rounds: u32,
     /// It is paused once fewer pages are left, 1 to 4096.
     pub left: u32,
-    /// It is paused once more copies are made than so many times its pages, 1 to 100.
+    /// It is paused once more copies are made than this many times its pages, 1 to 100.
     pub factor: u32,
     /// The version of the streams, 1 to 3.
     pub stream: u32,
@@ -137,6 +137,8 @@ pub struct HostArguments<'a> {
     pub rate: Option<u32>,
     /// Whether the process ends once the guest has halted here.
     pub until_halt: bool,
+    /// Whether the status tells how the guest ended here.
+    pub verdict: bool,
     ghost patience_allowed: { (1 ≤ patience) × (patience ≤ 1000000000) },
     ghost rate_allowed: { ForSome rate (λ r. (1 ≤ r) × (r ≤ 1000000000)) },
 }

@@ -5,14 +5,14 @@ use Rattle.std.proofs.lemmas.Bool.Decides.{nat_tests}
 use Rattle.std.proofs.lemmas.List.{map_push, get_or_append_left, get_or-append-add}
 use Rattle.std.proofs.str.Laws.{order}
 use Rattle.rvm_text.specs.Lexemes.{Lexeme}
-use Rattle.rvm_line.specs.declared.faults.Fault.{Fault}
-use Rattle.rvm_line.specs.Statements.{label_of, next_place}
-use Rattle.rvm_line.specs.Values.{Names}
-use Rattle.rvm_line.proofs.Ends.{ends}
-use Rattle.rvm_image.specs.declared.image.Segment.{Segment}
-use Rattle.rvm_image.specs.Images.{Piece, piece, size, in_piece, byte_at, or_else, piece_of, pieces_of}
+use Rattle.rvm_asm_line.specs.declared.faults.Fault.{Fault}
+use Rattle.rvm_asm_line.specs.Statements.{label_of, next_place}
+use Rattle.rvm_asm_line.specs.Values.{Names}
+use Rattle.rvm_asm_line.proofs.Ends.{ends}
+use Rattle.rvm_asm.specs.declared.image.Segment.{Segment}
+use Rattle.rvm_asm.specs.Images.{Piece, piece, size, in_piece, byte_at, or_else, piece_of, pieces_of}
 use Rattle.rvm_asm.specs.Assembly.{BytesOf, IsImageTo, IsImage, IsLaid, line_at}
-use Rattle.rvm_asm.specs.Images.{HasAt, IsWithin, IsFree, IsTaken, Joins, HasSameBytes}
+use Rattle.rvm_asm.specs.Pieces.{HasAt, IsWithin, IsFree, IsTaken, Joins, HasSameBytes}
 use Rattle.rvm_asm.specs.Views.{Fits, Puts}
 use Rattle.rvm_asm.specs.Refusals.{count_at, count_to}
 use Rattle.rvm_asm.proofs.Laying.{below_or_at, next_known}

@@ -3,14 +3,14 @@ use Rattle.std.proofs.Common.{◌≡◌, ℕ, ◌+◌, ◌<◌, List, [], length
 use Rattle.std.specs.Prelude.{◌⊎◌, IsSome}
 use Rattle.std.specs.Str.Lines.{lines}
 use Rattle.rvm_text.specs.Lexemes.{Lexeme, lexemes}
-use Rattle.rvm_line.specs.declared.faults.Fault.{Fault}
-use Rattle.rvm_line.specs.Contents.{bytes_at}
-use Rattle.rvm_line.specs.Reading.{◌>>=◌}
-use Rattle.rvm_line.specs.Statements.{Definition, label_of, next_place, equ_at}
-use Rattle.rvm_line.specs.Values.{Names}
-use Rattle.rvm_image.specs.Images.{Piece}
+use Rattle.rvm_asm_line.specs.declared.faults.Fault.{Fault}
+use Rattle.rvm_asm_line.specs.Contents.{bytes_at}
+use Rattle.rvm_asm_line.specs.Reading.{◌>>=◌}
+use Rattle.rvm_asm_line.specs.Statements.{Definition, label_of, next_place, equ_at}
+use Rattle.rvm_asm_line.specs.Values.{Names}
+use Rattle.rvm_asm.specs.Images.{Piece}
 use Rattle.rvm_asm.specs.Assembly.{line_at, statement_of, Takes, Lays, AreRead, BytesOf, IsLaid, IsLaidTo, IsImage, IsImageTo}
-use Rattle.rvm_asm.specs.Images.{IsWithin}
+use Rattle.rvm_asm.specs.Pieces.{IsWithin}
 use Rattle.rvm_asm.specs.Refusals.{defined_at, HasFault, HasNoFault, ImagesHaveNoFault, IsErrorOf, IsOversized, IsTwice, IsUnplaced, IsUnput, IsUnread, SizesHaveNoFault}
 use Rattle.rvm_asm.proofs.Lines.{each_read}
 use Rattle.rvm_asm.proofs.Unique.{same_lines, same_names, same_to, taken, with_definition}

@@ -3,8 +3,8 @@ use Rattle.std.proofs.Common.{◌≡◌, ℕ, ◌+◌, ◌<◌, ◌≤◌, List,
 use Rattle.std.specs.Prelude.{Bool, true, false, nat_lt, if◌then◌else◌, IsTrue, IsFalse}
 use Rattle.std.proofs.lemmas.Bool.Decides.{nat_tests}
 use Rattle.std.proofs.str.Laws.{order}
-use Rattle.rvm_image.specs.Images.{Piece, piece, in_piece, byte_at, or_else}
-use Rattle.rvm_asm.specs.Images.{AreOrdered, HasSameBytes}
+use Rattle.rvm_asm.specs.Images.{Piece, piece, in_piece, byte_at, or_else}
+use Rattle.rvm_asm.specs.Pieces.{AreOrdered, HasSameBytes}
 use Rattle.rvm_asm.specs.Views.{extent_piece, extent_pieces, is_apart, AreExtents, Extents, Holds}
 use Rattle.rvm_asm.specs.Refusals.{AreSeparate}
 use Rattle.rvm_asm.proofs.Bytes.{longer_bytes, or_assoc}
@@ -122,7 +122,7 @@ module _ (bytes : ℕ → List ℕ) where
       swapped : (x y : ℕ) → x + (1 + y) ≡ 1 + (x + y)
       swapped x y = omega arith
 
-  -- the pieces of extents, made one where they touch, are so many
+  -- the pieces of extents, made one where they touch, are this many
   pub joined_length : (lines : ℕ) (es : List Entry) → AreExtents bytes lines es → length (joined (pieces bytes es)) ≡ pieces_behind None es
   unfolding AreExtents joined pieces_behind
   joined_length lines [] x = refl

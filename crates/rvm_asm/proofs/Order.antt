@@ -4,9 +4,9 @@ use Rattle.std.specs.Prelude.{All}
 use Rattle.std.proofs.lemmas.List.{map_push}
 use Rattle.std.proofs.lemmas.List.Elements.{All-cons}
 use Rattle.std.proofs.str.Laws.{order}
-use Rattle.rvm_image.specs.declared.image.Segment.{Segment}
-use Rattle.rvm_image.specs.Images.{Piece, piece, size, in_piece, byte_at, or_else, piece_of, pieces_of, IsRising}
-use Rattle.rvm_asm.specs.Images.{IsFree, AreOrdered, end_of}
+use Rattle.rvm_asm.specs.declared.image.Segment.{Segment}
+use Rattle.rvm_asm.specs.Images.{Piece, piece, size, in_piece, byte_at, or_else, piece_of, pieces_of, IsRising}
+use Rattle.rvm_asm.specs.Pieces.{IsFree, AreOrdered, end_of}
 use Rattle.rvm_asm.specs.Views.{HasNoZeros}
 use Rattle.rvm_asm.proofs.Bytes.{inside}
 

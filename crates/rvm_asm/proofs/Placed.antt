@@ -10,9 +10,9 @@ use Rattle.std.specs.Cmp.{nat_cmp_is}
 use Rattle.std.specs.Ordering.{nat_cmp, match_ordering}
 use Rattle.std.proofs.lemmas.Bool.Decides.{nat_tests}
 use Rattle.std.proofs.str.Laws.{order}
-use Rattle.rvm_image.specs.Images.{Piece, piece, size, in_piece, byte_at, or_else}
+use Rattle.rvm_asm.specs.Images.{Piece, piece, size, in_piece, byte_at, or_else}
 use Rattle.rvm_asm.specs.declared.extents.Extent.{Extent}
-use Rattle.rvm_asm.specs.Images.{IsFree, IsTaken, Joins, AreOrdered}
+use Rattle.rvm_asm.specs.Pieces.{IsFree, IsTaken, Joins, AreOrdered}
 use Rattle.rvm_asm.specs.Views.{extent_piece, extent_pieces, AreExtents, Extents, Holds, IsExtent}
 use Rattle.rvm_asm.proofs.Bytes.{apart_at, apart_before, apart_behind, free_more, none_in_empty, or_assoc, or_none, plain_size, swap, taken_first, taken_from, taken_into, taken_more}
 use Rattle.rvm_asm.proofs.Order.{begins_from, ends_before, free_tail}
@@ -53,7 +53,7 @@ module _ (bytes : ℕ → List ℕ) where
   abbrev pub pieces : List Entry → List Piece
   pieces es = map (extent_piece bytes) es
 
-  -- no segment begins before so many places end
+  -- no segment begins before this many places end
   pub none_up_to : (last place count : ℕ) (es : List Entry) → up_to last es ≡ [] → place + count ≤ last + 1 → IsFree (pieces es) place count
   none_up_to last place count [] is end = λ a low high. refl
   none_up_to last place count (e ∷ es) is end =
@@ -78,7 +78,7 @@ module _ (bytes : ℕ → List ℕ) where
       (λ h. omega (arith, o.0, least (x.0 + length (bytes x.1.line) + 0) last xs (y ∷ t) e o.3 (sym (without_first last x xs h.0) ∙ is)))
       (by_or_behind last x.0)
 
-  -- the last that begins before so many places end ends before them
+  -- the last that begins before this many places end ends before them
   pub last_ends : (lo last place count : ℕ) (es t : List Entry) (e : Entry) → AreOrdered 0 lo (pieces es) → up_to last es ≡ t ++ e ∷ [] → place + count ≤ last + 1 → e.0 + length (bytes e.1.line) ≤ place → IsFree (pieces es) place count
   unfolding AreOrdered
   last_ends lo last place count [] t e o is end ends = absurd (none_last t e is)
@@ -105,12 +105,12 @@ module _ (bytes : ℕ → List ℕ) where
       (last_ends (x.0 + length (bytes x.1.line) + 0) last place count xs (y ∷ t) e o.3 (sym (without_first last x xs h.0) ∙ is) end ends))
       (by_or_behind last x.0)
 
-  -- a piece that begins before so many places end, and ends after the first
+  -- a piece that begins before this many places end, and ends after the first
   taken_one : (p : Piece) (place count : ℕ) → 0 < count → 0 < size p → p.address < place + count → place < p.address + size p → IsTaken (p ∷ []) place count
   taken_one p place count some bytes begins ends =
       ⊎_elim (λ h. taken_into p place count bytes (omega (arith, h)) begins) (λ h. taken_from p place count some h ends) (order place p.address)
 
-  -- the last that begins before so many places end does not end before them
+  -- the last that begins before this many places end does not end before them
   pub last_takes : (lo last place count : ℕ) (es t : List Entry) (e : Entry) → AreOrdered 0 lo (pieces es) → up_to last es ≡ t ++ e ∷ [] → 0 < count → last < place + count → place < e.0 + length (bytes e.1.line) → IsTaken (pieces es) place count
   unfolding AreOrdered
   last_takes lo last place count [] t e o is some end past = absurd (none_last t e is)
@@ -130,7 +130,7 @@ module _ (bytes : ℕ → List ℕ) where
       (λ h. last_takes (x.0 + length (bytes x.1.line) + 0) last place count xs (y ∷ t) e o.3 (sym (without_first last x xs h.0) ∙ is) some end past)
       (by_or_behind last x.0))
 
-  -- segments of which none has a byte in so many places begin after them
+  -- segments of which none has a byte in this many places begin after them
   freed : (place count : ℕ) (es : List Entry) → AreOrdered 0 place (pieces es) → IsFree (pieces es) place count → AreOrdered 0 (place + count) (pieces es)
   unfolding AreOrdered
   freed place count [] o free = tt

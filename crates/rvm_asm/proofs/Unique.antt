@@ -5,10 +5,10 @@ use Rattle.std.specs.Str.{bytes_eq}
 use Rattle.std.specs.Str.Lines.{lines}
 use Rattle.std.proofs.Math.Path.{fun_ext}
 use Rattle.rvm_text.specs.Lexemes.{Lexeme}
-use Rattle.rvm_line.specs.Statements.{Definition, label_of}
-use Rattle.rvm_line.specs.Values.{Names}
-use Rattle.rvm_image.specs.Images.{Piece, byte_at}
-use Rattle.rvm_asm.specs.Images.{HasAt, HasSameBytes}
+use Rattle.rvm_asm_line.specs.Statements.{Definition, label_of}
+use Rattle.rvm_asm_line.specs.Values.{Names}
+use Rattle.rvm_asm.specs.Images.{Piece, byte_at}
+use Rattle.rvm_asm.specs.Pieces.{HasAt, HasSameBytes}
 use Rattle.rvm_asm.proofs.Bytes.{some_is}
 use Rattle.rvm_asm.specs.Assembly.{line_at, entry_of, Takes, Lays, IsLaidTo, IsLaid, BytesOf, IsImageTo, IsImage, IsAssemblyOf, HasOneAssembly}
 
@@ -42,7 +42,7 @@ laid_once old new other place after behind line l m =
     ap (λ x. with_definition x l.definition) labelled ∙ ap (λ x. with_definition m.labelled x) definition in
     (taken l.labelled new l.definition l.defined ∙ names ∙ sym (taken m.labelled other m.definition m.defined), same)
 
--- the names after so many lines, and the place of the next, are the same in any two layouts
+-- the names after this many lines, and the place of the next, are the same in any two layouts
 pub record SameTo (known known' : ℕ → Names) (places places' : List ℕ) (i : ℕ) : Type 0 where
   pub names : known i ≡ known' i
   pub place : slice_index places i ≡ slice_index places' i

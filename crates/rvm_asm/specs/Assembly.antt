@@ -6,11 +6,11 @@ use Rattle.std.specs.Prelude.{codes}
 use Rattle.std.specs.Str.{bytes_eq}
 use Rattle.std.specs.Str.Lines.{lines}
 use Rattle.rvm_text.specs.Lexemes.{Lexeme, lexemes}
-use Rattle.rvm_line.specs.Contents.{bytes_at}
-use Rattle.rvm_line.specs.Statements.{Definition, label_of, next_place, equ_at}
-use Rattle.rvm_line.specs.Values.{Names}
-use Rattle.rvm_image.specs.Images.{Piece, byte_at}
-use Rattle.rvm_asm.specs.Images.{HasAt, IsWithin, HasSameBytes}
+use Rattle.rvm_asm_line.specs.Contents.{bytes_at}
+use Rattle.rvm_asm_line.specs.Statements.{Definition, label_of, next_place, equ_at}
+use Rattle.rvm_asm_line.specs.Values.{Names}
+use Rattle.rvm_asm.specs.Images.{Piece, byte_at}
+use Rattle.rvm_asm.specs.Pieces.{HasAt, IsWithin, HasSameBytes}
 
 -- the statement of a line after its label
 abbrev pub statement_of : (place : ℕ) → List Lexeme → List Lexeme

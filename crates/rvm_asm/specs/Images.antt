@@ -1,42 +1,47 @@
--- What the assembler says of the pieces of an image.
-use Rattle.std.specs.Prelude.{◌≡◌, ℕ, ◌+◌, ◌<◌, ◌≤◌, List, [], ◌∷◌, Some, None, length, slice_index}
-use Rattle.std.specs.Prelude.{IsSome}
-use Rattle.rvm_image.specs.Images.{Piece, in_piece, or_else, byte_at}
+-- The bytes of an image: which byte stands at an address.
+use Rattle.std.specs.Prelude.{ℕ, ◌+◌, ◌-◌, ◌<◌, List, [], ◌∷◌, Option, Some, None, length, get_or, map, nat_le, nat_lt, ◌&&◌, if◌then◌else◌}
+use Rattle.rvm_asm.specs.declared.image.Segment.{Segment}
 
--- so many bytes from a place on are these
-abbrev pub HasAt : List Piece → (place : ℕ) → List ℕ → Type 0
-HasAt image place bytes =
-    (k : ℕ) → k < length bytes → byte_at image (place + k) ≡ Some (slice_index bytes k)
+-- bytes from an address on, and how many zeros stand after them
+pub record Piece : Type 0 where
+  pub address : ℕ
+  pub bytes : List ℕ
+  pub zeros : ℕ
 
--- an address is one of those of bytes from a place on
-abbrev pub IsWithin : (a place : ℕ) → List ℕ → Type 0
-IsWithin a place bytes = (place ≤ a) × (a < place + length bytes)
+-- bytes from an address on, without zeros
+abbrev pub piece : (address : ℕ) → List ℕ → Piece
+piece address bytes = record { address = address; bytes = bytes; zeros = 0 }
 
--- no byte stands in so many places from one on
-abbrev pub IsFree : List Piece → (place count : ℕ) → Type 0
-IsFree image place count = (a : ℕ) → place ≤ a → a < place + count → byte_at image a ≡ None
+-- how many bytes a piece has, with its zeros
+abbrev pub size : Piece → ℕ
+size p = length p.bytes + p.zeros
 
--- a byte stands in one of them
-abbrev pub IsTaken : List Piece → (place count : ℕ) → Type 0
-IsTaken image place count = (a : ℕ) × (place ≤ a) × (a < place + count) × IsSome (byte_at image a)
+-- the byte of a piece at an address, if it has one there
+abbrev pub in_piece : Piece → ℕ → Option ℕ
+in_piece p a =
+    if nat_le p.address a && nat_lt a (p.address + size p)
+    then Some (get_or p.bytes (a - p.address) 0) else None
 
--- an image with a piece more, which decides where both have a byte
-abbrev pub Joins : List Piece → List Piece → Piece → Type 0
-Joins old new p = (a : ℕ) → byte_at new a ≡ or_else (in_piece p a) (byte_at old a)
+-- the first of two, if it is there
+abbrev pub or_else : Option ℕ → Option ℕ → Option ℕ
+or_else None y = y
+or_else (Some x) y = Some x
 
--- the pieces have the same bytes
-abbrev pub HasSameBytes : List Piece → List Piece → Type 0
-HasSameBytes xs ys = (a : ℕ) → byte_at xs a ≡ byte_at ys a
+-- the byte at an address, in the last piece that has one there
+abbrev pub byte_at : List Piece → ℕ → Option ℕ
+byte_at [] a = None
+byte_at (p ∷ ps) a = or_else (byte_at ps a) (in_piece p a)
 
--- the pieces have bytes and no zeros after them, the first begins at a place or after it, and
--- each other one so far after the end of the one before it, or farther
-unfoldable pub AreOrdered : (gap place : ℕ) → List Piece → Type 0
-AreOrdered gap place [] = Unit {0}
-AreOrdered gap place (p ∷ ps) =
-    (place ≤ p.address) × (0 < length p.bytes) × (p.zeros ≡ 0)
-    × AreOrdered gap (p.address + length p.bytes + gap) ps
+-- each piece has bytes, and ends before the next one begins
+pub record IsRising (ps : List Piece) : Type 0 where
+  pub some : (i : ℕ) → i < length ps → 0 < size (get_or ps i (piece 0 []))
+  pub apart : (i : ℕ) → i + 1 < length ps
+      → (get_or ps i (piece 0 [])).address + size (get_or ps i (piece 0 [])) < (get_or ps (i + 1) (piece 0 [])).address
 
--- where a piece after them may begin
-unfoldable pub end_of : (gap place : ℕ) → List Piece → ℕ
-end_of gap place [] = place
-end_of gap place (p ∷ ps) = end_of gap (p.address + length p.bytes + gap) ps
+-- what a segment stands for
+abbrev pub piece_of : Segment → Piece
+piece_of s = record { address = s.address; bytes = s.bytes.items; zeros = s.zeros }
+
+-- what the segments of an image stand for
+abbrev pub pieces_of : List Segment → List Piece
+pieces_of ss = map piece_of ss

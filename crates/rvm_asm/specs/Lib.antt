@@ -1,4 +1,5 @@
-pub mod Assembly
 pub mod Images
+pub mod Assembly
+pub mod Pieces
 pub mod Refusals
 pub mod Views

@@ -3,23 +3,23 @@ use Rattle.std.specs.Prelude.{◌≡◌, ℕ, zero, suc, ◌+◌, ◌^◌, ◌<�
 use Rattle.std.specs.Prelude.{slice_index, slice_index_or, IsSome, [], ◌⊎◌, Bool, true, false, IsTrue, IsFalse}
 use Rattle.std.specs.Str.Lines.{lines}
 use Rattle.rvm_text.specs.Lexemes.{Lexeme, lexemes}
-use Rattle.rvm_line.specs.declared.faults.Fault.{Fault}
-use Rattle.rvm_line.specs.declared.faults.Fault.TheVariants.{BadToken, Defined, Overlap}
-use Rattle.rvm_line.specs.declared.faults.LineError.{LineError}
-use Rattle.rvm_line.specs.declared.faults.LineError.TheVariants as line_error
-use Rattle.rvm_line.specs.Contents.{bytes_at}
-use Rattle.rvm_line.specs.Reading.{◌>>=◌}
-use Rattle.rvm_line.specs.Statements.{Definition, label_of, next_place, equ_at}
-use Rattle.rvm_line.specs.Values.{Names}
+use Rattle.rvm_asm_line.specs.declared.faults.Fault.{Fault}
+use Rattle.rvm_asm_line.specs.declared.faults.Fault.TheVariants.{BadToken, Defined, Overlap}
+use Rattle.rvm_asm_line.specs.declared.faults.LineError.{LineError}
+use Rattle.rvm_asm_line.specs.declared.faults.LineError.TheVariants as line_error
+use Rattle.rvm_asm_line.specs.Contents.{bytes_at}
+use Rattle.rvm_asm_line.specs.Reading.{◌>>=◌}
+use Rattle.rvm_asm_line.specs.Statements.{Definition, label_of, next_place, equ_at}
+use Rattle.rvm_asm_line.specs.Values.{Names}
 use Rattle.rvm_refusal.specs.declared.refusal.Refusal.{Refusal}
 use Rattle.rvm_refusal.specs.declared.refusal.Refusal.TheVariants as refusal
-use Rattle.rvm_line.specs.Refusals.{refusal_of_fault}
+use Rattle.rvm_asm_line.specs.Refusals.{refusal_of_fault}
 use Rattle.rvm_asm.specs.declared.error.AsmError.{AsmError}
 use Rattle.rvm_asm.specs.declared.error.AsmError.TheVariants.{OutOfMemory, Line, TooLarge, TooMany}
 use Rattle.rvm_asm.specs.Assembly.{statement_of, line_at, IsLaidTo, IsLaid, IsImageTo, IsImage, IsAssembly}
 use Rattle.rvm_asm.specs.Assembly.{AreRead, Takes}
-use Rattle.rvm_image.specs.Images.{Piece, IsRising}
-use Rattle.rvm_asm.specs.Images.{IsTaken, HasSameBytes}
+use Rattle.rvm_asm.specs.Images.{Piece, IsRising}
+use Rattle.rvm_asm.specs.Pieces.{IsTaken, HasSameBytes}
 
 -- a definition's name has a value already
 abbrev pub IsTwice : Names → Option Definition → Type 0

@@ -4,18 +4,18 @@ use Rattle.std.specs.Prelude.{length, unwrap_or, None, Some}
 use denote.Ref.{Bor}
 use Rattle.std.specs.BTreeMap.{BTreeMap}
 use Rattle.rvm_text.specs.Lexemes.{Lexeme, lexemes}
-use Rattle.rvm_line.specs.declared.faults.LineError.{LineError}
-use Rattle.rvm_line.specs.declared.faults.LineError.TheVariants as line_error
-use Rattle.rvm_line.specs.declared.faults.Fault.{Fault}
-use Rattle.rvm_line.specs.declared.faults.Fault.TheVariants.{BadToken, Defined, Overlap}
-use Rattle.rvm_line.specs.Contents.{bytes_at}
-use Rattle.rvm_line.specs.Statements.{Definition}
-use Rattle.rvm_line.specs.Values.{Names}
-use Rattle.rvm_image.specs.declared.image.Segment.{Segment}
-use Rattle.rvm_image.specs.Images.{Piece, piece}
+use Rattle.rvm_asm_line.specs.declared.faults.LineError.{LineError}
+use Rattle.rvm_asm_line.specs.declared.faults.LineError.TheVariants as line_error
+use Rattle.rvm_asm_line.specs.declared.faults.Fault.{Fault}
+use Rattle.rvm_asm_line.specs.declared.faults.Fault.TheVariants.{BadToken, Defined, Overlap}
+use Rattle.rvm_asm_line.specs.Contents.{bytes_at}
+use Rattle.rvm_asm_line.specs.Statements.{Definition}
+use Rattle.rvm_asm_line.specs.Values.{Names}
+use Rattle.rvm_asm.specs.declared.image.Segment.{Segment}
+use Rattle.rvm_asm.specs.Images.{Piece, piece}
 use Rattle.rvm_asm.specs.declared.extents.Extent.{Extent}
 use Rattle.rvm_asm.specs.Assembly.{Takes, Lays, IsImageTo, line_at, statement_of}
-use Rattle.rvm_asm.specs.Images.{AreOrdered, Joins, IsFree, IsTaken}
+use Rattle.rvm_asm.specs.Pieces.{AreOrdered, Joins, IsFree, IsTaken}
 use Rattle.rvm_asm.specs.Refusals.{IsUnplaced, IsTwice}
 
 -- the bytes of lines of text
@@ -98,7 +98,7 @@ abbrev pub is_apart : (before : Option ℕ) → (address : ℕ) → Bool
 is_apart None address = true
 is_apart (Some last) address = nat_lt (last + 1) address
 
--- what is left of room for 2 ^ 24 bytes where there are so many, or more
+-- what is left of room for 2 ^ 24 bytes where there are this many, or more
 abbrev pub IsRoom : Option ℕ → (count : ℕ) → Type 0
 IsRoom None count = 2 ^ 24 < count
 IsRoom (Some left) count = left + count ≡ 2 ^ 24

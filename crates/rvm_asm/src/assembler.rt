@@ -2,19 +2,19 @@
 
 ghost use Rattle.std.specs.Prelude.{◌≡◌, IfOk, IfErr, OnOk, All, map};
 ghost use Rattle.std.specs.Str.Lines.{lines};
-ghost use Rattle.rvm_line.specs.Views.{names_of};
+ghost use Rattle.rvm_asm_line.specs.Views.{names_of};
 ghost use Rattle.rvm_asm.specs.Assembly.{entry_of, AreRead, IsAssemblyOf, IsAssembly};
 ghost use Rattle.rvm_asm.specs.Refusals.{AreFew, IsErrorOf, IsError, IsSmall};
 ghost use Rattle.rvm_asm.specs.Views.{lines_of, texts_of, HasNoZeros};
-ghost use Rattle.rvm_image.specs.Images.{IsRising, pieces_of};
+ghost use Rattle.rvm_asm.specs.Images.{IsRising, pieces_of};
 
 use crate::error::AsmError;
 use crate::filling::fill;
+use crate::image::Image;
 use crate::layout::lay_out;
 use crate::placing::place_lines;
 use crate::reading::check_lines;
-use rvm_image::Image;
-use rvm_line::{Symbols, lookup};
+use rvm_asm_line::{Symbols, lookup};
 use std::alloc::{AllocError, Global};
 
 /// The image of an assembly text. Lines end with a line feed, and a carriage return before it is

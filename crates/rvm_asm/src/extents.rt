@@ -1,11 +1,11 @@
 //! Where the bytes of each line stand, without the bytes themselves.
 
 ghost use Rattle.std.specs.Prelude.{◌≡◌, ℕ, ◌+◌, ◌^◌, ◌≤◌, ◌<◌, ◌⊎◌, List, length, IsTrue, IsFalse};
-ghost use Rattle.rvm_asm.specs.Images.{IsFree, IsTaken};
+ghost use Rattle.rvm_asm.specs.Pieces.{IsFree, IsTaken};
 ghost use Rattle.rvm_asm.specs.Refusals.{AreSeparate};
 ghost use Rattle.rvm_asm.specs.Views.{extent_pieces, is_apart, Holds, IsClaim};
 
-use rvm_line::{Fault, LineError};
+use rvm_asm_line::{Fault, LineError};
 use std::collections::BTreeMap;
 
 /// The most segments that an image may have to be written.

@@ -1,16 +1,16 @@
 //! The last pass: the bytes of each line in the segments of an image.
 
 ghost use Rattle.std.specs.Prelude.{◌≡◌, ◌<◌, length, All, IfOk};
-ghost use Rattle.rvm_line.specs.Views.{names_of};
-ghost use Rattle.rvm_image.specs.Images.{IsRising, pieces_of};
+ghost use Rattle.rvm_asm_line.specs.Views.{names_of};
+ghost use Rattle.rvm_asm.specs.Images.{IsRising, pieces_of};
 ghost use Rattle.rvm_asm.specs.Assembly.{AreRead, BytesOf, IsLaid, IsImage};
 ghost use Rattle.rvm_asm.specs.Views.{line_bytes, lines_of, texts_of, ArePlaced, HasNoZeros};
 
 use crate::extents::Extents;
+use crate::image::Segment;
 use crate::placing;
 use crate::segments::append;
-use rvm_image::Segment;
-use rvm_line::Symbols;
+use rvm_asm_line::Symbols;
 use std::alloc::{AllocError, Global};
 
 /// Makes the segments of lines whose extents are known. Extents that touch become one segment.

@@ -1,7 +1,7 @@
 //! The assembler: from assembly text to an image, the bytes of a program at their addresses. It
-//! stands on `rvm_text` for the tokens of a line, on `rvm_line` for what a line means and on
-//! `rvm_image` for the image, and knows no instruction.
+//! stands on `rvm_text` for the tokens of a line and on `rvm_asm_line` for what a line means, and knows no instruction.
 //!
+//! `image` is what an assembler makes, what a file of a program holds, and what a board loads.
 //! `assembler` runs four passes over the lines, of which each reads a line's tokens again:
 //! `reading` looks whether each line has tokens, `layout` gives each name its value and each line
 //! its place, `placing` finds the `extents` of all lines' bytes, which it does not keep, and
@@ -13,6 +13,7 @@ mod assembler;
 mod error;
 mod extents;
 mod filling;
+mod image;
 pub mod laws;
 mod layout;
 mod placing;
@@ -21,4 +22,4 @@ mod segments;
 
 pub use assembler::assemble;
 pub use error::AsmError;
-pub use rvm_image::{Image, Segment};
+pub use image::{Image, MAX_BYTES, Segment};

@@ -2,17 +2,17 @@
 
 ghost use Rattle.std.specs.Prelude.{◌≡◌, ◌+◌, ◌<◌, ◌≤◌, ◌^◌, ℕ, List, length, slice_index, IfOk, IfErr, OnOk, IsSome};
 ghost use Rattle.rvm_text.specs.Lexemes.{lexemes};
-ghost use Rattle.rvm_line.specs.Contents.{bytes_at};
-ghost use Rattle.rvm_line.specs.Views.{names_of, Gives};
+ghost use Rattle.rvm_asm_line.specs.Contents.{bytes_at};
+ghost use Rattle.rvm_asm_line.specs.Views.{names_of, Gives};
 ghost use Rattle.rvm_asm.specs.Assembly.{line_at, statement_of, AreRead, IsLaid};
 ghost use Rattle.rvm_asm.specs.Refusals.{count_at, count_to, error_at, IsErrorOf, IsSizeError};
 ghost use Rattle.rvm_asm.specs.Views.{extent_pieces, line_of, lines_of, texts_of, ArePlaced, Holds, IsRoom};
 
 use crate::error::AsmError;
 use crate::extents::{Extents, are_many, claim};
+use crate::image::MAX_BYTES;
 use crate::reading::read_line;
-use rvm_image::MAX_BYTES;
-use rvm_line::{LineError, Symbols, contents, label};
+use rvm_asm_line::{LineError, Symbols, contents, label};
 use std::alloc::Global;
 
 /// Finds where the bytes of all lines stand. A fault of any line comes before the size: only if no
@@ -47,7 +47,7 @@ pub fn place_lines(
     Ok(extents)
 }
 
-/// The room that is left after so many bytes, or none if they do not fit.
+/// The room that is left after this many bytes, or none if they do not fit.
 fn room_after(room: Option<usize>, count: usize) -> Option<usize>
     ensures { (n : ℕ) → IsRoom room n → IsRoom result (n + count) }
 {

@@ -8,7 +8,7 @@ ghost use Rattle.rvm_asm.specs.Refusals.{IsReadError};
 ghost use Rattle.rvm_asm.specs.Views.{lines_of, texts_of, IsUnreadable};
 
 use crate::error::AsmError;
-use rvm_line::{Fault, LineError};
+use rvm_asm_line::{Fault, LineError};
 use rvm_text::{TextError, Token, tokens};
 use std::alloc::Global;
 

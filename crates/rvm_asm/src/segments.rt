@@ -1,10 +1,10 @@
 //! Segments that rise by address.
 
 ghost use Rattle.std.specs.Prelude.{◌≡◌, ℕ, ◌+◌, ◌≤◌, ◌<◌, [], ◌∷◌, ◌++◌, length, IfOk, OnOk};
-ghost use Rattle.rvm_image.specs.Images.{piece, pieces_of};
-ghost use Rattle.rvm_asm.specs.Images.{Joins, AreOrdered, end_of};
+ghost use Rattle.rvm_asm.specs.Images.{piece, pieces_of};
+ghost use Rattle.rvm_asm.specs.Pieces.{Joins, AreOrdered, end_of};
 
-use rvm_image::Segment;
+use crate::image::Segment;
 use std::alloc::AllocError;
 
 /// The address after bytes.

@@ -3,17 +3,17 @@ use Rattle.std.proofs.Common.{◌≡◌, ◌≢◌, ◌∙◌, ℕ, zero, suc, �
 use Rattle.std.specs.Prelude.{slice_get}
 use Rattle.std.proofs.lemmas.List.{append_assoc, append-nil}
 use Rattle.std.proofs.lemmas.Option.{same_Some}
-use Rattle.rvm_debug.specs.declared.event.BoardEvent.TheVariants.{Drain, Step}
-use Rattle.rvm_journal.specs.Entries.{PlainEntry}
-use Rattle.rvm_journal.specs.Items.{dry_entry, rounds_in_turn, steps_in_turn}
-use Rattle.rvm_journal.proofs.Items.{steps_length}
-use Rattle.rvm_journal.proofs.InRounds.{rounds_length}
-use Rattle.rvm_journal.proofs.Spans.{drop_at, entry_at}
+use Rattle.rvm_board.specs.declared.event.BoardEvent.TheVariants.{Drain, Step}
+use Rattle.rvm_recorder.specs.Entries.{PlainEntry}
+use Rattle.rvm_recorder.specs.Items.{dry_entry, rounds_in_turn, steps_in_turn}
+use Rattle.rvm_recorder.proofs.StepRuns.{steps_length}
+use Rattle.rvm_recorder.proofs.InRounds.{rounds_length}
+use Rattle.rvm_recorder.proofs.Spans.{drop_at, entry_at}
 use Rattle.rvm_message.specs.declared.event.Command.{Command}
 use Rattle.rvm_message.specs.declared.event.Command.TheVariants.{Board}
 use Rattle.rvm_message.specs.declared.event.HostEvent.TheVariants.{Do}
-use Rattle.rvm_world.specs.declared.event.Event.{Event}
-use Rattle.rvm_world.specs.declared.event.Event.TheVariants.{At}
+use Rattle.rvm_core.specs.declared.event.Event.{Event}
+use Rattle.rvm_core.specs.declared.event.Event.TheVariants.{At}
 use Rattle.rvm_audit.specs.declared.placed.Placed.{Placed}
 use Rattle.rvm_audit.specs.Placed.{all_events, events_behind, events_of, rounds_at, steps_at}
 
@@ -24,7 +24,7 @@ pub record IsCommand (x : ℕ) (n : PlainEntry) (e : Event) : Type 0 where
   pub stands : e ≡ At x command
   pub silent : n.frame ≡ None
 
--- so are all of them
+-- all entries are of commands, which made no frame, and these are their events
 abbrev pub AreCommands : ℕ → List PlainEntry → List Event → Type 0
 AreCommands x [] [] = Unit {0}
 AreCommands x [] (e ∷ es) = ⊥

@@ -1,4 +1,4 @@
--- A map whose keys are bytes: what an insertion leaves at any bytes.
+-- A map whose keys are bytes: the value of any key after an insertion.
 use Rattle.std.proofs.Common.{◌≡◌, ◌∙◌, ℕ, Bool, true, false, List, Option, Some, None, ap, refl, sym, subst, if◌then◌else◌}
 use Rattle.std.specs.Prelude.{Vec, bytes_eq, is_some}
 use Rattle.std.specs.BTreeMap.{BTreeMap, UpdatesBy, get_by}

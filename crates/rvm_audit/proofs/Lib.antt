@@ -1,3 +1,13 @@
+pub mod Gets
+pub mod Steps
+pub mod Moves
+pub mod Heard
+pub mod Runs
+pub mod Law
+pub mod Greatest
+pub mod Same
+pub mod Guests
+mod Examples
 pub mod Spellings
 pub mod Commands
 pub mod Merges

@@ -3,15 +3,15 @@ use Rattle.std.proofs.Common.{◌≡◌, ◌∙◌, ℕ, zero, suc, ◌+◌, ◌
 use Rattle.std.specs.Prelude.{slice_get}
 use Rattle.std.proofs.lemmas.Option.{same_Some}
 use denote.Ref.{Bor}
-use Rattle.rvm_journal.specs.Entries.{PlainEntry}
-use Rattle.rvm_journal.specs.History.{History}
-use Rattle.rvm_world.specs.declared.event.Event.{Event}
-use Rattle.rvm_interleaving.specs.Orders.{IsDeadEnd, IsOrder, Journals, cut}
-use Rattle.rvm_interleaving.proofs.Gets.{get_last}
+use Rattle.rvm_recorder.specs.Entries.{PlainEntry}
+use Rattle.rvm_recorder.specs.History.{History}
+use Rattle.rvm_core.specs.declared.event.Event.{Event}
+use Rattle.rvm_audit.specs.Orders.{IsDeadEnd, IsOrder, Journals, cut}
+use Rattle.rvm_audit.proofs.Gets.{get_last}
 use Rattle.rvm_audit.specs.Audits.{ArePartsOf, histories_of}
 use Rattle.rvm_audit.specs.declared.part.Part.{Part}
 use Rattle.rvm_audit.specs.declared.part.Place.{Place}
-use Rattle.rvm_audit.specs.Orders.{journals_of, no_history}
+use Rattle.rvm_audit.specs.ListOrders.{journals_of, no_history}
 use Rattle.rvm_audit.specs.Parts.{AreOf, AreSized, IsOf, IsSized, taken}
 use Rattle.rvm_audit.specs.Rule.{IsEnd, IsMerge}
 

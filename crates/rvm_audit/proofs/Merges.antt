@@ -5,28 +5,28 @@ use Rattle.std.proofs.Math.Seq.{take-length}
 use Rattle.std.proofs.lemmas.Bool.{eqb-true, ltb-true}
 use Rattle.std.proofs.lemmas.Option.{slice_get_within, same_Some, some_pair_parts}
 use Rattle.std.proofs.lemmas.Slice.Eq.{bytes_eq-Decides}
-use Rattle.rvm_core.specs.Hosts.{PlainHost, host_of}
-use Rattle.rvm_journal.specs.Entries.{PlainEntry}
-use Rattle.rvm_journal.specs.Replay.{IsAnswered, IsReplay, IsReplayFrom, LawHost, outcome_at, replay_from}
+use Rattle.rvm_host.specs.Hosts.{PlainHost, host_of}
+use Rattle.rvm_recorder.specs.Entries.{PlainEntry}
+use Rattle.rvm_recorder.specs.Replay.{IsAnswered, IsReplay, IsReplayFrom, LawHost, outcome_at, replay_from}
 use Rattle.rvm_message.specs.declared.event.HostEvent.{HostEvent}
 use Rattle.rvm_message.specs.declared.event.HostEvent.TheVariants.{Do, Came}
 use Rattle.rvm_message.specs.Events.{event_of}
 use Rattle.rvm_protocol.specs.Host.{is_there}
 use Rattle.rvm_protocol.specs.Pages.{put}
-use Rattle.rvm_world.specs.declared.event.Event.{Event}
-use Rattle.rvm_world.specs.declared.event.Event.TheVariants.{At, Deliver}
-use Rattle.rvm_interleaving.specs.Hosts.{HasBytes, HostEntry, Hosts, IsEvent, IsRun, Made, Makes, Openings, after, after_all, cons_if, entries_at, made_more, opened, outcome_in}
-use Rattle.rvm_interleaving.specs.Orders.{CameUnmade, IsStuck, Journals, cut}
-use Rattle.rvm_interleaving.proofs.Gets.{drop_end, drop_get, get_end, get_front, get_last, get_nothing, get_take, take_get}
-use Rattle.rvm_interleaving.proofs.Runs.{ends_of, host_after}
-use Rattle.rvm_interleaving.proofs.Steps.{and_first, cons_append}
+use Rattle.rvm_core.specs.declared.event.Event.{Event}
+use Rattle.rvm_core.specs.declared.event.Event.TheVariants.{At, Deliver}
+use Rattle.rvm_audit.specs.Hosts.{HasBytes, HostEntry, Hosts, IsEvent, IsRun, Made, Makes, Openings, after, after_all, cons_if, entries_at, made_more, opened, outcome_in}
+use Rattle.rvm_audit.specs.Orders.{CameUnmade, IsStuck, Journals, cut}
+use Rattle.rvm_audit.proofs.Gets.{drop_end, drop_get, get_end, get_front, get_last, get_nothing, get_take, take_get}
+use Rattle.rvm_audit.proofs.Runs.{ends_of, host_after}
+use Rattle.rvm_audit.proofs.Steps.{and_first, cons_append}
 use Rattle.rvm_audit.specs.Merged.{IsIndex, Merged}
 use Rattle.rvm_audit.specs.Merging.{Becomes, IsUnmade, IsWaiting, Places, counted, key_of, noted}
 use Rattle.rvm_audit.specs.Rule.{AllLowest, AllTurns, CannotStand, IsEnd, IsLowestAt, IsMerge, IsTurn}
 
 -- THE PLACES
 
--- a key that has a place had it, or is that of the new frame
+-- a key that has a place had it, or is the key of the new frame
 noted_some : (o : Option ℕ) (b : Bool) (count k : ℕ)
     → (if is_some o then o else (if b then Some count else None)) ≡ Some k
     → (o ≡ Some k) ⊎ ((o ≡ None) × (b ≡ true) × (k ≡ count))
@@ -90,7 +90,7 @@ module _ (x : ℕ) (new : List ℕ) (made : List Made) (count : ℕ) (p q : Plac
             let e = some_pair_parts x y new bytes (ap Some last.0) in other_key x y new bytes none.1 e.0 e.1
       ]
 
--- the places behind one more entry
+-- the places after one more entry
 index_next : (x : ℕ) (frame : Option (List ℕ)) (made : List Made) (count : ℕ) (p q : Places) → length made ≡ count
     → IsIndex made p → ((key : List ℕ) → q key ≡ noted (key_of x frame) count p key)
     → IsIndex (made ++ made_more x frame) q
@@ -132,7 +132,7 @@ behind y ss x n rest left is =
     ap (λ es. es ++ rest) (entries_snoc y ss x n) ∙ append_assoc (entries_at y ss) (cons_if (y == x) n []) rest
     ∙ ap (λ es. entries_at y ss ++ es) (one_append (y == x) n rest ∙ sym is)
 
--- what is left of a host, and what it has done, behind one of its entries
+-- what is left of a host, and what it has done, after one of its entries
 left_next : (b : Bool) (i k : ℕ) (n : PlainEntry) (xs : List PlainEntry) → (b ≡ true → (slice_get xs i ≡ Some n) × (k ≡ suc i))
     → drop i xs ≡ cons_if b n (drop (if b then k else i) xs)
 left_next true i k n xs is = drop_get xs i n (is refl).0 ∙ ap (λ m. n ∷ drop m xs) (sym (is refl).1)

@@ -4,11 +4,11 @@ use Rattle.std.specs.Prelude.{MatchOption, Option, slice_get}
 use Rattle.std.proofs.lemmas.Bool.{cases_eq, cases_lt, eq-eqb, ne_eqb}
 use Rattle.std.proofs.lemmas.List.{get_or-set_other, get_or-set_same, get_or_default}
 use Rattle.std.proofs.lemmas.Option.{MatchOption-at_none, MatchOption-at_some, same_Some, slice_get_read, slice_get_within}
-use Rattle.rvm_journal.specs.Entries.{PlainEntry}
-use Rattle.rvm_journal.specs.Items.{all_of, entries_at}
-use Rattle.rvm_journal.proofs.Spans.{drop_drop, next_within}
+use Rattle.rvm_recorder.specs.Entries.{PlainEntry}
+use Rattle.rvm_recorder.specs.Items.{all_of, entries_at}
+use Rattle.rvm_recorder.proofs.Spans.{drop_drop, next_within}
 use Rattle.rvm_protocol.specs.Pages.{put}
-use Rattle.rvm_interleaving.specs.Orders.{Journals}
+use Rattle.rvm_audit.specs.Orders.{Journals}
 use Rattle.rvm_audit.specs.declared.merge.Merge.{Merge}
 use Rattle.rvm_audit.specs.declared.part.Part.{Part}
 use Rattle.rvm_audit.specs.declared.part.Place.{Place}
@@ -182,7 +182,7 @@ module _ (parts : List Part) (places : List Place) (old new : Merge) (host : ℕ
         subst (λ (v : ℕ → ℕ). Merged j v new.order (places_of new.places) new.made)
         (λ i x. (ap (λ k. put (taken places) host k x) size ∙ moved x) i) one
 
-    -- where it made no frame, the hosts below go on waiting
+    -- if it made no frame, the hosts below go on waiting
     silent : new.made ≡ old.made → AllWait parts after (places_of new.places) host
     silent is = λ x other lt at.
         subst (λ (k : Place). IsWaiting other.version (length parts) x (entries_in other) k.entries (places_of new.places))
@@ -190,7 +190,7 @@ module _ (parts : List Part) (places : List Place) (old new : Merge) (host : ℕ
         (waits_still other.version (length parts) x (entries_in other) (taken places x) (places_of old.places) (places_of new.places)
         (same_places part.version (length parts) host old new t.item t.takes is) (turn.lower x other lt at))
 
-  -- what came of it
+  -- what the turn leaves
   module _ (o : Option ℕ) (came : MatchOption o AreStill Took) where
     waiting : o ≡ None → AreStill
     waiting is = MatchOption-at_none AreStill Took is came

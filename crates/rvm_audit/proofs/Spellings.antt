@@ -10,7 +10,7 @@ use Rattle.rvm_frame.specs.declared.addressed.Addressed.{Addressed}
 use Rattle.rvm_frame.specs.declared.frame.Frame.{Frame}
 use Rattle.rvm_frame.specs.Grammar.{HasSpelling, sent, spelling}
 use Rattle.rvm_protocol.specs.Host.{is_there}
-use Rattle.rvm_interleaving.specs.Hosts.{coming}
+use Rattle.rvm_audit.specs.Hosts.{coming}
 use Rattle.rvm_audit.specs.Merging.{IsPlaced, IsUnplaced, Places, places_of}
 
 -- before the first frame
@@ -25,7 +25,7 @@ pub is_coming : (from to : ℕ) (f g : Frame) → g ≡ f
     → ◌≡◌ {A = Addressed} (record { from = from; to = to; frame = g }) (coming from to f)
 is_coming from to f g is = λ j. record { from = from; to = to; frame = is j }
 
--- where its key has a place, and where it has none
+-- its key has a place, or has none
 pub placed : (version count x from : ℕ) (f : Frame) (places : Places) (a : Addressed) (key : List ℕ) (o : Option ℕ)
     → is_there x count from ≡ true → HasSpelling (sent version a) → a ≡ coming from x f
     → key ≡ from ∷ spelling (sent version a) → o ≡ places key

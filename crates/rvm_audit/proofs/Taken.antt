@@ -2,20 +2,20 @@
 use Rattle.std.proofs.Common.{◌≡◌, ◌∙◌, ℕ, zero, suc, ◌+◌, ◌*◌, ◌<◌, ◌≤◌, ◌==◌, Bool, true, false, if◌then◌else◌, List, [], ◌∷◌, ◌++◌, length, length-append, length-drop, drop, append_assoc, append-nil, inl, inr, refl, sym, ap, subst, arith}
 use Rattle.std.proofs.lemmas.Bool.{eq-eqb, eqb-true}
 use Rattle.std.specs.Prelude.{IfOk, MatchOption, Option, Some, None, Result, Ok, Err, slice_get}
-use Rattle.rvm_journal.specs.declared.item.ItemRef.{ItemRef}
-use Rattle.rvm_journal.specs.declared.item.ItemRef.TheVariants.{Entry, Rounds, Steps}
-use Rattle.rvm_journal.specs.declared.rounds.Rounds.{Rounds as RoundRow}
-use Rattle.rvm_journal.specs.declared.steps.Steps.{Steps as StepRow}
-use Rattle.rvm_journal.specs.Entries.{PlainEntry}
-use Rattle.rvm_journal.specs.Items.{all_of, entries_at, rounds_of, steps_in_turn}
-use Rattle.rvm_journal.specs.Replay.{IsReplay}
-use Rattle.rvm_journal.proofs.InRounds.{rounds_length}
-use Rattle.rvm_journal.proofs.Items.{steps_length}
-use Rattle.rvm_journal.proofs.Spans.{drop_all_of, drop_drop, next_at, next_left}
+use Rattle.rvm_recorder.specs.declared.item.ItemRef.{ItemRef}
+use Rattle.rvm_recorder.specs.declared.item.ItemRef.TheVariants.{Entry, Rounds, Steps}
+use Rattle.rvm_recorder.specs.declared.rounds.Rounds.{Rounds as RoundRow}
+use Rattle.rvm_recorder.specs.declared.steps.Steps.{Steps as StepRow}
+use Rattle.rvm_recorder.specs.Entries.{PlainEntry}
+use Rattle.rvm_recorder.specs.Items.{all_of, entries_at, rounds_of, steps_in_turn}
+use Rattle.rvm_recorder.specs.Replay.{IsReplay}
+use Rattle.rvm_recorder.proofs.InRounds.{rounds_length}
+use Rattle.rvm_recorder.proofs.StepRuns.{steps_length}
+use Rattle.rvm_recorder.proofs.Spans.{drop_all_of, drop_drop, next_at, next_left}
 use Rattle.rvm_protocol.specs.Pages.{put}
-use Rattle.rvm_world.specs.declared.event.Event.{Event}
-use Rattle.rvm_interleaving.specs.Orders.{Journals}
-use Rattle.rvm_interleaving.proofs.Steps.{put_other}
+use Rattle.rvm_core.specs.declared.event.Event.{Event}
+use Rattle.rvm_audit.specs.Orders.{Journals}
+use Rattle.rvm_audit.proofs.Steps.{put_other}
 use Rattle.rvm_audit.specs.declared.merge.Merge.{Merge}
 use Rattle.rvm_audit.specs.Merged.{Merged}
 use Rattle.rvm_audit.specs.Merging.{AreTaken, AreWaiting, Becomes, IsEntryTaken, IsRunTaken, IsWaiting, Places, Takes, Waits, counted, key_of, noted, places_of}
@@ -40,7 +40,7 @@ rounds_item version count x item r n old new is n_is t =
     subst (λ i. (n ≡ length (entries_at i)) × Takes version count x i old new) (sym is)
     (n_is ∙ sym (rounds_length r.turn r.harts r.steps r.drain r.count), t)
 
--- the items from one on, where there are such
+-- the items from one on, if there are any
 pub none_from : {X : Type 0} (xs : List X) (i : ℕ) → slice_get xs i ≡ None → drop i xs ≡ []
 none_from [] zero is = refl
 none_from [] (suc i) is = refl
@@ -106,7 +106,7 @@ module _ (version count x : ℕ) (old new : Merge) where
   one_frame (Steps s) t = let c = t.count in omega (arith, c)
   one_frame (Rounds r) t = let c = t.count in omega (arith, c)
 
-  -- and where it makes none, the places stay
+  -- if an item makes no frame, the places stay
   pub same_places : (item : ItemRef) → Takes version count x item old new → new.made ≡ old.made → (key : List ℕ)
       → places_of new.places key ≡ places_of old.places key
   same_places (Entry e) t is key =
@@ -116,7 +116,7 @@ module _ (version count x : ℕ) (old new : Merge) where
   same_places (Steps s) t is key = ap (λ p. places_of p key) t.places
   same_places (Rounds r) t is key = ap (λ p. places_of p key) t.places
 
-  -- what is left behind it
+  -- what is left after it
   pub left_behind : (entries : List PlainEntry) (i n : ℕ) (items more : List (List PlainEntry)) → all_of items ≡ drop i entries
       → AreTaken version count x items n old new → more ≡ drop 1 items → all_of more ≡ drop (i + n) entries
   left_behind entries i n items more left t is =
@@ -136,7 +136,7 @@ module _ (version count x : ℕ) (old new : Merge) where
       let c = t.count_is in
       omega (arith, long, same, d, c, le)
 
--- a host that waits goes on waiting where no frame was made
+-- a host that waits goes on waiting if no frame was made
 pub waits_still : (version count x : ℕ) (entries : List PlainEntry) (k : ℕ) (p q : Places) → ((key : List ℕ) → q key ≡ p key)
     → IsWaiting version count x entries k p → IsWaiting version count x entries k q
 waits_still version count x entries k p q same waits =

@@ -1,26 +1,26 @@
--- The audit of two journals is that of a list of two.
+-- The audit of two journals is the audit of a list of two.
 use Rattle.std.proofs.Common.{◌≡◌, ◌∙◌, ℕ, zero, suc, ◌<◌, ◌≤◌, ◌==◌, if◌then◌else◌, List, [], ◌∷◌, get_or, length, ap, Some, None, arith, refl, subst, sym, true, inl, inr}
 use Rattle.std.specs.Prelude.{slice_get, ◌⊎◌}
 use Rattle.std.proofs.lemmas.List.{get_or_default}
 use Rattle.std.proofs.lemmas.Option.{same_Some}
-use Rattle.rvm_core.specs.Hosts.{new_host}
-use Rattle.rvm_debug.specs.Guest.{GuestState}
+use Rattle.rvm_host.specs.Hosts.{new_host}
+use Rattle.rvm_board.specs.Guest.{GuestState}
 use Rattle.rvm_guest.specs.TheGuest.{board}
 use Rattle.rvm_guest.specs.Valid.{is_valid}
-use Rattle.rvm_journal.specs.History.{History}
+use Rattle.rvm_recorder.specs.History.{History}
 use Rattle.rvm_protocol.specs.World.{new_world}
-use Rattle.rvm_world.specs.declared.event.Event.{Event}
-use Rattle.rvm_interleaving.specs.Orders as every
-use Rattle.rvm_interleaving.specs.Worlds as every_world
-use Rattle.rvm_interleaving.proofs.Law.{is_world_run}
+use Rattle.rvm_core.specs.declared.event.Event.{Event}
+use Rattle.rvm_audit.specs.Orders as every
+use Rattle.rvm_audit.specs.Worlds as every_world
+use Rattle.rvm_audit.proofs.Law.{is_world_run}
 use Rattle.rvm_audit.specs.declared.part.Part.{Part}
 use Rattle.rvm_audit.specs.declared.part.Place.{Place}
-use Rattle.rvm_audit.specs.Orders.{IsDeadEnd, IsMerge, IsOrder, both}
+use Rattle.rvm_audit.specs.ListOrders.{IsDeadEnd, IsMerge, IsOrder, both}
 use Rattle.rvm_audit.specs.Parts.{AreOf, IsOf, taken}
 use Rattle.rvm_audit.specs.Rule.{IsEnd}
 use Rattle.rvm_audit.proofs.Lists.{at_dead_end, in_order}
 use Rattle.rvm_audit.proofs.Parts.{start}
-use Rattle.rvm_audit.specs.Worlds.{AreNew, IsWorldRun}
+use Rattle.rvm_audit.specs.PairRuns.{AreNew, IsWorldRun}
 
 -- what holds of both
 of_two : (P : ℕ → Type 0) → P 0 → P 1 → (x : ℕ) → x < 2 → P x

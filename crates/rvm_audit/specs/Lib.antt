@@ -1,6 +1,9 @@
-pub mod Rule
+pub mod Hosts
 pub mod Orders
 pub mod Worlds
+pub mod Rule
+pub mod ListOrders
+pub mod PairRuns
 pub mod Placed
 pub mod Merging
 pub mod Merged

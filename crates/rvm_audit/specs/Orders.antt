@@ -1,36 +1,72 @@
--- Orders of the journals of a list, and of two.
-use Rattle.std.specs.Prelude.{ℕ, List, [], ◌∷◌, None, get_or, length}
-use Rattle.rvm_core.specs.Hosts.{new_host}
-use Rattle.rvm_journal.specs.History.{History}
-use Rattle.rvm_world.specs.declared.event.Event.{Event}
-use Rattle.rvm_interleaving.specs.Orders.{Journals}
-use Rattle.rvm_interleaving.specs.Orders as every
-use Rattle.rvm_audit.specs.Rule as rule
+-- Interleavings and orders of the journals of any number of hosts.
+use Rattle.std.specs.Prelude.{◌≡◌, ◌⊎◌, ℕ, ◌<◌, ◌≤◌, Bool, true, List, [], Some, slice_get, length, take}
+use Rattle.rvm_frame.specs.declared.frame.Frame.{Frame}
+use Rattle.rvm_recorder.specs.Entries.{PlainEntry}
+use Rattle.rvm_recorder.specs.Replay.{IsReplay, replay}
+use Rattle.rvm_message.specs.declared.event.HostEvent.TheVariants.{Came}
+use Rattle.rvm_protocol.specs.Host.{is_there}
+use Rattle.rvm_core.specs.declared.event.Event.{Event}
+use Rattle.rvm_audit.specs.Hosts.{AllFollow, HasBytes, HostEntry, IsRun, Openings, after_all, entries_at, opened}
 
--- where a list has no journal
-abbrev pub no_history : History
-no_history = record { opening = new_host None 0 0 0 0; entries = []; reserved = 0 }
+-- the journals of a world: its opening hosts, and the entries of each by its number
+pub record Journals : Type 0 where
+  pub openings : Openings
+  pub entries : ℕ → List PlainEntry
 
--- the journals of a list, by number
-abbrev pub journals_of : List History → Journals
-journals_of hs = record {
-  openings = record { count = length hs; host = λ x. (get_or hs x no_history).opening };
-  entries = λ x. (get_or hs x no_history).entries;
-}
+-- the entries of all hosts, each of which acted by itself, in one sequence in which each frame that came was made
+-- before
+pub record IsInterleaving (j : Journals) (sequence : List HostEntry) : Type 0 where
+  pub replays : (x : ℕ) → x < j.openings.count → IsReplay (j.openings.host x) (j.entries x)
+  pub entries : (x : ℕ) → x < j.openings.count → entries_at x sequence ≡ j.entries x
+  pub follow : AllFollow j.openings [] sequence
 
--- two journals
-abbrev pub both : (a b : History) → Journals
-both a b = journals_of (a ∷ b ∷ [])
+-- a run from the opening hosts whose events at each host are the entries of its journal, with their replies and frames,
+-- and which ends where their replays end
+pub record IsOrder (j : Journals) (events : List Event) : Type 0 where
+  pub sequence : List HostEntry
+  pub run : IsRun j.openings (opened j.openings) events sequence
+  pub entries : (x : ℕ) → x < j.openings.count → entries_at x sequence ≡ j.entries x
+  pub ends : (x : ℕ) → x < j.openings.count
+      → (after_all j.openings (opened j.openings) sequence).host x ≡ replay (j.openings.host x) (j.entries x)
 
--- a run from the two opening hosts, whose events at each host are the entries of its journal, with their replies and
--- frames, and which ends where their replays end
-abbrev pub IsOrder : (a b : History) → List Event → Type 0
-IsOrder a b events = every.IsOrder (both a b) events
+-- the journals up to these places: of host x, its first `places x` entries
+abbrev pub cut : (places : ℕ → ℕ) → Journals → Journals
+cut places j = record { openings = j.openings; entries = λ x. take (places x) (j.entries x) }
 
--- the order of the rule
-abbrev pub IsMerge : (a b : History) → List Event → Type 0
-IsMerge a b events = rule.IsMerge (both a b) events
+-- one of the first `count` entries made a frame of these bytes
+pub record MadeBelow (entries : List PlainEntry) (count : ℕ) (bytes : List ℕ) : Type 0 where
+  pub place : ℕ
+  pub entry : PlainEntry
+  pub below : place < count
+  pub stands : slice_get entries place ≡ Some entry
+  pub made : entry.frame ≡ Some bytes
 
--- neither journal can go on after its first i and j entries, and one of them is not at its end
-abbrev pub IsDeadEnd : (a b : History) → (i j : ℕ) → Type 0
-IsDeadEnd a b i j = every.IsDeadEnd (both a b) (λ x. get_or (i ∷ j ∷ []) x 0)
+-- host x's entry at its place is that a frame came, and the frame is of no other host, or that host made none of its
+-- bytes before its own place
+pub record CameUnmade (j : Journals) (places : ℕ → ℕ) (x : ℕ) : Type 0 where
+  pub entry : PlainEntry
+  pub from : ℕ
+  pub frame : Frame
+  pub stands : slice_get (j.entries x) (places x) ≡ Some entry
+  pub came : entry.event ≡ Came from frame
+  pub unmade : (bytes : List ℕ) → is_there x j.openings.count from ≡ true
+      → HasBytes (j.openings.host x).version from x frame bytes → MadeBelow (j.entries from) (places from) bytes → ⊥
+
+-- a host is stuck: it has no next entry, or one that cannot stand
+abbrev pub IsStuck : (j : Journals) → (places : ℕ → ℕ) → ℕ → Type 0
+IsStuck j places x = (places x ≡ length (j.entries x)) ⊎ CameUnmade j places x
+
+-- no journal can go on from these places, and one of them is not at its end
+pub record IsDeadEnd (j : Journals) (places : ℕ → ℕ) : Type 0 where
+  pub within : (x : ℕ) → x < j.openings.count → places x ≤ length (j.entries x)
+  pub rest : (x : ℕ) × (x < j.openings.count) × (places x < length (j.entries x))
+  pub stuck : (x : ℕ) → x < j.openings.count → IsStuck j places x
+
+-- these hosts wait only for one another: if the next entry of one of them is a frame that came from another host, that
+-- is one of them
+abbrev pub IsClosed : (j : Journals) → (places : ℕ → ℕ) → (members : ℕ → Bool) → Type 0
+IsClosed j places members =
+    (x from : ℕ) (frame : Frame) (n : PlainEntry) (bytes : List ℕ) → x < j.openings.count → members x ≡ true
+    → slice_get (j.entries x) (places x) ≡ Some n → n.event ≡ Came from frame
+    → is_there x j.openings.count from ≡ true → HasBytes (j.openings.host x).version from x frame bytes
+    → members from ≡ true

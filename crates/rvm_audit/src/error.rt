@@ -10,11 +10,11 @@ use thiserror::Error;
 /// Why two journals were not put in order.
 #[derive(Clone, Copy, Debug, PartialEq, Eq, Error)]
 pub enum AuditError {
-    /// A growth was refused.
+    /// Memory ran out.
     #[error("out of memory")]
     OutOfMemory,
-    /// There is no order: after the first i entries of the first journal and the first j of the second one
-    /// neither goes on.
+    /// There is no order: after the first `i` entries of the first journal and the first `j` of the second one, neither
+    /// can go on.
     #[error("the journals have no order behind entries {i} and {j}")]
     NoOrder { i: usize, j: usize },
 }

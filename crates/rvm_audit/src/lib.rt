@@ -1,12 +1,16 @@
-//! The journals of the hosts of one world are put in order: one list of the world's events, which gives each host the
-//! replies that its journal keeps.
+//! Puts the journals of the hosts of one world in order: one list of the world's events, which gives each host the
+//! replies that its journal keeps. Any sequence of what the hosts did, each by itself, is a run of one world if each
+//! frame that came was made before, so the guest of all of them never moved.
 //!
-//! Stands on `rvm_journal` and on the events of `rvm_world`, and knows nothing of threads or locks.
+//! Stands on `rvm_recorder` for journals, on the events of `rvm_core`, and on `rvm_frame` for the bytes of frames. It
+//! must not know threads or locks. The laws of any number of hosts know no code: their definitions are in `specs/`, in
+//! Hosts, Orders and Worlds.
 //!
-//! To be read in this order: `error`, `places`, `placed`, `part`, `merge`, `merging`, `order`, `list`.
+//! To be read in this order: `laws`; `error`, `places`, `placed`, `part`, `merge`, `merging`, `order`, `list`.
 #![tactic(auto)]
 
 mod error;
+pub mod laws;
 mod list;
 mod merge;
 mod merging;

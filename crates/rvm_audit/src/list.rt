@@ -2,28 +2,29 @@
 
 ghost use Rattle.std.specs.Prelude.{◌≡◌, ◌≤◌, ◌<◌, IfOk, MatchOption, length, ℕ};
 ghost use Rattle.rvm_audit.specs.Audits.{ArePartsOf, IsAudit, entries_of, histories_of};
-ghost use Rattle.rvm_audit.specs.Orders.{journals_of};
+ghost use Rattle.rvm_audit.specs.ListOrders.{journals_of};
 ghost use Rattle.rvm_audit.specs.Parts.{taken};
 
 use crate::merging::merge_all;
 use crate::part::{Part, Place};
 use crate::placed::Order;
-use rvm_journal::Journal;
 use rvm_mem::PagedMemory;
+use rvm_recorder::Journal;
 use std::alloc::{AllocError, Global};
 
-/// How the audit of some journals ended.
+/// How the audit of the journals of a list ended.
 #[derive(Drop)]
 pub enum Audit {
-    /// All their entries are in this order.
+    /// The journals have this order, which has all their entries.
     Order(Order),
-    /// They have no order: after so many entries of each none goes on.
+    /// The journals have no order: from these places, one for each journal, none can go on.
     NoOrder(Vec<Place>),
 }
 
-/// An order of the events of the hosts of a world, by their journals, of which there are at most eight: a run from
-/// their opening hosts in which each host has the entries of its journal. At each point the lowest host goes on whose
-/// next event can stand. If none can, and a journal is not at its end, there is no order.
+/// Puts the journals of the hosts of a world in order, at most eight of them. Returns a run from their opening hosts in
+/// which each host has the entries of its journal: at each point the lowest host goes on whose next event can stand. If
+/// none can, and a journal is not at its end, there is no order, and it returns the places up to which the journals
+/// have one.
 pub fn audit_all<M: PagedMemory + Drop>(
     alloc: Global,
     journals: &[&Journal<M>],
@@ -39,7 +40,7 @@ pub fn audit_all<M: PagedMemory + Drop>(
     }
 }
 
-/// What a merge reads of each journal.
+/// What a merge reads of each of these journals.
 fn parts_of<'a, M: PagedMemory + Drop>(
     alloc: Global,
     journals: &[&'a Journal<M>],
@@ -54,7 +55,7 @@ fn parts_of<'a, M: PagedMemory + Drop>(
     Ok(parts)
 }
 
-/// A journal that is not at its end.
+/// The index of the first journal that is not at its end, if there is one.
 fn unfinished<M: PagedMemory + Drop>(journals: &[&Journal<M>], places: &[Place]) -> Option<usize>
     requires long { length places.now ≡ length journals.now }
     ensures { MatchOption result

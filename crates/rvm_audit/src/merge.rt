@@ -1,22 +1,21 @@
-//! What was put in order.
+//! The events that a merge has put in order so far.
 
 ghost use Rattle.std.specs.Prelude.{◌≡◌, ◌∷◌, ◌++◌, ◌<◌, ◌^◌, ◌-◌, IfOk, OnOk, MatchOption, [], ℕ, List, None, drop, length};
 ghost use Rattle.rvm_audit.specs.Merging.{AreTaken, AreWaiting, Becomes, IsEntryTaken, IsPlaced, IsTaken, IsUnmade, IsUnplaced, Takes, Waits, counted, key_of, noted, places_of};
-ghost use Rattle.rvm_journal.specs.Items.{entries_at};
+ghost use Rattle.rvm_recorder.specs.Items.{entries_at};
 ghost use Rattle.rvm_message.specs.declared.event.HostEvent.TheVariants.{Came};
 
 use crate::placed::Order;
 use crate::places::{Places, lookup, note};
-use rvm_debug::BoardEvent;
-use rvm_frame::{Addressed, Frame, frame_bytes};
-use rvm_journal::{Entry, Item, ItemRef};
+use rvm_board::BoardEvent;
+use rvm_core::Event;
+use rvm_frame::{Addressed, Frame, frame_bytes, has_spelling};
 use rvm_message::{Command, Exchange, ExchangeRef, HostEvent, Shared};
-use rvm_spelling::has_spelling;
-use rvm_world::Event;
+use rvm_recorder::{Entry, Item, ItemRef};
 use std::alloc::{AllocError, Global};
 use std::collections::BTreeMap;
 
-/// The events that were put in order, and where each frame was first made.
+/// The events that were put in order, and the place of the first frame of each maker and bytes.
 #[derive(Drop)]
 pub(crate) struct Merge {
     pub(crate) order: Order,
@@ -26,7 +25,7 @@ pub(crate) struct Merge {
 }
 
 impl Merge {
-    /// Nothing.
+    /// A merge that has taken nothing.
     pub(crate) fn new(alloc: Global) -> Merge
         ensures order { result.order ≡ [] }
         ensures places { (key : List ℕ) → places_of result.places key ≡ None }
@@ -39,8 +38,8 @@ impl Merge {
         }
     }
 
-    /// Puts the events of the host's item with this index after the others, if there is one and it can stand, and returns
-    /// how many entries it has.
+    /// Appends the events of the host's item with this index, if there is one and it can stand. Returns how many
+    /// entries it has; none if nothing was taken.
     pub(crate) fn take_next(
         &mut self,
         alloc: Global,
@@ -61,8 +60,8 @@ impl Merge {
         }
     }
 
-    /// Puts the events of an item after the others, where they can stand: of how many entries it is. Commands can
-    /// stand anywhere, so steps and rounds of them are taken at once.
+    /// Appends the events of an item if they can stand. Returns how many entries it has; none if it was not taken.
+    /// Commands can stand anywhere, so steps and rounds are taken at once.
     fn take_item(
         &mut self,
         alloc: Global,
@@ -89,7 +88,7 @@ impl Merge {
         }
     }
 
-    /// Puts the event of an entry after the others, where it can stand.
+    /// Appends the event of an entry if it can stand. Returns 1, or none if it was not taken.
     fn take_entry(
         &mut self,
         alloc: Global,
@@ -112,7 +111,7 @@ impl Merge {
         }
     }
 
-    /// Puts an event of a host after the others, and notes where its frame was made.
+    /// Appends an event of a host, and notes the place of the frame that it made, if it made one.
     fn take(
         &mut self,
         alloc: Global,
@@ -127,7 +126,7 @@ impl Merge {
         self.note_frame(alloc, host, entry)
     }
 
-    /// Notes where the frame of an entry was made, if it made one.
+    /// Notes the place of the frame of an entry, if it made one, unless an equal frame of this host has a place.
     fn note_frame(&mut self, alloc: Global, host: u8, entry: &Entry) -> Result<(), AllocError>
         requires { self.old.made < 2 ^ 64 - 1 }
         ensures order { OnOk result (self.new.order ≡ self.old.order) }
@@ -146,7 +145,7 @@ impl Merge {
     }
 }
 
-/// A frame's maker and its bytes, as one key.
+/// The maker of a frame and its bytes, as one key.
 fn frame_key(alloc: Global, maker: u8, bytes: &[u8]) -> Result<Vec<u8>, AllocError>
     ensures { IfOk result (λ key. key.items ≡ maker ∷ bytes.now) }
 {
@@ -156,7 +155,7 @@ fn frame_key(alloc: Global, maker: u8, bytes: &[u8]) -> Result<Vec<u8>, AllocErr
     Ok(key)
 }
 
-/// The event of the world that a host's event is, where it can stand.
+/// The event of the world that the event of a host's exchange is; none if it cannot stand.
 fn event_of(
     alloc: Global,
     host: u8,
@@ -188,7 +187,7 @@ fn event_of(
     }
 }
 
-/// The event of the world that an event is, where it can stand.
+/// The event of the world that a host's event is; none if it cannot stand.
 fn world_event(
     alloc: Global,
     host: u8,
@@ -209,7 +208,7 @@ fn world_event(
     }
 }
 
-/// The delivery that a frame from a host is, where it can stand.
+/// The delivery of a frame that came from host `from`; none if no such frame was made.
 fn delivery(
     alloc: Global,
     host: u8,
@@ -229,7 +228,8 @@ fn delivery(
     }
 }
 
-/// Where another host made a frame first, if it did.
+/// The place of the first frame of these bytes that host `from` made; none if it made none, is this host, or is not
+/// there.
 fn place_of(
     alloc: Global,
     host: u8,

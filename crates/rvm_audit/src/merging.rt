@@ -1,24 +1,24 @@
-//! Journals are merged as far as they go.
+//! Merges journals as far as they go.
 
 ghost use Rattle.std.specs.Prelude.{◌≡◌, ◌≤◌, ◌<◌, ◌^◌, ◌-◌, ◌+◌, IfOk, OnOk, if◌then◌else◌, length};
 ghost use Rattle.rvm_audit.specs.Merging.{places_of};
 ghost use Rattle.rvm_audit.specs.Parts.{AllWait, AreOf, AreSized, Stands, taken};
 ghost use Rattle.rvm_audit.specs.Rule.{IsEnd};
-ghost use Rattle.rvm_interleaving.specs.Orders.{Journals};
+ghost use Rattle.rvm_audit.specs.Orders.{Journals};
 
 use crate::merge::Merge;
 use crate::part::{Part, Place};
 use crate::placed::Order;
 use std::alloc::{AllocError, Global};
 
-/// The end of a merge: the events in order, and how much of each journal they are.
+/// The end of a merge: the events in order, and how much of each journal was taken.
 #[derive(Drop)]
 pub(crate) struct Ended {
     pub(crate) order: Order,
     pub(crate) places: Vec<Place>,
 }
 
-/// Merges journals until none goes on. At each point the lowest host goes on whose next item can stand.
+/// Merges at most eight journals until none can go on. At each point the lowest host goes on whose next item can stand.
 pub(crate) fn merge_all(alloc: Global, parts: &[Part<'_>]) -> Result<Ended, AllocError>
     requires few { length parts.now ≤ 8 }
     requires sized { AreSized parts.now }
@@ -45,8 +45,8 @@ pub(crate) fn merge_all(alloc: Global, parts: &[Part<'_>]) -> Result<Ended, Allo
     Err(AllocError)
 }
 
-/// Takes a host's next item if it can stand, and returns the host whose turn is next. All hosts below that one wait: a
-/// waiting host is asked again only after a frame was made.
+/// Takes a host's next item if it can stand. Returns the host to ask next; all hosts below that one wait, and a waiting
+/// host is asked again only after a frame was made.
 fn take_turn(
     alloc: Global,
     merge: &mut Merge,
@@ -81,7 +81,7 @@ fn take_turn(
     }
 }
 
-/// The host whose turn is next, after this one took an item.
+/// The host to ask after this one took an item: itself if the item made no frame, else the first.
 fn woken(is_silent: bool, host: u8) -> u8
     ensures { result ≡ (if is_silent then host else 0) }
 {

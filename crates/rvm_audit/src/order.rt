@@ -1,31 +1,31 @@
 //! The order of two journals.
 
 ghost use Rattle.std.specs.Prelude.{◌≡◌, ℕ, List, IfOk, IfErr, true};
-ghost use Rattle.rvm_debug.specs.Guest.{GuestState};
+ghost use Rattle.rvm_board.specs.Guest.{GuestState};
 ghost use Rattle.rvm_guest.specs.TheGuest.{board};
 ghost use Rattle.rvm_guest.specs.Valid.{is_valid};
-ghost use Rattle.rvm_journal.specs.History.{History};
+ghost use Rattle.rvm_recorder.specs.History.{History};
 ghost use Rattle.rvm_protocol.specs.World.{new_world};
-ghost use Rattle.rvm_world.specs.declared.event.Event.{Event};
+ghost use Rattle.rvm_core.specs.declared.event.Event.{Event};
 ghost use Rattle.rvm_audit.specs.Errors.{IsAuditError};
-ghost use Rattle.rvm_audit.specs.Orders.{IsDeadEnd, IsMerge, IsOrder};
-ghost use Rattle.rvm_audit.specs.Worlds.{AreNew, IsWorldRun};
+ghost use Rattle.rvm_audit.specs.ListOrders.{IsDeadEnd, IsMerge, IsOrder};
+ghost use Rattle.rvm_audit.specs.PairRuns.{AreNew, IsWorldRun};
 
 use crate::error::AuditError;
 use crate::merging::merge_all;
 use crate::part::Part;
 use crate::placed::Order;
-use rvm_journal::Journal;
+use rvm_core::Event;
 use rvm_mem::PagedMemory;
-use rvm_world::Event;
+use rvm_recorder::Journal;
 use std::alloc::Global;
 
-/// An order of the events of the two hosts of a world, by their journals: a run from their opening hosts
-/// in which each host has the entries of its journal. At each point it takes the first host's next event
-/// where that can stand, else the second host's. A command stands anywhere. A frame that came stands once
-/// the other host has made one of its bytes, and names the lowest of these. Where neither host's next
-/// event can stand, and one of them has one, there is no order (`NoOrder`). `OutOfMemory` where a growth was
-/// refused.
+/// Puts the journals of the two hosts of a world in order. Returns a run from their opening hosts in which each host
+/// has the entries of its journal.
+///
+/// At each point it takes the first host's next event if that can stand, else the second host's. A command can stand
+/// anywhere. A frame that came can stand once the other host has made one of its bytes, and is the lowest of these.
+/// `NoOrder` if neither host's next event can stand and one of them has one; `OutOfMemory` if memory runs out.
 pub fn audit<M: PagedMemory + Drop, N: PagedMemory + Drop>(
     alloc: Global,
     first: &Journal<M>,
@@ -38,8 +38,9 @@ pub fn audit<M: PagedMemory + Drop, N: PagedMemory + Drop>(
     Ok(order.spelled(alloc, first.count() as usize + second.count() as usize)?)
 }
 
-/// The same order, in which steps and rounds of a host are kept as the runs that they are in its journal, and taken at
-/// once: it takes time and memory for each item, however many entries that is.
+/// Puts the journals of the two hosts of a world in the order that `audit` returns, but keeps the steps and rounds of a
+/// host as the runs that they are in its journal, and takes each run at once: it needs time and memory for each item,
+/// however many entries that has. Its errors are those of `audit`.
 pub fn audit_in_runs<M: PagedMemory + Drop, N: PagedMemory + Drop>(
     alloc: Global,
     first: &Journal<M>,
@@ -58,15 +59,16 @@ pub fn audit_in_runs<M: PagedMemory + Drop, N: PagedMemory + Drop>(
     Ok(ended.order)
 }
 
-/// Where neither journal can go on, they have no order.
+/// Two journals have no order if there is a dead end: places from which neither can go on, and one of them is not at
+/// its end.
 pub fn dead_ends_have_no_order()
     ensures { (a b : History) (i j : ℕ) (events : List Event) → IsDeadEnd a b i j
         → IsOrder a b events → ⊥ }
 {}
 
-/// An order of the journals of the two hosts of a new world is a run of the law of live migration: what
-/// is seen in it are the entries of both journals, it ends where their replays end, the guest is that of
-/// one board that never moves, and the frames are those of its moves.
+/// An order of the journals of the two hosts of a new world is a run of the protocol: what is seen in it are the
+/// entries of both journals; it ends where their replays end; in each of its states the guest is the guest of one board
+/// that never moves; and the frames are those of its moves.
 pub fn the_guest_of_an_order_never_moves()
     ensures { (version : ℕ) (g : GuestState) (limits : ℕ → ℕ) (a b : History) (events : List Event)
         → is_valid g.guest ≡ true → AreNew version g limits a.opening b.opening → IsOrder a b events

@@ -1,11 +1,11 @@
-//! What a merge reads of a journal, and how far it is.
+//! What a merge reads of a journal, and how much of it was taken.
 
 ghost use Rattle.std.specs.Prelude.{◌≡◌, ◌<◌, ◌^◌, length};
-ghost use Rattle.rvm_journal.specs.Items.{all_of};
-ghost use Rattle.rvm_journal.specs.Replay.{IsReplay};
+ghost use Rattle.rvm_recorder.specs.Items.{all_of};
+ghost use Rattle.rvm_recorder.specs.Replay.{IsReplay};
 
-use rvm_journal::{Item, Journal};
 use rvm_mem::PagedMemory;
+use rvm_recorder::{Item, Journal};
 
 /// The items of a journal, and the version of its host's streams.
 #[derive(Clone, Copy)]
@@ -14,7 +14,7 @@ pub(crate) struct Part<'a> {
     pub(crate) items: &'a [Item],
 }
 
-/// How much of a journal was taken: so many items, which have so many entries.
+/// How much of a journal was taken: this many items, which have this many entries together.
 #[derive(Clone, Copy)]
 pub struct Place {
     pub items: usize,

@@ -1,25 +1,25 @@
-//! Events in order. Those of steps and of rounds are kept as the runs that they are in a journal.
+//! Events in order. Steps and rounds are kept as the runs that they are in a journal.
 
 ghost use Rattle.std.specs.Prelude.{◌≡◌, ◌∷◌, ◌++◌, ◌+◌, ◌<◌, ◌^◌, [], IfOk, IfSome, MatchOption, OnOk, Some, slice_get};
 ghost use Rattle.rvm_audit.specs.Placed.{all_events, events_of, rounds_at, steps_at};
 ghost use Rattle.rvm_message.specs.declared.event.Command.{Command};
 ghost use Rattle.rvm_message.specs.declared.event.HostEvent.TheVariants.{Do};
-ghost use Rattle.rvm_world.specs.declared.event.Event.TheVariants.{At};
+ghost use Rattle.rvm_core.specs.declared.event.Event.TheVariants.{At};
 
-use rvm_debug::BoardEvent;
-use rvm_journal::{Rounds, Steps, exchange_in, hart_behind};
+use rvm_board::BoardEvent;
+use rvm_core::Event;
 use rvm_message::{Command, Exchange, ExchangeRef, HostEvent};
-use rvm_world::Event;
+use rvm_recorder::{Rounds, Steps, exchange_in, hart_behind};
 use std::alloc::{AllocError, Global};
 use std::marker::Model;
 
-/// Events in order.
+/// Events of a world in order. Contracts see the list of them.
 #[derive(Drop)]
 pub struct Order {
     items: Vec<Placed>,
 }
 
-/// One event, or those of steps of a host, or of rounds of them, however many there are.
+/// One event, or all events of a host's steps or rounds, however many there are.
 #[derive(Drop)]
 enum Placed {
     Event(Event),
@@ -29,7 +29,7 @@ enum Placed {
 
 impl Model for Order {
     ghost use Rattle.std.specs.Prelude.{List};
-    ghost use Rattle.rvm_world.specs.declared.event.Event.{Event};
+    ghost use Rattle.rvm_core.specs.declared.event.Event.{Event};
 
     ghost Value = { List Event };
 
@@ -40,7 +40,7 @@ impl Model for Order {
 }
 
 impl Order {
-    /// No event.
+    /// The order of no events.
     pub(crate) fn new(alloc: Global) -> Order
         ensures { result ≡ [] }
     {
@@ -49,14 +49,14 @@ impl Order {
         }
     }
 
-    /// Puts an event after the others.
+    /// Appends an event.
     pub(crate) fn push(&mut self, event: Event) -> Result<(), AllocError>
         ensures { OnOk result (self.new ≡ self.old ++ event ∷ []) }
     {
         push_placed(&mut self.items, Placed::Event(event))
     }
 
-    /// Puts those of steps of a host after the others.
+    /// Appends the events of a host's steps.
     pub(crate) fn push_steps(&mut self, host: u8, steps: Steps) -> Result<(), AllocError>
         ensures { OnOk result (self.new
             ≡ self.old ++ steps_at host steps.turn steps.harts steps.count) }
@@ -64,7 +64,7 @@ impl Order {
         push_placed(&mut self.items, Placed::Steps(host, steps))
     }
 
-    /// Puts those of rounds of a host after the others.
+    /// Appends the events of a host's rounds.
     pub(crate) fn push_rounds(&mut self, host: u8, rounds: Rounds) -> Result<(), AllocError>
         ensures { OnOk result (self.new ≡ self.old
             ++ rounds_at host rounds.turn rounds.harts rounds.steps rounds.drain rounds.count) }
@@ -72,7 +72,7 @@ impl Order {
         push_placed(&mut self.items, Placed::Rounds(host, rounds))
     }
 
-    /// The events, one after the other.
+    /// Goes through the events from the first one on.
     pub fn events(&self) -> Events<'_>
         ensures { result ≡ self.now }
     {
@@ -82,7 +82,7 @@ impl Order {
         }
     }
 
-    /// The events as a list. Room for `count` of them is made at once.
+    /// Returns the events as a list. Room for `count` of them is allocated at once.
     pub(crate) fn spelled(&self, alloc: Global, count: usize) -> Result<Vec<Event>, AllocError>
         ensures { IfOk result (λ events. events.items ≡ self.now) }
     {
@@ -95,7 +95,7 @@ impl Order {
     }
 }
 
-/// Puts what stands in an order after what does before.
+/// Appends one piece to the pieces of an order.
 fn push_placed(items: &mut Vec<Placed>, placed: Placed) -> Result<(), AllocError>
     ensures { OnOk result (all_events items.new.items ≡ all_events items.old.items ++ events_of placed) }
 {
@@ -103,17 +103,17 @@ fn push_placed(items: &mut Vec<Placed>, placed: Placed) -> Result<(), AllocError
     Ok(())
 }
 
-/// The events of an order that have not been given yet.
+/// The events of an order that have not been returned yet.
 #[derive(Drop)]
 pub struct Events<'a> {
-    /// What is left of the order; of the first of these, `skipped` events have been given.
+    /// What is left of the order. The first `skipped` events of its first piece have been returned.
     items: &'a [Placed],
     skipped: u32,
 }
 
 impl<'a> Model for Events<'a> {
     ghost use Rattle.std.specs.Prelude.{List};
-    ghost use Rattle.rvm_world.specs.declared.event.Event.{Event};
+    ghost use Rattle.rvm_core.specs.declared.event.Event.{Event};
 
     ghost Value = { List Event };
 
@@ -124,7 +124,7 @@ impl<'a> Model for Events<'a> {
 }
 
 impl<'a> Events<'a> {
-    /// The next event.
+    /// Returns the next event; none if all have been returned.
     pub fn next(&mut self) -> Option<Event>
         ensures { MatchOption result (self.old ≡ []) (λ e. self.old ≡ e ∷ self.new) }
     {
@@ -140,7 +140,7 @@ impl<'a> Events<'a> {
     }
 }
 
-/// The event with this index, from 0, of what stands in an order.
+/// The event with this index, counted from 0, of one piece of an order.
 fn event_at(placed: &Placed, skipped: u32) -> Option<Event>
     ensures event { result ≡ slice_get (events_of placed.now) skipped }
     ensures few { IfSome result (λ e. skipped + 1 < 2 ^ 32) }
@@ -167,7 +167,7 @@ fn copy(event: &Event) -> Event
     }
 }
 
-/// The event with this index, from 0, of a host's steps.
+/// The event with this index, counted from 0, of a host's steps.
 fn event_of_steps(host: u8, steps: &Steps, skipped: u32) -> Option<Event>
     ensures event { result
         ≡ slice_get (steps_at host steps.now.turn steps.now.harts steps.now.count) skipped }
@@ -180,7 +180,7 @@ fn event_of_steps(host: u8, steps: &Steps, skipped: u32) -> Option<Event>
     Some(Event::At(host, step))
 }
 
-/// The event with this index, from 0, of a host's rounds.
+/// The event with this index, counted from 0, of a host's rounds.
 fn event_of_rounds(host: u8, rounds: &Rounds, skipped: u32) -> Option<Event>
     ensures event { result ≡ slice_get (rounds_at host rounds.now.turn rounds.now.harts
         rounds.now.steps rounds.now.drain rounds.now.count) skipped }
@@ -192,7 +192,7 @@ fn event_of_rounds(host: u8, rounds: &Rounds, skipped: u32) -> Option<Event>
     command_of(host, &exchange_in(rounds, skipped))
 }
 
-/// The event of the world that an exchange of a host is, where it is told to do something.
+/// The event of the world that an exchange of a host is, if it is a command; none if it is a frame that came.
 fn command_of(host: u8, exchange: &Exchange) -> Option<Event>
     ensures { (c : Command) → exchange.now.event ≡ Do c → result ≡ Some (At host c) }
 {

@@ -1,4 +1,4 @@
-//! Where frames were made, by their host and their bytes.
+//! The places of frames, by their maker and their bytes.
 
 ghost use Rattle.std.specs.Prelude.{◌≡◌, ℕ, List, OnOk, Some, if◌then◌else◌};
 ghost use Rattle.std.specs.Str.{bytes_eq};
@@ -7,7 +7,7 @@ ghost use Rattle.rvm_audit.specs.Merging.{noted, places_of};
 use std::alloc::AllocError;
 use std::collections::BTreeMap;
 
-/// The place of the first frame of a key, found in logarithmic time.
+/// The place of the first frame of each key, found in logarithmic time.
 pub(crate) type Places = BTreeMap<Vec<u8>, u64>;
 
 /// The place of the first frame of this key.
@@ -18,7 +18,7 @@ pub(crate) fn lookup(places: &Places, key: &[u8]) -> Option<u64>
     places.get(key).copied()
 }
 
-/// Gives a key a place, instead of the one that it may have.
+/// Gives a key a place, in place of the one that it may have.
 #[tactic(auto, unfolding(crate::specs::Merging::places_of))]
 pub(crate) fn insert(places: &mut Places, key: Vec<u8>, place: u64) -> Result<(), AllocError>
     ensures { OnOk result ((other : List ℕ) → places_of places.new other
@@ -28,7 +28,7 @@ pub(crate) fn insert(places: &mut Places, key: Vec<u8>, place: u64) -> Result<()
     Ok(())
 }
 
-/// Notes the place of a key that has none yet.
+/// Gives a key this place if it has none yet.
 pub(crate) fn note(places: &mut Places, key: Vec<u8>, place: u64) -> Result<(), AllocError>
     ensures { OnOk result ((other : List ℕ) → places_of places.new other
         ≡ noted (Some key.items) place (places_of places.old) other) }

@@ -1,14 +1,14 @@
-//! How fast a reader takes a stream of frames, beside a copy of as many bytes.
+//! Measures how fast a reader takes a stream of frames, beside a copy of as many bytes.
 
 use rvm_frame::{FrameFault, FrameReader};
 use std::alloc::Global;
 use std::time::Instant;
 
-/// How many bytes the reader is given at a time.
+/// The most bytes that the reader is given at a time.
 const PIECE: usize = 4096;
 
-/// Copies a stream, and gives the copy to a reader piece by piece. Prints how many frames were read, and
-/// the microseconds that the reading and the copying took.
+/// Copies a stream, and gives the copy to a reader piece by piece. Prints how many frames were read, and how many
+/// microseconds the reading and the copying took.
 pub fn feed(rt: &HostRuntime, stream: &[u8]) -> anyhow::Result<()> {
     let mut copy = Vec::with_capacity(rt.alloc(), stream.len())?;
     copy.extend_from_slice(stream)?;
@@ -23,7 +23,7 @@ pub fn feed(rt: &HostRuntime, stream: &[u8]) -> anyhow::Result<()> {
     Ok(())
 }
 
-/// How many frames a stream has.
+/// The number of frames in a stream.
 fn read_stream(alloc: Global, stream: &[u8]) -> Result<u32, FrameFault> {
     let mut reader = FrameReader::new(alloc);
     let mut frames: u32 = 0;
@@ -33,7 +33,7 @@ fn read_stream(alloc: Global, stream: &[u8]) -> Result<u32, FrameFault> {
     Ok(frames)
 }
 
-/// How many frames end in a piece.
+/// The number of frames that end in a piece.
 fn read_piece(alloc: Global, reader: &mut FrameReader, piece: &[u8]) -> Result<u32, FrameFault> {
     let mut rest = piece;
     let mut frames: u32 = 0;

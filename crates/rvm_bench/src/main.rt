@@ -1,16 +1,17 @@
-//! `rvm_bench IMAGE HARTS flat|paged STEPS`: runs an image as `rvmove run` does, over one of two
-//! memories, so that the benchmark sees what a second instantiation of a step costs. What the guest
-//! sends goes to standard output.
+//! `rvm_bench IMAGE HARTS flat|paged STEPS` runs an image as `rvmove run` does, over one of two memories, so that the
+//! benchmark shows what a second instantiation of a step costs. What the guest sends goes to standard output.
 //!
-//! `rvm_bench STREAM`: reads a stream of frames, and prints how long that took.
+//! `rvm_bench STREAM` reads a stream of frames, and prints how long that took.
+//!
+//! Stands on `rvm_command` for the run, on `rvm_mem` and `rvm_paged` for the two memories, on `rvm_board` and
+//! `rvm_hart` for the guest, and on `rvm_frame` for streams. To be read in this order: `feed`, then this file.
 #![tactic(auto)]
 
 mod feed;
 
 use crate::feed::feed;
-use rvm_board::Board;
+use rvm_board::{Board, Debugged};
 use rvm_command::run::run;
-use rvm_debug::Debugged;
 use rvm_hart::RAM_BASE;
 use rvm_mem::{FlatMemory, PagedMemory, write_bytes};
 use rvm_paged::PagedRam;
@@ -37,13 +38,13 @@ fn main(rt: HostRuntime) -> anyhow::Result<ExitCode> {
     }
 }
 
-/// Writes to standard error how the program is called, and answers the status 2.
+/// Writes to standard error how the program is called, and returns the status 2.
 fn tell_usage(rt: &HostRuntime) -> anyhow::Result<ExitCode> {
     eprintln!(rt; "usage: rvm_bench IMAGE HARTS flat|paged STEPS, or rvm_bench STREAM")?;
     Ok(ExitCode::from(2))
 }
 
-/// Makes so many turns of a board whose RAM begins with the image of a file.
+/// Makes at most this many turns of a board of this many harts, whose RAM of 1 MiB begins with the bytes of a file.
 fn run_over<M: PagedMemory + Drop>(
     rt: &HostRuntime,
     file: &str,

@@ -15,7 +15,7 @@ use Rattle.rvm_hart.specs.declared.outcome.Stepped.TheVariants.{Retired, Trapped
 use Rattle.rvm_board.specs.Board.{Board, at_reset, is_allowed, stepped, hart_at}
 use Rattle.rvm_board.specs.Pokes.{is_view}
 
--- a board of so many harts whose RAM begins with these words
+-- a board of this many harts whose RAM begins with these words
 abbrev board : ℕ → List ℕ → Board
 board harts words = at_reset harts 0x80000000 (flat_map (little_bytes 4) words)
 

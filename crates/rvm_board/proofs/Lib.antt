@@ -1,2 +1,14 @@
 mod Examples
 pub mod Boards
+pub mod Answering
+pub mod BreakpointExamples
+pub mod Rising
+pub mod Turning
+pub mod Going
+pub mod Running
+pub mod Marking
+pub mod Retirings
+pub mod Waiting
+pub mod Guests
+pub mod Made
+pub mod Restoring

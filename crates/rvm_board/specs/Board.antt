@@ -25,7 +25,7 @@ new_hart entry number = record { regs = slice_set (replicate 32 0) 10 number; pc
 abbrev pub hart_at : ℕ → Board → HartState
 hart_at h b = get_or b.harts h (new_hart 0 0)
 
--- 1 to 8 harts, each with its place as its number, and some RAM; the devices and reservations are those of so many
+-- 1 to 8 harts, each with its place as its number, and some RAM; the devices and reservations are those of this many
 pub record IsBoard (b : Board) : Type 0 where
   pub some : 0 < length b.harts
   pub bound : length b.harts ≤ 8

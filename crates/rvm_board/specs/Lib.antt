@@ -2,3 +2,15 @@ pub mod Board
 pub mod Pokes
 pub mod Restored
 pub mod Refusals
+pub mod Guest
+pub mod Events
+pub mod Marks
+pub mod Kept
+pub mod Parts
+pub mod Turns
+pub mod WhileFull
+pub mod Retiring
+pub mod EventRefusals
+pub mod State
+pub mod Snapshot
+pub mod Restoring

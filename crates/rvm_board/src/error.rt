@@ -12,7 +12,7 @@ pub enum BoardError {
     /// No hart or more than 8, no RAM, or an entry that is no multiple of four.
     #[error("harts, RAM or entry are outside limits")]
     BadSize,
-    /// A growth was refused.
+    /// Memory ran out.
     #[error("out of memory")]
     OutOfMemory,
 }

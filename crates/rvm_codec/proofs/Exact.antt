@@ -47,7 +47,7 @@ number_exact size test below = record {
   again = λ n rest h. rw (number_again size n rest (below n h), h) refl;
 }
 
--- a number in a range that so many bytes can hold
+-- a number in a range that this many bytes can hold
 pub within_exact : (size low high : ℕ) → high < 256 ^ size → IsExact (number size (within low high))
 within_exact size low high lt = number_exact size (within low high) (within_below (256 ^ size) low high lt)
 

@@ -23,7 +23,7 @@ nothing = record {
   read = λ bytes. Some (tt, bytes);
 }
 
--- any number of so many bytes
+-- any number of this many bytes
 abbrev pub any : ℕ → Codec ℕ
 any size = record {
   fits = λ n. nat_lt n (256 ^ size);
@@ -31,7 +31,7 @@ any size = record {
   read = number_at size;
 }
 
--- a number of so many bytes that passes a test
+-- a number of this many bytes that passes a test
 abbrev pub number : ℕ → (ℕ → Bool) → Codec ℕ
 number size test = record {
   fits = test;
@@ -39,12 +39,12 @@ number size test = record {
   read = λ bytes. number_at size bytes >>= λ n. if test n.0 then Some n else None;
 }
 
--- so many bytes and those after them, where there are as many
+-- this many bytes and those after them, where there are as many
 abbrev pub bytes_at : ℕ → List ℕ → Option (List ℕ × List ℕ)
 bytes_at count bytes =
     if nat_lt (length bytes) count then None else Some (take count bytes, drop count bytes)
 
--- a list of so many bytes
+-- a list of this many bytes
 abbrev pub raw : ℕ → Codec (List ℕ)
 raw count = record {
   fits = λ xs. length xs == count;
@@ -76,14 +76,14 @@ as_type c to from = record {
   read = λ bytes. c.read bytes >>= λ x. Some (to x.0, x.1);
 }
 
--- so many values, one after the other
+-- this many values, one after the other
 unfoldable pub read_each : {A : Type 0} → (List ℕ → Option (A × List ℕ)) → ℕ → List ℕ
     → Option (List A × List ℕ)
 read_each read zero bytes = Some ([], bytes)
 read_each read (suc n) bytes =
     read bytes >>= λ x. read_each read n x.1 >>= λ y. Some (x.0 ∷ y.0, y.1)
 
--- a list of so many
+-- a list of this many
 abbrev pub times : {A : Type 0} → ℕ → Codec A → Codec (List A)
 times n d = record {
   fits = λ xs. (length xs == n) && list_all d.fits xs;
@@ -100,7 +100,7 @@ then_each c count d = record {
       c.read bytes >>= λ x. read_each d.read (count x.0) x.1 >>= λ y. Some ((x.0, y.0), y.1);
 }
 
--- a count that passes a test, in so many bytes, and a list of as many
+-- a count that passes a test, in this many bytes, and a list of as many
 abbrev pub counted_each : {A : Type 0} → ℕ → (ℕ → Bool) → Codec A → Codec (List A)
 counted_each size test d = record {
   fits = λ xs. test (length xs) && list_all d.fits xs;
@@ -108,7 +108,7 @@ counted_each size test d = record {
   read = λ bytes. (number size test).read bytes >>= λ x. read_each d.read x.0 x.1;
 }
 
--- a count that passes a test, in so many bytes, and as many bytes
+-- a count that passes a test, in this many bytes, and as many bytes
 abbrev pub counted_bytes : ℕ → (ℕ → Bool) → Codec (List ℕ)
 counted_bytes size test = record {
   fits = λ xs. test (length xs);

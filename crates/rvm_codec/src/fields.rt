@@ -97,7 +97,7 @@ pub fn flag_at(bytes: &[u8]) -> Option<(bool, &[u8])>
     Some((n == 1, rest))
 }
 
-/// So many bytes.
+/// This many bytes.
 pub fn bytes_at(count: usize, bytes: &[u8]) -> Option<(&[u8], &[u8])>
     ensures value { option_map (λ x. (x.0.now, x.1.now)) result ≡ bytes_at count bytes.now }
     ensures length { IfSome result (λ x. length x.0.now ≡ count) }

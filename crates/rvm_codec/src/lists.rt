@@ -7,7 +7,7 @@ ghost use Rattle.rvm_codec.specs.Numbers.{rise_from, within};
 use crate::fields::{u16_within, u32_within};
 use arrayvec::ArrayVec;
 
-/// So many numbers of two bytes, each from `low` to `high`, and the bytes after them; None where
+/// This many numbers of two bytes, each from `low` to `high`, and the bytes after them; None where
 /// there are too few bytes or a number is another one.
 pub fn u16s_within<const CAP: usize>(
     count: usize,
@@ -33,7 +33,7 @@ pub fn u16s_within<const CAP: usize>(
     Some((numbers, rest))
 }
 
-/// So many numbers of four bytes, each from `low` to `high`, and the bytes after them; None where
+/// This many numbers of four bytes, each from `low` to `high`, and the bytes after them; None where
 /// there are too few bytes or a number is another one.
 pub fn u32s_within<const CAP: usize>(
     count: usize,

@@ -1,8 +1,8 @@
 -- Known runs: which events there are, what is kept of the input, and when what was sent is taken.
 use Rattle.std.proofs.Common.{◌≡◌, ℕ, List, [], ◌∷◌, Option, Some, None, false, refl, replicate}
 use Rattle.rvm_hart.specs.Machine.{HartState, Shared}
-use Rattle.rvm_debug.specs.declared.event.BoardEvent.TheVariants.{Step, Input, Drain}
-use Rattle.rvm_debug.specs.Guest.{Guest}
+use Rattle.rvm_board.specs.declared.event.BoardEvent.TheVariants.{Step, Input, Drain}
+use Rattle.rvm_board.specs.Guest.{Guest}
 use Rattle.rvm_arguments.specs.declared.arguments.StatusOf.TheVariants as tells
 use Rattle.rvm_command.specs.declared.run.Ended.TheVariants.{HaltedWith, StepsSpent}
 use Rattle.rvm_command.specs.Ends.{run_status}

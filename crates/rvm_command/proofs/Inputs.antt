@@ -1,15 +1,15 @@
--- A run takes at most a byte of its input in each turn, so that bytes which no turn can take change nothing.
+-- A run takes at most one byte of its input in each turn, so bytes that no turn can take change nothing.
 use Rattle.std.proofs.Common.{◌≡◌, ◌∙◌, ◌+◌, ◌%◌, ◌==◌, ◌<◌, ◌≤◌, ℕ, zero, suc, List, [], ◌∷◌, ◌++◌, Option, Result, Ok, Err, length, take, drop, get_or, refl, sym, ap, ap₂, subst, inl, inr, arith, length-take}
 use Rattle.std.proofs.lemmas.List.{take_all}
 use Rattle.std.specs.Io.KnownBytes.{Appends}
 use Rattle.std.specs.Prelude.{IfOk, if◌then◌else◌}
 use Rattle.rvm_arguments.specs.declared.arguments.RunArguments.{RunArguments}
-use Rattle.rvm_debug.specs.declared.event.BoardEvent.{BoardEvent}
-use Rattle.rvm_debug.specs.declared.event.BoardEvent.TheVariants.{Input}
-use Rattle.rvm_debug.specs.declared.event.BoardReply.{BoardReply}
-use Rattle.rvm_debug.specs.declared.event.BoardReply.TheVariants as reply
-use Rattle.rvm_debug.specs.Guest.{Guest}
-use Rattle.rvm_debug.specs.Events.{Answered, answered}
+use Rattle.rvm_board.specs.declared.event.BoardEvent.{BoardEvent}
+use Rattle.rvm_board.specs.declared.event.BoardEvent.TheVariants.{Input}
+use Rattle.rvm_board.specs.declared.event.BoardReply.{BoardReply}
+use Rattle.rvm_board.specs.declared.event.BoardReply.TheVariants as reply
+use Rattle.rvm_board.specs.Guest.{Guest}
+use Rattle.rvm_board.specs.Events.{Answered, answered}
 use Rattle.rvm_command.specs.declared.refused.Refused.{Refused}
 use Rattle.rvm_command.specs.declared.run.Ended.{Ended}
 use Rattle.rvm_command.specs.Command.{guest_of, image_of}

@@ -1,14 +1,14 @@
--- The lines of words, one after another.
+-- The lines of words, in order.
 use Rattle.std.proofs.Common.{◌≡◌, ℕ, ◌+◌, ◌%◌, ◌^◌, ◌<◌, ◌≤◌, List, [], ◌∷◌, ◌++◌, length, take, drop, get_or, refl, ap, sym, ◌∙◌, arith}
 use Rattle.std.specs.Prelude.{codes}
 use Rattle.byteorder.specs.Endian.{little_number}
 use Rattle.rvm_dis.specs.Disassembly.{line_at}
 use Rattle.std.proofs.lemmas.List.{drop_all, drop_more}
-use Rattle.rvm_image.specs.declared.image.Segment.{Segment}
-use Rattle.rvm_image.specs.Images.{pieces_of}
+use Rattle.rvm_asm.specs.declared.image.Segment.{Segment}
+use Rattle.rvm_asm.specs.Images.{pieces_of}
 use Rattle.rvm_command.specs.Command.{before_word, listing, word_lines}
 
--- a word more
+-- one more word
 pub lines_more : (a : ℕ) (bs : List ℕ) → 4 ≤ length bs
     → word_lines a bs ≡ (line_at a (little_number 4 (take 4 bs)) ++ codes "\n") ++ word_lines ((a + 4) % 2 ^ 32) (drop 4 bs)
 unfolding word_lines
@@ -37,7 +37,7 @@ abbrev pub segment_lines : Segment → List ℕ
 segment_lines s =
     word_lines ((s.address + before_word s.address) % 2 ^ 32) (drop (before_word s.address) s.bytes.items)
 
--- a segment more
+-- one more segment
 pub listing_more : (segments : List Segment) (i : ℕ) (s : Segment) → i < length segments → s ≡ get_or segments i s
     → listing (pieces_of (drop i segments)) ≡ segment_lines s ++ listing (pieces_of (drop (i + 1) segments))
 unfolding listing

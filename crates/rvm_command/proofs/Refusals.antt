@@ -2,8 +2,8 @@
 use Rattle.std.proofs.Common.{◌≡◌, ◌∙◌, ◌<◌, ◌≤◌, ◌^◌, ℕ, suc, false, List, [], ◌∷◌, length, Option, Some, None, refl, sym, ap, subst, inl, inr}
 use Rattle.std.specs.Prelude.{Result, Ok, Err, IfErr, IfSome, ◌↔◌}
 use Rattle.std.specs.Io.KnownBytes.{Appends, Keeps}
-use Rattle.rvm_image.specs.Images.{Piece, pieces_of}
-use Rattle.rvm_image.specs.declared.image.Segment.{Segment}
+use Rattle.rvm_asm.specs.Images.{Piece, pieces_of}
+use Rattle.rvm_asm.specs.declared.image.Segment.{Segment}
 use Rattle.rvm_elf.specs.declared.error.ReadError.{ReadError}
 use Rattle.rvm_elf.specs.declared.error.ReadError.TheVariants as file
 use Rattle.rvm_elf.specs.declared.error.WriteError.{WriteError}
@@ -11,12 +11,12 @@ use Rattle.rvm_elf.specs.declared.error.WriteError.TheVariants as image
 use Rattle.rvm_elf.specs.File.{Refuses}
 use Rattle.rvm_elf.specs.Spelling.{in_reach}
 use Rattle.rvm_asm.specs.Assembly.{IsAssembly}
-use Rattle.rvm_debug.specs.Guest.{Guest, GuestState}
-use Rattle.rvm_script.specs.declared.script.ScriptError.{ScriptError}
-use Rattle.rvm_script.specs.declared.script.ScriptError.TheVariants as script
-use Rattle.rvm_script.specs.Runs.{IsRun}
-use Rattle.rvm_script.specs.Script.{script_of}
-use Rattle.rvm_script.specs.Words.{lines}
+use Rattle.rvm_board.specs.Guest.{Guest, GuestState}
+use Rattle.rvm_debug.specs.declared.script.ScriptError.{ScriptError}
+use Rattle.rvm_debug.specs.declared.script.ScriptError.TheVariants as script
+use Rattle.rvm_debug.specs.Runs.{IsRun}
+use Rattle.rvm_debug.specs.Script.{script_of}
+use Rattle.rvm_debug.specs.Words.{lines}
 use Rattle.rvm_command.specs.declared.refused.Refused.{Refused}
 use Rattle.rvm_command.specs.Command.{FileImage}
 use Rattle.rvm_command.specs.Ends.{IsFileRefusal, IsLoadRefusal, IsTextRefusal, IsUnwritable, IsScriptEnd, IsScriptEndOf}
@@ -37,7 +37,7 @@ pub file_not_loaded : (i : FileImage) (pages : ℕ) (r : Refused) → IsFileRefu
 file_not_loaded (Err e) pages r h = h
 file_not_loaded (Ok x) pages r h = inl h
 
--- why a guest is refused stands at no line
+-- the refusal of a guest is at no line
 pub not_loaded_at_no_line : (i : FileImage) (pages : ℕ) (r : Refused) → IsLoadRefusal i pages r → r.line ≡ None
 not_loaded_at_no_line (Err e) pages r h = ap (λ (r : Refused). r.line) h
 not_loaded_at_no_line (Ok x) pages r (inl h) = ap (λ (r : Refused). r.line) h
@@ -53,7 +53,7 @@ appends_kept (Some x) (Some y) (Some z) bs h k = k ∙ h
 still_kept : (a b c : Option (List ℕ)) → b ≡ a → Keeps b c → Keeps a c
 still_kept a b c e k = subst (λ (o : Option (List ℕ)). Keeps o c) e k
 
--- a script that was told, after what the writer held back
+-- a script that was answered and flushed
 ended_told : (s : List ℕ) (answered : Result (Unit {0}) ScriptError) (old new : GuestState) (before mid after : Option (List ℕ))
     → IsRun answered (lines s) old new before mid
     → (answered ≡ Err script.TooLong → 2 ^ 26 < length s)
@@ -66,7 +66,7 @@ ended_told s (Err script.TooLong) old new before mid after run long kept = (long
 ended_told s (Err script.OutOfMemory) old new before mid after run long kept = still_kept before mid after run.1 kept
 ended_told s (Err script.LinkFault) old new before mid after run long kept = tt
 
--- the same of a reader's script, where that is known
+-- the same of a reader's script, if that is known
 pub script_ended : (remaining : Option (List ℕ)) (answered : Result (Unit {0}) ScriptError) (old new : GuestState) (before mid after : Option (List ℕ))
     → IfSome remaining (λ s. IsRun answered (lines s) old new before mid)
     → (answered ≡ Err script.TooLong → IfSome remaining (λ s. 2 ^ 26 < length s))

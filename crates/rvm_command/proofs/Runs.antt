@@ -1,4 +1,4 @@
--- A run, event by event, and writes after writes.
+-- A run, event by event, and consecutive writes.
 use Rattle.std.proofs.Common.{◌≡◌, ℕ, zero, suc, OnErr, Result, Ok, Err, ◌+◌, ◌-◌, ◌*◌, ◌/◌, ◌%◌, ◌<◌, ◌≤◌, List, [], ◌∷◌, ◌++◌, length, take, drop, min, replicate, Option, Some, None, Bool, true, false, refl, sym, ap, subst, ◌∙◌, arith, append_assoc, append-nil, cond, nat_eq, nat_lt}
 use Rattle.std.proofs.lemmas.List.{drop_min, take_at, take_min, length-take, length-append, length-drop, drop_all}
 use Rattle.std.proofs.lemmas.Bool.{eqb-true, lt-ltb}
@@ -11,20 +11,20 @@ use Rattle.rvm_hart.specs.declared.outcome.Stepped.{Stepped}
 use Rattle.rvm_hart.specs.declared.outcome.Stepped.TheVariants as outcome
 use Rattle.rvm_board.specs.Board as board
 use Rattle.rvm_board.specs.Board.{with_input, with_output}
-use Rattle.rvm_debug.specs.declared.event.BoardEvent.{BoardEvent}
-use Rattle.rvm_debug.specs.declared.event.BoardEvent.TheVariants.{Step, Input, Drain}
-use Rattle.rvm_debug.specs.declared.event.BoardReply.{BoardReply}
-use Rattle.rvm_debug.specs.declared.event.BoardReply.TheVariants as reply
-use Rattle.rvm_debug.specs.declared.event.BoardRefusal.TheVariants.{BadHart, InputFull}
-use Rattle.rvm_debug.specs.declared.turns.Order.TheVariants.{RoundRobin}
-use Rattle.rvm_debug.specs.declared.turns.Turns.{Turns}
-use Rattle.rvm_debug.specs.Guest.{Guest, GuestState}
-use Rattle.rvm_debug.specs.Events.{Answered, answered, leaves, pc_of, refuses, reply_of, steps, stops, takes_step, with_board, with_stopped}
-use Rattle.rvm_debug.specs.Events as events
-use Rattle.rvm_debug.specs.Turns.{AfterTurns, TakesTurns, after_turns, behind, stop_in, unless_stopped}
-use Rattle.rvm_debug.specs.WhileFull.{is_full, no_turns, turns_while}
-use Rattle.rvm_debug.proofs.Turning.{mark_more, steps_count}
-use Rattle.rvm_debug.proofs.Waiting.{as_they_are, while_some, while_within}
+use Rattle.rvm_board.specs.declared.event.BoardEvent.{BoardEvent}
+use Rattle.rvm_board.specs.declared.event.BoardEvent.TheVariants.{Step, Input, Drain}
+use Rattle.rvm_board.specs.declared.event.BoardReply.{BoardReply}
+use Rattle.rvm_board.specs.declared.event.BoardReply.TheVariants as reply
+use Rattle.rvm_board.specs.declared.event.BoardRefusal.TheVariants.{BadHart, InputFull}
+use Rattle.rvm_board.specs.declared.turns.Order.TheVariants.{RoundRobin}
+use Rattle.rvm_board.specs.declared.turns.Turns.{Turns}
+use Rattle.rvm_board.specs.Guest.{Guest, GuestState}
+use Rattle.rvm_board.specs.Events.{Answered, answered, leaves, pc_of, refuses, reply_of, steps, stops, takes_step, with_board, with_stopped}
+use Rattle.rvm_board.specs.Events as events
+use Rattle.rvm_board.specs.Turns.{AfterTurns, TakesTurns, after_turns, behind, stop_in, unless_stopped}
+use Rattle.rvm_board.specs.WhileFull.{is_full, no_turns, turns_while}
+use Rattle.rvm_board.proofs.Turning.{mark_more, steps_count}
+use Rattle.rvm_board.proofs.Waiting.{as_they_are, while_some, while_within}
 use Rattle.rvm_command.specs.declared.run.Ended.{Ended}
 use Rattle.rvm_command.specs.declared.run.Ended.TheVariants as ended
 use Rattle.rvm_command.specs.Buffered.{GoesOut}
@@ -43,15 +43,15 @@ appends_more (Some xs0) (Some ys0) (Some zs0) xs ys p q = q ∙ ap (λ (l : List
 
 -- ---- bytes that wait in a buffer
 
--- no byte comes and none goes out
+-- no byte comes and none is written
 pub stays : (held : List ℕ) (w : Option (List ℕ)) → GoesOut [] held held w w
 stays held w = record { out = []; all = append-nil held; text = appends_none w }
 
--- bytes come, and none goes out
+-- bytes come, and none is written
 pub is_held : (bytes held left : List ℕ) (w : Option (List ℕ)) → left ≡ held ++ bytes → GoesOut bytes held left w w
 is_held bytes held left w e = record { out = []; all = sym e; text = appends_none w }
 
--- all that was held goes out
+-- all that was held is written
 pub all_out : (held left : List ℕ) (before after : Option (List ℕ)) → left ≡ [] → Appends before after held → GoesOut [] held left before after
 all_out held left before after none text = record { out = held; all = ap (λ (l : List ℕ). held ++ l) (sym none); text = text }
 
@@ -189,7 +189,7 @@ part_way {all} {start} {held} {left} {before} rest more es now new mid p parts p
 pub none_made : {all rest : List BoardEvent} {start now : GuestState} {held left : List ℕ} {before mid : Option (List ℕ)} → Progress all rest start now held left before mid → IsPartWay all start now
 none_made {all} {rest} {start} {now} {held} {left} {before} {mid} p = record { made = p.made; left = rest; whole = p.whole; so_far = p.so_far }
 
--- where bytes are held or the next events are answered some, there are some in all
+-- if bytes are held or the next events are answered some, there are some in all
 pub some_bytes : {all : List BoardEvent} {start : GuestState} {held left : List ℕ} {before : Option (List ℕ)} (rest more es : List BoardEvent) (now : GuestState) (mid : Option (List ℕ)) → Progress all rest start now held left before mid → rest ≡ es ++ more
     → 0 < length (left ++ (after es now.guest).bytes) → 0 < length (held ++ (after all start.guest).bytes)
 some_bytes {all} {start} {held} {left} {before} rest more es now mid p parts some =
@@ -202,7 +202,7 @@ some_bytes {all} {start} {held} {left} {before} rest more es now mid p parts som
     let sizes : length (held ++ b1) ≡ length (p.text.out ++ left) = ap length p.text.all in
     rw whole (omega (arith, length-append held (b1 ++ (b2 ++ b3)), length-append b1 (b2 ++ b3), length-append b2 b3, length-append held b1, length-append p.text.out left, length-append left b2, sizes, some))
 
--- the same where bytes are held
+-- the same if bytes are held
 pub some_held : {all rest : List BoardEvent} {start now : GuestState} {held left : List ℕ} {before mid : Option (List ℕ)} → Progress all rest start now held left before mid → 0 < length left → 0 < length (held ++ (after all start.guest).bytes)
 some_held {all} {rest} {start} {now} {held} {left} {before} {mid} p some =
     some_bytes rest rest [] now mid p refl (omega (arith, length-append left (after [] now.guest).bytes, some))
@@ -594,12 +594,12 @@ last_drains g end rest e = e ∙ ap (λ (l : List BoardEvent). record { events =
 pub drain_nothing : (s : GuestState) (held : List ℕ) (w : Option (List ℕ)) → length s.guest.board.shared.devices.output ≡ 0 → AllMade (drains s.guest) s s held held w w
 drain_nothing s held w none = all_made (drains s.guest) s w (begins (drains s.guest) s held w) (drains_none s.guest none)
 
--- after all drains, what is held goes out too
+-- after all drains, what is held is written too
 pub then_out : {bytes held left next : List ℕ} {before mid written : Option (List ℕ)} → GoesOut bytes held left before mid → next ≡ [] → Appends mid written left → GoesOut bytes held next before written
 then_out {bytes} {held} {left} {next} {before} {mid} {written} p none text =
     subst (λ (l : List ℕ). GoesOut l held next before written) (append-nil bytes) (out_more p (all_out left next mid written none text))
 
--- where no input is left, all turns are made
+-- if no input is left, all turns are made
 pub any_turns : (is_more : Bool) (count h : ℕ) (old new : GuestState) (told : Turns) → is_more ≡ false → TakesTurns (after_turns RoundRobin count h old.guest) old new told → TakesTurns (turns_while (takes_none is_more) count h old.guest) old new told
 any_turns true count h old new told none taken = absurd cc
 any_turns false count h old new told none taken = subst (λ (t : AfterTurns). TakesTurns t old new told) (as_they_are count h old.guest) taken

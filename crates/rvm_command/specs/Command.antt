@@ -2,12 +2,12 @@
 use Rattle.std.specs.Prelude.{ℕ, ◌+◌, ◌-◌, ◌*◌, ◌%◌, ◌^◌, Bool, true, false, List, [], ◌∷◌, ◌++◌, Option, Some, None, Result, Ok, drop, replicate, codes}
 use Rattle.std.specs.Fmt.{decimal}
 use Rattle.byteorder.specs.Endian.{little_number}
-use Rattle.rvm_image.specs.Images.{Piece, piece}
+use Rattle.rvm_asm.specs.Images.{Piece, piece}
 use Rattle.rvm_elf.specs.declared.error.ReadError.{ReadError}
 use Rattle.rvm_elf.specs.File.{meaning}
 use Rattle.rvm_elf.specs.Load.{loaded}
 use Rattle.rvm_board.specs.Board.{at_reset}
-use Rattle.rvm_debug.specs.Guest.{Guest, fresh}
+use Rattle.rvm_board.specs.Guest.{Guest, fresh}
 use Rattle.rvm_dis.specs.Disassembly.{line_at}
 use Rattle.rvm_refusal.specs.Refusal.{text_of}
 use Rattle.rvm_command.specs.declared.refused.Refused.{Refused}
@@ -15,7 +15,7 @@ use Rattle.rvm_command.specs.declared.run.Ended.{Ended}
 use Rattle.rvm_command.specs.declared.run.Ended.TheVariants.{HaltedWith, StepsSpent}
 use Rattle.rvm_command.specs.Run.{Ran, ran}
 
--- an entry and the pieces of a program, or why a file has none
+-- the entry and the pieces of an image, or why a file has no image
 abbrev pub FileImage : Type 0
 FileImage = Result (ℕ × List Piece) ReadError
 
@@ -29,7 +29,7 @@ abbrev pub guest_of : (harts pages entry : ℕ) → List Piece → Guest
 guest_of harts pages entry pieces =
     fresh (loaded entry pieces (at_reset harts 0x80000000 (replicate (4096 * pages) 0)))
 
--- its run
+-- the run of the guest of an image, of at most this many turns, with this input
 abbrev pub run_of : (harts pages steps : ℕ) → (image : ℕ × List Piece) → (input : List ℕ) → Ran
 run_of harts pages steps image input = ran steps input (guest_of harts pages image.0 image.1)
 
@@ -38,28 +38,28 @@ abbrev pub end_text : Ended → List ℕ
 end_text (HaltedWith s) = codes "halted " ++ decimal s
 end_text StepsSpent = codes "steps spent"
 
--- `line L: `, or nothing where a refusal stands at no line
+-- `line L: `, or nothing if a refusal is at no line
 abbrev pub at_line : Option ℕ → List ℕ
 at_line None = []
 at_line (Some l) = codes "line " ++ decimal l ++ codes ": "
 
--- `line L: refused N NAME`, or `refused N NAME` where it stands at no line
+-- `line L: refused N NAME`, or `refused N NAME` if the refusal is at no line
 abbrev pub refused_text : Refused → List ℕ
 refused_text r = at_line r.line ++ text_of r.refusal
 
--- the lines of the words of bytes that stand from an address on, which is a multiple of four; what
--- is left after the last whole word has no line
+-- the lines of the words of bytes that stand from this address on, a multiple of four; bytes after the last whole word
+-- have no line
 unfoldable pub word_lines : (address : ℕ) → List ℕ → List ℕ
 word_lines a (b0 ∷ b1 ∷ b2 ∷ b3 ∷ rest) =
     line_at a (little_number 4 (b0 ∷ b1 ∷ b2 ∷ b3 ∷ [])) ++ codes "\n"
     ++ word_lines ((a + 4) % 2 ^ 32) rest
 word_lines a bytes = []
 
--- how many bytes stand between an address and the next multiple of four
+-- how many bytes stand from an address up to the next multiple of four
 abbrev pub before_word : (address : ℕ) → ℕ
 before_word a = (4 - a % 4) % 4
 
--- the lines of the whole aligned words of pieces, one piece after the other
+-- the lines of the whole aligned words of pieces, in order
 unfoldable pub listing : List Piece → List ℕ
 listing [] = []
 listing (p ∷ ps) =

@@ -1,20 +1,20 @@
--- How each command ends, what it wrote to its output until then, and what it answers.
+-- How each command ends, what it wrote to its output until then, and the status that it returns.
 use Rattle.std.specs.Prelude.{◌≡◌, ◌⊎◌, ℕ, zero, suc, ◌+◌, ◌*◌, ◌^◌, ◌<◌, ◌≤◌, ◌==◌, true, false, List, ◌++◌, Option, Some, None, Result, Ok, Err, IfOk, IfSome, IsOk, length, take, codes, count_by}
 use Rattle.std.specs.Str.{IsUtf8, IsValidUpTo}
 use Rattle.std.specs.Io.KnownBytes.{Appends, Keeps}
-use Rattle.rvm_image.specs.Images.{Piece}
+use Rattle.rvm_asm.specs.Images.{Piece}
 use Rattle.rvm_elf.specs.declared.error.WriteError.{WriteError}
 use Rattle.rvm_elf.specs.declared.error.WriteError.TheVariants as image
 use Rattle.rvm_elf.specs.Load.{fits}
 use Rattle.rvm_elf.specs.Spelling.{in_reach}
-use Rattle.rvm_debug.specs.Guest.{Guest}
+use Rattle.rvm_board.specs.Guest.{Guest}
 use Rattle.rvm_asm.specs.declared.error.AsmError.{AsmError}
 use Rattle.rvm_asm.specs.Assembly.{IsAssembly}
 use Rattle.rvm_asm.specs.Refusals.{IsError}
-use Rattle.rvm_script.specs.declared.script.ScriptError.{ScriptError}
-use Rattle.rvm_script.specs.declared.script.ScriptError.TheVariants as script
-use Rattle.rvm_script.specs.Script.{Answers, script_of}
-use Rattle.rvm_script.specs.Words.{lines}
+use Rattle.rvm_debug.specs.declared.script.ScriptError.{ScriptError}
+use Rattle.rvm_debug.specs.declared.script.ScriptError.TheVariants as script
+use Rattle.rvm_debug.specs.Script.{Answers, script_of}
+use Rattle.rvm_debug.specs.Words.{lines}
 use Rattle.rvm_refusal.specs.declared.refusal.Refusal.TheVariants.{OutOfMemory, OutsideRam, BadToken, LinkFault}
 use Rattle.rvm_arguments.specs.declared.arguments.GuestArguments.{GuestArguments}
 use Rattle.rvm_arguments.specs.declared.arguments.RunArguments.{RunArguments}
@@ -28,16 +28,16 @@ use Rattle.rvm_command.specs.Command.{FileImage, end_text, guest_of, image_of, l
 use Rattle.rvm_command.specs.Refusals.{IsTold, refused, refused_at, refused_of_text, refused_of_script}
 use Rattle.rvm_elf.specs.Refusals.{refusal_of_file, refusal_of_image}
 
--- a file is refused: for its fault, or it has none and memory ran out
+-- a file is refused: for its fault, or, if it has none, since memory ran out
 abbrev pub IsFileRefusal : FileImage → Refused → Type 0
 IsFileRefusal (Err fault) r = r ≡ refused (refusal_of_file fault)
 IsFileRefusal (Ok image) r = r ≡ refused OutOfMemory
 
--- a file has an image that lies in so many pages
+-- a file has an image that lies in this many pages
 abbrev pub IsLoadable : FileImage → (pages : ℕ) → Type 0
 IsLoadable image pages = IfOk image (λ i. fits i.0 i.1 (4096 * pages) ≡ true) × IsOk image
 
--- a guest is refused: for its file, since the image does not lie in RAM, or since memory ran out
+-- a guest is refused: for the fault of its file, since the image does not lie in RAM, or since memory ran out
 abbrev pub IsLoadRefusal : FileImage → (pages : ℕ) → Refused → Type 0
 IsLoadRefusal (Err fault) pages r = r ≡ refused (refusal_of_file fault)
 IsLoadRefusal (Ok image) pages r =
@@ -65,8 +65,8 @@ IsListEnd image (Ok done) before after = IsOk image × IfOk image (λ i. Appends
 IsListEnd image (Err r) before after =
     (IsFileRefusal image r × (after ≡ before)) ⊎ ((r ≡ refused LinkFault) × IsOk image)
 
--- a script is told to its end, or to the line that is none; or memory ran out, or it is too long, or
--- a read or a write failed
+-- a script was answered to its end, or up to the first line that is not in the grammar; or nothing was answered, since
+-- it is too long or memory ran out; or a read or a write failed
 abbrev pub IsScriptEnd : (text : List ℕ) → Answers → Result (Unit {0}) ScriptError
     → (before after : Option (List ℕ)) → Type 0
 IsScriptEnd text told (Ok done) before after = (told.end ≡ None) × Appends before after told.text
@@ -77,13 +77,13 @@ IsScriptEnd text told (Err script.TooLong) before after =
 IsScriptEnd text told (Err script.OutOfMemory) before after = Keeps before after
 IsScriptEnd text told (Err script.LinkFault) before after = Unit {0}
 
--- the same of the script that a reader gives, where that is known
+-- the script that a reader gives, if that is known, ended so for this guest
 abbrev pub IsScriptEndOf : Option (List ℕ) → Guest → Result (Unit {0}) ScriptError
     → (before after : Option (List ℕ)) → Type 0
 IsScriptEndOf remaining guest result before after =
     IfSome remaining (λ s. IsScriptEnd s (script_of (lines s) 1 guest) result before after)
 
--- a debugged guest's script has ended, or was refused: before its first line, or at its end
+-- the script of a debugged guest was answered to its end, or was refused: before its first line, or after it began
 abbrev pub IsDebugEnd : GuestArguments → (file : List ℕ) → (script : Option (List ℕ))
     → Result (Unit {0}) Refused → (before after : Option (List ℕ)) → Type 0
 IsDebugEnd a file script (Ok done) before after =
@@ -97,11 +97,11 @@ IsDebugEnd a file script (Err r) before after =
     × IfOk (image_of a.raw file) (λ i.
     IsScriptEndOf script (guest_of a.harts a.pages i.0 i.1) (Err e) before after)))
 
--- the line, counted from 1, at which the byte with an index stands
+-- the line, counted from 1, in which the byte with this index stands
 abbrev pub line_of_byte : (index : ℕ) → List ℕ → ℕ
 line_of_byte i bytes = count_by (λ b. b == 10) (take i bytes) + 1
 
--- why an image has no file, if not for want of memory
+-- an image has no file for this reason; memory may run out for any image
 abbrev pub IsUnwritable : List Piece → WriteError → Type 0
 IsUnwritable pieces image.OutOfMemory = Unit {0}
 IsUnwritable pieces image.TooMany = 16 < length pieces
@@ -115,7 +115,7 @@ IsTextRefusal text r =
     ⊎ ((e : WriteError) × (entry : ℕ) × (pieces : List Piece) × IsAssembly text entry pieces
     × IsUnwritable pieces e × (r ≡ refused (refusal_of_image e))))
 
--- the file of a text is written, or it was refused: for the text, or since the write failed
+-- the file of a text was written, or the text was refused: for its fault, or since the write failed
 abbrev pub IsAsmEnd : (text : List ℕ) → Result (Unit {0}) Refused
     → (before after : Option (List ℕ)) → Type 0
 IsAsmEnd text (Ok done) before after = (file : List ℕ) × IsFileOf text file × Appends before after file
@@ -123,15 +123,14 @@ IsAsmEnd text (Err r) before after =
     (IsTextRefusal text r × (after ≡ before))
     ⊎ ((r ≡ refused LinkFault) × ((file : List ℕ) × IsFileOf text file))
 
--- what a command answers that ends so: 0 where it is done, 1 where it was refused, with the refusal
--- told to `errors`
+-- the status of a command that ends so: 0 if it is done, 1 if it was refused, with the refusal written to `errors`
 abbrev pub HasStatus : (status : ℕ) → (End : Result (Unit {0}) Refused → Type 0)
     → (before after : Option (List ℕ)) → Type 0
 HasStatus zero End before after = End (Ok tt) × (after ≡ before)
 HasStatus (suc zero) End before after = (r : Refused) × End (Err r) × IsTold r before after
 HasStatus (suc (suc n)) End before after = ⊥
 
--- what the command of a run answers that ended so, by what its status was asked to tell
+-- the status of a run that ended so, by what the status was asked to tell
 abbrev pub run_status : StatusOf → Ended → ℕ
 run_status tells.Command ended = 0
 run_status tells.Verdict (HaltedWith zero) = 0
@@ -140,8 +139,8 @@ run_status tells.Verdict StepsSpent = 4
 run_status tells.Guest (HaltedWith n) = n
 run_status tells.Guest StepsSpent = 4
 
--- what the command of a run answers, by what its status was asked to tell: that of its end, which it tells to
--- `errors`, or 1 where it was refused, with the refusal told
+-- the status of the command of a run, by what the status was asked to tell: that of the run's end, which is written to
+-- `errors`, or 1 if it was refused, with the refusal written there
 abbrev pub RunHasStatus : StatusOf → (status : ℕ) → (End : Result Ended Refused → Type 0)
     → (before after : Option (List ℕ)) → Type 0
 RunHasStatus asked status End before after =

@@ -6,3 +6,6 @@ pub mod Assembled
 pub mod Refusals
 pub mod Ends
 pub mod Flushed
+pub mod FirstWorld
+pub mod ScriptRefusals
+pub mod ScriptEnds

@@ -1,4 +1,4 @@
-//! `rvmove debug`: the answers to a debugger's script.
+//! `rvmove debug`: answers a debugger's script.
 
 ghost use Rattle.std.specs.Prelude.{◌≡◌, ◌⊎◌, ◌*◌, None, Result, IfOk, IfErr, IsErr, OnOk, false};
 ghost use Rattle.std.specs.Io.Buffered.{writer_contents};
@@ -9,28 +9,29 @@ ghost use Rattle.rvm_command.specs.Ends.{HasStatus, IsDebugEnd, IsScriptEndOf};
 ghost use Rattle.rvm_command.specs.Flushed.{is_flushed};
 ghost use Rattle.rvm_command.specs.Refusals.{IsTold, refused};
 ghost use Rattle.rvm_refusal.specs.declared.refusal.Refusal.{Refusal};
-ghost use Rattle.rvm_script.specs.declared.script.ScriptError.TheVariants as script;
+ghost use Rattle.rvm_debug.specs.declared.script.ScriptError.TheVariants as script;
 
 use crate::flush::flush;
 use crate::guest::load_guest;
 use crate::refused::{Refused, tell};
 use rvm_arguments::GuestArguments;
-use rvm_debug::Debugged;
+use rvm_board::Debugged;
+use rvm_debug::{ScriptError, run_script};
 use rvm_mem::{Memory, PagedMemory};
 use rvm_refusal::LinkFault;
-use rvm_script::{ScriptError, run_script};
 use std::alloc::Global;
 use std::io::{BufWriter, Read, Write};
 
-/// Loads the guest whose file `image` is, does what each line of the script in `reader` asks for,
-/// and writes the answers to `output`. Answers the status: 0, or 1 where it was refused; then
-/// `errors` gets the refusal in one line, and else nothing: that of the file, `OutsideRam` for an
-/// image that does not lie in RAM, `TooLong` for a script of more than 2^26 bytes, and
-/// `OutOfMemory`, which leave `output` as it was; `BadToken` with its line where one is not in the
-/// grammar, after the answers to the lines before it; and `LinkFault` where a read or a write to
-/// `output` failed, of which a part may have gone out. Whether a reader or a writer fails is not
-/// said. With the status 0, and where it was refused at a line, `output` holds nothing back.
-/// `LinkFault` as the answer: a write to `errors` failed.
+/// Loads the guest of the file `image`, does what each line of the script in `reader` asks for, and writes the answers
+/// to `output`.
+///
+/// Returns the status: 0, or 1 if it was refused; then `errors` gets the refusal in one line, and else nothing. These
+/// refusals leave `output` unchanged: the fault of the file, `OutsideRam` if the image does not lie in RAM, `TooLong`
+/// if the script has more than 2^26 bytes, and `OutOfMemory`. `BadToken` comes with the number of the first line that
+/// is not in the grammar, after the answers to the lines before it. `LinkFault` says that a read failed, or a write to
+/// `output`; then a part of the answers may have been written. With the status 0, and after a refusal at a line,
+/// `output` is flushed. No clause says when a reader or a writer fails. The error `LinkFault` says that a write to
+/// `errors` failed.
 pub fn debug_command<M: PagedMemory + Drop, R: Read, O: Write + Drop, E: Write>(
     alloc: Global,
     arguments: &GuestArguments,
@@ -61,7 +62,7 @@ pub fn debug_command<M: PagedMemory + Drop, R: Read, O: Write + Drop, E: Write>(
     }
 }
 
-/// The script itself.
+/// Loads the guest and answers the script, or says why it was refused.
 #[tactic(auto, using(crate::proofs::Refusals::not_loaded_at_no_line))]
 fn debug<M: PagedMemory + Drop, R: Read, O: Write + Drop>(
     alloc: Global,
@@ -85,7 +86,7 @@ fn debug<M: PagedMemory + Drop, R: Read, O: Write + Drop>(
     Ok(())
 }
 
-/// Answers a script, and writes what the writer held back.
+/// Answers a script, and flushes the answers.
 #[tactic(auto, using(crate::proofs::Refusals::script_ended, crate::proofs::Refusals::link_failed))]
 fn answer<M: Memory, R: Read, O: Write + Drop>(
     alloc: Global,

@@ -1,9 +1,9 @@
-//! `rvmove dis`: the lines of an image's words.
+//! `rvmove dis`: lists the words of an image.
 
 ghost use Rattle.std.specs.Prelude.{◌≡◌, ◌+◌, ◌%◌, ◌^◌, ◌++◌, codes, Result, IfOk, IsErr, OnOk, drop};
 ghost use Rattle.std.specs.Io.Buffered.{writer_contents};
 ghost use Rattle.std.specs.Io.KnownBytes.{Appends};
-ghost use Rattle.rvm_image.specs.Images.{pieces_of};
+ghost use Rattle.rvm_asm.specs.Images.{pieces_of};
 ghost use Rattle.rvm_dis.specs.Disassembly.{line_at};
 ghost use Rattle.rvm_command.specs.declared.refused.Refused.{Refused};
 ghost use Rattle.rvm_command.specs.Command.{before_word, image_of, listing, word_lines};
@@ -11,22 +11,23 @@ ghost use Rattle.rvm_command.specs.Ends.{HasStatus, IsListEnd};
 ghost use Rattle.rvm_command.specs.Flushed.{is_flushed};
 
 use crate::flush::flush;
-use crate::guest::read_file;
+use crate::guest::image_of;
 use crate::refused::{Refused, tell};
 use byteorder::{ByteOrder, LittleEndian};
 use rvm_arguments::DisArguments;
+use rvm_asm::Segment;
 use rvm_dis::write_line;
-use rvm_image::Segment;
 use rvm_refusal::LinkFault;
 use std::alloc::Global;
 use std::io::{BufWriter, Write};
 
-/// Writes a line for each whole aligned word of the image's segments, one segment after the other:
-/// its address, the word, and the text of its instruction. Answers the status: 0, or 1 where it was
-/// refused; then `errors` gets the refusal in one line, and else nothing: that of the file and
-/// `OutOfMemory`, which leave `output` as it was, or `LinkFault` where a write to `output` failed, of
-/// which a part may have gone out. Whether a writer fails is not said. With the status 0 `output` holds
-/// nothing back. `LinkFault` as the answer: a write to `errors` failed.
+/// Writes a line for each whole aligned word of the image's segments, in order: its address, the word, and the text of
+/// its instruction.
+///
+/// Returns the status: 0, or 1 if it was refused; then `errors` gets the refusal in one line, and else nothing. The
+/// fault of the file and `OutOfMemory` leave `output` unchanged; `LinkFault` says that a write to `output` failed, and
+/// a part of the lines may have been written. With the status 0, `output` is flushed. No clause says when a writer
+/// fails. The error `LinkFault` says that a write to `errors` failed.
 pub fn dis_command<O: Write + Drop, E: Write>(
     alloc: Global,
     arguments: &DisArguments,
@@ -50,7 +51,7 @@ pub fn dis_command<O: Write + Drop, E: Write>(
     }
 }
 
-/// The lines themselves.
+/// Writes the lines and flushes them, or says why it was refused.
 fn dis<O: Write + Drop>(
     alloc: Global,
     arguments: &DisArguments,
@@ -63,13 +64,13 @@ fn dis<O: Write + Drop>(
     ensures fault { IsErr (image_of arguments.now.raw image.now)
         → writer_contents O.contents output.new ≡ writer_contents O.contents output.old }
 {
-    let program = read_file(alloc, arguments.raw, image)?;
+    let program = image_of(alloc, arguments.raw, image)?;
     list(&program.segments, output)?;
     flush(output)?;
     Ok(())
 }
 
-/// Writes the lines of segments.
+/// Writes the lines of segments, in order.
 fn list<O: Write>(segments: &[Segment], output: &mut O) -> Result<(), LinkFault>
     ensures { OnOk result (Appends (O.contents output.old) (O.contents output.new)
         (listing (pieces_of segments.now))) }
@@ -80,7 +81,7 @@ fn list<O: Write>(segments: &[Segment], output: &mut O) -> Result<(), LinkFault>
     Ok(())
 }
 
-/// Writes the lines of a segment.
+/// Writes the lines of the whole aligned words of a segment.
 fn list_segment<O: Write>(segment: &Segment, output: &mut O) -> Result<(), LinkFault>
     ensures { OnOk result (Appends (O.contents output.old) (O.contents output.new)
         (word_lines ((segment.now.address + before_word segment.now.address) % 2 ^ 32)
@@ -94,7 +95,7 @@ fn list_segment<O: Write>(segment: &Segment, output: &mut O) -> Result<(), LinkF
     list_words(segment.address.wrapping_add(skipped), words, output)
 }
 
-/// Writes the lines of the words of bytes that stand from an address on.
+/// Writes the lines of the whole words of bytes that stand from this address on, a multiple of four.
 fn list_words<O: Write>(address: u32, bytes: &[u8], output: &mut O) -> Result<(), LinkFault>
     ensures { OnOk result (Appends (O.contents output.old) (O.contents output.new)
         (word_lines address bytes.now)) }

@@ -2,7 +2,7 @@
 
 ghost use Rattle.std.specs.Prelude.{◌≡◌, ◌⊎◌, ◌≤◌, ◌*◌, true, false, IfOk, IfErr, OnOk, replicate};
 ghost use Rattle.rvm_refusal.specs.declared.refusal.Refusal.TheVariants.{OutsideRam, OutOfMemory};
-ghost use Rattle.rvm_image.specs.Images.{pieces_of};
+ghost use Rattle.rvm_asm.specs.Images.{pieces_of};
 ghost use Rattle.rvm_elf.specs.Load.{fits};
 ghost use Rattle.rvm_board.specs.Board.{at_reset};
 ghost use Rattle.rvm_command.specs.Command.{guest_of, image_of};
@@ -11,17 +11,16 @@ ghost use Rattle.rvm_command.specs.Refusals.{refused};
 
 use crate::refused::Refused;
 use rvm_arguments::GuestArguments;
-use rvm_board::Board;
-use rvm_debug::Debugged;
+use rvm_asm::Image;
+use rvm_board::{Board, Debugged};
 use rvm_elf::{load, raw_image, read_image};
 use rvm_hart::RAM_BASE;
-use rvm_image::Image;
 use rvm_mem::PagedMemory;
 use rvm_refusal::Refusal;
 use std::alloc::Global;
 
-/// A guest at reset whose board is loaded with the image of a file. It is refused for the fault of
-/// the file, `OutsideRam` for an image that does not lie in RAM, and `OutOfMemory`.
+/// Makes a guest at reset whose board is loaded with the image of a file. Refuses with the fault of the file, with
+/// `OutsideRam` if the image does not lie in RAM, and with `OutOfMemory`.
 #[tactic(auto, using(crate::proofs::Refusals::file_not_loaded))]
 pub fn load_guest<M: PagedMemory + Drop>(
     alloc: Global,
@@ -34,13 +33,14 @@ pub fn load_guest<M: PagedMemory + Drop>(
     ensures refused { IfErr result
         (IsLoadRefusal (image_of arguments.now.raw file.now) arguments.now.pages) }
 {
-    let image = read_file(alloc, arguments.raw, file)?;
+    let image = image_of(alloc, arguments.raw, file)?;
     new_guest(alloc, arguments.harts, arguments.pages, &image)
 }
 
-/// The image of a file: an ELF file, or with `raw` plain bytes from the start of RAM on.
+/// Reads the image of a file: of an ELF file, or, if it is `raw`, its bytes from the start of RAM on. Refuses with the
+/// fault of the file, and with `OutOfMemory`.
 #[tactic(auto, using(crate::proofs::Refusals::file_refused))]
-pub(crate) fn read_file(alloc: Global, raw: bool, file: &[u8]) -> Result<Image, Refused>
+pub(crate) fn image_of(alloc: Global, raw: bool, file: &[u8]) -> Result<Image, Refused>
     ensures image { IfOk result
         (λ v. image_of raw file.now ≡ Ok (v.entry, pieces_of v.segments.items)) }
     ensures refused { IfErr result (IsFileRefusal (image_of raw file.now)) }
@@ -54,8 +54,8 @@ pub(crate) fn read_file(alloc: Global, raw: bool, file: &[u8]) -> Result<Image, 
     Ok(read_image(alloc, file)?)
 }
 
-/// A board at reset with so many harts and pages, loaded with an image. `OutsideRam` where the
-/// image does not lie in RAM.
+/// Makes a board at reset with 1 to 8 harts and 1 to 4096 pages, loaded with an image. Refuses with `OutsideRam` if the
+/// image does not lie in RAM, and with `OutOfMemory`.
 fn new_guest<M: PagedMemory + Drop>(
     alloc: Global,
     harts: u32,
@@ -78,7 +78,7 @@ fn new_guest<M: PagedMemory + Drop>(
     }
 }
 
-/// A board at reset whose RAM is zeros.
+/// Makes a board at reset with 1 to 8 harts, whose RAM is 1 to 4096 pages of zeros.
 fn new_board<M: PagedMemory + Drop>(
     alloc: Global,
     harts: u32,

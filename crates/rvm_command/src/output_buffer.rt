@@ -1,4 +1,4 @@
-//! A buffer between what a guest sends and the writer, so that many small pieces go out in one write.
+//! A buffer between what a guest sends and the writer, so that many small pieces take one write.
 
 ghost use Rattle.std.specs.Prelude.{◌≡◌, ◌+◌, ◌<◌, ◌≤◌, ◌++◌, [], OnOk, OnErr, length};
 ghost use Rattle.std.specs.Io.KnownBytes.{Appends};
@@ -12,7 +12,7 @@ use std::marker::Model;
 /// The most bytes that the buffer holds.
 const BUFFER_SIZE: usize = 4096;
 
-/// Bytes that the guest sent and that are not written yet, in their order. Takes no memory.
+/// Bytes that the guest sent and that are not written yet, in order: at most 4096. Allocates nothing.
 #[derive(Drop)]
 pub(crate) struct OutputBuffer {
     bytes: ArrayVec<u8, BUFFER_SIZE>,
@@ -38,8 +38,8 @@ impl OutputBuffer {
         }
     }
 
-    /// Makes room for `count` bytes: writes all that is held if there is less. `LinkFault` if the
-    /// write failed.
+    /// Makes room for `count` bytes, at most 4096: if there is less, writes all that is held. `LinkFault` if the write
+    /// failed.
     pub(crate) fn make_room<W: Write>(
         &mut self,
         count: usize,
@@ -56,7 +56,7 @@ impl OutputBuffer {
         self.write_to(writer)
     }
 
-    /// Holds these bytes too.
+    /// Appends these bytes, for which there is room.
     pub(crate) fn append(&mut self, bytes: &[u8])
         requires { length self.old + length bytes.now ≤ 4096 }
         ensures { self.new ≡ self.old ++ bytes.now }
@@ -65,8 +65,8 @@ impl OutputBuffer {
         prove!(fits);
     }
 
-    /// Writes all that is held, and holds nothing then. `LinkFault` if the write failed, which needs
-    /// something to write.
+    /// Writes all that is held, and then holds nothing. `LinkFault` if the write failed, which is possible only if
+    /// something was held.
     pub(crate) fn write_to<W: Write>(&mut self, writer: &mut W) -> Result<(), LinkFault>
         ensures empty { OnOk result (self.new ≡ []) }
         ensures written { OnOk result (Appends (W.contents writer.old) (W.contents writer.new) self.old) }

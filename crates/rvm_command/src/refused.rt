@@ -1,4 +1,4 @@
-//! Why a command was refused, as it is told.
+//! Why a command was refused, and how that is reported.
 
 ghost use Rattle.std.specs.Prelude.{◌≡◌, IfOk};
 ghost use Rattle.rvm_refusal.specs.declared.refusal.Refusal.TheVariants as refusal;
@@ -6,13 +6,13 @@ ghost use Rattle.rvm_command.specs.Refusals.{IsTold, refused, refused_of_script,
 ghost use Rattle.rvm_elf.specs.Refusals.{refusal_of_file, refusal_of_image};
 
 use rvm_asm::AsmError;
+use rvm_debug::ScriptError;
 use rvm_elf::{ReadError, WriteError};
 use rvm_refusal::{LinkFault, Refusal};
-use rvm_script::ScriptError;
 use std::fmt;
 use std::io::Write;
 
-/// Why a command was refused, and at which line of its text, counted from 1, if at one.
+/// Why a command was refused, and at which line of its text, counted from 1, if it was at one.
 #[derive(Clone, Copy, Debug, PartialEq, Eq)]
 pub struct Refused {
     pub line: Option<usize>,
@@ -47,7 +47,7 @@ impl From<Refusal> for Refused {
     }
 }
 
-/// A write failed.
+/// The refusal of a command one of whose writes failed.
 impl From<LinkFault> for Refused {
     ghost from_gives = { λ _ told. told ≡ refused refusal.LinkFault };
 
@@ -56,7 +56,7 @@ impl From<LinkFault> for Refused {
     }
 }
 
-/// A file has no image.
+/// The refusal of a file that has no image.
 impl From<ReadError> for Refused {
     ghost from_gives = { λ error told. told ≡ refused (refusal_of_file error) };
 
@@ -65,7 +65,7 @@ impl From<ReadError> for Refused {
     }
 }
 
-/// No file can hold an image.
+/// The refusal of an image that no file can hold.
 impl From<WriteError> for Refused {
     ghost from_gives = { λ error told. told ≡ refused (refusal_of_image error) };
 
@@ -74,7 +74,7 @@ impl From<WriteError> for Refused {
     }
 }
 
-/// A text has no assembly, mostly for a line of it.
+/// The refusal of a text that has no assembly, with the line if the fault is in one.
 impl From<AsmError> for Refused {
     ghost from_gives = { λ error told. told ≡ refused_of_text error };
 
@@ -90,7 +90,7 @@ impl From<AsmError> for Refused {
     }
 }
 
-/// A script ended before its end, perhaps at a line of it.
+/// The refusal of a script that was not answered to its end, with the line if one is not in the grammar.
 impl From<ScriptError> for Refused {
     ghost from_gives = { λ error told. told ≡ refused_of_script error };
 
@@ -106,7 +106,7 @@ impl From<ScriptError> for Refused {
     }
 }
 
-/// Tells of a refusal, and answers the status 1. `LinkFault` where it cannot be told.
+/// Writes a refusal to `errors`, in one line, and returns the status 1. `LinkFault` if it cannot be written.
 pub fn tell<E: Write>(refused: Refused, errors: &mut E) -> Result<u8, LinkFault>
     ensures { IfOk result (λ status. (status ≡ 1)
         × IsTold refused (E.contents errors.old) (E.contents errors.new)) }

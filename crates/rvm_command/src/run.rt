@@ -3,21 +3,20 @@
 ghost use Rattle.std.specs.Prelude.{◌≡◌, ◌<◌, ◌≤◌, ◌+◌, ◌-◌, ◌%◌, ◌∷◌, ◌++◌, [], OnOk, OnErr, IfOk, IsTrue, drop, length};
 ghost use Rattle.std.specs.Io.KnownBytes.{Appends};
 ghost use Rattle.rvm_mem.specs.Pages.{mark_all};
-ghost use Rattle.rvm_debug.specs.declared.event.BoardEvent.TheVariants.{Drain};
-ghost use Rattle.rvm_debug.specs.Turns.{TakesTurns};
-ghost use Rattle.rvm_debug.specs.WhileFull.{turns_while};
+ghost use Rattle.rvm_board.specs.declared.event.BoardEvent.TheVariants.{Drain};
+ghost use Rattle.rvm_board.specs.Turns.{TakesTurns};
+ghost use Rattle.rvm_board.specs.WhileFull.{turns_while};
 ghost use Rattle.rvm_command.specs.Buffered.{GoesOut};
 ghost use Rattle.rvm_command.specs.Run.{IsAfter, IsPartWay, after, drains, left, offers, ran, run_from};
 ghost use Rattle.rvm_command.specs.Slices.{GoesOn, rest_of_run, status_of, takes_none};
 
 use crate::output_buffer::OutputBuffer;
-use rvm_debug::{DRAIN_EVERY, DRAIN_SIZE, Debugged, Order, Stop, Turns};
+use rvm_board::{DRAIN_EVERY, DRAIN_SIZE, Debugged, Order, Stop, Turns};
 use rvm_mem::Memory;
 use rvm_refusal::LinkFault;
 use std::io::Write;
 
-/// After how many turns at the latest what was taken is written: `run` has no clock, and so many turns
-/// take about a millisecond.
+/// The most turns after which what was taken is written. `run` has no clock; this many turns take about a millisecond.
 const WRITE_EVERY: u32 = 65_536;
 
 /// How a run ended.
@@ -25,21 +24,21 @@ const WRITE_EVERY: u32 = 65_536;
 pub enum Ended {
     /// The guest halted the board with this status.
     HaltedWith(u8),
-    /// As many turns were made as were asked for.
+    /// All turns were made that were asked for.
     StepsSpent,
 }
 
-/// Makes `steps` turns, or turns until the guest halts the board. In turn t the next byte of
-/// `input`, if one is left, comes to the console, or is kept for later where 16 bytes wait; then hart
-/// t modulo the number of harts takes a step. What the guest sent is taken after each 64 turns, when
-/// the board is halted and at the end. A hart that stops at a breakpoint has had its turn.
+/// Makes `steps` turns, or fewer if the guest halts the board. Returns how the run ended. In turn t the next byte of
+/// `input`, if one is left, comes to the console, or is kept for later if 16 bytes wait there; then hart t modulo the
+/// number of harts takes a step. What the guest sent is taken after every 64 turns, when the board is halted, and at
+/// the end. A hart that stops at a breakpoint has had its turn.
 ///
-/// What was taken is written in pieces of up to 4096 bytes: if fewer than 256 more would fit, after
-/// each 65,536 turns, when the board is halted and at the end. The writer is not flushed.
+/// What was taken is written in pieces of up to 4096 bytes: if fewer than 256 more would fit, after every 65,536 turns,
+/// when the board is halted, and at the end. The writer is not flushed.
 ///
-/// `LinkFault` if the writer failed, which needs something to write: then the guest is that which some
-/// of the first events of the run left. Of the piece that was written then, any part may have gone
-/// out; the pieces before it were written, and nothing after it.
+/// `LinkFault` if the writer failed, which is possible only if there was something to write. The guest is then as some
+/// of the first events of the run left it. Of the piece whose write failed, any part may have been written; the pieces
+/// before it were written, and nothing after it was.
 pub fn run<M: Memory, W: Write>(
     guest: &mut Debugged<M>,
     steps: u32,
@@ -75,18 +74,18 @@ pub fn run<M: Memory, W: Write>(
     Ok(Ended::StepsSpent)
 }
 
-/// Turns after which the run looks after its guest.
+/// Consecutive turns, after which the run drains its guest and offers it input.
 #[derive(Clone, Copy)]
 struct Slice {
-    /// How many were made.
+    /// How many turns were made.
     made: u32,
-    /// The place of the byte of input that is offered next.
+    /// The index of the byte of input that is offered next.
     next: usize,
     /// The status of the board, if it is halted.
     status: Option<u8>,
 }
 
-/// Offers a byte of input and makes turns, from turn `turn` on, up to the next drain at most.
+/// Offers a byte of input and makes turns, from turn `turn` on, at most up to the next drain.
 #[inline]
 fn make_turns<M: Memory>(
     guest: &mut Debugged<M>,
@@ -115,7 +114,7 @@ fn make_turns<M: Memory>(
     }
 }
 
-/// The status of a board that turns left halted.
+/// The status of the board, if the turns stopped since it is halted.
 #[inline]
 fn status_of(stop: Option<Stop>) -> Option<u8>
     ensures { result ≡ status_of stop }
@@ -126,7 +125,8 @@ fn status_of(stop: Option<Stop>) -> Option<u8>
     }
 }
 
-/// Makes turns. Where there is more input they end once a byte of it can come.
+/// Makes at most `count` turns, the first by hart `first`. If there is more input, they end once the console has room
+/// for a byte of it.
 #[inline]
 fn take_turns<M: Memory>(guest: &mut Debugged<M>, is_more: bool, first: u32, count: u32) -> Turns
     requires { first < length guest.old.guest.board.harts }
@@ -140,8 +140,8 @@ fn take_turns<M: Memory>(guest: &mut Debugged<M>, is_more: bool, first: u32, cou
     }
 }
 
-/// Offers the guest the byte of `input` at `next`, if there is one, and answers the place of the
-/// byte to offer after that: the same where there was no room.
+/// Offers the guest the byte of `input` at index `next`, if there is one. Returns the index of the byte to offer after
+/// that: the same if the console had no room.
 #[inline(always)]
 fn feed<M: Memory>(guest: &mut Debugged<M>, input: &[u8], next: usize) -> usize
     requires { next ≤ length input.now }
@@ -158,7 +158,7 @@ fn feed<M: Memory>(guest: &mut Debugged<M>, input: &[u8], next: usize) -> usize
     }
 }
 
-/// Takes all that the guest sent, if there is any, and writes all that is held if that `is_due`.
+/// Takes all that the guest sent, if it sent anything, and writes all that is held if that `is_due`.
 #[inline(always)]
 fn drain<M: Memory, W: Write>(
     guest: &mut Debugged<M>,
@@ -204,7 +204,7 @@ fn drain_and_write<M: Memory, W: Write>(
     Ok(())
 }
 
-/// Takes all that the guest sent. Writes what is held each time that the buffer is full.
+/// Takes all that the guest sent. Writes what is held whenever the buffer has no room for another drain.
 fn drain_all<M: Memory, W: Write>(
     guest: &mut Debugged<M>,
     buffer: &mut OutputBuffer,

@@ -1,4 +1,4 @@
-//! `rvmove run`: from the bytes of an image to what the guest sends and how it ends.
+//! `rvmove run`: runs the guest of an image, and reports how that ended.
 
 ghost use Rattle.std.specs.Prelude.{◌≡◌, ◌*◌, ◌++◌, Result, IfOk, IsErr, codes, false};
 ghost use Rattle.std.specs.Io.KnownBytes.{Appends};
@@ -19,10 +19,10 @@ use std::alloc::Global;
 use std::fmt;
 use std::io::Write;
 
-/// The status of a verdict on a guest that halted with another status than 0.
+/// The verdict on a guest that halted with another status than 0.
 const FAILED: u8 = 3;
 
-/// The status where all steps were spent, of a verdict and in place of the guest's own.
+/// The verdict if all steps were spent, and the status in place of the guest's own then.
 const SPENT: u8 = 4;
 
 /// `halted S`, or `steps spent`.
@@ -40,12 +40,13 @@ impl fmt::Display for Ended {
     }
 }
 
-/// Runs the guest whose file `image` is, and answers the status: what `arguments.status` says of how the run
-/// ended, or 1 where it was refused. What the guest sends goes to `output`; `errors` gets one line, how the
-/// run ended or the refusal: that of the file, `OutsideRam` for an image that does not lie in RAM,
-/// `OutOfMemory`, which leaves `output` as it was, and `LinkFault` where a write to `output` failed, of which
-/// a part may have gone out. Whether a writer fails is not said. `LinkFault` as the answer: a write to
-/// `errors` failed.
+/// Runs the guest of the file `image`, whose console gets `input`. What the guest sends goes to `output`.
+///
+/// Returns the status: what `arguments.status` asks to be told of how the run ended, or 1 if it was refused. `errors`
+/// gets one line: how the run ended, or the refusal. The fault of the file, `OutsideRam` if the image does not lie in
+/// RAM, and `OutOfMemory` leave `output` unchanged; `LinkFault` says that a write to `output` failed, and a part of
+/// what the guest sent may have been written. No clause says when a writer fails. The error `LinkFault` says that a
+/// write to `errors` failed.
 pub fn run_command<M: PagedMemory + Drop, O: Write, E: Write>(
     alloc: Global,
     arguments: &RunArguments,
@@ -71,7 +72,8 @@ pub fn run_command<M: PagedMemory + Drop, O: Write, E: Write>(
     }
 }
 
-/// Tells how a run ended, and answers the status that was asked for. `LinkFault` where it cannot be told.
+/// Writes to `errors` how a run ended, in one line, and returns the status that was asked for. `LinkFault` if it cannot
+/// be written.
 pub fn tell_run_end<E: Write>(
     ended: Ended,
     asked: StatusOf,
@@ -86,7 +88,7 @@ pub fn tell_run_end<E: Write>(
     }
 }
 
-/// The status of a run that ended so, by what it was asked to tell.
+/// The status of a run that ended so, by what the status was asked to tell.
 fn run_status(asked: StatusOf, ended: Ended) -> u8
     ensures { result ≡ run_status asked ended }
 {
@@ -97,7 +99,7 @@ fn run_status(asked: StatusOf, ended: Ended) -> u8
     }
 }
 
-/// 0 if the guest halted with 0, and else why the run is no success.
+/// The verdict on a run: 0 if the guest halted with 0, 3 if with another status, 4 if all steps were spent.
 fn verdict(ended: Ended) -> u8
     ensures { result ≡ run_status tells.Verdict ended }
 {
@@ -108,7 +110,7 @@ fn verdict(ended: Ended) -> u8
     }
 }
 
-/// The status with which the guest halted, if it did.
+/// The status with which the guest halted; 4 if all steps were spent.
 fn guest_status(ended: Ended) -> u8
     ensures { result ≡ run_status tells.Guest ended }
 {
@@ -118,7 +120,7 @@ fn guest_status(ended: Ended) -> u8
     }
 }
 
-/// The run itself.
+/// Loads the guest and runs it. Returns how the run ended, or why it was refused.
 fn run_image<M: PagedMemory + Drop, O: Write>(
     alloc: Global,
     arguments: &RunArguments,

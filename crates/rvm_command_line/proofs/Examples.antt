@@ -52,3 +52,16 @@ a_move_is_judged = refl
 pub an_audit_is_not_judged : verdict (codes "rvmove" ∷ codes "audit" ∷ codes "a" ∷ []) ≡ Some None
 unfolding walked
 an_audit_is_not_judged = refl
+
+-- the words of a host
+abbrev host_words : (more : List Text) → List Text
+host_words more =
+    codes "rvmove" ∷ codes "host" ∷ codes "A" ∷ codes "--peers" ∷ codes "p" ∷ codes "--control" ∷ codes "c" ∷ more
+
+pub a_host_is_not_judged_unasked : verdict (host_words []) ≡ Some (Some (codes "false"))
+unfolding walked
+a_host_is_not_judged_unasked = refl
+
+pub a_host_is_judged : verdict (host_words (codes "--verdict" ∷ [])) ≡ Some (Some (codes "true"))
+unfolding walked
+a_host_is_judged = refl

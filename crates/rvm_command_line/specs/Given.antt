@@ -73,7 +73,7 @@ abbrev pub IsOptionalGuest : List Row → Option GuestArguments → Type 0
 IsOptionalGuest rows None = first_of (codes "image") rows ≡ None
 IsOptionalGuest rows (Some guest) = IsGuest rows guest
 
--- a host by its name, its guest if it has one, where it is reached, and how long it waits
+-- a host by its name, its guest if it has one, where it is reached, how long it waits, and what its status tells
 pub record IsHost (rows : List Row) (host : HostArguments) : Type 0 where
   pub name : first_of (codes "name") rows ≡ Some host.name.now
   pub peers : first_of (codes "peers") rows ≡ Some host.peers.now
@@ -85,6 +85,7 @@ pub record IsHost (rows : List Row) (host : HostArguments) : Type 0 where
   pub patience : IsNumber (first_of (codes "patience") rows) host.patience
   pub rate : IsOptionalNumber (first_of (codes "rate") rows) host.rate
   pub until_halt : IsFlag (one_of (codes "until-halt") rows) host.until_halt
+  pub verdict : IsFlag (one_of (codes "verdict") rows) host.verdict
 
 -- the host that is told something, and the line, if one was given
 pub record IsTell (rows : List Row) (tell : TellArguments) : Type 0 where

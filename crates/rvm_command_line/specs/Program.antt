@@ -71,9 +71,13 @@ with_move command =
     (with_policy (with_rule (with_guest command) (number (codes "steps") (codes "10000") 100000)))
     (number (codes "stream") (codes "1") 3)
 
+-- a command that takes the word by which its status tells how the guest ended
+abbrev pub with_verdict : App → App
+with_verdict command = with_rule command (flag (codes "verdict"))
+
 -- a command that takes the words that say what its status tells
 abbrev pub with_status : App → App
-with_status command = with_rule (with_rule command (flag (codes "verdict"))) (flag (codes "exit-status"))
+with_status command = with_rule (with_verdict command) (flag (codes "exit-status"))
 
 -- the commands
 abbrev pub run : App
@@ -101,7 +105,7 @@ script = with_rule (with_world (new_app (codes "script"))) (needed (codes "scrip
 
 -- the command that moves a guest to another host while it runs
 abbrev pub move : App
-move = with_rule (with_move (new_app (codes "move"))) (flag (codes "verdict"))
+move = with_verdict (with_move (new_app (codes "move")))
 
 -- the command that makes such a move and writes an order of both hosts' journals
 abbrev pub audit : App
@@ -131,7 +135,7 @@ with_name command = with_rule (with_rule command (needed (codes "name"))) (allow
 
 -- the command that runs a host, at which a guest begins if an image is named
 abbrev pub host : App
-host = with_hosting (with_addresses (with_board (with_name (new_app (codes "host")))))
+host = with_verdict (with_hosting (with_addresses (with_board (with_name (new_app (codes "host"))))))
 
 -- the command that tells a host lines
 abbrev pub tell : App

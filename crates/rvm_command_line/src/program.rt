@@ -7,7 +7,7 @@ ghost use Rattle.clap.specs.Walk.{rule_of};
 ghost use Rattle.clap.specs.Words.{kind_of};
 ghost use Rattle.clap.specs.declared.builder.command.Command.TheViews.{out-Command as fields_of};
 ghost use Rattle.clap.specs.declared.error.kind.ErrorKind.TheVariants as kind;
-ghost use Rattle.rvm_command_line.specs.Program.{allowed, asm, audit, bounded, debug, dis, flag, host, move, needed, needed_option, number, option, program, run, script, tell, top, with_addresses, with_board, with_default, with_guest, with_hosting, with_move, with_name, with_policy, with_status, with_world};
+ghost use Rattle.rvm_command_line.specs.Program.{allowed, asm, audit, bounded, debug, dis, flag, host, move, needed, needed_option, number, option, program, run, script, tell, top, with_addresses, with_board, with_default, with_guest, with_hosting, with_move, with_name, with_policy, with_status, with_verdict, with_world};
 
 use clap::{Arg, ArgAction, Command, Error, value_parser};
 use std::alloc::Global;
@@ -106,7 +106,12 @@ FILE has a line for each host of the world, such as `A 127.0.0.1:7001`, in the o
 process; at one of them a guest begins, from an IMAGE. Standard output has what the guest sends while it is
 here; with `--input -`, standard input comes to its console as it is typed. Operators talk to the host by
 `rvmove tell`, at the socket of --control, which has a `/` if it is a path.
-Without --secret all addresses must be of this machine (127.0.0.0/8 or ::1).";
+Without --secret all addresses must be of this machine (127.0.0.0/8 or ::1).
+
+The status:  stopped  halted 0  halted S  did not begin, or standard output failed
+             0        0         0         1
+  --verdict  0        0         3         1
+It is 2 for a fault of the command line.";
 
 /// What stands below the help of `tell`.
 const TELL_HELP: &str = "\
@@ -232,7 +237,7 @@ fn input_argument<'a>(alloc: Global) -> Arg<'a>
         .help("The file whose bytes come to the guest's console")
 }
 
-/// Whether the status tells how a run ended.
+/// Whether the status tells how the guest ended.
 fn verdict_argument<'a>(alloc: Global) -> Arg<'a>
     ensures rule { rule_of result ≡ flag (codes "verdict") }
     ensures local { result.global ≡ false }
@@ -240,7 +245,7 @@ fn verdict_argument<'a>(alloc: Global) -> Arg<'a>
     Arg::new(alloc, "verdict")
         .long("verdict")
         .action(ArgAction::SetTrue)
-        .help("The status tells how the run ended")
+        .help("The status tells how the guest ended")
 }
 
 /// Whether the status is that with which the guest halted.
@@ -572,6 +577,16 @@ fn moving_command<'a>(command: Command<'a>, alloc: Global) -> Result<Command<'a>
     Ok(policy_command(guest, alloc)?.arg(move_stream_argument(alloc))?)
 }
 
+/// A command with the word by which its status tells how the guest ended.
+fn judged_command<'a>(command: Command<'a>, alloc: Global) -> Result<Command<'a>, Error>
+    ensures app { IfOk result (λ c. app_of c ≡ with_verdict (app_of command.entry)) }
+    ensures local { (fields_of command.entry).has_globals ≡ false
+        → IfOk result (λ c. (fields_of c).has_globals ≡ false) }
+    ensures memory { IfErr result (λ e. kind_of e ≡ kind.OutOfMemory) }
+{
+    Ok(command.arg(verdict_argument(alloc))?)
+}
+
 /// A command that runs a guest, with the words that say what its status tells.
 fn status_command<'a>(command: Command<'a>, alloc: Global) -> Result<Command<'a>, Error>
     ensures app { IfOk result (λ c. app_of c ≡ with_status (app_of command.entry)) }
@@ -661,7 +676,7 @@ fn move_command<'a>(alloc: Global) -> Result<Command<'a>, Error>
     let command = Command::new(alloc, "move")
         .about("Moves a guest from one host to another while it runs, and writes what it sends")
         .after_help(MOVE_HELP);
-    Ok(moving_command(command, alloc)?.arg(verdict_argument(alloc))?)
+    judged_command(moving_command(command, alloc)?, alloc)
 }
 
 /// The words that `audit` takes.
@@ -732,7 +747,8 @@ fn host_command<'a>(alloc: Global) -> Result<Command<'a>, Error>
         .about("Runs a host of a world whose hosts are processes, between which a guest moves")
         .after_help(HOST_HELP);
     let host = board_command(named_command(host, alloc)?, alloc)?;
-    hosting_command(addresses_command(host, alloc)?, alloc)
+    let host = hosting_command(addresses_command(host, alloc)?, alloc)?;
+    judged_command(host, alloc)
 }
 
 /// The words that `tell` takes.

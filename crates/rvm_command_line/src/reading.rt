@@ -283,6 +283,7 @@ fn read_host<'a>(host: &ArgMatches<'a>) -> Result<HostArguments<'a>, &'static st
         patience,
         rate,
         until_halt: flag(host, "until-halt"),
+        verdict: flag(host, "verdict"),
     })
 }
 

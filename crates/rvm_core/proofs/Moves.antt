@@ -1,292 +1,270 @@
--- A host's move keeps a number and another host for its other party, and its frames go to a host that is there.
-use Rattle.std.proofs.Common.{◌≡◌, ℕ, ◌-◌, ◌^◌, ◌<◌, ◌==◌, ◌&&◌, Bool, true, false, if◌then◌else◌, refl, nat_lt, nat_le, ◌||◌, List, length, Option, Some, None, sym, ap, subst, arith}
-use Rattle.std.proofs.lemmas.Bool.{ltb-true}
-use Rattle.rvm_codec.proofs.Steps.{both_are}
-use Rattle.rvm_debug.specs.Guest.{Guest, GuestState}
-use Rattle.rvm_debug.specs.declared.event.BoardEvent.{BoardEvent}
-use Rattle.rvm_frame.specs.declared.addressed.Addressed.{Addressed}
+-- Driven moves, by the laws of live migration.
+use Rattle.std.proofs.Common.{◌≡◌, ℕ, suc, ◌+◌, ◌*◌, ◌<◌, ◌≤◌, ◌==◌, nat_lt, Bool, true, false, if◌then◌else◌, List, [], ◌∷◌, ◌++◌, length, Option, Some, None, refl, sym, ap, ◌∙◌, subst, arith, append_assoc}
+use Rattle.std.proofs.lemmas.Bool.{eqb-true, lt-ltb}
+use Rattle.std.proofs.lemmas.Bool.Decides.{nat_tests}
+use Rattle.std.proofs.lemmas.List.{length-append}
+use Rattle.rvm_codec.specs.Numbers.{within}
+use Rattle.rvm_board.specs.declared.event.BoardEvent.{BoardEvent}
+use Rattle.rvm_board.specs.declared.event.BoardEvent.TheVariants.{Step}
+use Rattle.rvm_board.specs.declared.event.BoardReply.{BoardReply}
+use Rattle.rvm_board.specs.Guest.{Guest}
+use Rattle.rvm_guest.proofs.Joined.{length_pages}
+use Rattle.rvm_guest.proofs.Staying.{valid_is}
+use Rattle.rvm_guest.proofs.TheGuest.{board_laws}
 use Rattle.rvm_guest.specs.TheGuest.{board}
-use Rattle.rvm_message.specs.Answers.{BoardMode, BoardOutcome}
-use Rattle.rvm_message.specs.Events.{BoardHostEvent}
-use Rattle.rvm_message.specs.Frames.{BoardFrame, addressed_made}
-use Rattle.rvm_message.specs.declared.reply.HostReply.{HostReply}
-use Rattle.rvm_precopy.specs.Plans.{Plan}
-use Rattle.rvm_protocol.specs.Commands.{Policy, Command, Board, Begin, Copy, Resend, AbortMove, Do, Came, is_allowed}
-use Rattle.rvm_protocol.specs.Frames.{Offer, Accept, Refuse, Page, RoundEnd, Lost, State, Part, Ready, Go, Started, Abort, is_compact, made_as, plain, posted}
-use Rattle.rvm_protocol.specs.Frames as protocol
-use Rattle.rvm_protocol.specs.Host as law
-use Rattle.rvm_protocol.specs.Host.{addressee, is_heard, is_offer_above, is_there, obey_at, partner_then}
-use Rattle.rvm_protocol.specs.Modes.{Empty, Run, Offering, Copying, Stopped, Given, Staging, Held, move_of, says, sends, refuses, ignores}
-use Rattle.rvm_protocol.specs.Obeying.{begin, begin_allowed, begun, copy_last, copy_page, resend_last, sends_last, sends_page}
-use Rattle.rvm_protocol.specs.Pages.{gathered, size}
-use Rattle.rvm_protocol.specs.Receiving.{came, guest_read, of_this_move, offer_above, offered, page_came, part_came, part_kept, pieces_joined, state_came, state_compared}
-use Rattle.rvm_protocol.specs.Replies.{Accepted, BadHost, BadSize, BadState, Declined, EpochsSpent, SeqSpent, Stopping}
-use Rattle.rvm_protocol.specs.Rounds.{Last, Rounds, next_page, stopped, to_copy}
-use Rattle.rvm_protocol.specs.Staging.{Stage, lacks, takes_part, with_part}
-use Rattle.rvm_source.specs.Sources.{mode_in}
-use Rattle.rvm_source.specs.declared.phase.Phase.{Phase}
-use Rattle.rvm_source.specs.declared.phase.Phase.TheVariants as phases
-use Rattle.rvm_core.specs.Bounds.{IsHost, IsMove, KeepsMove}
-use Rattle.rvm_core.specs.Hosts.{PlainHost, Steps, host_of}
-use Rattle.rvm_core.specs.Modes as core
-use Rattle.rvm_core.specs.Modes.{PlainMode, mode_of}
-use Rattle.rvm_core.proofs.Settling.{outcome_of}
+use Rattle.rvm_guest.specs.Pages.{count_of}
+use Rattle.rvm_guest.specs.Valid.{is_valid}
+use Rattle.rvm_message.specs.Answers.{BoardMode}
+use Rattle.rvm_protocol.proofs.DrivenMoveHolds.{declined_law, drive_law}
+use Rattle.rvm_protocol.proofs.OneGuestHolds.{the_law}
+use Rattle.rvm_protocol.specs.Commands.{Begin, Board, Copy, Do, HostEvent, Policy}
+use Rattle.rvm_protocol.specs.DrivenMove.{ADrivenMoveArrives, ATooLargeGuestIsDeclined, Arrives, IsDeclined, arrival_replies, drive, drive_opening, drive_replies, state_frames, state_replies}
+use Rattle.rvm_protocol.specs.Frames.{is_compact}
+use Rattle.rvm_protocol.specs.Host.{obey_at}
+use Rattle.rvm_protocol.specs.Modes.{Run, guest_in}
+use Rattle.rvm_protocol.specs.NeverMoving.{accepted, fold}
+use Rattle.rvm_protocol.specs.OneGuest.{AlwaysOneGuest, OneGuest}
+use Rattle.rvm_protocol.specs.Pages.{listed}
+use Rattle.rvm_protocol.specs.Replies.{Accepted, Answered, BadHost, Begun, Committed, Copied, Finished, NotHere, Noted, Open, PartSent, Paused, Refused, Reply, RoundEnded, StartedHere, StateSent, Stopping, Stored}
+use Rattle.rvm_protocol.specs.Rounds.{page_count}
+use Rattle.rvm_protocol.specs.Told.{Told, at_start, told}
+use Rattle.rvm_protocol.specs.World.{At, Deliver, Event, happened, history, meaning, mode_at, new_world, reply_or, reply_to, run, step}
+use Rattle.rvm_core.specs.Driving.{CanBegin, drive_of}
+use Rattle.rvm_core.specs.Phases.{copies, deliveries, sending, sending_replies}
+use Rattle.rvm_core.specs.NeverMoved.{BoardEntry}
+use Rattle.rvm_core.specs.Worlds.{BoardWorld, IsReached}
+use Rattle.rvm_core.proofs.Drives.{listed_last, listed_length}
+use Rattle.rvm_core.proofs.NeverMoving.{allowed}
 
-abbrev BoardStage : Type 0
-BoardStage = Stage (List ℕ)
+-- A GUEST THAT RUNS IN A WORLD THAT WAS REACHED
 
--- what holds either way
-either : {X : Type 0} (Q : X → Type 0) (b : Bool) (x y : X) → (b ≡ true → Q x) → (b ≡ false → Q y)
-    → Q (if b then x else y)
-either Q true x y f g = f refl
-either Q false x y f g = g refl
+some_is : {X : Type 0} (x y : X) → Some x ≡ Some y → x ≡ y
+some_is x y h = cc
 
-module _ (id count : ℕ) where
-  abbrev There : ℕ → Type 0
-  There x = is_there id count x ≡ true
+fold_valid : (g : Guest) (es : List BoardEvent) → board.valid g ≡ true → board.valid (fold board g es) ≡ true
+unfolding fold
+fold_valid g [] valid = valid
+fold_valid g (e ∷ es) valid = fold_valid (board.next g e) es (board_laws.stays g e valid)
 
-  -- as the law has a mode
-  abbrev Keeps : (partner : ℕ) → BoardMode → Type 0
-  Keeps x (Empty n) = Unit {0}
-  Keeps x (Run n g) = Unit {0}
-  Keeps x (Offering n g p) = IsMove id count x n
-  Keeps x (Copying n r) = IsMove id count x n
-  Keeps x (Stopped n l) = IsMove id count x n
-  Keeps x (Given n kept) = IsMove id count x n
-  Keeps x (Staging n s) = IsMove id count x n
-  Keeps x (Held n g) = IsMove id count x n
+-- a host that answers is the current one
+is_here : (there here paused waits : Bool) (a b : BoardReply)
+    → Answered b ≡ (if there then (if here then (if paused then Refused Paused else Answered a)
+    else (if waits then Refused Paused else Refused NotHere)) else Refused BadHost)
+    → here ≡ true
+is_here there true paused waits a b h = refl
+is_here true false true waits a b h = is_not waits h
+  where
+    is_not : (waits : Bool)
+        → Answered b ≡ (if waits then Refused Paused else Refused NotHere) → false ≡ true
+    is_not true h = cc
+    is_not false h = cc
+is_here true false false true a b h = cc
+is_here true false false false a b h = cc
+is_here false false paused waits a b h = cc
 
-  -- a frame that was made goes to a host that is there
-  abbrev Reaches : {A : Type 0} → (to : ℕ) → Option A → Type 0
-  Reaches to None = Unit {0}
-  Reaches to (Some f) = There to
+answers : (w : BoardWorld) (x e : ℕ) (g : Guest) → nat_lt x w.count ≡ true → mode_at board w x ≡ Run e g
+    → reply_to board w (At x (Board (Step 0))) ≡ Answered (board.answer g (Step 0))
+answers w x e g here is =
+    ap (λ (b : Bool). reply_or board w (Refused BadHost) (if b then Some (x, Do (Board (Step 0))) else None)) here
+    ∙ ap (λ (z : BoardMode). (obey_at board w.version x w.count (Board (Step 0)) z).reply) is
 
-  -- after an event
-  abbrev Stays : BoardHostEvent → (partner : ℕ) → BoardOutcome → Type 0
-  Stays e x o = Keeps (partner_then e o.reply x) o.next × Reaches (addressee e (partner_then e o.reply x)) o.made
+one_runs : (t : Told Guest) (w : BoardWorld) (past : List BoardEntry) (x e : ℕ) (g : Guest) → OneGuest board t w past
+    → x < w.count → mode_at board w x ≡ Run e g → g ≡ fold board t.guest (accepted past)
+one_runs t w past x e g one here is =
+    let now = told board t past in
+    let current : x ≡ now.current =
+    eqb-true x now.current
+    (is_here (nat_lt x w.count) (x == now.current) now.paused (now.waiting x) (board.answer now.guest (Step 0))
+    (board.answer g (Step 0))
+    (sym (answers w x e g (lt-ltb x w.count here) is) ∙ one.replies x (Step 0)))
+    in
+    some_is g (fold board t.guest (accepted past))
+    (ap guest_in (sym is) ∙ ap (λ z. guest_in (mode_at board w z)) current ∙ one.board)
 
-  -- COMMANDS
+pub runs_valid : (w : BoardWorld) (x e : ℕ) (g : Guest) → IsReached w → x < w.count → mode_at board w x ≡ Run e g
+    → board.valid g ≡ true
+unfolding AlwaysOneGuest
+runs_valid w x e g r here is =
+    let valid = allowed r.start r.valid in
+    let w0 = new_world board w.version 0 r.start w.count r.limits in
+    let past = history board w0 r.before in
+    let one = the_law board board_laws r.start w.version 0 w.count r.limits r.before valid in
+    let same =
+    one_runs (at_start 0 r.start) w past x e g (subst (λ z. OneGuest board (at_start 0 r.start) z past) (sym r.reached) one)
+    here is
+    in
+    subst (λ z. board.valid z ≡ true) (sym same) (fold_valid r.start (accepted past) valid)
 
-  module _ (x : ℕ) where
-    abbrev Obeys : Command BoardEvent → BoardOutcome → Type 0
-    Obeys c = Stays (Do c) x
+valid_board : (g : Guest) → board.valid g ≡ true → is_valid g ≡ true
+unfolding board
+valid_board g valid = valid
 
-    copied_stays : (n : ℕ) (r : Rounds Guest) (q : Option ℕ) → IsMove id count x n
-        → Obeys Copy (copy_page board n r q)
-    copied_stays n r (Some p) ok =
-        either (Obeys Copy) (nat_le (2 ^ 32 - 1) r.copies) (refuses SeqSpent (Copying n r)) (sends_page board n r p)
-        (λ _. (ok, tt)) (λ _. (ok, ok.1))
-    copied_stays n r None ok = (ok, ok.1)
+page_count_is : (g : Guest) → page_count board g ≡ count_of g
+unfolding board
+page_count_is g = length_pages (count_of g) g.board.shared.bytes
 
-    last_stays : (v n : ℕ) (l : Last Guest) (q : Option ℕ) → IsMove id count x n
-        → Obeys Copy (copy_last board v n l q)
-    last_stays v n l (Some p) ok =
-        either (Obeys Copy) (nat_le (2 ^ 32 - 1) l.copies) (refuses SeqSpent (Stopped n l)) (sends_last board n l p)
-        (λ _. (ok, tt)) (λ _. (ok, ok.1))
-    last_stays v n l None ok = either (Obeys Copy) (is_compact v) _ _ (λ _. (ok, ok.1)) (λ _. (ok, ok.1))
+between : (n : ℕ) → within 1 4096 n ≡ true → (0 < n) × (n ≤ 4096)
+between n h = (grind (arith, nat_tests, h), grind (arith, nat_tests, h))
 
-    resent_stays : (v n : ℕ) (l : Last Guest) (q : Option ℕ) → IsMove id count x n
-        → Obeys Resend (resend_last board v n l q)
-    resent_stays v n l (Some p) ok = (ok, tt)
-    resent_stays v n l None ok = either (Obeys Resend) (is_compact v) _ _ (λ _. (ok, ok.1)) (λ _. (ok, ok.1))
+pub has_pages : (g : Guest) → board.valid g ≡ true → (0 < page_count board g) × (page_count board g ≤ 4096)
+has_pages g valid =
+    subst (λ n. (0 < n) × (n ≤ 4096)) (sym (page_count_is g))
+    (between (count_of g) (valid_is g (valid_board g valid)).count)
 
-    begin_stays : (v to : ℕ) (p : Policy) (n : ℕ) (g : Guest)
-        → Obeys (Begin to p) (obey_at board v id count (Begin to p) (Run n g))
-    begin_stays v to p n g =
-        let e = Begin to p in
-        either (Obeys e) (is_there id count to) (begin board p (Run n g)) (refuses BadHost (Run n g))
-        (λ there. either (Obeys e) (is_allowed p) (begin_allowed board p n g) (refuses BadSize (Run n g))
-        (λ _. either (Obeys e) (n == 2 ^ 64 - 1) (refuses EpochsSpent (Run n g)) (begun board p n g)
-        (λ _. (tt, tt)) (λ _. ((omega arith, there), there)))
-        (λ _. (tt, tt)))
-        (λ _. (tt, tt))
+-- THE LAWS
 
-    obey_stays : (v : ℕ) (c : Command BoardEvent) (mode : BoardMode) → Keeps x mode
-        → Obeys c (obey_at board v id count c mode)
-    obey_stays v (Board e) (Run n g) ok = (tt, tt)
-    obey_stays v (Begin to p) (Run n g) ok = begin_stays v to p n g
-    obey_stays v Copy (Copying n r) ok =
-        either (Obeys Copy) r.stop (says Stopping (Stopped n (stopped board r)))
-        (copy_page board n r (next_page board r)) (λ _. (ok, tt)) (λ _. copied_stays n r (next_page board r) ok)
-    obey_stays v Copy (Stopped n l) ok = last_stays v n l (to_copy board l) ok
-    obey_stays v Resend (Offering n g p) ok = (ok, ok.1)
-    obey_stays v Resend (Stopped n l) ok = resent_stays v n l (to_copy board l) ok
-    obey_stays v Resend (Given n kept) ok = (ok, ok.1)
-    obey_stays v Resend (Held n g) ok = (ok, ok.1)
-    obey_stays v AbortMove (Offering n g p) ok = (tt, ok.1)
-    obey_stays v AbortMove (Copying n r) ok = (tt, ok.1)
-    obey_stays v AbortMove (Stopped n l) ok = (tt, ok.1)
-    obey_stays v c mode ok = (ok, tt)
+run_limits : (events : List (Event BoardEvent)) (w : BoardWorld) → (run board w events).limits ≡ w.limits
+unfolding run
+run_limits [] w = refl
+run_limits (e ∷ events) w = run_limits events (step board w e) ∙ kept (meaning board w e)
+  where
+    kept : (q : Option (ℕ × HostEvent (List ℕ) BoardEvent (List ℕ))) → (happened board w q).limits ≡ w.limits
+    kept None = refl
+    kept (Some y) = refl
 
-  -- FRAMES
+limits_are : (w : BoardWorld) (r : IsReached w) → w.limits ≡ r.limits
+limits_are w r =
+    ap (λ (z : BoardWorld). z.limits) r.reached
+    ∙ run_limits r.before (new_world board w.version 0 r.start w.count r.limits)
 
-  module _ (x y : ℕ) (there : There y) (h : BoardFrame) where
-    abbrev Hears : BoardOutcome → Type 0
-    Hears = Stays (Came y h) x
+pub arrives : (w : BoardWorld) (from to : ℕ) (p : Policy) (e : ℕ) (g : Guest) → IsReached w
+    → CanBegin w from to p e g → page_count board g ≤ w.limits to → Arrives board w from to e g (drive_of w from to p g)
+unfolding ADrivenMoveArrives
+arrives w from to p e g r can fits =
+    let w0 = new_world board w.version 0 r.start w.count r.limits in
+    let pages = has_pages g (runs_valid w from e g r can.here can.runs) in
+    let most = pages.1 in
+    subst (λ z. Arrives board z from to e g
+    (drive from to p (length z.sent) (page_count board g) (state_frames board w.version g)))
+    (sym r.reached)
+    (drive_law board board_laws r.start g w.version 0 w.count r.limits r.before from to e p (allowed r.start r.valid)
+    (ap (λ z. mode_at board z from) (sym r.reached) ∙ can.runs) can.number can.allowed can.here can.there
+    (subst (λ z. page_count board g ≤ z to) (limits_are w r) fits) pages.0 (omega (arith, most)))
 
-    equal_stays : (n k : ℕ) (o : BoardOutcome) (mode : BoardMode) → Keeps x mode → Hears o
-        → Hears (of_this_move board n k o mode)
-    equal_stays n k o mode ok so = either Hears (n == k) o (ignores mode) (λ _. so) (λ _. (ok, tt))
+pub declines : (w : BoardWorld) (from to : ℕ) (p : Policy) (e : ℕ) (g : Guest) → IsReached w
+    → CanBegin w from to p e g → w.limits to < page_count board g
+    → IsDeclined board w from to e g (drive_opening from to p (length w.sent))
+unfolding ATooLargeGuestIsDeclined
+declines w from to p e g r can large =
+    let w0 = new_world board w.version 0 r.start w.count r.limits in
+    subst (λ z. IsDeclined board z from to e g (drive_opening from to p (length z.sent))) (sym r.reached)
+    (declined_law board board_laws r.start g w.version 0 w.count r.limits r.before from to e p (allowed r.start r.valid)
+    (ap (λ z. mode_at board z from) (sym r.reached) ∙ can.runs) can.number can.allowed can.here can.there
+    (subst (λ z. z to < page_count board g) (limits_are w r) large))
 
-    above_stays : (limit seen k a b : ℕ) (mode : BoardMode) → Keeps x mode
-        → Hears (offer_above board seen limit k a b mode)
-    above_stays limit seen k a b mode ok =
-        either Hears (nat_lt seen k) (offered board limit k a b mode) (ignores mode)
-        (λ e. either Hears (nat_lt limit a) (sends (Declined limit) (Refuse k limit) mode)
-        (sends Accepted (Accept k) (Staging k _)) (λ _. (ok, there))
-        (λ _. let above : seen < k = ltb-true seen k e in ((omega (arith, above), there), there)))
-        (λ _. (ok, tt))
+-- a state takes a frame at least, and a reply for each
+pub some_frame : (version : ℕ) (g : Guest) → 0 < state_frames board version g
+some_frame version g = either (is_compact version)
+  where
+    either : (b : Bool)
+        → 0 < (if b then length (board.cut (listed suc 0 (page_count board g)) (board.body g)) else 1)
+    either true = board_laws.some_piece (listed suc 0 (page_count board g)) (board.body g)
+    either false = omega arith
 
-    read_stays : (n : ℕ) (old : BoardStage) (q : Option Guest) → IsMove id count x n
-        → Hears (guest_read board n old q)
-    read_stays n old None ok = (ok, tt)
-    read_stays n old (Some g) ok = (ok, there)
+pub state_length : (version : ℕ) (g : Guest)
+    → length (state_replies {A = BoardReply} version (state_frames board version g)) ≡ state_frames board version g
+state_length version g =
+    either (is_compact version) (length (board.cut (listed suc 0 (page_count board g)) (board.body g)))
+  where
+    either : (b : Bool) (n : ℕ)
+        → length (if b then listed {V = Reply BoardReply} (λ i. PartSent i (if b then n else 1)) 0 (if b then n else 1)
+        else StateSent ∷ []) ≡ (if b then n else 1)
+    either true n = listed_length (λ i. PartSent i n) 0 n
+    either false n = refl
 
-    state_stays : (n : ℕ) (old s : BoardStage) (numbers body : List ℕ) → IsMove id count x n
-        → Hears (state_came board n old s numbers body)
-    state_stays n old s numbers body ok =
-        let made = board.build s.processors body s.pages in
-        either Hears (length numbers == length s.pages) (state_compared board n old s numbers body)
-        (refuses BadState (Staging n old))
-        (λ _. either Hears (nat_lt 0 (size (lacks s numbers) (length s.pages))) _ (guest_read board n old made)
-        (λ _. (ok, there)) (λ _. read_stays n old made ok))
-        (λ _. (ok, tt))
+-- THE EVENTS AND THEIR REPLIES, IN TWO PARTS
 
-    joined_stays : (n : ℕ) (old s : BoardStage) (q : Option (List ℕ × List ℕ)) → IsMove id count x n
-        → Hears (pieces_joined board n old s q)
-    joined_stays n old s None ok = (ok, tt)
-    joined_stays n old s (Some z) ok = state_stays n old s z.0 z.1 ok
+regroup : {X : Type 0} (o a b e f h : List X) (c d1 d2 : X)
+    → o ++ a ++ c ∷ [] ++ b ++ d1 ∷ d2 ∷ [] ++ e ++ f ++ h
+    ≡ o ++ ((a ++ c ∷ []) ++ ((b ++ d1 ∷ []) ++ (d2 ∷ (e ++ (f ++ h)))))
+regroup o a b e f h c d1 d2 = simp append_assoc
 
-    kept_stays : (n : ℕ) (old s : BoardStage) (part parts : ℕ) (q : Option (List (List ℕ))) → IsMove id count x n
-        → Hears (part_kept board n old s part parts q)
-    kept_stays n old s part parts None ok = (ok, tt)
-    kept_stays n old s part parts (Some pieces) ok = joined_stays n old s (board.join pieces) ok
+last_three : (x y n : ℕ) → y ≡ x + n
+    → listed {V = Event BoardEvent} (λ p. Deliver (x + p)) 0 n ++ Deliver y ∷ Deliver (y + 1) ∷ Deliver (y + 2) ∷ []
+    ≡ deliveries x (n + 3)
+last_three x y n is =
+    let f : ℕ → Event BoardEvent = λ p. Deliver (x + p) in
+    let three : suc (suc (suc n)) ≡ n + 3 = omega arith in
+    let e0 : x + (0 + n) ≡ y = omega (arith, is) in
+    let e1 : x + (0 + suc n) ≡ y + 1 = omega (arith, is) in
+    let e2 : x + (0 + suc (suc n)) ≡ y + 2 = omega (arith, is) in
+    let all : deliveries x (n + 3) ≡ listed f 0 n ++ Deliver y ∷ [] ++ Deliver (y + 1) ∷ [] ++ Deliver (y + 2) ∷ [] =
+    ap (listed f 0) (sym three) ∙ listed_last f 0 (suc (suc n))
+    ∙ ap (λ z. z ++ Deliver (x + (0 + suc (suc n))) ∷ []) (listed_last f 0 (suc n)
+    ∙ ap (λ z. z ++ Deliver (x + (0 + suc n)) ∷ []) (listed_last f 0 n))
+    ∙ (λ j. listed f 0 n ++ Deliver (e0 j) ∷ [] ++ Deliver (e1 j) ∷ [] ++ Deliver (e2 j) ∷ [])
+    in
+    sym (all ∙ append_assoc (listed f 0 n ++ Deliver y ∷ []) (Deliver (y + 1) ∷ []) (Deliver (y + 2) ∷ [])
+    ∙ append_assoc (listed f 0 n) (Deliver y ∷ []) (Deliver (y + 1) ∷ Deliver (y + 2) ∷ []))
 
-    part_stays : (n : ℕ) (s : BoardStage) (stamp part parts : ℕ) (bytes : List ℕ) → IsMove id count x n
-        → Hears (part_came board n s stamp part parts bytes)
-    part_stays n s stamp part parts bytes ok =
-        let t = with_part s stamp part parts bytes in
-        let pieces = gathered t.pieces 0 parts in
-        either Hears (takes_part s stamp part parts) (part_kept board n s t part parts pieces) (ignores (Staging n s))
-        (λ _. kept_stays n s t part parts pieces ok) (λ _. (ok, tt))
+ends_of : (k n s : ℕ)
+    → listed {V = Event BoardEvent} (λ i. Deliver (k + 3 + n + i)) 0 s
+    ++ Deliver (k + 3 + n + s) ∷ Deliver (k + 4 + n + s) ∷ Deliver (k + 5 + n + s) ∷ []
+    ≡ deliveries (k + 2 + n + 1) (s + 3)
+ends_of k n s =
+    let x : k + 3 + n ≡ k + 2 + n + 1 = omega arith in
+    let y1 : k + 4 + n + s ≡ k + 3 + n + s + 1 = omega arith in
+    let y2 : k + 5 + n + s ≡ k + 3 + n + s + 2 = omega arith in
+    (λ j. listed {V = Event BoardEvent} (λ i. Deliver (k + 3 + n + i)) 0 s
+    ++ Deliver (k + 3 + n + s) ∷ Deliver (y1 j) ∷ Deliver (y2 j) ∷ [])
+    ∙ last_three (k + 3 + n) (k + 3 + n + s) s refl ∙ ap (λ z. deliveries z (s + 3)) x
 
-    came_stays : (limit : ℕ) (f : BoardFrame) (mode : BoardMode) → Keeps x mode
-        → Hears (came board limit f mode)
-    came_stays limit (Offer k a b) (Empty n) ok = above_stays limit n k a b (Empty n) ok
-    came_stays limit (Offer k a b) (Given n kept) ok = above_stays limit n k a b (Given n kept) ok
-    came_stays limit (Offer k a b) (Held n g) ok = above_stays limit n k a b (Held n g) ok
-    came_stays limit (Offer k a b) (Staging n s) ok =
-        either Hears (n == k) (sends Accepted (Accept n) (Staging n s))
-        (offer_above board n limit k a b (Staging n s))
-        (λ _. ((ok.0, there), there)) (λ _. above_stays limit n k a b (Staging n s) ok)
-    came_stays limit (Accept k) (Offering n g p) ok = equal_stays n k _ (Offering n g p) ok (ok, tt)
-    came_stays limit (Refuse k most) (Offering n g p) ok = equal_stays n k _ (Offering n g p) ok (tt, tt)
-    came_stays limit (Page k p number bytes) (Staging n s) ok =
-        equal_stays n k (page_came board n s p number bytes) (Staging n s) ok
-        (either Hears (nat_lt p (length s.pages) && nat_lt (s.have p) number) _ (ignores (Staging n s))
-        (λ _. (ok, tt)) (λ _. (ok, tt)))
-    came_stays limit (RoundEnd k a b c d) (Staging n s) ok = equal_stays n k _ (Staging n s) ok (ok, tt)
-    came_stays limit (State k numbers body) (Staging n s) ok =
-        equal_stays n k _ (Staging n s) ok (state_stays n s s numbers body ok)
-    came_stays limit (State k numbers body) (Held n g) ok = equal_stays n k _ (Held n g) ok (ok, there)
-    came_stays limit (Part k stamp part parts bytes) (Staging n s) ok =
-        equal_stays n k _ (Staging n s) ok (part_stays n s stamp part parts bytes ok)
-    came_stays limit (Part k stamp part parts bytes) (Held n g) ok = equal_stays n k _ (Held n g) ok (ok, there)
-    came_stays limit (Lost k ps) (Stopped n l) ok = equal_stays n k _ (Stopped n l) ok (ok, tt)
-    came_stays limit (Ready k) (Stopped n l) ok = equal_stays n k _ (Stopped n l) ok (ok, there)
-    came_stays limit (Go k) (Held n g) ok = equal_stays n k _ (Held n g) ok (tt, there)
-    came_stays limit (Go k) (Run n g) ok = equal_stays n k _ (Run n g) ok (tt, there)
-    came_stays limit (Started k) (Given n kept) ok = equal_stays n k _ (Given n kept) ok (tt, tt)
-    came_stays limit (Abort k) (Staging n s) ok = equal_stays n k _ (Staging n s) ok (tt, tt)
-    came_stays limit (Abort k) (Held n g) ok = equal_stays n k _ (Held n g) ok (tt, tt)
-    came_stays limit f mode ok = (ok, tt)
+pub drive_is : (from to : ℕ) (p : Policy) (k n s : ℕ)
+    → drive {E = BoardEvent} from to p k n s
+    ≡ At from (Begin to p) ∷ Deliver k ∷ Deliver (k + 1) ∷ sending from (k + 2) n s
+drive_is from to p k n s =
+    let o : List (Event BoardEvent) = At from (Begin to p) ∷ Deliver k ∷ Deliver (k + 1) ∷ [] in
+    let a : List (Event BoardEvent) = listed (λ q. At from Copy) 0 n in
+    let b : List (Event BoardEvent) = listed (λ q. Deliver (k + 2 + q)) 0 n in
+    let e : List (Event BoardEvent) = listed (λ q. At from Copy) 0 s in
+    let f : List (Event BoardEvent) = listed (λ i. Deliver (k + 3 + n + i)) 0 s in
+    let h : List (Event BoardEvent) =
+    Deliver (k + 3 + n + s) ∷ Deliver (k + 4 + n + s) ∷ Deliver (k + 5 + n + s) ∷ []
+    in
+    let one : suc n ≡ n + 1 = omega arith in
+    let here : 0 + n ≡ n = omega arith in
+    let copied : a ++ At from Copy ∷ [] ≡ copies from (n + 1) =
+    sym (listed_last (λ q. At from Copy) 0 n) ∙ ap (copies from) one
+    in
+    let came : b ++ Deliver (k + 2 + n) ∷ [] ≡ deliveries (k + 2) (n + 1) =
+    ap (λ z. b ++ Deliver (k + 2 + z) ∷ []) (sym here) ∙ sym (listed_last (λ q. Deliver (k + 2 + q)) 0 n)
+    ∙ ap (deliveries (k + 2)) one
+    in
+    regroup o a b e f h (At from Copy) (Deliver (k + 2 + n)) (At from Copy)
+    ∙ (λ j. o ++ (copied j ++ (came j ++ (At from Copy ∷ (e ++ ends_of k n s j)))))
 
-  -- MODES AS PLAIN VALUES
+pub replies_are : (version e n s : ℕ)
+    → drive_replies {A = BoardReply} version e n s
+    ≡ Begun e ∷ Accepted ∷ Open ∷ sending_replies version e n s
+replies_are version e n s =
+    regroup (Begun e ∷ Accepted ∷ Open ∷ []) (listed (λ p. Copied p (suc p)) 0 n) (listed (λ p. Stored p (suc p)) 0 n)
+    (state_replies version s) (arrival_replies version s) (Committed e ∷ StartedHere ∷ Finished ∷ [])
+    (RoundEnded 1 n 0 0) Noted Stopping
 
-  to_phase : (x n : ℕ) (g : GuestState) (r : Plan) (phase : Phase) → IsMove id count x n
-      → Keeps x (mode_in n g r phase)
-  to_phase x n g r phases.Offering is = is
-  to_phase x n g r phases.Copying is = is
-  to_phase x n g r (phases.Stopped turn) is = is
-
-  of_phase : (x n : ℕ) (g : GuestState) (r : Plan) (phase : Phase) → Keeps x (mode_in n g r phase)
-      → IsMove id count x n
-  of_phase x n g r phases.Offering is = is
-  of_phase x n g r phases.Copying is = is
-  of_phase x n g r (phases.Stopped turn) is = is
-
-  to_law : (x : ℕ) (mode : PlainMode) → KeepsMove id count x mode → Keeps x (mode_of mode)
-  to_law x (core.Empty n) is = tt
-  to_law x (core.Run n g) is = tt
-  to_law x (core.Leaving s) is = to_phase x s.move_number s.guest s.plan s.phase is
-  to_law x (core.Given n kept) is = is
-  to_law x (core.Staging n s) is = is
-  to_law x (core.Held n g) is = is
-
-  of_law : (x : ℕ) (mode : PlainMode) → Keeps x (mode_of mode) → KeepsMove id count x mode
-  of_law x (core.Empty n) is = tt
-  of_law x (core.Run n g) is = tt
-  of_law x (core.Leaving s) is = of_phase x s.move_number s.guest s.plan s.phase is
-  of_law x (core.Given n kept) is = is
-  of_law x (core.Staging n s) is = is
-  of_law x (core.Held n g) is = is
-
--- FRAMES WITH THEIR ADDRESSES
-
-module _ (id count : ℕ) where
-  abbrev pub Goes : Option Addressed → Type 0
-  Goes None = Unit {0}
-  Goes (Some a) = is_there id count a.to ≡ true
-
-  abbrev to_or : Option (protocol.Addressed (List ℕ) (List ℕ)) → ℕ
-  to_or None = 0
-  to_or (Some a) = a.to
-
-  reaches_as : (to v : ℕ) (made : Option BoardFrame) → Reaches id count to made
-      → Reaches id count to (made_as board v made)
-  reaches_as to v None so = tt
-  reaches_as to v (Some f) so = so
-
-  goes : (self to : ℕ) (made : Option BoardFrame) (a : Option Addressed) → addressed_made a ≡ posted self to made
-      → Reaches id count to made → Goes a
-  goes self to made None is so = tt
-  goes self to None (Some a) is so = absurd cc
-  goes self to (Some f) (Some a) is so =
-      subst (λ (z : ℕ). is_there id count z ≡ true) (sym (ap to_or is)) so
-
--- HOSTS
-
-module _ (h : PlainHost) (ok : IsHost h) where
-  law_keeps : Keeps h.id h.count h.partner (mode_of h.mode)
-  law_keeps = to_law h.id h.count h.partner h.mode ok.moves
-
-  stays : (e : BoardHostEvent) → Stays h.id h.count e h.partner (outcome_of h e)
-  stays (Do c) = obey_stays h.id h.count h.partner h.version c (mode_of h.mode) law_keeps
-  stays (Came from f) =
-      let there = is_there h.id h.count from in
-      let offers = is_offer_above (move_of (mode_of h.mode)) (plain board f) in
-      either (Stays h.id h.count (Came from f) h.partner) (is_heard h.id h.count from (plain board f) (host_of h))
-      (came board h.limit (plain board f) (mode_of h.mode)) (ignores (mode_of h.mode))
-      (λ e. came_stays h.id h.count h.partner from (both_are there (from == h.partner || offers) e).0 f h.limit
-      (plain board f) (mode_of h.mode) law_keeps)
-      (λ _. (law_keeps, tt))
-
-  -- it stays a host
-  pub host_stays : (new : PlainHost) (e : BoardHostEvent) (answer : HostReply × Option Addressed)
-      → Steps h e answer new → IsHost new
-  host_stays new e answer does =
-      subst IsHost (sym does.rest) (record {
-        sized = ok.sized;
-        moves = of_law h.id h.count new.partner new.mode
-            (subst (λ (x : law.Host Guest (List ℕ)). Keeps h.id h.count x.partner x.mode) (sym does.next)
-            (stays e).0);
-      })
-
-  -- and a frame of it goes to one that is there
-  pub host_reaches : (new : PlainHost) (e : BoardHostEvent) (answer : HostReply × Option Addressed)
-      → Steps h e answer new → Goes h.id h.count answer.1
-  host_reaches new e answer does =
-      let o = outcome_of h e in
-      let to = addressee e (partner_then e o.reply h.partner) in
-      goes h.id h.count h.id to (made_as board h.version o.made) answer.1 does.made
-      (reaches_as h.id h.count to h.version o.made (stays e).1)
+pub drive_length : (from to : ℕ) (policy : Policy) (k n s : ℕ)
+    → length (drive {E = BoardEvent} from to policy k n s) ≡ 2 * n + 9 + 2 * s
+drive_length from to policy k n s =
+    let a : List (Event BoardEvent) = At from (Begin to policy) ∷ Deliver k ∷ Deliver (k + 1) ∷ [] in
+    let b : List (Event BoardEvent) = listed (λ p. At from Copy) 0 n in
+    let c : List (Event BoardEvent) = At from Copy ∷ [] in
+    let d : List (Event BoardEvent) = listed (λ p. Deliver (k + 2 + p)) 0 n in
+    let e : List (Event BoardEvent) = Deliver (k + 2 + n) ∷ At from Copy ∷ [] in
+    let f : List (Event BoardEvent) = listed (λ i. At from Copy) 0 s in
+    let g : List (Event BoardEvent) = listed (λ i. Deliver (k + 3 + n + i)) 0 s in
+    let h : List (Event BoardEvent) =
+    Deliver (k + 3 + n + s) ∷ Deliver (k + 4 + n + s) ∷ Deliver (k + 5 + n + s) ∷ []
+    in
+    let lb : length b ≡ n = listed_length (λ p. At from Copy) 0 n in
+    let ld : length d ≡ n = listed_length (λ p. Deliver (k + 2 + p)) 0 n in
+    let lf : length f ≡ s = listed_length (λ i. At from Copy) 0 s in
+    let lg : length g ≡ s = listed_length (λ i. Deliver (k + 3 + n + i)) 0 s in
+    let s1 = length-append a b in
+    let s2 = length-append (a ++ b) c in
+    let s3 = length-append (a ++ b ++ c) d in
+    let s4 = length-append (a ++ b ++ c ++ d) e in
+    let s5 = length-append (a ++ b ++ c ++ d ++ e) f in
+    let s6 = length-append (a ++ b ++ c ++ d ++ e ++ f) g in
+    let s7 = length-append (a ++ b ++ c ++ d ++ e ++ f ++ g) h in
+    let all : length (a ++ b ++ c ++ d ++ e ++ f ++ g ++ h) ≡ 2 * n + 9 + 2 * s = omega
+    (arith, lb, ld, lf, lg, s1, s2, s3, s4, s5, s6, s7) in
+    all

@@ -72,7 +72,7 @@ impl Counters {
         }
     }
 
-    /// Counts so many steps that both count. Both wrap at 2^64.
+    /// Counts this many steps that both count. Both wrap at 2^64.
     #[inline(always)]
     pub(crate) fn tick_many(&mut self, steps: u32)
         ensures { self.new ≡ record {

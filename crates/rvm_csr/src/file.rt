@@ -208,7 +208,7 @@ impl CsrFile {
         self.counters.tick(cycle, instret);
     }
 
-    /// Counts so many steps that retired an instruction.
+    /// Counts this many steps that retired an instruction.
     #[inline(always)]
     pub fn tick_many(&mut self, steps: u32)
         ensures { self.new ≡ record self.old {

@@ -1,58 +1,65 @@
--- Known guests: a hart stops once at a breakpoint, and breakpoints stand rising.
-use Rattle.std.proofs.Common.{◌≡◌, ◌*◌, [], ◌∷◌, false, true, map, refl}
-use Rattle.std.specs.List.{range_with_len}
-use Rattle.rvm_hart.specs.Machine.{HartState, Shared}
-use Rattle.rvm_debug.specs.Guest.{Guest, with, without}
-use Rattle.rvm_debug.specs.Events.{after_poke, drains, sets_breakpoint, steps_on, stops}
-use Rattle.rvm_debug.specs.declared.event.BoardRefusal.TheVariants.{OutOfRange, TooManyBreaks}
-use Rattle.rvm_debug.specs.declared.event.BoardReply.TheVariants.{Break, Done, Refused}
+-- Words and lines of scripts, and texts of answers, by the grammar.
+use Rattle.std.proofs.Common.{◌≡◌, [], ◌∷◌, None, Some, codes, replicate, refl}
+use Rattle.hex.specs.Hex.{encode_with}
+use Rattle.rvm_dis.specs.Pieces.{hex_digits}
+use Rattle.rvm_debug.specs.declared.line.Line.TheVariants as line
+use Rattle.rvm_debug.specs.Answers.{output_text, row_text}
+use Rattle.rvm_debug.specs.HexBytes.{bytes_in, hex_of}
+use Rattle.rvm_debug.specs.Lines.{command_of, line_of, numeral}
+use Rattle.rvm_debug.specs.Words.{lines, lines_from, words_from}
 
--- one hart, before the instruction at which a breakpoint is set
-abbrev at_breakpoint : HartState → Shared → Guest
-at_breakpoint h r =
-    record {
-      board = record { harts = record h { pc = 0x80000010 } ∷ []; shared = r };
-      breakpoints = 0x80000010 ∷ [];
-      stopped = false ∷ [];
-    }
+-- numbers are decimal, also with leading zeros, or hexadecimal after 0x with a small x
+leading_zeros_are_allowed : numeral (codes "007") ≡ Some 7
+leading_zeros_are_allowed = refl
 
-a_hart_stops_at_a_breakpoint : (h : HartState) (r : Shared) → (steps_on 0 (at_breakpoint h r)).reply ≡ Break 0x80000010
-a_hart_stops_at_a_breakpoint h r = refl
+hexadecimal_is_behind_0x : numeral (codes "0x1F") ≡ Some 31
+hexadecimal_is_behind_0x = refl
 
-a_stop_changes_nothing_else : (h : HartState) (r : Shared) → (steps_on 0 (at_breakpoint h r)).guest ≡ record (at_breakpoint h r) { stopped = true ∷ [] }
-a_stop_changes_nothing_else h r = refl
+binary_is_none : numeral (codes "0b1") ≡ None
+binary_is_none = refl
 
-a_hart_stops_once : (h : HartState) (r : Shared) → stops 0 (steps_on 0 (at_breakpoint h r)).guest ≡ false
-a_hart_stops_once h r = refl
+-- the last line may lack its line feed
+two_lines : lines (codes "a\nb") ≡ codes "a" ∷ codes "b" ∷ []
+unfolding lines_from
+two_lines = refl
 
-a_breakpoint_stands_at_its_place : with 5 (3 ∷ 9 ∷ []) ≡ 3 ∷ 5 ∷ 9 ∷ []
-a_breakpoint_stands_at_its_place = refl
+an_empty_line_is_one : lines (codes "\na\n") ≡ [] ∷ codes "a" ∷ []
+unfolding lines_from
+an_empty_line_is_one = refl
 
-a_breakpoint_is_cleared : without 5 (3 ∷ 5 ∷ 9 ∷ []) ≡ 3 ∷ 9 ∷ []
-a_breakpoint_is_cleared = refl
+-- a step is one, if its number is not said
+one_step : line_of (codes "step 0") ≡ Some (line.Steps 0 1)
+unfolding line_of words_from command_of
+one_step = refl
 
--- a guest whose 64 breakpoints stand at the first multiples of four
-abbrev full : HartState → Shared → Guest
-full h r =
-    record {
-      board = record { harts = h ∷ []; shared = r };
-      breakpoints = map (λ n. 4 * n) (range_with_len 0 64);
-      stopped = true ∷ [];
-    }
+a_carriage_return_ends_a_line : line_of (codes "step 1 2\r") ≡ Some (line.Steps 1 2)
+unfolding line_of words_from command_of
+a_carriage_return_ends_a_line = refl
 
-a_65th_breakpoint_is_refused : (h : HartState) (r : Shared) → (sets_breakpoint 256 (full h r)).reply ≡ Refused TooManyBreaks
-a_65th_breakpoint_is_refused h r = refl
+no_steps_are_no_line : line_of (codes "step 0 0") ≡ None
+unfolding line_of words_from command_of
+no_steps_are_no_line = refl
 
-one_that_is_set_can_be_set_again : (h : HartState) (r : Shared) → (sets_breakpoint 252 (full h r)).reply ≡ Done
-one_that_is_set_can_be_set_again h r = refl
+a_comment_answers_nothing : line_of (codes "  #step 0") ≡ Some line.Empty
+unfolding line_of words_from
+a_comment_answers_nothing = refl
 
--- a hart whose pc is set from outside stops anew, one with another register set does not
-a_set_pc_stops_anew : (h : HartState) (r : Shared) → (after_poke 0 32 (full h r)).stopped ≡ false ∷ []
-a_set_pc_stops_anew h r = refl
+too_many_words_are_no_line : line_of (codes "drain 1 2") ≡ None
+unfolding line_of words_from command_of
+too_many_words_are_no_line = refl
 
-another_register_does_not : (h : HartState) (r : Shared) → (after_poke 0 31 (full h r)).stopped ≡ true ∷ []
-another_register_does_not h r = refl
+capital_digits_are_hexadecimal : line_of (codes "input 4A") ≡ Some (line.Input (0x4A ∷ []))
+unfolding line_of words_from command_of hex_of bytes_in
+capital_digits_are_hexadecimal = refl
 
--- at most 256 bytes are drained at once
-a_drain_of_257_bytes_is_refused : (h : HartState) (r : Shared) → (drains 257 (full h r)).reply ≡ Refused OutOfRange
-a_drain_of_257_bytes_is_refused h r = refl
+an_odd_number_of_digits_is_none : line_of (codes "input 4A4") ≡ None
+unfolding line_of words_from command_of hex_of bytes_in
+an_odd_number_of_digits_is_none = refl
+
+-- the second row of 18 bytes has two
+the_second_row : row_text 0x80000000 (replicate 18 0xAB) 1 ≡ codes "80000010: abab\n"
+unfolding hex_digits encode_with
+the_second_row = refl
+
+no_bytes_are_told_as_0 : output_text [] ≡ codes "out 0\n"
+no_bytes_are_told_as_0 = refl

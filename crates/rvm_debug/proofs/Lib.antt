@@ -1,12 +1,4 @@
-pub mod Answering
-pub mod Examples
-pub mod Rising
-pub mod Turning
-pub mod Going
+pub mod Reading
 pub mod Running
-pub mod Marking
-pub mod Retirings
-pub mod Waiting
-pub mod Guests
-pub mod Made
-pub mod Restoring
+pub mod Writing
+mod Examples

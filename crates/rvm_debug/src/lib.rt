@@ -1,28 +1,24 @@
-//! The debugged board: a board with breakpoints, the events that a host hands it and its answers, and
-//! all that it keeps but its RAM as one value.
+//! Scripts for a debugged board: lines of text, the events that they make, and the text of the
+//! answers.
 //!
-//! Stands on `rvm_board`, and knows nothing of scripts, files or hosts. No event takes memory.
+//! Stands on `rvm_board` for what events do, on `rvm_text` for numbers and names, and on `rvm_dis`
+//! for the text of a word. It knows nothing of files, processes or hosts. What reads words and lines
+//! and what writes answers is public, for scripts that have lines of more kinds.
 //!
-//! To be read in this order: `view`, `breakpoints`, `event`, `part`, `debugged`, `snapshot`,
-//! `turns`, `while_full`, `retiring`, `laws`.
+//! To be read in this order: `words`, `hex_text`, `command`, `line`, `answers`, `lines`, `script`.
 #![tactic(auto)]
 
-mod breakpoints;
-mod debugged;
-mod event;
-pub mod laws;
-mod part;
-mod retiring;
-mod snapshot;
-mod turns;
-mod view;
-mod while_full;
+mod answers;
+mod command;
+mod hex_text;
+mod line;
+mod lines;
+mod script;
+mod words;
 
-pub use breakpoints::MAX_BREAKPOINTS;
-pub use debugged::Debugged;
-pub use event::{BoardEvent, BoardRefusal, BoardReply};
-pub use part::HartPart;
-pub use retiring::{NO_STEPS, Retired};
-pub use snapshot::Snapshot;
-pub use turns::{DRAIN_EVERY, DRAIN_SIZE, Order, Stop, Turns};
-pub use view::View;
+pub use answers::{InWords, address_of, is_refused, write_reply, write_steps};
+pub use hex_text::HexText;
+pub use line::{Line, one_number, without_return};
+pub use rvm_board::{BoardEvent, BoardRefusal, BoardReply, Debugged, View};
+pub use script::{MAX_SCRIPT_SIZE, ScriptError, read_script, run_script, split_line};
+pub use words::{Words, numeral};

@@ -5,7 +5,7 @@ use Rattle.rvm_dev.specs.declared.register.Register.{Register}
 use Rattle.rvm_dev.specs.declared.register.Register.TheVariants.{Halt, Msip, MtimecmpLow, MtimecmpHigh, MtimeLow, MtimeHigh, Transmit, Receive, Status, InterruptEnable}
 
 -- the address is that of a word in a row of one for each hart,
--- which begins at first and has a word every so many bytes
+-- which begins at first and has a word every this many bytes
 abbrev pub is_word_of : (first stride harts address : ℕ) → Bool
 is_word_of first stride harts address =
     nat_le first address && nat_lt address (first + stride * harts) &&
@@ -15,7 +15,7 @@ is_word_of first stride harts address =
 abbrev pub hart_of : (first stride address : ℕ) → ℕ
 hart_of first stride address = (address - first) / stride
 
--- the device word at an address of a board of so many harts
+-- the device word at an address of a board of this many harts
 unfoldable pub register_at : (harts address : ℕ) → Option Register
 register_at harts a =
     if a == 0x100000 then Some Halt else
@@ -29,7 +29,7 @@ register_at harts a =
     if a == 0x10000008 then Some Status else
     if a == 0x1000000C then Some InterruptEnable else None
 
--- the word, if each hart has one, is that of one of so many harts
+-- the word, if each hart has one, is that of one of this many harts
 abbrev pub IsOfHart : ℕ → Register → Type 0
 IsOfHart harts (Msip h) = h < harts
 IsOfHart harts (MtimecmpLow h) = h < harts

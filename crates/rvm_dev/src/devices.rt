@@ -116,7 +116,7 @@ impl Devices {
         self.mtime = self.mtime.wrapping_add(1);
     }
 
-    /// The time is so many steps later; it wraps at 2^64.
+    /// The time is this many steps later; it wraps at 2^64.
     #[inline(always)]
     pub fn tick_many(&mut self, steps: u32)
         ensures { self.new ≡ record self.old { mtime = (self.old.mtime + steps) % 2 ^ 64 } }

@@ -54,7 +54,7 @@ pub enum Register {
 }
 
 impl Register {
-    /// The device word at an address of a board of so many harts, if there is one.
+    /// The device word at an address of a board of this many harts, if there is one.
     #[tactic(auto, unfolding(crate::specs::Map::register_at))]
     pub fn at(harts: u32, address: u32) -> Option<Register>
         requires { harts ≤ 8 }

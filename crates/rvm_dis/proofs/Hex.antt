@@ -7,7 +7,7 @@ use Rattle.std.proofs.Math.Nat.{pow-suc, pow-zero}
 use Rattle.std.specs.Fmt.{digits, digits_onto, digit_glyph, padded_integral, format_spec, char_count}
 use Rattle.rvm_dis.specs.Pieces.{hex_digits}
 
--- so many digits 0
+-- this many digits 0
 abbrev some_zeros : ℕ → List ℕ
 some_zeros n = replicate n 48
 

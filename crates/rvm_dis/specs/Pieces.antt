@@ -3,7 +3,7 @@ use Rattle.std.specs.Prelude.{ℕ, ℤ, pos, ◌+ℤ◌, ◌/◌, ◌%◌, Bool,
 use Rattle.std.specs.Fmt.{digits, digit_glyph}
 use Rattle.rvm_word.specs.Word.{modulo}
 
--- the last so many hexadecimal digits of a number, in lower case
+-- the last this many hexadecimal digits of a number, in lower case
 unfoldable pub hex_digits : (count n : ℕ) → List ℕ
 hex_digits zero n = []
 hex_digits (suc count) n = hex_digits count (n / 16) ++ digit_glyph false (n % 16) ∷ []

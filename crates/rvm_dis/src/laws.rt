@@ -1,7 +1,7 @@
 //! What holds of the texts.
 
 ghost use Rattle.std.specs.Prelude.{◌≡◌, ◌%◌};
-ghost use Rattle.rvm_line.specs.Values.{Names};
+ghost use Rattle.rvm_asm_line.specs.Values.{Names};
 ghost use Rattle.rvm_dis.specs.Assembles.{Assembles};
 ghost use Rattle.rvm_dis.specs.Disassembly.{text_at};
 

@@ -1,13 +1,15 @@
 //! The disassembler: the text of the instruction that a word is, at an address.
 //!
 //! Stands on the instruction table, the names of registers and the list of refusals, and knows neither boards nor runs.
-//! Its law is told in terms of what a line of assembly means, which no code here uses.
+//! Its laws are told in terms of what the assembler makes of a text, which no code here uses: that the text of a word,
+//! assembled, is the word again, of one word and of a whole text.
 //!
-//! To be read in this order: `shapes`, `rows`, `line`, `laws`.
+//! To be read in this order: `shapes`, `rows`, `line`, `laws`, `reassembly`.
 #![tactic(auto)]
 
 pub mod laws;
 mod line;
+pub mod reassembly;
 mod rows;
 mod shapes;
 

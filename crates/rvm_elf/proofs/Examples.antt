@@ -1,6 +1,6 @@
 -- The definitions computed on small cases, against values worked out by hand from the format.
 use Rattle.std.proofs.Common.{◌≡◌, ℕ, List, [], ◌∷◌, ◌++◌, Ok, Err, false, length, replicate, refl}
-use Rattle.rvm_image.specs.Images.{Piece, piece}
+use Rattle.rvm_asm.specs.Images.{Piece, piece}
 use Rattle.rvm_elf.specs.declared.error.ReadError.TheVariants.{BadMagic, NotRiscV32, TooMany, Truncated}
 use Rattle.rvm_elf.specs.File.{checked, headers_checked, pieces_from, meaning}
 use Rattle.rvm_elf.specs.Load.{fits, pieces_fit, ram_of}
@@ -40,7 +40,7 @@ a_piece_past_the_last_address_does_not_fit : fits 0x80000000 (record { address =
 unfolding pieces_fit
 a_piece_past_the_last_address_does_not_fit = refl
 
--- the 52 bytes of an ELF header that counts so many program headers
+-- the 52 bytes of an ELF header that counts this many program headers
 abbrev header : (class machine count : ℕ) → List ℕ
 header class machine count =
     0x7F ∷ 0x45 ∷ 0x4C ∷ 0x46 ∷ class ∷ 1 ∷ 1 ∷ replicate 9 0 ++ (2 ∷ 0 ∷ machine ∷ 0 ∷ 1 ∷ 0 ∷ 0 ∷ 0 ∷ [])

@@ -1,7 +1,7 @@
 -- One program header more.
 use Rattle.std.proofs.Common.{◌≡◌, ℕ, suc, ◌+◌, ◌-◌, ◌*◌, ◌<◌, ◌≤◌, List, ◌++◌, append-nil, Result, Ok, Err, refl, sym, ap, ◌∙◌, append_assoc, arith}
 use Rattle.std.specs.Option.{option_to_list}
-use Rattle.rvm_image.specs.Images.{Piece}
+use Rattle.rvm_asm.specs.Images.{Piece}
 use Rattle.rvm_elf.specs.declared.error.ReadError.{ReadError}
 use Rattle.rvm_elf.specs.File.{◌>>=◌, header_at, header_checked, headers_checked, piece_of_header, pieces_from}
 

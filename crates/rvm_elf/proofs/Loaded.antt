@@ -9,13 +9,13 @@ use Rattle.rvm_mem.specs.Bytes.{replaced}
 use Rattle.rvm_mem.proofs.Lengths.{length-replaced}
 use Rattle.rvm_mem.proofs.Others.{replaced_nothing}
 use Rattle.rvm_hart.specs.Bus.{ram_base}
-use Rattle.rvm_image.specs.Images.{Piece, size, in_piece, or_else, byte_at}
+use Rattle.rvm_asm.specs.Images.{Piece, size, in_piece, or_else, byte_at}
 use Rattle.rvm_elf.specs.Load.{piece_fits, pieces_fit, ram_of}
 use Rattle.rvm_elf.specs.Placing.{placed, placed_all}
 use Rattle.rvm_elf.proofs.Ranges.{before_replaced, within_replaced, behind_replaced}
 use Rattle.rvm_elf.proofs.Placing.{and_first, and_second}
 
--- a piece lies in RAM of so many bytes
+-- a piece lies in RAM of this many bytes
 pub record Inside (p : Piece) (count : ℕ) : Type 0 where
   pub low : ram_base ≤ p.address
   pub high : p.address + size p ≤ ram_base + count

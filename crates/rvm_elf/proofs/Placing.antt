@@ -6,8 +6,8 @@ use Rattle.rvm_mem.specs.Bytes.{replaced}
 use Rattle.rvm_hart.specs.Machine.{HartState}
 use Rattle.rvm_hart.specs.Bus.{ram_base, in_ram}
 use Rattle.rvm_board.specs.Board.{BoardState}
-use Rattle.rvm_image.specs.declared.image.Segment.{Segment}
-use Rattle.rvm_image.specs.Images.{piece_of, pieces_of}
+use Rattle.rvm_asm.specs.declared.image.Segment.{Segment}
+use Rattle.rvm_asm.specs.Images.{piece_of, pieces_of}
 use Rattle.rvm_elf.specs.Load.{piece_fits, pieces_fit}
 use Rattle.rvm_elf.specs.Placing.{with_ram, placed, placed_all}
 use Rattle.rvm_elf.proofs.Ranges.{replaced_more}

@@ -7,7 +7,7 @@ use Rattle.std.proofs.lemmas.Bool.{ltb-true, leb-true, le-ltb, cases_lt}
 use Rattle.std.proofs.lemmas.List.{take_at, drop_at, drop-drop, length-drop}
 use Rattle.byteorder.specs.Endian.{little_number, little_bytes}
 use Rattle.byteorder.specs.Numbers.{little_number-reads_back, length-bytes_low_first}
-use Rattle.rvm_image.specs.Images.{Piece, size, in_piece, or_else, byte_at}
+use Rattle.rvm_asm.specs.Images.{Piece, size, in_piece, or_else, byte_at}
 use Rattle.rvm_elf.specs.declared.error.ReadError.TheVariants.{NotRiscV32, Truncated, TooMany}
 use Rattle.rvm_elf.specs.declared.layout.ProgramHeader.{ProgramHeader}
 use Rattle.rvm_elf.specs.File.{◌>>=◌, field, header_at, is_riscv32, lacks_headers, header_checked, headers_checked, piece_of_header, pieces_from, checked, meaning, StandsFor, e_entry, e_phoff, e_phnum}

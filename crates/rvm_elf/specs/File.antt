@@ -2,7 +2,7 @@
 use Rattle.std.specs.Prelude.{◌≡◌, ℕ, zero, suc, ◌+◌, ◌-◌, ◌*◌, Bool, false, ◌&&◌, ◌||◌, not, ◌==◌, nat_lt, if◌then◌else◌, List, [], ◌∷◌, ◌++◌, Option, Some, None, Result, Ok, Err, IsOk, length, drop, slice_index, slice_range}
 use Rattle.std.specs.Option.{option_to_list}
 use Rattle.byteorder.specs.Endian.{little_number}
-use Rattle.rvm_image.specs.Images.{Piece, byte_at}
+use Rattle.rvm_asm.specs.Images.{Piece, byte_at}
 use Rattle.rvm_elf.specs.declared.error.ReadError.{ReadError}
 use Rattle.rvm_elf.specs.declared.error.ReadError.TheVariants.{OutOfMemory, BadMagic, NotRiscV32, Truncated, TooMany}
 use Rattle.rvm_elf.specs.declared.layout.ProgramHeader.{ProgramHeader}
@@ -96,12 +96,12 @@ abbrev pub ◌>>=◌ : {A B : Type 0} → Result A ReadError → (A → Result B
 (Ok x) >>= f = f x
 (Err e) >>= f = Err e
 
--- the first fault of so many headers from a place on
+-- the first fault of this many headers from a place on
 unfoldable pub headers_checked : (count at : ℕ) → List ℕ → Result (Unit {0}) ReadError
 headers_checked zero at file = Ok tt
 headers_checked (suc n) at file = header_checked (header_at at file) file >>= λ _. headers_checked n (at + 32) file
 
--- the pieces of so many headers from a place on
+-- the pieces of this many headers from a place on
 unfoldable pub pieces_from : (count at : ℕ) → List ℕ → List Piece
 pieces_from zero at file = []
 pieces_from (suc n) at file = option_to_list (piece_of_header (header_at at file) file) ++ pieces_from n (at + 32) file

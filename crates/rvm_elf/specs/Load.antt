@@ -5,9 +5,9 @@ use Rattle.std.specs.Option.{unwrap_or}
 use Rattle.rvm_hart.specs.Machine.{HartState}
 use Rattle.rvm_hart.specs.Bus.{ram_base}
 use Rattle.rvm_board.specs.Board.{Board}
-use Rattle.rvm_image.specs.Images.{Piece, size, byte_at}
+use Rattle.rvm_asm.specs.Images.{Piece, size, byte_at}
 
--- n bytes from an address on lie in RAM of so many bytes
+-- n bytes from an address on lie in RAM of this many bytes
 abbrev pub is_within : (n address count : ℕ) → Bool
 is_within n a count = nat_le ram_base a && nat_le (a + n) (ram_base + count)
 
@@ -24,7 +24,7 @@ pieces_fit (p ∷ ps) count = piece_fits p count && pieces_fit ps count
 abbrev pub fits : (entry : ℕ) → List Piece → (count : ℕ) → Bool
 fits entry pieces count = entry % 4 == 0 && is_within 1 entry count && pieces_fit pieces count
 
--- so many bytes of RAM: those of the pieces, and zeros elsewhere
+-- this many bytes of RAM: those of the pieces, and zeros elsewhere
 abbrev pub ram_of : (count : ℕ) → List Piece → List ℕ
 ram_of count pieces = map (λ k. unwrap_or (byte_at pieces (ram_base + k)) 0) (range_with_len 0 count)
 

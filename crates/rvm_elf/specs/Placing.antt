@@ -4,7 +4,7 @@ use Rattle.rvm_mem.specs.Bytes.{replaced}
 use Rattle.rvm_hart.specs.Machine.{HartState}
 use Rattle.rvm_hart.specs.Bus.{ram_base}
 use Rattle.rvm_board.specs.Board.{BoardState}
-use Rattle.rvm_image.specs.Images.{Piece}
+use Rattle.rvm_asm.specs.Images.{Piece}
 
 -- the board with other bytes in RAM
 abbrev pub with_ram : List ℕ → BoardState → BoardState

@@ -3,7 +3,7 @@
 use Rattle.std.specs.Prelude.{◌≡◌, ℕ, ◌+◌, ◌*◌, ◌^◌, ◌<◌, ◌≤◌, Bool, true, ◌&&◌, nat_le, nat_lt, List, [], ◌∷◌, ◌++◌, length, filter}
 use Rattle.std.specs.List.{flat_map}
 use Rattle.byteorder.specs.Endian.{little_bytes}
-use Rattle.rvm_image.specs.Images.{Piece, size}
+use Rattle.rvm_asm.specs.Images.{Piece, size}
 
 -- the bytes of all pieces
 unfoldable pub all_bytes : List Piece → List ℕ

@@ -12,7 +12,7 @@ use thiserror::Error;
 /// Why a file has no image.
 #[derive(Clone, Copy, Debug, PartialEq, Eq, Error)]
 pub enum ReadError {
-    /// A growth was refused.
+    /// Memory ran out.
     #[error("out of memory")]
     OutOfMemory,
     /// The file does not begin with the four magic bytes.
@@ -54,7 +54,7 @@ impl From<ReadError> for Refusal {
 /// Why an image has no file.
 #[derive(Clone, Copy, Debug, PartialEq, Eq, Error)]
 pub enum WriteError {
-    /// A growth was refused.
+    /// Memory ran out.
     #[error("out of memory")]
     OutOfMemory,
     /// There are more than 16 segments.

@@ -1,7 +1,7 @@
 //! What holds of every file that is written.
 
 ghost use Rattle.std.specs.Prelude.{◌≡◌, ℕ, List, Ok};
-ghost use Rattle.rvm_image.specs.Images.{Piece};
+ghost use Rattle.rvm_asm.specs.Images.{Piece};
 ghost use Rattle.rvm_elf.specs.File.{meaning, StandsFor};
 ghost use Rattle.rvm_elf.specs.Spelling.{IsWritable, file_of, with_size};
 

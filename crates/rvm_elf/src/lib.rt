@@ -1,6 +1,6 @@
 //! ELF files of RV32 programs, and raw ones, as images; and images loaded into a board.
 //!
-//! Stands on `rvm_image` and `rvm_board`, and knows nothing of text, runs or the operating system's
+//! Stands on `rvm_asm` and `rvm_board`, and knows nothing of text, runs or the operating system's
 //! files.
 //!
 //! To be read in this order: `error`, `layout`, `read`, `raw`, `write`, `loading`, `laws`.

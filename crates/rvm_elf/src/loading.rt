@@ -3,13 +3,13 @@
 ghost use Rattle.std.specs.Prelude.{◌≡◌, ◌+◌, ◌-◌, ◌%◌, ◌^◌, ◌<◌, ◌≤◌, ◌↔◌, true, false, length, map, replicate, IsErr, OnOk, OnErr};
 ghost use Rattle.rvm_mem.specs.Bytes.{replaced};
 ghost use Rattle.rvm_hart.specs.Bus.{in_ram, ram_base};
-ghost use Rattle.rvm_image.specs.Images.{piece_of, pieces_of};
+ghost use Rattle.rvm_asm.specs.Images.{piece_of, pieces_of};
 ghost use Rattle.rvm_elf.specs.Load.{is_within, piece_fits, pieces_fit, fits, at_entry, loaded};
 ghost use Rattle.rvm_elf.specs.Placing.{with_ram, with_harts, IsBlank, placed, placed_all};
 
+use rvm_asm::{Image, Segment};
 use rvm_board::{Board, VIEW_SIZE};
 use rvm_hart::{PC, RAM_BASE};
-use rvm_image::{Image, Segment};
 use rvm_mem::Memory;
 use rvm_refusal::Refusal;
 use thiserror::Error;
@@ -52,7 +52,7 @@ pub fn load<M: Memory>(image: &Image, board: &mut Board<M>) -> Result<(), Outsid
     Ok(())
 }
 
-/// Whether the entry is a multiple of four in RAM of so many bytes, and each segment fits.
+/// Whether the entry is a multiple of four in RAM of this many bytes, and each segment fits.
 fn fits(image: &Image, ram_size: u32) -> bool
     ensures { result ≡ fits image.now.entry (pieces_of image.now.segments.items) ram_size }
 {
@@ -61,7 +61,7 @@ fn fits(image: &Image, ram_size: u32) -> bool
         && segments_fit(&image.segments, ram_size)
 }
 
-/// Whether so many bytes from an address on lie in RAM of so many bytes.
+/// Whether this many bytes from an address on lie in RAM of this many bytes.
 fn is_within(address: u32, count: u64, ram_size: u32) -> bool
     requires { count < 2 ^ 63 + 2 ^ 32 }
     ensures { result ≡ is_within count address ram_size }
@@ -136,7 +136,7 @@ fn write_bytes<M: Memory>(board: &mut Board<M>, address: u32, bytes: &[u8])
     }
 }
 
-/// Writes so many zeros from an address on, at most `VIEW_SIZE` at once.
+/// Writes this many zeros from an address on, at most `VIEW_SIZE` at once.
 fn write_zeros<M: Memory>(board: &mut Board<M>, address: u32, count: usize)
     requires blank { IsBlank board.old }
     requires inside { in_ram count address board.old.plain.shared.bytes ≡ true }

@@ -1,10 +1,10 @@
 //! Images without a header.
 
 ghost use Rattle.std.specs.Prelude.{◌≡◌, ◌∷◌, [], IfOk};
-ghost use Rattle.rvm_image.specs.Images.{piece, pieces_of};
+ghost use Rattle.rvm_asm.specs.Images.{piece, pieces_of};
 
+use rvm_asm::{Image, Segment};
 use rvm_hart::RAM_BASE;
-use rvm_image::{Image, Segment};
 use std::alloc::{AllocError, Global};
 
 /// The image of a program whose bytes stand from the start of RAM on, and which begins there.

@@ -2,7 +2,7 @@
 
 ghost use Rattle.std.specs.Prelude.{◌≡◌, ◌+◌, ◌*◌, ◌++◌, ◌≤◌, ◌<◌, IfOk, OnOk, IfErr, length, option_map, slice_range};
 ghost use Rattle.std.specs.Option.{option_to_list};
-ghost use Rattle.rvm_image.specs.Images.{piece_of, pieces_of};
+ghost use Rattle.rvm_asm.specs.Images.{piece_of, pieces_of};
 ghost use Rattle.rvm_elf.specs.File.{is_elf, is_riscv32, is_loaded, header_checked, headers_checked, piece_of_header, pieces_from, checked, meaning, Refuses, e_phnum, e_phoff};
 
 use crate::error::ReadError;
@@ -11,7 +11,7 @@ use crate::layout::{
     EM_RISCV, ET_EXEC, HEADER_SIZE, MAX_HEADERS, PROGRAM_HEADER_SIZE, PT_LOAD, ProgramHeader,
     header_at, u16_at, u32_at,
 };
-use rvm_image::{Image, Segment};
+use rvm_asm::{Image, Segment};
 use std::alloc::{AllocError, Global};
 
 /// The image of an ELF file: its entry, and for each program header that is loaded and has bytes or
@@ -88,7 +88,7 @@ fn is_riscv32(file: &[u8]) -> bool
         && (u16_at(file, E_PHNUM) == 0 || u16_at(file, E_PHENTSIZE) as usize == PROGRAM_HEADER_SIZE)
 }
 
-/// The first fault of so many program headers from a place on.
+/// The first fault of this many program headers from a place on.
 fn check_headers(file: &[u8], first: usize, count: usize) -> Result<(), ReadError>
     requires { 0 < count → first + 32 * count ≤ length file.now }
     ensures { result ≡ headers_checked count first file.now }
@@ -123,7 +123,7 @@ fn check_header(file: &[u8], header: &ProgramHeader) -> Result<(), ReadError>
     Ok(())
 }
 
-/// The segments of so many program headers from a place on.
+/// The segments of this many program headers from a place on.
 fn segments(
     alloc: Global,
     file: &[u8],

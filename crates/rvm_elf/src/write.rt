@@ -1,14 +1,14 @@
 //! ELF files, written.
 
 ghost use Rattle.std.specs.Prelude.{◌≡◌, ◌+◌, ◌*◌, ◌^◌, ◌<◌, ◌≤◌, ◌++◌, ◌↔◌, true, false, nat_le, if◌then◌else◌, IfOk, length, vec_len, vec_capacity};
-ghost use Rattle.rvm_image.specs.Images.{piece_of, pieces_of};
+ghost use Rattle.rvm_asm.specs.Images.{piece_of, pieces_of};
 ghost use Rattle.rvm_elf.specs.declared.error.WriteError.TheVariants.{TooMany, OutOfReach};
 ghost use Rattle.rvm_elf.specs.Spelling.{all_bytes, is_small, are_small, in_reach, elf_header, program_header, program_headers, file_of};
 
 use crate::error::WriteError;
 use crate::layout::{EM_RISCV, ET_EXEC, HEADER_SIZE, MAX_HEADERS, PROGRAM_HEADER_SIZE, PT_LOAD};
+use rvm_asm::{Image, MAX_BYTES, Segment};
 use rvm_codec::{append_bytes, append_u16s, append_u32s};
-use rvm_image::{Image, MAX_BYTES, Segment};
 use std::alloc::Global;
 
 /// The magic bytes, 32-bit, little-endian, version 1.
@@ -84,7 +84,7 @@ fn is_small(segment: &Segment) -> bool
     segment.bytes.len() as u64 + u64::from(segment.zeros) <= u64::from(u32::MAX)
 }
 
-/// Puts the ELF header of a file with so many program headers after the bytes that are there.
+/// Puts the ELF header of a file with this many program headers after the bytes that are there.
 fn append_elf_header(file: &mut Vec<u8>, entry: u32, count: u16)
     requires { vec_len file.old + 52 ≤ vec_capacity file.old }
     ensures items { file.new.items ≡ file.old.items ++ elf_header entry count }

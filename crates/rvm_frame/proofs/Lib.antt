@@ -7,3 +7,4 @@ pub mod Parts
 pub mod Streams
 pub mod Gather
 pub mod Examples
+pub mod Exactly

@@ -9,3 +9,4 @@ pub mod Unfinished
 pub mod Reader
 pub mod Stream
 pub mod Keeping
+pub mod Spelled

@@ -1,11 +1,11 @@
-//! The frames by which two hosts speak during a move, as bytes: one spelling a frame, and a reader
-//! that takes a stream in whatever pieces it comes.
+//! The frames by which two hosts speak during a move, as bytes: one spelling a frame, whether a frame has one, and a
+//! reader that takes a stream in whatever pieces it comes.
 //!
 //! Stands on `rvm_codec` and the numbered refusals, and knows nothing of guests, moves or hosts:
 //! what a frame means is told above.
 //!
 //! To be read in this order: `items`, `page`, `part`, `frame`, `addressed`, `kind`, `fault`, `body`, `read`,
-//! `fields`, `layout`, `write`, `unfinished`, `reader`, `laws`.
+//! `fields`, `layout`, `write`, `spelling_limits`, `spelling`, `unfinished`, `reader`, `laws`.
 #![tactic(auto)]
 
 mod addressed;
@@ -21,6 +21,8 @@ mod page;
 mod part;
 mod read;
 mod reader;
+mod spelling;
+mod spelling_limits;
 mod unfinished;
 mod write;
 
@@ -33,4 +35,5 @@ pub use page::PageBytes;
 pub use part::PagePart;
 pub use read::read_frame;
 pub use reader::FrameReader;
+pub use spelling::has_spelling;
 pub use write::{append_frame, frame_bytes, frame_len, write_frame};

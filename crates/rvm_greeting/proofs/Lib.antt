@@ -1,2 +1,4 @@
 pub mod Pieces
 pub mod Examples
+mod Naming
+mod PeerExamples

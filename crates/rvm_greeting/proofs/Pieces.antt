@@ -9,7 +9,7 @@ use Rattle.rvm_greeting.specs.Facts.{facts_bytes}
 use Rattle.rvm_greeting.specs.Greetings.{AreGreeted}
 use Rattle.rvm_greeting.specs.Hmac.{zero_padded}
 use Rattle.rvm_greeting.specs.Openings.{answers, magic, opening_bytes, other_role, proof_by}
-use Rattle.rvm_record.proofs.Pieces.{both_added, three_added, three_taken}
+use Rattle.rvm_link.proofs.Pieces.{both_added, three_added, three_taken}
 
 -- a list of three
 three_of : (xs : List ℕ) → length xs ≡ 3

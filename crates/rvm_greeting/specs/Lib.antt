@@ -2,3 +2,4 @@ pub mod Hmac
 pub mod Openings
 pub mod Facts
 pub mod Greetings
+pub mod Peers

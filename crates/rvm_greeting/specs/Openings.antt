@@ -1,4 +1,4 @@
--- What each end of a connection says first, and how it shows that it knows the secret.
+-- What each end of a connection says first, and how it proves that it knows the secret.
 use Rattle.std.specs.Prelude.{ℕ, ◌==◌, ◌&&◌, Bool, List, [], ◌∷◌, ◌++◌}
 use Rattle.rvm_greeting.specs.declared.opening.Opening.{Opening}
 use Rattle.rvm_greeting.specs.declared.opening.Role.{Role}
@@ -9,15 +9,15 @@ use Rattle.rvm_greeting.specs.Hmac.{code_with}
 abbrev pub magic : List ℕ
 magic = 0x72 ∷ 0x76 ∷ 0x6D ∷ 0x6F ∷ 0x76 ∷ 0x65 ∷ 0x31 ∷ 0x0A ∷ []
 
--- the bytes of an opening
+-- the bytes of an opening: name and version, sender, receiver, number of hosts, nonce
 abbrev pub opening_bytes : Opening → List ℕ
 opening_bytes o = magic ++ ((o.from ∷ o.to ∷ o.hosts ∷ []) ++ o.nonce)
 
--- an opening answers another: it goes back the same way, between hosts of as many
+-- an opening answers another: it goes the opposite way between the same two hosts, and names as many hosts
 abbrev pub answers : (own other : Opening) → Bool
 answers own other = (other.from == own.to) && ((other.to == own.from) && (other.hosts == own.hosts))
 
--- the number of a role
+-- the number that stands for a role in a proof
 abbrev pub role_number : Role → ℕ
 role_number Connector = 0
 role_number Acceptor = 1
@@ -27,16 +27,16 @@ abbrev pub other_role : Role → Role
 other_role Connector = Acceptor
 other_role Acceptor = Connector
 
--- the message whose code shows that the end with this role knows the secret: the role, and the openings of both ends,
--- that of the connector first
+-- the message whose HMAC proves that the end with this role knows the secret: the role, the connector's opening, the
+-- acceptor's opening
 abbrev pub message : Role → (connector acceptor : Opening) → List ℕ
 message role connector acceptor = (role_number role ∷ []) ++ (opening_bytes connector ++ opening_bytes acceptor)
 
--- that message, by the end with this role: its own opening, and that of the other
+-- that message, from the own opening of the end with this role and the other end's opening
 abbrev pub message_by : Role → (own other : Opening) → List ℕ
 message_by Connector own other = message Connector own other
 message_by Acceptor own other = message Acceptor other own
 
--- the proof of the end with this role
+-- the proof by the end with this role that it knows the secret
 abbrev pub proof_by : (block : List ℕ) → Role → (own other : Opening) → List ℕ
 proof_by block role own other = code_with block (message_by role own other)

@@ -4,22 +4,22 @@ ghost use Rattle.std.specs.Prelude.{◌≡◌};
 ghost use Rattle.rvm_greeting.specs.Facts.{facts_bytes};
 
 use crate::message::Message;
-use rvm_record::number_bytes;
+use rvm_link::number_bytes;
 
-/// What a host tells another, once each has shown that it knows the secret. Each number was drawn at random, from 1 on;
-/// 0 says that there is none.
+/// What a host tells another about itself, once each has proved that it knows the secret. Each number is drawn at
+/// random, from 1 on; 0 stands for a number that is not known.
 #[derive(Clone, Copy, Debug, PartialEq, Eq)]
 pub struct Facts {
-    /// The number of the world, which the host with the image drew, where the sender knows it.
+    /// The number of the world, which the host with the image drew; 0 if the sender does not know it.
     pub world: u64,
     /// The number of the sender's process, which it drew at its start.
     pub process: u64,
-    /// The number of the receiver's process, where the sender has met it.
+    /// The number of the receiver's process; 0 if the sender has not met it.
     pub known: u64,
 }
 
 impl Facts {
-    /// Its bytes.
+    /// The 24 bytes of these facts.
     pub(crate) fn bytes(&self) -> Message
         ensures { result ≡ facts_bytes self.now }
     {

@@ -1,4 +1,4 @@
-//! Why two ends of a connection do not speak with each other.
+//! Why a greeting fails.
 
 ghost use Rattle.std.specs.Prelude.{◌≡◌};
 ghost use Rattle.rvm_greeting.specs.declared.fault.GreetingFault.TheVariants as fault;
@@ -9,13 +9,13 @@ use thiserror::Error;
 /// Why a greeting failed.
 #[derive(Clone, Copy, Debug, PartialEq, Eq, Error)]
 pub enum GreetingFault {
-    /// The connection failed or ended, or nothing came in time.
+    /// The connection failed or ended, or nothing arrived in time.
     #[error("the connection broke")]
     Broken,
-    /// What came is no greeting.
+    /// The bytes that arrived are no greeting.
     #[error("no greeting came")]
     NotGreeting,
-    /// The greeting is for another host, of another host, or for a world of another number of hosts.
+    /// The greeting is to another host, from another host, or of a world with another number of hosts.
     #[error("the greeting is between other hosts")]
     OtherHosts,
     /// The other end does not know the secret.
@@ -24,7 +24,8 @@ pub enum GreetingFault {
     /// The other host is of another world.
     #[error("the other host is of another world")]
     OtherWorld,
-    /// The process of this host is not the one that was met before: what it knew of the world is gone.
+    /// The process of the host with this number is not the one that was met before: what that one knew of the world is
+    /// gone.
     #[error("host {0} began anew")]
     BeganAnew(u8),
 }

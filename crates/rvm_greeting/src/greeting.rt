@@ -1,4 +1,4 @@
-//! Greetings.
+//! Greetings: from the end that made a connection, and from the end that accepted it.
 
 ghost use Rattle.std.specs.Prelude.{◌≡◌, ◌≢◌, ◌<◌, ◌++◌, Err, IfErr, IfOk, IfSome, OnOk, true, ℕ};
 ghost use Rattle.std.specs.Io.KnownBytes.{Appends, Consumes};
@@ -16,11 +16,11 @@ use crate::message::Message;
 use crate::opening::{MAGIC, Opening, Role};
 use crate::registry::Registry;
 use crate::secret::Secret;
-use rvm_record::read_number;
+use rvm_link::read_number;
 use std::io;
 use std::io::{Read, Write};
 
-/// What a greeting showed: the openings of both ends, and what the other end told of itself.
+/// What a greeting showed: the openings of both ends, and the facts that the other end told.
 #[derive(Clone, Copy, Debug)]
 pub struct Greeted {
     pub own: Opening,
@@ -28,9 +28,12 @@ pub struct Greeted {
     pub facts: Facts,
 }
 
-/// Greets a host at the other end of a connection that was made to it, with a nonce that is drawn at random for it alone.
-/// Whoever does not answer as that host is told the opening and nothing else, and whoever does not show that it knows the
-/// secret is told the opening and the proof alone.
+/// Greets host `to` on a connection that this host made to it. The nonce must be drawn at random for this greeting
+/// alone.
+///
+/// `OtherHosts` if the other end does not answer as that host: it was sent the opening and nothing else. `WrongSecret`
+/// if it does not prove that it knows the secret: it was sent the opening and the proof, and no facts. `NotGreeting` if
+/// other bytes come, `Broken` if the connection fails.
 pub fn greet<I: Read, W: Write>(
     input: &mut I,
     output: &mut W,
@@ -64,9 +67,12 @@ pub fn greet<I: Read, W: Write>(
     Ok(Greeted { own, other, facts })
 }
 
-/// Answers the greeting of a host that made a connection to this one, with a nonce that is drawn at random for it alone.
-/// Whoever does not speak for another host of this world is told nothing, and whoever does not show that it knows the
-/// secret is told the opening and nothing else.
+/// Answers the greeting of a host that made a connection to this one. The nonce must be drawn at random for this
+/// greeting alone.
+///
+/// `OtherHosts` if the other end does not speak for another host of this world: it was sent nothing. `WrongSecret` if
+/// it does not prove that it knows the secret: it was sent the opening and nothing else. `NotGreeting` if other bytes
+/// come, `Broken` if the connection fails.
 pub fn accept<I: Read, W: Write>(
     input: &mut I,
     output: &mut W,
@@ -98,7 +104,7 @@ pub fn accept<I: Read, W: Write>(
     Ok(Greeted { own, other, facts })
 }
 
-/// Writes an opening.
+/// Writes an opening, and flushes it.
 fn write_opening<W: Write>(output: &mut W, opening: &Opening) -> io::Result<()>
     ensures { OnOk result (Appends (W.contents output.old) (W.contents output.new) (opening_bytes opening.now)) }
 {
@@ -106,7 +112,7 @@ fn write_opening<W: Write>(output: &mut W, opening: &Opening) -> io::Result<()>
     output.flush()
 }
 
-/// Reads an opening.
+/// Reads an opening. `NotGreeting` if it does not begin with the name and version of greetings.
 fn read_opening<I: Read>(input: &mut I) -> Result<Opening, GreetingFault>
     ensures opening { IfOk result (λ o. Consumes (I.remaining input.old) (I.remaining input.new) (opening_bytes o)) }
     ensures fault { IfErr result (λ e. (e ≢ fault.WrongSecret) × (e ≢ fault.OtherHosts)) }
@@ -121,7 +127,7 @@ fn read_opening<I: Read>(input: &mut I) -> Result<Opening, GreetingFault>
     }
 }
 
-/// The opening with these pieces, if they are those of one.
+/// The opening that these three pieces spell; none if the first is not the name and version of greetings.
 fn opening_of(name: &[u8; 8], hosts: &[u8; 3], nonce: &[u8; 32]) -> Option<Opening>
     ensures { IfSome result (λ o. name.now ++ (hosts.now ++ nonce.now) ≡ opening_bytes o) }
 {
@@ -137,8 +143,8 @@ fn opening_of(name: &[u8; 8], hosts: &[u8; 3], nonce: &[u8; 32]) -> Option<Openi
     })
 }
 
-/// Reads the three pieces of an opening.
-#[tactic(auto, using(rvm_record::proofs::Pieces::three_taken))]
+/// Reads the three pieces of an opening: its name and version, its three host bytes, its nonce.
+#[tactic(auto, using(rvm_link::proofs::Pieces::three_taken))]
 fn read_pieces<I: Read>(
     input: &mut I,
     name: &mut [u8; 8],
@@ -154,7 +160,7 @@ fn read_pieces<I: Read>(
     Ok(())
 }
 
-/// Writes the proof of the end with a role.
+/// Writes the proof of the end with a role, and flushes it.
 fn write_proof<W: Write>(
     output: &mut W,
     secret: &Secret,
@@ -169,7 +175,7 @@ fn write_proof<W: Write>(
     output.flush()
 }
 
-/// Reads the proof of the end with a role.
+/// Reads the proof of the end with a role, whose opening is `own`. `WrongSecret` if the bytes are another proof.
 fn read_proof<I: Read>(
     input: &mut I,
     secret: &Secret,
@@ -189,7 +195,7 @@ fn read_proof<I: Read>(
     Ok(())
 }
 
-/// Writes what a host tells of itself.
+/// Writes facts, and flushes them.
 fn write_facts<W: Write>(output: &mut W, facts: &Facts) -> io::Result<()>
     ensures { OnOk result (Appends (W.contents output.old) (W.contents output.new) (facts_bytes facts.now)) }
 {
@@ -197,7 +203,7 @@ fn write_facts<W: Write>(output: &mut W, facts: &Facts) -> io::Result<()>
     output.flush()
 }
 
-/// Reads what a host tells of itself.
+/// Reads facts. `NotGreeting` if the number of the process is 0.
 fn read_facts<I: Read>(input: &mut I) -> Result<Facts, GreetingFault>
     ensures facts { IfOk result (λ f. Consumes (I.remaining input.old) (I.remaining input.new) (facts_bytes f)) }
     ensures process { IfOk result (λ f. 0 < f.process) }
@@ -214,8 +220,8 @@ fn read_facts<I: Read>(input: &mut I) -> Result<Facts, GreetingFault>
     })
 }
 
-/// Reads three numbers.
-#[tactic(auto, using(rvm_record::proofs::Pieces::three_taken))]
+/// Reads three numbers of 8 bytes, the lowest byte first.
+#[tactic(auto, using(rvm_link::proofs::Pieces::three_taken))]
 fn read_numbers<I: Read>(input: &mut I) -> io::Result<(u64, u64, u64)>
     ensures { IfOk result (λ n. Consumes (I.remaining input.old) (I.remaining input.new)
         (little_bytes 8 n.0 ++ (little_bytes 8 n.1 ++ little_bytes 8 n.2))) }

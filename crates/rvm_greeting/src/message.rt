@@ -1,14 +1,14 @@
-//! Bytes that are put together piece by piece.
+//! Bytes that are collected piece by piece.
 
 ghost use Rattle.std.specs.Prelude.{◌≡◌, ◌+◌, ◌≤◌, ◌++◌, [], length};
 
 use arrayvec::ArrayVec;
 use std::marker::Model;
 
-/// The most bytes of a message.
+/// The most bytes that a message holds.
 const MAX_BYTES: usize = 96;
 
-/// At most 96 bytes. Contracts see them.
+/// A message of at most 96 bytes. Contracts see it as the list of its bytes.
 #[derive(Drop)]
 pub(crate) struct Message {
     bytes: ArrayVec<u8, MAX_BYTES>,
@@ -23,7 +23,7 @@ impl Model for Message {
 }
 
 impl Message {
-    /// No byte.
+    /// The empty message.
     pub(crate) fn new() -> Message
         ensures { result ≡ [] }
     {
@@ -32,7 +32,7 @@ impl Message {
         }
     }
 
-    /// These bytes and a piece after them.
+    /// This message with a piece after it. Both together have at most 96 bytes.
     pub(crate) fn with(mut self, piece: &[u8]) -> Message
         requires { length self + length piece.now ≤ 96 }
         ensures { result ≡ self ++ piece.now }
@@ -43,7 +43,7 @@ impl Message {
         self
     }
 
-    /// The bytes.
+    /// The bytes of the message.
     pub(crate) fn as_slice(&self) -> &[u8]
         ensures { result.now ≡ self.now }
     {

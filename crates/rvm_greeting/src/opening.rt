@@ -8,7 +8,7 @@ use crate::message::Message;
 /// The name and the version of greetings.
 pub(crate) const MAGIC: [u8; 8] = *b"rvmove1\n";
 
-/// Who made a connection, and who took it.
+/// The role of an end: the connector made the connection, the acceptor accepted it.
 #[derive(Clone, Copy, Debug, PartialEq, Eq)]
 pub enum Role {
     Connector,
@@ -16,7 +16,7 @@ pub enum Role {
 }
 
 impl Role {
-    /// Its number.
+    /// The number that stands for this role in a proof.
     pub(crate) fn number(self) -> u8
         ensures { result ≡ role_number self }
     {
@@ -27,8 +27,8 @@ impl Role {
     }
 }
 
-/// What an end says first: who speaks, to which host, how many hosts their world has, and a number drawn for this
-/// connection alone.
+/// What an end says first: who speaks, to which host, how many hosts their world has, and a nonce drawn at random for
+/// this connection alone.
 #[derive(Clone, Copy, Debug, PartialEq, Eq)]
 pub struct Opening {
     pub from: u8,
@@ -38,7 +38,7 @@ pub struct Opening {
 }
 
 impl Opening {
-    /// These bytes and those of the opening after them.
+    /// The message with the 43 bytes of this opening after it. Both together have at most 96 bytes.
     pub(crate) fn append_to(&self, message: Message) -> Message
         requires { length message + 43 ≤ 96 }
         ensures { result ≡ message ++ opening_bytes self.now }
@@ -49,7 +49,8 @@ impl Opening {
             .with(&self.nonce)
     }
 
-    /// Whether another opening answers this one: it goes back the same way, between hosts of as many.
+    /// Whether another opening answers this one: it goes the opposite way between the same two hosts, and names as many
+    /// hosts.
     pub fn is_answered_by(&self, other: &Opening) -> bool
         ensures { result ≡ answers self.now other.now }
     {

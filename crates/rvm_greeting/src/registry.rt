@@ -11,8 +11,8 @@ use crate::opening::Opening;
 /// The most hosts of a world.
 const MAX_HOSTS: usize = 8;
 
-/// What the process of a host knows of its world: its number, once there is one, and the processes of the other hosts
-/// that it has met. A number that is not known is 0.
+/// What the process of a host knows of its world: the number of the world, and the processes of the other hosts that it
+/// has met. 0 stands for a number that is not known.
 #[derive(Clone, Copy, Debug)]
 pub struct Registry {
     host: u8,
@@ -23,7 +23,8 @@ pub struct Registry {
 }
 
 impl Registry {
-    /// The registry of a process that has met nobody yet, for a host of a world of `hosts` hosts.
+    /// The registry of a process that has met no other host yet. Its host has the number `host`, in a world of `hosts`
+    /// hosts.
     pub fn new(host: u8, hosts: u8, process: u64, world: u64) -> Registry
         ensures host { result.host ≡ host }
         ensures hosts { result.hosts ≡ hosts }
@@ -40,7 +41,7 @@ impl Registry {
         }
     }
 
-    /// The opening of this host to another.
+    /// The opening of this host to the host with the number `to`.
     pub(crate) fn opening(&self, to: u8, nonce: &[u8; 32]) -> Opening
         ensures { result ≡ opening_for self.now to nonce.now }
     {
@@ -52,7 +53,7 @@ impl Registry {
         }
     }
 
-    /// Whether an opening is for this host, from another of as many.
+    /// Whether an opening is to this host, from another host of a world with as many hosts.
     pub(crate) fn is_for(&self, opening: &Opening) -> bool
         ensures { result ≡ is_for self.now opening.now }
     {
@@ -62,7 +63,7 @@ impl Registry {
             && opening.from < self.hosts
     }
 
-    /// What it tells a host of itself.
+    /// The facts that this host tells the host with this number.
     pub fn facts_for(&self, host: u8) -> Facts
         ensures { result ≡ facts_for self.now host }
     {
@@ -73,8 +74,10 @@ impl Registry {
         }
     }
 
-    /// Meets a host, by what it told. Refused if it is of another world, or if one of the two processes began anew after
-    /// the other had met it: then all stays as it was.
+    /// Records that the host with this number was met, and takes the world that it told if none is known yet.
+    ///
+    /// `OtherWorld` if that host is of another world; `BeganAnew` with the number of the host whose process began anew,
+    /// if one of the two did after the other had met it. Either leaves the registry unchanged.
     pub fn meet(&mut self, host: u8, facts: &Facts) -> Result<(), GreetingFault>
         ensures met { OnOk result (self.new ≡ after_meeting self.old host facts.now) }
         ensures welcome { OnOk result (refusal_of self.old host facts.now ≡ None) }
@@ -93,7 +96,7 @@ impl Registry {
         Ok(())
     }
 
-    /// Why it refuses what a host tells, if it does.
+    /// Why this host refuses the facts that a host told; none if it does not.
     fn refusal_of(&self, host: u8, facts: &Facts) -> Option<GreetingFault>
         ensures { result ≡ refusal_of self.now host facts.now }
     {
@@ -109,7 +112,7 @@ impl Registry {
         None
     }
 
-    /// The process of a host, where it was met.
+    /// The number of a host's process; 0 if it was not met.
     fn met(&self, host: u8) -> u64
         ensures { result ≡ met self.now host }
     {
@@ -120,7 +123,7 @@ impl Registry {
     }
 }
 
-/// Whether both are known, and are not the same.
+/// Whether both numbers are known and differ.
 fn differ(a: u64, b: u64) -> bool
     ensures { result ≡ differ a b }
 {

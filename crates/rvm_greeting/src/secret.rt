@@ -10,10 +10,11 @@ use arrayvec::ArrayVec;
 use sha2::{Digest, Sha256};
 use std::marker::Model;
 
-/// The bytes of a block of SHA-256.
+/// The length of a block of SHA-256, in bytes.
 const BLOCK: usize = 64;
 
-/// A secret that all hosts of a world know, and nobody else. Contracts see it as a block of HMAC-SHA-256 (RFC 2104).
+/// A secret that all hosts of a world know, and nobody else. Contracts see it as a key block of HMAC-SHA-256 (RFC
+/// 2104).
 #[derive(Drop)]
 pub struct Secret {
     block: [u8; BLOCK],
@@ -28,7 +29,7 @@ impl Model for Secret {
 }
 
 impl Secret {
-    /// A secret of these bytes, any number of them.
+    /// The secret with these bytes, of any number.
     pub fn new(bytes: &[u8]) -> Secret
         ensures { result ≡ block_of bytes.now }
     {
@@ -43,14 +44,15 @@ impl Secret {
         }
     }
 
-    /// What shows that the end with this role knows the secret, in a connection with these openings: the code of HMAC.
+    /// The proof that the end with this role, whose opening is `own`, knows the secret: the HMAC of its role and of
+    /// both openings.
     pub fn proof(&self, role: Role, own: &Opening, other: &Opening) -> [u8; 32]
         ensures { result ≡ proof_by self.now role own.now other.now }
     {
         self.code(message_by(role, own, other).as_slice())
     }
 
-    /// The code of a message.
+    /// The HMAC of a message under this secret.
     fn code(&self, message: &[u8]) -> [u8; 32]
         ensures { result ≡ code_with self.now message.now }
     {
@@ -65,7 +67,7 @@ impl Secret {
     }
 }
 
-/// The message of the end with a role.
+/// The message that the end with a role proves, from its own opening and the other end's.
 fn message_by(role: Role, own: &Opening, other: &Opening) -> Message
     ensures { result ≡ message_by role own.now other.now }
 {
@@ -75,7 +77,8 @@ fn message_by(role: Role, own: &Opening, other: &Opening) -> Message
     }
 }
 
-/// The message whose code shows that the end with a role knows the secret.
+/// The message whose HMAC proves that the end with a role knows the secret: the role, the connector's opening, the
+/// acceptor's opening.
 fn message(role: Role, connector: &Opening, acceptor: &Opening) -> Message
     ensures { result ≡ message role connector.now acceptor.now }
 {
@@ -83,7 +86,7 @@ fn message(role: Role, connector: &Opening, acceptor: &Opening) -> Message
     acceptor.append_to(connector.append_to(message))
 }
 
-/// Zeros after at most 64 bytes, up to a block.
+/// The block with these bytes, at most 64, and zeros after them.
 #[tactic(auto, using(crate::proofs::Pieces::zeros_left))]
 fn zero_padded(bytes: &[u8]) -> [u8; BLOCK]
     requires { length bytes.now ≤ 64 }
@@ -94,7 +97,7 @@ fn zero_padded(bytes: &[u8]) -> [u8; BLOCK]
     block
 }
 
-/// Puts bytes in place of the first of a block.
+/// Overwrites the first bytes of a block with these, at most 64.
 fn put_front(block: &mut [u8; BLOCK], bytes: &[u8])
     requires { length bytes.now ≤ 64 }
     ensures { block.new ≡ bytes.now ++ drop (length bytes.now) block.old }
@@ -102,7 +105,7 @@ fn put_front(block: &mut [u8; BLOCK], bytes: &[u8])
     block[..bytes.len()].copy_from_slice(bytes);
 }
 
-/// A block with a pad.
+/// The bytes of a block, each combined with a pad by exclusive or.
 fn padded(block: &[u8; BLOCK], pad: u8) -> ArrayVec<u8, BLOCK>
     ensures { result.items ≡ padded block.now pad }
 {

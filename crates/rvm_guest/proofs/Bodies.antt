@@ -10,13 +10,13 @@ use Rattle.rvm_hart.specs.Machine.{HartState}
 use Rattle.rvm_hart.specs.Fields.{fields_of, with_number}
 use Rattle.rvm_hart.proofs.Whole.{whole}
 use Rattle.rvm_board.specs.Board.{hart_at}
-use Rattle.rvm_debug.specs.Guest.{Guest}
+use Rattle.rvm_board.specs.Guest.{Guest}
 use Rattle.rvm_state.specs.Formats.{head, parts, state}
-use Rattle.rvm_debug.specs.State.{State, guest_of, parts_of, state_of}
+use Rattle.rvm_board.specs.State.{State, guest_of, parts_of, state_of}
 use Rattle.rvm_state.specs.Spelling.{HasSpelling, Spells, spelling}
 use Rattle.rvm_state.proofs.Exact.{state_exact}
 use Rattle.rvm_state.proofs.Reading.{found, is_read}
-use Rattle.rvm_debug.proofs.Made.{made}
+use Rattle.rvm_board.proofs.Made.{made}
 use Rattle.rvm_guest.specs.Pages.{count_of, joined, pages_in, pages_of, size_of}
 use Rattle.rvm_guest.specs.Valid.{is_valid}
 use Rattle.rvm_guest.specs.Body.{body_of, build, guest_if, has_bytes, read_body}
@@ -74,7 +74,7 @@ read_back g h =
 
 -- WHAT A HOST HAS
 
--- the state of a guest that its bytes tell is its bytes
+-- the state of a guest that its bytes determine is its bytes
 pub body_is : (g : Guest) → HasSpelling g → body_of g ≡ spelling g
 unfolding body_of
 body_is g has = ap (λ (b : Bool). if b then spelling g else 256 ∷ values.write (state_of g)) has.fits

@@ -4,15 +4,15 @@ use Rattle.rvm_mem.specs.Pages.{byte_pages}
 use Rattle.rvm_codec.specs.Codec.{read_each}
 use Rattle.rvm_codec.specs.Numbers.{number_at}
 use Rattle.rvm_board.specs.Board.{at_reset}
-use Rattle.rvm_debug.specs.declared.event.BoardEvent.TheVariants.{Break, PokeMem}
-use Rattle.rvm_debug.specs.Guest.{Guest, fresh}
+use Rattle.rvm_board.specs.declared.event.BoardEvent.TheVariants.{Break, PokeMem}
+use Rattle.rvm_board.specs.Guest.{Guest, fresh}
 use Rattle.rvm_state.specs.Formats.{csrs, hart, head, mie, mstatus, parts, shared, state, breakpoints}
 use Rattle.rvm_guest.specs.Body.{body_of}
 use Rattle.rvm_guest.specs.Pages.{is_zeros, joined, pages_at, writes}
 use Rattle.rvm_guest.specs.Pieces.{cut, join, pieces}
 use Rattle.rvm_guest.specs.Valid.{are_harts, is_valid}
 
--- so many harts at reset, with so many bytes of zeros
+-- this many harts at reset, with this many bytes of zeros
 abbrev guest : (harts size : ℕ) → Guest
 guest harts size = fresh (at_reset harts 0x80000000 (replicate size 0))
 

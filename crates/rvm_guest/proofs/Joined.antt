@@ -1,4 +1,4 @@
--- Bytes in pages and in pieces, and joined again.
+-- Bytes cut into pages and pieces, and joined again.
 use Rattle.std.proofs.Common.{◌≡◌, ℕ, zero, suc, ◌+◌, ◌-◌, ◌*◌, ◌/◌, ◌%◌, ◌<◌, ◌≤◌, List, [], ◌∷◌, ◌++◌, length, get_or, set, replicate, take, drop, refl, sym, ap, ◌∙◌, arith, append_assoc}
 use Rattle.std.proofs.Math.Seq.{take-append_seam, drop-append_seam, take-add}
 use Rattle.std.proofs.lemmas.List.{length-drop, length-replicate, length-take-le, drop-drop, drop-replicate, take-append-drop, take-replicate}

@@ -1,4 +1,4 @@
--- The pieces of the numbers and the state, which are read back from them.
+-- The pieces of the copies' numbers and the state, from which both are read back.
 use Rattle.std.proofs.Common.{◌≡◌, ℕ, zero, suc, ◌+◌, ◌-◌, ◌*◌, ◌^◌, ◌<◌, ◌≤◌, true, List, [], ◌∷◌, length, take, drop, get_or, Some, refl, sym, ap, subst, ◌∙◌, arith}
 use Rattle.std.specs.List.{list_all}
 use Rattle.std.specs.Int.{div_ceil}
@@ -9,7 +9,7 @@ use Rattle.rvm_codec.specs.Exact.{IsExactFormat}
 use Rattle.rvm_codec.proofs.Steps.{and_so}
 use Rattle.rvm_codec.proofs.Exact.{counted_each_exact, with_rest_exact, within_below, within_exact}
 use Rattle.rvm_frame.specs.Bodies as frame
-use Rattle.rvm_debug.specs.Guest.{Guest}
+use Rattle.rvm_board.specs.Guest.{Guest}
 use Rattle.rvm_guest.specs.Body.{body_of}
 use Rattle.rvm_guest.specs.Pages.{count_of, pages_of}
 use Rattle.rvm_guest.specs.Pieces.{cut, join, pieces}

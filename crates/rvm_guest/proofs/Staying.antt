@@ -1,4 +1,5 @@
--- Each event of a guest that can be met leaves one, of as many harts and pages, and the pages that it does not write.
+-- Each event of a valid guest leaves a valid guest with as many harts and pages, and does not change the pages that it
+-- does not write.
 use Rattle.std.proofs.Common.{◌≡◌, inl, inr, ℕ, zero, suc, ◌+◌, ◌*◌, ◌^◌, ◌/◌, ◌%◌, ◌<◌, ◌≤◌, Bool, true, false, ◌==◌, List, [], ◌∷◌, length, get_or, set, replicate, refl, sym, ap, subst, ◌∙◌, arith, below_more}
 use Rattle.std.proofs.lemmas.Bool.{cases_eq, cases_lt, eqb-true}
 use Rattle.std.proofs.lemmas.Bool.Decides.{nat_tests}
@@ -12,16 +13,16 @@ use Rattle.rvm_hart.specs.Fields.{with_number}
 use Rattle.rvm_hart.specs.Machine.{HartState}
 use Rattle.rvm_hart.specs.Registers.{AreRegisters}
 use Rattle.rvm_board.specs.Board.{hart_at, new_hart}
-use Rattle.rvm_debug.specs.declared.event.BoardEvent.{BoardEvent}
-use Rattle.rvm_debug.specs.declared.part.HartPart.{HartPart}
-use Rattle.rvm_debug.specs.Guest.{Guest}
-use Rattle.rvm_debug.specs.Events.{answered}
-use Rattle.rvm_debug.specs.Kept.{Keeps}
-use Rattle.rvm_debug.specs.Parts.{part_of}
-use Rattle.rvm_debug.specs.State.{guest_of, numbered, parts_of, state_of}
-use Rattle.rvm_debug.proofs.Answering.{answered_keeps}
-use Rattle.rvm_debug.proofs.Guests.{length-numbered}
-use Rattle.rvm_debug.proofs.Made.{numbered_at}
+use Rattle.rvm_board.specs.declared.event.BoardEvent.{BoardEvent}
+use Rattle.rvm_board.specs.declared.part.HartPart.{HartPart}
+use Rattle.rvm_board.specs.Guest.{Guest}
+use Rattle.rvm_board.specs.Events.{answered}
+use Rattle.rvm_board.specs.Kept.{Keeps}
+use Rattle.rvm_board.specs.Parts.{part_of}
+use Rattle.rvm_board.specs.State.{guest_of, numbered, parts_of, state_of}
+use Rattle.rvm_board.proofs.Answering.{answered_keeps}
+use Rattle.rvm_board.proofs.Guests.{length-numbered}
+use Rattle.rvm_board.proofs.Made.{numbered_at}
 use Rattle.rvm_guest.specs.Pages.{after, count_of, pages_of, size_of, writes, zeros}
 use Rattle.rvm_guest.specs.Valid.{is_hart, are_harts, is_valid}
 use Rattle.rvm_guest.proofs.Joined.{length_pages, page_at}
@@ -66,7 +67,7 @@ harts_so first (h ∷ hs) blank each =
 abbrev pub AreHarts : ℕ → Guest → Type 0
 AreHarts n g = (k : ℕ) → k < n → IsHart k (hart_at k g.board)
 
--- a guest that can be met, part by part
+-- a valid guest, part by part
 pub record IsValid (g : Guest) : Type 0 where
   pub harts : AreHarts (length g.board.harts) g
   pub msip : length g.board.shared.devices.msip ≡ length g.board.harts

@@ -2,16 +2,16 @@
 use Rattle.std.proofs.Common.{◌≡◌, ℕ, zero, suc, ◌+◌, ◌<◌, Bool, List, [], ◌∷◌, ◌++◌, length, Option, Some, None, refl, sym, ap, subst, ◌∙◌, arith, append-nil, if◌then◌else◌}
 use Rattle.std.proofs.Math.Nat.{mod-lt}
 use Rattle.std.proofs.lemmas.Bool.{lt-ltb}
-use Rattle.rvm_debug.specs.declared.event.BoardEvent.{BoardEvent}
-use Rattle.rvm_debug.specs.declared.event.BoardEvent.TheVariants.{Step}
-use Rattle.rvm_debug.specs.declared.event.BoardRefusal.TheVariants.{BadHart}
-use Rattle.rvm_debug.specs.declared.turns.Order.{Order}
-use Rattle.rvm_debug.specs.declared.turns.Order.TheVariants.{Alone, RoundRobin}
-use Rattle.rvm_debug.specs.declared.turns.Stop.{Stop}
-use Rattle.rvm_debug.specs.Guest.{Guest}
-use Rattle.rvm_debug.specs.Events.{Answered, answered, refuses, steps}
-use Rattle.rvm_debug.specs.Turns.{AfterTurns, after_turns, next_hart, stop_in, unless_stopped}
-use Rattle.rvm_debug.proofs.Answering.{answered_keeps}
+use Rattle.rvm_board.specs.declared.event.BoardEvent.{BoardEvent}
+use Rattle.rvm_board.specs.declared.event.BoardEvent.TheVariants.{Step}
+use Rattle.rvm_board.specs.declared.event.BoardRefusal.TheVariants.{BadHart}
+use Rattle.rvm_board.specs.declared.turns.Order.{Order}
+use Rattle.rvm_board.specs.declared.turns.Order.TheVariants.{Alone, RoundRobin}
+use Rattle.rvm_board.specs.declared.turns.Stop.{Stop}
+use Rattle.rvm_board.specs.Guest.{Guest}
+use Rattle.rvm_board.specs.Events.{Answered, answered, refuses, steps}
+use Rattle.rvm_board.specs.Turns.{AfterTurns, after_turns, next_hart, stop_in, unless_stopped}
+use Rattle.rvm_board.proofs.Answering.{answered_keeps}
 use Rattle.rvm_guest.specs.Events.{AreTurns, after_all, steps_in, unless_over, written}
 
 next_below : (order : Order) (n h : ℕ) → h < n → next_hart order n h < n

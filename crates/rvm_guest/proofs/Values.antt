@@ -1,4 +1,4 @@
--- Values are read back from their numbers, whatever they are.
+-- All values are read back from their numbers, whatever their size.
 use Rattle.std.proofs.Common.{◌≡◌, ℕ, Bool, true, false, ◌&&◌, eqb, List, [], ◌∷◌, ◌++◌, Option, Some, None, length, refl, sym, ap, subst}
 use Rattle.std.specs.List.{list_all}
 use Rattle.std.proofs.lemmas.Bool.{eqb-true}
@@ -9,9 +9,9 @@ use Rattle.rvm_codec.specs.Codec.{Codec, both, flag, optional, then_each}
 use Rattle.rvm_codec.specs.Exact.{IsExact, IsExactFormat, IsBytes, Takes}
 use Rattle.rvm_codec.proofs.Steps.{IsBytes-drop, and_so, both_are, none_is, same_number, some_is}
 use Rattle.rvm_codec.proofs.Exact.{alone_exact, as_exact, both_exact, flag_exact, optional_exact, then_each_exact}
-use Rattle.rvm_debug.specs.declared.part.HartPart.{HartPart}
+use Rattle.rvm_board.specs.declared.part.HartPart.{HartPart}
 use Rattle.rvm_state.specs.Formats.{anything, csrs_of, csr_parts, hart_of, hart_parts, shared_of, shared_parts}
-use Rattle.rvm_debug.specs.State.{State}
+use Rattle.rvm_board.specs.State.{State}
 use Rattle.rvm_guest.specs.Values.{one, many, interrupts, interrupts_in, flags_of, csrs, hart, shared, values, values_in, value_parts}
 
 -- EXACT

@@ -1,16 +1,17 @@
--- The debugged board as a guest of the law of migration: its states, pages, events, answers, and states as they are sent.
+-- The debugged board as a guest of the protocol of live migration: its states, pages, events, answers, and states as they are sent.
 use Rattle.std.specs.Prelude.{ℕ, List, length}
 use Rattle.rvm_protocol.specs.Guest.{Guest}
-use Rattle.rvm_debug.specs.declared.event.BoardEvent.{BoardEvent}
-use Rattle.rvm_debug.specs.declared.event.BoardReply.{BoardReply}
-use Rattle.rvm_debug.specs.Guest as debug
-use Rattle.rvm_debug.specs.Events.{answered}
+use Rattle.rvm_board.specs.declared.event.BoardEvent.{BoardEvent}
+use Rattle.rvm_board.specs.declared.event.BoardReply.{BoardReply}
+use Rattle.rvm_board.specs.Guest as debug
+use Rattle.rvm_board.specs.Events.{answered}
 use Rattle.rvm_guest.specs.Body.{body_of, build}
 use Rattle.rvm_guest.specs.Pages.{after, is_zeros, pages_of, writes, zeros}
 use Rattle.rvm_guest.specs.Pieces.{cut, join}
 use Rattle.rvm_guest.specs.Valid.{is_valid}
 
--- a debugged board: what its debugger answers and leaves, its RAM in pages, and its other values as bytes
+-- the debugged board as a guest: its answers and next states are its debugger's, its RAM is in pages, and its other
+-- values are sent as bytes
 unfoldable pub board : Guest debug.Guest (List ℕ) BoardEvent BoardReply (List ℕ)
 board = record {
   answer = λ g e. (answered e g).reply;

@@ -5,11 +5,11 @@ use Rattle.rvm_csr.specs.declared.interrupts.Interrupts.{Interrupts}
 use Rattle.rvm_dev.specs.declared.fields.DeviceFields.{DeviceFields}
 use Rattle.rvm_codec.specs.Codec.{Codec, as_type, both, flag, optional, then_each}
 use Rattle.rvm_codec.specs.Format.{Format, alone}
-use Rattle.rvm_debug.specs.declared.part.HartPart.{HartPart}
+use Rattle.rvm_board.specs.declared.part.HartPart.{HartPart}
 use Rattle.rvm_state.specs.Formats.{anything, csrs_of, csr_parts, hart_of, hart_parts, shared_of, shared_parts}
-use Rattle.rvm_debug.specs.State.{State}
+use Rattle.rvm_board.specs.State.{State}
 
--- the number in front, and those after it
+-- the first number, and those after it, if there is one
 abbrev pub front : List ℕ → Option (ℕ × List ℕ)
 front [] = None
 front (n ∷ rest) = Some (n, rest)
@@ -18,11 +18,11 @@ front (n ∷ rest) = Some (n, rest)
 unfoldable pub one : Codec ℕ
 one = record { fits = λ n. true; write = λ n. n ∷ []; read = front }
 
--- how many there are, and each
+-- a list: how many values there are, and each value
 abbrev pub many : {A : Type 0} → Codec A → Codec (List A)
 many c = as_type (then_each one (λ n. n) c) (λ t. t.1) (λ xs. (length xs, xs))
 
--- the three interrupts
+-- the three interrupts, of their flags: software, timer, external
 abbrev pub interrupts_in : Bool × (Bool × Bool) → Interrupts
 interrupts_in t = record { software = t.0; timer = t.1.0; external = t.1.1 }
 
@@ -47,11 +47,11 @@ hart =
     as_type (both one (both (many one) (both csrs (both flag (both one (both (optional one anything) flag))))))
     hart_of hart_parts
 
--- what the devices keep that all harts share, in the order of its bytes
+-- what the devices keep for all harts together, in the order of its bytes
 unfoldable pub shared : Codec DeviceFields
 shared = as_type (both (optional one anything) (both flag (both flag one))) shared_of shared_parts
 
--- all of a guest but its RAM
+-- all that a guest keeps beside its RAM
 abbrev pub ValueParts : Type 0
 ValueParts = List HartPart × (DeviceFields × (List ℕ × (List ℕ × List ℕ)))
 
@@ -64,7 +64,7 @@ values_in t =
 abbrev pub value_parts : State → ValueParts
 value_parts s = (s.harts, (s.shared, (s.input, (s.output, s.breakpoints))))
 
--- a state, and nothing after it
+-- a state as numbers of any size, and nothing after it
 unfoldable pub values : Format State
 values =
     alone (as_type (both (many hart) (both shared (both (many one) (both (many one) (many one))))) values_in value_parts)

@@ -3,11 +3,11 @@
 ghost use Rattle.std.specs.Prelude.{◌≡◌, true, length};
 ghost use Rattle.rvm_guest.specs.Valid.{is_valid};
 
-use rvm_debug::Debugged;
+use rvm_board::Debugged;
 use rvm_mem::Memory;
 
-/// A guest that a host has is valid. It looks at each hart once, and takes no memory; after an
-/// event the guest need not be looked at again.
+/// Proves that a guest which a host has is valid. Looks at each hart once, and takes no memory; an event leaves a
+/// valid guest valid, so there is no need to call this again after one.
 pub fn valid_guest<M: Memory>(guest: &Debugged<M>)
     ensures { is_valid guest.now.guest ≡ true }
 {
@@ -18,7 +18,7 @@ pub fn valid_guest<M: Memory>(guest: &Debugged<M>)
     }
 }
 
-/// x1 to x31 are 31 registers.
+/// The list of x1 to x31 has 31 registers.
 fn has_registers(registers: &[u32; 31])
     ensures { length registers.now ≡ 31 }
 {

@@ -4,12 +4,12 @@ use Rattle.std.specs.Prelude.{◌↔◌, is_some}
 use Rattle.std.proofs.lemmas.Bool.{eq-eqb, ne_eqb}
 use Rattle.std.proofs.lemmas.List.FromFn.{length-map-range_with_len}
 use Rattle.rvm_codec.specs.Exact.{IsBytes}
-use Rattle.rvm_debug.specs.Guest.{Guest}
+use Rattle.rvm_board.specs.Guest.{Guest}
 use Rattle.rvm_state.specs.declared.fault.StateFault.{StateFault}
 use Rattle.rvm_state.specs.declared.fault.StateFault.TheVariants.{BadState, OutOfMemory}
 use Rattle.rvm_state.specs.Formats.{state}
 use Rattle.rvm_state.specs.Spelling.{Spells}
-use Rattle.rvm_debug.specs.State.{State, guest_of, state_of}
+use Rattle.rvm_board.specs.State.{State, guest_of, state_of}
 use Rattle.rvm_state.proofs.Fits.{can_be_restored}
 use Rattle.rvm_state.proofs.Reading.{found, none}
 use Rattle.rvm_guest.specs.Body.{build}

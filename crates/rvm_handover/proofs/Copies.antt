@@ -1,4 +1,4 @@
--- A copy of a page is staged as the law of migration says.
+-- A copy of a page is staged as the protocol of live migration says.
 use Rattle.std.proofs.Common.{◌≡◌, ℕ, ◌*◌, ◌/◌, ◌<◌, Bool, true, false, ◌&&◌, nat_lt, if◌then◌else◌, List, length, replicate, get_or, Option, None, refl, sym, ap, ◌∙◌, arith}
 use Rattle.std.proofs.Math.Path.{fun_ext}
 use Rattle.std.proofs.lemmas.Bool.{ltb-true}
@@ -51,7 +51,7 @@ staged move p k b s true is lb l =
     ap (λ x. says (Stored p k) (Staging move x)) (sym (stage_with_copy s p k b lb l lt))
 staged move p k b s false is lb l = refl
 
--- a copy that comes where a stage says whether it stored it, and what it is then
+-- a copy that comes, if the stage says whether it stored it, and what the stage is then
 pub copy_came : (move p k : ℕ) (b : List ℕ) (s t : PlainStage) (stored : Bool) → length b ≡ 4096 → length s.bytes ≡ 4096 * length s.have
     → stored ≡ is_newer p k s → t ≡ (if is_newer p k s then with_copy p k b s else s)
     → page_came board move (stage_of s) p k b ≡ copied move p k stored t

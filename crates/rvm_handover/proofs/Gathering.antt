@@ -1,10 +1,10 @@
--- The bytes of pieces, one after the other, where none is lacking.
+-- The bytes of all pieces, concatenated, if none is lacking.
 use Rattle.std.proofs.Common.{◌≡◌, ◌<◌, ◌≤◌, ℕ, suc, ◌+◌, ◌-◌, Bool, true, false, List, ◌++◌, Option, Some, None, refl, sym, ap, ◌∙◌, arith, append_assoc, append-nil}
 use Rattle.std.specs.Prelude.{is_some, option_map}
 use Rattle.rvm_protocol.specs.Pages.{gathered, with_first}
 use Rattle.rvm_guest.specs.Pages.{joined}
 
--- bytes after others, where there are some
+-- bytes after others, if there are any
 abbrev pub behind : List ℕ → Option (List ℕ) → Option (List ℕ)
 behind xs rest = option_map (λ ys. xs ++ ys) rest
 

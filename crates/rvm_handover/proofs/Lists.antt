@@ -1,4 +1,4 @@
--- Members of a set, listed one after the other.
+-- The members of a set, listed in rising order.
 use Rattle.std.proofs.Common.{◌≡◌, ◌<◌, ◌≤◌, ℕ, zero, suc, ◌+◌, ◌-◌, Bool, true, false, if◌then◌else◌, List, Result, Ok, Err, [], ◌∷◌, ◌++◌, length, refl, sym, ap, ◌∙◌, arith, append_assoc, append-nil}
 use Rattle.std.proofs.lemmas.List.{length-append}
 use Rattle.std.specs.Prelude.{OnErr}
@@ -67,7 +67,7 @@ members_count s (suc n) =
     let e : 0 + n ≡ n = omega arith in
     last_member s 0 n ∙ ap (λ q. one_if (s q) + length (members s 0 n)) e ∙ ap (λ k. one_if (s n) + k) (members_count s n)
 
--- what holds anyway holds where a result is an error
+-- what holds anyway holds if a result is an error
 pub on_err : {X E : Type 0} (r : Result X E) (P : Type 0) → P → OnErr r P
 on_err (Ok x) P p = tt
 on_err (Err e) P p = p

@@ -1,4 +1,4 @@
--- A piece of a state is answered as the law of migration says.
+-- A piece of a state is answered as the protocol of live migration says.
 use Rattle.std.proofs.Common.{◌≡◌, ◌<◌, ℕ, ◌*◌, ◌==◌, ◌&&◌, Bool, true, false, nat_lt, if◌then◌else◌, List, length, get_or, replicate, Option, Some, None, refl, sym, ap, subst, ◌∙◌, arith}
 use Rattle.std.specs.Prelude.{is_some, option_map}
 use Rattle.std.proofs.Math.Path.{fun_ext}
@@ -20,8 +20,8 @@ use Rattle.rvm_handover.proofs.States.{by_count, came_if, with_pieces}
 use Rattle.rvm_handover.specs.declared.not_joined.NotJoined.{NotJoined}
 use Rattle.rvm_handover.specs.declared.not_ready.NotReady.{NotReady}
 use Rattle.rvm_handover.specs.declared.not_ready.NotReady.TheVariants as ready_not
-use Rattle.rvm_debug.specs.Guest.{Guest}
-use Rattle.rvm_debug.specs.declared.event.BoardReply.{BoardReply}
+use Rattle.rvm_board.specs.Guest.{Guest}
+use Rattle.rvm_board.specs.declared.event.BoardReply.{BoardReply}
 use Rattle.rvm_handover.proofs.Tables.{of_replicate, set_is_put}
 
 -- the pieces before one
@@ -74,7 +74,7 @@ and_first false b h = h
 pub is_place : (s : PlainStage) (stamp part parts : ℕ) → takes_part (stage_of s) stamp part parts ≡ true → part < parts
 is_place s stamp part parts h = ltb-true part parts (and_first (nat_lt part parts) _ h)
 
--- WANT OF MEMORY, WHERE ALL PIECES ARE THERE
+-- OUT OF MEMORY, IF ALL PIECES ARE THERE
 
 read_whole : (move : ℕ) (old : Stage (List ℕ)) (made : Option Guest) → is_partial (guest_read board move old made).reply ≡ false
 read_whole move old None = refl

@@ -1,4 +1,4 @@
--- A state that comes is answered as the law of migration says.
+-- A state that comes is answered as the protocol of live migration says.
 use Rattle.std.proofs.Common.{◌≡◌, ◌<◌, ℕ, ◌*◌, ◌/◌, ◌==◌, Bool, true, false, nat_lt, if◌then◌else◌, List, length, Option, Some, None, refl, sym, ap, subst, ◌∙◌, arith}
 use Rattle.std.proofs.lemmas.Bool.{eq-eqb, ne_eqb, lt-ltb, le-ltb}
 use Rattle.rvm_protocol.specs.Frames.{Lost}
@@ -7,7 +7,7 @@ use Rattle.rvm_protocol.specs.Pages.{members, size}
 use Rattle.rvm_protocol.specs.Receiving.{guest_read, state_came}
 use Rattle.rvm_protocol.specs.Replies.{BadState, Lacking}
 use Rattle.rvm_protocol.specs.Staging.{Stage, lacks}
-use Rattle.rvm_debug.specs.Guest.{Guest}
+use Rattle.rvm_board.specs.Guest.{Guest}
 use Rattle.rvm_state.specs.declared.fault.StateFault.{StateFault}
 use Rattle.rvm_state.specs.declared.fault.StateFault.TheVariants as faults
 use Rattle.rvm_guest.specs.Body.{build}
@@ -62,7 +62,7 @@ module _ (move : ℕ) (s : PlainStage) (stamp parts : ℕ) (pieces : ℕ → Opt
       ∙ ap (λ n. sends (Lacking n) (Lost move (members (lacks (stage_of s) numbers) 0 count)) (Staging move next)) (sym long)
       ∙ ap (λ ps. sends (Lacking (length missing)) (Lost move ps) (Staging move next)) (sym are)
 
-  -- want of memory where copies are lacking
+  -- out of memory, if copies are lacking
   pub lack_is_good : length numbers ≡ count → 0 < length (members (lacks (stage_of s) numbers) 0 count)
       → is_bad (state_came board move (stage_of s) next numbers body).reply ≡ false
   lack_is_good same some = ap (λ (o : BoardOutcome). is_bad o.reply) (some_lack (members (lacks (stage_of s) numbers) 0 count) same refl some)

@@ -1,4 +1,4 @@
--- The pages whose copies are lacking can be told in a frame.
+-- The pages whose copies are lacking fit in a Lost frame.
 use Rattle.std.proofs.Common.{◌≡◌, ◌<◌, ◌≤◌, ℕ, zero, suc, ◌+◌, Bool, true, false, ◌&&◌, if◌then◌else◌, List, ◌∷◌, length, refl, sym, subst, arith}
 use Rattle.std.specs.List.{list_all}
 use Rattle.std.proofs.lemmas.Bool.{le-leb}

@@ -1,12 +1,12 @@
--- What is here of a guest that comes: as plain values, and as the law of migration has it.
+-- What is here of a guest that is on its way, as plain values and as the protocol of live migration has it.
 use Rattle.std.specs.Prelude.{ℕ, ◌*◌, Bool, ◌&&◌, nat_lt, List, length, get_or, slice_set, replicate, Option, None}
 use Rattle.rvm_mem.specs.Bytes.{replaced}
 use Rattle.rvm_protocol.specs.Pages.{Pages}
 use Rattle.rvm_protocol.specs.Staging as protocol
 use Rattle.rvm_guest.specs.Pages.{pages_in}
 
--- RAM so far; for each page the number of the copy that is here, 0 for none; how many harts the guest has; of the pieces
--- of its state that are kept the stamp, how many there are, and each by its place
+-- a stage: the RAM so far; for each page the number of the copy that is here, 0 for none; how many harts the guest has;
+-- and, of the pieces of its state that are kept, the stamp, their state's count of pieces, and each piece by its index
 pub record PlainStage : Type 0 where
   pub bytes : List ℕ
   pub have : List ℕ
@@ -15,7 +15,7 @@ pub record PlainStage : Type 0 where
   pub parts : ℕ
   pub pieces : List (Option (List ℕ))
 
--- the stage of the law
+-- a stage, as the protocol has it
 abbrev pub stage_of : PlainStage → protocol.Stage (List ℕ)
 stage_of s =
     record {
@@ -27,7 +27,7 @@ stage_of s =
       pieces = λ i. get_or s.pieces i None;
     }
 
--- pages of zeros, no copy, no piece
+-- a stage of this many pages of zeros, with no copy and no piece
 abbrev pub blank : (pages harts : ℕ) → PlainStage
 blank pages harts =
     record {
@@ -39,15 +39,15 @@ blank pages harts =
       pieces = replicate 6 None;
     }
 
--- a copy of a page is newer than the one that is here
+-- whether a page is one of the guest's and a copy of it with this number is newer than the one that is here
 abbrev pub is_newer : (page number : ℕ) → PlainStage → Bool
 is_newer page number s = nat_lt page (length s.have) && nat_lt (get_or s.have page 0) number
 
--- with a copy of a page
+-- the stage with this copy of a page
 abbrev pub with_copy : (page number : ℕ) → List ℕ → PlainStage → PlainStage
 with_copy page number new s =
     record s { bytes = replaced (4096 * page) new s.bytes; have = slice_set s.have page number }
 
--- the pages whose copies here, with these numbers, are older than those that are named
+-- the pages of which the copy here is older than the one that is named
 abbrev pub is_older : (have numbers : List ℕ) → Pages
 is_older have numbers page = nat_lt (get_or have page 0) (get_or numbers page 0)

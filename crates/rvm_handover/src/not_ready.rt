@@ -7,24 +7,23 @@ use rvm_frame::PageNumbers;
 use rvm_state::StateFault;
 use thiserror::Error;
 
-/// Why a state made no guest.
+/// Why a state made no guest yet.
 #[derive(Debug, Drop, Error)]
 pub enum NotReady {
-    /// The copies of these pages, in rising order, are older than those that the state names, or
-    /// there is none.
+    /// These pages, in rising order, have no copy here or an older one than the state names.
     #[error("copies of pages are lacking")]
     Lacking(PageNumbers),
-    /// The state names other than one copy for each page, or its bytes make no guest of the size
-    /// that was offered.
+    /// The state does not name one copy for each page, or its bytes make no guest of the pages and harts that
+    /// were offered.
     #[error("the state does not fit what was offered, or spells no guest")]
     BadState,
-    /// A growth was refused.
+    /// Memory ran out.
     #[error("out of memory")]
     OutOfMemory,
 }
 
 impl NotReady {
-    /// The reason that reading a state gives.
+    /// The reason that stands for a fault of reading a state.
     pub(crate) fn from_fault(fault: StateFault) -> NotReady
         ensures { result ≡ reason_of fault }
     {

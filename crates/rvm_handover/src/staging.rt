@@ -1,4 +1,4 @@
-//! The pages of a guest that comes.
+//! What is here of a guest that is on its way: its pages and the pieces of its state.
 
 ghost use Rattle.std.specs.Prelude.{◌≡◌, ◌≤◌, ◌*◌, ◌<◌, ℕ, true, length, get_or, IfOk, IfErr, OnErr, Some, None, is_some, option_map, if◌then◌else◌};
 ghost use Rattle.rvm_frame.specs.Bodies.{lost};
@@ -14,24 +14,24 @@ ghost use Rattle.rvm_handover.specs.Pieces.{IsPartLeft, PartCanBeTold, left_of, 
 
 use crate::not_joined::NotJoined;
 use crate::not_ready::NotReady;
-use rvm_debug::Debugged;
+use rvm_board::Debugged;
 use rvm_frame::{Bytes, PageNumbers, state_parts};
 use rvm_mem::{Memory, PAGE_SIZE, PagedMemory};
 use rvm_state::{StateFault, read_state};
 use std::alloc::{AllocError, Global};
 use std::marker::Model;
 
-/// The most pieces of a state.
+/// The most pieces that a state has.
 const PIECES: usize = 6;
 
-/// A RAM that fills with copies of pages, the number of each page's copy, and the pieces of a state
-/// that came.
+/// The stage of a guest that is on its way: a RAM that fills with copies of pages, the number of each page's copy,
+/// and the pieces of a state that came.
 #[derive(Drop)]
 pub struct Staging<M: PagedMemory> {
     memory: M,
     have: Vec<u32>,
     harts: u32,
-    /// The highest stamp of a piece that came, 0 for none, and the count of parts of its state.
+    /// The stamp of the pieces that are kept, 0 if there are none; `parts` is their state's count of parts.
     stamp: u32,
     parts: u8,
     pieces: [Option<Bytes>; PIECES],
@@ -57,8 +57,8 @@ impl<M: PagedMemory> Model for Staging<M> {
 }
 
 impl<M: PagedMemory> Staging<M> {
-    /// A stage for a guest of so many pages, 1 to 4096, and harts: pages of zeros, no copy of one
-    /// and no piece of a state. Only here a stage takes memory for pages.
+    /// Makes a stage for a guest of this many pages, 1 to 4096, and harts: pages of zeros, with no copy and no
+    /// piece of a state. Fails if memory runs out; a stage takes memory for pages only here.
     pub fn offer(alloc: Global, pages: u32, harts: u32) -> Result<Staging<M>, AllocError>
         requires some { 0 < pages }
         requires few { pages ≤ 4096 }
@@ -77,7 +77,7 @@ impl<M: PagedMemory> Staging<M> {
         })
     }
 
-    /// How many pages the guest has.
+    /// Returns how many pages the guest has, 1 to 4096.
     pub fn pages(&self) -> u32
         ensures pages { result ≡ length self.now.have }
         ensures bytes { length self.now.bytes ≡ 4096 * result }
@@ -88,8 +88,8 @@ impl<M: PagedMemory> Staging<M> {
         self.memory.pages()
     }
 
-    /// Stores a copy of a page where the page is one of the guest's and the copy is newer than the
-    /// one that is here, and says whether it did; else nothing changes. Takes no memory.
+    /// Stores a copy of a page with this number if the page is one of the guest's and the copy is newer than the
+    /// one here; returns whether it did. Otherwise nothing changes. Takes no memory.
     pub fn page(&mut self, page: u32, number: u32, bytes: &[u8; PAGE_SIZE as usize]) -> bool
         ensures stored { result ≡ is_newer page number self.old }
         ensures stage { self.new
@@ -102,7 +102,7 @@ impl<M: PagedMemory> Staging<M> {
         self.store(page, number, bytes)
     }
 
-    /// Stores a copy of a page where it is newer than the one that is here.
+    /// Stores a copy of a page if it is newer than the one here.
     fn store(&mut self, page: u32, number: u32, bytes: &[u8; PAGE_SIZE as usize]) -> bool
         ensures stored { result ≡ is_newer page number self.old }
         ensures stage { self.new
@@ -117,7 +117,7 @@ impl<M: PagedMemory> Staging<M> {
         false
     }
 
-    /// Stores a copy of a page that is all zeros, as `page` does.
+    /// Stores a copy of a page of zeros, as `page` does. Takes no memory.
     pub fn zero(&mut self, page: u32, number: u32) -> bool
         ensures stored { result ≡ is_newer page number self.old }
         ensures stage { self.new
@@ -129,12 +129,11 @@ impl<M: PagedMemory> Staging<M> {
         self.page(page, number, &[0; PAGE_SIZE as usize])
     }
 
-    /// The guest, where every copy that the numbers name, one for each page in order, or a newer one
-    /// is here, and the bytes of a state make a guest of the pages with as many harts as were
-    /// offered. Else why not, and the stage as it was: `BadState` where there are not as many
-    /// numbers as pages; where copies are lacking, which; `BadState` where the bytes make no such
-    /// guest; and `OutOfMemory` only of a state that none of these holds of, or to tell which
-    /// copies are lacking.
+    /// Makes the guest of the pages and the bytes of a state. `numbers` names a copy for each page, in order; each
+    /// of them, or a newer one, must be here. Otherwise returns the reason, and the stage unchanged. In this order:
+    /// `BadState` if there are not as many numbers as pages; `Lacking` if copies are lacking; `BadState` if the
+    /// bytes make no guest of these pages with as many harts as were offered. `OutOfMemory` is the reason only if
+    /// none of these applies, or if there is no memory to list the copies that are lacking.
     pub fn state(
         self,
         alloc: Global,
@@ -165,10 +164,10 @@ impl<M: PagedMemory> Staging<M> {
         }
     }
 
-    /// Takes a piece of a state of stream versions 2 and 3: its stamp, its place among so many
-    /// parts, at most 6, and its bytes. Where all pieces are there, they are answered as the state
-    /// that they join to. Else why there is no guest, and the stage, with the piece where it is kept:
-    /// `OutOfMemory` only of a piece with which all are there.
+    /// Takes a piece of a state of stream versions 2 and 3: its stamp, its index `part` among `parts` pieces, at
+    /// most 6, and its bytes. If all pieces are there, goes on as `state` does with the state that they join to.
+    /// If that makes no guest, returns the reason, and the stage, which has the piece if the reason says that it is
+    /// kept. `OutOfMemory` is the reason only for a piece with which all are there.
     pub fn part(
         self,
         alloc: Global,
@@ -206,8 +205,8 @@ impl<M: PagedMemory> Staging<M> {
         }
     }
 
-    /// The reason that a state of pieces made no guest, and the stage, with the last piece where
-    /// copies are lacking.
+    /// The reason that a state in pieces made no guest, and the stage, which keeps the last piece if copies are
+    /// lacking.
     fn kept_if(
         self,
         reason: NotReady,
@@ -230,8 +229,8 @@ impl<M: PagedMemory> Staging<M> {
         }
     }
 
-    /// Whether a piece counts: its place is among its parts, and its stamp is higher than all before,
-    /// or the same with the same count of parts. Takes no memory.
+    /// Whether a piece belongs to the newest state: its index is below its count of parts, and its stamp is higher
+    /// than that of the pieces kept, or the same with the same count of parts. Takes no memory.
     pub fn takes(&self, stamp: u32, part: u8, parts: u8) -> bool
         ensures takes { result ≡ takes_part (stage_of self.now) stamp part parts }
         ensures places { length self.now.pieces ≡ 6 }
@@ -241,7 +240,7 @@ impl<M: PagedMemory> Staging<M> {
         part < parts && (self.stamp < stamp || stamp == self.stamp && parts == self.parts)
     }
 
-    /// The stage with a piece.
+    /// The stage with this piece too; if its stamp is higher, without the pieces before.
     fn with_piece(mut self, stamp: u32, part: u8, parts: u8, bytes: Bytes) -> Staging<M>
         requires { part < 6 }
         ensures { result ≡ with_piece stamp part parts bytes self }
@@ -256,8 +255,8 @@ impl<M: PagedMemory> Staging<M> {
         self
     }
 
-    /// The bytes of all pieces of a state, where none is lacking after this one. Takes memory only
-    /// there.
+    /// The bytes of all pieces of a state, if none is lacking once this one is there. Takes memory only in that
+    /// case.
     fn joined(
         &self,
         alloc: Global,
@@ -278,7 +277,8 @@ impl<M: PagedMemory> Staging<M> {
         }
     }
 
-    /// The guest that the pages and the bytes of a state make.
+    /// The guest that the pages and the bytes of a state make; if there is none, the fault and the stage
+    /// unchanged.
     fn make_guest(
         self,
         alloc: Global,
@@ -318,7 +318,7 @@ impl<M: PagedMemory> Staging<M> {
     }
 }
 
-/// The first byte, or 0 where there is none.
+/// The first byte, or 0 if there is none.
 fn first_of(bytes: &[u8]) -> u32
     ensures { result ≡ get_or bytes.now 0 0 }
 {
@@ -328,8 +328,8 @@ fn first_of(bytes: &[u8]) -> u32
     }
 }
 
-/// The pages whose copy here is older than the one that is named. Takes memory only where there is
-/// one.
+/// The pages whose copy here is older than the one that `numbers` names, in rising order. Takes memory only if
+/// there are any.
 fn missing(alloc: Global, have: &[u32], numbers: &[u32]) -> Result<Vec<u16>, AllocError>
     requires same { length numbers.now ≡ length have.now }
     requires few { length have.now ≤ 4096 }
@@ -346,7 +346,7 @@ fn missing(alloc: Global, have: &[u32], numbers: &[u32]) -> Result<Vec<u16>, All
     Ok(pages)
 }
 
-/// A piece by its place, where it is the one that came or is kept.
+/// The piece with index `place`, if it is the one that came or is kept.
 fn piece_at<'a>(
     pieces: &'a [Option<Bytes>],
     place: u8,
@@ -365,7 +365,7 @@ fn piece_at<'a>(
     }
 }
 
-/// Whether no piece is lacking. Takes no memory.
+/// Whether all pieces are there, with the one that came. Takes no memory.
 fn are_all_there(pieces: &[Option<Bytes>], part: u8, parts: u8, bytes: &[u8]) -> bool
     ensures { result
         ≡ is_some (gathered (put (λ i. get_or pieces.now i None) part (Some bytes.now)) 0 parts) }
@@ -378,7 +378,7 @@ fn are_all_there(pieces: &[Option<Bytes>], part: u8, parts: u8, bytes: &[u8]) ->
     true
 }
 
-/// The bytes of all pieces, one after the other, where none is lacking. Takes memory only there.
+/// The bytes of all pieces, concatenated, if none is lacking. Takes memory only in that case.
 fn join(
     alloc: Global,
     pieces: &[Option<Bytes>],

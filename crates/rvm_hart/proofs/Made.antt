@@ -188,7 +188,7 @@ pub no_steps : (n : ℕ) (m : Machine) → n ≡ 0 → steps n m ≡ record { ma
 unfolding steps
 no_steps n m e = rw e refl
 
--- the counters of a machine, so many steps later
+-- the counters of a machine, this many steps later
 pub counts : (k : ℕ) (m : Machine) → 0 < k
     → timed ((m.hart.csrs.mcycle + k) % 2 ^ 64) ((m.hart.csrs.minstret + k) % 2 ^ 64) ((m.shared.devices.mtime + k) % 2 ^ 64) m ≡ timed_after k m m
 counts k m some =

@@ -33,7 +33,7 @@ get_in_ram size [] i all = refl
 get_in_ram size (w ∷ words) zero all = first_is (is_in_ram size w) (are_in_ram size words) all
 get_in_ram size (w ∷ words) (suc i) all = get_in_ram size words i (rest_is (is_in_ram size w) (are_in_ram size words) all)
 
--- none of so many
+-- none of this many
 pub none_in_ram : (size n : ℕ) → are_in_ram size (replicate n None) ≡ true
 none_in_ram size zero = refl
 none_in_ram size (suc n) = none_in_ram size n

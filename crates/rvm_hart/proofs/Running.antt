@@ -73,7 +73,7 @@ retired_status (Trapped x) e = absurd cc
 retired_status (Interrupted i) e = absurd cc
 retired_status (Halted s) e = absurd cc
 
--- so many more, all of which retired
+-- this many more, all of which retired
 some_more : (w : Bool) (ms : List Bool) (k n : ℕ) (old : Machine) (log : List Bool) (x : Machine) (d : List Bool) → Gone w ms n old log x d
     → all_pass w ms k x ≡ true → (steps k x).retired ≡ true → Gone w ms (n + k) old log (steps k x).machine (mark_all (steps k x).pages d)
 unfolding steps all_pass

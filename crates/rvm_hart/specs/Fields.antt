@@ -21,7 +21,7 @@ pub record CanBeHeld (f : HartFields) : Type 0 where
   pub pc : f.pc % 4 ≡ 0
   pub csrs : csr.CanBeHeld f.csrs
 
--- an address is that of an aligned word of a RAM of so many bytes
+-- an address is that of an aligned word of a RAM of this many bytes
 abbrev pub is_ram_word : (size address : ℕ) → Bool
 is_ram_word size a = a % 4 == 0 && nat_le ram_base a && nat_le (a + 4) (ram_base + size)
 

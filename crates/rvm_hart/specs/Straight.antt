@@ -137,7 +137,7 @@ fetched_stays None m = false
 abbrev pub is_straight : Machine → Bool
 is_straight m = fetched_stays (ram_load 4 m.hart.pc m.shared.bytes) m
 
--- so many such instructions, one after another
+-- this many such instructions, one after another
 pub record Went : Type 0 where
   pub machine : Machine
   pub dirty : List Bool
@@ -160,7 +160,7 @@ went watched marks (suc n) m d =
     (is_straight (went watched marks n m d).machine && passes watched marks (went watched marks n m d).machine.hart.pc)
     (went watched marks n m d)
 
--- a counter after so many steps that it counts
+-- a counter after this many steps that it counts
 abbrev pub risen : (steps : ℕ) → ℕ → ℕ
 risen zero n = n
 risen (suc k) n = counted true (risen k n)
@@ -177,7 +177,7 @@ timed c i t m =
       shared = record m.shared { devices = at_time t m.shared.devices };
     }
 
--- a machine, with the counters of another one so many steps later
+-- a machine, with the counters of another one this many steps later
 abbrev pub timed_after : (steps : ℕ) → (from : Machine) → Machine → Machine
 timed_after k from m = timed (risen k from.hart.csrs.mcycle) (risen k from.hart.csrs.minstret) (risen k from.shared.devices.mtime) m
 
@@ -206,7 +206,7 @@ is_retired (Trapped e) = false
 is_retired (Interrupted i) = false
 is_retired (Halted s) = false
 
--- so many steps, one after another: what they leave, the pages that they wrote, and whether each retired
+-- this many steps, one after another: what they leave, the pages that they wrote, and whether each retired
 pub record Steps : Type 0 where
   pub machine : Machine
   pub pages : List ℕ

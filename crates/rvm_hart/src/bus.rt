@@ -136,7 +136,7 @@ impl<M: Memory> Bus<M> {
         self.devices.tick();
     }
 
-    /// The time is so many steps later.
+    /// The time is this many steps later.
     #[inline(always)]
     pub fn tick_many(&mut self, steps: u32)
         ensures { self.new ≡ with_devices
@@ -504,7 +504,7 @@ fn written_by(register: Register, value: u32) -> Written
     }
 }
 
-/// Ends the reservations of the words of so many bytes from an address on.
+/// Ends the reservations of the words of this many bytes from an address on.
 fn poke_each(reservations: &mut Reservations, address: u32, count: usize)
     requires { address + count ≤ 2 ^ 32 }
     ensures { reservations.new ≡ poked_each address count reservations.old }

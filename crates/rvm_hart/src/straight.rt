@@ -73,7 +73,7 @@ impl Hart {
         }
     }
 
-    /// The counters rise by so many steps.
+    /// The counters rise by this many steps.
     #[inline(always)]
     fn count_steps<M: Memory>(&mut self, bus: &mut Bus<M>, steps: u32)
         ensures machine { machine self.new bus.new
@@ -1176,7 +1176,7 @@ fn next_of(at: u32) -> u32
     at.wrapping_add(4)
 }
 
-/// The place at so many bytes from another, if an instruction can be there. The offset is looked at and not the place,
+/// The place at this many bytes from another, if an instruction can be there. The offset is looked at and not the place,
 /// so that the path need not keep both.
 #[inline(always)]
 #[tactic(auto, using(crate::proofs::Places::moved, crate::proofs::Places::moved_to_four), unfolding(crate::specs::Straight::based))]

@@ -9,24 +9,24 @@ use Rattle.rvm_host_command.specs.declared.tell_command.Told.TheVariants.{Done, 
 
 -- ONE ANSWER
 
--- so many lines of one answer were read of what is known
+-- this many lines of one answer were read of what is known
 abbrev pub HaveGone : (first last : Option (List ℕ)) → Type 0
-HaveGone first last = IfSome first (λ bytes. (lines : ℕ) × (behind : List ℕ) × (last ≡ Some behind) × AreBefore lines bytes behind)
+HaveGone first last = IfSome first (λ bytes. (lines : ℕ) × (after : List ℕ) × (last ≡ Some after) × AreBefore lines bytes after)
 
 pub none_gone : (known : Option (List ℕ)) → HaveGone known known
 none_gone None = tt
 none_gone (Some bytes) = (0, bytes, refl, refl)
 
-one_before : (n : ℕ) (bytes behind : List ℕ) → AreBefore n bytes behind → GoesOn (take_through 10 behind)
-    → AreBefore (suc n) bytes (drop_through 10 behind)
-one_before zero bytes behind is goes =
+one_before : (n : ℕ) (bytes after : List ℕ) → AreBefore n bytes after → GoesOn (take_through 10 after)
+    → AreBefore (suc n) bytes (drop_through 10 after)
+one_before zero bytes after is goes =
     (subst (λ l. GoesOn (take_through 10 l)) is goes, subst (λ l. drop_through 10 l ≡ drop_through 10 bytes) (sym is) refl)
-one_before (suc n) bytes behind (goes, is) more = (goes, one_before n (drop_through 10 bytes) behind is more)
+one_before (suc n) bytes after (goes, is) more = (goes, one_before n (drop_through 10 bytes) after is more)
 
-read_line : (front line : List ℕ) (last : Option (List ℕ)) (behind : List ℕ) → last ≡ Some behind → front ≡ []
-    → IfSome last (λ bytes. line ≡ front ++ take_through 10 bytes) → line ≡ take_through 10 behind
-read_line front line last behind known none is =
-    subst (λ f. line ≡ f ++ take_through 10 behind) none
+read_line : (front line : List ℕ) (last : Option (List ℕ)) (after : List ℕ) → last ≡ Some after → front ≡ []
+    → IfSome last (λ bytes. line ≡ front ++ take_through 10 bytes) → line ≡ take_through 10 after
+read_line front line last after known none is =
+    subst (λ f. line ≡ f ++ take_through 10 after) none
     (subst (λ o. IfSome o (λ l. line ≡ front ++ take_through 10 l)) known is)
 
 -- and one more
@@ -34,22 +34,22 @@ pub one_gone : (first last new : Option (List ℕ)) (front line : List ℕ) → 
     → IfSome last (λ bytes. line ≡ front ++ take_through 10 bytes) → IfSome last (λ bytes. new ≡ Some (drop_through 10 bytes)) → GoesOn line
     → HaveGone first new
 one_gone None last new front line gone none is rest goes = tt
-one_gone (Some bytes) last new front line (n, behind, known, before) none is rest goes =
-    let is : line ≡ take_through 10 behind = read_line front line last behind known none is in
-    let rest : new ≡ Some (drop_through 10 behind) = subst (λ o. IfSome o (λ l. new ≡ Some (drop_through 10 l))) known rest in
-    (suc n, drop_through 10 behind, rest, one_before n bytes behind before (subst GoesOn is goes))
+one_gone (Some bytes) last new front line (n, after, known, before) none is rest goes =
+    let is : line ≡ take_through 10 after = read_line front line last after known none is in
+    let rest : new ≡ Some (drop_through 10 after) = subst (λ o. IfSome o (λ l. new ≡ Some (drop_through 10 l))) known rest in
+    (suc n, drop_through 10 after, rest, one_before n bytes after before (subst GoesOn is goes))
 
 -- and the last one
 pub says_so : (first last new : Option (List ℕ)) (front line : List ℕ) (told : Told) → HaveGone first last → front ≡ []
     → IfSome last (λ bytes. line ≡ front ++ take_through 10 bytes) → IfSome last (λ bytes. new ≡ Some (drop_through 10 bytes))
-    → line ≡ last_line told → IfSome first (λ bytes. (behind : List ℕ) × (new ≡ Some behind) × Says told bytes behind)
+    → line ≡ last_line told → IfSome first (λ bytes. (after : List ℕ) × (new ≡ Some after) × Says told bytes after)
 says_so None last new front line told gone none is rest says = tt
-says_so (Some bytes) last new front line told (n, behind, known, before) none is rest says =
-    let is : line ≡ take_through 10 behind = read_line front line last behind known none is in
-    let rest : new ≡ Some (drop_through 10 behind) = subst (λ o. IfSome o (λ l. new ≡ Some (drop_through 10 l))) known rest in (
-      drop_through 10 behind,
+says_so (Some bytes) last new front line told (n, after, known, before) none is rest says =
+    let is : line ≡ take_through 10 after = read_line front line last after known none is in
+    let rest : new ≡ Some (drop_through 10 after) = subst (λ o. IfSome o (λ l. new ≡ Some (drop_through 10 l))) known rest in (
+      drop_through 10 after,
       rest,
-      record { lines = n; last = behind; before = before; says = sym is ∙ says; rest = refl },
+      record { lines = n; last = after; before = before; says = sym is ∙ says; rest = refl },
     )
 
 -- A LINE TO BE TOLD
@@ -66,8 +66,8 @@ line_read (Some (b ∷ bytes)) new line some is rest = ((λ e. absurd cc), rest)
 -- each line was answered so far, and this came of them
 pub record SoFar (lines lines_left answers answers_left : Option (List ℕ)) (told : Told) : Type 0 where
   pub each : List Told
-  pub asked : IfSome lines (λ bytes. (behind : List ℕ) × (lines_left ≡ Some behind) × AreLinesFor each bytes behind)
-  pub answered : IfSome answers (λ bytes. (behind : List ℕ) × (answers_left ≡ Some behind) × AreAnswers each bytes behind)
+  pub asked : IfSome lines (λ bytes. (after : List ℕ) × (lines_left ≡ Some after) × AreLinesFor each bytes after)
+  pub answered : IfSome answers (λ bytes. (after : List ℕ) × (answers_left ≡ Some after) × AreAnswers each bytes after)
   pub says : told ≡ all_done each
 
 unread : (o : Option (List ℕ)) → prepend_known [] o ≡ o
@@ -84,21 +84,21 @@ fresh capacity buffer rest known size none is =
 
 pub none_yet : (lines answers : Option (List ℕ)) → SoFar lines lines answers answers Done
 none_yet lines answers = record { each = []; asked = itself lines; answered = itself answers; says = refl } where
-  itself : (o : Option (List ℕ)) → IfSome o (λ bytes. (behind : List ℕ) × (o ≡ Some behind) × (behind ≡ bytes))
+  itself : (o : Option (List ℕ)) → IfSome o (λ bytes. (after : List ℕ) × (o ≡ Some after) × (after ≡ bytes))
   itself None = tt
   itself (Some bytes) = (bytes, refl, refl)
 
-lines_more : (ts : List Told) (t : Told) (bytes behind : List ℕ) → AreLinesFor ts bytes behind → behind ≢ []
-    → AreLinesFor (ts ++ t ∷ []) bytes (drop_through 10 behind)
-lines_more [] t bytes behind is some =
+lines_more : (ts : List Told) (t : Told) (bytes after : List ℕ) → AreLinesFor ts bytes after → after ≢ []
+    → AreLinesFor (ts ++ t ∷ []) bytes (drop_through 10 after)
+lines_more [] t bytes after is some =
     (subst (λ l. l ≢ []) is some, subst (λ l. drop_through 10 l ≡ drop_through 10 bytes) (sym is) refl)
-lines_more (x ∷ ts) t bytes behind (first, is) some = (first, lines_more ts t (drop_through 10 bytes) behind is some)
+lines_more (x ∷ ts) t bytes after (first, is) some = (first, lines_more ts t (drop_through 10 bytes) after is some)
 
-answers_more : (ts : List Told) (t : Told) (bytes behind last : List ℕ) → AreAnswers ts bytes behind → Says t behind last
+answers_more : (ts : List Told) (t : Told) (bytes after last : List ℕ) → AreAnswers ts bytes after → Says t after last
     → AreAnswers (ts ++ t ∷ []) bytes last
-answers_more [] t bytes behind last is says = (last, subst (λ l. Says t l last) is says, refl)
-answers_more (x ∷ ts) t bytes behind last (between, first, is) says =
-    (between, first, answers_more ts t between behind last is says)
+answers_more [] t bytes after last is says = (last, subst (λ l. Says t l last) is says, refl)
+answers_more (x ∷ ts) t bytes after last (between, first, is) says =
+    (between, first, answers_more ts t between after last is says)
 
 both_swap : (a b c : Told) → both_done (both_done a b) c ≡ both_done (both_done a c) b
 both_swap a Done Done = refl
@@ -111,28 +111,28 @@ done_more [] t = refl
 done_more (x ∷ ts) t = ap (λ (a : Told). both_done a x) (done_more ts t) ∙ both_swap (all_done ts) t x
 
 asked_more : (ts : List Told) (t : Told) (first last new : Option (List ℕ))
-    → IfSome first (λ bytes. (behind : List ℕ) × (last ≡ Some behind) × AreLinesFor ts bytes behind)
+    → IfSome first (λ bytes. (after : List ℕ) × (last ≡ Some after) × AreLinesFor ts bytes after)
     → IfSome last (λ bytes. (bytes ≢ []) × (new ≡ Some (drop_through 10 bytes)))
-    → IfSome first (λ bytes. (behind : List ℕ) × (new ≡ Some behind) × AreLinesFor (ts ++ t ∷ []) bytes behind)
+    → IfSome first (λ bytes. (after : List ℕ) × (new ≡ Some after) × AreLinesFor (ts ++ t ∷ []) bytes after)
 asked_more ts t None last new before more = tt
-asked_more ts t (Some bytes) last new (behind, known, before) more =
+asked_more ts t (Some bytes) last new (after, known, before) more =
     let one = subst (λ o. IfSome o (λ l. (l ≢ []) × (new ≡ Some (drop_through 10 l)))) known more in
-    (drop_through 10 behind, one.1, lines_more ts t bytes behind before one.0)
+    (drop_through 10 after, one.1, lines_more ts t bytes after before one.0)
 
 answered_more : (ts : List Told) (t : Told) (first last new : Option (List ℕ))
-    → IfSome first (λ bytes. (behind : List ℕ) × (last ≡ Some behind) × AreAnswers ts bytes behind)
-    → IfSome last (λ bytes. (behind : List ℕ) × (new ≡ Some behind) × Says t bytes behind)
-    → IfSome first (λ bytes. (behind : List ℕ) × (new ≡ Some behind) × AreAnswers (ts ++ t ∷ []) bytes behind)
+    → IfSome first (λ bytes. (after : List ℕ) × (last ≡ Some after) × AreAnswers ts bytes after)
+    → IfSome last (λ bytes. (after : List ℕ) × (new ≡ Some after) × Says t bytes after)
+    → IfSome first (λ bytes. (after : List ℕ) × (new ≡ Some after) × AreAnswers (ts ++ t ∷ []) bytes after)
 answered_more ts t None last new before more = tt
-answered_more ts t (Some bytes) last new (behind, known, before) more =
+answered_more ts t (Some bytes) last new (after, known, before) more =
     let one = subst (λ o. IfSome o (λ l. (r : List ℕ) × (new ≡ Some r) × Says t l r)) known more in
-    (one.0, one.1, answers_more ts t bytes behind one.0 before one.2)
+    (one.0, one.1, answers_more ts t bytes after one.0 before one.2)
 
 -- one more was answered
 pub one_more : (lines lines_left lines_new answers answers_left answers_new : Option (List ℕ)) (told t : Told)
     → SoFar lines lines_left answers answers_left told
     → IfSome lines_left (λ bytes. (bytes ≢ []) × (lines_new ≡ Some (drop_through 10 bytes)))
-    → IfSome answers_left (λ bytes. (behind : List ℕ) × (answers_new ≡ Some behind) × Says t bytes behind)
+    → IfSome answers_left (λ bytes. (after : List ℕ) × (answers_new ≡ Some after) × Says t bytes after)
     → SoFar lines lines_new answers answers_new (both_done told t)
 one_more lines lines_left lines_new answers answers_left answers_new told t so line answer = record {
   each = so.each ++ t ∷ [];
@@ -150,13 +150,13 @@ all_answered lines lines_left answers answers_left told so ended = record {
   answered = answered_all answers so.answered;
   says = so.says;
 } where
-  asked_all : (o : Option (List ℕ)) → IfSome o (λ bytes. (behind : List ℕ) × (lines_left ≡ Some behind) × AreLinesFor so.each bytes behind)
+  asked_all : (o : Option (List ℕ)) → IfSome o (λ bytes. (after : List ℕ) × (lines_left ≡ Some after) × AreLinesFor so.each bytes after)
       → IfSome o (λ bytes. AreLinesFor so.each bytes [])
   asked_all None is = tt
-  asked_all (Some bytes) (behind, known, is) =
+  asked_all (Some bytes) (after, known, is) =
       subst (λ l. AreLinesFor so.each bytes l) (subst IsAtEnd known ended) is
 
-  answered_all : (o : Option (List ℕ)) → IfSome o (λ bytes. (behind : List ℕ) × (answers_left ≡ Some behind) × AreAnswers so.each bytes behind)
-      → IfSome o (λ bytes. (behind : List ℕ) × AreAnswers so.each bytes behind)
+  answered_all : (o : Option (List ℕ)) → IfSome o (λ bytes. (after : List ℕ) × (answers_left ≡ Some after) × AreAnswers so.each bytes after)
+      → IfSome o (λ bytes. (after : List ℕ) × AreAnswers so.each bytes after)
   answered_all None is = tt
-  answered_all (Some bytes) (behind, known, is) = (behind, is)
+  answered_all (Some bytes) (after, known, is) = (after, is)

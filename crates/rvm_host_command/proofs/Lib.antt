@@ -1,2 +1,5 @@
 mod Sends
 pub mod Answered
+mod Examples
+pub mod Told
+pub mod Hosted

@@ -14,28 +14,28 @@ pub record GoesOn (line : List ℕ) : Type 0 where
   pub not_done : line ≢ last_line Done
   pub not_undone : line ≢ last_line NotDone
 
--- these bytes begin with so many lines of an answer, behind which are those
-abbrev pub AreBefore : (lines : ℕ) → (bytes behind : List ℕ) → Type 0
-AreBefore zero bytes behind = behind ≡ bytes
-AreBefore (suc n) bytes behind = GoesOn (take_through 10 bytes) × AreBefore n (drop_through 10 bytes) behind
+-- these bytes begin with this many lines of an answer, and those come after them
+abbrev pub AreBefore : (lines : ℕ) → (bytes after : List ℕ) → Type 0
+AreBefore zero bytes after = after ≡ bytes
+AreBefore (suc n) bytes after = GoesOn (take_through 10 bytes) × AreBefore n (drop_through 10 bytes) after
 
--- these bytes begin with an answer that says so, behind which are those
-pub record Says (told : Told) (bytes behind : List ℕ) : Type 0 where
+-- these bytes begin with an answer that says so, and those come after it
+pub record Says (told : Told) (bytes after : List ℕ) : Type 0 where
   pub lines : ℕ
   pub last : List ℕ
   pub before : AreBefore lines bytes last
   pub says : take_through 10 last ≡ last_line told
-  pub rest : behind ≡ drop_through 10 last
+  pub rest : after ≡ drop_through 10 last
 
--- these bytes begin with such answers, one behind the other, behind which are those
-abbrev pub AreAnswers : List Told → (bytes behind : List ℕ) → Type 0
-AreAnswers [] bytes behind = behind ≡ bytes
-AreAnswers (t ∷ ts) bytes behind = (between : List ℕ) × Says t bytes between × AreAnswers ts between behind
+-- these bytes begin with such answers, one after the other, and those come after them
+abbrev pub AreAnswers : List Told → (bytes after : List ℕ) → Type 0
+AreAnswers [] bytes after = after ≡ bytes
+AreAnswers (t ∷ ts) bytes after = (between : List ℕ) × Says t bytes between × AreAnswers ts between after
 
--- these bytes begin with a line for each answer, behind which are those
-abbrev pub AreLinesFor : List Told → (bytes behind : List ℕ) → Type 0
-AreLinesFor [] bytes behind = behind ≡ bytes
-AreLinesFor (t ∷ ts) bytes behind = (bytes ≢ []) × AreLinesFor ts (drop_through 10 bytes) behind
+-- these bytes begin with a line for each answer, and those come after them
+abbrev pub AreLinesFor : List Told → (bytes after : List ℕ) → Type 0
+AreLinesFor [] bytes after = after ≡ bytes
+AreLinesFor (t ∷ ts) bytes after = (bytes ≢ []) × AreLinesFor ts (drop_through 10 bytes) after
 
 -- whether both happened
 abbrev pub both_done : Told → Told → Told
@@ -51,5 +51,5 @@ all_done (t ∷ ts) = both_done (all_done ts) t
 pub record AreAnswered (lines answers : Option (List ℕ)) (told : Told) : Type 0 where
   pub each : List Told
   pub asked : IfSome lines (λ bytes. AreLinesFor each bytes [])
-  pub answered : IfSome answers (λ bytes. (behind : List ℕ) × AreAnswers each bytes behind)
+  pub answered : IfSome answers (λ bytes. (after : List ℕ) × AreAnswers each bytes after)
   pub says : told ≡ all_done each

@@ -1,17 +1,18 @@
 -- What a host process shows.
-use Rattle.std.specs.Prelude.{◌≡◌, ◌≢◌, ◌<◌, ℕ, List, true, length, Option, None, Some, Result, Ok, Err, IfOk}
+use Rattle.std.specs.Prelude.{◌≡◌, ◌≢◌, ◌<◌, ℕ, zero, suc, Bool, if◌then◌else◌, List, true, length, Option, None, Some, Result, Ok, Err, IfOk}
 use Rattle.rvm_arguments.specs.declared.arguments.GuestArguments.{GuestArguments}
 use Rattle.rvm_arguments.specs.declared.arguments.HostArguments.{HostArguments}
 use Rattle.rvm_command.specs.Command.{guest_of, image_of}
 use Rattle.rvm_command.specs.Ends.{IsLoadable}
-use Rattle.rvm_core.specs.Hosts.{PlainHost, new_host}
-use Rattle.rvm_debug.specs.Guest.{GuestState}
-use Rattle.rvm_host_cell.specs.Events.{IsAnswer}
-use Rattle.rvm_host_worker.specs.Console.{IsShown}
-use Rattle.rvm_host_worker.specs.declared.harts.HartsEnd.{HartsEnd}
-use Rattle.rvm_host_worker.specs.declared.harts.HartsEnd.TheVariants.{ConsoleFault}
-use Rattle.rvm_peers.specs.Peers.{is_letter_of, peers_in}
-use Rattle.rvm_script.specs.Words.{lines}
+use Rattle.rvm_host.specs.Hosts.{PlainHost, new_host}
+use Rattle.rvm_board.specs.Guest.{GuestState}
+use Rattle.rvm_cell.specs.Events.{IsAnswer}
+use Rattle.rvm_cell.specs.Console.{IsShown}
+use Rattle.rvm_cell.specs.Halts.{EndsSo}
+use Rattle.rvm_cell.specs.declared.host_harts.HartsEnd.{HartsEnd}
+use Rattle.rvm_cell.specs.declared.host_harts.HartsEnd.TheVariants.{Stopped, Halted, ConsoleFault}
+use Rattle.rvm_greeting.specs.Peers.{is_letter_of, peers_in}
+use Rattle.rvm_debug.specs.Words.{lines}
 
 -- the host of a process at its start, with this guest or none: its number, and how many hosts the world has
 abbrev pub opening_of : Option GuestState → (id count : ℕ) → PlainHost
@@ -25,7 +26,7 @@ IsGuestOf (Some a) image (Some g) =
     IsLoadable (image_of a.raw image) a.pages
     × IfOk (image_of a.raw image) (λ i. g.guest ≡ guest_of a.harts a.pages i.0 i.1)
 
--- the host of this number, among so many, has this name
+-- the host of this number, among this many, has this name
 abbrev pub IsNamed : (name : List ℕ) → (count number : ℕ) → Type 0
 IsNamed name count number = (number < count) × (is_letter_of number name ≡ true)
 
@@ -33,18 +34,41 @@ IsNamed name count number = (number < count) × (is_letter_of number name ≡ tr
 abbrev pub IsShownBy : (opening : PlainHost) → (before now : Option (List ℕ)) → Type 0
 IsShownBy opening before now = IsShown (IsAnswer opening) None None before now
 
--- a host worked, and its console shows what the guest sent while it was here: the world is that of its file, the host
--- that of its name, and what it began with is the guest of the image, if it was given one
-pub record IsHosted (a : HostArguments) (peers image : List ℕ) (before now : Option (List ℕ)) : Type 0 where
+-- it worked until it came to this end: its console shows that, and where the guest's board is halted, one of these hosts
+-- said so
+pub record HasWorked (opening : PlainHost) (end : HartsEnd) (before now : Option (List ℕ)) : Type 0 where
+  pub shown : IsShownBy opening before now
+  pub halted : EndsSo (IsAnswer opening) end
+
+-- a host worked until it came to this end, and its console shows what the guest sent while it was here: the world is that
+-- of its file, the host that of its name, and what it began with is the guest of the image, if it was given one
+pub record IsHosted (a : HostArguments) (peers image : List ℕ) (end : HartsEnd) (before now : Option (List ℕ)) : Type 0 where
   pub world : List (List ℕ)
   pub number : ℕ
   pub guest : Option GuestState
   pub world_is : peers_in (lines peers) ≡ Some world
   pub named : IsNamed a.name.now (length world) number
   pub guest_is : IsGuestOf a.guest image guest
-  pub shown : IsShownBy (opening_of guest number (length world)) before now
+  pub worked : HasWorked (opening_of guest number (length world)) end before now
+
+-- the status of a host that ended so: with a verdict it is 3 where the guest halted here with another status than 0
+abbrev pub host_status : (verdict : Bool) → HartsEnd → ℕ
+host_status verdict Stopped = 0
+host_status verdict (Halted zero) = 0
+host_status verdict (Halted (suc n)) = if verdict then 3 else 0
+host_status verdict ConsoleFault = 1
+
+-- and 1 is the status of one that did not begin
+abbrev pub status_told : {F : Type 0} → (verdict : Bool) → Result HartsEnd F → ℕ
+status_told verdict (Ok end) = host_status verdict end
+status_told verdict (Err fault) = 1
 
 -- a host worked until it was ended, and wrote all that it had to write
 abbrev pub HasBegun : {F : Type 0} → Result HartsEnd F → Type 0
 HasBegun (Ok end) = end ≢ ConsoleFault
 HasBegun (Err fault) = ⊥
+
+-- it worked until it came to an end that has this status
+abbrev pub IsHostedTo : HostArguments → (peers image : List ℕ) → (status : ℕ) → (before now : Option (List ℕ)) → Type 0
+IsHostedTo a peers image status before now =
+    (end : HartsEnd) × (status ≡ host_status a.verdict end) × IsHosted a peers image end before now

@@ -1,19 +1,24 @@
 //! What a host answers to a line of an operator.
 
-ghost use Rattle.std.specs.Prelude.{◌≡◌, IfOk};
-ghost use Rattle.rvm_host_command.specs.Told.{IsMoveTold};
-ghost use Rattle.rvm_host_worker.specs.Movers.{IsMoveEnd};
+ghost use Rattle.std.specs.Prelude.{◌≡◌, ◌++◌, codes, IfOk, IfSome};
+ghost use Rattle.std.specs.Io.KnownBytes.{Appends};
+ghost use Rattle.rvm_cell.specs.Movers.{IsMoveEnd};
+ghost use Rattle.rvm_host_command.specs.Told.{AreStepsTold, IsAskedTold, IsCommandTold, IsEventTold, IsInputTold, IsLastInput, IsLastStep, IsLineTold, IsMoveTold, outcome_of};
+ghost use Rattle.rvm_message.specs.declared.event.Command.TheVariants as command;
+ghost use Rattle.rvm_message.specs.declared.event.HostEvent.TheVariants.{Do};
+ghost use Rattle.rvm_refusal.specs.Refusal.{text_of};
 
 use crate::process::Process;
-use rvm_core::ModeKind;
-use rvm_debug::{BoardEvent, BoardReply};
-use rvm_host_cell::{Access, Hosting};
-use rvm_host_worker::{Figures, MoveEnd, MovePlan, Progress, Watch, move_guest};
+use rvm_board::{BoardEvent, BoardReply};
+use rvm_cell::{
+    Access, Figures, Hosting, MoveEnd, MovePlan, Progress, ProgressReporter, move_away,
+};
+use rvm_core::{Asked, WorldLine, write_guest_reply, write_move_reply, write_steps_reply};
+use rvm_debug::{HexText, Line, address_of, is_refused};
+use rvm_host::ModeKind;
 use rvm_message::{Command, HostReply};
 use rvm_precopy::Policy;
 use rvm_refusal::{LinkFault, Refusal};
-use rvm_script::{HexText, Line, address_of, is_refused};
-use rvm_world_line::{Asked, WorldLine, write_guest_reply, write_move_reply, write_steps_reply};
 use std::io::{Read, Write};
 use std::net::OpenStream;
 use std::sync::Wait;
@@ -29,7 +34,9 @@ pub(crate) enum Outcome {
 
 /// Refuses a line.
 fn refuse<O: Write>(output: &mut O, why: Refusal) -> Result<Outcome, LinkFault>
-    ensures { IfOk result (λ outcome. outcome ≡ Outcome.Refused) }
+    ensures refused { IfOk result (λ outcome. outcome ≡ Outcome.Refused) }
+    ensures told { IfOk result (λ outcome. Appends (O.contents output.old) (O.contents output.new)
+        (text_of why ++ codes "\n")) }
 {
     writeln!(output, "{why}")?;
     Ok(Outcome::Refused)
@@ -62,9 +69,10 @@ pub(crate) fn answer_line<
     }
     match WorldLine::read(line, process.hosts) {
         Some(WorldLine::Empty) => Ok(Outcome::Done),
-        Some(WorldLine::Host { host, asked }) if is_for(process.station.id, host) => answer_asked(
-            rt, process, access, asked, output,
-        ),
+        Some(WorldLine::Host { host, asked }) if is_for(process.station.id, host) => {
+            let other = other_host(process.station.id);
+            answer_asked(rt, process, access, asked, other, output)
+        }
         _ => refuse(output, Refusal::BadToken),
     }
 }
@@ -74,7 +82,7 @@ fn is_for(id: u8, host: Option<u8>) -> bool {
     host.is_none() || host == Some(id)
 }
 
-/// Does what the host is asked, and writes the answer.
+/// Does what the host is asked, and writes the answer. A move of which no target is named goes to the other host.
 fn answer_asked<
     L: Hosting,
     A: Access<L>,
@@ -86,9 +94,12 @@ fn answer_asked<
     process: &Process<L, S>,
     access: &mut A,
     asked: Asked<'_>,
+    other: u8,
     output: &mut O,
-) -> Result<Outcome, LinkFault> {
-    let other = other_host(process.station.id);
+) -> Result<Outcome, LinkFault>
+    ensures { IfOk result (λ outcome. IsAskedTold L.gave other asked.entry outcome (O.contents output.old)
+        (O.contents output.new)) }
+{
     match asked {
         Asked::Guest(line) => answer_guest(rt, process, access, line, output),
         Asked::Move { to, policy } => answer_move(
@@ -167,7 +178,7 @@ struct Watcher<'w, O: Write, R: Clock> {
     told: Duration,
 }
 
-impl<'w, O: Write, R: Clock> Watch for Watcher<'w, O, R> {
+impl<'w, O: Write, R: Clock> ProgressReporter for Watcher<'w, O, R> {
     fn tell(&mut self, progress: Progress) {
         let now = self.rt.monotonic().unwrap_or(Duration::ZERO);
         if now.saturating_sub(self.told) < Duration::from_millis(PROGRESS) {
@@ -217,7 +228,7 @@ fn answer_move<
         output: &mut *output,
         told: rt.monotonic().unwrap_or(Duration::ZERO),
     };
-    let end = move_guest(
+    let end = move_away(
         rt,
         &process.station,
         access,
@@ -226,11 +237,11 @@ fn answer_move<
         &mut watcher,
     );
     process.harts.moves.store(false, Ordering::SeqCst);
-    tell_end::<L, O>(output, end)
+    tell_move_end::<L, O>(output, end)
 }
 
 /// Writes how a move ended.
-fn tell_end<L: Hosting, O: Write>(output: &mut O, end: MoveEnd) -> Result<Outcome, LinkFault>
+fn tell_move_end<L: Hosting, O: Write>(output: &mut O, end: MoveEnd) -> Result<Outcome, LinkFault>
     requires { IsMoveEnd L.gave end }
     ensures { IfOk result (IsMoveTold L.gave) }
 {
@@ -262,13 +273,17 @@ fn tell_figures<O: Write>(output: &mut O, figures: &Figures) -> Result<Outcome, 
 }
 
 /// Gives the host a command of a move, and writes the reply.
+#[tactic(auto, using(crate::proofs::Told::command_told))]
 fn answer_command<L: Hosting, A: Access<L>, S: Read + Write + OpenStream + Drop, O: Write, R: Wait>(
     rt: &R,
     process: &Process<L, S>,
     access: &mut A,
     command: &Command,
     output: &mut O,
-) -> Result<Outcome, LinkFault> {
+) -> Result<Outcome, LinkFault>
+    ensures { IfOk result (λ outcome. IsCommandTold L.gave command.now outcome (O.contents output.old)
+        (O.contents output.new)) }
+{
     let Ok(reply) = process.station.obey(rt, access, command) else {
         return refuse(output, Refusal::OutOfMemory);
     };
@@ -277,7 +292,9 @@ fn answer_command<L: Hosting, A: Access<L>, S: Read + Write + OpenStream + Drop,
 }
 
 /// Whether what a host was asked happened.
-fn outcome_of(reply: &HostReply) -> Outcome {
+fn outcome_of(reply: &HostReply) -> Outcome
+    ensures { result ≡ outcome_of reply.now }
+{
     match reply {
         HostReply::Board(answer) => {
             if is_refused(answer) {
@@ -298,39 +315,53 @@ fn answer_guest<L: Hosting, A: Access<L>, S: Read + Write + OpenStream + Drop, O
     access: &mut A,
     line: Line<'_>,
     output: &mut O,
-) -> Result<Outcome, LinkFault> {
-    let (address, reply) = match line {
-        Line::Empty => return Ok(Outcome::Done),
-        Line::Steps { hart, count } => return answer_steps(
-            rt, process, access, hart, count, output,
-        ),
-        Line::Input(bytes) => (None, type_in(rt, process, access, bytes)),
-        Line::Ask(event) => {
-            let address = address_of(&event);
-            (address, ask_guest(rt, process, access, event))
-        }
-    };
-    let Some(reply) = reply else {
+) -> Result<Outcome, LinkFault>
+    ensures { IfOk result (λ outcome. IsLineTold L.gave line.entry outcome (O.contents output.old) (O.contents output.new)) }
+{
+    match line {
+        Line::Empty => Ok(Outcome::Done),
+        Line::Steps { hart, count } => answer_steps(rt, process, access, hart, count, output),
+        Line::Input(bytes) => answer_input(rt, process, access, bytes, output),
+        Line::Ask(event) => answer_event(rt, process, access, event, output),
+    }
+}
+
+/// Gives the guest an event: none if memory runs out.
+fn ask_guest<L: Hosting, A: Access<L>, S: Read + Write + OpenStream + Drop, R: Wait>(
+    rt: &R,
+    process: &Process<L, S>,
+    access: &mut A,
+    event: BoardEvent,
+) -> Option<HostReply>
+    ensures { IfSome result (L.gave (Do (command.Board event))) }
+{
+    match process.station.obey(rt, access, &Command::Board(event)) {
+        Ok(reply) => Some(reply),
+        Err(_) => None,
+    }
+}
+
+/// Gives the guest an event, and writes the answer.
+#[tactic(auto, using(crate::proofs::Told::event_told))]
+fn answer_event<L: Hosting, A: Access<L>, S: Read + Write + OpenStream + Drop, O: Write, R: Wait>(
+    rt: &R,
+    process: &Process<L, S>,
+    access: &mut A,
+    event: BoardEvent,
+    output: &mut O,
+) -> Result<Outcome, LinkFault>
+    ensures { IfOk result (λ outcome. IsEventTold L.gave event outcome (O.contents output.old) (O.contents output.new)) }
+{
+    let address = address_of(&event);
+    let Some(reply) = ask_guest(rt, process, access, event) else {
         return refuse(output, Refusal::OutOfMemory);
     };
     write_guest_reply(output, address, &reply)?;
     Ok(outcome_of(&reply))
 }
 
-/// Gives the guest an event: none where memory lacks.
-fn ask_guest<L: Hosting, A: Access<L>, S: Read + Write + OpenStream + Drop, R: Wait>(
-    rt: &R,
-    process: &Process<L, S>,
-    access: &mut A,
-    event: BoardEvent,
-) -> Option<HostReply> {
-    process
-        .station
-        .obey(rt, access, &Command::Board(event))
-        .ok()
-}
-
 /// Makes steps of a hart, up to the first that retires no instruction, and writes the last answer.
+#[tactic(auto, using(crate::proofs::Told::steps_told))]
 fn answer_steps<L: Hosting, A: Access<L>, S: Read + Write + OpenStream + Drop, O: Write, R: Wait>(
     rt: &R,
     process: &Process<L, S>,
@@ -338,30 +369,67 @@ fn answer_steps<L: Hosting, A: Access<L>, S: Read + Write + OpenStream + Drop, O
     hart: u32,
     count: u32,
     output: &mut O,
-) -> Result<Outcome, LinkFault> {
-    let mut made = 0;
-    let mut last = HostReply::Board(BoardReply::Done);
-    for step in 0..count {
-        let Some(reply) = ask_guest(rt, process, access, BoardEvent::Step(hart)) else {
-            return refuse(output, Refusal::OutOfMemory);
-        };
-        made = step + 1;
-        last = reply;
-        if last != HostReply::Board(BoardReply::Retired) {
-            break;
-        }
-    }
+) -> Result<Outcome, LinkFault>
+    ensures { IfOk result (λ outcome. AreStepsTold L.gave hart count outcome (O.contents output.old) (O.contents output.new)) }
+{
+    let Some((made, last)) = make_steps(rt, process, access, hart, count) else {
+        return refuse(output, Refusal::OutOfMemory);
+    };
     write_steps_reply(output, hart, made, &last)?;
     Ok(outcome_of(&last))
 }
 
-/// Bytes come to the console, up to the first that is not taken: the last reply, or none where memory lacks.
+/// Makes steps of a hart, at most `count`, up to the first that retires no instruction: how many, and the last reply. None
+/// if memory runs out.
+fn make_steps<L: Hosting, A: Access<L>, S: Read + Write + OpenStream + Drop, R: Wait>(
+    rt: &R,
+    process: &Process<L, S>,
+    access: &mut A,
+    hart: u32,
+    count: u32,
+) -> Option<(u32, HostReply)>
+    ensures { IfSome result (λ p. IsLastStep L.gave hart count p.0 p.1) }
+{
+    let mut made = 0;
+    let mut last = HostReply::Board(BoardReply::Done);
+    for step in 0..count {
+        last = ask_guest(rt, process, access, BoardEvent::Step(hart))?;
+        made = step + 1;
+        if last != HostReply::Board(BoardReply::Retired) {
+            break;
+        }
+    }
+    Some((made, last))
+}
+
+/// Bytes come to the console, up to the first that is not taken, and the last answer is written.
+#[tactic(auto, using(crate::proofs::Told::input_told))]
+fn answer_input<L: Hosting, A: Access<L>, S: Read + Write + OpenStream + Drop, O: Write, R: Wait>(
+    rt: &R,
+    process: &Process<L, S>,
+    access: &mut A,
+    bytes: HexText<'_>,
+    output: &mut O,
+) -> Result<Outcome, LinkFault>
+    ensures { IfOk result (λ outcome. IsInputTold L.gave outcome (O.contents output.old) (O.contents output.new)) }
+{
+    let Some(reply) = type_in(rt, process, access, bytes) else {
+        return refuse(output, Refusal::OutOfMemory);
+    };
+    write_guest_reply(output, None, &reply)?;
+    Ok(outcome_of(&reply))
+}
+
+/// Bytes come to the console, up to the first that is not taken: the last reply, or none if memory runs out.
+#[tactic(auto, using(crate::proofs::Told::typed))]
 fn type_in<L: Hosting, A: Access<L>, S: Read + Write + OpenStream + Drop, R: Wait>(
     rt: &R,
     process: &Process<L, S>,
     access: &mut A,
     bytes: HexText<'_>,
-) -> Option<HostReply> {
+) -> Option<HostReply>
+    ensures { IfSome result (IsLastInput L.gave) }
+{
     let mut left = bytes;
     let mut last = HostReply::Board(BoardReply::Done);
     while let Some((byte, behind)) = left.split_first() {

@@ -5,7 +5,7 @@ ghost use Rattle.std.specs.Prelude.{◌≤◌, length, IfOk, IfSome};
 use crate::answers::{Outcome, answer_line};
 use crate::operators::Operators;
 use crate::process::Process;
-use rvm_host_cell::{Access, Hosting};
+use rvm_cell::{Access, Hosting};
 use rvm_refusal::{LinkFault, Refusal};
 use std::io::{ErrorKind, Read, Write};
 use std::net::{Net, OpenStream};
@@ -83,7 +83,7 @@ fn answer<
     unreachable!()
 }
 
-/// Reads what came: nothing yet, or so many bytes, none at the end.
+/// Reads what came: nothing yet, or this many bytes, none at the end.
 fn read_some<C: Read>(stream: &mut C, buffer: &mut [u8]) -> Result<Option<usize>, LinkFault>
     ensures { IfOk result (λ o. IfSome o (λ n. n ≤ length buffer.new)) }
 {

@@ -1,7 +1,7 @@
 //! Why a host process does not begin, or ends before it is told to.
 
 use rvm_command::refused::Refused;
-use rvm_peers::PeersFault;
+use rvm_greeting::PeersFault;
 use std::alloc::AllocError;
 use std::io;
 use thiserror::Error;

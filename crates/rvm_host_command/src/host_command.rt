@@ -1,8 +1,8 @@
 //! `rvmove host`: a host in this process.
 
-ghost use Rattle.std.specs.Prelude.{◌≡◌, ◌≢◌, ◌≤◌, ◌⊎◌, IfErr, IfOk};
-ghost use Rattle.rvm_host_command.specs.Hosted.{HasBegun, IsGuestOf, IsHosted, IsNamed};
-ghost use Rattle.rvm_host_worker.specs.declared.harts.HartsEnd.TheVariants.{ConsoleFault};
+ghost use Rattle.std.specs.Prelude.{◌≡◌, ◌≢◌, ◌≤◌, ◌⊎◌, IfErr, IfOk, true};
+ghost use Rattle.rvm_host_command.specs.Hosted.{HasBegun, IsGuestOf, IsHosted, IsHostedTo, IsNamed, host_status, status_told};
+ghost use Rattle.rvm_cell.specs.declared.host_harts.HartsEnd.TheVariants.{ConsoleFault};
 
 use crate::address::{checked_address, is_path, listen_at, listen_for_operators};
 use crate::answers::letter_of;
@@ -10,12 +10,11 @@ use crate::fault::{HostFault, Place};
 use crate::hosting::{HostPlan, work_at};
 use crate::operators::Operators;
 use rvm_arguments::HostArguments;
+use rvm_board::Debugged;
+use rvm_cell::{HartsEnd, InputQueue};
 use rvm_command::guest::load_guest;
-use rvm_debug::Debugged;
-use rvm_greeting::Secret;
-use rvm_host_worker::{HartsEnd, InputQueue};
+use rvm_greeting::{Peers, Secret, read_peers};
 use rvm_mem::PagedMemory;
-use rvm_peers::{Peers, read_peers};
 use rvm_refusal::LinkFault;
 use std::alloc::Global;
 use std::fs;
@@ -26,6 +25,9 @@ use std::rt::Files;
 use std::sync::Wait;
 use std::thread::Threads;
 use std::time::{Clock, Duration};
+
+/// The status of a verdict on a guest that halted here with another status than 0.
+const FAILED: u8 = 3;
 
 /// The bytes of the files that a host is given.
 #[derive(Clone, Copy, Debug)]
@@ -40,7 +42,7 @@ pub struct HostBytes<'a> {
 
 /// Works at a host until an operator ends it, or its guest has halted where it is to end then. `input` comes to the guest's
 /// console while it is here. Where the host does not begin, or the console cannot be written, the status is 1, and `errors`
-/// is told why.
+/// is told why. With a verdict it is 3 where the guest halted here with another status than 0, and ended the host.
 pub fn host_command<
     M: PagedMemory + Drop + Send,
     O: Write,
@@ -58,26 +60,44 @@ pub fn host_command<
 where
     R::Stream: Send,
     R::Listener: Send + Sync,
-    ensures status { IfOk result (λ status. (status ≡ 0) ⊎ (status ≡ 1)) }
-    ensures done { IfOk result (λ status. status ≡ 0 → IsHosted arguments.now files.now.peers.now files.now.image.now
-        (O.contents output.old) (O.contents output.new)) }
+    ensures status { IfOk result (λ status. (status ≡ 0) ⊎ (status ≡ 1)
+        ⊎ ((status ≡ 3) × (arguments.now.verdict ≡ true))) }
+    ensures done { IfOk result (λ status. status ≢ 1 → IsHostedTo arguments.now files.now.peers.now files.now.image.now
+        status (O.contents output.old) (O.contents output.new)) }
 {
+    let verdict = arguments.verdict;
     let ended = run_host::<M, O, E, R>(rt, alloc, arguments, files, input, output, errors);
-    tell_end(ended, errors)
+    tell_end(ended, verdict, errors)
 }
 
 /// Tells why a host did not begin, and answers the status.
-fn tell_end<E: Write>(ended: Result<HartsEnd, HostFault>, errors: &mut E) -> Result<u8, LinkFault>
-    ensures status { IfOk result (λ status. (status ≡ 0) ⊎ (status ≡ 1)) }
-    ensures done { IfOk result (λ status. status ≡ 0 → HasBegun ended) }
+fn tell_end<E: Write>(
+    ended: Result<HartsEnd, HostFault>,
+    verdict: bool,
+    errors: &mut E,
+) -> Result<u8, LinkFault>
+    ensures told { IfOk result (λ status. status ≡ status_told verdict ended) }
+    ensures status { IfOk result (λ status. (status ≡ 0) ⊎ (status ≡ 1) ⊎ ((status ≡ 3) × (verdict ≡ true))) }
+    ensures done { IfOk result (λ status. status ≢ 1 → HasBegun ended) }
 {
     match ended {
-        Ok(HartsEnd::ConsoleFault) => Ok(1),
-        Ok(_) => Ok(0),
+        Ok(end) => Ok(status_of(end, verdict)),
         Err(fault) => {
             writeln!(errors, "{fault}")?;
             Ok(1)
         }
+    }
+}
+
+/// The status of a host that ended so, which with a verdict tells how the guest ended here.
+fn status_of(end: HartsEnd, verdict: bool) -> u8
+    ensures { result ≡ host_status verdict end }
+{
+    match end {
+        HartsEnd::ConsoleFault => 1,
+        HartsEnd::Stopped | HartsEnd::Halted(0) => 0,
+        HartsEnd::Halted(_) if verdict => FAILED,
+        HartsEnd::Halted(_) => 0,
     }
 }
 
@@ -100,7 +120,7 @@ where
     R::Stream: Send,
     R::Listener: Send + Sync,
     ensures shown { IfOk result (λ end. end ≢ ConsoleFault → IsHosted arguments.now files.now.peers.now
-        files.now.image.now (O.contents output.old) (O.contents output.new)) }
+        files.now.image.now end (O.contents output.old) (O.contents output.new)) }
     ensures unbegun { IfErr result (λ fault. O.contents output.new ≡ O.contents output.old) }
 {
     let peers = read_peers(alloc, files.peers)?;
@@ -129,7 +149,7 @@ where
     ended
 }
 
-/// The number of the host with a name, among so many.
+/// The number of the host with a name, among `count`.
 fn number_of(name: &str, count: usize) -> Result<u8, HostFault>
     requires { count ≤ 8 }
     ensures { IfOk result (IsNamed name.now count) }

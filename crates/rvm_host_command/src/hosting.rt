@@ -1,8 +1,8 @@
 //! A host works in a process of its own.
 
 ghost use Rattle.std.specs.Prelude.{◌≡◌, ◌≢◌, IfErr, IfOk, length};
-ghost use Rattle.rvm_host_command.specs.Hosted.{IsShownBy, opening_of};
-ghost use Rattle.rvm_host_worker.specs.declared.harts.HartsEnd.TheVariants.{ConsoleFault};
+ghost use Rattle.rvm_host_command.specs.Hosted.{HasWorked, opening_of};
+ghost use Rattle.rvm_cell.specs.declared.host_harts.HartsEnd.TheVariants.{ConsoleFault};
 
 use crate::door::Door;
 use crate::fault::HostFault;
@@ -10,15 +10,15 @@ use crate::operators::Operators;
 use crate::process::Process;
 use crate::threads::work_beside;
 use crate::turns::Turns;
-use rvm_core::Host;
-use rvm_debug::Debugged;
-use rvm_greeting::{Registry, Secret};
-use rvm_host_cell::{HostCell, Hosting, Of, Opening};
-use rvm_host_worker::{HartsEnd, HartsPlan, InputQueue, News, STREAM_VERSION, Station};
+use rvm_board::Debugged;
+use rvm_cell::{
+    HartsEnd, HartsPlan, HostCell, Hosting, InputQueue, News, Of, Opening, STREAM_VERSION, Station,
+    take_back,
+};
+use rvm_greeting::{Peers, Registry, Secret};
+use rvm_host::Host;
+use rvm_link::Routes;
 use rvm_mem::{MAX_PAGES, PagedMemory};
-use rvm_peers::Peers;
-use rvm_route::Routes;
-use rvm_worker::take_back;
 use std::alloc::{AllocError, Global};
 use std::io;
 use std::io::Write;
@@ -77,7 +77,8 @@ where
     R::Stream: Send,
     R::Listener: Send + Sync,
     ensures shown { IfOk result (λ end. end ≢ ConsoleFault
-        → IsShownBy (opening_of guest plan.now.id (length plan.now.peers.now)) (O.contents output.old) (O.contents output.new)) }
+        → HasWorked (opening_of guest plan.now.id (length plan.now.peers.now)) end (O.contents output.old)
+        (O.contents output.new)) }
     ensures unbegun { IfErr result (λ fault. O.contents output.new ≡ O.contents output.old) }
 {
     let hosts = plan.peers.count() as u8;
@@ -141,7 +142,7 @@ where
     R::Listener: Send + Sync,
     requires { host ≡ L.opening }
     ensures shown { IfOk result (λ end. end ≢ ConsoleFault
-        → IsShownBy L.opening (O.contents output.old) (O.contents output.new)) }
+        → HasWorked L.opening end (O.contents output.old) (O.contents output.new)) }
     ensures unbegun { IfErr result (λ fault. O.contents output.new ≡ O.contents output.old) }
 {
     let process = match new_process::<Of<L>, R>(alloc, plan, known) {
@@ -174,7 +175,7 @@ where
     R::Stream: Send,
     R::Listener: Send + Sync,
     ensures shown { IfOk result (λ end. end ≢ ConsoleFault
-        → IsShownBy L.opening (O.contents output.old) (O.contents output.new)) }
+        → HasWorked L.opening end (O.contents output.old) (O.contents output.new)) }
     ensures unbegun { IfErr result (λ fault. O.contents output.new ≡ O.contents output.old) }
 {
     let turns = Turns {

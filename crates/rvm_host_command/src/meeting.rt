@@ -2,8 +2,8 @@
 
 use crate::process::Process;
 use crate::timed::Timed;
+use rvm_cell::Hosting;
 use rvm_greeting::{Greeted, GreetingFault, accept, greet};
-use rvm_host_cell::Hosting;
 use std::io;
 use std::io::{Read, Write};
 use std::net::OpenStream;

@@ -2,9 +2,8 @@
 
 use crate::door::Door;
 use crate::outbound::Outbound;
+use rvm_cell::{HartsPlan, Hosting, Station};
 use rvm_greeting::{Registry, Secret};
-use rvm_host_cell::Hosting;
-use rvm_host_worker::{HartsPlan, Station};
 use std::io::{Read, Write};
 use std::net::OpenStream;
 use std::sync::Mutex;

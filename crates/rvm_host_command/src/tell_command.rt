@@ -130,7 +130,7 @@ fn read_answer<I: BufRead, O: Write, P: Write>(
     progress: &mut P,
 ) -> io::Result<Told>
     ensures { IfOk result (λ told. IfSome (I.remaining answers.old)
-        (λ bytes. (behind : List ℕ) × (I.remaining answers.new ≡ Some behind) × Says told bytes behind)) }
+        (λ bytes. (after : List ℕ) × (I.remaining answers.new ≡ Some after) × Says told bytes after)) }
 {
     for _line in 0..u64::MAX {
         line.clear();

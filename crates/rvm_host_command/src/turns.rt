@@ -1,14 +1,14 @@
 //! The turns of the guest's harts, as what the main thread does beside the others.
 
 ghost use Rattle.std.specs.Prelude.{◌≡◌, ◌≢◌, ⊤};
-ghost use Rattle.rvm_host_command.specs.Hosted.{IsShownBy};
-ghost use Rattle.rvm_host_worker.specs.declared.harts.HartsEnd.TheVariants.{ConsoleFault};
+ghost use Rattle.rvm_host_command.specs.Hosted.{HasWorked};
+ghost use Rattle.rvm_cell.specs.declared.host_harts.HartsEnd.TheVariants.{ConsoleFault};
 
 use crate::process::Process;
-use rvm_host_cell::{CellAccess, HostCell, Hosting, Of, Opening};
-use rvm_host_worker::{HartsEnd, InputQueue, harts_worker};
+use rvm_cell::{
+    CellAccess, HartsEnd, HostCell, Hosting, InputQueue, Of, Opening, Task, harts_worker,
+};
 use rvm_mem::PagedMemory;
-use rvm_worker::Task;
 use std::io::{Read, Write};
 use std::net::OpenStream;
 use std::sync::Wait;
@@ -55,7 +55,7 @@ impl<
     ghost can_run = { λ _. ⊤ };
 
     ghost gives = { λ t r. (r.1.ghost_name ≡ t.output.ghost_name)
-        × (r.0 ≢ ConsoleFault → IsShownBy L.opening (O.contents t.output.now) (O.contents r.1.now)) };
+        × (r.0 ≢ ConsoleFault → HasWorked L.opening r.0 (O.contents t.output.now) (O.contents r.1.now)) };
 
     fn run(self) -> (HartsEnd, &'t mut O) {
         let Turns {

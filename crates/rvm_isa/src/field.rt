@@ -66,7 +66,7 @@ impl Model for Shamt {
 }
 
 impl Shamt {
-    /// A shift by so many bits.
+    /// A shift by this many bits.
     #[inline(always)]
     pub fn new(bits: u32) -> Shamt
         requires { bits < 32 }

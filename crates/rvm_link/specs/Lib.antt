@@ -1,3 +1,5 @@
+pub mod Records
 pub mod Errors
 pub mod Reads
 pub mod Waiting
+pub mod Streams

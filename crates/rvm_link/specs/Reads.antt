@@ -4,7 +4,7 @@ use Rattle.std.specs.Prelude.{ℕ, ◌≤◌, ◌<◌, ⊤, List, length, take, 
 use Rattle.rvm_link.specs.declared.link.LinkRead.{LinkRead}
 use Rattle.rvm_link.specs.declared.link.LinkRead.TheVariants.{Bytes, End, Idle, LinkFault}
 
--- not more than so many bytes
+-- not more than this many bytes
 abbrev pub GivesAtMost : LinkRead → (most : ℕ) → Type 0
 GivesAtMost (Bytes count) most = count ≤ most
 GivesAtMost read most = ⊤

@@ -9,7 +9,7 @@ use thiserror::Error;
 /// Why a frame was not sent.
 #[derive(Clone, Copy, Debug, PartialEq, Eq, Error)]
 pub enum SendError {
-    /// A growth was refused.
+    /// Memory ran out.
     #[error("out of memory")]
     OutOfMemory,
     /// The link failed, now or before, or was closed.

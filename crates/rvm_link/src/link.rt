@@ -10,7 +10,7 @@ use rvm_refusal::LinkFault;
 /// What a read of a link gave.
 #[derive(Clone, Copy, Debug, PartialEq, Eq)]
 pub enum LinkRead {
-    /// So many bytes, which stand at the front of the buffer.
+    /// This many bytes, which stand at the front of the buffer.
     Bytes(usize),
     /// Nothing yet.
     Idle,

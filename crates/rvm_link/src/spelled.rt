@@ -5,8 +5,7 @@ ghost use Rattle.rvm_frame.specs.Grammar.{HasSpelling, sent, spelling};
 ghost use Rattle.rvm_link.specs.Waiting.{may_wait};
 
 use crate::error::SendError;
-use rvm_frame::{Addressed, Frame, append_frame, frame_len};
-use rvm_spelling::has_spelling;
+use rvm_frame::{Addressed, Frame, append_frame, frame_len, has_spelling};
 
 /// Whether a frame may wait for the next one, as the copy of a page may: another frame always follows it.
 pub fn may_wait(frame: &Frame) -> bool

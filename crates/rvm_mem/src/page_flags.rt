@@ -9,7 +9,7 @@ use crate::word;
 use std::alloc::{AllocError, Global};
 use std::marker::Model;
 
-/// A flag for each page of a memory of so many pages, at most 4096: the dirty log that a memory
+/// A flag for each page of a memory of this many pages, at most 4096: the dirty log that a memory
 /// keeps, in which a store marks its page by writing one byte.
 #[derive(Drop)]
 pub struct PageFlags {
@@ -27,7 +27,7 @@ impl Model for PageFlags {
 }
 
 impl PageFlags {
-    /// No page is marked, of a memory of so many pages.
+    /// No page is marked, of a memory of this many pages.
     pub fn new(alloc: Global, pages: u32) -> Result<PageFlags, AllocError>
         requires { pages ≤ 4096 }
         ensures { IfOk result (λ s. s ≡ replicate pages false) }
@@ -54,7 +54,7 @@ impl PageFlags {
         self.flags[page as usize] = true;
     }
 
-    /// Marks the page of each of so many bytes from a place on.
+    /// Marks the page of each of this many bytes from a place on.
     #[tactic(auto, using(crate::proofs::Ranges::none_marked, crate::proofs::Ranges::more_marked))]
     pub fn insert_range(&mut self, at: u32, count: usize)
         requires { at + count ≤ 4096 * length self.old }

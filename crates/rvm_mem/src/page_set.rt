@@ -8,7 +8,7 @@ use crate::word::{self, WORD_PAGES};
 use std::alloc::{AllocError, Global};
 use std::marker::Model;
 
-/// A set of page numbers of a memory of so many pages, at most 4096: page p is bit p % 64 of row
+/// A set of page numbers of a memory of this many pages, at most 4096: page p is bit p % 64 of row
 /// p / 64, so that what goes over all pages looks at 64 rows. How many are in the set is kept.
 #[derive(Drop)]
 pub struct PageSet {
@@ -29,7 +29,7 @@ impl Model for PageSet {
 }
 
 impl PageSet {
-    /// The empty set, for a memory of so many pages.
+    /// The empty set, for a memory of this many pages.
     pub fn new(alloc: Global, pages: u32) -> Result<PageSet, AllocError>
         requires { pages ≤ 4096 }
         ensures { IfOk result (λ s. s ≡ replicate pages false) }
@@ -203,7 +203,7 @@ fn has_bit(row: u64, place: u32) -> bool
     row >> place & 1 == 1
 }
 
-/// The row of the first so many pages, or of 64 if there are more.
+/// The row of the first this many pages, or of 64 if there are more.
 fn full_row(pages: u32) -> u64
     requires { 0 < pages }
     ensures { result ≡ 2 ^ min pages 64 - 1 }

@@ -12,7 +12,7 @@ use std::alloc::{AllocError, Global};
 /// Pages have numbers from 0 on; page p is the 4096 bytes from place 4096 p on. No call but
 /// `zeroed` takes memory.
 pub trait PagedMemory: Memory {
-    /// A memory of so many pages of zeros, at most 4096, none of them in the dirty log.
+    /// A memory of this many pages of zeros, at most 4096, none of them in the dirty log.
     fn zeroed(alloc: Global, pages: u32) -> Result<Self, AllocError>
     where
         Self: Sized,

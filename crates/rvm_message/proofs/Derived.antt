@@ -1,4 +1,4 @@
--- A derived `==` tells any two values apart where the fields' `==` does.
+-- A derived `==` tells any two values apart if the `==` of each field does.
 use Rattle.std.specs.Prelude.{◌≡◌, refl, Bool, true, false, ◌&&◌, List, [], ◌∷◌, Decides}
 use mathlib.Core.Path.{ap, sym, subst}
 use mathlib.Core.Bool.{true≢false}

@@ -4,9 +4,9 @@ use Rattle.std.proofs.lemmas.Bool.{cases_eq, cases_lt}
 use Rattle.std.proofs.lemmas.List.{length-set, length-replicate, get_or-set_same, get_or-set_other, get_or_past}
 use Rattle.rvm_mem.specs.Pages.{has, mark_all}
 use Rattle.rvm_precopy.proofs.Ties.{has_none}
-use Rattle.rvm_debug.specs.declared.event.BoardEvent.{BoardEvent}
-use Rattle.rvm_debug.specs.Guest.{Guest}
-use Rattle.rvm_debug.specs.Events.{answered}
+use Rattle.rvm_board.specs.declared.event.BoardEvent.{BoardEvent}
+use Rattle.rvm_board.specs.Guest.{Guest}
+use Rattle.rvm_board.specs.Events.{answered}
 use Rattle.rvm_guest.specs.Pages.{count_of, writes}
 
 pub or_true : (b : Bool) → (b || true) ≡ true

@@ -1,8 +1,8 @@
--- What is refused makes no frame and leaves the mode; when Copy and Resend are refused.
+-- An event that is refused makes no frame and leaves the mode as it is; when Copy and Resend are refused.
 use Rattle.std.proofs.Common.{◌≡◌, ℕ, ◌-◌, ◌^◌, ◌==◌, Bool, true, false, nat_le, if◌then◌else◌, length, Option, Some, None, refl}
-use Rattle.rvm_debug.specs.Guest.{Guest}
-use Rattle.rvm_debug.specs.declared.event.BoardEvent.{BoardEvent}
-use Rattle.rvm_debug.specs.declared.event.BoardReply.{BoardReply}
+use Rattle.rvm_board.specs.Guest.{Guest}
+use Rattle.rvm_board.specs.declared.event.BoardEvent.{BoardEvent}
+use Rattle.rvm_board.specs.declared.event.BoardReply.{BoardReply}
 use Rattle.rvm_guest.specs.TheGuest.{board}
 use Rattle.rvm_message.specs.Answers.{BoardMode, BoardOutcome}
 use Rattle.rvm_message.specs.Replies.{is_refused_outright, is_seq_spent}
@@ -15,7 +15,7 @@ use Rattle.rvm_protocol.specs.Obeying.{begin_allowed, begun, copy_last, copy_pag
 use Rattle.rvm_protocol.specs.Replies.{BadHost, BadSize, EpochsSpent, PartSent, Reply, Resent, SeqSpent, StateSent, Stopping}
 use Rattle.rvm_protocol.specs.Rounds.{Last, Rounds, next_page, next_turn, pieces_of, stopped, to_copy}
 
--- of either outcome, so of the one that a test chooses
+-- what holds of both outcomes holds of the one that a test chooses
 either : (P : BoardOutcome → Type 0) (b : Bool) (x y : BoardOutcome) → P x → P y → P (if b then x else y)
 either P true x y px py = px
 either P false x y px py = py
@@ -115,7 +115,7 @@ refused_makes_none version self count Copy mode = copy_none version mode
 refused_makes_none version self count Resend mode = resend_none version mode
 refused_makes_none version self count AbortMove mode = abort_none mode
 
--- COPY, WHERE A PAGE MAY BE DUE
+-- COPY, WHEN A PAGE MAY BE DUE
 
 -- it is refused only if no copy number is left
 abbrev OnlySpent : BoardOutcome → Type 0

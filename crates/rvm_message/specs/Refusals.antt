@@ -4,7 +4,7 @@ use Rattle.rvm_refusal.specs.declared.refusal.Refusal.TheVariants as all
 use Rattle.rvm_message.specs.declared.reply.HostRefusal.{HostRefusal}
 use Rattle.rvm_message.specs.declared.reply.HostRefusal.TheVariants as refusal
 
--- each has the name that it has there
+-- the refusal of the same name in that list
 abbrev pub numbered : HostRefusal → Refusal
 numbered refusal.BadSize = all.BadSize
 numbered refusal.BadState = all.BadState

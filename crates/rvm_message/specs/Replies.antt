@@ -1,14 +1,14 @@
--- Replies of hosts as the law of live migration has them.
+-- Replies of hosts as the protocol of live migration has them.
 use Rattle.std.specs.Prelude.{Bool, true, false}
-use Rattle.rvm_debug.specs.declared.event.BoardReply.{BoardReply}
-use Rattle.rvm_debug.specs.Events as events
+use Rattle.rvm_board.specs.declared.event.BoardReply.{BoardReply}
+use Rattle.rvm_board.specs.Events as events
 use Rattle.rvm_protocol.specs.Replies as protocol
 use Rattle.rvm_message.specs.declared.reply.HostRefusal.{HostRefusal}
 use Rattle.rvm_message.specs.declared.reply.HostRefusal.TheVariants as refusal
 use Rattle.rvm_message.specs.declared.reply.HostReply.{HostReply}
 use Rattle.rvm_message.specs.declared.reply.HostReply.TheVariants as reply
 
--- a refusal as the law has it
+-- a refusal as the protocol has it
 abbrev pub refusal_of : HostRefusal → protocol.Refusal
 refusal_of refusal.BadSize = protocol.BadSize
 refusal_of refusal.BadState = protocol.BadState
@@ -22,7 +22,7 @@ refusal_of refusal.Ignored = protocol.Ignored
 refusal_of refusal.NoFrame = protocol.NoFrame
 refusal_of refusal.BadHost = protocol.BadHost
 
--- a reply as the law has it
+-- a reply as the protocol has it
 abbrev pub reply_of : HostReply → protocol.Reply BoardReply
 reply_of (reply.Board answer) = protocol.Answered answer
 reply_of (reply.Begun n) = protocol.Begun n
@@ -49,19 +49,19 @@ reply_of reply.Started = protocol.StartedHere
 reply_of reply.Dropped = protocol.Dropped
 reply_of (reply.Refused why) = protocol.Refused (refusal_of why)
 
--- whether no step is made after this reply to one
+-- whether consecutive steps end with the step that has this reply
 abbrev pub ends_steps : protocol.Reply BoardReply → Bool
 ends_steps (protocol.Answered answer) = events.ends_steps answer
 ends_steps r = true
 
--- a refusal that is known before any memory is asked for. BadState is none: a whole state is read first, and its pieces
--- are joined
+-- whether the reply is a refusal that is known before any memory is asked for. BadState is not: before it, the pieces
+-- of a state are joined and the whole state is read
 abbrev pub is_refused_outright : protocol.Reply BoardReply → Bool
 is_refused_outright (protocol.Refused protocol.BadState) = false
 is_refused_outright (protocol.Refused why) = true
 is_refused_outright r = false
 
--- no copy number is left
+-- whether the reply says that no copy number is left
 abbrev pub is_seq_spent : protocol.Reply BoardReply → Bool
 is_seq_spent (protocol.Refused protocol.SeqSpent) = true
 is_seq_spent r = false

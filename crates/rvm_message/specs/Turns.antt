@@ -1,10 +1,10 @@
 -- Turns of a hart of a host's guest.
 use Rattle.std.specs.Prelude.{ℕ, nat_lt, if◌then◌else◌, [], length, None}
-use Rattle.rvm_debug.specs.declared.turns.Order.TheVariants.{Alone}
-use Rattle.rvm_debug.specs.Guest.{Guest}
-use Rattle.rvm_debug.specs.Turns.{AfterTurns, after_turns}
+use Rattle.rvm_board.specs.declared.turns.Order.TheVariants.{Alone}
+use Rattle.rvm_board.specs.Guest.{Guest}
+use Rattle.rvm_board.specs.Turns.{AfterTurns, after_turns}
 
--- at most n turns of hart h, none where it is not there
+-- the guest after at most n consecutive turns of hart h, and none if there is no such hart
 abbrev pub guest_turned : (h n : ℕ) → Guest → AfterTurns
 guest_turned h n g =
     if nat_lt h (length g.board.harts) then after_turns Alone n h g

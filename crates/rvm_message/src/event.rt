@@ -4,37 +4,37 @@ ghost use Rattle.std.specs.Prelude.{◌≡◌, true, IfOk, OnErr};
 ghost use Rattle.rvm_message.specs.Events.{is_frame};
 
 use crate::shared::Shared;
-use rvm_debug::BoardEvent;
+use rvm_board::BoardEvent;
 use rvm_frame::Frame;
 use rvm_precopy::Policy;
 use std::alloc::AllocError;
 
-/// What a host is told to do.
+/// A command to a host.
 #[derive(Drop, PartialEq, Eq)]
 pub enum Command {
-    /// An event of the guest.
+    /// Give the guest an event.
     Board(BoardEvent),
-    /// A move of the guest to another host begins.
+    /// Begin a move of the guest to host `to`.
     Begin { to: u8, policy: Policy },
-    /// The next copy of a page is made, or the next step of the move.
+    /// Make the next copy of a page, or the next step of the move.
     Copy,
-    /// The last frame of this mode is sent again.
+    /// Send the last frame of this mode again.
     Resend,
-    /// The move is given up.
+    /// Give up the move.
     Abort,
 }
 
 /// What happens at a host.
 #[derive(Drop, PartialEq, Eq)]
 pub enum HostEvent {
-    /// It is told to do something.
+    /// The host is given a command.
     Do(Command),
-    /// A frame comes from a host.
+    /// A frame comes from the host with this number.
     Came(u8, Shared<Frame>),
 }
 
 impl Command {
-    /// The same command again.
+    /// Returns a copy of this command. Takes no memory.
     pub fn copy(&self) -> Command
         ensures { result ≡ self.now }
     {
@@ -52,8 +52,8 @@ impl Command {
 }
 
 impl HostEvent {
-    /// The same event again. A frame has one more owner then, which takes no memory, and fails only where it
-    /// has more owners than can be counted.
+    /// Returns a copy of this event. A frame is shared with one more owner, which takes no memory; fails only
+    /// if it has more owners than can be counted.
     pub fn copy(&self) -> Result<HostEvent, AllocError>
         ensures copy { IfOk result (λ copy. copy ≡ self.now) }
         ensures err { OnErr result (is_frame self.now ≡ true) }

@@ -8,14 +8,14 @@ use crate::event::{Command, HostEvent};
 use crate::reply::HostReply;
 use crate::shared::Shared;
 use crate::step::StepReply;
-use rvm_debug::{BoardEvent, BoardReply, View};
+use rvm_board::{BoardEvent, BoardReply, View};
 use rvm_frame::Frame;
 use std::alloc::{AllocError, Global};
 use std::marker::Model;
 
-/// An event of a host and the reply to it. What hosts are told most is kept in a few bytes: a step of a
-/// hart, a drain that found nothing, a copy of a page, and a copy that came and was stored. Any other event is
-/// kept in a box.
+/// An event of a host and the reply to it. The most frequent ones are kept in a few bytes: a step of a hart,
+/// a drain that found nothing, a copy of a page, and a copy that came and was stored. Any other exchange is kept
+/// in a box.
 #[derive(Drop)]
 pub struct Exchange {
     kept: Kept,
@@ -28,14 +28,14 @@ enum Kept {
         hart: u32,
         reply: StepReply,
     },
-    /// A drain of at most so many bytes, which found none.
+    /// A drain of at most this many bytes, which found none.
     Dry(u32),
-    /// The reply to Copy.
+    /// Copy, which copied this page.
     Copied {
         page: u16,
         copy_number: u32,
     },
-    /// The reply to a frame that came.
+    /// A frame that came, and was stored as a copy of this page.
     Stored {
         from: u8,
         page: u16,
@@ -52,13 +52,13 @@ struct Pair {
     reply: HostReply,
 }
 
-/// Room for any exchange.
+/// Room for any one exchange, allocated beforehand.
 #[derive(Drop)]
 pub struct ExchangeRoom {
     place: Box<Pair>,
 }
 
-/// An exchange that is looked at.
+/// A view of an exchange.
 #[derive(Clone, Copy)]
 pub enum ExchangeRef<'a> {
     /// A step of a hart.
@@ -66,21 +66,21 @@ pub enum ExchangeRef<'a> {
         hart: u32,
         reply: StepReply,
     },
-    /// A drain of at most so many bytes found none.
+    /// A drain of at most this many bytes, which found none.
     Dry(u32),
-    /// A page was copied.
+    /// Copy, which copied this page.
     Copied {
         page: u16,
         copy_number: u32,
     },
-    /// The copy of a page came, and was stored.
+    /// A frame that came from host `from`, and was stored as a copy of this page.
     Stored {
         from: u8,
         frame: &'a Shared<Frame>,
         page: u16,
         copy_number: u32,
     },
-    /// Any event.
+    /// Any event and the reply to it.
     Other {
         event: &'a HostEvent,
         reply: &'a HostReply,
@@ -99,7 +99,7 @@ impl Model for Exchange {
 }
 
 impl ExchangeRoom {
-    /// Room for one exchange.
+    /// Allocates room for one exchange; fails if memory runs out.
     pub fn new(alloc: Global) -> Result<ExchangeRoom, AllocError> {
         let blank = Pair {
             event: HostEvent::Do(Command::Copy),
@@ -112,7 +112,7 @@ impl ExchangeRoom {
 }
 
 impl Exchange {
-    /// A step of a hart, and the reply to it. Takes no memory.
+    /// Makes the exchange of a step of this hart and the reply to it. Takes no memory.
     pub fn of_step(hart: u32, reply: StepReply) -> Exchange
         ensures { result ≡ step_exchange hart reply }
     {
@@ -121,7 +121,7 @@ impl Exchange {
         }
     }
 
-    /// A drain of at most so many bytes that found none. Takes no memory.
+    /// Makes the exchange of a drain of at most `count` bytes that found none. Takes no memory.
     pub fn dry(count: u32) -> Exchange
         ensures { result ≡ dry_exchange count }
     {
@@ -130,7 +130,8 @@ impl Exchange {
         }
     }
 
-    /// Whether an event and the reply to it are kept in a few bytes, and need no room.
+    /// Whether `small` takes this event and its reply, so that they need no room: a drain that found nothing, a
+    /// copy of a page, or a frame that was stored. For a step, which needs none either, there is `of_step`.
     pub fn is_small(event: &HostEvent, reply: &HostReply) -> bool
         ensures { result ≡ is_small event.now reply.now }
     {
@@ -140,7 +141,7 @@ impl Exchange {
         }
     }
 
-    /// An event and the reply to it, in a few bytes. Takes no memory.
+    /// Makes an exchange of an event and its reply for which `is_small` holds, in a few bytes. Takes no memory.
     pub fn small(event: HostEvent, reply: &HostReply) -> Exchange
         requires { is_small event reply.now ≡ true }
         ensures { result ≡ exchange event reply.now }
@@ -152,7 +153,7 @@ impl Exchange {
         Exchange { kept }
     }
 
-    /// Any event, and the reply to it, in room that is there.
+    /// Makes an exchange of any event and the reply to it, in room allocated beforehand. Takes no more memory.
     pub fn new(room: ExchangeRoom, event: HostEvent, reply: HostReply) -> Exchange
         ensures { result ≡ exchange event reply }
     {
@@ -166,7 +167,7 @@ impl Exchange {
         }
     }
 
-    /// The event and the reply.
+    /// Returns a view of the event and the reply.
     pub fn look(&self) -> ExchangeRef<'_>
         ensures { exchange_in result ≡ self.now }
     {
@@ -198,7 +199,7 @@ impl Exchange {
         }
     }
 
-    /// The reply.
+    /// Returns a copy of the reply. Takes no memory.
     pub fn reply(&self) -> HostReply
         ensures { result ≡ self.now.reply }
     {
@@ -222,7 +223,7 @@ impl Exchange {
         }
     }
 
-    /// Whether two exchanges are the same.
+    /// Whether two exchanges have equal events and equal replies, however they are kept.
     pub fn is_same(&self, other: &Exchange) -> bool
         ensures { (result ≡ true) ↔ (self.now ≡ other.now) }
     {
@@ -275,7 +276,7 @@ fn nothing_drained() -> HostReply
     HostReply::Board(BoardReply::Bytes(View::empty()))
 }
 
-/// Whether a command and the reply to it are kept in a few bytes.
+/// Whether a command and the reply to it are small.
 fn is_small_command(command: &Command, reply: &HostReply) -> bool
     ensures { result ≡ is_small (Do command.now) reply.now }
 {
@@ -296,7 +297,7 @@ fn is_dry(event: &BoardEvent, reply: &HostReply) -> bool
     }
 }
 
-/// Whether a reply has bytes, and none.
+/// Whether a reply is a drain's, with no bytes.
 fn tells_nothing(reply: &HostReply) -> bool
     ensures { result ≡ tells_nothing reply.now }
 {
@@ -306,7 +307,7 @@ fn tells_nothing(reply: &HostReply) -> bool
     }
 }
 
-/// What is kept of a command.
+/// What is kept of a small exchange of a command.
 fn kept_command(command: &Command, reply: &HostReply) -> Kept
     requires { is_small (Do command.now) reply.now ≡ true }
     ensures { plain_of result ≡ exchange (Do command.now) reply.now }
@@ -330,7 +331,7 @@ fn kept_drain(event: &BoardEvent, reply: &HostReply) -> Kept
     Kept::Dry(*count)
 }
 
-/// A reply that tells of no bytes is that one.
+/// A reply with no bytes equals the one that `nothing_drained` returns.
 #[tactic(auto, using(crate::proofs::Dry::no_bytes))]
 fn know_nothing(reply: &HostReply)
     requires { tells_nothing reply.now ≡ true }
@@ -344,7 +345,7 @@ fn know_nothing(reply: &HostReply)
     };
 }
 
-/// What is kept of Copy, where a page was copied.
+/// What is kept of Copy that copied a page.
 fn kept_copy(reply: &HostReply) -> Kept
     requires { is_small (Do Command.Copy) reply.now ≡ true }
     ensures { plain_of result ≡ exchange (Do Command.Copy) reply.now }
@@ -358,7 +359,7 @@ fn kept_copy(reply: &HostReply) -> Kept
     }
 }
 
-/// What is kept of a frame that came, where it was stored.
+/// What is kept of a frame that came and was stored.
 fn kept_store(from: u8, frame: Shared<Frame>, reply: &HostReply) -> Kept
     requires { is_small (Came from frame) reply.now ≡ true }
     ensures { plain_of result ≡ exchange (Came from frame) reply.now }
@@ -374,7 +375,7 @@ fn kept_store(from: u8, frame: Shared<Frame>, reply: &HostReply) -> Kept
     }
 }
 
-/// Whether what is kept is a pair.
+/// Whether what is kept is the exchange of a pair.
 fn is_kept(kept: &Kept, pair: &Pair) -> bool
     ensures { (result ≡ true) ↔ (plain_of kept.now ≡ pair_exchange pair.now) }
 {
@@ -400,7 +401,7 @@ fn is_step(pair: &Pair, hart: u32, reply: StepReply) -> bool
     is_same(&event, &reply.reply(), &pair.event, &pair.reply)
 }
 
-/// Whether a pair is a drain of at most so many bytes that found none.
+/// Whether a pair is a drain of at most this many bytes that found none.
 fn is_dry_pair(pair: &Pair, count: u32) -> bool
     ensures { (result ≡ true) ↔ (dry_exchange count ≡ pair_exchange pair.now) }
 {
@@ -408,7 +409,7 @@ fn is_dry_pair(pair: &Pair, count: u32) -> bool
     is_same(&event, &nothing_drained(), &pair.event, &pair.reply)
 }
 
-/// Whether a pair is a copy of this page.
+/// Whether a pair is Copy, which copied this page.
 fn is_copied(pair: &Pair, page: u16, copy_number: u32) -> bool
     ensures { (result ≡ true) ↔ (copied_exchange page copy_number ≡ pair_exchange pair.now) }
 {
@@ -417,7 +418,7 @@ fn is_copied(pair: &Pair, page: u16, copy_number: u32) -> bool
     is_same(&event, &reply, &pair.event, &pair.reply)
 }
 
-/// Whether a pair is this frame, and a copy of this page that was stored.
+/// Whether a pair is this frame from host `from`, stored as a copy of this page.
 fn is_stored(pair: &Pair, from: u8, frame: &Shared<Frame>, page: u16, copy_number: u32) -> bool
     ensures { (result ≡ true) ↔ (stored_exchange from frame.now page copy_number ≡ pair_exchange pair.now) }
 {
@@ -428,7 +429,7 @@ fn is_stored(pair: &Pair, from: u8, frame: &Shared<Frame>, page: u16, copy_numbe
     }
 }
 
-/// Whether two events are the same, and their replies.
+/// Whether two events are equal, and so are their replies.
 fn is_same(
     event: &HostEvent,
     reply: &HostReply,

@@ -1,7 +1,7 @@
-//! What hosts are told and what they answer: the events of a host, its replies and the frames that it
-//! makes, and what each of them is in the law of live migration; and the events of its guest.
+//! The events of a host, its replies and the frames that it makes, with what each of them is in the protocol
+//! of live migration; and the calls that give a guest an event, a step or turns.
 //!
-//! Stands on `rvm_guest`, `rvm_precopy` and `rvm_frame`, and knows nothing of modes or hosts.
+//! Stands on `rvm_board`, `rvm_precopy`, `rvm_frame` and `rvm_guest`, and knows nothing of modes or hosts.
 //!
 //! To be read in this order: `shared`, `event`, `frame`, `reply`, `step`, `turns`, `exchange`, `guest`.
 #![tactic(auto)]

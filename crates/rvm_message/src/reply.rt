@@ -1,15 +1,15 @@
-//! What a host answers.
+//! The replies of a host.
 
 ghost use Rattle.std.specs.Prelude.{◌≡◌, None, Some};
 ghost use Rattle.rvm_message.specs.Refusals.{numbered};
 ghost use Rattle.rvm_message.specs.Replies.{ends_steps, reply_of};
 
-use rvm_debug::BoardReply;
+use rvm_board::BoardReply;
 use rvm_frame::Frame;
 use rvm_refusal::Refusal;
 use thiserror::Error;
 
-/// Why a host refused an event. Nothing changed.
+/// Why a host refused an event; a refusal changes nothing.
 #[derive(Clone, Copy, Debug, PartialEq, Eq, Error)]
 pub enum HostRefusal {
     /// The policy is out of its limits.
@@ -67,20 +67,20 @@ impl From<HostRefusal> for Refusal {
     }
 }
 
-/// What a host answers to an event.
+/// The reply of a host to an event.
 #[derive(Drop, PartialEq, Eq)]
 pub enum HostReply {
     /// The guest's answer to an event of its own.
     Board(BoardReply),
-    /// A move with this number begins.
+    /// The move with this number begins.
     Begun(u64),
-    /// A page was copied, with this copy number.
+    /// A page was copied; the copy has this number.
     Copied {
         page: u16,
         copy_number: u32,
     },
-    /// A round is over: its number, how many pages were copied in it and how many were not, since
-    /// they were written again, and how many are in the dirty log.
+    /// A round is over: its number, how many pages it copied, how many it skipped since they were written again,
+    /// and how many are in the dirty log.
     RoundEnded {
         round: u16,
         sent: u16,
@@ -91,7 +91,7 @@ pub enum HostReply {
     Stopping,
     /// The state was sent.
     StateSent,
-    /// A piece of the state was sent: its place, from 0, and how many there are.
+    /// A piece of the state was sent: its index, from 0, and how many pieces there are.
     PartSent {
         part: u8,
         parts: u8,
@@ -102,31 +102,31 @@ pub enum HostReply {
     Aborted,
     /// The target takes the guest, and the first round begins.
     Open,
-    /// The target takes no more pages than this; the guest runs on here.
+    /// The target declined the move, since it takes at most this many pages; the guest runs on here.
     MoveDeclined(u16),
-    /// So many pages that the target lacks are copied again.
+    /// This many pages, which the target lacks, will be copied again.
     Fixing(u16),
-    /// The target has the guest, and it is given up here.
+    /// The target of the move with this number has the guest, which is given up here.
     Committed(u64),
     /// The guest runs at the target.
     Finished,
     /// The offer is accepted.
     Accepted,
-    /// The offer is declined: no more pages than this are taken.
+    /// The offer is declined: this host takes at most this many pages.
     Declined(u16),
-    /// A copy of a page was stored, with this copy number.
+    /// A copy of a page was stored; the copy has this number.
     Stored {
         page: u16,
         copy_number: u32,
     },
     /// The end of a round was noted.
     Noted,
-    /// A piece of a state is kept: its place, and how many there are.
+    /// A piece of a state is kept: its index, from 0, and how many pieces there are.
     Kept {
         part: u8,
         parts: u8,
     },
-    /// So many copies are lacking.
+    /// Copies of this many pages are lacking.
     Lacking(u16),
     /// The whole guest is here, and waits for the commit.
     ReadySent,
@@ -138,11 +138,11 @@ pub enum HostReply {
     Refused(HostRefusal),
 }
 
-/// A reply, and the frame that was made, if one was.
+/// A reply, and the frame that the host made, if any.
 pub type Answer = (HostReply, Option<Frame>);
 
 impl HostReply {
-    /// The same reply again.
+    /// Returns a copy of this reply. Takes no memory.
     pub fn copy(&self) -> HostReply
         ensures { result ≡ self.now }
     {
@@ -196,7 +196,7 @@ impl HostReply {
         }
     }
 
-    /// A refusal, without a frame.
+    /// Makes an answer of a refusal, without a frame.
     pub fn refused(why: HostRefusal) -> Answer
         ensures reply { result.0 ≡ HostReply.Refused why }
         ensures frame { result.1 ≡ None }
@@ -204,7 +204,7 @@ impl HostReply {
         (HostReply::Refused(why), None)
     }
 
-    /// A reply without a frame.
+    /// Makes an answer of this reply, without a frame.
     pub fn alone(self) -> Answer
         ensures reply { result.0 ≡ self }
         ensures frame { result.1 ≡ None }
@@ -212,7 +212,7 @@ impl HostReply {
         (self, None)
     }
 
-    /// Whether no step is made after this reply to one.
+    /// Whether consecutive steps end with the step that has this reply.
     pub fn ends_steps(&self) -> bool
         ensures { result ≡ ends_steps (reply_of self.now) }
     {
@@ -222,7 +222,7 @@ impl HostReply {
         }
     }
 
-    /// A reply and a frame.
+    /// Makes an answer of this reply and a frame.
     pub fn with(self, frame: Frame) -> Answer
         ensures reply { result.0 ≡ self }
         ensures frame { result.1 ≡ Some frame }

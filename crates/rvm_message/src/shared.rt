@@ -20,7 +20,7 @@ impl<T> Model for Shared<T> {
 }
 
 impl<T> Shared<T> {
-    /// A value with its first owner. Where memory is refused, the value comes back.
+    /// Makes a shared value with one owner. If memory runs out, hands the value back.
     pub fn new(alloc: Global, value: T) -> Result<Shared<T>, AllocFailed<T>>
         ensures ok { IfOk result (λ shared. shared ≡ value) }
         ensures err { IfErr result (λ refused. refused.value ≡ value) }
@@ -30,14 +30,15 @@ impl<T> Shared<T> {
         })
     }
 
-    /// The value.
+    /// Returns the value.
     pub fn get(&self) -> &T
         ensures { result.now ≡ self.now }
     {
         &self.place
     }
 
-    /// The same value for one more owner. Takes no memory.
+    /// Returns the same value for one more owner. Takes no memory; fails only if there are more owners than can
+    /// be counted.
     pub fn share(&self) -> Result<Shared<T>, AllocError>
         ensures { IfOk result (λ shared. shared ≡ self.now) }
     {

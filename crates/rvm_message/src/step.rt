@@ -1,20 +1,20 @@
 //! A step of a hart, and the reply to it.
 
 ghost use Rattle.std.specs.Prelude.{◌≡◌, ◌||◌, ℕ, length};
-ghost use Rattle.rvm_debug.specs.declared.event.BoardEvent.TheVariants.{Step};
-ghost use Rattle.rvm_debug.specs.Events.{steps_if_there};
+ghost use Rattle.rvm_board.specs.declared.event.BoardEvent.TheVariants.{Step};
+ghost use Rattle.rvm_board.specs.Events.{steps_if_there};
 ghost use Rattle.rvm_mem.specs.Pages.{has, mark_all};
 ghost use Rattle.rvm_guest.specs.TheGuest.{board};
 ghost use Rattle.rvm_message.specs.Replies.{ends_steps, reply_of};
 ghost use Rattle.rvm_message.specs.Steps.{reply_to_step};
 
 use crate::reply::{HostRefusal, HostReply};
-use rvm_debug::{BoardRefusal, BoardReply, Debugged};
+use rvm_board::{BoardRefusal, BoardReply, Debugged};
 use rvm_hart::Stepped;
 use rvm_mem::{Memory, PagedMemory};
 
-/// What a host answers to a step of a hart. It takes a few bytes, where a `HostReply` has room for all
-/// that a board can tell.
+/// The reply of a host to a step of a hart. It takes a few bytes, whereas a `HostReply` has room for all that
+/// a board can answer.
 #[derive(Clone, Copy, Debug, PartialEq, Eq)]
 pub enum StepReply {
     /// The hart took a step.
@@ -28,7 +28,7 @@ pub enum StepReply {
 }
 
 impl StepReply {
-    /// The same, as a reply of a host.
+    /// Returns this reply as a `HostReply`.
     pub fn reply(self) -> HostReply
         ensures { result ≡ reply_to_step self }
     {
@@ -40,8 +40,8 @@ impl StepReply {
         }
     }
 
-    /// Whether no step is made after this reply to one: the hart stopped at a breakpoint, the board is
-    /// halted, or the step was refused.
+    /// Whether consecutive steps end with this reply: the hart stopped at a breakpoint, the board is halted, there
+    /// is no such hart, or the host refused the step.
     pub fn ends_steps(self) -> bool
         ensures { result ≡ ends_steps (reply_of (reply_to_step self)) }
     {
@@ -53,7 +53,7 @@ impl StepReply {
     }
 }
 
-/// Makes a step of a hart of a guest, as `apply_event` does. Takes no memory.
+/// Makes a step of a hart of a guest, as `apply_event` does, and returns the reply. Takes no memory.
 pub fn step_guest<M: PagedMemory>(guest: &mut Debugged<M>, hart: u32) -> StepReply
     ensures reply { reply_to_step result ≡ HostReply.Board (board.answer guest.old.guest (Step hart)) }
     ensures next { guest.new.guest ≡ board.next guest.old.guest (Step hart) }
@@ -65,7 +65,7 @@ pub fn step_guest<M: PagedMemory>(guest: &mut Debugged<M>, hart: u32) -> StepRep
     step_if_there(guest, hart)
 }
 
-/// The step of a hart that may not be there.
+/// Makes a step of a hart, if the board has it.
 #[inline(always)]
 fn step_if_there<M: PagedMemory>(guest: &mut Debugged<M>, hart: u32) -> StepReply
     ensures guest { guest.new.guest ≡ (steps_if_there hart guest.old.guest).guest }

@@ -1,9 +1,9 @@
 -- The events of a guest in a journal, worked out by hand.
 use Rattle.std.proofs.Common.{◌≡◌, true, false, List, [], ◌∷◌, None, arith, codes, refl}
-use Rattle.rvm_cell.specs.Receipts.{PlainReceipt}
-use Rattle.rvm_debug.specs.declared.event.BoardEvent.TheVariants as asked
-use Rattle.rvm_debug.specs.declared.event.BoardReply.TheVariants as answer
-use Rattle.rvm_journal.specs.Entries.{PlainEntry}
+use Rattle.rvm_recorder.specs.Receipts.{PlainReceipt}
+use Rattle.rvm_board.specs.declared.event.BoardEvent.TheVariants as asked
+use Rattle.rvm_board.specs.declared.event.BoardReply.TheVariants as answer
+use Rattle.rvm_recorder.specs.Entries.{PlainEntry}
 use Rattle.rvm_message.specs.declared.event.Command.TheVariants as command
 use Rattle.rvm_message.specs.declared.event.HostEvent.{HostEvent}
 use Rattle.rvm_message.specs.declared.event.HostEvent.TheVariants as event

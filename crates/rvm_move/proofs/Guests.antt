@@ -6,16 +6,16 @@ use Rattle.std.proofs.lemmas.Option.{slice_get-get_or}
 use Rattle.std.specs.List.{All, Contains, filter}
 use Rattle.std.specs.List.Sorted.{IsPermutation}
 use Rattle.std.specs.Prelude.{slice_get, ◌⊎◌}
-use Rattle.rvm_cell.specs.Close.{IsJournal}
-use Rattle.rvm_cell.specs.Receipts.{PlainReceipt}
-use Rattle.rvm_cell.specs.Seats.{PlainSeat}
-use Rattle.rvm_journal.specs.Entries.{PlainEntry, exchange_of}
-use Rattle.rvm_journal.specs.History.{is_board}
+use Rattle.rvm_recorder.specs.Close.{IsJournal}
+use Rattle.rvm_recorder.specs.Receipts.{PlainReceipt}
+use Rattle.rvm_recorder.specs.Seats.{PlainSeat}
+use Rattle.rvm_recorder.specs.Entries.{PlainEntry, exchange_of}
+use Rattle.rvm_recorder.specs.History.{is_board}
 use Rattle.rvm_message.specs.declared.event.HostEvent.{HostEvent}
 use Rattle.rvm_message.specs.Exchanges.{exchange}
 use Rattle.rvm_move.specs.Hosts.{AreAll}
 use Rattle.rvm_move.specs.Runs.{AreOfOne, called_of_guest, of_guest}
-use Rattle.rvm_worker.specs.Work.{IsWork}
+use Rattle.rvm_cell.specs.Work.{IsWork}
 
 -- WHAT IS IN A LIST
 
@@ -200,7 +200,7 @@ module _ (entries : List PlainEntry) (own others ordered : List PlainReceipt) (f
       (rises_kept drives own (rises_row own first.count (λ k r there. (work.row k r there).1)))
       into back)
 
--- the events of the guest in a journal are the calls of one worker, where the others have none
+-- the events of the guest in a journal are the calls of one worker, if the others have none
 pub guest_of_one : (entries : List PlainEntry) (own others : List PlainReceipt) → AreAll entries (own ++ others)
     → AreOfOne own → AreNoneOfGuest others → of_guest entries ≡ called_of_guest own
 guest_of_one entries own others told one moved =

@@ -4,18 +4,18 @@ use Rattle.std.proofs.lemmas.List.Elements.{Contains-append_left, Contains-appen
 use Rattle.std.proofs.lemmas.List.Sorted.{Contains-permutation}
 use Rattle.std.specs.List.{All, Contains}
 use Rattle.std.specs.Prelude.{Any, IsSomeAnd, option_map, slice_get, unwrap_or}
-use Rattle.rvm_cell.specs.Receipts.{PlainReceipt}
-use Rattle.rvm_journal.specs.Entries.{PlainEntry, exchange_of}
+use Rattle.rvm_recorder.specs.Receipts.{PlainReceipt}
+use Rattle.rvm_recorder.specs.Entries.{PlainEntry, exchange_of}
 use Rattle.rvm_message.specs.Exchanges.{PlainExchange, exchange}
-use Rattle.rvm_hart_worker.specs.Calls.{is_of_run}
+use Rattle.rvm_cell.specs.Calls.{is_of_run}
 use Rattle.rvm_move.proofs.Guests.{all_asked, head_in, tail_in}
 use Rattle.rvm_move.specs.Ends.{IsCopiedEnd, IsHeardEnd, TellsEnd, fails_copying, tells_end}
 use Rattle.rvm_move.specs.Hosts.{AreAll, IsReceivedAtB}
-use Rattle.rvm_worker.specs.declared.end.WorkEnd.{WorkEnd}
-use Rattle.rvm_worker.specs.declared.end.WorkEnd.TheVariants.{BadFrame, Done, Failed, GivenUp, GuestStopped, LinkEnded, LinkFault, NoThread, OutOfMemory, OutOfRange, RecorderFull, Stopped, TooLong}
-use Rattle.rvm_worker.specs.Endings.{IsCopierEnd, last_of, tells_done, tells_given_up, tells_left}
-use Rattle.rvm_worker.specs.Heard.{IsReceiverEnd, frames_in}
-use Rattle.rvm_worker.specs.Next.{ends_hearing}
+use Rattle.rvm_cell.specs.declared.end.WorkEnd.{WorkEnd}
+use Rattle.rvm_cell.specs.declared.end.WorkEnd.TheVariants.{BadFrame, Done, Failed, GivenUp, GuestStopped, LinkEnded, LinkFault, NoThread, OutOfMemory, OutOfRange, RecorderFull, Stopped, TooLong}
+use Rattle.rvm_cell.specs.Endings.{IsCopierEnd, last_of, tells_done, tells_given_up, tells_left}
+use Rattle.rvm_cell.specs.Heard.{IsReceiverEnd, frames_in}
+use Rattle.rvm_cell.specs.Next.{ends_hearing}
 
 abbrev exchange_by : PlainReceipt → PlainExchange
 exchange_by r = exchange r.event r.reply

@@ -6,9 +6,9 @@ use mathlib.Core.List.{[], ◌∷◌}
 use mir.Syntax.{Sym}
 use Rattle.std.proofs.Crossing.{crosses}
 use Rattle.std.specs.declared.sync.ledger.Ledger as Ledger
-use Rattle.rvm_cell.specs.declared.seat.Seating as Seating
-use Rattle.rvm_cell.specs.contracts.seat.Seat as Seat
-use Rattle.rvm_cell.proofs.Sends.{seat_send}
+use Rattle.rvm_recorder.specs.declared.seat.Seating as Seating
+use Rattle.rvm_recorder.specs.contracts.seat.Seat as Seat
+use Rattle.rvm_recorder.proofs.SharedSends.{seat_send}
 use Rattle.rvm_move.specs.contracts.threads.Taken as Taken
 use Rattle.rvm_move.specs.contracts.threads.TakenAtA as TakenAtA
 use Rattle.rvm_move.specs.contracts.threads.TakenAtB as TakenAtB

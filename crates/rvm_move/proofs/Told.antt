@@ -2,13 +2,13 @@
 use Rattle.std.proofs.Common.{◌≡◌, ◌∙◌, ℕ, true, false, List, [], ◌∷◌, ◌++◌, append_assoc, None, Option, Result, ap, inl, inr, refl, subst, sym}
 use Rattle.std.proofs.lemmas.List.Elements.{All-append, All-cons, All-head, All-nil, All-tail, All-weaker}
 use Rattle.std.specs.List.{All, flat_map}
-use Rattle.rvm_cell.specs.declared.closing.CloseKind.{CloseKind}
-use Rattle.rvm_cell.specs.Receipts.{PlainReceipt}
-use Rattle.rvm_cell.specs.Seats.{PlainSeat}
-use Rattle.rvm_hart_worker.specs.Calls.{AtA, AtB, Call, IsRun, event_in, in_a, in_b, is_of_run}
-use Rattle.rvm_hart_worker.specs.declared.harts.TurnsEnd.{TurnsEnd}
-use Rattle.rvm_journal.specs.Entries.{PlainEntry}
-use Rattle.rvm_journal.specs.History.{is_board}
+use Rattle.rvm_recorder.specs.declared.closing.CloseKind.{CloseKind}
+use Rattle.rvm_recorder.specs.Receipts.{PlainReceipt}
+use Rattle.rvm_recorder.specs.Seats.{PlainSeat}
+use Rattle.rvm_cell.specs.Calls.{AtA, AtB, Call, IsRun, event_in, in_a, in_b, is_of_run}
+use Rattle.rvm_cell.specs.declared.harts.TurnsEnd.{TurnsEnd}
+use Rattle.rvm_recorder.specs.Entries.{PlainEntry}
+use Rattle.rvm_recorder.specs.History.{is_board}
 use Rattle.rvm_message.specs.declared.event.Command.TheVariants as command
 use Rattle.rvm_message.specs.declared.event.HostEvent.{HostEvent}
 use Rattle.rvm_message.specs.declared.event.HostEvent.TheVariants as event
@@ -17,20 +17,20 @@ use Rattle.rvm_move.specs.Hosts.{AreAll, AreCarried, IsAskedOfFirst, IsAskedOfSe
 use Rattle.rvm_move.specs.Runs.{AreOfOne, IsRunOf, called_of_guest}
 use Rattle.rvm_precopy.specs.declared.policy.Policy.{Policy}
 use Rattle.std.specs.Prelude.{IfSome}
-use Rattle.rvm_worker.specs.Endings.{last_of}
-use Rattle.rvm_worker.specs.Heard.{IsHeardOf, IsReceived, IsReceiverEnd, frames_in}
-use Rattle.rvm_worker.specs.Work.{AreOfCopier, AreOfReceiver, IsOfCopier, IsOfReceiver, IsWork}
-use Rattle.rvm_worker.specs.declared.end.WorkEnd.{WorkEnd}
+use Rattle.rvm_cell.specs.Endings.{last_of}
+use Rattle.rvm_cell.specs.Heard.{IsHeardOf, IsReceived, IsReceiverEnd, frames_in}
+use Rattle.rvm_cell.specs.Work.{AreOfCopier, AreOfReceiver, IsOfCopier, IsOfReceiver, IsWork}
+use Rattle.rvm_cell.specs.declared.end.WorkEnd.{WorkEnd}
 
 -- WHAT IS GIVEN BACK
 
--- the receipts of two workers, one after the other
+-- the receipts of two workers in one list
 pub all_of_two : (entries : List PlainEntry) (none own others one two : List PlainReceipt) → none ≡ []
     → one ≡ none ++ own → two ≡ one ++ others → AreAll entries two → AreAll entries (own ++ others)
 all_of_two entries none own others one two is first second told =
     subst (λ l. AreAll entries l) (second ∙ ap (λ l. l ++ others) (first ∙ ap (λ l. l ++ own) is)) told
 
--- of three
+-- the receipts of three workers in one list
 pub all_of_three : (entries : List PlainEntry) (none own second third one two three : List PlainReceipt) → none ≡ []
     → one ≡ none ++ own → two ≡ one ++ second → three ≡ two ++ third → AreAll entries three
     → AreAll entries (own ++ (second ++ third))

@@ -1,10 +1,10 @@
-//! Two threads, of which one borrows what it changes.
+//! Two threads, one of which borrows what it changes.
 
-use rvm_worker::Task;
+use rvm_cell::Task;
 use std::thread;
 use std::thread::Threads;
 
-/// Calls f in a new thread, and does the task in this one.
+/// Calls `f` in a new thread, and does the task in this one. Returns what both give, once both have ended.
 pub(crate) fn beside<R: Threads, A: Send, F: FnOnce() -> A + Send, T: Task + Drop>(
     rt: &R,
     f: F,

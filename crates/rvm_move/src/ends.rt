@@ -3,8 +3,7 @@
 ghost use Rattle.std.specs.Prelude.{◌≡◌};
 ghost use Rattle.rvm_move.specs.Ends.{failure, fails_copying, fails_hearing};
 
-use rvm_hart_worker::TurnsEnd;
-use rvm_worker::WorkEnd;
+use rvm_cell::{TurnsEnd, WorkEnd};
 
 /// How each worker of a move ended.
 #[derive(Clone, Copy, Debug, PartialEq, Eq)]
@@ -16,9 +15,10 @@ pub struct Ends {
 }
 
 impl Ends {
-    /// The first end, in this order, with which the move fails. The turns must come to their end, and
-    /// no worker may lack room or a thread. A link that failed stops the move, and not the guest: only where the
-    /// guest was given up by its first host does the copier fail with it.
+    /// The first of these ends, in the order of the fields, with which the move fails; none if it succeeds. The turns
+    /// must come to their end, and no worker may run out of memory, find its journal full, be stopped at its gate, or
+    /// have no thread. A link that fails stops the move but not the guest: the copier fails with it only if its host
+    /// had given up the guest.
     pub fn failure(&self) -> Option<WorkEnd>
         ensures { result ≡ failure self.now }
     {
@@ -38,7 +38,7 @@ impl Ends {
     }
 }
 
-/// Whether the copier ended otherwise than with the move, given up or not.
+/// Whether the copier ended in another way than with the move, done or given up.
 fn fails_copying(end: WorkEnd) -> bool
     ensures { result ≡ fails_copying end }
 {
@@ -48,7 +48,8 @@ fn fails_copying(end: WorkEnd) -> bool
     }
 }
 
-/// Whether a receiver lacked room, or had no thread for whom it was to hear, or was stopped.
+/// Whether a receiver ran out of memory, found its journal full, was stopped at its gate, or had no thread for the
+/// workers that it was to hear.
 fn fails_hearing(end: WorkEnd) -> bool
     ensures { result ≡ fails_hearing end }
 {

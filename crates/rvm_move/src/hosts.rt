@@ -1,21 +1,21 @@
-//! The two hosts of a move.
+//! The two hosts of a move: how they are opened, shared and closed.
 
 ghost use Rattle.std.specs.Prelude.{◌≡◌, ◌≤◌, [], ◌++◌, true, None, Some, vec_len, IfOk};
-ghost use Rattle.rvm_cell.specs.Runs.{all_of};
+ghost use Rattle.rvm_recorder.specs.Runs.{all_of};
 ghost use Rattle.rvm_move.specs.Ends.{first_fault};
 ghost use Rattle.rvm_move.specs.Hosts.{AreAll};
 
-use rvm_cell::{
-    CloseError, CloseKind, ReceiptItem, Seat, Seating, ShareError, SharedHost, close, share,
-};
-use rvm_journal::Recorded;
 use rvm_link::{Link, Outgoing};
 use rvm_mem::PagedMemory;
+use rvm_recorder::{
+    CloseError, CloseKind, ReceiptItem, Recorded, Seat, Seating, ShareError, SharedHost, close,
+    share,
+};
 use std::alloc::{AllocError, Global};
 use std::sync::Wait;
 use std::sync::ledger::Blank;
 
-/// The links of one host: the one that its frames go out by, and the one that the other host's come by.
+/// The links of one host: one that sends its frames, and one that receives the other host's.
 #[derive(Drop)]
 pub struct Links<K: Link + Drop> {
     pub sending: K,
@@ -29,14 +29,14 @@ pub struct HostEnd<M: PagedMemory + Drop> {
     pub fault: Option<CloseKind>,
 }
 
-/// A host under its lock, and its stream, which is open.
+/// A host under its lock, and its open stream.
 #[derive(Drop)]
 pub(crate) struct OpenHost<L: Seating, M: PagedMemory + Drop, K: Link + Drop> {
     pub(crate) host: SharedHost<L, M>,
     pub(crate) outgoing: Outgoing<K>,
 }
 
-/// Shares a host and opens its stream: the host and its seats.
+/// Shares a host among this many seats, 1 to 16, and opens its stream. Returns the host and its seats.
 pub(crate) fn open_host<L: Seating, M: PagedMemory + Drop, K: Link + Drop>(
     alloc: Global,
     blank: Blank,
@@ -65,7 +65,7 @@ pub(crate) fn open_host<L: Seating, M: PagedMemory + Drop, K: Link + Drop>(
     Ok((OpenHost { host, outgoing }, list))
 }
 
-/// The seats and the receipts that workers give back. Some are missing where a growth was refused.
+/// The seats and receipts that workers gave back. Some are missing if memory ran out.
 #[derive(Drop)]
 pub(crate) struct Returned<L: Seating> {
     pub(crate) seats: Vec<Seat<L>>,
@@ -74,7 +74,7 @@ pub(crate) struct Returned<L: Seating> {
 }
 
 impl<L: Seating> Returned<L> {
-    /// Nothing yet.
+    /// The collection before any worker gave anything back.
     pub(crate) fn new(alloc: Global) -> Returned<L>
         ensures { all_of result.receipts.items ≡ [] }
     {
@@ -85,7 +85,7 @@ impl<L: Seating> Returned<L> {
         }
     }
 
-    /// A worker gave back its seat and its receipts.
+    /// Adds the seat and the receipts that a worker gave back. If memory runs out, it is no longer whole.
     pub(crate) fn add(&mut self, seat: Seat<L>, receipts: Vec<ReceiptItem>)
         ensures { self.new.is_whole ≡ true → (self.old.is_whole ≡ true)
             × (all_of self.new.receipts.items ≡ all_of self.old.receipts.items ++ all_of receipts.items) }
@@ -96,7 +96,7 @@ impl<L: Seating> Returned<L> {
     }
 }
 
-/// Puts receipts after others, unless a growth is refused.
+/// Appends receipts to others. Returns whether there was memory for that.
 fn append(all: &mut Vec<ReceiptItem>, more: Vec<ReceiptItem>) -> bool
     ensures { result ≡ true → all_of all.new.items ≡ all_of all.old.items ++ all_of more.items }
 {
@@ -104,7 +104,8 @@ fn append(all: &mut Vec<ReceiptItem>, more: Vec<ReceiptItem>) -> bool
     all.append(&mut more).is_ok()
 }
 
-/// Closes a host whose workers have ended.
+/// Closes a host whose workers have ended, with the seats and receipts that they gave back. Returns the host, with the
+/// fault if it could not be closed.
 pub(crate) fn close_host<L: Seating, M: PagedMemory + Drop, K: Link + Drop, R: Wait>(
     rt: &R,
     alloc: Global,
@@ -146,8 +147,7 @@ fn not_closed<L: Seating, M: PagedMemory + Drop>(
     }
 }
 
-/// Why a host was not closed, if it was not: where something is missing that a growth had no room for, for
-/// that.
+/// Why a host was not closed, if it was not: out of memory if a seat or a receipt is missing, else `fault`.
 fn first_fault(is_whole: bool, fault: Option<CloseKind>) -> Option<CloseKind>
     ensures first { result ≡ first_fault is_whole fault }
     ensures none { result ≡ None → (is_whole ≡ true) × (fault ≡ None) }

@@ -1,22 +1,20 @@
 //! A move from its beginning to its end.
 
 ghost use Rattle.std.specs.Prelude.{◌≡◌, ◌≢◌, ◌++◌, [], None, Err, vec_len, IfOk};
-ghost use Rattle.rvm_cell.specs.Runs.{all_of};
-ghost use Rattle.rvm_hart_worker.specs.Calls.{IsRun};
+ghost use Rattle.rvm_recorder.specs.Runs.{all_of};
+ghost use Rattle.rvm_cell.specs.Calls.{IsRun};
 ghost use Rattle.rvm_move.specs.Hosts.{AreAll, AreCarried, IsFirstEnd, IsSecondEnd};
 ghost use Rattle.rvm_move.specs.Runs.{AreOfOne, IsEndRun};
-ghost use Rattle.rvm_worker.specs.declared.end.WorkEnd.TheVariants.{LinkFault};
+ghost use Rattle.rvm_cell.specs.declared.end.WorkEnd.TheVariants.{LinkFault};
 
 use crate::ends::Ends;
 use crate::hosts::{HostEnd, Links, OpenHost, Returned, close_host, open_host};
 use crate::plan::Plan;
 use crate::threads::{Carried, Taken, TakenAtA, TakenAtB, work};
-use rvm_cell::{Seat, Seating};
-use rvm_hart_worker::HartsWorked;
-use rvm_journal::Recorded;
+use rvm_cell::{Gate, HartsWorked};
 use rvm_link::Link;
 use rvm_mem::PagedMemory;
-use rvm_worker::Gate;
+use rvm_recorder::{Recorded, Seat, Seating};
 use std::alloc::{AllocError, Global};
 use std::io::Write;
 use std::sync::Wait;
@@ -24,10 +22,10 @@ use std::sync::ledger::Blank;
 use std::thread::Threads;
 use std::time::Clock;
 
-/// How many workers have a seat at host A.
+/// The number of seats at host A: the hart worker's, the copier's and the receiver's.
 pub const SEATS_AT_A: u32 = 3;
 
-/// How many workers have a seat at host B.
+/// The number of seats at host B: the hart worker's and the receiver's.
 pub const SEATS_AT_B: u32 = 2;
 
 /// What a move leaves: both hosts, and how its workers ended.
@@ -38,10 +36,10 @@ pub struct Moved<M: PagedMemory + Drop> {
     pub ends: Ends,
 }
 
-/// Moves the guest of the first host to the second one while it runs. What the guest sends goes to
-/// `writer`. It ends when all workers have ended: the one that makes the turns, the copier, and a receiver
-/// at each host. `AllocError` where a growth is refused; until then nothing was sent but Hello. It may wait
-/// for other threads, and starts three.
+/// Moves the guest of the first host to the second one while it runs. What the guest sends goes to `writer`. Returns
+/// both hosts and how the workers ended, when all have ended: the one that makes the turns, the copier, and a receiver
+/// at each host. `AllocError` if memory runs out before they begin: then nothing was sent but Hello. It may wait for
+/// other threads, and starts three.
 pub fn move_guest<
     L: Seating + Send + Sync,
     N: Seating + Send + Sync,
@@ -108,7 +106,7 @@ pub fn move_guest<
     Ok(close_both(rt, alloc, open_a, open_b, carried, turned))
 }
 
-/// Gives each worker its seats, and has all work.
+/// Gives each worker its seats, and has all workers work to their end.
 fn seat_and_work<
     L: Seating + Send + Sync,
     N: Seating + Send + Sync,
@@ -176,7 +174,7 @@ fn seat_and_work<
     )
 }
 
-/// Closes both hosts, with what their workers gave back.
+/// Closes both hosts with what their workers gave back.
 #[tactic(auto, using(crate::proofs::Told::all_of_three, crate::proofs::Told::all_of_two))]
 fn close_both<L: Seating, N: Seating, M: PagedMemory + Drop, K: Link + Drop, R: Wait>(
     rt: &R,

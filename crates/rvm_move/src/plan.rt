@@ -1,13 +1,13 @@
-//! What is asked of a move.
+//! The plan of a move.
 
 use rvm_precopy::Policy;
 
-/// What a guest does while it moves, and when pre-copy ends.
+/// What is asked of a move: what the guest does meanwhile, when pre-copy ends, and the version of the streams.
 #[derive(Clone, Copy, Debug, PartialEq, Eq)]
 pub struct Plan {
     /// How many harts take turns, 1 to 8.
     pub harts: u32,
-    /// How many turns are made at most.
+    /// The most turns.
     pub steps: u32,
     pub policy: Policy,
     /// The version of the streams, 1 to 3.

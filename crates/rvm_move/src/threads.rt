@@ -1,23 +1,25 @@
 //! The threads of a move.
 
 ghost use Rattle.std.specs.Prelude.{◌≢◌, Err};
-ghost use Rattle.rvm_cell.specs.Runs.{all_of};
-ghost use Rattle.rvm_hart_worker.specs.Calls.{IsRun};
+ghost use Rattle.rvm_recorder.specs.Runs.{all_of};
+ghost use Rattle.rvm_cell.specs.Calls.{IsRun};
 ghost use Rattle.rvm_move.specs.Hosts.{AreCarried, IsReceivedAtB};
 ghost use Rattle.rvm_move.specs.Runs.{AreOfOne};
-ghost use Rattle.rvm_worker.specs.Copiers.{IsCopied};
-ghost use Rattle.rvm_worker.specs.Heard.{IsReceived};
-ghost use Rattle.rvm_worker.specs.declared.end.WorkEnd.TheVariants.{LinkFault};
+ghost use Rattle.rvm_cell.specs.Copiers.{IsCopied};
+ghost use Rattle.rvm_cell.specs.Heard.{IsReceived};
+ghost use Rattle.rvm_cell.specs.declared.end.WorkEnd.TheVariants.{LinkFault};
 
 use crate::beside::beside;
 use crate::plan::Plan;
 use crate::turns::Turns;
-use rvm_cell::{Seat, Seating, SharedHost};
-use rvm_hart_worker::{HartsWorked, Hosts};
+use rvm_cell::{
+    Gate, HartsWorked, Hosts, Side, WorkEnd, Worked, Worker, copier_worker, receiver_worker,
+    take_back,
+};
 use rvm_link::{Link, Outgoing};
 use rvm_mem::PagedMemory;
 use rvm_precopy::Policy;
-use rvm_worker::{Gate, Side, WorkEnd, Worked, Worker, copier_worker, receiver_worker, take_back};
+use rvm_recorder::{Seat, Seating, SharedHost};
 use std::alloc::Global;
 use std::io::Write;
 use std::sync::Wait;
@@ -32,10 +34,10 @@ pub(crate) const A: u8 = 0;
 /// The number of the host to which it moves.
 pub(crate) const B: u8 = 1;
 
-/// How often it is looked at most whether a thread has begun, without a pause.
+/// The most looks without a pause whether a thread has begun.
 const SOON: u32 = 10_000;
 
-/// How often then, a millisecond apart.
+/// The most looks after these, a millisecond apart.
 const LATER: u32 = 2_000;
 
 /// What the workers at host A take with them.
@@ -69,7 +71,7 @@ pub(crate) struct Carried<L: Seating, N: Seating> {
     pub(crate) receiver_b: Worked<N>,
 }
 
-/// Copies the guest of a host.
+/// Copies the guest of host A to host B.
 fn copy<L: Seating, M: PagedMemory + Drop, K: Link + Drop, G: Gate, R: Wait + Clock>(
     rt: &R,
     alloc: Global,
@@ -84,8 +86,7 @@ fn copy<L: Seating, M: PagedMemory + Drop, K: Link + Drop, G: Gate, R: Wait + Cl
     copier_worker(rt, alloc, &Side { host, outgoing }, seat, gate, B, policy)
 }
 
-/// Hears the other side. The link is dropped with the end of the receiver, so that whoever sends on it
-/// need not wait.
+/// Hears the other side. The link is dropped when the receiver ends, so that whoever sends on it need not wait.
 #[tactic(auto, using(crate::proofs::Told::received))]
 fn hear<L: Seating, M: PagedMemory + Drop, K: Link + Drop, G: Gate, R: Wait>(
     rt: &R,
@@ -106,8 +107,8 @@ fn hear<L: Seating, M: PagedMemory + Drop, K: Link + Drop, G: Gate, R: Wait>(
     receiver_worker(rt, alloc, &side, seat, gate, worker, from, to, &mut link)
 }
 
-/// Copies the guest of host A, and hears host B beside it. The first seat is the copier's. Where no thread can
-/// be made for the receiver, it hears once the copier, whom nobody answers, has given up.
+/// Copies the guest of host A, and hears host B beside that. The first seat is the copier's. If the system cannot start
+/// a thread for the receiver, it hears after the copier, whom nobody answers, has given up.
 fn copy_and_hear<
     L: Seating + Send + Sync,
     M: PagedMemory + Drop + Send,
@@ -153,7 +154,7 @@ fn copy_and_hear<
     (copied, heard)
 }
 
-/// Works at host A. Nothing is sent once both workers have ended.
+/// Does the work at host A. When both workers have ended, closes the end at which its frames are sent.
 fn work_at_a<
     L: Seating + Send + Sync,
     M: PagedMemory + Drop + Send,
@@ -183,7 +184,7 @@ fn work_at_a<
     worked
 }
 
-/// Waits until the thread of the workers at host A has begun, and says whether it has in time.
+/// Waits until the thread of the workers at host A has begun, for some two seconds. Returns whether it has.
 fn has_begun<R: Clock>(rt: &R, begun: &AtomicBool) -> bool {
     for look in 0..SOON + LATER {
         if begun.load(Ordering::Relaxed) {
@@ -198,8 +199,8 @@ fn has_begun<R: Clock>(rt: &R, begun: &AtomicBool) -> bool {
     false
 }
 
-/// Hears host A at host B. Nothing is sent once it has ended. It ends with `NoThread`, and hears nothing, where
-/// the workers at host A have no thread to begin in.
+/// Hears host A at host B. When the receiver has ended, closes the end at which its frames are sent. If the workers at
+/// host A have no thread to begin in, it hears nothing, and ends with `NoThread`.
 fn work_at_b<L: Seating, M: PagedMemory + Drop, K: Link + Drop, G: Gate, R: Wait + Clock>(
     rt: &R,
     alloc: Global,
@@ -239,8 +240,8 @@ fn work_at_b<L: Seating, M: PagedMemory + Drop, K: Link + Drop, G: Gate, R: Wait
     worked
 }
 
-/// Moves the guest, by three threads. Where `thread::join` can make none for the workers at host A, it calls
-/// them last, and the receiver at host B would wait for their frames for ever.
+/// Moves the guest, by three threads. If `thread::join` cannot start one for the workers at host A, it calls them last;
+/// without `begun`, the receiver at host B would then wait for their frames for ever.
 fn carry<
     L: Seating + Send + Sync,
     N: Seating + Send + Sync,

@@ -1,22 +1,21 @@
-//! The turns of the guest's harts, as what a thread does beside others.
+//! The turns of the guest's harts, as the task of a thread beside others.
 
 ghost use Rattle.std.specs.Prelude.{◌≡◌, ◌≢◌, Err, ⊤};
-ghost use Rattle.rvm_cell.specs.Runs.{all_of};
-ghost use Rattle.rvm_hart_worker.specs.Calls.{IsRun};
-ghost use Rattle.rvm_worker.specs.Work.{IsWork};
-ghost use Rattle.rvm_worker.specs.declared.end.WorkEnd.TheVariants.{LinkFault};
+ghost use Rattle.rvm_recorder.specs.Runs.{all_of};
+ghost use Rattle.rvm_cell.specs.Calls.{IsRun};
+ghost use Rattle.rvm_cell.specs.Work.{IsWork};
+ghost use Rattle.rvm_cell.specs.declared.end.WorkEnd.TheVariants.{LinkFault};
 
 use crate::plan::Plan;
-use rvm_cell::{Seat, Seating};
-use rvm_hart_worker::{HartsWorked, Hosts, hart_worker};
+use rvm_cell::{Gate, HartsWorked, Hosts, Task, hart_worker};
 use rvm_mem::PagedMemory;
-use rvm_worker::{Gate, Task};
+use rvm_recorder::{Seat, Seating};
 use std::alloc::Global;
 use std::io::Write;
 use std::sync::Wait;
 use std::time::Clock;
 
-/// The turns of the guest's harts, which a worker with these seats is to make.
+/// The task of making the turns of the guest's harts, for a worker with these seats.
 #[derive(Drop)]
 pub(crate) struct Turns<
     't,

@@ -17,7 +17,7 @@ pub enum PagedError {
     /// No page, or more than 4096.
     #[error("a memory has 1 to 4096 pages")]
     BadSize,
-    /// A growth was refused.
+    /// Memory ran out.
     #[error("out of memory")]
     OutOfMemory,
 }
@@ -55,7 +55,7 @@ impl Model for PagedRam {
 }
 
 impl PagedRam {
-    /// A memory of so many pages of zeros, none of them in the dirty log. `BadSize` for no page or
+    /// A memory of this many pages of zeros, none of them in the dirty log. `BadSize` for no page or
     /// more than 4096.
     pub fn new(alloc: Global, pages: u32) -> Result<PagedRam, PagedError>
         ensures bytes { IfOk result (λ m. m.bytes ≡ replicate (4096 * pages) 0) }

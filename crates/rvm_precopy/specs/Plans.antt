@@ -24,7 +24,7 @@ pub record Plan : Type 0 where
   pub sent : ℕ
   pub stop : Bool
 
--- kept beside a guest of so many pages
+-- kept beside a guest of this many pages
 pub record IsPlanOf (pages : ℕ) (r : Plan) : Type 0 where
   pub send : length r.to_send ≡ pages
   pub fix : length r.to_fix ≡ pages
@@ -130,7 +130,7 @@ copied_if peeked r p =
       },
     )
 
--- the stop rule, with so many pages in the dirty log
+-- the stop rule, with this many pages in the dirty log
 abbrev pub stops : (left : ℕ) → Plan → Bool
 stops left r =
     nat_le r.policy.max_rounds r.round

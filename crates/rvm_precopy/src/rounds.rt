@@ -90,7 +90,7 @@ impl Model for Rounds {
 }
 
 impl Rounds {
-    /// All that a move of so many pages needs. Nothing is copied before `open`.
+    /// All that a move of this many pages needs. Nothing is copied before `open`.
     pub fn begin(alloc: Global, pages: u32, policy: Policy) -> Result<Rounds, AllocError>
         requires pages { pages ≤ 4096 }
         requires policy { is_allowed (policy_of policy) ≡ true }
@@ -260,7 +260,7 @@ impl Rounds {
         answer
     }
 
-    /// The stop rule, with so many pages in the dirty log.
+    /// The stop rule, with this many pages in the dirty log.
     fn stops(&self, left: u32) -> bool
         ensures { result ≡ stops left self.now }
     {

@@ -1,17 +1,17 @@
 -- Worked processes of two hosts.
 use Rattle.std.proofs.Common.{◌≡◌, ℕ, zero, suc, ◌<◌, ◌==◌, true, if◌then◌else◌, List, [], ◌∷◌, Some, None, refl, arith, inl, inr}
-use Rattle.rvm_core.specs.Hosts.{PlainHost, new_host}
-use Rattle.rvm_core.specs.Modes.{Run}
-use Rattle.rvm_debug.specs.Guest.{GuestState}
+use Rattle.rvm_host.specs.Hosts.{PlainHost, new_host}
+use Rattle.rvm_host.specs.Modes.{Run}
+use Rattle.rvm_board.specs.Guest.{GuestState}
 use Rattle.rvm_guest.specs.TheGuest.{board}
 use Rattle.rvm_guest.specs.Valid.{is_valid}
-use Rattle.rvm_host_cell.specs.Events.{IsReached}
-use Rattle.rvm_interleaving.specs.Hosts.{Openings}
+use Rattle.rvm_cell.specs.Events.{IsReached}
+use Rattle.rvm_audit.specs.Hosts.{Openings}
 use Rattle.rvm_message.specs.Events.{BoardHostEvent}
 use Rattle.rvm_protocol.specs.Commands.{AbortMove, Begin, Came, Do, Policy}
 use Rattle.rvm_protocol.specs.Frames.{Abort, Go}
 use Rattle.rvm_protocol.specs.World.{Has, new_world}
-use Rattle.rvm_world.specs.Worlds.{BoardWorld}
+use Rattle.rvm_core.specs.Worlds.{BoardWorld}
 use Rattle.rvm_processes.specs.Processes.{AllMayHappen, AreOneWorld, AreProcesses, MayHappen, ProcessEvent, events_at}
 use Rattle.rvm_processes.proofs.Law.{one_world}
 

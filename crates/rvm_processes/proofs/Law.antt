@@ -1,19 +1,19 @@
 -- Host processes are hosts of one world.
 use Rattle.std.proofs.Common.{◌≡◌, ◌∙◌, ℕ, ◌<◌, true, List, sym, ap}
 use Rattle.std.specs.List.{fold}
-use Rattle.rvm_core.specs.Hosts.{PlainHost, host_of}
-use Rattle.rvm_debug.specs.Guest.{GuestState}
+use Rattle.rvm_host.specs.Hosts.{PlainHost, host_of}
+use Rattle.rvm_board.specs.Guest.{GuestState}
 use Rattle.rvm_guest.proofs.TheGuest.{board_laws}
 use Rattle.rvm_guest.specs.TheGuest.{board}
 use Rattle.rvm_guest.specs.Valid.{is_valid}
-use Rattle.rvm_host_cell.specs.Events.{next_at}
-use Rattle.rvm_interleaving.proofs.Law.{allowed, begins}
-use Rattle.rvm_interleaving.specs.Hosts.{Openings}
-use Rattle.rvm_interleaving.specs.Worlds.{AreNew}
+use Rattle.rvm_cell.specs.Events.{next_at}
+use Rattle.rvm_audit.proofs.Law.{allowed, begins}
+use Rattle.rvm_audit.specs.Hosts.{Openings}
+use Rattle.rvm_audit.specs.Worlds.{AreNew}
 use Rattle.rvm_protocol.proofs.Course.{course_law, past_law}
 use Rattle.rvm_protocol.specs.Course.{RunsNeverMove, RunsTellTheirPast}
 use Rattle.rvm_protocol.specs.World.{new_world}
-use Rattle.rvm_world.specs.Worlds.{BoardWorld}
+use Rattle.rvm_core.specs.Worlds.{BoardWorld}
 use Rattle.rvm_processes.specs.Processes.{AreOneWorld, AreProcesses, ProcessEvent, events_at}
 use Rattle.rvm_processes.proofs.Walks.{are_events, host_after, next_in, world_after}
 

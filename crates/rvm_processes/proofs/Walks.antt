@@ -1,17 +1,17 @@
--- What happened at hosts, each by itself, as events of a world: which events they are, and where they lead.
+-- What happened at hosts, each by itself, as events of a world: which events, and where they lead.
 use Rattle.std.proofs.Common.{◌≡◌, ◌∙◌, ℕ, suc, ◌<◌, ◌==◌, Bool, true, false, if◌then◌else◌, List, [], ◌∷◌, ◌++◌, map, Some, None, refl, sym, ap, inl, inr}
 use Rattle.std.specs.List.{fold}
 use Rattle.std.specs.Prelude.{slice_get}
 use Rattle.std.proofs.lemmas.Bool.{eqb-true, lt-ltb}
-use Rattle.rvm_debug.specs.declared.event.BoardEvent.{BoardEvent}
-use Rattle.rvm_debug.specs.Guest.{Guest}
+use Rattle.rvm_board.specs.declared.event.BoardEvent.{BoardEvent}
+use Rattle.rvm_board.specs.Guest.{Guest}
 use Rattle.rvm_guest.specs.TheGuest.{board}
-use Rattle.rvm_interleaving.specs.Hosts.{cons_if}
+use Rattle.rvm_audit.specs.Hosts.{cons_if}
 use Rattle.rvm_message.specs.Events.{BoardHostEvent}
 use Rattle.rvm_protocol.specs.Commands.{Came, Do}
 use Rattle.rvm_protocol.specs.Host.{Host, host_step}
 use Rattle.rvm_protocol.specs.World.{At, Deliver, Event, Has, entry_of, frame_for, happened, history, meaning, result_at, run, world_at}
-use Rattle.rvm_world.specs.Worlds.{BoardWorld}
+use Rattle.rvm_core.specs.Worlds.{BoardWorld}
 use Rattle.rvm_processes.specs.Processes.{AllMayHappen, CameSent, ProcessEvent, events_at, what_happened}
 
 -- WHICH EVENTS

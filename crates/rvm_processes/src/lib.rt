@@ -1,8 +1,10 @@
-//! That host processes are hosts of one world: whatever each of them did by itself, if each frame that came to it had been
-//! sent to it before, then together they are a run in which the guest never moved. Laws over the definitions of
-//! `rvm_host_cell` and `rvm_protocol`, of any number of hosts. It makes nothing, and calls no code.
+//! Laws that host processes are hosts of one world, for any number of hosts: whatever each of them did by itself, if
+//! each frame that came to it had been sent to it before, then together they are a run in which the guest never moved.
 //!
-//! The definitions are in `specs/Processes.antt`.
+//! Stands on the definitions of `rvm_protocol`, `rvm_cell` and `rvm_audit`, and of the guests, frames and hosts below
+//! them. It calls no code, and must not know connections or how processes are started.
+//!
+//! To be read in this order: `specs/Processes.antt`, which has the definitions; `laws`.
 #![tactic(auto)]
 
 pub mod laws;

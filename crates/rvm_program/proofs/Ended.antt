@@ -1,5 +1,5 @@
 -- How commands end that were given their files.
-use Rattle.std.proofs.Common.{◌≡◌, ◌⊎◌, ◌∙◌, ℕ, zero, suc, List, [], ◌++◌, Option, None, Some, Result, Ok, Err, codes, inl, inr}
+use Rattle.std.proofs.Common.{◌≡◌, ◌⊎◌, ◌∙◌, true, ℕ, zero, suc, List, [], ◌++◌, Option, None, Some, Result, Ok, Err, codes, inl, inr}
 use Rattle.std.proofs.Common.{arith, refl, subst, sym, take}
 use Rattle.std.specs.Borrow.{Bor}
 use Rattle.std.specs.Prelude.{◌≢◌, OnErr}
@@ -16,12 +16,13 @@ use Rattle.rvm_command.specs.declared.refused.Refused.{Refused}
 use Rattle.rvm_command.specs.declared.run.Ended.{Ended}
 use Rattle.rvm_command.specs.Command.{end_text, image_of, refused_text}
 use Rattle.rvm_command.specs.Ends.{HasStatus, IsAsmEnd, IsDebugEnd, IsListEnd, IsRunEnd, RunHasStatus, run_status}
-use Rattle.rvm_move_command.specs.Ended.{IsMoved, IsNotMoved, IsUntold}
-use Rattle.rvm_move_command.specs.Orders.{IsAudited, IsNotAudited}
-use Rattle.rvm_program.specs.Ended.{AsmEnded, AuditEnded, DebugEnded, DisEnded, HostEnded, MoveEnded, RunEnded, ScriptEnded, TellEnded, ToTell, Written}
+use Rattle.rvm_host_command.specs.Hosted.{IsHostedTo}
+use Rattle.rvm_move.specs.Ended.{IsMoved, IsNotMoved, IsUntold}
+use Rattle.rvm_move.specs.Orders.{IsAudited, IsNotAudited}
+use Rattle.rvm_program.specs.Ended.{AsmEnded, AuditEnded, DebugEnded, DisEnded, HasHosted, HostEnded, MoveEnded, RunEnded, ScriptEnded, TellEnded, ToTell, Written}
 use Rattle.rvm_command.proofs.Inputs.{ends_so}
-use Rattle.rvm_program.specs.Files.{IsApart, IsCreated, IsFile, IsFirst, IsFirstInput, IsInput, IsOpened, Named}
-use Rattle.rvm_world_command.specs.Ends.{IsScriptEnd}
+use Rattle.rvm_program.specs.Files.{IsApart, IsCreated, IsFile, IsFirst, IsFirstInput, IsImage, IsInput, IsOpened, Named}
+use Rattle.rvm_command.specs.ScriptEnds.{IsScriptEnd}
 
 -- neither 0 nor 1
 abbrev IsMore : ℕ → Type 0
@@ -328,6 +329,29 @@ module _ {F : Type 0} (files : Named) where
         | inl moved ↦ (moved.0, untold.0, record { image = image; image_is = image_is; ended = inl moved.1 })
         | inr failed ↦ (1, untold.0, record { image = image; image_is = image_is; ended = inr (refl, failed) })
       ]
+
+-- `host` has a status of a host that did what it was asked, or of one that did not
+pub host_ended : {F : Type 0} (files : Named) (a : HostArguments) (peers image : List ℕ) (output : Written) (r : Result ℕ F)
+    → IsFile (files a.peers.now) peers → IsImage files a.guest image
+    → IfOk r (λ status. (status ≡ 0) ⊎ (status ≡ 1) ⊎ ((status ≡ 3) × (a.verdict ≡ true)))
+    → IfOk r (λ status. status ≢ 1 → IsHostedTo a peers image status output.before output.after)
+    → IfOk r (λ status. HostEnded files a status output)
+host_ended files a peers image output (Err fault) peers_is image_is status done = tt
+host_ended files a peers image output (Ok s) peers_is image_is status done = elim status [
+  | inl none ↦ subst (λ n. HostEnded files a n output) (sym none)
+      (subst (λ n. HasHosted files a n output) none (has (λ one. omega (arith, none, one))))
+  | inr (inl one) ↦ subst (λ n. HostEnded files a n output) (sym one) tt
+  | inr (inr three) ↦ subst (λ n. HostEnded files a n output) (sym three.0)
+      (three.1, subst (λ n. HasHosted files a n output) three.0 (has (λ one. omega (arith, three.0, one))))
+] where
+  has : s ≢ 1 → HasHosted files a s output
+  has other = record {
+    peers = peers;
+    image = image;
+    peers_is = peers_is;
+    image_is = image_is;
+    hosted = done other;
+  }
 
 -- where it is not told how a host ended, it did not do what it was asked
 pub host_untold : {F : Type 0} (files : Named) (a : HostArguments) (output : Written) (r : Result ℕ F)

@@ -4,7 +4,7 @@ use Rattle.std.proofs.lemmas.List.{take_all}
 use Rattle.std.specs.Prelude.{IfOk, IfSome}
 use Rattle.rvm_program.specs.Files.{IsApart, IsFile, IsFirst}
 
--- a file of which no more than so many bytes were found, when one more was looked for, was read whole
+-- a file of which at most `limit` bytes were found, when one more was looked for, was read whole
 pub whole : (known : Option (List ℕ)) (bytes : List ℕ) (limit : ℕ) → IsFirst known (limit + 1) bytes → length bytes ≤ limit
     → IsFile known bytes
 whole None bytes limit is few = tt

@@ -4,8 +4,9 @@ use Rattle.std.specs.Result.{IfErr, IfOk}
 use Rattle.std.specs.Prelude.{OnErr}
 use Rattle.rvm_arguments.specs.declared.arguments.Arguments.{Arguments}
 use Rattle.rvm_arguments.specs.declared.arguments.Arguments.TheVariants.{Run, Asm, Dis, Debug, Script, Move, Audit, Host, Tell}
-use Rattle.rvm_program.specs.Ended.{HasEnded, IsUnbegun, IsUntold, MoveHasStatus, TellEnded, Written}
+use Rattle.rvm_program.specs.Ended.{HasEnded, HostEnded, IsUnbegun, IsUntold, MoveHasStatus, TellEnded, Written}
 use Rattle.rvm_program.specs.Performed.{HasFailed, IsJudged, IsPassingOn, IsTelling, TellsMore}
+use Rattle.rvm_arguments.specs.declared.arguments.HostArguments.{HostArguments}
 use Rattle.rvm_arguments.specs.declared.arguments.MoveArguments.{MoveArguments}
 use Rattle.rvm_arguments.specs.declared.arguments.RunArguments.{RunArguments}
 use Rattle.rvm_arguments.specs.declared.arguments.StatusOf.{StatusOf}
@@ -17,7 +18,7 @@ use Rattle.rvm_command.specs.declared.run.Ended.TheVariants.{HaltedWith, StepsSp
 use Rattle.rvm_command.specs.Command.{refused_text}
 use Rattle.rvm_command.specs.Ends.{IsRunEnd, RunHasStatus, run_status}
 use Rattle.rvm_command.specs.Refusals.{refused}
-use Rattle.rvm_move_command.specs.Ended.{ended_of, status_asked}
+use Rattle.rvm_move.specs.Ended.{ended_of, status_asked}
 use Rattle.rvm_program.specs.Files.{IsUnread, Named}
 use Rattle.rvm_refusal.specs.declared.refusal.Refusal.{Refusal}
 
@@ -87,6 +88,17 @@ move_ended : (a : MoveArguments) (s : ℕ) (image : List ℕ) (errors output : W
 move_ended a s image errors output (inl moved) = move_asked a a.verdict s (ended_of moved.made.end) refl moved.status_is
 move_ended a s image errors output (inr failed) = little (Move a) s (omega (arith, failed.0))
 
+-- a host has more than 1 only where it was asked for a verdict
+hosted : (files : Named) (a : HostArguments) (n : ℕ) (output : Written) → HostEnded files a (suc (suc n)) output
+    → IsAskedFor (Host a) (suc (suc n))
+hosted files a zero output none = absurd none
+hosted files a (suc zero) output (verdict, has) = record {
+  passing = λ two. (let it : 3 ≡ 2 = two in absurd (omega (arith, it)));
+  lost = λ three. inr verdict;
+  judged = λ above. verdict;
+}
+hosted files a (suc (suc n)) output none = absurd none
+
 -- what a host was told has one of three statuses
 told : (a : TellArguments) (s : ℕ) → TellEnded s → IsAskedFor (Tell a) s
 told a s (inl none) = little (Tell a) s (omega (arith, none))
@@ -109,7 +121,7 @@ more files created (Debug a) n script output errors e = absurd e.ended
 more files created (Script a) n script output errors e = absurd e.ended
 more files created (Move a) n script output errors e = move_ended a (suc (suc n)) e.image errors output e.ended
 more files created (Audit a) n script output errors e = absurd e.ended
-more files created (Host a) n script output errors e = absurd e
+more files created (Host a) n script output errors e = hosted files a n output e
 more files created (Tell a) n script output errors e = told a (suc (suc n)) e
 
 -- a command that has ended was asked for its status

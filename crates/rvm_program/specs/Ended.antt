@@ -1,5 +1,5 @@
 -- How a command ended that was given the files that it names.
-use Rattle.std.specs.Prelude.{◌≡◌, ◌⊎◌, ⊤, ℕ, zero, suc, List, [], Option, Some}
+use Rattle.std.specs.Prelude.{◌≡◌, ◌⊎◌, ⊤, ℕ, zero, suc, true, List, [], Option, Some}
 use Rattle.rvm_arguments.specs.declared.arguments.Arguments.{Arguments}
 use Rattle.rvm_arguments.specs.declared.arguments.Arguments.TheVariants.{Run, Asm, Dis, Debug, Script, Move, Audit, Host, Tell}
 use Rattle.rvm_arguments.specs.declared.arguments.AsmArguments.{AsmArguments}
@@ -12,12 +12,12 @@ use Rattle.rvm_arguments.specs.declared.arguments.ScriptArguments.{ScriptArgumen
 use Rattle.rvm_command.specs.Command.{image_of}
 use Rattle.rvm_command.specs.Ends.{HasStatus, IsAsmEnd, IsDebugEnd, IsListEnd, IsRunEnd, RunHasStatus}
 use Rattle.rvm_command.specs.Refusals.{IsTold, refused}
-use Rattle.rvm_host_command.specs.Hosted.{IsHosted}
-use Rattle.rvm_move_command.specs.Ended.{IsMoved, IsNotMoved}
-use Rattle.rvm_move_command.specs.Orders.{IsAudited, IsNotAudited}
+use Rattle.rvm_host_command.specs.Hosted.{IsHostedTo}
+use Rattle.rvm_move.specs.Ended.{IsMoved, IsNotMoved}
+use Rattle.rvm_move.specs.Orders.{IsAudited, IsNotAudited}
 use Rattle.rvm_program.specs.Files.{IsApart, IsCreated, IsFile, IsImage, IsInput, IsOpened, IsUnread, Named}
 use Rattle.rvm_refusal.specs.declared.refusal.Refusal.{Refusal}
-use Rattle.rvm_world_command.specs.Ends.{IsScriptEnd}
+use Rattle.rvm_command.specs.ScriptEnds.{IsScriptEnd}
 
 -- what a writer held before a command and after it, where that is known
 pub record Written : Type 0 where
@@ -99,19 +99,23 @@ pub record AuditEnded (files : Named) (a : MoveArguments) (status : ℕ) (output
   pub image_is : IsFile (files a.guest.image.now) image
   pub ended : AuditHasStatus status a image output told errors.before errors.after
 
--- `host` was given the files that it names, and its console shows what the guest sent while it was there
-pub record HasHosted (files : Named) (a : HostArguments) (output : Written) : Type 0 where
+-- `host` was given the files that it names, and worked until it came to an end with this status; its console shows what the
+-- guest sent while it was there
+pub record HasHosted (files : Named) (a : HostArguments) (status : ℕ) (output : Written) : Type 0 where
   pub peers : List ℕ
   pub image : List ℕ
   pub peers_is : IsFile (files a.peers.now) peers
   pub image_is : IsImage files a.guest image
-  pub hosted : IsHosted a peers image output.before output.after
+  pub hosted : IsHostedTo a peers image status output.before output.after
 
--- `host` did so; or it did not begin, or its console could not be written, by the status
+-- `host` did so, and was asked for a verdict where that is what its status tells; or it did not begin, or its console could
+-- not be written, by the status
 abbrev pub HostEnded : (files : Named) → HostArguments → (status : ℕ) → (output : Written) → Type 0
-HostEnded files a zero output = HasHosted files a output
+HostEnded files a zero output = HasHosted files a 0 output
 HostEnded files a (suc zero) output = ⊤
-HostEnded files a (suc (suc n)) output = ⊥
+HostEnded files a (suc (suc zero)) output = ⊥
+HostEnded files a (suc (suc (suc zero))) output = (a.verdict ≡ true) × HasHosted files a 3 output
+HostEnded files a (suc (suc (suc (suc n)))) output = ⊥
 
 -- all that a host was told happened, something did not, or an answer was lost, by the status
 abbrev pub TellEnded : (status : ℕ) → Type 0

@@ -15,7 +15,7 @@ Named = List ℕ → Option (List ℕ)
 abbrev pub IsFile : (known : Option (List ℕ)) → (bytes : List ℕ) → Type 0
 IsFile known bytes = IfSome known (λ all. bytes ≡ all)
 
--- these are the first bytes of a file, so many or all that it has, if those are known
+-- these are the first `count` bytes of a file, or all where it has no more, if those are known
 abbrev pub IsFirst : (known : Option (List ℕ)) → (count : ℕ) → (bytes : List ℕ) → Type 0
 IsFirst known count bytes = IfSome known (λ all. bytes ≡ take count all)
 
@@ -44,7 +44,7 @@ IsFileRefusal r = (r ≡ refusal.OutOfMemory) ⊎ (r ≡ refusal.LinkFault)
 abbrev pub IsImage : Named → Option GuestArguments → (bytes : List ℕ) → Type 0
 IsImage files guest bytes = IfSome guest (λ g. IsFile (files g.image.now) bytes)
 
--- the first bytes of the file that is named, so many or all that it has, or none where none is
+-- the first `count` bytes of the file that is named, or all where it has no more; none where none is named
 abbrev pub IsFirstInput : Named → (name : Option (Bor (List ℕ))) → (count : ℕ) → (bytes : List ℕ) → Type 0
 IsFirstInput files None count bytes = bytes ≡ []
 IsFirstInput files (Some name) count bytes = IsFirst (files name.now) count bytes

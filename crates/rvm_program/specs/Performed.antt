@@ -6,7 +6,7 @@ use Rattle.clap.specs.Simple.{subcommand_of}
 use Rattle.clap.specs.Walk.{Text}
 use Rattle.clap.specs.declared.error.kind.ErrorKind.TheVariants as kind
 use Rattle.rvm_arguments.specs.declared.arguments.Arguments.{Arguments}
-use Rattle.rvm_arguments.specs.declared.arguments.Arguments.TheVariants.{Move, Run, Tell}
+use Rattle.rvm_arguments.specs.declared.arguments.Arguments.TheVariants.{Host, Move, Run, Tell}
 use Rattle.rvm_arguments.specs.declared.arguments.StatusOf.{StatusOf}
 use Rattle.rvm_arguments.specs.declared.arguments.StatusOf.TheVariants.{Command, Verdict, Guest}
 use Rattle.rvm_command_line.specs.Given.{IsAsked}
@@ -55,13 +55,14 @@ TellsMore Command = ⊥
 TellsMore Verdict = ⊤
 TellsMore Guest = ⊤
 
--- a run, or a move, has a status that tells how it ended
+-- a run, a move or a host has a status that tells how it, or its guest there, ended
 abbrev pub IsJudged : Arguments → Type 0
 IsJudged (Run a) = TellsMore a.status
 IsJudged (Move a) = a.verdict ≡ true
+IsJudged (Host a) = a.verdict ≡ true
 IsJudged other = ⊥
 
--- words have no fault for `clap`, and ask for a run, or a move, with a status that tells how it ended
+-- words have no fault for `clap`, and ask for such a status
 pub record AreJudged (words : List Text) : Type 0 where
   pub faultless : fault_of program words ≡ []
   pub arguments : Arguments

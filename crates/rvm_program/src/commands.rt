@@ -10,25 +10,25 @@ ghost use Rattle.std.specs.Io.Buffered.{writer_contents};
 ghost use Rattle.rvm_program.specs.Ended.{AsmEnded, AuditEnded, DebugEnded, DisEnded, HostEnded, MoveEnded, RunEnded, ScriptEnded, TellEnded, ToTell, written};
 ghost use Rattle.rvm_program.specs.Files.{IsFile, IsFileRefusal, IsFirst, IsFirstInput, IsImage, IsLong, IsLongInput, IsUnread, max_size};
 
-use crate::files::{MAX_FILE_SIZE, NamedFiles, keep_apart, read_beginning, read_file, refusal_of};
+use crate::files::{MAX_FILE_SIZE, NamedFiles, keep_apart, read_beginning, read_whole, refusal_of};
 use crate::images::{begin_image, check_image, read_image};
 use crate::system::System;
 use rvm_arguments::{
     AsmArguments, DisArguments, GuestArguments, HostArguments, MoveArguments, RunArguments,
     ScriptArguments, TellArguments,
 };
+use rvm_cell::{InputQueue, read_input as read_console_input};
 use rvm_command::asm_command::asm_command;
 use rvm_command::debug_command::debug_command;
 use rvm_command::dis_command::dis_command;
 use rvm_command::run_command::run_command;
+use rvm_command::script_command::script_command;
 use rvm_host_command::host_command::{HostBytes, host_command};
 use rvm_host_command::tell_command::{LOST, connect_to, tell_command};
-use rvm_host_worker::{InputQueue, read_input as read_console_input};
 use rvm_mem::PagedMemory;
-use rvm_move_command::audit_command::audit_command;
-use rvm_move_command::move_command::move_command;
+use rvm_move::audit_command::audit_command;
+use rvm_move::move_command::move_command;
 use rvm_refusal::{LinkFault, Refusal};
-use rvm_world_command::script_command::script_command;
 use std::alloc::{AllocError, Global};
 use std::io::{BufRead, BufReader, BufWriter, Read, Write};
 use std::net::{Net, OpenStream};
@@ -95,7 +95,7 @@ fn read_console<F: NamedFiles>(
         ⊎ IsLong (F.bytes_of files.now file.now) max_size refusal.TooLong r) }
 {
     if turns > MAX_FILE_SIZE {
-        return read_file(files, alloc, file, MAX_FILE_SIZE, Refusal::TooLong);
+        return read_whole(files, alloc, file);
     }
     read_beginning(files, alloc, file, u64::from(turns))
 }
@@ -116,13 +116,7 @@ pub(crate) fn asm<F: NamedFiles, E: Write>(
     ensures unbegun { IfErr result (λ r. IsUnread (F.bytes_of files.now) (asks.Asm arguments.now) r
         × (E.contents errors.new ≡ E.contents errors.old)) }
 {
-    let source = read_file(
-        files,
-        alloc,
-        arguments.source,
-        MAX_FILE_SIZE,
-        Refusal::TooLong,
-    )?;
+    let source = read_whole(files, alloc, arguments.source)?;
     keep_apart(files, alloc, arguments.output, &source)?;
     let mut file = files.create(arguments.output)?;
     Ok(asm_command(alloc, &source, &mut file, errors))
@@ -143,13 +137,7 @@ pub(crate) fn dis<F: NamedFiles, O: Write, E: Write>(
     ensures unbegun { IfErr result (λ r. IsUnread (F.bytes_of files.now) (asks.Dis arguments.now) r
         × (E.contents errors.new ≡ E.contents errors.old)) }
 {
-    let image = read_file(
-        files,
-        alloc,
-        arguments.image,
-        MAX_FILE_SIZE,
-        Refusal::TooLong,
-    )?;
+    let image = read_whole(files, alloc, arguments.image)?;
     let mut output = buffered(alloc, output)?;
     Ok(dis_command(alloc, arguments, &image, &mut output, errors))
 }
@@ -255,6 +243,7 @@ where
 }
 
 /// Reads the files of a host, and works at it. The name of a file that cannot be had is told here.
+#[tactic(auto, using(crate::proofs::Ended::host_ended))]
 pub(crate) fn host<
     M: PagedMemory + Drop + Send,
     Rt: System + Net + Threads + Wait + 'static,
@@ -384,7 +373,7 @@ fn read_told<'a, F: NamedFiles>(
 ) -> Result<Vec<u8>, (&'a str, Refusal)>
     ensures { IfOk result (λ v. IsFile (F.bytes_of files.now path.now) v.items) }
 {
-    match read_file(files, alloc, path, MAX_FILE_SIZE, Refusal::TooLong) {
+    match read_whole(files, alloc, path) {
         Ok(bytes) => Ok(bytes),
         Err(why) => Err((path, why)),
     }

@@ -3,7 +3,7 @@
 ghost use Rattle.std.specs.Prelude.{◌≡◌, ◌≢◌, ◌⊎◌, ◌<◌, ◌≤◌, ℕ, List, Option, None, IfErr, IfOk, IfSome, IsNone, OnOk, false, length};
 ghost use Rattle.std.specs.IoError.{error_kind};
 ghost use Rattle.std.specs.declared.io.ErrorKind.TheVariants as kind;
-ghost use Rattle.rvm_program.specs.Files.{IsApart, IsCreated, IsFile, IsFileRefusal, IsFirst, IsLong, IsOpened};
+ghost use Rattle.rvm_program.specs.Files.{IsApart, IsCreated, IsFile, IsFileRefusal, IsFirst, IsLong, IsOpened, max_size};
 ghost use Rattle.rvm_refusal.specs.declared.refusal.Refusal.TheVariants as refusal;
 
 use rvm_refusal::Refusal;
@@ -94,6 +94,20 @@ pub(crate) fn read_file<F: NamedFiles>(
     Ok(bytes)
 }
 
+/// All bytes of a file that has at most `MAX_FILE_SIZE`, and else as `read_file` does: `TooLong` where it has more.
+pub(crate) fn read_whole<F: NamedFiles>(
+    files: &F,
+    alloc: Global,
+    path: &str,
+) -> Result<Vec<u8>, Refusal>
+    ensures bytes { IfOk result (λ v. IsFile (F.bytes_of files.now path.now) v.items) }
+    ensures few { IfOk result (λ v. length v.items ≤ max_size) }
+    ensures refused { IfErr result (λ r. IsFileRefusal r
+        ⊎ IsLong (F.bytes_of files.now path.now) max_size refusal.TooLong r) }
+{
+    read_file(files, alloc, path, MAX_FILE_SIZE, Refusal::TooLong)
+}
+
 /// The first `count` bytes of a file, or all where it has no more. `OutOfMemory` where there is no memory for them, and
 /// `LinkFault` where it cannot be opened or read.
 pub(crate) fn read_beginning<F: NamedFiles>(
@@ -176,7 +190,7 @@ fn are_same(some: &[u8], others: &[u8]) -> bool
     some == others
 }
 
-/// What an error of the host is told as: `OutOfMemory` for want of memory, and else `LinkFault`.
+/// What an error of the host is told as: `OutOfMemory` for lack of memory, and else `LinkFault`.
 pub(crate) fn refusal_of(error: Error) -> Refusal
     ensures memory { error_kind error ≡ kind.OutOfMemory → result ≡ refusal.OutOfMemory }
     ensures others { error_kind error ≢ kind.OutOfMemory → result ≡ refusal.LinkFault }

@@ -45,7 +45,7 @@ const UNTOLD: u8 = 1;
 /// Does what the words of a command line ask for, of which the first is the program's name, and answers
 /// the status: 0, 1 where it was refused, 2 for a fault of the command line, which writes nothing to
 /// `output`, or 3 where an answer of a host was lost that was told something. A run whose status tells how it ended
-/// has that status (`StatusOf`), which may be any; of a move with a verdict it may be 3 or 4. `input` stands for standard input, `output`
+/// has that status (`StatusOf`), which may be any; of a move with a verdict it may be 3 or 4, of a host with one 3. `input` stands for standard input, `output`
 /// and `errors` for standard output and standard error. Each guest's memory is an `M`. A guest that moves does so by
 /// threads, which may wait for one another, and over TCP. The files are those of the runtime, and so is the standard input
 /// that a thread of its own reads for `host --input -`, until the process ends.
@@ -133,7 +133,7 @@ where
 }
 
 /// Does what a command line asks for, and answers the status: 0, 1 where it was refused, 3 where an answer of a host
-/// was lost that was told something, or that of a run whose status tells how it ended.
+/// was lost that was told something, or that of a run, a move or a host whose status tells how it ended.
 fn do_command<
     M: PagedMemory + Drop + Send + 'static,
     Rt: System + Net + Threads + Wait + 'static,

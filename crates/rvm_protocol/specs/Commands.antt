@@ -2,7 +2,7 @@
 use Rattle.std.specs.Prelude.{ℕ, Bool, ◌&&◌, nat_le}
 use Rattle.rvm_protocol.specs.Frames.{Frame}
 
--- when pre-copy ends: after so many rounds, or with fewer dirty pages left than this, or after more
+-- when pre-copy ends: after this many rounds, or with fewer dirty pages left than this, or after more
 -- copies than this many times the guest's pages (Clark and others, 3.2 and 4.1)
 pub record Policy : Type 0 where
   pub max_rounds : ℕ

@@ -13,7 +13,7 @@ use Rattle.rvm_protocol.specs.Rounds.{Last, page_count, to_copy}
 abbrev pub left_in : {S : Type 0} → Last S → Pages
 left_in l p = l.to_send p || l.to_fix p
 
--- page p is to be sent or to be fixed at one of so many times
+-- page p is to be sent or to be fixed at one of this many times
 pub record IsLeft {S : Type 0} (at : ℕ → Last S) (times p : ℕ) : Type 0 where
   pub index : ℕ
   pub inside : index < times
@@ -24,7 +24,7 @@ module _ {S P E A B : Type 0} (m : Guest S P E A B) (version self count limit pa
   abbrev pub paused_outcome : HostEvent P E B → Last S → Outcome S P A B
   paused_outcome e l = outcome m version self count limit e (record { mode = Stopped n l; partner = partner })
 
-  -- so many events of that source, each of which leaves the guest paused, and at each time its copies stand so
+  -- this many events of that source, each of which leaves the guest paused, and at each time its copies stand so
   abbrev pub IsLastRound : (events : ℕ → HostEvent P E B) → (at : ℕ → Last S) → (times : ℕ) → Type 0
   IsLastRound events at times =
       (i : ℕ) → i < times → (paused_outcome (events i) (at i)).next ≡ Stopped n (at (suc i))

@@ -25,7 +25,7 @@ is_copy_of p (Copied page number) = p == page
 is_copy_of p r = false
 
 module _ {S P E A B : Type 0} (m : Guest S P E A B) (version n : ℕ) where
-  -- a round of move n from its begin on: the source obeys so many commands, and at each time its
+  -- a round of move n from its begin on: the source obeys this many commands, and at each time its
   -- copies stand so. Frames that come meanwhile are ignored
   pub record IsRound (commands : ℕ → Command E) (at : ℕ → Rounds S) (count : ℕ) : Type 0 where
     pub begins : (at 0).scan ≡ 0
@@ -64,7 +64,7 @@ module _ {S P E A B : Type 0} (m : Guest S P E A B) (version n : ℕ) where
   abbrev pub copies_among : (commands : ℕ → Command E) → (at : ℕ → Rounds S) → Pages
   copies_among commands at i = is_copy (obey m version (commands i) (Copying n (at i))).reply
 
-  -- the pages that the first so many replies are copies of
+  -- the pages that the first this many replies are copies of
   unfoldable pub pages_among : (commands : ℕ → Command E) → (at : ℕ → Rounds S) → (count : ℕ) → Pages
   pages_among commands at zero p = false
   pages_among commands at (suc i) p =

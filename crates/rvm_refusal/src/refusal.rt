@@ -8,7 +8,7 @@ use std::fmt;
 /// Why a call was refused.
 #[derive(Clone, Copy, Debug, PartialEq, Eq)]
 pub enum Refusal {
-    /// A growth was refused.
+    /// Memory ran out.
     OutOfMemory,
     /// An address, length or register is outside its range.
     OutOfRange,

@@ -29,7 +29,7 @@ impl Model for Reservations {
 }
 
 impl Reservations {
-    /// No hart of so many has reserved a word.
+    /// No hart of this many has reserved a word.
     #[tactic(auto, using(crate::proofs::Words::words))]
     pub fn new(harts: usize) -> Reservations
         requires { harts ≤ 8 }

@@ -110,7 +110,7 @@ module _ {S P E A B : Type 0} (m : Guest S P E A B) where
       copy_is version n g log r is few l
       ∙ (λ i. turned n (sym eg i) (sym ea i) (sym er i) (sym el i))
 
--- an answer's numbers, beside so many pages
+-- an answer's numbers, beside this many pages
 abbrev pub InRange : ℕ → Next → Type 0
 InRange n (next.Copied p k) = p < n
 InRange n (next.RoundEnded round sent skipped left) = (round ≤ 1000) × ((sent ≤ n) × ((skipped ≤ n) × (left ≤ n)))
@@ -223,7 +223,7 @@ module _ {S P E A B : Type 0} (m : Guest S P E A B) where
       ∙ last_found_or version n turn g r (last_found r) refl is few
       ∙ (λ i. last_turned version n turn g (sym ea i) (sym er i))
 
--- an answer's page, beside so many pages; what is left of a plan where no page is copied
+-- an answer's page, beside this many pages; what is left of a plan if no page is copied
 abbrev pub LastInRange : ℕ → Plan → LastNext → Plan → Type 0
 LastInRange n r (last.Copied p k) r' = p < n
 LastInRange n r last.NothingLeft r' = r' ≡ r

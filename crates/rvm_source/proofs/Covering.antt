@@ -1,13 +1,13 @@
--- No page of a guest that is moved is forgotten, by what the calls of its rounds told.
+-- No page of a guest that is being moved is forgotten, by what the calls of its rounds returned.
 use Rattle.std.proofs.Common.{◌≡◌, ◌⊎◌, inl, inr, ℕ, ◌-◌, ◌^◌, ◌<◌, ◌==◌, true, false, ◌||◌, List, Bool, length, replicate, Option, Some, None, refl, sym, ap, ◌∙◌, subst, arith}
 use Rattle.std.proofs.lemmas.Bool.{cond_both}
 use Rattle.rvm_mem.specs.Pages.{has, mark_all}
-use Rattle.rvm_debug.specs.declared.turns.Turns.{Turns}
-use Rattle.rvm_debug.specs.Guest.{GuestState}
-use Rattle.rvm_debug.specs.Turns.{AfterTurns, TakesTurns}
-use Rattle.rvm_debug.specs.declared.retiring.Retired.{Retired}
-use Rattle.rvm_debug.specs.Retiring.{RetiresThen}
-use Rattle.rvm_debug.proofs.Retirings.{logged}
+use Rattle.rvm_board.specs.declared.turns.Turns.{Turns}
+use Rattle.rvm_board.specs.Guest.{GuestState}
+use Rattle.rvm_board.specs.Turns.{AfterTurns, TakesTurns}
+use Rattle.rvm_board.specs.declared.retiring.Retired.{Retired}
+use Rattle.rvm_board.specs.Retiring.{RetiresThen}
+use Rattle.rvm_board.proofs.Retirings.{logged}
 use Rattle.rvm_message.proofs.Logs.{has_marked, length_marked}
 use Rattle.rvm_precopy.specs.Coverage.{Covers, CoversLast}
 use Rattle.rvm_precopy.specs.Plans.{IsPlanOf, LastTurn, Plan, Turn, copied_if, found, last_copied, last_found, last_next_of, next_of, peek, stopping, with_found, with_last}
@@ -22,7 +22,7 @@ use Rattle.rvm_source.specs.Sources.{HasPages, HasTurn, IsCovered, PlainSource}
 
 -- THE GUEST RUNS
 
--- a turn by its answer: it ends the rounds where the stop rule said so, and the number of a copy is at least 1
+-- a turn by its answer: it ends the rounds if the stop rule said so, and the number of a copy is at least 1
 abbrev pub IsTurn : Plan → Next → Type 0
 IsTurn r (next.Copied p k) = (r.stop ≡ false) × (0 < k)
 IsTurn r (next.RoundEnded round sent skipped left) = r.stop ≡ false
@@ -130,7 +130,7 @@ retire_keeps (phases.Stopped turn') r (inr e) all size c = absurd cc
 
 -- THE GUEST IS PAUSED
 
--- a turn by its answer: the number of a copy is at least 1, and where nothing is left no page is found
+-- a turn by its answer: the number of a copy is at least 1, and if nothing is left, no page is found
 abbrev pub IsLastTurn : Plan → LastNext → Type 0
 IsLastTurn r (last.Copied p k) = 0 < k
 IsLastTurn r last.NothingLeft = last_found r ≡ None

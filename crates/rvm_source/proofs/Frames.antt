@@ -3,7 +3,7 @@ use Rattle.std.proofs.Common.{◌≡◌, ◌↔◌, ℕ, ◌*◌, ◌<◌, ◌�
 use Rattle.std.proofs.lemmas.Bool.{false≢true}
 use Rattle.std.proofs.lemmas.Bool.Decides.{nat_tests}
 use Rattle.rvm_mem.specs.Pages as mem
-use Rattle.rvm_debug.specs.Guest.{Guest}
+use Rattle.rvm_board.specs.Guest.{Guest}
 use Rattle.rvm_protocol.specs.Frames.{Offer, Page, Zero, written, is_compact}
 use Rattle.rvm_protocol.specs.Obeying.{offer_frame}
 use Rattle.rvm_protocol.specs.Rounds.{page_count, page_of}

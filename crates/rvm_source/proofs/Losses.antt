@@ -1,10 +1,10 @@
--- The pages that a target lacks are copied again, and a state is sent again.
+-- The pages that a target lacks are copied again, and the state is sent again.
 use Rattle.std.proofs.Common.{◌≡◌, ℕ, zero, suc, ◌+◌, ◌≤◌, ◌==◌, ◌&&◌, ◌||◌, Bool, true, false, nat_lt, if◌then◌else◌, List, [], ◌∷◌, length, get_or, Option, Some, None, refl, sym, ap, ◌∙◌, subst, arith}
 use Rattle.std.proofs.Math.Path.{fun_ext}
 use Rattle.std.specs.Option.{is_some}
 use Rattle.std.proofs.lemmas.Bool.{eq-eqb, eqb-true, lt-ltb}
 use Rattle.rvm_mem.specs.Pages.{count, has, union}
-use Rattle.rvm_debug.specs.Guest.{Guest, GuestState}
+use Rattle.rvm_board.specs.Guest.{Guest, GuestState}
 use Rattle.rvm_protocol.specs.Pages.{Pages, is_in, size}
 use Rattle.rvm_protocol.specs.Frames as frames
 use Rattle.rvm_protocol.specs.Frames.{is_compact}

@@ -1,4 +1,4 @@
--- The pieces of a state, as they are cut from the body of its State frame.
+-- The pieces of a state are cut from the body of its State frame.
 use Rattle.std.proofs.Common.{◌≡◌, inl, inr, ℕ, ◌+◌, ◌-◌, ◌*◌, ◌<◌, ◌≤◌, min, List, [], length, get_or, take, drop, sym, ap, ◌∙◌, arith}
 use Rattle.std.specs.Prelude.{IfOk, Result, Ok, Err}
 use Rattle.std.specs.Int.{div_ceil}
@@ -10,7 +10,7 @@ use Rattle.rvm_state.specs.Spelling.{longest}
 use Rattle.rvm_guest.specs.Pieces.{cut, pieces}
 use Rattle.rvm_guest.proofs.Pieces.{length_pieces, piece_at}
 
--- a list's front, by a length that is also its own where it is shorter
+-- a list's front, by a length that is also its own if it is shorter
 shorter : (bytes : List ℕ) (n : ℕ) → n ≡ min (length bytes) 4096 → take n bytes ≡ take 4096 bytes
 shorter bytes n is = elim (cases_lt 4096 (length bytes)) [
   | inl lt ↦ let full : n ≡ 4096 = omega (arith, is, lt) in ap (λ k. take k bytes) full

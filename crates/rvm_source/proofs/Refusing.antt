@@ -2,7 +2,7 @@
 use Rattle.std.proofs.Common.{◌≡◌, ℕ, ◌==◌, Bool, true, false, if◌then◌else◌, List, length, Option, Some, None, refl, sym, ap, ◌∙◌, subst}
 use Rattle.std.proofs.lemmas.Bool.{eq-eqb, eqb-true}
 use Rattle.std.specs.Option.{is_some}
-use Rattle.rvm_debug.specs.Guest.{Guest, GuestState}
+use Rattle.rvm_board.specs.Guest.{Guest, GuestState}
 use Rattle.rvm_guest.specs.TheGuest.{board}
 use Rattle.rvm_message.specs.Answers.{BoardOutcome}
 use Rattle.rvm_message.specs.Replies.{is_refused_outright, is_seq_spent}
@@ -79,7 +79,7 @@ paused_refused version turn s phase =
     subst (λ (f : Phase). refused (copy board version (mode_in s.move_number s.guest s.plan f)) ≡ spent (copy board version (mode_in s.move_number s.guest s.plan f))) (sym phase)
     (stopped_only version s.move_number (last_of s.guest.guest turn s.plan))
 
--- Resend of a paused guest is refused where a page is left to be copied
+-- Resend of a paused guest is refused if a page is left to be copied
 again_refused : (version n : ℕ) (l : Last Guest) (o : Option ℕ) → refused (resend_last board version n l o) ≡ is_some o
 again_refused version n l (Some p) = refl
 again_refused version n l None =

@@ -1,8 +1,8 @@
--- A state that is sent is the one of the law of live migration.
+-- The state that is sent is that of the protocol of live migration.
 use Rattle.std.proofs.Common.{◌≡◌, ℕ, ◌+◌, ◌*◌, ◌/◌, ◌<◌, ◌≤◌, true, false, if◌then◌else◌, nat_lt, nat_le, List, [], length, get_or, Some, refl, sym, ap, ◌∙◌, add-one, arith}
 use Rattle.std.proofs.lemmas.Bool.Decides.{nat_tests}
 use Rattle.std.specs.Prelude.{IfOk, OnOk, Result, Ok, Err}
-use Rattle.rvm_debug.specs.Guest.{Guest, GuestState}
+use Rattle.rvm_board.specs.Guest.{Guest, GuestState}
 use Rattle.rvm_frame.specs.declared.frame.Frame.{Frame}
 use Rattle.rvm_frame.specs.declared.frame.Frame.TheVariants as frame
 use Rattle.rvm_guest.specs.Body.{body_of}
@@ -21,12 +21,12 @@ use Rattle.rvm_protocol.specs.Modes.{Stopped}
 use Rattle.rvm_protocol.specs.Rounds.{newest_numbers}
 use Rattle.rvm_source.specs.States.{sends_state_of}
 
--- the bytes that are written are the state of the law
+-- the bytes that are written are the state of the protocol
 pub state_is : {T E : Type 0} (items : T → List ℕ) (g : Guest) (r : Result T E) → IfOk r (λ b. items b ≡ spelling g) → OnOk r (HasSpelling g) → IfOk r (λ b. items b ≡ body_of g)
 state_is items g (Ok b) is told = is ∙ sym (body_is g told)
 state_is items g (Err e) is told = tt
 
--- the numbers of the newest copies are those of the law
+-- the numbers of the newest copies are those of the protocol
 pub newest_is : (g : GuestState) (r : Plan) (turn : ℕ) → length g.guest.board.shared.bytes ≡ 4096 * length g.dirty → length g.dirty ≡ length r.to_send → IsPlanOf (length r.to_send) r
     → newest_numbers board (last_of g.guest turn r) ≡ r.newest
 unfolding board

@@ -1,4 +1,4 @@
--- Each frame that a source makes can be sent, and its body has at most so many bytes.
+-- Each frame that a source makes can be sent, and its body is no longer than its bound.
 use Rattle.std.proofs.Common.{◌≡◌, ℕ, suc, ◌-◌, ◌*◌, ◌^◌, ◌<◌, ◌≤◌, Bool, true, false, not, ◌&&◌, if◌then◌else◌, nat_lt, List, [], ◌∷◌, length, get_or, drop, min, Option, Some, None, refl, sym, ap, ◌∙◌, subst, arith}
 use Rattle.std.specs.List.{list_all}
 use Rattle.std.specs.Option.{is_some}
@@ -8,7 +8,7 @@ use Rattle.std.proofs.lemmas.Bool.Decides.{nat_tests}
 use Rattle.std.proofs.lemmas.List.{length-drop, length-take}
 use Rattle.rvm_codec.specs.Numbers.{within}
 use Rattle.rvm_codec.proofs.Steps.{and_so}
-use Rattle.rvm_debug.specs.Guest.{GuestState}
+use Rattle.rvm_board.specs.Guest.{GuestState}
 use Rattle.rvm_frame.specs.Bodies as body
 use Rattle.rvm_frame.specs.Bodies.{is_piece}
 use Rattle.rvm_frame.specs.declared.frame.Frame.{Frame}
@@ -75,7 +75,7 @@ state_can_be_sent m numbers state some_move small_move some_page few_pages each 
       body_length = omega (arith, length_state numbers state, short);
     }
 
--- a piece that is cut has bytes, and 4096 of them where another one follows
+-- a piece that is cut has bytes, and 4096 of them if another piece follows
 piece_numbers : (turn parts long whole : ℕ) → turn < parts → parts ≡ div_ceil whole 4096
     → long ≡ min 4096 (whole - 4096 * turn) → is_piece turn parts long ≡ true
 piece_numbers turn parts long whole there count size = grind (arith, nat_tests)
@@ -111,7 +111,7 @@ pub some_page : (g : GuestState) (r : Plan) (size : ℕ) → 0 < length g.guest.
     → 0 < length r.to_send
 some_page g r size some bytes pages same = omega (arith, some, bytes, pages, same)
 
--- where no page is left of a paused guest
+-- if no page of a paused guest is left to be copied
 module _ (r : Plan) (c : CoversLast r) (copied : last_found r ≡ None) (some : 0 < length r.to_send) where
   -- a copy was made
   some_copies : 0 < r.copies
@@ -168,7 +168,7 @@ and_true : (b : Bool) → (b && true) ≡ b
 and_true true = refl
 and_true false = refl
 
--- where its guest is paused, and no page is left
+-- if its guest is paused and no page is left
 pub state_in_bound : (version turn : ℕ) (s : PlainSource) (plan : Plan) (f : Frame) (made : Option Frame)
     → s.phase ≡ phases.Stopped turn → last_found s.plan ≡ None → plan ≡ s.plan → made ≡ Some f
     → CanBeSent version (Some (state_frame_bound version (length plan.to_send))) (Some f)

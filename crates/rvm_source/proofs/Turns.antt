@@ -1,6 +1,6 @@
--- Each turn of a source is the protocol's, by what the calls of its rounds told.
+-- Copy at a source is the protocol's, by what the calls of its rounds returned.
 use Rattle.std.proofs.Common.{◌≡◌, ℕ, ◌^◌, ◌<◌, ◌≤◌, length, Option, Result, Ok, Err, OnErr, sym, ap, ◌∙◌, subst, arith}
-use Rattle.rvm_debug.specs.Guest.{GuestState}
+use Rattle.rvm_board.specs.Guest.{GuestState}
 use Rattle.rvm_protocol.specs.Obeying.{copy}
 use Rattle.rvm_protocol.specs.Rounds.{page_count}
 use Rattle.rvm_precopy.specs.declared.rounds.Next.{Next}

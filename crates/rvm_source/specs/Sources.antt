@@ -1,6 +1,6 @@
--- What the source of a move keeps: as plain values, and as the law of live migration has it.
+-- What the source of a move keeps, as plain values and as the protocol of live migration has it.
 use Rattle.std.specs.Prelude.{◌≡◌, ℕ, ◌^◌, ◌<◌, ◌==◌, Bool, false, List, length}
-use Rattle.rvm_debug.specs.Guest.{GuestState}
+use Rattle.rvm_board.specs.Guest.{GuestState}
 use Rattle.rvm_guest.specs.Body.{body_of}
 use Rattle.rvm_guest.specs.Pieces.{cut}
 use Rattle.rvm_guest.specs.TheGuest.{board}
@@ -12,31 +12,31 @@ use Rattle.rvm_protocol.specs.Rounds.{page_count}
 use Rattle.rvm_source.specs.declared.phase.Phase.{Phase}
 use Rattle.rvm_source.specs.declared.phase.Phase.TheVariants as phases
 
--- the number of its move; its guest with the dirty log; its plan; its phase
+-- a source: the number of its move, its guest with the dirty log, its plan and its phase
 pub record PlainSource : Type 0 where
   pub move_number : ℕ
   pub guest : GuestState
   pub plan : Plan
   pub phase : Phase
 
--- its guest has so many pages, and its log and its plan are of as many
+-- the guest of a source has this many pages, its dirty log and its plan are of as many, and its copies are below 2^32
 pub record HasPages (pages : ℕ) (s : PlainSource) : Type 0 where
   pub count : page_count board s.guest.guest ≡ pages
   pub log : length s.guest.dirty ≡ pages
   pub plan : IsPlanOf pages s.plan
   pub copies : s.plan.copies < 2 ^ 32
 
--- the mode of the law
+-- the mode of the protocol for a move, its guest, its plan and its phase
 abbrev pub mode_in : (move : ℕ) → GuestState → Plan → Phase → BoardMode
 mode_in n g r phases.Offering = protocol.Offering n g.guest r.policy
 mode_in n g r phases.Copying = protocol.Copying n (rounds_of g.guest g.dirty r)
 mode_in n g r (phases.Stopped turn) = protocol.Stopped n (last_of g.guest turn r)
 
--- the mode in which a source is, by the law
+-- the mode of the protocol for a source
 abbrev pub mode_of : PlainSource → BoardMode
 mode_of s = mode_in s.move_number s.guest s.plan s.phase
 
--- the piece that is sent next of a paused guest's state is one of its pieces
+-- if the guest is paused, the state has a piece with the index of the one that is sent next
 abbrev pub HasTurn : Phase → GuestState → Plan → Type 0
 HasTurn (phases.Stopped turn) g r = turn < length (cut r.newest (body_of g.guest))
 HasTurn phase g r = Unit {0}
@@ -47,7 +47,7 @@ IsCovered phases.Offering log r = Unit {0}
 IsCovered phases.Copying log r = Covers log r
 IsCovered (phases.Stopped turn) log r = CoversLast r
 
--- a guest is offered, or paused, for this move
+-- a guest is offered for this move
 abbrev pub is_offering : (move : ℕ) → BoardMode → Bool
 is_offering k (protocol.Offering n g p) = k == n
 is_offering k mode = false

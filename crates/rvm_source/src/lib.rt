@@ -1,7 +1,7 @@
-//! The source of a move: a guest that runs while its pages are copied, and is paused for the last of
-//! them and its state.
+//! The source of a move: a guest that runs while its pages are copied, and is paused for the last copies
+//! and its state.
 //!
-//! Stands on `rvm_message` and `rvm_precopy`, and knows nothing of targets, hosts or worlds.
+//! Stands on `rvm_message`, `rvm_precopy` and `rvm_state`, and knows nothing of targets, hosts or worlds.
 //!
 //! To be read in this order: `phase`, `page`, `state`, `source`.
 #![tactic(auto)]

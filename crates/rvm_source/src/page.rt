@@ -7,15 +7,15 @@ ghost use Rattle.rvm_guest.specs.TheGuest.{board};
 ghost use Rattle.rvm_message.specs.Frames.{frame_of};
 ghost use Rattle.rvm_message.specs.Sendable.{CanBeSent};
 
-use rvm_debug::Debugged;
+use rvm_board::Debugged;
 use rvm_frame::{Frame, PagePart};
 use rvm_mem::{Memory, PAGE_SIZE, PagedMemory};
 
-/// The most bytes of the body of a copy: two numbers and those of the page.
+/// The most body bytes of the frame of a copy: two for the page's number, four for the copy's, and the page.
 pub(crate) const COPY_BODY: usize = 2 + 4 + PAGE_SIZE as usize;
 
-/// The copy of a page with this number, as a stream of this version has it: from version 2 on a page
-/// of zeros goes without its bytes. `part` is where they go.
+/// Makes the frame of a copy of a page with this copy number, as a stream of this version has it: from version
+/// 2 on, a page of zeros is sent without its bytes. The bytes go into `part`, which is empty before.
 pub(crate) fn page_frame<M: PagedMemory>(
     version: u32,
     mut part: PagePart,

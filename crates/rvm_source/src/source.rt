@@ -17,7 +17,7 @@ ghost use Rattle.rvm_message.specs.Frames.{frame_made, frame_of};
 ghost use Rattle.rvm_message.specs.Replies.{is_refused_outright, is_seq_spent};
 ghost use Rattle.rvm_message.specs.Sendable.{CanBeSent};
 ghost use Rattle.rvm_message.specs.Steps.{reply_to_step};
-ghost use Rattle.rvm_debug.specs.declared.event.BoardEvent.TheVariants.{Step};
+ghost use Rattle.rvm_board.specs.declared.event.BoardEvent.TheVariants.{Step};
 ghost use Rattle.rvm_source.specs.Bounds.{body_bound, is_copied};
 ghost use Rattle.rvm_source.specs.Sources.{HasPages, is_offering, is_stopped, mode_of};
 ghost use Rattle.rvm_source.specs.Quiet.{IsQuiet};
@@ -27,7 +27,7 @@ ghost use Rattle.rvm_source.specs.Turns.{source_turned};
 use crate::page::{COPY_BODY, page_frame};
 use crate::phase::Phase;
 use crate::state::{send_state, state_bound};
-use rvm_debug::{BoardEvent, Debugged, NO_STEPS, Retired, Turns};
+use rvm_board::{BoardEvent, Debugged, NO_STEPS, Retired, Turns};
 use rvm_frame::{Frame, PagePart};
 use rvm_mem::{Memory, PageSet, PagedMemory};
 use rvm_message::{
@@ -37,7 +37,7 @@ use rvm_precopy::{LastNext, Next, Policy, Rounds};
 use std::alloc::{AllocError, Global};
 use std::marker::Model;
 
-/// A guest whose move to another host is going on, and what its source keeps beside it.
+/// A guest that is being moved to another host, and what its source keeps beside it.
 #[derive(Drop)]
 pub struct Source<M: PagedMemory> {
     move_number: u64,
@@ -66,8 +66,8 @@ impl<M: PagedMemory> Model for Source<M> {
 }
 
 impl<M: PagedMemory> Source<M> {
-    /// A move with this number, at least 1, begins with an offer of the guest. Where memory lacks the
-    /// guest comes back as it was.
+    /// Begins the move with this number, at least 1, by offering the guest. If memory runs out, returns the
+    /// guest unchanged.
     pub fn begin(
         alloc: Global,
         move_number: u64,
@@ -92,7 +92,7 @@ impl<M: PagedMemory> Source<M> {
         })
     }
 
-    /// The number of the move, at least 1.
+    /// Returns the number of the move, at least 1.
     pub fn move_number(&self) -> u64
         ensures number { result ≡ protocol.move_of (mode_of self.now) }
         ensures some { 0 < result }
@@ -100,7 +100,7 @@ impl<M: PagedMemory> Source<M> {
         self.move_number
     }
 
-    /// How many harts its guest has, 1 to 8.
+    /// Returns how many harts the guest has, 1 to 8.
     pub fn harts(&self) -> u32
         ensures count { result ≡ length self.now.guest.guest.board.harts }
         ensures some { 0 < result }
@@ -109,28 +109,28 @@ impl<M: PagedMemory> Source<M> {
         self.guest.harts()
     }
 
-    /// What is done of the move.
+    /// Returns the phase of the move.
     pub fn phase(&self) -> Phase
         ensures { result ≡ self.now.phase }
     {
         self.phase
     }
 
-    /// Whether this move is offered.
+    /// Whether the guest is offered for the move with this number.
     pub fn is_offering(&self, move_number: u64) -> bool
         ensures { result ≡ is_offering move_number (mode_of self.now) }
     {
         move_number == self.move_number && matches!(self.phase, Phase::Offering)
     }
 
-    /// Whether the guest is paused for this move.
+    /// Whether the guest is paused for the move with this number.
     pub fn is_stopped(&self, move_number: u64) -> bool
         ensures { result ≡ is_stopped move_number (mode_of self.now) }
     {
         move_number == self.move_number && matches!(self.phase, Phase::Stopped { .. })
     }
 
-    /// The guest alone.
+    /// Gives up the move and returns the guest.
     pub fn into_guest(self) -> Debugged<M>
         ensures { Some result.guest ≡ protocol.guest_in (mode_of self) }
     {
@@ -146,7 +146,8 @@ impl<M: PagedMemory> Source<M> {
         self.rounds.pages()
     }
 
-    /// The most bytes of the body of its next frame, in a stream of this version. Takes no memory.
+    /// Returns the most body bytes that the next frame of this source can have in a stream of this version, at
+    /// most 32768. Takes no memory.
     pub fn body_bound(&self, version: u32) -> usize
         ensures bound { result ≡ body_bound version self.now }
         ensures short { result ≤ 32768 }
@@ -158,14 +159,14 @@ impl<M: PagedMemory> Source<M> {
         }
     }
 
-    /// Whether the guest is paused, and no page of it is left to be copied.
+    /// Whether the guest is paused and no page is left to be copied.
     fn is_copied(&self) -> bool
         ensures { result ≡ is_copied self.now.phase self.now.plan }
     {
         matches!(self.phase, Phase::Stopped { .. }) && !self.rounds.is_left()
     }
 
-    /// The frame that offers the guest.
+    /// Makes the frame that offers the guest. Takes no memory.
     pub fn offer(&self) -> Frame
         ensures frame { frame_of result
             ≡ obeying.offer_frame board self.now.move_number self.now.guest.guest }
@@ -174,7 +175,8 @@ impl<M: PagedMemory> Source<M> {
         offer_frame(self.move_number, &self.guest)
     }
 
-    /// Gives the guest an event, unless it is paused. Takes no memory.
+    /// Gives the guest an event and returns its answer; refuses with `Paused` if the guest is paused. Takes no
+    /// memory.
     pub fn apply(&mut self, event: &BoardEvent) -> HostReply
         ensures { (version : ℕ) → Answers version (obeying.board board event.now (mode_of self.old))
             (result, None) (mode_of self.new) }
@@ -199,7 +201,7 @@ impl<M: PagedMemory> Source<M> {
         }
     }
 
-    /// Whether the guest runs, and has sent nothing that was not taken.
+    /// Whether the guest runs and all output that it sent has been drained.
     pub fn is_quiet(&self) -> bool
         ensures quiet { result ≡ true → IsQuiet self.now.phase
             (length self.now.guest.guest.board.shared.devices.output) }
@@ -213,8 +215,8 @@ impl<M: PagedMemory> Source<M> {
         }
     }
 
-    /// Makes turns of a hart of the guest, at most `count`, as `Debugged::turns` does, unless the guest is
-    /// paused or the hart is not there. Takes no memory.
+    /// Makes at most `count` consecutive turns of a hart of the guest, as `Debugged::turns` does; none if the
+    /// guest is paused or has no such hart. Takes no memory.
     pub fn turns(&mut self, hart: u32, count: u32) -> Turns
         ensures source { self.new ≡ (source_turned hart count self.old).source }
         ensures made { result.made ≡ (source_turned hart count self.old).made }
@@ -228,7 +230,7 @@ impl<M: PagedMemory> Source<M> {
         }
     }
 
-    /// Makes steps of so many harts of the guest in turn, as `Debugged::retire` does, unless the guest is
+    /// Makes steps of this many harts of the guest in turn, as `Debugged::retire` does; none if the guest is
     /// paused. Takes no memory.
     pub fn retire(&mut self, turn: u64, harts: u32, count: u32) -> Retired
         ensures { SourceRetires harts turn count self.old self.new result }
@@ -240,8 +242,8 @@ impl<M: PagedMemory> Source<M> {
         }
     }
 
-    /// A frame says that the target takes the guest of the move with this number: where that move is
-    /// offered, its first round begins.
+    /// Handles Accept: if the move with this number is on offer, opens its first round; otherwise refuses with
+    /// `Ignored`.
     pub fn accepted(&mut self, move_number: u64) -> HostReply
         ensures { (limit version : ℕ) → Answers version
             (receiving.came board limit (frames.Accept move_number) (mode_of self.old))
@@ -256,7 +258,7 @@ impl<M: PagedMemory> Source<M> {
         HostReply::Open
     }
 
-    /// Whether Copy is refused: the move is offered, or no copy number is left for the page that is due.
+    /// Whether Copy would be refused: the move is on offer, or no copy number is left for the page that is due.
     /// Takes no memory.
     pub fn refuses_copy(&self) -> bool
         ensures { (version : ℕ) → result
@@ -268,8 +270,8 @@ impl<M: PagedMemory> Source<M> {
         }
     }
 
-    /// Whether Resend is refused: a page is still to be copied, while the guest runs or once it is paused.
-    /// Takes no memory.
+    /// Whether Resend would be refused: the guest runs and is being copied, or it is paused and a page is left
+    /// to be copied. Takes no memory.
     pub fn refuses_resend(&self) -> bool
         ensures { (version : ℕ) → result
             ≡ is_refused_outright (obeying.resend board version (mode_of self.now)).reply }
@@ -282,7 +284,7 @@ impl<M: PagedMemory> Source<M> {
         }
     }
 
-    /// Whether an event of the guest is refused: the guest is paused.
+    /// Whether an event of the guest would be refused: the guest is paused.
     pub fn refuses_events(&self) -> bool
         ensures { (event : BoardEvent) → result
             ≡ is_refused_outright (obeying.board board event (mode_of self.now)).reply }
@@ -290,7 +292,7 @@ impl<M: PagedMemory> Source<M> {
         matches!(self.phase, Phase::Stopped { .. })
     }
 
-    /// Whether a page is due, and no copy number is left for it.
+    /// Whether a page is due and no copy number is left for it.
     fn is_spent(&self) -> bool
         ensures { (version : ℕ) → result
             ≡ is_seq_spent (obeying.copy board version (mode_of self.now)).reply }
@@ -303,8 +305,8 @@ impl<M: PagedMemory> Source<M> {
         }
     }
 
-    /// The next copy of a page is made, or the next step of the move, for a stream of this version.
-    /// After a refused growth nothing has changed; a copy that is refused asks for no memory.
+    /// Handles Copy: makes the next copy of a page, or the next step of the move, for a stream of this version.
+    /// If memory runs out, nothing has changed; a copy that is refused asks for no memory.
     pub fn copy(&mut self, alloc: Global, version: u32) -> Result<Answer, AllocError>
         ensures answer { IfOk result (λ a. Answers version
             (obeying.copy board version (mode_of self.old)) a (mode_of self.new)) }
@@ -324,7 +326,7 @@ impl<M: PagedMemory> Source<M> {
         }
     }
 
-    /// A copy of the guest while it runs.
+    /// Copy while the guest runs.
     fn copy_running(&mut self, alloc: Global, version: u32) -> Result<Answer, AllocError>
         requires phase { self.old.phase ≡ Phase.Copying }
         requires left { is_seq_spent (obeying.copy board version (mode_of self.old)).reply ≡ false }
@@ -363,7 +365,7 @@ impl<M: PagedMemory> Source<M> {
         })
     }
 
-    /// A copy of the guest once it is paused.
+    /// Copy once the guest is paused.
     fn copy_paused(&mut self, alloc: Global, version: u32, turn: u8) -> Result<Answer, AllocError>
         requires phase { self.old.phase ≡ Phase.Stopped turn }
         requires left { is_seq_spent (obeying.copy board version (mode_of self.old)).reply ≡ false }
@@ -392,9 +394,8 @@ impl<M: PagedMemory> Source<M> {
         }
     }
 
-    /// The last frame of this phase is sent again, for a stream of this version; in versions 2 and 3
-    /// the next piece of the state. After a refused growth nothing has changed; nothing that is refused asks
-    /// for memory.
+    /// Handles Resend: makes the last frame of this phase again for a stream of this version; in versions 2 and
+    /// 3, the next piece of the state. If memory runs out, nothing has changed; a refusal asks for no memory.
     pub fn resend(&mut self, alloc: Global, version: u32) -> Result<Answer, AllocError>
         ensures answer { IfOk result (λ a. Answers version
             (obeying.resend board version (mode_of self.old)) a (mode_of self.new)) }
@@ -411,7 +412,7 @@ impl<M: PagedMemory> Source<M> {
         }
     }
 
-    /// The state of the paused guest is sent again, where no page is left.
+    /// Resend once the guest is paused: sends the state again if no page is left to be copied.
     fn resend_state(&mut self, alloc: Global, version: u32, turn: u8) -> Result<Answer, AllocError>
         requires { self.old.phase ≡ Phase.Stopped turn }
         ensures answer { IfOk result (λ a. Answers version
@@ -432,8 +433,9 @@ impl<M: PagedMemory> Source<M> {
         Ok(HostReply::Resent.with(sent.frame))
     }
 
-    /// A frame says that the target of the move with this number lacks pages: where the guest is paused
-    /// for that move, those that it has are copied again. After a refused growth nothing has changed.
+    /// Handles Lost: if the guest is paused for the move with this number, marks the listed pages for another copy,
+    /// except those that the guest does not have, and returns how many; otherwise refuses with `Ignored`. If memory
+    /// runs out, nothing has changed.
     pub fn lost(
         &mut self,
         alloc: Global,
@@ -470,7 +472,7 @@ fn offer_frame<M: PagedMemory>(move_number: u64, guest: &Debugged<M>) -> Frame
     }
 }
 
-/// A copy of a page, and its frame.
+/// The answer that a page was copied, with the frame of the copy.
 fn copied<M: PagedMemory>(
     version: u32,
     part: PagePart,
@@ -493,7 +495,7 @@ fn copied<M: PagedMemory>(
     reply.with(frame)
 }
 
-/// The end of a round, and its frame.
+/// The answer that a round has ended, with its frame.
 fn round_ended(move_number: u64, round: u16, sent: u16, skipped: u16, left: u16) -> Answer
     requires { 0 < move_number }
     ensures reply { result.0 ≡ HostReply.RoundEnded round sent skipped left }
@@ -515,7 +517,7 @@ fn round_ended(move_number: u64, round: u16, sent: u16, skipped: u16, left: u16)
     })
 }
 
-/// The set of the numbers below a count of pages.
+/// The set of those numbers that are below a count of pages.
 fn set_of(alloc: Global, pages: u32, numbers: &[u16]) -> Result<PageSet, AllocError>
     requires { pages ≤ 4096 }
     ensures set { IfOk result (λ s. (p : ℕ) → has p s ≡ (is_in numbers.now p && nat_lt p pages)) }

@@ -13,7 +13,7 @@ ghost use Rattle.rvm_source.specs.Sources.{HasTurn, IsCovered, mode_in};
 ghost use Rattle.rvm_source.specs.States.{sends_state_of};
 
 use crate::phase::Phase;
-use rvm_debug::Debugged;
+use rvm_board::Debugged;
 use rvm_frame::{Bytes, CopyNumbers, Frame, state_body};
 use rvm_mem::{Memory, PagedMemory};
 use rvm_message::HostReply;
@@ -21,11 +21,10 @@ use rvm_precopy::Rounds;
 use rvm_state::{MAX_STATE_LEN, write_state};
 use std::alloc::{AllocError, Global};
 
-/// How many bytes a piece has, the last one at most.
+/// How many bytes each piece of a state has; the last one may have fewer, but has at least one.
 const PIECE: usize = 4096;
 
-/// What is sent of a state at once: the reply to the command that asked for it, the frame, and the
-/// phase after it.
+/// What one command sends of a state: the reply to Copy, the frame, and the phase after it.
 #[derive(Drop)]
 pub(crate) struct Sent {
     pub(crate) reply: HostReply,
@@ -33,15 +32,16 @@ pub(crate) struct Sent {
     pub(crate) next: Phase,
 }
 
-/// The most bytes of the state of a guest of so many pages, with the number of each page's copy.
+/// The most body bytes of a State frame of a guest of this many pages: the number of each page's newest copy,
+/// and the state.
 pub(crate) fn state_bound(pages: u32) -> usize
     ensures { result ≡ state_bound pages }
 {
     2 + 4 * pages as usize + MAX_STATE_LEN
 }
 
-/// The state of a paused guest as a stream of this version has it: whole, or from version 2 on the
-/// piece whose turn it is.
+/// Makes the frame of a paused guest's state for a stream of this version: the whole state in version 1, and
+/// from version 2 on the piece with index `turn`. Fails if memory runs out.
 pub(crate) fn send_state<M: PagedMemory>(
     alloc: Global,
     version: u32,
@@ -92,7 +92,7 @@ pub(crate) fn send_state<M: PagedMemory>(
     })
 }
 
-/// The piece that is sent after this one: the first again after the last.
+/// The index of the piece that is sent after this one; after the last, the first is sent again.
 fn turn_after(turn: u8, parts: u8) -> u8
     requires { turn < parts }
     ensures next { result ≡ (if nat_lt (turn + 1) parts then turn + 1 else 0) }
@@ -102,7 +102,7 @@ fn turn_after(turn: u8, parts: u8) -> u8
     if next < parts { next } else { 0 }
 }
 
-/// The state of a guest, with the number of each page's newest copy.
+/// The State frame of a guest: its state, with the number of each page's newest copy.
 fn state_frame<M: PagedMemory>(
     alloc: Global,
     move_number: u64,
@@ -121,14 +121,14 @@ fn state_frame<M: PagedMemory>(
     })
 }
 
-/// One of the pieces of a state.
+/// A piece of a state, and how many pieces the state has.
 #[derive(Drop)]
 struct Piece {
     parts: u8,
     bytes: Bytes,
 }
 
-/// The piece of a state whose turn it is, and how many there are, at most 6.
+/// The piece of a state with index `turn`, and how many pieces there are, at most 6.
 fn cut_piece<M: PagedMemory>(
     alloc: Global,
     numbers: &[u32],
@@ -151,7 +151,7 @@ fn cut_piece<M: PagedMemory>(
     })
 }
 
-/// A piece by its place.
+/// The piece with this index.
 fn piece_of(body: &[u8], place: u8) -> &[u8]
     requires { place < length (pieces (length body.now) body.now) }
     ensures { result.now ≡ get_or (pieces (length body.now) body.now) place [] }
@@ -160,7 +160,7 @@ fn piece_of(body: &[u8], place: u8) -> &[u8]
     &body[first..body.len().min(first + PIECE)]
 }
 
-/// The body of a State frame, whose pieces are sent.
+/// The body of a State frame, which is sent in pieces.
 fn frame_body<M: PagedMemory>(
     alloc: Global,
     numbers: &[u32],
@@ -175,7 +175,7 @@ fn frame_body<M: PagedMemory>(
     state_body(alloc, numbers, state.as_slice())
 }
 
-/// The bytes of a guest, as the law of live migration has them.
+/// The bytes of a guest's state, as the protocol of live migration has them.
 fn body_of<M: PagedMemory>(alloc: Global, guest: &Debugged<M>) -> Result<Vec<u8>, AllocError>
     ensures bytes { IfOk result (λ bytes. bytes.items ≡ body_of guest.now.guest) }
     ensures size { IfOk result (λ bytes. length bytes.items ≤ longest) }

@@ -86,7 +86,7 @@ parts_exact size =
     (both_exact _ _ (counted_bytes_exact 1 (within 0 16) (within_below (256 ^ 1) 0 16 (omega arith)))
     (both_exact _ _ (counted_bytes_exact 2 (within 0 4096) (within_below (256 ^ 2) 0 4096 (omega arith))) breakpoints_exact))
 
--- as many harts are told as are there
+-- there are as many harts as the head says
 count_is : (size : ℕ) (t : StateParts) → (parts size).fits t ≡ true → length t.0.1 ≡ t.0.0.0
 unfolding parts
 count_is size t h =

@@ -1,4 +1,4 @@
--- What fits can be restored.
+-- Values that fit can be restored.
 use Rattle.std.proofs.Common.{◌≡◌, ℕ, ◌+◌, ◌%◌, ◌<◌, ◌≤◌, true, eqb, List, [], ◌∷◌, Option, None, Some, length, refl, arith}
 use Rattle.std.specs.Prelude.{nat_le}
 use Rattle.std.specs.List.{list_all}
@@ -10,12 +10,12 @@ use Rattle.rvm_hart.specs.Fields.{is_in_ram, is_ram_word}
 use Rattle.rvm_codec.specs.Numbers.{rise_from, within}
 use Rattle.rvm_codec.specs.Codec.{any, both, counted_bytes, counted_each, flag, optional, then_each, times}
 use Rattle.rvm_codec.proofs.Steps.{both_are}
-use Rattle.rvm_debug.specs.declared.part.HartPart.{HartPart}
-use Rattle.rvm_debug.specs.Guest.{AreAbove, AreRising}
-use Rattle.rvm_debug.specs.Parts.{CanBeHeld}
-use Rattle.rvm_debug.specs.State.{State}
+use Rattle.rvm_board.specs.declared.part.HartPart.{HartPart}
+use Rattle.rvm_board.specs.Guest.{AreAbove, AreRising}
+use Rattle.rvm_board.specs.Parts.{CanBeHeld}
+use Rattle.rvm_board.specs.State.{State}
 use Rattle.rvm_state.specs.Formats.{aligned, mstatus, mie, mtvec, csrs, hart, shared, head, breakpoints, parts, state}
-use Rattle.rvm_debug.specs.Restoring.{AreHeld, CanBeRestored}
+use Rattle.rvm_board.specs.Restoring.{AreHeld, CanBeRestored}
 
 aligned_is : (n : ℕ) → aligned.fits n ≡ true → n % 4 ≡ 0
 aligned_is n h = eqb-true _ _ (both_are ((any 4).fits n) (eqb (n % 4) 0) h).1

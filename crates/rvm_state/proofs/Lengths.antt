@@ -9,10 +9,10 @@ use Rattle.rvm_codec.proofs.Steps.{both_are}
 use Rattle.rvm_codec.proofs.Writing.{length_numbers_4}
 use Rattle.rvm_dev.specs.declared.fields.DeviceFields.{DeviceFields}
 use Rattle.rvm_csr.specs.declared.fields.CsrFields.{CsrFields}
-use Rattle.rvm_debug.specs.declared.part.HartPart.{HartPart}
-use Rattle.rvm_debug.specs.State.{State}
+use Rattle.rvm_board.specs.declared.part.HartPart.{HartPart}
+use Rattle.rvm_board.specs.State.{State}
 use Rattle.rvm_state.specs.Formats.{aligned, breakpoints, csrs, hart, head, mie, mstatus, parts, shared, state, whole_parts}
-use Rattle.rvm_debug.specs.Restoring.{CanBeRestored}
+use Rattle.rvm_board.specs.Restoring.{CanBeRestored}
 use Rattle.rvm_state.specs.Spelling.{longest}
 use Rattle.rvm_state.specs.Writing.{Writes}
 use Rattle.rvm_state.proofs.Fits.{can_be_restored}

@@ -1,15 +1,15 @@
--- What is read is a guest that the bytes spell, and the only one.
+-- The guest that is read is one that the bytes spell, and the only one.
 use Rattle.std.proofs.Common.{◌≡◌, ℕ, ◌<◌, List, Option, None, Some, length, refl, sym, ap, ◌∙◌, arith}
 use Rattle.rvm_codec.specs.Exact.{IsBytes}
 use Rattle.rvm_codec.proofs.Steps.{none_is, some_is}
-use Rattle.rvm_debug.specs.Guest.{Guest}
-use Rattle.rvm_debug.specs.State.{State, guest_of, state_of}
+use Rattle.rvm_board.specs.Guest.{Guest}
+use Rattle.rvm_board.specs.State.{State, guest_of, state_of}
 use Rattle.rvm_state.specs.Formats.{state}
 use Rattle.rvm_state.specs.Spelling.{Spells}
 use Rattle.rvm_state.proofs.Exact.{state_exact}
-use Rattle.rvm_debug.specs.Restoring.{CanBeRestored}
+use Rattle.rvm_board.specs.Restoring.{CanBeRestored}
 use Rattle.rvm_state.proofs.Fits.{can_be_restored}
-use Rattle.rvm_debug.proofs.Guests.{state_made}
+use Rattle.rvm_board.proofs.Guests.{state_made}
 
 -- the values that were read are those of a guest
 pub found : (bytes ram : List ℕ) (s : State) → IsBytes bytes → 0 < length ram → (state (length ram)).read bytes ≡ Some s → Spells bytes ram (guest_of ram s)

@@ -1,4 +1,4 @@
--- Codecs written one after the other.
+-- Values written by consecutive codecs.
 use Rattle.std.proofs.Common.{◌≡◌, ℕ, ◌+◌, ◌/◌, ◌%◌, ◌<◌, ◌≤◌, Bool, true, false, ◌&&◌, eqb, List, [], ◌∷◌, ◌++◌, length, refl, sym, ap, ◌∙◌, append_assoc, append-nil, arith}
 use Rattle.std.specs.Prelude.{◌==◌, nat_le}
 use Rattle.std.specs.List.{flat_map, list_all}
@@ -9,7 +9,7 @@ use Rattle.rvm_csr.specs.Registers.{interrupt_bits, interrupts_of}
 use Rattle.rvm_codec.specs.Numbers.{rise_from, within}
 use Rattle.rvm_codec.specs.Codec.{Codec, any, both, counted_bytes, number, only, then_each, times}
 use Rattle.rvm_codec.proofs.Steps.{and_so, same_number}
-use Rattle.rvm_debug.specs.Guest.{AreAbove, AreRising}
+use Rattle.rvm_board.specs.Guest.{AreAbove, AreRising}
 use Rattle.rvm_state.specs.Formats.{aligned, breakpoints, enable_bits, enables_of, mie, mstatus, mtvec}
 use Rattle.rvm_state.specs.Writing.{Writes, WritesEach}
 use Rattle.rvm_state.proofs.Exact.{enables_back, interrupts_back}

@@ -1,14 +1,14 @@
--- What was written is a guest's spelling.
+-- The bytes that were written are the guest's spelling.
 use Rattle.std.proofs.Common.{◌≡◌, ℕ, zero, suc, ◌+◌, ◌<◌, List, [], ◌∷◌, length, take, get_or, refl, sym, ap, subst, arith}
 use Rattle.std.proofs.lemmas.List.{take_more}
 use Rattle.rvm_dev.specs.declared.fields.DeviceFields.{DeviceFields}
 use Rattle.rvm_codec.specs.Numbers.{within}
 use Rattle.rvm_codec.specs.Codec.{Codec, counted_bytes}
-use Rattle.rvm_debug.specs.declared.part.HartPart.{HartPart}
-use Rattle.rvm_debug.specs.Guest.{Guest}
-use Rattle.rvm_debug.specs.Parts.{CanBeHeld}
-use Rattle.rvm_debug.specs.Restoring.{AreHeld}
-use Rattle.rvm_debug.specs.State.{State, guest_of, state_of}
+use Rattle.rvm_board.specs.declared.part.HartPart.{HartPart}
+use Rattle.rvm_board.specs.Guest.{Guest}
+use Rattle.rvm_board.specs.Parts.{CanBeHeld}
+use Rattle.rvm_board.specs.Restoring.{AreHeld}
+use Rattle.rvm_board.specs.State.{State, guest_of, state_of}
 use Rattle.rvm_state.specs.Formats.{breakpoints, hart, head, parts, state, whole_parts}
 use Rattle.rvm_state.specs.Spelling.{HasSpelling, spelling}
 use Rattle.rvm_state.specs.Writing.{Writes, WritesEach}

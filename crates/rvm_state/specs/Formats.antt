@@ -1,4 +1,4 @@
--- How the values of a guest lie in its bytes; numbers are little-endian.
+-- The layout of a guest's values in its bytes; numbers are little-endian.
 use Rattle.std.specs.Prelude.{ℕ, ◌+◌, ◌/◌, ◌%◌, ◌^◌, Bool, true, ◌==◌, List, length, Option}
 use Rattle.rvm_word.specs.Bits.{bit, is_set}
 use Rattle.rvm_csr.specs.declared.fields.CsrFields.{CsrFields}
@@ -9,8 +9,8 @@ use Rattle.rvm_hart.specs.Fields.{is_ram_word}
 use Rattle.rvm_codec.specs.Numbers.{rise_from, within}
 use Rattle.rvm_codec.specs.Codec.{Codec, any, as_type, both, counted_bytes, counted_each, flag, number, only, optional, then_each, times}
 use Rattle.rvm_codec.specs.Format.{Format, alone}
-use Rattle.rvm_debug.specs.declared.part.HartPart.{HartPart}
-use Rattle.rvm_debug.specs.State.{State}
+use Rattle.rvm_board.specs.declared.part.HartPart.{HartPart}
+use Rattle.rvm_board.specs.State.{State}
 
 -- a number of four bytes that is a multiple of four
 abbrev pub aligned : Codec ℕ
@@ -26,15 +26,15 @@ enables_of n = (is_set 3 n, is_set 7 n)
 abbrev pub enable_bits : Bool × Bool → ℕ
 enable_bits x = bit (2 ^ 3) x.0 + bit (2 ^ 7) x.1
 
--- mstatus has no other bits than these two
+-- mstatus, which has no other bits than these two
 unfoldable pub mstatus : Codec (Bool × Bool)
 mstatus = as_type (only (any 4) (λ n. enable_bits (enables_of n) == n)) enables_of enable_bits
 
--- mie has no other bits than those of the three interrupts
+-- mie, which has no other bits than those of the three interrupts
 unfoldable pub mie : Codec Interrupts
 mie = as_type (only (any 4) (λ n. interrupt_bits (interrupts_of n) == n)) interrupts_of interrupt_bits
 
--- bit 1 of mtvec is 0
+-- mtvec, whose bit 1 is 0
 abbrev pub mtvec : Codec ℕ
 mtvec = only (any 4) (λ n. n / 2 % 2 == 0)
 
@@ -92,7 +92,7 @@ abbrev pub hart_parts : HartPart → HartParts
 hart_parts p =
     (p.fields.pc, (p.fields.registers, (p.fields.csrs, (p.msip, (p.mtimecmp, (p.reserved, p.stopped))))))
 
--- a hart, whose reservation, if there is one, is an aligned word of a RAM of so many bytes
+-- a hart, whose reservation, if it has one, is of an aligned word in a RAM of this many bytes
 unfoldable pub hart : (size : ℕ) → Codec HartPart
 hart size =
     as_type
@@ -105,27 +105,27 @@ hart size =
 abbrev pub anything : ℕ → Bool
 anything n = true
 
--- halted and its status, overrun, interrupt enable, mtime
+-- the status if the board is halted, overrun, interrupt enable, mtime
 abbrev pub SharedParts : Type 0
 SharedParts = Option ℕ × (Bool × (Bool × ℕ))
 
--- what the devices keep that all harts share, made of its parts
+-- what the devices keep for all harts together, made of its parts
 abbrev pub shared_of : SharedParts → DeviceFields
 shared_of t = record { mtime = t.1.1.1; interrupt_enable = t.1.1.0; overrun = t.1.0; halted = t.0 }
 
--- the parts of what the devices keep that all harts share
+-- the parts of what the devices keep for all harts together
 abbrev pub shared_parts : DeviceFields → SharedParts
 shared_parts f = (f.halted, (f.overrun, (f.interrupt_enable, f.mtime)))
 
--- what the devices keep that all harts share
+-- what the devices keep for all harts together
 unfoldable pub shared : Codec DeviceFields
 shared = as_type (both (optional (any 1) anything) (both flag (both flag (any 8)))) shared_of shared_parts
 
--- how many harts there are, and what all share
+-- how many harts there are, 1 to 8, and what the devices keep for all of them together
 unfoldable pub head : Codec (ℕ × DeviceFields)
 head = both (number 1 (within 1 8)) shared
 
--- at most 64, rising
+-- the breakpoints: at most 64, rising
 unfoldable pub breakpoints : Codec (List ℕ)
 breakpoints = only (counted_each 1 (within 0 64) (any 4)) (rise_from 0)
 
@@ -148,6 +148,6 @@ parts size =
     both (then_each head (λ h. h.0) (hart size))
     (both (counted_bytes 1 (within 0 16)) (both (counted_bytes 2 (within 0 4096)) breakpoints))
 
--- the values of a guest with a RAM of so many bytes, and nothing after them
+-- the values of a guest with a RAM of this many bytes, and nothing after them
 unfoldable pub state : (size : ℕ) → Format State
 state size = alone (as_type (parts size) whole_of whole_parts)

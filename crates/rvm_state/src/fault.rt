@@ -1,4 +1,4 @@
-//! Why bytes gave no guest.
+//! Why bytes made no guest.
 
 ghost use Rattle.std.specs.Prelude.{◌≡◌};
 ghost use Rattle.rvm_state.specs.Refusals.{refusal_of};
@@ -6,13 +6,13 @@ ghost use Rattle.rvm_state.specs.Refusals.{refusal_of};
 use rvm_refusal::Refusal;
 use thiserror::Error;
 
-/// Why bytes gave no guest.
+/// Why bytes made no guest.
 #[derive(Clone, Copy, Debug, PartialEq, Eq, Error)]
 pub enum StateFault {
-    /// The bytes spell no guest with a RAM of this size.
+    /// The bytes are the encoding of no guest with a RAM of this size.
     #[error("the bytes spell no guest with a RAM of this size")]
     BadState,
-    /// A growth was refused.
+    /// Memory ran out.
     #[error("out of memory")]
     OutOfMemory,
 }

@@ -1,5 +1,5 @@
-//! Fields at the front of state bytes, each given with the bytes after it; None where the bytes
-//! spell no such field.
+//! Readers of the fields at the front of state bytes. Each returns the field and the bytes after it, or None if
+//! the bytes begin with no such field.
 
 ghost use Rattle.std.specs.Prelude.{◌≡◌, option_map};
 ghost use Rattle.rvm_hart.specs.Fields.{is_ram_word};
@@ -12,7 +12,7 @@ use rvm_dev::DeviceFields;
 use rvm_hart::RAM_BASE;
 use rvm_word::{bit, is_set};
 
-/// A multiple of four.
+/// A number of four bytes that is a multiple of four.
 pub(crate) fn aligned_at(bytes: &[u8]) -> Option<(u32, &[u8])>
     ensures { option_map (λ x. (x.0, x.1.now)) result ≡ aligned.read bytes.now }
 {
@@ -20,7 +20,7 @@ pub(crate) fn aligned_at(bytes: &[u8]) -> Option<(u32, &[u8])>
     if n % 4 == 0 { Some((n, rest)) } else { None }
 }
 
-/// MIE and MPIE.
+/// MIE and MPIE, of an mstatus with no other bit.
 #[tactic(auto, unfolding(crate::specs::Formats::mstatus))]
 fn mstatus_at(bytes: &[u8]) -> Option<((bool, bool), &[u8])>
     ensures { option_map (λ x. (x.0, x.1.now)) result ≡ mstatus.read bytes.now }
@@ -34,7 +34,7 @@ fn mstatus_at(bytes: &[u8]) -> Option<((bool, bool), &[u8])>
     }
 }
 
-/// The interrupts that are enabled.
+/// The interrupts that mie enables; it has no other bits than theirs.
 #[tactic(auto, unfolding(crate::specs::Formats::mie))]
 fn mie_at(bytes: &[u8]) -> Option<(Interrupts, &[u8])>
     ensures { option_map (λ x. (x.0, x.1.now)) result ≡ mie.read bytes.now }
@@ -48,7 +48,7 @@ fn mie_at(bytes: &[u8]) -> Option<(Interrupts, &[u8])>
     }
 }
 
-/// A base and a mode, whose bit 1 is 0.
+/// mtvec: a base, and a mode whose bit 1 is 0.
 fn mtvec_at(bytes: &[u8]) -> Option<(u32, &[u8])>
     ensures { option_map (λ x. (x.0, x.1.now)) result ≡ mtvec.read bytes.now }
 {
@@ -89,7 +89,8 @@ pub(crate) fn csrs_at(bytes: &[u8]) -> Option<(CsrFields, &[u8])>
     Some((fields, rest))
 }
 
-/// The word that a hart has reserved, of a RAM of so many bytes, or 0 for none.
+/// The address of the word that a hart has reserved in a RAM of `size` bytes, if any; a hart with none has
+/// address 0.
 pub(crate) fn reserved_at(size: u32, bytes: &[u8]) -> Option<(Option<u32>, &[u8])>
     ensures { option_map (λ x. (x.0, x.1.now)) result
         ≡ (optional (any 4) (is_ram_word size)).read bytes.now }
@@ -109,7 +110,7 @@ pub(crate) fn reserved_at(size: u32, bytes: &[u8]) -> Option<(Option<u32>, &[u8]
     }
 }
 
-/// Whether an address is that of an aligned word of a RAM of so many bytes.
+/// Whether this is the address of an aligned word in a RAM of `size` bytes.
 fn is_ram_word(size: u32, address: u32) -> bool
     ensures { result ≡ is_ram_word size address }
 {
@@ -117,7 +118,7 @@ fn is_ram_word(size: u32, address: u32) -> bool
     address % 4 == 0 && RAM_BASE <= address && u64::from(address) + 4 <= end
 }
 
-/// The status that the board was halted with, or 0 for none.
+/// The status with which the board halted, if it has; a board that has not has status 0.
 fn status_at(bytes: &[u8]) -> Option<(Option<u8>, &[u8])>
     ensures { option_map (λ x. (x.0, x.1.now)) result
         ≡ (optional (any 1) anything).read bytes.now }
@@ -133,7 +134,7 @@ fn status_at(bytes: &[u8]) -> Option<(Option<u8>, &[u8])>
     }
 }
 
-/// What the devices keep that all harts share.
+/// What the devices keep for all harts together.
 #[tactic(auto, unfolding(crate::specs::Formats::shared))]
 pub(crate) fn shared_at(bytes: &[u8]) -> Option<(DeviceFields, &[u8])>
     ensures { option_map (λ x. (x.0, x.1.now)) result ≡ shared.read bytes.now }

@@ -1,21 +1,21 @@
-//! The values of a snapshot put after the bytes of a vector, in room that the caller made: no call
-//! takes memory, and the capacity stays as it is.
+//! Writers that append the values of a snapshot to a vector, in room that the caller reserved: no call takes
+//! memory, and the capacity stays as it is.
 
 ghost use Rattle.std.specs.Prelude.{◌≡◌, ◌+◌, ◌*◌, ◌≤◌, ℕ, true, length, vec_len, vec_capacity};
 ghost use Rattle.rvm_csr.specs.Fields.{CanBeHeld as CsrsHeld};
 ghost use Rattle.rvm_hart.specs.Fields.{is_in_ram, is_ram_word};
 ghost use Rattle.rvm_codec.specs.Numbers.{within};
 ghost use Rattle.rvm_codec.specs.Codec.{any, counted_bytes, flag, optional, times};
-ghost use Rattle.rvm_debug.specs.Guest.{AreRising};
-ghost use Rattle.rvm_debug.specs.Parts.{CanBeHeld};
-ghost use Rattle.rvm_debug.specs.Restoring.{AreHeld};
-ghost use Rattle.rvm_debug.specs.Snapshot.{state_in};
+ghost use Rattle.rvm_board.specs.Guest.{AreRising};
+ghost use Rattle.rvm_board.specs.Parts.{CanBeHeld};
+ghost use Rattle.rvm_board.specs.Restoring.{AreHeld};
+ghost use Rattle.rvm_board.specs.Snapshot.{state_in};
 ghost use Rattle.rvm_state.specs.Formats.{anything, breakpoints, csrs, hart, head, mie, mstatus, parts, shared, whole_parts};
 ghost use Rattle.rvm_state.specs.Writing.{Writes, WritesEach, length_of};
 
+use rvm_board::{HartPart, Snapshot};
 use rvm_codec::{append_bytes, append_flag, append_u8, append_u16, append_u32, append_u64};
 use rvm_csr::{CsrFields, Interrupts};
-use rvm_debug::{HartPart, Snapshot};
 use rvm_dev::DeviceFields;
 use rvm_word::bit;
 
@@ -85,7 +85,7 @@ fn put_registers(out: &mut Vec<u8>, registers: &[u32; 31])
     put_words(out, registers);
 }
 
-/// MIE and MPIE.
+/// mstatus, with MIE and MPIE alone.
 fn put_mstatus(out: &mut Vec<u8>, enabled: bool, before: bool)
     requires { vec_len out.old + 4 ≤ vec_capacity out.old }
     ensures written { Writes mstatus (enabled, before) out.old.items out.new.items }
@@ -122,7 +122,7 @@ fn put_csrs(out: &mut Vec<u8>, fields: &CsrFields)
     put_u64(out, fields.minstret);
 }
 
-/// The word that a hart has reserved, or 0 for none.
+/// Whether a hart has a reservation, and the address of the reserved word, 0 for none.
 fn put_reserved(out: &mut Vec<u8>, reserved: Option<u32>)
     requires { vec_len out.old + 5 ≤ vec_capacity out.old }
     ensures written { (size : ℕ) → is_in_ram size reserved ≡ true
@@ -172,7 +172,7 @@ fn put_harts(out: &mut Vec<u8>, harts: &[HartPart])
     }
 }
 
-/// The status that the board was halted with, or 0 for none.
+/// Whether the board is halted, and with which status, 0 if it is not.
 fn put_status(out: &mut Vec<u8>, halted: Option<u8>)
     requires { vec_len out.old + 2 ≤ vec_capacity out.old }
     ensures written { Writes (optional (any 1) anything) halted out.old.items out.new.items }
@@ -191,7 +191,7 @@ fn put_status(out: &mut Vec<u8>, halted: Option<u8>)
     }
 }
 
-/// What the devices keep that all harts share.
+/// What the devices keep for all harts together.
 fn put_shared(out: &mut Vec<u8>, fields: &DeviceFields)
     requires { vec_len out.old + 12 ≤ vec_capacity out.old }
     ensures written { Writes shared fields.now out.old.items out.new.items }
@@ -204,7 +204,7 @@ fn put_shared(out: &mut Vec<u8>, fields: &DeviceFields)
     put_u64(out, fields.mtime);
 }
 
-/// How many harts there are, and what the devices keep that all share.
+/// How many harts there are, and what the devices keep for all of them together.
 fn put_head(out: &mut Vec<u8>, count: u8, fields: &DeviceFields)
     requires some { 1 ≤ count }
     requires bound { count ≤ 8 }
@@ -217,7 +217,7 @@ fn put_head(out: &mut Vec<u8>, count: u8, fields: &DeviceFields)
     put_shared(out, fields);
 }
 
-/// The breakpoints.
+/// The breakpoints: their count, and each address.
 fn put_breakpoints(out: &mut Vec<u8>, addresses: &[u32])
     requires few { length addresses.now ≤ 64 }
     requires rising { AreRising addresses.now }
@@ -228,7 +228,7 @@ fn put_breakpoints(out: &mut Vec<u8>, addresses: &[u32])
     put_words(out, addresses);
 }
 
-/// The bytes that wait for the guest.
+/// The input that waits for the guest: its count, and its bytes.
 fn put_input(out: &mut Vec<u8>, bytes: &[u8])
     requires few { length bytes.now ≤ 16 }
     requires room { vec_len out.old + (1 + length bytes.now) ≤ vec_capacity out.old }
@@ -241,7 +241,7 @@ fn put_input(out: &mut Vec<u8>, bytes: &[u8])
     append_bytes(out, bytes);
 }
 
-/// The bytes that wait for the console.
+/// The output that waits for a drain: its count, and its bytes.
 fn put_output(out: &mut Vec<u8>, bytes: &[u8])
     requires few { length bytes.now ≤ 4096 }
     requires room { vec_len out.old + (2 + length bytes.now) ≤ vec_capacity out.old }
@@ -254,7 +254,7 @@ fn put_output(out: &mut Vec<u8>, bytes: &[u8])
     append_bytes(out, bytes);
 }
 
-/// How many bytes a snapshot has.
+/// How many bytes the encoding of a snapshot has.
 pub(crate) fn snapshot_len(snapshot: &Snapshot) -> usize
     ensures { result ≡ length_of (state_in snapshot.now) }
 {
@@ -264,7 +264,7 @@ pub(crate) fn snapshot_len(snapshot: &Snapshot) -> usize
         + (1 + 4 * snapshot.breakpoints.len())
 }
 
-/// All that a guest keeps but its RAM.
+/// All that a guest keeps beside its RAM.
 pub(crate) fn put_snapshot(out: &mut Vec<u8>, snapshot: &Snapshot)
     requires some { 1 ≤ length snapshot.now.harts.items }
     requires rising { AreRising snapshot.now.breakpoints.items }

@@ -1,19 +1,19 @@
-//! A guest from its bytes and its RAM.
+//! Reads a guest from its bytes and its RAM.
 
 ghost use Rattle.std.specs.Prelude.{◌≡◌, ◌↔◌, IfErr, IfOk};
-ghost use Rattle.rvm_debug.specs.Guest.{Guest};
+ghost use Rattle.rvm_board.specs.Guest.{Guest};
 ghost use Rattle.rvm_state.specs.declared.fault.StateFault.TheVariants.{BadState, OutOfMemory};
 ghost use Rattle.rvm_state.specs.Spelling.{Spells};
 
 use crate::fault::StateFault;
 use crate::snapshot::snapshot_of;
-use rvm_debug::Debugged;
+use rvm_board::Debugged;
 use rvm_mem::Memory;
 use std::alloc::Global;
 
-/// The guest that the bytes spell, with this RAM and its dirty log. `BadState` where they spell no
-/// guest with such a RAM, `OutOfMemory` where a growth was refused, which is not asked for before
-/// all bytes were read; each hands the RAM back.
+/// Returns the guest of which these bytes and this RAM are the encoding, with the dirty log of the RAM. Fails with
+/// `BadState` if there is no such guest, and with `OutOfMemory` if memory runs out, which is asked for only once all
+/// bytes are read; either error hands the RAM back unchanged.
 pub fn read_state<M: Memory>(
     alloc: Global,
     bytes: &[u8],

@@ -1,26 +1,25 @@
-//! The snapshot that state bytes spell.
+//! Reads the snapshot of a guest from state bytes.
 
 ghost use Rattle.std.specs.Prelude.{◌≡◌, ◌≤◌, length, option_map, IfSome};
 ghost use Rattle.rvm_codec.specs.Numbers.{within};
 ghost use Rattle.rvm_codec.specs.Codec.{any, bytes_at, counted_bytes, read_each, times};
-ghost use Rattle.rvm_debug.specs.Snapshot.{state_in};
+ghost use Rattle.rvm_board.specs.Snapshot.{state_in};
 ghost use Rattle.rvm_state.specs.Formats.{breakpoints, hart, head, state};
 
 use crate::fields::{aligned_at, csrs_at, reserved_at, shared_at};
 use arrayvec::ArrayVec;
-use rvm_board::MAX_HARTS;
+use rvm_board::{HartPart, MAX_BREAKPOINTS, MAX_HARTS, Snapshot};
 use rvm_codec::{bytes_at, flag_at, u8_within, u16_within, u32_at, u32s_rise, u64_at};
-use rvm_debug::{HartPart, MAX_BREAKPOINTS, Snapshot};
 use rvm_dev::{DeviceFields, INPUT_CAPACITY, OUTPUT_CAPACITY};
 use rvm_hart::HartFields;
 
 /// The most harts that a board has.
 const HARTS: usize = MAX_HARTS as usize;
 
-/// How many registers a hart has besides x0.
+/// How many registers a hart has beside x0.
 const REGISTERS: usize = 31;
 
-/// So many numbers of four bytes.
+/// `count` consecutive numbers of four bytes.
 fn words_at<const CAP: usize>(count: usize, bytes: &[u8]) -> Option<(ArrayVec<u32, CAP>, &[u8])>
     requires { count ≤ CAP }
     ensures words { option_map (λ x. (x.0.items, x.1.now)) result
@@ -52,7 +51,7 @@ fn registers_at(bytes: &[u8]) -> Option<([u32; REGISTERS], &[u8])>
     }
 }
 
-/// What is kept of a hart, with a RAM of so many bytes.
+/// What is kept of a hart of a board with a RAM of `size` bytes.
 #[tactic(auto, unfolding(crate::specs::Formats::hart))]
 fn hart_at(size: u32, bytes: &[u8]) -> Option<(HartPart, &[u8])>
     ensures { option_map (λ x. (x.0, x.1.now)) result ≡ (hart size).read bytes.now }
@@ -78,7 +77,7 @@ fn hart_at(size: u32, bytes: &[u8]) -> Option<(HartPart, &[u8])>
     Some((part, rest))
 }
 
-/// What is kept of so many harts.
+/// What is kept of `count` harts of such a board.
 fn harts_at(size: u32, count: usize, bytes: &[u8]) -> Option<(ArrayVec<HartPart, HARTS>, &[u8])>
     requires { count ≤ 8 }
     ensures harts { option_map (λ x. (x.0.items, x.1.now)) result
@@ -99,7 +98,7 @@ fn harts_at(size: u32, count: usize, bytes: &[u8]) -> Option<(ArrayVec<HartPart,
     Some((harts, rest))
 }
 
-/// How many harts there are, and what the devices keep that all share.
+/// How many harts there are, and what the devices keep for all of them together.
 #[tactic(auto, unfolding(crate::specs::Formats::head))]
 fn head_at(bytes: &[u8]) -> Option<((u8, DeviceFields), &[u8])>
     ensures head { option_map (λ x. ((x.0.0, x.0.1), x.1.now)) result ≡ head.read bytes.now }
@@ -110,7 +109,7 @@ fn head_at(bytes: &[u8]) -> Option<((u8, DeviceFields), &[u8])>
     Some(((count, shared), rest))
 }
 
-/// So many bytes of a queue.
+/// A queue of `count` bytes.
 fn queue_at<const CAP: usize>(count: usize, bytes: &[u8]) -> Option<(ArrayVec<u8, CAP>, &[u8])>
     requires { count ≤ CAP }
     ensures { option_map (λ x. (x.0.items, x.1.now)) result ≡ bytes_at count bytes.now }
@@ -122,7 +121,7 @@ fn queue_at<const CAP: usize>(count: usize, bytes: &[u8]) -> Option<(ArrayVec<u8
     Some((queue, rest))
 }
 
-/// The bytes that wait for the guest.
+/// The input that waits for the guest: at most 16 bytes.
 fn input_at(bytes: &[u8]) -> Option<(ArrayVec<u8, INPUT_CAPACITY>, &[u8])>
     ensures { option_map (λ x. (x.0.items, x.1.now)) result
         ≡ (counted_bytes 1 (within 0 16)).read bytes.now }
@@ -131,7 +130,7 @@ fn input_at(bytes: &[u8]) -> Option<(ArrayVec<u8, INPUT_CAPACITY>, &[u8])>
     queue_at(count as usize, rest)
 }
 
-/// The bytes that wait for the console.
+/// The output that waits for a drain: at most 4096 bytes.
 fn output_at(bytes: &[u8]) -> Option<(ArrayVec<u8, OUTPUT_CAPACITY>, &[u8])>
     ensures { option_map (λ x. (x.0.items, x.1.now)) result
         ≡ (counted_bytes 2 (within 0 4096)).read bytes.now }
@@ -140,7 +139,7 @@ fn output_at(bytes: &[u8]) -> Option<(ArrayVec<u8, OUTPUT_CAPACITY>, &[u8])>
     queue_at(count as usize, rest)
 }
 
-/// The breakpoints.
+/// The breakpoints: at most 64 addresses, rising.
 #[tactic(auto, unfolding(crate::specs::Formats::breakpoints))]
 fn breakpoints_at(bytes: &[u8]) -> Option<(ArrayVec<u32, MAX_BREAKPOINTS>, &[u8])>
     ensures { option_map (λ x. (x.0.items, x.1.now)) result ≡ breakpoints.read bytes.now }
@@ -154,7 +153,7 @@ fn breakpoints_at(bytes: &[u8]) -> Option<(ArrayVec<u32, MAX_BREAKPOINTS>, &[u8]
     }
 }
 
-/// The snapshot that the bytes spell, with a RAM of so many bytes; None where they spell none.
+/// The snapshot of which these bytes are the encoding, for a RAM of `size` bytes; None if there is none.
 #[tactic(auto, unfolding(crate::specs::Formats::state, crate::specs::Formats::parts))]
 pub(crate) fn snapshot_of(size: u32, bytes: &[u8]) -> Option<Snapshot>
     ensures { option_map state_in result ≡ (state size).read bytes.now }

@@ -1,18 +1,19 @@
-//! The bytes of a guest.
+//! Writes the bytes of a guest.
 
 ghost use Rattle.std.specs.Prelude.{◌≡◌, ◌≤◌, length, IfOk, OnOk};
 ghost use Rattle.rvm_state.specs.Spelling.{HasSpelling, longest, spelling};
 
 use crate::put::{put_snapshot, snapshot_len};
-use rvm_debug::Debugged;
+use rvm_board::Debugged;
 use rvm_mem::Memory;
 use std::alloc::{AllocError, Global};
 
-/// How many bytes a guest has without its RAM, at most: 13 for all harts and 187 for each, its input,
-/// its output and its breakpoints, each with their count.
+/// The most bytes that a guest has without its RAM: 13 for all harts together and 187 for each of at most 8, then
+/// at most 16 bytes of input, 4096 of output and 64 breakpoints of four bytes, each with their count.
 pub const MAX_STATE_LEN: usize = 13 + 8 * 187 + (1 + 16) + (2 + 4096) + (1 + 4 * 64);
 
-/// The bytes of a guest without its RAM, which with that RAM tell it wholly.
+/// Returns the encoding of a guest without its RAM, at most `MAX_STATE_LEN` bytes; with the RAM it determines the
+/// guest. Fails if memory runs out.
 pub fn write_state<M: Memory>(alloc: Global, guest: &Debugged<M>) -> Result<Vec<u8>, AllocError>
     ensures bytes { IfOk result (λ bytes. bytes.items ≡ spelling guest.now.guest) }
     ensures size { IfOk result (λ bytes. length bytes.items ≤ longest) }

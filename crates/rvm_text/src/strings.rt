@@ -6,7 +6,7 @@ ghost use Rattle.rvm_text.specs.Strings.{escaped_byte, text_of};
 use std::alloc::{AllocError, Global};
 
 /// The text of a string that is written so between its quotes: `\n` is a line feed, `\t` a tab,
-/// `\0` a zero, and `\` before any other byte is that byte. Fails only for want of memory.
+/// `\0` a zero, and `\` before any other byte is that byte. Fails only if memory runs out.
 #[tactic(auto, unfolding(crate::specs::Strings::text_of))]
 pub fn unescape(alloc: Global, written: &[u8]) -> Result<Vec<u8>, AllocError>
     ensures { IfOk result (λ text. text.items ≡ text_of written.now) }

@@ -1,4 +1,4 @@
--- Signed values of numbers of so many bits, and the numbers that they come from.
+-- Signed values of numbers of this many bits, and the numbers that they come from.
 use Rattle.std.proofs.Common.{◌≡◌, ℕ, zero, suc, ◌+◌, ◌-◌, ◌%◌, ◌^◌, ◌<◌, ◌≤◌, ℤ, pos, negsuc, neg_ℤ, ◌+ℤ◌, ap, ◌∙◌, arith, inl, inr}
 use Rattle.std.proofs.lemmas.Bool.{cases_lt}
 use Rattle.std.proofs.lemmas.Bool.Decides.{nat_tests}
@@ -20,7 +20,7 @@ modulo-add a (negsuc n) =
           ap (modulo 32) e ∙ omega arith
     ]
 
--- the numbers of so many bits have two halves
+-- the numbers of this many bits have two halves
 pub halves : (bits : ℕ) → 0 < bits → 2 ^ bits ≡ 2 ^ (bits - 1) + 2 ^ (bits - 1)
 halves zero some = absurd (omega arith)
 halves (suc k) some =
@@ -40,7 +40,7 @@ upper bits n j above e =
     let g : signed_value bits n ≡ neg_ℤ (pos (2 ^ bits - n)) = grind (arith, nat_tests) in
     g ∙ ap (λ k. neg_ℤ (pos k)) missing
 
--- the signed value of a number of so many bits, reduced, is that number
+-- the signed value of a number of this many bits, reduced, is that number
 pub modulo-signed_value : (bits n : ℕ) → 0 < bits → n < 2 ^ bits → modulo bits (signed_value bits n) ≡ n
 modulo-signed_value bits n some small =
     elim (cases_lt n (2 ^ (bits - 1))) [
@@ -68,7 +68,7 @@ signed_value-modulo bits (negsuc n) some (low, high) =
     let kept : n % 2 ^ bits ≡ n = mod-eq_of_lt small in
     upper bits (2 ^ bits - 1 - n % 2 ^ bits) n (omega arith) (omega arith)
 
--- the signed value of a number of so many bits is in range
+-- the signed value of a number of this many bits is in range
 pub signed_value_fits : (bits n : ℕ) → 0 < bits → n < 2 ^ bits →
     FitsSignedBits bits (signed_value bits n)
 unfolding signed_value
@@ -82,5 +82,5 @@ pub modulo_below : (bits : ℕ) (z : ℤ) → modulo bits z < 2 ^ bits
 modulo_below bits (pos n) = mod_below n (2 ^ bits) (pow_pos bits)
 modulo_below bits (negsuc n) = omega (arith, pow_pos bits)
 
--- there and back between numbers of so many bits and their signed values
+-- there and back between numbers of this many bits and their signed values
 pub ruleset signed_values = (modulo-signed_value, signed_value-modulo)

@@ -3,11 +3,11 @@
 use Rattle.std.specs.Prelude.{ℕ, ℤ, pos, negsuc, neg_ℤ, ◌-◌, ◌/◌, ◌%◌, ◌^◌, ◌≤ℤ◌, ◌<ℤ◌}
 use Rattle.std.specs.Prelude.{int_div, int_rem, if◌then◌else◌, ◌==◌, nat_lt}
 
--- the value of a two's complement number of so many bits: from half of 2 ^ bits on it is negative
+-- the value of a two's complement number of this many bits: from half of 2 ^ bits on it is negative
 unfoldable pub signed_value : (bits n : ℕ) → ℤ
 signed_value bits n = if nat_lt n (2 ^ (bits - 1)) then pos n else neg_ℤ (pos (2 ^ bits - n))
 
--- a whole number is the signed value of some number of so many bits
+-- a whole number is the signed value of some number of this many bits
 abbrev pub FitsSignedBits : (bits : ℕ) → ℤ → Type 0
 FitsSignedBits bits z = (neg_ℤ (pos (2 ^ (bits - 1))) ≤ℤ z) × (z <ℤ pos (2 ^ (bits - 1)))
 

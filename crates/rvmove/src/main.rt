@@ -1,6 +1,7 @@
-//! `rvmove`: assembles, disassembles, runs and debugs guests of a small RISC-V board, and moves them
-//! between hosts. Takes the descriptors of the standard streams, and hands the command line and the streams to
-//! `rvm_program`.
+//! `rvmove` assembles, disassembles, runs and debugs guests of a small RISC-V board, and moves them between hosts.
+//! Takes the descriptors of the standard streams, and hands the command line and the streams to `rvm_program`.
+//!
+//! Stands on `rvm_program`, and on `rvm_paged` for the memory of guests.
 #![tactic(auto)]
 
 use rvm_paged::PagedRam;

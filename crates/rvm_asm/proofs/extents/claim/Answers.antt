@@ -1,7 +1,7 @@
 use Rattle.std.proofs.Common.{◌+◌, ◌-◌, ◌<◌, ◌∙◌, ap, sym, subst, arith, length, rules}
-use Rattle.rvm_image.specs.Images.{byte_at}
+use Rattle.rvm_asm.specs.Images.{byte_at}
 use Rattle.rvm_asm.specs.declared.extents.Extent.{Extent}
-use Rattle.rvm_asm.specs.Images.{AreOrdered, IsFree, IsTaken}
+use Rattle.rvm_asm.specs.Pieces.{AreOrdered, IsFree, IsTaken}
 use Rattle.rvm_asm.specs.Views.{extent_pieces, AreExtents}
 use Rattle.rvm_asm.proofs.Placed.{pieces, claims_none, inserted_extents, inserted_joins, inserted_ordered, extents_more}
 use Rattle.rvm_asm.proofs.extents.claim.Goals as goal

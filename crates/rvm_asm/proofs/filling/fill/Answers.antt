@@ -1,7 +1,7 @@
 use Rattle.std.proofs.Common.{◌∙◌, ap, arith, length, sym, subst}
-use Rattle.rvm_line.specs.Views.{names_of}
-use Rattle.rvm_image.specs.Images.{byte_at, or_else, piece, pieces_of}
-use Rattle.rvm_asm.specs.Images.{AreOrdered, end_of}
+use Rattle.rvm_asm_line.specs.Views.{names_of}
+use Rattle.rvm_asm.specs.Images.{byte_at, or_else, piece, pieces_of}
+use Rattle.rvm_asm.specs.Pieces.{AreOrdered, end_of}
 use Rattle.rvm_asm.specs.Views.{line_bytes, lines_of, texts_of, AreExtents}
 use Rattle.rvm_asm.proofs.Bytes.{image_same, or_none, same_more}
 use Rattle.rvm_asm.proofs.Claims.{its_bytes}

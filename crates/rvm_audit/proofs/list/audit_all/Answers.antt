@@ -1,7 +1,7 @@
 use Rattle.std.proofs.Common.{◌<◌, ◌≤◌, List, length, subst, sym}
 use Rattle.rvm_audit.specs.Audits.{entries_of, histories_of}
 use Rattle.rvm_audit.specs.declared.part.Place.{Place}
-use Rattle.rvm_audit.specs.Orders.{journals_of}
+use Rattle.rvm_audit.specs.ListOrders.{journals_of}
 use Rattle.rvm_audit.specs.Parts.{AreSized, taken}
 use Rattle.rvm_audit.proofs.Lists.{all_sized, are_all, at_dead_end, in_order, there_in, there_of}
 use Rattle.rvm_audit.proofs.list.audit_all.Goals as goal

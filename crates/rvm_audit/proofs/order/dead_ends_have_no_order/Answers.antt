@@ -1,6 +1,6 @@
 use Rattle.std.proofs.Common.{get_or, ◌∷◌, []}
-use Rattle.rvm_interleaving.proofs.Greatest.{no_order}
-use Rattle.rvm_audit.specs.Orders.{both}
+use Rattle.rvm_audit.proofs.Greatest.{no_order}
+use Rattle.rvm_audit.specs.ListOrders.{both}
 use Rattle.rvm_audit.proofs.order.dead_ends_have_no_order.Goals as goal
 
 pub returns : goal.returns

@@ -1,5 +1,5 @@
 use Rattle.std.proofs.Common.{◌≤◌, subst}
-use Rattle.rvm_journal.specs.Entries.{silent}
+use Rattle.rvm_recorder.specs.Entries.{silent}
 use Rattle.rvm_audit.proofs.Commands.{round_stands, rounds_end}
 use Rattle.rvm_audit.proofs.placed.event_of_rounds.Goals as goal
 

@@ -1,7 +1,7 @@
 use Rattle.std.proofs.Common.{◌∙◌, sym, Some}
-use Rattle.rvm_debug.specs.declared.event.BoardEvent.TheVariants.{Step}
+use Rattle.rvm_board.specs.declared.event.BoardEvent.TheVariants.{Step}
 use Rattle.rvm_message.specs.declared.event.Command.TheVariants.{Board}
-use Rattle.rvm_world.specs.declared.event.Event.TheVariants.{At}
+use Rattle.rvm_core.specs.declared.event.Event.TheVariants.{At}
 use Rattle.rvm_audit.proofs.Commands.{step_stands, steps_end}
 use Rattle.rvm_audit.proofs.placed.event_of_steps.Goals as goal
 

@@ -1,5 +1,5 @@
 use Rattle.std.proofs.Common.{rules}
-use Rattle.rvm_image.specs.Images.{pieces_of}
+use Rattle.rvm_asm.specs.Images.{pieces_of}
 use Rattle.rvm_command.proofs.Refusals.{image_refused}
 use Rattle.rvm_command.proofs.asm_command.assembled.Goals as goal
 

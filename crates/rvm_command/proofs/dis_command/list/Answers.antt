@@ -1,6 +1,6 @@
 use Rattle.std.proofs.Common.{◌∙◌, ◌++◌, ◌+◌, [], sym, ap, refl, append_assoc, append-nil, subst, drop}
 use Rattle.std.specs.Io.KnownBytes.{Appends}
-use Rattle.rvm_image.specs.Images.{pieces_of}
+use Rattle.rvm_asm.specs.Images.{pieces_of}
 use Rattle.rvm_command.specs.Command.{listing}
 use Rattle.rvm_command.proofs.Listings.{segment_lines, listing_more, listing_none}
 use Rattle.rvm_command.proofs.Runs.{appends_more, appends_none}

@@ -1,5 +1,5 @@
 use Rattle.std.proofs.Common.{◌<◌, ◌∷◌, [], ◌++◌, length, arith}
-use Rattle.rvm_debug.specs.declared.event.BoardEvent.TheVariants.{Drain}
+use Rattle.rvm_board.specs.declared.event.BoardEvent.TheVariants.{Drain}
 use Rattle.rvm_command.specs.Run.{IsPartWay, after, drains}
 use Rattle.rvm_command.proofs.Runs.{all_made, begins, drain_fewer, drain_first, drains_none, goes_on, goes_out, is_held, none_made, on_err, some_held}
 use Rattle.rvm_command.proofs.run.drain_all.Goals as goal

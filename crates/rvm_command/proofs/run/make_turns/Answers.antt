@@ -1,7 +1,7 @@
 use Rattle.std.proofs.Common.{nat_lt, length, ap, ◌-◌, ◌%◌, drop, refl, arith}
 use Rattle.rvm_command.specs.Slices.{takes_none}
 use Rattle.rvm_command.proofs.Runs.{idle, none_left, slice_from, some_made}
-use Rattle.rvm_debug.proofs.Waiting.{while_within}
+use Rattle.rvm_board.proofs.Waiting.{while_within}
 use Rattle.rvm_command.proofs.run.make_turns.Goals as goal
 
 pub returns-clause-run : goal.returns-clause-run

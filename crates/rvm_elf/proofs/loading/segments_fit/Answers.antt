@@ -1,5 +1,5 @@
 use Rattle.std.proofs.Common.{◌≡◌, ◌&&◌, true, false, ◌+◌, ap, sym, ◌∙◌, drop, arith}
-use Rattle.rvm_image.specs.Images.{piece_of, pieces_of}
+use Rattle.rvm_asm.specs.Images.{piece_of, pieces_of}
 use Rattle.rvm_elf.specs.Load.{piece_fits, pieces_fit}
 use Rattle.rvm_elf.proofs.Placing.{fit_more, fit_none}
 use Rattle.rvm_elf.proofs.loading.segments_fit.Goals as goal

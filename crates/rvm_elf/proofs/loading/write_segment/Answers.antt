@@ -2,7 +2,7 @@ use Rattle.std.proofs.Common.{◌≡◌, ◌<◌, ◌+◌, ◌-◌, ◌++◌, �
 use Rattle.std.proofs.lemmas.List.{length-replicate}
 use Rattle.rvm_mem.specs.Bytes.{replaced}
 use Rattle.rvm_hart.specs.Bus.{ram_base}
-use Rattle.rvm_image.specs.Images.{size, piece_of}
+use Rattle.rvm_asm.specs.Images.{size, piece_of}
 use Rattle.rvm_elf.specs.Placing.{with_ram}
 use Rattle.rvm_elf.proofs.Placing.{then_written}
 use Rattle.rvm_elf.proofs.Loaded.{some_inside}

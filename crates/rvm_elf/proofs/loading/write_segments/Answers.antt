@@ -1,5 +1,5 @@
 use Rattle.std.proofs.Common.{◌≡◌, true, ◌+◌, length, ap, sym, ◌∙◌, drop, arith}
-use Rattle.rvm_image.specs.Images.{piece_of, pieces_of}
+use Rattle.rvm_asm.specs.Images.{piece_of, pieces_of}
 use Rattle.rvm_elf.specs.Load.{piece_fits}
 use Rattle.rvm_elf.specs.Placing.{with_ram, placed, placed_all}
 use Rattle.rvm_elf.proofs.Placing.{and_first, and_second, fit_more, place_more, place_none, ram_alone}

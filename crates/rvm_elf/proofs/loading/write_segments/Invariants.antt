@@ -1,5 +1,5 @@
 use Rattle.std.proofs.Common.{◌≡◌, drop, true, length}
-use Rattle.rvm_image.specs.Images.{pieces_of}
+use Rattle.rvm_asm.specs.Images.{pieces_of}
 use Rattle.rvm_elf.specs.Load.{pieces_fit}
 use Rattle.rvm_elf.specs.Placing.{with_ram, placed_all}
 use Rattle.rvm_elf.proofs.loading.write_segments.Given as goal

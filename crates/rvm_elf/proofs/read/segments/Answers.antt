@@ -1,6 +1,6 @@
 use Rattle.std.proofs.Common.{◌++◌, ap, ◌∙◌, arith}
 use Rattle.std.specs.Option.{option_to_list}
-use Rattle.rvm_image.specs.Images.{pieces_of}
+use Rattle.rvm_asm.specs.Images.{pieces_of}
 use Rattle.rvm_elf.specs.File.{header_checked, piece_of_header}
 use Rattle.rvm_elf.proofs.Headers.{header_is_checked, rest_is_checked, pieces_step, no_pieces_left}
 use Rattle.rvm_elf.proofs.read.segments.Goals as goal

@@ -1,5 +1,5 @@
 use Rattle.std.proofs.Common.{◌≡◌, ◌+◌, ◌-◌, ◌*◌, ◌++◌, Ok}
-use Rattle.rvm_image.specs.Images.{pieces_of}
+use Rattle.rvm_asm.specs.Images.{pieces_of}
 use Rattle.rvm_elf.specs.File.{headers_checked, pieces_from}
 use Rattle.rvm_elf.proofs.read.segments.Given as goal
 

@@ -1,5 +1,5 @@
 use Rattle.std.proofs.Common.{◌≡◌, ◌+◌, ◌++◌, length, drop, ap, sym, ◌∙◌, arith}
-use Rattle.rvm_image.specs.Images.{piece_of, pieces_of}
+use Rattle.rvm_asm.specs.Images.{piece_of, pieces_of}
 use Rattle.rvm_elf.specs.Spelling.{program_header, program_headers}
 use Rattle.rvm_elf.proofs.Placing.{and_first, and_second}
 use Rattle.rvm_elf.proofs.Writing.{small_more, count_more, headers_more, headers_none, appended_more, appended_all}

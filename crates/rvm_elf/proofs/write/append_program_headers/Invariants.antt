@@ -1,5 +1,5 @@
 use Rattle.std.proofs.Common.{◌≡◌, ◌+◌, ◌*◌, ◌^◌, ◌<◌, ◌≤◌, ◌++◌, true, drop, length, vec_len, vec_capacity}
-use Rattle.rvm_image.specs.Images.{pieces_of}
+use Rattle.rvm_asm.specs.Images.{pieces_of}
 use Rattle.rvm_elf.specs.Spelling.{all_bytes, are_small, program_headers}
 use Rattle.rvm_elf.proofs.write.append_program_headers.Given as goal
 

@@ -1,5 +1,5 @@
 use Rattle.std.proofs.Common.{◌≡◌, ◌&&◌, true, false, ◌+◌, ap, sym, ◌∙◌, drop, arith}
-use Rattle.rvm_image.specs.Images.{piece_of, pieces_of}
+use Rattle.rvm_asm.specs.Images.{piece_of, pieces_of}
 use Rattle.rvm_elf.specs.Spelling.{is_small, are_small}
 use Rattle.rvm_elf.proofs.Writing.{small_more, small_none}
 use Rattle.rvm_elf.proofs.write.are_small.Goals as goal

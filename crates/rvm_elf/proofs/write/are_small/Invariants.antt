@@ -1,5 +1,5 @@
 use Rattle.std.proofs.Common.{◌≡◌, drop}
-use Rattle.rvm_image.specs.Images.{pieces_of}
+use Rattle.rvm_asm.specs.Images.{pieces_of}
 use Rattle.rvm_elf.specs.Spelling.{are_small}
 use Rattle.rvm_elf.proofs.write.are_small.Given as goal
 

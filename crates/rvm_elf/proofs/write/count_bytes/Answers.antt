@@ -1,5 +1,5 @@
 use Rattle.std.proofs.Common.{◌^◌, length, ap, arith}
-use Rattle.rvm_image.specs.Images.{pieces_of}
+use Rattle.rvm_asm.specs.Images.{pieces_of}
 use Rattle.rvm_elf.specs.Spelling.{all_bytes}
 use Rattle.rvm_elf.proofs.Writing.{count_more, bytes_none, within_limit, above_limit}
 use Rattle.rvm_elf.proofs.write.count_bytes.Goals as goal

@@ -1,5 +1,5 @@
 use Rattle.std.proofs.Common.{length, ap, sym, ◌∙◌, arith}
-use Rattle.rvm_debug.specs.State.{State}
+use Rattle.rvm_board.specs.State.{State}
 use Rattle.rvm_guest.proofs.Staying.{made_valid, no_harts, one_hart_more, sized, valid_so}
 use Rattle.rvm_guest.proofs.valid.valid_guest.Goals as goal
 

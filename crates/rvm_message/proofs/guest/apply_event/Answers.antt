@@ -1,7 +1,7 @@
 use Rattle.std.proofs.Common.{◌*◌, ◌∙◌, length, ap}
 use Rattle.rvm_mem.specs.Pages.{mark_all}
-use Rattle.rvm_debug.specs.declared.event.BoardEvent.{BoardEvent}
-use Rattle.rvm_debug.specs.Events.{answered}
+use Rattle.rvm_board.specs.declared.event.BoardEvent.{BoardEvent}
+use Rattle.rvm_board.specs.Events.{answered}
 use Rattle.rvm_guest.specs.TheGuest.{board}
 use Rattle.rvm_message.proofs.Logs.{length_marked, log_is, pages_are}
 use Rattle.rvm_message.proofs.guest.apply_event.Goals as goal

@@ -1,6 +1,6 @@
 use Rattle.std.proofs.Common.{◌*◌, ◌∙◌, length, ap}
-use Rattle.rvm_debug.specs.declared.event.BoardEvent.TheVariants.{Step}
-use Rattle.rvm_debug.specs.Events.{steps_if_there}
+use Rattle.rvm_board.specs.declared.event.BoardEvent.TheVariants.{Step}
+use Rattle.rvm_board.specs.Events.{steps_if_there}
 use Rattle.rvm_guest.specs.TheGuest.{board}
 use Rattle.rvm_message.proofs.Logs.{length_marked, log_is, pages_are}
 use Rattle.rvm_message.proofs.step.step_guest.Goals as goal

@@ -1,5 +1,5 @@
 use Rattle.std.proofs.Common.{◌∙◌, sym}
-use Rattle.rvm_worker.proofs.Works.{all_appended}
+use Rattle.rvm_cell.proofs.Works.{all_appended}
 use Rattle.rvm_move.proofs.hosts.append.Goals as goal
 
 pub returns : goal.returns

@@ -1,4 +1,4 @@
-use Rattle.rvm_cell.specs.Runs.{all_of}
+use Rattle.rvm_recorder.specs.Runs.{all_of}
 use Rattle.rvm_move.proofs.Told.{all_of_three}
 use Rattle.rvm_move.proofs.moving.close_both.Goals as goal
 

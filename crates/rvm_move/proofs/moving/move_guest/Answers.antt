@@ -1,5 +1,5 @@
 use Rattle.std.proofs.Common.{◌∙◌, ◌++◌, append_assoc, subst, sym}
-use Rattle.rvm_cell.specs.Runs.{all_of}
+use Rattle.rvm_recorder.specs.Runs.{all_of}
 use Rattle.rvm_move.proofs.Over.{copier_ended, receiver_ended, second_ended}
 use Rattle.rvm_move.proofs.Told.{asked_of_first, asked_of_second, run_of, turns_of_second}
 use Rattle.rvm_move.specs.Ends.{IsCopiedEnd, IsHeardEnd}

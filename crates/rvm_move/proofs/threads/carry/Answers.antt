@@ -1,8 +1,8 @@
 use Rattle.std.proofs.Crossing.{crosses, send}
 use denote.Param.{param}
 use denote.Param.Send.{IsSync, IsSend, sendable}
-use Rattle.rvm_cell.specs.contracts.shared.SharedHost as SharedHost
-use Rattle.rvm_cell.proofs.Sends.{shared_sync}
+use Rattle.rvm_recorder.specs.contracts.shared.SharedHost as SharedHost
+use Rattle.rvm_recorder.proofs.SharedSends.{shared_sync}
 use Rattle.rvm_link.specs.contracts.outgoing.Outgoing as Outgoing
 use Rattle.rvm_link.proofs.Sends.{outgoing_sync}
 use Rattle.rvm_move.specs.contracts.threads.TakenAtA as TakenAtA

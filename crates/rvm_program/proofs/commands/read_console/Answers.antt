@@ -7,5 +7,5 @@ pub returns-then-turns-gt-MAX_FILE_SIZE-clause-first :
     goal.returns-then-turns-gt-MAX_FILE_SIZE-clause-first
 returns-then-turns-gt-MAX_FILE_SIZE-clause-first g c =
     let more : 67108864 < c.args.turns = grind (arith, common_steps) in
-    first_given c.read_file.result (λ v. v.items) (g.F.NamedFiles.bytes_of c.args.files.now c.args.file.now) c.args.turns
-    more c.read_file.ensures.bytes c.read_file.ensures.few
+    first_given c.read_whole.result (λ v. v.items) (g.F.NamedFiles.bytes_of c.args.files.now c.args.file.now) c.args.turns
+    more c.read_whole.ensures.bytes c.read_whole.ensures.few

@@ -1,5 +1,5 @@
 use Rattle.std.proofs.Common.{length}
-use Rattle.rvm_debug.specs.State.{state_of}
+use Rattle.rvm_board.specs.State.{state_of}
 use Rattle.rvm_state.proofs.Exact.{state_exact}
 use Rattle.rvm_state.proofs.laws.what_is_written_is_read_back.Goals as goal
 

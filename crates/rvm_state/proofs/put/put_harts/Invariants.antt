@@ -1,5 +1,5 @@
 use Rattle.std.proofs.Common.{◌≡◌, ℕ, ◌+◌, ◌*◌, take, vec_len, vec_capacity}
-use Rattle.rvm_debug.specs.Restoring.{AreHeld}
+use Rattle.rvm_board.specs.Restoring.{AreHeld}
 use Rattle.rvm_state.specs.Formats.{hart}
 use Rattle.rvm_state.specs.Writing.{WritesEach}
 use Rattle.rvm_state.proofs.put.put_harts.Given as goal

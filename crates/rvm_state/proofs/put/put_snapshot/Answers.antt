@@ -1,6 +1,6 @@
 use Rattle.std.proofs.Common.{subst, sym}
-use Rattle.rvm_debug.specs.Restoring.{AreHeld}
-use Rattle.rvm_debug.specs.Snapshot.{state_in}
+use Rattle.rvm_board.specs.Restoring.{AreHeld}
+use Rattle.rvm_board.specs.Snapshot.{state_in}
 use Rattle.rvm_state.proofs.Wrote.{wrote}
 use Rattle.rvm_state.proofs.put.put_snapshot.Goals as goal
 

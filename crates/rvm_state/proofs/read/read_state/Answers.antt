@@ -1,8 +1,8 @@
 use Rattle.std.proofs.Common.{◌<◌, option_map, refl, sym, ap, subst, ◌∙◌, arith}
-use Rattle.rvm_debug.specs.Guest.{Guest}
-use Rattle.rvm_debug.specs.State.{guest_of}
+use Rattle.rvm_board.specs.Guest.{Guest}
+use Rattle.rvm_board.specs.State.{guest_of}
 use Rattle.rvm_state.specs.Spelling.{Spells}
-use Rattle.rvm_debug.specs.Snapshot.{state_in}
+use Rattle.rvm_board.specs.Snapshot.{state_in}
 use Rattle.rvm_state.proofs.Reading.{can_restore, spells, spells_none}
 use Rattle.rvm_state.proofs.read.read_state.Goals as goal
 

@@ -1,6 +1,6 @@
 use Rattle.std.proofs.Common.{length}
-use Rattle.rvm_debug.specs.Snapshot.{state_in}
-use Rattle.rvm_debug.specs.State.{state_of}
+use Rattle.rvm_board.specs.Snapshot.{state_in}
+use Rattle.rvm_board.specs.State.{state_of}
 use Rattle.rvm_state.proofs.Lengths.{not_longer}
 use Rattle.rvm_state.proofs.Wrote.{guest_written, has_spelling, spelled}
 use Rattle.rvm_state.proofs.write.write_state.Goals as goal

@@ -1,7 +1,7 @@
 use Rattle.std.proofs.Common.{inl, length, refl}
 use Rattle.std.proofs.lemmas.Option.{slice_get_read}
-use Rattle.rvm_journal.proofs.Spans.{drop_at}
-use Rattle.rvm_interleaving.proofs.Gets.{drop_end}
+use Rattle.rvm_recorder.proofs.Spans.{drop_at}
+use Rattle.rvm_audit.proofs.Gets.{drop_end}
 use Rattle.rvm_audit.proofs.Taken.{next_is}
 use Rattle.rvm_audit.proofs.merge.Merge.take_next.Goals as goal
 

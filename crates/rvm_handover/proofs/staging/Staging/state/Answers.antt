@@ -3,7 +3,7 @@ use Rattle.std.proofs.lemmas.Bool.{eqb-false, eqb-true}
 use Rattle.rvm_frame.specs.Bodies.{lost}
 use Rattle.rvm_protocol.specs.Pages.{members}
 use Rattle.rvm_protocol.specs.Receiving.{guest_read}
-use Rattle.rvm_debug.specs.Guest.{Guest}
+use Rattle.rvm_board.specs.Guest.{Guest}
 use Rattle.rvm_guest.specs.Body.{build}
 use Rattle.rvm_guest.specs.Pages.{pages_in}
 use Rattle.rvm_guest.specs.TheGuest.{board}

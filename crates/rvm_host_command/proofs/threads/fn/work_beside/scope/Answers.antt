@@ -1,6 +1,6 @@
 use Rattle.std.proofs.Crossing.{crosses, send}
 use denote.Param.Send.{sendable}
-use Rattle.rvm_core.proofs.Sends.{host_send}
+use Rattle.rvm_host.proofs.Sends.{host_send}
 use Rattle.rvm_host_command.proofs.threads.fn.work_beside.scope.Goals as goal
 
 pub spawn-requires-send-F : goal.spawn-requires-send-F

@@ -1,0 +1,102 @@
+//! Steps of harts in turn, as long as each retires an instruction: the loop of a slice.
+
+ghost use Rattle.std.specs.Prelude.{◌≡◌, ◌<◌, [], false, true, length};
+ghost use Rattle.std.specs.List.{list_any};
+ghost use Rattle.rvm_board.specs.Events.{reply_of};
+ghost use Rattle.rvm_board.specs.Retiring.{RetiresThen};
+ghost use Rattle.rvm_board.specs.declared.event.BoardReply.TheVariants as reply;
+
+use crate::debugged::Debugged;
+use crate::turns::{IN_RETIRING, IN_RETIRING_ROUNDS, Order, any};
+use rvm_hart::Stepped;
+use rvm_mem::Memory;
+
+/// What steps of harts in turn came to.
+#[derive(Clone, Copy, Debug, PartialEq, Eq)]
+pub struct Retired {
+    /// How many steps retired an instruction.
+    pub count: u32,
+    /// What the step after these did, where one was made, which retired none.
+    pub last: Option<Stepped>,
+}
+
+/// No step was made.
+pub const NO_STEPS: Retired = Retired {
+    count: 0,
+    last: None,
+};
+
+impl<M: Memory> Debugged<M> {
+    /// Makes steps of this many harts in turn, at most `count`, from turn `turn` on, as long as each retires
+    /// an instruction; the first that does not is the last. None where there is another number of harts,
+    /// or one may stop at a breakpoint. Takes no memory.
+    pub fn retire(&mut self, turn: u64, harts: u32, count: u32) -> Retired
+        ensures { RetiresThen harts turn count self.old self.new result }
+    {
+        if harts != self.harts() || !self.breakpoints.is_empty() || any(&self.stopped) {
+            return NO_STEPS;
+        }
+        if harts == 1 {
+            return self.retire_hart_0(turn, count);
+        }
+        self.retire_in_turn(turn, count)
+    }
+
+    /// Steps of the only hart, which cannot stop: its place is found once.
+    #[inline(never)]
+    fn retire_hart_0(&mut self, turn: u64, count: u32) -> Retired
+        requires harts { length self.old.guest.board.harts ≡ 1 }
+        requires breakpoints { self.old.guest.breakpoints ≡ [] }
+        requires stopped { list_any (λ s. s) self.old.guest.stopped ≡ false }
+        ensures { RetiresThen 1 turn count self.old self.new result }
+    {
+        let mut left = count;
+        while left > 0 {
+            left -= self.straight_turns::<IN_RETIRING>(0, left, false);
+            if left == 0 {
+                return Retired { count, last: None };
+            }
+            left -= 1;
+            let stepped = self.step_on(0);
+            if !has_retired(stepped) {
+                return Retired {
+                    count: count - left - 1,
+                    last: Some(stepped),
+                };
+            }
+        }
+        Retired { count, last: None }
+    }
+
+    /// Steps of the harts in turn, none of which can stop.
+    #[inline(never)]
+    fn retire_in_turn(&mut self, turn: u64, count: u32) -> Retired
+        requires breakpoints { self.old.guest.breakpoints ≡ [] }
+        requires stopped { list_any (λ s. s) self.old.guest.stopped ≡ false }
+        ensures { RetiresThen (length self.old.guest.board.harts) turn count self.old self.new result }
+    {
+        let harts = self.harts();
+        let mut hart = (turn % u64::from(harts)) as u32;
+        let mut left = count;
+        while left > 0 {
+            left -= 1;
+            let stepped = self.turn_of::<IN_RETIRING_ROUNDS>(hart);
+            if !has_retired(stepped) {
+                return Retired {
+                    count: count - left - 1,
+                    last: Some(stepped),
+                };
+            }
+            hart = Order::RoundRobin.next(hart, harts);
+        }
+        Retired { count, last: None }
+    }
+}
+
+/// Whether a step retired an instruction.
+#[inline(always)]
+fn has_retired(stepped: Stepped) -> bool
+    ensures { result ≡ true → reply_of stepped ≡ reply.Retired }
+{
+    matches!(stepped, Stepped::Retired)
+}

@@ -1,0 +1,185 @@
+//! The worker that makes the turns of the guest's harts.
+
+ghost use Rattle.std.specs.Prelude.{◌≢◌, OnOk};
+ghost use Rattle.rvm_cell.specs.Asked.{AreAllOf};
+ghost use Rattle.rvm_cell.specs.Console.{IsInput, IsShown};
+ghost use Rattle.rvm_cell.specs.Halts.{EndsSo};
+
+use crate::access::Access;
+use crate::console::show;
+use crate::input::InputQueue;
+use crate::origin::Hosting;
+use crate::pace::Pace;
+use crate::slices::Then;
+use crate::station::Station;
+use rvm_board::{BoardEvent, BoardReply};
+use rvm_message::{Command, HostReply};
+use rvm_refusal::LinkFault;
+use std::io::Write;
+use std::sync::Wait;
+use std::sync::atomic::{AtomicBool, AtomicU64, Ordering};
+use std::time::{Clock, Duration};
+
+/// The longest time between two looks for the guest while it is not here, in milliseconds.
+const LOOK: u64 = 50;
+
+/// How the worker of the harts runs, and what it reports.
+#[derive(Drop)]
+pub struct HartsPlan {
+    /// The most turns under one hold of the lock while no move is going on; `slice_in_move` while one is.
+    pub slice: u32,
+    pub slice_in_move: u32,
+    /// The most turns in a second, if there is a limit.
+    pub rate: Option<u32>,
+    /// Whether the worker ends once the guest is halted here.
+    pub until_halt: bool,
+    /// Whether the worker is to end.
+    pub stop: AtomicBool,
+    /// Whether a move is going on.
+    pub moves: AtomicBool,
+    /// How many turns were made.
+    pub turns: AtomicU64,
+    /// Whether it was reported that the guest is halted.
+    pub halted: AtomicBool,
+}
+
+/// Why the worker of the harts ended.
+#[derive(Clone, Copy, Debug, PartialEq, Eq)]
+pub enum HartsEnd {
+    /// The worker was told to end.
+    Stopped,
+    /// The guest is halted here, with this status.
+    Halted(u8),
+    /// What the guest sent could not be written. What it sends from now on stays in its console.
+    ConsoleFault,
+}
+
+impl HartsPlan {
+    /// The most turns of the next slice; if there is a rate, no more than take a hundredth of a second, but at least
+    /// one.
+    fn next_slice(&self) -> u32 {
+        let slice = if self.moves.load(Ordering::SeqCst) {
+            self.slice_in_move
+        } else {
+            self.slice
+        };
+        match self.rate {
+            Some(rate) => slice.min((rate / 100).max(1)),
+            None => slice,
+        }
+    }
+}
+
+/// Makes turns of the guest's harts while the guest is here, writes what it sends to `output`, and hands it what is
+/// typed. The worker ends when it is told to, when the console cannot be written, or, if `until_halt` is set, when the
+/// guest is halted. It reports once, to `errors`, that the guest is halted.
+#[tactic(auto, using(crate::proofs::Shown::none_shown))]
+pub fn harts_worker<L: Hosting, A: Access<L>, W: Write + Drop, O: Write, E: Write, R: Wait + Clock>(
+    rt: &R,
+    station: &Station<L, W>,
+    access: &mut A,
+    plan: &HartsPlan,
+    input: &InputQueue,
+    output: &mut O,
+    errors: &mut E,
+) -> HartsEnd
+    ensures shown { result ≢ HartsEnd.ConsoleFault → IsShown L.gave (A.asked access.old) (A.asked access.new)
+        (O.contents output.old) (O.contents output.new) }
+    ensures halted { EndsSo L.gave result }
+{
+    let mut turn = 0u64;
+    let mut pace = Pace::new(rt);
+    for _slice in rt.forever() {
+        if plan.stop.load(Ordering::SeqCst) {
+            return HartsEnd::Stopped;
+        }
+        let seen = station.news.count(rt);
+        let slice = access.slice(turn, plan.next_slice());
+        turn = turn.wrapping_add(u64::from(slice.made));
+        plan.turns
+            .fetch_add(u64::from(slice.made), Ordering::SeqCst);
+        let Ok(()) = show_sent(rt, station, access, slice.has_output, output) else {
+            return HartsEnd::ConsoleFault;
+        };
+        match slice.then {
+            Then::GoOn => {
+                type_in(rt, station, access, input);
+                if let Some(rate) = plan.rate {
+                    pace.keep(rt, rate, slice.made);
+                }
+                continue;
+            }
+            Then::Elsewhere => {}
+            Then::Halted(status) => {
+                tell_halted(plan, status, errors);
+                if plan.until_halt {
+                    return HartsEnd::Halted(status);
+                }
+            }
+        }
+        await_guest(rt, station, seen);
+        pace = Pace::new(rt);
+    }
+    unreachable!()
+}
+
+/// Writes what the guest sent, if a drain may find bytes.
+#[tactic(auto, using(crate::proofs::Shown::none_shown))]
+fn show_sent<L: Hosting, A: Access<L>, W: Write + Drop, O: Write, R: Wait>(
+    rt: &R,
+    station: &Station<L, W>,
+    access: &mut A,
+    has_output: bool,
+    output: &mut O,
+) -> Result<(), LinkFault>
+    ensures { OnOk result (IsShown L.gave (A.asked access.old) (A.asked access.new)
+        (O.contents output.old) (O.contents output.new)) }
+{
+    if has_output {
+        show(rt, station, access, output)
+    } else {
+        Ok(())
+    }
+}
+
+/// Reports that the guest is halted here with this status, unless that was reported before. A report that cannot be
+/// written is lost.
+fn tell_halted<E: Write>(plan: &HartsPlan, status: u8, errors: &mut E) {
+    if !plan.halted.swap(true, Ordering::SeqCst) {
+        let _untold = writeln!(errors, "halted {status}");
+    }
+}
+
+/// Waits for news, which may be that the guest has come, for at most `LOOK` milliseconds.
+fn await_guest<L: Hosting, W: Write + Drop, R: Wait + Clock>(
+    rt: &R,
+    station: &Station<L, W>,
+    seen: u64,
+) {
+    let _came = station.news.wait(rt, seen, Duration::from_millis(LOOK));
+}
+
+/// Hands the guest the bytes that were typed, up to the first that its console has no room for.
+#[tactic(auto, using(crate::proofs::AllOf::kept_of, crate::proofs::AllOf::more_of, crate::proofs::AllOf::none_of))]
+fn type_in<L: Hosting, A: Access<L>, W: Write + Drop, R: Wait>(
+    rt: &R,
+    station: &Station<L, W>,
+    access: &mut A,
+    input: &InputQueue,
+)
+    ensures { AreAllOf IsInput L.gave (A.asked access.old) (A.asked access.new) }
+{
+    for _byte in rt.forever() {
+        let Some(byte) = input.first(rt) else {
+            return;
+        };
+        let command = Command::Board(BoardEvent::Input(byte));
+        let Ok(reply) = station.obey(rt, access, &command) else {
+            return;
+        };
+        if reply != HostReply::Board(BoardReply::Done) {
+            return;
+        }
+        input.take_first(rt);
+    }
+}

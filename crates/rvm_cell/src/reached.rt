@@ -1,0 +1,144 @@
+//! A host as events reached it from the one that its process began with.
+
+ghost use Rattle.std.specs.Prelude.{◌≡◌, ◌<◌, ◌≤◌, IfOk, IfSome, OnErr, None, true};
+ghost use Rattle.rvm_cell.specs.Events.{IsAnswer, IsMade};
+ghost use Rattle.rvm_cell.specs.Halts.{IsOfStep};
+ghost use Rattle.rvm_host.specs.Hosts.{Steps};
+ghost use Rattle.rvm_host.specs.Retiring.{HostRetires};
+ghost use Rattle.rvm_host.specs.Statuses.{harts_of, status_of};
+ghost use Rattle.rvm_message.specs.declared.event.HostEvent.TheVariants.{Came, Do};
+ghost use Rattle.rvm_message.specs.Events.{event_of};
+ghost use Rattle.rvm_message.specs.Exchanges.{dry_exchange, step_of_hart};
+ghost use Rattle.rvm_message.specs.Steps.{reply_to_step};
+ghost use Rattle.rvm_message.specs.declared.step.StepReply.TheVariants.{Stepped};
+
+use crate::origin::{Of, Opening};
+use rvm_board::Retired;
+use rvm_frame::{Addressed, Frame};
+use rvm_host::{Host, HostStatus};
+use rvm_link::Made;
+use rvm_mem::PagedMemory;
+use rvm_message::{Command, HostReply, StepReply};
+use std::alloc::{AllocError, Global};
+use std::marker::{Model, PhantomData};
+
+/// A host that events reached from the one that its process began with.
+#[derive(Drop)]
+pub(crate) struct Reached<L: Opening, M: PagedMemory + Drop> {
+    host: Host<M>,
+    hosting: PhantomData<L>,
+}
+
+impl<L: Opening, M: PagedMemory + Drop> Model for Reached<L, M> {
+    ghost use Rattle.rvm_host.specs.Hosts.{PlainHost};
+    ghost use Rattle.rvm_cell.specs.Events.{IsReached};
+
+    ghost Value = { PlainHost };
+
+    ghost view = { λ r. r.host };
+
+    ghost invariant = { λ r. IsReached L.opening r.host };
+}
+
+impl<L: Opening, M: PagedMemory + Drop> Reached<L, M> {
+    /// The host that the process begins with.
+    #[tactic(auto, using(crate::proofs::Events::at_first))]
+    pub(crate) fn new(host: Host<M>) -> Reached<L, M>
+        requires { host ≡ L.opening }
+        ensures { result ≡ host }
+    {
+        Reached {
+            host,
+            hosting: PhantomData,
+        }
+    }
+
+    /// Gives the host a command. Returns the reply, and the frame that was made, if one was. If memory runs out,
+    /// nothing has changed.
+    #[tactic(auto, using(crate::proofs::Events::answered))]
+    pub(crate) fn obey(
+        &mut self,
+        alloc: Global,
+        command: &Command,
+    ) -> Result<(HostReply, Option<Made<Of<L>>>), AllocError>
+        ensures steps { IfOk result (λ a. Steps self.old (event_of (Do command.now)) a self.new) }
+        ensures answer { IfOk result (λ a. IsAnswer L.opening (Do command.now) a.0) }
+        ensures err { OnErr result (self.new ≡ self.old) }
+    {
+        match self.host.obey(alloc, command) {
+            Ok((reply, frame)) => Ok((reply, handed_out(frame))),
+            Err(error) => Err(error),
+        }
+    }
+
+    /// Gives the host a frame that came from host `from`. Returns the reply, and the frame that was made, if one was.
+    /// If memory runs out, nothing has changed.
+    #[tactic(auto, using(crate::proofs::Events::answered))]
+    pub(crate) fn came(
+        &mut self,
+        alloc: Global,
+        from: u8,
+        frame: &Frame,
+    ) -> Result<(HostReply, Option<Made<Of<L>>>), AllocError>
+        ensures steps { IfOk result (λ a. Steps self.old (event_of (Came from frame.now)) a self.new) }
+        ensures answer { IfOk result (λ a. IsAnswer L.opening (Came from frame.now) a.0) }
+        ensures err { OnErr result (self.new ≡ self.old) }
+    {
+        match self.host.came(alloc, from, frame) {
+            Ok((reply, made)) => Ok((reply, handed_out(made))),
+            Err(error) => Err(error),
+        }
+    }
+
+    /// Has a hart take a step.
+    #[tactic(auto, using(crate::proofs::Events::step_given))]
+    pub(crate) fn step(&mut self, hart: u32) -> StepReply
+        ensures steps { Steps self.old (event_of (step_of_hart hart)) (reply_to_step result, None) self.new }
+        ensures given { IsOfStep (IsAnswer L.opening) (reply_to_step result) }
+    {
+        self.host.step(hart)
+    }
+
+    /// Has this many harts step in turn, at most `count` times, from turn `turn` on, as long as each step retires an
+    /// instruction; the first that does not is the last. It may make no step.
+    pub(crate) fn retire(&mut self, turn: u64, harts: u32, count: u32) -> Retired
+        ensures steps { HostRetires harts turn count self.old self.new result }
+        ensures given { IfSome result.last (λ s. IsOfStep (IsAnswer L.opening) (reply_to_step (Stepped s))) }
+    {
+        self.host.retire(turn, harts, count)
+    }
+
+    /// Whether a drain of at most this many bytes finds none at a guest that runs here.
+    pub(crate) fn finds_nothing(&self, count: u32) -> bool
+        ensures { result ≡ true → Steps self.now (event_of (dry_exchange count).event)
+            ((dry_exchange count).reply, None) self.now }
+    {
+        self.host.finds_nothing(count)
+    }
+
+    /// The number of harts of the guest that runs here or is leaving; none if there is no such guest.
+    pub(crate) fn harts(&self) -> Option<u32>
+        ensures count { result ≡ harts_of self.now.mode }
+        ensures bound { IfSome result (λ n. (0 < n) × (n ≤ 8)) }
+    {
+        self.host.harts()
+    }
+
+    /// The status of the host.
+    pub(crate) fn status(&self) -> HostStatus
+        ensures { result ≡ status_of self.now }
+    {
+        self.host.status()
+    }
+}
+
+/// The frame that the host made, if it made one, as one that is known to be made by it.
+fn handed_out<L: Opening>(frame: Option<Addressed>) -> Option<Made<Of<L>>>
+    requires { IfSome frame (IsMade L.opening) }
+    ensures { result ≡ frame }
+{
+    match frame {
+        None => None,
+        Some(addressed) => Some(Made::new(addressed)),
+    }
+}

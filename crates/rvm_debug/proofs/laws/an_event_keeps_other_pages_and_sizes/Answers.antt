@@ -1,5 +1,0 @@
-use Rattle.rvm_debug.proofs.Answering.{answered_keeps}
-use Rattle.rvm_debug.proofs.laws.an_event_keeps_other_pages_and_sizes.Goals as goal
-
-pub returns : goal.returns
-returns c = λ e g. answered_keeps e g

@@ -1,0 +1,50 @@
+//! Whether a frame has a spelling.
+
+ghost use Rattle.std.specs.Prelude.{◌≡◌, ◌↔◌, true};
+ghost use Rattle.rvm_frame.specs.Grammar.{HasSpelling, known_at, sent};
+ghost use Rattle.rvm_frame.specs.Kinds.{hosts_fit, names_hosts};
+ghost use Rattle.rvm_frame.specs.Spelled.{is_spelled};
+
+use crate::addressed::Addressed;
+use crate::frame::Frame;
+use crate::spelling_limits::{body_fits, is_short, move_fits};
+
+/// Whether the header of a frame names hosts in a stream of this version.
+fn names_hosts(version: u32, frame: &Frame) -> bool
+    ensures { result ≡ names_hosts (known_at version frame.now) }
+{
+    match frame {
+        Frame::Hello { .. } => false,
+        _ => version == 3,
+    }
+}
+
+/// Whether the hosts that a frame goes between can be named where its header names them.
+fn hosts_fit(version: u32, addressed: &Addressed) -> bool
+    ensures { result ≡ hosts_fit (sent version addressed.now).0 }
+{
+    if names_hosts(version, &addressed.frame) {
+        addressed.from < 8 && addressed.to < 8 && addressed.from != addressed.to
+    } else {
+        true
+    }
+}
+
+/// Whether all values of a frame lie in their limits.
+fn is_spelled(version: u32, addressed: &Addressed) -> bool
+    ensures { result ≡ is_spelled version addressed.now }
+{
+    hosts_fit(version, addressed)
+        && move_fits(&addressed.frame)
+        && body_fits(&addressed.frame)
+        && is_short(&addressed.frame)
+}
+
+/// Whether a frame, as it goes from one host to another, has a spelling in streams of a version: its
+/// values lie in their limits, and its body has at most 32768 bytes.
+#[tactic(auto, using(crate::proofs::Exactly::spelled_exactly))]
+pub fn has_spelling(version: u32, addressed: &Addressed) -> bool
+    ensures { (result ≡ true) ↔ HasSpelling (sent version addressed.now) }
+{
+    is_spelled(version, addressed)
+}

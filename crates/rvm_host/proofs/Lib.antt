@@ -1,0 +1,11 @@
+mod Targets
+mod Hearing
+mod Settling
+mod Sendings
+pub mod Moves
+mod Postings
+pub mod Running
+pub mod Retiring
+pub mod Drying
+mod Refused
+pub mod Sends

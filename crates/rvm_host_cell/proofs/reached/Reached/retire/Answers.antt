@@ -1,7 +1,0 @@
-use Rattle.rvm_host_cell.proofs.Events.{retired}
-use Rattle.rvm_host_cell.proofs.reached.Reached.retire.Goals as goal
-
-pub invariant_of-self : goal.invariant_of-self
-invariant_of-self g c =
-    retired g.L.Opening.opening c.args.harts c.args.turn c.args.count c.self.inside.host c.retire.new.self
-    c.retire.result c.self.invariant c.retire.ensures

@@ -1,4 +1,0 @@
-pub mod Ends
-pub mod Hearing
-pub mod Console
-pub mod Movers

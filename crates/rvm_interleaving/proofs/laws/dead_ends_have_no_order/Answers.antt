@@ -1,5 +1,0 @@
-use Rattle.rvm_interleaving.proofs.Greatest.{no_order}
-use Rattle.rvm_interleaving.proofs.laws.dead_ends_have_no_order.Goals as goal
-
-pub returns : goal.returns
-returns c = no_order

@@ -1,3 +1,0 @@
-pub mod Hosts
-pub mod Orders
-pub mod Worlds

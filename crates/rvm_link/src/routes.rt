@@ -1,0 +1,91 @@
+//! The sending ends to all other hosts.
+
+ghost use Rattle.std.specs.Prelude.{◌≡◌, IfErr, IfOk};
+ghost use Rattle.rvm_frame.specs.Grammar.{HasSpelling, sent};
+ghost use Rattle.rvm_link.specs.Streams.{hello_frame};
+
+use crate::error::SendError;
+use crate::made::{Made, Origin};
+use crate::route::Route;
+use rvm_refusal::LinkFault;
+use std::alloc::{AllocError, Global};
+use std::io::Write;
+use std::sync::{Mutex, Wait};
+
+/// A sending end to each host of a world, of which some are open. Threads share them: each frame goes out whole.
+#[derive(Drop)]
+pub struct Routes<L: Origin, W: Write + Drop> {
+    version: u32,
+    ends: Vec<Mutex<Route<L, W>>>,
+}
+
+impl<L: Origin, W: Write + Drop> Routes<L, W> {
+    /// Sending ends to this many hosts, none of which is open, for streams of this version.
+    pub fn new(alloc: Global, hosts: u8, version: u32) -> Result<Routes<L, W>, AllocError>
+        ensures { IfOk result (λ r. r.version ≡ version) }
+    {
+        let mut ends = Vec::new(alloc);
+        for _host in 0..hosts {
+            ends.push(Mutex::new(Route::new()))?;
+        }
+        Ok(Routes { version, ends })
+    }
+
+    /// A connection to a host takes the place of the last one; Hello is sent. `LinkFault` where it fails, or there is
+    /// no such host, or `BadFrame` where there is no stream of this version: then it is dropped. It may wait for another
+    /// thread.
+    pub fn open<R: Wait>(&self, rt: &R, host: u8, output: W) -> Result<(), SendError>
+        ensures { IfErr result (λ e. e ≡ SendError.BadFrame
+            → HasSpelling (sent self.now.version (hello_frame self.now.version)) → ⊥) }
+    {
+        match self.ends.get(usize::from(host)) {
+            Some(end) => end.lock(rt).open(self.version, host, output),
+            None => {
+                drop(output);
+                Err(SendError::LinkFault)
+            }
+        }
+    }
+
+    /// Sends a frame whole to the host that it is for. `LinkFault` where no connection to it is open, or it fails: then
+    /// the frame is lost. `BadFrame` where it has no spelling. It may wait for another thread.
+    pub fn send<R: Wait>(&self, rt: &R, made: &Made<L>) -> Result<(), SendError>
+        ensures { IfErr result (λ e. e ≡ SendError.BadFrame → HasSpelling (sent self.now.version made.now) → ⊥) }
+    {
+        match self.ends.get(usize::from(made.get().to)) {
+            Some(end) => end.lock(rt).send(self.version, made),
+            None => Err(SendError::LinkFault),
+        }
+    }
+
+    /// Asks a host whether all that was sent to it has come. It may wait for another thread.
+    pub fn ask<R: Wait>(&self, rt: &R, host: u8, number: u64) -> Result<(), LinkFault> {
+        match self.ends.get(usize::from(host)) {
+            Some(end) => end.lock(rt).ask(number),
+            None => Err(LinkFault),
+        }
+    }
+
+    /// Answers a question of a host. It may wait for another thread.
+    pub fn answer<R: Wait>(&self, rt: &R, host: u8, number: u64) -> Result<(), LinkFault> {
+        match self.ends.get(usize::from(host)) {
+            Some(end) => end.lock(rt).answer(number),
+            None => Err(LinkFault),
+        }
+    }
+
+    /// Drops the connection to a host. It may wait for another thread.
+    pub fn close<R: Wait>(&self, rt: &R, host: u8) {
+        if let Some(end) = self.ends.get(usize::from(host)) {
+            end.lock(rt).close();
+        }
+    }
+
+    /// Whether a connection to a host is open, as it was found. It may wait for another thread.
+    pub fn is_open<R: Wait>(&self, rt: &R, host: u8) -> bool {
+        match self.ends.get(usize::from(host)) {
+            Some(end) => end.lock(rt).is_open(),
+            None => false,
+        }
+    }
+}

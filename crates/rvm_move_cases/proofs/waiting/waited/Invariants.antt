@@ -1,9 +1,0 @@
-use Rattle.rvm_move_cases.proofs.waiting.waited.Given as goal
-
--- the ledger of the blank that was just made
-abbrev pub ghosts-waited_at-L-Ledger : goal.ghosts-waited_at-L-Ledger
-ghosts-waited_at-L-Ledger g a = record { name = a.blank.name; parts = a.blank.parts }
-
--- a seat for each of its parts, and the host that is shared
-abbrev pub ghosts-waited_at-L-Seating : goal.ghosts-waited_at-L-Seating
-ghosts-waited_at-L-Seating g a = record { seats = a.blank.parts; opening = a.recorded.journal.opening; capacity = a.recorded.capacity }

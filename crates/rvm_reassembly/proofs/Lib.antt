@@ -1,4 +1,0 @@
-mod Examples
-pub mod Pieces
-pub mod Org
-pub mod Assembled

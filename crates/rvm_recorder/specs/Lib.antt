@@ -1,0 +1,17 @@
+pub mod Entries
+pub mod Items
+pub mod Rounds
+pub mod Passing
+pub mod Told
+pub mod Replay
+pub mod History
+pub mod Keeping
+pub mod Errors
+pub mod Slices
+pub mod Seats
+pub mod Receipts
+pub mod Runs
+pub mod Telling
+pub mod Calls
+pub mod Close
+pub mod Closing

@@ -1,4 +1,0 @@
-pub mod Reading
-pub mod Running
-pub mod Writing
-mod Examples

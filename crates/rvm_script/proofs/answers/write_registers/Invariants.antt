@@ -1,8 +1,0 @@
-use Rattle.std.specs.Io.KnownBytes.{Appends}
-use Rattle.rvm_script.specs.Answers.{fours_text}
-use Rattle.rvm_script.proofs.answers.write_registers.Given as goal
-
--- the rows so far were written
-abbrev pub invariant-loop-row : goal.invariant-loop-row
-invariant-loop-row g l =
-    Appends (g.W.Write.contents l.fn.writer) (g.W.Write.contents l.writer) (fours_text l.registers l.row)

@@ -1,7 +1,0 @@
-use Rattle.std.proofs.Common.{◌≡◌, drop}
-use Rattle.std.specs.List.{list_all}
-use Rattle.rvm_codec.specs.Numbers.{within}
-use Rattle.rvm_spelling.proofs.limits.are_copies.Given as goal
-
-abbrev pub invariant-loop-n : goal.invariant-loop-n
-invariant-loop-n l = list_all (within 1 4294967295) (drop l.n-index l.numbers) ≡ list_all (within 1 4294967295) l.numbers

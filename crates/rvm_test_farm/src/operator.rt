@@ -1,0 +1,55 @@
+//! Who tells hosts what to do.
+
+use rvm_host_command::tell_command::tell_command;
+use std::net::{Net, SocketAddr, TcpStream};
+use std::sync::Wait;
+use std::time::{Clock, Duration};
+use std::{io, thread};
+
+/// How often a host is asked for its status, 10 milliseconds apart, before it is too late.
+const TRIES: u32 = 6000;
+
+/// What a host answered.
+#[derive(Drop)]
+pub struct Answer {
+    pub text: Vec<u8>,
+    pub status: u8,
+}
+
+impl Answer {
+    /// Whether the answer begins so.
+    pub fn begins(&self, text: &str) -> bool {
+        self.text.starts_with(text.as_bytes())
+    }
+
+    /// Whether it has the text somewhere.
+    fn has(&self, text: &str) -> bool {
+        self.text
+            .windows(text.len().max(1))
+            .any(|window| window == text.as_bytes())
+    }
+}
+
+/// Tells a host a line.
+pub fn tell<R: AllocGlobal + Net>(rt: &R, host: SocketAddr, line: &str) -> anyhow::Result<Answer> {
+    let stream = TcpStream::connect(rt, host)?;
+    let mut text = Vec::new(rt.alloc());
+    let mut lines = line.as_bytes();
+    let status = tell_command(rt.alloc(), stream, &mut lines, &mut text, &mut io::sink());
+    Ok(Answer { text, status })
+}
+
+/// Waits until the status of a host contains a text. Returns whether it does in time.
+pub fn await_status<R: AllocGlobal + Net + Wait + Clock>(
+    rt: &R,
+    host: SocketAddr,
+    text: &str,
+) -> anyhow::Result<bool> {
+    for _try in 0..TRIES {
+        if tell(rt, host, "status")?.has(text) {
+            return Ok(true);
+        }
+        thread::sleep(rt, Duration::from_millis(10));
+    }
+    Ok(false)
+}

@@ -1,0 +1,101 @@
+//! A host under its lock.
+
+ghost use Rattle.std.specs.Prelude.{◌≡◌};
+
+use rvm_board::{Board, Debugged};
+use rvm_cell::{HostCell, Opening, Slice, Then};
+use rvm_frame::Frame;
+use rvm_hart::RAM_BASE;
+use rvm_host::{Host, ModeKind};
+use rvm_mem::{FlatMemory, PagedMemory, write_bytes};
+use rvm_message::{Command, HostReply};
+use rvm_precopy::Policy;
+use std::alloc::Global;
+use std::marker::Brand;
+use std::process::Abort;
+use std::sync::Wait;
+use std::test::Fail;
+
+/// `jal zero, 0`.
+const LOOP: u32 = 0x0000_006F;
+
+/// A guest of one hart and one page that jumps to where it is.
+fn guest(alloc: Global) -> Result<Debugged<FlatMemory>, Fail> {
+    let mut ram = FlatMemory::zeroed(alloc, 1)?;
+    write_bytes(&mut ram, 0, &LOOP.to_le_bytes())?;
+    match Board::new(alloc, 1, ram, RAM_BASE) {
+        Ok(board) => Ok(Debugged::new(board)),
+        Err((error, _)) => Err(Fail::from(error)),
+    }
+}
+
+/// What a host that has a guest, and is host 0 of two, answers under its lock.
+fn play<L: Opening, R: Abort + Wait>(
+    rt: &R,
+    alloc: Global,
+    host: Host<FlatMemory>,
+) -> Result<(), Fail>
+    requires { host ≡ L.opening }
+{
+    let cell: HostCell<L, FlatMemory> = HostCell::new(host);
+    let slice = Slice {
+        made: 100,
+        then: Then::GoOn,
+        has_output: false,
+    };
+    assert!(rt; cell.slice(rt, 0, 100) == slice);
+    let begin = Command::Begin {
+        to: 1,
+        policy: Policy::default(),
+    };
+    let (begun, offer) = cell.obey(rt, alloc, &begin)?;
+    assert!(rt; begun == HostReply::Begun(1));
+    assert!(rt; offer.is_some_and(|offer| offer.get().to == 1));
+    let (open, _none) = cell.came(rt, alloc, 1, &Frame::Accept { move_number: 1 })?;
+    assert!(rt; open == HostReply::Open);
+    assert!(rt; cell.status(rt).kind == ModeKind::Copying);
+    let (aborted, abort) = cell.obey(rt, alloc, &Command::Abort)?;
+    assert!(rt; aborted == HostReply::Aborted);
+    assert!(rt; abort.is_some());
+    assert!(rt; cell.slice(rt, 100, 100) == slice);
+    Ok(())
+}
+
+#[test]
+fn a_host_answers_under_its_lock(rt: HostRuntime) -> Result<(), Fail> {
+    match Host::with_version(Some(guest(rt.alloc())?), 0, 2, 1, 3) {
+        Ok(host) => play::<Brand, _>(&rt, rt.alloc(), host),
+        Err(_) => Err(Fail::from("there are two hosts")),
+    }
+}
+
+/// What a host without a guest answers under its lock.
+fn play_empty<L: Opening, R: Abort + Wait>(
+    rt: &R,
+    alloc: Global,
+    host: Host<FlatMemory>,
+) -> Result<(), Fail>
+    requires { host ≡ L.opening }
+{
+    let cell: HostCell<L, FlatMemory> = HostCell::new(host);
+    let slice = cell.slice(rt, 0, 100);
+    assert!(rt; slice.made == 0 && slice.then == Then::Elsewhere);
+    let offer = Frame::Offer {
+        move_number: 1,
+        pages: 1,
+        harts: 1,
+    };
+    let (accepted, accept) = cell.came(rt, alloc, 0, &offer)?;
+    assert!(rt; accepted == HostReply::Accepted);
+    assert!(rt; accept.is_some_and(|accept| accept.get().to == 0));
+    assert!(rt; cell.status(rt).kind == ModeKind::Staging);
+    Ok(())
+}
+
+#[test]
+fn an_empty_host_takes_an_offer(rt: HostRuntime) -> Result<(), Fail> {
+    match Host::with_version(None, 1, 2, 1, 3) {
+        Ok(host) => play_empty::<Brand, _>(&rt, rt.alloc(), host),
+        Err(_) => Err(Fail::from("there are two hosts")),
+    }
+}

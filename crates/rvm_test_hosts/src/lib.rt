@@ -1,0 +1,45 @@
+//! Tests of hosts and worlds, and of what stands between a host and a connection, for what no clause says: that each
+//! event that allocates succeeds, also after it was refused memory (`make faults` refuses allocations in turn, at most
+//! 60 of a test, or, with `MOST=0`, each one); that calls succeed if there are memory and connections; and which bytes
+//! are sent. Worked moves are cases (`moves.cases` of `rvm_test_program`).
+//!
+//! Stands on the libraries, which have no tests of their own. The replies and the bytes that it expects are worked out
+//! by hand from the protocol's rules and from the layout of records and frames.
+//!
+//! To be read in this order: `hosts` plays events on hosts, `replies` writes a reply as a name and numbers, and
+//! `frames` makes a frame of each kind; `rounds` tests rounds over a memory alone, `modes` each command and each kind
+//! of frame in each mode, `declined` a guest that is too large, `strangers` frames that hosts do not wait for, `spent`
+//! the last move number, `worlds` lists of events and driven moves, `scripts` a script that is too long, `streams` the
+//! bytes of a move, cut in two at each place; `records` reads and writes records, `routes` sends frames to hosts, and
+//! `cells` plays events on a host under its lock; `names` has the public names that the names of the crates promise.
+#![tactic(auto)]
+
+#[cfg(test)]
+mod cells;
+#[cfg(test)]
+mod declined;
+#[cfg(test)]
+mod frames;
+#[cfg(test)]
+mod hosts;
+#[cfg(test)]
+mod modes;
+pub mod names;
+#[cfg(test)]
+mod records;
+#[cfg(test)]
+mod replies;
+#[cfg(test)]
+mod rounds;
+#[cfg(test)]
+mod routes;
+#[cfg(test)]
+mod scripts;
+#[cfg(test)]
+mod spent;
+#[cfg(test)]
+mod strangers;
+#[cfg(test)]
+mod streams;
+#[cfg(test)]
+mod worlds;

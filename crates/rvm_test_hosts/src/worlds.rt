@@ -1,0 +1,535 @@
+//! Worlds: lists of events, and moves that are driven.
+
+use crate::hosts::{Event, LOOP, POLICY, again, guest};
+use crate::replies::{Said, said};
+use rvm_board::{BoardEvent, BoardReply, Debugged};
+use rvm_core::{Driven, World, WorldError, WorldReply, drive_move, run_world};
+use rvm_hart::RAM_BASE;
+use rvm_host::{BadSize, Host};
+use rvm_mem::FlatMemory;
+use rvm_message::{Command, HostReply};
+use std::alloc::Global;
+use std::process::Abort;
+use std::test::Fail;
+
+/// How many bytes of RAM an answer has, and how many such answers four pages are.
+const VIEW: u32 = 256;
+
+const VIEWS: u32 = 64;
+
+/// A world whose first host has a guest of this many pages that loops.
+pub fn world(
+    alloc: Global,
+    pages: u32,
+    limits: &[u16],
+    version: u32,
+) -> Result<World<FlatMemory>, Fail> {
+    let guest = guest(alloc, pages, &[LOOP])?;
+    let made = match World::with_version(alloc, guest, limits, version) {
+        Err((WorldError::OutOfMemory, guest)) => World::with_version(alloc, guest, limits, version),
+        made => made,
+    };
+    match made {
+        Ok(world) => Ok(world),
+        Err((error, _)) => Err(Fail::from(error)),
+    }
+}
+
+/// What an event is answered, and the place of the frame that was made. An event that was refused memory is
+/// made once more, in a world that is as before.
+fn turn(
+    alloc: Global,
+    world: &mut World<FlatMemory>,
+    event: &rvm_core::Event,
+) -> Result<(Said, Option<usize>), Fail> {
+    let before = digest(alloc, world)?;
+    let reply = match world.apply(alloc, event) {
+        Ok(reply) => reply,
+        Err(_) => {
+            if digest(alloc, world)? != before {
+                return Err(Fail::from("a refused growth changed the world"));
+            }
+            world.apply(alloc, event)?
+        }
+    };
+    Ok((said(&reply.reply), reply.frame))
+}
+
+/// A number over all that a world shows: the host of its guest, the bytes of each frame, and at each host what
+/// registers the guest has and what its first four pages have. Takes no memory.
+fn digest(alloc: Global, world: &mut World<FlatMemory>) -> Result<u64, Fail> {
+    let mut sum = u64::from(world.current());
+    for place in 0..world.sent() {
+        if let Some(bytes) = world.frame(place) {
+            sum = sum_bytes(sum, bytes);
+        }
+    }
+    for host in 0..world.hosts() {
+        sum = more(sum, guest_digest(alloc, world, host)?);
+    }
+    Ok(sum)
+}
+
+/// What a guest at this host shows, or why none answers.
+fn guest_digest(alloc: Global, world: &mut World<FlatMemory>, host: u8) -> Result<u64, Fail> {
+    let mut sum = event_digest(alloc, world, host, BoardEvent::Regs(0))?;
+    for view in 0..VIEWS {
+        let event = BoardEvent::Mem {
+            address: RAM_BASE.wrapping_add(view * VIEW),
+            length: VIEW,
+        };
+        sum = more(sum, event_digest(alloc, world, host, event)?);
+    }
+    Ok(sum)
+}
+
+/// A number over what a host answers to an event of its guest.
+fn event_digest(
+    alloc: Global,
+    world: &mut World<FlatMemory>,
+    host: u8,
+    event: BoardEvent,
+) -> Result<u64, Fail> {
+    let reply = world.apply(alloc, &rvm_core::Event::At(host, Command::Board(event)))?;
+    Ok(reply_digest(&reply.reply))
+}
+
+/// A number over the answer of a guest.
+fn reply_digest(reply: &HostReply) -> u64 {
+    match reply {
+        HostReply::Board(BoardReply::Regs(registers)) => registers
+            .iter()
+            .fold(1, |sum, register| more(sum, u64::from(*register))),
+        HostReply::Board(BoardReply::Bytes(bytes)) => sum_bytes(2, bytes.as_slice()),
+        reply => said(reply).1[0],
+    }
+}
+
+/// A number over bytes after others.
+fn sum_bytes(sum: u64, bytes: &[u8]) -> u64 {
+    bytes
+        .iter()
+        .fold(sum, |sum, byte| more(sum, u64::from(*byte)))
+}
+
+/// A number over one more.
+fn more(sum: u64, number: u64) -> u64 {
+    sum.wrapping_mul(0x0000_0100_0000_01B3).wrapping_add(number)
+}
+
+/// What an event is answered.
+fn answer(alloc: Global, world: &mut World<FlatMemory>, event: Event) -> Result<Said, Fail> {
+    Ok(turn(alloc, world, &event.in_world())?.0)
+}
+
+/// An event is answered so.
+fn assert_answer(
+    rt: &impl Abort,
+    alloc: Global,
+    world: &mut World<FlatMemory>,
+    event: Event,
+    name: &'static str,
+) -> Result<(), Fail> {
+    assert_eq!(rt; answer(alloc, world, event)?.0, name);
+    Ok(())
+}
+
+/// A world of this many hosts is made, or refused.
+fn is_made(alloc: Global, limits: &[u16], version: u32) -> Result<bool, Fail> {
+    let guest = guest(alloc, 1, &[LOOP])?;
+    let made = match World::with_version(alloc, guest, limits, version) {
+        Err((WorldError::OutOfMemory, guest)) => World::with_version(alloc, guest, limits, version),
+        made => made,
+    };
+    match made {
+        Ok(world) => {
+            drop(world);
+            Ok(true)
+        }
+        Err(refused) => {
+            let error = refused.0;
+            drop(refused);
+            match error {
+                WorldError::BadSize => Ok(false),
+                WorldError::OutOfMemory => Err(Fail::from(error)),
+            }
+        }
+    }
+}
+
+/// The version that a new world of such hosts speaks; none if it is refused, and the guest comes back.
+fn world_version(alloc: Global, limits: &[u16]) -> Result<Option<u32>, Fail> {
+    let guest = guest(alloc, 1, &[LOOP])?;
+    let made = match World::new(alloc, guest, limits) {
+        Err((WorldError::OutOfMemory, guest)) => World::new(alloc, guest, limits),
+        made => made,
+    };
+    match made {
+        Ok(world) => {
+            let version = world.version();
+            drop(world);
+            Ok(Some(version))
+        }
+        Err(refused) => no_world(refused),
+    }
+}
+
+/// No version, if a world was refused for its size and its guest came back.
+fn no_world(refused: (WorldError, Debugged<FlatMemory>)) -> Result<Option<u32>, Fail> {
+    let (error, mut guest) = refused;
+    let version = match error {
+        WorldError::BadSize => came_back(&mut guest),
+        _ => Err(Fail::from(error)),
+    };
+    drop(guest);
+    version
+}
+
+/// The version that a new host of this many speaks; none if it is refused, and the guest comes back.
+fn host_version(alloc: Global, count: u8, limit: u16) -> Result<Option<u32>, Fail> {
+    let guest = guest(alloc, 1, &[LOOP])?;
+    match Host::new(Some(guest), 0, count, limit) {
+        Ok(host) => {
+            let version = host.version();
+            drop(host);
+            Ok(Some(version))
+        }
+        Err(refused) => no_version(refused),
+    }
+}
+
+/// No version, if a host was refused and its guest came back.
+fn no_version(refused: (BadSize, Option<Debugged<FlatMemory>>)) -> Result<Option<u32>, Fail> {
+    let mut refused = refused;
+    let version = match &mut refused.1 {
+        Some(guest) => came_back(guest),
+        None => Err(Fail::from("the guest comes back")),
+    };
+    drop(refused);
+    version
+}
+
+/// No version; the guest that came back loops as before.
+fn came_back(guest: &mut Debugged<FlatMemory>) -> Result<Option<u32>, Fail> {
+    match guest.apply(BoardEvent::Step(0)) {
+        BoardReply::Retired => Ok(None),
+        _ => Err(Fail::from("the guest that came back loops")),
+    }
+}
+
+/// The limits of hosts and a version, and whether a world of them is made.
+static MADE: [(&[u16], u32, bool); 9] = [
+    (&[4, 4], 1, true),
+    (&[4, 4], 3, true),
+    (&[4, 4], 4, false),
+    (&[4], 1, false),
+    (&[4, 4, 4], 3, true),
+    (&[4, 4, 4], 2, false),
+    (&[4, 0], 1, false),
+    (&[4, 4097], 1, false),
+    (&[4, 4, 4, 4, 4, 4, 4, 4, 4], 3, false),
+];
+
+/// The limits of hosts, and the version that a new world of them speaks.
+static WORLDS: [(&[u16], Option<u32>); 7] = [
+    (&[4, 4], Some(1)),
+    (&[1, 4096], Some(1)),
+    (&[4, 4, 4], Some(3)),
+    (&[4, 4, 4, 4, 4, 4, 4, 4], Some(3)),
+    (&[4, 0], None),
+    (&[4, 4097], None),
+    (&[4, 4, 4, 4, 4, 4, 4, 4, 4], None),
+];
+
+/// How many hosts there are and a host's limit, and the version that a new one speaks.
+static HOSTS: [(u8, u16, Option<u32>); 6] = [
+    (2, 4, Some(1)),
+    (3, 4, Some(3)),
+    (8, 4096, Some(3)),
+    (2, 0, None),
+    (2, 4097, None),
+    (9, 4, None),
+];
+
+/// Just the worlds of `MADE` that can be are made.
+fn assert_made(rt: &impl Abort, alloc: Global) -> Result<(), Fail> {
+    for (limits, version, made) in &MADE {
+        assert_eq!(rt; is_made(alloc, *limits, *version)?, *made);
+    }
+    Ok(())
+}
+
+/// New worlds speak the versions of `WORLDS`.
+fn assert_worlds(rt: &impl Abort, alloc: Global) -> Result<(), Fail> {
+    for (limits, version) in &WORLDS {
+        assert_eq!(rt; world_version(alloc, *limits)?, *version);
+    }
+    Ok(())
+}
+
+/// New hosts speak the versions of `HOSTS`.
+fn assert_hosts(rt: &impl Abort, alloc: Global) -> Result<(), Fail> {
+    for (count, limit, version) in &HOSTS {
+        assert_eq!(rt; host_version(alloc, *count, *limit)?, *version);
+    }
+    Ok(())
+}
+
+#[test]
+fn a_world_has_two_to_eight_hosts_of_some_pages(rt: HostRuntime) -> Result<(), Fail> {
+    assert_made(&rt, rt.alloc())?;
+    assert_worlds(&rt, rt.alloc())?;
+    assert_hosts(&rt, rt.alloc())
+}
+
+/// Host 0 begins a move to host 1.
+const BEGIN: rvm_core::Event = rvm_core::Event::At(
+    0,
+    Command::Begin {
+        to: 1,
+        policy: POLICY,
+    },
+);
+
+/// Host 0 copies.
+const COPY: rvm_core::Event = rvm_core::Event::At(0, Command::Copy);
+
+/// The events of a move of four pages from host 0 to host 1 up to the commit, in versions 1 and 2.
+pub const FIRST_EVENTS: [rvm_core::Event; 17] = [
+    BEGIN,
+    rvm_core::Event::Deliver(0),
+    rvm_core::Event::Deliver(1),
+    COPY,
+    COPY,
+    COPY,
+    COPY,
+    COPY,
+    rvm_core::Event::Deliver(2),
+    rvm_core::Event::Deliver(3),
+    rvm_core::Event::Deliver(4),
+    rvm_core::Event::Deliver(5),
+    rvm_core::Event::Deliver(6),
+    COPY,
+    COPY,
+    rvm_core::Event::Deliver(7),
+    rvm_core::Event::Deliver(8),
+];
+
+/// An event, what is answered to it, and the place of the frame that was made.
+type Row = (Event, Said, Option<usize>);
+
+/// The same move, of which the fourth copy never comes: host 1 lacks its page, which is copied again.
+static LOST_COPY: [Row; 20] = [
+    (Event::Begin(0, 1), ("begun", [1, 0, 0, 0]), Some(0)),
+    (Event::Deliver(0), ("accepted", [0; 4]), Some(1)),
+    (Event::Deliver(1), ("open", [0; 4]), None),
+    (Event::Copy(0), ("copied", [0, 1, 0, 0]), Some(2)),
+    (Event::Copy(0), ("copied", [1, 2, 0, 0]), Some(3)),
+    (Event::Copy(0), ("copied", [2, 3, 0, 0]), Some(4)),
+    (Event::Copy(0), ("copied", [3, 4, 0, 0]), Some(5)),
+    (Event::Copy(0), ("round", [1, 4, 0, 0]), Some(6)),
+    (Event::Deliver(2), ("stored", [0, 1, 0, 0]), None),
+    (Event::Deliver(3), ("stored", [1, 2, 0, 0]), None),
+    (Event::Deliver(4), ("stored", [2, 3, 0, 0]), None),
+    (Event::Deliver(6), ("noted", [0; 4]), None),
+    (Event::Copy(0), ("stopping", [0; 4]), None),
+    (Event::Copy(0), ("state sent", [0; 4]), Some(7)),
+    (Event::Deliver(7), ("lacking", [1, 0, 0, 0]), Some(8)),
+    (Event::Deliver(8), ("fixing", [1, 0, 0, 0]), None),
+    (Event::Copy(0), ("copied", [3, 5, 0, 0]), Some(9)),
+    (Event::Copy(0), ("state sent", [0; 4]), Some(10)),
+    (Event::Deliver(9), ("stored", [3, 5, 0, 0]), None),
+    (Event::Deliver(10), ("ready", [0; 4]), Some(11)),
+];
+
+/// The first of these events whose answer is another one.
+fn first_other(
+    alloc: Global,
+    world: &mut World<FlatMemory>,
+    rows: &[Row],
+) -> Result<Option<usize>, Fail> {
+    for (place, (event, answer, frame)) in rows.iter().enumerate() {
+        let (said, made) = turn(alloc, world, &event.in_world())?;
+        if said.0 != answer.0 || said.1 != answer.1 || made != *frame {
+            return Ok(Some(place));
+        }
+    }
+    Ok(None)
+}
+
+/// Loses a copy in a new world.
+fn lose_a_copy(alloc: Global) -> Result<Option<usize>, Fail> {
+    let mut world = world(alloc, 4, &[4, 4], 1)?;
+    first_other(alloc, &mut world, &LOST_COPY)
+}
+
+/// What is answered after the first events, with the commit on its way.
+static LAST_EVENTS: [(Event, &str); 7] = [
+    (Event::Step(0), "NotHere"),
+    (Event::Step(1), "Paused"),
+    (Event::Deliver(9), "started"),
+    (Event::Step(1), "retired"),
+    (Event::Deliver(10), "finished"),
+    (Event::Deliver(11), "NoFrame"),
+    (Event::Step(2), "BadHost"),
+];
+
+/// Events are answered so.
+fn assert_answers(
+    rt: &impl Abort,
+    alloc: Global,
+    world: &mut World<FlatMemory>,
+    rows: &'static [(Event, &'static str)],
+) -> Result<(), Fail> {
+    for (event, name) in rows {
+        assert_answer(rt, alloc, world, *event, *name)?;
+    }
+    Ok(())
+}
+
+/// How long the frames of the move are.
+static LENGTHS: [usize; 11] = [16, 13, 4115, 4115, 4115, 4115, 21, 235, 13, 13, 13];
+
+/// The frames are so long.
+fn assert_lengths(rt: &impl Abort, world: &World<FlatMemory>) {
+    for (place, length) in LENGTHS.iter().enumerate() {
+        assert_eq!(rt; world.frame(place).map(|bytes| bytes.len()), Some(*length));
+    }
+}
+
+/// What the last event of a list was answered.
+fn last_said(replies: &[WorldReply]) -> Option<Said> {
+    replies.last().map(|reply| said(&reply.reply))
+}
+
+/// Runs the events of a move as a list, and then the last ones; whether there was memory for the list.
+fn is_run(rt: &impl Abort, alloc: Global, world: &mut World<FlatMemory>) -> Result<bool, Fail> {
+    let Ok(replies) = run_world(alloc, world, &FIRST_EVENTS) else {
+        return Ok(false);
+    };
+    let last = last_said(&replies);
+    drop(replies);
+    assert_eq!(rt; last, Some(("committed", [1, 0, 0, 0])));
+    assert_answers(rt, alloc, world, &LAST_EVENTS)?;
+    assert_lengths(rt, world);
+    Ok(true)
+}
+
+/// The same in a new world.
+fn is_run_anew(rt: &impl Abort, alloc: Global) -> Result<bool, Fail> {
+    let mut world = world(alloc, 4, &[4, 4], 1)?;
+    is_run(rt, alloc, &mut world)
+}
+
+#[test]
+fn a_list_of_events_is_run(rt: HostRuntime) -> Result<(), Fail> {
+    assert_eq!(rt; lose_a_copy(rt.alloc())?, None);
+    // At most one allocation fails, so the second list is run to its end.
+    if !is_run_anew(&rt, rt.alloc())? {
+        assert!(rt; is_run_anew(&rt, rt.alloc())?);
+    }
+    Ok(())
+}
+
+/// Some host has the guest.
+fn has_guest(alloc: Global, world: &mut World<FlatMemory>) -> Result<bool, Fail> {
+    for host in 0..world.hosts() {
+        if answer(alloc, world, Event::Step(host))?.0 != "NotHere" {
+            return Ok(true);
+        }
+    }
+    Ok(false)
+}
+
+/// What is answered after a move.
+static MOVED: [(Event, &str); 2] = [(Event::Step(0), "NotHere"), (Event::Step(1), "retired")];
+
+/// Drives a move that takes this many events, and answers whether there was memory for it; where not, some
+/// host has the guest.
+fn is_driven(
+    rt: &impl Abort,
+    alloc: Global,
+    world: &mut World<FlatMemory>,
+    events: u32,
+) -> Result<bool, Fail> {
+    let Ok(driven) = drive_move(alloc, world, 0, 1, POLICY) else {
+        assert!(rt; has_guest(alloc, world)?);
+        return Ok(false);
+    };
+    assert_eq!(rt; driven, Driven::Moved(1, events));
+    assert_answers(rt, alloc, world, &MOVED)?;
+    Ok(true)
+}
+
+/// The same in a new world of this many pages and a version.
+fn is_moved(rt: &impl Abort, alloc: Global, row: (u32, u32, u32)) -> Result<bool, Fail> {
+    let (pages, version, events) = row;
+    let mut world = world(alloc, pages, &[4096, 4096], version)?;
+    is_driven(rt, alloc, &mut world, events)
+}
+
+#[test]
+fn a_move_is_driven_in_each_version(rt: HostRuntime) -> Result<(), Fail> {
+    for row in [
+        (4, 1, 19),
+        (1, 1, 13),
+        (4, 2, 19),
+        (4, 3, 19),
+        (1024, 2, 2061),
+    ] {
+        // At most one allocation fails, so the second move arrives.
+        if !is_moved(&rt, rt.alloc(), row)? {
+            assert!(rt; is_moved(&rt, rt.alloc(), row)?);
+        }
+    }
+    Ok(())
+}
+
+/// Drives a move, also if it was refused memory at first.
+fn drive_again(alloc: Global, world: &mut World<FlatMemory>) -> Result<Driven, Fail> {
+    match drive_move(alloc, world, 0, 1, POLICY) {
+        Ok(driven) => Ok(driven),
+        // What was begun is given up, and the move begins anew.
+        Err(_) => {
+            answer(alloc, world, Event::Abort(0))?;
+            Ok(drive_move(alloc, world, 0, 1, POLICY)?)
+        }
+    }
+}
+
+/// Moves that no host can make, and why.
+static REFUSED: [(u8, u8, &str); 4] = [
+    (1, 0, "NotHere"),
+    (0, 0, "BadHost"),
+    (0, 5, "BadHost"),
+    (6, 0, "BadHost"),
+];
+
+/// The moves are refused.
+fn assert_refused(
+    rt: &impl Abort,
+    alloc: Global,
+    world: &mut World<FlatMemory>,
+) -> Result<(), Fail> {
+    for (from, to, reason) in &REFUSED {
+        let driven = again!(drive_move(alloc, world, *from, *to, POLICY));
+        let Driven::Refused(why) = driven else {
+            return Err(Fail::from("the move is refused"));
+        };
+        assert_eq!(rt; rvm_refusal::Refusal::from(why).name(), *reason);
+    }
+    Ok(())
+}
+
+/// A move to host 1 is declined, the guest runs on, and other moves are refused.
+fn assert_stays(rt: &impl Abort, alloc: Global, world: &mut World<FlatMemory>) -> Result<(), Fail> {
+    assert_eq!(rt; drive_again(alloc, world)?, Driven::Declined(3));
+    assert_answer(rt, alloc, world, Event::Step(0), "retired")?;
+    assert_refused(rt, alloc, world)
+}
+
+#[test]
+fn a_driven_move_is_declined_or_refused(rt: HostRuntime) -> Result<(), Fail> {
+    let mut world = world(rt.alloc(), 4, &[4, 3], 1)?;
+    assert_stays(&rt, rt.alloc(), &mut world)
+}

@@ -1,0 +1,125 @@
+//! One order of the journals of three hosts, between which a guest moves on.
+
+use crate::asked::{again, came, host_among};
+use crate::orders::{COPIES, POLICY, made};
+use rvm_audit::{Audit, audit_all};
+use rvm_core::Event;
+use rvm_frame::Addressed;
+use rvm_message::{Command, HostEvent};
+use rvm_paged::PagedRam;
+use rvm_recorder::{Journal, Recorded};
+use std::alloc::Global;
+
+/// How many hosts there are.
+const HOSTS: u8 = 3;
+
+/// How many frames can come of one another at most.
+const FRAMES: u32 = 8;
+
+/// How many entries each journal takes.
+const ENTRIES: u32 = 100;
+
+/// How many events are looked at.
+const EVENTS: u32 = 100;
+
+/// The guest of host A moves to host B, and from there to host C. Their journals have an order; without what host A wrote
+/// down there is none.
+pub fn order_three_journals<R: AllocGlobal + Print>(rt: &R) -> Option<()> {
+    let alloc = rt.alloc();
+    let mut hosts = Vec::new(alloc);
+    let told = tell_order(rt, alloc, &mut hosts);
+    drop(hosts);
+    told
+}
+
+/// The hosts are made, the guest moves, and their journals are put in order.
+fn tell_order<R: AllocGlobal + Print>(
+    rt: &R,
+    alloc: Global,
+    hosts: &mut Vec<Recorded<PagedRam>>,
+) -> Option<()> {
+    for id in 0..HOSTS {
+        again!(hosts.reserve(1));
+        hosts.push(new_host(alloc, id)?).ok()?;
+    }
+    move_guest(hosts, alloc, 0, 1)?;
+    move_guest(hosts, alloc, 1, 2)?;
+    let [a, b, c] = hosts.as_slice() else {
+        return None;
+    };
+    let (events, deliveries) = tally(alloc, &[a.journal(), b.journal(), c.journal()])?;
+    println!(rt;
+        "a guest moves from A to B and on to C: {events} events, {deliveries} deliveries"
+    ).ok()?;
+    let is_whole = tally(alloc, &[b.journal(), c.journal()]).is_some();
+    println!(rt; "without the journal of A they have an order {is_whole}").ok()
+}
+
+/// A host among three, with an empty journal.
+fn new_host(alloc: Global, id: u8) -> Option<Recorded<PagedRam>> {
+    let host = host_among(alloc, id, HOSTS, 1, 3)?;
+    Recorded::new(alloc, host, ENTRIES).ok()
+}
+
+/// The guest moves from one host to another.
+fn move_guest(hosts: &mut Vec<Recorded<PagedRam>>, alloc: Global, from: u8, to: u8) -> Option<()> {
+    let begin = Command::Begin { to, policy: POLICY };
+    play(hosts, alloc, from, begin)?;
+    for _ in 0..COPIES {
+        play(hosts, alloc, from, Command::Copy)?;
+    }
+    Some(())
+}
+
+/// A host is told something, and each host hears what comes of it.
+fn play(
+    hosts: &mut Vec<Recorded<PagedRam>>,
+    alloc: Global,
+    host: u8,
+    command: Command,
+) -> Option<()> {
+    let mut next = at(hosts, alloc, host, HostEvent::Do(command))?;
+    for _ in 0..FRAMES {
+        let Some(Addressed { from, to, frame }) = next else {
+            return Some(());
+        };
+        next = at(hosts, alloc, to, came(alloc, from, frame)?)?;
+    }
+    drop(next);
+    None
+}
+
+/// An event of a host: the frame that came of it, if one did.
+fn at(
+    hosts: &mut Vec<Recorded<PagedRam>>,
+    alloc: Global,
+    host: u8,
+    event: HostEvent,
+) -> Option<Option<Addressed>> {
+    match hosts.get_mut(usize::from(host)) {
+        Some(host) => made(host, alloc, event),
+        None => None,
+    }
+}
+
+/// How many events the order of some journals has, and how many deliveries among them; none if they have no order.
+fn tally(alloc: Global, journals: &[&Journal<PagedRam>]) -> Option<(u32, u32)> {
+    if journals.len() > usize::from(HOSTS) {
+        return None;
+    }
+    let Audit::Order(order) = again!(audit_all(alloc, journals)) else {
+        return None;
+    };
+    let mut left = order.events();
+    let (mut events, mut deliveries) = (0u32, 0u32);
+    for _ in 0..EVENTS {
+        let Some(event) = left.next() else {
+            break;
+        };
+        events = events.wrapping_add(1);
+        if let Event::Deliver(_) = event {
+            deliveries = deliveries.wrapping_add(1);
+        }
+    }
+    Some((events, deliveries))
+}

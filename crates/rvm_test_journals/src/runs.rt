@@ -1,0 +1,155 @@
+//! Two journals of steps among which frames come, put in order again and again: how long that takes is the
+//! difference between many times and few.
+
+use crate::asked::{again, came};
+use crate::orders::{BEGIN, COPIES, Pair, made};
+use rvm_audit::audit_in_runs;
+use rvm_frame::Addressed;
+use rvm_message::{Command, HostEvent};
+use rvm_paged::PagedRam;
+use rvm_precopy::Policy;
+use rvm_recorder::Recorded;
+use std::alloc::Global;
+
+/// How many steps a slice has.
+const SLICE: u32 = 64;
+
+/// How many entries each journal takes.
+const ENTRIES: u32 = 1048576;
+
+/// The guest goes back.
+const BACK: Command = Command::Begin {
+    to: 0,
+    policy: Policy {
+        max_rounds: 3,
+        min_left: 1,
+        factor: 3,
+    },
+};
+
+/// What is written down, and how often it is put in order.
+#[derive(Clone, Copy)]
+pub struct Plan {
+    /// As a list of events, and not in runs.
+    pub is_list: bool,
+    /// This many steps are made at each host,
+    pub steps: u32,
+    /// with this many offers among them, which come to the other host, and are accepted there.
+    pub offers: u32,
+    pub times: u32,
+}
+
+impl Pair {
+    /// The guest makes its steps at host A among offers, moves to host B, and does the same there.
+    fn play_runs(&mut self, alloc: Global, plan: Plan) -> Option<()> {
+        offer_among_steps(alloc, plan, &mut self.a, &mut self.b, 0, BEGIN)?;
+        self.go_over(alloc)?;
+        offer_among_steps(alloc, plan, &mut self.b, &mut self.a, 1, BACK)
+    }
+
+    /// Host B accepts the offer once more, host A hears of it, and the guest goes over.
+    fn go_over(&mut self, alloc: Global) -> Option<()> {
+        let offer = made(&mut self.a, alloc, HostEvent::Do(Command::Resend))?;
+        self.answer(alloc, offer)?;
+        for _ in 0..COPIES {
+            let next = made(&mut self.a, alloc, HostEvent::Do(Command::Copy))?;
+            self.answer(alloc, next)?;
+        }
+        Some(())
+    }
+
+    /// A frame comes, and what is made of it, and so on: at most eight.
+    fn answer(&mut self, alloc: Global, frame: Option<Addressed>) -> Option<()> {
+        let mut next = frame;
+        for _ in 0..8 {
+            let Some(Addressed { from, to, frame }) = next else {
+                return Some(());
+            };
+            let host = if to == 0 { &mut self.a } else { &mut self.b };
+            next = made(host, alloc, came(alloc, from, frame)?)?;
+        }
+        drop(next);
+        None
+    }
+
+    /// Puts both journals in order this many times: how many events they are.
+    fn order_again(&self, alloc: Global, plan: Plan) -> Option<u64> {
+        let mut count: u64 = 0;
+        for _ in 0..plan.times {
+            count = self.order_once(alloc, plan)?;
+        }
+        Some(count)
+    }
+
+    /// Puts both journals in order: how many events they are, if they are a list.
+    fn order_once(&self, alloc: Global, plan: Plan) -> Option<u64> {
+        if plan.is_list {
+            return Some(self.order(alloc).ok()?.len() as u64);
+        }
+        drop(audit_in_runs(alloc, self.a.journal(), self.b.journal()).ok()?);
+        Some(0)
+    }
+
+    /// Plays it, and puts both journals in order.
+    fn order_of_runs(&mut self, alloc: Global, plan: Plan) -> Option<u64> {
+        self.play_runs(alloc, plan)?;
+        self.order_again(alloc, plan)
+    }
+}
+
+/// A host makes its steps, and offers its guest again and again, and each offer comes to the other host.
+fn offer_among_steps(
+    alloc: Global,
+    plan: Plan,
+    from: &mut Recorded<PagedRam>,
+    to: &mut Recorded<PagedRam>,
+    id: u8,
+    begin: Command,
+) -> Option<()> {
+    let mut offer = made(from, alloc, HostEvent::Do(begin))?;
+    let (mut turn, mut due): (u32, u64) = (0, 0);
+    for _ in 0..plan.steps / SLICE {
+        step(alloc, from, turn)?;
+        turn = turn.wrapping_add(SLICE);
+        due = due.wrapping_add(u64::from(plan.offers) * u64::from(SLICE));
+        if due >= u64::from(plan.steps) {
+            due -= u64::from(plan.steps);
+            come(alloc, to, id, offer)?;
+            offer = made(from, alloc, HostEvent::Do(Command::Resend))?;
+        }
+    }
+    come(alloc, to, id, offer)
+}
+
+/// A slice, and a drain that finds nothing.
+fn step(alloc: Global, host: &mut Recorded<PagedRam>, turn: u32) -> Option<()> {
+    drop(again!(host.record_slice(alloc, turn, 1, SLICE)));
+    let _place = host.record_dry(256)?;
+    Some(())
+}
+
+/// A frame comes from a host.
+fn come(
+    alloc: Global,
+    host: &mut Recorded<PagedRam>,
+    from: u8,
+    frame: Option<Addressed>,
+) -> Option<()> {
+    let frame = frame?.frame;
+    drop(made(host, alloc, came(alloc, from, frame)?)?);
+    Some(())
+}
+
+/// Puts two journals of steps and offers in order, and tells how many events they are.
+pub fn order_runs<R: AllocGlobal + Print>(rt: &R, plan: Plan) -> Option<()> {
+    let count = count_events(rt.alloc(), plan)?;
+    println!(rt; "{count} events").ok()
+}
+
+/// How many events there are in the order of such journals.
+fn count_events(alloc: Global, plan: Plan) -> Option<u64> {
+    let mut pair = Pair::new(alloc, ENTRIES, 1, false)?;
+    let count = pair.order_of_runs(alloc, plan);
+    drop(pair);
+    count
+}

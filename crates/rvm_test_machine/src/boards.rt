@@ -1,0 +1,31 @@
+//! Boards at reset over one page of RAM, also if the first call was refused memory.
+
+use crate::retry::again;
+use rvm_board::{Board, BoardError, Debugged};
+use rvm_hart::RAM_BASE;
+use rvm_mem::{FlatMemory, PagedMemory, write_bytes};
+use std::alloc::{AllocError, Global};
+use std::test::Fail;
+
+/// A page of RAM.
+pub fn page(alloc: Global) -> Result<FlatMemory, AllocError> {
+    Ok(again!(FlatMemory::zeroed(alloc, 1)))
+}
+
+/// A board with one page of RAM, which begins with these words.
+pub fn board(alloc: Global, harts: u32, words: &[u32]) -> Result<Debugged<FlatMemory>, Fail> {
+    let mut ram = page(alloc)?;
+    let mut at = 0u32;
+    for word in words {
+        write_bytes(&mut ram, at, &word.to_le_bytes())?;
+        at = at.wrapping_add(4);
+    }
+    let made = match Board::new(alloc, harts, ram, RAM_BASE) {
+        Err((BoardError::OutOfMemory, ram)) => Board::new(alloc, harts, ram, RAM_BASE),
+        made => made,
+    };
+    match made {
+        Ok(board) => Ok(Debugged::new(board)),
+        Err((error, _)) => Err(Fail::from(error)),
+    }
+}

@@ -1,0 +1,108 @@
+//! The longest script and the longest body of a frame, and what is one byte longer.
+
+use crate::boards::board;
+use crate::retry::again;
+use rvm_debug::{ScriptError, run_script};
+use rvm_frame::{Frame, FrameFault, FrameReader, ReadFault, read_frame};
+use std::alloc::Global;
+use std::io::{self, Read};
+use std::test::Fail;
+
+/// `jal zero, 0`.
+const LOOP: u32 = 0x0000006F;
+
+/// The most bytes of a script.
+const MOST: u64 = 1 << 26;
+
+/// A comment of this many bytes.
+#[derive(Drop)]
+struct Comment {
+    left: u64,
+}
+
+impl Read for Comment {
+    fn read(&mut self, bytes: &mut [u8]) -> io::Result<usize> {
+        let count = bytes.len().min(self.left as usize);
+        bytes[..count].fill(b'#');
+        self.left = self.left.saturating_sub(count as u64);
+        Ok(count)
+    }
+}
+
+/// How a script ends that is a comment of this many bytes.
+fn end_of(alloc: Global, bytes: u64) -> Result<Result<(), ScriptError>, Fail> {
+    let mut board = board(alloc, 1, &[LOOP])?;
+    let mut written = Vec::new(alloc);
+    let mut end = run_script(
+        alloc,
+        &mut board,
+        &mut Comment { left: bytes },
+        &mut written,
+    );
+    if end == Err(ScriptError::OutOfMemory) {
+        end = run_script(
+            alloc,
+            &mut board,
+            &mut Comment { left: bytes },
+            &mut written,
+        );
+    }
+    Ok(end)
+}
+
+#[test]
+fn a_script_has_at_most_2_to_the_26_bytes(rt: HostRuntime) -> Result<(), Fail> {
+    assert_eq!(rt; end_of(rt.alloc(), MOST)?, Ok(()));
+    assert_eq!(rt; end_of(rt.alloc(), MOST + 1)?, Err(ScriptError::TooLong));
+    Ok(())
+}
+
+/// A state of one page, whose copy has number 1, with a body of this many bytes in all.
+fn state(alloc: Global, body: u32) -> Result<Vec<u8>, Fail> {
+    let mut bytes = again!(Vec::with_capacity(alloc, 40_000));
+    again!(bytes.extend_from_slice(&[7, 1, 0, 0, 0, 0, 0, 0, 0]));
+    again!(bytes.extend_from_slice(&body.to_le_bytes()));
+    again!(bytes.extend_from_slice(&[1, 0, 1, 0, 0, 0]));
+    for _ in 6..body {
+        again!(bytes.push(0));
+    }
+    Ok(bytes)
+}
+
+/// How many bytes stand after the copy numbers of a state; none of another frame.
+fn length(frame: &Frame) -> Option<usize> {
+    match frame {
+        Frame::State { state, .. } => Some(state.as_slice().len()),
+        _ => None,
+    }
+}
+
+#[test]
+fn a_body_has_at_most_32768_bytes(rt: HostRuntime) -> Result<(), Fail> {
+    let longest = state(rt.alloc(), 32768)?;
+    let (_, frame) = again!(read_frame(rt.alloc(), 1, &longest));
+    assert_eq!(rt; length(&frame), Some(32762));
+    let longer = state(rt.alloc(), 32769)?;
+    assert!(rt; matches!(read_frame(rt.alloc(), 1, &longer), Err(ReadFault::TooLong)));
+    Ok(())
+}
+
+/// Hello of version 1.
+const HELLO: [u8; 17] = [0, 0, 0, 0, 0, 0, 0, 0, 0, 4, 0, 0, 0, 1, 0, 0, 0];
+/// The header of a state whose body has 32769 bytes.
+const TOO_LONG: [u8; 13] = [7, 1, 0, 0, 0, 0, 0, 0, 0, 1, 128, 0, 0];
+
+#[test]
+fn a_stream_fails_at_byte_13_of_a_frame_that_is_too_long(rt: HostRuntime) -> Result<(), Fail> {
+    let mut reader = FrameReader::new(rt.alloc());
+    again!(reader.feed(rt.alloc(), &HELLO));
+    // The twelve bytes before it are no fault, and are taken.
+    let (taken, received) = again!(reader.feed(rt.alloc(), &TOO_LONG[..12]));
+    assert_eq!(rt; (taken, received.is_none()), (12, true));
+    let fault = reader.feed(rt.alloc(), &TOO_LONG[12..]).err();
+    assert_eq!(rt; fault, Some(FrameFault::TooLong));
+    // From then on the reader fails, whatever comes.
+    let fault = reader.feed(rt.alloc(), &HELLO).err();
+    assert_eq!(rt; fault, Some(FrameFault::Failed));
+    Ok(())
+}

@@ -1,0 +1,138 @@
+//! The layout of the bytes of a guest after reset, one guest read and written again, and each kind of
+//! refusal.
+
+use crate::boards::{board, page};
+use crate::retry::again;
+use rvm_board::Debugged;
+use rvm_mem::{FlatMemory, Memory};
+use rvm_state::{StateFault, read_state, write_state};
+use std::alloc::{AllocError, Global};
+use std::test::Fail;
+
+/// The bytes of a board of one hart and one page after reset.
+fn at_reset(alloc: Global) -> Result<Vec<u8>, Fail> {
+    let guest = board(alloc, 1, &[])?;
+    Ok(again!(write_state(alloc, &guest)))
+}
+
+/// What `read_state` returns; if it was refused memory, what it returns with the RAM that it handed back.
+fn read(
+    alloc: Global,
+    bytes: &[u8],
+    ram: FlatMemory,
+) -> Result<Debugged<FlatMemory>, (StateFault, FlatMemory)> {
+    match read_state(alloc, bytes, ram) {
+        Err((StateFault::OutOfMemory, ram)) => read_state(alloc, bytes, ram),
+        answer => answer,
+    }
+}
+
+/// The first 200 of these bytes, some of them changed, and others after them.
+fn changed(
+    alloc: Global,
+    bytes: &[u8],
+    changes: &[(usize, u8)],
+    rest: &[u8],
+) -> Result<Vec<u8>, AllocError> {
+    let mut out = again!(Vec::with_capacity(alloc, 200 + rest.len()));
+    for (place, byte) in bytes.iter().take(200).enumerate() {
+        let mut byte = *byte;
+        for (changed, value) in changes {
+            if *changed == place {
+                byte = *value;
+            }
+        }
+        out.push(byte)?;
+    }
+    out.extend_from_slice(rest)?;
+    Ok(out)
+}
+
+/// Whether the bytes spell no guest with one page of RAM, which is handed back.
+fn is_refused(alloc: Global, bytes: &[u8]) -> Result<bool, Fail> {
+    match read(alloc, bytes, page(alloc)?) {
+        Err((StateFault::BadState, ram)) => Ok(ram.len() == 4096),
+        _ => Ok(false),
+    }
+}
+
+/// Whether the bytes spell a guest with one page of RAM.
+fn is_read(alloc: Global, bytes: &[u8]) -> Result<bool, Fail> {
+    Ok(matches!(read(alloc, bytes, page(alloc)?), Ok(_)))
+}
+
+#[test]
+fn what_is_read_is_written_again(rt: HostRuntime) -> Result<(), Fail> {
+    let alloc = rt.alloc();
+    // One hart after reset is 204 bytes.
+    let reset = at_reset(alloc)?;
+    assert_eq!(rt; reset.len(), 204);
+    let front = [1, 0, 0, 0, 0, 0, 0, 0, 0, 0, 0, 0, 0, 0, 0, 0, 0x80];
+    assert!(rt; reset.as_slice().starts_with(&front));
+    // Halted with 9, overrun, mtime, pc, x1, x31, mstatus, mie, mtvec, mepc, minstret, msip, a
+    // reservation, stopped.
+    let changes = [
+        (1, 1),
+        (2, 9),
+        (3, 1),
+        (5, 7),
+        (13, 4),
+        (17, 11),
+        (137, 31),
+        (141, 0x88),
+        (146, 8),
+        (149, 5),
+        (157, 8),
+        (184, 3),
+        (185, 1),
+        (194, 1),
+        (195, 4),
+        (198, 0x80),
+        (199, 1),
+    ];
+    let rest = [2, 7, 8, 3, 0, 1, 2, 3, 2, 4, 0, 0, 0x80, 8, 0, 0, 0x80];
+    let bytes = changed(alloc, reset.as_slice(), &changes, &rest)?;
+    match read(alloc, bytes.as_slice(), page(alloc)?) {
+        Ok(guest) => {
+            let written = again!(write_state(alloc, &guest));
+            assert_eq!(rt; written.as_slice(), bytes.as_slice());
+        }
+        Err((fault, _)) => return Err(Fail::from(fault)),
+    }
+    Ok(())
+}
+
+#[test]
+fn bytes_that_spell_no_guest_are_refused(rt: HostRuntime) -> Result<(), Fail> {
+    let alloc = rt.alloc();
+    let bytes = at_reset(alloc)?;
+    let empty = [0, 0, 0, 0];
+    // No hart, a flag of 2, a status of a running board, pc, mstatus, mie, mtvec, mepc, an address
+    // with no reservation, a reservation outside RAM.
+    let changes = [
+        (0, 0),
+        (3, 2),
+        (2, 1),
+        (13, 2),
+        (141, 1),
+        (145, 1),
+        (149, 2),
+        (157, 1),
+        (195, 4),
+        (194, 1),
+    ];
+    for change in changes {
+        let wrong = changed(alloc, bytes.as_slice(), &[change], &empty)?;
+        assert!(rt; is_refused(alloc, wrong.as_slice())?);
+    }
+    let falling = [0, 0, 0, 2, 8, 0, 0, 0, 4, 0, 0, 0];
+    let one_more = [0, 0, 0, 0, 0];
+    let one_less = [0, 0, 0];
+    for rest in [falling.as_slice(), one_more.as_slice(), one_less.as_slice()] {
+        let wrong = changed(alloc, bytes.as_slice(), &[], rest)?;
+        assert!(rt; is_refused(alloc, wrong.as_slice())?);
+    }
+    let right = changed(alloc, bytes.as_slice(), &[], &empty)?;
+    assert!(rt; is_read(alloc, right.as_slice())?);
+    Ok(())
+}

@@ -1,0 +1,41 @@
+//! Moves guests over TCP, past a gate at which two workers meet, over a link without end, and over links that fail, and
+//! prints what became of each; plays the order of a move as a script; and prints how receivers end, by what their links
+//! give, how copiers wait, and how the turns of a paused guest are tried.
+//!
+//! To be read in this order: `asked`, `ended`, `live`, `greeting`, `stranger`, `counting`, `meeting`, `audited`,
+//! `endless`, `hearing`, `cut`, `waiting`, `between`, `printing`, `broken`, `failing`.
+#![tactic(auto)]
+
+mod asked;
+mod audited;
+mod between;
+mod broken;
+mod counting;
+mod cut;
+mod ended;
+mod endless;
+mod failing;
+mod greeting;
+mod hearing;
+mod live;
+mod meeting;
+mod printing;
+mod stranger;
+mod waiting;
+
+fn main(rt: HostRuntime) -> anyhow::Result<()> {
+    live::move_guests(&rt)?;
+    greeting::note_versions(&rt)?;
+    stranger::meet_a_stranger(&rt)?;
+    meeting::meet(&rt)?;
+    audited::play_order(&rt)?;
+    endless::hear_without_end(&rt)?;
+    hearing::hear_links(&rt)?;
+    cut::cut_a_stream(&rt)?;
+    waiting::wait_for_answers(&rt)?;
+    between::try_turns(&rt)?;
+    printing::print_much(&rt)?;
+    broken::break_writers(&rt)?;
+    broken::fill_journals(&rt)?;
+    failing::break_links(&rt)
+}

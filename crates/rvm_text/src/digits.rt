@@ -1,0 +1,25 @@
+//! Bytes as hexadecimal digits, as lines of scripts and their answers have them.
+
+ghost use Rattle.std.specs.Prelude.{◌≤◌, length, OnOk};
+ghost use Rattle.std.specs.Io.KnownBytes.{Appends};
+ghost use Rattle.hex.specs.Hex.{encode_lower};
+
+use hex::encode_to_slice;
+use rvm_refusal::LinkFault;
+use std::io::Write;
+
+/// How many bytes are written at most.
+const MAX_BYTES: usize = 256;
+
+/// Writes at most 256 bytes, two small hexadecimal digits each. `LinkFault` where the writer failed.
+pub fn write_hex<W: Write>(writer: &mut W, bytes: &[u8]) -> Result<(), LinkFault>
+    requires { length bytes.now ≤ 256 }
+    ensures { OnOk result (Appends (W.contents writer.old) (W.contents writer.new) (encode_lower bytes.now)) }
+{
+    let mut digits = [0; 2 * MAX_BYTES];
+    let digits = &mut digits[..2 * bytes.len()];
+    let fits = encode_to_slice(bytes, digits).is_ok();
+    prove!(fits);
+    writer.write_all(digits)?;
+    Ok(())
+}

@@ -1,6 +1,0 @@
-use Rattle.rvm_worker.proofs.Works.{last_got}
-use Rattle.rvm_worker.proofs.steps.steps_of.Goals as goal
-
-pub returns-clause-last : goal.returns-clause-last
-returns-clause-last c =
-    last_got c.args.receipts.now c.in-Some.last.now c.last_reply.result c.in-Some.ensures.value c.last_reply.ensures

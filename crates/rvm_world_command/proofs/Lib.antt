@@ -1,2 +1,0 @@
-pub mod Ended
-mod Examples

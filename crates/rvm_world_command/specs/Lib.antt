@@ -1,3 +1,0 @@
-pub mod FirstWorld
-pub mod Refusals
-pub mod Ends

@@ -1,2 +1,0 @@
-pub mod WorldLines
-pub mod Replies

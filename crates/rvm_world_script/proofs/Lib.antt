@@ -1,7 +1,0 @@
-mod Faults
-mod Making
-mod Stepping
-mod Running
-pub mod Spending
-mod Moving
-mod Examples

@@ -1,2 +1,0 @@
-pub mod WorldScript
-pub mod Runs
