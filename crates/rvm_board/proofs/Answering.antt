@@ -1,4 +1,4 @@
--- What an event leaves as it was.
+-- What an event does not change.
 use Rattle.std.proofs.Common.{◌≡◌, ℕ, ◌+◌, ◌-◌, ◌%◌, ◌<◌, ◌≤◌, Bool, true, false, List, Option, Some, None, length, get_or, set, inl, inr, refl, sym, ap, subst, arith, if◌then◌else◌, ◌==◌, nat_lt}
 use Rattle.std.specs.Prelude.{nat_le, slice_set}
 use Rattle.std.proofs.lemmas.Bool.Decides.{nat_tests}
@@ -25,7 +25,7 @@ use Rattle.rvm_board.specs.Guest.{Guest, is_in}
 use Rattle.rvm_board.specs.Kept.{Keeps}
 use Rattle.rvm_board.specs.Events.{Answered, answered, leaves, takes_step, unless_halted, steps, stops, tells_word, sets_register, writes_bytes, with_board, with_stopped}
 
--- the harts are the same, and there is as much of the rest
+-- the harts are the same, and the sizes of the rest
 same : (a : Answered) (g : Guest) → a.guest.board.harts ≡ g.board.harts → a.guest.board.shared.bytes ≡ g.board.shared.bytes → length a.guest.board.shared.devices.msip ≡ length g.board.shared.devices.msip
     → length a.guest.board.shared.devices.mtimecmp ≡ length g.board.shared.devices.mtimecmp → length a.guest.board.shared.reservations ≡ length g.board.shared.reservations → length a.guest.stopped ≡ length g.stopped → Keeps a g
 same a g harts bytes msip mtimecmp reservations stopped =
@@ -45,7 +45,7 @@ one_of : (b : Bool) (x y : Answered) (g : Guest) → Keeps x g → Keeps y g →
 one_of true x y g first second = first
 one_of false x y g first second = second
 
--- where it depends on a test
+-- if it depends on a test
 as_tested : (b : Bool) (x y : Answered) (g : Guest) → (b ≡ true → Keeps x g) → Keeps y g → Keeps (if b then x else y) g
 as_tested true x y g first second = first refl
 as_tested false x y g first second = second

@@ -46,7 +46,7 @@ a_65th_breakpoint_is_refused h r = refl
 one_that_is_set_can_be_set_again : (h : HartState) (r : Shared) → (sets_breakpoint 252 (full h r)).reply ≡ Done
 one_that_is_set_can_be_set_again h r = refl
 
--- a hart whose pc is set from outside stops anew, one with another register set does not
+-- a hart whose pc is set from outside stops again; one whose other registers are set does not
 a_set_pc_stops_anew : (h : HartState) (r : Shared) → (after_poke 0 32 (full h r)).stopped ≡ false ∷ []
 a_set_pc_stops_anew h r = refl
 

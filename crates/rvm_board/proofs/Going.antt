@@ -85,12 +85,12 @@ last_of k h g inside none retired stops =
       turned = retired_turn h s.machine g inside (not_so (is_in s.machine.hart.pc g.breakpoints) each.second) none all.second;
     }
 
--- no step leaves a guest as it was
+-- making no step leaves the guest unchanged
 pub gone_none : (h : ℕ) (g : Guest) → gone h 0 g ≡ g
 unfolding straight.steps
 gone_none h g = ap (λ (b : Board). with_board b g) (put_same h g.board)
 
--- steps change no number of harts
+-- steps do not change the number of harts
 pub gone_count : (h k : ℕ) (g : Guest) → length (gone h k g).board.harts ≡ length g.board.harts
 gone_count h k g = length-set g.board.harts h (straight.steps k (machine_at h g.board)).machine.hart
 
@@ -116,7 +116,7 @@ begin_straight (suc k) n h g inside stand stops retired =
     ∙ behind_both s.pages a.pages k 1 (after_turns Alone n h turn.guest)
     ∙ ap (λ (i : ℕ). behind (s.pages ++ a.pages) i (after_turns Alone n h turn.guest)) (omega arith)
 
--- and go on after others
+-- the turns that go on after such steps
 pub goes_straight : {all : AfterTurns} {first : List Bool} (n k m h made made' : ℕ) (old new : GuestState) → Turning all (after_turns Alone n h old.guest) made first old.dirty → n ≡ k + m → made' ≡ made + k
     → h < length old.guest.board.harts → (0 < k → get_or old.guest.stopped h false ≡ false) → none_stops old.guest.breakpoints k (machine_at h old.guest.board) ≡ true
     → (straight.steps k (machine_at h old.guest.board)).retired ≡ true
@@ -155,7 +155,7 @@ one_turn h g inside no_breakpoint none retired =
       reply = sym (ap (λ (a : Answered). a.reply) turned);
     }
 
--- and none leaves all
+-- making no step leaves all unchanged
 pub record NoTurn (h k : ℕ) (g : Guest) : Type 0 where
   pub guest : gone h k g ≡ g
   pub pages : (straight.steps k (machine_at h g.board)).pages ≡ []
@@ -185,7 +185,7 @@ turned_once h k g log b dirty now view inside no_breakpoint none one left marked
     })
     inside no_breakpoint none
 
--- a guest and its log are as they were
+-- a guest and its log are unchanged
 pub record Same (left : Guest) (log : List Bool) (now : GuestState) : Type 0 where
   pub guest : left ≡ now.guest
   pub dirty : log ≡ now.dirty

@@ -87,7 +87,7 @@ logged harts turn count old new told are =
     let then = ends_logged ((turn + told.count) % harts) told.last are.between new are.ends in
     both_logged first.pages then.pages old.dirty are.between.dirty new.dirty first.log then.log
 
--- of one hart, hart 0 is the next
+-- with one hart, hart 0 has each next turn
 pub next_of_one : (turn : ℕ) → 0 ≡ turn % 1
 next_of_one turn = let less = mod-lt turn {m = 1} (omega arith) in omega (arith, less)
 

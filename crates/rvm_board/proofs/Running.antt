@@ -25,7 +25,7 @@ use Rattle.rvm_board.proofs.Going.{not_so, not_stopped, put_same, put_twice, the
 use Rattle.rvm_board.proofs.Marking.{Both, both}
 use Rattle.rvm_board.proofs.Turning.{Turning, behind_both, behind_none, mark_more, one_more, stops_at}
 
--- what a turn of a hart leaves that does not stop
+-- what a turn leaves of a hart that does not stop
 abbrev turned : (h : ℕ) → After → Guest → Answered
 turned h a g = record { guest = with_board (with_machine h a.machine g.board) g; pages = a.pages; reply = reply_of a.answer }
 
@@ -45,7 +45,7 @@ turn_cases (Some s) h x g halted inside no_breakpoint none =
     ap (λ o. events.unless_halted o h at) halted
     ∙ sym (ap (λ (a : After). turned h a g) (ap (λ o. hart.unless_halted o x) halted))
 
--- whatever its step answers
+-- such a turn, whatever its step reports
 turn_is : (h : ℕ) (x : Machine) (g : Guest) → h < length g.board.harts → is_in x.hart.pc g.breakpoints ≡ false → get_or g.stopped h false ≡ false
     → steps h (with_board (with_machine h x g.board) g) ≡ turned h (step x) g
 turn_is h x g inside no_breakpoint none = turn_cases x.shared.devices.halted h x g refl inside no_breakpoint none
@@ -91,7 +91,7 @@ begin_running (suc k) n h g inside stand stops go =
     ∙ behind_both s.pages a.pages k 1 (after_turns Alone n h turn.guest)
     ∙ ap (λ (i : ℕ). behind (s.pages ++ a.pages) i (after_turns Alone n h turn.guest)) (omega arith)
 
--- and go on after others
+-- the turns that go on after such steps
 goes_far : {all : AfterTurns} {first : List Bool} (n k m h made made' : ℕ) (old new : GuestState) → Turning all (after_turns Alone n h old.guest) made first old.dirty → n ≡ k + m → made' ≡ made + k
     → h < length old.guest.board.harts → (0 < k → get_or old.guest.stopped h false ≡ false) → none_stops old.guest.breakpoints k (machine_at h old.guest.board) ≡ true
     → all_go k (machine_at h old.guest.board) ≡ true
@@ -116,7 +116,7 @@ none_halted : (k : ℕ) (o : Option ℕ) (m : Machine) → o ≡ None → ends_s
 unfolding ends_so
 none_halted k o m none ends = ap (λ x. ends_so x k m) (sym none) ∙ ends
 
--- steps that are told with no status
+-- steps that report no status
 pub goes_running : {all : AfterTurns} {first : List Bool} (n k m h made made' : ℕ) (o : Option ℕ) (old new : GuestState) → Turning all (after_turns Alone n h old.guest) made first old.dirty → n ≡ k + m → made' ≡ made + k
     → h < length old.guest.board.harts → (0 < k → get_or old.guest.stopped h false ≡ false) → none_stops old.guest.breakpoints k (machine_at h old.guest.board) ≡ true
     → o ≡ None → ends_so o k (machine_at h old.guest.board) ≡ true

@@ -14,7 +14,7 @@ use Rattle.rvm_board.specs.Events.{Answered, leaves, pc_of, steps, stops, takes_
 use Rattle.rvm_board.specs.Events as events
 use Rattle.rvm_board.specs.Turns.{AfterTurns, TakesTurns, after_turns, behind, next_hart, stop_in, unless_stopped}
 
--- a step changes no number of harts
+-- a step does not change the number of harts
 steps_on_count : (h : ℕ) (g : Guest) (stop : Bool) → length (cond stop (leaves (with_stopped h true g) (Break (pc_of h g))) (takes_step h g)).guest.board.harts ≡ length g.board.harts
 steps_on_count h g true = refl
 steps_on_count h g false = length-set g.board.harts h _
@@ -26,7 +26,7 @@ halted_count h g (Some status) = refl
 pub steps_count : (h : ℕ) (g : Guest) → length (steps h g).guest.board.harts ≡ length g.board.harts
 steps_count h g = halted_count h g g.board.shared.devices.halted
 
--- where none is true, none is
+-- if no flag is true, the flag of each hart is false
 pub none_is : (flags : List Bool) (i : ℕ) → list_any (λ flag. flag) flags ≡ false → get_or flags i false ≡ false
 none_is [] i none = refl
 none_is (true ∷ flags) i none = absurd cc
@@ -38,7 +38,7 @@ pub mark_more : (ps qs : List ℕ) (dirty : List Bool) → mark_all (ps ++ qs) d
 mark_more [] qs dirty = refl
 mark_more (p ∷ ps) qs dirty = mark_more ps qs (mark p dirty)
 
--- of one hart, each order is the same
+-- with one hart, both orders are the same
 hart_0 : (order : Order) (n : ℕ) (g : Guest) → length g.board.harts ≡ 1 → after_turns order n 0 g ≡ after_turns Alone n 0 g
 unfolding after_turns
 hart_0 Alone n g one = refl
@@ -81,7 +81,7 @@ pub one_more : (order : Order) (n m h : ℕ) (g : Guest) → n ≡ suc m → aft
 unfolding after_turns
 one_more order n m h g e = rw e refl
 
--- after turns that are after others
+-- turns after turns that are after others
 pub behind_both : (ps qs : List ℕ) (made more : ℕ) (t : AfterTurns) → behind ps made (behind qs more t) ≡ behind (ps ++ qs) (made + more) t
 behind_both ps qs made more t =
     ap (λ l. record t { pages = l; made = made + (more + t.made) }) (sym (append_assoc ps qs t.pages))
@@ -141,11 +141,11 @@ all_made {all} order n h made count old new told so_far none counted said =
     ended all last so_far.pages made old.dirty new.dirty new.dirty new.guest old new told (ap (behind so_far.pages made) (sym (none_left order n h new.guest none)) ∙ so_far.whole) so_far.log refl refl refl refl
     (ap (λ (t : Turns). t.made) said ∙ counted ∙ no_more made) (ap (λ (t : Turns). t.stop) said)
 
--- of no turns, the first hart is any
+-- for no turns, the first hart may be any
 pub none_from : (order : Order) (n h i : ℕ) (g : Guest) → n ≡ 0 → after_turns order n h g ≡ after_turns order n i g
 none_from order n h i g none = none_left order n h g none ∙ sym (none_left order n i g none)
 
--- up to the last hart, the next one is the one more
+-- before the last hart, the next hart is the one with the next number
 next_in_a_row : (m h : ℕ) (g g' : Guest) → h + 1 + m ≤ length g.board.harts → after_turns RoundRobin m (next_hart RoundRobin (length g.board.harts) h) g' ≡ after_turns RoundRobin m (h + 1) g'
 next_in_a_row zero h g g' within = none_from RoundRobin 0 (next_hart RoundRobin (length g.board.harts) h) (h + 1) g' refl
 next_in_a_row (suc m) h g g' within = ap (λ i. after_turns RoundRobin (suc m) i g') (mod-eq_of_lt (omega (arith, within)))
@@ -235,7 +235,7 @@ stops_behind {all} n k m h made first old new told said so_far more took stopped
     ended all t so_far.pages made first.dirty old.dirty new.dirty new.guest first new said (ap (behind so_far.pages made) (sym early) ∙ so_far.whole) so_far.log took.dirty refl took.guest refl
     (counted ∙ ap (λ (i : ℕ). made + i) took.made) (same ∙ took.stop)
 
--- of some turns at least one is made, and never more than were asked for
+-- of one turn or more that were asked for, at least one is made, and never more than were asked for
 some_of_cases : (x : Option Stop) (turn : Answered) (others : AfterTurns) → 0 < (unless_stopped x turn others).made
 some_of_cases None turn others = omega arith
 some_of_cases (Some s) turn others = omega arith
@@ -259,7 +259,7 @@ pub made_some_of : (order : Order) (n h : ℕ) (g : Guest) → 0 < n → 0 < (af
 made_some_of order zero h g some = absurd (omega (arith, some))
 made_some_of order (suc n) h g some = made_some order n h g
 
--- turns change no number of harts
+-- turns do not change the number of harts
 count_cases : (x : Option Stop) (turn : Answered) (others : AfterTurns) (n : ℕ) → length turn.guest.board.harts ≡ n → length others.guest.board.harts ≡ n → length (unless_stopped x turn others).guest.board.harts ≡ n
 count_cases None turn others n of_turn of_others = of_others
 count_cases (Some s) turn others n of_turn of_others = of_turn

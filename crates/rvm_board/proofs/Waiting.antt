@@ -36,7 +36,7 @@ on is_so n m h g o more goes room =
 pub starts_while : (is_so : Guest → Bool) (n made h : ℕ) (g : Guest) (dirty : List Bool) → made ≡ 0 → Turning (turns_while is_so n h g) (turns_while is_so n h g) made dirty dirty
 starts_while is_so n made h g dirty e = record { pages = []; log = refl; whole = ap (λ k. behind [] k (turns_while is_so n h g)) e ∙ behind_none (turns_while is_so n h g) }
 
--- a turn after which the guest is so
+-- a turn after which the guest passes the test
 pub goes_while : {all : AfterTurns} {first dirty : List Bool} (is_so : Guest → Bool) (n m h h' made made' : ℕ) (g g' : Guest) (dirty' : List Bool) → Turning all (turns_while is_so n h g) made first dirty → n ≡ suc m → made' ≡ made + 1
     → stop_in (steps h g).reply ≡ None → is_so g' ≡ true → h' ≡ next h g → g' ≡ (steps h g).guest → dirty' ≡ mark_all (steps h g).pages dirty
     → Turning all (turns_while is_so m h' g') made' first dirty'
@@ -74,7 +74,7 @@ stops_while {all} {dirty} is_so n m h made made' g s old new told so_far more co
     (one_turn is_so n m h g more ∙ ap (λ (x : Option Stop). unless_stopped x turn (others is_so m h g)) stop)
     refl counted left marked said
 
--- the turn after which the guest is not so
+-- the turn after which the guest fails the test
 pub ends_while : {all : AfterTurns} {dirty : List Bool} (is_so : Guest → Bool) (n m h made made' : ℕ) (g : Guest) (old new : GuestState) (told : Turns) → Turning all (turns_while is_so n h g) made old.dirty dirty → n ≡ suc m → made' ≡ made + 1
     → stop_in (steps h g).reply ≡ None → is_so new.guest ≡ false → new.guest ≡ (steps h g).guest → new.dirty ≡ mark_all (steps h g).pages dirty → told ≡ record { made = made'; stop = None }
     → TakesTurns all old new told
@@ -94,14 +94,14 @@ all_while {all} is_so n h made count old new told so_far none counted said =
     ended all (no_turns new.guest) so_far.pages made old.dirty new.dirty new.dirty new.guest old new told (ap (behind so_far.pages made) (sym (none_while is_so n h new.guest none)) ∙ so_far.whole) so_far.log refl refl refl refl
     (ap (λ (t : Turns). t.made) said ∙ counted ∙ no_more made) (ap (λ (t : Turns). t.stop) said)
 
--- turns after each of which the guest is as it likes are just turns
+-- with a test that every guest passes, these are just turns
 pub as_they_are : (n h : ℕ) (g : Guest) → after_turns RoundRobin n h g ≡ turns_while (λ any. true) n h g
 unfolding after_turns turns_while
 as_they_are zero h g = refl
 as_they_are (suc n) h g =
     ap (unless_stopped (stop_in (steps h g).reply) (steps h g)) (as_they_are n (next h g) (steps h g).guest)
 
--- of some turns at least one is made, and never more than were asked for
+-- of one turn or more that were asked for, at least one is made, and never more than were asked for
 some_of : (o : Option Stop) (turn : Answered) (rest : AfterTurns) → 0 < (unless_stopped o turn rest).made
 some_of None turn rest = omega arith
 some_of (Some s) turn rest = omega arith

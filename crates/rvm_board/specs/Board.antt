@@ -25,7 +25,8 @@ new_hart entry number = record { regs = slice_set (replicate 32 0) 10 number; pc
 abbrev pub hart_at : ℕ → Board → HartState
 hart_at h b = get_or b.harts h (new_hart 0 0)
 
--- 1 to 8 harts, each with its place as its number, and some RAM; the devices and reservations are those of this many
+-- 1 to 8 harts, each of which has its index as its number, and some RAM; the devices and reservations are for as many
+-- harts
 pub record IsBoard (b : Board) : Type 0 where
   pub some : 0 < length b.harts
   pub bound : length b.harts ≤ 8
@@ -50,7 +51,7 @@ is_allowed harts entry bytes = nat_lt 0 harts && nat_le harts 8 && nat_lt 0 (len
 abbrev pub machine_at : ℕ → Board → Machine
 machine_at h b = record { hart = hart_at h b; shared = b.shared }
 
--- the board with that hart, and what the harts share, replaced
+-- the board with one hart, and what the harts share, replaced
 abbrev pub with_machine : ℕ → Machine → Board → Board
 with_machine h m b = record { harts = slice_set b.harts h m.hart; shared = m.shared }
 
@@ -72,6 +73,6 @@ stepped h b = after h (step (machine_at h b)) b
 abbrev pub with_input : List ℕ → Board → Board
 with_input bytes b = record b { shared = record b.shared { devices = record b.shared.devices { input = bytes } } }
 
--- the board with other bytes waiting for the console
+-- the board with other bytes that the guest sent and that were not taken
 abbrev pub with_output : List ℕ → Board → Board
 with_output bytes b = record b { shared = record b.shared { devices = record b.shared.devices { output = bytes } } }

@@ -1,4 +1,4 @@
--- What an event of a host does to a guest, and what is answered.
+-- What an event of a host does to a guest, and what the guest answers.
 use Rattle.std.specs.Prelude.{ℕ, ◌-◌, ◌%◌, Bool, true, false, ◌&&◌, ◌==◌, not, nat_lt, nat_le, if◌then◌else◌, List, [], ◌∷◌, ◌++◌, length, take, drop, Option, Some, None, get_or, slice_set}
 use Rattle.rvm_mem.specs.Bytes.{slice}
 use Rattle.rvm_mem.specs.Pages.{byte_pages}
@@ -23,11 +23,11 @@ pub record Answered : Type 0 where
   pub pages : List ℕ
   pub reply : BoardReply
 
--- a guest is left, and no page was written
+-- the event leaves a guest, and wrote no page
 abbrev pub leaves : Guest → BoardReply → Answered
 leaves g r = record { guest = g; pages = []; reply = r }
 
--- it is refused, and the guest stays as it was
+-- the event is refused, and the guest does not change
 abbrev pub refuses : BoardRefusal → Guest → Answered
 refuses why g = leaves g (reply.Refused why)
 
@@ -35,14 +35,14 @@ refuses why g = leaves g (reply.Refused why)
 abbrev pub with_board : board.Board → Guest → Guest
 with_board b g = record g { board = b }
 
--- what a step did, as an answer
+-- the answer to a step that did this
 abbrev pub reply_of : Stepped → BoardReply
 reply_of stepped.Retired = reply.Retired
 reply_of (stepped.Trapped e) = reply.Trapped e
 reply_of (stepped.Interrupted i) = reply.Interrupted i
 reply_of (stepped.Halted s) = reply.Halted s
 
--- whether no step is made after this answer to one: at a breakpoint, where the board is halted, and where it was refused
+-- whether steps end with this answer to one: at a breakpoint, on a halted board, or if the step was refused
 abbrev pub ends_steps : BoardReply → Bool
 ends_steps reply.Retired = false
 ends_steps (reply.Trapped e) = false
@@ -55,7 +55,7 @@ ends_steps (reply.Regs rs) = false
 ends_steps (reply.Line a w) = false
 ends_steps (reply.Refused r) = true
 
--- the answer to a step: a breakpoint's address where there was none
+-- the answer to a step; without a step, a stop at the breakpoint at an address
 abbrev pub step_reply : (address : ℕ) → Option Stepped → BoardReply
 step_reply a None = reply.Break a
 step_reply a (Some s) = reply_of s
@@ -64,15 +64,15 @@ step_reply a (Some s) = reply_of s
 abbrev pub pc_of : ℕ → Guest → ℕ
 pc_of h g = (hart_at h g.board).pc
 
--- whether a hart stops instead of its next step: at a breakpoint at which it did not stop just now
+-- whether a hart stops instead of its next step: it is at a breakpoint and has not just stopped there
 abbrev pub stops : ℕ → Guest → Bool
 stops h g = is_in (pc_of h g) g.breakpoints && not (get_or g.stopped h false)
 
--- the guest, one of whose harts stopped, or stands at no breakpoint any more
+-- the guest, with a note whether one of its harts stands at a breakpoint
 abbrev pub with_stopped : ℕ → Bool → Guest → Guest
 with_stopped h b g = record g { stopped = slice_set g.stopped h b }
 
--- a step of a hart as the instruction table has it
+-- a step of a hart that does not stop; afterwards it stands at no breakpoint
 abbrev pub takes_step : ℕ → Guest → Answered
 takes_step h g =
     let t = board.stepped h g.board in
@@ -87,7 +87,7 @@ abbrev pub steps_on : ℕ → Guest → Answered
 steps_on h g =
     if stops h g then leaves (with_stopped h true g) (reply.Break (pc_of h g)) else takes_step h g
 
--- a halted board stays
+-- a hart of a halted board neither stops nor steps
 abbrev pub unless_halted : Option ℕ → ℕ → Guest → Answered
 unless_halted (Some status) h g = leaves g (reply.Halted status)
 unless_halted None h g = steps_on h g
@@ -96,32 +96,32 @@ unless_halted None h g = steps_on h g
 abbrev pub steps : ℕ → Guest → Answered
 steps h g = unless_halted g.board.shared.devices.halted h g
 
--- a step of a hart that may not be there
+-- a step of a hart, if there is one of this number
 abbrev pub steps_if_there : ℕ → Guest → Answered
 steps_if_there h g = if nat_lt h (length g.board.harts) then steps h g else refuses BadHart g
 
--- a byte comes to the console, if fewer than 16 wait
+-- the console gets a byte of input, if fewer than 16 wait
 abbrev pub takes_input : ℕ → Guest → Answered
 takes_input byte g =
     let waiting = g.board.shared.devices.input in
     if length waiting == 16 then refuses InputFull g
     else leaves (with_board (with_input (waiting ++ byte ∷ []) g.board) g) reply.Done
 
--- the oldest bytes that the guest sent, at most this many
+-- the oldest bytes that the guest sent are taken, at most this many, which is at most 256
 abbrev pub drains : ℕ → Guest → Answered
 drains n g =
     let sent = g.board.shared.devices.output in
     if nat_lt 256 n then refuses OutOfRange g
     else leaves (with_board (with_output (drop n sent) g.board) g) (reply.Bytes (take n sent))
 
--- a breakpoint at an address, beside at most 63 others
+-- a breakpoint is set at an address, beside at most 63 others
 abbrev pub sets_breakpoint : ℕ → Guest → Answered
 sets_breakpoint a g =
     if is_in a g.breakpoints then leaves g reply.Done
     else (if length g.breakpoints == 64 then refuses TooManyBreaks g
     else leaves (record g { breakpoints = with a g.breakpoints }) reply.Done)
 
--- no breakpoint at an address
+-- the breakpoint at an address is removed
 abbrev pub clears_breakpoint : ℕ → Guest → Answered
 clears_breakpoint a g = leaves (record g { breakpoints = without a g.breakpoints }) reply.Done
 
@@ -148,7 +148,7 @@ abbrev pub tells_line : ℕ → Guest → Answered
 tells_line a g =
     if a % 4 == 0 then tells_word a (ram_load 4 a g.board.shared.bytes) g else refuses OutOfRange g
 
--- a hart whose pc is set from outside stands at no breakpoint any more
+-- a hart whose pc is set from outside no longer stands at a breakpoint
 abbrev pub after_poke : (h register : ℕ) → Guest → Guest
 after_poke h r g = if r == 32 then with_stopped h false g else g
 

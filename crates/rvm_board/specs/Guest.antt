@@ -3,8 +3,7 @@ use Rattle.std.specs.Prelude.{ℕ, ◌<◌, Bool, false, not, ◌==◌, nat_lt, 
 use Rattle.std.specs.List.{list_any}
 use Rattle.rvm_board.specs.Board.{Board}
 
--- the board, the addresses at which steps stop, rising, and for each hart whether it stopped at pc and has not stepped
--- since
+-- the board, the breakpoints in rising order, and for each hart whether it stopped at pc and has not stepped since
 pub record Guest : Type 0 where
   pub board : Board
   pub breakpoints : List ℕ
@@ -19,7 +18,7 @@ pub record GuestState : Type 0 where
 abbrev pub is_in : ℕ → List ℕ → Bool
 is_in a bs = list_any (λ b. b == a) bs
 
--- a rising list with an address more
+-- a rising list with one more address
 abbrev pub with : ℕ → List ℕ → List ℕ
 with a bs = filter (λ b. nat_lt b a) bs ++ (a ∷ filter (λ b. nat_lt a b) bs)
 
@@ -27,16 +26,16 @@ with a bs = filter (λ b. nat_lt b a) bs ++ (a ∷ filter (λ b. nat_lt a b) bs)
 abbrev pub without : ℕ → List ℕ → List ℕ
 without a bs = filter (λ b. not (b == a)) bs
 
--- all are above a number
+-- all numbers of a list are above a number
 abbrev pub AreAbove : ℕ → List ℕ → Type 0
 AreAbove a [] = Unit {0}
 AreAbove a (b ∷ bs) = (a < b) × AreAbove a bs
 
--- each is below all that follow
+-- each number of a list is below all that follow
 abbrev pub AreRising : List ℕ → Type 0
 AreRising [] = Unit {0}
 AreRising (b ∷ bs) = AreAbove b bs × AreRising bs
 
--- a guest whose board was not debugged yet
+-- a guest without breakpoints
 abbrev pub fresh : Board → Guest
 fresh b = record { board = b; breakpoints = []; stopped = replicate (length b.harts) false }

@@ -1,4 +1,4 @@
--- What an event leaves as it was.
+-- What an event does not change.
 use Rattle.std.specs.Prelude.{◌≡◌, ℕ, ◌<◌, length}
 use Rattle.rvm_mem.specs.Others.{Others}
 use Rattle.rvm_hart.specs.Registers.{AreRegisters}
@@ -6,8 +6,8 @@ use Rattle.rvm_board.specs.Board.{hart_at}
 use Rattle.rvm_board.specs.Guest.{Guest}
 use Rattle.rvm_board.specs.Events.{Answered}
 
--- the pages that are not listed, the size of RAM, how many harts there are and for how many devices, reservations and
--- stops are, each hart's number, and that it has 32 registers, of which x0 is 0
+-- the pages that are not listed; the size of RAM; the number of harts, and the number of harts that devices,
+-- reservations and stops are for; each hart's number, and that it has 32 registers, of which x0 is 0
 pub record Keeps (a : Answered) (g : Guest) : Type 0 where
   pub others : Others a.pages a.guest.board.shared.bytes g.board.shared.bytes
   pub size : length a.guest.board.shared.bytes ≡ length g.board.shared.bytes

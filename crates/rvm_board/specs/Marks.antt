@@ -1,4 +1,4 @@
--- Steps of one hart, one after another, and marks of where it stops.
+-- Consecutive steps of one hart, and marks of where it stops.
 use Rattle.std.specs.Prelude.{ℕ, zero, suc, Bool, true, false, ◌&&◌, not, List, [], ◌∷◌, replicate}
 use Rattle.rvm_hart.specs.Marks.{marked}
 use Rattle.rvm_hart.specs.Machine.{Machine}
@@ -7,7 +7,7 @@ use Rattle.rvm_board.specs.Board.{machine_at, with_machine}
 use Rattle.rvm_board.specs.Guest.{Guest, is_in}
 use Rattle.rvm_board.specs.Events.{with_board}
 
--- some marks, with that of each of these addresses
+-- these marks, and the mark of each of these addresses
 abbrev pub with_marks : List ℕ → List Bool → List Bool
 with_marks [] marks = marks
 with_marks (a ∷ xs) marks = with_marks xs (marked a marks)

@@ -7,7 +7,7 @@ use Rattle.rvm_board.specs.Restored as board
 use Rattle.rvm_board.specs.declared.part.HartPart.{HartPart}
 use Rattle.rvm_board.specs.Guest.{Guest}
 
--- what a guest keeps of a hart
+-- what a guest keeps for a hart
 abbrev pub part_of : (h : ℕ) → Guest → HartPart
 part_of h g =
     record {
@@ -18,16 +18,16 @@ part_of h g =
       stopped = get_or g.stopped h false;
     }
 
--- values that a hart can keep, with a RAM of this many bytes
+-- values that a guest with a RAM of this many bytes can keep for a hart
 pub record CanBeHeld (size : ℕ) (p : HartPart) : Type 0 where
   pub fields : hart.CanBeHeld p.fields
   pub reserved : hart.is_in_ram size p.reserved ≡ true
 
--- the guest with other values that all harts share, and other bytes in the queues
+-- the guest with other values that the devices keep for all harts, and other bytes in the queues
 abbrev pub restored : DeviceFields → (input output : List ℕ) → Guest → Guest
 restored f input output g = record g { board = board.restored f input output g.board }
 
--- the guest with another hart of a number
+-- the guest with other values that it keeps for one hart
 abbrev pub hart_restored : (h : ℕ) → HartPart → Guest → Guest
 hart_restored h p g =
     record g {

@@ -6,12 +6,12 @@ use Rattle.rvm_board.specs.declared.error.BoardError.TheVariants as board
 use Rattle.rvm_board.specs.declared.error.PokeError.{PokeError}
 use Rattle.rvm_board.specs.declared.error.PokeError.TheVariants as poke
 
--- of a board that was not made
+-- why a board was not made
 abbrev pub refusal_of_board : BoardError → Refusal
 refusal_of_board board.BadSize = refusal.BadSize
 refusal_of_board board.OutOfMemory = refusal.OutOfMemory
 
--- of a write from outside
+-- why a write from outside was refused
 abbrev pub refusal_of_poke : PokeError → Refusal
 refusal_of_poke poke.BadHart = refusal.BadHart
 refusal_of_poke poke.OutOfRange = refusal.OutOfRange

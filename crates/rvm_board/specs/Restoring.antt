@@ -5,7 +5,7 @@ use Rattle.rvm_board.specs.Guest.{AreRising, Guest}
 use Rattle.rvm_board.specs.Parts.{CanBeHeld, hart_restored}
 use Rattle.rvm_board.specs.State.{State}
 
--- each hart from h on with its values
+-- the guest in which each hart from h on has its values from a list
 unfoldable pub harts_restored : (h : ℕ) → List HartPart → Guest → Guest
 harts_restored h [] g = g
 harts_restored h (p ∷ ps) g = harts_restored (h + 1) ps (hart_restored h p g)
@@ -18,7 +18,7 @@ pub record IsOf (count : ℕ) (g : Guest) : Type 0 where
   pub reservations : length g.board.shared.reservations ≡ count
   pub stopped : length g.stopped ≡ count
 
--- each can be held, with a RAM of this many bytes
+-- a guest with a RAM of this many bytes can keep each of these
 abbrev pub AreHeld : (size : ℕ) → List HartPart → Type 0
 AreHeld size [] = Unit {0}
 AreHeld size (p ∷ ps) = CanBeHeld size p × AreHeld size ps

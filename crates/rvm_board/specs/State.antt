@@ -10,8 +10,7 @@ use Rattle.rvm_board.specs.declared.part.HartPart.{HartPart}
 use Rattle.rvm_board.specs.Guest.{Guest}
 use Rattle.rvm_board.specs.Parts.{part_of}
 
--- what is kept of each hart, what the devices keep that all harts share, the queues, oldest byte first, and the
--- breakpoints
+-- what is kept for each hart, what the devices keep for all harts, the queues, oldest byte first, and the breakpoints
 pub record State : Type 0 where
   pub harts : List HartPart
   pub shared : DeviceFields
@@ -19,7 +18,7 @@ pub record State : Type 0 where
   pub output : List ℕ
   pub breakpoints : List ℕ
 
--- what is kept of each hart of a guest
+-- what a guest keeps for each hart
 abbrev pub parts_of : Guest → List HartPart
 parts_of g = map (λ h. part_of h g) (range_with_len 0 (length g.board.harts))
 

@@ -4,7 +4,7 @@ use Rattle.rvm_board.specs.Guest.{Guest}
 use Rattle.rvm_board.specs.Events.{steps}
 use Rattle.rvm_board.specs.Turns.{AfterTurns, stop_in, unless_stopped}
 
--- no byte more can come to the console
+-- 16 bytes wait for the guest, so that no more can come
 abbrev pub is_full : Guest → Bool
 is_full g = length g.board.shared.devices.input == 16
 
@@ -12,8 +12,8 @@ is_full g = length g.board.shared.devices.input == 16
 abbrev pub no_turns : Guest → AfterTurns
 no_turns g = record { guest = g; pages = []; made = 0; stop = None }
 
--- at most n turns of one hart after the other, the first of them that of hart h, as long as the
--- guest is so after each of them
+-- at most n turns of the harts in their order, the first of them of hart h, as long as the guest
+-- passes the test after each of them
 unfoldable pub turns_while : (Guest → Bool) → (n h : ℕ) → Guest → AfterTurns
 turns_while is_so zero h g = no_turns g
 turns_while is_so (suc n) h g =

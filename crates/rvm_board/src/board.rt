@@ -22,7 +22,7 @@ use rvm_res::Reservations;
 use std::alloc::{AllocError, Global};
 use std::marker::Model;
 
-/// The most bytes that are read or written from outside at once.
+/// The most bytes that are written from outside at once, and that a read event or a drain event gives.
 pub const VIEW_SIZE: usize = 256;
 
 /// The most harts that a board has.
@@ -49,9 +49,9 @@ impl<M: Memory> Model for Board<M> {
 }
 
 impl<M: Memory> Board<M> {
-    /// A board at reset: each hart starts at `entry` with its number in a0, mtimecmp is all ones,
-    /// all else is 0; the RAM is as it was handed in. `BadSize` for harts outside 1 to 8, a RAM of
-    /// no page, or an entry that is no multiple of four; each refusal hands the RAM back.
+    /// A board at reset: each hart starts at `entry` with its number in a0, mtimecmp is all ones, and all else is 0.
+    /// RAM is taken unchanged. `BadSize` if there are no harts or more than 8, RAM has no page, or the entry is no
+    /// multiple of four; `OutOfMemory` if an allocation fails. Each error returns the RAM.
     pub fn new(alloc: Global, harts: u32, ram: M, entry: u32) -> Result<Board<M>, (BoardError, M)>
         ensures board { IfOk result (λ b. b.plain ≡ at_reset harts entry (M.bytes ram)) }
         ensures dirty { IfOk result (λ b. b.dirty ≡ M.dirty ram) }
@@ -76,7 +76,7 @@ impl<M: Memory> Board<M> {
         })
     }
 
-    /// How many harts there are, 1 to 8.
+    /// The number of harts, 1 to 8.
     #[inline(always)]
     pub fn harts(&self) -> u32
         ensures count { result ≡ length self.now.plain.harts }
@@ -132,8 +132,7 @@ impl<M: Memory> Board<M> {
         self.bus.devices()
     }
 
-    /// Sets what the devices keep that all harts share, and the bytes of the queues. Takes no
-    /// memory.
+    /// Sets what the devices keep for all harts, and the bytes that wait in both queues. Takes no memory.
     pub fn restore(&mut self, fields: DeviceFields, input: &[u8], output: &[u8])
         requires input { length input.now ≤ 16 }
         requires output { length output.now ≤ 4096 }
@@ -144,8 +143,8 @@ impl<M: Memory> Board<M> {
         self.bus.restore(fields, input, output);
     }
 
-    /// Sets what the board keeps of a hart: the hart itself, whether its software interrupt is
-    /// pending, when its timer interrupt begins to be, and its reservation. Takes no memory.
+    /// Sets what the board keeps for a hart: the hart itself, whether its software interrupt is pending, the value of
+    /// mtime from which on its timer interrupt is pending, and its reservation. Takes no memory.
     pub fn restore_hart(
         &mut self,
         hart: u32,
@@ -165,7 +164,7 @@ impl<M: Memory> Board<M> {
         self.bus.restore_hart(hart, msip, mtimecmp, reserved);
     }
 
-    /// x0 to x31 of a hart.
+    /// Registers x0 to x31 of a hart, in order.
     pub fn registers(&self, hart: u32) -> &[u32; 32]
         requires { hart < length self.now.plain.harts }
         ensures { result.now ≡ (hart_at hart self.now.plain).regs }
@@ -182,7 +181,7 @@ impl<M: Memory> Board<M> {
         self.harts[hart as usize].pc()
     }
 
-    /// How many bytes RAM has: whole pages, 1 to 4096 of them.
+    /// The number of bytes of RAM: 1 to 4096 whole pages.
     pub fn ram_size(&self) -> u32
         ensures bytes { result ≡ length self.now.plain.shared.bytes }
         ensures pages { result ≡ 4096 * length self.now.dirty }
@@ -192,7 +191,7 @@ impl<M: Memory> Board<M> {
         self.bus.ram_size()
     }
 
-    /// One step of a hart.
+    /// Makes one step of a hart.
     #[inline(always)]
     pub fn step(&mut self, hart: u32) -> Stepped
         requires { hart < length self.old.plain.harts }
@@ -205,7 +204,7 @@ impl<M: Memory> Board<M> {
         stepping.step(&mut self.bus)
     }
 
-    /// The same step, on the straight path if it can be made there. `LOOP` is the number of the caller's loop, as
+    /// Makes the same step as `step`, on the straight path if possible. `LOOP` is the number of the caller's loop, as
     /// in `Hart::run_straight`.
     #[inline(always)]
     pub fn step_straight<const LOOP: u8>(&mut self, hart: u32) -> Stepped
@@ -219,8 +218,8 @@ impl<M: Memory> Board<M> {
         stepping.step_straight::<M, LOOP>(&mut self.bus)
     }
 
-    /// Makes steps of a hart on the straight path, at most `count`: up to the first whose instruction
-    /// reaches more than registers, RAM and reservations, is interrupted, or, if `watched`, begins at a
+    /// Makes at most `count` steps of a hart on the straight path. Ends early before a step whose instruction reaches
+    /// more than registers, RAM and reservations, before an interrupt, or, if `watched`, before a step that begins at a
     /// mark. Returns how many are left. `LOOP` is the number of the caller's loop, as in `Hart::run_straight`.
     #[inline(always)]
     pub fn run_straight<const LOOP: u8>(
@@ -246,8 +245,9 @@ impl<M: Memory> Board<M> {
         straight.left
     }
 
-    /// Makes steps of a hart, at most `count`: up to one that halts the board or finds it halted, or, if
-    /// `watched`, up to a mark. `LOOP` is the number of the caller's loop, as in `Hart::run_straight`.
+    /// Makes at most `count` steps of a hart. Ends early after a step that halts the board or finds it halted, or, if
+    /// `watched`, before a step that begins at a mark. `LOOP` is the number of the caller's loop, as in
+    /// `Hart::run_straight`.
     #[inline(always)]
     pub fn run<const LOOP: u8>(
         &mut self,
@@ -271,7 +271,7 @@ impl<M: Memory> Board<M> {
         stepping.run::<M, LOOP>(&mut self.bus, count, marks, watched)
     }
 
-    /// A byte comes to the console; `InputFull`, and nothing changes, where 16 wait.
+    /// Gives the console a byte of input. `InputFull`, and nothing changes, if 16 bytes wait.
     pub fn input(&mut self, byte: u8) -> Result<(), InputFull>
         ensures taken { OnOk result (self.new ≡ record self.old {
           plain = with_input (self.old.plain.shared.devices.input ++ byte ∷ []) self.old.plain;
@@ -282,7 +282,7 @@ impl<M: Memory> Board<M> {
         self.bus.input(byte)
     }
 
-    /// How many bytes that the guest sent wait to be taken.
+    /// The number of bytes that the guest sent and that were not taken.
     #[inline(always)]
     pub fn waiting(&self) -> usize
         ensures { result ≡ length self.now.plain.shared.devices.output }
@@ -290,7 +290,7 @@ impl<M: Memory> Board<M> {
         self.bus.waiting()
     }
 
-    /// Takes the oldest bytes that the guest sent, as many as there are and fit, and says how many.
+    /// Takes the oldest bytes that the guest sent, as many as fit into `bytes`. Returns their number.
     pub fn drain(&mut self, bytes: &mut [u8]) -> usize
         ensures count { result
             ≡ min (length bytes.old) (length self.old.plain.shared.devices.output) }
@@ -303,9 +303,9 @@ impl<M: Memory> Board<M> {
         self.bus.drain(bytes)
     }
 
-    /// Sets a register of a hart: x0 to x31 by its number, or pc by 32, of which bits 1:0 are
-    /// cleared; a write to x0 is dropped. `BadHart` comes before `OutOfRange`; a refusal changes
-    /// nothing.
+    /// Sets a register of a hart: x0 to x31 by 0 to 31, or pc by 32. Bits 1 and 0 of pc are cleared; a write to x0 is
+    /// dropped. `BadHart` if there is no such hart, else `OutOfRange` if there is no such register; then nothing
+    /// changes.
     pub fn poke_reg(&mut self, hart: u32, register: u32, value: u32) -> Result<(), PokeError>
         ensures poked { OnOk result (self.new
             ≡ record self.old { plain = register_poked hart register value self.old.plain }) }
@@ -325,7 +325,7 @@ impl<M: Memory> Board<M> {
         Ok(())
     }
 
-    /// The word of RAM at an aligned address, if there is RAM.
+    /// The word at an aligned address, if it is in RAM.
     pub fn word(&self, address: u32) -> Option<u32>
         requires { address % 4 ≡ 0 }
         ensures { result ≡ ram_load 4 address self.now.plain.shared.bytes }
@@ -333,8 +333,7 @@ impl<M: Memory> Board<M> {
         self.bus.ram_load32(address)
     }
 
-    /// Reads bytes of RAM from an address on. `OutOfRange`, and nothing changes, where they are not
-    /// wholly in RAM.
+    /// Reads the bytes of RAM from an address on. `OutOfRange`, and nothing changes, if they are not wholly in RAM.
     pub fn read(&self, address: u32, bytes: &mut [u8]) -> Result<(), rvm_mem::OutOfRange>
         ensures read { OnOk result (bytes.new
             ≡ slice (length bytes.old) (address - ram_base) self.now.plain.shared.bytes) }
@@ -345,9 +344,9 @@ impl<M: Memory> Board<M> {
         self.bus.read(address, bytes)
     }
 
-    /// Writes 1 to 256 bytes of RAM from an address on, adds their pages to the dirty log, and ends
-    /// each reservation of a word that is touched. `OutOfRange`, and nothing changes, for another
-    /// number of bytes or where they are not wholly in RAM.
+    /// Writes 1 to 256 bytes of RAM from an address on, adds their pages to the dirty log, and ends each reservation of
+    /// a word that they touch. `OutOfRange`, and nothing changes, if there are no bytes, more than 256, or they are not
+    /// wholly in RAM.
     pub fn poke_mem(&mut self, address: u32, bytes: &[u8]) -> Result<(), PokeError>
         ensures poked { OnOk result (self.new ≡ memory_poked address bytes.now self.old) }
         ensures range { (result ≡ Err OutOfRange)
@@ -365,7 +364,7 @@ impl<M: Memory> Board<M> {
         Ok(())
     }
 
-    /// Makes RAM zeros, adds each page to the dirty log, and ends each reservation.
+    /// Clears RAM to zeros, adds each page to the dirty log, and ends each reservation.
     pub fn clear(&mut self)
         ensures { self.new ≡ cleared self.old }
     {
@@ -374,8 +373,7 @@ impl<M: Memory> Board<M> {
 }
 
 impl<M: PagedMemory> Board<M> {
-    /// Takes the dirty log: `into` becomes the set of its pages, whatever was in it, and the log is
-    /// empty then.
+    /// Moves the dirty log into `into`, which loses its old pages; the log is then empty.
     pub fn take_dirty(&mut self, into: &mut PageSet)
         requires { length into.old ≡ length self.old.dirty }
         ensures taken { into.new ≡ self.old.dirty }

@@ -8,14 +8,15 @@ use arrayvec::ArrayVec;
 use rvm_hart::Marks;
 use std::marker::Model;
 
-/// The most breakpoints that are set at once.
+/// The most breakpoints that can be set at once.
 pub const MAX_BREAKPOINTS: usize = 64;
 
-/// A new breakpoint beside 64.
+/// 64 other breakpoints are set already.
 #[derive(Drop)]
 pub(crate) struct Full;
 
-/// At most 64 addresses, rising, each of which is marked: most other addresses need no search.
+/// At most 64 addresses in rising order. Each is marked, so that most other addresses need no
+/// search.
 #[derive(Drop)]
 pub(crate) struct Breakpoints {
     addresses: ArrayVec<u32, MAX_BREAKPOINTS>,
@@ -36,7 +37,7 @@ impl Model for Breakpoints {
 }
 
 impl Breakpoints {
-    /// None.
+    /// No breakpoints.
     pub(crate) fn new() -> Breakpoints
         ensures { result ≡ [] }
     {
@@ -46,7 +47,7 @@ impl Breakpoints {
         }
     }
 
-    /// Those at these addresses.
+    /// Breakpoints at these addresses.
     pub(crate) fn of(addresses: &[u32]) -> Breakpoints
         requires few { length addresses.now ≤ 64 }
         requires rising { AreRising addresses.now }
@@ -61,7 +62,7 @@ impl Breakpoints {
         }
     }
 
-    /// The addresses, rising.
+    /// A copy of the addresses, in rising order.
     pub(crate) fn copied(&self) -> ArrayVec<u32, MAX_BREAKPOINTS>
         ensures addresses { result.items ≡ self.now }
         ensures few { length self.now ≤ 64 }
@@ -73,7 +74,7 @@ impl Breakpoints {
         addresses
     }
 
-    /// Whether there is none.
+    /// Whether no breakpoint is set.
     #[inline(always)]
     pub(crate) fn is_empty(&self) -> bool
         ensures { IsTrue result ↔ (self.now ≡ []) }
@@ -81,7 +82,7 @@ impl Breakpoints {
         self.addresses.is_empty()
     }
 
-    /// A mark for each of them.
+    /// The marks of the breakpoints.
     #[inline(always)]
     pub(crate) fn marks(&self) -> &Marks
         ensures { result.now ≡ marks_of self.now }
@@ -89,7 +90,7 @@ impl Breakpoints {
         &self.marks
     }
 
-    /// Whether one may be set at an address: a quick test.
+    /// Whether a breakpoint may be set at an address. False is certain; true needs a search.
     #[inline(always)]
     #[tactic(auto, using(crate::proofs::Marking::not_in))]
     pub(crate) fn may_have(&self, address: u32) -> bool
@@ -98,14 +99,15 @@ impl Breakpoints {
         self.marks.has(address)
     }
 
-    /// Whether one is set at an address.
+    /// Whether a breakpoint is set at an address.
     pub(crate) fn has(&self, address: u32) -> bool
         ensures { result ≡ is_in address self.now }
     {
         self.addresses.contains(&address)
     }
 
-    /// Sets one. `Full`, and nothing changes, where 64 others are set.
+    /// Sets a breakpoint at an address, if there is none. `Full`, and nothing changes, if 64 others
+    /// are set.
     pub(crate) fn set(&mut self, address: u32) -> Result<(), Full>
         ensures set { OnOk result (self.new ≡ (if is_in address self.old then self.old
             else with address self.old)) }
@@ -125,7 +127,7 @@ impl Breakpoints {
         Ok(())
     }
 
-    /// Takes away the one at an address, if there is one.
+    /// Removes the breakpoint at an address, if there is one.
     pub(crate) fn clear(&mut self, address: u32)
         ensures { self.new ≡ without address self.old }
     {
@@ -137,14 +139,14 @@ impl Breakpoints {
     }
 }
 
-/// How many addresses are below one.
+/// The number of addresses below `address`.
 fn count_below(addresses: &[u32], address: u32) -> usize
     ensures { result ≡ count_by (λ b. nat_lt b address) addresses.now }
 {
     addresses.iter().filter(|set| **set < address).count()
 }
 
-/// A mark for each of some addresses.
+/// The marks of these addresses.
 #[tactic(auto, unfolding(crate::specs::Marks::marks_of))]
 fn marks_for(addresses: &[u32]) -> Marks
     ensures { result ≡ marks_of addresses.now }

@@ -20,13 +20,13 @@ use std::marker::Model;
 /// The most harts that a board has.
 pub(crate) const HARTS: usize = MAX_HARTS as usize;
 
-/// A board with at most 64 breakpoints. A hart that comes to one stops there once, instead of its
-/// step, and goes on with the next.
+/// A board with at most 64 breakpoints. A hart that comes to one stops there once instead of
+/// stepping, and steps in its next turn.
 #[derive(Drop)]
 pub struct Debugged<M: Memory> {
     pub(crate) board: Board<M>,
     pub(crate) breakpoints: Breakpoints,
-    /// For each hart whether it stopped at its pc and has not stepped since.
+    /// For each hart, whether it stopped at its pc and has not stepped since.
     pub(crate) stopped: ArrayVec<bool, HARTS>,
 }
 
@@ -62,7 +62,7 @@ impl<M: Memory> Debugged<M> {
         }
     }
 
-    /// How many harts there are, 1 to 8.
+    /// The number of harts, 1 to 8.
     #[inline(always)]
     pub fn harts(&self) -> u32
         ensures count { result ≡ length self.now.guest.board.harts }
@@ -90,7 +90,7 @@ impl<M: Memory> Debugged<M> {
         self.board.memory()
     }
 
-    /// One step of a hart; none where it stopped at a breakpoint instead.
+    /// Makes one step of a hart. Returns none if the hart stopped at a breakpoint instead.
     #[inline(always)]
     pub fn step(&mut self, hart: u32) -> Option<Stepped>
         requires { hart < length self.old.guest.board.harts }
@@ -105,7 +105,8 @@ impl<M: Memory> Debugged<M> {
         Some(self.board.step(hart))
     }
 
-    /// Whether a hart may stop instead of its next step, or stands at a breakpoint.
+    /// Whether a hart may stop instead of its next step, or stands at a breakpoint. False is
+    /// certain.
     #[inline(always)]
     pub(crate) fn may_stop(&self, hart: u32) -> bool
         requires { hart < length self.now.guest.board.harts }
@@ -116,8 +117,8 @@ impl<M: Memory> Debugged<M> {
         self.breakpoints.may_have(self.board.pc(hart)) || self.stopped[hart as usize]
     }
 
-    /// Whether a hart of a board that is not halted stops instead of its next step; then it stands
-    /// at its breakpoint, and else at none.
+    /// Whether a hart stops instead of its next step. Notes that it then stands at its breakpoint,
+    /// or else at none. A hart of a halted board does not stop, and nothing changes.
     #[cold]
     #[inline(never)]
     pub(crate) fn stop(&mut self, hart: u32) -> bool
@@ -137,7 +138,7 @@ impl<M: Memory> Debugged<M> {
         stops
     }
 
-    /// A byte comes to the console; `InputFull`, and nothing changes, where 16 wait.
+    /// Gives the console a byte of input. `InputFull`, and nothing changes, if 16 bytes wait.
     pub fn input(&mut self, byte: u8) -> Result<(), InputFull>
         ensures taken { OnOk result (self.new ≡ record self.old {
           guest = with_board
@@ -150,7 +151,7 @@ impl<M: Memory> Debugged<M> {
         self.board.input(byte)
     }
 
-    /// How many bytes that the guest sent wait to be taken.
+    /// The number of bytes that the guest sent and that were not taken.
     #[inline(always)]
     pub fn waiting(&self) -> usize
         ensures { result ≡ length self.now.guest.board.shared.devices.output }
@@ -158,7 +159,8 @@ impl<M: Memory> Debugged<M> {
         self.board.waiting()
     }
 
-    /// Takes the oldest bytes that the guest sent, as many as there are and fit, and says how many.
+    /// Takes the oldest bytes that the guest sent, as many as fit into `bytes`. Returns their
+    /// number.
     pub fn drain(&mut self, bytes: &mut [u8]) -> usize
         ensures count { result
             ≡ min (length bytes.old) (length self.old.guest.board.shared.devices.output) }
@@ -199,7 +201,7 @@ impl<M: Memory> Debugged<M> {
         }
     }
 
-    /// A step of a hart that may not be there.
+    /// Makes a step of a hart, if there is one of this number.
     #[inline(always)]
     fn step_if_there(&mut self, hart: u32) -> BoardReply
         ensures guest { self.new.guest ≡ (steps_if_there hart self.old.guest).guest }
@@ -217,7 +219,7 @@ impl<M: Memory> Debugged<M> {
         }
     }
 
-    /// A byte comes to the console.
+    /// Gives the console a byte of input, if fewer than 16 wait.
     #[inline(never)]
     fn take_input(&mut self, byte: u8) -> BoardReply
         ensures guest { self.new.guest ≡ (takes_input byte self.old.guest).guest }
@@ -230,7 +232,7 @@ impl<M: Memory> Debugged<M> {
         }
     }
 
-    /// The oldest bytes that the guest sent are taken, at most this many.
+    /// Takes the oldest bytes that the guest sent, at most `count`. Refuses more than 256.
     #[inline(never)]
     fn drain_some(&mut self, count: u32) -> BoardReply
         ensures guest { self.new.guest ≡ (drains count self.old.guest).guest }
@@ -248,7 +250,7 @@ impl<M: Memory> Debugged<M> {
         BoardReply::Bytes(View::of(&bytes[..taken]))
     }
 
-    /// Sets a breakpoint.
+    /// Sets a breakpoint at an address. Refuses it if 64 others are set.
     #[inline(never)]
     fn set_breakpoint(&mut self, address: u32) -> BoardReply
         ensures guest { self.new.guest ≡ (sets_breakpoint address self.old.guest).guest }
@@ -261,7 +263,7 @@ impl<M: Memory> Debugged<M> {
         }
     }
 
-    /// Takes a breakpoint away.
+    /// Removes the breakpoint at an address, if there is one.
     #[inline(never)]
     fn clear_breakpoint(&mut self, address: u32) -> BoardReply
         ensures guest { self.new.guest ≡ (clears_breakpoint address self.old.guest).guest }
@@ -272,7 +274,7 @@ impl<M: Memory> Debugged<M> {
         BoardReply::Done
     }
 
-    /// The registers of a hart.
+    /// The registers of a hart, if there is one of this number.
     #[inline(never)]
     fn registers(&self, hart: u32) -> BoardReply
         ensures { result ≡ (tells_registers hart self.now.guest).reply }
@@ -283,7 +285,7 @@ impl<M: Memory> Debugged<M> {
         BoardReply::Regs(self.registers_of(hart))
     }
 
-    /// x0 to x31 and pc of a hart.
+    /// Registers x0 to x31, then pc, of a hart.
     fn registers_of(&self, hart: u32) -> [u32; 33]
         requires { hart < length self.now.guest.board.harts }
         ensures { result ≡ (hart_at hart self.now.guest.board).regs ++ pc_of hart self.now.guest ∷ [] }
@@ -294,7 +296,8 @@ impl<M: Memory> Debugged<M> {
         registers
     }
 
-    /// Bytes of RAM.
+    /// The bytes of RAM from an address on. Refuses a length outside 1 to 256, and a range that is
+    /// not wholly in RAM.
     #[inline(never)]
     fn bytes(&self, address: u32, length: u32) -> BoardReply
         ensures { result ≡ (tells_bytes address length self.now.guest).reply }
@@ -309,7 +312,7 @@ impl<M: Memory> Debugged<M> {
         }
     }
 
-    /// The word of RAM at an address.
+    /// The word of RAM at an address. Refuses one that is no multiple of four or not in RAM.
     #[inline(never)]
     fn line(&self, address: u32) -> BoardReply
         ensures { result ≡ (tells_line address self.now.guest).reply }
@@ -323,7 +326,7 @@ impl<M: Memory> Debugged<M> {
         }
     }
 
-    /// Sets a register of a hart; one whose pc is set stands at no breakpoint any more.
+    /// Sets a register of a hart. A hart whose pc is set no longer stands at a breakpoint.
     #[inline(never)]
     fn set_register(&mut self, hart: u32, register: u32, value: u32) -> BoardReply
         ensures guest { self.new.guest ≡ (sets_register hart register value self.old.guest).guest }
@@ -342,7 +345,8 @@ impl<M: Memory> Debugged<M> {
         BoardReply::Done
     }
 
-    /// Writes bytes of RAM.
+    /// Writes bytes of RAM from an address on. Refuses a write of no bytes, and one of a range that
+    /// is not wholly in RAM.
     #[inline(never)]
     fn write_bytes(&mut self, address: u32, bytes: &View) -> BoardReply
         ensures guest { self.new.guest ≡ (writes_bytes address bytes.now self.old.guest).guest }
@@ -377,7 +381,7 @@ impl<M: PagedMemory> DirtyLog for Debugged<M> {
     }
 }
 
-/// For each of this many harts that it did not stop.
+/// For each of this many harts, that it stands at no breakpoint.
 fn none_of(harts: u32) -> ArrayVec<bool, HARTS>
     requires { harts ≤ 8 }
     ensures { result.items ≡ replicate harts false }

@@ -9,7 +9,7 @@ use thiserror::Error;
 /// Why there is no board.
 #[derive(Clone, Copy, Debug, PartialEq, Eq, Error)]
 pub enum BoardError {
-    /// No hart or more than 8, no RAM, or an entry that is no multiple of four.
+    /// There are no harts or more than 8, RAM has no page, or the entry is no multiple of four.
     #[error("harts, RAM or entry are outside limits")]
     BadSize,
     /// Memory ran out.
@@ -34,7 +34,8 @@ pub enum PokeError {
     /// There is no such hart.
     #[error("there is no such hart")]
     BadHart,
-    /// There is no such register, or the bytes are none, more than 256, or not wholly in RAM.
+    /// There is no such register, or the range has no byte, has more than 256, or is not wholly in
+    /// RAM.
     #[error("register, address or length are out of range")]
     OutOfRange,
 }

@@ -10,35 +10,35 @@ use rvm_hart::Stepped;
 use rvm_refusal::Refusal;
 use thiserror::Error;
 
-/// What a host asks of its board. Harts count from 0; addresses are the guest's.
+/// What a host asks of its board. Harts are numbered from 0; addresses are the guest's.
 #[derive(Drop, PartialEq, Eq)]
 pub enum BoardEvent {
-    /// One step of a hart.
+    /// A hart takes one step, or stops at a breakpoint instead.
     Step(u32),
-    /// A byte comes to the console.
+    /// The console gets a byte of input, if fewer than 16 wait.
     Input(u8),
-    /// The oldest bytes that the guest sent are taken, at most this many.
+    /// The oldest bytes that the guest sent are taken, at most this many, which is at most 256.
     Drain(u32),
-    /// A breakpoint is set at an address.
+    /// A breakpoint is set at an address, if fewer than 64 others are set.
     Break(u32),
-    /// The breakpoint at an address is taken away.
+    /// The breakpoint at an address is removed, if there is one.
     Clear(u32),
-    /// The registers of a hart are asked for.
+    /// The registers of a hart are read.
     Regs(u32),
-    /// This many bytes of RAM are asked for.
+    /// 1 to 256 bytes of RAM are read.
     Mem {
         address: u32,
         length: u32,
     },
-    /// The word of RAM at an address is asked for.
+    /// The word of RAM at an aligned address is read.
     Dis(u32),
-    /// A register of a hart is set: x0 to x31 by its number, or pc by 32.
+    /// A register of a hart is set: x0 to x31 by 0 to 31, or pc by 32.
     PokeReg {
         hart: u32,
         register: u32,
         value: u32,
     },
-    /// Bytes of RAM are written.
+    /// 1 to 256 bytes of RAM are written.
     PokeMem {
         address: u32,
         bytes: View,
@@ -46,7 +46,7 @@ pub enum BoardEvent {
 }
 
 impl BoardEvent {
-    /// The same event again.
+    /// A copy of the event.
     pub fn copy(&self) -> BoardEvent
         ensures { result ≡ self.now }
     {
@@ -88,19 +88,19 @@ pub enum BoardReply {
     Trapped(Exception),
     /// An interrupt was taken.
     Interrupted(Interrupt),
-    /// The board is halted, with this status.
+    /// The board is halted with this status.
     Halted(u8),
     /// The hart stopped at the breakpoint at its pc, and did not step.
     Break(u32),
-    /// It was done.
+    /// The event was done; it has no other answer.
     Done,
     /// Bytes of RAM, or bytes that the guest sent.
     Bytes(View),
-    /// x0 to x31 and pc.
+    /// Registers x0 to x31, then pc.
     Regs([u32; 33]),
     /// The word of RAM at an address.
     Line { address: u32, word: u32 },
-    /// It was refused, and nothing changed.
+    /// The event was refused, and nothing changed.
     Refused(BoardRefusal),
 }
 
@@ -135,7 +135,7 @@ impl From<BoardRefusal> for Refusal {
 }
 
 impl BoardReply {
-    /// The same answer again.
+    /// A copy of the answer.
     pub fn copy(&self) -> BoardReply
         ensures { result ≡ self.now }
     {
@@ -156,7 +156,7 @@ impl BoardReply {
         }
     }
 
-    /// What a step did, as an answer.
+    /// The answer to a step that did this.
     pub fn of_step(stepped: Stepped) -> BoardReply
         ensures { result ≡ reply_of stepped }
     {
@@ -168,8 +168,8 @@ impl BoardReply {
         }
     }
 
-    /// Whether no step is made after this answer to one: the hart stopped at a breakpoint, the board is
-    /// halted, or the step was refused.
+    /// Whether steps end with this answer to one: the hart stopped at a breakpoint, the board is halted, or the step
+    /// was refused.
     pub fn ends_steps(&self) -> bool
         ensures { result ≡ ends_steps self.now }
     {

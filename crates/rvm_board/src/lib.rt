@@ -1,7 +1,7 @@
-//! The board, its debugger and the events that a host hands it: harts over one RAM and the devices, of which one takes a
-//! step at a time; breakpoints, answers, the loop of turns, and all that a board keeps but its RAM as one value.
+//! The board, its debugger and the events that a host hands it: harts over one RAM and the devices, of which one takes
+//! a step at a time; breakpoints, answers, the loops of turns, and all that a board keeps beside its RAM as one value.
 //!
-//! Stands on `rvm_hart`, and knows nothing of scripts, files or hosts. No event takes memory.
+//! Stands on `rvm_hart`, and must not know scripts, files or hosts. No event takes memory.
 //!
 //! To be read in this order: `error`, `board`, `view`, `breakpoints`, `event`, `part`, `debugged`, `snapshot`, `turns`,
 //! `while_full`, `retiring`, `laws`.

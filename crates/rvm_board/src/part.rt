@@ -1,17 +1,18 @@
-//! What a guest keeps of one hart, as plain values.
+//! What a guest keeps for one hart, as plain values.
 
 use rvm_hart::HartFields;
 
-/// What a guest keeps of one hart, but for its number.
+/// What a guest keeps for one hart, without its number.
 #[derive(Clone, Copy, Default)]
 pub struct HartPart {
+    /// The hart's registers, pc and CSRs.
     pub fields: HartFields,
-    /// Its software interrupt is pending.
+    /// Whether its software interrupt is pending.
     pub msip: bool,
-    /// The time at which its timer interrupt begins to be pending.
+    /// The value of mtime from which on its timer interrupt is pending.
     pub mtimecmp: u64,
-    /// The aligned word of RAM that it has reserved, if any.
+    /// The address of the aligned word of RAM that it has reserved, if any.
     pub reserved: Option<u32>,
-    /// It stopped at a breakpoint at its pc, and has not stepped since.
+    /// Whether it stopped at a breakpoint at its pc and has not stepped since.
     pub stopped: bool,
 }

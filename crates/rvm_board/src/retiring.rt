@@ -11,12 +11,12 @@ use crate::turns::{IN_RETIRING, IN_RETIRING_ROUNDS, Order, any};
 use rvm_hart::Stepped;
 use rvm_mem::Memory;
 
-/// What steps of harts in turn came to.
+/// How steps of harts in turn ended.
 #[derive(Clone, Copy, Debug, PartialEq, Eq)]
 pub struct Retired {
-    /// How many steps retired an instruction.
+    /// The number of steps that retired an instruction.
     pub count: u32,
-    /// What the step after these did, where one was made, which retired none.
+    /// What the step after these did, if one was made: it retired none.
     pub last: Option<Stepped>,
 }
 
@@ -27,9 +27,9 @@ pub const NO_STEPS: Retired = Retired {
 };
 
 impl<M: Memory> Debugged<M> {
-    /// Makes steps of this many harts in turn, at most `count`, from turn `turn` on, as long as each retires
-    /// an instruction; the first that does not is the last. None where there is another number of harts,
-    /// or one may stop at a breakpoint. Takes no memory.
+    /// Makes at most `count` steps of the board's `harts` harts in turn, from turn `turn` on, up to the first that does
+    /// not retire an instruction. Makes no step if the board has another number of harts, if a breakpoint is set, or if
+    /// a hart stands at one. Takes no memory.
     pub fn retire(&mut self, turn: u64, harts: u32, count: u32) -> Retired
         ensures { RetiresThen harts turn count self.old self.new result }
     {
@@ -42,7 +42,7 @@ impl<M: Memory> Debugged<M> {
         self.retire_in_turn(turn, count)
     }
 
-    /// Steps of the only hart, which cannot stop: its place is found once.
+    /// Makes steps of the only hart, which cannot stop at a breakpoint, so that no turn need be assigned to a hart.
     #[inline(never)]
     fn retire_hart_0(&mut self, turn: u64, count: u32) -> Retired
         requires harts { length self.old.guest.board.harts ≡ 1 }
@@ -68,7 +68,7 @@ impl<M: Memory> Debugged<M> {
         Retired { count, last: None }
     }
 
-    /// Steps of the harts in turn, none of which can stop.
+    /// Makes steps of the harts in turn, none of which can stop at a breakpoint.
     #[inline(never)]
     fn retire_in_turn(&mut self, turn: u64, count: u32) -> Retired
         requires breakpoints { self.old.guest.breakpoints ≡ [] }

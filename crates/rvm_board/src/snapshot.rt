@@ -18,22 +18,23 @@ use rvm_dev::{DeviceFields, Devices, INPUT_CAPACITY, OUTPUT_CAPACITY};
 use rvm_mem::Memory;
 use std::alloc::{AllocError, Global};
 
-/// All that a guest keeps but its RAM.
+/// All that a guest keeps beside its RAM.
 #[derive(Drop)]
 pub struct Snapshot {
+    /// What the guest keeps for each hart, in the order of their numbers.
     pub harts: ArrayVec<HartPart, HARTS>,
-    /// What the devices keep that all harts share.
+    /// What the devices keep for all harts together, without the queues.
     pub devices: DeviceFields,
     /// The bytes that wait for the guest, oldest first.
     pub input: ArrayVec<u8, INPUT_CAPACITY>,
-    /// The bytes that wait for the console, oldest first.
+    /// The bytes that the guest sent and that were not taken, oldest first.
     pub output: ArrayVec<u8, OUTPUT_CAPACITY>,
-    /// The addresses at which steps stop, rising.
+    /// The breakpoints, in rising order.
     pub breakpoints: ArrayVec<u32, MAX_BREAKPOINTS>,
 }
 
 impl<M: Memory> Debugged<M> {
-    /// All that the guest keeps but its RAM; the two together are the guest. Takes no memory.
+    /// All that the guest keeps beside its RAM; with the RAM, it is the guest. Takes no memory.
     pub fn snapshot(&self) -> Snapshot
         ensures state { state_in result ≡ state_of self.now.guest }
         ensures whole { guest_of self.now.guest.board.shared.bytes (state_of self.now.guest)
@@ -53,7 +54,7 @@ impl<M: Memory> Debugged<M> {
         }
     }
 
-    /// What the guest keeps of a hart.
+    /// What the guest keeps for a hart.
     fn hart_part(&self, hart: u32) -> HartPart
         requires { hart < length self.now.guest.board.harts }
         ensures part { result ≡ part_of hart self.now.guest }
@@ -70,7 +71,7 @@ impl<M: Memory> Debugged<M> {
         }
     }
 
-    /// The devices, with words for each hart.
+    /// The devices, which have words for each hart.
     fn devices(&self) -> &Devices
         ensures devices { result.now ≡ self.now.guest.board.shared.devices }
         ensures msip { length self.now.guest.board.shared.devices.msip
@@ -82,7 +83,7 @@ impl<M: Memory> Debugged<M> {
         self.board.devices()
     }
 
-    /// What the guest keeps of each hart.
+    /// What the guest keeps for each hart.
     fn hart_parts(&self) -> ArrayVec<HartPart, HARTS>
         ensures parts { result.items ≡ parts_of self.now.guest }
         ensures some { 1 ≤ length result.items }
@@ -99,8 +100,8 @@ impl<M: Memory> Debugged<M> {
         parts
     }
 
-    /// The guest of a snapshot, with this RAM and its dirty log. A growth that is refused hands the
-    /// RAM back.
+    /// The guest of a snapshot, with this RAM and its dirty log. A failed allocation returns the
+    /// RAM.
     pub fn restore(
         alloc: Global,
         snapshot: &Snapshot,
@@ -119,7 +120,7 @@ impl<M: Memory> Debugged<M> {
         }
     }
 
-    /// Sets what the devices keep that all harts share, and the bytes of the queues.
+    /// Sets what the devices keep for all harts, and the bytes that wait in both queues.
     fn restore_devices(&mut self, fields: DeviceFields, input: &[u8], output: &[u8])
         requires input { length input.now ≤ 16 }
         requires output { length output.now ≤ 4096 }
@@ -130,7 +131,7 @@ impl<M: Memory> Debugged<M> {
         self.board.restore(fields, input, output);
     }
 
-    /// Sets what the guest keeps of a hart.
+    /// Sets what the guest keeps for a hart.
     fn restore_hart(&mut self, hart: u32, part: HartPart)
         requires hart { hart < length self.old.guest.board.harts }
         requires held { CanBeHeld (length self.old.guest.board.shared.bytes) part }
@@ -142,7 +143,7 @@ impl<M: Memory> Debugged<M> {
             .restore_hart(hart, part.fields, part.msip, part.mtimecmp, part.reserved);
     }
 
-    /// Sets what the guest keeps of each hart.
+    /// Sets what the guest keeps for each hart.
     fn restore_harts(&mut self, harts: &[HartPart])
         requires count { length self.old.guest.board.harts ≡ length harts.now }
         requires few { length harts.now ≤ 8 }
@@ -167,7 +168,7 @@ impl<M: Memory> Debugged<M> {
     }
 }
 
-/// The guest of a board, all of whose values but its RAM are replaced.
+/// The guest that keeps a board's RAM and has all other values from a snapshot.
 fn restored<M: Memory>(board: Board<M>, snapshot: &Snapshot) -> Debugged<M>
     requires count { IsOf (length snapshot.now.harts.items) (fresh board.plain) }
     requires held { CanBeRestored (length board.plain.shared.bytes) (state_in snapshot.now) }
@@ -185,7 +186,7 @@ fn restored<M: Memory>(board: Board<M>, snapshot: &Snapshot) -> Debugged<M>
     guest
 }
 
-/// The bytes of two slices, one after the other.
+/// The bytes of `front`, then those of `back`.
 fn joined<const CAP: usize>(front: &[u8], back: &[u8]) -> ArrayVec<u8, CAP>
     requires { length front.now + length back.now ≤ CAP }
     ensures { result.items ≡ front.now ++ back.now }

@@ -1,4 +1,4 @@
-//! Turns of harts, one after another: the loop of a run, and of a script's steps.
+//! Consecutive turns of harts: the loop of a run, and of a script's steps.
 
 ghost use Rattle.std.specs.Prelude.{◌≡◌, ◌<◌, ◌≤◌, ◌-◌, [], false, true, length, get_or};
 ghost use Rattle.std.specs.List.{list_any};
@@ -17,13 +17,13 @@ use crate::event::BoardReply;
 use rvm_hart::Stepped;
 use rvm_mem::Memory;
 
-/// How many turns a run makes between two drains of what the guest sent.
+/// The number of turns that a run makes between two drains of what the guest sent.
 pub const DRAIN_EVERY: u32 = 64;
 
-/// How many bytes a drain of a run takes at most.
+/// The most bytes that a drain of a run takes.
 pub const DRAIN_SIZE: u32 = 256;
 
-/// The loops that have a copy of the straight path each, as `Hart::run_straight` says.
+/// The numbers of the loops that each have a copy of the straight path, as `Hart::run_straight` says.
 const IN_TURNS: u8 = 0;
 
 const IN_WATCHED_TURNS: u8 = 1;
@@ -38,16 +38,16 @@ pub(crate) const IN_RETIRING: u8 = 5;
 
 pub(crate) const IN_RETIRING_ROUNDS: u8 = 6;
 
-/// Which hart has the turn after that of another.
+/// Which hart has the next turn.
 #[derive(Clone, Copy, Debug, PartialEq, Eq)]
 pub enum Order {
     /// The same hart.
     Alone,
-    /// The next hart, and after the last the first.
+    /// The hart with the next number; after the last hart, hart 0.
     RoundRobin,
 }
 
-/// What ends turns before all are made.
+/// What ends consecutive turns.
 #[derive(Clone, Copy, Debug, PartialEq, Eq)]
 pub enum Stop {
     /// A hart stopped at the breakpoint at this address instead of its step.
@@ -56,24 +56,24 @@ pub enum Stop {
     Halted(u8),
 }
 
-/// What turns came to.
+/// How consecutive turns ended.
 #[derive(Clone, Copy, Debug, PartialEq, Eq)]
 pub struct Turns {
-    /// How many were made, with the one that ended them.
+    /// The number of turns that were made, with the one that ended them.
     pub made: u32,
-    /// What ended them, if not all were made or the last one stopped.
+    /// What ended the turns, if the last one stopped or halted.
     pub stop: Option<Stop>,
 }
 
-/// What a loop of turns came to. It counts those that are left, since a loop with a second number in
-/// it costs each turn four host instructions more.
+/// How a loop of turns ended. It counts the turns that are left, since a second number in the loop costs each turn four
+/// host instructions more.
 #[derive(Clone, Copy)]
 struct Ended {
     left: u32,
     stop: Option<Stop>,
 }
 
-/// What turns of a hart came to that does not stop.
+/// How turns of a hart ended that cannot stop at a breakpoint.
 #[derive(Clone, Copy)]
 struct HartTurns {
     made: u32,
@@ -82,9 +82,9 @@ struct HartTurns {
 }
 
 impl<M: Memory> Debugged<M> {
-    /// Makes turns, at most `count`, from that of hart `first` on: in its turn a hart takes a step,
-    /// or stops at a breakpoint instead. They end with the turn in which a hart stopped, or which
-    /// halted the board or found it halted. Takes no memory.
+    /// Makes at most `count` turns, from the turn of hart `first` on: in its turn a hart takes a step, or stops at a
+    /// breakpoint instead. Ends early after a turn in which a hart stopped, or which halted the board or found it
+    /// halted. Takes no memory.
     pub fn turns(&mut self, order: Order, first: u32, count: u32) -> Turns
         requires { first < length self.old.guest.board.harts }
         ensures { TakesTurns (after_turns order count first self.old.guest) self.old self.new result }
@@ -96,7 +96,7 @@ impl<M: Memory> Debugged<M> {
         }
     }
 
-    /// The same, by the loop that has the fewest tests in it.
+    /// Makes these turns in the loop with the fewest tests.
     #[inline]
     #[tactic(auto, using(crate::proofs::Turning::one_hart))]
     fn turns_in_a_loop(&mut self, order: Order, first: u32, count: u32) -> Ended
@@ -112,7 +112,7 @@ impl<M: Memory> Debugged<M> {
         }
     }
 
-    /// Turns of one hart of a guest without breakpoints.
+    /// Makes turns of one hart of a guest without breakpoints.
     #[inline(never)]
     fn turns_unwatched(&mut self, hart: u32, count: u32) -> Ended
         requires hart { hart < length self.old.guest.board.harts }
@@ -124,7 +124,7 @@ impl<M: Memory> Debugged<M> {
         self.turns_of_hart::<IN_TURNS>(hart, count, false)
     }
 
-    /// Turns of one hart of a guest with breakpoints.
+    /// Makes turns of one hart of a guest that may have breakpoints.
     #[inline(never)]
     fn turns_watched(&mut self, hart: u32, count: u32) -> Ended
         requires { hart < length self.old.guest.board.harts }
@@ -135,7 +135,7 @@ impl<M: Memory> Debugged<M> {
         self.turns_of_hart::<IN_WATCHED_TURNS>(hart, count, true)
     }
 
-    /// Turns of one hart: as many as there are before one at which it may stop, then that one, and so on.
+    /// Makes turns of one hart: all before one in which it may stop, then that one, and so on.
     #[inline(always)]
     fn turns_of_hart<const LOOP: u8>(&mut self, hart: u32, count: u32, watched: bool) -> Ended
         requires hart { hart < length self.old.guest.board.harts }
@@ -175,8 +175,8 @@ impl<M: Memory> Debugged<M> {
         }
     }
 
-    /// Turns of a hart, at most `count`: up to one that halts the board or finds it halted, or, if that is
-    /// `watched`, up to one at which the hart may stop. None if the hart stands at a breakpoint.
+    /// Makes at most `count` turns of a hart that do not stop. Ends early after one that halts the board or finds it
+    /// halted, or, if `watched`, before one in which the hart may stop. Makes none if the hart stands at a breakpoint.
     #[inline(always)]
     #[tactic(auto, using(crate::proofs::Marking::none_at_a_mark))]
     fn run_turns<const LOOP: u8>(&mut self, hart: u32, count: u32, watched: bool) -> HartTurns
@@ -201,7 +201,7 @@ impl<M: Memory> Debugged<M> {
         }
     }
 
-    /// Turns of the harts in their order.
+    /// Makes turns of the harts in their order.
     #[inline]
     fn turns_of_harts(&mut self, first: u32, count: u32) -> Ended
         requires { first < length self.old.guest.board.harts }
@@ -215,7 +215,7 @@ impl<M: Memory> Debugged<M> {
         self.turns_in_rounds(first, count)
     }
 
-    /// Turns of the harts in their order, where none can stop: up to the last, and again from hart 0 on.
+    /// Makes turns of the harts in their order, none of which can stop: up to the last hart, and again from hart 0 on.
     #[inline(never)]
     fn turns_in_rounds(&mut self, first: u32, count: u32) -> Ended
         requires first { first < length self.old.guest.board.harts }
@@ -246,7 +246,7 @@ impl<M: Memory> Debugged<M> {
         }
     }
 
-    /// A turn of each hart from `first` on that comes before `end`, where none can stop.
+    /// Makes one turn of each hart from `first` to the one before `end`, none of which can stop.
     #[inline(always)]
     fn turns_in_a_row(&mut self, first: u32, end: u32) -> Ended
         requires first { first ≤ end }
@@ -275,7 +275,7 @@ impl<M: Memory> Debugged<M> {
         }
     }
 
-    /// Turns of the harts in their order, where one may stop.
+    /// Makes turns of the harts in their order, any of which may stop.
     #[cold]
     #[inline(never)]
     fn turns_or_stops(&mut self, first: u32, count: u32) -> Ended
@@ -304,8 +304,8 @@ impl<M: Memory> Debugged<M> {
         }
     }
 
-    /// Turns of a hart on the straight path, at most `count`: up to one at which it may stop, if that is
-    /// `watched`. Returns how many were made, none if the hart stands at a breakpoint.
+    /// Makes at most `count` turns of a hart on the straight path. If `watched`, ends before one in which the hart may
+    /// stop. Makes none if the hart stands at a breakpoint. Returns how many were made.
     #[inline(always)]
     #[tactic(auto, using(crate::proofs::Marking::none_at_a_mark))]
     pub(crate) fn straight_turns<const LOOP: u8>(
@@ -332,7 +332,7 @@ impl<M: Memory> Debugged<M> {
         most - left
     }
 
-    /// A turn of a hart: its step, or a stop at a breakpoint instead.
+    /// Makes a turn of a hart. Returns none if the hart stopped at a breakpoint instead of stepping.
     #[inline(always)]
     pub(crate) fn turn_or_stop<const LOOP: u8>(&mut self, hart: u32) -> Option<Stepped>
         requires { hart < length self.old.guest.board.harts }
@@ -347,7 +347,7 @@ impl<M: Memory> Debugged<M> {
         Some(self.turn_of::<LOOP>(hart))
     }
 
-    /// The same of a hart that may stop, which is rare.
+    /// Makes a turn of a hart that may stop, which is rare.
     #[cold]
     #[inline(never)]
     fn step_at_a_mark(&mut self, hart: u32) -> Option<Stepped>
@@ -360,7 +360,7 @@ impl<M: Memory> Debugged<M> {
         self.step(hart)
     }
 
-    /// One step of a hart that cannot stop instead, on the straight path if it can be made there.
+    /// Makes one step of a hart that cannot stop instead, on the straight path if possible.
     #[inline(always)]
     pub(crate) fn turn_of<const LOOP: u8>(&mut self, hart: u32) -> Stepped
         requires hart { hart < length self.old.guest.board.harts }
@@ -375,7 +375,7 @@ impl<M: Memory> Debugged<M> {
         self.board.step_straight::<LOOP>(hart)
     }
 
-    /// One step of a hart that cannot stop instead.
+    /// Makes one step of a hart that cannot stop instead.
     #[inline(always)]
     pub(crate) fn step_on(&mut self, hart: u32) -> Stepped
         requires hart { hart < length self.old.guest.board.harts }
@@ -392,7 +392,7 @@ impl<M: Memory> Debugged<M> {
 }
 
 impl Stop {
-    /// What ended turns, as an answer.
+    /// The answer to the step that ended the turns.
     pub fn reply(self) -> BoardReply
         ensures { result ≡ reply_of_stop self }
     {
@@ -404,7 +404,7 @@ impl Stop {
 }
 
 impl Order {
-    /// The hart that has the turn after that of a hart, of this many.
+    /// The hart that has the turn after hart `hart`, on a board of `harts` harts.
     #[inline(always)]
     pub(crate) fn next(self, hart: u32, harts: u32) -> u32
         requires within { hart < harts }
@@ -420,7 +420,7 @@ impl Order {
     }
 }
 
-/// What a turn of a hart at `pc` stopped for, if it did: none is no step.
+/// What ended the turns with a turn of a hart at `pc`, if it did. No step stands for a stop at a breakpoint.
 #[inline(always)]
 pub(crate) fn stop_of(pc: u32, step: Option<Stepped>) -> Option<Stop>
     ensures { result ≡ stop_in (step_reply pc step) }

@@ -1,4 +1,4 @@
-//! Bytes of RAM or of the console, in place.
+//! At most 256 bytes of RAM or of the console, kept in place.
 
 ghost use Rattle.std.specs.Prelude.{◌≡◌, [], ◌<◌, ◌≤◌, ◌↔◌, length, nat_eq, IfSome, IsNone};
 ghost use Rattle.std.specs.Cmp.{partial_equiv_from_equiv};
@@ -8,7 +8,7 @@ use crate::board::VIEW_SIZE;
 use arrayvec::ArrayVec;
 use std::marker::Model;
 
-/// At most 256 bytes.
+/// A list of at most 256 bytes.
 #[derive(Drop)]
 pub struct View {
     bytes: ArrayVec<u8, VIEW_SIZE>,
@@ -25,7 +25,7 @@ impl Model for View {
 }
 
 impl View {
-    /// These bytes, if they are at most 256.
+    /// A view of these bytes, if there are at most 256.
     pub fn new(bytes: &[u8]) -> Option<View>
         ensures view { IfSome result (λ v. v ≡ bytes.now) }
         ensures long { IsNone result ↔ (256 < length bytes.now) }
@@ -36,7 +36,7 @@ impl View {
         Some(View { bytes })
     }
 
-    /// No bytes.
+    /// A view of no bytes.
     pub fn empty() -> View
         ensures { result ≡ [] }
     {
@@ -45,7 +45,7 @@ impl View {
         }
     }
 
-    /// These bytes, which are at most 256.
+    /// A view of these bytes, of which there are at most 256.
     pub(crate) fn of(bytes: &[u8]) -> View
         requires { length bytes.now ≤ 256 }
         ensures { result ≡ bytes.now }
@@ -58,7 +58,7 @@ impl View {
         view
     }
 
-    /// The same bytes again.
+    /// A copy of the view.
     pub fn copy(&self) -> View
         ensures { result ≡ self.now }
     {

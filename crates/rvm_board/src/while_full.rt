@@ -9,9 +9,9 @@ use crate::turns::{Order, Turns, WHILE_FULL, stop_of};
 use rvm_mem::Memory;
 
 impl<M: Memory> Debugged<M> {
-    /// Makes turns of one hart after the other, at most `count`, from that of hart `first` on, as
-    /// `turns` does. They end also with a turn after which fewer than 16 bytes wait for the guest,
-    /// so that a byte can come again. Takes no memory.
+    /// Makes at most `count` turns of the harts in their order, from the turn of hart `first` on,
+    /// as `turns` does. Ends also after a turn that leaves fewer than 16 bytes waiting for the
+    /// guest, so that another byte can come. Takes no memory.
     #[inline(never)]
     pub fn turns_while_full(&mut self, first: u32, count: u32) -> Turns
         requires { first < length self.old.guest.board.harts }
@@ -43,7 +43,7 @@ impl<M: Memory> Debugged<M> {
         }
     }
 
-    /// Whether no byte more can come to the console.
+    /// Whether 16 bytes wait for the guest, so that no more can come.
     #[inline(always)]
     fn input_is_full(&self) -> bool
         ensures { result ≡ is_full self.now.guest }

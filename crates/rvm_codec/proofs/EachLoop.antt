@@ -1,4 +1,4 @@
--- A loop that reads this many values: those so far, before what is still to be read, are all of them.
+-- A loop that reads this many values: the values so far, followed by those still to be read, are all of them.
 use Rattle.std.proofs.Common.{◌≡◌, ℕ, suc, ◌+◌, ◌-◌, ◌<◌, ◌≤◌, List, [], ◌∷◌, ◌++◌, Option, Some, None, refl, sym, ap, ◌∙◌, append_assoc, append-nil, arith}
 use Rattle.std.specs.Prelude.{option_map, option_and_then}
 use Rattle.rvm_codec.specs.Codec.{read_each}

@@ -5,7 +5,7 @@ use Rattle.std.proofs.lemmas.List.{get_or-drop}
 use Rattle.rvm_codec.specs.Codec.{◌>>=◌}
 use Rattle.rvm_codec.specs.Exact.{IsBytes, Takes}
 
--- a step that gave something came from a step that did
+-- a step that gave a value came from a step that gave one
 pub bind_some : {A B : Type 0} (o : Option A) (f : A → Option B) (y : B) → (o >>= f) ≡ Some y → (x : A) × (o ≡ Some x) × (f x ≡ Some y)
 bind_some (Some x) f y e = (x, refl, e)
 bind_some None f y e = absurd cc
@@ -21,7 +21,7 @@ pub tested : {A : Type 0} (b : Bool) (x y : A) → cond b (Some x) None ≡ Some
 tested true x y e = (refl, cc)
 tested false x y e = absurd cc
 
--- a test that kept no value back
+-- a test that did not stop a value
 pub let_through : {A : Type 0} (b : Bool) (x y : A) → cond b None (Some x) ≡ Some y → (b ≡ false) × (x ≡ y)
 let_through true x y e = absurd cc
 let_through false x y e = (refl, cc)

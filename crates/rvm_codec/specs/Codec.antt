@@ -5,7 +5,7 @@ use Rattle.byteorder.specs.Endian.{little_bytes}
 use Rattle.rvm_codec.specs.Numbers.{number_at, within}
 
 infixl 10 ◌>>=◌
--- a step, and the next one with its value, where there is one
+-- a step, and the next one with its value, if it has one
 abbrev pub ◌>>=◌ : {A B : Type 0} → Option A → (A → Option B) → Option B
 o >>= f = option_and_then f o
 
@@ -39,7 +39,7 @@ number size test = record {
   read = λ bytes. number_at size bytes >>= λ n. if test n.0 then Some n else None;
 }
 
--- this many bytes and those after them, where there are as many
+-- this many bytes and those after them, if there are as many
 abbrev pub bytes_at : ℕ → List ℕ → Option (List ℕ × List ℕ)
 bytes_at count bytes =
     if nat_lt (length bytes) count then None else Some (take count bytes, drop count bytes)
@@ -52,7 +52,7 @@ raw count = record {
   read = bytes_at count;
 }
 
--- one after the other
+-- a value of each codec, in order
 abbrev pub both : {A B : Type 0} → Codec A → Codec B → Codec (A × B)
 both c d = record {
   fits = λ x. c.fits x.0 && d.fits x.1;
@@ -76,7 +76,7 @@ as_type c to from = record {
   read = λ bytes. c.read bytes >>= λ x. Some (to x.0, x.1);
 }
 
--- this many values, one after the other
+-- this many consecutive values
 unfoldable pub read_each : {A : Type 0} → (List ℕ → Option (A × List ℕ)) → ℕ → List ℕ
     → Option (List A × List ℕ)
 read_each read zero bytes = Some ([], bytes)
@@ -91,7 +91,7 @@ times n d = record {
   read = λ bytes. read_each d.read n bytes;
 }
 
--- a value, and a list of as many as it says
+-- a value, and a list of as many others as the value says
 abbrev pub then_each : {A B : Type 0} → Codec A → (A → ℕ) → Codec B → Codec (A × List B)
 then_each c count d = record {
   fits = λ x. c.fits x.0 && ((length x.1 == count x.0) && list_all d.fits x.1);
@@ -134,7 +134,7 @@ abbrev pub option_parts : Option ℕ → Bool × ℕ
 option_parts None = (false, 0)
 option_parts (Some n) = (true, n)
 
--- a flag and a number, which passes a test where the flag is set, and is 0 where it is not
+-- a flag and a number: if the flag is set, the number passes a test, else it is 0
 abbrev pub optional : Codec ℕ → (ℕ → Bool) → Codec (Option ℕ)
 optional c test =
     as_type (only (both flag c) (λ x. if x.0 then test x.1 else (x.1 == 0))) option_of option_parts

@@ -3,7 +3,7 @@ use Rattle.std.specs.Prelude.{◌≡◌, ℕ, ◌<◌, true, List, ◌++◌, Som
 use Rattle.rvm_codec.specs.Codec.{Codec}
 use Rattle.rvm_codec.specs.Format.{Format}
 
--- each is below 256
+-- each number is below 256
 abbrev pub IsBytes : List ℕ → Type 0
 IsBytes bytes = (i : ℕ) → slice_index bytes i < 256
 

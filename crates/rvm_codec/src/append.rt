@@ -1,5 +1,5 @@
-//! Fields put after the bytes of a vector, in room that the caller made: no call takes memory, and
-//! the capacity stays as it is.
+//! Appending fields to a vector, in room that the caller made: no function takes memory, and the capacity does not
+//! change.
 
 ghost use Rattle.std.specs.Prelude.{◌≡◌, ◌+◌, ◌*◌, ◌≤◌, ◌++◌, length, vec_len, vec_capacity};
 ghost use Rattle.std.specs.List.{flat_map};
@@ -9,7 +9,7 @@ ghost use Rattle.rvm_codec.specs.Codec.{flag};
 use byteorder::{ByteOrder, LittleEndian};
 use std::mem;
 
-/// Puts bytes after those that are there.
+/// Appends bytes, for which there must be room.
 pub fn append_bytes(out: &mut Vec<u8>, bytes: &[u8])
     requires { vec_len out.old + length bytes.now ≤ vec_capacity out.old }
     ensures items { out.new.items ≡ out.old.items ++ bytes.now }
@@ -21,7 +21,7 @@ pub fn append_bytes(out: &mut Vec<u8>, bytes: &[u8])
     *out = with_bytes(before, bytes);
 }
 
-/// The bytes of a vector, and others after them. It is not borrowed, so that they are copied at once.
+/// Appends bytes to a vector, which it owns, so that the compiler copies them at once.
 fn with_bytes(before: Vec<u8>, bytes: &[u8]) -> Vec<u8>
     requires { vec_len before + length bytes.now ≤ vec_capacity before }
     ensures items { result.items ≡ before.items ++ bytes.now }
@@ -35,7 +35,7 @@ fn with_bytes(before: Vec<u8>, bytes: &[u8]) -> Vec<u8>
     out
 }
 
-/// Puts a byte after those that are there.
+/// Appends a byte, for which there must be room.
 pub fn append_u8(out: &mut Vec<u8>, n: u8)
     requires { vec_len out.old + 1 ≤ vec_capacity out.old }
     ensures items { out.new.items ≡ out.old.items ++ little_bytes 1 n }
@@ -45,7 +45,7 @@ pub fn append_u8(out: &mut Vec<u8>, n: u8)
     append_bytes(out, &[n]);
 }
 
-/// Puts a flag after the bytes that are there.
+/// Appends a flag as a byte, 0 or 1, for which there must be room.
 pub fn append_flag(out: &mut Vec<u8>, is_set: bool)
     requires { vec_len out.old + 1 ≤ vec_capacity out.old }
     ensures items { out.new.items ≡ out.old.items ++ flag.write is_set }
@@ -59,7 +59,7 @@ pub fn append_flag(out: &mut Vec<u8>, is_set: bool)
     }
 }
 
-/// Puts a number of two bytes after those that are there.
+/// Appends a number of two bytes, for which there must be room.
 pub fn append_u16(out: &mut Vec<u8>, n: u16)
     requires { vec_len out.old + 2 ≤ vec_capacity out.old }
     ensures items { out.new.items ≡ out.old.items ++ little_bytes 2 n }
@@ -71,7 +71,7 @@ pub fn append_u16(out: &mut Vec<u8>, n: u16)
     append_bytes(out, &bytes);
 }
 
-/// Puts a number of four bytes after those that are there.
+/// Appends a number of four bytes, for which there must be room.
 pub fn append_u32(out: &mut Vec<u8>, n: u32)
     requires { vec_len out.old + 4 ≤ vec_capacity out.old }
     ensures items { out.new.items ≡ out.old.items ++ little_bytes 4 n }
@@ -83,7 +83,7 @@ pub fn append_u32(out: &mut Vec<u8>, n: u32)
     append_bytes(out, &bytes);
 }
 
-/// Puts a number of eight bytes after those that are there.
+/// Appends a number of eight bytes, for which there must be room.
 pub fn append_u64(out: &mut Vec<u8>, n: u64)
     requires { vec_len out.old + 8 ≤ vec_capacity out.old }
     ensures items { out.new.items ≡ out.old.items ++ little_bytes 8 n }
@@ -95,7 +95,7 @@ pub fn append_u64(out: &mut Vec<u8>, n: u64)
     append_bytes(out, &bytes);
 }
 
-/// Puts numbers of two bytes after those that are there.
+/// Appends numbers of two bytes each, for which there must be room.
 pub fn append_u16s(out: &mut Vec<u8>, numbers: &[u16])
     requires { vec_len out.old + 2 * length numbers.now ≤ vec_capacity out.old }
     ensures items { out.new.items ≡ out.old.items ++ flat_map (little_bytes 2) numbers.now }
@@ -107,7 +107,7 @@ pub fn append_u16s(out: &mut Vec<u8>, numbers: &[u16])
     }
 }
 
-/// Puts numbers of four bytes after those that are there.
+/// Appends numbers of four bytes each, for which there must be room.
 pub fn append_u32s(out: &mut Vec<u8>, numbers: &[u32])
     requires { vec_len out.old + 4 * length numbers.now ≤ vec_capacity out.old }
     ensures items { out.new.items ≡ out.old.items ++ flat_map (little_bytes 4) numbers.now }

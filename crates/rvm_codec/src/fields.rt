@@ -1,4 +1,5 @@
-//! Fields at the front of bytes, each given with the bytes after it; None where there are too few.
+//! Fields at the front of bytes. Each is returned with the bytes after it; None if there are too
+//! few bytes.
 
 ghost use Rattle.std.specs.Prelude.{◌≡◌, IfSome, length, option_map};
 ghost use Rattle.rvm_codec.specs.Codec.{any, bytes_at, flag, number};
@@ -6,7 +7,7 @@ ghost use Rattle.rvm_codec.specs.Numbers.{within};
 
 use byteorder::{ByteOrder, LittleEndian};
 
-/// A byte.
+/// Reads a byte.
 #[tactic(auto, unfolding(crate::specs::Numbers::number_at))]
 pub fn u8_at(bytes: &[u8]) -> Option<(u8, &[u8])>
     ensures { option_map (λ x. (x.0, x.1.now)) result ≡ (any 1).read bytes.now }
@@ -17,7 +18,7 @@ pub fn u8_at(bytes: &[u8]) -> Option<(u8, &[u8])>
     }
 }
 
-/// A number of two bytes.
+/// Reads a number of two bytes.
 #[tactic(auto, unfolding(crate::specs::Numbers::number_at))]
 pub fn u16_at(bytes: &[u8]) -> Option<(u16, &[u8])>
     ensures { option_map (λ x. (x.0, x.1.now)) result ≡ (any 2).read bytes.now }
@@ -28,7 +29,7 @@ pub fn u16_at(bytes: &[u8]) -> Option<(u16, &[u8])>
     Some((LittleEndian::read_u16(bytes), &bytes[2..]))
 }
 
-/// A number of four bytes.
+/// Reads a number of four bytes.
 #[tactic(auto, unfolding(crate::specs::Numbers::number_at))]
 pub fn u32_at(bytes: &[u8]) -> Option<(u32, &[u8])>
     ensures { option_map (λ x. (x.0, x.1.now)) result ≡ (any 4).read bytes.now }
@@ -39,7 +40,7 @@ pub fn u32_at(bytes: &[u8]) -> Option<(u32, &[u8])>
     Some((LittleEndian::read_u32(bytes), &bytes[4..]))
 }
 
-/// A number of eight bytes.
+/// Reads a number of eight bytes.
 #[tactic(auto, unfolding(crate::specs::Numbers::number_at))]
 pub fn u64_at(bytes: &[u8]) -> Option<(u64, &[u8])>
     ensures { option_map (λ x. (x.0, x.1.now)) result ≡ (any 8).read bytes.now }
@@ -50,7 +51,7 @@ pub fn u64_at(bytes: &[u8]) -> Option<(u64, &[u8])>
     Some((LittleEndian::read_u64(bytes), &bytes[8..]))
 }
 
-/// A byte from `low` to `high`; None also for another one.
+/// Reads a byte from `low` to `high`; None if it is another one.
 pub fn u8_within(low: u8, high: u8, bytes: &[u8]) -> Option<(u8, &[u8])>
     ensures { option_map (λ x. (x.0, x.1.now)) result
         ≡ (number 1 (within low high)).read bytes.now }
@@ -63,7 +64,7 @@ pub fn u8_within(low: u8, high: u8, bytes: &[u8]) -> Option<(u8, &[u8])>
     }
 }
 
-/// A number of two bytes from `low` to `high`; None also for another one.
+/// Reads a number of two bytes from `low` to `high`; None if it is another one.
 pub fn u16_within(low: u16, high: u16, bytes: &[u8]) -> Option<(u16, &[u8])>
     ensures { option_map (λ x. (x.0, x.1.now)) result
         ≡ (number 2 (within low high)).read bytes.now }
@@ -76,7 +77,7 @@ pub fn u16_within(low: u16, high: u16, bytes: &[u8]) -> Option<(u16, &[u8])>
     }
 }
 
-/// A number of four bytes from `low` to `high`; None also for another one.
+/// Reads a number of four bytes from `low` to `high`; None if it is another one.
 pub fn u32_within(low: u32, high: u32, bytes: &[u8]) -> Option<(u32, &[u8])>
     ensures { option_map (λ x. (x.0, x.1.now)) result
         ≡ (number 4 (within low high)).read bytes.now }
@@ -89,7 +90,7 @@ pub fn u32_within(low: u32, high: u32, bytes: &[u8]) -> Option<(u32, &[u8])>
     }
 }
 
-/// A flag: a byte that is 0 or 1; None also for another one.
+/// Reads a flag, a byte that is 0 or 1; None if it is another one.
 pub fn flag_at(bytes: &[u8]) -> Option<(bool, &[u8])>
     ensures { option_map (λ x. (x.0, x.1.now)) result ≡ flag.read bytes.now }
 {
@@ -97,7 +98,7 @@ pub fn flag_at(bytes: &[u8]) -> Option<(bool, &[u8])>
     Some((n == 1, rest))
 }
 
-/// This many bytes.
+/// Splits off the first `count` bytes.
 pub fn bytes_at(count: usize, bytes: &[u8]) -> Option<(&[u8], &[u8])>
     ensures value { option_map (λ x. (x.0.now, x.1.now)) result ≡ bytes_at count bytes.now }
     ensures length { IfSome result (λ x. length x.0.now ≡ count) }

@@ -1,7 +1,6 @@
-//! Values as bytes: little-endian numbers, lists of them, and codecs put together from smaller
-//! ones.
+//! Values as bytes: little-endian numbers, lists of them, and codecs put together from smaller ones.
 //!
-//! Stands on `byteorder` and `arrayvec`, and knows no format: frames, a board's state and images are described
+//! Stands on `byteorder` and `arrayvec`, and must not know any format: frames, a board's state and images are described
 //! with the codecs of `specs/`, and read and written with the functions here.
 //!
 //! To be read in this order: `fields`, `lists`, `append`, `write`, `laws`.

@@ -7,8 +7,8 @@ ghost use Rattle.rvm_codec.specs.Numbers.{rise_from, within};
 use crate::fields::{u16_within, u32_within};
 use arrayvec::ArrayVec;
 
-/// This many numbers of two bytes, each from `low` to `high`, and the bytes after them; None where
-/// there are too few bytes or a number is another one.
+/// Reads `count` numbers of two bytes, each from `low` to `high`. Returns them and the bytes after
+/// them; None if there are too few bytes or a number is another one.
 pub fn u16s_within<const CAP: usize>(
     count: usize,
     low: u16,
@@ -33,8 +33,8 @@ pub fn u16s_within<const CAP: usize>(
     Some((numbers, rest))
 }
 
-/// This many numbers of four bytes, each from `low` to `high`, and the bytes after them; None where
-/// there are too few bytes or a number is another one.
+/// Reads `count` numbers of four bytes, each from `low` to `high`. Returns them and the bytes after
+/// them; None if there are too few bytes or a number is another one.
 pub fn u32s_within<const CAP: usize>(
     count: usize,
     low: u32,

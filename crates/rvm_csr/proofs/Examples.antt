@@ -52,12 +52,12 @@ external_is_first = refl
 timer_is_vectored : trap_target (cause.Interrupt Timer) open_to_all ≡ 0x8000_0100 + 28
 timer_is_vectored = refl
 
--- with MIE clear none is
+-- no interrupt is pending if MIE is clear
 none_is_pending_with_mie_clear :
     pending all_interrupts (record open_to_all { interrupts_enabled = false }) ≡ None
 none_is_pending_with_mie_clear = refl
 
--- nor is one that mie lacks
+-- an interrupt is not pending if its bit in mie is clear
 software_needs_its_bit_in_mie :
     pending all_interrupts (record open_to_all { mie = record no_interrupts { timer = true } }) ≡ Some Timer
 software_needs_its_bit_in_mie = refl
@@ -92,7 +92,7 @@ mie_has_the_timers_bit_alone = refl
 mie_keeps_three_bits : interrupt_bits (interrupts_of 0xFFFF_FFFF) ≡ 0x888
 mie_keeps_three_bits = refl
 
--- the counters are of 64 bits, read and written by halves
+-- the counters have 64 bits, and are read and written by halves
 a_counter_goes_on_from_0 : (ticked true false (record (at_reset 0) { mcycle = 2 ^ 64 - 1 })).mcycle ≡ 0
 a_counter_goes_on_from_0 = refl
 

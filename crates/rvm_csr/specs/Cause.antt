@@ -25,7 +25,7 @@ interrupt_code Software = 3
 interrupt_code Timer = 7
 interrupt_code External = 11
 
--- what mcause holds: bit 31 is set for an interrupt
+-- the value of mcause: the number, with bit 31 set for an interrupt
 abbrev pub cause_number : Cause → ℕ
 cause_number (cause.Exception e) = exception_code e
 cause_number (cause.Interrupt i) = 2 ^ 31 + interrupt_code i

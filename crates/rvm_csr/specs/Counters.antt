@@ -7,11 +7,11 @@ pub record Counts : Type 0 where
   pub mcycle : ℕ
   pub minstret : ℕ
 
--- a counter of 64 bits after a step that it counts, or does not
+-- a 64-bit counter after a step, which it counts or not
 abbrev pub counted : Bool → ℕ → ℕ
 counted counts n = if counts then (n + 1) % 2 ^ 64 else n
 
--- the registers after a step that mcycle, and minstret, count or do not
+-- the CSRs after a step, given whether mcycle and minstret count it
 abbrev pub ticked : Bool → Bool → CsrState → CsrState
 ticked cycle instret s =
     record s { mcycle = counted cycle s.mcycle; minstret = counted instret s.minstret }

@@ -3,7 +3,7 @@ use Rattle.std.specs.Prelude.{◌≡◌, ℕ, ◌/◌, ◌%◌}
 use Rattle.rvm_csr.specs.declared.fields.CsrFields.{CsrFields}
 use Rattle.rvm_csr.specs.Registers.{CsrState}
 
--- the registers of the hart of a number that hold these values
+-- the CSRs of the hart with this number and these values
 abbrev pub with_number : ℕ → CsrFields → CsrState
 with_number hart f =
     record {
@@ -20,7 +20,7 @@ with_number hart f =
       minstret = f.minstret;
     }
 
--- the values that registers hold
+-- the values that CSRs hold
 abbrev pub fields_of : CsrState → CsrFields
 fields_of s =
     record {
@@ -36,7 +36,7 @@ fields_of s =
       minstret = s.minstret;
     }
 
--- values that registers can hold: bit 1 of mtvec and bits 1:0 of mepc are 0
+-- values that CSRs can hold: bit 1 of mtvec and bits 1 and 0 of mepc are 0
 pub record CanBeHeld (f : CsrFields) : Type 0 where
   pub mtvec : f.mtvec / 2 % 2 ≡ 0
   pub mepc : f.mepc % 4 ≡ 0

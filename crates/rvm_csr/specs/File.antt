@@ -2,7 +2,7 @@
 use Rattle.rvm_csr.specs.declared.file.CsrFile.TheInside.{Inside}
 use Rattle.rvm_csr.specs.Registers.{CsrState}
 
--- each register is kept in the field of its name, but the two counters together
+-- each CSR is kept in the field of its name, and the two counters in one field
 abbrev pub state_of : Inside → CsrState
 state_of file =
     record {

@@ -21,7 +21,7 @@ pub record CsrState : Type 0 where
 abbrev pub no_interrupts : Interrupts
 no_interrupts = record { software = false; timer = false; external = false }
 
--- after reset (Privileged ISA, "Reset"): all is 0 but the hart's number
+-- the CSRs after reset (Privileged ISA, "Reset"): all that is kept is 0 but the hart's number
 abbrev pub at_reset : ℕ → CsrState
 at_reset hart =
     record {
@@ -38,7 +38,7 @@ at_reset hart =
       minstret = 0;
     }
 
--- what the registers keep in every state: bit 1 of mtvec and bits 1:0 of mepc are 0
+-- what holds of the CSRs in every state: bit 1 of mtvec and bits 1 and 0 of mepc are 0
 pub record IsKept (s : CsrState) : Type 0 where
   pub mtvec : s.mtvec / 2 % 2 ≡ 0
   pub mepc : s.mepc % 4 ≡ 0
@@ -48,7 +48,7 @@ pub record IsKept (s : CsrState) : Type 0 where
 abbrev pub interrupt_bits : Interrupts → ℕ
 interrupt_bits i = bit (2 ^ 3) i.software + bit (2 ^ 7) i.timer + bit (2 ^ 11) i.external
 
--- the set that a word has
+-- the set of a word
 abbrev pub interrupts_of : ℕ → Interrupts
 interrupts_of w = record { software = is_set 3 w; timer = is_set 7 w; external = is_set 11 w }
 

@@ -17,7 +17,7 @@ pub record Row : Type 0 where
 abbrev pub one : ℕ → Csr → Row
 one number csr = record { first = number; last = number; csr = csr }
 
--- so do all of a range
+-- all numbers of a range have this register
 abbrev pub many : ℕ → ℕ → Csr → Row
 many first last csr = record { first = first; last = last; csr = csr }
 
@@ -54,7 +54,7 @@ unfoldable pub csr_at : ℕ → Option Csr
 csr_at number =
     option_map (λ r. r.csr) (find (λ r. nat_le r.first number && nat_le number r.last) table)
 
--- the value that is read; mip is what is pending at the hart. misa says RV32IMA
+-- the value that is read; mip is what is pending at the hart; misa says RV32IMA
 abbrev pub value_of : Csr → Interrupts → CsrState → ℕ
 value_of Mstatus mip s = mstatus_of s
 value_of Misa mip s = 0x40001101
@@ -80,7 +80,7 @@ value_of Mimpid mip s = 0
 value_of Mhartid mip s = s.hart
 value_of Mconfigptr mip s = 0
 
--- the registers after a write; one that is not named ignores it
+-- the registers after a write; those that are not named here ignore it
 abbrev pub written : Csr → ℕ → CsrState → CsrState
 written Mstatus v s = record s { interrupts_enabled = is_set 3 v; enabled_before = is_set 7 v }
 written Mie v s = record s { mie = interrupts_of v }
@@ -95,16 +95,16 @@ written Mcycleh v s = record s { mcycle = with_high v s.mcycle }
 written Minstreth v s = record s { minstret = with_high v s.minstret }
 written csr v s = s
 
--- the top two of a number's twelve bits are set where it is read-only
--- (Privileged ISA, "CSR Address Mapping Conventions")
+-- a register is read-only if the top two of its number's twelve bits are set (Privileged ISA, "CSR
+-- Address Mapping Conventions")
 abbrev pub is_read_only : ℕ → Bool
 is_read_only number = number / 2 ^ 10 % 4 == 3
 
--- the value that an instruction reads, or none where there is no such register
+-- the value that an instruction reads; none if there is no such register
 abbrev pub csr_read : ℕ → Interrupts → CsrState → Option ℕ
 csr_read number mip s = option_map (λ csr. value_of csr mip s) (csr_at number)
 
--- the registers after an instruction's write, or none where there is none to write
+-- the registers after an instruction's write; none if there is no such register or it is read-only
 abbrev pub csr_write : ℕ → ℕ → CsrState → Option CsrState
 csr_write number v s =
     if is_read_only number then None else option_map (λ csr. written csr v s) (csr_at number)

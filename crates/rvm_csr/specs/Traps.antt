@@ -17,14 +17,14 @@ trap_entered c value pc s =
 abbrev pub vector_base : CsrState → ℕ
 vector_base s = s.mtvec - s.mtvec % 4
 
--- the handler's address: where the mode is vectored, an interrupt goes past the base by four bytes
--- times its number
+-- the handler's address: the base; for an interrupt in vectored mode, four bytes times its number
+-- after the base
 abbrev pub trap_target : Cause → CsrState → ℕ
 trap_target (cause.Exception e) s = vector_base s
 trap_target (cause.Interrupt i) s =
     if s.mtvec % 2 == 1 then (vector_base s + 4 * interrupt_code i) % 2 ^ 32 else vector_base s
 
--- the registers after a return: MIE is what MPIE was, and MPIE is set
+-- the registers after a return from a trap: MIE gets the value of MPIE, and MPIE is set
 abbrev pub trap_left : CsrState → CsrState
 trap_left s = record s { interrupts_enabled = s.enabled_before; enabled_before = true }
 
@@ -34,8 +34,9 @@ has Software i = i.software
 has Timer i = i.timer
 has External i = i.external
 
--- an interrupt is pending where it is set in mip and in mie and MIE is set;
--- the first of external, software, timer is taken
+-- the interrupt that is taken: MIE is set, and its bit is set in mip and in mie; external comes
+-- before software, software before timer (Privileged ISA, "Machine Interrupt (mip and mie)
+-- Registers")
 abbrev pub pending : Interrupts → CsrState → Option Interrupt
 pending mip s =
     if s.interrupts_enabled

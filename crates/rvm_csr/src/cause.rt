@@ -3,8 +3,7 @@
 ghost use Rattle.std.specs.Prelude.{◌≡◌};
 ghost use Rattle.rvm_csr.specs.Cause.{cause_number, exception_code, interrupt_code};
 
-/// A synchronous exception, by its number in `mcause` (Privileged ISA, "Machine Cause (mcause)
-/// Register").
+/// A synchronous exception (Privileged ISA, "Machine Cause (mcause) Register").
 #[derive(Clone, Copy, Debug, PartialEq, Eq)]
 pub enum Exception {
     InstructionAddressMisaligned,
@@ -26,7 +25,7 @@ pub enum Interrupt {
     External,
 }
 
-/// What a hart traps for.
+/// The cause of a trap.
 #[derive(Clone, Copy, Debug, PartialEq, Eq)]
 pub enum Cause {
     Exception(Exception),
@@ -34,7 +33,7 @@ pub enum Cause {
 }
 
 impl Exception {
-    /// Its number in `mcause`: 0 to 7, or 11 for an environment call from machine mode.
+    /// The exception's number in `mcause`: 0 to 7, or 11 for an environment call from machine mode.
     pub fn code(self) -> u32
         ensures { result ≡ exception_code self }
     {
@@ -53,7 +52,7 @@ impl Exception {
 }
 
 impl Interrupt {
-    /// Its number in `mcause`, and its bit in `mip` and `mie`: 3, 7 or 11.
+    /// The interrupt's number in `mcause`, and its bit in `mip` and `mie`: 3, 7 or 11.
     pub fn code(self) -> u32
         ensures { result ≡ interrupt_code self }
     {
@@ -66,7 +65,7 @@ impl Interrupt {
 }
 
 impl Cause {
-    /// What `mcause` holds: the number, with bit 31 set for an interrupt.
+    /// The value of `mcause` for this cause: its number, with bit 31 set for an interrupt.
     pub fn number(self) -> u32
         ensures { result ≡ cause_number self }
     {

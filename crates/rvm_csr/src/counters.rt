@@ -5,12 +5,12 @@ ghost use Rattle.rvm_csr.specs.Counters.{counted};
 
 use std::marker::Model;
 
-/// `mcycle` and `minstret`. A step that retires an instruction lets both rise, so `mcycle` is kept
-/// beside their difference, which only other steps and writes change: such a step makes one addition.
+/// `mcycle` and `minstret`. Both rise with a step that retires an instruction, so `mcycle` is kept with their
+/// difference, which only other steps and writes change: a retiring step makes one addition.
 #[derive(Drop)]
 pub(crate) struct Counters {
     cycles: u64,
-    /// The cycles that retired no instruction: `mcycle - minstret` modulo 2^64.
+    /// The difference `mcycle - minstret`, modulo 2^64.
     unretired: u64,
 }
 
@@ -27,7 +27,7 @@ impl Model for Counters {
 }
 
 impl Counters {
-    /// These counters.
+    /// Counters with these values.
     pub(crate) fn new(mcycle: u64, minstret: u64) -> Counters
         ensures { result ≡ record { mcycle = mcycle; minstret = minstret } }
     {
@@ -37,7 +37,7 @@ impl Counters {
         }
     }
 
-    /// `mcycle`.
+    /// The value of `mcycle`.
     #[inline(always)]
     pub(crate) fn mcycle(&self) -> u64
         ensures { result ≡ self.now.mcycle }
@@ -45,7 +45,7 @@ impl Counters {
         self.cycles
     }
 
-    /// `minstret`.
+    /// The value of `minstret`.
     #[inline(always)]
     pub(crate) fn minstret(&self) -> u64
         ensures { result ≡ self.now.minstret }
@@ -53,8 +53,7 @@ impl Counters {
         self.cycles.wrapping_sub(self.unretired)
     }
 
-    /// Counts one step: `cycle` says whether `mcycle` rises, `instret` whether `minstret` does.
-    /// Both wrap at 2^64.
+    /// Counts one step: `cycle` says whether `mcycle` rises, `instret` whether `minstret` does. Both wrap at 2^64.
     #[inline(always)]
     pub(crate) fn tick(&mut self, cycle: bool, instret: bool)
         ensures { self.new ≡ record {
@@ -72,7 +71,7 @@ impl Counters {
         }
     }
 
-    /// Counts this many steps that both count. Both wrap at 2^64.
+    /// Counts this many steps, with each of which both counters rise. Both wrap at 2^64.
     #[inline(always)]
     pub(crate) fn tick_many(&mut self, steps: u32)
         ensures { self.new ≡ record {

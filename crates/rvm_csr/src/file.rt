@@ -1,4 +1,4 @@
-//! The registers of one hart.
+//! The CSRs of one hart.
 
 ghost use Rattle.std.specs.Prelude.{◌≡◌, ◌+◌, ◌%◌, ◌^◌, is_some, unwrap_or};
 ghost use Rattle.rvm_csr.specs.Registers.{at_reset, mstatus_of};
@@ -15,16 +15,16 @@ use crate::register::{Csr, is_read_only};
 use rvm_word::{bit, high_half, is_set, low_half, with_high, with_low};
 use std::marker::Model;
 
-/// What `misa` says: 32 bits, and the extensions I, M and A.
+/// The value of `misa`: 32-bit registers, and the extensions I, M and A.
 const RV32IMA: u32 = 1 << 30 | 1 << 12 | 1 << 8 | 1;
 
 /// The control and status registers of one hart.
 #[derive(Drop)]
 pub struct CsrFile {
     hart: u32,
-    /// `mstatus.MIE`: interrupts are taken.
+    /// `mstatus.MIE`: whether interrupts are taken.
     interrupts_enabled: bool,
-    /// `mstatus.MPIE`: they were, before the trap.
+    /// `mstatus.MPIE`: whether they were taken before the trap.
     enabled_before: bool,
     mie: Interrupts,
     mtvec: u32,
@@ -48,7 +48,8 @@ impl Model for CsrFile {
 }
 
 impl CsrFile {
-    /// The registers of a hart after reset: `mhartid` is the hart's number, all else 0.
+    /// The CSRs of a hart after reset (Privileged ISA, "Reset"): `mhartid` is the hart's number, and all else that is
+    /// kept is 0.
     pub fn new(hart: u32) -> CsrFile
         ensures { result ≡ at_reset hart }
     {
@@ -70,7 +71,7 @@ impl CsrFile {
         }
     }
 
-    /// The registers of a hart that hold these values.
+    /// The CSRs of hart `hart` with these values.
     pub fn restored(hart: u32, fields: CsrFields) -> CsrFile
         requires { CanBeHeld fields }
         ensures { result ≡ with_number hart fields }
@@ -89,7 +90,7 @@ impl CsrFile {
         }
     }
 
-    /// The values that the registers hold.
+    /// The values that the CSRs hold.
     pub fn fields(&self) -> CsrFields
         ensures fields { result ≡ fields_of self.now }
         ensures held { CanBeHeld result }
@@ -108,7 +109,7 @@ impl CsrFile {
         }
     }
 
-    /// The hart's number, as `mhartid` has it.
+    /// The hart's number, which `mhartid` shows.
     #[inline(always)]
     pub fn hart(&self) -> u32
         ensures { result ≡ self.now.hart }
@@ -116,8 +117,8 @@ impl CsrFile {
         self.hart
     }
 
-    /// The value that an instruction reads from the register of a number; `mip` is what is pending
-    /// at the hart now. None where the hart has no such register.
+    /// The value that an instruction reads from the CSR of this number. `mip` is what is pending at the hart now. None
+    /// if the hart has no such CSR.
     #[inline]
     pub fn read(&self, number: u32, mip: Interrupts) -> Option<u32>
         ensures { result ≡ csr_read number mip self.now }
@@ -126,8 +127,7 @@ impl CsrFile {
         Some(self.value_of(csr, mip))
     }
 
-    /// Writes the register of a number. None, and nothing changes, where the hart has no such register or
-    /// its number says that it is read-only.
+    /// Writes the CSR of this number. None, and nothing changes, if the hart has no such CSR or it is read-only.
     #[inline]
     pub fn write(&mut self, number: u32, value: u32) -> Option<()>
         ensures file { self.new ≡ unwrap_or (csr_write number value self.old) self.old }
@@ -141,9 +141,9 @@ impl CsrFile {
         Some(())
     }
 
-    /// Enters a trap from the instruction at `pc`, with the value for `mtval`, and answers the
-    /// address of the handler (Privileged ISA, "Privilege and Global Interrupt-Enable Stack in
-    /// mstatus register" and "Machine Trap-Vector Base-Address (mtvec) Register").
+    /// Enters a trap from the instruction at `pc`, with `value` in `mtval`. Returns the address of the handler
+    /// (Privileged ISA, "Privilege and Global Interrupt-Enable Stack in mstatus register" and "Machine Trap-Vector
+    /// Base-Address (mtvec) Register").
     #[inline(never)]
     pub fn enter_trap(&mut self, cause: Cause, value: u32, pc: u32) -> u32
         requires { pc % 4 ≡ 0 }
@@ -160,8 +160,7 @@ impl CsrFile {
         target
     }
 
-    /// Leaves a trap, and answers the address to go on at (Privileged ISA, "Trap-Return
-    /// Instructions").
+    /// Leaves a trap. Returns the address of the next instruction (Privileged ISA, "Trap-Return Instructions").
     pub fn mret(&mut self) -> u32
         ensures file { self.new ≡ trap_left self.old }
         ensures target { result ≡ self.old.mepc }
@@ -172,8 +171,8 @@ impl CsrFile {
         self.mepc
     }
 
-    /// The interrupt that is taken before the next instruction, if any; `mip` is what is pending at
-    /// the hart.
+    /// The interrupt that the hart takes before its next instruction, if any: of those that are pending and enabled,
+    /// external comes before software, software before timer. `mip` is what is pending at the hart.
     #[inline(always)]
     pub fn pending(&self, mip: Interrupts) -> Option<Interrupt>
         ensures { result ≡ pending mip self.now }
@@ -191,7 +190,7 @@ impl CsrFile {
         }
     }
 
-    /// Whether `mstatus.MIE` is set: where it is not, nothing is pending.
+    /// Whether `mstatus.MIE` is set. If it is not, the hart takes no interrupt.
     #[inline(always)]
     pub fn interrupts_enabled(&self) -> bool
         ensures { result ≡ self.now.interrupts_enabled }
@@ -208,7 +207,7 @@ impl CsrFile {
         self.counters.tick(cycle, instret);
     }
 
-    /// Counts this many steps that retired an instruction.
+    /// Counts this many steps, each of which retired an instruction.
     #[inline(always)]
     pub fn tick_many(&mut self, steps: u32)
         ensures { self.new ≡ record self.old {
@@ -219,7 +218,7 @@ impl CsrFile {
         self.counters.tick_many(steps);
     }
 
-    /// Whether `mie` has the timer interrupt.
+    /// Whether the bit of the timer interrupt in `mie` is set.
     #[inline(always)]
     pub fn timer_is_enabled(&self) -> bool
         ensures { result ≡ self.now.mie.timer }
@@ -227,7 +226,7 @@ impl CsrFile {
         self.mie.timer
     }
 
-    /// The value that is read from a register; `mip` is what is pending at the hart now.
+    /// The value of a CSR as it is read. `mip` is what is pending at the hart now.
     #[inline(always)]
     pub fn value_of(&self, csr: Csr, mip: Interrupts) -> u32
         ensures { result ≡ value_of csr mip self.now }
@@ -258,7 +257,7 @@ impl CsrFile {
         bit(1 << 3, self.interrupts_enabled) + bit(1 << 7, self.enabled_before) + (3 << 11)
     }
 
-    /// Writes a register; one that has no writable bits ignores it.
+    /// Writes a CSR. Bits that are not writable keep their values; a CSR without writable bits ignores the write.
     #[inline(always)]
     #[tactic(auto, using(crate::proofs::Masks::and_not_2))]
     pub fn set(&mut self, csr: Csr, value: u32)
@@ -309,8 +308,8 @@ impl CsrFile {
         self.counters = Counters::new(self.counters.mcycle(), value);
     }
 
-    /// The handler's address: past the base of `mtvec` by four bytes times its number for an
-    /// interrupt, where the mode is vectored.
+    /// The handler's address: the base in `mtvec`; for an interrupt in vectored mode, four bytes times its number after
+    /// the base.
     fn trap_target(&self, cause: Cause) -> u32
         ensures target { result ≡ trap_target cause self.now }
         ensures aligned { result % 4 ≡ 0 }

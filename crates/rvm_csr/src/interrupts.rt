@@ -1,4 +1,4 @@
-//! Sets of the three machine-level interrupts, as `mip` and `mie` have them.
+//! Sets of the three machine-level interrupts, as in `mip` and `mie`.
 
 ghost use Rattle.std.specs.Prelude.{◌≡◌};
 ghost use Rattle.rvm_csr.specs.Registers.{interrupt_bits, interrupts_of};
@@ -9,7 +9,7 @@ use rvm_word::{bit, is_set};
 /// Registers").
 #[derive(Clone, Copy, Debug, Default, PartialEq, Eq)]
 pub struct Interrupts {
-    /// Bit 3: another hart, or this one, wrote `msip`.
+    /// Bit 3: `msip` of the hart is set.
     pub software: bool,
     /// Bit 7: `mtime` has reached `mtimecmp`.
     pub timer: bool,
@@ -18,14 +18,14 @@ pub struct Interrupts {
 }
 
 impl Interrupts {
-    /// The word that `mip` or `mie` reads.
+    /// The word of `mip` or `mie` for this set.
     pub fn bits(self) -> u32
         ensures { result ≡ interrupt_bits self }
     {
         bit(1 << 3, self.software) + bit(1 << 7, self.timer) + bit(1 << 11, self.external)
     }
 
-    /// The set that a word of `mie` has; its other bits are ignored.
+    /// The set of a word that is written to `mie`; the word's other bits are ignored.
     pub fn from_bits(word: u32) -> Interrupts
         ensures { result ≡ interrupts_of word }
     {

@@ -1,8 +1,8 @@
 //! The control and status registers of one hart, its traps and its counters (Privileged ISA,
 //! chapters "Control and Status Registers" and "Machine-Level ISA").
 //!
-//! Stands on `rvm_word`, and knows nothing of instructions, memory or devices: which interrupts are
-//! pending at the hart is told to it as an `Interrupts`.
+//! Stands on `rvm_word`, and must not know instructions, memory or devices: the caller passes the
+//! interrupts that are pending at the hart, as an `Interrupts`.
 //!
 //! To be read in this order: `interrupts`, `cause`, `register`, `counters`, `fields`, `file`.
 #![tactic(auto)]

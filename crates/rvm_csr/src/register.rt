@@ -1,10 +1,10 @@
-//! Which registers there are.
+//! The CSRs that a hart has, and their numbers.
 
 ghost use Rattle.std.specs.Prelude.{◌≡◌};
 ghost use Rattle.rvm_csr.specs.Table.{csr_at, is_read_only};
 
-/// A register of a hart, by its name in the manual. Where the manual has a row of registers
-/// of one kind (`mhpmcounter3` to `mhpmcounter31`), one name stands for the row.
+/// A CSR of a hart, by its name in the manual (Privileged ISA, "CSR Listing"). One name stands for
+/// registers that the manual numbers in a row, as `mhpmcounter3` to `mhpmcounter31`.
 #[derive(Clone, Copy, Debug, PartialEq, Eq)]
 pub enum Csr {
     Mstatus,
@@ -33,7 +33,7 @@ pub enum Csr {
 }
 
 impl Csr {
-    /// The register of a number, if a hart has one there.
+    /// The CSR of this number, if a hart has it.
     #[inline(always)]
     #[tactic(auto, unfolding(crate::specs::Table::table, crate::specs::Table::csr_at))]
     pub fn at(number: u32) -> Option<Csr>
@@ -68,8 +68,8 @@ impl Csr {
     }
 }
 
-/// Whether a register's number says that it is read-only: its top two bits are set (Privileged ISA,
-/// "CSR Address Mapping Conventions").
+/// Whether the CSR of this number is read-only: the top two of the number's twelve bits are set
+/// (Privileged ISA, "CSR Address Mapping Conventions").
 #[inline]
 pub fn is_read_only(number: u32) -> bool
     ensures { result ≡ is_read_only number }

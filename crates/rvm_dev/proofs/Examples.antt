@@ -52,11 +52,11 @@ time_has_come = refl
 time_is_to_come : timer_is_pending 1 timed ≡ false
 time_is_to_come = refl
 
--- as an unsigned number
+-- they are compared as unsigned numbers
 all_ones_is_far : timer_is_pending 0 (at_reset 1) ≡ false
 all_ones_is_far = refl
 
--- a byte that waits interrupts hart 0, and no other, where it may
+-- a byte that waits interrupts hart 0, and no other, if interrupts are enabled
 abbrev waiting : DeviceState
 waiting = record (at_reset 2) { input = 0x61 ∷ 0x62 ∷ []; interrupt_enable = true }
 

@@ -1,11 +1,11 @@
--- What the devices keep, and what a load and a store of each word do.
+-- What the devices keep, and what a load or a store of each word does.
 use Rattle.std.specs.Prelude.{ℕ, ◌+◌, ◌-◌, ◌%◌, ◌^◌, Bool, true, false, ◌&&◌, not, ◌==◌, nat_lt, nat_le, if◌then◌else◌, List, [], ◌∷◌, ◌++◌, length, Option, Some, None, option_map, get_or, slice_set, replicate, drop}
 use Rattle.rvm_word.specs.Bits.{bit, is_set, low_half, high_half, with_low, with_high}
 use Rattle.rvm_dev.specs.declared.register.Register.{Register}
 use Rattle.rvm_dev.specs.declared.register.Register.TheVariants.{Halt, Msip, MtimecmpLow, MtimecmpHigh, MtimeLow, MtimeHigh, Transmit, Receive, Status, InterruptEnable}
 use Rattle.rvm_dev.specs.Map.{register_at}
 
--- msip and mtimecmp have one for each hart; input and output are queues, oldest byte first
+-- msip and mtimecmp have one value for each hart; input and output are queues, oldest byte first
 pub record DeviceState : Type 0 where
   pub msip : List Bool
   pub mtimecmp : List ℕ
@@ -30,16 +30,16 @@ at_reset harts =
       halted = None;
     }
 
--- the oldest input byte, or all ones
+-- the oldest byte of input, or all ones if there is none
 abbrev pub received : List ℕ → ℕ
 received [] = 2 ^ 32 - 1
 received (b ∷ bytes) = b
 
--- a byte waits for the guest
+-- a byte of input waits for the guest
 abbrev pub is_waiting : List ℕ → Bool
 is_waiting bytes = nat_lt 0 (length bytes)
 
--- the guest can send
+-- the output queue has room for a byte
 abbrev pub has_room : List ℕ → Bool
 has_room output = nat_lt (length output) 4096
 
@@ -56,12 +56,12 @@ value_of Receive d = received d.input
 value_of Status d = bit 1 (is_waiting d.input) + bit 2 (has_room d.output) + bit 4 d.overrun
 value_of InterruptEnable d = bit 1 d.interrupt_enable
 
--- the devices after a load: a load of the receive word consumes its byte
+-- the devices after a load: a load of the receive word takes its byte
 abbrev pub after_load : Register → DeviceState → DeviceState
 after_load Receive d = record d { input = drop 1 d.input }
 after_load r d = d
 
--- a byte that is sent into a full queue is dropped, and sets overrun
+-- the guest sends a byte; if the output queue is full, the byte is dropped and overrun is set
 abbrev pub sent : ℕ → DeviceState → DeviceState
 sent byte d =
     if has_room d.output
@@ -91,7 +91,7 @@ register_of address d = register_at (length d.msip) address
 abbrev pub value_loaded : ℕ → DeviceState → Option ℕ
 value_loaded address d = option_map (λ r. value_of r d) (register_of address d)
 
--- a load of no word changes nothing
+-- the devices after a load of a word; without a word nothing changes
 abbrev pub loaded_from : Option Register → DeviceState → DeviceState
 loaded_from None d = d
 loaded_from (Some r) d = after_load r d
@@ -104,10 +104,11 @@ loaded address d = loaded_from (register_of address d) d
 abbrev pub stored : ℕ → ℕ → DeviceState → Option DeviceState
 stored address v d = option_map (λ r. after_store r v d) (register_of address d)
 
--- the timer interrupt of a hart is pending while the time has reached its mtimecmp, unsigned
+-- the timer interrupt of a hart is pending if mtime has reached its mtimecmp, compared unsigned
+-- (Privileged ISA, "Machine Timer (mtime and mtimecmp) Registers")
 abbrev pub timer_is_pending : ℕ → DeviceState → Bool
 timer_is_pending hart d = nat_le (get_or d.mtimecmp hart 0) d.mtime
 
--- the console interrupts hart 0 while a byte waits and it may
+-- the console interrupts hart 0 while it is enabled and a byte of input waits
 abbrev pub external_is_pending : ℕ → DeviceState → Bool
 external_is_pending hart d = hart == 0 && d.interrupt_enable && is_waiting d.input

@@ -1,9 +1,9 @@
--- What the fields of the devices show, and what they keep.
+-- What the fields of the devices show, and what always holds of them.
 use Rattle.std.specs.Prelude.{◌≡◌, ◌≤◌, length, take}
 use Rattle.rvm_dev.specs.declared.devices.Devices.TheInside.{Inside}
 use Rattle.rvm_dev.specs.Devices.{DeviceState}
 
--- the words of as many harts as there are, and what waits in the queues
+-- the words of each hart, and the bytes in the queues
 abbrev pub state_of : Inside → DeviceState
 state_of d =
     record {
@@ -17,7 +17,7 @@ state_of d =
       halted = d.halted;
     }
 
--- there are at most 8 harts, each has its words, and no queue holds more than it may
+-- there are at most 8 harts, each has its words, and no queue has more bytes than it may
 pub record IsKept (d : Inside) : Type 0 where
   pub harts : d.harts ≤ 8
   pub msip : d.harts ≤ length d.msip

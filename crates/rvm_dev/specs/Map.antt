@@ -1,11 +1,11 @@
--- Which device word stands at an address.
--- The software interrupts and the timer lie as in the RISC-V ACLINT specification.
+-- Which device word is at an address. The software interrupts and the timer lie as in the RISC-V
+-- ACLINT specification.
 use Rattle.std.specs.Prelude.{⊤, ◌<◌, ℕ, ◌+◌, ◌-◌, ◌*◌, ◌/◌, ◌%◌, Bool, ◌&&◌, ◌==◌, nat_le, nat_lt, if◌then◌else◌, Option, Some, None}
 use Rattle.rvm_dev.specs.declared.register.Register.{Register}
 use Rattle.rvm_dev.specs.declared.register.Register.TheVariants.{Halt, Msip, MtimecmpLow, MtimecmpHigh, MtimeLow, MtimeHigh, Transmit, Receive, Status, InterruptEnable}
 
--- the address is that of a word in a row of one for each hart,
--- which begins at first and has a word every this many bytes
+-- an address has a word of a row with one for each hart, which begins at first and has a word every
+-- stride bytes
 abbrev pub is_word_of : (first stride harts address : ℕ) → Bool
 is_word_of first stride harts address =
     nat_le first address && nat_lt address (first + stride * harts) &&
@@ -29,7 +29,7 @@ register_at harts a =
     if a == 0x10000008 then Some Status else
     if a == 0x1000000C then Some InterruptEnable else None
 
--- the word, if each hart has one, is that of one of this many harts
+-- a word of which each hart has one belongs to one of this many harts
 abbrev pub IsOfHart : ℕ → Register → Type 0
 IsOfHart harts (Msip h) = h < harts
 IsOfHart harts (MtimecmpLow h) = h < harts

@@ -3,12 +3,12 @@ use Rattle.std.specs.Prelude.{ℕ, Bool, List, slice_set}
 use Rattle.rvm_dev.specs.declared.fields.DeviceFields.{DeviceFields}
 use Rattle.rvm_dev.specs.Devices.{DeviceState}
 
--- the values that all harts share
+-- the values that the devices keep for all harts, without the queues
 abbrev pub fields_of : DeviceState → DeviceFields
 fields_of d =
     record { mtime = d.mtime; interrupt_enable = d.interrupt_enable; overrun = d.overrun; halted = d.halted }
 
--- the devices with other values that all harts share, and other bytes in the queues
+-- the devices with other values for all harts, and other bytes in the queues
 abbrev pub restored : DeviceFields → (input output : List ℕ) → DeviceState → DeviceState
 restored f input output d =
     record d {
@@ -20,7 +20,7 @@ restored f input output d =
       halted = f.halted;
     }
 
--- the devices with other words of a hart
+-- the devices with other words of one hart
 abbrev pub hart_restored : (hart : ℕ) → (msip : Bool) → (mtimecmp : ℕ) → DeviceState → DeviceState
 hart_restored h msip mtimecmp d =
     record d { msip = slice_set d.msip h msip; mtimecmp = slice_set d.mtimecmp h mtimecmp }

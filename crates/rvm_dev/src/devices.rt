@@ -14,16 +14,16 @@ use std::alloc::{AllocError, Global};
 use std::marker::Model;
 use thiserror::Error;
 
-/// How many bytes may wait for the guest.
+/// The most bytes of input that wait for the guest.
 pub const INPUT_CAPACITY: usize = 16;
 
-/// How many bytes may wait for the console.
+/// The most bytes that the guest sent and that were not taken.
 pub const OUTPUT_CAPACITY: usize = 4096;
 
 /// The most harts that a board has.
 const MAX_HARTS: usize = 8;
 
-/// As many bytes wait as there is room for; the byte was not taken.
+/// 16 bytes of input wait; the byte was not taken.
 #[derive(Clone, Copy, Debug, PartialEq, Eq, Error)]
 #[error("{INPUT_CAPACITY} input bytes wait")]
 pub struct InputFull;
@@ -65,7 +65,7 @@ impl Model for Devices {
 }
 
 impl Devices {
-    /// The devices at reset: mtimecmp all ones, all else 0. The one call that takes memory.
+    /// The devices at reset: mtimecmp is all ones, all else 0. It is the only function here that takes memory.
     #[tactic(auto, using(crate::proofs::Harts::harts))]
     pub fn new(alloc: Global, harts: u32) -> Result<Devices, AllocError>
         requires { harts ≤ 8 }
@@ -84,8 +84,8 @@ impl Devices {
         })
     }
 
-    /// The word at an aligned address, if a device has one there; a load of the receive word takes
-    /// the oldest input byte.
+    /// Loads the word at an aligned address, if a device has one there. A load of the receive word takes the oldest
+    /// byte of input.
     #[cold]
     #[inline(never)]
     pub fn load(&mut self, address: u32) -> Option<u32>
@@ -96,7 +96,8 @@ impl Devices {
         Some(self.load_register(register))
     }
 
-    /// Stores a word at an aligned address, and says which one; None, and nothing changes, where no device has one.
+    /// Stores a word at an aligned address. Returns which word it was; none, and nothing changes, if no device has one
+    /// there.
     #[cold]
     #[inline(never)]
     pub fn store(&mut self, address: u32, value: u32) -> Option<Register>
@@ -108,7 +109,7 @@ impl Devices {
         Some(register)
     }
 
-    /// The time is one step later; it wraps at 2^64.
+    /// Advances mtime by one step; it wraps at 2^64.
     #[inline(always)]
     pub fn tick(&mut self)
         ensures { self.new ≡ record self.old { mtime = (self.old.mtime + 1) % 2 ^ 64 } }
@@ -116,7 +117,7 @@ impl Devices {
         self.mtime = self.mtime.wrapping_add(1);
     }
 
-    /// The time is this many steps later; it wraps at 2^64.
+    /// Advances mtime by this many steps; it wraps at 2^64.
     #[inline(always)]
     pub fn tick_many(&mut self, steps: u32)
         ensures { self.new ≡ record self.old { mtime = (self.old.mtime + steps) % 2 ^ 64 } }
@@ -124,7 +125,7 @@ impl Devices {
         self.mtime = self.mtime.wrapping_add(u64::from(steps));
     }
 
-    /// How many steps, of at most `count`, are made while the time has not reached a hart's mtimecmp.
+    /// The number of steps, at most `count`, that can be made before mtime reaches a hart's mtimecmp.
     #[inline(always)]
     pub fn steps_to_timer(&self, hart: u32, count: u32) -> u32
         requires { hart < length self.now.msip }
@@ -135,7 +136,7 @@ impl Devices {
         steps_between(self.mtime, self.mtimecmp(hart), count)
     }
 
-    /// A byte comes to the console.
+    /// Gives the console a byte of input. `InputFull`, and nothing changes, if 16 bytes wait.
     pub fn input(&mut self, byte: u8) -> Result<(), InputFull>
         ensures taken { OnOk result
             (self.new ≡ record self.old { input = self.old.input ++ byte ∷ [] }) }
@@ -145,7 +146,7 @@ impl Devices {
         self.input.try_push_back(byte).map_err(|_| InputFull)
     }
 
-    /// Whether as many bytes wait for the guest as there is room for.
+    /// Whether 16 bytes of input wait, so that no more can come.
     #[inline(always)]
     pub fn input_is_full(&self) -> bool
         ensures { result ≡ (length self.now.input == 16) }
@@ -153,7 +154,7 @@ impl Devices {
         self.input.is_full()
     }
 
-    /// Takes the oldest bytes that were sent, as many as there are and fit, and says how many.
+    /// Takes the oldest bytes that the guest sent, as many as fit into `bytes`. Returns their number.
     pub fn drain(&mut self, bytes: &mut [u8]) -> usize
         ensures count { result ≡ min (length bytes.old) (length self.old.output) }
         ensures bytes { bytes.new ≡ take result self.old.output ++ drop result bytes.old }
@@ -162,7 +163,7 @@ impl Devices {
         self.output.read_into(bytes)
     }
 
-    /// How many bytes wait for the console.
+    /// The number of bytes that the guest sent and that were not taken.
     #[inline(always)]
     pub fn waiting(&self) -> usize
         ensures { result ≡ length self.now.output }
@@ -178,7 +179,7 @@ impl Devices {
         self.halted
     }
 
-    /// How many harts the board has.
+    /// The number of the board's harts.
     #[tactic(auto, using(crate::proofs::Harts::harts))]
     pub fn harts(&self) -> u32
         ensures { result ≡ length self.now.msip }
@@ -196,7 +197,7 @@ impl Devices {
         msip[hart as usize]
     }
 
-    /// Whether the timer interrupt of a hart is pending: the time has reached its mtimecmp.
+    /// Whether the timer interrupt of a hart is pending: mtime has reached its mtimecmp.
     #[inline(always)]
     pub fn timer_is_pending(&self, hart: u32) -> bool
         requires { hart < length self.now.msip }
@@ -205,7 +206,8 @@ impl Devices {
         self.mtimecmp(hart) <= self.mtime
     }
 
-    /// Whether the external interrupt of a hart is pending: the console interrupts hart 0 alone.
+    /// Whether the external interrupt of a hart is pending. The console interrupts hart 0 alone, while it is enabled
+    /// and a byte of input waits.
     #[inline(always)]
     pub fn external_is_pending(&self, hart: u32) -> bool
         ensures { result ≡ external_is_pending hart self.now }
@@ -213,7 +215,7 @@ impl Devices {
         hart == 0 && self.interrupt_enable && !self.input.is_empty()
     }
 
-    /// The values that all harts share.
+    /// What the devices keep for all harts, without the queues.
     #[tactic(auto, using(crate::proofs::Harts::harts))]
     pub fn fields(&self) -> DeviceFields
         ensures fields { result ≡ fields_of self.now }
@@ -227,8 +229,8 @@ impl Devices {
         }
     }
 
-    /// The bytes that wait for the guest, at most 16, oldest first: those of the first slice, then
-    /// those of the second.
+    /// The bytes of input that wait for the guest, at most 16, oldest first: those of the first slice, then those of
+    /// the second.
     pub fn input_bytes(&self) -> (&[u8], &[u8])
         ensures bytes { result.0.now ++ result.1.now ≡ self.now.input }
         ensures bound { length self.now.input ≤ 16 }
@@ -236,7 +238,7 @@ impl Devices {
         self.input.as_slices()
     }
 
-    /// The bytes that wait for the console, at most 4096, oldest first: those of the first slice,
+    /// The bytes that the guest sent and that were not taken, at most 4096, oldest first: those of the first slice,
     /// then those of the second.
     pub fn output_bytes(&self) -> (&[u8], &[u8])
         ensures bytes { result.0.now ++ result.1.now ≡ self.now.output }
@@ -245,7 +247,7 @@ impl Devices {
         self.output.as_slices()
     }
 
-    /// Sets the values that all harts share, and the bytes of the queues.
+    /// Sets what the devices keep for all harts, and the bytes that wait in both queues.
     pub fn restore(&mut self, fields: DeviceFields, input: &[u8], output: &[u8])
         requires input { length input.now ≤ 16 }
         requires output { length output.now ≤ 4096 }
@@ -261,8 +263,7 @@ impl Devices {
         self.output.fill_from_slice(output);
     }
 
-    /// Sets whether the software interrupt of a hart is pending, and when its timer interrupt
-    /// begins to be.
+    /// Sets whether the software interrupt of a hart is pending, and its mtimecmp.
     pub fn restore_hart(&mut self, hart: u32, msip: bool, mtimecmp: u64)
         requires { hart < length self.old.msip }
         ensures { self.new ≡ hart_restored hart msip mtimecmp self.old }
@@ -279,7 +280,7 @@ impl Devices {
         Register::at(self.harts, address)
     }
 
-    /// Loads a word.
+    /// Loads a device word.
     fn load_register(&mut self, register: Register) -> u32
         requires { IsOfHart (length self.old.msip) register }
         ensures value { result ≡ value_of register self.old }
@@ -298,7 +299,7 @@ impl Devices {
         }
     }
 
-    /// The time at which the timer interrupt of a hart begins to be pending.
+    /// A hart's mtimecmp, the time from which on its timer interrupt is pending.
     #[inline(always)]
     #[tactic(auto, using(crate::proofs::Harts::harts))]
     pub fn mtimecmp(&self, hart: u32) -> u64
@@ -309,7 +310,7 @@ impl Devices {
         mtimecmp[hart as usize]
     }
 
-    /// Sets that time.
+    /// Sets a hart's mtimecmp.
     #[tactic(auto, using(crate::proofs::Harts::harts))]
     fn set_mtimecmp(&mut self, hart: u32, time: u64)
         requires { hart < length self.old.msip }
@@ -329,7 +330,7 @@ impl Devices {
         msip[hart as usize] = pending;
     }
 
-    /// Takes the oldest input byte, or answers all ones where none waits.
+    /// Takes the oldest byte of input; all ones if none waits.
     fn receive(&mut self) -> u32
         ensures value { result ≡ received self.old.input }
         ensures devices { self.new ≡ record self.old { input = drop 1 self.old.input } }
@@ -347,7 +348,7 @@ impl Devices {
         bit(1, !self.input.is_empty()) + bit(2, !self.output.is_full()) + bit(4, self.overrun)
     }
 
-    /// Stores a word.
+    /// Stores a device word.
     fn store_register(&mut self, register: Register, value: u32)
         requires { IsOfHart (length self.old.msip) register }
         ensures { self.new ≡ after_store register value self.old }
@@ -370,7 +371,7 @@ impl Devices {
         }
     }
 
-    /// Sends a byte to the console; where there is no room, drops it and says so in the status.
+    /// Sends a byte to the console. If the output queue is full, drops the byte and sets overrun.
     fn send(&mut self, byte: u8)
         ensures { self.new ≡ sent byte self.old }
     {
@@ -380,7 +381,7 @@ impl Devices {
     }
 }
 
-/// How many steps, of at most `count`, are made from one time to another.
+/// The number of steps from time `now` to time `then`, at most `count`; 0 if `then` is not after `now`.
 #[inline(always)]
 fn steps_between(now: u64, then: u64, count: u32) -> u32
     ensures within { result ≤ count }

@@ -1,24 +1,24 @@
-//! Which device words there are.
+//! The words of the devices, and their addresses.
 
 ghost use Rattle.std.specs.Prelude.{◌≡◌, ◌≤◌, ◌<◌, ◌+◌, ◌*◌, ◌^◌, if◌then◌else◌, Some, None};
 ghost use Rattle.rvm_dev.specs.Map.{register_at, is_word_of, hart_of};
 
-/// The word that halts the board.
+/// The address of the word that halts the board.
 pub const HALT: u32 = 0x0010_0000;
 
-/// The software interrupt of hart 0; each hart has the next word.
+/// The address of hart 0's software interrupt; each next hart has the next word.
 pub const MSIP: u32 = 0x0200_0000;
 
-/// The timer compare of hart 0, its low half first; each hart has the next two words.
+/// The address of hart 0's mtimecmp, low half first; each next hart has the next two words.
 pub const MTIMECMP: u32 = 0x0200_4000;
 
-/// The time, its low half first.
+/// The address of mtime, low half first.
 pub const MTIME: u32 = 0x0200_BFF8;
 
-/// Its high half.
+/// The address of the high half of mtime.
 pub const MTIME_HIGH: u32 = MTIME + 4;
 
-/// The console's words: transmit, receive, status and interrupt enable.
+/// The address of the console's words: transmit, receive, status and interrupt enable.
 pub const CONSOLE: u32 = 0x1000_0000;
 
 const RECEIVE: u32 = CONSOLE + 4;
@@ -34,27 +34,27 @@ pub enum Register {
     Halt,
     /// Bit 0: the software interrupt of a hart.
     Msip(u32),
-    /// The low half of the time at which a hart's timer interrupt begins to be pending.
+    /// The low half of a hart's mtimecmp, the time from which on its timer interrupt is pending.
     MtimecmpLow(u32),
-    /// Its high half.
+    /// The high half of a hart's mtimecmp.
     MtimecmpHigh(u32),
-    /// The low half of the time, in steps of the board.
+    /// The low half of mtime, in steps of the board.
     MtimeLow,
-    /// Its high half.
+    /// The high half of mtime.
     MtimeHigh,
     /// A store sends its low 8 bits.
     Transmit,
-    /// A load takes the oldest byte that came, or gives all ones.
+    /// A load takes the oldest byte of input, or gives all ones if there is none.
     Receive,
-    /// Bit 0: a byte came; bit 1: there is room to send; bit 2: a byte was dropped for want of
-    /// room, until a store with bit 2 set.
+    /// Bit 0: a byte of input waits; bit 1: the output queue has room; bit 2: a byte was dropped
+    /// because it had none, until a store with bit 2 set.
     Status,
-    /// Bit 0: the console interrupts hart 0 while a byte waits.
+    /// Bit 0: the console interrupts hart 0 while a byte of input waits.
     InterruptEnable,
 }
 
 impl Register {
-    /// The device word at an address of a board of this many harts, if there is one.
+    /// The device word at an address, on a board of this many harts, at most 8, if there is one.
     #[tactic(auto, unfolding(crate::specs::Map::register_at))]
     pub fn at(harts: u32, address: u32) -> Option<Register>
         requires { harts ≤ 8 }
@@ -82,8 +82,8 @@ impl Register {
     }
 }
 
-/// The hart whose word stands at an address, in a row of one for each hart that begins at `first`
-/// and has a word every `stride` bytes.
+/// The hart whose word is at an address, in a row that has one for each hart, begins at `first` and
+/// has a word every `stride` bytes.
 fn hart_at(first: u32, stride: u32, harts: u32, address: u32) -> Option<u32>
     requires some { 0 < stride }
     requires fits { first + stride * harts < 2 ^ 32 }

@@ -58,7 +58,7 @@ whole_decided : (o : Option Received) → whole o ≡ Ok None → ⊥
 whole_decided None h = cc
 whole_decided (Some x) h = cc
 
--- what all of a body is, and what that comes to
+-- what a whole body is, and the verdict on it
 pub some_given : (v : Option ℕ) (before piece : List ℕ) (n : ℕ) (o : Option Received) (x : Received) → o ≡ Some x → Decides v before piece n (whole o) → Decides v before piece n (Ok (Some x))
 some_given v before piece n o x e d = subst (λ (y : Option Received). Decides v before piece n (whole y)) e d
 
@@ -329,14 +329,14 @@ body_whole v head body piece all seen there n es et hl is len some le w =
     let same : frame_of (names_hosts v) head all ≡ frame_behind (names_hosts v) seen there = behind_is (names_hosts v) head all hl ∙ ap (λ (x : List ℕ). frame_behind (names_hosts v) x all) (sym es) ∙ ap (λ (x : List ℕ). frame_behind (names_hosts v) seen x) (sym et) in
     subst (λ (y : Option Received). Decides v (head ++ body) piece n (whole y)) same (step_whole v head body piece all n (omega (arith, hl)) is (omega (arith, hl, len)) some le w)
 
--- a body of which bytes lack
+-- a body that is not whole
 pub body_short : (v : Option ℕ) (head body piece all : List ℕ) (n want : ℕ) → length head ≡ header_len (names_hosts v) → want ≡ wanted (names_hosts v) head - header_len (names_hosts v) → all ≡ body ++ take n piece → length all < want → 0 < n → n ≤ length piece → verdict v (head ++ body) ≡ Ok None → Goes v (head ++ body) piece n
 body_short v head body piece all n want hl ew is lt some le w =
     let l = taken_len body piece all n is le in
     let i = wanted_is (names_hosts v) head body (omega (arith, hl)) in
     step_less v (head ++ body) piece n w some le (omega (arith, i, l, lt, hl, ew, length-append head body))
 
--- how many bytes of the body lack
+-- how many bytes of the body are missing
 pub body_lacks : (v : Option ℕ) (head body : List ℕ) → length head ≡ header_len (names_hosts v) → verdict v (head ++ body) ≡ Ok None → header_len (names_hosts v) + length body < wanted (names_hosts v) head
 body_lacks v head body hl w =
     let i = wanted_is (names_hosts v) head body (omega (arith, hl)) in

@@ -137,7 +137,7 @@ no_frame_first g f a x behind fits stand longer same waits =
     let z = front (spelling f) behind a x longer same in
     whole_or_past g f z.0 fits stand (ap (verdict g) z.1 ∙ waits)
 
--- no frame that may stand there begins the stream where a reader refuses it
+-- at the byte at which a reader refuses the stream, no frame begins that may come next
 none_begins : (g : Option ℕ) (rest piece more : List ℕ) (n : ℕ) (e : ReadFault) (f : Received) (behind : List ℕ) → verdict g rest ≡ Ok None → Decides g rest piece n (Err e) → HasSpelling f → MayStand g f
     → (rest ++ take n piece) ++ more ≡ spelling f ++ behind → ⊥
 none_begins g rest piece more n e f behind waits d fits stand same =

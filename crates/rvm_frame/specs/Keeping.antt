@@ -4,7 +4,7 @@ use Rattle.rvm_frame.specs.declared.frame.Frame.{Frame}
 use Rattle.rvm_frame.specs.declared.frame.Frame.TheVariants.{Page, Lost, State, Part}
 use Rattle.rvm_frame.specs.Pages.{zeros}
 
--- the bytes of a page, unless all of them are zeros, of a state or of a piece of one, and the numbers of lost pages
+-- a Page, unless all its bytes are zeros, a Lost, a State and a Part keep memory
 abbrev pub KeepsMemory : Frame → Type 0
 KeepsMemory (Page n page number bytes) = bytes ≢ zeros
 KeepsMemory (Lost n pages) = Unit {0}

@@ -7,7 +7,7 @@ use Rattle.rvm_frame.specs.declared.page.Kept.TheVariants.{Zeros, Whole}
 abbrev pub zeros : List ℕ
 zeros = replicate 4096 0
 
--- the bytes of a page that is kept so
+-- the bytes of a page, given how they are kept
 abbrev pub page_in : Kept → List ℕ
 page_in Zeros = zeros
 page_in (Whole bytes) = bytes.items

@@ -6,7 +6,7 @@ use Rattle.rvm_frame.specs.declared.frame.Frame.TheVariants.{State}
 use Rattle.rvm_frame.specs.Grammar.{body_fits, sent}
 use Rattle.rvm_frame.specs.Kinds.{hosts_fit, kind_of, move_fits, move_of}
 
--- a body whose values lie in their limits is not too long: only that of a State can be
+-- a body whose values are within their limits is not too long: only a State's can be
 abbrev pub is_short : Frame → Bool
 is_short (State m numbers bytes) = nat_le (2 + 4 * length numbers + length bytes) 32768
 is_short f = true

@@ -11,7 +11,7 @@ use Rattle.rvm_frame.specs.Grammar.{Received}
 use Rattle.rvm_frame.specs.Verdict.{Decides, header_at, verdict, wanted, with_hosts}
 use Rattle.rvm_frame.specs.Reader.{Refuses}
 
--- the stream's version once Hello came, and the bytes of the frame that is not whole
+-- the stream's version if Hello has come, and the bytes of the frame that is not whole
 pub record Beginning : Type 0 where
   pub version : Option ℕ
   pub bytes : List ℕ
@@ -22,8 +22,8 @@ stored Closed = []
 stored (Page part) = part
 stored (Other body) = body.items
 
--- A store is open from the header's last byte on. That of a Page has bytes after the six of its
--- numbers, that of another body room for all of it.
+-- A store is open from the header's last byte on. A Page's store has the bytes after its numbers,
+-- which are six bytes; any other body's has room for all of the body.
 abbrev pub Kept : Bool → List ℕ → Store → Type 0
 Kept named head Closed = length head < header_len named
 Kept named head (Page part) =
@@ -33,8 +33,8 @@ Kept named head (Page part) =
 Kept named head (Other body) =
     (length head ≡ header_len named) × (wanted named head ≤ header_len named + vec_capacity body)
 
--- from and to where they are named, the move number, page number and copy number in the head of a
--- Page
+-- from and to if they are named, the move number, the page number and the copy number in the head
+-- of a Page
 unfoldable pub front_of : Bool → List ℕ → Option (Option (ℕ × ℕ) × ℕ × ℕ × ℕ)
 front_of named [] = None
 front_of named (b ∷ bytes) =
@@ -49,13 +49,13 @@ frame_of named (b ∷ bytes) body =
     kind_at b >>= λ k. header_at named bytes >>= λ h.
     with_hosts h.0 (contents k h.1 (h.3 ++ body))
 
--- the same, where the head is the header
+-- the frame whose header is the head, and whose body these bytes are
 unfoldable pub frame_behind : Bool → List ℕ → List ℕ → Option Received
 frame_behind named [] body = None
 frame_behind named (b ∷ bytes) body =
     kind_at b >>= λ k. header_at named bytes >>= λ h. with_hosts h.0 (contents k h.1 body)
 
--- n bytes of the piece, at least one, are taken, and nothing is decided by them
+-- n bytes of the piece, at least one, are taken, and decide nothing
 pub record Goes (version : Option ℕ) (before piece : List ℕ) (n : ℕ) : Type 0 where
   pub some : 0 < n
   pub within_piece : n ≤ length piece

@@ -1,5 +1,4 @@
-//! Little-endian numbers, one after the other, in an array: a header, or the numbers at the front of
-//! a body.
+//! Consecutive little-endian numbers in an array: a header, or the numbers at the front of a body.
 
 ghost use Rattle.std.specs.Prelude.{◌≡◌, ◌+◌, ◌≤◌, ◌++◌, [], length};
 ghost use Rattle.byteorder.specs.Endian.{little_bytes};
@@ -8,7 +7,7 @@ use arrayvec::ArrayVec;
 use byteorder::{ByteOrder, LittleEndian};
 use std::marker::Model;
 
-/// Little-endian numbers of at most 15 bytes in all; contracts see their bytes.
+/// Consecutive little-endian numbers, at most 15 bytes in all. Contracts see their bytes.
 #[derive(Drop)]
 pub struct Fields {
     bytes: ArrayVec<u8, 15>,
@@ -23,7 +22,7 @@ impl Model for Fields {
 }
 
 impl Fields {
-    /// No number.
+    /// Fields without a number.
     pub(crate) fn new() -> Fields
         ensures { result ≡ [] }
     {
@@ -32,7 +31,7 @@ impl Fields {
         }
     }
 
-    /// These numbers and the bytes of another one.
+    /// These numbers, then the bytes of another one.
     fn with(mut self, bytes: &[u8]) -> Fields
         requires { length self + length bytes.now ≤ 15 }
         ensures { result ≡ self ++ bytes.now }
@@ -43,7 +42,7 @@ impl Fields {
         self
     }
 
-    /// These numbers and one of one byte.
+    /// These numbers, then a number of one byte.
     pub(crate) fn with_u8(self, n: u8) -> Fields
         requires { length self + 1 ≤ 15 }
         ensures { result ≡ self ++ little_bytes 1 n }
@@ -51,7 +50,7 @@ impl Fields {
         self.with(&[n])
     }
 
-    /// These numbers and one of two bytes.
+    /// These numbers, then a number of two bytes.
     pub(crate) fn with_u16(self, n: u16) -> Fields
         requires { length self + 2 ≤ 15 }
         ensures { result ≡ self ++ little_bytes 2 n }
@@ -61,7 +60,7 @@ impl Fields {
         self.with(&bytes)
     }
 
-    /// These numbers and one of four bytes.
+    /// These numbers, then a number of four bytes.
     pub(crate) fn with_u32(self, n: u32) -> Fields
         requires { length self + 4 ≤ 15 }
         ensures { result ≡ self ++ little_bytes 4 n }
@@ -71,7 +70,7 @@ impl Fields {
         self.with(&bytes)
     }
 
-    /// These numbers and one of eight bytes.
+    /// These numbers, then a number of eight bytes.
     pub(crate) fn with_u64(self, n: u64) -> Fields
         requires { length self + 8 ≤ 15 }
         ensures { result ≡ self ++ little_bytes 8 n }

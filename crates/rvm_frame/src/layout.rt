@@ -1,4 +1,4 @@
-//! How the body of each kind of frame is laid out.
+//! The layout of each kind of body.
 
 ghost use Rattle.std.specs.Prelude.{◌≡◌, ◌++◌, true};
 ghost use Rattle.rvm_frame.specs.Grammar.{body_fits, body_of};
@@ -7,8 +7,8 @@ ghost use Rattle.rvm_frame.specs.Layout.{joined};
 use crate::fields::Fields;
 use crate::frame::Frame;
 
-/// A body in parts, one after the other: its fields of fixed size, the page numbers of Lost, the
-/// copy numbers of State, and the bytes to its end.
+/// The parts of a body, in their order: its fields of fixed size, the page numbers of Lost, the
+/// copy numbers of State, and all other bytes.
 #[derive(Drop)]
 pub struct Body<'a> {
     pub(crate) fields: Fields,
@@ -17,7 +17,7 @@ pub struct Body<'a> {
     pub(crate) bytes: &'a [u8],
 }
 
-/// A body of fields, and bytes after them.
+/// A body of fields and the bytes after them.
 #[tactic(auto)]
 fn fields_and_bytes(fields: Fields, bytes: &[u8]) -> Body<'_>
     ensures { joined result.fields result.page_numbers.now result.copy_numbers.now result.bytes.now

@@ -1,11 +1,11 @@
-//! The frames by which two hosts speak during a move, as bytes: one spelling a frame, whether a frame has one, and a
-//! reader that takes a stream in whatever pieces it comes.
+//! The frames that two hosts send each other during a move, as bytes: each frame's one spelling, a test whether a frame
+//! has one, and a reader that takes a stream in pieces of any size.
 //!
-//! Stands on `rvm_codec` and the numbered refusals, and knows nothing of guests, moves or hosts:
-//! what a frame means is told above.
+//! Stands on `rvm_codec` and the numbered refusals, and must not know guests, moves or hosts: the crates above define
+//! what a frame means.
 //!
-//! To be read in this order: `items`, `page`, `part`, `frame`, `addressed`, `kind`, `fault`, `body`, `read`,
-//! `fields`, `layout`, `write`, `spelling_limits`, `spelling`, `unfinished`, `reader`, `laws`.
+//! To be read in this order: `items`, `page`, `part`, `frame`, `addressed`, `kind`, `fault`, `body`, `read`, `fields`,
+//! `layout`, `write`, `spelling_limits`, `spelling`, `unfinished`, `reader`, `laws`.
 #![tactic(auto)]
 
 mod addressed;

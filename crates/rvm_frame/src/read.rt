@@ -1,4 +1,4 @@
-//! What bytes are, where a frame begins, and reading one whole frame.
+//! What the bytes from the beginning of a frame are, and reading one whole frame.
 
 ghost use Rattle.std.specs.Prelude.{◌≡◌, Option, Some, IfOk, option_map};
 ghost use Rattle.rvm_frame.specs.Grammar.{Received, Spells};
@@ -12,8 +12,7 @@ use crate::kind::{Kind, hosts_fit, limit_of, names_hosts};
 use rvm_codec::{u8_at, u32_at, u64_at};
 use std::alloc::Global;
 
-/// A header after its kind: from and to where it names them, the move number, and the length of
-/// the body.
+/// A header after its kind: from and to if it names them, the move number, and the number of bytes of the body.
 #[derive(Clone, Copy)]
 pub struct Header {
     pub(crate) hosts: Option<(u8, u8)>,
@@ -21,7 +20,7 @@ pub struct Header {
     pub(crate) len: u32,
 }
 
-/// From and to, where headers name them, and the bytes after them.
+/// From and to, if headers name them, and the bytes after them; none if there are too few bytes.
 fn hosts_of(named: bool, bytes: &[u8]) -> Option<(Option<(u8, u8)>, &[u8])>
     ensures { option_map (λ x. (x.0, x.1.now)) result ≡ hosts_at named bytes.now }
 {
@@ -33,7 +32,7 @@ fn hosts_of(named: bool, bytes: &[u8]) -> Option<(Option<(u8, u8)>, &[u8])>
     Some((Some((from, to)), rest))
 }
 
-/// The move number, the length of the body, and the bytes after them.
+/// The move number, the number of bytes of the body, and the bytes after these two; none if there are too few bytes.
 fn numbers_of(bytes: &[u8]) -> Option<(u64, u32, &[u8])>
     ensures { option_map (λ x. (x.0, x.1, x.2.now)) result ≡ numbers_at bytes.now }
 {
@@ -42,7 +41,7 @@ fn numbers_of(bytes: &[u8]) -> Option<(u64, u32, &[u8])>
     Some((move_number, len, rest))
 }
 
-/// The header in front of bytes, and those after it.
+/// The header after its kind, and the bytes after it; none if there are too few bytes.
 pub(crate) fn header_of(named: bool, bytes: &[u8]) -> Option<(Header, &[u8])>
     ensures { option_map (λ x. (x.0.hosts, x.0.move_number, x.0.len, x.1.now)) result
         ≡ header_at named bytes.now }
@@ -57,7 +56,7 @@ pub(crate) fn header_of(named: bool, bytes: &[u8]) -> Option<(Header, &[u8])>
     Some((header, rest))
 }
 
-/// What the bytes after a header are: None as long as the body is not whole.
+/// What the bytes after a header are: the body of a frame, or None as long as it is not whole.
 #[tactic(auto, unfolding(crate::specs::Verdict::after_header))]
 fn judge_body(
     alloc: Global,
@@ -93,7 +92,7 @@ fn judge_body(
     }
 }
 
-/// What the bytes are, where a frame begins: a whole frame, or None for a beginning of one.
+/// What the bytes from the beginning of a frame are: a whole frame, or None if they only begin one.
 pub(crate) fn judge(
     alloc: Global,
     version: Option<u32>,
@@ -118,7 +117,7 @@ pub(crate) fn judge(
     }
 }
 
-/// The frame that all of the bytes spell, in a stream of this version.
+/// The frame that all of the bytes spell in a stream of this version.
 fn one_frame(alloc: Global, version: u32, bytes: &[u8]) -> Result<Received, ReadFault>
     ensures { Gives result (one_frame_of (verdict (Some version) bytes.now)) }
 {
@@ -129,9 +128,9 @@ fn one_frame(alloc: Global, version: u32, bytes: &[u8]) -> Result<Received, Read
     }
 }
 
-/// The one frame that the bytes spell in a stream of this version, any but Hello, with from and to
-/// in version 3. TooLong where the header's length is above the version's limit, BadFrame where the
-/// bytes are no such frame, end inside it or go on after it, and OutOfMemory only where they are one.
+/// The one frame that the bytes spell in a stream of this version, with from and to in version 3; it is never a Hello.
+/// `TooLong` if the header's length is above the version's limit; `BadFrame` if the bytes are no such frame, end inside
+/// it or go on after it; `OutOfMemory` only if they are such a frame.
 pub fn read_frame(alloc: Global, version: u32, bytes: &[u8]) -> Result<Received, ReadFault>
     // What is read is spelled so.
     ensures found { IfOk result (λ x. Spells (Some version) bytes.now x) }

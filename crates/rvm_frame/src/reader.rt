@@ -24,7 +24,8 @@ fn version_behind(version: Option<u32>, frame: &Frame) -> Option<u32>
     }
 }
 
-/// Takes bytes of a piece up to the end of the first whole frame.
+/// Takes the bytes of a piece up to the end of the first whole frame. Returns how many it took, and the frame if there
+/// is one. After a fault nothing has changed.
 fn gather(
     alloc: Global,
     bytes: &mut Unfinished,
@@ -56,7 +57,7 @@ fn gather(
     Ok((used, None))
 }
 
-/// A reader of one direction's stream: one Hello, and then frames without Hello.
+/// A reader of the stream in one direction: one Hello, and then frames of other kinds.
 #[derive(Debug, Drop)]
 pub struct FrameReader {
     failed: bool,
@@ -92,17 +93,17 @@ impl FrameReader {
         }
     }
 
-    /// The stream's version, once Hello came.
+    /// The stream's version, if its Hello has come.
     pub fn version(&self) -> Option<u32>
         ensures { result ≡ self.now.version }
     {
         self.unfinished.version()
     }
 
-    /// Takes bytes of a piece up to the end of the first whole frame, and says how many, with the
-    /// frame, and with its from and to in version 3; without one it takes all of them. BadFrame and
-    /// TooLong come at the byte at which the stream is refused, and Failed from then on. OutOfMemory
-    /// comes only where the piece is not refused, and leaves the reader as before.
+    /// Takes the bytes of a piece up to the end of the first whole frame, or all of them if there is
+    /// none. Returns how many it took, and the frame, with from and to in version 3. `BadFrame` and
+    /// `TooLong` come at the byte at which the stream is refused, and `Failed` from then on.
+    /// `OutOfMemory` comes only if the piece is not refused, and leaves the reader unchanged.
     pub fn feed(
         &mut self,
         alloc: Global,
@@ -117,8 +118,8 @@ impl FrameReader {
         ensures next { IfOk result (λ r. self.new ≡ next_of self.old piece.now r.1) }
         ensures open { IfOk result (λ r. self.old.failed ≡ false) }
 
-        // A refusal comes at the first byte at which what came is refused; memory runs out only where
-        // none comes.
+        // A refusal comes at the first byte at which the stream is refused; memory runs out only if the
+        // piece has no such byte.
         ensures refused { IfErr result (λ fault. Faults self.old piece.now fault) }
         ensures after { IfErr result (λ fault. self.new ≡ faulted_of self.old fault) }
         ensures failed { self.old.failed ≡ true → result ≡ Err FrameFault.Failed }

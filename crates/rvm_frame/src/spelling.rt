@@ -19,7 +19,7 @@ fn names_hosts(version: u32, frame: &Frame) -> bool
     }
 }
 
-/// Whether the hosts that a frame goes between can be named where its header names them.
+/// Whether the header can name the hosts that a frame goes between, if it names hosts at all.
 fn hosts_fit(version: u32, addressed: &Addressed) -> bool
     ensures { result ≡ hosts_fit (sent version addressed.now).0 }
 {
@@ -30,7 +30,7 @@ fn hosts_fit(version: u32, addressed: &Addressed) -> bool
     }
 }
 
-/// Whether all values of a frame lie in their limits.
+/// Whether all values of a frame are within their limits, and its body is not too long.
 fn is_spelled(version: u32, addressed: &Addressed) -> bool
     ensures { result ≡ is_spelled version addressed.now }
 {
@@ -40,8 +40,8 @@ fn is_spelled(version: u32, addressed: &Addressed) -> bool
         && is_short(&addressed.frame)
 }
 
-/// Whether a frame, as it goes from one host to another, has a spelling in streams of a version: its
-/// values lie in their limits, and its body has at most 32768 bytes.
+/// Whether a frame with its hosts has a spelling in streams of this version: its values are within their limits, and
+/// its body has at most 32768 bytes. This does not say that a stream of this version may have a frame of its kind.
 #[tactic(auto, using(crate::proofs::Exactly::spelled_exactly))]
 pub fn has_spelling(version: u32, addressed: &Addressed) -> bool
     ensures { (result ≡ true) ↔ HasSpelling (sent version addressed.now) }

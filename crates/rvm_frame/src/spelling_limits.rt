@@ -12,7 +12,7 @@ use crate::body::is_piece;
 use crate::frame::Frame;
 use rvm_codec::u16s_rise;
 
-/// Whether all numbers are page numbers.
+/// Whether all numbers are page numbers: at most 4095.
 fn are_pages(numbers: &[u16]) -> bool
     ensures { result ≡ list_all (within 0 4095) numbers.now }
 {
@@ -36,28 +36,28 @@ fn are_copies(numbers: &[u32]) -> bool
     true
 }
 
-/// Whether these are the pages of a Lost.
+/// Whether these can be the pages of a Lost.
 fn lost_fits(pages: &[u16]) -> bool
     ensures { result ≡ lost.fits pages.now }
 {
     1 <= pages.len() && pages.len() <= 4096 && are_pages(pages) && u16s_rise(pages)
 }
 
-/// Whether these are the copy numbers of a State.
+/// Whether these can be the copy numbers of a State.
 fn state_fits(copy_numbers: &[u32], bytes: &[u8]) -> bool
     ensures { result ≡ state.fits (copy_numbers.now, bytes.now) }
 {
     1 <= copy_numbers.len() && copy_numbers.len() <= 4096 && are_copies(copy_numbers)
 }
 
-/// Whether these are the numbers of a RoundEnd: all are.
+/// Whether these can be the numbers of a RoundEnd: any can.
 fn round_end_fits(_round: u16, _sent: u16, _skipped: u16, _left: u16) -> bool
     ensures { result ≡ round_end.fits (_round, (_sent, (_skipped, _left))) }
 {
     true
 }
 
-/// Whether the values of a frame, beside its move number, lie in their limits.
+/// Whether the values of a frame, without its move number, are within their limits.
 pub(crate) fn body_fits(frame: &Frame) -> bool
     ensures { result ≡ body_fits frame.now }
 {
@@ -112,7 +112,7 @@ pub(crate) fn body_fits(frame: &Frame) -> bool
     }
 }
 
-/// Whether a body whose values lie in their limits is not too long.
+/// Whether a body whose values are within their limits has at most 32768 bytes.
 pub(crate) fn is_short(frame: &Frame) -> bool
     ensures { result ≡ is_short frame.now }
 {
@@ -126,7 +126,7 @@ pub(crate) fn is_short(frame: &Frame) -> bool
     }
 }
 
-/// Whether a frame has the number of a move; Hello has none.
+/// Whether a frame has a possible move number: not 0. Hello has none.
 pub(crate) fn move_fits(frame: &Frame) -> bool
     ensures { result ≡ move_fits (kind_of frame.now) (move_of frame.now) }
 {

@@ -1,6 +1,6 @@
-//! The bytes of a frame that is not whole, where they are kept: the header and a Page's numbers in
-//! an array, a Page's bytes where the page will have them, any other body in a vector with room for
-//! all of it. The memory for either is asked for with the header's last byte; a Page asks for no more.
+//! The bytes of a frame that is not whole: the header and a Page's numbers in an array, a Page's bytes where the page
+//! will have them, and any other body in a vector with room for all of it. The memory for a body is asked for with the
+//! header's last byte; a Page needs no more.
 
 ghost use Rattle.std.specs.Prelude.{◌≡◌, ◌+◌, ◌<◌, ◌≤◌, ◌++◌, [], Option, length, min, take, true, Some, Ok, None, IfOk, IfErr, OnErr, is_some, option_map, vec_capacity};
 ghost use Rattle.rvm_frame.specs.Kinds.{header_len, names_hosts};
@@ -25,14 +25,14 @@ use std::mem;
 /// The header, and the numbers of a Page.
 type Head = ArrayVec<u8, 21>;
 
-/// The bytes after the head.
+/// Where the bytes after the head are kept.
 #[derive(Debug, Drop)]
 pub enum Store {
-    /// Before the header's last byte.
+    /// Nowhere, before the header's last byte.
     Closed,
-    /// The bytes of a Page.
+    /// In the page, for a Page.
     Page(PagePart),
-    /// Another body.
+    /// In a vector, for each other kind.
     Other(Vec<u8>),
 }
 
@@ -56,7 +56,7 @@ impl Model for Unfinished {
     ghost invariant = { λ s. Kept (names_hosts s.version) s.head.items s.store };
 }
 
-/// How many bytes the next check needs.
+/// The number of bytes, from the frame's first on, that the next check needs.
 fn next_check(named: bool, bytes: &[u8]) -> usize
     ensures { result ≡ wanted named bytes.now }
 {
@@ -76,7 +76,7 @@ fn lesser(a: usize, b: usize) -> usize
     if a < b { a } else { b }
 }
 
-/// Puts bytes of a piece after the head, as long as it is shorter than the limit.
+/// Appends bytes of a piece to the head, until it has `limit` bytes. Returns how many.
 fn take_head(head: &mut Head, limit: usize, piece: &[u8]) -> usize
     requires room { length head.old.items < limit }
     requires limited { limit ≤ 21 }
@@ -93,7 +93,7 @@ fn take_head(head: &mut Head, limit: usize, piece: &[u8]) -> usize
     count
 }
 
-/// Puts bytes of a piece after those of a page.
+/// Appends bytes of a piece to a page, until it is whole. Returns how many.
 fn take_page(part: &mut PagePart, piece: &[u8]) -> usize
     requires room { length part.old < 4096 }
     requires some { 0 < length piece.now }
@@ -107,7 +107,7 @@ fn take_page(part: &mut PagePart, piece: &[u8]) -> usize
     count
 }
 
-/// Puts bytes of a piece after those of a body, as long as it is shorter than wanted.
+/// Appends bytes of a piece to a body, until it has `want` bytes. Returns how many.
 fn take_body(body: &mut Vec<u8>, want: usize, piece: &[u8]) -> usize
     requires room { length body.old.items < want }
     requires reserved { want ≤ vec_capacity body.old }
@@ -123,7 +123,8 @@ fn take_body(body: &mut Vec<u8>, want: usize, piece: &[u8]) -> usize
     count
 }
 
-/// From and to, move number, page number and copy number of a Page.
+/// From and to, the move number, the page number and the copy number in the head of a Page; none if they are not all
+/// there or out of their limits.
 #[tactic(auto, unfolding(crate::specs::Unfinished::front_of))]
 fn page_front(named: bool, head: &[u8]) -> Option<(Option<(u8, u8)>, u64, u16, u32)>
     ensures { option_map (λ x. (x.0, x.1, x.2, x.3)) result ≡ front_of named head.now }
@@ -139,7 +140,7 @@ fn page_front(named: bool, head: &[u8]) -> Option<(Option<(u8, u8)>, u64, u16, u
     }
 }
 
-/// The store of a body, with the memory for all of its bytes.
+/// An empty store for the body of this head, with the memory for all of its bytes.
 fn open_store(alloc: Global, named: bool, head: &[u8]) -> Result<Store, AllocError>
     requires { length head.now ≡ header_len named }
     ensures { IfOk result (λ store. Kept named head.now store × (stored store ≡ [])) }
@@ -153,7 +154,7 @@ fn open_store(alloc: Global, named: bool, head: &[u8]) -> Result<Store, AllocErr
     }
 }
 
-/// Whether the bytes are the whole of a body after this head; takes no memory.
+/// Whether the bytes are a whole body for this head. Takes no memory.
 #[tactic(auto, unfolding(crate::specs::Unfinished::frame_behind))]
 fn is_whole_body(named: bool, head: &[u8], body: &[u8]) -> bool
     ensures { result ≡ is_some (frame_behind named head.now body.now) }
@@ -167,7 +168,8 @@ fn is_whole_body(named: bool, head: &[u8], body: &[u8]) -> bool
     header_of(named, rest).is_some() && is_body(kind, body)
 }
 
-/// What comes of a piece after a head whose body got no memory.
+/// The fault to report if there is no memory for the body of this head: `BadFrame` if the piece has all of a body that
+/// is none, else `OutOfMemory`.
 fn without_memory(version: Option<u32>, head: &[u8], piece: &[u8]) -> ReadFault
     requires header { length head.now ≡ header_len (names_hosts version) }
     requires waits { verdict version head.now ≡ Ok None }
@@ -185,7 +187,7 @@ fn without_memory(version: Option<u32>, head: &[u8], piece: &[u8]) -> ReadFault
     }
 }
 
-/// Up to where a head without all of its header is filled: to the kind's byte or the header's last.
+/// The length up to which a head without its whole header is filled: to the kind's byte, or to the header's last one.
 #[tactic(auto, using(crate::proofs::Parts::head_wanted, crate::proofs::Headers::header_at_least, crate::proofs::Headers::header_at_most))]
 fn head_limit(named: bool, head: &[u8]) -> usize
     requires { length head.now < header_len named }
@@ -201,7 +203,7 @@ fn head_limit(named: bool, head: &[u8]) -> usize
     }
 }
 
-/// Takes bytes up to the kind's byte or the header's last one.
+/// Takes bytes of a piece up to the kind's byte or the header's last one.
 fn header_step(
     alloc: Global,
     version: Option<u32>,
@@ -248,7 +250,7 @@ fn header_step(
     Ok((count, None))
 }
 
-/// The frame of a Page, once all of its bytes are there.
+/// The frame of a Page all of whose bytes are there. Returns the page if its numbers are out of their limits.
 fn whole_page(named: bool, head: &[u8], part: PagePart) -> Result<Received, PagePart>
     requires { length part ≡ 4096 }
     ensures value { IfOk result (λ x. Some x
@@ -270,7 +272,7 @@ fn whole_page(named: bool, head: &[u8], part: PagePart) -> Result<Received, Page
     }
 }
 
-/// Takes bytes of a Page, the last of which decides.
+/// Takes bytes of a Page. Its last byte decides whether it is a frame.
 fn page_step(
     version: Option<u32>,
     head: &mut Head,
@@ -316,7 +318,7 @@ fn page_step(
     }
 }
 
-/// The frame of a header and the whole of its body, if there is one.
+/// The frame of a header and a whole body, if there is one.
 #[tactic(auto, unfolding(crate::specs::Unfinished::frame_behind))]
 fn whole_body(
     alloc: Global,
@@ -342,7 +344,7 @@ fn whole_body(
     }
 }
 
-/// Takes bytes of a body, the last of which decides.
+/// Takes bytes of a body. Its last byte decides whether it is a frame.
 fn body_step(
     alloc: Global,
     version: Option<u32>,
@@ -392,7 +394,7 @@ fn body_step(
 }
 
 impl Unfinished {
-    /// No byte, in a stream of this version.
+    /// No bytes, in a stream of this version.
     pub(crate) fn new(version: Option<u32>) -> Unfinished
         ensures { result ≡ record { version = version; bytes = [] } }
     {
@@ -403,14 +405,14 @@ impl Unfinished {
         }
     }
 
-    /// The stream's version, once Hello came.
+    /// The stream's version, if its Hello has come.
     pub(crate) fn version(&self) -> Option<u32>
         ensures { result ≡ self.now.version }
     {
         self.version
     }
 
-    /// How many bytes are there.
+    /// The number of bytes so far.
     pub(crate) fn len(&self) -> usize
         ensures { result ≡ length self.now.bytes }
     {
@@ -421,7 +423,7 @@ impl Unfinished {
         }
     }
 
-    /// Keeps the first bytes alone.
+    /// Keeps only the first `count` bytes.
     #[tactic(auto, using(crate::proofs::Lengths::cut_page, crate::proofs::Lengths::cut_body))]
     pub(crate) fn truncate(&mut self, count: usize)
         ensures { self.new ≡ record { version = self.old.version; bytes = take count self.old.bytes } }
@@ -442,8 +444,8 @@ impl Unfinished {
         }
     }
 
-    /// Takes bytes of a piece, to the next check or as many as lie together, and the frame that
-    /// ends with them.
+    /// Takes bytes of a piece, at least one, at most up to the next check. Returns how many it took, and the frame that
+    /// ends with them, if one does. After a fault nothing has changed.
     pub(crate) fn step(
         &mut self,
         alloc: Global,

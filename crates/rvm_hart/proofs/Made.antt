@@ -1,4 +1,4 @@
--- Straight instructions, one after another, and the steps that make them.
+-- Consecutive straight instructions, and the steps that make them.
 use Rattle.std.proofs.Common.{◌≡◌, ◌==◌, length, ℕ, zero, suc, ◌+◌, ◌%◌, ◌^◌, ◌<◌, ◌≤◌, Bool, true, false, ◌&&◌, cond, List, [], ◌∷◌, ◌++◌, Option, Some, None, refl, sym, ap, ◌∙◌, subst, arith, nat_le, get_or, is_some, not, ◌-◌}
 use Rattle.std.proofs.lemmas.Bool.Decides.{nat_tests}
 use Rattle.std.proofs.Math.Nat.{mod-add-mod, mod-eq_of_lt}
@@ -113,7 +113,7 @@ agrees w ms (suc n) m d plain on quiet =
 
 -- COUNTERS
 
--- as one addition
+-- the rise of a counter as one addition
 risen_suc : (k n : ℕ) → risen (suc k) n ≡ (n + suc k) % 2 ^ 64
 risen_suc zero n = refl
 risen_suc (suc k) n =
@@ -123,7 +123,7 @@ pub risen_is : (k n : ℕ) → 0 < k → (n + k) % 2 ^ 64 ≡ risen k n
 risen_is zero n some = absurd (omega arith)
 risen_is (suc k) n some = sym (risen_suc k n)
 
--- where it does not wrap
+-- if the counter does not wrap
 pub risen_within : (k n : ℕ) → n + k < 2 ^ 64 → risen k n ≡ n + k
 risen_within zero n below = omega arith
 risen_within (suc k) n below = risen_suc k n ∙ mod-eq_of_lt below
@@ -281,7 +281,7 @@ on_of true None (Some s) e = absurd cc
 on_of true (Some i) (Some s) e = absurd cc
 on_of false p (Some s) e = absurd cc
 
--- where the word at pc is known, the next step is its instruction's
+-- if the word at pc is known, the next step runs its instruction
 pub step_next : (w : ℕ) (m : Machine) → 0 < w → is_next w m ≡ true → step m ≡ after_outcome (execute m) m
 unfolding is_next
 step_next zero m e next = absurd (omega arith)

@@ -1,4 +1,4 @@
--- A step leaves each page as it was that it does not list.
+-- A step changes no page that it does not list.
 use Rattle.std.proofs.Common.{◌≡◌, ℕ, ◌+◌, ◌-◌, ◌%◌, ◌^◌, ◌≤◌, Bool, true, false, List, [], Option, Some, None, length, refl, ap, arith, ℤ, if◌then◌else◌, option_map, ◌==◌}
 use Rattle.std.proofs.lemmas.Bool.{eqb-true}
 use Rattle.std.proofs.lemmas.Bool.Decides.{nat_tests}
@@ -82,7 +82,7 @@ word_stored_others hart a v r page = word_cases (in_ram 4 a r.bytes) hart a v r 
 
 -- OUTCOMES
 
--- where a test fails, the instruction traps
+-- if a test fails, the instruction traps
 guarded : (b : Bool) (o : Outcome) (e : Exception) (v : ℕ) (m : Machine) → (b ≡ true → Leaves o m) → Leaves (if b then o else Traps e v) m
 guarded true o e v m leaves = leaves refl
 guarded false o e v m leaves = λ p none. refl

@@ -27,7 +27,7 @@ use Rattle.rvm_hart.specs.declared.jumps.Comparison.TheVariants as test
 use Rattle.rvm_hart.specs.Step.{decoded_outcome, fetched_outcome, execute, after_outcome, unless_pending, unless_halted, step}
 use Rattle.rvm_csr.specs.declared.cause.Interrupt.{Interrupt}
 
--- an outcome leaves registers where the machine had them
+-- an outcome leaves 32 registers, of which x0 is 0, if the machine had them
 abbrev Keeps : Outcome → Machine → Type 0
 Keeps o m = AreRegisters m.hart.regs → AreRegisters (machine_after o m).hart.regs
 
@@ -42,7 +42,7 @@ with_register_registers rd v regs are = with_register_cases (rd == 0) rd v regs 
 done_with_registers : (rd v : ℕ) (m : Machine) → Keeps (done_with rd v m) m
 done_with_registers rd v m = with_register_registers rd v m.hart.regs
 
--- where a test fails, the instruction traps
+-- if a test fails, the instruction traps
 guarded : (b : Bool) (o : Outcome) (e : Exception) (v : ℕ) (m : Machine) → Keeps o m → Keeps (if b then o else Traps e v) m
 guarded true o e v m keeps = keeps
 guarded false o e v m keeps = λ are. are

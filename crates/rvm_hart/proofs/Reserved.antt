@@ -71,7 +71,7 @@ grown s t (w ∷ words) more all =
     both_are (is_in_ram t w) (are_in_ram t words) (grown_word s t w more (first_is (is_in_ram s w) (are_in_ram s words) all))
     (grown s t words more (rest_is (is_in_ram s w) (are_in_ram s words) all))
 
--- no bytes are lost where some are replaced
+-- replacing bytes loses none
 replaced_length : (at : ℕ) (bytes old : List ℕ) → length old ≤ length (replaced at bytes old)
 replaced_length at bytes old =
     omega (arith, length-append (take at old) (bytes ++ drop (at + length bytes) old), length-append bytes (drop (at + length bytes) old), length-take at old, length-drop (at + length bytes) old)
@@ -88,7 +88,7 @@ poke_keeps at a bytes old new words after of_bytes of_words all =
     subst (λ bs. are_in_ram (length bs) after ≡ true) (sym of_bytes) (subst (λ ws. are_in_ram (length (replaced at bytes old)) ws ≡ true) (sym of_words)
     (grown (length old) (length (replaced at bytes old)) (poked_each a (length bytes) words) (replaced_length at bytes old) (poked_each_in_ram (length old) a (length bytes) words all)))
 
--- where no word is reserved
+-- if no word is reserved
 pub clear_keeps : (size n : ℕ) (after : List (Option ℕ)) → after ≡ replicate n None → are_in_ram size after ≡ true
 clear_keeps size n after of_words = subst (λ ws. are_in_ram size ws ≡ true) (sym of_words) (none_in_ram size n)
 

@@ -1,4 +1,4 @@
--- Steps of a hart, one after another.
+-- Consecutive steps of a hart.
 use Rattle.std.proofs.Common.{◌≡◌, ◌==◌, ℕ, zero, suc, ◌+◌, length, Bool, true, false, ◌&&◌, not, is_some, List, ◌++◌, Option, Some, None, refl, sym, ap, ◌∙◌, subst, arith}
 use Rattle.std.proofs.lemmas.Bool.Decides.{nat_tests}
 use Rattle.rvm_mem.specs.Pages.{mark_all}
@@ -28,7 +28,7 @@ gone_none w ms m d = record { left = refl; marked = refl; pass = refl; go = refl
 pub gone_init : (w : Bool) (ms : List Bool) (n : ℕ) (m : Machine) (d : List Bool) → n ≡ 0 → Gone w ms n m d m d
 gone_init w ms n m d none = subst (λ i. Gone w ms i m d m d) (sym none) (gone_none w ms m d)
 
--- one more
+-- one step more
 one_more : (w : Bool) (ms : List Bool) (n : ℕ) (old : Machine) (log : List Bool) (x : Machine) (d : List Bool) (y : Machine) (e : List Bool) → Gone w ms n old log x d
     → passes w ms x.hart.pc ≡ true → status_in (step x).answer ≡ None → y ≡ (step x).machine → e ≡ mark_all (step x).pages d → Gone w ms (suc n) old log y e
 unfolding steps all_pass all_go
@@ -73,7 +73,7 @@ retired_status (Trapped x) e = absurd cc
 retired_status (Interrupted i) e = absurd cc
 retired_status (Halted s) e = absurd cc
 
--- this many more, all of which retired
+-- consecutive steps more, all of which retired
 some_more : (w : Bool) (ms : List Bool) (k n : ℕ) (old : Machine) (log : List Bool) (x : Machine) (d : List Bool) → Gone w ms n old log x d
     → all_pass w ms k x ≡ true → (steps k x).retired ≡ true → Gone w ms (n + k) old log (steps k x).machine (mark_all (steps k x).pages d)
 unfolding steps all_pass

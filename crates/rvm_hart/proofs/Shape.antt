@@ -1,4 +1,4 @@
--- No step changes the hart's number, the size of RAM, or for how many harts reservations and devices are.
+-- No step changes the hart's number, the size of RAM, or the number of harts that reservations and devices are for.
 use Rattle.std.proofs.Common.{◌≡◌, ℕ, zero, suc, ◌+◌, ◌-◌, ◌%◌, ◌^◌, ◌≤◌, Bool, true, false, List, [], ◌∷◌, Option, Some, None, length, refl, ap, ◌∙◌, arith, ℤ, if◌then◌else◌, option_map, ◌==◌}
 use Rattle.std.proofs.lemmas.Bool.Decides.{nat_tests}
 use Rattle.std.proofs.lemmas.List.{length-set, length-map}
@@ -96,7 +96,7 @@ after_word_load_keeps a r = word_load_cases (in_ram 4 a r.bytes) a r
 
 -- STORES
 
--- a store, if it went, keeps the shape
+-- a store keeps the shape, if anything was stored
 abbrev StoreKeeps : Option Stored → Shared → Type 0
 StoreKeeps None r = Unit {0}
 StoreKeeps (Some s) r = shared_shape s.shared ≡ shared_shape r
@@ -141,7 +141,7 @@ word_stored_keeps hart a v r = word_cases (in_ram 4 a r.bytes) hart a v r refl
 numbered : (m : Machine) (r s : Shared) → shared_shape r ≡ shared_shape s → (number_of m ∷ shared_shape r) ≡ (number_of m ∷ shared_shape s)
 numbered m r s e = ap (λ l. number_of m ∷ l) e
 
--- where a test fails, the instruction traps
+-- if a test fails, the instruction traps
 guarded : (b : Bool) (o : Outcome) (e : Exception) (v : ℕ) (m : Machine) → Keeps o m → Keeps (if b then o else Traps e v) m
 guarded true o e v m keeps = keeps
 guarded false o e v m keeps = refl

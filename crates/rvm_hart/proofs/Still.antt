@@ -1,5 +1,5 @@
--- Instructions that reach registers, RAM and reservations alone do the same at any values of the counters, and change neither control
--- and status registers nor devices.
+-- Instructions that reach registers, RAM and reservations alone do the same at any values of the counters, and change
+-- neither CSRs nor devices.
 use Rattle.std.proofs.Common.{◌≡◌, ℕ, ◌+◌, ◌*◌, ◌-◌, ◌%◌, ◌^◌, Bool, true, false, [], Option, Some, None, refl, ℤ, if◌then◌else◌, option_map, ◌==◌}
 use Rattle.rvm_mem.specs.Bytes.{load}
 use Rattle.rvm_csr.specs.declared.cause.Exception.{Exception}
@@ -35,7 +35,7 @@ pub record Still (m : Machine) (here : Outcome) (there : (c i t : ℕ) → Outco
   pub csrs : (machine_after here m).hart.csrs ≡ m.hart.csrs
   pub devices : (machine_after here m).shared.devices ≡ m.shared.devices
 
--- where a test fails, the instruction traps
+-- if a test fails, the instruction traps
 guarded : (b : Bool) (m : Machine) (here : Outcome) (there : (c i t : ℕ) → Outcome) (e : Exception) (v : ℕ) → Still m here there
     → Still m (if b then here else Traps e v) (λ c i t. if b then there c i t else Traps e v)
 guarded true m here there e v still = still
@@ -75,7 +75,7 @@ load_half_still f rd a m =
     let o : Option ℕ = option_map f (ram_load 2 a m.shared.bytes) in
     guarded (a % 2 == 0) m (kind.load_outcome rd o a m) (λ c i t. kind.load_outcome rd o a (timed c i t m)) LoadAddressMisaligned a (load_outcome_still rd o a m)
 
--- a load of a word where it is known whether RAM is there
+-- a load of a word, if it is known whether its address is in RAM
 abbrev word_load : (b : Bool) → (rd a : ℕ) → Machine → Outcome
 word_load b rd a m =
     kind.load_outcome rd (if b then Some (load 4 (a - ram_base) m.shared.bytes) else dev.value_loaded a m.shared.devices) a
@@ -92,7 +92,7 @@ load_word_still rd a m inside =
 
 -- STORES
 
--- a store where it is known whether RAM is there
+-- a store, if it is known whether its address is in RAM
 abbrev ram_store : (b : Bool) → (n a v : ℕ) → Machine → Outcome
 ram_store b n a v m = kind.store_outcome (if b then Some (in_ram_stored n (number_of m) a v m.shared) else None) a m
 
@@ -138,7 +138,7 @@ reserved_still rd a m =
     let o : Option ℕ = ram_load 4 a m.shared.bytes in
     guarded (a % 4 == 0) m (kind.load_outcome rd o a (reserving a m)) (λ c i t. kind.load_outcome rd o a (reserving a (timed c i t m))) LoadAddressMisaligned a (reserving_still rd o a m)
 
--- an exchange where it is known whether RAM is there
+-- an exchange, if it is known whether its address is in RAM
 abbrev exchanged : (b : Bool) → (rd old a v : ℕ) → Machine → Outcome
 exchanged b rd old a v m = kind.exchange_outcome rd old (if b then Some (in_ram_stored 4 (number_of m) a v m.shared) else None) a m
 
@@ -155,7 +155,7 @@ atomic_still o rd a v m =
     let old : Option ℕ = ram_load 4 a m.shared.bytes in
     guarded (a % 4 == 0) m (kind.atomic_outcome o rd a v old m) (λ c i t. kind.atomic_outcome o rd a v old (timed c i t m)) StoreAddressMisaligned a (atomic_outcome_still o rd a v old m)
 
--- the end of SC where it is known whether the word is held, and whether RAM is there
+-- the end of SC, if it is known whether the word is reserved, and whether its address is in RAM
 abbrev conditional : (held inside : Bool) → (rd a v : ℕ) → Machine → Outcome
 conditional held inside rd a v m =
     if held

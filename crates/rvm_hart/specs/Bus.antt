@@ -27,17 +27,17 @@ ram_load n a bytes = if in_ram n a bytes then Some (load n (a - ram_base) bytes)
 abbrev pub word_loaded : ℕ → Shared → Option ℕ
 word_loaded a r = if in_ram 4 a r.bytes then Some (load 4 (a - ram_base) r.bytes) else dev.value_loaded a r.devices
 
--- what the harts share after the word is loaded, since a device may consume it
+-- what the harts share after the word is loaded, since a load may change a device
 abbrev pub after_word_load : ℕ → Shared → Shared
 after_word_load a r = if in_ram 4 a r.bytes then r else record r { devices = dev.loaded a r.devices }
 
--- what a store leaves, the pages that it wrote, and what the end of the step looks at
+-- what a store leaves, the pages that it wrote, and what it wrote that the end of the step must know
 pub record Stored : Type 0 where
   pub shared : Shared
   pub pages : List ℕ
   pub wrote : Written
 
--- a store of a hart into the n bytes of RAM from an address: its page is written, and other harts' reservations of
+-- a store of a hart to the n bytes of RAM from an address on: their page is written, and other harts' reservations of
 -- the word end
 abbrev pub in_ram_stored : (n hart address value : ℕ) → Shared → Stored
 in_ram_stored n hart a v r =
@@ -68,12 +68,12 @@ device_stored a v r =
 abbrev pub word_stored : (hart address value : ℕ) → Shared → Option Stored
 word_stored hart a v r = if in_ram 4 a r.bytes then Some (in_ram_stored 4 hart a v r) else device_stored a v r
 
--- the bus after a store, if it went
+-- the bus after a store; unchanged if nothing was stored
 abbrev pub left_by : Option Stored → BusState → BusState
 left_by (Some s) b = record { shared = s.shared; dirty = mark_all s.pages b.dirty }
 left_by None b = b
 
--- what the end of the step looks at after a store, if it went
+-- what a store wrote; none if nothing was stored
 abbrev pub wrote_by : Option Stored → Option Written
 wrote_by s = option_map (λ x. x.wrote) s
 

@@ -7,7 +7,7 @@ use Rattle.rvm_hart.specs.declared.fields.HartFields.{HartFields}
 use Rattle.rvm_hart.specs.Machine.{HartState, Shared}
 use Rattle.rvm_hart.specs.Bus.{ram_base}
 
--- the hart of a number that keeps these values
+-- the hart with this number and these values
 abbrev pub with_number : ℕ → HartFields → HartState
 with_number number f =
     record { regs = 0 ∷ f.registers; pc = f.pc; csrs = csr.with_number number f.csrs }
@@ -21,20 +21,20 @@ pub record CanBeHeld (f : HartFields) : Type 0 where
   pub pc : f.pc % 4 ≡ 0
   pub csrs : csr.CanBeHeld f.csrs
 
--- an address is that of an aligned word of a RAM of this many bytes
+-- a word is aligned, and in a RAM of this many bytes
 abbrev pub is_ram_word : (size address : ℕ) → Bool
 is_ram_word size a = a % 4 == 0 && nat_le ram_base a && nat_le (a + 4) (ram_base + size)
 
--- so is a reservation, if there is one
+-- a reservation, if there is one, is of such a word
 abbrev pub is_in_ram : (size : ℕ) → Option ℕ → Bool
 is_in_ram size None = true
 is_in_ram size (Some a) = is_ram_word size a
 
--- so is each
+-- each reservation is of such a word
 abbrev pub are_in_ram : (size : ℕ) → List (Option ℕ) → Bool
 are_in_ram size words = list_all (is_in_ram size) words
 
--- what the harts share, with other words of a hart, and another reservation
+-- what the harts share, with new device words and a new reservation for one hart
 abbrev pub hart_restored : (hart : ℕ) → (msip : Bool) → (mtimecmp : ℕ) → Option ℕ → Shared → Shared
 hart_restored h msip mtimecmp reserved r =
     record r {

@@ -25,7 +25,7 @@ sum a i = modulo 32 (pos a +ℤ i)
 
 -- ARITHMETIC (Unprivileged ISA, "Integer Computational Instructions" and "M" Standard Extension)
 
--- 1 if so, else 0
+-- 1 if true, 0 if false
 abbrev pub flag : Bool → ℕ
 flag b = if b then 1 else 0
 
@@ -56,8 +56,8 @@ arithmetic o rd a b m = done_with rd (value_of o a b) m
 
 -- JUMPS AND BRANCHES (Unprivileged ISA, "Control Transfer Instructions")
 
--- to a target, with the next instruction's address in rd; a target that is no multiple of four traps, and rd is not
--- written
+-- a jump to a target, with the next instruction's address in rd; a target that is no multiple of four traps, and rd is
+-- not written
 abbrev pub jump : (rd target : ℕ) → Machine → Outcome
 jump rd target m =
     if target % 4 == 0
@@ -81,25 +81,24 @@ holds test.Geu a b = not (nat_lt a b)
 abbrev pub branch : (taken : Bool) → (offset : ℤ) → Machine → Outcome
 branch taken offset m = if taken then jump 0 (sum m.hart.pc offset) m else done m
 
--- LOADS (Unprivileged ISA, "Load and Store Instructions"): alignment is looked at first, then whether something is
--- there
+-- LOADS (Unprivileged ISA, "Load and Store Instructions"); a misaligned address traps before an access fault can
 
--- rd gets the value; where nothing is there, the load traps
+-- rd gets the value; without a value, the load traps
 abbrev pub load_outcome : (rd : ℕ) → (value : Option ℕ) → (address : ℕ) → Machine → Outcome
 load_outcome rd (Some v) a m = done_with rd v m
 load_outcome rd None a m = Traps LoadAccessFault a
 
--- a byte of RAM, extended to a word
+-- a load of a byte of RAM, extended to a word
 abbrev pub load_byte : (extended : ℕ → ℕ) → (rd address : ℕ) → Machine → Outcome
 load_byte extended rd a m = load_outcome rd (option_map extended (ram_load 1 a m.shared.bytes)) a m
 
--- two bytes of RAM, extended to a word
+-- a load of two bytes of RAM, extended to a word
 abbrev pub load_half : (extended : ℕ → ℕ) → (rd address : ℕ) → Machine → Outcome
 load_half extended rd a m =
     if a % 2 == 0 then load_outcome rd (option_map extended (ram_load 2 a m.shared.bytes)) a m
     else Traps LoadAddressMisaligned a
 
--- a word of RAM or a device
+-- a load of a word of RAM or a device
 abbrev pub load_word : (rd address : ℕ) → Machine → Outcome
 load_word rd a m =
     if a % 4 == 0 then load_outcome rd (word_loaded a m.shared) a (record m { shared = after_word_load a m.shared })
@@ -107,41 +106,41 @@ load_word rd a m =
 
 -- STORES (Unprivileged ISA, "Load and Store Instructions")
 
--- what the store left; where nothing is there, the store traps
+-- the outcome of a store; if nothing was stored, it traps
 abbrev pub store_outcome : Option Stored → (address : ℕ) → Machine → Outcome
 store_outcome (Some s) a m = Done (record { hart = at_next m.hart; shared = s.shared }) s.pages s.wrote
 store_outcome None a m = Traps StoreAccessFault a
 
--- the low byte of a register's value, to RAM
+-- a store of the low byte of a value in RAM
 abbrev pub store_byte : (address value : ℕ) → Machine → Outcome
 store_byte a v m = store_outcome (ram_stored 1 (number_of m) a (v % 2 ^ 8) m.shared) a m
 
--- the low two bytes of a register's value, to RAM
+-- a store of the low two bytes of a value in RAM
 abbrev pub store_half : (address value : ℕ) → Machine → Outcome
 store_half a v m =
     if a % 2 == 0 then store_outcome (ram_stored 2 (number_of m) a (v % 2 ^ 16) m.shared) a m
     else Traps StoreAddressMisaligned a
 
--- a word, to RAM or a device
+-- a store of a word in RAM or a device
 abbrev pub store_word : (address value : ℕ) → Machine → Outcome
 store_word a v m =
     if a % 4 == 0 then store_outcome (word_stored (number_of m) a v m.shared) a m else Traps StoreAddressMisaligned a
 
--- ATOMICS (Unprivileged ISA, "A" Standard Extension): RAM alone; aq and rl ask for nothing more here, since each step
--- is atomic
+-- ATOMICS (Unprivileged ISA, "A" Standard Extension): on RAM alone; aq and rl need nothing more, since each step is
+-- atomic
 
 -- the machine with other reservations
 abbrev pub with_reservations_of : List (Option ℕ) → Machine → Machine
 with_reservations_of words m = record m { shared = record m.shared { reservations = words } }
 
--- LR: the word, which is reserved
+-- LR: rd gets the word, and the hart reserves it
 abbrev pub load_reserved : (rd address : ℕ) → Machine → Outcome
 load_reserved rd a m =
     if a % 4 == 0
     then load_outcome rd (ram_load 4 a m.shared.bytes) a (with_reservations_of (res.held (number_of m) a m.shared.reservations) m)
     else Traps LoadAddressMisaligned a
 
--- rd gets a value, and the word goes to RAM
+-- rd gets a value, and a word is stored in RAM; if nothing was stored, the instruction traps
 abbrev pub exchange_outcome : (rd value : ℕ) → Option Stored → (address : ℕ) → Machine → Outcome
 exchange_outcome rd v (Some s) a m = Done (record { hart = with_result rd v m.hart; shared = s.shared }) s.pages s.wrote
 exchange_outcome rd v None a m = Traps StoreAccessFault a
@@ -150,7 +149,7 @@ exchange_outcome rd v None a m = Traps StoreAccessFault a
 abbrev pub without_reservation : Machine → Machine
 without_reservation m = with_reservations_of (res.released (number_of m) m.shared.reservations) m
 
--- SC: the word is stored and rd is 0 where the hart's reservation is this word, else rd is 1; the reservation ends
+-- SC: if the hart has reserved this word, the value is stored and rd gets 0, else rd gets 1; the reservation ends
 -- either way
 abbrev pub store_conditional : (rd address value : ℕ) → Machine → Outcome
 store_conditional rd a v m =
@@ -162,7 +161,7 @@ store_conditional rd a v m =
     else Traps StoreAccessFault a)
     else Traps StoreAddressMisaligned a
 
--- the new word of an AMO, of the old one and the value of rs2 (Unprivileged ISA, "A" Extension for Atomic Instructions)
+-- the new word of an AMO, from the old one and the value of rs2 (Unprivileged ISA, "A" Standard Extension)
 abbrev pub atomic_value : Amo → (old value : ℕ) → ℕ
 atomic_value amo.Swap old v = v
 atomic_value amo.Add old v = (old + v) % 2 ^ 32
@@ -179,59 +178,59 @@ abbrev pub atomic_outcome : Amo → (rd address value : ℕ) → Option ℕ → 
 atomic_outcome op rd a v (Some old) m = exchange_outcome rd old (ram_stored 4 (number_of m) a (atomic_value op old v) m.shared) a m
 atomic_outcome op rd a v None m = Traps StoreAccessFault a
 
--- an AMO at an address, whose alignment is looked at first
+-- an AMO at an address, which traps if it is misaligned
 abbrev pub atomic : Amo → (rd address value : ℕ) → Machine → Outcome
 atomic op rd a v m =
     if a % 4 == 0 then atomic_outcome op rd a v (ram_load 4 a m.shared.bytes) m else Traps StoreAddressMisaligned a
 
 -- CSR INSTRUCTIONS (Unprivileged ISA, "Zicsr" Extension); word is the instruction's own, for mtval
 
--- the new value: the source, the old one with its bits, or without them
+-- the new value: the source, or the old value with the source's bits set or cleared
 abbrev pub changed_value : CsrChange → (old source : ℕ) → ℕ
 changed_value change.Write old s = s
 changed_value change.Set old s = bit_or old s
 changed_value change.Clear old s = bit_and old (2 ^ 32 - 1 - s)
 
--- a counter of which a half was written
+-- what a write to the CSR of this number wrote: a counter, if it is one of its halves
 abbrev pub wrote_csr : (number : ℕ) → Written
 wrote_csr n =
     if n == 0xB00 then Mcycle else if n == 0xB80 then Mcycle else
     if n == 0xB02 then Minstret else if n == 0xB82 then Minstret else Other
 
--- rd gets the old value, and the registers are left as written; one that is read-only is illegal
+-- rd gets the old value, and the CSRs are those that the write left; a write to a read-only CSR is illegal
 abbrev pub csr_write_outcome : (word rd number old : ℕ) → Option CsrState → Machine → Outcome
 csr_write_outcome word rd n old (Some s) m =
     Done (record m { hart = record (with_result rd old m.hart) { csrs = s } }) [] (wrote_csr n)
 csr_write_outcome word rd n old None m = Traps IllegalInstruction word
 
--- the value of a register, if there is one of this number
+-- the value of the CSR of this number, if there is one
 abbrev pub csr_value : (number : ℕ) → Machine → Option ℕ
 csr_value n m = csr_read n (mip_of (number_of m) m.shared.devices) m.hart.csrs
 
--- rd gets the value; an absent register is illegal
+-- rd gets the value; an absent CSR is illegal
 abbrev pub csr_read_outcome : (word rd : ℕ) → Option ℕ → Machine → Outcome
 csr_read_outcome word rd (Some value) m = done_with rd value m
 csr_read_outcome word rd None m = Traps IllegalInstruction word
 
--- an instruction that only reads the register of this number
+-- an instruction that only reads the CSR of this number
 abbrev pub read_csr : (word rd number : ℕ) → Machine → Outcome
 read_csr word rd n m = csr_read_outcome word rd (csr_value n m) m
 
--- rd gets the old value, and the register the new one; an absent register, and one that is read-only, are illegal
+-- rd gets the old value, and the CSR the new one; an absent or read-only CSR is illegal
 abbrev pub csr_change_outcome : (word rd number : ℕ) → CsrChange → (source : ℕ) → Option ℕ → Machine → Outcome
 csr_change_outcome word rd n c s (Some old) m = csr_write_outcome word rd n old (csr_write n (changed_value c old s) m.hart.csrs) m
 csr_change_outcome word rd n c s None m = Traps IllegalInstruction word
 
--- an instruction that reads the register of this number and writes it
+-- an instruction that reads and writes the CSR of this number
 abbrev pub change_csr : (word rd number : ℕ) → CsrChange → (source : ℕ) → Machine → Outcome
 change_csr word rd n c s m = csr_change_outcome word rd n c s (csr_value n m) m
 
--- whether an instruction writes: the s and c forms whose source field is 0 do not
+-- whether an instruction writes: one that sets or clears bits does not if its source field is 0
 abbrev pub writes : CsrChange → (field : ℕ) → Bool
 writes change.Write f = true
 writes change.Set f = not (f == 0)
 writes change.Clear f = not (f == 0)
 
--- a CSR instruction, which writes the register or only reads it
+-- a CSR instruction, which writes the CSR or only reads it
 abbrev pub access_csr : (word rd number : ℕ) → CsrChange → (field source : ℕ) → Machine → Outcome
 access_csr word rd n c field source m = if writes c field then change_csr word rd n c source m else read_csr word rd n m

@@ -20,7 +20,7 @@ pub record Machine : Type 0 where
   pub hart : HartState
   pub shared : Shared
 
--- what a bus is: what the harts share, and for each page of RAM whether it is in the dirty log
+-- a bus: what the harts share, and for each page of RAM whether it is in the dirty log
 pub record BusState : Type 0 where
   pub shared : Shared
   pub dirty : List Bool
@@ -41,10 +41,10 @@ machine h b = record { hart = h; shared = b.shared }
 abbrev pub number_of : Machine → ℕ
 number_of m = m.hart.csrs.hart
 
--- the sizes that no step changes: that of RAM, and for how many harts reservations and devices are
+-- the sizes that no step changes: of RAM, and the number of harts that the reservations and devices are for
 abbrev pub shared_shape : Shared → List ℕ
 shared_shape r = length r.bytes ∷ length r.reservations ∷ length r.devices.msip ∷ length r.devices.mtimecmp ∷ []
 
--- what no step changes: the hart's number, and these sizes
+-- what no step changes: the hart's number, and the sizes of what the harts share
 abbrev pub shape : Machine → List ℕ
 shape m = number_of m ∷ shared_shape m.shared

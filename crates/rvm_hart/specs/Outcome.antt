@@ -1,17 +1,17 @@
--- What an instruction comes to: it retires and leaves a machine, or it traps.
+-- The outcome of an instruction: it retires and leaves a machine, or it traps.
 use Rattle.std.specs.Prelude.{ℕ, ◌+◌, ◌%◌, ◌^◌, ◌==◌, if◌then◌else◌, List, [], slice_index, slice_set}
 use Rattle.rvm_csr.specs.declared.cause.Exception.{Exception}
 use Rattle.rvm_hart.specs.declared.outcome.Written.{Written}
 use Rattle.rvm_hart.specs.declared.outcome.Written.TheVariants.{Other}
 use Rattle.rvm_hart.specs.Machine.{HartState, Machine}
 
--- the machine that a retired instruction leaves, the pages that it wrote, and what the end of the step looks at; or
--- the exception, with its value for mtval
+-- the machine that a retired instruction leaves, the pages that it wrote, and what it wrote that the end of its step
+-- must know; or the exception, with its value for mtval
 pub data Outcome : Type 0 where
   Done : (after : Machine) → (pages : List ℕ) → (wrote : Written) → Outcome
   Traps : (exception : Exception) → (value : ℕ) → Outcome
 
--- the machine of an outcome; a trap leaves it as it was
+-- the machine of an outcome; a trap leaves it unchanged
 abbrev pub machine_after : Outcome → Machine → Machine
 machine_after (Done after pages wrote) m = after
 machine_after (Traps exception value) m = m
@@ -20,7 +20,7 @@ machine_after (Traps exception value) m = m
 abbrev pub reg : ℕ → HartState → ℕ
 reg r h = slice_index h.regs r
 
--- the registers after a write: one to x0 is dropped (Unprivileged ISA, "Programmers' Model for Base Integer ISA")
+-- the registers after a write; a write to x0 is dropped (Unprivileged ISA, "Programmers' Model for Base Integer ISA")
 abbrev pub with_register : (rd value : ℕ) → List ℕ → List ℕ
 with_register rd v regs = if rd == 0 then regs else slice_set regs rd v
 
@@ -28,11 +28,11 @@ with_register rd v regs = if rd == 0 then regs else slice_set regs rd v
 abbrev pub next_pc : HartState → ℕ
 next_pc h = (h.pc + 4) % 2 ^ 32
 
--- the hart goes on, with a value in rd
+-- the hart at the next instruction, with a value in rd
 abbrev pub with_result : (rd value : ℕ) → HartState → HartState
 with_result rd v h = record h { regs = with_register rd v h.regs; pc = next_pc h }
 
--- the hart goes on, all else as it was
+-- the hart at the next instruction, otherwise unchanged
 abbrev pub at_next : HartState → HartState
 at_next h = record h { pc = next_pc h }
 

@@ -7,7 +7,8 @@ use Rattle.rvm_hart.specs.Machine.{HartState, Shared, BusState}
 use Rattle.rvm_hart.specs.Bus.{ram_base}
 use Rattle.rvm_hart.specs.Outcome.{with_register}
 
--- a hart with a register set: x0 to x31 by number, or pc by 32, of which bits 1:0 are cleared
+-- a hart with one register set from outside: x0 to x31 by 0 to 31, or pc by 32; bits 1 and 0 of pc
+-- are cleared
 abbrev pub register_poked : (register value : ℕ) → HartState → HartState
 register_poked r v h = if r == 32 then record h { pc = v - v % 4 } else record h { regs = with_register r v h.regs }
 
@@ -24,7 +25,7 @@ memory_poked a bytes r =
       reservations = poked_each a (length bytes) r.reservations;
     }
 
--- the bus after it, with the page of each byte in the dirty log
+-- the bus after these bytes were written, with the page of each in the dirty log
 abbrev pub bus_poked : (address : ℕ) → List ℕ → BusState → BusState
 bus_poked a bytes b =
     record {
@@ -40,6 +41,6 @@ memory_cleared r =
       reservations = replicate (length r.reservations) None;
     }
 
--- the bus with it, and each page in the dirty log
+-- the bus with zeros in RAM and no reservation, and each page in the dirty log
 abbrev pub bus_cleared : BusState → BusState
 bus_cleared b = record { shared = memory_cleared b.shared; dirty = replicate (length b.dirty) true }

@@ -23,11 +23,11 @@ sign_extended_byte v = modulo 32 (signed_value 8 v)
 abbrev pub sign_extended_half : ℕ → ℕ
 sign_extended_half v = modulo 32 (signed_value 16 v)
 
--- zero-extended
+-- a byte or half, zero-extended to a word
 abbrev pub zero_extended : ℕ → ℕ
 zero_extended v = v
 
--- the trap's handler ends
+-- MRET: returns from a trap
 abbrev pub trap_return : Machine → Outcome
 trap_return m = Done (record m { hart = record m.hart { pc = m.hart.csrs.mepc; csrs = trap_left m.hart.csrs } }) [] Other
 

@@ -1,4 +1,4 @@
--- Steps of a hart, one after another, up to one that halts the board or finds it halted.
+-- Consecutive steps of a hart, up to one that halts the board or finds it halted.
 use Rattle.std.specs.Prelude.{ℕ, zero, suc, ◌≡◌, ◌==◌, Bool, true, false, ◌&&◌, not, is_some, List, Option, Some, None}
 use Rattle.rvm_mem.specs.Pages.{mark_all}
 use Rattle.rvm_hart.specs.declared.outcome.Stepped.{Stepped}
@@ -7,7 +7,7 @@ use Rattle.rvm_hart.specs.Machine.{Machine}
 use Rattle.rvm_hart.specs.Step.{step}
 use Rattle.rvm_hart.specs.Straight.{steps}
 
--- the status in an answer of a step
+-- the status that a step reports, if it halted the board or found it halted
 abbrev pub status_in : Stepped → Option ℕ
 status_in Retired = None
 status_in (Trapped e) = None
@@ -24,7 +24,8 @@ abbrev pub has_status : (status : ℕ) → Option ℕ → Bool
 has_status s (Some t) = t == s
 has_status s None = false
 
--- n steps, of which the last alone answers a status, or none
+-- n steps, of which only the last reports this status; without a status, none of them halts the
+-- board or finds it halted
 unfoldable pub ends_so : (status : Option ℕ) → (n : ℕ) → Machine → Bool
 ends_so None n m = all_go n m
 ends_so (Some s) zero m = false

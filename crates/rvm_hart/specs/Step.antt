@@ -18,12 +18,12 @@ use Rattle.rvm_hart.specs.Bus.{ram_load, mip_of}
 use Rattle.rvm_hart.specs.Outcome.{Outcome, Done, Traps}
 use Rattle.rvm_hart.specs.Rows.{effect}
 
--- the effect of a word's row is applied; a word without a row is illegal
+-- the outcome of a word: the effect of its row; a word without a row is illegal
 abbrev pub decoded_outcome : (word : ℕ) → Option Ins → Machine → Outcome
 decoded_outcome w (Some i) m = effect w i m
 decoded_outcome w None m = Traps IllegalInstruction w
 
--- the word at pc is decoded; where no RAM is there, the fetch traps
+-- the outcome of the word at pc; if there is no RAM at pc, the fetch traps
 abbrev pub fetched_outcome : Option ℕ → Machine → Outcome
 fetched_outcome (Some w) m = decoded_outcome w (decoded w) m
 fetched_outcome None m = Traps InstructionAccessFault m.hart.pc
@@ -45,11 +45,11 @@ pub record Ticks : Type 0 where
   pub minstret : Bool
   pub mtime : Bool
 
--- where an instruction retired, all of them
+-- all counters rise, if an instruction retired and wrote none of them
 abbrev pub all_tick : Ticks
 all_tick = record { mcycle = true; minstret = true; mtime = true }
 
--- where none retired
+-- the counters that rise if no instruction retired
 abbrev pub none_retired : Ticks
 none_retired = record all_tick { minstret = false }
 
@@ -69,7 +69,7 @@ after_ticks t m =
       shared = record m.shared { devices = record m.shared.devices { mtime = counted t.mtime m.shared.devices.mtime } };
     }
 
--- what a step answers whose instruction ended without a trap, by what it wrote
+-- what a step reports if its instruction retired, by what that wrote
 abbrev pub step_answer : Written → Stepped
 step_answer Other = Retired
 step_answer Mcycle = Retired
@@ -83,7 +83,7 @@ pub record After : Type 0 where
   pub pages : List ℕ
   pub answer : Stepped
 
--- a trap was entered
+-- what a step leaves that enters a trap
 abbrev pub after_trap : Cause → (value : ℕ) → Stepped → Machine → After
 after_trap c v answer m = record { machine = after_ticks none_retired (in_handler c v m); pages = []; answer = answer }
 
@@ -93,7 +93,7 @@ after_outcome (Done after pages wrote) m =
     record { machine = after_ticks (ticks_of wrote) after; pages = pages; answer = step_answer wrote }
 after_outcome (Traps e v) m = after_trap (cause.Exception e) v (Trapped e) m
 
--- a hart and its bus took the step that ends an instruction whose outcome is a function of the machine: the machine
+-- a hart and its bus took the step that ends an instruction, whose outcome is a function of the machine: the machine
 -- that is left, the pages in the dirty log, the answer
 pub record Executes (instruction : Machine → Outcome) (old : HartState) (old_bus : BusState) (new : HartState)
     (new_bus : BusState) (said : Stepped) : Type 0 where
@@ -102,16 +102,16 @@ pub record Executes (instruction : Machine → Outcome) (old : HartState) (old_b
       ≡ mark_all (after_outcome (instruction (machine old old_bus)) (machine old old_bus)).pages old_bus.dirty
   pub answer : said ≡ (after_outcome (instruction (machine old old_bus)) (machine old old_bus)).answer
 
--- an interrupt that is pending is taken before an instruction runs
+-- the step of a board that is not halted: a pending interrupt is taken, else the instruction at pc runs
 abbrev pub unless_pending : Option Interrupt → Machine → After
 unless_pending (Some i) m = after_trap (cause.Interrupt i) 0 (Interrupted i) m
 unless_pending None m = after_outcome (execute m) m
 
--- a halted board stays as it is
+-- the step of a board that may be halted; a halted board does not change
 abbrev pub unless_halted : Option ℕ → Machine → After
 unless_halted (Some s) m = record { machine = m; pages = []; answer = Halted s }
 unless_halted None m = unless_pending (pending (mip_of (number_of m) m.shared.devices) m.hart.csrs) m
 
--- one step of a hart; on a halted board it leaves all as it is
+-- one step of a hart; a halted board does not change
 abbrev pub step : Machine → After
 step m = unless_halted m.shared.devices.halted m

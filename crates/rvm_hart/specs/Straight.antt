@@ -22,7 +22,7 @@ use Rattle.rvm_hart.specs.Marks.{passes}
 abbrev pub at_pc : ℕ → HartState → HartState
 at_pc pc h = record h { pc = pc }
 
--- the address of a place in RAM
+-- the address of an offset in RAM
 unfoldable pub based : ℕ → ℕ
 based at = (at + 0x80000000) % 2 ^ 32
 
@@ -31,7 +31,7 @@ abbrev pub pages_of : Outcome → List ℕ
 pages_of (Done after pages wrote) = pages
 pages_of (Traps e v) = []
 
--- nothing was written that the end of the step looks at
+-- neither a counter nor the halt word was written
 abbrev pub is_other : Written → Bool
 is_other Other = true
 is_other Mcycle = false
@@ -44,7 +44,7 @@ abbrev pub is_plain : Outcome → Bool
 is_plain (Done after pages wrote) = is_other wrote
 is_plain (Traps e v) = false
 
--- a hart at pc, and its bus, are past an instruction, and the hart is at next; the counters have not risen
+-- a hart at pc and its bus ran an instruction, and the hart is at next; the counters have not risen
 pub record Goes (instruction : Machine → Outcome) (pc : ℕ) (old : HartState) (old_bus : BusState) (next : ℕ)
     (new : HartState) (new_bus : BusState) : Type 0 where
   pub plain : is_plain (instruction (machine (at_pc pc old) old_bus)) ≡ true
@@ -52,7 +52,8 @@ pub record Goes (instruction : Machine → Outcome) (pc : ℕ) (old : HartState)
       ≡ machine (at_pc next new) new_bus
   pub dirty : new_bus.dirty ≡ mark_all (pages_of (instruction (machine (at_pc pc old) old_bus))) old_bus.dirty
 
--- whether an instruction reaches registers, RAM and reservations alone, also where it could reach a device
+-- whether an instruction reaches registers, RAM and reservations alone; a load or store of a word does if its address
+-- is in RAM
 unfoldable pub stays_in_ram : Ins → Machine → Bool
 stays_in_ram (Lui rd i) m = true
 stays_in_ram (Auipc rd i) m = true
@@ -123,12 +124,12 @@ stays_in_ram (AmomaxW rd rs1 rs2 aq rl) m = true
 stays_in_ram (AmominuW rd rs1 rs2 aq rl) m = true
 stays_in_ram (AmomaxuW rd rs1 rs2 aq rl) m = true
 
--- whether the instruction of a word does
+-- whether the instruction of a decoded word does
 abbrev pub decoded_stays : Option Ins → Machine → Bool
 decoded_stays (Some i) m = stays_in_ram i m
 decoded_stays None m = false
 
--- whether that of a fetched word does
+-- whether the instruction of a fetched word does
 abbrev pub fetched_stays : Option ℕ → Machine → Bool
 fetched_stays (Some w) m = decoded_stays (decoded w) m
 fetched_stays None m = false
@@ -137,13 +138,13 @@ fetched_stays None m = false
 abbrev pub is_straight : Machine → Bool
 is_straight m = fetched_stays (ram_load 4 m.hart.pc m.shared.bytes) m
 
--- this many such instructions, one after another
+-- what consecutive instructions leave, and whether each of them is straight, plain and at no watched mark
 pub record Went : Type 0 where
   pub machine : Machine
   pub dirty : List Bool
   pub plain : Bool
 
--- one more, of whose machine it is known whether it is straight and at no mark
+-- one instruction more, given whether it is straight and at no watched mark
 abbrev pub went_on : Outcome → (straight : Bool) → Went → Went
 went_on o straight w =
     record {
@@ -152,7 +153,7 @@ went_on o straight w =
       plain = w.plain && is_plain o && straight;
     }
 
--- what n instructions leave, the counters apart; plain says also that none of them is at a mark that is watched
+-- what n instructions leave, without the rise of the counters
 abbrev pub went : (watched : Bool) → (marks : List Bool) → (n : ℕ) → Machine → List Bool → Went
 went watched marks zero m d = record { machine = m; dirty = d; plain = true }
 went watched marks (suc n) m d =
@@ -160,16 +161,16 @@ went watched marks (suc n) m d =
     (is_straight (went watched marks n m d).machine && passes watched marks (went watched marks n m d).machine.hart.pc)
     (went watched marks n m d)
 
--- a counter after this many steps that it counts
+-- a counter after it rose by this many steps
 abbrev pub risen : (steps : ℕ) → ℕ → ℕ
 risen zero n = n
 risen (suc k) n = counted true (risen k n)
 
--- devices at another time
+-- the devices with another mtime
 abbrev pub at_time : ℕ → DeviceState → DeviceState
 at_time t d = record d { mtime = t }
 
--- a machine at other values of its counters: mcycle, minstret, mtime
+-- a machine with other values of its counters: mcycle, minstret, mtime
 abbrev pub timed : (cycles retired time : ℕ) → Machine → Machine
 timed c i t m =
     record {
@@ -177,11 +178,11 @@ timed c i t m =
       shared = record m.shared { devices = at_time t m.shared.devices };
     }
 
--- a machine, with the counters of another one this many steps later
+-- a machine with the counters of another one, risen by this many steps
 abbrev pub timed_after : (steps : ℕ) → (from : Machine) → Machine → Machine
 timed_after k from m = timed (risen k from.hart.csrs.mcycle) (risen k from.hart.csrs.minstret) (risen k from.shared.devices.mtime) m
 
--- nothing is pending at the hart at each of the next n steps, if the devices change in time alone
+-- no interrupt is pending at the hart before each of the next n steps, if mtime alone changes in the devices
 abbrev pub IsQuiet : (n : ℕ) → Machine → Type 0
 IsQuiet n m =
     (k : ℕ) → k < n → pending (mip_of (number_of m) (at_time (risen k m.shared.devices.mtime) m.shared.devices)) m.hart.csrs ≡ None
@@ -191,7 +192,7 @@ abbrev pub is_fetched : ℕ → Option ℕ → Bool
 is_fetched w (Some v) = v == w
 is_fetched w None = false
 
--- the word, if it is not 0, is at pc, and the next step runs it
+-- if the word is not 0, it is at pc and the next step runs it
 unfoldable pub is_next : ℕ → Machine → Bool
 is_next zero m = true
 is_next (suc w) m =
@@ -206,13 +207,13 @@ is_retired (Trapped e) = false
 is_retired (Interrupted i) = false
 is_retired (Halted s) = false
 
--- this many steps, one after another: what they leave, the pages that they wrote, and whether each retired
+-- consecutive steps: what they leave, the pages that they wrote, and whether each retired
 pub record Steps : Type 0 where
   pub machine : Machine
   pub pages : List ℕ
   pub retired : Bool
 
--- one more
+-- one step more
 abbrev pub steps_on : After → Steps → Steps
 steps_on a s =
     record { machine = a.machine; pages = s.pages ++ a.pages; retired = s.retired && is_retired a.answer }
@@ -227,7 +228,7 @@ unfoldable pub all_pass : (watched : Bool) → (marks : List Bool) → (n : ℕ)
 all_pass watched marks zero m = true
 all_pass watched marks (suc n) m = all_pass watched marks n m && passes watched marks (steps n m).machine.hart.pc
 
--- as many bytes wait for the guest after each of the first n steps as before them
+-- after each of the first n steps, as many bytes wait for the guest as before them
 unfoldable pub input_stays : (n : ℕ) → Machine → Bool
 input_stays zero m = true
 input_stays (suc n) m =

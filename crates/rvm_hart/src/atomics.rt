@@ -1,5 +1,5 @@
-//! Atomic instructions (Unprivileged ISA, "A" Standard Extension). Each step is one atomic event,
-//! so that aq and rl ask for nothing more.
+//! Atomic instructions (Unprivileged ISA, "A" Standard Extension). Each step is one atomic event, so aq and rl need
+//! nothing more.
 
 ghost use Rattle.std.specs.Prelude.{◌≡◌, ◌<◌, length};
 ghost use Rattle.rvm_hart.specs.Outcome.{reg};
@@ -14,7 +14,7 @@ use rvm_isa::Reg;
 use rvm_mem::Memory;
 use rvm_word::less_signed;
 
-/// What an atomic memory operation makes of the old word and its source.
+/// What an atomic memory operation computes, under the mnemonic of its instruction.
 #[derive(Clone, Copy, Debug, PartialEq, Eq)]
 pub enum Amo {
     Swap,
@@ -29,7 +29,7 @@ pub enum Amo {
 }
 
 impl Amo {
-    /// The new word.
+    /// The new word, from the old one and the value of rs2.
     #[inline]
     pub(crate) fn of(self, old: u32, source: u32) -> u32
         ensures { result ≡ atomic_value self old source }
@@ -57,7 +57,7 @@ impl Amo {
 }
 
 impl Hart {
-    /// Loads a word of RAM and reserves it (LR.W).
+    /// Loads the word of RAM at the address in rs1 and reserves it (LR.W).
     #[inline(never)]
     pub(crate) fn load_reserved<M: Memory>(
         &mut self,
@@ -82,8 +82,8 @@ impl Hart {
         }
     }
 
-    /// Stores a word of RAM where the hart's reservation is that word, and says in rd whether it
-    /// did: 0, else 1. The reservation ends either way (SC.W).
+    /// Stores rs2 in the word of RAM at the address in rs1 if the hart has reserved this word. Puts 0 into rd if it
+    /// stored, else 1. Either way the reservation ends (SC.W).
     #[inline(never)]
     pub(crate) fn store_conditional<M: Memory>(
         &mut self,
@@ -115,7 +115,8 @@ impl Hart {
         retired
     }
 
-    /// Gives rd the old word of RAM and stores what the operation makes of it (AMO).
+    /// Puts the word of RAM at the address in rs1 into rd, and stores what the operation makes of that word and rs2
+    /// (AMO).
     #[inline]
     pub(crate) fn amo<M: Memory>(
         &mut self,
@@ -134,8 +135,8 @@ impl Hart {
         self.exchange(operation, rd, address, source, bus)
     }
 
-    /// The same of an address and a source. The store comes last, so that what it does where words are
-    /// reserved, which is rare, costs other steps nothing.
+    /// Makes an AMO at an address. The store comes last, so that ending reservations, which is rare, costs other steps
+    /// nothing.
     #[inline(never)]
     fn exchange<M: Memory>(
         &mut self,

@@ -86,7 +86,7 @@ impl<M: Memory> Bus<M> {
         self.reservations.reserved(hart as usize)
     }
 
-    /// Sets what the devices keep that all harts share, and the bytes of the queues.
+    /// Sets what the devices keep for all harts, and the bytes that wait in both queues of the console.
     pub fn restore(&mut self, fields: DeviceFields, input: &[u8], output: &[u8])
         requires input { length input.now ≤ 16 }
         requires output { length output.now ≤ 4096 }
@@ -95,7 +95,7 @@ impl<M: Memory> Bus<M> {
         self.devices.restore(fields, input, output);
     }
 
-    /// Sets what the devices keep of a hart, and its reservation.
+    /// Sets what the devices keep for one hart, and its reservation.
     pub fn restore_hart(&mut self, hart: u32, msip: bool, mtimecmp: u64, reserved: Option<u32>)
         requires reservations { hart < length self.old.shared.reservations }
         requires devices { hart < length self.old.shared.devices.msip }
@@ -114,7 +114,8 @@ impl<M: Memory> Bus<M> {
         self.devices.halted()
     }
 
-    /// The interrupts that are pending at a hart, as `mip` has them.
+    /// The interrupts that are pending at a hart, as mip shows them (Privileged ISA, "Machine Interrupt (mip and mie)
+    /// Registers").
     #[inline(always)]
     pub fn interrupts(&self, hart: u32) -> Interrupts
         requires { hart < length self.now.shared.devices.msip }
@@ -127,7 +128,7 @@ impl<M: Memory> Bus<M> {
         }
     }
 
-    /// The time is one step later.
+    /// Advances mtime by one step, modulo 2 ^ 64.
     #[inline(always)]
     pub fn tick(&mut self)
         ensures { self.new ≡ with_devices (record self.old.shared.devices { mtime = (self.old.shared.devices.mtime + 1) % 2 ^ 64 })
@@ -136,7 +137,7 @@ impl<M: Memory> Bus<M> {
         self.devices.tick();
     }
 
-    /// The time is this many steps later.
+    /// Advances mtime by this many steps, modulo 2 ^ 64.
     #[inline(always)]
     pub fn tick_many(&mut self, steps: u32)
         ensures { self.new ≡ with_devices
@@ -145,7 +146,7 @@ impl<M: Memory> Bus<M> {
         self.devices.tick_many(steps);
     }
 
-    /// How many steps, of at most `count`, are made while the time has not reached a hart's mtimecmp.
+    /// The number of steps, at most `count`, that can be made before mtime reaches a hart's mtimecmp.
     #[inline(always)]
     pub fn steps_to_timer(&self, hart: u32, count: u32) -> u32
         requires { hart < length self.now.shared.devices.msip }
@@ -157,7 +158,7 @@ impl<M: Memory> Bus<M> {
         self.devices.steps_to_timer(hart, count)
     }
 
-    /// A byte comes to the console; `InputFull`, and nothing changes, where 16 wait.
+    /// Gives the console a byte of input. `InputFull`, and nothing changes, if 16 bytes wait.
     pub fn input(&mut self, byte: u8) -> Result<(), InputFull>
         ensures taken { OnOk result (self.new ≡ with_devices
             (record self.old.shared.devices { input = self.old.shared.devices.input ++ byte ∷ [] }) self.old) }
@@ -167,7 +168,7 @@ impl<M: Memory> Bus<M> {
         self.devices.input(byte)
     }
 
-    /// Takes the oldest bytes that the guest sent, as many as there are and fit, and says how many.
+    /// Takes the oldest bytes that the guest sent, as many as fit into `bytes`. Returns their number.
     pub fn drain(&mut self, bytes: &mut [u8]) -> usize
         ensures count { result ≡ min (length bytes.old) (length self.old.shared.devices.output) }
         ensures bytes { bytes.new
@@ -178,7 +179,7 @@ impl<M: Memory> Bus<M> {
         self.devices.drain(bytes)
     }
 
-    /// How many bytes wait for the console.
+    /// The number of bytes that the guest sent and that were not taken.
     #[inline(always)]
     pub fn waiting(&self) -> usize
         ensures { result ≡ length self.now.shared.devices.output }
@@ -186,7 +187,7 @@ impl<M: Memory> Bus<M> {
         self.devices.waiting()
     }
 
-    /// The byte of RAM at an address.
+    /// The byte at an address, if it is in RAM.
     #[inline(always)]
     pub fn ram_load8(&self, address: u32) -> Option<u8>
         ensures { result ≡ ram_load 1 address self.now.shared.bytes }
@@ -194,7 +195,7 @@ impl<M: Memory> Bus<M> {
         self.ram_byte(offset_of(address))
     }
 
-    /// The two bytes of RAM at an aligned address.
+    /// The two bytes at an aligned address, if they are in RAM.
     #[inline(always)]
     pub fn ram_load16(&self, address: u32) -> Option<u16>
         requires { address % 2 ≡ 0 }
@@ -203,7 +204,7 @@ impl<M: Memory> Bus<M> {
         self.ram_half(offset_of(address))
     }
 
-    /// The word of RAM at an aligned address.
+    /// The word at an aligned address, if it is in RAM.
     #[inline(always)]
     pub fn ram_load32(&self, address: u32) -> Option<u32>
         requires { address % 4 ≡ 0 }
@@ -212,7 +213,7 @@ impl<M: Memory> Bus<M> {
         self.ram_word(offset_of(address))
     }
 
-    /// The word of RAM at an aligned place, as seen from its first byte.
+    /// The word at an aligned offset from RAM's first byte, if it is in RAM.
     #[inline(always)]
     #[tactic(auto, unfolding(crate::specs::Straight::based))]
     pub(crate) fn ram_word(&self, at: u32) -> Option<u32>
@@ -226,7 +227,7 @@ impl<M: Memory> Bus<M> {
         }
     }
 
-    /// The byte of RAM at a place, as seen from its first byte.
+    /// The byte at an offset from RAM's first byte, if it is in RAM.
     #[inline(always)]
     #[tactic(auto, unfolding(crate::specs::Straight::based))]
     pub(crate) fn ram_byte(&self, at: u32) -> Option<u8>
@@ -239,7 +240,7 @@ impl<M: Memory> Bus<M> {
         }
     }
 
-    /// The two bytes of RAM at an aligned place.
+    /// The two bytes at an aligned offset from RAM's first byte, if they are in RAM.
     #[inline(always)]
     #[tactic(auto, unfolding(crate::specs::Straight::based))]
     pub(crate) fn ram_half(&self, at: u32) -> Option<u16>
@@ -253,7 +254,7 @@ impl<M: Memory> Bus<M> {
         }
     }
 
-    /// The word at an aligned address, of RAM or a device.
+    /// Loads the word at an aligned address, of RAM or a device; none if neither has it. A load may change the device.
     #[inline(always)]
     pub fn load32(&mut self, address: u32) -> Option<u32>
         requires { address % 4 ≡ 0 }
@@ -269,7 +270,7 @@ impl<M: Memory> Bus<M> {
         }
     }
 
-    /// Hart `hart` stores a byte of RAM. False, and nothing changes, where there is no RAM.
+    /// Stores a byte of RAM for hart `hart`. False, and nothing changes, if the address is not in RAM.
     #[inline(always)]
     pub fn ram_store8(&mut self, hart: u32, address: u32, value: u8) -> bool
         requires { hart < length self.old.shared.reservations }
@@ -279,7 +280,8 @@ impl<M: Memory> Bus<M> {
         self.store_byte(hart, offset_of(address), value)
     }
 
-    /// Hart `hart` stores two bytes of RAM at an aligned address.
+    /// Stores two bytes of RAM at an aligned address for hart `hart`. False, and nothing changes, if the address is not
+    /// in RAM.
     #[inline(always)]
     pub fn ram_store16(&mut self, hart: u32, address: u32, value: u16) -> bool
         requires aligned { address % 2 ≡ 0 }
@@ -290,7 +292,8 @@ impl<M: Memory> Bus<M> {
         self.store_half(hart, offset_of(address), value)
     }
 
-    /// Hart `hart` stores a word of RAM at an aligned address.
+    /// Stores a word of RAM at an aligned address for hart `hart`. False, and nothing changes, if the address is not in
+    /// RAM.
     #[inline(always)]
     pub fn ram_store32(&mut self, hart: u32, address: u32, value: u32) -> bool
         requires aligned { address % 4 ≡ 0 }
@@ -301,7 +304,8 @@ impl<M: Memory> Bus<M> {
         self.store_word(hart, offset_of(address), value)
     }
 
-    /// Hart `hart` stores a byte of RAM at a place, as seen from RAM's first byte.
+    /// Stores a byte of RAM at an offset from its first byte for hart `hart`. False, and nothing changes, if the offset
+    /// is not in RAM.
     #[inline(always)]
     #[tactic(auto, unfolding(crate::specs::Straight::based))]
     pub(crate) fn store_byte(&mut self, hart: u32, at: u32, value: u8) -> bool
@@ -318,7 +322,8 @@ impl<M: Memory> Bus<M> {
         true
     }
 
-    /// Hart `hart` stores two bytes of RAM at an aligned place, as seen from RAM's first byte.
+    /// Stores two bytes of RAM at an aligned offset from its first byte for hart `hart`. False, and nothing changes, if
+    /// the offset is not in RAM.
     #[inline(always)]
     #[tactic(auto, unfolding(crate::specs::Straight::based))]
     pub(crate) fn store_half(&mut self, hart: u32, at: u32, value: u16) -> bool
@@ -336,7 +341,8 @@ impl<M: Memory> Bus<M> {
         true
     }
 
-    /// Hart `hart` stores a word of RAM at an aligned place, as seen from RAM's first byte.
+    /// Stores a word of RAM at an aligned offset from its first byte for hart `hart`. False, and nothing changes, if
+    /// the offset is not in RAM.
     #[inline(always)]
     #[tactic(auto, unfolding(crate::specs::Straight::based))]
     pub(crate) fn store_word(&mut self, hart: u32, at: u32, value: u32) -> bool
@@ -354,7 +360,8 @@ impl<M: Memory> Bus<M> {
         true
     }
 
-    /// Hart `hart` stores a word at an aligned address, of RAM or a device.
+    /// Stores a word at an aligned address, in RAM or a device, for hart `hart`. Returns what it wrote; none, and
+    /// nothing changes, if neither has the address.
     #[inline(always)]
     pub fn store32(&mut self, hart: u32, address: u32, value: u32) -> Option<Written>
         requires aligned { address % 4 ≡ 0 }
@@ -372,8 +379,8 @@ impl<M: Memory> Bus<M> {
         }
     }
 
-    /// Reads bytes of RAM from outside. `OutOfRange`, and nothing changes, where they are not wholly
-    /// in RAM.
+    /// Reads the bytes of RAM from an address on, from outside. `OutOfRange`, and nothing changes, if they are not
+    /// wholly in RAM.
     pub fn read(&self, address: u32, bytes: &mut [u8]) -> Result<(), OutOfRange>
         ensures read { OnOk result (bytes.new
             ≡ slice (length bytes.old) (address - ram_base) self.now.shared.bytes) }
@@ -387,9 +394,8 @@ impl<M: Memory> Bus<M> {
         read_bytes(&self.ram, address - RAM_BASE, bytes)
     }
 
-    /// Writes bytes of RAM from outside, adds their pages to the dirty log, and ends each
-    /// reservation of a word that is touched. `OutOfRange`, and nothing changes, where they are not
-    /// wholly in RAM.
+    /// Writes bytes of RAM from an address on, from outside. Adds their pages to the dirty log, and ends each
+    /// reservation of a word that they touch. `OutOfRange`, and nothing changes, if they are not wholly in RAM.
     pub fn poke(&mut self, address: u32, bytes: &[u8]) -> Result<(), OutOfRange>
         ensures poked { OnOk result (self.new ≡ bus_poked address bytes.now self.old) }
         ensures out { IsErr result
@@ -404,7 +410,7 @@ impl<M: Memory> Bus<M> {
         Ok(())
     }
 
-    /// How many bytes RAM has: whole pages, at most 4096 of them.
+    /// The number of bytes of RAM: at most 4096 whole pages.
     pub fn ram_size(&self) -> u32
         ensures bytes { result ≡ length self.now.shared.bytes }
         ensures pages { result ≡ 4096 * length self.now.dirty }
@@ -413,7 +419,7 @@ impl<M: Memory> Bus<M> {
         self.ram.len()
     }
 
-    /// RAM is zeros, with each page in the dirty log, and no hart has a reservation.
+    /// Clears RAM to zeros, adds each page to the dirty log, and ends each reservation.
     pub fn clear(&mut self)
         ensures { self.new ≡ bus_cleared self.old }
     {
@@ -421,7 +427,7 @@ impl<M: Memory> Bus<M> {
         self.reservations.clear();
     }
 
-    /// Stores a word of a device.
+    /// Stores a word in a device. Returns what it wrote; none, and nothing changes, if no device has the address.
     #[cold]
     #[inline(never)]
     fn store_device(&mut self, address: u32, value: u32) -> Option<Written>
@@ -432,8 +438,8 @@ impl<M: Memory> Bus<M> {
         Some(written_by(register, value))
     }
 
-    /// Hart `hart` stores what an operation makes of the word of RAM at an aligned address, and is given the old one.
-    /// A function of its own, so that it costs other instructions nothing.
+    /// Makes an AMO on the word of RAM at an aligned address for hart `hart`. Returns the old word; none, and nothing
+    /// changes, if the address is not in RAM. It is a function of its own, so that it costs other instructions nothing.
     #[inline(never)]
     pub(crate) fn exchange(
         &mut self,
@@ -458,7 +464,7 @@ impl<M: Memory> Bus<M> {
         }
     }
 
-    /// Reserves the aligned word of RAM at an address for a hart.
+    /// Reserves the word of RAM at an aligned address for a hart.
     #[inline(always)]
     pub fn hold(&mut self, hart: u32, address: u32)
         requires hart { hart < length self.old.shared.reservations }
@@ -468,7 +474,7 @@ impl<M: Memory> Bus<M> {
         self.reservations.hold(hart as usize, address);
     }
 
-    /// Ends a hart's reservation, and answers whether it was of the word at an address.
+    /// Ends a hart's reservation. Returns whether it was for the word at an address.
     #[inline(always)]
     pub fn take(&mut self, hart: u32, address: u32) -> bool
         requires hart { hart < length self.old.shared.reservations }
@@ -481,8 +487,7 @@ impl<M: Memory> Bus<M> {
 }
 
 impl<M: PagedMemory> Bus<M> {
-    /// Takes the dirty log: `into` becomes the set of its pages, whatever was in it, and the log is
-    /// empty then.
+    /// Moves the dirty log into `into`, which loses its old pages; the log is then empty.
     pub fn take_dirty(&mut self, into: &mut PageSet)
         requires { length into.old ≡ length self.old.dirty }
         ensures taken { into.new ≡ self.old.dirty }
@@ -493,7 +498,7 @@ impl<M: PagedMemory> Bus<M> {
     }
 }
 
-/// What a store to a device's word writes that the end of the step looks at.
+/// What a store to a device's register wrote.
 fn written_by(register: Register, value: u32) -> Written
     ensures { result ≡ wrote_of register value }
 {
@@ -504,7 +509,7 @@ fn written_by(register: Register, value: u32) -> Written
     }
 }
 
-/// Ends the reservations of the words of this many bytes from an address on.
+/// Ends the reservations of the words that `count` bytes from an address on touch.
 fn poke_each(reservations: &mut Reservations, address: u32, count: usize)
     requires { address + count ≤ 2 ^ 32 }
     ensures { reservations.new ≡ poked_each address count reservations.old }

@@ -15,19 +15,19 @@ use rvm_csr::{Csr, Exception, is_read_only};
 use rvm_isa::{CsrNo, Imm5, Reg};
 use rvm_mem::Memory;
 
-/// What an instruction makes of a register's old value and its source.
+/// How an instruction changes a control and status register.
 #[derive(Clone, Copy, Debug, PartialEq, Eq)]
 pub enum CsrChange {
-    /// The source.
+    /// To the source.
     Write,
-    /// The old value with the source's bits set.
+    /// To the old value with the source's bits set.
     Set,
-    /// The old value with the source's bits cleared.
+    /// To the old value with the source's bits cleared.
     Clear,
 }
 
 impl CsrChange {
-    /// The new value.
+    /// The new value, from the old one and the source.
     #[inline]
     fn of(self, old: u32, source: u32) -> u32
         ensures { result ≡ changed_value self old source }
@@ -40,7 +40,7 @@ impl CsrChange {
     }
 }
 
-/// A write to a half of a counter, which is then not counted in that step.
+/// What a write to the register of this number wrote: a counter of which it wrote a half does not rise in that step.
 #[inline]
 fn written_by(number: u32) -> Written
     ensures { result ≡ wrote_csr number }
@@ -53,7 +53,7 @@ fn written_by(number: u32) -> Written
 }
 
 impl CsrChange {
-    /// Whether the instruction writes: to set or clear, its source field must not be 0.
+    /// Whether the instruction writes. It does not if it sets or clears bits and its source field is 0.
     #[inline]
     fn writes(self, field: u32) -> bool
         ensures { result ≡ writes self field }
@@ -66,8 +66,8 @@ impl CsrChange {
 }
 
 impl Hart {
-    /// Reads a register into rd and changes it by a register's value; `word` is the instruction's
-    /// own (CSRRW, CSRRS, CSRRC).
+    /// Puts the old value of a CSR into rd and changes the CSR by rs1 (CSRRW, CSRRS, CSRRC). `word` is the
+    /// instruction's own, for mtval. Traps if there is no such CSR, or it is read-only and would be written.
     #[inline]
     pub(crate) fn change_csr<M: Memory>(
         &mut self,
@@ -86,7 +86,8 @@ impl Hart {
         self.access_csr(word, change, rd, rs1.bits(), source, csr, bus)
     }
 
-    /// The same by the number in the field of rs1 (CSRRWI, CSRRSI, CSRRCI).
+    /// Puts the old value of a CSR into rd and changes the CSR by the number in the field of rs1 (CSRRWI, CSRRSI,
+    /// CSRRCI).
     #[inline]
     pub(crate) fn change_csr_immediate<M: Memory>(
         &mut self,
@@ -104,7 +105,8 @@ impl Hart {
         self.access_csr(word, change, rd, imm.bits(), imm.bits(), csr, bus)
     }
 
-    /// Reads a register, and changes it by a source unless the instruction's field says not to.
+    /// Puts the old value of a CSR into rd and changes the CSR by a source, unless the change and the source field say
+    /// that it is only read.
     #[inline]
     fn access_csr<M: Memory>(
         &mut self,
@@ -130,7 +132,7 @@ impl Hart {
         }
     }
 
-    /// Only reads a register into rd.
+    /// Puts the value of a CSR into rd. Traps if there is no such CSR.
     #[inline(never)]
     fn read_csr<M: Memory>(&mut self, rd: Reg, csr: CsrNo, bus: &mut Bus<M>, word: u32) -> Stepped
         requires { self.old.csrs.hart < length bus.old.shared.devices.msip }
@@ -144,7 +146,7 @@ impl Hart {
         self.retire(bus)
     }
 
-    /// The value of a register.
+    /// The value of a CSR.
     #[inline(always)]
     fn csr_value<M: Memory>(&self, register: Csr, bus: &Bus<M>) -> u32
         requires { self.now.csrs.hart < length bus.now.shared.devices.msip }
@@ -154,7 +156,7 @@ impl Hart {
         self.csrs.value_of(register, pending)
     }
 
-    /// Reads a register into rd and writes it.
+    /// Puts the old value of a CSR into rd and writes the source to it.
     #[inline(never)]
     fn write_csr<M: Memory>(
         &mut self,
@@ -171,7 +173,7 @@ impl Hart {
         self.exchange_csr(CsrChange::Write, rd, source, csr, bus, word)
     }
 
-    /// Reads a register into rd and sets bits of it.
+    /// Puts the old value of a CSR into rd and sets the source's bits in it.
     #[inline(never)]
     fn set_csr<M: Memory>(
         &mut self,
@@ -188,7 +190,7 @@ impl Hart {
         self.exchange_csr(CsrChange::Set, rd, source, csr, bus, word)
     }
 
-    /// Reads a register into rd and clears bits of it.
+    /// Puts the old value of a CSR into rd and clears the source's bits in it.
     #[inline(never)]
     fn clear_csr<M: Memory>(
         &mut self,
@@ -205,8 +207,8 @@ impl Hart {
         self.exchange_csr(CsrChange::Clear, rd, source, csr, bus, word)
     }
 
-    /// Reads a register into rd and changes it. Inlined where the change is known, it has one jump by
-    /// the register's number.
+    /// Puts the old value of a CSR into rd and changes the CSR. Traps if there is no such CSR or it is read-only.
+    /// Inlined for a known change, it has one jump by the register.
     #[inline(always)]
     fn exchange_csr<M: Memory>(
         &mut self,

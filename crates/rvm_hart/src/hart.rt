@@ -15,7 +15,7 @@ use rvm_isa::{Imm12, Reg};
 use rvm_word::add_signed;
 use std::marker::Model;
 
-/// The number of pc among the registers that are set from outside.
+/// The number by which pc is set from outside; x0 to x31 have 0 to 31.
 pub const PC: u32 = 32;
 
 /// One hart: x0 to x31, pc and the control and status registers.
@@ -38,7 +38,8 @@ impl Model for Hart {
 }
 
 impl Hart {
-    /// Hart `number` after reset: it starts at `entry` with its number in a0, all else is 0.
+    /// Hart `number` after reset (Privileged ISA, "Reset"): it starts at `entry` with its number in
+    /// a0; its other registers are 0, and its CSRs are those of `CsrFile::new`.
     pub fn new(number: u32, entry: u32) -> Hart
         requires { entry % 4 ≡ 0 }
         ensures { result ≡ record {
@@ -56,7 +57,7 @@ impl Hart {
         }
     }
 
-    /// The hart of a number that keeps these values.
+    /// Hart `number` with these values.
     pub fn restored(number: u32, fields: HartFields) -> Hart
         requires { CanBeHeld fields }
         ensures { result ≡ with_number number fields }
@@ -83,7 +84,7 @@ impl Hart {
         }
     }
 
-    /// x0 to x31.
+    /// Registers x0 to x31, in order.
     pub fn registers(&self) -> &[u32; 32]
         ensures { result.now ≡ self.now.regs }
     {
@@ -114,7 +115,7 @@ impl Hart {
         add_signed(self.get(rs1), imm.value())
     }
 
-    /// Writes a register, and goes on to the next instruction.
+    /// Writes a register and goes on to the next instruction. A write to x0 is dropped.
     #[inline(always)]
     pub(crate) fn set_result(&mut self, rd: Reg, value: u32)
         ensures { self.new ≡ with_result rd value self.old }
@@ -132,7 +133,7 @@ impl Hart {
         self.pc = self.pc.wrapping_add(4);
     }
 
-    /// Returns from a trap (MRET).
+    /// Sets pc and mstatus to return from a trap (MRET).
     #[inline(never)]
     pub(crate) fn mret(&mut self)
         ensures { self.new
@@ -141,8 +142,8 @@ impl Hart {
         self.pc = self.csrs.mret();
     }
 
-    /// Sets a register from outside: x0 to x31 by its number, or pc by 32, of which bits 1:0 are
-    /// cleared. A write to x0 is dropped.
+    /// Sets a register from outside: x0 to x31 by 0 to 31, or pc by 32. Bits 1 and 0 of pc are
+    /// cleared; a write to x0 is dropped.
     pub fn poke(&mut self, register: u32, value: u32)
         requires { register ≤ 32 }
         ensures { self.new ≡ register_poked register value self.old }
@@ -155,7 +156,7 @@ impl Hart {
     }
 }
 
-/// x1 to x31.
+/// Registers x1 to x31, of x0 to x31.
 fn behind_x0(regs: &[u32; 32]) -> [u32; 31]
     ensures registers { result ≡ drop 1 regs.now }
     ensures length { length regs.now ≡ 32 }

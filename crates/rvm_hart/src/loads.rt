@@ -1,5 +1,5 @@
-//! Loads (Unprivileged ISA, "Load and Store Instructions"): alignment is looked at first, then
-//! whether something is there.
+//! Loads (Unprivileged ISA, "Load and Store Instructions"). A misaligned address traps before an
+//! access fault can.
 
 ghost use Rattle.std.specs.Prelude.{◌≡◌, ◌%◌};
 ghost use Rattle.rvm_hart.specs.Outcome.{reg};
@@ -16,7 +16,7 @@ use rvm_mem::Memory;
 use rvm_word::sext;
 
 impl Hart {
-    /// A byte of RAM, sign-extended (LB).
+    /// Loads a byte of RAM, sign-extended, from the sum of rs1 and the immediate (LB).
     #[inline]
     pub(crate) fn load_signed_byte<M: Memory>(
         &mut self,
@@ -38,7 +38,7 @@ impl Hart {
         }
     }
 
-    /// A byte of RAM, zero-extended (LBU).
+    /// Loads a byte of RAM, zero-extended, from the sum of rs1 and the immediate (LBU).
     #[inline]
     pub(crate) fn load_byte<M: Memory>(
         &mut self,
@@ -60,7 +60,7 @@ impl Hart {
         }
     }
 
-    /// Two bytes of RAM, sign-extended (LH).
+    /// Loads two bytes of RAM, sign-extended, from the sum of rs1 and the immediate (LH).
     #[inline]
     pub(crate) fn load_signed_half<M: Memory>(
         &mut self,
@@ -85,7 +85,7 @@ impl Hart {
         }
     }
 
-    /// Two bytes of RAM, zero-extended (LHU).
+    /// Loads two bytes of RAM, zero-extended, from the sum of rs1 and the immediate (LHU).
     #[inline]
     pub(crate) fn load_half<M: Memory>(
         &mut self,
@@ -110,7 +110,7 @@ impl Hart {
         }
     }
 
-    /// A word of RAM or a device (LW).
+    /// Loads a word of RAM or a device from the sum of rs1 and the immediate (LW).
     #[inline]
     pub(crate) fn load_word<M: Memory>(
         &mut self,
@@ -135,7 +135,7 @@ impl Hart {
         }
     }
 
-    /// The same of an aligned address, wherever it is.
+    /// Loads the word at an aligned address, of RAM or a device.
     #[cold]
     #[inline(never)]
     fn load_elsewhere<M: Memory>(&mut self, rd: Reg, address: u32, bus: &mut Bus<M>) -> Stepped

@@ -1,14 +1,15 @@
-//! Marks of addresses: a quick test that an address is none of some.
+//! Marks of addresses: a quick test that finds most addresses that are not in a set.
 
 ghost use Rattle.std.specs.Prelude.{◌≡◌, false, replicate};
 ghost use Rattle.rvm_hart.specs.Marks.{is_marked, marked};
 
 use std::marker::Model;
 
-/// How many marks there are.
+/// The number of marks.
 const MARKS: usize = 4096;
 
-/// 4096 marks. Each stands for all addresses that are equal in their low 12 bits, which one mask finds.
+/// 4096 marks, each of which stands for all addresses with the same low 12 bits, so that one mask finds the mark of an
+/// address.
 #[derive(Drop)]
 pub struct Marks {
     flags: [bool; MARKS],
@@ -25,7 +26,7 @@ impl Model for Marks {
 }
 
 impl Marks {
-    /// No mark.
+    /// Marks of which none is set.
     pub fn new() -> Marks
         ensures { result ≡ replicate 4096 false }
     {

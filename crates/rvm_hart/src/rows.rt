@@ -17,7 +17,7 @@ use rvm_isa::{Ins, Reg};
 use rvm_mem::Memory;
 
 impl Hart {
-    /// Ends an instruction whose result goes to rd.
+    /// Retires an instruction, with its result in rd.
     #[inline]
     fn finish_with<M: Memory>(&mut self, rd: Reg, value: u32, bus: &mut Bus<M>) -> Stepped
         ensures { Executes (done_with rd value) self.old bus.old self.new bus.new result }
@@ -26,7 +26,7 @@ impl Hart {
         self.retire(bus)
     }
 
-    /// Ends an instruction that does nothing else.
+    /// Retires an instruction that does nothing but go on to the next.
     #[inline]
     fn finish<M: Memory>(&mut self, bus: &mut Bus<M>) -> Stepped
         ensures { Executes done self.old bus.old self.new bus.new result }
@@ -35,7 +35,7 @@ impl Hart {
         self.retire(bus)
     }
 
-    /// Returns from a trap (MRET).
+    /// Returns from a trap and retires (MRET).
     #[inline(never)]
     fn return_from_trap<M: Memory>(&mut self, bus: &mut Bus<M>) -> Stepped
         ensures { Executes trap_return self.old bus.old self.new bus.new result }
@@ -44,7 +44,7 @@ impl Hart {
         self.retire(bus)
     }
 
-    /// Applies an instruction, which was decoded from `word`.
+    /// Makes the step of an instruction, which was decoded from `word`.
     #[inline(always)]
     #[tactic(auto, unfolding(crate::specs::Rows::effect))]
     pub(crate) fn apply<M: Memory>(&mut self, word: u32, ins: Ins, bus: &mut Bus<M>) -> Stepped

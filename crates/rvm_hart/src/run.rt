@@ -1,5 +1,4 @@
-//! Steps of a hart, one after another: on the straight path as long as they can be made there, and each other one by
-//! itself.
+//! Consecutive steps of a hart: on the straight path as long as possible, and each other step by itself.
 
 ghost use Rattle.std.specs.Prelude.{◌≡◌, ◌<◌, ◌≤◌, ◌-◌, ◌&&◌, ◌%◌, length, true};
 ghost use Rattle.rvm_mem.specs.Pages.{mark_all};
@@ -18,18 +17,18 @@ use crate::straight::{address_of, offset_of};
 use rvm_csr::{Cause, Exception};
 use rvm_mem::Memory;
 
-/// What steps came to.
+/// How consecutive steps ended.
 #[derive(Clone, Copy)]
 pub struct Ran {
-    /// How many steps are left.
+    /// The number of steps that were not made.
     pub left: u32,
     /// The status that the board is halted with, if the last step halted it or found it halted.
     pub halted: Option<u8>,
 }
 
 impl Hart {
-    /// Makes steps, at most `count`: up to one that halts the board or finds it halted, or, if `watched`, up to a
-    /// mark. `LOOP` is the number of the caller's loop, as in `run_straight`.
+    /// Makes at most `count` steps. Ends early after a step that halts the board or finds it halted, or, if `watched`,
+    /// before a step that begins at a mark. `LOOP` is the number of the caller's loop, as in `run_straight`.
     #[inline(always)]
     pub fn run<M: Memory, const LOOP: u8>(
         &mut self,
@@ -79,7 +78,7 @@ impl Hart {
         watched && marks.has(self.pc)
     }
 
-    /// One step, by the word at which the straight path ended, if it is known.
+    /// Makes one step. `word` is the word at which the straight path ended, or 0 if it is not known.
     #[inline(always)]
     #[tactic(auto, unfolding(crate::specs::Straight::is_next))]
     fn step_with<M: Memory>(&mut self, word: u32, bus: &mut Bus<M>) -> Stepped
@@ -97,7 +96,7 @@ impl Hart {
         self.execute_word(word, bus)
     }
 
-    /// The same step as `step`, on the straight path if it can be made there: for a hart that makes one at a time.
+    /// Makes the same step as `step`, on the straight path if possible. It is for a hart that makes one step at a time.
     #[inline(always)]
     pub fn step_straight<M: Memory, const LOOP: u8>(&mut self, bus: &mut Bus<M>) -> Stepped
         requires reservation { self.old.csrs.hart < length bus.old.shared.reservations }
@@ -117,7 +116,7 @@ impl Hart {
         self.execute_straight::<M, LOOP>(bus)
     }
 
-    /// Runs the instruction at pc, on the straight path if it can be made there.
+    /// Makes the step of the instruction at pc, on the straight path if possible. Traps if there is no RAM at pc.
     #[inline(always)]
     fn execute_straight<M: Memory, const LOOP: u8>(&mut self, bus: &mut Bus<M>) -> Stepped
         requires reservation { self.old.csrs.hart < length bus.old.shared.reservations }
@@ -136,7 +135,7 @@ impl Hart {
         self.execute_word(word, bus)
     }
 
-    /// Ends the step of an instruction of the straight path, after which the hart is at this place.
+    /// Ends the step of an instruction of the straight path; the hart goes on at offset `next` of RAM.
     #[inline(always)]
     fn end_straight<M: Memory>(&mut self, next: u32, bus: &mut Bus<M>) -> Stepped
         requires { next % 4 ≡ 0 }
@@ -149,7 +148,7 @@ impl Hart {
         self.retire(bus)
     }
 
-    /// A step whose word is not known, which is rare.
+    /// Makes a step whose word is not known, which is rare.
     #[cold]
     #[inline(never)]
     fn step_apart<M: Memory>(&mut self, bus: &mut Bus<M>) -> Stepped
@@ -164,7 +163,7 @@ impl Hart {
     }
 }
 
-/// The status that a step answered, if it halted the board or found it halted.
+/// The status that a step reported, if it halted the board or found it halted.
 #[inline(always)]
 fn status_in(answer: Stepped) -> Option<u8>
     ensures { result ≡ status_in answer }

@@ -17,8 +17,8 @@ use rvm_isa::decode_at_end;
 use rvm_mem::Memory;
 
 impl Hart {
-    /// One step: an interrupt that is pending is taken, else the instruction at pc runs; then the
-    /// counters rise. A halted board stays as it is. The pages that a store wrote are added to the
+    /// Makes one step: takes a pending interrupt, or else runs the instruction at pc; then the
+    /// counters rise. A halted board does not change. The page that a store wrote is added to the
     /// dirty log.
     #[inline(always)]
     pub fn step<M: Memory>(&mut self, bus: &mut Bus<M>) -> Stepped
@@ -39,7 +39,8 @@ impl Hart {
         self.execute(bus)
     }
 
-    /// The interrupt that is taken before the next instruction, if any.
+    /// The interrupt that the hart takes before its next instruction, if any (Privileged ISA,
+    /// "Machine Interrupt (mip and mie) Registers").
     #[inline(always)]
     pub(crate) fn pending<M: Memory>(&self, bus: &Bus<M>) -> Option<Interrupt>
         requires { self.now.csrs.hart < length bus.now.shared.devices.msip }
@@ -51,7 +52,7 @@ impl Hart {
         self.csrs.pending(bus.interrupts(self.csrs.hart()))
     }
 
-    /// Runs the instruction at pc.
+    /// Makes the step of the instruction at pc. Traps if there is no RAM at pc.
     #[inline(always)]
     fn execute<M: Memory>(&mut self, bus: &mut Bus<M>) -> Stepped
         requires reservation { self.old.csrs.hart < length bus.old.shared.reservations }
@@ -64,7 +65,7 @@ impl Hart {
         self.execute_word(word, bus)
     }
 
-    /// Runs the instruction at pc, whose word this is.
+    /// Makes the step of the instruction at pc, whose word is `word`. Traps if the word has no row.
     #[inline(always)]
     pub(crate) fn execute_word<M: Memory>(&mut self, word: u32, bus: &mut Bus<M>) -> Stepped
         requires reservation { self.old.csrs.hart < length bus.old.shared.reservations }
@@ -78,7 +79,8 @@ impl Hart {
         }
     }
 
-    /// Ends the step of an instruction that wrote no counter and did not halt.
+    /// Ends the step of a retired instruction that wrote no counter and no halt word: all counters
+    /// rise.
     #[inline(always)]
     pub(crate) fn retire<M: Memory>(&mut self, bus: &mut Bus<M>) -> Stepped
         ensures machine { machine self.new bus.new
@@ -91,7 +93,7 @@ impl Hart {
         Stepped::Retired
     }
 
-    /// Ends the step of an instruction that traps.
+    /// Ends the step of an instruction that traps; `value` goes to mtval.
     #[cold]
     #[inline(never)]
     pub(crate) fn trap<M: Memory>(
@@ -109,7 +111,8 @@ impl Hart {
         Stepped::Trapped(exception)
     }
 
-    /// Ends the step of an instruction that wrote a counter or the halt word.
+    /// Ends the step of a retired instruction: all counters rise but the one of which it wrote a
+    /// half. Reports `Halted` if it wrote the halt word.
     #[cold]
     #[inline(never)]
     pub(crate) fn retire_after<M: Memory>(&mut self, written: Written, bus: &mut Bus<M>) -> Stepped
@@ -129,7 +132,8 @@ impl Hart {
         }
     }
 
-    /// Enters a trap, and ends the step.
+    /// Enters the handler of a trap, with `value` in mtval, and ends the step: mcycle and mtime
+    /// rise, minstret does not.
     #[cold]
     #[inline(never)]
     pub(crate) fn enter<M: Memory>(&mut self, cause: Cause, value: u32, bus: &mut Bus<M>)

@@ -1,5 +1,5 @@
-//! Stores (Unprivileged ISA, "Load and Store Instructions"): alignment is looked at first, then
-//! whether something is there.
+//! Stores (Unprivileged ISA, "Load and Store Instructions"). A misaligned address traps before an
+//! access fault can.
 
 ghost use Rattle.std.specs.Prelude.{◌≡◌, ◌%◌, ◌<◌, length};
 ghost use Rattle.rvm_hart.specs.Outcome.{reg};
@@ -14,7 +14,7 @@ use rvm_isa::{Imm12, Reg};
 use rvm_mem::Memory;
 
 impl Hart {
-    /// The low byte of a value, to RAM (SB).
+    /// Stores the low byte of rs2 in RAM, at the sum of rs1 and the immediate (SB).
     #[inline]
     pub(crate) fn store_byte<M: Memory>(
         &mut self,
@@ -36,7 +36,7 @@ impl Hart {
         self.retire(bus)
     }
 
-    /// The low two bytes of a value, to RAM (SH).
+    /// Stores the low two bytes of rs2 in RAM, at the sum of rs1 and the immediate (SH).
     #[inline]
     pub(crate) fn store_half<M: Memory>(
         &mut self,
@@ -61,7 +61,7 @@ impl Hart {
         self.retire(bus)
     }
 
-    /// A word, to RAM or a device (SW).
+    /// Stores rs2 in RAM or a device, at the sum of rs1 and the immediate (SW).
     #[inline]
     pub(crate) fn store_word<M: Memory>(
         &mut self,
@@ -86,7 +86,7 @@ impl Hart {
         self.retire(bus)
     }
 
-    /// The same of an aligned address, wherever it is.
+    /// Stores a word at an aligned address, in RAM or a device.
     #[cold]
     #[inline(never)]
     fn store_elsewhere<M: Memory>(&mut self, address: u32, value: u32, bus: &mut Bus<M>) -> Stepped

@@ -1,5 +1,6 @@
 //! The straight path: steps whose instructions reach registers, RAM and reservations alone. One loop makes them, and
-//! the counters rise once after it. `at` is the place of pc in RAM, in place of the pc that the hart keeps.
+//! the counters rise once after it. `at` is the offset of the current instruction in RAM, and stands for the pc that
+//! the hart keeps.
 
 ghost use Rattle.std.specs.Prelude.{◌≡◌, ◌<◌, ◌≤◌, ◌+◌, ◌%◌, ◌^◌, ◌-◌, length, true, IfNone, IfSome, Some};
 ghost use Rattle.rvm_word.specs.Word.{modulo};
@@ -22,18 +23,19 @@ use rvm_isa::{Imm12, Ins, Off13, Off21, Reg, Shamt, decode_straight};
 use rvm_mem::Memory;
 use rvm_word::{add_signed, sext};
 
-/// What steps on the straight path came to.
+/// How steps on the straight path ended.
 #[derive(Clone, Copy)]
 pub struct Straight {
-    /// How many steps are left.
+    /// The number of steps that were not made.
     pub left: u32,
-    /// The word that the next step runs; 0, which is no instruction, where it is not known.
+    /// The word that the next step runs; 0, which is no instruction, if it is not known.
     pub(crate) word: u32,
 }
 
 impl Hart {
-    /// Makes steps on the straight path, at most `count`: up to the first that leaves the path, is interrupted, or,
-    /// if `watched`, begins at a mark. Returns how many are left.
+    /// Makes at most `count` steps on the straight path, and none on a halted board. Ends early before a step that
+    /// leaves the path or takes an interrupt, or, if `watched`, that begins at a mark. Returns how many steps are left,
+    /// and the next word if it is known.
     ///
     /// `LOOP` is the number of the caller's loop. A function of this size is inlined only if it is used once, so each
     /// hot loop has a copy of the path: inlined, a step takes 20 host instructions less.
@@ -73,7 +75,7 @@ impl Hart {
         }
     }
 
-    /// The counters rise by this many steps.
+    /// Raises mcycle, minstret and mtime by this many steps.
     #[inline(always)]
     fn count_steps<M: Memory>(&mut self, bus: &mut Bus<M>, steps: u32)
         ensures machine { machine self.new bus.new
@@ -87,8 +89,8 @@ impl Hart {
         bus.tick_many(steps);
     }
 
-    /// How many steps, of at most `count`, are made while no interrupt is pending, if the devices change in time
-    /// alone.
+    /// The number of steps, at most `count`, that can be made before an interrupt is pending, if mtime alone changes in
+    /// the devices.
     #[inline(always)]
     fn quiet_steps<M: Memory>(&self, bus: &Bus<M>, count: u32) -> u32
         requires { self.now.csrs.hart < length bus.now.shared.devices.msip }
@@ -107,8 +109,9 @@ impl Hart {
         bus.steps_to_timer(self.csrs.hart(), count)
     }
 
-    /// Runs instructions of the path, at most `count`, up to one that leaves it or is at a mark that is watched.
-    /// Returns how many are left, and the word of the one that left it. No counter rises.
+    /// Runs at most `count` instructions of the path. Ends early before one that leaves it, or, if `watched`, that is
+    /// at a mark. Returns how many are left, and the word of the one that left the path if it was fetched, else 0. No
+    /// counter rises.
     #[inline(always)]
     fn rows_straight<M: Memory, const LOOP: u8>(
         &mut self,
@@ -148,6 +151,7 @@ impl Hart {
         Straight { left, word }
     }
 
+    /// Puts a value into rd.
     #[inline]
     fn put<M: Memory>(&mut self, rd: Reg, value: u32, at: u32, bus: &mut Bus<M>) -> Option<u32>
         requires at { at % 4 ≡ 0 }
@@ -165,6 +169,7 @@ impl Hart {
         Some(next_of(at))
     }
 
+    /// Puts the value of an operation on two registers into rd.
     #[inline]
     fn straight_operate<M: Memory>(
         &mut self,
@@ -188,6 +193,7 @@ impl Hart {
         self.put(rd, operation.of(self.get(rs1), self.get(rs2)), at, bus)
     }
 
+    /// Puts the value of an operation on a register and a sign-extended immediate into rd.
     #[inline]
     fn straight_immediate<M: Memory>(
         &mut self,
@@ -211,6 +217,7 @@ impl Hart {
         self.put(rd, operation.of(self.get(rs1), imm.word()), at, bus)
     }
 
+    /// Puts a shifted register into rd.
     #[inline]
     fn straight_shift<M: Memory>(
         &mut self,
@@ -234,6 +241,7 @@ impl Hart {
         self.put(rd, operation.of(self.get(rs1), amount.bits()), at, bus)
     }
 
+    /// Jumps to an address (JALR); none if it is no multiple of four.
     #[inline]
     fn straight_jump<M: Memory>(
         &mut self,
@@ -260,6 +268,7 @@ impl Hart {
         Some(offset_of(target))
     }
 
+    /// Jumps by an offset (JAL); none if the target is no multiple of four.
     #[inline]
     fn straight_jump_by<M: Memory>(
         &mut self,
@@ -286,6 +295,7 @@ impl Hart {
         Some(target)
     }
 
+    /// Takes a branch or not; none if the target of a taken one is no multiple of four.
     #[inline]
     fn straight_branch<M: Memory>(
         &mut self,
@@ -315,6 +325,7 @@ impl Hart {
         Some(next)
     }
 
+    /// Loads a byte, sign-extended (LB); none if it is not in RAM.
     #[inline]
     fn straight_load_signed_byte<M: Memory>(
         &mut self,
@@ -339,6 +350,7 @@ impl Hart {
         }
     }
 
+    /// Loads a byte, zero-extended (LBU); none if it is not in RAM.
     #[inline]
     fn straight_load_byte<M: Memory>(
         &mut self,
@@ -363,6 +375,7 @@ impl Hart {
         }
     }
 
+    /// Loads two bytes, sign-extended (LH); none if they are misaligned or not in RAM.
     #[inline]
     fn straight_load_signed_half<M: Memory>(
         &mut self,
@@ -391,6 +404,7 @@ impl Hart {
         }
     }
 
+    /// Loads two bytes, zero-extended (LHU); none if they are misaligned or not in RAM.
     #[inline]
     fn straight_load_half<M: Memory>(
         &mut self,
@@ -419,6 +433,7 @@ impl Hart {
         }
     }
 
+    /// Loads a word (LW); none if it is misaligned or not in RAM.
     #[inline]
     fn straight_load_word<M: Memory>(
         &mut self,
@@ -448,6 +463,7 @@ impl Hart {
         }
     }
 
+    /// Stores the low byte of a value; none if the address is not in RAM.
     #[inline]
     fn straight_store_byte<M: Memory>(
         &mut self,
@@ -472,6 +488,7 @@ impl Hart {
         Some(next_of(at))
     }
 
+    /// Stores the low two bytes of a value; none if the address is misaligned or not in RAM.
     #[inline]
     fn straight_store_half<M: Memory>(
         &mut self,
@@ -500,6 +517,7 @@ impl Hart {
         Some(next_of(at))
     }
 
+    /// Stores a word; none if the address is misaligned or not in RAM.
     #[inline]
     fn straight_store_word<M: Memory>(
         &mut self,
@@ -529,6 +547,7 @@ impl Hart {
         Some(next_of(at))
     }
 
+    /// Stores the low byte of rs2 at the sum of rs1 and the immediate (SB).
     #[inline]
     fn straight_sb<M: Memory>(
         &mut self,
@@ -553,6 +572,7 @@ impl Hart {
         self.straight_store_byte(address, value, at, bus)
     }
 
+    /// Stores the low two bytes of rs2 at the sum of rs1 and the immediate (SH).
     #[inline]
     fn straight_sh<M: Memory>(
         &mut self,
@@ -577,6 +597,7 @@ impl Hart {
         self.straight_store_half(address, value, at, bus)
     }
 
+    /// Stores rs2 at the sum of rs1 and the immediate (SW).
     #[inline]
     fn straight_sw<M: Memory>(
         &mut self,
@@ -602,6 +623,7 @@ impl Hart {
         self.straight_store_word(address, value, at, bus)
     }
 
+    /// Goes on to the next instruction (FENCE, FENCE.I, WFI).
     #[inline]
     fn straight_fence<M: Memory>(&mut self, at: u32, bus: &mut Bus<M>) -> Option<u32>
         requires at { at % 4 ≡ 0 }
@@ -617,6 +639,7 @@ impl Hart {
         Some(next_of(at))
     }
 
+    /// Loads a word and reserves it (LR.W); none if it is misaligned or not in RAM.
     #[inline]
     fn straight_load_reserved<M: Memory>(
         &mut self,
@@ -649,6 +672,7 @@ impl Hart {
         }
     }
 
+    /// Stores a word if the hart has reserved it (SC.W); none if it is misaligned or not in RAM.
     #[inline]
     fn straight_store_conditional<M: Memory>(
         &mut self,
@@ -686,6 +710,7 @@ impl Hart {
         Some(next_of(at))
     }
 
+    /// Makes an AMO at an address; none if it is misaligned or not in RAM.
     #[inline]
     fn straight_exchange<M: Memory>(
         &mut self,
@@ -719,6 +744,7 @@ impl Hart {
         }
     }
 
+    /// Makes an AMO at the address in rs1 with the value of rs2.
     #[inline]
     fn straight_amo<M: Memory>(
         &mut self,
@@ -744,6 +770,7 @@ impl Hart {
         self.straight_exchange(operation, rd, address, source, at, bus)
     }
 
+    /// Makes an SC.W at the address in rs1 with the value of rs2.
     #[inline]
     fn straight_sc<M: Memory>(
         &mut self,
@@ -768,7 +795,8 @@ impl Hart {
         self.straight_store_conditional(rd, address, value, at, bus)
     }
 
-    /// Applies an instruction, which was decoded from `word`.
+    /// Applies an instruction, which was decoded from `word`. Returns the offset of the next instruction; none, and
+    /// nothing changes, if this one leaves the path.
     #[inline(always)]
     #[tactic(auto, unfolding(crate::specs::Rows::effect, crate::specs::Straight::stays_in_ram))]
     fn apply_straight<M: Memory, const LOOP: u8>(
@@ -1116,7 +1144,8 @@ impl Hart {
         }
     }
 
-    /// Runs the instruction at `pc`, whose word was fetched, if it is one of those.
+    /// Runs the instruction at offset `at`, whose word was fetched. Returns the offset of the next instruction; none,
+    /// and nothing changes, if this one leaves the path.
     #[inline(always)]
     pub(crate) fn straight<M: Memory, const LOOP: u8>(
         &mut self,
@@ -1146,7 +1175,7 @@ impl Hart {
     }
 }
 
-/// The address of a place in RAM.
+/// The address of an offset in RAM.
 #[inline(always)]
 #[tactic(auto, unfolding(crate::specs::Straight::based))]
 pub(crate) fn address_of(at: u32) -> u32
@@ -1156,7 +1185,7 @@ pub(crate) fn address_of(at: u32) -> u32
     at.wrapping_add(RAM_BASE)
 }
 
-/// The place of an address, as seen from RAM's first byte.
+/// The offset of an address from RAM's first byte, modulo 2 ^ 32.
 #[inline(always)]
 #[tactic(auto, unfolding(crate::specs::Straight::based))]
 pub(crate) fn offset_of(address: u32) -> u32
@@ -1166,7 +1195,7 @@ pub(crate) fn offset_of(address: u32) -> u32
     address.wrapping_sub(RAM_BASE)
 }
 
-/// The place of the next instruction.
+/// The offset of the next instruction.
 #[inline(always)]
 #[tactic(auto, unfolding(crate::specs::Straight::based))]
 fn next_of(at: u32) -> u32
@@ -1176,8 +1205,8 @@ fn next_of(at: u32) -> u32
     at.wrapping_add(4)
 }
 
-/// The place at this many bytes from another, if an instruction can be there. The offset is looked at and not the place,
-/// so that the path need not keep both.
+/// The sum of two offsets, if it is a multiple of four. It tests the second offset and not the sum, so that the path
+/// need not keep both.
 #[inline(always)]
 #[tactic(auto, using(crate::proofs::Places::moved, crate::proofs::Places::moved_to_four), unfolding(crate::specs::Straight::based))]
 fn moved(at: u32, offset: i32) -> Option<u32>

@@ -71,7 +71,7 @@ found w (x ∷ xs) r e =
           let h = found w xs r rest in ((suc h.0.0, omega (arith, h.0.1), h.0.2), h.1)
     ]
 
--- where no word has two rows, the row that a word has is found
+-- if no word has two rows, the row that a word has is found
 found_only : (w : ℕ) (rows : List Row) (r : Row) → all_apart rows ≡ true → Contains rows r →
     has_row w r ≡ true → find (has_row w) rows ≡ Some r
 found_only w [] r t (k, l, e) h = absurd (omega (arith, l))

@@ -7,7 +7,7 @@ use Rattle.rvm_word.specs.Word.{signed_value, modulo}
 abbrev pub part : (low width : ℕ) → ℕ → ℕ
 part low width w = w / 2 ^ low % 2 ^ width
 
--- the fixed parts of a word, by which its row is found
+-- FIXED PARTS AND REGISTERS
 
 -- the opcode, bits 6 to 0
 abbrev pub opcode : ℕ → ℕ
@@ -49,7 +49,7 @@ aq w = part 26 1 w == 1
 abbrev pub rl : ℕ → Bool
 rl w = part 25 1 w == 1
 
--- the bits of the immediates, each part times the weight of its lowest bit
+-- the bits of the immediates: each part times the weight of its lowest bit
 
 -- U: 31 to 12, which is not sign-extended
 abbrev pub u_bits : ℕ → ℕ

@@ -11,7 +11,7 @@ HasRow w r = bit_and w r.mask ≡ r.bits
 abbrev pub NoWordHasTwoRows : Type 0
 NoWordHasTwoRows = AllPairs (λ r s. (w : ℕ) → HasRow w r → HasRow w s → ⊥) table
 
--- a word is decoded exactly where the table has a row for it, as that row's instruction with the
+-- a word is decoded if and only if the table has a row for it, as that row's instruction with the
 -- word's fields
 abbrev pub IsDecodedByItsRow : Type 0
 IsDecodedByItsRow =

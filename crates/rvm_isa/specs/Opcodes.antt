@@ -1,5 +1,5 @@
--- The decoder's own short cut: the table again for a word whose opcode is known. The few rows of
--- that opcode are told apart by the word's other fixed parts.
+-- The decoder's short cut: the table again, for a word whose opcode is known. The other fixed parts
+-- of the word tell the few rows of that opcode apart.
 use Rattle.std.specs.Prelude.{ℕ, ◌%◌, ◌^◌, Bool, ◌&&◌, ◌==◌, if◌then◌else◌, Option, find, option_map}
 use Rattle.rvm_isa.specs.declared.ins.Ins.{Ins}
 use Rattle.rvm_isa.specs.Fields.{opcode, funct3, funct5, funct7, rs2}

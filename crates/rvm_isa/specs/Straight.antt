@@ -1,9 +1,9 @@
--- What the kind of a word says of its opcode and of funct3.
+-- What the kind of a word says of its opcode and funct3.
 use Rattle.std.specs.Prelude.{ℕ, ◌≡◌, List, [], ◌∷◌, ◌++◌}
 use Rattle.rvm_isa.specs.declared.straight.Kind.{Kind}
 use Rattle.rvm_isa.specs.declared.straight.Kind.TheVariants as kind
 
--- the kind is that of an opcode and a funct3
+-- a kind is the one of this opcode and funct3
 abbrev pub Fits : Kind → (op f : ℕ) → Type 0
 Fits kind.Other op f = op ≡ op
 Fits kind.Lui op f = op ≡ 0x37
@@ -85,7 +85,7 @@ atomics = kind.Other ∷ kind.Other ∷ kind.Amo ∷ kind.Other ∷ kind.Other �
 abbrev systems : List Kind
 systems = kind.System ∷ kind.Other ∷ kind.Other ∷ kind.Other ∷ kind.Other ∷ kind.Other ∷ kind.Other ∷ kind.Other ∷ []
 
--- lists of kinds, each after those of three opcodes that have no rows, since they end in 00, 01 and 10
+-- these lists of kinds, each after three opcodes without rows, which end in 00, 01 and 10
 abbrev by_opcode : List (List Kind) → List Kind
 by_opcode [] = []
 by_opcode (ks ∷ rest) = none ++ none ++ none ++ ks ++ by_opcode rest

@@ -56,7 +56,7 @@ pub record Row : Type 0 where
 abbrev pub row : ℕ → ℕ → Shape → Row
 row mask bits shape = record { mask = mask; bits = bits; shape = shape }
 
--- the rows
+-- all 68 rows
 unfoldable pub table : List Row
 table =
     row 0x0000007F 0x00000037 (U Lui) ∷

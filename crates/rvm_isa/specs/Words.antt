@@ -1,4 +1,5 @@
--- The word of each instruction: the bits of its row, and its fields at their weights.
+-- The word of each instruction: the bits of its row, and its fields, each times the weight of its
+-- lowest bit.
 use Rattle.std.specs.Prelude.{ℕ, ℤ, ◌+◌, ◌*◌, ◌/◌, ◌%◌, ◌^◌, Bool, if◌then◌else◌}
 use Rattle.rvm_word.specs.Word.{modulo}
 use Rattle.rvm_isa.specs.declared.ins.Ins.{Ins}
@@ -13,8 +14,8 @@ use Rattle.rvm_isa.specs.declared.ins.Ins.TheVariants.{Csrrc, Csrrwi, Csrrsi, Cs
 use Rattle.rvm_isa.specs.declared.ins.Ins.TheVariants.{AmoswapW, AmoaddW, AmoxorW, AmoandW, AmoorW}
 use Rattle.rvm_isa.specs.declared.ins.Ins.TheVariants.{AmominW, AmomaxW, AmominuW, AmomaxuW}
 
--- The words of each shape: the bits of the row, and the fields. An immediate is cut into the parts
--- that stand together in the word.
+-- The words of each shape: the bits of the row, and the fields. An immediate is split into the
+-- parts that stand together in the word.
 
 -- rd, rs1 and a third field at bit 20: rs2, a shift amount or a CSR
 abbrev r_word : (bits rd rs1 third : ℕ) → ℕ

@@ -1,5 +1,5 @@
-//! From words to instructions. Each major opcode has a function of its own, named as the manual
-//! names the opcode (Unprivileged ISA, "RV32/64G Instruction Set Listings").
+//! From words to instructions. Each major opcode with several rows has its own function, named as
+//! the manual names the opcode (Unprivileged ISA, "RV32/64G Instruction Set Listings").
 #![tactic(auto, unfolding(crate::specs::Table::table, crate::specs::Opcodes::with_opcode, crate::specs::Words::word_of))]
 
 ghost use Rattle.std.specs.Prelude.{◌≡◌, IfSome};

@@ -1,5 +1,5 @@
-//! From instructions to words. What tells the rows of a shape apart stands as numbers before the
-//! fields: opcode, funct3, funct7 or funct5.
+//! From instructions to words. The numbers before the fields tell the rows of a shape apart:
+//! opcode, funct3, funct7 or funct5.
 
 ghost use Rattle.std.specs.Prelude.{◌≡◌};
 ghost use Rattle.rvm_isa.specs.Words.{word_of};

@@ -49,7 +49,7 @@ impl Reg {
     }
 }
 
-/// By how many bits to shift, below 32.
+/// The amount of a shift, in bits, below 32.
 #[derive(Clone, Copy, PartialEq, Eq, Debug)]
 pub struct Shamt(u32);
 
@@ -85,7 +85,7 @@ impl Shamt {
     }
 }
 
-/// A number below 32 that stands in the place of a source register.
+/// The immediate of a CSR instruction, below 32, which stands at the place of rs1.
 #[derive(Clone, Copy, PartialEq, Eq, Debug)]
 pub struct Imm5(u32);
 
@@ -138,7 +138,7 @@ impl Model for Imm20 {
 }
 
 impl Imm20 {
-    /// The upper bits of a word that has this number there.
+    /// The upper twenty bits of a word, given as this number.
     #[inline(always)]
     pub fn new(bits: u32) -> Imm20
         requires { bits < 2 ^ 20 }

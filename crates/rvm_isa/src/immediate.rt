@@ -63,7 +63,7 @@ impl Imm12 {
         self.value().cast_unsigned()
     }
 
-    /// Its 12 bits in two's complement.
+    /// The 12 bits of the number in two's complement.
     #[inline(always)]
     #[tactic(auto, using(crate::proofs::Immediates::values))]
     pub fn bits(self) -> u32
@@ -75,7 +75,7 @@ impl Imm12 {
     }
 }
 
-/// The offset of a branch: even, -4096 to 4094.
+/// The offset of a branch, in bytes: even, -4096 to 4094.
 #[derive(Clone, Copy, PartialEq, Eq, Debug)]
 pub struct Off13(i32);
 
@@ -126,7 +126,7 @@ impl Off13 {
         self.0
     }
 
-    /// Its 13 bits in two's complement.
+    /// The 13 bits of the number in two's complement.
     #[inline(always)]
     #[tactic(auto, using(crate::proofs::Immediates::values))]
     pub fn bits(self) -> u32
@@ -139,7 +139,7 @@ impl Off13 {
     }
 }
 
-/// The offset of a jump: even, -2^20 to 2^20 - 2.
+/// The offset of a jump, in bytes: even, -2^20 to 2^20 - 2.
 #[derive(Clone, Copy, PartialEq, Eq, Debug)]
 pub struct Off21(i32);
 
@@ -190,7 +190,7 @@ impl Off21 {
         self.0
     }
 
-    /// Its 21 bits in two's complement.
+    /// The 21 bits of the number in two's complement.
     #[inline(always)]
     #[tactic(auto, using(crate::proofs::Immediates::values))]
     pub fn bits(self) -> u32

@@ -1,10 +1,10 @@
-//! The instructions, one variant a row of the table.
+//! The instructions, one variant for each row of the table.
 
 use crate::field::{CsrNo, Imm5, Imm20, Reg, Shamt};
 use crate::immediate::{Imm12, Off13, Off21};
 
-/// An instruction of RV32IMA with Zicsr and Zifencei, mret or wfi, with its fields. Each variant
-/// has the mnemonic of the manual (Unprivileged ISA, "RV32/64G Instruction Set Listings").
+/// An instruction with its fields: of RV32IMA, Zicsr or Zifencei, or mret or wfi. Each variant has
+/// the manual's mnemonic (Unprivileged ISA, "RV32/64G Instruction Set Listings").
 #[derive(Clone, Copy)]
 pub enum Ins {
     // Upper immediates.

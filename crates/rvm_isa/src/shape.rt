@@ -1,5 +1,5 @@
-//! Words of each shape, made of their fixed bits and their fields from the lowest bit up. The
-//! clauses say which part of the word each one is.
+//! Words of each shape, put together from their fixed bits and their fields, from the lowest bit
+//! up. The clauses say which part of the word each one is.
 
 ghost use Rattle.std.specs.Prelude.{◌≡◌, ◌<◌, ◌^◌};
 ghost use Rattle.rvm_word.specs.Word.{modulo};
@@ -8,6 +8,7 @@ ghost use Rattle.rvm_isa.specs.Fields as fields;
 use crate::field::{CsrNo, Imm5, Imm20, Reg, Shamt};
 use crate::immediate::{Imm12, Off13, Off21};
 
+/// A word of the U format: rd and an upper immediate (LUI, AUIPC).
 pub fn u_word(opcode: u32, rd: Reg, imm: Imm20) -> u32
     requires { opcode < 2 ^ 7 }
     ensures opcode { fields.opcode result ≡ opcode }
@@ -17,6 +18,7 @@ pub fn u_word(opcode: u32, rd: Reg, imm: Imm20) -> u32
     opcode | rd.bits() << 7 | imm.bits() << 12
 }
 
+/// A word of the J format: rd and the offset of a jump (JAL).
 pub fn j_word(opcode: u32, rd: Reg, offset: Off21) -> u32
     requires { opcode < 2 ^ 7 }
     ensures opcode { fields.opcode result ≡ opcode }
@@ -33,6 +35,7 @@ pub fn j_word(opcode: u32, rd: Reg, offset: Off21) -> u32
         | offset >> 20 << 31
 }
 
+/// A word of the I format: rd, rs1 and a signed immediate.
 pub fn i_word(opcode: u32, funct3: u32, rd: Reg, rs1: Reg, imm: Imm12) -> u32
     requires opcode { opcode < 2 ^ 7 }
     requires funct3 { funct3 < 2 ^ 3 }
@@ -46,6 +49,7 @@ pub fn i_word(opcode: u32, funct3: u32, rd: Reg, rs1: Reg, imm: Imm12) -> u32
     opcode | rd.bits() << 7 | funct3 << 12 | rs1.bits() << 15 | imm.bits() << 20
 }
 
+/// A word of the B format: two source registers and the offset of a branch.
 pub fn b_word(opcode: u32, funct3: u32, rs1: Reg, rs2: Reg, offset: Off13) -> u32
     requires opcode { opcode < 2 ^ 7 }
     requires funct3 { funct3 < 2 ^ 3 }
@@ -67,6 +71,7 @@ pub fn b_word(opcode: u32, funct3: u32, rs1: Reg, rs2: Reg, offset: Off13) -> u3
         | offset >> 12 << 31
 }
 
+/// A word of the S format: two source registers and a signed immediate (a store).
 pub fn s_word(opcode: u32, funct3: u32, rs1: Reg, rs2: Reg, imm: Imm12) -> u32
     requires opcode { opcode < 2 ^ 7 }
     requires funct3 { funct3 < 2 ^ 3 }
@@ -81,6 +86,7 @@ pub fn s_word(opcode: u32, funct3: u32, rs1: Reg, rs2: Reg, imm: Imm12) -> u32
     opcode | (imm & 0x1F) << 7 | funct3 << 12 | rs1.bits() << 15 | rs2.bits() << 20 | imm >> 5 << 25
 }
 
+/// A word of a shift by an immediate.
 pub fn shift_word(opcode: u32, funct3: u32, funct7: u32, rd: Reg, rs1: Reg, amount: Shamt) -> u32
     requires opcode { opcode < 2 ^ 7 }
     requires funct3 { funct3 < 2 ^ 3 }
@@ -95,6 +101,7 @@ pub fn shift_word(opcode: u32, funct3: u32, funct7: u32, rd: Reg, rs1: Reg, amou
     opcode | rd.bits() << 7 | funct3 << 12 | rs1.bits() << 15 | amount.bits() << 20 | funct7 << 25
 }
 
+/// A word of the R format: rd, rs1 and rs2.
 pub fn r_word(opcode: u32, funct3: u32, funct7: u32, rd: Reg, rs1: Reg, rs2: Reg) -> u32
     requires opcode { opcode < 2 ^ 7 }
     requires funct3 { funct3 < 2 ^ 3 }
@@ -109,6 +116,7 @@ pub fn r_word(opcode: u32, funct3: u32, funct7: u32, rd: Reg, rs1: Reg, rs2: Reg
     opcode | rd.bits() << 7 | funct3 << 12 | rs1.bits() << 15 | rs2.bits() << 20 | funct7 << 25
 }
 
+/// A word of a CSR instruction with a source register.
 pub fn csr_word(opcode: u32, funct3: u32, rd: Reg, rs1: Reg, csr: CsrNo) -> u32
     requires opcode { opcode < 2 ^ 7 }
     requires funct3 { funct3 < 2 ^ 3 }
@@ -121,6 +129,7 @@ pub fn csr_word(opcode: u32, funct3: u32, rd: Reg, rs1: Reg, csr: CsrNo) -> u32
     opcode | rd.bits() << 7 | funct3 << 12 | rs1.bits() << 15 | csr.bits() << 20
 }
 
+/// A word of a CSR instruction with an immediate.
 pub fn csr_imm_word(opcode: u32, funct3: u32, rd: Reg, imm: Imm5, csr: CsrNo) -> u32
     requires opcode { opcode < 2 ^ 7 }
     requires funct3 { funct3 < 2 ^ 3 }
@@ -133,6 +142,7 @@ pub fn csr_imm_word(opcode: u32, funct3: u32, rd: Reg, imm: Imm5, csr: CsrNo) ->
     opcode | rd.bits() << 7 | funct3 << 12 | imm.bits() << 15 | csr.bits() << 20
 }
 
+/// A word of an atomic instruction: LR.W, SC.W or an AMO.
 pub fn amo_word(
     opcode: u32,
     funct3: u32,

@@ -1,7 +1,7 @@
-//! A decoder of the rows that reach registers, RAM and reservations alone, for the straight path of a
-//! step. One product finds a word's place in a table of kinds, and one jump the arm of its kind.
+//! A decoder of the rows that reach registers, RAM and reservations alone, for the straight path of a step. One product
+//! gives the index of a word's kind in a table, and one jump leads to the arm of the kind.
 //!
-//! An arm reads the fields of its own format. Read before the jump, they would be read at every step.
+//! An arm reads only the fields of its own format. Fields read before the jump would be read at every step.
 
 ghost use Rattle.std.specs.Prelude.{◌≡◌, ◌+◌, ◌*◌, IfSome, Some};
 ghost use Rattle.rvm_isa.specs.Fields.{funct3, opcode};
@@ -14,7 +14,7 @@ use crate::read::{
     aq, b_offset, funct5, funct7, i_imm, imm20, j_offset, rd, rl, rs1, rs2, s_imm, shamt,
 };
 
-/// What the opcode and funct3 of a word tell of its row.
+/// What opcode and funct3 of a word say of its row.
 #[derive(Clone, Copy)]
 enum Kind {
     /// No row, or a row that this decoder leaves to `decode`.
@@ -73,14 +73,14 @@ enum Kind {
 /// The word of WFI, which has no fields.
 const WFI: u32 = 0x1050_0073;
 
-/// One kind by its name, `_` for none.
+/// A kind by its name; `_` is `Other`.
 macro_rules! kind {
     (_) => { Kind::Other };
     ($name:ident) => { Kind::$name };
 }
 
-/// The table of kinds. Each line is an opcode whose last two bits are 11: its kinds by funct3. The
-/// three opcodes before it have no rows.
+/// The table of kinds. Each line has an opcode whose last two bits are 11, with its kinds by funct3. The three opcodes
+/// before it have no rows.
 macro_rules! kinds_by_opcode {
     ($($a:tt $b:tt $c:tt $d:tt $e:tt $f:tt $g:tt $h:tt;)*) => {
         [$(
@@ -128,7 +128,7 @@ static KINDS: [Kind; 1024] = kinds_by_opcode! {
     _ _ _ _ _ _ _ _;
 };
 
-/// The instruction of a row with the fields of a word. The first word is the row's format.
+/// The instruction of a row with the fields of a word. The first token is the row's format.
 macro_rules! ins {
     (R $row:ident $word:ident) => {
         Some(Ins::$row { rd: rd($word), rs1: rs1($word), rs2: rs2($word) })
@@ -162,8 +162,7 @@ macro_rules! ins {
     };
 }
 
-/// The instruction of a word whose row only funct7 tells: a row for each funct7, the most frequent
-/// first.
+/// The instruction of a word whose kind has several rows, told apart by funct7: the most frequent row comes first.
 macro_rules! by_funct7 {
     ($format:ident $word:ident) => { None };
     ($format:ident $word:ident $funct7:literal $row:ident $($rest:tt)*) => {
@@ -175,7 +174,7 @@ macro_rules! by_funct7 {
     };
 }
 
-/// The place of a word's kind in the table. The product moves opcode and funct3 to the top.
+/// The index of a word's kind in the table. The product moves opcode and funct3 to the top.
 #[inline(always)]
 #[tactic(auto, using(crate::proofs::Places::moved))]
 fn place(word: u32) -> u32
@@ -184,7 +183,7 @@ fn place(word: u32) -> u32
     (word & 0x707F).wrapping_mul(0x0200_0480) >> 22
 }
 
-/// The table, for a contract to name.
+/// The table, as a function that a contract can name.
 #[inline(always)]
 #[tactic(auto, unfolding(crate::specs::Straight::kinds))]
 fn table() -> &'static [Kind; 1024]
@@ -203,7 +202,7 @@ fn kind_of(word: u32) -> Kind
     table()[place as usize]
 }
 
-/// The instruction of a word, if it is of a row that reaches registers, RAM and reservations alone.
+/// Decodes a word whose row reaches registers, RAM and reservations alone; none if it has no such row.
 #[inline(always)]
 #[tactic(auto, using(crate::proofs::Rows::opcodes), unfolding(crate::specs::Table::table, crate::specs::Opcodes::with_opcode))]
 pub fn decode_straight(word: u32) -> Option<Ins>
@@ -252,8 +251,8 @@ pub fn decode_straight(word: u32) -> Option<Ins>
     }
 }
 
-/// The same as `decode`, where the straight path ends: most rows that it leaves are of the opcode SYSTEM,
-/// which one test finds.
+/// Decodes a word as `decode` does, for the end of the straight path: most rows that the path leaves have the opcode
+/// SYSTEM, which one test finds.
 #[inline(always)]
 #[tactic(auto, using(crate::proofs::Rows::opcodes), unfolding(crate::specs::Table::table, crate::specs::Opcodes::with_opcode))]
 pub fn decode_at_end(word: u32) -> Option<Ins>

@@ -1,4 +1,4 @@
--- Pieces of bytes, one after the other.
+-- Consecutive pieces of bytes.
 use Rattle.std.proofs.Common.{◌∙◌, ℕ, List, ◌++◌, append_assoc, Option, None, Some, ap, sym}
 use Rattle.std.specs.Io.KnownBytes.{Appends, Consumes}
 

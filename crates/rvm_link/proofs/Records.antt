@@ -1,4 +1,4 @@
--- Records one after the other, and that they are read in one way only.
+-- Consecutive records, and that they are read in one way only.
 use Rattle.std.proofs.Common.{◌≡◌, ◌∙◌, ap, arith, refl, subst, sym}
 use Rattle.std.proofs.Common.{ℕ, ◌≤◌, ◌<◌, ◌^◌, List, [], ◌∷◌, ◌++◌, append-nil, append_assoc, drop, length, take}
 use Rattle.std.proofs.Common.{Option, None, Some}
@@ -32,7 +32,7 @@ one_more bytes r before mid now fit c added = record {
       (both_added before mid now (bytes_in c.records) (record_bytes r) c.written added);
 }
 
--- one record of data, whose head and bytes were written one after the other
+-- one record of data, whose head and bytes were written in order
 pub one_record : (bytes : List ℕ) (count : ℕ) (before mid now : Option (List ℕ)) → length bytes ≤ 65535
     → count ≡ length bytes → Appends before mid (0 ∷ little_bytes 2 count) → Appends mid now bytes
     → Carries bytes before now
@@ -55,7 +55,7 @@ both_carried xs ys before mid now c d = record {
       (both_added before mid now (bytes_in c.records) (bytes_in d.records) c.written d.written);
 }
 
--- of all bytes these were written, up to the rest
+-- of all bytes, those before the rest were written
 pub record IsUnderWay (all rest : List ℕ) (before now : Option (List ℕ)) : Type 0 where
   pub done : List ℕ
   pub carries : Carries done before now
@@ -132,7 +132,7 @@ records_are (Question n) (Answer m) xs ys r_fits s_fits e = absurd (omega (arith
 records_are (Answer n) (Data d) xs ys r_fits s_fits e = absurd (omega (arith, ap first e))
 records_are (Answer n) (Question m) xs ys r_fits s_fits e = absurd (omega (arith, ap first e))
 
--- whoever reads a record where records were written reads the first of them, and the others are to come
+-- reading a record where records were written gives the first of them, and the others are to come
 pub comes_next : (r s : Record) (ss : List Record) (after : Option (List ℕ)) → Fits r → Fits s
     → Consumes (Some (bytes_in (s ∷ ss))) after (record_bytes r) → (r ≡ s) × (after ≡ Some (bytes_in ss))
 comes_next r s ss None r_fits s_fits e = absurd e

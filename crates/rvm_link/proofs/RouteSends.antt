@@ -1,4 +1,4 @@
--- The sending ends may be shared by threads, where their connections may go to any.
+-- Threads may share the sending ends, if their connections may go to any thread.
 use denote.RattleType.{RattleType}
 use denote.Param.Send.{IsSend, IsSync, sendable}
 use Rattle.std.proofs.Crossing.{crosses}

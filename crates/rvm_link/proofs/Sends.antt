@@ -1,4 +1,4 @@
--- The sending end of a side may be shared by threads, where its link may go to any.
+-- Threads may share the sending end of a side, if its link may go to any thread.
 use denote.RattleType.{RattleType}
 use denote.Param.Send.{IsSend, IsSync, sendable}
 use Rattle.std.proofs.Crossing.{crosses}

@@ -12,28 +12,28 @@ pub data Record : Type 0 where
   Question : (number : ℕ) → Record
   Answer : (number : ℕ) → Record
 
--- the bytes of a record: its kind, and then the length of the data in two bytes and the data, or the number in eight
+-- the bytes of a record: its kind, then the length of the data in two bytes and the data, or the number in eight bytes
 abbrev pub record_bytes : Record → List ℕ
 record_bytes (Data bytes) = 0 ∷ (little_bytes 2 (length bytes) ++ bytes)
 record_bytes (Question n) = 1 ∷ little_bytes 8 n
 record_bytes (Answer n) = 2 ∷ little_bytes 8 n
 
--- the data has at most 65535 bytes, or the number has eight
+-- the data has at most 65535 bytes, or the number fits into eight bytes
 abbrev pub Fits : Record → Type 0
 Fits (Data bytes) = length bytes ≤ 65535
 Fits (Question number) = number < 2 ^ 64
 Fits (Answer number) = number < 2 ^ 64
 
--- the bytes of records, one after the other
+-- the bytes of records, in order
 abbrev pub bytes_in : List Record → List ℕ
 bytes_in records = flat_map record_bytes records
 
--- what a record carries of the stream
+-- the bytes of the stream that a record carries
 abbrev pub data_of : Record → List ℕ
 data_of (Data bytes) = bytes
 data_of r = []
 
--- what records carry of the stream
+-- the bytes of the stream that records carry
 abbrev pub data_in : List Record → List ℕ
 data_in records = flat_map data_of records
 
@@ -44,7 +44,7 @@ pub record Carries (bytes : List ℕ) (before after : Option (List ℕ)) : Type 
   pub carried : data_in records ≡ bytes
   pub written : Appends before after (bytes_in records)
 
--- the record that was read: its data stands at the front of the buffer
+-- the record that was read: its data is at the front of the buffer
 abbrev pub record_read : RecordRead → (buffer : List ℕ) → Record
 record_read (read.Data count) buffer = Data (take count buffer)
 record_read (read.Question number) buffer = Question number

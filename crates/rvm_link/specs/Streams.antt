@@ -1,4 +1,4 @@
--- What goes out on a connection to another host.
+-- What is written on a connection to another host.
 use Rattle.std.specs.Io.KnownBytes.{Appends}
 use Rattle.std.specs.List.{All, flat_map}
 use Rattle.std.specs.Prelude.{◌≡◌, ℕ, List, ◌++◌, Option}
@@ -19,7 +19,7 @@ hello version = spelling (sent version (hello_frame version))
 abbrev pub stream_of : (version : ℕ) → List Addressed → List ℕ
 stream_of version frames = hello version ++ flat_map (λ a. spelling (sent version a)) frames
 
--- what was written on a connection to a host since these bytes, where they are known: records that carry Hello and
+-- the bytes that were written on a connection to a host after others, if they are known: records that carry Hello and
 -- whole frames, each of which was made here for that host
 pub record IsSent (is_made : Addressed → Type 0) (version host : ℕ) (before now : Option (List ℕ)) : Type 0 where
   pub frames : List Addressed
@@ -28,7 +28,7 @@ pub record IsSent (is_made : Addressed → Type 0) (version host : ℕ) (before 
   pub carries : Carries (stream_of version frames) before now
 
 -- a stream on a connection: its version, the host at the other end, and the bytes that were written on the connection
--- before it began, and until now, where they are known
+-- before the stream began and until now, if they are known
 pub record PlainStream : Type 0 where
   pub version : ℕ
   pub host : ℕ

@@ -1,9 +1,9 @@
 //! What carries frames between hosts: links, and the sending end of a side, which its workers share; the records on a
 //! connection, which carry bytes of a stream, questions and answers; and the routes of a host process, its sending ends
-//! to other hosts, which may be opened, lost and opened again. On a route go out only records, which carry Hello and
-//! frames that were made here for the host at its other end, each whole.
+//! to other hosts, which may be opened, lost and opened again. A route sends only records, which carry Hello and whole
+//! frames that were made here for the host at its other end.
 //!
-//! Stands on `rvm_frame`. It must not know workers or sockets; the crates above define what it means that a host made a
+//! Stands on `rvm_frame`. Must not know workers or sockets; the crates above define what it means that a host made a
 //! frame.
 //!
 //! To be read in this order: `link`, `error`, `spelled`, `outgoing`; `number`, `record`, `record_fault`; `made`,

@@ -1,4 +1,4 @@
-//! Links.
+//! One direction of a connection between two hosts.
 
 ghost use Rattle.std.specs.Prelude.{◌≡◌, ◌<◌, ℕ, List, Option, None, OnOk, length};
 ghost use Rattle.std.specs.Io.KnownBytes.{Appends, Keeps};
@@ -10,42 +10,41 @@ use rvm_refusal::LinkFault;
 /// What a read of a link gave.
 #[derive(Clone, Copy, Debug, PartialEq, Eq)]
 pub enum LinkRead {
-    /// This many bytes, which stand at the front of the buffer.
+    /// This many bytes, which are at the front of the buffer.
     Bytes(usize),
-    /// Nothing yet.
+    /// No bytes have come yet.
     Idle,
-    /// Nothing more: the other side has ended.
+    /// No more bytes will come: the other side has ended.
     End,
     /// The link failed.
     LinkFault,
 }
 
-/// One direction of a connection. After a fault a part of what was to be sent may have gone out.
+/// One direction of a connection. After a fault, some of the bytes that were to be sent may have been sent.
 pub trait Link {
-    /// What was sent, where that is known.
+    /// The bytes that were sent, if that is known.
     ghost contents: { Self → Option (List ℕ) } = { λ _. None };
 
-    /// Nothing that was sent waits to go out together with more.
+    /// All that was sent is flushed.
     ghost is_flushed: { Self → Type 0 } = { λ _. Unit {0} };
 
-    /// What is to come, where that is known.
+    /// The bytes that are to come, if that is known.
     ghost remaining: { Self → Option (List ℕ) } = { λ _. None };
 
-    /// The last read found the end. Only a read that answers so can show it.
+    /// The last read found the end. Only a read that returns `End` can show this.
     ghost has_ended: { Self → Type 0 } = { λ _. Unit {0} };
 
-    /// Sends all of these bytes, or answers `LinkFault` where the link failed. They may wait to go out
-    /// together with more.
+    /// Sends all of these bytes; `LinkFault` if the link fails. They may wait for more bytes or a flush.
     fn send(&mut self, bytes: &[u8]) -> Result<(), LinkFault>
         ensures { OnOk result (Appends (contents self.old) (contents self.new) bytes.now) };
 
-    /// Has what was sent go out now, or answers `LinkFault` where the link failed.
+    /// Flushes what was sent; `LinkFault` if the link fails.
     fn flush(&mut self) -> Result<(), LinkFault>
         ensures same { Keeps (contents self.old) (contents self.new) }
         ensures out { OnOk result (is_flushed self.new) };
 
-    /// Reads what came. It takes a buffer of any length, puts the bytes at its front, and gives how many
-    /// they are, at most the buffer's length. What stands after them may have changed too.
+    /// Reads bytes that came into the front of a buffer of any length. Returns their number, at most the buffer's
+    /// length. The bytes of the buffer after them may change too.
     fn recv(&mut self, buffer: &mut [u8]) -> LinkRead
         ensures most { GivesAtMost result (length buffer.new) }
         ensures bytes { IsRead (remaining self.old) (remaining self.new) result buffer.new }

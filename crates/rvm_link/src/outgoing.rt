@@ -13,18 +13,17 @@ use rvm_refusal::LinkFault;
 use std::alloc::Global;
 use std::sync::{Mutex, Wait};
 
-/// What lies under the lock of an `Outgoing`: a link, until it fails or is closed.
+/// What the lock of an `Outgoing` guards: a link, until it fails or is closed.
 #[derive(Drop)]
 struct SendingEnd<K: Link + Drop> {
     link: Option<K>,
-    /// The bytes of the frame that goes out, whose memory the next one takes.
+    /// The bytes of the frame that is sent, whose memory the next frame reuses.
     frame: Vec<u8>,
 }
 
 impl<K: Link + Drop> SendingEnd<K> {
-    /// Sends a frame whole, in a stream of this version. Unless it may wait, it has gone out then, and all
-    /// before it. A link that fails is dropped; where there is no memory, or the frame has no spelling,
-    /// nothing was sent.
+    /// Sends a whole frame in a stream of this version, and flushes the link unless the frame may wait. A link that
+    /// fails is dropped. If memory runs out or the frame has no spelling, nothing is sent.
     fn send(&mut self, version: u32, addressed: &Addressed) -> Result<(), SendError>
         ensures sent { OnOk result (IfSome self.old.link (λ old. IfSome self.new.link (λ new.
             Appends (K.contents old) (K.contents new) (spelling (sent version addressed.now))))) }
@@ -55,9 +54,8 @@ impl<K: Link + Drop> SendingEnd<K> {
     }
 }
 
-/// The sending end of a side, which its workers share. Each frame is sent whole; the copy of a page may
-/// wait for the next frame. After the first fault, or once it is closed, the link is dropped, and nothing is
-/// sent any more.
+/// The sending end of a side, which its workers share. Frames are sent whole; the copy of a page may wait for the next
+/// frame. After the first fault, or once it is closed, the link is dropped, and nothing more is sent.
 #[derive(Drop)]
 pub struct Outgoing<K: Link + Drop> {
     version: u32,
@@ -65,8 +63,8 @@ pub struct Outgoing<K: Link + Drop> {
 }
 
 impl<K: Link + Drop> Outgoing<K> {
-    /// Opens a stream of this version: its Hello is sent. A link that fails is dropped. `OutOfMemory`, or
-    /// `BadFrame` for another version than 1, 2 and 3.
+    /// Opens a stream of this version and sends its Hello. A link that fails is dropped, which is no error here.
+    /// `OutOfMemory` if an allocation fails, `BadFrame` if the version is not 1, 2 or 3.
     pub fn open(alloc: Global, link: K, version: u32) -> Result<Outgoing<K>, SendError>
         ensures { IfOk result (λ o. o.version ≡ version) }
     {
@@ -89,21 +87,21 @@ impl<K: Link + Drop> Outgoing<K> {
         }
     }
 
-    /// Sends a frame whole. `BadFrame` where the frame has no spelling, `OutOfMemory` where a growth was
-    /// refused, and `LinkFault` where the link fails, or is closed. It may wait for another thread.
+    /// Sends a whole frame. `BadFrame` if the frame has no spelling, `OutOfMemory` if an allocation fails, `LinkFault`
+    /// if the link fails or is closed. The call may wait for another thread.
     pub fn send<R: Wait>(&self, rt: &R, addressed: &Addressed) -> Result<(), SendError>
         ensures { IfErr result (λ e. e ≡ SendError.BadFrame → HasSpelling (sent self.now.version addressed.now) → ⊥) }
     {
         self.end.lock(rt).send(self.version, addressed)
     }
 
-    /// Drops the link. It may wait for another thread.
+    /// Drops the link. The call may wait for another thread.
     pub fn close<R: Wait>(&self, rt: &R) {
         self.end.lock(rt).close();
     }
 }
 
-/// Sends bytes, and unless they may wait, has them go out.
+/// Sends bytes, and flushes them unless they may wait.
 fn send_bytes<K: Link>(link: &mut K, bytes: &[u8], may_wait: bool) -> Result<(), LinkFault>
     ensures sent { OnOk result (Appends (K.contents link.old) (K.contents link.new) bytes.now) }
     ensures out { OnOk result (may_wait ≡ false → K.is_flushed link.new) }

@@ -1,4 +1,4 @@
-//! Records.
+//! Records on a connection between two processes.
 
 ghost use Rattle.std.specs.Prelude.{◌≡◌, ◌<◌, ◌≤◌, ◌++◌, ◌∷◌, [], ℕ, Err, IfOk, OnOk, length, take};
 ghost use Rattle.std.specs.Io.KnownBytes.{Appends, Consumes};
@@ -12,22 +12,22 @@ use byteorder::{ByteOrder, LittleEndian};
 use std::io;
 use std::io::{Read, Write};
 
-/// The most bytes of data of one record.
+/// The most bytes of data in one record.
 pub const MAX_DATA: usize = 65535;
 
-/// The kind of a record of data.
+/// The first byte of a record of data.
 const DATA: u8 = 0;
 
-/// The kind of a question.
+/// The first byte of a question.
 const QUESTION: u8 = 1;
 
-/// The kind of an answer.
+/// The first byte of an answer.
 const ANSWER: u8 = 2;
 
 /// A record that was read.
 #[derive(Clone, Copy, Debug, PartialEq, Eq)]
 pub enum RecordRead {
-    /// This many bytes of the stream, which stand at the front of the buffer.
+    /// This many bytes of the stream, which are at the front of the buffer.
     Data(usize),
     /// A question with this number.
     Question(u64),
@@ -35,8 +35,8 @@ pub enum RecordRead {
     Answer(u64),
 }
 
-/// Reads a record; its data is put at the front of a buffer, which has room for all that a record can have. After a
-/// fault a part of a record may have been read.
+/// Reads a record, and puts its data at the front of a buffer of at least 65535 bytes. `NotRecord` if its first byte is
+/// no record's, `Broken` if the read fails; then part of a record may have been read.
 pub fn read_record<I: Read>(input: &mut I, buffer: &mut [u8]) -> Result<RecordRead, RecordFault>
     requires { 65535 ≤ length buffer.old }
     ensures record { IfOk result (λ r. Consumes (I.remaining input.old) (I.remaining input.new)
@@ -56,7 +56,7 @@ pub fn read_record<I: Read>(input: &mut I, buffer: &mut [u8]) -> Result<RecordRe
     }
 }
 
-/// Reads the kind of a record.
+/// Reads the first byte of a record, its kind.
 fn read_kind<I: Read>(input: &mut I) -> io::Result<u8>
     ensures { IfOk result (λ k. Consumes (I.remaining input.old) (I.remaining input.new) (k ∷ [])) }
 {
@@ -75,7 +75,7 @@ fn read_len<I: Read>(input: &mut I) -> io::Result<u16>
     Ok(len_of(&bytes))
 }
 
-/// The length with these bytes.
+/// The length with these bytes, the lower first.
 fn len_of(bytes: &[u8; 2]) -> u16
     ensures { little_bytes 2 result ≡ bytes.now }
 {
@@ -95,7 +95,7 @@ fn read_data<I: Read>(input: &mut I, buffer: &mut [u8]) -> Result<RecordRead, Re
     Ok(RecordRead::Data(count))
 }
 
-/// Writes records that carry bytes of the stream.
+/// Writes bytes of the stream in records, each of which has at most 65535.
 pub fn write_data<W: Write>(output: &mut W, bytes: &[u8]) -> io::Result<()>
     ensures { OnOk result (Carries bytes.now (W.contents output.old) (W.contents output.new)) }
 {
@@ -114,7 +114,7 @@ fn write_piece<W: Write>(output: &mut W, piece: &[u8]) -> io::Result<()>
     output.write_all(piece)
 }
 
-/// Writes the head of a record of data: this many bytes of the stream have to follow it.
+/// Writes the head of a record of data. The caller must then write this many bytes of the stream.
 pub fn write_head<W: Write>(output: &mut W, count: u16) -> io::Result<()>
     ensures { OnOk result (Appends (W.contents output.old) (W.contents output.new) (0 ∷ little_bytes 2 count)) }
 {
@@ -123,14 +123,14 @@ pub fn write_head<W: Write>(output: &mut W, count: u16) -> io::Result<()>
     output.write_all(&head)
 }
 
-/// Writes a question.
+/// Writes a question with this number.
 pub fn write_question<W: Write>(output: &mut W, number: u64) -> io::Result<()>
     ensures { OnOk result (Appends (W.contents output.old) (W.contents output.new) (record_bytes (Question number))) }
 {
     write_number(output, QUESTION, number)
 }
 
-/// Writes the answer to a question.
+/// Writes the answer to the question with this number.
 pub fn write_answer<W: Write>(output: &mut W, number: u64) -> io::Result<()>
     ensures { OnOk result (Appends (W.contents output.old) (W.contents output.new) (record_bytes (Answer number))) }
 {

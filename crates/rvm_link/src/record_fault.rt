@@ -12,7 +12,7 @@ pub enum RecordFault {
     /// The connection failed or ended, or nothing came in time.
     #[error("the connection broke")]
     Broken,
-    /// What came is no record.
+    /// The bytes that came are no record.
     #[error("no record came")]
     NotRecord,
 }

@@ -18,15 +18,15 @@ pub(crate) struct Route<L: Origin, W: Write + Drop> {
 }
 
 impl<L: Origin, W: Write + Drop> Route<L, W> {
-    /// Without a connection.
+    /// A route without a connection.
     pub(crate) fn new() -> Route<L, W>
         ensures { result.stream ≡ None }
     {
         Route { stream: None }
     }
 
-    /// A connection to a host takes the place of the one that is there: a stream of this version begins on it. One that
-    /// fails is dropped.
+    /// Begins a stream of this version on a connection to a host, which takes the place of the old connection. If the
+    /// new one fails or has no such stream, it is dropped.
     pub(crate) fn open(&mut self, version: u32, host: u8, output: W) -> Result<(), SendError>
         ensures opened { OnOk result (IsSome self.new.stream) }
         ensures begun { OnOk result (IfSome self.new.stream (Begins version host (W.contents output))) }
@@ -39,7 +39,8 @@ impl<L: Origin, W: Write + Drop> Route<L, W> {
         Ok(())
     }
 
-    /// Sends a frame that was made here, whole, in a stream of this version. A connection that fails is dropped.
+    /// Sends a whole frame that was made here, in a stream of this version. `LinkFault` if there is no connection or it
+    /// fails; then it is dropped. `BadFrame`, and nothing is sent, if the frame has no spelling.
     pub(crate) fn send(&mut self, version: u32, made: &Made<L>) -> Result<(), SendError>
         ensures sent { OnOk result (IfSome self.old.stream (λ old. IfSome self.new.stream
             (GoesOn (spelling (sent version made.now)) old))) }
@@ -57,7 +58,7 @@ impl<L: Origin, W: Write + Drop> Route<L, W> {
         sent
     }
 
-    /// Asks whether all that was sent has come. A connection that fails is dropped.
+    /// Asks whether all that was sent has come. `LinkFault` if there is no connection or it fails; then it is dropped.
     pub(crate) fn ask(&mut self, number: u64) -> Result<(), LinkFault>
         ensures sent { OnOk result (IfSome self.old.stream (λ old. IfSome self.new.stream
             (Adds (Question number) old))) }
@@ -72,7 +73,7 @@ impl<L: Origin, W: Write + Drop> Route<L, W> {
         self.stays_open()
     }
 
-    /// Answers a question. A connection that fails is dropped.
+    /// Answers a question. `LinkFault` if there is no connection or it fails; then it is dropped.
     pub(crate) fn answer(&mut self, number: u64) -> Result<(), LinkFault>
         ensures sent { OnOk result (IfSome self.old.stream (λ old. IfSome self.new.stream
             (Adds (Answer number) old))) }
@@ -87,7 +88,7 @@ impl<L: Origin, W: Write + Drop> Route<L, W> {
         self.stays_open()
     }
 
-    /// `LinkFault` where there is no connection.
+    /// `LinkFault` if there is no connection.
     fn stays_open(&self) -> Result<(), LinkFault>
         ensures open { OnOk result (IsSome self.now.stream) }
         ensures closed { OnErr result (self.now.stream ≡ None) }

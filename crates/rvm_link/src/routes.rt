@@ -12,7 +12,7 @@ use std::alloc::{AllocError, Global};
 use std::io::Write;
 use std::sync::{Mutex, Wait};
 
-/// A sending end to each host of a world, of which some are open. Threads share them: each frame goes out whole.
+/// A sending end to each host of a world, some of which are open. Threads share them; each frame is sent whole.
 #[derive(Drop)]
 pub struct Routes<L: Origin, W: Write + Drop> {
     version: u32,
@@ -20,7 +20,7 @@ pub struct Routes<L: Origin, W: Write + Drop> {
 }
 
 impl<L: Origin, W: Write + Drop> Routes<L, W> {
-    /// Sending ends to this many hosts, none of which is open, for streams of this version.
+    /// Sending ends to this many hosts, for streams of this version. None of them is open.
     pub fn new(alloc: Global, hosts: u8, version: u32) -> Result<Routes<L, W>, AllocError>
         ensures { IfOk result (λ r. r.version ≡ version) }
     {
@@ -31,9 +31,9 @@ impl<L: Origin, W: Write + Drop> Routes<L, W> {
         Ok(Routes { version, ends })
     }
 
-    /// A connection to a host takes the place of the last one; Hello is sent. `LinkFault` where it fails, or there is
-    /// no such host, or `BadFrame` where there is no stream of this version: then it is dropped. It may wait for another
-    /// thread.
+    /// Opens a sending end to a host on a new connection, which takes the place of the old one, and sends Hello.
+    /// `LinkFault` if the connection fails or there is no such host, `BadFrame` if there is no stream of this version;
+    /// then the new connection is dropped. The call may wait for another thread.
     pub fn open<R: Wait>(&self, rt: &R, host: u8, output: W) -> Result<(), SendError>
         ensures { IfErr result (λ e. e ≡ SendError.BadFrame
             → HasSpelling (sent self.now.version (hello_frame self.now.version)) → ⊥) }
@@ -47,8 +47,8 @@ impl<L: Origin, W: Write + Drop> Routes<L, W> {
         }
     }
 
-    /// Sends a frame whole to the host that it is for. `LinkFault` where no connection to it is open, or it fails: then
-    /// the frame is lost. `BadFrame` where it has no spelling. It may wait for another thread.
+    /// Sends a whole frame to the host that it is for. `LinkFault`, and the frame is lost, if no connection to that
+    /// host is open or it fails; `BadFrame` if the frame has no spelling. The call may wait for another thread.
     pub fn send<R: Wait>(&self, rt: &R, made: &Made<L>) -> Result<(), SendError>
         ensures { IfErr result (λ e. e ≡ SendError.BadFrame → HasSpelling (sent self.now.version made.now) → ⊥) }
     {
@@ -58,7 +58,8 @@ impl<L: Origin, W: Write + Drop> Routes<L, W> {
         }
     }
 
-    /// Asks a host whether all that was sent to it has come. It may wait for another thread.
+    /// Asks a host whether all that was sent to it has come. `LinkFault` if no connection to it is open or it fails.
+    /// The call may wait for another thread.
     pub fn ask<R: Wait>(&self, rt: &R, host: u8, number: u64) -> Result<(), LinkFault> {
         match self.ends.get(usize::from(host)) {
             Some(end) => end.lock(rt).ask(number),
@@ -66,7 +67,8 @@ impl<L: Origin, W: Write + Drop> Routes<L, W> {
         }
     }
 
-    /// Answers a question of a host. It may wait for another thread.
+    /// Answers a question of a host. `LinkFault` if no connection to it is open or it fails. The call may wait for
+    /// another thread.
     pub fn answer<R: Wait>(&self, rt: &R, host: u8, number: u64) -> Result<(), LinkFault> {
         match self.ends.get(usize::from(host)) {
             Some(end) => end.lock(rt).answer(number),
@@ -74,14 +76,14 @@ impl<L: Origin, W: Write + Drop> Routes<L, W> {
         }
     }
 
-    /// Drops the connection to a host. It may wait for another thread.
+    /// Drops the connection to a host, if one is open. The call may wait for another thread.
     pub fn close<R: Wait>(&self, rt: &R, host: u8) {
         if let Some(end) = self.ends.get(usize::from(host)) {
             end.lock(rt).close();
         }
     }
 
-    /// Whether a connection to a host is open, as it was found. It may wait for another thread.
+    /// Whether a connection to a host is open at the time of the call. The call may wait for another thread.
     pub fn is_open<R: Wait>(&self, rt: &R, host: u8) -> bool {
         match self.ends.get(usize::from(host)) {
             Some(end) => end.lock(rt).is_open(),

@@ -1,4 +1,4 @@
-//! Frames as they go out.
+//! The bytes of a frame, and whether they may wait.
 
 ghost use Rattle.std.specs.Prelude.{◌≡◌, ◌≢◌, IfErr, OnOk};
 ghost use Rattle.rvm_frame.specs.Grammar.{HasSpelling, sent, spelling};
@@ -7,7 +7,7 @@ ghost use Rattle.rvm_link.specs.Waiting.{may_wait};
 use crate::error::SendError;
 use rvm_frame::{Addressed, Frame, append_frame, frame_len, has_spelling};
 
-/// Whether a frame may wait for the next one, as the copy of a page may: another frame always follows it.
+/// Whether a frame may wait for the next one. The copy of a page may, since another frame always follows it.
 pub fn may_wait(frame: &Frame) -> bool
     ensures { result ≡ may_wait frame.now }
 {
@@ -17,8 +17,8 @@ pub fn may_wait(frame: &Frame) -> bool
     }
 }
 
-/// Puts the bytes of a frame in a stream of this version in place of those that are there. `BadFrame` where it has no
-/// spelling there, and `OutOfMemory`.
+/// Replaces `bytes` by the bytes of a frame in a stream of this version. `BadFrame` if the frame has no spelling there,
+/// `OutOfMemory` if an allocation fails.
 pub fn spell(version: u32, addressed: &Addressed, bytes: &mut Vec<u8>) -> Result<(), SendError>
     ensures bytes { OnOk result (bytes.new.items ≡ spelling (sent version addressed.now)) }
     ensures fault { IfErr result (λ e. e ≡ SendError.BadFrame → HasSpelling (sent version addressed.now) → ⊥) }

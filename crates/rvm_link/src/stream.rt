@@ -16,8 +16,9 @@ use std::io::Write;
 use std::marker::{Model, PhantomData};
 use std::snapshot::Snapshot;
 
-/// A connection to a host, on which a stream of frames was begun. What was written on it since then are records that
-/// carry Hello and frames that were made here for that host. Contracts see what was written, where it is known.
+/// A connection to a host on which a stream of frames was begun. Since then only records were written on it, which
+/// carry Hello and frames that were made here for that host, or are questions and answers. Contracts see the bytes that
+/// were written, if they are known.
 #[derive(Drop)]
 pub(crate) struct Stream<L: Origin, W: Write + Drop> {
     version: u32,
@@ -43,7 +44,7 @@ impl<L: Origin, W: Write + Drop> Model for Stream<L, W> {
 }
 
 impl<L: Origin, W: Write + Drop> Stream<L, W> {
-    /// Begins a stream of this version on a connection to a host: Hello is sent. A connection that fails is dropped.
+    /// Begins a stream of this version on a connection to a host, and sends Hello. A connection that fails is dropped.
     #[tactic(auto, using(crate::proofs::Streams::begun))]
     pub(crate) fn begin(version: u32, host: u8, output: W) -> Result<Stream<L, W>, SendError>
         ensures begun { IfOk result (Begins version host (W.contents output)) }
@@ -62,9 +63,9 @@ impl<L: Origin, W: Write + Drop> Stream<L, W> {
         })
     }
 
-    /// Sends a frame that was made here, whole, in a stream of this version. Unless it may wait, it has gone out then,
-    /// and all before it. A connection that fails is dropped, and so is one to another host than that of the frame, or
-    /// with a stream of another version. Where the frame has no spelling, nothing was sent.
+    /// Sends a whole frame that was made here, in a stream of this version, and flushes the connection unless the frame
+    /// may wait. The connection is dropped if it fails, if it leads to another host than the frame's, or if its stream
+    /// has another version. If the frame has no spelling, nothing is sent.
     #[tactic(auto, using(crate::proofs::Streams::unspelled))]
     pub(crate) fn send(
         self,
@@ -85,7 +86,7 @@ impl<L: Origin, W: Write + Drop> Stream<L, W> {
         self.put(addressed)
     }
 
-    /// Sends a frame that was made here for its host.
+    /// Sends a whole frame that was made here for the host at the other end.
     #[tactic(auto, using(crate::proofs::Streams::more))]
     fn put(self, addressed: &Addressed) -> (Option<Stream<L, W>>, Result<(), SendError>)
         requires made { L.is_made addressed.now }
@@ -119,7 +120,7 @@ impl<L: Origin, W: Write + Drop> Stream<L, W> {
         (Some(stream), sent)
     }
 
-    /// Asks whether all that was sent has come. A connection that fails is dropped.
+    /// Asks whether all that was sent has come. None, and the connection is dropped, if it fails.
     #[tactic(auto, using(crate::proofs::Streams::asked))]
     pub(crate) fn ask(self, number: u64) -> Option<Stream<L, W>>
         ensures { IfSome result (Adds (Question number) self) }
@@ -144,7 +145,7 @@ impl<L: Origin, W: Write + Drop> Stream<L, W> {
         })
     }
 
-    /// Answers a question. A connection that fails is dropped.
+    /// Answers a question. None, and the connection is dropped, if it fails.
     #[tactic(auto, using(crate::proofs::Streams::answered))]
     pub(crate) fn answer(self, number: u64) -> Option<Stream<L, W>>
         ensures { IfSome result (Adds (Answer number) self) }
@@ -184,7 +185,7 @@ fn say_hello<W: Write>(version: u32, output: &mut W) -> Result<(), SendError>
     send_frame(version, output, &addressed)
 }
 
-/// Sends a frame whole. Where it has no spelling, nothing was sent.
+/// Sends a whole frame. If it has no spelling, nothing is sent.
 fn send_frame<W: Write>(
     version: u32,
     output: &mut W,
@@ -204,7 +205,7 @@ fn send_frame<W: Write>(
     Ok(())
 }
 
-/// Writes a record that carries a frame, and unless it may wait, has it go out.
+/// Writes a record that carries a frame, and flushes it unless the frame may wait.
 fn put_frame<W: Write>(version: u32, output: &mut W, addressed: &Addressed) -> io::Result<()>
     requires { HasSpelling (sent version addressed.now) }
     ensures { OnOk result (Carries (spelling (sent version addressed.now))
@@ -227,7 +228,7 @@ fn write_record<W: Write>(version: u32, output: &mut W, addressed: &Addressed) -
     write_frame(version, addressed, output)
 }
 
-/// How many bytes a frame has in a stream of this version: no more than a record carries.
+/// The number of bytes of a frame in a stream of this version; a record can carry as many.
 #[tactic(auto, using(crate::proofs::Streams::frame_fits))]
 fn record_len(version: u32, addressed: &Addressed) -> u16
     requires { HasSpelling (sent version addressed.now) }
@@ -236,7 +237,7 @@ fn record_len(version: u32, addressed: &Addressed) -> u16
     frame_len(version, addressed) as u16
 }
 
-/// Has a question go out.
+/// Writes a question and flushes it.
 fn put_question<W: Write>(output: &mut W, number: u64) -> io::Result<()>
     ensures { OnOk result (Appends (W.contents output.old) (W.contents output.new) (record_bytes (Question number))) }
 {
@@ -244,7 +245,7 @@ fn put_question<W: Write>(output: &mut W, number: u64) -> io::Result<()>
     output.flush()
 }
 
-/// Has an answer go out.
+/// Writes an answer and flushes it.
 fn put_answer<W: Write>(output: &mut W, number: u64) -> io::Result<()>
     ensures { OnOk result (Appends (W.contents output.old) (W.contents output.new) (record_bytes (Answer number))) }
 {

@@ -9,7 +9,7 @@ pub length-store : (n at v : ℕ) (bytes : List ℕ) → at + n ≤ length bytes
 length-store n at v bytes inside =
     omega (arith, length-append (take at bytes) (little_bytes n v ++ drop (at + n) bytes), length-append (little_bytes n v) (drop (at + n) bytes), length-take-le at bytes (omega arith), length-drop (at + n) bytes, length-bytes_low_first 0 n v)
 
--- nor does one lose bytes that goes past the end
+-- a store that goes past the end loses no bytes either
 pub store-length : (n at v : ℕ) (bytes : List ℕ) → length bytes ≤ length (store n at v bytes)
 store-length n at v bytes =
     omega (arith, length-append (take at bytes) (little_bytes n v ++ drop (at + n) bytes), length-append (little_bytes n v) (drop (at + n) bytes), length-take at bytes, length-drop (at + n) bytes, length-bytes_low_first 0 n v)
@@ -18,7 +18,7 @@ pub length-replaced : (at : ℕ) (new bytes : List ℕ) → at + length new ≤ 
 length-replaced at new bytes inside =
     omega (arith, length-append (take at bytes) (new ++ drop (at + length new) bytes), length-append new (drop (at + length new) bytes), length-take-le at bytes (omega (arith, inside)), length-drop (at + length new) bytes, inside)
 
--- nor does a range lose bytes that goes past the end
+-- a range that goes past the end loses no bytes either
 pub replaced-length : (at : ℕ) (new bytes : List ℕ) → length bytes ≤ length (replaced at new bytes)
 replaced-length at new bytes =
     omega (arith, length-append (take at bytes) (new ++ drop (at + length new) bytes), length-append new (drop (at + length new) bytes), length-take at bytes, length-drop (at + length new) bytes)

@@ -1,4 +1,4 @@
--- Pages in which nothing is written stay as they were.
+-- Pages in which nothing is written do not change.
 use Rattle.std.proofs.Common.{◌≡◌, ◌≢◌, ◌⊎◌, inl, inr, ℕ, zero, suc, ◌+◌, ◌-◌, ◌*◌, ◌/◌, ◌%◌, ◌<◌, ◌≤◌, List, [], ◌∷◌, ◌++◌, length, take, drop, sym, ap, ◌∙◌, arith, append_assoc, length-append}
 use Rattle.std.proofs.lemmas.List.{length-take-le, length-drop, drop-append-le, take-append-le, drop-take, take-append-drop}
 use Rattle.std.proofs.lemmas.Slice.{drop-append-drop}
@@ -58,14 +58,14 @@ store_others n at v bytes inside room = λ p none.
     ap (λ k. page_of p (take at bytes ++ (new ++ drop (at + k) bytes))) (sym long)
     ∙ page_replaced p at new bytes (omega (arith, inside, long)) (apart p at (length new) (omega (arith, room, long)) none.0)
 
--- a page that is none of a list with one more at its end
+-- a page that is not in a list with one more page at its end
 none_before : (p : ℕ) (pages : List ℕ) (q : ℕ) → NoneOf p (pages ++ q ∷ []) → NoneOf p pages × (q ≢ p)
 none_before p [] q none = (tt, none.0)
 none_before p (x ∷ pages) q none =
     let rest = none_before p pages q none.1 in
     ((none.0, rest.0), rest.1)
 
--- a page that none of n bytes is in is before or after them
+-- a page that has none of n bytes is before or after them
 far : (p at n : ℕ) → 0 < n → NoneOf p (byte_pages at n) → (4096 * p + 4096 ≤ at) ⊎ (at + n ≤ 4096 * p)
 unfolding byte_pages
 far p at zero some none = absurd (omega (arith, some))

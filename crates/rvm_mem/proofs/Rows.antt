@@ -17,7 +17,7 @@ pub get-flags : (n : ℕ) (rows : List ℕ) (k : ℕ) (d : Bool) → k < n → g
 unfolding flags
 get-flags n rows k d inside = get_or-map-range_with_len (flag rows) 0 n k k d inside (omega arith)
 
--- a list is the flags of rows where it has their bits
+-- a list is the flags of rows if it has their bits
 pub are_flags : (n : ℕ) (rows : List ℕ) (pages : List Bool) → length pages ≡ n → ((k : ℕ) → k < n → flag rows k ≡ get_or pages k false) → flags n rows ≡ pages
 are_flags n rows pages size same =
     same_lists (flags n rows) pages (length-flags n rows ∙ sym size)

@@ -20,7 +20,7 @@ zeros_behind old at n =
     ∙ sym (append_assoc front zeros (drop (at + n) old))
     ∙ ap (λ xs. xs ++ drop (at + n) old) (replicate-append-replicate at n 0)
 
--- the pages so far are zeros, those after them as they were
+-- the pages so far are zeros, and those after them are unchanged
 pub zeros_more : (old : List ℕ) (i : ℕ) → replaced (4096 * i) (replicate 4096 0) (replicate (4096 * i) 0 ++ drop (4096 * i) old) ≡ replicate (4096 * (i + 1)) 0 ++ drop (4096 * (i + 1)) old
 zeros_more old i = zeros_behind old (4096 * i) 4096 ∙ ap (λ n. replicate n 0 ++ drop n old) (let e : 4096 * i + 4096 ≡ 4096 * (i + 1) = omega arith in e)
 

@@ -3,7 +3,7 @@ use Rattle.std.specs.Prelude.{◌≡◌, ℕ, zero, suc, ◌+◌, ◌*◌, ◌/�
 use Rattle.std.specs.Int.{bit_at}
 use Rattle.rvm_mem.specs.Bytes.{slice}
 
--- what a memory is: its bytes, and for each page whether it is in the dirty log
+-- a memory: its bytes, and for each page whether it is in the dirty log
 pub record Ram : Type 0 where
   pub bytes : List ℕ
   pub dirty : List Bool
@@ -12,11 +12,11 @@ pub record Ram : Type 0 where
 abbrev pub page_of : ℕ → List ℕ → List ℕ
 page_of page bytes = slice 4096 (4096 * page) bytes
 
--- the log with a page more
+-- the log and one more page
 abbrev pub mark : ℕ → List Bool → List Bool
 mark page dirty = slice_set dirty page true
 
--- the log with the pages of a list more
+-- the log and the pages of a list
 abbrev pub mark_all : List ℕ → List Bool → List Bool
 mark_all [] dirty = dirty
 mark_all (page ∷ pages) dirty = mark_all pages (mark page dirty)
@@ -26,7 +26,7 @@ unfoldable pub byte_pages : (at n : ℕ) → List ℕ
 byte_pages at zero = []
 byte_pages at (suc n) = byte_pages at n ++ (at + n) / 4096 ∷ []
 
--- the set with a page less
+-- the set without a page
 abbrev pub unmark : ℕ → List Bool → List Bool
 unmark page pages = slice_set pages page false
 
@@ -34,7 +34,7 @@ unmark page pages = slice_set pages page false
 abbrev pub has : ℕ → List Bool → Bool
 has page pages = slice_index_or pages page false
 
--- how many pages are in the set
+-- the number of pages in the set
 abbrev pub count : List Bool → ℕ
 count pages = count_by (λ here. here) pages
 
@@ -48,7 +48,7 @@ union [] others = []
 union (here ∷ pages) [] = here ∷ pages
 union (here ∷ pages) (there ∷ others) = (here || there) ∷ union pages others
 
--- the flags of 64 pages from this one on, or as many as there are
+-- the flags of 64 pages from this one on, or of as many as there are
 abbrev pub window : ℕ → List Bool → List Bool
 window page pages = take 64 (drop page pages)
 
@@ -65,7 +65,8 @@ bit place number = bit_at number place == 1
 abbrev pub has_except : (except : ℕ) → List Bool → ℕ → Bool
 has_except except pages page = has page pages && not (bit (page % 64) except)
 
--- an answer is the lowest page from one on and before another that passes a test, if there is one
+-- a result is the lowest page, from `from` to the one before `end`, that passes a test, if there is
+-- one
 abbrev pub IsLowest : (test : ℕ → Bool) (from end : ℕ) → Option ℕ → Type 0
 IsLowest test from end (Some page) = (from ≤ page) × (page < end) × (test page ≡ true) × ((k : ℕ) → from ≤ k → k < page → test k ≡ false)
 IsLowest test from end None = (k : ℕ) → from ≤ k → k < end → test k ≡ false

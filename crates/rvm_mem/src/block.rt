@@ -1,4 +1,4 @@
-//! Numbers and pages in one block of bytes.
+//! Numbers and pages in a block of bytes.
 
 ghost use Rattle.std.specs.Prelude.{◌≡◌, ◌+◌, ◌*◌, ◌≤◌, length};
 ghost use Rattle.rvm_mem.specs.Bytes.{store, replaced};
@@ -7,7 +7,7 @@ ghost use Rattle.rvm_mem.specs.Pages.{page_of};
 use crate::memory::PAGE_SIZE;
 use byteorder::{ByteOrder, LittleEndian};
 
-/// Writes the two bytes of a number at a place, the lower first.
+/// Writes a number in two bytes at a place, the lower first.
 #[inline(always)]
 pub fn put16(bytes: &mut [u8], at: usize, value: u16)
     requires { at + 2 ≤ length bytes.old }
@@ -16,7 +16,7 @@ pub fn put16(bytes: &mut [u8], at: usize, value: u16)
     LittleEndian::write_u16(&mut bytes[at..at + 2], value);
 }
 
-/// Writes the four bytes of a number at a place, the lowest first.
+/// Writes a number in four bytes at a place, the lowest first.
 #[inline(always)]
 pub fn put32(bytes: &mut [u8], at: usize, value: u32)
     requires { at + 4 ≤ length bytes.old }
@@ -34,7 +34,7 @@ pub fn put_bytes(bytes: &mut [u8], at: usize, from: &[u8])
     bytes[at..at + from.len()].copy_from_slice(from);
 }
 
-/// A page of a block of whole pages.
+/// The bytes of a page in a block of whole pages.
 pub fn page(bytes: &[u8], page: u32) -> &[u8; PAGE_SIZE as usize]
     requires { 4096 * page + 4096 ≤ length bytes.now }
     ensures { result.now ≡ page_of page bytes.now }
@@ -47,7 +47,7 @@ pub fn page(bytes: &[u8], page: u32) -> &[u8; PAGE_SIZE as usize]
     found
 }
 
-/// Writes a page over one of a block of whole pages.
+/// Replaces a page in a block of whole pages.
 pub fn put_page(bytes: &mut [u8], page: u32, from: &[u8; PAGE_SIZE as usize])
     requires { 4096 * page + 4096 ≤ length bytes.old }
     ensures { bytes.new ≡ replaced (4096 * page) from.now bytes.old }

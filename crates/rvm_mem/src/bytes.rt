@@ -1,4 +1,4 @@
-//! Whole ranges of bytes, read and written.
+//! Reads and writes of whole ranges of bytes.
 
 ghost use Rattle.std.specs.Prelude.{◌≡◌, ◌+◌, ◌<◌, ◌↔◌, length, replicate, true, IsErr, OnOk, OnErr};
 ghost use Rattle.rvm_mem.specs.Bytes.{slice, replaced};
@@ -8,7 +8,7 @@ use crate::memory::{Memory, PAGE_SIZE};
 use rvm_refusal::Refusal;
 use thiserror::Error;
 
-/// The range does not lie within the memory.
+/// The range is not wholly within the memory.
 #[derive(Clone, Copy, Debug, PartialEq, Eq, Error)]
 #[error("the range is not in memory")]
 pub struct OutOfRange;
@@ -23,8 +23,8 @@ impl From<OutOfRange> for Refusal {
     }
 }
 
-/// Reads the bytes from a place on, as many as `bytes` has room for. `OutOfRange` where they are
-/// not all in memory; then `bytes` stays as it was.
+/// Reads the bytes from a place on, as many as `bytes` has room for. `OutOfRange`, and `bytes` is
+/// unchanged, if they are not all in memory.
 pub fn read_bytes<M: Memory>(memory: &M, at: u32, bytes: &mut [u8]) -> Result<(), OutOfRange>
     ensures read { OnOk result (bytes.new ≡ slice (length bytes.old) at (M.bytes memory.now)) }
     ensures out { IsErr result ↔ (length (M.bytes memory.now) < at + length bytes.old) }
@@ -39,8 +39,8 @@ pub fn read_bytes<M: Memory>(memory: &M, at: u32, bytes: &mut [u8]) -> Result<()
     Ok(())
 }
 
-/// Writes bytes from a place on, and adds the page of each to the dirty log. `OutOfRange` where
-/// they do not all fit; then nothing changes.
+/// Writes bytes from a place on, and adds the page of each to the dirty log. `OutOfRange`, and
+/// nothing changes, if they do not all fit.
 pub fn write_bytes<M: Memory>(memory: &mut M, at: u32, bytes: &[u8]) -> Result<(), OutOfRange>
     ensures bytes { OnOk result (M.bytes memory.new ≡ replaced at bytes.now (M.bytes memory.old)) }
     ensures dirty { OnOk result (M.dirty memory.new
@@ -55,7 +55,7 @@ pub fn write_bytes<M: Memory>(memory: &mut M, at: u32, bytes: &[u8]) -> Result<(
     Ok(())
 }
 
-/// Writes zeros over the whole memory; each page is in the dirty log afterwards.
+/// Writes zeros over the whole memory, and adds each page to the dirty log.
 #[tactic(auto, using(crate::proofs::Zeros::zeros_more, crate::proofs::Zeros::zeros_all, crate::proofs::Zeros::marked_more, crate::proofs::Zeros::marked_all))]
 pub fn clear_bytes<M: Memory>(memory: &mut M)
     ensures bytes { M.bytes memory.new ≡ replicate (length (M.bytes memory.old)) 0 }

@@ -1,12 +1,11 @@
-//! A guest's memory: what every memory promises, what one promises whose pages are copied while a
-//! guest runs, what has a dirty log, sets of pages, and a memory over a flat vector.
+//! A guest's memory: what every memory promises, what a memory promises whose pages are copied while the guest runs,
+//! what has a dirty log, sets of pages, and a memory over one vector.
 //!
-//! Stands on `byteorder` and the numbered refusals, and knows nothing of addresses, harts or hosts: a
-//! place is an offset from the first byte of RAM. The layers above use the laws of `Memory` and
-//! `PagedMemory`, and nothing else.
+//! Stands on `byteorder` and the numbered refusals, and must not know addresses, harts or hosts: a place is an offset
+//! from the first byte of RAM. The layers above use only what `Memory` and `PagedMemory` promise.
 //!
-//! To be read in this order: `memory`, `word`, `page_set`, `page_flags`, `paged`, `dirty_log`, `block`,
-//! `flat`, `bytes`, `laws`.
+//! To be read in this order: `memory`, `word`, `page_set`, `page_flags`, `paged`, `dirty_log`, `block`, `flat`,
+//! `bytes`, `laws`.
 #![tactic(auto)]
 
 pub mod block;

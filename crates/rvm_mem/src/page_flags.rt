@@ -9,8 +9,8 @@ use crate::word;
 use std::alloc::{AllocError, Global};
 use std::marker::Model;
 
-/// A flag for each page of a memory of this many pages, at most 4096: the dirty log that a memory
-/// keeps, in which a store marks its page by writing one byte.
+/// A flag for each page of a memory, which has at most 4096: the dirty log that a memory keeps, in
+/// which a store marks its page by writing one byte.
 #[derive(Drop)]
 pub struct PageFlags {
     flags: Vec<bool>,
@@ -27,7 +27,7 @@ impl Model for PageFlags {
 }
 
 impl PageFlags {
-    /// No page is marked, of a memory of this many pages.
+    /// Flags for a memory of this many pages, at most 4096, none of which is marked.
     pub fn new(alloc: Global, pages: u32) -> Result<PageFlags, AllocError>
         requires { pages ≤ 4096 }
         ensures { IfOk result (λ s. s ≡ replicate pages false) }
@@ -36,7 +36,7 @@ impl PageFlags {
         Ok(PageFlags { flags })
     }
 
-    /// How many pages the memory has.
+    /// The number of pages of the memory.
     #[inline(always)]
     pub fn pages(&self) -> u32
         ensures pages { result ≡ length self.now }
@@ -61,7 +61,7 @@ impl PageFlags {
         ensures marks { self.new ≡ mark_all (byte_pages at count) self.old }
         ensures pages { length self.new ≡ length self.old }
     {
-        let _pages = self.pages();
+        let _pages = self.pages(); // for the proof
         let page_size = PAGE_SIZE as usize;
         let mut done = 0;
         while done < count {
@@ -71,7 +71,7 @@ impl PageFlags {
         }
     }
 
-    /// How many pages are marked.
+    /// The number of marked pages.
     pub fn count(&self) -> u32
         ensures count { result ≡ count self.now }
         ensures bound { result ≤ length self.now }
@@ -79,16 +79,15 @@ impl PageFlags {
         self.flags.iter().filter(|flag| **flag).count() as u32
     }
 
-    /// The number whose bit i says whether page `first_page + i` is marked, for 64 pages; a page
-    /// past the memory's end is not.
+    /// The number whose bit i says whether page `first_page + i` is marked, for 64 pages. The bits
+    /// of pages past the last are 0.
     pub fn word(&self, first_page: u32) -> u64
         ensures { result ≡ bits (window first_page self.now) }
     {
         word::word_at(&self.flags, first_page)
     }
 
-    /// Takes the marks: `into` becomes the set of the marked pages, whatever was in it, and no page
-    /// is marked then.
+    /// Moves the marked pages into `into`, which loses its old pages; then no page is marked.
     pub fn take(&mut self, into: &mut PageSet)
         requires { length into.old ≡ length self.old }
         ensures taken { into.new ≡ self.old }

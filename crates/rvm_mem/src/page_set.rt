@@ -8,8 +8,8 @@ use crate::word::{self, WORD_PAGES};
 use std::alloc::{AllocError, Global};
 use std::marker::Model;
 
-/// A set of page numbers of a memory of this many pages, at most 4096: page p is bit p % 64 of row
-/// p / 64, so that what goes over all pages looks at 64 rows. How many are in the set is kept.
+/// A set of page numbers of a memory, which has at most 4096 pages. Page p is bit p % 64 of row p / 64, so that a loop
+/// over all pages has at most 64 steps. The number of pages in the set is kept.
 #[derive(Drop)]
 pub struct PageSet {
     rows: Vec<u64>,
@@ -29,7 +29,7 @@ impl Model for PageSet {
 }
 
 impl PageSet {
-    /// The empty set, for a memory of this many pages.
+    /// The empty set, for a memory of this many pages, at most 4096.
     pub fn new(alloc: Global, pages: u32) -> Result<PageSet, AllocError>
         requires { pages ≤ 4096 }
         ensures { IfOk result (λ s. s ≡ replicate pages false) }
@@ -42,7 +42,7 @@ impl PageSet {
         })
     }
 
-    /// How many pages the memory has.
+    /// The number of pages of the memory.
     #[inline(always)]
     pub fn pages(&self) -> u32
         ensures pages { result ≡ length self.now }
@@ -75,7 +75,7 @@ impl PageSet {
         self.count += 1;
     }
 
-    /// Takes a page of the memory out.
+    /// Removes a page of the memory.
     #[inline(always)]
     pub fn remove(&mut self, page: u32)
         requires { page < length self.old }
@@ -90,7 +90,7 @@ impl PageSet {
         self.count -= 1;
     }
 
-    /// How many pages are in the set.
+    /// The number of pages in the set.
     pub fn count(&self) -> u32
         ensures count { result ≡ count self.now }
         ensures bound { result ≤ length self.now }
@@ -98,7 +98,7 @@ impl PageSet {
         self.count
     }
 
-    /// Takes every page out.
+    /// Removes every page.
     pub fn clear(&mut self)
         ensures { self.new ≡ replicate (length self.old) false }
     {
@@ -118,7 +118,7 @@ impl PageSet {
         self.count = pages;
     }
 
-    /// The lowest page in the set.
+    /// The lowest page in the set, if there is one.
     pub fn first(&self) -> Option<u32>
         ensures { result ≡ first self.now }
     {
@@ -131,8 +131,8 @@ impl PageSet {
         None
     }
 
-    /// The lowest page from `from` on, among the 64 from a multiple of 64 on that it is one of, that
-    /// is in the set and whose bit in `except` is 0; bit i of `except` is for the i-th of the 64.
+    /// The lowest page in the set, from `from` to the end of its block of 64 pages, whose bit in `except` is 0. Bit i
+    /// of `except` is for the i-th page of the block.
     pub fn next_except(&self, from: u32, except: u64) -> Option<u32>
         ensures { IsLowest (has_except except self.now) from (64 * (from / 64) + 64) result }
     {
@@ -156,7 +156,7 @@ impl PageSet {
         self.count = ones(&self.rows);
     }
 
-    /// Becomes the set of the pages whose flags are true.
+    /// Sets the set to the pages whose flags are true.
     pub(crate) fn assign(&mut self, flags: &[bool])
         requires { length flags.now ≡ length self.old }
         ensures { self.new ≡ flags.now }
@@ -168,8 +168,8 @@ impl PageSet {
         self.count = ones(&self.rows);
     }
 
-    /// The number whose bit i says whether page `first_page + i` is in the set, for 64 pages; a
-    /// page past the memory's end is not.
+    /// The number whose bit i says whether page `first_page + i` is in the set, for 64 pages. The bits of pages past
+    /// the last are 0.
     pub fn word(&self, first_page: u32) -> u64
         ensures { result ≡ bits (window first_page self.now) }
     {
@@ -183,7 +183,7 @@ impl PageSet {
     }
 }
 
-/// The row of a number, or 0 if there is none.
+/// The row with this index, or 0 if there is none.
 #[inline(always)]
 fn row_at(rows: &[u64], row: usize) -> u64
     ensures { result ≡ slice_index_or rows.now row 0 }
@@ -203,7 +203,7 @@ fn has_bit(row: u64, place: u32) -> bool
     row >> place & 1 == 1
 }
 
-/// The row of the first this many pages, or of 64 if there are more.
+/// A row in which the lowest `pages` bits are 1, or all 64 if there are more.
 fn full_row(pages: u32) -> u64
     requires { 0 < pages }
     ensures { result ≡ 2 ^ min pages 64 - 1 }
@@ -211,7 +211,7 @@ fn full_row(pages: u32) -> u64
     u64::MAX >> (WORD_PAGES - pages.min(WORD_PAGES))
 }
 
-/// How many pages are in a set.
+/// The number of bits that are 1 in all rows.
 fn ones(rows: &[u64]) -> u32
     requires { length rows.now ≤ 64 }
     ensures { (n : ℕ) → AreRows n rows.now → result ≡ count (flags n rows.now) }

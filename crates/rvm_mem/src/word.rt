@@ -3,10 +3,10 @@
 ghost use Rattle.std.specs.Prelude.{◌≡◌, ◌≤◌, length};
 ghost use Rattle.rvm_mem.specs.Pages.{bits, window};
 
-/// How many pages stand in one number of a set or of a dirty log.
+/// The number of pages for which one number of a set or of a dirty log has bits.
 pub const WORD_PAGES: u32 = 64;
 
-/// The number whose bit i is flag `first + i`, for 64 flags; one past the end is false.
+/// The number whose bit i is flag `first + i`, for 64 flags. The bits of flags past the last are 0.
 pub(crate) fn word_at(flags: &[bool], first: u32) -> u64
     ensures { result ≡ bits (window first flags.now) }
 {
@@ -15,7 +15,7 @@ pub(crate) fn word_at(flags: &[bool], first: u32) -> u64
     word_of(&flags[start..end])
 }
 
-/// The number whose bit i is flag i.
+/// The number whose bit i is flag i, of at most 64 flags.
 fn word_of(flags: &[bool]) -> u64
     requires { length flags.now ≤ 64 }
     ensures { result ≡ bits flags.now }

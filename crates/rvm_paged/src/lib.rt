@@ -1,7 +1,7 @@
 //! The memory of a guest that migrates.
 //!
-//! Stands on `rvm_mem`, and knows nothing of hosts or harts: those above use the laws of `Memory`
-//! and `PagedMemory`, and nothing else.
+//! Stands on `rvm_mem`, and must not know hosts or harts: the layers above use only what `Memory`
+//! and `PagedMemory` promise.
 #![tactic(auto)]
 
 mod paged_ram;

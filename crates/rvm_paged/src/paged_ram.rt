@@ -11,7 +11,7 @@ use std::alloc::{AllocError, Global};
 use std::marker::Model;
 use thiserror::Error;
 
-/// Why there is no memory.
+/// Why a memory was not made.
 #[derive(Clone, Copy, Debug, PartialEq, Eq, Error)]
 pub enum PagedError {
     /// No page, or more than 4096.
@@ -36,8 +36,8 @@ impl From<PagedError> for Refusal {
 /// A memory whose bytes are one block, with its dirty log.
 #[derive(Drop)]
 pub struct PagedRam {
-    // The log stands first. Laid out as `FlatMemory` is, runs over the two memories are one function
-    // to the compiler, and a benchmark that compares them compares nothing.
+    // The log comes first. With the layout of `FlatMemory`, the compiler makes runs over the two memories one function,
+    // and a benchmark that compares them compares nothing.
     dirty: PageFlags,
     bytes: Vec<u8>,
 }
@@ -55,8 +55,8 @@ impl Model for PagedRam {
 }
 
 impl PagedRam {
-    /// A memory of this many pages of zeros, none of them in the dirty log. `BadSize` for no page or
-    /// more than 4096.
+    /// A memory of this many pages of zeros, none of which is in the dirty log. `BadSize` for no page or more than
+    /// 4096; `OutOfMemory` if an allocation fails.
     pub fn new(alloc: Global, pages: u32) -> Result<PagedRam, PagedError>
         ensures bytes { IfOk result (λ m. m.bytes ≡ replicate (4096 * pages) 0) }
         ensures dirty { IfOk result (λ m. m.dirty ≡ replicate pages false) }

@@ -1,4 +1,4 @@
--- No page is forgotten, turn by turn.
+-- No page is forgotten, one action at a time.
 use Rattle.std.proofs.Common.{◌≡◌, ◌≢◌, ◌⊎◌, inl, inr, ℕ, ◌+◌, ◌-◌, ◌/◌, ◌%◌, ◌^◌, ◌<◌, ◌≤◌, Bool, true, false, not, ◌&&◌, ◌==◌, List, length, get_or, set, Option, Some, None, sym, ap, ◌∙◌, subst, arith}
 use Rattle.std.proofs.lemmas.Bool.{and_cases, cases_Bool, cases_eq, cases_lt, cond_both, not-false, or_parts, true≢false}
 use Rattle.std.proofs.lemmas.Bool.Decides.{nat_tests}
@@ -46,7 +46,7 @@ module _ (log : List Bool) (r : Plan) (is : IsPlanOf (length log) r) (c : Covers
         | inr fresh ↦ rw fresh (λ seen. sym (bit_of_window log q) ∙ seen)
       ]
 
-  -- so is one of this round that is not due
+  -- a page of this round that is not due is in the log
   passed_logged : (q : ℕ) → has q r.to_send ≡ true → due log r q ≡ false → has q log ≡ true
   passed_logged q here passed = elim (and_cases (has q r.to_send) (not (bit (q % 64) (peek log r q))) passed) [
     | inl never ↦ absurd (true≢false (sym here ∙ never))
@@ -73,7 +73,7 @@ module _ (log : List Bool) (r : Plan) (is : IsPlanOf (length log) r) (c : Covers
         over = λ stops. absurd (true≢false (sym stops ∙ goes));
       })
 
-  -- where no page of this round is due, each has a copy or is in the log
+  -- if no page of this round is due, each has a copy or is in the log
   settled : IsLowest (due log r) r.scan (length r.to_send) None → (q : ℕ) → q < length r.to_send
       → (0 < get_or r.newest q 0) ⊎ (has q log ≡ true)
   settled passed q below = elim (c.page q below) [

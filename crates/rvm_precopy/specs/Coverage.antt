@@ -3,8 +3,9 @@ use Rattle.std.specs.Prelude.{◌≡◌, ◌⊎◌, ℕ, ◌-◌, ◌/◌, ◌%�
 use Rattle.rvm_mem.specs.Pages.{bit, has}
 use Rattle.rvm_precopy.specs.Plans.{Plan}
 
--- each page has a copy, or is still to be looked at in this round, or is in the dirty log; the dirty log as it was peeked
--- at is still in it; no copy has a number that was not given; and after the last round no page is left to be looked at
+-- each page has a copy, or is still to be looked at in this round, or is in the dirty log; the dirty log still has the
+-- pages that it had when it was peeked at; no copy has a number that was not given; and after the last round no page is
+-- left to be looked at
 pub record Covers (log : List Bool) (r : Plan) : Type 0 where
   pub page : (p : ℕ) → p < length r.to_send
       → (0 < get_or r.newest p 0) ⊎ (((has p r.to_send ≡ true) × (r.scan ≤ p)) ⊎ (has p log ≡ true))

@@ -1,5 +1,5 @@
--- What the source of a move keeps beside its guest, as lists, and what each of its turns makes of it.
--- That these are the protocol's rounds is told by the laws of this crate.
+-- What the source of a move keeps beside its guest, as lists, and what each of its actions makes of it. The laws of
+-- this crate say that these are the protocol's rounds.
 use Rattle.std.specs.Prelude.{◌≡◌, ℕ, ◌+◌, ◌-◌, ◌*◌, ◌/◌, ◌%◌, ◌^◌, ◌≤◌, Bool, true, false, not, ◌&&◌, ◌||◌, ◌==◌, if◌then◌else◌, nat_lt, nat_le, List, length, replicate, get_or, slice_set, Option, Some, None}
 use Rattle.rvm_mem.specs.Pages.{bit, bits, count, has, has_except, union, unmark, window}
 use Rattle.rvm_protocol.specs.Commands.{Policy}
@@ -10,8 +10,8 @@ use Rattle.rvm_precopy.specs.declared.rounds.Next.TheVariants as next
 use Rattle.rvm_precopy.specs.declared.rounds.LastNext.{LastNext}
 use Rattle.rvm_precopy.specs.declared.rounds.LastNext.TheVariants as last
 
--- what the source keeps: for each page whether it is of this round, whether it was reported lost, and
--- the number of its newest copy; the dirty log of the 64 pages that the scan is in, as it was peeked at
+-- what the source keeps: for each page whether it is of this round, whether it was reported lost, and the number of its
+-- newest copy; the dirty log of the 64 pages that the scan is in, as it was last peeked at
 pub record Plan : Type 0 where
   pub policy : Policy
   pub to_send : List Bool
@@ -24,7 +24,7 @@ pub record Plan : Type 0 where
   pub sent : ℕ
   pub stop : Bool
 
--- kept beside a guest of this many pages
+-- a plan for a guest of this many pages
 pub record IsPlanOf (pages : ℕ) (r : Plan) : Type 0 where
   pub send : length r.to_send ≡ pages
   pub fix : length r.to_fix ≡ pages
@@ -34,7 +34,7 @@ pub record IsPlanOf (pages : ℕ) (r : Plan) : Type 0 where
   pub few : pages ≤ 4096
   pub rounds : r.round ≤ 1000
 
--- before the first round
+-- the plan before the first round
 abbrev pub begun : (pages : ℕ) → Policy → Plan
 begun pages p =
     record {
@@ -50,7 +50,7 @@ begun pages p =
       stop = false;
     }
 
--- the first round: every page is to be sent
+-- the plan at the start of the first round: every page is to be sent
 abbrev pub opened : Plan → Plan
 opened r =
     record {
@@ -66,7 +66,7 @@ opened r =
       stop = false;
     }
 
--- the source as the protocol has it, with its guest and the guest's dirty log
+-- the protocol's source that has this plan, with its guest and the guest's dirty log
 abbrev pub rounds_of : {S : Type 0} → S → (log : List Bool) → Plan → Rounds S
 rounds_of g log r =
     record {
@@ -83,7 +83,7 @@ rounds_of g log r =
       stop = r.stop;
     }
 
--- and once its guest is paused
+-- the protocol's source that has this plan once its guest is paused
 abbrev pub last_of : {S : Type 0} → S → (turn : ℕ) → Plan → Last S
 last_of g turn r =
     record {
@@ -95,13 +95,13 @@ last_of g turn r =
       turn = turn;
     }
 
--- the dirty log of the 64 pages of page p, as this round has peeked at it or would now
+-- the dirty log of the 64 pages of page p, as this round peeked at it, or would peek at it now
 abbrev pub peek : (log : List Bool) → Plan → ℕ → ℕ
 peek log r p =
     if not (r.scan % 64 == 0) && (p / 64 == r.scan / 64) then r.peeked
     else bits (window (64 * (p / 64)) log)
 
--- a page is of this round and was not in the dirty log as it was peeked at
+-- a page is of this round, and was not in the dirty log when that was peeked at
 abbrev pub due : (log : List Bool) → Plan → ℕ → Bool
 due log r p = has_except (peek log r p) r.to_send p
 
@@ -115,7 +115,7 @@ pub record Turn : Type 0 where
   pub plan : Plan
   pub log : List Bool
 
--- page p is copied, and this is the peeked-at log of its 64 pages, if a copy number is left
+-- page p is copied if a copy number is left; peeked is the dirty log of its 64 pages as it was peeked at
 abbrev pub copied_if : (peeked : ℕ) → Plan → ℕ → Next × Plan
 copied_if peeked r p =
     if r.copies == 2 ^ 32 - 1 then (next.SeqSpent, r)
@@ -137,8 +137,8 @@ stops left r =
     || nat_lt left r.policy.min_left
     || nat_lt (r.policy.factor * length r.to_send) r.copies
 
--- what is left after a round, by the stop rule's answer: the dirty log goes on until the guest is
--- paused, or it is the next round's pages and a new one begins
+-- the plan and the dirty log after a round, given the stop rule's answer: either the log goes on until the guest is
+-- paused, or its pages are the next round's, which begins
 abbrev pub after_round : (log : List Bool) → Plan → Bool → Plan × List Bool
 after_round log r true = (record r { peeked = 0; scan = length r.to_send; stop = true }, log)
 after_round log r false = (
@@ -146,7 +146,7 @@ after_round log r false = (
   replicate (length log) false,
 )
 
--- no page of the round is left to be copied
+-- the end of a round, no page of which is left to be copied
 abbrev pub round_ended : (log : List Bool) → Plan → Turn
 round_ended log r =
     let t = after_round log r (stops (count log) r) in
@@ -156,7 +156,7 @@ round_ended log r =
       log = t.1;
     }
 
--- the guest is paused: the dirty log is the last round's pages
+-- the guest is paused: the pages of the dirty log are the last round's
 abbrev pub stopping : (log : List Bool) → Plan → Turn
 stopping log r =
     record {
@@ -165,22 +165,22 @@ stopping log r =
       log = replicate (length log) false;
     }
 
--- a turn, by the page that was found
+-- the source's next action, given the page that was found
 abbrev pub with_found : (log : List Bool) → Plan → Option ℕ → Turn
 with_found log r (Some p) =
     let t = copied_if (peek log r p) r p in
     record { answer = t.0; plan = t.1; log = log }
 with_found log r None = round_ended log r
 
--- a turn of the source while its guest runs
+-- the source's next action while its guest runs
 unfoldable pub next_of : (log : List Bool) → Plan → Turn
 next_of log r = if r.stop then stopping log r else with_found log r (found log r)
 
--- a page that is still to be copied of the paused guest
+-- a page of the paused guest that is left to be copied
 abbrev pub left : Plan → ℕ → Bool
 left r p = has p r.to_send || has p r.to_fix
 
--- the lowest of them
+-- the lowest page of the paused guest that is left to be copied
 abbrev pub last_found : Plan → Option ℕ
 last_found r = least (left r) 0 (length r.to_send)
 
@@ -202,27 +202,27 @@ last_copied r p =
       };
     }
 
--- a turn, by the page that was found
+-- the source's next action once its guest is paused, given the page that was found
 abbrev pub with_last : Plan → Option ℕ → LastTurn
 with_last r (Some p) =
     if r.copies == 2 ^ 32 - 1 then record { answer = last.SeqSpent; plan = r }
     else last_copied r p
 with_last r None = record { answer = last.NothingLeft; plan = r }
 
--- a turn of the source once its guest is paused
+-- the source's next action once its guest is paused
 unfoldable pub last_next_of : Plan → LastTurn
 last_next_of r = with_last r (last_found r)
 
--- with these pages reported lost
+-- the plan with these pages reported lost
 abbrev pub lost : List Bool → Plan → Plan
 lost pages r = record r { to_fix = union r.to_fix pages }
 
--- a turn found a page, and no copy number is left for it
+-- a page is to be copied, and no copy number is left for it
 abbrev pub is_spent : Next → Bool
 is_spent next.SeqSpent = true
 is_spent answer = false
 
--- the same of a paused guest
+-- a page of the paused guest is to be copied, and no copy number is left for it
 abbrev pub is_last_spent : LastNext → Bool
 is_last_spent last.SeqSpent = true
 is_last_spent answer = false

@@ -1,5 +1,5 @@
--- What a source keeps as lists is what the protocol has as sets and tables, and each of its turns is
--- the protocol's, beside a guest with as many pages as the lists have.
+-- The lists that a source keeps are the protocol's sets and tables, and each of its actions is the protocol's, for a
+-- guest with as many pages as the lists have.
 use Rattle.std.specs.Prelude.{◌≡◌, ℕ, ◌+◌, ◌<◌, List, Bool, false, if◌then◌else◌, length, replicate, slice_set}
 use Rattle.rvm_mem.specs.Pages.{count}
 use Rattle.rvm_protocol.specs.Guest.{Guest}
@@ -8,7 +8,7 @@ use Rattle.rvm_protocol.specs.Rounds.{page_count}
 use Rattle.rvm_precopy.specs.Plans.{Plan, IsPlanOf, rounds_of, last_of, opened, peek, found, stops, after_round, stopping, last_found, last_copied}
 
 module _ {S P E A B : Type 0} (m : Guest S P E A B) where
-  -- a plan that is opened, beside an empty dirty log, is the protocol's first round
+  -- an opened plan, with an empty dirty log, is the protocol's first round
   unfoldable pub TheFirstRoundIsTheProtocols : Type 0
   TheFirstRoundIsTheProtocols =
       (g : S) (n : ℕ) (r : Plan) → page_count m g ≡ length r.to_send
@@ -45,7 +45,7 @@ module _ {S P E A B : Type 0} (m : Guest S P E A B) where
       → rounds_of g (after_round log r stop).1 (after_round log r stop).0
       ≡ (if stop then protocol.round_over m (rounds_of g log r) else protocol.next_round m (rounds_of g log r))
 
-  -- the plan with which the guest is paused is the one that the protocol's stop-and-copy begins with
+  -- the plan of the guest when it is paused is the one that the protocol's stop-and-copy begins with
   unfoldable pub ThePauseIsTheProtocols : Type 0
   ThePauseIsTheProtocols =
       (g : S) (log : List Bool) (r : Plan) → last_of g 0 (stopping log r).plan ≡ protocol.stopped m (rounds_of g log r)

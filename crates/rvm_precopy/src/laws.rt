@@ -1,5 +1,4 @@
-//! What a source keeps as lists is what the protocol has as sets and tables, and each of its turns is
-//! the protocol's.
+//! The lists that a source keeps are the protocol's sets and tables, and each of its actions is the protocol's.
 
 ghost use Rattle.std.specs.Prelude.{◌≡◌, ◌<◌, ℕ, true, false, List, Bool, None, length, get_or, replicate};
 ghost use Rattle.rvm_mem.specs.Pages.{has};
@@ -18,12 +17,12 @@ pub fn the_next_page_is_the_protocols<S, P, E, A, B>()
     ensures { (m : Guest S P E A B) → TheNextPageIsTheProtocols m }
 {}
 
-/// A copy leaves what the protocol's leaves.
+/// A copy leaves what the protocol's copy leaves.
 pub fn a_copy_is_the_protocols<S, P, E, A, B>()
     ensures { (m : Guest S P E A B) → ACopyIsTheProtocols m }
 {}
 
-/// The stop rule says yes where the protocol's does.
+/// The stop rule says yes if and only if the protocol's does.
 pub fn the_stop_rule_is_the_protocols<S, P, E, A, B>()
     ensures { (m : Guest S P E A B) → TheStopRuleIsTheProtocols m }
 {}
@@ -53,7 +52,7 @@ pub fn the_numbers_are_the_protocols<S, P, E, A, B>()
     ensures { (m : Guest S P E A B) → TheNumbersAreTheProtocols m }
 {}
 
-/// No page is forgotten: each has a copy, or its turn comes, or it was written since.
+/// No page is forgotten: each has a copy, is still to be looked at in this round, or is in the dirty log.
 pub fn no_page_is_forgotten()
     ensures opened { (n : ℕ) (r : Plan) → Covers (replicate n false) (opened r) }
     ensures turn { (log : List Bool) (r : Plan) → IsPlanOf (length log) r → r.stop ≡ false
@@ -64,7 +63,7 @@ pub fn no_page_is_forgotten()
         → Covers log r → CoversLast (next_of log r).plan }
 {}
 
-/// Nor is one of a paused guest: where no page is left, each has a copy.
+/// No page of a paused guest is forgotten: when no page is left to be copied, each has a copy.
 pub fn no_page_of_a_paused_guest_is_forgotten()
     ensures turn { (r : Plan) → IsPlanOf (length r.to_send) r → CoversLast r
         → CoversLast (last_next_of r).plan }

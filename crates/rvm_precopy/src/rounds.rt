@@ -10,7 +10,7 @@ use rvm_mem::{DirtyLog, PageSet, WORD_PAGES};
 use std::alloc::{AllocError, Global};
 use std::marker::Model;
 
-/// What a turn of the source was while its guest runs.
+/// What the source did in one action while its guest runs.
 #[derive(Clone, Copy, Debug, PartialEq, Eq)]
 pub enum Next {
     /// A page is copied, with this copy number.
@@ -18,21 +18,21 @@ pub enum Next {
         page: u32,
         number: u32,
     },
-    /// The round is over: its number, how many pages were copied in it and how many were not, since
-    /// they were written again, and how many are in the dirty log.
+    /// The round is over: its number, the number of pages that it copied, the number that it did not copy since they
+    /// were written again, and the number in the dirty log.
     RoundEnded {
         round: u32,
         sent: u32,
         skipped: u32,
         left: u32,
     },
-    /// Pre-copy is over, and the guest is to be paused.
+    /// Pre-copy is over, and the guest must be paused.
     Stopping,
     /// No copy number is left.
     SeqSpent,
 }
 
-/// What a turn of the source was once its guest is paused.
+/// What the source did in one action once its guest is paused.
 #[derive(Clone, Copy, Debug, PartialEq, Eq)]
 pub enum LastNext {
     /// A page is copied, with this copy number.
@@ -43,14 +43,14 @@ pub enum LastNext {
     SeqSpent,
 }
 
-/// What the source of a move keeps beside its guest: the pages of the round, the place of its scan, and
-/// the number of each page's newest copy. Once it is made, no call takes memory.
+/// What the source of a move keeps beside its guest: the pages of the round, the place of its scan, and the number of
+/// each page's newest copy. Only `begin` takes memory.
 #[derive(Drop)]
 pub struct Rounds {
     policy: Policy,
     to_send: PageSet,
     to_fix: PageSet,
-    // The dirty log of the 64 pages that the scan is in, as it was peeked at.
+    // The dirty log of the 64 pages that the scan is in, as it was last peeked at.
     peeked: u64,
     scan: u32,
     newest: Vec<u32>,
@@ -66,7 +66,7 @@ impl Model for Rounds {
 
     ghost Value = { Plan };
 
-    // Below `Value`, since it reads a type of this crate.
+    // It comes after `Value`, since it reads a type of this crate.
     ghost use Rattle.rvm_precopy.specs.Policies.{policy_of};
 
     ghost view = { λ r. record {
@@ -90,7 +90,7 @@ impl Model for Rounds {
 }
 
 impl Rounds {
-    /// All that a move of this many pages needs. Nothing is copied before `open`.
+    /// All that a move of a guest of this many pages needs. `open` must come before the first copy.
     pub fn begin(alloc: Global, pages: u32, policy: Policy) -> Result<Rounds, AllocError>
         requires pages { pages ≤ 4096 }
         requires policy { is_allowed (policy_of policy) ≡ true }
@@ -113,7 +113,7 @@ impl Rounds {
         })
     }
 
-    /// How many pages the guest has.
+    /// The number of the guest's pages.
     pub fn pages(&self) -> u32
         ensures pages { result ≡ length self.now.to_send }
         ensures plan { IsPlanOf result self.now }
@@ -121,7 +121,7 @@ impl Rounds {
         self.to_send.pages()
     }
 
-    /// Begins the first round: every page is to be sent, and the dirty log is empty.
+    /// Begins the first round, in which every page is to be sent, and empties the dirty log.
     pub fn open<L: DirtyLog>(&mut self, log: &mut L)
         requires { length (L.log log.old) ≡ length self.old.to_send }
         ensures plan { self.new ≡ opened self.old }
@@ -140,7 +140,8 @@ impl Rounds {
         self.stop = false;
     }
 
-    /// The page that this round copies next, and the dirty log of its 64 pages as it is peeked at.
+    /// The page that this round copies next, and the dirty log of its block of 64 pages as it is peeked at. None if no
+    /// page of this round is left.
     fn find<L: DirtyLog>(&self, log: &L) -> Option<(u32, u64)>
         requires { length (L.log log.now) ≡ length self.now.to_send }
         ensures page { option_map (λ found. found.0) result ≡ found (L.log log.now) self.now }
@@ -161,7 +162,8 @@ impl Rounds {
         None
     }
 
-    /// A turn of the source while its guest runs: the round's next page, or the round's end.
+    /// Takes the source's next action while its guest runs: copies the round's next page, or ends the round, or ends
+    /// pre-copy.
     #[tactic(auto, unfolding(crate::specs::Plans::next_of))]
     pub fn next<L: DirtyLog>(&mut self, log: &mut L) -> Next
         requires { length (L.log log.old) ≡ length self.old.to_send }
@@ -180,7 +182,7 @@ impl Rounds {
         }
     }
 
-    /// Whether `next` answers `SeqSpent`: this round copies another page, and no copy number is left. Takes no
+    /// Whether `next` returns `SeqSpent`: this round has another page to copy, and no copy number is left. Takes no
     /// memory.
     #[tactic(auto, using(crate::proofs::Spent::spent_turn))]
     pub fn is_spent<L: DirtyLog>(&self, log: &L) -> bool
@@ -190,7 +192,7 @@ impl Rounds {
         !self.stop && self.copies == u32::MAX && self.finds(log)
     }
 
-    /// Whether this round copies another page.
+    /// Whether this round has another page to copy.
     #[tactic(auto, using(crate::proofs::Spent::some_mapped))]
     fn finds<L: DirtyLog>(&self, log: &L) -> bool
         requires { length (L.log log.now) ≡ length self.now.to_send }
@@ -199,7 +201,7 @@ impl Rounds {
         self.find(log).is_some()
     }
 
-    /// The guest is paused: the dirty log is the last round's pages.
+    /// Makes the pages of the dirty log the last round's, for the guest that is paused.
     fn pause<L: DirtyLog>(&mut self, log: &mut L)
         requires { length (L.log log.old) ≡ length self.old.to_send }
         ensures plan { self.new ≡ (stopping (L.log log.old) self.old).plan }
@@ -210,7 +212,7 @@ impl Rounds {
         self.to_fix.clear();
     }
 
-    /// Page `page` is copied next, if a copy number is left.
+    /// Copies page `page`, if a copy number is left.
     fn copy(&mut self, page: u32, peeked: u64) -> Next
         requires inside { page < length self.old.to_send }
         requires from { self.old.scan ≤ page }
@@ -232,7 +234,7 @@ impl Rounds {
         }
     }
 
-    /// No page of this round is left: the stop rule is asked.
+    /// Ends the round, no page of which is left, by the stop rule.
     fn end_round<L: DirtyLog>(&mut self, log: &mut L) -> Next
         requires { length (L.log log.old) ≡ length self.old.to_send }
         ensures answer { result ≡ (round_ended (L.log log.old) self.old).answer }
@@ -260,7 +262,7 @@ impl Rounds {
         answer
     }
 
-    /// The stop rule, with this many pages in the dirty log.
+    /// Whether the stop rule ends pre-copy, with this many pages in the dirty log.
     fn stops(&self, left: u32) -> bool
         ensures { result ≡ stops left self.now }
     {
@@ -270,7 +272,7 @@ impl Rounds {
                 < u64::from(self.copies)
     }
 
-    /// A turn of the source once its guest is paused: the lowest page that is left.
+    /// Takes the source's next action once its guest is paused: copies the lowest page that is left.
     #[tactic(auto, unfolding(crate::specs::Plans::last_next_of))]
     pub fn next_last(&mut self) -> LastNext
         ensures answer { result ≡ (last_next_of self.old).answer }
@@ -282,7 +284,7 @@ impl Rounds {
         }
     }
 
-    /// Whether `next_last` answers `SeqSpent`: a page is left to be copied, and no copy number is. Takes no
+    /// Whether `next_last` returns `SeqSpent`: a page is left to be copied, and no copy number is left. Takes no
     /// memory.
     #[tactic(auto, using(crate::proofs::Spent::spent_last))]
     pub fn is_last_spent(&self) -> bool
@@ -291,7 +293,7 @@ impl Rounds {
         self.copies == u32::MAX && self.is_left()
     }
 
-    /// The lowest page that is still to be copied.
+    /// The lowest page of the paused guest that is left to be copied.
     fn find_last(&self) -> Option<u32>
         ensures page { result ≡ last_found self.now }
         ensures bound { IfSome result (λ p. p < length self.now.to_send) }
@@ -310,7 +312,7 @@ impl Rounds {
         self.find_last().is_some()
     }
 
-    /// Page `page` is copied, if a copy number is left.
+    /// Copies page `page` of the paused guest, if a copy number is left.
     fn copy_last(&mut self, page: u32) -> LastNext
         requires { page < length self.old.to_send }
         ensures answer { result ≡ (with_last self.old (Some page)).answer }
@@ -330,7 +332,7 @@ impl Rounds {
         }
     }
 
-    /// Pages that were reported lost are to be copied again.
+    /// Notes that these pages were reported lost and are to be copied again.
     #[tactic(auto, using(crate::proofs::Scans::sums))]
     pub fn lost(&mut self, pages: &PageSet)
         requires { length pages.now ≡ length self.old.to_send }
@@ -339,14 +341,14 @@ impl Rounds {
         self.to_fix.add(pages);
     }
 
-    /// The number of each page's newest copy, 0 for none.
+    /// The number of each page's newest copy, 0 if it has none.
     pub fn newest(&self) -> &[u32]
         ensures { result.now ≡ self.now.newest }
     {
         self.newest.as_slice()
     }
 
-    /// How many copies were made in this move.
+    /// The number of copies that this move has made.
     pub fn copies(&self) -> u32
         ensures { result ≡ self.now.copies }
     {

@@ -23,13 +23,13 @@ module _ {S P : Type 0} where
   Backed R C (Given n kept) = C n
   Backed R C mode = Unit {0}
 
-  -- where a Go of this move was sent, it was started here
+  -- if a Go of this move was sent, the guest was started here
   abbrev pub RunOk : (C T : ℕ → Type 0) → Mode S P → Type 0
   RunOk C T (Run n g) = C n → T n
   RunOk C T mode = Unit {0}
 
 module _ {S P E A B : Type 0} (m : Guest S P E A B) (R C T : ℕ → Type 0) where
-  -- what a reply says is so
+  -- what a reply says is true
   abbrev pub Now : HostEvent P E B → Reply A → Type 0
   Now e r =
       ((n : ℕ) → says_ready n e r → R n) × ((n : ℕ) → says_committed n r → C n) ×

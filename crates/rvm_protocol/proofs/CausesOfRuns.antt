@@ -107,7 +107,7 @@ some_either Q (x ∷ xs) y (inl h) = inl (inl h)
 some_either Q (x ∷ xs) y (inr h) = ⊎_elim (λ a. inl (inr a)) (λ b. inr b) (some_either Q xs y h)
 
 module _ {S P E A B : Type 0} (m : Guest S P E A B) (C T : ℕ → Type 0) where
-  -- how the current host comes to Run
+  -- how the current host gets into Run
   abbrev pub FreshTo : HostEvent P E B → Outcome S P A B → Type 0
   FreshTo e o = ((n : ℕ) → says_started n e o.reply → T n) → Fresh C T o.next
 
@@ -433,7 +433,7 @@ module _ {S P E A B : Type 0} (m : Guest S P E A B) (laws : IsGuest m) where
     pub gone : (k : ℕ) → WasCommitted past k → Gone (read m w.sent) k
     pub fresh : Fresh (WasCommitted past) (WasStarted past) (mode_at m w t.current)
 
-  -- so it is below what the current host's mode allows
+  -- the move number is below what the current host's mode allows
   gone_below : (w : World S P B) (t : Told S) (s : SoundAt m laws w t) (k : ℕ) → Gone (read m w.sent) k
       → k < go_lim (mode_at m w s.c)
   gone_below w t s k g =

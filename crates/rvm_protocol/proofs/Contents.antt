@@ -88,7 +88,7 @@ module _ {S P E A B : Type 0} (m : Guest S P E A B) (laws : IsGuest m) (g : S) w
       (sends_page m n r p) (λ _. tt) (λ _. ap (λ x. page_of m x p) same)
   carry_copy n r None same = tt
 
-  -- where nothing is left to copy, the newest copies are those of the state of g
+  -- if nothing is left to copy, the newest copies are those of the state of g
   all_copied : (l : Last S) → StoppedIs l → to_copy m l ≡ None
       → IsStateOf m g (newest_numbers m l) (m.body l.guest)
   all_copied l same nothing =

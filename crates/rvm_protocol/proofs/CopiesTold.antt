@@ -1,4 +1,4 @@
--- A move's copies are those that were answered Copied.
+-- Each copy of a move had the reply Copied.
 use Rattle.std.proofs.Common.{◌≡◌, ℕ, suc, ◌-◌, ◌==◌, ◌^◌, true, false, ◌&&◌, nat_lt, nat_le, if◌then◌else◌, List, [], ◌∷◌, ◌++◌, Option, Some, None, refl, sym, ap, subst}
 use Rattle.std.specs.Prelude.{set, length}
 use Rattle.std.proofs.lemmas.Bool.{eqb-true}

@@ -1,4 +1,5 @@
--- Worked copies, computed: how many were answered, of which pages a round made them, and which were left at the end.
+-- Worked copies, computed: how many replies were Copied, of which pages a round made them, and which were left at the
+-- end.
 use Rattle.std.proofs.Common.{◌≡◌, ℕ, zero, suc, true, false, List, [], ◌∷◌, ◌++◌, refl}
 use Rattle.rvm_protocol.specs.Commands.{Board, Begin, Command, Copy, AbortMove}
 use Rattle.rvm_protocol.specs.FewCopies.{copies_told}

@@ -1,4 +1,4 @@
--- How many events a driven move has.
+-- The number of events of a driven move.
 use Rattle.std.proofs.Common.{◌≡◌, ◌+◌, ◌*◌, List, [], ◌∷◌, ◌++◌, length, arith}
 use Rattle.std.proofs.lemmas.List.{length-append}
 use Rattle.rvm_protocol.specs.Commands.{Begin, Copy}

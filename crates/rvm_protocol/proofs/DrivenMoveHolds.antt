@@ -23,7 +23,7 @@ use Rattle.rvm_protocol.proofs.DrivenMove.{Drivable, drive_goes}
 use Rattle.rvm_protocol.proofs.DeclinedMove.{declining}
 
 module _ {S P E A B : Type 0} (m : Guest S P E A B) (laws : IsGuest m) where
-  -- the hosts beside the one in Run are behind it
+  -- all hosts but the one in Run are behind it
   record Behind (e : ℕ) (g : S) (T : Mode S P) : Type 0 where
     none : HoldsNone T
     below : move_of T < suc e

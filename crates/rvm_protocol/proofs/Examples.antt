@@ -100,7 +100,7 @@ a_lost_page_is_copied_again : told_two
 unfolding replies least size listed members is_in
 a_lost_page_is_copied_again = refl
 
--- of four pages, from hosts that take four and three
+-- replies to a guest of four pages, from hosts that take four and three
 abbrev to_a_small_host : List (Event CounterEvent) → World Counter ℕ ℕ
 to_a_small_host events = run counter (new_world counter 1 0 (fresh 4) 2 (λ x. 4 - x)) events
 

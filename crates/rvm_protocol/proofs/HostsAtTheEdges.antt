@@ -1,4 +1,4 @@
--- What a host answers at the limits of numbers, pages and pieces.
+-- The replies of a host at the limits of numbers, pages and pieces.
 use Rattle.std.proofs.Common.{◌≡◌, ℕ, ◌==◌, ◌^◌, ◌-◌, false, List, [], ◌∷◌, refl}
 use Rattle.rvm_protocol.specs.Commands.{Policy, Begin, Copy, Resend, HostEvent, Do, Came}
 use Rattle.rvm_protocol.specs.Frames.{Offer, Lost, Part}
@@ -55,7 +55,7 @@ last_copy : says_to (Stopped 1 (record l { copies = 2 ^ 32 - 2 })) (Do Copy) ≡
 unfolding least
 last_copy = refl
 
--- a spent state can still be sent where nothing is left
+-- once the copy numbers are spent, the state can still be sent if nothing is left to copy
 state_after_the_last_copy : then_says (Stopped 1 (record l { copies = 2 ^ 32 - 2 })) (Do Copy) (Do Copy)
     ≡ PartSent 0 2
 unfolding least listed
@@ -114,7 +114,7 @@ a_higher_stamp_drops : then_says s (piece 4 1 2 (1 ∷ 7 ∷ [])) (piece 5 0 2 (
 unfolding gathered size
 a_higher_stamp_drops = refl
 
--- a piece with which they join to nothing is not kept, nor is its stamp
+-- a piece is not kept, nor its stamp, if the pieces then join to no state
 joined_to_nothing : says_to s (piece 5 0 1 (2 ∷ [])) ≡ Refused BadState
 unfolding gathered size
 joined_to_nothing = refl

@@ -1,4 +1,4 @@
--- What a host answers in each mode to each command and each kind of frame, of its move and of a
+-- The replies of a host in each mode to each command and each kind of frame, of its move and of a
 -- later one.
 use Rattle.std.proofs.Common.{◌≡◌, ℕ, suc, List, [], ◌∷◌, map, refl}
 use Rattle.rvm_protocol.specs.Commands.{Policy, Board, Begin, Copy, Resend, AbortMove, HostEvent, Do, Came}

@@ -41,7 +41,7 @@ module _ {S P E A B : Type 0} (m : Guest S P E A B) (laws : IsGuest m) where
 
   -- COMMITS
 
-  -- what is told of the current host, and what the world takes for it
+  -- the current host that the replies tell, and the one that the world takes for it
   abbrev pub Lands : (ℕ → ℕ) → (c from : ℕ) → Outcome S P A B → Type 0
   Lands ts c from o = reply_current o.reply ts c ≡ moved o.reply from c
 

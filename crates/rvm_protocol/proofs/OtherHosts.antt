@@ -55,7 +55,7 @@ module _ {S P E A B : Type 0} (m : Guest S P E A B) (laws : IsGuest m) where
       → Modes (Run j g) o.next (own_ok {B = B} (Run j g) X) (More (their_ok (Run j g) X) o.made)
 
   -- an event at a host that is behind, with no frame between it, as the partner, and the current
-  -- one: as beside a host in Run
+  -- host: as beside a host in Run
   behind_good : (hc hd : Host S P) (H : ℕ → Host S P) (sent : List (Addressed P B)) (c d : ℕ)
       (t : Told S) (x z p' : ℕ) (e : HostEvent P E B) (o : Outcome S P A B)
       → Good m laws hc hd H sent c d t → x ≢ c → move_of (H x).mode < lim hc.mode → (x ≡ d → z ≢ c)

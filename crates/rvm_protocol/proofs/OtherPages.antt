@@ -309,7 +309,7 @@ module _ {S P E A B : Type 0} (m : Guest S P E A B) (laws : IsGuest m) where
       ∙ ap (λ x. m.build s.processors x (m.pages g)) t.body
       ∙ ap (λ x. m.build x (m.body g) (m.pages g)) st.processors ∙ laws.read_back g v)
 
-  -- the guest that a state makes is the source's, where that one is paused
+  -- the guest that a state makes is the source's, while that is paused
   ready_pages : (O : Mode S P) (n : ℕ) (s : Stage P) (g' : S) (F R : Frame P B → Type 0)
       → Modes O (Staging n s) F R → Content m O (Staging n s) F
       → ((e : ℕ) (l : Last S) → O ≡ Stopped e l → n ≡ e → StoppedOk m e l (Staging n s) F

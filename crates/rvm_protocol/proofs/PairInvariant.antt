@@ -60,7 +60,7 @@ module _ {S P : Type 0} where
   own_ok O T (Started k) = k < lim O
   own_ok O T (Abort k) = k < lim O
 
-  -- and of each that the other host made
+  -- the move number of each frame that the other host made
   abbrev pub their_ok : {B : Type 0} → Mode S P → Mode S P → Frame P B → Type 0
   their_ok O T (Offer k a b) = k < suc (move_of T)
   their_ok O T (Accept k) = k < suc (move_of T)
@@ -164,7 +164,8 @@ module _ {S P E A B : Type 0} (m : Guest S P E A B) where
     pub skip : (p : ℕ) → r.to_skip p ≡ true → r.log p ≡ true
     pub over : r.stop ≡ true → length (m.pages r.guest) ≤ r.scan
 
-  -- a State frame names only copies that equal the pages, and so are all later ones
+  -- a State frame names only copies that equal the pages, and all later copies of its move equal
+  -- them too
   pub record TrueState (e : ℕ) (F : Frame P B → Type 0) (g : S) (ns : List ℕ) (b : B) : Type 0 where
     pub body : b ≡ m.body g
     pub count : length ns ≡ length (m.pages g)

@@ -10,7 +10,7 @@ use Rattle.rvm_protocol.specs.RoundCopies.{first_beside, IsRound, CopiesAt, IsFi
 use Rattle.rvm_protocol.specs.Rounds.{Rounds, is_skipped, page_count, next_page, stops, page_copied, round_over, next_round, stopped}
 use Rattle.rvm_protocol.proofs.Basics.{and_not, and_not_false, both_false, IsLeast, least_found, least_none, same_or}
 
--- pages that the scan has not come to are skipped where the log has them now
+-- pages of a block that the scan has not begun are skipped if the log has them now
 skip_before : {S : Type 0} (r : Rounds S) (p : ℕ) → r.scan ≤ first_beside p
     → is_skipped r p ≡ r.log p
 skip_before r p le =
@@ -28,7 +28,7 @@ skip_before r p le =
           ] refl
     ] refl
 
--- those beside the scan are skipped where the log had them then
+-- pages of the scan's block are skipped if the log had them at the peek
 skip_beside : {S : Type 0} (r : Rounds S) (p : ℕ) → first_beside p < r.scan → r.scan ≤ p
     → is_skipped r p ≡ r.to_skip p
 skip_beside r p lt le =

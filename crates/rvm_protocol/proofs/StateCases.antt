@@ -1,4 +1,4 @@
--- What a state, or a piece of one, comes to at a host that stages pages, by cases.
+-- The outcome of a state, or of a piece of one, at a host that stages pages, by cases.
 use Rattle.std.proofs.Common.{◌≡◌, ℕ, ◌≤◌, ◌==◌, true, nat_lt, List, length, Option, Some, None, refl, arith}
 use Rattle.std.proofs.lemmas.Bool.{ltb-false}
 use Rattle.rvm_protocol.specs.Guest.{Guest}

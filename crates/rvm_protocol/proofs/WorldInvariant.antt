@@ -36,7 +36,7 @@ has_either [] y x (inr h) = absurd h
 has_either (z ∷ xs) y x (inl e) = inl (inl e)
 has_either (z ∷ xs) y x (inr h) = ⊎_elim (λ a. inl (inr a)) (λ b. inr b) (has_either xs y x h)
 
--- f at x, where it was put, and what was there elsewhere
+-- f at x, after a value was put there, and elsewhere, unchanged
 pub put_all : {V : Type 0} (Q : ℕ → V → Type 0) (f : ℕ → V) (x : ℕ) (v : V) → Q x v
     → ((y : ℕ) → y ≢ x → Q y (f y)) → (y : ℕ) → Q y (put f x v y)
 put_all Q f x v here rest y =
@@ -142,7 +142,7 @@ module _ {S P E A B : Type 0} (m : Guest S P E A B) (laws : IsGuest m) where
     -- each other host is behind
     pub others : (x : ℕ) → x ≢ c → x ≢ d → HoldsNone (H x).mode × (move_of (H x).mode < lim hc.mode)
     pub near : (move_of hd.mode < lim hc.mode) ⊎ (hd.partner ≡ c)
-    -- so is each frame that is not between the two
+    -- each frame that is not between the two is behind
     pub past : (x y : ℕ) (f : Frame P B) → Made sent x y f → Pair c d x y ⊎ past_ok (lim hc.mode) f
     -- a move that was given was taken
     pub took : (x y : ℕ) (f : Frame P B) → Made sent x y f → go_ok (reach H c hc.mode y) f

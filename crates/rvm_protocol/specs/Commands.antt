@@ -1,9 +1,9 @@
--- What happens at a host: it is given a command, or a frame of another host comes.
+-- The events of a host: it is given a command, or a frame of another host comes.
 use Rattle.std.specs.Prelude.{ℕ, Bool, ◌&&◌, nat_le}
 use Rattle.rvm_protocol.specs.Frames.{Frame}
 
--- when pre-copy ends: after this many rounds, or with fewer dirty pages left than this, or after more
--- copies than this many times the guest's pages (Clark and others, 3.2 and 4.1)
+-- when pre-copy ends: after this many rounds, or with fewer dirty pages left than this, or after more copies than this
+-- many times the guest's pages (Clark and others, 3.2 and 4.1)
 pub record Policy : Type 0 where
   pub max_rounds : ℕ
   pub min_left : ℕ
@@ -25,7 +25,7 @@ pub data Command (E : Type 0) : Type 0 where
   Copy : Command E
   -- send the last frame of this mode again
   Resend : Command E
-  -- give the move up
+  -- give up the move
   AbortMove : Command E
 
 -- an event of a host: a command, or a frame that comes, with the host that sent it

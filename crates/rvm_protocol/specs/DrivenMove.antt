@@ -1,4 +1,4 @@
--- A driven move: each frame of it is delivered once, in order, and the guest has no event.
+-- A driven move: each of its frames is delivered once and in order, and the guest has no event.
 use Rattle.std.specs.Prelude.{◌≡◌, ℕ, suc, ◌+◌, ◌*◌, ◌^◌, ◌-◌, ◌<◌, ◌≤◌, true, if◌then◌else◌, List, [], ◌∷◌, ◌++◌, length}
 use Rattle.rvm_protocol.specs.Guest.{Guest}
 use Rattle.rvm_protocol.specs.Frames.{is_compact}
@@ -11,9 +11,9 @@ use Rattle.rvm_protocol.specs.Host.{is_there}
 use Rattle.rvm_protocol.specs.World.{World, Event, At, Deliver, mode_at, run, replies, new_world}
 
 module _ {E : Type 0} where
-  -- the events that move n pages and a state of s frames, where k frames were sent before: the
-  -- offer and its answer; a copy of each page and the round's end, and these frames; the stop; the
-  -- state, and its frames; Ready, Go and Started
+  -- the events that move n pages and a state of s frames, if k frames were sent before: the offer
+  -- and its answer; a copy of each page and the round's end, and the delivery of these frames; the
+  -- stop; the state, and the delivery of its frames; Ready, Go and Started
   abbrev pub drive : (from to : ℕ) → Policy → (k n s : ℕ) → List (Event E)
   drive from to policy k n s =
       At from (Begin to policy) ∷ Deliver k ∷ Deliver (k + 1) ∷ []
@@ -31,7 +31,7 @@ module _ {A : Type 0} where
   state_replies version s =
       if is_compact version then listed (λ i. PartSent i s) 0 s else StateSent ∷ []
 
-  -- the replies to these frames at the target, the last one ReadySent
+  -- the replies to these frames at the target, the last of which is ReadySent
   abbrev pub arrival_replies : (version s : ℕ) → List (Reply A)
   arrival_replies version s =
       if is_compact version then listed (λ i. Kept i s) 0 (s - 1) ++ ReadySent ∷ []
@@ -50,12 +50,12 @@ module _ {A : Type 0} where
       ++ Committed e ∷ StartedHere ∷ Finished ∷ []
 
 module _ {S P E A B : Type 0} (m : Guest S P E A B) where
-  -- how many frames the state of g takes, where page p was copied as number p + 1
+  -- the number of frames of the state of g, if the copy of page p has number p + 1
   abbrev pub state_frames : (version : ℕ) → S → ℕ
   state_frames version g =
       if is_compact version then length (m.cut (listed suc 0 (page_count m g)) (m.body g)) else 1
 
-  -- these events are answered so, and then the guest stands unchanged at its target
+  -- these events get the planned replies, and then the guest stands unchanged at its target
   pub record Arrives (w : World S P B) (from to : ℕ) (e : ℕ) (g : S) (events : List (Event E))
       : Type 0 where
     pub replied : replies m w events
@@ -63,7 +63,8 @@ module _ {S P E A B : Type 0} (m : Guest S P E A B) where
     pub there : mode_at m (run m w events) to ≡ Run (suc e) g
     pub left : mode_at m (run m w events) from ≡ Empty (suc e)
 
-  -- from a world of any run whose host `from` is in Run, to another host that takes that many pages
+  -- a driven move arrives, from a world of any run whose host `from` is in Run, at another host
+  -- that takes that many pages
   unfoldable pub ADrivenMoveArrives : Type 0
   ADrivenMoveArrives =
       (start g : S) (version origin count : ℕ) (limits : ℕ → ℕ) (events : List (Event E))
@@ -88,7 +89,7 @@ module _ {S P E A B : Type 0} (m : Guest S P E A B) where
         ≡ Begun (suc e) ∷ Declined (w.limits to) ∷ MoveDeclined (w.limits to) ∷ []
     pub stays : mode_at m (run m w events) from ≡ Run (suc e) g
 
-  -- to a host that takes fewer pages
+  -- a driven move to a host that takes fewer pages is declined
   unfoldable pub ATooLargeGuestIsDeclined : Type 0
   ATooLargeGuestIsDeclined =
       (start g : S) (version origin count : ℕ) (limits : ℕ → ℕ) (events : List (Event E))
@@ -100,7 +101,7 @@ module _ {S P E A B : Type 0} (m : Guest S P E A B) where
       (drive_opening from to policy
       (length (run m (new_world m version origin start count limits) events).sent))
 
--- how many events that are
+-- the number of events of a driven move
 unfoldable pub DriveCount : (E : Type 0) → Type 0
 DriveCount E =
     (from to k n s : ℕ) (policy : Policy)

@@ -1,5 +1,5 @@
--- What frames carry: a Page the bytes, a Zero a page of zeros, a State the state and a Part a piece
--- of the state of the guest at its event.
+-- What frames carry of the guest at the event that makes them: a Page the bytes of a page, a Zero a
+-- page of zeros, a State the state and a Part a piece of the state.
 use Rattle.std.specs.Prelude.{◌≡◌, ◌<◌, ℕ, true, List, [], length, get_or}
 use Rattle.std.specs.declared.option.Option.TheVariants.{Some}
 use Rattle.rvm_protocol.specs.Guest.{Guest}
@@ -32,7 +32,7 @@ module _ {S P E A B : Type 0} (m : Guest S P E A B) where
   Carries g (State n numbers b) = IsStateOf g numbers b
   Carries g f = Unit {0}
 
-  -- the guest is the one that never moves, at the event that makes the frame
+  -- each frame carries the guest that never moves, as it is at the event that makes the frame
   unfoldable pub FramesCarryTheGuest : Type 0
   FramesCarryTheGuest =
       (g : S) (version origin count : ℕ) (limits : ℕ → ℕ) (events : List (Event E)) (ev : Event E) (x : ℕ)

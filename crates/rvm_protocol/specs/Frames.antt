@@ -8,10 +8,10 @@ use Rattle.rvm_protocol.specs.Guest.{Guest}
 pub data Frame (P B : Type 0) : Type 0 where
   -- the source asks to move a guest of this size
   Offer : (move pages processors : ℕ) → Frame P B
-  -- the target has room for it, or has not
+  -- the target takes the guest, or takes at most limit pages
   Accept : (move : ℕ) → Frame P B
   Refuse : (move limit : ℕ) → Frame P B
-  -- a copy of one page, numbered from 1 in each move
+  -- a copy of one page; copies are numbered from 1 in each move
   Page : (move page number : ℕ) → (bytes : P) → Frame P B
   -- a copy of a page of zeros
   Zero : (move page number : ℕ) → Frame P B
@@ -21,15 +21,15 @@ pub data Frame (P B : Type 0) : Type 0 where
   Lost : (move : ℕ) → (pages : List ℕ) → Frame P B
   -- the paused guest without its pages, and the number of each page's newest copy
   State : (move : ℕ) → (numbers : List ℕ) → (body : B) → Frame P B
-  -- one of the pieces of such a state; its stamp says how many copies were made before
+  -- one of the pieces of such a state; the stamp is the number of copies that were made before
   Part : (move stamp part parts : ℕ) → (bytes : List ℕ) → Frame P B
   -- the target holds the whole guest
   Ready : (move : ℕ) → Frame P B
   -- the source has committed: the guest is the target's
   Go : (move : ℕ) → Frame P B
-  -- the target runs it
+  -- the target runs the guest
   Started : (move : ℕ) → Frame P B
-  -- the source goes on by itself
+  -- the source gives up the move and keeps the guest
   Abort : (move : ℕ) → Frame P B
 
 -- a frame, the host that sent it and the host that it is for

@@ -41,7 +41,8 @@ module _ {S P E A B : Type 0} (m : Guest S P E A B) where
       → p < page_count m g → get_or numbers p 0 ≤ k
       → Has sent (record { from = x; to = z; frame = Page n p k y }) → y ≡ page_of m g p
 
-  -- so do the copies that the pieces of one stamp name
+  -- every copy that the pieces of one stamp name, and each later one of that page, has the bytes of
+  -- g
   abbrev pub PiecesNameTrueCopies : List (Addressed P B) → (x n : ℕ) → S → Type 0
   PiecesNameTrueCopies sent x n g =
       (stamp z : ℕ) (pieces : List (List ℕ)) (numbers : List ℕ) (body : B) (p k : ℕ) (y : P)
@@ -57,16 +58,16 @@ module _ {S P E A B : Type 0} (m : Guest S P E A B) where
       → Has sent (record { from = x; to = to; frame = State n numbers body })
       → IsStateOf m g numbers body
 
-  -- so do the pieces of one stamp together
+  -- the pieces of one stamp together carry the state of g
   abbrev pub PiecesAreTrue : List (Addressed P B) → (x n : ℕ) → S → Type 0
   PiecesAreTrue sent x n g =
       (stamp : ℕ) (pieces : List (List ℕ)) (numbers : List ℕ) (body : B) → 0 < length pieces
       → ((i : ℕ) → i < length pieces → WasPieceSent sent x n stamp pieces i)
       → m.join pieces ≡ Some (numbers, body) → IsStateOf m g numbers body
 
-  -- while the source copies, each page is to be sent and not yet looked at, or in the dirty log, or
-  -- its newest copy equals it; once stopped, it is to be sent or to be fixed, or its newest copy
-  -- equals it
+  -- while the source copies, each page is to be sent and not yet looked at, or is in the dirty log,
+  -- or equals its newest copy; once the guest is paused, each page is to be sent or to be fixed, or
+  -- equals its newest copy
   abbrev pub CopiesAreFresh : List (Addressed P B) → ℕ → Mode S P → Type 0
   CopiesAreFresh sent x (Copying n r) =
       (p : ℕ) → p < page_count m r.guest
@@ -80,7 +81,7 @@ module _ {S P E A B : Type 0} (m : Guest S P E A B) where
       × StatesAreTrue sent x n l.guest × PiecesAreTrue sent x n l.guest
   CopiesAreFresh sent x mode = Unit {0}
 
-  -- at each host after any events from a new world
+  -- copies are fresh at each host after any events from a new world
   unfoldable pub NoStalePage : Type 0
   NoStalePage =
       (g : S) (version origin count : ℕ) (limits : ℕ → ℕ) (events : List (Event E)) (x : ℕ)

@@ -1,16 +1,17 @@
--- A guest: any machine that answers events one after the other and says which pages of its memory
--- each of them wrote. Live migration knows no more of it (Clark, Fraser, Hand, Hansen, Jul,
--- Limpach, Pratt, Warfield: Live Migration of Virtual Machines, NSDI 2005).
+-- A guest: any machine that answers events in order and says which pages of its memory each of them wrote. Live
+-- migration knows nothing else of it (Clark, Fraser, Hand, Hansen, Jul, Limpach, Pratt, Warfield: Live Migration of
+-- Virtual Machines, NSDI 2005).
 use Rattle.std.specs.Prelude.{◌≡◌, ℕ, ◌^◌, ◌<◌, Bool, true, false, List, length, get_or}
 use Rattle.std.specs.declared.option.Option.{Option}
 use Rattle.std.specs.declared.option.Option.TheVariants.{Some}
 
--- what a guest does: S its states, P its pages, E its events, A its answers, B its state as written, without the pages
+-- what a guest does: S its states, P its pages, E its events, A its answers, B its state as it is written, without the
+-- pages
 pub record Guest (S P E A B : Type 0) : Type 0 where
   pub answer : S → E → A
   pub next : S → E → S
   pub pages : S → List P
-  -- the pages that an event writes, also where their bytes stay equal
+  -- the pages that an event writes, even if their bytes stay equal
   pub wrote : S → E → ℕ → Bool
   pub processors : S → ℕ
   -- a page of zeros, and its test
@@ -33,7 +34,7 @@ pub record IsGuest {S P E A B : Type 0} (m : Guest S P E A B) : Type 0 where
   -- no event changes how many pages or processors there are
   pub same_length : (s : S) (e : E) → length (m.pages (m.next s e)) ≡ length (m.pages s)
   pub same_processors : (s : S) (e : E) → m.processors (m.next s e) ≡ m.processors s
-  -- a page that was not written is as before
+  -- a page that was not written does not change
   pub unwritten : (s : S) (e : E) (p : ℕ) → m.wrote s e p ≡ false
       → get_or (m.pages (m.next s e)) p m.zeros ≡ get_or (m.pages s) p m.zeros
   -- what was written is read back

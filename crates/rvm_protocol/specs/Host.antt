@@ -1,5 +1,5 @@
--- The host relation: what one event does at a host, whom the frame that it makes is for, and which
--- frames the host listens to.
+-- The host relation: what an event does at a host, whom the frame that it makes is for, and which frames the host
+-- hears.
 use Rattle.std.specs.Prelude.{ℕ, Bool, false, not, ◌&&◌, ◌||◌, ◌==◌, if◌then◌else◌, nat_lt}
 use Rattle.std.specs.declared.option.Option.{Option}
 use Rattle.rvm_protocol.specs.Guest.{Guest}
@@ -10,7 +10,7 @@ use Rattle.rvm_protocol.specs.Modes.{Mode, Run, Outcome, move_of, refuses, ignor
 use Rattle.rvm_protocol.specs.Obeying.{begin, obey}
 use Rattle.rvm_protocol.specs.Receiving.{came}
 
--- its mode, and the other party of the highest move that it has begun or staged: at first itself
+-- a host: its mode, and the other party of the highest move that it has begun or staged, at first itself
 pub record Host (S P : Type 0) : Type 0 where
   pub mode : Mode S P
   pub partner : ℕ
@@ -21,7 +21,7 @@ pub record Result (S P A B : Type 0) : Type 0 where
   pub made : Option (Addressed P B)
   pub next : Host S P
 
--- another host of a world of count hosts
+-- x is another host of a world of count hosts
 abbrev pub is_there : (self count x : ℕ) → Bool
 is_there self count x = nat_lt x count && not (x == self)
 
@@ -47,7 +47,7 @@ addressee (Do c) partner = partner
 addressee (Came from f) partner = from
 
 module _ {S P E A B : Type 0} (m : Guest S P E A B) where
-  -- Begin looks at the target that it names first
+  -- what a command does at a host; Begin first checks the target that it names
   abbrev pub obey_at : (version self count : ℕ) → Command E → Mode S P → Outcome S P A B
   obey_at version self count (Begin to p) (Run n g) =
       if is_there self count to then begin m p (Run n g) else refuses BadHost (Run n g)
@@ -64,7 +64,8 @@ module _ {S P E A B : Type 0} (m : Guest S P E A B) where
   outcome version self count limit (Do c) h = obey_at version self count c h.mode
   outcome version self count limit (Came from f) h = came_at self count limit from (plain m f) h
 
-  -- an outcome as a result: its frame gets an address and is written for the stream, its reply settles the partner
+  -- the result of an outcome: its frame gets an address and is written for the stream, and its reply determines the
+  -- partner
   abbrev pub settled : (version self : ℕ) → HostEvent P E B → ℕ → Outcome S P A B
       → Result S P A B
   settled version self e partner o =
@@ -75,8 +76,8 @@ module _ {S P E A B : Type 0} (m : Guest S P E A B) where
         next = record { mode = o.next; partner = p };
       }
 
-  -- one event at a host that is called self in a world of count hosts, takes guests of at most
-  -- limit pages and writes frames of this stream version
+  -- one event at host self of a world of count hosts, which takes guests of at most limit pages and writes frames of
+  -- this stream version
   abbrev pub host_step : (version self count limit : ℕ) → HostEvent P E B → Host S P
       → Result S P A B
   host_step version self count limit e h =

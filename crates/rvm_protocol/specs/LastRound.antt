@@ -1,4 +1,4 @@
--- The last copies, made while the guest is paused at its source: those of the pages that are to be sent or to be fixed.
+-- The last copies, made while the guest is paused at its source: of the pages that are to be sent or to be fixed.
 use Rattle.std.specs.Prelude.{◌≡◌, ◌↔◌, ◌<◌, ◌||◌, ℕ, suc, true}
 use Rattle.std.specs.declared.option.Option.TheVariants.{None}
 use Rattle.rvm_protocol.specs.Commands.{HostEvent}
@@ -20,23 +20,25 @@ pub record IsLeft {S : Type 0} (at : ℕ → Last S) (times p : ℕ) : Type 0 wh
   pub left : left_in (at index) p ≡ true
 
 module _ {S P E A B : Type 0} (m : Guest S P E A B) (version self count limit partner n : ℕ) where
-  -- what an event does at the source of move n whose guest is paused and whose copies stand so
+  -- what an event does at the source of move n, with this state of its last copies, while its guest is paused
   abbrev pub paused_outcome : HostEvent P E B → Last S → Outcome S P A B
   paused_outcome e l = outcome m version self count limit e (record { mode = Stopped n l; partner = partner })
 
-  -- this many events of that source, each of which leaves the guest paused, and at each time its copies stand so
+  -- this many consecutive events of that source, each of which leaves the guest paused; at each time the state of its
+  -- last copies is this
   abbrev pub IsLastRound : (events : ℕ → HostEvent P E B) → (at : ℕ → Last S) → (times : ℕ) → Type 0
   IsLastRound events at times =
       (i : ℕ) → i < times → (paused_outcome (events i) (at i)).next ≡ Stopped n (at (suc i))
 
-  -- page p is copied by one of them
+  -- page p is copied by one of these events
   pub record IsCopiedLast (events : ℕ → HostEvent P E B) (at : ℕ → Last S) (times p : ℕ) : Type 0 where
     pub index : ℕ
     pub inside : index < times
     pub number : ℕ
     pub reply : (paused_outcome (events index) (at index)).reply ≡ Copied p number
 
-  -- where nothing is left in the end
+  -- if nothing is left to be copied in the end, exactly the pages that were to be sent or to be fixed at some time were
+  -- copied
   unfoldable pub LastRoundsCopyWhatIsLeft : Type 0
   LastRoundsCopyWhatIsLeft =
       (events : ℕ → HostEvent P E B) (at : ℕ → Last S) (times p : ℕ) → IsLastRound events at times

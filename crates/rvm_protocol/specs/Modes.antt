@@ -20,8 +20,8 @@ pub data Mode (S P : Type 0) : Type 0 where
   Copying : (move : ℕ) → (rounds : Rounds S) → Mode S P
   -- the guest is paused, and the last pages and its state are copied
   Stopped : (move : ℕ) → (last : Last S) → Mode S P
-  -- the guest was committed to the target; what it was is kept until it runs there, so that its memory is not
-  -- given back while it stands still
+  -- the guest was given to the target; its last state is kept until it runs there, so that its memory is not freed
+  -- while it is paused
   Given : (move : ℕ) → (kept : S) → Mode S P
   -- pages of a guest come
   Staging : (move : ℕ) → (stage : Stage P) → Mode S P
@@ -57,7 +57,7 @@ guest_in (Staging n s) = None
 guest_in (Held n g) = Some g
 
 module _ {S P A B : Type 0} where
-  -- a reply alone
+  -- a reply without a frame
   abbrev pub says : Reply A → Mode S P → Outcome S P A B
   says r mode = record { reply = r; made = None; next = mode }
 

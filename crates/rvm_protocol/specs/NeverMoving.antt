@@ -16,7 +16,7 @@ module _ {P E A B : Type 0} where
   accepted_here (Do (Board e)) (Answered a) = e ∷ []
   accepted_here e r = []
 
-  -- its answer, if it was answered
+  -- the answer to the guest's event, if this is one and was answered
   abbrev pub answered_here : HostEvent P E B → Reply A → List A
   answered_here (Do (Board e)) (Answered a) = a ∷ []
   answered_here e r = []
@@ -26,7 +26,7 @@ module _ {P E A B : Type 0} where
   accepted [] = []
   accepted (x ∷ xs) = accepted_here x.event x.reply ++ accepted xs
 
-  -- and their answers
+  -- the answers to the guest's events
   unfoldable pub answered : List (Entry P E A B) → List A
   answered [] = []
   answered (x ∷ xs) = answered_here x.event x.reply ++ answered xs
@@ -37,7 +37,7 @@ module _ {S P E A B : Type 0} (m : Guest S P E A B) where
   fold g [] = g
   fold g (e ∷ es) = fold (m.next g e) es
 
-  -- its answers to them
+  -- the guest's answers to a list of events
   unfoldable pub fold_answers : S → List E → List A
   fold_answers g [] = []
   fold_answers g (e ∷ es) = m.answer g e ∷ fold_answers (m.next g e) es

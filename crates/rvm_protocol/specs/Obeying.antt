@@ -35,7 +35,7 @@ module _ {S P E A B : Type 0} (m : Guest S P E A B) where
   abbrev pub begun : Policy → ℕ → S → Outcome S P A B
   begun p n g = sends (Begun (suc n)) (offer_frame (suc n) g) (Offering (suc n) g p)
 
-  -- move numbers travel with the guest and rise at each Begin
+  -- begins a move if a move number is left; move numbers travel with the guest and rise at each Begin
   abbrev pub begin_allowed : Policy → ℕ → S → Outcome S P A B
   begin_allowed p n g = if n == 2 ^ 64 - 1 then refuses EpochsSpent (Run n g) else begun p n g
 
@@ -56,7 +56,7 @@ module _ {S P E A B : Type 0} (m : Guest S P E A B) where
       sends (Copied p (suc r.copies)) (Page n p (suc r.copies) (page_of m r.guest p))
       (Copying n (page_copied m r p))
 
-  -- the round's next page, or where none is left the round's end, at which the stop rule is asked
+  -- copies the round's next page, or ends the round if none is left, by the stop rule
   abbrev pub copy_page : ℕ → Rounds S → Option ℕ → Outcome S P A B
   copy_page n r (Some p) =
       if nat_le (2 ^ 32 - 1) r.copies then refuses SeqSpent (Copying n r) else sends_page n r p
@@ -78,25 +78,25 @@ module _ {S P E A B : Type 0} (m : Guest S P E A B) where
   abbrev pub state_frame : ℕ → Last S → Frame P B
   state_frame n l = State n (newest_numbers m l) (m.body l.guest)
 
-  -- the piece of the state whose turn it is
+  -- the piece of the state that is sent next
   abbrev pub part_frame : ℕ → Last S → Frame P B
   part_frame n l =
       Part n l.copies l.turn (length (pieces_of m l)) (get_or (pieces_of m l) l.turn [])
 
-  -- the state whole, or in pieces, by the stream's version
+  -- sends the state whole or its next piece, by the stream's version
   abbrev pub sends_state : (version : ℕ) → (whole piece : Reply A) → ℕ → Last S → Outcome S P A B
   sends_state version whole piece n l =
       if is_compact version then sends piece (part_frame n l) (Stopped n (next_turn m l))
       else sends whole (state_frame n l) (Stopped n l)
 
-  -- the last pages, then the state
+  -- copies the last pages, then sends the state
   abbrev pub copy_last : (version : ℕ) → ℕ → Last S → Option ℕ → Outcome S P A B
   copy_last version n l (Some p) =
       if nat_le (2 ^ 32 - 1) l.copies then refuses SeqSpent (Stopped n l) else sends_last n l p
   copy_last version n l None =
       sends_state version StateSent (PartSent l.turn (length (pieces_of m l))) n l
 
-  -- copies in rounds; once the stop rule said yes, the guest is paused, and the last pages and the state go out
+  -- copies in rounds; once the stop rule has said yes, pauses the guest, and sends the last pages and the state
   abbrev pub copy : (version : ℕ) → Mode S P → Outcome S P A B
   copy version (Empty n) = refuses NotHere (Empty n)
   copy version (Run n g) = refuses NoMove (Run n g)
@@ -108,12 +108,12 @@ module _ {S P E A B : Type 0} (m : Guest S P E A B) where
   copy version (Staging n s) = refuses NotHere (Staging n s)
   copy version (Held n g) = refuses NotHere (Held n g)
 
-  -- the state is sent again where no page of the paused guest is left to be copied
+  -- sends the state again if no page of the paused guest is left to be copied
   abbrev pub resend_last : (version : ℕ) → ℕ → Last S → Option ℕ → Outcome S P A B
   resend_last version n l (Some p) = refuses NoMove (Stopped n l)
   resend_last version n l None = sends_state version Resent Resent n l
 
-  -- what the other party may not have heard is sent again: the offer, the state, Ready or Go
+  -- sends again what the other party may not have heard: the offer, the state, Ready or Go
   abbrev pub resend : (version : ℕ) → Mode S P → Outcome S P A B
   resend version (Empty n) = refuses NoMove (Empty n)
   resend version (Run n g) = refuses NoMove (Run n g)
@@ -124,7 +124,7 @@ module _ {S P E A B : Type 0} (m : Guest S P E A B) where
   resend version (Staging n s) = refuses NoMove (Staging n s)
   resend version (Held n g) = sends Resent (Ready n) (Held n g)
 
-  -- only a source that has not committed can give a move up
+  -- gives up the move: only a source that has not committed can
   abbrev pub abort : Mode S P → Outcome S P A B
   abort (Empty n) = refuses NotHere (Empty n)
   abort (Run n g) = refuses NoMove (Run n g)

@@ -11,8 +11,8 @@ use Rattle.rvm_protocol.specs.Shown.{Shown}
 use Rattle.rvm_protocol.specs.NeverMoving.{is_answer, accepted, answered, fold, fold_answers}
 
 module _ {S P E A B : Type 0} (m : Guest S P E A B) where
-  -- the law of one state of a run: what is known at its beginning is t, w is the world in that state,
-  -- past what was seen until then
+  -- the law of one state of a run: t is what is known at the beginning, w the world in that state, and past what was
+  -- seen until then
   pub record OneGuest (t : Told S) (w : World S P B) (past : List (Entry P E A B)) : Type 0 where
     -- the guest at the current host, which the replies alone name, is the one that never moves
     pub board : guest_in (mode_at m w (told m t past).current)
@@ -22,25 +22,25 @@ module _ {S P E A B : Type 0} (m : Guest S P E A B) where
     -- any further event of the guest gets its answer, or the refusal that the replies tell
     pub replies : (x : ℕ) (e : E)
         → reply_to m w (At x (Board e)) ≡ due m w.count (told m t past) x e
-    -- no two hosts would answer one
+    -- no two hosts would answer an event of the guest
     pub one_host : (x y : ℕ) (e f : E) → x ≢ y
         → (is_answer (reply_to m w (At x (Board e)))
         && is_answer (reply_to m w (At y (Board f)))) ≡ false
-    -- where the next event commits, the target of that move holds that guest
+    -- if the next event commits, the target of that move holds that guest
     pub hands_over : (ev : Event E) (n : ℕ) → reply_to m w ev ≡ Committed n
         → guest_in (mode_at m (step m w ev) ((told m t past).targets n))
         ≡ Some (fold m t.guest (accepted past))
     -- the modes show what the replies tell
     pub shown : Shown w.hosts (told m t past)
 
-  -- after any events from a new world
+  -- the law holds after any events from a new world
   unfoldable pub AlwaysOneGuest : Type 0
   AlwaysOneGuest =
       (g : S) (version origin count : ℕ) (limits : ℕ → ℕ) (events : List (Event E)) → m.valid g ≡ true
       → OneGuest (at_start origin g) (run m (new_world m version origin g count limits) events)
       (history m (new_world m version origin g count limits) events)
 
-  -- and from any world of a run, where what its modes show is known
+  -- the law holds after any events from any world of a run, if t is what that world's modes show
   unfoldable pub OneGuestFromAnyWorld : Type 0
   OneGuestFromAnyWorld =
       (g : S) (version origin count : ℕ) (limits : ℕ → ℕ) (before events : List (Event E)) (t : Told S)

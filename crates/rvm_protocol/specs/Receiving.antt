@@ -1,5 +1,5 @@
--- What each frame that comes does in each mode. Whatever is not named is ignored, and so is a frame
--- of another move than the mode's.
+-- What each frame that comes does in each mode. Frames that are not named here are ignored, and so
+-- is a frame of another move than the mode's.
 use Rattle.std.specs.Prelude.{ℕ, ◌&&◌, ◌||◌, ◌==◌, if◌then◌else◌, nat_lt, List, length}
 use Rattle.std.specs.declared.option.Option.{Option}
 use Rattle.std.specs.declared.option.Option.TheVariants.{Some, None}
@@ -12,7 +12,7 @@ use Rattle.rvm_protocol.specs.Staging.{Stage, new_stage, with_page, lacks, takes
 use Rattle.rvm_protocol.specs.Modes.{Mode, Empty, Run, Offering, Copying, Stopped, Given, Staging, Held, Outcome, says, sends, refuses, ignores}
 
 module _ {S P E A B : Type 0} (m : Guest S P E A B) where
-  -- the outcome o where the frame's move is the mode's
+  -- the outcome o if the frame's move is the mode's, else the frame is ignored
   abbrev pub of_this_move : ℕ → ℕ → Outcome S P A B → Mode S P → Outcome S P A B
   of_this_move n k o mode = if n == k then o else ignores mode
 
@@ -22,24 +22,25 @@ module _ {S P E A B : Type 0} (m : Guest S P E A B) where
       if nat_lt limit pages then sends (Declined limit) (Refuse n limit) mode
       else sends Accepted (Accept n) (Staging n (new_stage m.zeros pages processors))
 
-  -- an offer counts where its move is above all that this host has seen
+  -- an offer counts if its move is above all that this host has seen
   abbrev pub offer_above : (seen limit n pages processors : ℕ) → Mode S P → Outcome S P A B
   offer_above seen limit n pages processors mode =
       if nat_lt seen n then offered limit n pages processors mode else ignores mode
 
-  -- a copy is staged where it is newer than the one that is there
+  -- a copy is staged if it is newer than the one that is there
   abbrev pub page_came : ℕ → Stage P → ℕ → ℕ → P → Outcome S P A B
   page_came n s p k b =
       if nat_lt p (length s.pages) && nat_lt (s.have p) k
       then says (Stored p k) (Staging n (with_page s p k b))
       else ignores (Staging n s)
 
-  -- a state that is bad leaves the old stage
+  -- a state that no guest has is bad, and leaves the old stage
   abbrev pub guest_read : ℕ → (old : Stage P) → Option S → Outcome S P A B
   guest_read n old None = refuses BadState (Staging n old)
   guest_read n old (Some g) = sends ReadySent (Ready n) (Held n g)
 
-  -- the guest is made where every copy that the numbers name, or a newer one, is there
+  -- the guest is made if each copy that the numbers name, or a newer one, is there; else the target
+  -- reports the pages that it lacks
   abbrev pub state_compared : ℕ → (old s : Stage P) → List ℕ → B → Outcome S P A B
   state_compared n old s numbers body =
       let missing = lacks s numbers in
@@ -48,7 +49,7 @@ module _ {S P E A B : Type 0} (m : Guest S P E A B) where
       then sends (Lacking count) (Lost n (members missing 0 (length s.pages))) (Staging n s)
       else guest_read n old (m.build s.processors body s.pages)
 
-  -- a state that does not number each page of the stage is bad
+  -- a state that does not have a number for each page of the stage is bad
   abbrev pub state_came : ℕ → (old s : Stage P) → List ℕ → B → Outcome S P A B
   state_came n old s numbers body =
       if length numbers == length s.pages then state_compared n old s numbers body
@@ -59,13 +60,13 @@ module _ {S P E A B : Type 0} (m : Guest S P E A B) where
   pieces_joined n old s None = refuses BadState (Staging n old)
   pieces_joined n old s (Some state) = state_came n old s state.0 state.1
 
-  -- with all pieces there, each one is answered as the state that they join to
+  -- once all pieces are there, the reply to each piece is the one to the state that they join to
   abbrev pub part_kept : ℕ → (old s : Stage P) → (part parts : ℕ) → Option (List (List ℕ))
       → Outcome S P A B
   part_kept n old s part parts None = says (Kept part parts) (Staging n s)
   part_kept n old s part parts (Some pieces) = pieces_joined n old s (m.join pieces)
 
-  -- a piece is put to the others where the stage takes it
+  -- a piece is kept with the others if the stage takes it
   abbrev pub part_came : ℕ → Stage P → (stamp part parts : ℕ) → List ℕ → Outcome S P A B
   part_came n s stamp part parts bytes =
       if takes_part s stamp part parts
@@ -75,7 +76,7 @@ module _ {S P E A B : Type 0} (m : Guest S P E A B) where
       )
       else ignores (Staging n s)
 
-  -- pages that were lost are copied again
+  -- pages that were reported lost are to be copied again
   abbrev pub lost_came : ℕ → Last S → List ℕ → Outcome S P A B
   lost_came n l ps =
       says (Fixing (size (is_in ps) (page_count m l.guest)))

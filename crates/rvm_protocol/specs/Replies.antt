@@ -1,4 +1,4 @@
--- What a host answers to an event.
+-- The replies of a host to its events.
 use Rattle.std.specs.Prelude.{ℕ}
 
 -- why an event was refused

@@ -22,7 +22,7 @@ pub record Rounds (S : Type 0) : Type 0 where
   pub scan : ℕ
   -- the number of each page's newest copy, 0 for none
   pub newest : ℕ → ℕ
-  -- copies made in this move, and in this round
+  -- the copies made in this move, the number of the round, and the copies made in it
   pub copies : ℕ
   pub round : ℕ
   pub sent : ℕ
@@ -40,14 +40,14 @@ pub record Last (S : Type 0) : Type 0 where
   -- the piece of the state that is sent next; the first again after each copy
   pub turn : ℕ
 
--- the scan skips page p where the dirty log had it at the peek. Peeks are made for 64 pages at a
--- time, by the copy that first looks at one of them
+-- the scan skips page p if the dirty log had it at the peek. The copy that first looks at one of a block of 64 pages
+-- peeks for the whole block
 abbrev pub is_skipped : {S : Type 0} → Rounds S → Pages
 is_skipped r p =
     if not (r.scan % 64 == 0) && (p / 64 == r.scan / 64) then r.to_skip p else r.log p
 
 module _ {S P E A B : Type 0} (m : Guest S P E A B) where
-  -- how many pages a guest has
+  -- the number of a guest's pages
   abbrev pub page_count : S → ℕ
   page_count g = length (m.pages g)
 
@@ -84,7 +84,7 @@ module _ {S P E A B : Type 0} (m : Guest S P E A B) where
       || nat_lt (size r.log (page_count r.guest)) r.policy.min_left
       || nat_lt (r.policy.factor * page_count r.guest) r.copies
 
-  -- page p is sent: its copy gets the next number, and the scan goes on after it
+  -- page p is sent: its copy gets the next number, and the scan goes on after the page
   abbrev pub page_copied : Rounds S → ℕ → Rounds S
   page_copied r p =
       record r {
@@ -95,7 +95,7 @@ module _ {S P E A B : Type 0} (m : Guest S P E A B) where
         sent = suc r.sent;
       }
 
-  -- the dirty log is the next round's pages, and a new one begins
+  -- the next round begins: its pages are those of the dirty log
   abbrev pub next_round : Rounds S → Rounds S
   next_round r =
       record r {
@@ -111,7 +111,7 @@ module _ {S P E A B : Type 0} (m : Guest S P E A B) where
   abbrev pub round_over : Rounds S → Rounds S
   round_over r = record r { to_skip = none; scan = page_count r.guest; stop = true }
 
-  -- the guest is paused: the dirty log is the last round's pages
+  -- the guest is paused: the pages of the dirty log are the last round's
   abbrev pub stopped : Rounds S → Last S
   stopped r =
       record {

@@ -1,5 +1,5 @@
--- The target of a move: pages are staged as their copies come, each replaced by newer ones
--- alone, until a state names copies that are all there.
+-- The target of a move: pages are staged as their copies come, each replaced only by newer copies,
+-- until a state names copies that are all there.
 use Rattle.std.specs.Prelude.{ℕ, Bool, ◌&&◌, ◌||◌, ◌==◌, if◌then◌else◌, nat_lt, List, get_or, set, replicate}
 use Rattle.std.specs.declared.option.Option.{Option}
 use Rattle.std.specs.declared.option.Option.TheVariants.{Some, None}
@@ -16,7 +16,7 @@ pub record Stage (P : Type 0) : Type 0 where
   pub parts : ℕ
   pub pieces : ℕ → Option (List ℕ)
 
--- pages of zeros, no copy, no piece
+-- an empty stage: pages of zeros, no copy and no piece
 abbrev pub new_stage : {P : Type 0} → P → (pages processors : ℕ) → Stage P
 new_stage zeros pages processors =
     record {
@@ -28,7 +28,7 @@ new_stage zeros pages processors =
       pieces = λ i. None;
     }
 
--- with a copy of page p
+-- the stage with a copy of page p
 abbrev pub with_page : {P : Type 0} → Stage P → (p number : ℕ) → P → Stage P
 with_page s p number b =
     record s { pages = set s.pages p b; have = put s.have p number }
@@ -37,13 +37,13 @@ with_page s p number b =
 abbrev pub lacks : {P : Type 0} → Stage P → List ℕ → Pages
 lacks s numbers p = nat_lt (s.have p) (get_or numbers p 0)
 
--- a piece counts where it is one of its parts, and its stamp is above all seen in this move, or the
--- highest with its count of parts
+-- the stage takes a piece if it is one of its parts, and its stamp is above all that were seen in
+-- this move, or is the highest and has the same count of parts
 abbrev pub takes_part : {P : Type 0} → Stage P → (stamp part parts : ℕ) → Bool
 takes_part s stamp part parts =
     nat_lt part parts && (nat_lt s.stamp stamp || (stamp == s.stamp && parts == s.parts))
 
--- with a piece; a higher stamp drops the pieces kept
+-- the stage with a piece; a higher stamp drops the pieces kept
 abbrev pub with_part : {P : Type 0} → Stage P → (stamp part parts : ℕ) → List ℕ → Stage P
 with_part s stamp part parts bytes =
     record s {

@@ -17,24 +17,24 @@ pub record Told (S : Type 0) : Type 0 where
   -- the guest that answered, had it never moved
   pub guest : S
 
--- Committed makes the target of its move current
+-- the current host after a reply: Committed makes it the target of its move
 abbrev pub reply_current : {A : Type 0} → Reply A → (ℕ → ℕ) → ℕ → ℕ
 reply_current (Committed n) targets x = targets n
 reply_current r targets x = x
 
--- Begun gives its move the target that Begin named
+-- the targets of moves after a reply: Begun adds the target that Begin named
 abbrev pub reply_targets : {P E A B : Type 0} → HostEvent P E B → Reply A → (ℕ → ℕ) → ℕ → ℕ
 reply_targets (Do (Begin to p)) (Begun n) targets = put targets n to
 reply_targets e r targets = targets
 
--- paused where the last of Stopping, Aborted and Started was a Stopping
+-- the guest is paused if the last reply among Stopping, Aborted and StartedHere was Stopping
 abbrev pub reply_paused : {A : Type 0} → Reply A → Bool → Bool
 reply_paused Stopping b = true
 reply_paused Aborted b = false
 reply_paused StartedHere b = false
 reply_paused r b = b
 
--- a host waits where its last of ReadySent, Accepted, Dropped and Started was a ReadySent
+-- a host waits if its last reply among ReadySent, Accepted, Dropped and StartedHere was ReadySent
 abbrev pub reply_waits : {A : Type 0} → Reply A → Bool → Bool
 reply_waits ReadySent b = true
 reply_waits Accepted b = false
@@ -54,7 +54,7 @@ at_start origin g =
     }
 
 module _ {S P E A B : Type 0} (m : Guest S P E A B) where
-  -- an event of the guest that was answered moves it on
+  -- the guest after a reply: an event that was answered moves it on
   abbrev pub reply_guest : HostEvent P E B → Reply A → S → S
   reply_guest (Do (Board e)) (Answered a) g = m.next g e
   reply_guest e r g = g
@@ -75,7 +75,7 @@ module _ {S P E A B : Type 0} (m : Guest S P E A B) where
   told t [] = t
   told t (e ∷ es) = told (told_reply e.host e.event e.reply t) es
 
-  -- the reply that an event of the guest has to get at host x of count hosts
+  -- the reply that an event of the guest must get at host x of count hosts
   abbrev pub due : ℕ → Told S → ℕ → E → Reply A
   due count t x e =
       if nat_lt x count then (

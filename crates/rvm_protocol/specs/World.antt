@@ -56,7 +56,7 @@ module _ {S P E A B : Type 0} (m : Guest S P E A B) where
   abbrev pub result_at : World S P B → ℕ → HostEvent P E B → Result S P A B
   result_at w x e = host_step m w.version x w.count (w.limits x) e (w.hosts x)
 
-  -- after an event at host x; each other host stays as it was
+  -- the world after an event at host x; no other host changes
   abbrev pub world_at : World S P B → ℕ → HostEvent P E B → World S P B
   world_at w x e =
       let o = result_at w x e in
@@ -67,23 +67,23 @@ module _ {S P E A B : Type 0} (m : Guest S P E A B) where
   frame_for None = None
   frame_for (Some f) = Some (f.to, Came f.from f.frame)
 
-  -- the host and what happens there: none where there is no such frame or no such host
+  -- the host of an event and what happens there: none if there is no such frame or no such host
   abbrev pub meaning : World S P B → Event E → Option (ℕ × HostEvent P E B)
   meaning w (At x c) = if nat_lt x w.count then Some (x, Do c) else None
   meaning w (Deliver k) = frame_for (slice_get w.sent k)
 
-  -- the world after what happened at a host, unchanged where nothing did
+  -- the world after what happened at a host, unchanged if nothing did
   abbrev pub happened : World S P B → Option (ℕ × HostEvent P E B) → World S P B
   happened w None = w
   happened w (Some e) = world_at w e.0 e.1
 
-  -- what is seen of what happened at a host, nothing where nothing did
+  -- what is seen of what happened at a host, nothing if nothing did
   abbrev pub entry_of : World S P B → Option (ℕ × HostEvent P E B) → List (Entry P E A B)
   entry_of w None = []
   entry_of w (Some e) =
       record { host = e.0; event = e.1; reply = (result_at w e.0 e.1).reply } ∷ []
 
-  -- the reply to what happened at a host, or r where nothing did
+  -- the reply to what happened at a host, or r if nothing did
   abbrev pub reply_or : World S P B → Reply A → Option (ℕ × HostEvent P E B) → Reply A
   reply_or w r None = r
   reply_or w r (Some e) = (result_at w e.0 e.1).reply
@@ -102,17 +102,17 @@ module _ {S P E A B : Type 0} (m : Guest S P E A B) where
   run w [] = w
   run w (e ∷ es) = run (step w e) es
 
-  -- what was seen of them; an event of a frame or host that is not there is left out
+  -- what was seen of a list of events; an event of a frame or host that is not there is left out
   unfoldable pub history : World S P B → List (Event E) → List (Entry P E A B)
   history w [] = []
   history w (e ∷ es) = entry_of w (meaning w e) ++ history (step w e) es
 
-  -- the replies to them, all of them
+  -- the replies to a list of events, all of them
   unfoldable pub replies : World S P B → List (Event E) → List (Reply A)
   replies w [] = []
   replies w (e ∷ es) = reply_to w e ∷ replies (step w e) es
 
-  -- the guest starts at the origin
+  -- a host at the start: the guest runs at the origin, and no other host has one
   abbrev pub new_host : (origin : ℕ) → S → ℕ → Host S P
   new_host origin g x = record { mode = if x == origin then Run 0 g else Empty 0; partner = x }
 

@@ -9,7 +9,7 @@ two_harts = held 0 0x8000_0100 (None ∷ None ∷ [])
 ends : stored 1 0x8000_0102 two_harts ≡ None ∷ None ∷ []
 ends = refl
 
--- the hart's own keeps it
+-- the hart's own store keeps it
 keeps : stored 0 0x8000_0102 two_harts ≡ two_harts
 keeps = refl
 
@@ -17,7 +17,7 @@ keeps = refl
 succeeds : holds 0 0x8000_0100 two_harts ≡ true
 succeeds = refl
 
--- but not at another word
+-- it does not succeed at another word
 fails : holds 0 0x8000_0104 two_harts ≡ false
 fails = refl
 

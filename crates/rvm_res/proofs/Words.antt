@@ -21,7 +21,7 @@ pub count-set : (words : List (Option ℕ)) (i : ℕ) (held : Option ℕ) → i 
     count_by is_some (set words i held) + one (get_or words i None) ≡ count_by is_some words + one held
 count-set words i held within = sum_by-set one words i held None within
 
--- no word is reserved where none is counted
+-- if no word is counted, none is reserved
 pub none-counted : (words : List (Option ℕ)) → count_by is_some words ≡ 0 → list_any is_some words ≡ false
 none-counted [] none = refl
 none-counted (None ∷ words) none = none-counted words (omega (arith, none, sum_by-cons one None words))
@@ -35,7 +35,7 @@ or_second : (a b : Bool) → (a || b) ≡ false → b ≡ false
 or_second true b none = absurd cc
 or_second false b none = none
 
--- where no word is reserved, none ends
+-- if no word is reserved, no reservation ends
 pub map-without-none : (word : ℕ) (words : List (Option ℕ)) → list_any is_some words ≡ false →
     map (without word) words ≡ words
 map-without-none word [] none = refl
@@ -60,7 +60,7 @@ set-none words hart none = ap (set words hart) (sym none) ∙ set-get_or words h
 pub ruleset words =
     (take-set, set-none, count-set, map-without-none, none-counted, count-replicate, take-none, length-take, take-map, count_by-le-length)
 
--- a store where no word is reserved
+-- a store while no word is reserved
 pub stored-none : (hart address : ℕ) (words : List (Option ℕ)) → list_any is_some words ≡ false →
     stored hart address words ≡ words
 stored-none hart address words none =

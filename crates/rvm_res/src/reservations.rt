@@ -1,4 +1,4 @@
-//! One word or none for each hart.
+//! The word that each hart has reserved, if any.
 
 ghost use Rattle.std.specs.Prelude.{◌≡◌, ◌%◌, ◌<◌, ◌≤◌, None, length, replicate, map, is_some, count_by, get_or, slice_set};
 ghost use Rattle.std.specs.List.{list_any};
@@ -14,7 +14,8 @@ pub const MAX_HARTS: usize = 8;
 pub struct Reservations {
     words: [Option<u32>; MAX_HARTS],
     harts: usize,
-    /// How many harts have reserved a word, so that a store need not look at each.
+    /// The number of harts that have reserved a word, so that most stores need not look at each
+    /// hart.
     reserved: usize,
 }
 
@@ -29,7 +30,7 @@ impl Model for Reservations {
 }
 
 impl Reservations {
-    /// No hart of this many has reserved a word.
+    /// Reservations for this many harts, at most 8, none of which has reserved a word.
     #[tactic(auto, using(crate::proofs::Words::words))]
     pub fn new(harts: usize) -> Reservations
         requires { harts ≤ 8 }
@@ -42,7 +43,7 @@ impl Reservations {
         }
     }
 
-    /// Each reservation ends.
+    /// Ends each reservation.
     #[tactic(auto, using(crate::proofs::Words::words))]
     pub fn clear(&mut self)
         ensures { self.new ≡ replicate (length self.old) None }
@@ -51,7 +52,7 @@ impl Reservations {
         self.reserved = 0;
     }
 
-    /// The word that hart `hart` has reserved, if any.
+    /// The address of the word that hart `hart` has reserved, if any.
     #[inline]
     #[tactic(auto, using(crate::proofs::Words::words))]
     pub fn reserved(&self, hart: usize) -> Option<u32>
@@ -62,7 +63,7 @@ impl Reservations {
         held[hart]
     }
 
-    /// Gives hart `hart` this reservation, or none, in place of the one before.
+    /// Sets the reservation of hart `hart`, in place of its old one.
     #[tactic(auto, using(crate::proofs::Words::words))]
     pub fn restore(&mut self, hart: usize, reserved: Option<u32>)
         requires { hart < length self.old }
@@ -73,7 +74,7 @@ impl Reservations {
         self.reserved = count(&self.words[..self.harts]);
     }
 
-    /// Hart `hart` reserves the aligned word at an address, in place of the one before.
+    /// Reserves the word at an aligned address for hart `hart`, in place of its old one.
     #[inline]
     #[tactic(auto, using(crate::proofs::Words::words))]
     pub fn hold(&mut self, hart: usize, address: u32)
@@ -87,7 +88,7 @@ impl Reservations {
         self.words[hart] = Some(address);
     }
 
-    /// Hart `hart` stored into the word that holds the byte at an address: each other hart's
+    /// Notes a store of hart `hart` to the word that has the byte at an address: each other hart's
     /// reservation of that word ends.
     #[inline(always)]
     pub fn stored(&mut self, hart: usize, address: u32)
@@ -99,7 +100,7 @@ impl Reservations {
         }
     }
 
-    /// A debugger wrote the byte at an address: each reservation of its word ends.
+    /// Notes a debugger's write of the byte at an address: each reservation of its word ends.
     #[inline(always)]
     pub fn poked(&mut self, address: u32)
         ensures { self.new ≡ poked address self.old }
@@ -109,7 +110,7 @@ impl Reservations {
         }
     }
 
-    /// Ends the reservation of hart `hart`, and answers whether it was of the word at an address.
+    /// Ends the reservation of hart `hart`. Returns whether it was for the word at an address.
     #[inline]
     #[tactic(auto, using(crate::proofs::Words::words))]
     pub fn take(&mut self, hart: usize, address: u32) -> bool
@@ -127,7 +128,7 @@ impl Reservations {
         own == Some(address)
     }
 
-    /// What a debugger's write does where a reservation is held.
+    /// Ends each reservation of the word that has the byte at an address.
     #[cold]
     #[inline(never)]
     #[tactic(auto, using(crate::proofs::Words::words))]
@@ -138,7 +139,8 @@ impl Reservations {
         self.reserved = count(&self.words[..self.harts]);
     }
 
-    /// What a store does where a reservation is held.
+    /// Ends the reservations that harts other than `hart` have of the word with the byte at an
+    /// address.
     #[cold]
     #[inline(never)]
     fn end_others(&mut self, hart: usize, address: u32)
@@ -157,14 +159,14 @@ impl Reservations {
     }
 }
 
-/// Whether any of these reservations is of a word.
+/// Whether any of these reservations is for a word.
 fn is_reserved(words: &[Option<u32>], word: u32) -> bool
     ensures { result ≡ list_any (is_of word) words.now }
 {
     words.iter().any(|held| *held == Some(word))
 }
 
-/// The aligned word that holds the byte at an address.
+/// The address of the aligned word that has the byte at an address.
 fn word_of(address: u32) -> u32
     ensures { result ≡ word_of address }
 {
@@ -180,14 +182,14 @@ fn end_word(words: &mut [Option<u32>], word: u32)
     }
 }
 
-/// What is left of a reservation when a word was written.
+/// A reservation after a word was written: none if it was for this word.
 fn rest_of(held: Option<u32>, word: u32) -> Option<u32>
     ensures { result ≡ without word held }
 {
     held.filter(|held| *held != word)
 }
 
-/// How many words are reserved.
+/// The number of words that are reserved.
 fn count(words: &[Option<u32>]) -> usize
     ensures { result ≡ count_by is_some words.now }
 {

@@ -3,7 +3,8 @@
 use Rattle.std.specs.Prelude.{ℕ, ℤ, pos, negsuc, neg_ℤ, ◌-◌, ◌/◌, ◌%◌, ◌^◌, ◌≤ℤ◌, ◌<ℤ◌}
 use Rattle.std.specs.Prelude.{int_div, int_rem, if◌then◌else◌, ◌==◌, nat_lt}
 
--- the value of a two's complement number of this many bits: from half of 2 ^ bits on it is negative
+-- the value of a two's complement number of this many bits: numbers from half of 2 ^ bits on are
+-- negative
 unfoldable pub signed_value : (bits n : ℕ) → ℤ
 signed_value bits n = if nat_lt n (2 ^ (bits - 1)) then pos n else neg_ℤ (pos (2 ^ bits - n))
 
@@ -24,24 +25,24 @@ modulo bits (negsuc n) = 2 ^ bits - 1 - n % 2 ^ bits
 abbrev pub high : ℤ → ℕ
 high z = modulo 64 z / 2 ^ 32
 
--- the greatest whole number that is not above z / 2 ^ amount
+-- the greatest whole number that is at most z / 2 ^ amount
 abbrev pub floor_shift : ℤ → (amount : ℕ) → ℤ
 floor_shift (pos n) amount = pos (n / 2 ^ amount)
 floor_shift (negsuc n) amount = negsuc (n / 2 ^ amount)
 
--- the signed quotient of two words, rounded towards zero; by zero all bits are ones
+-- the signed quotient of two words, rounded towards zero; all ones if the divisor is 0
 -- (Unprivileged ISA, "M" Standard Extension, "Division Operations")
 abbrev pub quotient : ℕ → ℕ → ℕ
 quotient a b = if b == 0 then 2 ^ 32 - 1 else modulo 32 (int_div (signed a) (signed b))
 
--- the remainder of that quotient, with the sign of the dividend; by zero it is the dividend
+-- the remainder of that quotient, with the sign of the dividend; the dividend if the divisor is 0
 abbrev pub remainder : ℕ → ℕ → ℕ
 remainder a b = if b == 0 then a else modulo 32 (int_rem (signed a) (signed b))
 
--- the unsigned quotient of two words; by zero all bits are ones
+-- the unsigned quotient of two words; all ones if the divisor is 0
 abbrev pub unsigned_quotient : ℕ → ℕ → ℕ
 unsigned_quotient a b = if b == 0 then 2 ^ 32 - 1 else a / b
 
--- the remainder of that unsigned quotient; by zero it is the dividend
+-- the remainder of that unsigned quotient; the dividend if the divisor is 0
 abbrev pub unsigned_remainder : ℕ → ℕ → ℕ
 unsigned_remainder a b = if b == 0 then a else a % b

@@ -1,6 +1,6 @@
-//! Arithmetic of 32-bit words, as RV32IM has it: each function is one whole-number formula,
-//! reduced modulo 2^32; and the bits of words and the halves of longer numbers. It stands on
-//! nothing, and knows neither instructions nor registers.
+//! Arithmetic of 32-bit words, as in RV32IM: each function is one formula over whole numbers,
+//! reduced modulo 2^32; and the bits of words and the halves of longer numbers. Stands on nothing,
+//! and must not know instructions or registers.
 #![tactic(auto)]
 
 ghost use Rattle.std.specs.Prelude.{◌≡◌, ◌<◌, ◌≤◌, ◌^◌, ◌*◌, ◌/◌, ◌%◌, ◌*ℤ◌, ◌+ℤ◌, pos, int_lt};
@@ -11,7 +11,7 @@ mod bits;
 
 pub use bits::{bit, high_half, is_set, low_half, with_high, with_low};
 
-/// The word of the signed value of the lowest `bits` bits of `value`: they are sign-extended.
+/// The lowest `bits` bits of `value`, 1 to 32 of them, sign-extended to a word.
 #[inline(always)]
 pub fn sext(value: u32, bits: u32) -> u32
     requires some { 0 < bits }
@@ -22,7 +22,7 @@ pub fn sext(value: u32, bits: u32) -> u32
     ((value << unused).cast_signed() >> unused).cast_unsigned()
 }
 
-/// The sum of a word and a signed number, as addresses and offsets are added.
+/// The sum of a word and a signed number, modulo 2^32, as for an address and an offset.
 #[inline(always)]
 pub fn add_signed(a: u32, b: i32) -> u32
     ensures { result ≡ modulo 32 (pos a +ℤ b) }
@@ -30,7 +30,7 @@ pub fn add_signed(a: u32, b: i32) -> u32
     a.wrapping_add(b.cast_unsigned())
 }
 
-/// Whether the signed value of `a` is below that of `b` (Unprivileged ISA, "Integer Computational
+/// Whether `a` is less than `b` as signed words (Unprivileged ISA, "Integer Computational
 /// Instructions": SLT).
 #[inline(always)]
 #[tactic(auto, using(crate::proofs::Casts::casts))]
@@ -40,7 +40,7 @@ pub fn less_signed(a: u32, b: u32) -> bool
     a.cast_signed() < b.cast_signed()
 }
 
-/// `value` shifted right by `amount` bits, which copies of the sign fill (SRA).
+/// `value` shifted right by `amount` bits, filled with copies of its sign (SRA).
 #[inline(always)]
 #[tactic(auto, using(crate::proofs::Casts::casts))]
 pub fn sra(value: u32, amount: u32) -> u32
@@ -78,7 +78,7 @@ pub fn mulhu(a: u32, b: u32) -> u32
     (u64::from(a) * u64::from(b) >> 32) as u32
 }
 
-/// The signed quotient, rounded towards zero; by zero it is all ones (DIV).
+/// The signed quotient, rounded towards zero; all ones if `b` is 0 (DIV).
 #[inline(always)]
 #[tactic(auto, using(crate::proofs::Casts::casts))]
 pub fn div(a: u32, b: u32) -> u32
@@ -92,7 +92,7 @@ pub fn div(a: u32, b: u32) -> u32
         .cast_unsigned()
 }
 
-/// The unsigned quotient; by zero it is all ones (DIVU).
+/// The unsigned quotient; all ones if `b` is 0 (DIVU).
 #[inline(always)]
 pub fn divu(a: u32, b: u32) -> u32
     ensures { result ≡ unsigned_quotient a b }
@@ -100,7 +100,7 @@ pub fn divu(a: u32, b: u32) -> u32
     if b == 0 { u32::MAX } else { a / b }
 }
 
-/// The signed remainder, with the sign of the dividend; by zero it is the dividend (REM).
+/// The signed remainder, with the sign of the dividend; the dividend if `b` is 0 (REM).
 #[inline(always)]
 #[tactic(auto, using(crate::proofs::Casts::casts))]
 pub fn rem(a: u32, b: u32) -> u32
@@ -114,7 +114,7 @@ pub fn rem(a: u32, b: u32) -> u32
         .cast_unsigned()
 }
 
-/// The unsigned remainder; by zero it is the dividend (REMU).
+/// The unsigned remainder; the dividend if `b` is 0 (REMU).
 #[inline(always)]
 pub fn remu(a: u32, b: u32) -> u32
     ensures { result ≡ unsigned_remainder a b }

@@ -2,7 +2,7 @@ use Rattle.std.proofs.Common.{◌≡◌, ◌<◌, ◌∙◌, ◌++◌, ◌∷◌
 use Rattle.std.proofs.lemmas.List.{replicate_more, length-replicate}
 use Rattle.rvm_board.proofs.debugged.none_of.Goals as goal
 
--- src/debugged.rt:297:9
+-- there is room for one more flag
 pub push-requires : goal.push-requires
 push-requires c =
     let size : length c.loop.stopped.items ≡ c.loop.counter =
@@ -10,7 +10,7 @@ push-requires c =
     let room : length c.loop.stopped.items < 8 = omega (arith, size, c.loop-test.true, c.requires) in
     (omega arith, room)
 
--- src/debugged.rt:296:5
+-- one more hart stands at no breakpoint
 pub loop-preserved : goal.loop-preserved
 loop-preserved c =
     c.push.ensures.items ∙ ap (λ xs. xs ++ false ∷ []) c.loop.invariant ∙ replicate_more c.loop.counter false

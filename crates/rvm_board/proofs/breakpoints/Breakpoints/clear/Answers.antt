@@ -5,7 +5,7 @@ use Rattle.rvm_board.specs.Marks.{marks_of}
 use Rattle.rvm_board.proofs.Rising.{removed, rising_without, not_there, place_below}
 use Rattle.rvm_board.proofs.breakpoints.Breakpoints.clear.Goals as goal
 
--- src/breakpoints.rt:76:13
+-- the address is in the list, after the addresses below it
 pub remove-requires : goal.remove-requires
 remove-requires c =
     let a = c.args.address in
@@ -16,7 +16,7 @@ remove-requires c =
     c.count_below-index.ensures ∙ ap (count_by (λ b. nat_lt b a)) c.deref.ensures.0 in
     (omega arith, rw at (place_below a old c.self.invariant.1 there))
 
--- the address is taken away
+-- the address is removed
 pub invariant_of-self : goal.invariant_of-self
 invariant_of-self c =
     let a = c.args.address in

@@ -4,7 +4,7 @@ use Rattle.rvm_board.specs.Board.{hart_at}
 use Rattle.rvm_board.specs.Guest.{GuestState}
 use Rattle.rvm_board.proofs.debugged.Debugged.registers_of.Goals as goal
 
--- src/debugged.rt:219:5
+-- x0 to x31, then pc
 pub returns : goal.returns
 returns g c =
     let h = c.args.hart in
