@@ -4,7 +4,7 @@ ghost use Rattle.std.specs.Prelude.{◌≡◌, ◌≤◌, false};
 ghost use Rattle.std.specs.Option.{ForSome};
 ghost use Rattle.std.specs.Str.{bytes_eq};
 
-/// What the command line asks for.
+/// The command that a command line asks for, with its arguments.
 #[derive(Debug, Drop)]
 pub enum Arguments<'a> {
     Run(RunArguments<'a>),
@@ -23,11 +23,11 @@ pub enum Arguments<'a> {
 pub struct GuestArguments<'a> {
     /// The file of the image.
     pub image: &'a str,
-    /// Whether it is plain bytes, which are placed at 0x80000000, and not an ELF file.
+    /// Whether the image is plain bytes, which are placed at 0x80000000, and not an ELF file.
     pub raw: bool,
-    /// 1 to 8 harts.
+    /// The number of harts, 1 to 8.
     pub harts: u32,
-    /// 1 to 4096 pages of 4096 bytes.
+    /// The number of pages of RAM, each of 4096 bytes, 1 to 4096.
     pub pages: u32,
     ghost harts_allowed: { (1 ≤ harts) × (harts ≤ 8) },
     ghost pages_allowed: { (1 ≤ pages) × (pages ≤ 4096) },
@@ -36,12 +36,12 @@ pub struct GuestArguments<'a> {
 /// What the status of `rvmove run` tells of a run that ended.
 #[derive(Clone, Copy, Debug, PartialEq, Eq)]
 pub enum StatusOf {
-    /// That the command was done: 0, however the run ended.
+    /// The status tells that the command was done: 0, however the run ended.
     Command,
-    /// How the run ended: 0 if the guest halted with 0, 3 if it halted with another status, 4 if all steps were
+    /// The status is the verdict: 0 if the guest halted with 0, 3 if it halted with another status, 4 if all steps were
     /// spent.
     Verdict,
-    /// The status with which the guest halted, 0 to 255, or 4 if all steps were spent.
+    /// The status is the one with which the guest halted, 0 to 255, or 4 if all steps were spent.
     Guest,
 }
 
@@ -51,9 +51,9 @@ pub struct RunArguments<'a> {
     pub guest: GuestArguments<'a>,
     /// The file whose bytes come to the console, if any.
     pub input: Option<&'a str>,
-    /// 1 to 1000000000 turns.
+    /// The most turns that the run makes, 1 to 1000000000.
     pub steps: u32,
-    /// What the status tells.
+    /// What the status of the program tells.
     pub status: StatusOf,
     ghost steps_allowed: { (1 ≤ steps) × (steps ≤ 1000000000) },
 }
@@ -63,7 +63,7 @@ pub struct RunArguments<'a> {
 pub struct AsmArguments<'a> {
     /// The file of the text.
     pub source: &'a str,
-    /// The file that is written, which is not that of the text.
+    /// The ELF file that is written. Its name is another than that of the text.
     pub output: &'a str,
     ghost different: { bytes_eq source.now output.now ≡ false },
 }
@@ -73,7 +73,7 @@ pub struct AsmArguments<'a> {
 pub struct DisArguments<'a> {
     /// The file of the image.
     pub image: &'a str,
-    /// Whether it is plain bytes, which stand at 0x80000000, and not an ELF file.
+    /// Whether the image is plain bytes, which stand at 0x80000000, and not an ELF file.
     pub raw: bool,
 }
 
@@ -83,9 +83,9 @@ pub struct ScriptArguments<'a> {
     pub guest: GuestArguments<'a>,
     /// The file of the script.
     pub script: &'a str,
-    /// 2 to 8 hosts.
+    /// The number of hosts, 2 to 8.
     pub hosts: u32,
-    /// The version of their streams, 1 to 3, if one is given.
+    /// The version of the streams between the hosts, 1 to 3, if one is given.
     pub stream: Option<u32>,
     ghost hosts_allowed: { (2 ≤ hosts) × (hosts ≤ 8) },
     ghost stream_allowed: { ForSome stream (λ version. (1 ≤ version) × (version ≤ 3)) },
@@ -95,13 +95,13 @@ pub struct ScriptArguments<'a> {
 #[derive(Debug, Drop)]
 pub struct MoveArguments<'a> {
     pub guest: GuestArguments<'a>,
-    /// 1 to 100000 turns.
+    /// The most turns that the guest makes, 1 to 100000.
     pub steps: u32,
-    /// The guest is paused after this many rounds of copies, 1 to 1000.
+    /// The number of rounds of copies after which the guest is paused, 1 to 1000.
     pub rounds: u32,
-    /// It is paused once fewer pages are left, 1 to 4096.
+    /// The guest is paused once fewer pages than this are left, 1 to 4096.
     pub left: u32,
-    /// It is paused once more copies are made than this many times its pages, 1 to 100.
+    /// The guest is paused once more copies are made than this many times its pages, 1 to 100.
     pub factor: u32,
     /// The version of the streams, 1 to 3.
     pub stream: u32,
@@ -123,17 +123,17 @@ pub struct HostArguments<'a> {
     pub peers: &'a str,
     /// The guest that begins at this host, if one does.
     pub guest: Option<GuestArguments<'a>>,
-    /// The address at which other hosts reach it, if it is not the one that the file has for its name.
+    /// The address at which the host listens for other hosts, if it is not the one that the file has for its name.
     pub listen: Option<&'a str>,
-    /// Where operators reach it: the path of a Unix socket, which has a `/`, or an address.
+    /// Where the host listens for operators: the path of a Unix socket, which has a `/`, or an address.
     pub control: &'a str,
-    /// The file of the secret that the hosts of the world share, if they do.
+    /// The file of the secret that the hosts of the world share, if they share one.
     pub secret: Option<&'a str>,
     /// The file whose bytes come to the console, if any.
     pub input: Option<&'a str>,
-    /// How many milliseconds a move waits for an answer before it is given up, 1 to 1000000000.
+    /// The number of milliseconds that a move waits for an answer before it is given up, 1 to 1000000000.
     pub patience: u32,
-    /// How many turns are made in a second at most, 1 to 1000000000, if that has a limit.
+    /// The most turns that are made in a second, 1 to 1000000000, if there is a limit.
     pub rate: Option<u32>,
     /// Whether the process ends once the guest has halted here.
     pub until_halt: bool,
@@ -148,6 +148,6 @@ pub struct HostArguments<'a> {
 pub struct TellArguments<'a> {
     /// Where the host answers operators: the path of a Unix socket, which has a `/`, or an address.
     pub control: &'a str,
-    /// The line that it is told; without one, all lines of standard input.
+    /// The line that the host is told. Without one, it is told all lines of standard input.
     pub line: Option<&'a str>,
 }

@@ -1,6 +1,6 @@
-//! What a command line asks for, as one type a command, with numbers within the limits of a board.
+//! What a command line asks for: a type for each command, with numbers within the limits of a board.
 //!
-//! Stands on nothing: commands take these types, and know nothing of the words that ask for them.
+//! Stands on no other crate. Commands take these types, and must not know the words that ask for them.
 #![tactic(auto)]
 
 mod arguments;

@@ -96,7 +96,7 @@ taken_from p address count some low high = (address, omega arith, omega arith, s
 pub taken_into : (p : Piece) (address count : ℕ) → 0 < size p → address ≤ p.address → p.address < address + count → IsTaken (p ∷ []) address count
 taken_into p address count some low high = (p.address, low, high, some_is _ _ (inside p p.address (omega arith) (omega arith)))
 
--- two of which one is none may change places
+-- two options of which one is none may change places
 pub swap : (x y : Option ℕ) → (x ≡ None) ⊎ (y ≡ None) → or_else x y ≡ or_else y x
 swap None None h = refl
 swap None (Some y) h = refl

@@ -122,7 +122,7 @@ module _ (bytes : ℕ → List ℕ) where
       swapped : (x y : ℕ) → x + (1 + y) ≡ 1 + (x + y)
       swapped x y = omega arith
 
-  -- the pieces of extents, made one where they touch, are this many
+  -- the pieces of extents, joined if they touch, are this many
   pub joined_length : (lines : ℕ) (es : List Entry) → AreExtents bytes lines es → length (joined (pieces bytes es)) ≡ pieces_behind None es
   unfolding AreExtents joined pieces_behind
   joined_length lines [] x = refl

@@ -22,7 +22,7 @@ use Rattle.std.specs.Ordering.{nat_cmp}
 use denote.Ref.{Bor}
 use Rattle.rvm_asm.proofs.Names.{Kept, kept_by, next_kept}
 
--- a line's two definitions, from what `label` answers
+-- a line's two definitions, from what `label` returns
 pub lays_from : (old mid new : Names) (place after : ℕ) (line : List Lexeme) (e : Option Definition) (q : Option Definition × List Lexeme) → q ≡ label_of place line → Ok after ≡ next_place old place q.1 → Ok e ≡ equ_at old q.1 → Takes old mid q.0 → Takes mid new e → Lays old new place after line
 lays_from old mid new place after line e q p next equ first second = record {
   next = ap (λ (x : Option Definition × List Lexeme). next_place old place x.1) (sym p) ∙ sym next;
@@ -119,7 +119,7 @@ laid_none lines ss places e p = record {
   all = refl;
 }
 
--- what a line defines, from what `label` answers
+-- what a line defines, from what `label` returns
 defined : {r : Result (Option Definition) Fault} (old : Names) (place after : ℕ) (line : List Lexeme) (q : Option Definition × List Lexeme) → q ≡ label_of place line → Ok after ≡ next_place old place q.1 → r ≡ equ_at old q.1 → defined_at old place (label_of place line).1 ≡ r
 defined old place after line q p next equ =
     ap (λ (x : Option Definition × List Lexeme). next_place old place x.1 >>= λ y. equ_at old x.1) (sym p)

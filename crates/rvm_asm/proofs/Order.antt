@@ -23,7 +23,7 @@ unfolding AreOrdered end_of
 push_ordered gap lo [] p o e n z = (e, n, z, tt)
 push_ordered gap lo (q ∷ qs) p o e n z = (o.0, o.1, o.2, push_ordered gap (q.address + length q.bytes + gap) qs p o.3 e n z)
 
--- the pieces before one, and what holds of that
+-- the pieces before one, and what holds of that one
 pub split_ordered : (gap lo : ℕ) (ps : List Piece) (p : Piece) (qs : List Piece) → AreOrdered gap lo (ps ++ p ∷ qs) → AreOrdered gap lo ps × (end_of gap lo ps ≤ p.address) × (0 < length p.bytes) × (p.zeros ≡ 0)
 unfolding AreOrdered end_of
 split_ordered gap lo [] p qs o = (tt, o.0, o.1, o.2)

@@ -97,7 +97,7 @@ same_byte lines count names names' places places' image pieces l m this that a s
     let back : place + k ≡ a = omega (arith, o.4) in
     ap (byte_at image) (sym back) ∙ has k inside ∙ sym (had k inside) ∙ ap (byte_at pieces) back
 
--- two options of which either decides where it is there
+-- two options are equal if each, if it has a value, equals the other
 same_option : (x y : Option ℕ) → (IsSome x → x ≡ y) → (IsSome y → y ≡ x) → x ≡ y
 same_option None None f g = refl
 same_option None (Some v) f g = sym (g (some_is (Some v) v refl))

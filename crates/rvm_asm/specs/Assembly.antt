@@ -36,8 +36,8 @@ pub record Lays (old new : Names) (place after : ℕ) (line : List Lexeme) : Typ
 abbrev pub line_at : List (List Lexeme) → ℕ → List Lexeme
 line_at lines i = slice_index_or lines i []
 
--- the first lines stand at these places, of which there is one more, after the last line: from
--- 2 ^ 31 and from no name on each line is laid out after the one before, and leaves these names
+-- the first `count` lines stand at these places, and the place after them is the last of these: beginning at 2 ^ 31 and
+-- without names, each line is laid out after the one before it, and all together leave these names
 pub record IsLaidTo (lines : List (List Lexeme)) (count : ℕ) (names : Names) (places : List ℕ)
     : Type 0 where
   pub many : length places ≡ count + 1
@@ -75,16 +75,16 @@ pub record IsImageTo (lines : List (List Lexeme)) (count : ℕ) (names : Names) 
 abbrev pub IsImage : List (List Lexeme) → Names → List ℕ → List Piece → Type 0
 IsImage lines names places image = IsImageTo lines (length lines) names places image
 
--- the lexemes of each line
+-- each text is read as the lexemes of the line with the same index
 abbrev pub AreRead : List (List ℕ) → List (List Lexeme) → Type 0
 AreRead texts lines = map (λ text. lexemes text) texts ≡ map (λ line. Some line) lines
 
--- the value of a name, or the address of RAM's first byte where it has none
+-- the value of a name, or the address of RAM's first byte if it has none
 abbrev pub value_or_start : Option ℕ → ℕ
 value_or_start None = 2 ^ 31
 value_or_start (Some v) = v
 
--- where a program begins: at `_start`, if it is defined
+-- where a program begins: at `_start` if it is defined, else at RAM's first byte
 abbrev pub entry_of : Names → ℕ
 entry_of names = value_or_start (names (codes "_start"))
 

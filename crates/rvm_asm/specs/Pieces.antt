@@ -20,7 +20,7 @@ IsFree image place count = (a : ℕ) → place ≤ a → a < place + count → b
 abbrev pub IsTaken : List Piece → (place count : ℕ) → Type 0
 IsTaken image place count = (a : ℕ) × (place ≤ a) × (a < place + count) × IsSome (byte_at image a)
 
--- an image with a piece more, which decides where both have a byte
+-- an image with one piece more, whose byte counts at an address where both have one
 abbrev pub Joins : List Piece → List Piece → Piece → Type 0
 Joins old new p = (a : ℕ) → byte_at new a ≡ or_else (in_piece p a) (byte_at old a)
 
@@ -28,15 +28,15 @@ Joins old new p = (a : ℕ) → byte_at new a ≡ or_else (in_piece p a) (byte_a
 abbrev pub HasSameBytes : List Piece → List Piece → Type 0
 HasSameBytes xs ys = (a : ℕ) → byte_at xs a ≡ byte_at ys a
 
--- the pieces have bytes and no zeros after them, the first begins at a place or after it, and
--- each other one so far after the end of the one before it, or farther
+-- the pieces have bytes and no zeros after them; the first begins at `place` or after it, and each other one at least
+-- `gap` bytes after the end of the one before it
 unfoldable pub AreOrdered : (gap place : ℕ) → List Piece → Type 0
 AreOrdered gap place [] = Unit {0}
 AreOrdered gap place (p ∷ ps) =
     (place ≤ p.address) × (0 < length p.bytes) × (p.zeros ≡ 0)
     × AreOrdered gap (p.address + length p.bytes + gap) ps
 
--- where a piece after them may begin
+-- where a piece after these may begin at the earliest
 unfoldable pub end_of : (gap place : ℕ) → List Piece → ℕ
 end_of gap place [] = place
 end_of gap place (p ∷ ps) = end_of gap (p.address + length p.bytes + gap) ps

@@ -30,8 +30,8 @@ IsTwice names (Some d) = IsSome (names d.0)
 abbrev pub defined_at : Names → (place : ℕ) → List Lexeme → Result (Option Definition) Fault
 defined_at names place ts = next_place names place ts >>= λ after. equ_at names ts
 
--- a line at a place has a fault under the names of earlier lines: in its statement, or else since
--- its label or what the statement defines beside it has a value
+-- a line at a place has a fault under the names of earlier lines: in its statement; or else its label, or the name that
+-- its statement defines, has a value already
 abbrev pub IsUnplaced : Names → (place : ℕ) → List Lexeme → Fault → Type 0
 IsUnplaced names place line fault =
     (defined_at names place (statement_of place line) ≡ Err fault)
@@ -71,7 +71,7 @@ AreSeparate pieces many =
     (image : List Piece) × HasSameBytes pieces image × IsRising image
     × (IsTrue many → 16 < length image) × (IsFalse many → length image ≤ 16)
 
--- what is wrong with pieces that have too many bytes
+-- the error of pieces that have too many bytes
 abbrev pub IsSizeError : List Piece → AsmError → Type 0
 IsSizeError pieces OutOfMemory = ⊥
 IsSizeError pieces (Line number fault) = ⊥
@@ -159,11 +159,11 @@ abbrev pub ImagesHaveNoFault : List ℕ → Type 0
 ImagesHaveNoFault text =
     (entry : ℕ) (image : List Piece) → IsAssembly text entry image → HasNoFault text
 
--- a text that is refused for its size has none either
+-- a text that is refused for its size has no fault
 abbrev pub SizesHaveNoFault : List ℕ → Type 0
 SizesHaveNoFault text = (IsError text TooLarge ⊎ IsError text TooMany) → HasNoFault text
 
--- an error in the list of all refusals; the number of its line is told beside it
+-- an error in the list of all refusals; the number of its line is reported beside it
 abbrev pub refusal_of : AsmError → Refusal
 refusal_of OutOfMemory = refusal.OutOfMemory
 refusal_of (Line n fault) = refusal_of_fault fault

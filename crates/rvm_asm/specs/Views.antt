@@ -66,7 +66,7 @@ abbrev pub IsExtent : (bytes : ℕ → List ℕ) → (count : ℕ) → ℕ × Ex
 IsExtent bytes count e =
     (e.1.line < count) × (e.0 + length (bytes e.1.line) ≡ e.1.last + 1)
 
--- each of them is
+-- each of these is an extent of one of the first lines
 unfoldable pub AreExtents : (bytes : ℕ → List ℕ) → (count : ℕ) → List (ℕ × Extent) → Type 0
 AreExtents bytes count [] = Unit {0}
 AreExtents bytes count (e ∷ es) = IsExtent bytes count e × AreExtents bytes count es
@@ -98,7 +98,7 @@ abbrev pub is_apart : (before : Option ℕ) → (address : ℕ) → Bool
 is_apart None address = true
 is_apart (Some last) address = nat_lt (last + 1) address
 
--- what is left of room for 2 ^ 24 bytes where there are this many, or more
+-- the room that this many bytes leave of 2 ^ 24, or none if they do not fit
 abbrev pub IsRoom : Option ℕ → (count : ℕ) → Type 0
 IsRoom None count = 2 ^ 24 < count
 IsRoom (Some left) count = left + count ≡ 2 ^ 24
@@ -115,7 +115,7 @@ Fits names place line =
     (bs : List ℕ) → bytes_at names place (statement_of place line) ≡ Ok bs
     → (bs ≡ []) ⊎ (place + length bs ≤ 2 ^ 32)
 
--- a line's bytes join an image where none stood
+-- a line's bytes join an image at addresses where it had no byte
 pub record Puts (old new : List Piece) (names : Names) (place : ℕ) (line : List Lexeme)
     : Type 0 where
   pub bytes : List ℕ

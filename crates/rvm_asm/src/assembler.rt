@@ -17,10 +17,10 @@ use crate::reading::check_lines;
 use rvm_asm_line::{Symbols, lookup};
 use std::alloc::{AllocError, Global};
 
-/// The image of an assembly text. Lines end with a line feed, and a carriage return before it is
-/// no part of them. Fails with the line, counted from 1, at which a fault stands. If no line has a
-/// fault, more than 2^24 bytes fail: with `TooMany` if they make more than 16 segments, and else with
-/// `TooLarge`. Fails with `OutOfMemory` if memory runs out.
+/// Assembles a text into an image. Lines end with a line feed; a carriage return before it is not part of the line.
+/// `Line` gives the number of a line with a fault, counted from 1, and the fault. If no line has a fault, and all lines
+/// together have more than 2^24 bytes, fails with `TooMany` if these make more than 16 segments, else with `TooLarge`.
+/// `OutOfMemory` if memory runs out.
 pub fn assemble(alloc: Global, text: &str) -> Result<Image, AsmError>
     ensures image { IfOk result (λ v. IsAssembly text.now v.entry (pieces_of v.segments.items)) }
     ensures rising { IfOk result (λ v. IsRising (pieces_of v.segments.items)) }
@@ -40,7 +40,7 @@ fn split(alloc: Global, text: &str) -> Result<Vec<&str>, AllocError>
     text.lines().collect(alloc)
 }
 
-/// The image of lines.
+/// The image of lines, each of which consists of tokens.
 fn assemble_lines(alloc: Global, texts: &[&str]) -> Result<Image, AsmError>
     requires { AreRead (texts_of texts.now) (lines_of (texts_of texts.now)) }
     ensures image { IfOk result (λ v. IsAssemblyOf (lines_of (texts_of texts.now)) v.entry
@@ -57,7 +57,7 @@ fn assemble_lines(alloc: Global, texts: &[&str]) -> Result<Image, AsmError>
     Ok(Image { entry, segments })
 }
 
-/// Where a program begins: at `_start`, if it is defined.
+/// The address at which a program begins: the value of `_start` if it is defined, else the start of RAM.
 fn entry(symbols: &Symbols) -> u32
     ensures { result ≡ entry_of (names_of symbols.now) }
 {

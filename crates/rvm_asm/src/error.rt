@@ -14,7 +14,7 @@ pub enum AsmError {
     /// Memory ran out.
     #[error("out of memory")]
     OutOfMemory,
-    /// The line of this number, counted from 1, has this fault.
+    /// The line with this number, counted from 1, has this fault.
     #[error("line {0}: {1}")]
     Line(usize, Fault),
     /// No line has a fault, but all lines together have more than 2^24 bytes, in at most 16

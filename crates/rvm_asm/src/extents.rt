@@ -8,10 +8,10 @@ ghost use Rattle.rvm_asm.specs.Views.{extent_pieces, is_apart, Holds, IsClaim};
 use rvm_asm_line::{Fault, LineError};
 use std::collections::BTreeMap;
 
-/// The most segments that an image may have to be written.
+/// The most segments of an image that can be written to a file.
 const MAX_SEGMENTS: usize = 16;
 
-/// Whose bytes begin at an address, and where they end.
+/// The line whose bytes begin at an address, and the address at which they end.
 #[derive(Clone, Copy)]
 pub struct Extent {
     /// The line, counted from 0.
@@ -23,8 +23,8 @@ pub struct Extent {
 /// The extents of lines by the addresses of their first bytes, found in logarithmic time.
 pub type Extents = BTreeMap<u32, Extent>;
 
-/// Tells whether no byte stands from `address` to `last`. Only the last extent that begins at `last`
-/// or below can have a byte there.
+/// Whether no byte stands from `address` to `last`. Only the last extent that begins at `last` or below can have a byte
+/// there.
 fn is_free(extents: &Extents, address: u32, last: u32) -> bool
     ensures free { (bytes : ℕ → List ℕ) → (lines count : ℕ) → Holds bytes lines extents.now
         → 0 < count → address + count ≡ last + 1 → IsTrue result
@@ -39,8 +39,8 @@ fn is_free(extents: &Extents, address: u32, last: u32) -> bool
     }
 }
 
-/// Records where the bytes of the next line stand, if it has any. Fails with `Overlap` if a byte
-/// stands there already.
+/// Records that the next line has `count` bytes from `place` on, if it has any. Fails with `Overlap` if a byte stands
+/// there already.
 pub fn claim(extents: &mut Extents, line: usize, place: u64, count: usize) -> Result<(), LineError>
     requires { (count ≡ 0) ⊎ (place + count ≤ 2 ^ 32) }
     ensures { (bytes : ℕ → List ℕ) → Holds bytes line extents.old → length (bytes line) ≡ count
@@ -58,7 +58,8 @@ pub fn claim(extents: &mut Extents, line: usize, place: u64, count: usize) -> Re
     Ok(())
 }
 
-/// Tells whether a gap separates an extent from the one before it, whose last address is `before`.
+/// Whether there is a gap between an extent at `address` and the one before it, whose last address is `before`. True if
+/// there is none before it.
 fn is_apart(before: Option<u32>, address: u32) -> bool
     ensures { result ≡ is_apart before address }
 {
@@ -68,7 +69,7 @@ fn is_apart(before: Option<u32>, address: u32) -> bool
     }
 }
 
-/// Tells whether the extents make more than 16 segments. Extents that touch are one segment.
+/// Whether the extents make more than 16 segments. Extents that touch are one segment.
 pub fn are_many(extents: &Extents) -> bool
     ensures { (bytes : ℕ → List ℕ) → (lines : ℕ) → Holds bytes lines extents.now
         → AreSeparate (extent_pieces bytes extents.now) result }

@@ -13,7 +13,8 @@ use crate::segments::append;
 use rvm_asm_line::Symbols;
 use std::alloc::{AllocError, Global};
 
-/// Makes the segments of lines whose extents are known. Extents that touch become one segment.
+/// Makes the segments of lines whose extents are known. Extents that touch become one segment. Fails only if memory
+/// runs out.
 pub fn fill(
     alloc: Global,
     texts: &[&str],

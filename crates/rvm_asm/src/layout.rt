@@ -16,14 +16,17 @@ use rvm_asm_line::{
 use rvm_text::Token;
 use std::alloc::Global;
 
-/// The names' values, and the lines' places, with the place after the last line.
+/// The values of names, and the places of lines.
 #[derive(Drop)]
 pub struct Layout<'a> {
+    /// The value of each name.
     pub symbols: Symbols<'a>,
+    /// The place of each line, and the place after the last line.
     pub places: Vec<u64>,
 }
 
-/// Gives each name its value and each line its place.
+/// Gives each name its value and each line its place, from the start of RAM on. Fails with the first line that cannot
+/// be placed, counted from 1, or if memory runs out.
 pub fn lay_out<'a>(alloc: Global, texts: &[&'a str]) -> Result<Layout<'a>, AsmError>
     requires { AreRead (texts_of texts.now) (lines_of (texts_of texts.now)) }
     ensures laid { IfOk result (λ l. IsLaid (lines_of (texts_of texts.now)) (names_of l.symbols)
@@ -48,7 +51,7 @@ pub fn lay_out<'a>(alloc: Global, texts: &[&'a str]) -> Result<Layout<'a>, AsmEr
     Ok(Layout { symbols, places })
 }
 
-/// Adds what a line at a place defines, and answers the place after it.
+/// Adds the names that a line at `place` defines. Returns the place of the next line.
 #[tactic(auto, using(crate::proofs::Lines::texts_laid))]
 fn lay_text<'a>(
     alloc: Global,
@@ -66,7 +69,7 @@ fn lay_text<'a>(
     lay_line(symbols, place, &tokens)
 }
 
-/// The same for the tokens of a line.
+/// Does what `lay_text` does, for the tokens of a line.
 #[tactic(auto, using(crate::proofs::Laying::layings))]
 fn lay_line<'a>(
     symbols: &mut Symbols<'a>,
@@ -86,7 +89,7 @@ fn lay_line<'a>(
     Ok(after)
 }
 
-/// Adds a symbol, if there is one, whose name has no value yet.
+/// Adds a symbol, if there is one. Fails with `Defined` if its name has a value already.
 fn define<'a>(symbols: &mut Symbols<'a>, symbol: Option<Symbol<'a>>) -> Result<(), LineError>
     ensures { IsDefining (names_of symbols.old) (names_of symbols.new)
         (definition_of symbol.entry) result }

@@ -15,9 +15,9 @@ use crate::reading::read_line;
 use rvm_asm_line::{LineError, Symbols, contents, label};
 use std::alloc::Global;
 
-/// Finds where the bytes of all lines stand. A fault of any line comes before the size: only if no
-/// line has one do more than 2^24 bytes fail, with `TooMany` if they make more than 16 segments and
-/// else with `TooLarge`.
+/// Finds where the bytes of all lines stand. Fails with the first line that has a fault, counted from 1, or if memory
+/// runs out. If no line has a fault, and all lines together have more than 2^24 bytes, fails with `TooMany` if these
+/// make more than 16 segments, else with `TooLarge`.
 pub fn place_lines(
     alloc: Global,
     texts: &[&str],
@@ -47,14 +47,14 @@ pub fn place_lines(
     Ok(extents)
 }
 
-/// The room that is left after this many bytes, or none if they do not fit.
+/// The room that is left after `count` bytes more, or `None` if they do not fit.
 fn room_after(room: Option<usize>, count: usize) -> Option<usize>
     ensures { (n : ℕ) → IsRoom room n → IsRoom result (n + count) }
 {
     room?.checked_sub(count)
 }
 
-/// The error of a text that has more than 2^24 bytes, whose lines have these extents.
+/// The error of a text that has more than 2^24 bytes, in these extents.
 fn size_error(extents: &Extents) -> AsmError
     ensures { (bytes : ℕ → List ℕ) → (lines : ℕ) → Holds bytes lines extents.now
         → IsSizeError (extent_pieces bytes extents.now) result }
@@ -66,7 +66,7 @@ fn size_error(extents: &Extents) -> AsmError
     }
 }
 
-/// Records where the bytes of a line stand, and returns how many they are.
+/// Records where the bytes of the line with this index stand. Returns how many bytes it has.
 fn place_line(
     alloc: Global,
     extents: &mut Extents,
@@ -93,7 +93,7 @@ fn place_line(
     Ok(count)
 }
 
-/// The bytes of a line that stands at a place.
+/// The bytes of a line that stands at `place`.
 pub fn line_bytes(
     alloc: Global,
     text: &str,

@@ -1,4 +1,4 @@
-//! The tokens of a line, which each pass reads again, so that those of one line alone are kept.
+//! Reads the tokens of lines. Each pass reads them again, so that only the tokens of one line are in memory at a time.
 
 ghost use Rattle.std.specs.Prelude.{◌≡◌, Some, OnOk, IfOk, IfErr};
 ghost use Rattle.rvm_text.specs.Lexemes.{lexemes};
@@ -12,7 +12,8 @@ use rvm_asm_line::{Fault, LineError};
 use rvm_text::{TextError, Token, tokens};
 use std::alloc::Global;
 
-/// Whether each line has tokens.
+/// Checks that each line consists of tokens; an empty line has none. Fails with `BadToken` at the first line that does
+/// not, counted from 1, or if memory runs out.
 pub fn check_lines(alloc: Global, texts: &[&str]) -> Result<(), AsmError>
     ensures read { OnOk result (AreRead (texts_of texts.now) (lines_of (texts_of texts.now))) }
     ensures refused { IfErr result (λ e. IsReadError (texts_of texts.now) e) }
@@ -25,7 +26,7 @@ pub fn check_lines(alloc: Global, texts: &[&str]) -> Result<(), AsmError>
     Ok(())
 }
 
-/// The tokens of a line.
+/// The tokens of a line. Fails with `BadToken` if it does not consist of tokens, or if memory runs out.
 pub fn read_line<'a>(alloc: Global, text: &'a str) -> Result<Vec<Token<'a>>, LineError>
     ensures read { IfOk result (λ v. lexemes text.now ≡ Some (lexemes_of v.items)) }
     ensures refused { IfErr result (λ e. IsUnreadable text.now e) }

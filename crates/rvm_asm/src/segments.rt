@@ -7,14 +7,15 @@ ghost use Rattle.rvm_asm.specs.Pieces.{Joins, AreOrdered, end_of};
 use crate::image::Segment;
 use std::alloc::AllocError;
 
-/// The address after bytes.
+/// The address after the last of these bytes.
 fn end(address: u32, bytes: &[u8]) -> u64
     ensures { result ≡ address + length bytes.now }
 {
     u64::from(address) + bytes.len() as u64
 }
 
-/// Puts bytes after the segments: into the last, if they begin where it ends.
+/// Adds bytes after the last segment: to that segment if they begin where it ends, else as a segment of their own. If
+/// memory runs out, the last segment may be lost.
 pub fn append(segments: &mut Vec<Segment>, address: u32, bytes: Vec<u8>) -> Result<(), AllocError>
     requires some { 0 < length bytes.items }
     requires ordered { AreOrdered 0 0 (pieces_of segments.old.items) }
@@ -42,7 +43,7 @@ pub fn append(segments: &mut Vec<Segment>, address: u32, bytes: Vec<u8>) -> Resu
     }
 }
 
-/// The segment with bytes more at its end.
+/// Appends bytes to a segment.
 fn lengthen(mut segment: Segment, bytes: &[u8]) -> Result<Segment, AllocError>
     ensures address { IfOk result (λ s. s.address ≡ segment.address) }
     ensures bytes { IfOk result (λ s. s.bytes.items ≡ segment.bytes.items ++ bytes.now) }
@@ -52,6 +53,7 @@ fn lengthen(mut segment: Segment, bytes: &[u8]) -> Result<Segment, AllocError>
     Ok(segment)
 }
 
+/// Adds a segment with these bytes, and no zeros after them.
 fn push(segments: &mut Vec<Segment>, address: u32, bytes: Vec<u8>) -> Result<(), AllocError>
     ensures { OnOk result (segments.new.items
         ≡ segments.old.items ++ record { address = address; bytes = bytes; zeros = 0 } ∷ []) }

@@ -43,7 +43,7 @@ one : {A B : Type 0} (r : Result A Fault) (f : A → Result B Fault) (y : B) (P 
 one (Ok x) f y P e k = k x refl e
 one (Err x) f y P e k = cc
 
--- a place this many bytes on is at most 2 ^ 32
+-- the place this many bytes after another is at most 2 ^ 32
 on : (place size after : ℕ) → advanced place size ≡ Ok after → (after ≡ place + size) × (after ≤ 2 ^ 32)
 on place size after e = tested (nat_le (place + size) (2 ^ 32)) refl e
   where

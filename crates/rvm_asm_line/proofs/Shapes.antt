@@ -1,4 +1,4 @@
--- Operands by their shapes, one after the other.
+-- Consecutive operands, by their shapes.
 use Rattle.std.proofs.Common.{◌≡◌, ℕ, ◌+◌, ◌<◌, List, length, get_or, drop, ap, sym, ◌∙◌, Err}
 use Rattle.std.proofs.lemmas.List.{drop_more}
 use Rattle.rvm_text.specs.Lexemes.{Lexeme}

@@ -32,7 +32,7 @@ unfoldable pub value_of_width : Names → Width → List Lexeme → Result ℕ F
 value_of_width names width ts =
     last_value names ts >>= λ v. only_if OutOfReach (has_width width v) v
 
--- its bytes, the lowest first
+-- the bytes of a value of a width, the lowest first
 abbrev pub value_bytes : Width → ℕ → List ℕ
 value_bytes width v = take (bytes_in width) (to_le_bytes w32 v)
 
@@ -53,13 +53,12 @@ words_of names place (code.Pseudo pseudo) ts =
 words_of names place (code.Instruction operation) ts =
     instruction_at names place operation ts >>= λ i. Ok (words.One (word_of i))
 
--- the same at a place that is a multiple of four, as an instruction's has to be; a fault of the words
--- comes first
+-- the words at a place, which must be a multiple of four; a fault of the words counts first
 unfoldable pub words_at : Names → (place : ℕ) → Code → List Lexeme → Result Words Fault
 words_at names place kind ts =
     words_of names place kind ts >>= λ words. only_if OutOfReach (place % 4 == 0) words
 
--- nothing, after a name and its end
+-- a name, and nothing after it; it makes no bytes
 abbrev pub global_at : List Lexeme → Result (Unit {0}) Fault
 global_at ts = name_at ts >>= λ n. end_at n.1
 

@@ -102,7 +102,7 @@ shapes_of_pseudo pseudo.Ret = []
 shapes_of_pseudo pseudo.Csrr = operand.Register ∷ operand.Csr ∷ []
 shapes_of_pseudo pseudo.Csrw = operand.Csr ∷ operand.Register ∷ []
 
--- the operands of what makes words
+-- the operands of each statement that makes instructions
 abbrev pub shapes_of_code : Code → List Operand
 shapes_of_code code.Li = operand.Register ∷ operand.Value ∷ []
 shapes_of_code code.La = operand.Register ∷ operand.Value ∷ []

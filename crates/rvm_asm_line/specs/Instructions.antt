@@ -87,8 +87,8 @@ low_field v = signed_value 12 (v % 2 ^ 12)
 unfoldable pub li_at : Names → List Lexeme → Result (ℕ × ℕ) Fault
 li_at names ts = register_comma ts >>= λ rd. last_value names rd.1 >>= λ v. Ok (rd.0, v)
 
--- the words of li: addi from zero where the value is a signed number of 12 bits, else lui and,
--- where the low bits are not zero, addi
+-- the words of li: addi from zero if the value is a signed number of 12 bits, else lui, and addi if the lower 12 bits
+-- are not zero
 abbrev pub li_words : (rd value : ℕ) → Words
 li_words rd v =
     if fits_signed 12 v then words.One (word_of (ins.Addi rd 0 (low_field v)))

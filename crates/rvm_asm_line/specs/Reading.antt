@@ -1,5 +1,5 @@
--- The parts of a line that stand in any statement, each with what is after it. What is not there
--- is a BadToken.
+-- The parts of a line that stand in any statement, each with what is after it. If such a part is missing, the fault is
+-- BadToken.
 use Rattle.std.specs.Prelude.{ℕ, Bool, false, ◌==◌, if◌then◌else◌, List, [], ◌∷◌, Option, Some, None}
 use Rattle.std.specs.Prelude.{Result, Ok, Err}
 use Rattle.rvm_text.specs.Lexemes.{Lexeme, Word, Mark, Quoted}
@@ -9,17 +9,17 @@ use Rattle.rvm_asm_line.specs.declared.faults.Fault.{Fault}
 use Rattle.rvm_asm_line.specs.declared.faults.Fault.TheVariants.{BadToken}
 
 infixl 10 ◌>>=◌
--- what follows of a value, unless there is a fault
+-- the value, passed on to the next step, unless there is a fault
 abbrev pub ◌>>=◌ : {A B : Type 0} → Result A Fault → (A → Result B Fault) → Result B Fault
 (Ok x) >>= f = f x
 (Err e) >>= f = Err e
 
--- the value, or this fault where there is none
+-- the value, or this fault if there is none
 abbrev pub known : {A : Type 0} → Fault → Option A → Result A Fault
 known f None = Err f
 known f (Some x) = Ok x
 
--- the value, or this fault where the test fails
+-- the value, or this fault if the test fails
 abbrev pub only_if : {A : Type 0} → Fault → Bool → A → Result A Fault
 only_if f b x = if b then Ok x else Err f
 

@@ -88,7 +88,7 @@ label_of place (Word w ∷ Mark m ∷ ts) =
     if is_name w && m == 58 then (Some (w, place % 2 ^ 32), ts) else (None, Word w ∷ Mark m ∷ ts)
 label_of place ts = (None, ts)
 
--- the place this many bytes on
+-- the place this many bytes after another, at most 2 ^ 32
 abbrev pub advanced : (place size : ℕ) → Result ℕ Fault
 advanced place size = only_if OutOfReach (nat_le (place + size) (2 ^ 32)) (place + size)
 
@@ -151,7 +151,7 @@ abbrev pub next_place : Names → (place : ℕ) → List Lexeme → Result ℕ F
 next_place names place [] = Ok place
 next_place names place (t ∷ ts) = statement_at (t ∷ ts) >>= λ k. place_after names place k.0 k.1
 
--- what an `.equ` defines, and nothing for any other kind
+-- what an `.equ` defines; any other kind defines nothing
 abbrev pub equ_of : Names → Keyword → List Lexeme → Result (Option Definition) Fault
 equ_of names keyword.Equ ts =
     name_at ts >>= λ n. mark_at 44 n.1 >>= λ e. last_value names e >>= λ v. Ok (Some (n.0, v))

@@ -13,11 +13,11 @@ use Rattle.rvm_asm_line.specs.declared.values.Half.{Half}
 use Rattle.rvm_asm_line.specs.declared.values.Half.TheVariants.{High, Low}
 use Rattle.rvm_asm_line.specs.Reading.{◌>>=◌, known, only_if, mark_at, ended}
 
--- the values of names, so far as they have any
+-- the value of each name, if it has one
 abbrev pub Names : Type 0
 Names = List ℕ → Option ℕ
 
--- the number after a minus, at most 2 ^ 31, from zero
+-- the number after a minus, at most 2 ^ 31, negated modulo 2 ^ 32
 abbrev pub negative_at : List Lexeme → Result (ℕ × List Lexeme) Fault
 negative_at (Word w ∷ ts) =
     known BadToken (number_of w) >>= λ n.
@@ -45,7 +45,7 @@ simple_at names (Word w ∷ ts) =
     else number_at (Word w ∷ ts)
 simple_at names ts = number_at ts
 
--- %hi: the upper 20 bits, one more where the rest is negative
+-- %hi: the upper 20 bits, plus one if the lower 12 bits are a negative signed number
 abbrev pub high : ℕ → ℕ
 high v = (v + 0x800) % 2 ^ 32 / 2 ^ 12
 
@@ -70,7 +70,7 @@ half_at (Mark m ∷ Word w ∷ Mark p ∷ ts) =
     if m == 37 && p == 40 then option_map (λ h. (h, ts)) (half_named w) else None
 half_at ts = None
 
--- what f makes of a half, or the other where there is none
+-- what f makes of a half, or the other if there is none
 abbrev pub chosen : {A : Type 0} → Option (Half × List Lexeme) → (Half × List Lexeme → A) → A → A
 chosen None f other = other
 chosen (Some h) f other = f h
@@ -90,7 +90,7 @@ value_at names ts = simple_at names ts
 abbrev pub in_half : List Lexeme → ℕ × List Lexeme → Result (ℕ × List Lexeme) Fault
 in_half ts v = chosen (half_at ts) (λ h. closed h.0 v) (Ok v)
 
--- a value in the first this many halves of those that begin one in another, the last of them first
+-- a value in the first n of the nested halves that these begin with, the innermost first
 unfoldable pub in_halves : List Lexeme → ℕ → Result (ℕ × List Lexeme) Fault
     → Result (ℕ × List Lexeme) Fault
 in_halves ts zero v = v
@@ -100,6 +100,6 @@ in_halves ts (suc n) v = in_halves ts n (v >>= in_half (drop (3 * n) ts))
 unfoldable pub last_value : Names → List Lexeme → Result ℕ Fault
 last_value names ts = value_at names ts >>= ended
 
--- whether a value as signed is a number of this many bits
+-- whether a value, as a signed number, fits this many bits
 abbrev pub fits_signed : (bits value : ℕ) → Bool
 fits_signed bits value = nat_lt value (2 ^ (bits - 1)) || nat_le (2 ^ 32 - 2 ^ (bits - 1)) value

@@ -20,7 +20,8 @@ use rvm_isa::encode;
 use rvm_text::{Token, unescape};
 use std::alloc::{AllocError, Global};
 
-/// The bytes of a statement that stands at a place.
+/// The bytes of the statement of a line that stands at `place`; none for an empty statement. Fails with the fault of
+/// the statement, or if memory runs out.
 pub fn contents(
     alloc: Global,
     symbols: &Symbols,
@@ -81,6 +82,7 @@ fn contents_of_kind(
     }
 }
 
+/// This many zeros.
 fn zeros(alloc: Global, count: u64) -> Result<Vec<u8>, AllocError>
     ensures { IfOk result (λ v. v.items ≡ replicate count 0) }
 {
@@ -89,7 +91,7 @@ fn zeros(alloc: Global, count: u64) -> Result<Vec<u8>, AllocError>
     Ok(bytes)
 }
 
-/// The text of a string, and a zero after it.
+/// The text of a string, with a zero after it.
 fn zero_ended(alloc: Global, written: &[u8]) -> Result<Vec<u8>, AllocError>
     ensures { IfOk result (λ v. v.items ≡ text_of written.now ++ 0 ∷ []) }
 {
@@ -98,7 +100,7 @@ fn zero_ended(alloc: Global, written: &[u8]) -> Result<Vec<u8>, AllocError>
     Ok(bytes)
 }
 
-/// A name, and nothing after it.
+/// Checks that the tokens are a name, and nothing after it.
 fn global(tokens: &[Token]) -> Result<(), Fault>
     ensures { result ≡ global_at (lexemes_of tokens.now) }
 {
@@ -106,7 +108,7 @@ fn global(tokens: &[Token]) -> Result<(), Fault>
     end(rest)
 }
 
-/// The bytes of a list of values.
+/// The bytes of a list of values, each with its lowest byte first.
 #[tactic(auto, using(crate::proofs::Parts::turns))]
 fn list(
     alloc: Global,
@@ -128,7 +130,8 @@ fn list(
     Ok(bytes)
 }
 
-/// An expression whose value has a width.
+/// Reads an expression, and nothing after it. `OutOfReach` if its value does not fit the width, as an unsigned or a
+/// signed number.
 #[tactic(auto, unfolding(crate::specs::Contents::value_of_width))]
 fn value_of_width(symbols: &Symbols, width: Width, tokens: &[Token]) -> Result<u32, Fault>
     ensures { result ≡ value_of_width (names_of symbols.now) width (lexemes_of tokens.now) }
@@ -141,6 +144,7 @@ fn value_of_width(symbols: &Symbols, width: Width, tokens: &[Token]) -> Result<u
     }
 }
 
+/// Whether a value, as an unsigned or a signed number, fits a width.
 fn has_width(width: Width, value: u32) -> bool
     ensures { result ≡ has_width width value }
 {
@@ -151,6 +155,7 @@ fn has_width(width: Width, value: u32) -> bool
     }
 }
 
+/// Appends the bytes of a value of this width, the lowest first.
 fn append(bytes: &mut Vec<u8>, width: Width, value: u32) -> Result<(), AllocError>
     ensures { OnOk result (bytes.new.items ≡ bytes.old.items ++ value_bytes width value) }
 {
@@ -162,7 +167,8 @@ fn append(bytes: &mut Vec<u8>, width: Width, value: u32) -> Result<(), AllocErro
     }
 }
 
-/// The words of a line. A fault of the words comes before a place that is no multiple of four.
+/// The words of an instruction or a pseudo-instruction at `place`. A fault of its operands counts first; then
+/// `OutOfReach` if the place is no multiple of four.
 #[tactic(auto, unfolding(crate::specs::Contents::words_at))]
 fn words(symbols: &Symbols, place: u64, code: Code, tokens: &[Token]) -> Result<Words, Fault>
     ensures { result ≡ words_at (names_of symbols.now) place code (lexemes_of tokens.now) }
@@ -175,6 +181,7 @@ fn words(symbols: &Symbols, place: u64, code: Code, tokens: &[Token]) -> Result<
     }
 }
 
+/// The words of an instruction or a pseudo-instruction at any place.
 fn words_of(symbols: &Symbols, place: u64, code: Code, tokens: &[Token]) -> Result<Words, Fault>
     ensures { result ≡ words_of (names_of symbols.now) place code (lexemes_of tokens.now) }
 {
@@ -196,6 +203,7 @@ fn words_of(symbols: &Symbols, place: u64, code: Code, tokens: &[Token]) -> Resu
     }
 }
 
+/// The bytes of words, each word with its lowest byte first.
 fn to_bytes(alloc: Global, words: Words) -> Result<Vec<u8>, AllocError>
     ensures { IfOk result (λ v. v.items ≡ bytes_of words) }
 {

@@ -14,7 +14,8 @@ use crate::words::named;
 use rvm_isa::CsrNo;
 use rvm_text::Token;
 
-/// The name of a control and status register, or a number.
+/// Reads the name of a control and status register, or a number with an optional minus. Returns the number and the
+/// tokens after it; `BadToken` if the tokens begin with neither.
 pub fn csr_word<'t, 'a>(tokens: &'t [Token<'a>]) -> Result<(u32, &'t [Token<'a>]), Fault>
     ensures { seen result ≡ csr_word_at (lexemes_of tokens.now) }
 {
@@ -27,7 +28,8 @@ pub fn csr_word<'t, 'a>(tokens: &'t [Token<'a>]) -> Result<(u32, &'t [Token<'a>]
     }
 }
 
-/// The number of a control and status register: by its name, or a number below 4096.
+/// Reads a control and status register: its name, or a number below 4096. Returns the number and the tokens after it;
+/// `OutOfReach` for a larger number.
 fn csr<'t, 'a>(tokens: &'t [Token<'a>]) -> Result<(u32, &'t [Token<'a>]), Fault>
     ensures value { seen result ≡ csr_at (lexemes_of tokens.now) }
     ensures below { IfOk result (λ r. r.0 < 2 ^ 12) }
@@ -36,6 +38,7 @@ fn csr<'t, 'a>(tokens: &'t [Token<'a>]) -> Result<(u32, &'t [Token<'a>]), Fault>
     Ok((number_below(number)?, rest))
 }
 
+/// The number, if it is below 4096; else `OutOfReach`.
 fn number_below(number: u32) -> Result<u32, Fault>
     ensures value { result ≡ csr_number number }
     ensures below { IfOk result (λ n. n < 2 ^ 12) }
@@ -47,7 +50,7 @@ fn number_below(number: u32) -> Result<u32, Fault>
     }
 }
 
-/// The number of a control and status register, and a comma.
+/// Reads a control and status register and a comma. Returns the register's number and the tokens after the comma.
 #[tactic(auto, unfolding(crate::specs::Csrs::csr_comma))]
 pub fn csr_comma<'t, 'a>(tokens: &'t [Token<'a>]) -> Result<(u32, &'t [Token<'a>]), Fault>
     ensures value { seen result ≡ csr_comma (lexemes_of tokens.now) }
@@ -58,7 +61,7 @@ pub fn csr_comma<'t, 'a>(tokens: &'t [Token<'a>]) -> Result<(u32, &'t [Token<'a>
     Ok((number, rest))
 }
 
-/// A control and status register, and nothing after it.
+/// Reads a control and status register, and nothing after it.
 #[tactic(auto, unfolding(crate::specs::Csrs::last_csr))]
 pub fn last_csr(tokens: &[Token]) -> Result<CsrNo, Fault>
     ensures { result ≡ last_csr (lexemes_of tokens.now) }
@@ -68,7 +71,7 @@ pub fn last_csr(tokens: &[Token]) -> Result<CsrNo, Fault>
     Ok(CsrNo::new(number))
 }
 
-/// The registers and their numbers.
+/// The control and status registers by name, with their numbers.
 const CSRS: [(&str, u32); 107] = [
     ("mstatus", 0x300),
     ("misa", 0x301),
@@ -179,7 +182,7 @@ const CSRS: [(&str, u32); 107] = [
     ("mhpmcounter31h", 0xB9F),
 ];
 
-/// The number of the register that a word names.
+/// The number of the register that a word names, or `None` if it names none.
 #[tactic(auto, unfolding(crate::specs::Csrs::csr_of, crate::specs::Csrs::csr_numbers))]
 fn csr_named(word: &[u8]) -> Option<u32>
     ensures { result ≡ csr_of word.now }

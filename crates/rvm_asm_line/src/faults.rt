@@ -14,11 +14,12 @@ pub enum Fault {
     /// The line is not in the grammar.
     #[error("not in the grammar")]
     BadToken,
-    /// A name has no value, or none on an earlier line where that is asked.
+    /// A name has no value; or its value decides the place of the next line or the value of an `.equ`, and no earlier
+    /// line gives it one.
     #[error("a name has no value")]
     UnknownName,
-    /// A field can't hold the value, an instruction is not on a multiple of four, or a place is
-    /// past 2^32.
+    /// A value is outside the range of its field, an instruction does not stand at a multiple of four, or a place is
+    /// above 2^32.
     #[error("a value is out of reach")]
     OutOfReach,
     /// A name is given twice.

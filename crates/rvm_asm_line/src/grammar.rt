@@ -38,7 +38,7 @@ pub enum Operand {
 }
 
 impl Operand {
-    /// The tokens after an operand of this shape.
+    /// Skips an operand of this shape. Returns the tokens after it, or `BadToken`.
     #[tactic(auto, unfolding(crate::specs::Grammar::behind))]
     fn skip<'t, 'a>(self, tokens: &'t [Token<'a>]) -> Result<&'t [Token<'a>], Fault>
         ensures { seen_rest result ≡ behind self (lexemes_of tokens.now) }
@@ -67,7 +67,7 @@ impl Operand {
     }
 }
 
-/// The tokens after a register in parentheses.
+/// Skips a register in parentheses. Returns the tokens after it.
 fn skip_base<'t, 'a>(tokens: &'t [Token<'a>]) -> Result<&'t [Token<'a>], Fault>
     ensures { seen_rest result ≡ behind_base (lexemes_of tokens.now) }
 {
@@ -76,7 +76,7 @@ fn skip_base<'t, 'a>(tokens: &'t [Token<'a>]) -> Result<&'t [Token<'a>], Fault>
     mark(rest, b')')
 }
 
-/// The tokens after a string.
+/// Skips a string. Returns the tokens after it.
 fn skip_text<'t, 'a>(tokens: &'t [Token<'a>]) -> Result<&'t [Token<'a>], Fault>
     ensures { seen_rest result ≡ behind_text (lexemes_of tokens.now) }
 {
@@ -86,7 +86,7 @@ fn skip_text<'t, 'a>(tokens: &'t [Token<'a>]) -> Result<&'t [Token<'a>], Fault>
     }
 }
 
-/// Whether tokens are operands of these shapes, with commas between them.
+/// Checks that the tokens are operands of these shapes, with commas between them and nothing after them.
 #[tactic(auto, using(crate::proofs::Shapes::no_comma), unfolding(crate::specs::Grammar::more_operands_at))]
 fn check_operands(shapes: &[Operand], tokens: &[Token]) -> Result<(), Fault>
     ensures { result ≡ operands_at shapes.now (lexemes_of tokens.now) }
@@ -101,7 +101,7 @@ fn check_operands(shapes: &[Operand], tokens: &[Token]) -> Result<(), Fault>
     end(rest)
 }
 
-/// Whether tokens are a list of expressions.
+/// Checks that the tokens are one or more expressions with commas between them.
 #[tactic(auto, unfolding(crate::specs::Grammar::expressions_at))]
 fn check_expressions(tokens: &[Token]) -> Result<(), Fault>
     ensures { result ≡ expressions_at (parts (lexemes_of tokens.now)) }
@@ -115,7 +115,7 @@ fn check_expressions(tokens: &[Token]) -> Result<(), Fault>
     Ok(())
 }
 
-/// Whether tokens are an expression.
+/// Checks that the tokens are an expression, and nothing after it.
 fn check_expression(tokens: &[Token]) -> Result<(), Fault>
     ensures { result ≡ expression_at (lexemes_of tokens.now) }
 {
@@ -177,7 +177,7 @@ impl Code {
     }
 }
 
-/// Whether tokens are the operands of a statement of a kind.
+/// Checks that the tokens are the operands of a statement of this kind. `BadToken` if they are not.
 #[tactic(auto, unfolding(crate::specs::Grammar::grammar_at))]
 pub fn check_grammar(keyword: Keyword, tokens: &[Token]) -> Result<(), Fault>
     ensures { result ≡ grammar_at keyword (lexemes_of tokens.now) }

@@ -20,7 +20,7 @@ use crate::values::{fits_signed, high, last_value, low};
 use rvm_isa::{Imm12, Imm20, Ins, Reg, encode};
 use rvm_text::Token;
 
-/// The words of a line, the one at the lower place first.
+/// The one or two words that a line makes. The one at the lower address is first.
 #[derive(Clone, Copy)]
 pub enum Words {
     One(u32),
@@ -28,7 +28,8 @@ pub enum Words {
 }
 
 impl Operation {
-    /// The instruction with the operands of a line that stands at a place.
+    /// Reads the operands of this instruction on a line that stands at `place`. Returns the instruction, or the fault
+    /// of an operand.
     pub fn read(self, symbols: &Symbols, place: u64, tokens: &[Token]) -> Result<Ins, Fault>
         ensures { result ≡ instruction_at (names_of symbols.now) place self
             (lexemes_of tokens.now) }
@@ -95,7 +96,7 @@ impl Operation {
     }
 }
 
-/// The lower 12 bits of a value as an immediate.
+/// The lower 12 bits of a value, as an immediate.
 fn low_immediate(value: u32) -> Imm12
     ensures { result ≡ low_field value }
 {
@@ -140,7 +141,7 @@ fn jalr(rd: Reg, rs1: Reg, value: u32) -> u32
     })
 }
 
-/// The register and the value of `li` or `la`.
+/// Reads the operands of `li` or `la`: a register and a value.
 #[tactic(auto, unfolding(crate::specs::Instructions::li_at))]
 pub fn register_and_value(symbols: &Symbols, tokens: &[Token]) -> Result<(Reg, u32), Fault>
     ensures { result ≡ li_at (names_of symbols.now) (lexemes_of tokens.now) }
@@ -150,7 +151,7 @@ pub fn register_and_value(symbols: &Symbols, tokens: &[Token]) -> Result<(Reg, u
     Ok((Reg::new(rd), value))
 }
 
-/// The words of `li`.
+/// The words of `li`: `addi` alone if it can load the value, `lui` alone if the lower 12 bits are zero, else both.
 pub fn li(rd: Reg, value: u32) -> Words
     ensures { result ≡ li_words rd value }
 {
@@ -163,7 +164,7 @@ pub fn li(rd: Reg, value: u32) -> Words
     }
 }
 
-/// How many bytes the words of `li` have.
+/// The size in bytes of the words of `li`: 4 or 8.
 pub fn li_size(value: u32) -> u64
     ensures value { result ≡ li_size value }
     ensures few { result ≤ 8 }
@@ -175,7 +176,7 @@ pub fn li_size(value: u32) -> u64
     }
 }
 
-/// The words of `la`.
+/// The words of `la` at `place`: `auipc` and `addi`.
 pub fn la(symbols: &Symbols, place: u64, tokens: &[Token]) -> Result<Words, Fault>
     ensures { result ≡ la_at (names_of symbols.now) place (lexemes_of tokens.now) }
 {
@@ -184,7 +185,7 @@ pub fn la(symbols: &Symbols, place: u64, tokens: &[Token]) -> Result<Words, Faul
     Ok(Words::Two(auipc(rd, distance), addi(rd, rd, distance)))
 }
 
-/// The words of `call`.
+/// The words of `call` at `place`: `auipc` and `jalr`, with the return address in ra.
 pub fn call(symbols: &Symbols, place: u64, tokens: &[Token]) -> Result<Words, Fault>
     ensures { result ≡ call_at (names_of symbols.now) place (lexemes_of tokens.now) }
 {

@@ -7,7 +7,7 @@ ghost use Rattle.rvm_asm_line.specs.Laws.{EndAt};
 ghost use Rattle.rvm_asm_line.specs.Statements.{next_place};
 ghost use Rattle.rvm_asm_line.specs.Values.{Names};
 
-/// A line's bytes end where the next line stands, at most at 2^32.
+/// If a line has any bytes, they end where the next line stands, at most at 2^32.
 pub fn a_lines_bytes_end_where_the_next_line_stands()
     ensures { (names : Names) (place after : ℕ) (statement : List Lexeme) (bytes : List ℕ)
         → next_place names place statement ≡ Ok after

@@ -2,13 +2,12 @@
 //! the place after it, and its bytes. It stands on `rvm_text` for the tokens of a line and on
 //! `rvm_isa` for the words of instructions, and knows neither other lines nor images.
 //!
-//! `faults` says why a line can't be assembled; `symbols` keeps the values of names; `reading`
-//! takes tokens one by one, `values` expressions, `csrs` the names of control and status
-//! registers. `operations` are the instructions by the shape of their operands, `operands` read
-//! these, `instructions` makes the instruction of a line. `statements` says what kind a line is,
-//! what it defines and where the next one stands; `content` makes its bytes. Both first ask
-//! `grammar` whether the operands have the shapes of their kind. `laws` says that a
-//! line's bytes reach to the next line.
+//! `faults` says why a line can't be assembled; `symbols` keeps the values of names; `reading` reads single tokens,
+//! `values` expressions, `csrs` the names of control and status registers. `operations` lists the instructions by the
+//! shape of their operands, `operands` reads operands, `instructions` makes the instruction of a line, `pseudo` that of
+//! a pseudo-instruction. `statements` says what kind a line is, what it defines and where the next line stands;
+//! `content` makes the bytes of a line. Both first ask `grammar` whether the operands have the shapes of their kind.
+//! `words` looks words up in tables. `laws` says that the bytes of a line end where the next line stands.
 #![tactic(auto)]
 
 mod content;

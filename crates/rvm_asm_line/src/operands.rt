@@ -1,4 +1,6 @@
-//! The operands of instructions, by their shape.
+//! Reads the operands of instructions, by their shape. A function that finds other tokens than it reads fails with
+//! `BadToken`; one that reads an expression also with `UnknownName`, and with `OutOfReach` if the value is outside the
+//! range of its field.
 
 ghost use Rattle.std.specs.Prelude.{◌≡◌, ◌<◌, ◌^◌, IfOk};
 ghost use Rattle.rvm_text.specs.Tokens.{lexemes_of};
@@ -17,7 +19,7 @@ use crate::values::{fits_signed, last_value, value};
 use rvm_isa::{CsrNo, Imm5, Imm12, Imm20, Off13, Off21, Reg, Shamt};
 use rvm_text::Token;
 
-/// A value as an immediate.
+/// A value as a signed immediate of 12 bits. `OutOfReach` if it does not fit.
 pub fn immediate(value: u32) -> Result<Imm12, Fault>
     ensures { result ≡ signed_field 12 value }
 {
@@ -28,13 +30,14 @@ pub fn immediate(value: u32) -> Result<Imm12, Fault>
     }
 }
 
-/// How far a target is from a place.
+/// The distance from `place` to `target`, modulo 2^32.
 pub fn distance(target: u32, place: u64) -> u32
     ensures { result ≡ distance target place }
 {
     target.wrapping_sub((place % (1 << 32)) as u32)
 }
 
+/// A distance as the offset of a branch, a signed number of 13 bits. `OutOfReach` if it is odd or does not fit.
 fn branch_offset(distance: u32) -> Result<Off13, Fault>
     ensures { result ≡ offset_field 13 distance }
 {
@@ -45,6 +48,7 @@ fn branch_offset(distance: u32) -> Result<Off13, Fault>
     }
 }
 
+/// A distance as the offset of a jump, a signed number of 21 bits. `OutOfReach` if it is odd or does not fit.
 fn jump_offset(distance: u32) -> Result<Off21, Fault>
     ensures { result ≡ offset_field 21 distance }
 {
@@ -55,7 +59,7 @@ fn jump_offset(distance: u32) -> Result<Off21, Fault>
     }
 }
 
-/// The target of a branch that stands at a place, and nothing after it.
+/// Reads the target of a branch that stands at `place`, and nothing after it. Returns the offset from the branch to it.
 #[tactic(auto, unfolding(crate::specs::Operands::last_target))]
 pub fn last_branch(symbols: &Symbols, place: u64, tokens: &[Token]) -> Result<Off13, Fault>
     ensures { result ≡ last_target (names_of symbols.now) 13 place (lexemes_of tokens.now) }
@@ -64,7 +68,7 @@ pub fn last_branch(symbols: &Symbols, place: u64, tokens: &[Token]) -> Result<Of
     branch_offset(distance(target, place))
 }
 
-/// The target of a jump that stands at a place, and nothing after it.
+/// Reads the target of a jump that stands at `place`, and nothing after it. Returns the offset from the jump to it.
 #[tactic(auto, unfolding(crate::specs::Operands::last_target))]
 pub fn last_jump(symbols: &Symbols, place: u64, tokens: &[Token]) -> Result<Off21, Fault>
     ensures { result ≡ last_target (names_of symbols.now) 21 place (lexemes_of tokens.now) }
@@ -73,7 +77,7 @@ pub fn last_jump(symbols: &Symbols, place: u64, tokens: &[Token]) -> Result<Off2
     jump_offset(distance(target, place))
 }
 
-/// An immediate, and nothing after it.
+/// Reads an immediate, and nothing after it.
 #[tactic(auto, unfolding(crate::specs::Operands::last_immediate))]
 fn last_immediate(symbols: &Symbols, tokens: &[Token]) -> Result<Imm12, Fault>
     ensures { result ≡ last_immediate (names_of symbols.now) (lexemes_of tokens.now) }
@@ -82,7 +86,7 @@ fn last_immediate(symbols: &Symbols, tokens: &[Token]) -> Result<Imm12, Fault>
     immediate(value)
 }
 
-/// A number below 32, and nothing after it.
+/// Reads a number below 32, and nothing after it.
 #[tactic(auto, unfolding(crate::specs::Operands::last_below))]
 fn last_below_32(symbols: &Symbols, tokens: &[Token]) -> Result<u32, Fault>
     ensures value { result ≡ last_below (names_of symbols.now) 32 (lexemes_of tokens.now) }
@@ -96,7 +100,7 @@ fn last_below_32(symbols: &Symbols, tokens: &[Token]) -> Result<u32, Fault>
     }
 }
 
-/// The upper bits of a word, and nothing after them.
+/// Reads the upper 20 bits of a word as a number below 2^20, and nothing after it.
 #[tactic(auto, unfolding(crate::specs::Operands::last_below))]
 fn last_upper_bits(symbols: &Symbols, tokens: &[Token]) -> Result<Imm20, Fault>
     ensures { result ≡ last_below (names_of symbols.now) (2 ^ 20) (lexemes_of tokens.now) }
@@ -109,7 +113,7 @@ fn last_upper_bits(symbols: &Symbols, tokens: &[Token]) -> Result<Imm20, Fault>
     }
 }
 
-/// rd and the upper bits.
+/// Reads rd and the upper 20 bits.
 pub fn upper(symbols: &Symbols, tokens: &[Token]) -> Result<(Reg, Imm20), Fault>
     ensures { result ≡ upper_at (names_of symbols.now) (lexemes_of tokens.now) }
 {
@@ -118,7 +122,7 @@ pub fn upper(symbols: &Symbols, tokens: &[Token]) -> Result<(Reg, Imm20), Fault>
     Ok((Reg::new(rd), imm))
 }
 
-/// rd and a target.
+/// Reads rd and a target. Returns rd and the offset from `place` to the target.
 pub fn jump(symbols: &Symbols, place: u64, tokens: &[Token]) -> Result<(Reg, Off21), Fault>
     ensures { result ≡ jump_at (names_of symbols.now) place (lexemes_of tokens.now) }
 {
@@ -127,7 +131,7 @@ pub fn jump(symbols: &Symbols, place: u64, tokens: &[Token]) -> Result<(Reg, Off
     Ok((Reg::new(rd), offset))
 }
 
-/// rs1, rs2 and a target.
+/// Reads rs1, rs2 and a target. Returns the registers and the offset from `place` to the target.
 pub fn branch(symbols: &Symbols, place: u64, tokens: &[Token]) -> Result<(Reg, Reg, Off13), Fault>
     ensures { result ≡ branch_at (names_of symbols.now) place (lexemes_of tokens.now) }
 {
@@ -137,7 +141,8 @@ pub fn branch(symbols: &Symbols, place: u64, tokens: &[Token]) -> Result<(Reg, R
     Ok((Reg::new(rs1), Reg::new(rs2), offset))
 }
 
-/// A register, and an address as an immediate and rs1.
+/// Reads a register, and an address as an immediate and rs1 in parentheses. Returns the register, rs1 and the
+/// immediate.
 pub fn address(symbols: &Symbols, tokens: &[Token]) -> Result<(Reg, Reg, Imm12), Fault>
     ensures { result ≡ address_at (names_of symbols.now) (lexemes_of tokens.now) }
 {
@@ -148,7 +153,7 @@ pub fn address(symbols: &Symbols, tokens: &[Token]) -> Result<(Reg, Reg, Imm12),
     Ok((Reg::new(register), rs1, imm))
 }
 
-/// rd, rs1 and an immediate.
+/// Reads rd, rs1 and an immediate.
 pub fn with_immediate(symbols: &Symbols, tokens: &[Token]) -> Result<(Reg, Reg, Imm12), Fault>
     ensures { result ≡ immediate_at (names_of symbols.now) (lexemes_of tokens.now) }
 {
@@ -158,7 +163,7 @@ pub fn with_immediate(symbols: &Symbols, tokens: &[Token]) -> Result<(Reg, Reg, 
     Ok((Reg::new(rd), Reg::new(rs1), imm))
 }
 
-/// rd, rs1 and an amount.
+/// Reads rd, rs1 and an amount below 32.
 pub fn shift(symbols: &Symbols, tokens: &[Token]) -> Result<(Reg, Reg, Shamt), Fault>
     ensures { result ≡ shift_at (names_of symbols.now) (lexemes_of tokens.now) }
 {
@@ -168,7 +173,7 @@ pub fn shift(symbols: &Symbols, tokens: &[Token]) -> Result<(Reg, Reg, Shamt), F
     Ok((Reg::new(rd), Reg::new(rs1), Shamt::new(amount)))
 }
 
-/// rd, rs1 and rs2.
+/// Reads rd, rs1 and rs2.
 pub fn registers(tokens: &[Token]) -> Result<(Reg, Reg, Reg), Fault>
     ensures { result ≡ registers_at (lexemes_of tokens.now) }
 {
@@ -178,7 +183,7 @@ pub fn registers(tokens: &[Token]) -> Result<(Reg, Reg, Reg), Fault>
     Ok((Reg::new(rd), Reg::new(rs1), rs2))
 }
 
-/// Two registers.
+/// Reads rd and another register.
 pub fn two_registers(tokens: &[Token]) -> Result<(Reg, Reg), Fault>
     ensures { result ≡ two_registers_at (lexemes_of tokens.now) }
 {
@@ -187,7 +192,7 @@ pub fn two_registers(tokens: &[Token]) -> Result<(Reg, Reg), Fault>
     Ok((Reg::new(rd), rs))
 }
 
-/// rd, a control and status register and rs1.
+/// Reads rd, a control and status register, and rs1.
 pub fn csr_register(tokens: &[Token]) -> Result<(Reg, CsrNo, Reg), Fault>
     ensures { result ≡ csr_register_at (lexemes_of tokens.now) }
 {
@@ -197,7 +202,7 @@ pub fn csr_register(tokens: &[Token]) -> Result<(Reg, CsrNo, Reg), Fault>
     Ok((Reg::new(rd), CsrNo::new(csr), rs1))
 }
 
-/// rd, a control and status register and an immediate.
+/// Reads rd, a control and status register, and an immediate below 32.
 pub fn csr_immediate(symbols: &Symbols, tokens: &[Token]) -> Result<(Reg, CsrNo, Imm5), Fault>
     ensures { result ≡ csr_immediate_at (names_of symbols.now) (lexemes_of tokens.now) }
 {
@@ -207,7 +212,7 @@ pub fn csr_immediate(symbols: &Symbols, tokens: &[Token]) -> Result<(Reg, CsrNo,
     Ok((Reg::new(rd), CsrNo::new(csr), Imm5::new(imm)))
 }
 
-/// rd and rs1 in parentheses.
+/// Reads rd, and rs1 in parentheses.
 pub fn load_reserved(tokens: &[Token]) -> Result<(Reg, Reg), Fault>
     ensures { result ≡ load_reserved_at (lexemes_of tokens.now) }
 {
@@ -216,7 +221,7 @@ pub fn load_reserved(tokens: &[Token]) -> Result<(Reg, Reg), Fault>
     Ok((Reg::new(rd), rs1))
 }
 
-/// rd, rs2 and rs1 in parentheses.
+/// Reads rd, rs2, and rs1 in parentheses. Returns them in this order.
 pub fn atomic(tokens: &[Token]) -> Result<(Reg, Reg, Reg), Fault>
     ensures { result ≡ atomic_at (lexemes_of tokens.now) }
 {

@@ -18,7 +18,7 @@ pub struct Ordering {
     pub rl: bool,
 }
 
-/// With rd and the upper bits of a word.
+/// An instruction with rd and the upper 20 bits of a word.
 #[derive(Clone, Copy)]
 pub enum Upper {
     Lui,
@@ -36,7 +36,7 @@ pub enum Branch {
     Bgeu,
 }
 
-/// A load, or jalr: with rd, rs1 and an immediate.
+/// A load, or jalr, with rd, rs1 and an immediate.
 #[derive(Clone, Copy)]
 pub enum Load {
     Jalr,
@@ -55,7 +55,7 @@ pub enum Store {
     Sw,
 }
 
-/// With rd, rs1 and an immediate.
+/// An instruction with rd, rs1 and an immediate.
 #[derive(Clone, Copy)]
 pub enum Immediate {
     Addi,
@@ -74,7 +74,7 @@ pub enum Shift {
     Srai,
 }
 
-/// With rd, rs1 and rs2.
+/// An instruction with rd, rs1 and rs2.
 #[derive(Clone, Copy)]
 pub enum Register {
     Add,
@@ -97,7 +97,7 @@ pub enum Register {
     Remu,
 }
 
-/// Without operands.
+/// An instruction without operands.
 #[derive(Clone, Copy)]
 pub enum Whole {
     Fence,
@@ -108,7 +108,7 @@ pub enum Whole {
     Wfi,
 }
 
-/// With rd, rs1 and a control and status register.
+/// An instruction with rd, rs1 and a control and status register.
 #[derive(Clone, Copy)]
 pub enum Csr {
     Csrrw,
@@ -116,7 +116,7 @@ pub enum Csr {
     Csrrc,
 }
 
-/// With rd, an immediate and a control and status register.
+/// An instruction with rd, an immediate and a control and status register.
 #[derive(Clone, Copy)]
 pub enum CsrImmediate {
     Csrrwi,
@@ -124,7 +124,7 @@ pub enum CsrImmediate {
     Csrrci,
 }
 
-/// An atomic access with rd, rs1 and rs2.
+/// An atomic instruction with rd, rs1 and rs2.
 #[derive(Clone, Copy)]
 pub enum Atomic {
     ScW,
@@ -139,7 +139,7 @@ pub enum Atomic {
     AmomaxuW,
 }
 
-/// The name of an instruction, as the shape of its operands and which of that shape it is.
+/// The name of an instruction: the shape of its operands, and which instruction of that shape it is.
 #[derive(Clone, Copy)]
 pub enum Operation {
     Upper(Upper),
@@ -159,7 +159,7 @@ pub enum Operation {
     Atomic(Atomic, Ordering),
 }
 
-/// The instructions but the atomic ones.
+/// The instructions, without the atomic ones.
 const OPERATIONS: [(&str, Operation); 57] = [
     ("jal", Operation::Jump),
     ("lui", Operation::Upper(Upper::Lui)),
@@ -234,7 +234,7 @@ const ATOMICS: [(&str, Atomic); 10] = [
     ("amomaxu.w", Atomic::AmomaxuW),
 ];
 
-/// The instruction that a word names.
+/// The instruction that a word names, or `None` if it names none.
 #[tactic(auto, unfolding(crate::specs::Operations::operation_of, crate::specs::Operations::operations))]
 pub fn operation_named(word: &[u8]) -> Option<Operation>
     ensures { result ≡ operation_of word.now }
@@ -249,7 +249,7 @@ fn ordered_named(word: &[u8]) -> Option<Operation>
     atomic_named(stem, ordering)
 }
 
-/// The atomic instruction that a word without its end names.
+/// The atomic instruction that a word names, once its ending for the ordering is removed.
 #[tactic(auto, unfolding(crate::specs::Operations::atomics))]
 fn atomic_named(stem: &[u8], ordering: Ordering) -> Option<Operation>
     ensures { result ≡ atomic_of (stem.now, ordering) }
@@ -261,7 +261,8 @@ fn atomic_named(stem: &[u8], ordering: Ordering) -> Option<Operation>
     Some(Operation::Atomic(access, ordering))
 }
 
-/// The word without its end `.aqrl`, `.aq` or `.rl`, and the ordering that the end names.
+/// The word without its ending `.aqrl`, `.aq` or `.rl`, and the ordering that the ending names. A word without such an
+/// ending is returned whole, with neither acquire nor release.
 fn ordered(word: &[u8]) -> (&[u8], Ordering)
     ensures { seen_ordered result ≡ ordered word.now }
 {

@@ -14,7 +14,7 @@ use crate::symbols::Symbols;
 use rvm_isa::{CsrNo, Imm12, Ins, Reg};
 use rvm_text::Token;
 
-/// A name that stands for an instruction with some of its operands given.
+/// The name of a pseudo-instruction. It stands for an instruction, some operands of which it fixes.
 #[derive(Clone, Copy)]
 pub enum Pseudo {
     Nop,
@@ -33,7 +33,8 @@ pub enum Pseudo {
 }
 
 impl Pseudo {
-    /// The instruction with the operands of a line that stands at a place.
+    /// Reads the operands of this pseudo-instruction on a line that stands at `place`. Returns the instruction that it
+    /// stands for, or the fault of an operand.
     pub fn read(self, symbols: &Symbols, place: u64, tokens: &[Token]) -> Result<Ins, Fault>
         ensures { result ≡ pseudo_at (names_of symbols.now) place self (lexemes_of tokens.now) }
     {
@@ -55,13 +56,14 @@ impl Pseudo {
     }
 }
 
+/// The register x0.
 fn zero() -> Reg
     ensures { result ≡ 0 }
 {
     Reg::new(0)
 }
 
-/// addi zero, zero, 0.
+/// `nop` is `addi zero, zero, 0`.
 fn nop(tokens: &[Token]) -> Result<Ins, Fault>
     ensures { result ≡ pseudo_at no_names 0 Pseudo.Nop (lexemes_of tokens.now) }
 {
@@ -73,7 +75,7 @@ fn nop(tokens: &[Token]) -> Result<Ins, Fault>
     })
 }
 
-/// addi rd, rs, 0.
+/// `mv rd, rs` is `addi rd, rs, 0`.
 fn mv(tokens: &[Token]) -> Result<Ins, Fault>
     ensures { result ≡ pseudo_at no_names 0 Pseudo.Mv (lexemes_of tokens.now) }
 {
@@ -85,7 +87,7 @@ fn mv(tokens: &[Token]) -> Result<Ins, Fault>
     })
 }
 
-/// xori rd, rs, -1.
+/// `not rd, rs` is `xori rd, rs, -1`.
 fn not(tokens: &[Token]) -> Result<Ins, Fault>
     ensures { result ≡ pseudo_at no_names 0 Pseudo.Not (lexemes_of tokens.now) }
 {
@@ -97,7 +99,7 @@ fn not(tokens: &[Token]) -> Result<Ins, Fault>
     })
 }
 
-/// sub rd, zero, rs.
+/// `neg rd, rs` is `sub rd, zero, rs`.
 fn neg(tokens: &[Token]) -> Result<Ins, Fault>
     ensures { result ≡ pseudo_at no_names 0 Pseudo.Neg (lexemes_of tokens.now) }
 {
@@ -109,7 +111,7 @@ fn neg(tokens: &[Token]) -> Result<Ins, Fault>
     })
 }
 
-/// sltiu rd, rs, 1.
+/// `seqz rd, rs` is `sltiu rd, rs, 1`.
 fn seqz(tokens: &[Token]) -> Result<Ins, Fault>
     ensures { result ≡ pseudo_at no_names 0 Pseudo.Seqz (lexemes_of tokens.now) }
 {
@@ -121,7 +123,7 @@ fn seqz(tokens: &[Token]) -> Result<Ins, Fault>
     })
 }
 
-/// sltu rd, zero, rs.
+/// `snez rd, rs` is `sltu rd, zero, rs`.
 fn snez(tokens: &[Token]) -> Result<Ins, Fault>
     ensures { result ≡ pseudo_at no_names 0 Pseudo.Snez (lexemes_of tokens.now) }
 {
@@ -133,7 +135,7 @@ fn snez(tokens: &[Token]) -> Result<Ins, Fault>
     })
 }
 
-/// beq rs, zero, target.
+/// `beqz rs, target` is `beq rs, zero, target`.
 fn beqz(symbols: &Symbols, place: u64, tokens: &[Token]) -> Result<Ins, Fault>
     ensures { result ≡ pseudo_at (names_of symbols.now) place Pseudo.Beqz (lexemes_of tokens.now) }
 {
@@ -147,7 +149,7 @@ fn beqz(symbols: &Symbols, place: u64, tokens: &[Token]) -> Result<Ins, Fault>
     })
 }
 
-/// bne rs, zero, target.
+/// `bnez rs, target` is `bne rs, zero, target`.
 fn bnez(symbols: &Symbols, place: u64, tokens: &[Token]) -> Result<Ins, Fault>
     ensures { result ≡ pseudo_at (names_of symbols.now) place Pseudo.Bnez (lexemes_of tokens.now) }
 {
@@ -161,7 +163,7 @@ fn bnez(symbols: &Symbols, place: u64, tokens: &[Token]) -> Result<Ins, Fault>
     })
 }
 
-/// jal zero, target.
+/// `j target` is `jal zero, target`.
 fn j(symbols: &Symbols, place: u64, tokens: &[Token]) -> Result<Ins, Fault>
     ensures { result ≡ pseudo_at (names_of symbols.now) place Pseudo.J (lexemes_of tokens.now) }
 {
@@ -169,7 +171,7 @@ fn j(symbols: &Symbols, place: u64, tokens: &[Token]) -> Result<Ins, Fault>
     Ok(Ins::Jal { rd: zero(), offset })
 }
 
-/// jalr zero, 0(rs).
+/// `jr rs` is `jalr zero, 0(rs)`.
 fn jr(tokens: &[Token]) -> Result<Ins, Fault>
     ensures { result ≡ pseudo_at no_names 0 Pseudo.Jr (lexemes_of tokens.now) }
 {
@@ -181,7 +183,7 @@ fn jr(tokens: &[Token]) -> Result<Ins, Fault>
     })
 }
 
-/// jalr zero, 0(ra).
+/// `ret` is `jalr zero, 0(ra)`.
 fn ret(tokens: &[Token]) -> Result<Ins, Fault>
     ensures { result ≡ pseudo_at no_names 0 Pseudo.Ret (lexemes_of tokens.now) }
 {
@@ -193,7 +195,7 @@ fn ret(tokens: &[Token]) -> Result<Ins, Fault>
     })
 }
 
-/// csrrs rd, csr, zero.
+/// `csrr rd, csr` is `csrrs rd, csr, zero`.
 fn csrr(tokens: &[Token]) -> Result<Ins, Fault>
     ensures { result ≡ pseudo_at no_names 0 Pseudo.Csrr (lexemes_of tokens.now) }
 {
@@ -206,7 +208,7 @@ fn csrr(tokens: &[Token]) -> Result<Ins, Fault>
     })
 }
 
-/// csrrw zero, csr, rs.
+/// `csrw csr, rs` is `csrrw zero, csr, rs`.
 fn csrw(tokens: &[Token]) -> Result<Ins, Fault>
     ensures { result ≡ pseudo_at no_names 0 Pseudo.Csrw (lexemes_of tokens.now) }
 {

@@ -1,4 +1,4 @@
-//! Tokens taken one by one.
+//! Reads single tokens. A function that finds other tokens than it reads fails with `BadToken`.
 
 ghost use Rattle.std.specs.Prelude.{◌≡◌, ◌<◌, ◌∷◌, IfOk, IfSome, length};
 ghost use Rattle.rvm_text.specs.Tokens.{lexeme_of, lexemes_of};
@@ -12,7 +12,7 @@ use crate::faults::Fault;
 use rvm_isa::Reg;
 use rvm_text::{Token, is_name, register};
 
-/// The first token, and those after it.
+/// The first token and the tokens after it, or `None` if there is no token.
 pub fn next<'t, 'a>(tokens: &'t [Token<'a>]) -> Option<(Token<'a>, &'t [Token<'a>])>
     ensures parts { parted result ≡ uncons (lexemes_of tokens.now) }
     ensures shorter { IfSome result (λ x. length x.1.now < length tokens.now) }
@@ -21,7 +21,7 @@ pub fn next<'t, 'a>(tokens: &'t [Token<'a>]) -> Option<(Token<'a>, &'t [Token<'a
     Some((*first, rest))
 }
 
-/// The tokens after a mark.
+/// Reads the mark `wanted`. Returns the tokens after it.
 pub fn mark<'t, 'a>(tokens: &'t [Token<'a>], wanted: u8) -> Result<&'t [Token<'a>], Fault>
     ensures { seen_rest result ≡ mark_at wanted (lexemes_of tokens.now) }
 {
@@ -44,7 +44,7 @@ pub fn is_comma(token: Token) -> bool
     matches!(token, Token::Mark(b','))
 }
 
-/// The tokens before the first comma, and those after it, if there is one.
+/// The tokens before the first comma, and the tokens after it. Without a comma: all tokens, and `None`.
 #[tactic(auto, using(crate::proofs::Parts::steps))]
 pub fn first_part<'t, 'a>(tokens: &'t [Token<'a>]) -> (&'t [Token<'a>], Option<&'t [Token<'a>]>)
     ensures parts { parts (lexemes_of tokens.now) ≡ lexemes_of result.0.now ∷ seen_parts result.1 }
@@ -58,7 +58,7 @@ pub fn first_part<'t, 'a>(tokens: &'t [Token<'a>]) -> (&'t [Token<'a>], Option<&
     (tokens, None)
 }
 
-/// Nothing is left.
+/// Checks that no token is left.
 pub fn end(tokens: &[Token]) -> Result<(), Fault>
     ensures { result ≡ end_at (lexemes_of tokens.now) }
 {
@@ -69,7 +69,7 @@ pub fn end(tokens: &[Token]) -> Result<(), Fault>
     }
 }
 
-/// A name.
+/// Reads a name. Returns it and the tokens after it.
 pub fn name<'t, 'a>(tokens: &'t [Token<'a>]) -> Result<(&'a [u8], &'t [Token<'a>]), Fault>
     ensures { seen_name result ≡ name_at (lexemes_of tokens.now) }
 {
@@ -85,7 +85,7 @@ pub fn name<'t, 'a>(tokens: &'t [Token<'a>]) -> Result<(&'a [u8], &'t [Token<'a>
     }
 }
 
-/// A string as it is written between its quotes, and nothing after it.
+/// Reads a string, and nothing after it. Returns it as it is written between its quotes.
 pub fn last_string<'a>(tokens: &[Token<'a>]) -> Result<&'a [u8], Fault>
     ensures { seen_bytes result ≡ last_string (lexemes_of tokens.now) }
 {
@@ -98,7 +98,7 @@ pub fn last_string<'a>(tokens: &[Token<'a>]) -> Result<&'a [u8], Fault>
     }
 }
 
-/// The number of a register.
+/// Reads a register. Returns its number and the tokens after it.
 pub fn register_number<'t, 'a>(tokens: &'t [Token<'a>]) -> Result<(u32, &'t [Token<'a>]), Fault>
     ensures value { seen result ≡ register_at (lexemes_of tokens.now) }
     ensures below { IfOk result (λ r. r.0 < 32) }
@@ -112,7 +112,7 @@ pub fn register_number<'t, 'a>(tokens: &'t [Token<'a>]) -> Result<(u32, &'t [Tok
     }
 }
 
-/// The number of a register, and a comma.
+/// Reads a register and a comma. Returns the number of the register and the tokens after the comma.
 #[tactic(auto, unfolding(crate::specs::Reading::register_comma))]
 pub fn register_comma<'t, 'a>(tokens: &'t [Token<'a>]) -> Result<(u32, &'t [Token<'a>]), Fault>
     ensures value { seen result ≡ register_comma (lexemes_of tokens.now) }
@@ -123,7 +123,7 @@ pub fn register_comma<'t, 'a>(tokens: &'t [Token<'a>]) -> Result<(u32, &'t [Toke
     Ok((number, rest))
 }
 
-/// A register, and nothing after it.
+/// Reads a register, and nothing after it.
 #[tactic(auto, unfolding(crate::specs::Reading::last_register))]
 pub fn last_register(tokens: &[Token]) -> Result<Reg, Fault>
     ensures { result ≡ last_register (lexemes_of tokens.now) }
@@ -133,7 +133,7 @@ pub fn last_register(tokens: &[Token]) -> Result<Reg, Fault>
     Ok(Reg::new(number))
 }
 
-/// A register in parentheses, and nothing after it.
+/// Reads a register in parentheses, and nothing after it.
 #[tactic(auto, unfolding(crate::specs::Reading::last_address))]
 pub fn last_address(tokens: &[Token]) -> Result<Reg, Fault>
     ensures { result ≡ last_address (lexemes_of tokens.now) }

@@ -21,7 +21,7 @@ use crate::values::last_value;
 use crate::words::named;
 use rvm_text::{Token, is_name, text_length};
 
-/// How many bytes each value of a list takes.
+/// The size of each value of a list.
 #[derive(Clone, Copy)]
 pub enum Width {
     Word,
@@ -30,7 +30,7 @@ pub enum Width {
 }
 
 impl Width {
-    /// The number of bytes.
+    /// The size in bytes: 4, 2 or 1.
     pub fn bytes(self) -> u64
         ensures value { result ≡ bytes_in self }
         ensures few { result ≤ 4 }
@@ -43,7 +43,7 @@ impl Width {
     }
 }
 
-/// What a statement is.
+/// The kind of a statement.
 #[derive(Clone, Copy)]
 pub enum Keyword {
     Org,
@@ -58,7 +58,7 @@ pub enum Keyword {
     Code(Code),
 }
 
-/// What kind of words a statement makes.
+/// The kind of a statement that makes instructions.
 #[derive(Clone, Copy)]
 pub enum Code {
     Li,
@@ -104,7 +104,7 @@ const PSEUDO_INSTRUCTIONS: [(&str, Keyword); 16] = [
     ("call", Keyword::Code(Code::Call)),
 ];
 
-/// The kind of statement that a word names.
+/// The kind of statement that a word names, or `None` if it names none.
 #[tactic(auto, unfolding(crate::specs::Statements::keyword_of, crate::specs::Statements::directives, crate::specs::Statements::pseudo_instructions))]
 fn keyword_named(word: &[u8]) -> Option<Keyword>
     ensures { result ≡ keyword_of word.now }
@@ -114,6 +114,7 @@ fn keyword_named(word: &[u8]) -> Option<Keyword>
         .or(instruction_named(word))
 }
 
+/// The kind of statement of the instruction that a word names, or `None` if it names none.
 fn instruction_named(word: &[u8]) -> Option<Keyword>
     ensures { result ≡ option_map (λ o. Keyword.Code (Code.Instruction o)) (operation_of word.now) }
 {
@@ -121,7 +122,7 @@ fn instruction_named(word: &[u8]) -> Option<Keyword>
     Some(Keyword::Code(Code::Instruction(operation)))
 }
 
-/// The kind that the first word names, and the tokens after it.
+/// The kind of statement that the first word names, and the tokens after it.
 fn split_keyword<'t, 'a>(tokens: &'t [Token<'a>]) -> Result<(Keyword, &'t [Token<'a>]), Fault>
     ensures { seen result ≡ keyword_at (lexemes_of tokens.now) }
 {
@@ -134,7 +135,7 @@ fn split_keyword<'t, 'a>(tokens: &'t [Token<'a>]) -> Result<(Keyword, &'t [Token
     }
 }
 
-/// The kind of a statement, and its operands, if it is in the grammar.
+/// The kind of a statement, and its operands. `BadToken` if it is not in the grammar.
 pub fn statement<'t, 'a>(tokens: &'t [Token<'a>]) -> Result<(Keyword, &'t [Token<'a>]), Fault>
     ensures { seen result ≡ statement_at (lexemes_of tokens.now) }
 {
@@ -158,7 +159,7 @@ pub fn label<'t, 'a>(place: u64, tokens: &'t [Token<'a>]) -> (Option<Symbol<'a>>
     (None, tokens)
 }
 
-/// The place this many bytes on.
+/// The place `size` bytes after `place`. `OutOfReach` if it is above 2^32.
 fn advance(place: u64, size: u64) -> Result<u64, Fault>
     requires { place ≤ 2 ^ 32 }
     ensures value { result ≡ advanced place size }
@@ -171,7 +172,7 @@ fn advance(place: u64, size: u64) -> Result<u64, Fault>
     }
 }
 
-/// The place after a list of values.
+/// The place after a list of values of this width that stands at `place`.
 fn advance_list(place: u64, width: Width, tokens: &[Token]) -> Result<u64, Fault>
     requires { place ≤ 2 ^ 32 }
     ensures value { result ≡ advanced place (list_size width (lexemes_of tokens.now)) }
@@ -184,7 +185,7 @@ fn advance_list(place: u64, width: Width, tokens: &[Token]) -> Result<u64, Fault
     }
 }
 
-/// How many commas there are.
+/// The number of commas among tokens.
 #[tactic(auto, using(crate::proofs::Lists::commas))]
 fn commas(tokens: &[Token]) -> u64
     ensures { result ≡ count_by is_comma (lexemes_of tokens.now) }
@@ -192,6 +193,7 @@ fn commas(tokens: &[Token]) -> u64
     tokens.iter().filter(|token| is_comma(**token)).count() as u64
 }
 
+/// Whether a number is a power of two from 1 to 4096.
 fn is_alignment(number: u32) -> bool
     ensures { result ≡ is_alignment number }
 {
@@ -201,7 +203,8 @@ fn is_alignment(number: u32) -> bool
     )
 }
 
-/// How many zeros a line of `.balign` places.
+/// The number of zeros that a line of `.balign` at `place` makes. `OutOfReach` if its operand is no power of two from 1
+/// to 4096.
 #[tactic(auto, unfolding(crate::specs::Statements::balign_at))]
 pub fn balign(symbols: &Symbols, place: u64, tokens: &[Token]) -> Result<u64, Fault>
     ensures value { result ≡ balign_at (names_of symbols.now) place (lexemes_of tokens.now) }
@@ -215,7 +218,7 @@ pub fn balign(symbols: &Symbols, place: u64, tokens: &[Token]) -> Result<u64, Fa
     Ok((number - place % number) % number)
 }
 
-/// How many zeros a line of `.space` places.
+/// The number of zeros that a line of `.space` makes. `OutOfReach` if it is above 2^24.
 #[tactic(auto, unfolding(crate::specs::Statements::space_at))]
 pub fn space(symbols: &Symbols, tokens: &[Token]) -> Result<u64, Fault>
     ensures value { result ≡ space_at (names_of symbols.now) (lexemes_of tokens.now) }
@@ -229,7 +232,7 @@ pub fn space(symbols: &Symbols, tokens: &[Token]) -> Result<u64, Fault>
     }
 }
 
-/// The place after a string, and after this many bytes more.
+/// The place after the text of a string that stands at `place`, and `more` bytes after it.
 fn advance_string(place: u64, more: u64, tokens: &[Token]) -> Result<u64, Fault>
     requires place { place ≤ 2 ^ 32 }
     requires more { more ≤ 1 }
@@ -240,7 +243,7 @@ fn advance_string(place: u64, more: u64, tokens: &[Token]) -> Result<u64, Fault>
     advance(place, text_length(written) as u64 + more)
 }
 
-/// The place after a statement of a kind.
+/// The place of the line after a statement of this kind at `place`.
 fn place_after(
     symbols: &Symbols,
     place: u64,
@@ -264,7 +267,7 @@ fn place_after(
     }
 }
 
-/// How many bytes the words of a line have.
+/// The size in bytes of the words of an instruction or a pseudo-instruction.
 fn size(symbols: &Symbols, code: Code, tokens: &[Token]) -> Result<u64, Fault>
     ensures { result ≡ size_of (names_of symbols.now) code (lexemes_of tokens.now) }
 {
@@ -278,8 +281,8 @@ fn size(symbols: &Symbols, code: Code, tokens: &[Token]) -> Result<u64, Fault>
     }
 }
 
-/// The place of the line after one whose statement this is. The values of symbols are those of
-/// earlier lines.
+/// The place of the next line after one at `place` that has this statement. `symbols` has the names of earlier lines.
+/// Fails with the fault of the statement, or with `OutOfReach` if the place would be above 2^32.
 pub fn next_place(symbols: &Symbols, place: u64, tokens: &[Token]) -> Result<u64, Fault>
     requires { place ≤ 2 ^ 32 }
     ensures value { result ≡ next_place (names_of symbols.now) place (lexemes_of tokens.now) }
@@ -292,7 +295,7 @@ pub fn next_place(symbols: &Symbols, place: u64, tokens: &[Token]) -> Result<u64
     place_after(symbols, place, keyword, operands)
 }
 
-/// What a line of `.equ` defines.
+/// The name that a line of `.equ` defines, with its value.
 fn equ<'a>(symbols: &Symbols, tokens: &[Token<'a>]) -> Result<Option<Symbol<'a>>, Fault>
     ensures { seen_definition result
         ≡ equ_of (names_of symbols.now) Keyword.Equ (lexemes_of tokens.now) }
@@ -303,8 +306,8 @@ fn equ<'a>(symbols: &Symbols, tokens: &[Token<'a>]) -> Result<Option<Symbol<'a>>
     Ok(Some(Symbol { name, value }))
 }
 
-/// What a statement defines: the name of an `.equ`, with the value that its expression has by the
-/// symbols of earlier lines.
+/// The name that a statement defines, which only `.equ` does, with the value of its expression. `symbols` has the names
+/// of earlier lines.
 pub fn definition<'a>(symbols: &Symbols, tokens: &[Token<'a>]) -> Result<Option<Symbol<'a>>, Fault>
     ensures { seen_definition result ≡ equ_at (names_of symbols.now) (lexemes_of tokens.now) }
 {

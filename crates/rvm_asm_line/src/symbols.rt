@@ -17,7 +17,7 @@ pub struct Symbol<'a> {
     pub value: u32,
 }
 
-/// The value of a name.
+/// The value of a name, if it has one.
 #[tactic(auto, unfolding(crate::specs::Views::names_of))]
 pub fn lookup(symbols: &Symbols, name: &[u8]) -> Option<u32>
     ensures { result ≡ names_of symbols.now name.now }
@@ -25,7 +25,7 @@ pub fn lookup(symbols: &Symbols, name: &[u8]) -> Option<u32>
     symbols.get(name).copied()
 }
 
-/// Gives a name its value, in the place of the one that it has.
+/// Gives a name its value, in place of any value that it has. Fails only if memory runs out.
 #[tactic(auto, unfolding(crate::specs::Views::names_of))]
 pub fn insert<'a>(symbols: &mut Symbols<'a>, symbol: Symbol<'a>) -> Result<(), AllocError>
     ensures { OnOk result ((name : List ℕ) → names_of symbols.new name

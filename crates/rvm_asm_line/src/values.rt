@@ -1,4 +1,5 @@
-//! The values of expressions.
+//! Reads expressions. A function that finds other tokens than it reads fails with `BadToken`, and with `UnknownName` if
+//! it meets a name without a value.
 
 ghost use Rattle.std.specs.Prelude.{◌≡◌, ◌<◌, ◌≤◌, ◌*◌, ◌^◌, IfSome, Ok, length};
 ghost use Rattle.rvm_text.specs.Numbers.{number_of};
@@ -16,7 +17,7 @@ use crate::reading::{end, mark, next};
 use crate::symbols::{Symbols, lookup};
 use rvm_text::{Token, is_name, number};
 
-/// A half of a value that an instruction can hold.
+/// One of the two parts of a value that an instruction can hold.
 #[derive(Clone, Copy)]
 pub enum Half {
     /// `%hi`: the upper 20 bits.
@@ -26,6 +27,7 @@ pub enum Half {
 }
 
 impl Half {
+    /// This half of a value.
     fn of(self, value: u32) -> u32
         ensures { result ≡ half_of self value }
     {
@@ -36,7 +38,7 @@ impl Half {
     }
 }
 
-/// The upper 20 bits of a value, one more where its lower 12 bits are negative as signed.
+/// The upper 20 bits of a value, plus one if its lower 12 bits are a negative signed number, modulo 2^20.
 pub fn high(value: u32) -> u32
     ensures value { result ≡ high value }
     ensures below { result < 2 ^ 20 }
@@ -56,7 +58,7 @@ pub fn low(value: u32) -> u32
     }
 }
 
-/// Whether a value as signed is a number of this many bits.
+/// Whether a value, as a signed number, fits `bits` bits.
 pub fn fits_signed(bits: u32, value: u32) -> bool
     requires some { 0 < bits }
     requires few { bits < 32 }
@@ -66,7 +68,7 @@ pub fn fits_signed(bits: u32, value: u32) -> bool
     value < limit || value >= limit.wrapping_neg()
 }
 
-/// An expression.
+/// Reads an expression. Returns its value, modulo 2^32, and the tokens after it.
 #[tactic(auto, using(crate::proofs::Expressions::fault_in_halves))]
 pub fn value<'t, 'a>(
     symbols: &Symbols,
@@ -79,7 +81,7 @@ pub fn value<'t, 'a>(
     closed(tokens, depth, whole, rest)
 }
 
-/// How many halves begin one in another, and the tokens after their beginnings.
+/// The number of `%hi(` and `%lo(` that the tokens begin with, and the tokens after these.
 #[tactic(auto, using(crate::proofs::Expressions::openings))]
 fn opened<'t, 'a>(tokens: &'t [Token<'a>]) -> (usize, &'t [Token<'a>])
     ensures value { (names : Names) → value_at names (lexemes_of tokens.now)
@@ -94,7 +96,8 @@ fn opened<'t, 'a>(tokens: &'t [Token<'a>]) -> (usize, &'t [Token<'a>])
     so_far
 }
 
-/// A value in this many halves that begin one in another, the last of them first.
+/// Closes the `depth` halves that `tokens` begin with, the innermost first: reads a ')' from `rest` for each, and takes
+/// that half of the value.
 #[tactic(auto, using(crate::proofs::Expressions::closings))]
 fn closed<'t, 'a>(
     tokens: &[Token],
@@ -113,7 +116,8 @@ fn closed<'t, 'a>(
     Ok(so_far)
 }
 
-/// A value in the half that begins here, closed by ')'.
+/// Closes the half that `tokens` begin with: reads a ')' from `rest`, and takes that half of the value. Does nothing if
+/// `tokens` begin with no half.
 fn close<'t, 'a>(
     tokens: &[Token],
     value: u32,
@@ -130,7 +134,7 @@ fn close<'t, 'a>(
     }
 }
 
-/// `%hi(` or `%lo(`.
+/// The half whose `%hi(` or `%lo(` the tokens begin with, and the tokens after it.
 fn half_begun<'t, 'a>(tokens: &'t [Token<'a>]) -> Option<(Half, &'t [Token<'a>])>
     ensures half { seen_half result ≡ half_at (lexemes_of tokens.now) }
     ensures shorter { IfSome result (λ x. length x.1.now < length tokens.now) }
@@ -144,6 +148,7 @@ fn half_begun<'t, 'a>(tokens: &'t [Token<'a>]) -> Option<(Half, &'t [Token<'a>])
     None
 }
 
+/// The half with this name.
 fn half_named(word: &[u8]) -> Option<Half>
     ensures { result ≡ half_named word.now }
 {
@@ -154,7 +159,7 @@ fn half_named(word: &[u8]) -> Option<Half>
     }
 }
 
-/// The tokens after an expression.
+/// Skips an expression, whether its names have values or not. Returns the tokens after it.
 #[tactic(auto, using(crate::proofs::Expressions::fault_in_halves))]
 pub fn expression<'t, 'a>(tokens: &'t [Token<'a>]) -> Result<&'t [Token<'a>], Fault>
     ensures { seen_rest result ≡ behind_value (lexemes_of tokens.now) }
@@ -165,7 +170,7 @@ pub fn expression<'t, 'a>(tokens: &'t [Token<'a>]) -> Result<&'t [Token<'a>], Fa
     Ok(rest)
 }
 
-/// The same as `simple` where each name has a value.
+/// Reads what `simple` reads, as if each name had the value 0.
 fn simple_of_any_names<'t, 'a>(tokens: &'t [Token<'a>]) -> Result<(u32, &'t [Token<'a>]), Fault>
     ensures { seen result ≡ simple_at any_names (lexemes_of tokens.now) }
 {
@@ -181,7 +186,8 @@ fn simple_of_any_names<'t, 'a>(tokens: &'t [Token<'a>]) -> Result<(u32, &'t [Tok
     }
 }
 
-/// A number, or a name and what is added to it or taken from it.
+/// Reads a number, or a name and a number that is added to it or subtracted from it. Returns the value and the tokens
+/// after it.
 fn simple<'t, 'a>(
     symbols: &Symbols,
     tokens: &'t [Token<'a>],
@@ -202,7 +208,8 @@ fn simple<'t, 'a>(
     }
 }
 
-/// What is added to a value or taken from it.
+/// Adds the number after a '+', or subtracts the number after a '-', if the tokens begin so. Returns the value, modulo
+/// 2^32, and the tokens after it.
 fn sum<'t, 'a>(value: u32, tokens: &'t [Token<'a>]) -> Result<(u32, &'t [Token<'a>]), Fault>
     ensures { seen result ≡ sum_at value (lexemes_of tokens.now) }
 {
@@ -219,7 +226,7 @@ fn sum<'t, 'a>(value: u32, tokens: &'t [Token<'a>]) -> Result<(u32, &'t [Token<'
     }
 }
 
-/// A number with an optional minus.
+/// Reads a number with an optional minus. Returns it modulo 2^32, and the tokens after it.
 pub fn signed_number<'t, 'a>(tokens: &'t [Token<'a>]) -> Result<(u32, &'t [Token<'a>]), Fault>
     ensures { seen result ≡ number_at (lexemes_of tokens.now) }
 {
@@ -230,7 +237,7 @@ pub fn signed_number<'t, 'a>(tokens: &'t [Token<'a>]) -> Result<(u32, &'t [Token
     }
 }
 
-/// The number after a minus.
+/// Reads the number after a minus, which is at most 2^31. Returns it negated, modulo 2^32, and the tokens after it.
 fn negative<'t, 'a>(tokens: &'t [Token<'a>]) -> Result<(u32, &'t [Token<'a>]), Fault>
     ensures { seen result ≡ negative_at (lexemes_of tokens.now) }
 {
@@ -247,6 +254,7 @@ fn negative<'t, 'a>(tokens: &'t [Token<'a>]) -> Result<(u32, &'t [Token<'a>]), F
     }
 }
 
+/// The number that a word spells, or `BadToken` if it spells none.
 fn unsigned_number(word: &[u8]) -> Result<u32, Fault>
     ensures { result ≡ known Fault.BadToken (number_of word.now) }
 {
@@ -256,7 +264,7 @@ fn unsigned_number(word: &[u8]) -> Result<u32, Fault>
     }
 }
 
-/// An expression, and nothing after it.
+/// Reads an expression, and nothing after it. Returns its value, modulo 2^32.
 #[tactic(auto, unfolding(crate::specs::Values::last_value))]
 pub fn last_value(symbols: &Symbols, tokens: &[Token]) -> Result<u32, Fault>
     ensures { result ≡ last_value (names_of symbols.now) (lexemes_of tokens.now) }

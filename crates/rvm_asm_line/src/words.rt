@@ -4,7 +4,7 @@ ghost use Rattle.std.specs.Prelude.{◌≡◌};
 ghost use Rattle.rvm_asm_line.specs.Words.{named};
 ghost use Rattle.rvm_asm_line.specs.Words.{rows_of};
 
-/// The value of a word in a table of words.
+/// The value beside a word in a table: in the first row with this word, or `None` if no row has it.
 pub fn named<T: Copy>(rows: &[(&str, T)], word: &[u8]) -> Option<T>
     ensures { result ≡ named (rows_of rows.now) word.now }
 {

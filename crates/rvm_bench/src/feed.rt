@@ -1,10 +1,10 @@
-//! Measures how fast a reader takes a stream of frames, beside a copy of as many bytes.
+//! Measures how long a reader takes for a stream of frames, and how long a copy of as many bytes takes.
 
 use rvm_frame::{FrameFault, FrameReader};
 use std::alloc::Global;
 use std::time::Instant;
 
-/// The most bytes that the reader is given at a time.
+/// The most bytes that the reader gets at a time.
 const PIECE: usize = 4096;
 
 /// Copies a stream, and gives the copy to a reader piece by piece. Prints how many frames were read, and how many

@@ -1,5 +1,6 @@
-//! `rvm_bench IMAGE HARTS flat|paged STEPS` runs an image as `rvmove run` does, over one of two memories, so that the
-//! benchmark shows what a second instantiation of a step costs. What the guest sends goes to standard output.
+//! `rvm_bench IMAGE HARTS flat|paged STEPS` runs an image as `rvmove run` does, with 1 MiB of RAM over one of two
+//! memories, so that a benchmark shows what a second instantiation of a step costs. What the guest sends goes to
+//! standard output.
 //!
 //! `rvm_bench STREAM` reads a stream of frames, and prints how long that took.
 //!
@@ -18,6 +19,7 @@ use rvm_paged::PagedRam;
 use std::process::ExitCode;
 use std::{env, fs};
 
+/// The number of pages of RAM, each of 4096 bytes.
 const PAGES: u32 = 256;
 
 fn main(rt: HostRuntime) -> anyhow::Result<ExitCode> {
@@ -38,13 +40,13 @@ fn main(rt: HostRuntime) -> anyhow::Result<ExitCode> {
     }
 }
 
-/// Writes to standard error how the program is called, and returns the status 2.
+/// Writes the usage of the program to standard error. Returns the status 2.
 fn tell_usage(rt: &HostRuntime) -> anyhow::Result<ExitCode> {
     eprintln!(rt; "usage: rvm_bench IMAGE HARTS flat|paged STEPS, or rvm_bench STREAM")?;
     Ok(ExitCode::from(2))
 }
 
-/// Makes at most this many turns of a board of this many harts, whose RAM of 1 MiB begins with the bytes of a file.
+/// Makes at most `steps` turns of a board with `harts` harts, whose RAM of 1 MiB begins with the bytes of a file.
 fn run_over<M: PagedMemory + Drop>(
     rt: &HostRuntime,
     file: &str,

@@ -78,7 +78,7 @@ on_err (Err e) P p = p
 
 -- ---- events after others
 
--- what events come to, and others after them
+-- what events leave, with other events after them
 abbrev joined : After → After → After
 joined a b = record { guest = b.guest; pages = a.pages ++ b.pages; bytes = a.bytes ++ b.bytes }
 
@@ -185,7 +185,7 @@ part_way {all} {start} {held} {left} {before} rest more es now new mid p parts p
       so_far = is_after_both p.made part.made start now new p.so_far part.so_far;
     }
 
--- the part of the next events that is none of them
+-- none of the next events was made
 pub none_made : {all rest : List BoardEvent} {start now : GuestState} {held left : List ℕ} {before mid : Option (List ℕ)} → Progress all rest start now held left before mid → IsPartWay all start now
 none_made {all} {rest} {start} {now} {held} {left} {before} {mid} p = record { made = p.made; left = rest; whole = p.whole; so_far = p.so_far }
 
@@ -287,7 +287,7 @@ byte_taken input rest b old new some room made =
     let said : comes ≡ answered (Input b) old.guest = ap (λ t. cond t (refuses InputFull old.guest) comes) (sym test) in
     rw some (is_after_one (Input b) old new (ap (λ (s : GuestState). s.guest) made ∙ ap (λ (a : Answered). a.guest) said) (ap (λ (s : GuestState). s.dirty) made ∙ ap (λ (a : Answered). mark_all a.pages old.dirty) said))
 
--- what a byte that is offered to a full console comes to
+-- the answer to a byte that is offered to a full console
 kept_back : (b : ℕ) (g : Guest) → is_full g ≡ true → answered (Input b) g ≡ refuses InputFull g
 kept_back b g full = ap (λ t. cond t (refuses InputFull g) (leaves (with_board (with_input (g.board.shared.devices.input ++ b ∷ []) g.board) g) reply.Done)) full
 

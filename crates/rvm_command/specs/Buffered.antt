@@ -2,7 +2,7 @@
 use Rattle.std.specs.Prelude.{◌≡◌, ℕ, List, ◌++◌, Option}
 use Rattle.std.specs.Io.KnownBytes.{Appends}
 
--- bytes came to those that were held: the first of all these were written, and the others are held
+-- bytes joined those that were held: the first of all these were written, and the others are held
 pub record GoesOut (bytes held left : List ℕ) (before after : Option (List ℕ)) : Type 0 where
   pub out : List ℕ
   pub all : held ++ bytes ≡ out ++ left

@@ -55,7 +55,7 @@ word_lines a (b0 ∷ b1 ∷ b2 ∷ b3 ∷ rest) =
     ++ word_lines ((a + 4) % 2 ^ 32) rest
 word_lines a bytes = []
 
--- how many bytes stand from an address up to the next multiple of four
+-- the number of bytes from an address up to the next multiple of four
 abbrev pub before_word : (address : ℕ) → ℕ
 before_word a = (4 - a % 4) % 4
 

@@ -130,7 +130,7 @@ HasStatus zero End before after = End (Ok tt) × (after ≡ before)
 HasStatus (suc zero) End before after = (r : Refused) × End (Err r) × IsTold r before after
 HasStatus (suc (suc n)) End before after = ⊥
 
--- the status of a run that ended so, by what the status was asked to tell
+-- the status of a run that ended so, by what the user asked the status to tell
 abbrev pub run_status : StatusOf → Ended → ℕ
 run_status tells.Command ended = 0
 run_status tells.Verdict (HaltedWith zero) = 0
@@ -139,8 +139,8 @@ run_status tells.Verdict StepsSpent = 4
 run_status tells.Guest (HaltedWith n) = n
 run_status tells.Guest StepsSpent = 4
 
--- the status of the command of a run, by what the status was asked to tell: that of the run's end, which is written to
--- `errors`, or 1 if it was refused, with the refusal written there
+-- the status of the command `run`, by what the user asked it to tell: the status for how the run ended, which is
+-- written to `errors`, or 1 if the run was refused, with the refusal written there
 abbrev pub RunHasStatus : StatusOf → (status : ℕ) → (End : Result Ended Refused → Type 0)
     → (before after : Option (List ℕ)) → Type 0
 RunHasStatus asked status End before after =

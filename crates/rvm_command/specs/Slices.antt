@@ -12,7 +12,7 @@ use Rattle.rvm_command.specs.Run.{IsAfter, Run, after, drains, first, run_from}
 abbrev pub takes_none : (is_more : Bool) → Guest → Bool
 takes_none is_more g = if is_more then is_full g else true
 
--- the status of the board, if the turns stopped since it is halted
+-- the status of the board, if the turns stopped because it is halted
 abbrev pub status_of : Option Stop → Option ℕ
 status_of (Some (Halted s)) = Some s
 status_of (Some (Break a)) = None

@@ -39,7 +39,7 @@ impl OutputBuffer {
     }
 
     /// Makes room for `count` bytes, at most 4096: if there is less, writes all that is held. `LinkFault` if the write
-    /// failed.
+    /// fails.
     pub(crate) fn make_room<W: Write>(
         &mut self,
         count: usize,
@@ -65,8 +65,8 @@ impl OutputBuffer {
         prove!(fits);
     }
 
-    /// Writes all that is held, and then holds nothing. `LinkFault` if the write failed, which is possible only if
-    /// something was held.
+    /// Writes all that is held, and then holds nothing. `LinkFault` if the write fails, which is possible only if
+    /// something was held; then, too, nothing is held.
     pub(crate) fn write_to<W: Write>(&mut self, writer: &mut W) -> Result<(), LinkFault>
         ensures empty { OnOk result (self.new ≡ []) }
         ensures written { OnOk result (Appends (W.contents writer.old) (W.contents writer.new) self.old) }

@@ -12,10 +12,12 @@ use rvm_refusal::{LinkFault, Refusal};
 use std::fmt;
 use std::io::Write;
 
-/// Why a command was refused, and at which line of its text, counted from 1, if it was at one.
+/// Why a command was refused, and at which line of its text, if at one.
 #[derive(Clone, Copy, Debug, PartialEq, Eq)]
 pub struct Refused {
+    /// The line of the text, counted from 1, if the refusal is at one.
     pub line: Option<usize>,
+    /// The refusal.
     pub refusal: Refusal,
 }
 
@@ -47,7 +49,7 @@ impl From<Refusal> for Refused {
     }
 }
 
-/// The refusal of a command one of whose writes failed.
+/// The refusal of a command that failed to write.
 impl From<LinkFault> for Refused {
     ghost from_gives = { λ _ told. told ≡ refused refusal.LinkFault };
 
@@ -106,7 +108,7 @@ impl From<ScriptError> for Refused {
     }
 }
 
-/// Writes a refusal to `errors`, in one line, and returns the status 1. `LinkFault` if it cannot be written.
+/// Writes a refusal to `errors`, in one line, and returns the status 1. `LinkFault` if the write fails.
 pub fn tell<E: Write>(refused: Refused, errors: &mut E) -> Result<u8, LinkFault>
     ensures { IfOk result (λ status. (status ≡ 1)
         × IsTold refused (E.contents errors.old) (E.contents errors.new)) }

@@ -16,7 +16,8 @@ use rvm_mem::Memory;
 use rvm_refusal::LinkFault;
 use std::io::Write;
 
-/// The most turns after which what was taken is written. `run` has no clock; this many turns take about a millisecond.
+/// The number of turns after which what was taken is written at the latest. `run` has no clock; this many turns take
+/// about a millisecond.
 const WRITE_EVERY: u32 = 65_536;
 
 /// How a run ended.
@@ -24,7 +25,7 @@ const WRITE_EVERY: u32 = 65_536;
 pub enum Ended {
     /// The guest halted the board with this status.
     HaltedWith(u8),
-    /// All turns were made that were asked for.
+    /// All turns that were asked for were made.
     StepsSpent,
 }
 
@@ -36,9 +37,9 @@ pub enum Ended {
 /// What was taken is written in pieces of up to 4096 bytes: if fewer than 256 more would fit, after every 65,536 turns,
 /// when the board is halted, and at the end. The writer is not flushed.
 ///
-/// `LinkFault` if the writer failed, which is possible only if there was something to write. The guest is then as some
-/// of the first events of the run left it. Of the piece whose write failed, any part may have been written; the pieces
-/// before it were written, and nothing after it was.
+/// `LinkFault` if the writer fails, which is possible only if there was something to write. The guest is then what the
+/// first events of the run left, up to some event. Of the piece whose write failed, any part may have been written; the
+/// pieces before it were written, and nothing after it was.
 pub fn run<M: Memory, W: Write>(
     guest: &mut Debugged<M>,
     steps: u32,
@@ -114,7 +115,7 @@ fn make_turns<M: Memory>(
     }
 }
 
-/// The status of the board, if the turns stopped since it is halted.
+/// The status of the board, if the turns stopped because it is halted.
 #[inline]
 fn status_of(stop: Option<Stop>) -> Option<u8>
     ensures { result ≡ status_of stop }
@@ -158,7 +159,8 @@ fn feed<M: Memory>(guest: &mut Debugged<M>, input: &[u8], next: usize) -> usize
     }
 }
 
-/// Takes all that the guest sent, if it sent anything, and writes all that is held if that `is_due`.
+/// Takes all that the guest sent, if it sent anything. If a write `is_due`, writes all that is held. `LinkFault` if a
+/// write fails.
 #[inline(always)]
 fn drain<M: Memory, W: Write>(
     guest: &mut Debugged<M>,
@@ -180,7 +182,7 @@ fn drain<M: Memory, W: Write>(
     drain_and_write(guest, buffer, is_due, writer)
 }
 
-/// Takes all that the guest sent, and writes all that is held if that `is_due`.
+/// Takes all that the guest sent. If a write `is_due`, writes all that is held. `LinkFault` if a write fails.
 #[cold]
 #[inline(never)]
 fn drain_and_write<M: Memory, W: Write>(

@@ -19,10 +19,10 @@ use std::alloc::Global;
 use std::fmt;
 use std::io::Write;
 
-/// The verdict on a guest that halted with another status than 0.
+/// The verdict on a guest that halted with a status other than 0.
 const FAILED: u8 = 3;
 
-/// The verdict if all steps were spent, and the status in place of the guest's own then.
+/// The status if all steps were spent: as the verdict, and in place of the guest's own status.
 const SPENT: u8 = 4;
 
 /// `halted S`, or `steps spent`.
@@ -42,11 +42,10 @@ impl fmt::Display for Ended {
 
 /// Runs the guest of the file `image`, whose console gets `input`. What the guest sends goes to `output`.
 ///
-/// Returns the status: what `arguments.status` asks to be told of how the run ended, or 1 if it was refused. `errors`
-/// gets one line: how the run ended, or the refusal. The fault of the file, `OutsideRam` if the image does not lie in
-/// RAM, and `OutOfMemory` leave `output` unchanged; `LinkFault` says that a write to `output` failed, and a part of
-/// what the guest sent may have been written. No clause says when a writer fails. The error `LinkFault` says that a
-/// write to `errors` failed.
+/// Returns the status: what `arguments.status` asks for, or 1 if the run was refused. `errors` gets one line: how the
+/// run ended, or the refusal. The fault of the file, `OutsideRam` if the image does not lie in RAM, and `OutOfMemory`
+/// leave `output` unchanged; `LinkFault` says that a write to `output` failed, and a part of what the guest sent may
+/// have been written. No clause says when a writer fails. The error `LinkFault` says that a write to `errors` failed.
 pub fn run_command<M: PagedMemory + Drop, O: Write, E: Write>(
     alloc: Global,
     arguments: &RunArguments,
@@ -72,8 +71,8 @@ pub fn run_command<M: PagedMemory + Drop, O: Write, E: Write>(
     }
 }
 
-/// Writes to `errors` how a run ended, in one line, and returns the status that was asked for. `LinkFault` if it cannot
-/// be written.
+/// Writes to `errors` how a run ended, in one line, and returns the status that was asked for. `LinkFault` if the write
+/// fails.
 pub fn tell_run_end<E: Write>(
     ended: Ended,
     asked: StatusOf,
@@ -88,7 +87,7 @@ pub fn tell_run_end<E: Write>(
     }
 }
 
-/// The status of a run that ended so, by what the status was asked to tell.
+/// The status of a run that ended so, by what `asked` says that it tells.
 fn run_status(asked: StatusOf, ended: Ended) -> u8
     ensures { result ≡ run_status asked ended }
 {

@@ -14,7 +14,7 @@ adds named (Ok m) whole_is part_is named_is local =
     whole_is local ∙ ap₂ with_subcommand part_is (ap (λ (a : App). a.top) named_is)
 adds named (Err e) none part_is named_is local = absurd none
 
--- the same of the command line that a call answers
+-- the same of the command line that a call returns
 pub adds_last : {E F : Type 0} {part known : App} (named : App) (program : Result Command F) (command : Result Command E)
     → IfOk program (λ c. IsOkAnd command (λ m. (fields_of m).has_globals ≡ false
     → app_of c ≡ with_subcommand part (app_of m).top))

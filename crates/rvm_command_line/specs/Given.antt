@@ -19,7 +19,7 @@ abbrev pub IsNumber : Option Text → ℕ → Type 0
 IsNumber None n = ⊥
 IsNumber (Some text) n = IsNumeral 10 text × (digits_value 10 text ≡ n)
 
--- there is a number just where a text was given, which writes it so
+-- there is a number if and only if a text was given, and the text writes that number
 abbrev pub IsOptionalNumber : Option Text → Option ℕ → Type 0
 IsOptionalNumber None n = n ≡ None
 IsOptionalNumber (Some text) None = ⊥
@@ -68,12 +68,12 @@ pub record IsMove (rows : List Row) (asked : MoveArguments) : Type 0 where
   pub stream : IsNumber (first_of (codes "stream") rows) asked.stream
   pub verdict : IsFlag (one_of (codes "verdict") rows) asked.verdict
 
--- there is a guest just where an image was named, and it is that one
+-- there is a guest if and only if an image was named, and it is the guest of that image
 abbrev pub IsOptionalGuest : List Row → Option GuestArguments → Type 0
 IsOptionalGuest rows None = first_of (codes "image") rows ≡ None
 IsOptionalGuest rows (Some guest) = IsGuest rows guest
 
--- a host by its name, its guest if it has one, where it is reached, how long it waits, and what its status tells
+-- a host: its name, its guest if it has one, where it is reached, how long it waits, and what its status tells
 pub record IsHost (rows : List Row) (host : HostArguments) : Type 0 where
   pub name : first_of (codes "name") rows ≡ Some host.name.now
   pub peers : first_of (codes "peers") rows ≡ Some host.peers.now

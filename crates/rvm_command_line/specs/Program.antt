@@ -32,7 +32,7 @@ needed_option name = record (option name) { required = true }
 abbrev pub bounded : Text → (least most : ℕ) → Rule
 bounded name least most = record (option name) { parser = Some (parser.Signed (pos least) (pos most)) }
 
--- an option whose text is this one where none is given
+-- an option that has this text if none is given
 abbrev pub with_default : (default : Text) → Rule → Rule
 with_default default rule = record rule { defaults = default ∷ [] }
 
@@ -79,7 +79,7 @@ with_verdict command = with_rule command (flag (codes "verdict"))
 abbrev pub with_status : App → App
 with_status command = with_rule (with_verdict command) (flag (codes "exit-status"))
 
--- the commands
+-- the command that runs a guest
 abbrev pub run : App
 run =
     with_status
@@ -95,11 +95,11 @@ asm = with_rule (with_rule (new_app (codes "asm")) (needed (codes "source"))) (n
 abbrev pub dis : App
 dis = with_guest (new_app (codes "dis"))
 
--- the command that does the lines of standard input to a guest
+-- the command that does to a guest what the lines of standard input ask for
 abbrev pub debug : App
 debug = with_guest (new_app (codes "debug"))
 
--- the command that does the lines of a file to a world of hosts
+-- the command that does to a world of hosts what the lines of a file ask for
 abbrev pub script : App
 script = with_rule (with_world (new_app (codes "script"))) (needed (codes "script"))
 
@@ -141,7 +141,7 @@ host = with_verdict (with_hosting (with_addresses (with_board (with_name (new_ap
 abbrev pub tell : App
 tell = with_rule (with_rule (new_app (codes "tell")) (needed (codes "socket"))) (allowed (codes "line"))
 
--- the program, which wants a command
+-- the program without its commands, which demands that one is named
 abbrev pub top : App
 top =
     on_top (λ s. record s { has_version = true; arg_required_else_help = true; subcommand_required = true })
@@ -158,7 +158,7 @@ program =
     (with_subcommand (with_subcommand (with_subcommand (with_subcommand top run.top) asm.top) dis.top)
     debug.top) script.top) move.top) audit.top) host.top) tell.top
 
--- of which kinds the fault of a command line is: what `clap` finds in its words, or else a value that `clap` takes and
--- the program does not
+-- the kinds of which the fault of a command line may be: those that `clap` finds in its words, or else a value that
+-- `clap` takes and the program refuses
 abbrev pub faults_of : (words : List Text) → Kinds
 faults_of words = or_else (fault_of program words) (kind.ValueValidation ∷ [])

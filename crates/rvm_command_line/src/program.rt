@@ -1,4 +1,4 @@
-//! The words that the program takes, as `clap` is told of them.
+//! The words that the program takes, as they are described to `clap`.
 
 ghost use Rattle.std.specs.Prelude.{◌≡◌, false, codes, IfErr, IfOk};
 ghost use Rattle.std.specs.Result.{IsOkAnd};
@@ -15,11 +15,11 @@ use std::alloc::Global;
 /// The version of the program.
 const VERSION: &str = "0.1.0";
 
-/// What the program does.
+/// What the program does, in its help.
 const ABOUT: &str = "\
 Assembles, disassembles, runs and debugs guests of a small RISC-V board, and moves them between hosts";
 
-/// What stands below the help of `run`.
+/// The text below the help of `run`.
 const RUN_HELP: &str = "\
 Example: rvmove run hello.elf --steps 5000 --input keys.txt
 
@@ -32,19 +32,19 @@ The status:      halted 0  halted S  steps spent  refused
 It is 2 for a fault of the command line. With --exit-status these 1, 2 and 4 cannot be told from a guest's
 own; with --verdict each means one thing. The two options exclude each other.";
 
-/// What stands below the help of `asm`.
+/// The text below the help of `asm`.
 const ASM_HELP: &str = "\
 Example: rvmove asm hello.s hello.elf
 
 The language is described in docs/ASSEMBLY.md.";
 
-/// What stands below the help of `dis`.
+/// The text below the help of `dis`.
 const DIS_HELP: &str = "\
 Example: rvmove dis hello.elf
 
 Each line has an address, the word there and its instruction. --harts and --pages change nothing.";
 
-/// What stands below the help of `debug`.
+/// The text below the help of `debug`.
 const DEBUG_HELP: &str = "\
 Example: rvmove debug hello.elf < session.txt
 
@@ -61,7 +61,7 @@ Lines of a script, with numbers in decimal or 0x hexadecimal:
   poke ADDR HEX     writes bytes into RAM
 Blank lines and lines that begin with # are passed over.";
 
-/// What stands below the help of `script`.
+/// The text below the help of `script`.
 const SCRIPT_HELP: &str = "\
 Example: rvmove script hello.elf move.txt --hosts 3
 
@@ -76,7 +76,7 @@ A leading letter A to H names the host that is asked, else it is the one that ha
 With more than two hosts `begin` and `move` name the one that gets the guest. It stops after R rounds of
 copies (29), or once fewer than L pages are left (50) or more copies made than F times its pages (3).";
 
-/// What stands below the help of `move`.
+/// The text below the help of `move`.
 const MOVE_HELP: &str = "\
 Example: rvmove move hello.elf --steps 5000 --rounds 3
 
@@ -90,7 +90,7 @@ The status:  halted 0  halted S  steps spent  refused, or the move failed
   --verdict  0         3         4            1
 It is 2 for a fault of the command line.";
 
-/// What stands below the help of `audit`.
+/// The text below the help of `audit`.
 const AUDIT_HELP: &str = "\
 Example: rvmove audit hello.elf --steps 5000 --rounds 3 > order.txt
 
@@ -98,7 +98,7 @@ Standard output has one order of what both hosts did: a script that `rvmove scri
 The guest is paused after R rounds of copies, or once fewer than L pages are left, or more copies made than
 F times its pages.";
 
-/// What stands below the help of `host`.
+/// The text below the help of `host`.
 const HOST_HELP: &str = "\
 Example: rvmove host A hello.elf --peers hosts.txt --control ./a.socket
 
@@ -113,7 +113,7 @@ The status:  stopped  halted 0  halted S  did not begin, or standard output fail
   --verdict  0        0         3         1
 It is 2 for a fault of the command line.";
 
-/// What stands below the help of `tell`.
+/// The text below the help of `tell`.
 const TELL_HELP: &str = "\
 Example: rvmove tell ./a.socket 'move B'
 
@@ -125,7 +125,7 @@ Lines, beside those of `rvmove debug`:
 Where standard error is a terminal, it shows how far a move has come. The status is 0 if all that was asked
 happened, 1 if something did not, 3 if an answer was lost: then ask for the status of the host.";
 
-/// The command line that the program takes.
+/// The command line that the program takes. Fails only if memory runs out.
 pub(crate) fn program<'a>(alloc: Global) -> Result<Command<'a>, Error>
     ensures app { IfOk result (λ c. app_of c ≡ program) }
     ensures memory { IfErr result (λ e. kind_of e ≡ kind.OutOfMemory) }
@@ -141,7 +141,7 @@ pub(crate) fn program<'a>(alloc: Global) -> Result<Command<'a>, Error>
     with_command(program, tell_command(alloc))
 }
 
-/// The program with a command more, if that was made.
+/// The program with one more command, if that command was made. Fails only if it was not, or if memory runs out.
 fn with_command<'a>(
     program: Command<'a>,
     command: Result<Command<'a>, Error>,
@@ -154,7 +154,7 @@ fn with_command<'a>(
     Ok(program.subcommand(command?)?)
 }
 
-/// The program without its commands, which wants one.
+/// The program without its commands. It demands that a command is named.
 fn bare_program<'a>(alloc: Global) -> Command<'a>
     ensures { app_of result ≡ top }
 {
@@ -165,7 +165,7 @@ fn bare_program<'a>(alloc: Global) -> Command<'a>
         .arg_required_else_help(true)
 }
 
-/// The file of an image.
+/// The argument IMAGE: the file of an image.
 fn image_argument<'a>(alloc: Global) -> Arg<'a>
     ensures rule { rule_of result ≡ needed (codes "image") }
     ensures local { result.global ≡ false }
@@ -176,7 +176,7 @@ fn image_argument<'a>(alloc: Global) -> Arg<'a>
         .help("The image: an ELF file, or plain bytes")
 }
 
-/// Whether it is plain bytes.
+/// The flag `--raw`: whether the image is plain bytes.
 fn raw_argument<'a>(alloc: Global) -> Arg<'a>
     ensures rule { rule_of result ≡ flag (codes "raw") }
     ensures local { result.global ≡ false }
@@ -187,7 +187,7 @@ fn raw_argument<'a>(alloc: Global) -> Arg<'a>
         .help("IMAGE is plain bytes, to be placed at 0x80000000")
 }
 
-/// How many harts the board has.
+/// The option `--harts`: the number of harts of the board.
 fn harts_argument<'a>(alloc: Global) -> Arg<'a>
     ensures rule { rule_of result ≡ number (codes "harts") (codes "1") 8 }
     ensures local { result.global ≡ false }
@@ -200,7 +200,7 @@ fn harts_argument<'a>(alloc: Global) -> Arg<'a>
         .help("How many harts, 1 to 8")
 }
 
-/// How many pages its RAM has.
+/// The option `--pages`: the number of pages of RAM.
 fn pages_argument<'a>(alloc: Global) -> Arg<'a>
     ensures rule { rule_of result ≡ number (codes "pages") (codes "256") 4096 }
     ensures local { result.global ≡ false }
@@ -213,7 +213,7 @@ fn pages_argument<'a>(alloc: Global) -> Arg<'a>
         .help("How many pages of 4096 bytes of RAM, 1 to 4096")
 }
 
-/// How many turns a run makes at most.
+/// The option `--steps` of `run`: the most turns that it makes.
 fn steps_argument<'a>(alloc: Global) -> Arg<'a>
     ensures rule { rule_of result ≡ number (codes "steps") (codes "1000000") 1000000000 }
     ensures local { result.global ≡ false }
@@ -226,7 +226,7 @@ fn steps_argument<'a>(alloc: Global) -> Arg<'a>
         .help("How many turns at most, 1 to 1000000000")
 }
 
-/// The file whose bytes come to the console.
+/// The option `--input`: the file whose bytes come to the console.
 fn input_argument<'a>(alloc: Global) -> Arg<'a>
     ensures rule { rule_of result ≡ option (codes "input") }
     ensures local { result.global ≡ false }
@@ -237,7 +237,7 @@ fn input_argument<'a>(alloc: Global) -> Arg<'a>
         .help("The file whose bytes come to the guest's console")
 }
 
-/// Whether the status tells how the guest ended.
+/// The flag `--verdict`: whether the status tells how the guest ended.
 fn verdict_argument<'a>(alloc: Global) -> Arg<'a>
     ensures rule { rule_of result ≡ flag (codes "verdict") }
     ensures local { result.global ≡ false }
@@ -248,7 +248,7 @@ fn verdict_argument<'a>(alloc: Global) -> Arg<'a>
         .help("The status tells how the guest ended")
 }
 
-/// Whether the status is that with which the guest halted.
+/// The flag `--exit-status`: whether the status is the one with which the guest halted.
 fn exit_status_argument<'a>(alloc: Global) -> Arg<'a>
     ensures rule { rule_of result ≡ flag (codes "exit-status") }
     ensures local { result.global ≡ false }
@@ -259,7 +259,7 @@ fn exit_status_argument<'a>(alloc: Global) -> Arg<'a>
         .help("The status is that with which the guest halted")
 }
 
-/// The file of the assembly text.
+/// The argument SRC: the file of the assembly text.
 fn source_argument<'a>(alloc: Global) -> Arg<'a>
     ensures rule { rule_of result ≡ needed (codes "source") }
     ensures local { result.global ≡ false }
@@ -270,7 +270,7 @@ fn source_argument<'a>(alloc: Global) -> Arg<'a>
         .help("The file of the assembly text")
 }
 
-/// The file that is written.
+/// The argument OUT: the ELF file that is written.
 fn output_argument<'a>(alloc: Global) -> Arg<'a>
     ensures rule { rule_of result ≡ needed (codes "output") }
     ensures local { result.global ≡ false }
@@ -281,7 +281,7 @@ fn output_argument<'a>(alloc: Global) -> Arg<'a>
         .help("The ELF file that is written")
 }
 
-/// The file of a script.
+/// The argument FILE: the file of a script.
 fn script_argument<'a>(alloc: Global) -> Arg<'a>
     ensures rule { rule_of result ≡ needed (codes "script") }
     ensures local { result.global ≡ false }
@@ -292,7 +292,7 @@ fn script_argument<'a>(alloc: Global) -> Arg<'a>
         .help("The file of the script")
 }
 
-/// How many hosts the world has.
+/// The option `--hosts`: the number of hosts of the world.
 fn hosts_argument<'a>(alloc: Global) -> Arg<'a>
     ensures rule { rule_of result ≡ with_default (codes "2") (bounded (codes "hosts") 2 8) }
     ensures local { result.global ≡ false }
@@ -305,7 +305,7 @@ fn hosts_argument<'a>(alloc: Global) -> Arg<'a>
         .help("How many hosts, 2 to 8")
 }
 
-/// The version of their streams.
+/// The option `--stream` of `script`: the version of the streams between the hosts.
 fn stream_argument<'a>(alloc: Global) -> Arg<'a>
     ensures rule { rule_of result ≡ bounded (codes "stream") 1 3 }
     ensures local { result.global ≡ false }
@@ -317,7 +317,7 @@ fn stream_argument<'a>(alloc: Global) -> Arg<'a>
         .help("The version of their streams, 1 to 3; if not given, 1 for two hosts and 3 for more")
 }
 
-/// How many turns a guest makes while it moves.
+/// The option `--steps` of `move` and `audit`: the most turns that the guest makes.
 fn move_steps_argument<'a>(alloc: Global) -> Arg<'a>
     ensures rule { rule_of result ≡ number (codes "steps") (codes "10000") 100000 }
     ensures local { result.global ≡ false }
@@ -330,7 +330,7 @@ fn move_steps_argument<'a>(alloc: Global) -> Arg<'a>
         .help("How many turns at most, 1 to 100000")
 }
 
-/// After how many rounds of copies the guest is paused.
+/// The option `--rounds`: the number of rounds of copies after which the guest is paused.
 fn rounds_argument<'a>(alloc: Global) -> Arg<'a>
     ensures rule { rule_of result ≡ number (codes "rounds") (codes "29") 1000 }
     ensures local { result.global ≡ false }
@@ -343,7 +343,7 @@ fn rounds_argument<'a>(alloc: Global) -> Arg<'a>
         .help("Pauses the guest after R rounds of copies, 1 to 1000")
 }
 
-/// With fewer than how many pages left it is paused.
+/// The option `--left`: the guest is paused once fewer pages than this are left.
 fn left_argument<'a>(alloc: Global) -> Arg<'a>
     ensures rule { rule_of result ≡ number (codes "left") (codes "50") 4096 }
     ensures local { result.global ≡ false }
@@ -356,7 +356,7 @@ fn left_argument<'a>(alloc: Global) -> Arg<'a>
         .help("Pauses it once fewer than L pages are left, 1 to 4096")
 }
 
-/// After more than how many copies for each page it is paused.
+/// The option `--factor`: the guest is paused once more copies are made than this many times its pages.
 fn factor_argument<'a>(alloc: Global) -> Arg<'a>
     ensures rule { rule_of result ≡ number (codes "factor") (codes "3") 100 }
     ensures local { result.global ≡ false }
@@ -369,7 +369,7 @@ fn factor_argument<'a>(alloc: Global) -> Arg<'a>
         .help("Pauses it once more copies are made than F times its pages, 1 to 100")
 }
 
-/// The version of the streams of a move.
+/// The option `--stream` of `move` and `audit`: the version of the streams.
 fn move_stream_argument<'a>(alloc: Global) -> Arg<'a>
     ensures rule { rule_of result ≡ number (codes "stream") (codes "1") 3 }
     ensures local { result.global ≡ false }
@@ -382,7 +382,7 @@ fn move_stream_argument<'a>(alloc: Global) -> Arg<'a>
         .help("The version of the streams, 1 to 3")
 }
 
-/// The name of a host.
+/// The argument NAME: the name of a host.
 fn name_argument<'a>(alloc: Global) -> Arg<'a>
     ensures rule { rule_of result ≡ needed (codes "name") }
     ensures local { result.global ≡ false }
@@ -393,7 +393,7 @@ fn name_argument<'a>(alloc: Global) -> Arg<'a>
         .help("The name of this host in the file of the world's hosts, A to H")
 }
 
-/// The file of the image of a guest that begins at a host, if one does.
+/// The argument IMAGE of `host`, which may be missing: the file of the image of the guest that begins there.
 fn optional_image_argument<'a>(alloc: Global) -> Arg<'a>
     ensures rule { rule_of result ≡ allowed (codes "image") }
     ensures local { result.global ≡ false }
@@ -403,7 +403,7 @@ fn optional_image_argument<'a>(alloc: Global) -> Arg<'a>
     )
 }
 
-/// The file of the world's hosts.
+/// The option `--peers`: the file of the world's hosts.
 fn peers_argument<'a>(alloc: Global) -> Arg<'a>
     ensures rule { rule_of result ≡ needed_option (codes "peers") }
     ensures local { result.global ≡ false }
@@ -415,7 +415,7 @@ fn peers_argument<'a>(alloc: Global) -> Arg<'a>
         .help("The file of the world's hosts: a line `NAME ADDRESS:PORT` for each, 2 to 8")
 }
 
-/// The address at which other hosts reach a host.
+/// The option `--listen`: the address at which a host listens for other hosts.
 fn listen_argument<'a>(alloc: Global) -> Arg<'a>
     ensures rule { rule_of result ≡ option (codes "listen") }
     ensures local { result.global ≡ false }
@@ -428,7 +428,7 @@ fn listen_argument<'a>(alloc: Global) -> Arg<'a>
         )
 }
 
-/// Where operators reach a host.
+/// The option `--control`: where a host listens for operators.
 fn control_argument<'a>(alloc: Global) -> Arg<'a>
     ensures rule { rule_of result ≡ needed_option (codes "control") }
     ensures local { result.global ≡ false }
@@ -442,7 +442,7 @@ fn control_argument<'a>(alloc: Global) -> Arg<'a>
         )
 }
 
-/// The file of the secret that hosts share.
+/// The option `--secret`: the file of the secret that hosts share.
 fn secret_argument<'a>(alloc: Global) -> Arg<'a>
     ensures rule { rule_of result ≡ option (codes "secret") }
     ensures local { result.global ≡ false }
@@ -453,7 +453,7 @@ fn secret_argument<'a>(alloc: Global) -> Arg<'a>
         .help("The file of the secret that the hosts of the world share")
 }
 
-/// How long a move waits for an answer.
+/// The option `--patience`: the number of milliseconds that a move waits for an answer.
 fn patience_argument<'a>(alloc: Global) -> Arg<'a>
     ensures rule { rule_of result ≡ number (codes "patience") (codes "10000") 1000000000 }
     ensures local { result.global ≡ false }
@@ -466,7 +466,7 @@ fn patience_argument<'a>(alloc: Global) -> Arg<'a>
         .help("Gives a move up after so many milliseconds without an answer, 1 to 1000000000")
 }
 
-/// How many turns a guest makes in a second at most.
+/// The option `--rate`: the most turns that a guest makes in a second.
 fn rate_argument<'a>(alloc: Global) -> Arg<'a>
     ensures rule { rule_of result ≡ bounded (codes "rate") 1 1000000000 }
     ensures local { result.global ≡ false }
@@ -480,7 +480,7 @@ fn rate_argument<'a>(alloc: Global) -> Arg<'a>
         )
 }
 
-/// Whether a process ends once its guest has halted.
+/// The flag `--until-halt`: whether the process of a host ends once the guest has halted there.
 fn until_halt_argument<'a>(alloc: Global) -> Arg<'a>
     ensures rule { rule_of result ≡ flag (codes "until-halt") }
     ensures local { result.global ≡ false }
@@ -491,7 +491,7 @@ fn until_halt_argument<'a>(alloc: Global) -> Arg<'a>
         .help("Ends once the guest has halted here")
 }
 
-/// Where a host is told something.
+/// The argument SOCKET of `tell`: where the host listens for operators.
 fn socket_argument<'a>(alloc: Global) -> Arg<'a>
     ensures rule { rule_of result ≡ needed (codes "socket") }
     ensures local { result.global ≡ false }
@@ -502,7 +502,7 @@ fn socket_argument<'a>(alloc: Global) -> Arg<'a>
         .help("What the host was given by --control: a path, which has a `/`, or an address")
 }
 
-/// The line that a host is told.
+/// The argument LINE of `tell`, which may be missing: the line that the host is told.
 fn line_argument<'a>(alloc: Global) -> Arg<'a>
     ensures rule { rule_of result ≡ allowed (codes "line") }
     ensures local { result.global ≡ false }
@@ -512,7 +512,7 @@ fn line_argument<'a>(alloc: Global) -> Arg<'a>
         .help("The line; without it, those of standard input")
 }
 
-/// A command over an image, with the words that describe its form and its board.
+/// Adds to a command the words for the form of an image and for its board.
 fn board_command<'a>(command: Command<'a>, alloc: Global) -> Result<Command<'a>, Error>
     ensures app { IfOk result (λ c. app_of c ≡ with_board (app_of command.entry)) }
     ensures local { (fields_of command.entry).has_globals ≡ false
@@ -527,7 +527,7 @@ fn board_command<'a>(command: Command<'a>, alloc: Global) -> Result<Command<'a>,
     )
 }
 
-/// A command over a guest, with the words that describe it.
+/// Adds to a command the words for a guest.
 fn guest_command<'a>(command: Command<'a>, alloc: Global) -> Result<Command<'a>, Error>
     ensures app { IfOk result (λ c. app_of c ≡ with_guest (app_of command.entry)) }
     ensures local { (fields_of command.entry).has_globals ≡ false
@@ -537,7 +537,7 @@ fn guest_command<'a>(command: Command<'a>, alloc: Global) -> Result<Command<'a>,
     board_command(command.arg(image_argument(alloc))?, alloc)
 }
 
-/// A command over a guest that moves between hosts, with the words that describe them.
+/// Adds to a command the words for a guest and for the hosts of a world.
 fn world_command<'a>(command: Command<'a>, alloc: Global) -> Result<Command<'a>, Error>
     ensures app { IfOk result (λ c. app_of c ≡ with_world (app_of command.entry)) }
     ensures local { (fields_of command.entry).has_globals ≡ false
@@ -551,7 +551,7 @@ fn world_command<'a>(command: Command<'a>, alloc: Global) -> Result<Command<'a>,
     )
 }
 
-/// A command over a guest that moves, with the words that say when the guest is paused.
+/// Adds to a command the words that say when a guest that moves is paused.
 fn policy_command<'a>(command: Command<'a>, alloc: Global) -> Result<Command<'a>, Error>
     ensures app { IfOk result (λ c. app_of c ≡ with_policy (app_of command.entry)) }
     ensures local { (fields_of command.entry).has_globals ≡ false
@@ -566,7 +566,7 @@ fn policy_command<'a>(command: Command<'a>, alloc: Global) -> Result<Command<'a>
     )
 }
 
-/// A command over a guest that moves from one host to another, with the words that describe its move.
+/// Adds to a command the words for a guest, its turns and its move.
 fn moving_command<'a>(command: Command<'a>, alloc: Global) -> Result<Command<'a>, Error>
     ensures app { IfOk result (λ c. app_of c ≡ with_move (app_of command.entry)) }
     ensures local { (fields_of command.entry).has_globals ≡ false
@@ -577,7 +577,7 @@ fn moving_command<'a>(command: Command<'a>, alloc: Global) -> Result<Command<'a>
     Ok(policy_command(guest, alloc)?.arg(move_stream_argument(alloc))?)
 }
 
-/// A command with the word by which its status tells how the guest ended.
+/// Adds to a command the flag by which its status tells how the guest ended.
 fn judged_command<'a>(command: Command<'a>, alloc: Global) -> Result<Command<'a>, Error>
     ensures app { IfOk result (λ c. app_of c ≡ with_verdict (app_of command.entry)) }
     ensures local { (fields_of command.entry).has_globals ≡ false
@@ -587,7 +587,7 @@ fn judged_command<'a>(command: Command<'a>, alloc: Global) -> Result<Command<'a>
     Ok(command.arg(verdict_argument(alloc))?)
 }
 
-/// A command that runs a guest, with the words that say what its status tells.
+/// Adds to a command the flags that say what its status tells.
 fn status_command<'a>(command: Command<'a>, alloc: Global) -> Result<Command<'a>, Error>
     ensures app { IfOk result (λ c. app_of c ≡ with_status (app_of command.entry)) }
     ensures local { (fields_of command.entry).has_globals ≡ false
@@ -601,7 +601,7 @@ fn status_command<'a>(command: Command<'a>, alloc: Global) -> Result<Command<'a>
     )
 }
 
-/// The words that `run` takes.
+/// The command `run`, with the words that it takes.
 fn run_command<'a>(alloc: Global) -> Result<Command<'a>, Error>
     ensures app { IfOk result (λ c. app_of c ≡ run) }
     ensures local { IfOk result (λ c. (fields_of c).has_globals ≡ false) }
@@ -616,7 +616,7 @@ fn run_command<'a>(alloc: Global) -> Result<Command<'a>, Error>
     status_command(run, alloc)
 }
 
-/// The words that `asm` takes.
+/// The command `asm`, with the words that it takes.
 fn asm_command<'a>(alloc: Global) -> Result<Command<'a>, Error>
     ensures app { IfOk result (λ c. app_of c ≡ asm) }
     ensures local { IfOk result (λ c. (fields_of c).has_globals ≡ false) }
@@ -631,7 +631,7 @@ fn asm_command<'a>(alloc: Global) -> Result<Command<'a>, Error>
     )
 }
 
-/// The words that `dis` takes.
+/// The command `dis`, with the words that it takes.
 fn dis_command<'a>(alloc: Global) -> Result<Command<'a>, Error>
     ensures app { IfOk result (λ c. app_of c ≡ dis) }
     ensures local { IfOk result (λ c. (fields_of c).has_globals ≡ false) }
@@ -643,7 +643,7 @@ fn dis_command<'a>(alloc: Global) -> Result<Command<'a>, Error>
     guest_command(dis, alloc)
 }
 
-/// The words that `debug` takes.
+/// The command `debug`, with the words that it takes.
 fn debug_command<'a>(alloc: Global) -> Result<Command<'a>, Error>
     ensures app { IfOk result (λ c. app_of c ≡ debug) }
     ensures local { IfOk result (λ c. (fields_of c).has_globals ≡ false) }
@@ -655,7 +655,7 @@ fn debug_command<'a>(alloc: Global) -> Result<Command<'a>, Error>
     guest_command(debug, alloc)
 }
 
-/// The words that `script` takes.
+/// The command `script`, with the words that it takes.
 fn script_command<'a>(alloc: Global) -> Result<Command<'a>, Error>
     ensures app { IfOk result (λ c. app_of c ≡ script) }
     ensures local { IfOk result (λ c. (fields_of c).has_globals ≡ false) }
@@ -667,7 +667,7 @@ fn script_command<'a>(alloc: Global) -> Result<Command<'a>, Error>
     Ok(world_command(script, alloc)?.arg(script_argument(alloc))?)
 }
 
-/// The words that `move` takes.
+/// The command `move`, with the words that it takes.
 fn move_command<'a>(alloc: Global) -> Result<Command<'a>, Error>
     ensures app { IfOk result (λ c. app_of c ≡ move) }
     ensures local { IfOk result (λ c. (fields_of c).has_globals ≡ false) }
@@ -679,7 +679,7 @@ fn move_command<'a>(alloc: Global) -> Result<Command<'a>, Error>
     judged_command(moving_command(command, alloc)?, alloc)
 }
 
-/// The words that `audit` takes.
+/// The command `audit`, with the words that it takes.
 fn audit_command<'a>(alloc: Global) -> Result<Command<'a>, Error>
     ensures app { IfOk result (λ c. app_of c ≡ audit) }
     ensures local { IfOk result (λ c. (fields_of c).has_globals ≡ false) }
@@ -691,7 +691,7 @@ fn audit_command<'a>(alloc: Global) -> Result<Command<'a>, Error>
     moving_command(audit, alloc)
 }
 
-/// A command over a host, with the words that say where it is reached, and by whom.
+/// Adds to a command the words that say where a host is reached, and by whom.
 fn addresses_command<'a>(command: Command<'a>, alloc: Global) -> Result<Command<'a>, Error>
     ensures app { IfOk result (λ c. app_of c ≡ with_addresses (app_of command.entry)) }
     ensures local { (fields_of command.entry).has_globals ≡ false
@@ -707,7 +707,7 @@ fn addresses_command<'a>(command: Command<'a>, alloc: Global) -> Result<Command<
     )
 }
 
-/// A command with the name of a host, and perhaps the image of a guest.
+/// Adds to a command the words for the name of a host, and for the image of a guest, which may be missing.
 fn named_command<'a>(command: Command<'a>, alloc: Global) -> Result<Command<'a>, Error>
     ensures app { IfOk result (λ c. app_of c ≡ with_name (app_of command.entry)) }
     ensures local { (fields_of command.entry).has_globals ≡ false
@@ -721,7 +721,7 @@ fn named_command<'a>(command: Command<'a>, alloc: Global) -> Result<Command<'a>,
     )
 }
 
-/// A command over a host, with the words that say how it works.
+/// Adds to a command the words that say how a host works.
 fn hosting_command<'a>(command: Command<'a>, alloc: Global) -> Result<Command<'a>, Error>
     ensures app { IfOk result (λ c. app_of c ≡ with_hosting (app_of command.entry)) }
     ensures local { (fields_of command.entry).has_globals ≡ false
@@ -737,7 +737,7 @@ fn hosting_command<'a>(command: Command<'a>, alloc: Global) -> Result<Command<'a
     )
 }
 
-/// The words that `host` takes.
+/// The command `host`, with the words that it takes.
 fn host_command<'a>(alloc: Global) -> Result<Command<'a>, Error>
     ensures app { IfOk result (λ c. app_of c ≡ host) }
     ensures local { IfOk result (λ c. (fields_of c).has_globals ≡ false) }
@@ -751,7 +751,7 @@ fn host_command<'a>(alloc: Global) -> Result<Command<'a>, Error>
     judged_command(host, alloc)
 }
 
-/// The words that `tell` takes.
+/// The command `tell`, with the words that it takes.
 fn tell_command<'a>(alloc: Global) -> Result<Command<'a>, Error>
     ensures app { IfOk result (λ c. app_of c ≡ tell) }
     ensures local { IfOk result (λ c. (fields_of c).has_globals ≡ false) }

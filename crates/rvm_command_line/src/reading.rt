@@ -1,4 +1,4 @@
-//! From words to arguments.
+//! Reads the words of a command line as arguments.
 
 ghost use Rattle.std.specs.Prelude.{◌≡◌, ◌≤◌, ◌&&◌, nat_le, if◌then◌else◌, [], ◌∷◌, Some, IfErr, IfOk, IfSome, codes, map, option_map};
 ghost use Rattle.clap.specs.Faults.{fault_of};
@@ -40,7 +40,7 @@ const MAX_MOVE_STEPS: u32 = 100_000;
 /// The most rounds of copies before a guest is paused.
 const MAX_ROUNDS: u32 = 1000;
 
-/// The most copies for each page before it is paused.
+/// The most copies for each page before a guest is paused.
 const MAX_FACTOR: u32 = 100;
 
 /// The most milliseconds that a move waits for an answer.
@@ -49,8 +49,8 @@ const MAX_PATIENCE: u32 = 1_000_000_000;
 /// The most turns that a guest makes in a second.
 const MAX_RATE: u32 = 1_000_000_000;
 
-/// Reads the command line, whose first word is the program's name. The error has `clap`'s text, and
-/// `exit_code` says what the program ends with.
+/// Reads the words of a command line. The first word is the program's name. The error has `clap`'s text, and its
+/// `exit_code` is the status of the program. It also stands for a command line that asks for help or for the version.
 pub fn parse_args<'a, S: AsStr>(alloc: Global, words: &'a [S]) -> Result<Arguments<'a>, Error>
     ensures asked { IfOk result (IsAsked (subcommand_of program (map S.text words.now))) }
     ensures taken { IfOk result (λ a. fault_of program (map S.text words.now) ≡ []) }
@@ -60,7 +60,8 @@ pub fn parse_args<'a, S: AsStr>(alloc: Global, words: &'a [S]) -> Result<Argumen
     read_words(&mut command, words)
 }
 
-/// The fault of a command line whose word at this place is not UTF-8, with `clap`'s text; the program's name has the place 0.
+/// The fault of a command line whose word with the index `place` is not UTF-8, with `clap`'s text. The program's name
+/// has the index 0.
 pub fn word_fault(alloc: Global, place: usize) -> Error
     ensures { HasKind (kind.ValueValidation ∷ []) result }
 {
@@ -70,7 +71,7 @@ pub fn word_fault(alloc: Global, place: usize) -> Error
     }
 }
 
-/// The fault of a command line whose word at this place is not UTF-8, or that there is no memory for it.
+/// The fault of a command line whose word with the index `place` is not UTF-8. Fails only if memory runs out.
 fn refuse_word(alloc: Global, place: usize) -> Result<Error, Error>
     ensures kind { IfOk result (λ e. kind_of e ≡ kind.ValueValidation) }
     ensures memory { IfErr result (λ e. kind_of e ≡ kind.OutOfMemory) }
@@ -80,7 +81,7 @@ fn refuse_word(alloc: Global, place: usize) -> Result<Error, Error>
     Ok(parser.error(ErrorKind::ValueValidation, text.as_str())?)
 }
 
-/// Reads a command line by the words that the program takes.
+/// Reads the words of a command line by `command`, the words that the program takes.
 fn read_words<'a, S: AsStr>(
     command: &mut Command<'a>,
     words: &'a [S],
@@ -97,7 +98,7 @@ fn read_words<'a, S: AsStr>(
     }
 }
 
-/// The arguments of the command that was named, or which of them is not what it must be.
+/// The arguments of the command that was named. Fails with a text that says which of them is not what it must be.
 fn read_matches<'a>(matches: &ArgMatches<'a>) -> Result<Arguments<'a>, &'static str>
     ensures { IfOk result (IsAsked (subcommand_rows_of matches.now)) }
 {
@@ -115,7 +116,7 @@ fn read_matches<'a>(matches: &ArgMatches<'a>) -> Result<Arguments<'a>, &'static 
     }
 }
 
-/// The arguments of `run`, or which of them is not what it must be.
+/// The arguments of `run`. Fails with a text that says which of them is not what it must be.
 fn read_run<'a>(run: &ArgMatches<'a>) -> Result<Arguments<'a>, &'static str>
     ensures { IfOk result (Gives (codes "run") (rows_of (found_of run.now))) }
 {
@@ -132,7 +133,7 @@ fn read_run<'a>(run: &ArgMatches<'a>) -> Result<Arguments<'a>, &'static str>
     }))
 }
 
-/// What the status of `run` tells, or that its two flags are both given.
+/// What the status of `run` tells. Fails with a text if its two flags are both given.
 fn read_status(run: &ArgMatches) -> Result<StatusOf, &'static str>
     ensures { IfOk result (IsStatusOf (one_of (codes "verdict") (rows_of (found_of run.now)))
         (one_of (codes "exit-status") (rows_of (found_of run.now)))) }
@@ -145,7 +146,7 @@ fn read_status(run: &ArgMatches) -> Result<StatusOf, &'static str>
     }
 }
 
-/// The guest of a command, or which of its arguments is not what it must be.
+/// The guest of a command. Fails with a text that says which of its arguments is not what it must be.
 fn read_guest<'a>(command: &ArgMatches<'a>) -> Result<GuestArguments<'a>, &'static str>
     ensures { IfOk result (IsGuest (rows_of (found_of command.now))) }
 {
@@ -166,7 +167,7 @@ fn read_guest<'a>(command: &ArgMatches<'a>) -> Result<GuestArguments<'a>, &'stat
     })
 }
 
-/// The arguments of `asm`, unless it would write over its text.
+/// The arguments of `asm`. Fails with a text if one is missing, or if both name the same file.
 fn read_asm<'a>(asm: &ArgMatches<'a>) -> Result<Arguments<'a>, &'static str>
     ensures { IfOk result (Gives (codes "asm") (rows_of (found_of asm.now))) }
 {
@@ -182,7 +183,8 @@ fn read_asm<'a>(asm: &ArgMatches<'a>) -> Result<Arguments<'a>, &'static str>
     Ok(Arguments::Asm(AsmArguments { source, output }))
 }
 
-/// The arguments of `dis`, or which of them is not what it must be. Harts and pages are of no use.
+/// The arguments of `dis`. Fails with a text that says which of them is not what it must be. Harts and pages are
+/// checked, and not used.
 fn read_dis<'a>(dis: &ArgMatches<'a>) -> Result<Arguments<'a>, &'static str>
     ensures { IfOk result (Gives (codes "dis") (rows_of (found_of dis.now))) }
 {
@@ -193,14 +195,14 @@ fn read_dis<'a>(dis: &ArgMatches<'a>) -> Result<Arguments<'a>, &'static str>
     }))
 }
 
-/// The arguments of `debug`, or which of them is not what it must be.
+/// The arguments of `debug`. Fails with a text that says which of them is not what it must be.
 fn read_debug<'a>(debug: &ArgMatches<'a>) -> Result<Arguments<'a>, &'static str>
     ensures { IfOk result (Gives (codes "debug") (rows_of (found_of debug.now))) }
 {
     Ok(Arguments::Debug(read_guest(debug)?))
 }
 
-/// The arguments of `script`, or which of them is not what it must be.
+/// The arguments of `script`. Fails with a text that says which of them is not what it must be.
 fn read_script<'a>(script: &ArgMatches<'a>) -> Result<Arguments<'a>, &'static str>
     ensures { IfOk result (Gives (codes "script") (rows_of (found_of script.now))) }
 {
@@ -222,7 +224,7 @@ fn read_script<'a>(script: &ArgMatches<'a>) -> Result<Arguments<'a>, &'static st
     }))
 }
 
-/// The arguments of `move` and of `audit`, or which of them is not what it must be.
+/// The arguments of `move` and of `audit`. Fails with a text that says which of them is not what it must be.
 fn read_move<'a>(words: &ArgMatches<'a>) -> Result<MoveArguments<'a>, &'static str>
     ensures { IfOk result (IsMove (rows_of (found_of words.now))) }
 {
@@ -253,7 +255,7 @@ fn read_move<'a>(words: &ArgMatches<'a>) -> Result<MoveArguments<'a>, &'static s
     })
 }
 
-/// The arguments of `host`, or which of them is not what it must be.
+/// The arguments of `host`. Fails with a text that says which of them is not what it must be.
 fn read_host<'a>(host: &ArgMatches<'a>) -> Result<HostArguments<'a>, &'static str>
     ensures { IfOk result (IsHost (rows_of (found_of host.now))) }
 {
@@ -287,7 +289,8 @@ fn read_host<'a>(host: &ArgMatches<'a>) -> Result<HostArguments<'a>, &'static st
     })
 }
 
-/// The guest of a command that may have none, or which of its arguments is not what it must be.
+/// The guest of a command, if an image is named. Fails with a text that says which of its arguments is not what it must
+/// be.
 fn read_optional_guest<'a>(
     command: &ArgMatches<'a>,
 ) -> Result<Option<GuestArguments<'a>>, &'static str>
@@ -299,7 +302,7 @@ fn read_optional_guest<'a>(
     Ok(Some(read_guest(command)?))
 }
 
-/// The arguments of `tell`, or which of them is not what it must be.
+/// The arguments of `tell`. Fails with a text that says which of them is not what it must be.
 fn read_tell<'a>(tell: &ArgMatches<'a>) -> Result<TellArguments<'a>, &'static str>
     ensures { IfOk result (IsTell (rows_of (found_of tell.now))) }
 {
@@ -312,7 +315,7 @@ fn read_tell<'a>(tell: &ArgMatches<'a>) -> Result<TellArguments<'a>, &'static st
     })
 }
 
-/// The text of an option, which the words or its default give.
+/// The text of an option, as the words or its default give it, if they do.
 #[tactic(auto, using(crate::proofs::Rows::first_row))]
 fn text<'a>(command: &ArgMatches<'a>, option: &str) -> Option<&'a str>
     ensures { option_map (λ s. s.now) result ≡ first_of option.now (rows_of (found_of command.now)) }
@@ -328,7 +331,8 @@ fn flag(command: &ArgMatches, option: &str) -> bool
     command.get_flag(option)
 }
 
-/// The number of an option, within limits. It has no sign, also no plus sign.
+/// The number of an option, from `least` to `most`. `None` if it has none: its text has a sign, even a plus sign, or
+/// another byte than digits, or the number is outside these limits.
 fn number(command: &ArgMatches, option: &str, least: u32, most: u32) -> Option<u32>
     ensures within { IfSome result (λ n. (least ≤ n) × (n ≤ most)) }
     ensures given { IfSome result (IsNumber (first_of option.now (rows_of (found_of command.now)))) }
@@ -336,7 +340,8 @@ fn number(command: &ArgMatches, option: &str, least: u32, most: u32) -> Option<u
     within(unsigned(text(command, option)?)?, least, most)
 }
 
-/// The number of an option that need not be given, within limits. None where what is given is no such number.
+/// The number of an option that need not be given, from `least` to `most`, if it is given. `None` if what is given is
+/// no such number.
 fn optional_number(command: &ArgMatches, option: &str, least: u32, most: u32) -> Option<Option<u32>>
     ensures within { IfSome result (λ number. IfSome number (λ n. (least ≤ n) × (n ≤ most))) }
     ensures given { IfSome result (IsOptionalNumber (first_of option.now (rows_of (found_of command.now)))) }
@@ -347,7 +352,7 @@ fn optional_number(command: &ArgMatches, option: &str, least: u32, most: u32) ->
     Some(Some(number(command, option, least, most)?))
 }
 
-/// The number that a text writes in decimal digits alone.
+/// The number below 2^32 that a text writes in decimal digits alone, if it does.
 #[tactic(auto, using(crate::proofs::Numbers::unsigned))]
 fn unsigned(text: &str) -> Option<u32>
     ensures { IfSome result (IsNumber (Some text.now)) }
@@ -358,7 +363,7 @@ fn unsigned(text: &str) -> Option<u32>
     }
 }
 
-/// A number that is within limits.
+/// The number, if it is from `least` to `most`.
 fn within(number: u32, least: u32, most: u32) -> Option<u32>
     ensures { result ≡ (if nat_le least number && nat_le number most then Some number else None) }
 {

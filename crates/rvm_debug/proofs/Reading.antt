@@ -97,7 +97,7 @@ pub words_of_none : (xs : List ℕ) → length xs ≡ 0 → words xs ≡ []
 words_of_none [] e = no_words
 words_of_none (b ∷ xs) e = absurd (omega arith)
 
--- no word is left where nothing is left after the blanks
+-- no word is left if nothing is left after the blanks
 pub is_done : (rest xs : List ℕ) (ws : List (List ℕ)) (r : Bool) → begins_blank rest ≡ false → words rest ≡ words xs → words xs ≡ ws → r ≡ (length rest == 0) → (IsTrue r → ws ≡ []) × (ws ≡ [] → IsTrue r)
 is_done rest xs ws r begins same seen test = (
   λ t. sym seen ∙ sym same ∙ words_of_none rest (empty_if r (length rest) test t),

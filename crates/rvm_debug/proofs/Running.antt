@@ -44,7 +44,7 @@ step_made h left made last g goes =
     let a = answered (event.Step h) g in
     ap (λ b. cond b (record { guest = g; pages = []; count = made; reply = last }) (stepping_after a.pages (stepping h left (made + 1) a.reply a.guest))) goes
 
--- where no step follows
+-- after an answer that ends steps, no step follows
 steps_stop : (h left made : ℕ) (last : BoardReply) (g : Guest) → ends_steps last ≡ true → stepping h left made last g ≡ record { guest = g; pages = []; count = made; reply = last }
 unfolding stepping
 steps_stop h zero made last g stops = refl
@@ -94,7 +94,7 @@ told_same (reply.Refused why) = refl
 stop_told : (r : BoardReply) (s : Stop) → stop_in r ≡ Some s → r ≡ reply_of_stop s
 stop_told r s e = sym (told_same r) ∙ ap (λ o. told_or o r) e
 
--- the steps that turns of one hart, and one step after them unless they ended early, come to
+-- turns of one hart, and one step after them unless they ended early, as steps
 abbrev last_step : Option Stop → (h m made : ℕ) → AfterTurns → Stepping
 last_step (Some s) h m made t = record { guest = t.guest; pages = t.pages; count = made + t.made; reply = reply_of_stop s }
 last_step None h m made t =
@@ -370,7 +370,7 @@ lines_over all left number start new before after u none p =
     let whole : p.done ≡ all = sym (append-nil p.done) ∙ ap (λ l. p.done ++ l) (sym none) ∙ p.whole in
     rw (← whole) (p.on, record { guest = p.guest; dirty = p.dirty; text = p.text })
 
--- a line that is none, or whose answer was not written
+-- a line that is not in the grammar, or whose answer was not written
 pub line_refused : (all left bs : List (List ℕ)) (b : List ℕ) (number k : ℕ) (start old new : GuestState) (before mid after : Option (List ℕ)) (e : ScriptError) (o : Option Line) → line_of b ≡ o → Lines all left number start old before mid → k ≡ number → left ≡ b ∷ bs
     → IsLineRun (Err e) k o old new mid after → IsRun (Err e) all start new before after
 line_refused all left bs b number k start old new before mid after OutOfMemory o is p same more run = absurd run

@@ -1,4 +1,4 @@
--- Rows that are written one after the other.
+-- Consecutive rows that are written.
 use Rattle.std.proofs.Common.{ℕ, ◌+◌, ◌*◌, List, Option, add-one}
 use Rattle.std.specs.Io.KnownBytes.{Appends}
 use Rattle.rvm_debug.specs.Answers.{row_text, rows_text, four_text, fours_text}

@@ -46,7 +46,7 @@ step_text h n r =
     else codes "step " ++ decimal h ++ codes " " ++ decimal n ++ codes ": " ++ reply_word r
     ++ codes "\n"
 
--- `out N HEX`, without HEX where there are no bytes
+-- `out N HEX`, without HEX if there are no bytes
 abbrev pub output_text : List ℕ → List ℕ
 output_text [] = codes "out 0\n"
 output_text (b ∷ bs) =
@@ -110,8 +110,8 @@ abbrev pub bytes_text : (address : Option ℕ) → List ℕ → List ℕ
 bytes_text None bs = output_text bs
 bytes_text (Some a) bs = memory_text a bs
 
--- the answer to an event that is no step; its bytes are those of RAM from an address on, if there
--- is one
+-- the answer to an event that is no step; its bytes are RAM from an address on if one is given, else what the guest
+-- sent
 abbrev pub reply_text : (address : Option ℕ) → BoardReply → List ℕ
 reply_text a reply.Done = reply_word reply.Done ++ codes "\n"
 reply_text a (reply.Bytes bs) = bytes_text a bs

@@ -22,6 +22,6 @@ is_hex word =
 unfoldable pub hex_of : List ℕ → Option (List ℕ)
 hex_of word = if is_hex word then Some (bytes_in word) else None
 
--- the bytes, where they are at most 256
+-- the bytes, if they are at most 256
 abbrev pub small : List ℕ → Option (List ℕ)
 small bytes = if nat_le (length bytes) 256 then Some bytes else None

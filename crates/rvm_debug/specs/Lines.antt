@@ -115,7 +115,7 @@ commanded Dis ws = option_map (λ a. line.Ask (event.Dis a)) (one_number ws)
 commanded Reg ws = reg_line ws
 commanded Poke ws = poke_line ws
 
--- the same, of a first word that may name no command
+-- what a line asks for, by the command that its first word names, if it names one
 abbrev pub statement : Option Command → List (List ℕ) → Option Line
 statement None ws = None
 statement (Some c) ws = commanded c ws
@@ -125,11 +125,11 @@ abbrev pub is_comment : List ℕ → Bool
 is_comment [] = false
 is_comment (b ∷ bs) = b == 35
 
--- what words ask for; none, if they are no line
+-- what words ask for, if they are in the grammar
 abbrev pub asked : List (List ℕ) → Option Line
 asked [] = Some line.Empty
 asked (w ∷ ws) = if is_comment w then Some line.Empty else statement (command_of w) ws
 
--- what a line asks for; none, if it is not in the grammar
+-- what a line asks for, if it is in the grammar
 unfoldable pub line_of : List ℕ → Option Line
 line_of bytes = asked (words (without_return bytes))

@@ -12,7 +12,7 @@ use Rattle.rvm_debug.specs.declared.line.Line.TheVariants.{Empty}
 use Rattle.rvm_debug.specs.Lines.{line_of}
 use Rattle.rvm_debug.specs.Script.{Answers, done_by, script_of}
 
--- what was told went out, and the guest and its dirty log are as told
+-- the answers were written, and the guest and its dirty log are what the lines leave
 pub record Leaves (told : Answers) (old new : GuestState) (before after : Option (List ℕ))
     : Type 0 where
   pub guest : new.guest ≡ told.guest
@@ -33,8 +33,8 @@ pub record EndsAnswered (done : List (List ℕ)) : Type 0 where
   pub is_line : line_of last ≡ Some line
   pub answered : HasAnswer line
 
--- some of the first lines were done, each to its end, and none of the others was begun; the answer to the last was not
--- written, or none was done, since the script could not be read
+-- the first lines were done, each to its end, and none of the others was begun; the answer to the last of them was not
+-- written, or no line was done since the script was not read
 pub record IsPartWay (lines : List (List ℕ)) (old new : GuestState) : Type 0 where
   pub done : List (List ℕ)
   pub left : List (List ℕ)
@@ -44,8 +44,8 @@ pub record IsPartWay (lines : List (List ℕ)) (old new : GuestState) : Type 0 w
   pub guest : new.guest ≡ (script_of done 1 old.guest).guest
   pub dirty : new.dirty ≡ mark_all (script_of done 1 old.guest).pages old.dirty
 
--- the lines of a script were done to its end, or up to the line that is none, or up to an answer that
--- could not be written; where it can't be read none is
+-- the lines of a script were done to its end, or up to a line that is not in the grammar, or up to an answer that was
+-- not written; if the script was not read, no line was done
 abbrev pub IsRun : Result (Unit {0}) ScriptError → (lines : List (List ℕ))
     → (old new : GuestState) → (before after : Option (List ℕ)) → Type 0
 IsRun (Ok u) lines old new before after =
@@ -71,14 +71,14 @@ IsReadError script (BadToken n) = ⊥
 IsReadError script OutOfMemory = Unit {0}
 IsReadError script LinkFault = Unit {0}
 
--- why lines are not done to their end
+-- why not all lines are done: one is not in the grammar, or a write failed
 abbrev pub IsLineError : ScriptError → Type 0
 IsLineError TooLong = ⊥
 IsLineError OutOfMemory = ⊥
 IsLineError (BadToken n) = Unit {0}
 IsLineError LinkFault = Unit {0}
 
--- a line was done, or it is none, and nothing was; it is done too where it has an answer that could not be written
+-- a line was done, even if its answer was not written; or it is not in the grammar, and nothing was done
 abbrev pub IsLineRun : Result (Unit {0}) ScriptError → (number : ℕ) → Option Line
     → (old new : GuestState) → (before after : Option (List ℕ)) → Type 0
 IsLineRun (Ok u) n None old new before after = ⊥

@@ -21,7 +21,7 @@ pub record Stepping : Type 0 where
 abbrev pub stepping_after : List ℕ → Stepping → Stepping
 stepping_after ps s = record s { pages = ps ++ s.pages }
 
--- at most this many steps of a hart more, where this many were made and the last was answered so
+-- at most this many more steps of a hart, after this many were made and the last was answered so
 unfoldable pub stepping : (hart left made : ℕ) → BoardReply → Guest → Stepping
 stepping h zero made last g = record { guest = g; pages = []; count = made; reply = last }
 stepping h (suc left) made last g =
@@ -67,8 +67,8 @@ done_by (line.Steps h n) g = replied_steps h (stepped h n g)
 done_by (line.Input bs) g = replied None (inputs bs g)
 done_by (line.Ask e) g = replied (address_of e) (answered e g)
 
--- the guest that a script leaves, the pages that it wrote, all that it answers, and the number of
--- the line that is none, if one ended it
+-- the guest that a script leaves, the pages that it wrote, all its answers, and the number of the line that is not in
+-- the grammar, if one ended the script
 pub record Answers : Type 0 where
   pub guest : Guest
   pub pages : List ℕ

@@ -13,7 +13,7 @@ lines_from [] line = piece line
 lines_from (b ∷ bs) line =
     if b == 10 then line ∷ lines_from bs [] else lines_from bs (line ++ b ∷ [])
 
--- the lines of a script: each ends with a line feed, which the last may lack
+-- the lines of a script: each ends with a line feed, but the last line may end without one
 abbrev pub lines : List ℕ → List (List ℕ)
 lines script = lines_from script []
 

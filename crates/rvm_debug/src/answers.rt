@@ -13,7 +13,7 @@ use rvm_text::{register_name, write_hex};
 use std::fmt;
 use std::io::Write;
 
-/// How many bytes of RAM a line shows.
+/// The most bytes of RAM that a line shows.
 const ROW_SIZE: usize = 16;
 
 /// A word, shown as eight hexadecimal digits.
@@ -51,7 +51,7 @@ impl fmt::Display for Named {
     }
 }
 
-/// An answer, shown in words; nothing for bytes, registers and words of RAM.
+/// An answer, shown in words. Bytes, registers and words of RAM are shown as nothing.
 #[derive(Clone, Copy)]
 pub struct InWords<'a>(pub &'a BoardReply);
 
@@ -82,7 +82,8 @@ pub fn is_refused(reply: &BoardReply) -> bool
     matches!(reply, BoardReply::Refused(_))
 }
 
-/// Writes how many steps of a hart were made and what the last did, or that it was refused.
+/// Writes how many steps a hart made and what the last one did; if that was refused, writes the refusal alone.
+/// `LinkFault` if the writer fails.
 pub fn write_steps<W: Write>(
     writer: &mut W,
     hart: u32,
@@ -100,7 +101,7 @@ pub fn write_steps<W: Write>(
     Ok(())
 }
 
-/// The address of the bytes that an event asks for, if they are of RAM.
+/// The address of the bytes that an event asks for, if it asks for bytes of RAM.
 pub fn address_of(event: &BoardEvent) -> Option<u32>
     ensures { result ≡ address_of event.now }
 {
@@ -110,8 +111,8 @@ pub fn address_of(event: &BoardEvent) -> Option<u32>
     }
 }
 
-/// Writes the answer to an event that is no step; its bytes are those of RAM from an address on,
-/// if there is one, which is what `address_of` says of the event.
+/// Writes the answer to an event that is no step. `address` is what `address_of` returned for the event: bytes are
+/// shown as RAM from there on, or, without an address, as bytes that the guest sent. `LinkFault` if the writer fails.
 pub fn write_reply<W: Write>(
     writer: &mut W,
     address: Option<u32>,
@@ -176,7 +177,7 @@ fn write_memory<W: Write>(writer: &mut W, address: u32, bytes: &[u8]) -> Result<
     Ok(())
 }
 
-/// Writes a row of bytes of RAM from an address on.
+/// Writes the row with this index of bytes of RAM from an address on: at most 16 bytes.
 fn write_row<W: Write>(
     writer: &mut W,
     address: u32,
@@ -209,7 +210,7 @@ fn write_registers<W: Write>(writer: &mut W, registers: &[u32; 33]) -> Result<()
     Ok(())
 }
 
-/// Writes four registers from one on.
+/// Writes four registers from `first` on, in a line.
 fn write_four<W: Write>(
     writer: &mut W,
     registers: &[u32; 33],
@@ -226,7 +227,7 @@ fn write_four<W: Write>(
     Ok(())
 }
 
-/// Writes two registers from one on.
+/// Writes two registers from `first` on.
 fn write_two<W: Write>(writer: &mut W, registers: &[u32; 33], first: usize) -> Result<(), LinkFault>
     requires { first ≤ 30 }
     ensures { OnOk result (Appends (W.contents writer.old) (W.contents writer.new)

@@ -3,7 +3,7 @@
 ghost use Rattle.std.specs.Prelude.{◌≡◌};
 ghost use Rattle.rvm_debug.specs.Lines.{command_of};
 
-/// What the first word of a line names.
+/// A command of a script, which the first word of a line names.
 #[derive(Clone, Copy)]
 pub enum Command {
     Step,
@@ -19,7 +19,7 @@ pub enum Command {
 }
 
 impl Command {
-    /// The command that a word names.
+    /// The command that a word names, or `None` if it names none.
     #[tactic(auto, unfolding(crate::specs::Lines::command_of))]
     pub fn named(word: &[u8]) -> Option<Command>
         ensures { result ≡ command_of word.now }

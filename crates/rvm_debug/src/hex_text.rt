@@ -9,7 +9,7 @@ use rvm_board::{VIEW_SIZE, View};
 use rvm_text::digit_value;
 use std::marker::Model;
 
-/// Bytes as they are written, two digits each.
+/// Bytes that are written as two hexadecimal digits each.
 #[derive(Drop)]
 pub struct HexText<'a> {
     digits: &'a [u8],
@@ -28,7 +28,7 @@ impl<'a> Model for HexText<'a> {
 }
 
 impl<'a> HexText<'a> {
-    /// The bytes of a word that is an even number, at least two, of digits; none of another word.
+    /// The bytes of a word that consists of digits, an even number and at least two; `None` for any other word.
     #[tactic(auto, unfolding(crate::specs::HexBytes::hex_of))]
     pub fn new(word: &'a [u8]) -> Option<HexText<'a>>
         ensures { result ≡ hex_of word.now }
@@ -54,7 +54,7 @@ impl<'a> HexText<'a> {
         }
     }
 
-    /// The bytes in place; none where they are more than 256.
+    /// The bytes as a `View`, or `None` if there are more than 256.
     pub fn view(self) -> Option<View>
         ensures { result ≡ small self.entry }
     {
@@ -70,7 +70,7 @@ impl<'a> HexText<'a> {
     }
 }
 
-/// Whether all bytes are digits.
+/// Whether all bytes are hexadecimal digits.
 fn are_hex_digits(word: &[u8]) -> bool
     ensures { result ≡ list_all is_hex_digit word.now }
 {

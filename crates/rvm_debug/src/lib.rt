@@ -1,9 +1,9 @@
 //! Scripts for a debugged board: lines of text, the events that they make, and the text of the
 //! answers.
 //!
-//! Stands on `rvm_board` for what events do, on `rvm_text` for numbers and names, and on `rvm_dis`
-//! for the text of a word. It knows nothing of files, processes or hosts. What reads words and lines
-//! and what writes answers is public, for scripts that have lines of more kinds.
+//! Stands on `rvm_board` for what events do, on `rvm_text` for numbers and names, and on `rvm_dis` for the text of a
+//! word. It knows nothing of files, processes or hosts. The functions that read words and lines and write answers are
+//! public, for scripts with further kinds of lines.
 //!
 //! To be read in this order: `words`, `hex_text`, `command`, `line`, `answers`, `lines`, `script`.
 #![tactic(auto)]

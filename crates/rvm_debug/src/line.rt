@@ -9,25 +9,24 @@ use crate::hex_text::HexText;
 use crate::words::{Words, numeral, register_number};
 use rvm_board::BoardEvent;
 
-/// The most steps that a line asks for.
+/// The most steps that a line may ask for.
 const MAX_STEPS: u32 = 1_000_000;
 
 /// What a line asks for.
 #[derive(Drop)]
 pub enum Line<'a> {
-    /// Nothing.
+    /// Nothing: the line is blank or a comment.
     Empty,
-    /// This many steps of a hart, 1 to 1000000.
+    /// `count` steps of a hart, 1 to 1000000.
     Steps { hart: u32, count: u32 },
-    /// Bytes come to the console.
+    /// Bytes that come to the console.
     Input(HexText<'a>),
     /// One event.
     Ask(BoardEvent),
 }
 
 impl<'a> Line<'a> {
-    /// What a line asks for, without the line feed at its end; none where it is not in the
-    /// grammar.
+    /// What a line asks for, which comes without its line feed; `None` if it is not in the grammar.
     #[tactic(auto, unfolding(crate::specs::Lines::line_of))]
     pub fn read(line: &'a [u8]) -> Option<Line<'a>>
         ensures { result ≡ line_of line.now }
@@ -35,8 +34,7 @@ impl<'a> Line<'a> {
         asked(Words::new(without_return(line)))
     }
 
-    /// What a command asks for, by its name and the words after it; none where they are not in the
-    /// grammar.
+    /// What a command asks for, by its name and the words after it; `None` if they are not in the grammar.
     pub fn named(name: &[u8], words: Words<'a>) -> Option<Line<'a>>
         ensures { result ≡ statement (command_of name.now) words.entry }
     {
@@ -44,7 +42,7 @@ impl<'a> Line<'a> {
     }
 }
 
-/// A line without the carriage return at its end.
+/// A line without the carriage return at its end, if it has one.
 #[tactic(auto, using(crate::proofs::Reading::short_line))]
 pub fn without_return(line: &[u8]) -> &[u8]
     ensures { result.now ≡ without_return line.now }
@@ -55,7 +53,7 @@ pub fn without_return(line: &[u8]) -> &[u8]
     }
 }
 
-/// What words ask for.
+/// What the words of a line ask for.
 fn asked<'a>(words: Words<'a>) -> Option<Line<'a>>
     ensures { result ≡ asked words.entry }
 {
@@ -84,7 +82,7 @@ fn commanded<'a>(command: Command, words: Words<'a>) -> Option<Line<'a>>
     }
 }
 
-/// `step H [N]`.
+/// Reads the words after the name of `step H [N]`.
 fn step<'a>(words: Words<'a>) -> Option<Line<'a>>
     ensures { result ≡ step_line words.entry }
 {
@@ -98,7 +96,7 @@ fn step<'a>(words: Words<'a>) -> Option<Line<'a>>
     }
 }
 
-/// How many steps are asked for: one, if nothing is said.
+/// The number of steps that a line asks for: one if no word is left.
 fn count(words: Words) -> Option<u32>
     ensures { result ≡ count_of words.entry }
 {
@@ -109,7 +107,7 @@ fn count(words: Words) -> Option<u32>
     }
 }
 
-/// `mem ADDR LEN`.
+/// Reads the words after the name of `mem ADDR LEN`.
 fn mem<'a>(words: Words<'a>) -> Option<Line<'a>>
     ensures { result ≡ mem_line words.entry }
 {
@@ -119,7 +117,7 @@ fn mem<'a>(words: Words<'a>) -> Option<Line<'a>>
     Some(Line::Ask(BoardEvent::Mem { address, length }))
 }
 
-/// `reg H NAME VALUE`.
+/// Reads the words after the name of `reg H NAME VALUE`.
 fn reg<'a>(words: Words<'a>) -> Option<Line<'a>>
     ensures { result ≡ reg_line words.entry }
 {
@@ -134,7 +132,7 @@ fn reg<'a>(words: Words<'a>) -> Option<Line<'a>>
     }))
 }
 
-/// `poke ADDR HEX`.
+/// Reads the words after the name of `poke ADDR HEX`, with 1 to 256 bytes.
 fn poke<'a>(words: Words<'a>) -> Option<Line<'a>>
     ensures { result ≡ poke_line words.entry }
 {
@@ -144,21 +142,21 @@ fn poke<'a>(words: Words<'a>) -> Option<Line<'a>>
     Some(Line::Ask(BoardEvent::PokeMem { address, bytes }))
 }
 
-/// The number of the only word; none where there is no word, or a second, or it is no number.
+/// The number that the only word spells; `None` if there is no word or a second one, or the word spells no number.
 pub fn one_number(words: Words) -> Option<u32>
     ensures { result ≡ one_number words.entry }
 {
     numeral(only(words)?)
 }
 
-/// The bytes of the only word.
+/// The bytes of the only word; `None` if there is no word or a second one, or the word spells no bytes.
 fn one_hex<'a>(words: Words<'a>) -> Option<HexText<'a>>
     ensures { result ≡ one_hex words.entry }
 {
     HexText::new(only(words)?)
 }
 
-/// The only word.
+/// The only word; `None` if there is no word or a second one.
 fn only<'a>(words: Words<'a>) -> Option<&'a [u8]>
     ensures { MatchOption result (only words.entry ≡ None)
         (λ word. only words.entry ≡ Some word.now) }

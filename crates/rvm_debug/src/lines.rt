@@ -14,16 +14,17 @@ use rvm_mem::Memory;
 use rvm_refusal::LinkFault;
 use std::io::Write;
 
-/// What steps of a hart answered.
+/// How steps of a hart ended.
 #[derive(Drop)]
 struct Steps {
-    /// How many there were.
+    /// The number of steps, including one that was refused.
     count: u32,
-    /// The answer to the last.
+    /// The answer to the last step.
     last: BoardReply,
 }
 
-/// Does what a line asks for, and writes its answer. `LinkFault` where that failed, which needs an answer.
+/// Does what a line asks for, and writes its answer. `LinkFault` if the writer fails; the line is done even then. An
+/// empty line has no answer, so that it cannot fail.
 pub fn do_line<M: Memory, W: Write>(
     board: &mut Debugged<M>,
     line: Line,
@@ -54,8 +55,8 @@ pub fn do_line<M: Memory, W: Write>(
     }
 }
 
-/// Makes at most this many steps of a hart; ends early at a breakpoint, where the board is halted and
-/// where there is no such hart.
+/// Makes at most `count` steps of a hart. Ends early if the hart stops at a breakpoint, if the board is halted, or if
+/// there is no such hart.
 fn step<M: Memory>(board: &mut Debugged<M>, hart: u32, count: u32) -> Steps
     ensures count { result.count ≡ (stepped hart count board.old.guest).count }
     ensures last { result.last ≡ (stepped hart count board.old.guest).reply }
@@ -88,7 +89,7 @@ fn step<M: Memory>(board: &mut Debugged<M>, hart: u32, count: u32) -> Steps
     }
 }
 
-/// Bytes come to the console, up to the first that is refused.
+/// Sends bytes to the console, up to the first that is refused. Returns the refusal, or `Done`.
 fn input<M: Memory>(board: &mut Debugged<M>, bytes: HexText) -> BoardReply
     ensures reply { result ≡ (inputs bytes.entry board.old.guest).reply }
     ensures guest { board.new.guest ≡ (inputs bytes.entry board.old.guest).guest }

@@ -1,4 +1,4 @@
-//! A script: its lines, one after the other.
+//! A script: its lines in order.
 
 ghost use Rattle.std.specs.Prelude.{◌≡◌, ◌⊎◌, ◌∷◌, ◌^◌, ◌<◌, ◌≤◌, length, IfOk, IfErr, IfSome};
 ghost use Rattle.rvm_debug.specs.declared.script.ScriptError.TheVariants.{OutOfMemory, TooLong};
@@ -48,14 +48,14 @@ impl From<ScriptError> for Refusal {
     }
 }
 
-/// Does what each line of a script asks for, in their order, and writes the answers. The script is
-/// all that `reader` gives, and is read before the first answer.
+/// Does what each line of a script asks for, in order, and writes the answers. The script is all that `reader` gives.
+/// It is read as a whole before the first line is done.
 ///
-/// `TooLong` for more than 2^26 bytes and `OutOfMemory`: then nothing was written, and the board is
-/// as it was. `BadToken` at the first line that is not in the grammar: what the lines before it
-/// answered is written, and the board is as they left it. `LinkFault` where a read or a write
-/// failed: then the board is as some of the first lines left it, each of which was done to its end,
-/// the last too, which has an answer that was not written; none was done where a read failed.
+/// `TooLong` if the script has more than 2^26 bytes, and `OutOfMemory` if memory runs out: then nothing was written,
+/// and the board is unchanged. `BadToken` at the first line that is not in the grammar: the lines before it were done,
+/// and their answers are written. `LinkFault` if a read or a write fails. After a failed read, no line was done. After
+/// a failed write, each line up to the one whose answer was being written was done to its end, and part of the answers
+/// may have been written.
 pub fn run_script<M: Memory, R: Read, W: Write>(
     alloc: Global,
     board: &mut Debugged<M>,
@@ -79,9 +79,9 @@ pub fn run_script<M: Memory, R: Read, W: Write>(
     }
 }
 
-/// All that a reader gives, if it is no more than a script has.
+/// All that a reader gives, at most the bytes of a script.
 ///
-/// `TooLong` for more than 2^26 bytes, `OutOfMemory`, and `LinkFault` where a read failed.
+/// `TooLong` if it gives more than 2^26 bytes, `OutOfMemory` if memory runs out, and `LinkFault` if a read fails.
 pub fn read_script<R: Read>(alloc: Global, reader: &mut R) -> Result<Vec<u8>, ScriptError>
     ensures bytes { IfOk result (λ v. IfSome (R.remaining reader.old) (λ script.
         (v.items ≡ script) × (length script ≤ 2 ^ 26))) }
@@ -101,7 +101,7 @@ pub fn read_script<R: Read>(alloc: Global, reader: &mut R) -> Result<Vec<u8>, Sc
     Ok(bytes)
 }
 
-/// Does what each line of a script asks for, and writes the answers.
+/// Does what each line of a script asks for, in order, and writes the answers. Ends at the first line that fails.
 fn run_lines<M: Memory, W: Write>(
     board: &mut Debugged<M>,
     script: &[u8],
@@ -144,7 +144,7 @@ fn run_line<M: Memory, W: Write>(
     }
 }
 
-/// The first line of at least one byte, without the line feed at its end, and the bytes after it.
+/// The first line of `bytes`, which are at least one, without its line feed; and the bytes after that line feed.
 #[tactic(auto, using(crate::proofs::Reading::line_reading))]
 pub fn split_line(bytes: &[u8]) -> (&[u8], &[u8])
     requires { 0 < length bytes.now }

@@ -71,7 +71,7 @@ fn behind_blanks(bytes: &[u8]) -> &[u8]
     rest
 }
 
-/// How many bytes the first word has, with which the bytes begin.
+/// The length of the word with which the bytes begin.
 #[tactic(auto, using(crate::proofs::Reading::reading))]
 fn word_length(bytes: &[u8]) -> usize
     requires some { 0 < length bytes.now }
@@ -87,14 +87,14 @@ fn word_length(bytes: &[u8]) -> usize
     bytes.len()
 }
 
+/// Whether a byte is a space or a tab.
 fn is_blank(b: u8) -> bool
     ensures { result ≡ is_space b }
 {
     matches!(b, b' ' | b'\t')
 }
 
-/// The number of a word: decimal, or hexadecimal after `0x`. It is below 2^32, or the word is
-/// none.
+/// The number that a word spells: decimal, or hexadecimal after `0x`. `None` if it spells none below 2^32.
 pub fn numeral(word: &[u8]) -> Option<u32>
     ensures { result ≡ numeral word.now }
 {
@@ -104,7 +104,7 @@ pub fn numeral(word: &[u8]) -> Option<u32>
     }
 }
 
-/// The number of a register by its name: 0 to 31, or 32 for `pc`.
+/// The number of the register that a word names: 0 to 31, or 32 for `pc`. `None` if it names none.
 #[tactic(auto, unfolding(crate::specs::Lines::register_in))]
 pub fn register_number(word: &[u8]) -> Option<u32>
     ensures { result ≡ register_in word.now }

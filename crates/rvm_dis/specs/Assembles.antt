@@ -7,9 +7,8 @@ use Rattle.rvm_asm_line.specs.Contents.{bytes_at}
 use Rattle.rvm_asm_line.specs.Statements.{label_of, next_place, equ_at}
 use Rattle.rvm_asm_line.specs.Values.{Names}
 
--- a text at a place is one line, whatever follows it, and is in the grammar; it has no label and
--- defines no name, places the four bytes of a word, the lowest first, and leaves the next line
--- after them, whatever values names have
+-- a text at a place is one line, whatever follows it, and is in the grammar; it has no label and defines no name, makes
+-- the four bytes of a word, the lowest first, and the next line stands after them, whatever values names have
 pub record Assembles (names : Names) (place word : ℕ) (text : List ℕ) : Type 0 where
   pub one_line : (rest : List ℕ) → lines (text ++ codes "\n" ++ rest) ≡ text ∷ lines rest
   pub lexemes : List grammar.Lexeme

@@ -18,8 +18,8 @@ use Rattle.rvm_isa.specs.Words.{word_of}
 use Rattle.rvm_dis.specs.Pieces.{listed}
 use Rattle.rvm_dis.specs.Texts.{upper_text, jump_text, branch_text, access_text, immediate_text, shift_text, registers_text, csr_text, csr_immediate_text, load_reserved_text, atomic_text, word_text, fence_text}
 
--- the text of an instruction; a fence has one only where it orders all accesses, and its fields are
--- as the assembler makes them
+-- the text of an instruction; a fence has one only if it orders all accesses and has the fields that the assembler
+-- gives it, else its word is written as data
 unfoldable pub text_of : (address : ℕ) → Ins → List ℕ
 text_of address (Lui rd imm) = upper_text (codes "lui") rd imm
 text_of address (Auipc rd imm) = upper_text (codes "auipc") rd imm
@@ -92,7 +92,7 @@ text_of address (AmomaxW rd rs1 rs2 aq rl) = atomic_text (codes "amomax.w") rd r
 text_of address (AmominuW rd rs1 rs2 aq rl) = atomic_text (codes "amominu.w") rd rs1 rs2 aq rl
 text_of address (AmomaxuW rd rs1 rs2 aq rl) = atomic_text (codes "amomaxu.w") rd rs1 rs2 aq rl
 
--- the text of the instruction that a word is decoded as, or of a word without one
+-- the text of the instruction that a word is decoded as, or of a word that is none
 abbrev pub text_of_decoded : (address word : ℕ) → Option Ins → List ℕ
 text_of_decoded address word None = word_text word
 text_of_decoded address word (Some ins) = text_of address ins

@@ -20,11 +20,11 @@ short_hex n = codes "0x" ++ digits 16 false n
 abbrev pub comma : List ℕ
 comma = codes ", "
 
--- where a jump or a branch at an address leads
+-- the address to which a jump or a branch at an address leads
 abbrev pub target : (address : ℕ) → (offset : ℤ) → ℕ
 target address offset = modulo 32 (pos address +ℤ offset)
 
--- the mnemonic of an atomic instruction, and after it how it is ordered
+-- the mnemonic of an atomic instruction with its ordering after it
 abbrev pub ordered : (mnemonic : List ℕ) → (aq rl : Bool) → List ℕ
 ordered mnemonic false false = mnemonic
 ordered mnemonic true false = mnemonic ++ codes ".aq"

@@ -9,7 +9,7 @@ use Rattle.rvm_dis.specs.Pieces.{hex}
 abbrev pub org_line : (address : ℕ) → List ℕ
 org_line address = codes ".org " ++ hex 8 address
 
--- two lines, each with a line feed after it: the place is the address, and the word stands there
+-- two lines, each with a line feed after it: the first sets the place to the address, and the second is the word there
 abbrev pub text_behind_org : (address word : ℕ) → List ℕ
 text_behind_org address word = org_line address ++ codes "\n" ++ text_at address word ++ codes "\n"
 

@@ -1,8 +1,8 @@
 //! The disassembler: the text of the instruction that a word is, at an address.
 //!
 //! Stands on the instruction table, the names of registers and the list of refusals, and knows neither boards nor runs.
-//! Its laws are told in terms of what the assembler makes of a text, which no code here uses: that the text of a word,
-//! assembled, is the word again, of one word and of a whole text.
+//! Its laws are stated by what the assembler makes of a text, which no code here uses: the text of a word, assembled,
+//! is the word again, as a line alone and as a text with an address.
 //!
 //! To be read in this order: `shapes`, `rows`, `line`, `laws`, `reassembly`.
 #![tactic(auto)]

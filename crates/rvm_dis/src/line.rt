@@ -10,9 +10,8 @@ use rvm_refusal::LinkFault;
 use std::fmt;
 use std::io::Write;
 
-/// Writes `address` and `word`, each as eight hexadecimal digits, and the text of the instruction
-/// that the word is there, without a line feed, as in `80000004: 80050513  addi a0, a0, -2048`.
-/// `LinkFault` where the writer failed.
+/// Writes `address` and `word`, each as eight hexadecimal digits, and the text of the instruction that the word is
+/// there, without a line feed, as in `80000004: 80050513  addi a0, a0, -2048`. `LinkFault` if the writer fails.
 pub fn write_line<W: Write>(address: u32, word: u32, writer: &mut W) -> Result<(), LinkFault>
     ensures { OnOk result (Appends (W.contents writer.old) (W.contents writer.new)
         (line_at address word)) }
@@ -38,7 +37,7 @@ impl fmt::Display for Digits {
     }
 }
 
-/// Writes the numbers before the text.
+/// Writes the address and the word, which stand before the text.
 fn write_numbers<W: Write>(address: u32, word: u32, writer: &mut W) -> Result<(), LinkFault>
     ensures { OnOk result (Appends (W.contents writer.old) (W.contents writer.new)
         (listed address word)) }

@@ -13,10 +13,10 @@ use rvm_isa::{Ins, decode};
 use rvm_refusal::LinkFault;
 use std::io::Write;
 
-/// Writes the text of the instruction that `word` is at `address`, without a line feed, in lower
-/// case: its mnemonic and its operands, as in `addi a0, a0, -2048`. A target is an address of eight
-/// hexadecimal digits. A word that is no instruction, and a fence that the assembler can't name, is
-/// written as data: `.word 0x00000000`. `LinkFault` where the writer failed.
+/// Writes the text of the instruction that `word` is at `address`, without a line feed, in lower case: its mnemonic and
+/// its operands, as in `addi a0, a0, -2048`. The target of a jump or a branch is an address of eight hexadecimal
+/// digits. A word that is no instruction, and a fence that the assembler has no text for, are written as data: `.word
+/// 0x00000000`. `LinkFault` if the writer fails.
 pub fn write_ins<W: Write>(address: u32, word: u32, writer: &mut W) -> Result<(), LinkFault>
     ensures { OnOk result (Appends (W.contents writer.old) (W.contents writer.new)
         (text_at address word)) }
@@ -27,7 +27,7 @@ pub fn write_ins<W: Write>(address: u32, word: u32, writer: &mut W) -> Result<()
     }
 }
 
-/// Writes the text of the instruction that a word is.
+/// Writes the text of `ins`, the instruction that `word` is at `address`.
 #[tactic(auto, unfolding(crate::specs::Disassembly::text_of))]
 fn write_row<W: Write>(address: u32, word: u32, ins: &Ins, writer: &mut W) -> Result<(), LinkFault>
     requires { word_of ins.now ≡ word }

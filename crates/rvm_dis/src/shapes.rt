@@ -52,7 +52,7 @@ impl fmt::Display for Csr {
     }
 }
 
-/// The mnemonic of an atomic instruction, and after it how it is ordered.
+/// The mnemonic of an atomic instruction, shown with its ordering after it: nothing, `.aq`, `.rl` or `.aqrl`.
 #[derive(Clone, Copy)]
 struct Ordered<'a> {
     mnemonic: &'a str,
@@ -77,7 +77,7 @@ impl<'a> fmt::Display for Ordered<'a> {
     }
 }
 
-/// Writes rd and the upper 20 bits.
+/// Writes a mnemonic, rd and the upper 20 bits.
 pub(crate) fn upper<W: Write>(
     writer: &mut W,
     mnemonic: &str,
@@ -91,7 +91,7 @@ pub(crate) fn upper<W: Write>(
     Ok(())
 }
 
-/// Writes rd and the target of a jump at an address.
+/// Writes a mnemonic, rd and the target of a jump that stands at `address`.
 pub(crate) fn jump<W: Write>(
     writer: &mut W,
     mnemonic: &str,
@@ -107,7 +107,7 @@ pub(crate) fn jump<W: Write>(
     Ok(())
 }
 
-/// Writes rs1, rs2 and the target of a branch at an address.
+/// Writes a mnemonic, rs1, rs2 and the target of a branch that stands at `address`.
 pub(crate) fn branch<W: Write>(
     writer: &mut W,
     mnemonic: &str,
@@ -125,7 +125,7 @@ pub(crate) fn branch<W: Write>(
     Ok(())
 }
 
-/// Writes a register, which is loaded or stored, and an immediate before rs1 in parentheses.
+/// Writes a mnemonic, the register that is loaded or stored, and an immediate before rs1 in parentheses.
 pub(crate) fn access<W: Write>(
     writer: &mut W,
     mnemonic: &str,
@@ -141,7 +141,7 @@ pub(crate) fn access<W: Write>(
     Ok(())
 }
 
-/// Writes rd, rs1 and an immediate.
+/// Writes a mnemonic, rd, rs1 and an immediate.
 pub(crate) fn immediate<W: Write>(
     writer: &mut W,
     mnemonic: &str,
@@ -157,7 +157,7 @@ pub(crate) fn immediate<W: Write>(
     Ok(())
 }
 
-/// Writes rd, rs1 and the amount of a shift.
+/// Writes a mnemonic, rd, rs1 and the amount of a shift.
 pub(crate) fn shift<W: Write>(
     writer: &mut W,
     mnemonic: &str,
@@ -173,7 +173,7 @@ pub(crate) fn shift<W: Write>(
     Ok(())
 }
 
-/// Writes rd, rs1 and rs2.
+/// Writes a mnemonic, rd, rs1 and rs2.
 pub(crate) fn registers<W: Write>(
     writer: &mut W,
     mnemonic: &str,
@@ -189,7 +189,7 @@ pub(crate) fn registers<W: Write>(
     Ok(())
 }
 
-/// Writes rd, the number of a CSR and rs1.
+/// Writes a mnemonic, rd, the number of a CSR and rs1.
 pub(crate) fn csr_register<W: Write>(
     writer: &mut W,
     mnemonic: &str,
@@ -205,7 +205,7 @@ pub(crate) fn csr_register<W: Write>(
     Ok(())
 }
 
-/// Writes rd, the number of a CSR and an immediate.
+/// Writes a mnemonic, rd, the number of a CSR and an immediate.
 pub(crate) fn csr_immediate<W: Write>(
     writer: &mut W,
     mnemonic: &str,
@@ -226,7 +226,7 @@ pub(crate) fn csr_immediate<W: Write>(
     Ok(())
 }
 
-/// Writes rd, and rs1 in parentheses, of an instruction with an ordering.
+/// Writes a mnemonic with its ordering, rd, and rs1 in parentheses.
 pub(crate) fn load_reserved<W: Write>(
     writer: &mut W,
     mnemonic: &str,
@@ -244,7 +244,7 @@ pub(crate) fn load_reserved<W: Write>(
     Ok(())
 }
 
-/// Writes rd, rs2, and rs1 in parentheses, of an instruction with an ordering.
+/// Writes a mnemonic with its ordering, rd, rs2, and rs1 in parentheses.
 pub(crate) fn atomic<W: Write>(
     writer: &mut W,
     mnemonic: &str,
@@ -272,7 +272,7 @@ pub(crate) fn whole<W: Write>(writer: &mut W, mnemonic: &str) -> Result<(), Link
     Ok(())
 }
 
-/// Writes a word as data.
+/// Writes a word as data: `.word` and eight hexadecimal digits after `0x`.
 pub(crate) fn word_as_data<W: Write>(writer: &mut W, word: u32) -> Result<(), LinkFault>
     ensures { OnOk result (Appends (W.contents writer.old) (W.contents writer.new)
         (word_text word)) }
@@ -281,7 +281,7 @@ pub(crate) fn word_as_data<W: Write>(writer: &mut W, word: u32) -> Result<(), Li
     Ok(())
 }
 
-/// Writes the mnemonic of a fence, which names one word alone, or any other word as data.
+/// Writes the mnemonic of a fence if `word` is `named`, the only word that it stands for; else writes the word as data.
 pub(crate) fn fence<W: Write>(
     writer: &mut W,
     mnemonic: &str,

@@ -63,7 +63,7 @@ is_riscv32 file =
 abbrev pub lacks_headers : List ℕ → Bool
 lacks_headers file = nat_lt 0 (e_phnum file) && nat_lt (length file) (e_phoff file + 32 * e_phnum file)
 
--- the header names a part of the program that has bytes or zeros
+-- the header names a loaded part of the program that has bytes or zeros
 abbrev pub is_loaded : ProgramHeader → Bool
 is_loaded h = h.p_type == 1 && nat_lt 0 h.p_memsz
 
@@ -71,7 +71,7 @@ is_loaded h = h.p_type == 1 && nat_lt 0 h.p_memsz
 abbrev pub lacks_bytes : ProgramHeader → List ℕ → Bool
 lacks_bytes h file = nat_lt 0 h.p_filesz && nat_lt (length file) (h.p_offset + h.p_filesz)
 
--- the fault of a header, if it is loaded and has one
+-- the fault of a header, if its part is loaded and it has one
 abbrev pub header_checked : ProgramHeader → List ℕ → Result (Unit {0}) ReadError
 header_checked h file =
     if not (is_loaded h) then Ok tt
@@ -79,7 +79,7 @@ header_checked h file =
     else if lacks_bytes h file then Err Truncated
     else Ok tt
 
--- the piece of a header, if it is loaded
+-- the piece of a header, if its part is loaded
 abbrev pub piece_of_header : ProgramHeader → List ℕ → Option Piece
 piece_of_header h file =
     if is_loaded h
@@ -91,7 +91,7 @@ piece_of_header h file =
     else None
 
 infixl 10 ◌>>=◌
--- a step, and the next one where it has no fault
+-- a step, and the next one if it has no fault
 abbrev pub ◌>>=◌ : {A B : Type 0} → Result A ReadError → (A → Result B ReadError) → Result B ReadError
 (Ok x) >>= f = f x
 (Err e) >>= f = Err e
@@ -120,7 +120,7 @@ checked file =
 unfoldable pub meaning : List ℕ → Result (ℕ × List Piece) ReadError
 meaning file = checked file >>= λ _. Ok (e_entry file, pieces_from (e_phnum file) (e_phoff file) file)
 
--- an error is the file's fault; where memory ran out the file has none
+-- an error is the file's fault; if memory ran out, the file has none
 abbrev pub Refuses : ReadError → Result (ℕ × List Piece) ReadError → Type 0
 Refuses OutOfMemory r = IsOk r
 Refuses BadMagic r = r ≡ Err BadMagic

@@ -7,15 +7,15 @@ use Rattle.rvm_hart.specs.Bus.{ram_base}
 use Rattle.rvm_board.specs.Board.{Board}
 use Rattle.rvm_asm.specs.Images.{Piece, size, byte_at}
 
--- n bytes from an address on lie in RAM of this many bytes
+-- n bytes from an address on lie in a RAM of this many bytes
 abbrev pub is_within : (n address count : ℕ) → Bool
 is_within n a count = nat_le ram_base a && nat_le (a + n) (ram_base + count)
 
--- a piece has no byte, or lies in RAM
+-- a piece has neither bytes nor zeros, or lies in RAM
 abbrev pub piece_fits : Piece → (count : ℕ) → Bool
 piece_fits p count = size p == 0 || is_within (size p) p.address count
 
--- each piece has no byte, or lies in RAM
+-- each piece has neither bytes nor zeros, or lies in RAM
 unfoldable pub pieces_fit : List Piece → (count : ℕ) → Bool
 pieces_fit [] count = true
 pieces_fit (p ∷ ps) count = piece_fits p count && pieces_fit ps count

@@ -6,7 +6,7 @@ use Rattle.rvm_elf.specs.declared.error.ReadError.TheVariants as file
 use Rattle.rvm_elf.specs.declared.error.WriteError.{WriteError}
 use Rattle.rvm_elf.specs.declared.error.WriteError.TheVariants as image
 
--- of a file without an image
+-- the refusal of a file without an image
 abbrev pub refusal_of_file : ReadError → Refusal
 refusal_of_file file.OutOfMemory = refusal.OutOfMemory
 refusal_of_file file.BadMagic = refusal.BadMagic
@@ -14,7 +14,7 @@ refusal_of_file file.NotRiscV32 = refusal.NotRiscV32
 refusal_of_file file.Truncated = refusal.Truncated
 refusal_of_file file.TooMany = refusal.TooMany
 
--- of an image without a file
+-- the refusal of an image without a file
 abbrev pub refusal_of_image : WriteError → Refusal
 refusal_of_image image.OutOfMemory = refusal.OutOfMemory
 refusal_of_image image.TooMany = refusal.TooMany

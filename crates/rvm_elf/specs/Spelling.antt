@@ -1,11 +1,11 @@
 -- The ELF file of an image (System V ABI, "Object Files"): its header, a program header for each piece, and the bytes
--- of the pieces, one after the other.
+-- of the pieces in order.
 use Rattle.std.specs.Prelude.{◌≡◌, ℕ, ◌+◌, ◌*◌, ◌^◌, ◌<◌, ◌≤◌, Bool, true, ◌&&◌, nat_le, nat_lt, List, [], ◌∷◌, ◌++◌, length, filter}
 use Rattle.std.specs.List.{flat_map}
 use Rattle.byteorder.specs.Endian.{little_bytes}
 use Rattle.rvm_asm.specs.Images.{Piece, size}
 
--- the bytes of all pieces
+-- the bytes of all pieces in order
 unfoldable pub all_bytes : List Piece → List ℕ
 all_bytes [] = []
 all_bytes (p ∷ ps) = p.bytes ++ all_bytes ps
@@ -46,7 +46,7 @@ unfoldable pub program_headers : (offset : ℕ) → List Piece → List ℕ
 program_headers offset [] = []
 program_headers offset (p ∷ ps) = program_header offset p ++ program_headers (offset + length p.bytes) ps
 
--- the file
+-- the ELF file of an image
 unfoldable pub file_of : (entry : ℕ) → List Piece → List ℕ
 file_of entry ps =
     elf_header entry (length ps) ++ (program_headers (52 + 32 * length ps) ps ++ all_bytes ps)

@@ -1,4 +1,4 @@
-//! Why a file has no image, and an image no file.
+//! Why a file has no image, and why an image has no file.
 
 ghost use Rattle.std.specs.Prelude.{◌≡◌};
 ghost use Rattle.rvm_elf.specs.Refusals.{refusal_of_file, refusal_of_image};
@@ -18,10 +18,10 @@ pub enum ReadError {
     /// The file does not begin with the four magic bytes.
     #[error("not an ELF file")]
     BadMagic,
-    /// The file is no executable for 32-bit RISC-V, or a part has more bytes than memory.
+    /// The file is no executable for 32-bit RISC-V, or a program header names more bytes in the file than in memory.
     #[error("not an executable for 32-bit RISC-V")]
     NotRiscV32,
-    /// The file ends before its headers or its bytes do.
+    /// The file ends before its headers, or before the bytes that they name.
     #[error("the file is cut short")]
     Truncated,
     /// There are more than 16 program headers.
@@ -60,7 +60,7 @@ pub enum WriteError {
     /// There are more than 16 segments.
     #[error("more than 16 segments")]
     TooMany,
-    /// The bytes are above 2^24, or bytes and zeros of a segment reach 2^32.
+    /// The segments together have more than 2^24 bytes, or the bytes and zeros of one segment are 2^32 or more.
     #[error("a segment is too large for a file")]
     OutOfReach,
 }

@@ -1,4 +1,4 @@
-//! ELF files of RV32 programs, and raw ones, as images; and images loaded into a board.
+//! Reads ELF files of RV32 programs and raw files as images, writes images as ELF files, and loads images into a board.
 //!
 //! Stands on `rvm_asm` and `rvm_board`, and knows nothing of text, runs or the operating system's
 //! files.

@@ -1,4 +1,4 @@
-//! An image, loaded into a board.
+//! Loads an image into a board.
 
 ghost use Rattle.std.specs.Prelude.{◌≡◌, ◌+◌, ◌-◌, ◌%◌, ◌^◌, ◌<◌, ◌≤◌, ◌↔◌, true, false, length, map, replicate, IsErr, OnOk, OnErr};
 ghost use Rattle.rvm_mem.specs.Bytes.{replaced};
@@ -14,7 +14,7 @@ use rvm_mem::Memory;
 use rvm_refusal::Refusal;
 use thiserror::Error;
 
-/// The entry is no multiple of four in RAM, or a segment does not lie in RAM.
+/// The error of an image whose entry is no multiple of four in RAM, or a segment of which does not lie in RAM.
 #[derive(Clone, Copy, Debug, PartialEq, Eq, Error)]
 #[error("the image does not lie in RAM")]
 pub struct OutsideRam;
@@ -29,11 +29,11 @@ impl From<OutsideRam> for Refusal {
     }
 }
 
-/// Loads an image: RAM becomes its bytes, where the later of two segments decides, with zeros
-/// elsewhere; each page is in the dirty log; each hart's pc becomes the entry, and no hart has a
-/// reservation; all else stays. It takes no memory. `OutsideRam`, and nothing changes, where the
-/// entry is no multiple of four in RAM, or a segment that has a byte or a zero is not wholly in
-/// RAM.
+/// Loads an image into a board. RAM gets the bytes and zeros of the segments in order, so that a later segment
+/// overwrites an earlier one, and zeros elsewhere. Each page is put into the dirty log, each hart's pc becomes the
+/// entry, and all reservations are removed; nothing else changes. Allocates no memory. Fails with `OutsideRam`, and
+/// changes nothing, if the entry is no multiple of four in RAM, or if a segment that has a byte or a zero does not lie
+/// in RAM as a whole.
 #[tactic(auto, using(crate::proofs::Loaded::all_placed))]
 pub fn load<M: Memory>(image: &Image, board: &mut Board<M>) -> Result<(), OutsideRam>
     ensures plain { OnOk result (board.new.plain
@@ -52,7 +52,8 @@ pub fn load<M: Memory>(image: &Image, board: &mut Board<M>) -> Result<(), Outsid
     Ok(())
 }
 
-/// Whether the entry is a multiple of four in RAM of this many bytes, and each segment fits.
+/// Whether the entry is a multiple of four in a RAM of `ram_size` bytes, and each segment that has a byte or a zero
+/// lies in it.
 fn fits(image: &Image, ram_size: u32) -> bool
     ensures { result ≡ fits image.now.entry (pieces_of image.now.segments.items) ram_size }
 {
@@ -61,7 +62,7 @@ fn fits(image: &Image, ram_size: u32) -> bool
         && segments_fit(&image.segments, ram_size)
 }
 
-/// Whether this many bytes from an address on lie in RAM of this many bytes.
+/// Whether `count` bytes from `address` on lie in a RAM of `ram_size` bytes.
 fn is_within(address: u32, count: u64, ram_size: u32) -> bool
     requires { count < 2 ^ 63 + 2 ^ 32 }
     ensures { result ≡ is_within count address ram_size }
@@ -71,7 +72,7 @@ fn is_within(address: u32, count: u64, ram_size: u32) -> bool
     first >= base && first + count <= base + u64::from(ram_size)
 }
 
-/// Whether each segment fits.
+/// Whether each segment that has a byte or a zero lies in a RAM of `ram_size` bytes.
 fn segments_fit(segments: &[Segment], ram_size: u32) -> bool
     ensures { result ≡ pieces_fit (pieces_of segments.now) ram_size }
 {
@@ -83,7 +84,7 @@ fn segments_fit(segments: &[Segment], ram_size: u32) -> bool
     true
 }
 
-/// Whether a segment has no byte, or lies in RAM.
+/// Whether a segment has neither bytes nor zeros, or lies in a RAM of `ram_size` bytes.
 fn segment_fits(segment: &Segment, ram_size: u32) -> bool
     ensures { result ≡ piece_fits (piece_of segment.now) ram_size }
 {
@@ -91,7 +92,7 @@ fn segment_fits(segment: &Segment, ram_size: u32) -> bool
     count == 0 || is_within(segment.address, count, ram_size)
 }
 
-/// Writes segments, one after the other.
+/// Writes the segments in order.
 fn write_segments<M: Memory>(board: &mut Board<M>, segments: &[Segment])
     requires blank { IsBlank board.old }
     requires inside { pieces_fit (pieces_of segments.now) (length board.old.plain.shared.bytes) ≡ true }
@@ -151,7 +152,7 @@ fn write_zeros<M: Memory>(board: &mut Board<M>, address: u32, count: usize)
     }
 }
 
-/// Writes 1 to 256 zeros.
+/// Writes 1 to 256 zeros from an address on.
 fn poke_zeros<M: Memory>(board: &mut Board<M>, address: u32, count: usize)
     requires blank { IsBlank board.old }
     requires some { 0 < count }
@@ -164,8 +165,8 @@ fn poke_zeros<M: Memory>(board: &mut Board<M>, address: u32, count: usize)
     poke(board, address, &zeros[..count]);
 }
 
-/// Writes 1 to 256 bytes into a board where no hart has a reservation and each page is in the dirty
-/// log, so that only RAM changes.
+/// Writes 1 to 256 bytes from an address on. No hart has a reservation, and each page is in the dirty log, so that only
+/// RAM changes.
 fn poke<M: Memory>(board: &mut Board<M>, address: u32, bytes: &[u8])
     requires blank { IsBlank board.old }
     requires some { 0 < length bytes.now }
@@ -178,7 +179,7 @@ fn poke<M: Memory>(board: &mut Board<M>, address: u32, bytes: &[u8])
     prove!(is_written);
 }
 
-/// Each hart goes on at the entry.
+/// Sets the pc of each hart to the entry.
 fn set_entries<M: Memory>(board: &mut Board<M>, entry: u32)
     requires { entry % 4 ≡ 0 }
     ensures { board.new ≡ with_harts (map (at_entry entry) board.old.plain.harts) board.old }

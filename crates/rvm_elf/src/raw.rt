@@ -7,7 +7,8 @@ use rvm_asm::{Image, Segment};
 use rvm_hart::RAM_BASE;
 use std::alloc::{AllocError, Global};
 
-/// The image of a program whose bytes stand from the start of RAM on, and which begins there.
+/// The image of a program whose bytes stand from the start of RAM on, and which begins there. Fails only if memory runs
+/// out.
 pub fn raw_image(alloc: Global, bytes: &[u8]) -> Result<Image, AllocError>
     ensures entry { IfOk result (λ v. v.entry ≡ 0x80000000) }
     ensures bytes { IfOk result

@@ -1,4 +1,4 @@
-//! ELF files, read.
+//! Reads ELF files.
 
 ghost use Rattle.std.specs.Prelude.{◌≡◌, ◌+◌, ◌*◌, ◌++◌, ◌≤◌, ◌<◌, IfOk, OnOk, IfErr, length, option_map, slice_range};
 ghost use Rattle.std.specs.Option.{option_to_list};
@@ -14,14 +14,14 @@ use crate::layout::{
 use rvm_asm::{Image, Segment};
 use std::alloc::{AllocError, Global};
 
-/// The image of an ELF file: its entry, and for each program header that is loaded and has bytes or
-/// zeros the segment at its physical address, in order. Whatever is wrong with the file is found
-/// before any memory is taken; the first of these counts: `BadMagic` for other first bytes than
-/// those of ELF; `Truncated` for fewer than 52 bytes; `NotRiscV32` where it is not 32-bit,
-/// little-endian, of version 1, executable and for RISC-V, or has program headers of another size
-/// than 32; `TooMany` for more than 16 of them; `Truncated` where they go past the end; then,
-/// header by header, `NotRiscV32` for more bytes than memory, and `Truncated` for bytes past the
-/// end.
+/// The image of an ELF file: its entry, and in order a segment for each program header of a loaded part that has bytes
+/// or zeros, at its physical address. The whole file is checked before any memory is allocated. The first of these
+/// faults is returned: `BadMagic` if the file does not begin with the magic bytes of ELF; `Truncated` if it has fewer
+/// than 52 bytes; `NotRiscV32` if it is not 32-bit, little-endian, of version 1, executable and for RISC-V, or has
+/// program headers of another size than 32 bytes; `TooMany` if it has more than 16 program headers; `Truncated` if
+/// these go past the end of the file; then, for each such program header in order, `NotRiscV32` if it names more bytes
+/// in the file than in memory, and `Truncated` if its bytes go past the end of the file. `OutOfMemory` if memory runs
+/// out.
 #[tactic(auto, unfolding(crate::specs::File::meaning))]
 pub fn read_image(alloc: Global, file: &[u8]) -> Result<Image, ReadError>
     ensures image { IfOk result
@@ -38,7 +38,7 @@ pub fn read_image(alloc: Global, file: &[u8]) -> Result<Image, ReadError>
     })
 }
 
-/// The first fault of a file, if it has one.
+/// Checks a file. Fails with its first fault.
 #[tactic(auto, unfolding(crate::specs::File::checked))]
 fn check(file: &[u8]) -> Result<(), ReadError>
     ensures fault { result ≡ checked file.now }
@@ -75,7 +75,8 @@ fn is_elf(file: &[u8]) -> bool
     matches!(file, [0x7F, b'E', b'L', b'F', ..])
 }
 
-/// Whether it is a 32-bit little-endian executable for RISC-V with program headers of 32 bytes.
+/// Whether the file is a 32-bit little-endian executable of version 1 for RISC-V, whose program headers, if it has any,
+/// have 32 bytes.
 fn is_riscv32(file: &[u8]) -> bool
     requires { 52 ≤ length file.now }
     ensures { result ≡ is_riscv32 file.now }
@@ -88,7 +89,7 @@ fn is_riscv32(file: &[u8]) -> bool
         && (u16_at(file, E_PHNUM) == 0 || u16_at(file, E_PHENTSIZE) as usize == PROGRAM_HEADER_SIZE)
 }
 
-/// The first fault of this many program headers from a place on.
+/// Checks `count` program headers from the offset `first` on. Fails with their first fault.
 fn check_headers(file: &[u8], first: usize, count: usize) -> Result<(), ReadError>
     requires { 0 < count → first + 32 * count ≤ length file.now }
     ensures { result ≡ headers_checked count first file.now }
@@ -99,14 +100,14 @@ fn check_headers(file: &[u8], first: usize, count: usize) -> Result<(), ReadErro
     Ok(())
 }
 
-/// Whether the header names a part of the program that has bytes or zeros.
+/// Whether the header names a loaded part of the program that has bytes or zeros.
 fn is_loaded(header: &ProgramHeader) -> bool
     ensures { result ≡ is_loaded header.now }
 {
     header.p_type == PT_LOAD && header.p_memsz > 0
 }
 
-/// The fault of a header, if it is loaded and has one.
+/// Checks a program header, if its part is loaded. Fails with its fault.
 fn check_header(file: &[u8], header: &ProgramHeader) -> Result<(), ReadError>
     ensures { result ≡ header_checked header.now file.now }
 {
@@ -123,7 +124,7 @@ fn check_header(file: &[u8], header: &ProgramHeader) -> Result<(), ReadError>
     Ok(())
 }
 
-/// The segments of this many program headers from a place on.
+/// The segments of `count` program headers from the offset `first` on.
 fn segments(
     alloc: Global,
     file: &[u8],
@@ -142,7 +143,7 @@ fn segments(
     Ok(segments)
 }
 
-/// Puts the segment of a header after others, if it is loaded.
+/// Appends the segment of a header to the others, if its part is loaded.
 fn add_segment(
     alloc: Global,
     segments: &mut Vec<Segment>,
@@ -159,7 +160,7 @@ fn add_segment(
     Ok(())
 }
 
-/// The segment of a header, if it is loaded.
+/// The segment of a header, if its part is loaded.
 fn segment(
     alloc: Global,
     file: &[u8],
@@ -179,7 +180,7 @@ fn segment(
     }))
 }
 
-/// The bytes that a header names.
+/// The bytes of the file that a header names.
 fn bytes_of<'a>(file: &'a [u8], header: &ProgramHeader) -> &'a [u8]
     requires { 0 < header.now.p_filesz
         → header.now.p_offset + header.now.p_filesz ≤ length file.now }

@@ -1,4 +1,4 @@
-//! ELF files, written.
+//! Writes ELF files.
 
 ghost use Rattle.std.specs.Prelude.{◌≡◌, ◌+◌, ◌*◌, ◌^◌, ◌<◌, ◌≤◌, ◌++◌, ◌↔◌, true, false, nat_le, if◌then◌else◌, IfOk, length, vec_len, vec_capacity};
 ghost use Rattle.rvm_asm.specs.Images.{piece_of, pieces_of};
@@ -11,19 +11,19 @@ use rvm_asm::{Image, MAX_BYTES, Segment};
 use rvm_codec::{append_bytes, append_u16s, append_u32s};
 use std::alloc::Global;
 
-/// The magic bytes, 32-bit, little-endian, version 1.
+/// The first 16 bytes of a file: the magic bytes, 32-bit, little-endian, version 1.
 const IDENT: [u8; 16] = [0x7F, b'E', b'L', b'F', 1, 1, 1, 0, 0, 0, 0, 0, 0, 0, 0, 0];
 
 /// The version of the format.
 const EV_CURRENT: u32 = 1;
 
-/// A part that may be read, written and executed.
+/// The flags of a part of the program that may be read, written and executed.
 const READ_WRITE_EXECUTE: u32 = 7;
 
-/// The ELF file of an image: the header, a program header for each segment, with its address as
-/// virtual and physical one, and the bytes of the segments one after the other. `TooMany` for more
-/// than 16 segments; then `OutOfReach` where the bytes of all segments together are above 2^24, or
-/// where bytes and zeros of one together reach 2^32.
+/// The ELF file of an image: the ELF header, a program header for each segment, whose address is its virtual and its
+/// physical address, and then the bytes of all segments in order. Fails with `TooMany` if there are more than 16
+/// segments; else with `OutOfReach` if all segments together have more than 2^24 bytes, or if the bytes and zeros of
+/// one segment are 2^32 or more. `OutOfMemory` if memory runs out.
 #[tactic(auto, unfolding(crate::specs::Spelling::file_of))]
 pub fn write_image(alloc: Global, image: &Image) -> Result<Vec<u8>, WriteError>
     ensures file { IfOk result
@@ -50,7 +50,7 @@ pub fn write_image(alloc: Global, image: &Image) -> Result<Vec<u8>, WriteError>
     Ok(file)
 }
 
-/// How many bytes all segments have together, if at most 2^24.
+/// The number of bytes of all segments together, or `None` if it is above 2^24.
 fn count_bytes(segments: &[Segment]) -> Option<usize>
     ensures { result
         ≡ (if nat_le (length (all_bytes (pieces_of segments.now))) (2 ^ 24) then Some (length (all_bytes (pieces_of segments.now))) else None) }
@@ -65,7 +65,7 @@ fn count_bytes(segments: &[Segment]) -> Option<usize>
     Some(count)
 }
 
-/// Whether bytes and zeros of each segment together are below 2^32.
+/// Whether each segment has fewer than 2^32 bytes and zeros.
 fn are_small(segments: &[Segment]) -> bool
     ensures { result ≡ are_small (pieces_of segments.now) }
 {
@@ -77,14 +77,14 @@ fn are_small(segments: &[Segment]) -> bool
     true
 }
 
-/// Whether bytes and zeros of a segment together are below 2^32.
+/// Whether a segment has fewer than 2^32 bytes and zeros.
 fn is_small(segment: &Segment) -> bool
     ensures { result ≡ is_small (piece_of segment.now) }
 {
     segment.bytes.len() as u64 + u64::from(segment.zeros) <= u64::from(u32::MAX)
 }
 
-/// Puts the ELF header of a file with this many program headers after the bytes that are there.
+/// Appends the ELF header of a file with `count` program headers.
 fn append_elf_header(file: &mut Vec<u8>, entry: u32, count: u16)
     requires { vec_len file.old + 52 ≤ vec_capacity file.old }
     ensures items { file.new.items ≡ file.old.items ++ elf_header entry count }
@@ -107,8 +107,7 @@ fn append_elf_header(file: &mut Vec<u8>, entry: u32, count: u16)
     );
 }
 
-/// Puts a program header for each segment after the bytes that are there; the bytes of the first
-/// segment stand at the offset.
+/// Appends a program header for each segment. The bytes of the first segment stand at the offset `first`.
 fn append_program_headers(file: &mut Vec<u8>, first: usize, segments: &[Segment])
     requires room { vec_len file.old + 32 * length segments.now ≤ vec_capacity file.old }
     requires small { are_small (pieces_of segments.now) ≡ true }
@@ -125,8 +124,7 @@ fn append_program_headers(file: &mut Vec<u8>, first: usize, segments: &[Segment]
     }
 }
 
-/// Puts the program header of a segment whose bytes stand at an offset after the bytes that are
-/// there.
+/// Appends the program header of a segment whose bytes stand at `offset`.
 fn append_program_header(file: &mut Vec<u8>, offset: u32, segment: &Segment)
     requires room { vec_len file.old + 32 ≤ vec_capacity file.old }
     requires small { is_small (piece_of segment.now) ≡ true }
@@ -151,7 +149,7 @@ fn append_program_header(file: &mut Vec<u8>, offset: u32, segment: &Segment)
     );
 }
 
-/// Puts the bytes of the segments after those that are there.
+/// Appends the bytes of the segments in order.
 fn append_all_bytes(file: &mut Vec<u8>, segments: &[Segment])
     requires { vec_len file.old + length (all_bytes (pieces_of segments.now))
         ≤ vec_capacity file.old }

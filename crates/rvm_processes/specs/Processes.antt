@@ -39,8 +39,8 @@ abbrev pub AllMayHappen : BoardWorld → List ProcessEvent → Type 0
 AllMayHappen w [] = Unit {0}
 AllMayHappen w (s ∷ ss) = MayHappen w s × AllMayHappen (world_at board w s.0 s.1) ss
 
--- events led the opening hosts to where these hosts are now, and what happened at all of them is this sequence, in
--- which each frame that came had been sent before
+-- events led the opening hosts to these hosts, and this is a sequence of all these events, in which each frame that
+-- came had been sent before
 pub record AreProcesses (start : BoardWorld) (openings : Openings) (now : ℕ → PlainHost) (sequence : List ProcessEvent)
     : Type 0 where
   pub reached : (x : ℕ) → x < openings.count → (r : IsReached (openings.host x) (now x)) × (events_at x sequence ≡ r.events)

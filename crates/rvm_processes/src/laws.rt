@@ -10,10 +10,10 @@ ghost use Rattle.rvm_audit.specs.Worlds.{AreNew};
 ghost use Rattle.rvm_processes.specs.Processes.{AreOneWorld, AreProcesses, ProcessEvent};
 ghost use Rattle.rvm_protocol.specs.World.{new_world};
 
-/// Host processes are hosts of one world. If events led each host of a new world, in a process of its own, to where it
-/// is now, and all that happened at them can be put into one sequence in which each frame that came had been sent
-/// before, then events of the world lead to these hosts, and in each of its states the guest is the guest of one board
-/// that never moves.
+/// Host processes are hosts of one world. Suppose that events led each host of a new world, in a process of its own, to
+/// its state now, and that all these events can be put into one sequence in which each frame that came had been sent
+/// before. Then a run of the world leads to these hosts, and in each state of that run the guest is the guest of one
+/// board that never moves.
 pub fn processes_are_hosts_of_one_world()
     ensures { (version origin : ℕ) (g : GuestState) (limits : ℕ → ℕ) (openings : Openings) (now : ℕ → PlainHost)
         (sequence : List ProcessEvent) → is_valid g.guest ≡ true → AreNew version origin g limits openings

@@ -81,7 +81,7 @@ ended_so asked status errors P Q f (inl (e, is, end, told)) = inl (e, is, f (Ok 
 ended_so asked status errors P Q f (inr (r, is, end, told)) = inr (r, is, f (Err r) end, told)
 
 module _ {F : Type 0} (files : Named) (errors : Written) where
-  -- `run` was told the image of its file, and of the input the bytes that its turns can take
+  -- `run` was given the image of its file, and of its input the bytes that its turns can take
   pub run_ended : (a : RunArguments) (image bytes begun given : List ℕ) (output : Written) (r : Result ℕ F)
       → image ≡ bytes → begun ≡ given → IsFile (files a.guest.image.now) bytes → IsFirstInput files a.input a.steps given
       → IfOk r (λ status. RunHasStatus a.status status (λ end. IsRunEnd a image begun end output.before output.after)
@@ -97,7 +97,7 @@ module _ {F : Type 0} (files : Named) (errors : Written) where
         ended = ended_so a.status status errors _ _ (λ end. ends_with a image begun given whole.0 output end begun_same whole.2) ended;
       }
 
-  -- `asm` was told the text of its file, and wrote to its file
+  -- `asm` was given the text of its file, and wrote to its output file
   pub asm_ended : (created : Named) (a : AsmArguments) (text bytes : List ℕ) (file : Written) (r : Result ℕ F)
       → text ≡ bytes → IsFile (files a.source.now) bytes → IsApart (files a.output.now) text
       → IsCreated (created a.output.now) file.before
@@ -115,7 +115,7 @@ module _ {F : Type 0} (files : Named) (errors : Written) where
 
   module _ (image bytes : List ℕ) (output held told : Option (List ℕ)) (same : image ≡ bytes) (begun : held ≡ output)
     where
-      -- `dis` was told the image of its file, and a buffer that held nothing
+      -- `dis` was given the image of its file, and an empty buffer
       pub dis_ended : (a : DisArguments) (r : Result ℕ F) → IsFile (files a.image.now) bytes
           → IfOk r (λ status. HasStatus status (λ end. IsListEnd (image_of a.raw image) end held told)
           errors.before errors.after)
@@ -189,7 +189,7 @@ one_or_other zero = inr (λ is. (let it : 0 ≡ 1 = is in absurd (omega (arith, 
 one_or_other (suc zero) = inl refl
 one_or_other (suc (suc n)) = inr (λ is. subst IsMore is tt)
 
--- `move` was told the image of its file
+-- `move` was given the image of its file
 pub move_ended : {F : Type 0} (files : Named) (output errors : Written) (image bytes : List ℕ) (a : MoveArguments)
     (r : Result ℕ F) → image ≡ bytes → IsFile (files a.guest.image.now) bytes
     → IfOk r (λ status. status ≢ 1 → IsMoved a image status errors.before errors.after output.before output.after)
@@ -205,7 +205,7 @@ move_ended files output errors image bytes a (Ok status) same is done failed = r
   ];
 }
 
--- what the same commands were to tell where a write to the errors failed
+-- what the same commands were to report if a write to the errors failed
 module _ {F : Type 0} (files : Named) where
   pub run_untold : (a : RunArguments) (image bytes begun given : List ℕ) (output : Written) (r : Result ℕ F) → image ≡ bytes
       → begun ≡ given → IsFile (files a.guest.image.now) bytes → IsFirstInput files a.input a.steps given
@@ -359,7 +359,7 @@ pub host_untold : {F : Type 0} (files : Named) (a : HostArguments) (output : Wri
 host_untold files a output (Ok status) = tt
 host_untold files a output (Err fault) = (1, [], tt)
 
--- and so it is of what a host was told
+-- what `tell` was to report if a write to the errors failed
 pub tell_untold : {F : Type 0} (r : Result ℕ F) → OnErr r (ToTell (λ status errors. TellEnded status))
 tell_untold (Ok status) = tt
 tell_untold (Err fault) = (1, [], inr (inl refl))

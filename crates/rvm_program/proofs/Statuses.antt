@@ -82,13 +82,13 @@ move_asked a true s e same is = record {
   judged = λ above. same;
 }
 
--- and so has one that was refused, or failed
+-- a move that was refused, or failed, has a status that it was asked for
 move_ended : (a : MoveArguments) (s : ℕ) (image : List ℕ) (errors output : Written)
     → MoveHasStatus s a image errors.before errors.after output.before output.after → IsAskedFor (Move a) s
 move_ended a s image errors output (inl moved) = move_asked a a.verdict s (ended_of moved.made.end) refl moved.status_is
 move_ended a s image errors output (inr failed) = little (Move a) s (omega (arith, failed.0))
 
--- a host has more than 1 only where it was asked for a verdict
+-- a host has a status above 1 only if it was asked for a verdict
 hosted : (files : Named) (a : HostArguments) (n : ℕ) (output : Written) → HostEnded files a (suc (suc n)) output
     → IsAskedFor (Host a) (suc (suc n))
 hosted files a zero output none = absurd none
@@ -99,7 +99,7 @@ hosted files a (suc zero) output (verdict, has) = record {
 }
 hosted files a (suc (suc n)) output none = absurd none
 
--- what a host was told has one of three statuses
+-- `tell` has one of three statuses
 told : (a : TellArguments) (s : ℕ) → TellEnded s → IsAskedFor (Tell a) s
 told a s (inl none) = little (Tell a) s (omega (arith, none))
 told a s (inr (inl one)) = little (Tell a) s (omega (arith, one))
@@ -146,7 +146,7 @@ begun files created a s script output errors (inr u) above = absurd (omega (arit
 
 module _ {F : Type 0} (files created : Named) (a : Arguments) (script : Option (List ℕ)) (output errors : Written) (s : ℕ)
   where
-    -- a command was asked for its status, also where it was not told how it ended
+    -- a command was asked for its status, even if the report of how it ended is missing
     pub asked_for : (told : Result ℕ F)
         → IfOk told (λ status. HasEnded files created a status script output errors ⊎ IsUnbegun files a status errors)
         → IfOk told (λ status. s ≡ status) → IfErr told (λ fault. s ≡ 1) → IsAskedFor a s
@@ -178,7 +178,7 @@ failed files created a script output errors s (Ok status) ended untold is has_fa
       | inr unbegun ↦ inr (inl unbegun)
     ]
 
--- what was to be told of a command that did not begin
+-- what was to be reported of a command that did not begin
 pub unbegun : {X F : Type 0} (files created : Named) (a : Arguments) (script : Option (List ℕ)) (output : Written) (why : Refusal)
     (r : Result X F) → IsUnread files a why → OnErr r (IsUntold files created a script output)
 unbegun files created a script output why (Ok x) reason = tt

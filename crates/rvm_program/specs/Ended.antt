@@ -1,4 +1,4 @@
--- How a command ended that was given the files that it names.
+-- How a command ended, given the files that it names.
 use Rattle.std.specs.Prelude.{◌≡◌, ◌⊎◌, ⊤, ℕ, zero, suc, true, List, [], Option, Some}
 use Rattle.rvm_arguments.specs.declared.arguments.Arguments.{Arguments}
 use Rattle.rvm_arguments.specs.declared.arguments.Arguments.TheVariants.{Run, Asm, Dis, Debug, Script, Move, Audit, Host, Tell}
@@ -19,12 +19,12 @@ use Rattle.rvm_program.specs.Files.{IsApart, IsCreated, IsFile, IsImage, IsInput
 use Rattle.rvm_refusal.specs.declared.refusal.Refusal.{Refusal}
 use Rattle.rvm_command.specs.ScriptEnds.{IsScriptEnd}
 
--- what a writer held before a command and after it, where that is known
+-- what a writer held before a command and after it, if that is known
 pub record Written : Type 0 where
   pub before : Option (List ℕ)
   pub after : Option (List ℕ)
 
--- these two
+-- what a writer held before and after
 abbrev pub written : (before after : Option (List ℕ)) → Written
 written before after = record { before = before; after = after }
 
@@ -46,7 +46,7 @@ pub record AsmEnded (files created : Named) (a : AsmArguments) (status : ℕ) (e
   pub file_is : IsCreated (created a.output.now) file.before
   pub ended : HasStatus status (λ end. IsAsmEnd text end file.before file.after) errors.before errors.after
 
--- `dis` was given the image that it names, and told a buffer in front of the output
+-- `dis` was given the image that it names, and wrote to a buffer in front of the output
 pub record DisEnded (files : Named) (a : DisArguments) (status : ℕ) (output : Option (List ℕ)) (errors : Written)
     : Type 0 where
   pub image : List ℕ
@@ -54,7 +54,7 @@ pub record DisEnded (files : Named) (a : DisArguments) (status : ℕ) (output : 
   pub image_is : IsFile (files a.image.now) image
   pub ended : HasStatus status (λ end. IsListEnd (image_of a.raw image) end output told) errors.before errors.after
 
--- `debug` was given the image that it names and a script, and told a buffer in front of the output
+-- `debug` was given the image that it names and a script, and wrote to a buffer in front of the output
 pub record DebugEnded (files : Named) (a : GuestArguments) (status : ℕ) (script output : Option (List ℕ))
     (errors : Written) : Type 0 where
   pub image : List ℕ
@@ -62,7 +62,7 @@ pub record DebugEnded (files : Named) (a : GuestArguments) (status : ℕ) (scrip
   pub image_is : IsFile (files a.image.now) image
   pub ended : HasStatus status (λ end. IsDebugEnd a image script end output told) errors.before errors.after
 
--- `script` was given the image and the script that it names, and told a buffer in front of the output
+-- `script` was given the image and the script that it names, and wrote to a buffer in front of the output
 pub record ScriptEnded (files : Named) (a : ScriptArguments) (status : ℕ) (output : Option (List ℕ)) (errors : Written)
     : Type 0 where
   pub image : List ℕ
@@ -72,7 +72,7 @@ pub record ScriptEnded (files : Named) (a : ScriptArguments) (status : ℕ) (out
   pub script_is : IsOpened (files a.script.now) script
   pub ended : HasStatus status (λ end. IsScriptEnd a image script end output told) errors.before errors.after
 
--- a move was made and has this status, or it was not, which is 1
+-- a move was made and has this status, or it was not made and the status is 1
 abbrev pub MoveHasStatus : (status : ℕ) → MoveArguments → (image : List ℕ)
     → (errors errors' output output' : Option (List ℕ)) → Type 0
 MoveHasStatus status a image errors errors' output output' =
@@ -84,14 +84,14 @@ pub record MoveEnded (files : Named) (a : MoveArguments) (status : ℕ) (output 
   pub image_is : IsFile (files a.guest.image.now) image
   pub ended : MoveHasStatus status a image errors.before errors.after output.before output.after
 
--- an order of a move was written and nothing was told, or there was none, by the status
+-- by the status: an order of a move was written and nothing was reported, or no order was written
 abbrev pub AuditHasStatus : (status : ℕ) → MoveArguments → (image : List ℕ)
     → (output told errors errors' : Option (List ℕ)) → Type 0
 AuditHasStatus zero a image output told errors errors' = IsAudited a image output told × (errors' ≡ errors)
 AuditHasStatus (suc zero) a image output told errors errors' = IsNotAudited a image errors errors'
 AuditHasStatus (suc (suc n)) a image output told errors errors' = ⊥
 
--- `audit` was given the image that it names, and told a buffer in front of the output
+-- `audit` was given the image that it names, and wrote to a buffer in front of the output
 pub record AuditEnded (files : Named) (a : MoveArguments) (status : ℕ) (output : Option (List ℕ)) (errors : Written)
     : Type 0 where
   pub image : List ℕ
@@ -108,8 +108,8 @@ pub record HasHosted (files : Named) (a : HostArguments) (status : ℕ) (output 
   pub image_is : IsImage files a.guest image
   pub hosted : IsHostedTo a peers image status output.before output.after
 
--- `host` did so, and was asked for a verdict where that is what its status tells; or it did not begin, or its console could
--- not be written, by the status
+-- by the status: `host` worked to its end, and was asked for a verdict if the status is one; or it did not begin, or
+-- the output of its console failed
 abbrev pub HostEnded : (files : Named) → HostArguments → (status : ℕ) → (output : Written) → Type 0
 HostEnded files a zero output = HasHosted files a 0 output
 HostEnded files a (suc zero) output = ⊤
@@ -117,7 +117,7 @@ HostEnded files a (suc (suc zero)) output = ⊥
 HostEnded files a (suc (suc (suc zero))) output = (a.verdict ≡ true) × HasHosted files a 3 output
 HostEnded files a (suc (suc (suc (suc n)))) output = ⊥
 
--- all that a host was told happened, something did not, or an answer was lost, by the status
+-- by the status: all that a host was told to do happened, something did not, or an answer was lost
 abbrev pub TellEnded : (status : ℕ) → Type 0
 TellEnded status = (status ≡ 0) ⊎ ((status ≡ 1) ⊎ (status ≡ 3))
 
@@ -134,19 +134,20 @@ HasEnded files created (Audit a) status script output errors = AuditEnded files 
 HasEnded files created (Host a) status script output errors = HostEnded files a status output
 HasEnded files created (Tell a) status script output errors = TellEnded status
 
--- a command did not begin, since a file or a buffer could not be had, or a file has more bytes than it may have, and that
--- was told
+-- a command did not begin, since a file could not be opened or read, memory ran out, or a file has more bytes than it
+-- may have; and that was reported
 pub record IsUnbegun (files : Named) (a : Arguments) (status : ℕ) (errors : Written) : Type 0 where
   pub why : Refusal
   pub reason : IsUnread files a why
   pub told : IsTold (refused why) errors.before errors.after
   pub status_is : status ≡ 1
 
--- a text was to be told, of which it is not known how much was: to errors that held nothing it would tell this
+-- a text was to be written to the errors, and it is not known how much of it was written: errors that held nothing
+-- would hold this text
 abbrev pub ToTell : (Ends : (status : ℕ) → (errors : Written) → Type 0) → Type 0
 ToTell Ends = (status : ℕ) × (text : List ℕ) × Ends status (written (Some []) (Some text))
 
--- a write to the errors failed: how the command ended, or why it did not begin, was not told to its end
+-- a write to the errors failed: the report of how the command ended, or why it did not begin, is not complete
 abbrev pub IsUntold : (files created : Named) → Arguments → (script : Option (List ℕ)) → (output : Written) → Type 0
 IsUntold files created a script output =
     ToTell (λ status errors. HasEnded files created a status script output errors ⊎ IsUnbegun files a status errors)

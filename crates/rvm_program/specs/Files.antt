@@ -7,7 +7,7 @@ use Rattle.rvm_arguments.specs.declared.arguments.GuestArguments.{GuestArguments
 use Rattle.rvm_refusal.specs.declared.refusal.Refusal.{Refusal}
 use Rattle.rvm_refusal.specs.declared.refusal.Refusal.TheVariants as refusal
 
--- for the name of each file its bytes, where they are known
+-- the bytes of the file with a name, if they are known
 abbrev pub Named : Type 0
 Named = List ℕ → Option (List ℕ)
 
@@ -15,7 +15,7 @@ Named = List ℕ → Option (List ℕ)
 abbrev pub IsFile : (known : Option (List ℕ)) → (bytes : List ℕ) → Type 0
 IsFile known bytes = IfSome known (λ all. bytes ≡ all)
 
--- these are the first `count` bytes of a file, or all where it has no more, if those are known
+-- these are the first `count` bytes of a file, or all if it has no more, if those are known
 abbrev pub IsFirst : (known : Option (List ℕ)) → (count : ℕ) → (bytes : List ℕ) → Type 0
 IsFirst known count bytes = IfSome known (λ all. bytes ≡ take count all)
 
@@ -31,12 +31,12 @@ IsCreated known held = IfSome known (λ all. held ≡ Some all)
 abbrev pub IsOpened : (known left : Option (List ℕ)) → Type 0
 IsOpened known left = IfSome known (λ all. left ≡ Some all)
 
--- these are all bytes of the file that is named, or none where none is
+-- these are all bytes of the file that is named; no bytes if no file is named
 abbrev pub IsInput : Named → (name : Option (Bor (List ℕ))) → (bytes : List ℕ) → Type 0
 IsInput files None bytes = bytes ≡ []
 IsInput files (Some name) bytes = IsFile (files name.now) bytes
 
--- why there is no such file: memory ran out, or it cannot be had
+-- why a file was not read: memory ran out, or it cannot be opened or read
 abbrev pub IsFileRefusal : Refusal → Type 0
 IsFileRefusal r = (r ≡ refusal.OutOfMemory) ⊎ (r ≡ refusal.LinkFault)
 
@@ -44,7 +44,7 @@ IsFileRefusal r = (r ≡ refusal.OutOfMemory) ⊎ (r ≡ refusal.LinkFault)
 abbrev pub IsImage : Named → Option GuestArguments → (bytes : List ℕ) → Type 0
 IsImage files guest bytes = IfSome guest (λ g. IsFile (files g.image.now) bytes)
 
--- the first `count` bytes of the file that is named, or all where it has no more; none where none is named
+-- these are the first `count` bytes of the file that is named, or all if it has no more; no bytes if no file is named
 abbrev pub IsFirstInput : Named → (name : Option (Bor (List ℕ))) → (count : ℕ) → (bytes : List ℕ) → Type 0
 IsFirstInput files None count bytes = bytes ≡ []
 IsFirstInput files (Some name) count bytes = IsFirst (files name.now) count bytes
@@ -57,11 +57,11 @@ IsLong known limit why r = (r ≡ why) × IfSome known (λ all. limit < length a
 abbrev pub max_size : ℕ
 max_size = 2 ^ 26
 
--- the most bytes of the file of an image: those of RAM where it is plain bytes
+-- the most bytes of the file of an image: the size of RAM if it is plain bytes
 abbrev pub image_limit : GuestArguments → ℕ
 image_limit g = if g.raw then 4096 * g.pages else max_size
 
--- how an image of more bytes is refused
+-- the refusal of an image of more bytes
 abbrev pub long_image : (raw : Bool) → Refusal
 long_image true = refusal.OutsideRam
 long_image false = refusal.TooLong
@@ -70,7 +70,7 @@ long_image false = refusal.TooLong
 abbrev pub IsLongImage : Named → GuestArguments → Refusal → Type 0
 IsLongImage files g r = IsLong (files g.image.now) (image_limit g) (long_image g.raw) r
 
--- and so are the bytes for the console
+-- the bytes for the console are refused so, since their file has more bytes than it may have
 abbrev pub IsLongInput : Named → (name : Option (Bor (List ℕ))) → Refusal → Type 0
 IsLongInput files None r = ⊥
 IsLongInput files (Some name) r = IsLong (files name.now) max_size refusal.TooLong r
@@ -87,6 +87,7 @@ IsTooLong files (Audit a) r = IsLongImage files a.guest r
 IsTooLong files (Host a) r = ⊥
 IsTooLong files (Tell a) r = ⊥
 
--- why what a command line asks for does not begin: a file cannot be had, or has more bytes than it may have
+-- why what a command line asks for does not begin: a file cannot be opened or read, memory ran out, or a file has more
+-- bytes than it may have
 abbrev pub IsUnread : Named → Arguments → Refusal → Type 0
 IsUnread files a r = IsFileRefusal r ⊎ IsTooLong files a r

@@ -1,4 +1,4 @@
--- What words of a command line have come to.
+-- How a command line ended.
 use Rattle.std.specs.Prelude.{◌≡◌, ◌⊎◌, ⊤, ℕ, true, List, [], Option}
 use Rattle.clap.specs.Faults.{fault_of}
 use Rattle.clap.specs.Kinds.{IsAmong}
@@ -22,14 +22,14 @@ pub record IsEnded (files created : Named) (words : List Text) (status : ℕ) (s
   pub asked : IsAsked (subcommand_of program words) arguments
   pub ended : HasEnded files created arguments status script output errors
 
--- what a command came to whose status is 1: it was refused, or passes on the 1 of a guest, or did not begin, and that was
--- told; or a write to the errors failed
+-- how a command with the status 1 ended: it was refused, or passes on the status 1 of a guest, or did not begin, and
+-- that was reported; or a write to the errors failed
 abbrev pub HasFailed : (files created : Named) → Arguments → (script : Option (List ℕ)) → (output errors : Written) → Type 0
 HasFailed files created a script output errors =
     HasEnded files created a 1 script output errors
     ⊎ (IsUnbegun files a 1 errors ⊎ IsUntold files created a script output)
 
--- words have no fault for `clap`, and what they ask for has come to this
+-- words have no fault for `clap`, and what they ask for failed so
 pub record IsRefused (files created : Named) (words : List Text) (script : Option (List ℕ)) (output errors : Written)
     : Type 0 where
   pub faultless : fault_of program words ≡ []

@@ -1,7 +1,7 @@
-//! Each command over files: those that the command line names are read or opened in its order, and then
-//! the command over values is called. The answer is that command's. A refusal is answered where a file
-//! cannot be had or has more bytes than it may have, or a buffer finds no memory; all other refusals are told by the
-//! command over values.
+//! The commands over files. Each reads or opens the files that the command line names, in their order there, calls the
+//! command over values, and returns what that returns. It fails with a refusal if a file cannot be opened or read, if a
+//! file has more bytes than it may have, or if memory runs out; all other refusals are reported by the command over
+//! values.
 
 ghost use Rattle.std.specs.Prelude.{◌≡◌, ◌⊎◌, IfErr, IfOk, OnErr};
 ghost use Rattle.rvm_arguments.specs.declared.arguments.Arguments.TheVariants as asks;
@@ -37,14 +37,14 @@ use std::thread::Threads;
 use std::time::Clock;
 use std::{io, thread};
 
-/// What a command over values answers: its status, or `LinkFault` where a write to standard error failed, so
-/// that it is not told how the command ended.
+/// What a command over values returns: its status, or `LinkFault` if a write to standard error failed, so that the
+/// report of how the command ended is missing.
 pub(crate) type Told = Result<u8, LinkFault>;
 
 /// The name of a file that stands for standard input.
 const STANDARD_INPUT: &str = "-";
 
-/// Reads the image and the bytes for the console, and runs.
+/// Reads the image and the bytes for the console, and runs the guest.
 pub(crate) fn run<M: PagedMemory + Drop, F: NamedFiles, O: Write, E: Write>(
     alloc: Global,
     files: &F,
@@ -67,8 +67,8 @@ pub(crate) fn run<M: PagedMemory + Drop, F: NamedFiles, O: Write, E: Write>(
     Ok(run_command::<M, O, E>(alloc, arguments, &image, &input, output, errors))
 }
 
-/// The bytes for the console: those of a file, as many as there are turns in which they can come, or none if no file is
-/// named. `TooLong` for a file of which more than `MAX_FILE_SIZE` bytes can come.
+/// The bytes for the console: the first bytes of a file, at most one for each turn, or none if no file is named.
+/// `TooLong` if these would be more than `MAX_FILE_SIZE` bytes.
 fn read_input<F: NamedFiles>(
     files: &F,
     alloc: Global,
@@ -83,7 +83,7 @@ fn read_input<F: NamedFiles>(
     }
 }
 
-/// The first bytes of a file, as many as there are turns. `TooLong` where these are more than `MAX_FILE_SIZE`.
+/// The first bytes of a file, at most one for each turn. `TooLong` if these would be more than `MAX_FILE_SIZE` bytes.
 fn read_console<F: NamedFiles>(
     files: &F,
     alloc: Global,
@@ -100,8 +100,8 @@ fn read_console<F: NamedFiles>(
     read_beginning(files, alloc, file, u64::from(turns))
 }
 
-/// Reads the text, opens the file that is written, and assembles. A file that has the bytes of the text is not written: it
-/// may be the text under another name.
+/// Reads the text, opens the output file, and assembles. Refuses with `LinkFault` an output file that has the bytes of
+/// the text: it may be the text under another name.
 pub(crate) fn asm<F: NamedFiles, E: Write>(
     alloc: Global,
     files: &F,
@@ -242,7 +242,8 @@ where
     Ok(audit_command::<M, _, E, Rt>(rt, rt.alloc(), arguments, &image, &mut output, errors))
 }
 
-/// Reads the files of a host, and works at it. The name of a file that cannot be had is told here.
+/// Reads the files of a host, and runs the host. If a file is refused, writes its name and the refusal to `errors`, and
+/// returns the status 1.
 #[tactic(auto, using(crate::proofs::Ended::host_ended))]
 pub(crate) fn host<
     M: PagedMemory + Drop + Send,
@@ -290,7 +291,7 @@ struct HostFiles {
     input: Arc<InputQueue>,
 }
 
-/// The files of a host, or the first that cannot be had, and why.
+/// Reads the files of a host. Fails with the name of the first file that is refused, and the refusal.
 fn read_host<'a, Rt: System + Threads + Wait + 'static, F: NamedFiles>(
     rt: &Rt,
     files: &F,
@@ -315,7 +316,8 @@ fn read_host<'a, Rt: System + Threads + Wait + 'static, F: NamedFiles>(
     })
 }
 
-/// What comes to the guest's console: the bytes of a file, or of standard input as they come.
+/// The input of the guest's console: the bytes of a file, or those of standard input as they come, or none if `input`
+/// is `None`.
 fn host_input<'a, Rt: System + Threads + Wait + 'static, F: NamedFiles>(
     rt: &Rt,
     files: &F,
@@ -333,13 +335,13 @@ fn host_input<'a, Rt: System + Threads + Wait + 'static, F: NamedFiles>(
     }
 }
 
-/// These bytes, for a guest's console.
+/// The input of a guest's console, with these bytes.
 fn queued<Rt: System>(rt: &Rt, bytes: &[u8]) -> Result<Arc<InputQueue>, AllocError> {
     Ok(Arc::new(rt.alloc(), InputQueue::with(rt.alloc(), bytes)?)?)
 }
 
-/// What comes from standard input, for a guest's console. A thread of its own reads it, since nothing else than the end of
-/// the process ends a read.
+/// The input of a guest's console, which gets what comes from standard input. A thread of its own reads it, since only
+/// the end of the process ends a read.
 fn live_input<Rt: System + Threads + Wait + 'static>(
     rt: &Rt,
 ) -> Result<Arc<InputQueue>, AllocError> {
@@ -348,7 +350,7 @@ fn live_input<Rt: System + Threads + Wait + 'static>(
     Ok(queue)
 }
 
-/// Has a thread read bytes for a guest's console, which ends with the process at the latest.
+/// Starts a thread that reads bytes into the input of a guest's console. It ends with the process at the latest.
 fn read_beside<Rt: Threads + Wait + Copy + Send + 'static, I: Read + Drop + Send + 'static>(
     rt: &Rt,
     reader: I,
@@ -365,7 +367,7 @@ fn read_beside<Rt: Threads + Wait + Copy + Send + 'static, I: Read + Drop + Send
     }
 }
 
-/// All bytes of a file, or its name, and why they cannot be had.
+/// All bytes of a file. Fails with its name and the refusal.
 fn read_told<'a, F: NamedFiles>(
     files: &F,
     alloc: Global,
@@ -379,7 +381,7 @@ fn read_told<'a, F: NamedFiles>(
     }
 }
 
-/// All bytes of the file of an image, or its name, and why they cannot be had.
+/// All bytes of the file of an image. Fails with its name and the refusal.
 fn read_told_image<'a, F: NamedFiles>(
     files: &F,
     alloc: Global,
@@ -393,8 +395,9 @@ fn read_told_image<'a, F: NamedFiles>(
     }
 }
 
-/// Tells a host a line, or those of standard input, and writes its answers. Where it cannot be reached, that is told
-/// here, and so is that an answer was lost.
+/// Tells a host a line, or each line of standard input, and writes its answers. Returns the status: 0 if all that was
+/// asked happened, 1 if something did not, 3 if an answer was lost. Reports in `errors` if the host cannot be reached,
+/// and if an answer was lost.
 pub(crate) fn tell<Rt: System + Net, I: Read, O: Write, E: Write>(
     rt: &Rt,
     arguments: &TellArguments,
@@ -428,7 +431,8 @@ pub(crate) fn tell<Rt: System + Net, I: Read, O: Write, E: Write>(
     Ok(status)
 }
 
-/// Tells a host lines. Where somebody may look at `errors`, how far a move has come goes there.
+/// Tells a host lines, and writes its answers. If standard error is a terminal, the progress of a move is written to
+/// `errors`.
 fn tell_lines<Rt: System, S: Read + Write + OpenStream + Drop, I: BufRead, O: Write, E: Write>(
     rt: &Rt,
     stream: S,
@@ -445,7 +449,7 @@ fn tell_lines<Rt: System, S: Read + Write + OpenStream + Drop, I: BufRead, O: Wr
     }
 }
 
-/// A buffer in front of a writer, with nothing in it.
+/// An empty buffer in front of a writer.
 #[tactic(auto, using(crate::proofs::Buffers::nothing_held))]
 fn buffered<W: Write + Drop>(alloc: Global, writer: W) -> Result<BufWriter<W>, Refusal>
     ensures empty { IfOk result (λ b. writer_contents W.contents b ≡ W.contents writer) }

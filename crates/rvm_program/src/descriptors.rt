@@ -8,12 +8,12 @@ use rvm_refusal::Refusal;
 use std::fs::File;
 use std::rt::Files;
 
-/// The device that is empty when it is read.
+/// The null device: a read of it gives no bytes.
 const NULL_DEVICE: &str = "/dev/null";
 
-/// The null device, opened three times for reading. A file or a connection gets the lowest free descriptor, so
-/// while these three are held, none gets 0, 1 or 2: a program that was started with one of them closed sends
-/// nothing of its output into a file or a connection of its own, and a write to a closed output still fails.
+/// The null device, opened three times for reading. A file or a connection gets the lowest free descriptor, so while
+/// these three are open, no other gets 0, 1 or 2. A program that was started with one of these closed thus never writes
+/// its output into a file or a connection of its own, and a write to the closed output fails.
 #[derive(Drop)]
 pub struct Descriptors<F: Drop> {
     _first: F,
@@ -21,7 +21,7 @@ pub struct Descriptors<F: Drop> {
     _third: F,
 }
 
-/// Takes those of the descriptors 0, 1 and 2 that are free. Refuses if the null device cannot be opened.
+/// Takes the descriptors 0, 1 and 2 so far as they are free. Refuses if the null device cannot be opened.
 pub fn take_descriptors<R: Files>(rt: &R) -> Result<Descriptors<R::File>, Refusal>
     ensures refused { IfErr result IsFileRefusal }
 {

@@ -13,16 +13,16 @@ use std::fs::File;
 use std::io::{Error, ErrorKind, Read, Write};
 use std::rt::Files;
 
-/// The most bytes of a file that is read whole: an assembly text, an ELF file, the bytes for a console, and each file of
-/// `host`. A script has its own limit, which is the same.
+/// The most bytes of a file that is read as a whole: an assembly text, an ELF file, the bytes for a console, and each
+/// file of `host`. The limit of a script is its own, and is the same.
 pub const MAX_FILE_SIZE: u32 = 1 << 26;
 
-/// Files that have names, as those of a host.
+/// Files that are opened by name, such as those of the machine.
 pub trait NamedFiles {
-    /// The bytes of the file with a name, where they are known.
+    /// The bytes of the file with a name, if they are known.
     ghost bytes_of: { Self → List ℕ → Option (List ℕ) } = { λ _ _. None };
 
-    /// What a file with a name holds when it is new or emptied, where that is known.
+    /// What a file with a name holds when it is new or emptied, if that is known.
     ghost created_of: { Self → List ℕ → Option (List ℕ) } = { λ _ _. None };
 
     /// A file that is read.
@@ -31,24 +31,24 @@ pub trait NamedFiles {
     /// A file that is written.
     type Created: Write + Drop;
 
-    /// The file with a name, to be read from its beginning on.
+    /// Opens the file with a name, to read it from its beginning. `OutOfMemory` if memory runs out, else `LinkFault`.
     fn open(&self, path: &str) -> Result<Self::Opened, Refusal>
         ensures bytes { IfOk result (λ file. IsOpened (bytes_of self.now path.now) (Self.Opened.remaining file)) }
         ensures refused { IfErr result IsFileRefusal };
 
-    /// The file with a name, to be read from its beginning on, if it is one that keeps its bytes and may be read. A device, a
-    /// pipe or a terminal is none: to open it may wait, and what is read of it is gone.
+    /// Opens the file with a name, to read it from its beginning, if it keeps its bytes and may be read. Devices, pipes
+    /// and terminals are not opened: opening one may block, and what is read from it is gone.
     fn open_kept(&self, path: &str) -> Option<Self::Opened>
         ensures bytes { IfSome result (λ file. IsOpened (bytes_of self.now path.now) (Self.Opened.remaining file)) }
         ensures none { IsNone result → bytes_of self.now path.now ≡ None };
 
-    /// The file with a name, new or emptied, to be written.
+    /// Creates or empties the file with a name, to write it. `OutOfMemory` if memory runs out, else `LinkFault`.
     fn create(&self, path: &str) -> Result<Self::Created, Refusal>
         ensures named { IfOk result (λ file. IsCreated (created_of self.now path.now) (Self.Created.contents file)) }
         ensures refused { IfErr result IsFileRefusal };
 }
 
-/// The files of a runtime, of which no bytes are known.
+/// The files of a runtime. Contracts know none of their bytes.
 #[derive(Drop)]
 pub(crate) struct HostFiles<'a, R> {
     pub(crate) rt: &'a R,
@@ -75,8 +75,8 @@ impl<'a, R: Files> NamedFiles for HostFiles<'a, R> {
     }
 }
 
-/// All bytes of a file that has at most `limit`. `OutOfMemory` where there is no memory for them, `LinkFault` where it
-/// cannot be opened or read, and `long` where it has more: then no more than one byte more was read.
+/// All bytes of a file, at most `limit`. `OutOfMemory` if memory runs out, `LinkFault` if it cannot be opened or read,
+/// and `long` if it has more bytes. At most `limit` + 1 bytes are read.
 #[tactic(auto, using(crate::proofs::Reading::whole, crate::proofs::Reading::longer))]
 pub(crate) fn read_file<F: NamedFiles>(
     files: &F,
@@ -94,7 +94,7 @@ pub(crate) fn read_file<F: NamedFiles>(
     Ok(bytes)
 }
 
-/// All bytes of a file that has at most `MAX_FILE_SIZE`, and else as `read_file` does: `TooLong` where it has more.
+/// All bytes of a file, at most `MAX_FILE_SIZE`. Fails as `read_file` does, with `TooLong` if it has more bytes.
 pub(crate) fn read_whole<F: NamedFiles>(
     files: &F,
     alloc: Global,
@@ -108,8 +108,8 @@ pub(crate) fn read_whole<F: NamedFiles>(
     read_file(files, alloc, path, MAX_FILE_SIZE, Refusal::TooLong)
 }
 
-/// The first `count` bytes of a file, or all where it has no more. `OutOfMemory` where there is no memory for them, and
-/// `LinkFault` where it cannot be opened or read.
+/// The first `count` bytes of a file, or all if it has no more. `OutOfMemory` if memory runs out, and `LinkFault` if
+/// the file cannot be opened or read.
 pub(crate) fn read_beginning<F: NamedFiles>(
     files: &F,
     alloc: Global,
@@ -122,7 +122,8 @@ pub(crate) fn read_beginning<F: NamedFiles>(
     read_first(alloc, &mut files.open(path)?, count)
 }
 
-/// The first `count` bytes that a reader gives, or all where it has no more.
+/// The first `count` bytes that a reader gives, or all if it gives no more. `OutOfMemory` if memory runs out, and
+/// `LinkFault` if a read fails.
 fn read_first<R: Read>(alloc: Global, reader: &mut R, count: u64) -> Result<Vec<u8>, Refusal>
     ensures bytes { IfOk result (λ v. IsFirst (R.remaining reader.old) count v.items) }
     ensures refused { IfErr result IsFileRefusal }
@@ -135,7 +136,7 @@ fn read_first<R: Read>(alloc: Global, reader: &mut R, count: u64) -> Result<Vec<
     }
 }
 
-/// Refuses as `long` says if there are more than `limit` bytes.
+/// Refuses with `long` if there are more than `limit` bytes.
 pub(crate) fn within(bytes: &[u8], limit: u32, long: Refusal) -> Result<(), Refusal>
     ensures few { OnOk result (length bytes.now ≤ limit) }
     ensures many { IfErr result (λ r. (r ≡ long) × (limit < length bytes.now)) }
@@ -146,7 +147,7 @@ pub(crate) fn within(bytes: &[u8], limit: u32, long: Refusal) -> Result<(), Refu
     Ok(())
 }
 
-/// Whether a file that keeps its bytes, and may be read, has these.
+/// Whether a file keeps its bytes, may be read, and has exactly these bytes.
 fn holds<F: NamedFiles>(files: &F, alloc: Global, path: &str, bytes: &[u8]) -> Result<bool, Refusal>
     ensures apart { IfOk result (λ same. same ≡ false → IsApart (F.bytes_of files.now path.now) bytes.now) }
     ensures refused { IfErr result IsFileRefusal }
@@ -157,7 +158,7 @@ fn holds<F: NamedFiles>(files: &F, alloc: Global, path: &str, bytes: &[u8]) -> R
     }
 }
 
-/// Refuses a file that is to be written and has these bytes, as one that cannot be had.
+/// Refuses with `LinkFault` a file that is to be written and has exactly these bytes.
 pub(crate) fn keep_apart<F: NamedFiles>(
     files: &F,
     alloc: Global,
@@ -183,14 +184,14 @@ fn gives<R: Read + Drop>(alloc: Global, mut reader: R, bytes: &[u8]) -> Result<b
     Ok(are_same(&given, bytes))
 }
 
-/// Whether bytes are the same.
+/// Whether two runs of bytes are equal.
 fn are_same(some: &[u8], others: &[u8]) -> bool
     ensures { result ≡ false → some.now ≡ others.now → ⊥ }
 {
     some == others
 }
 
-/// What an error of the host is told as: `OutOfMemory` for lack of memory, and else `LinkFault`.
+/// The refusal for an error of the system: `OutOfMemory` if memory ran out, else `LinkFault`.
 pub(crate) fn refusal_of(error: Error) -> Refusal
     ensures memory { error_kind error ≡ kind.OutOfMemory → result ≡ refusal.OutOfMemory }
     ensures others { error_kind error ≢ kind.OutOfMemory → result ≡ refusal.LinkFault }

@@ -1,4 +1,4 @@
-//! The file of an image, of which no more is read than it may have.
+//! Reads the file of an image, at most one byte more than it may have.
 
 ghost use Rattle.std.specs.Prelude.{◌≡◌, ◌⊎◌, ◌+◌, ◌<◌, ◌≤◌, IfErr, IfOk, OnOk, length};
 ghost use Rattle.rvm_program.specs.Files.{IsFile, IsFileRefusal, IsFirst, IsLongImage, image_limit, long_image};
@@ -8,7 +8,7 @@ use rvm_arguments::GuestArguments;
 use rvm_refusal::Refusal;
 use std::alloc::Global;
 
-/// The most bytes of the file of an image: as many as RAM has where it is plain bytes, and else `MAX_FILE_SIZE`.
+/// The most bytes of the file of an image: the size of RAM if it is plain bytes, else `MAX_FILE_SIZE`.
 fn image_limit(guest: &GuestArguments) -> u32
     ensures { result ≡ image_limit guest.now }
 {
@@ -20,7 +20,7 @@ fn image_limit(guest: &GuestArguments) -> u32
     }
 }
 
-/// How an image is refused whose file has more.
+/// The refusal of an image whose file has more bytes than it may have.
 fn long_image(raw: bool) -> Refusal
     ensures { result ≡ long_image raw }
 {
@@ -31,8 +31,8 @@ fn long_image(raw: bool) -> Refusal
     }
 }
 
-/// All bytes of the file of an image. `OutOfMemory` where there is no memory for them, `LinkFault` where it cannot be opened
-/// or read; where it has more bytes than it may have, `OutsideRam` for plain bytes and `TooLong` for an ELF file.
+/// All bytes of the file of an image. `OutOfMemory` if memory runs out, `LinkFault` if it cannot be opened or read. If
+/// it has more bytes than it may have, `OutsideRam` for plain bytes and `TooLong` for an ELF file.
 pub(crate) fn read_image<F: NamedFiles>(
     files: &F,
     alloc: Global,
@@ -50,8 +50,8 @@ pub(crate) fn read_image<F: NamedFiles>(
     )
 }
 
-/// The first bytes of the file of an image, as many as it may have and one more: `check_image` tells which. So another file
-/// that cannot be had is told first.
+/// The first bytes of the file of an image: at most one more than it may have. `check_image` refuses the bytes if they
+/// are too many, once the other files of the command are open, so that the refusal of one of those counts first.
 pub(crate) fn begin_image<F: NamedFiles>(
     files: &F,
     alloc: Global,
@@ -63,7 +63,8 @@ pub(crate) fn begin_image<F: NamedFiles>(
     read_beginning(files, alloc, guest.image, u64::from(image_limit(guest)) + 1)
 }
 
-/// Refuses an image that has more bytes than it may have.
+/// Refuses an image whose file has more bytes than it may have: with `OutsideRam` for plain bytes, and with `TooLong`
+/// for an ELF file.
 pub(crate) fn check_image(guest: &GuestArguments, image: &[u8]) -> Result<(), Refusal>
     ensures few { OnOk result (length image.now ≤ image_limit guest.now) }
     ensures many { IfErr result (λ r. (r ≡ long_image guest.now.raw) × (image_limit guest.now < length image.now)) }

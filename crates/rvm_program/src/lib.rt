@@ -1,5 +1,5 @@
-//! The program as a function: the words of a command line, the files that they name, and the command.
-//! It prints to the writers that it is given, and answers the status.
+//! The program as a function: it reads the words of a command line and the files that they name, and does the command.
+//! It prints to the writers that it is given, and returns the status.
 //!
 //! Stands on the commands and `clap`, and reaches files through the runtime or another `NamedFiles` alone,
 //! so that another program can call what `rvmove` does.
@@ -39,21 +39,22 @@ use std::thread::Threads;
 pub use system::System;
 pub use words::{WordsFault, take_words, tell_words_fault, texts};
 
-/// The status where a write to standard error failed, so that it is not told how the command ended.
+/// The status if a write to standard error failed, so that the report of how the command ended is missing.
 const UNTOLD: u8 = 1;
 
-/// Does what the words of a command line ask for, of which the first is the program's name, and answers
-/// the status: 0, 1 where it was refused, 2 for a fault of the command line, which writes nothing to
-/// `output`, or 3 where an answer of a host was lost that was told something. A run whose status tells how it ended
-/// has that status (`StatusOf`), which may be any; of a move with a verdict it may be 3 or 4, of a host with one 3. `input` stands for standard input, `output`
-/// and `errors` for standard output and standard error. Each guest's memory is an `M`. A guest that moves does so by
-/// threads, which may wait for one another, and over TCP. The files are those of the runtime, and so is the standard input
-/// that a thread of its own reads for `host --input -`, until the process ends.
+/// Does what the words of a command line ask for. The first word is the program's name. Returns the status: 0 if it was
+/// done; 1 if it was refused, or if a write to `errors` failed, so that the report of how it ended is missing; 2 for a
+/// fault of the command line, which writes nothing to `output`; 3 if `tell` lost an answer of a host. If the status of
+/// a run tells how it ended (`StatusOf`), it may be any number; with a verdict, that of a move may also be 3 or 4, and
+/// that of a host 3. `input` is standard input, `output` and `errors` are standard output and standard error. The
+/// memory of each guest is an `M`. A guest moves by threads, which may wait for one another, and over TCP. The files
+/// are those of the runtime. So is the standard input of `host --input -`, which a thread of its own reads until the
+/// process ends.
 ///
-/// Of a file at most one byte more is read than it may have: as many bytes as RAM has for an image of plain bytes, which is
-/// refused `OutsideRam` if there are more, and `MAX_FILE_SIZE` for an ELF file, what `dis` lists, an assembly text and each
-/// file of `host`, which is refused `TooLong`. Of the bytes for the console `run` reads as many as it can make turns; `TooLong`
-/// if it can make more than `MAX_FILE_SIZE`, and the file has more.
+/// At most one byte more is read of a file than it may have. An image of plain bytes may have as many bytes as RAM;
+/// with more it is refused with `OutsideRam`. An ELF file, what `dis` lists, an assembly text and each other file of
+/// `host` may have `MAX_FILE_SIZE` bytes; with more they are refused with `TooLong`. `run` reads at most one byte for
+/// the console for each turn; it refuses with `TooLong` if these would be more than `MAX_FILE_SIZE` bytes.
 pub fn perform<
     M: PagedMemory + Drop + Send + 'static,
     Rt: System + Net + Threads + Wait + 'static,
@@ -132,8 +133,9 @@ where
     }
 }
 
-/// Does what a command line asks for, and answers the status: 0, 1 where it was refused, 3 where an answer of a host
-/// was lost that was told something, or that of a run, a move or a host whose status tells how it ended.
+/// Does what a command line asks for. Returns the status: 0 if it was done, 1 if it was refused or a write to `errors`
+/// failed, 3 if `tell` lost an answer of a host; or, for a run, a move or a host whose status tells how it ended, that
+/// status.
 fn do_command<
     M: PagedMemory + Drop + Send + 'static,
     Rt: System + Net + Threads + Wait + 'static,
@@ -161,7 +163,7 @@ where
     status_of(tell_end::<M, Rt, F, I, O, E>(rt, files, arguments, input, output, errors))
 }
 
-/// The status of a command, or that of one that did not tell how it ended.
+/// The status of a command: the one that it returned, or `UNTOLD` if it failed to report how it ended.
 fn status_of(told: Told) -> u8
     ensures told { IfOk told (λ status. result ≡ status) }
     ensures untold { IfErr told (λ fault. result ≡ 1) }
@@ -169,7 +171,8 @@ fn status_of(told: Told) -> u8
     told.unwrap_or(UNTOLD)
 }
 
-/// Does what a command line asks for. A refusal that the command has not told itself is told here.
+/// Does what a command line asks for. If the command did not begin, reports the refusal in `errors`, and returns the
+/// status 1. `LinkFault` if a write to `errors` fails.
 fn tell_end<
     M: PagedMemory + Drop + Send + 'static,
     Rt: System + Net + Threads + Wait + 'static,
@@ -194,7 +197,8 @@ where
     }
 }
 
-/// Calls the command of a command line. It is refused where a file or a buffer cannot be had.
+/// Calls the command of a command line. Fails with a refusal if a file cannot be opened or read, if a file has more
+/// bytes than it may have, or if memory runs out.
 fn begin<
     M: PagedMemory + Drop + Send + 'static,
     Rt: System + Net + Threads + Wait + 'static,
@@ -260,8 +264,8 @@ where
     }
 }
 
-/// Writes the text of a command line that has a fault, or that asks for help or for the version, where
-/// `clap` prints it. The status of a fault is 2.
+/// Reports the fault of a command line in `errors`, and returns the status 2; or writes the help or the version that it
+/// asks for to `output`, and returns the status 0. `clap` says which.
 fn explain<O: Write, E: Write>(error: &Error, output: &mut O, errors: &mut E) -> u8
     ensures status { (result ≡ 0) ⊎ (result ≡ 2) }
     ensures shown { (kind_of error.now ≡ kind.DisplayHelp) ⊎ (kind_of error.now ≡ kind.DisplayVersion) → result ≡ 0 }

@@ -1,4 +1,4 @@
-//! What a program has of the system that it runs on.
+//! What a program needs of the system that it runs on.
 
 use std::io::{IsTerminal, Read};
 use std::random::RandomSource;
@@ -10,10 +10,10 @@ pub trait System: Files + AllocGlobal + Clock + RandomSource + Copy + Send + Syn
     /// A reader of standard input.
     type Live: Read + Drop + Send + 'static;
 
-    /// Standard input, to be read as it comes.
+    /// Standard input, which is read as it comes.
     fn live_input(&self) -> Self::Live;
 
-    /// Whether standard error is a terminal, where somebody may look at it.
+    /// Whether standard error is a terminal.
     fn shows_errors(&self) -> bool;
 }
 

@@ -12,7 +12,7 @@ use std::io::Write;
 use std::rt::Env;
 use std::str;
 
-/// How many bytes a word is first given room for.
+/// The size in bytes of the buffer that a word is first read into.
 const FIRST_ROOM: usize = 256;
 
 /// Why words are no texts.
@@ -20,11 +20,11 @@ const FIRST_ROOM: usize = 256;
 pub enum WordsFault {
     /// Memory ran out.
     OutOfMemory,
-    /// The word at this place is not UTF-8. The program's name has the place 0.
+    /// The word with this index is not UTF-8. The program's name has the index 0.
     NotText(usize),
 }
 
-/// The bytes of the words of the command line, of which the first is the program's name.
+/// The bytes of the words of the command line. The first word is the program's name. Fails only with `OutOfMemory`.
 pub fn take_words<R: Env + AllocGlobal>(rt: &R) -> Result<Vec<Vec<u8>>, WordsFault> {
     let mut words = Vec::new(rt.alloc());
     for place in 0..usize::MAX {
@@ -41,7 +41,7 @@ pub fn take_words<R: Env + AllocGlobal>(rt: &R) -> Result<Vec<Vec<u8>>, WordsFau
     Ok(words)
 }
 
-/// The bytes of the word at a place, if there is one.
+/// The bytes of the word with the index `place`, if there is one.
 fn take_word<R: Env + AllocGlobal>(rt: &R, place: usize) -> Result<Option<Vec<u8>>, AllocError> {
     let mut room = FIRST_ROOM;
     for _larger in 0..usize::BITS {
@@ -59,7 +59,7 @@ fn take_word<R: Env + AllocGlobal>(rt: &R, place: usize) -> Result<Option<Vec<u8
     Err(AllocError)
 }
 
-/// The texts of words, or the first of them that is none.
+/// The texts of words. Fails with `NotText` at the first word that is not UTF-8, or with `OutOfMemory`.
 pub fn texts<'a>(alloc: Global, words: &'a [Vec<u8>]) -> Result<Vec<&'a str>, WordsFault>
     ensures texts { IfOk result (λ v. map (λ s. s.now) v.items ≡ map vec_items words.now) }
     ensures fault { IfErr result (IsWordsFault (map vec_items words.now)) }
@@ -78,7 +78,7 @@ pub fn texts<'a>(alloc: Global, words: &'a [Vec<u8>]) -> Result<Vec<&'a str>, Wo
     Ok(texts)
 }
 
-/// The text of the word at a place, if it is one.
+/// The text of the word with the index `place`, if it is UTF-8.
 fn text_at<'a>(words: &'a [Vec<u8>], place: usize) -> Option<&'a str>
     requires { place < length words.now }
     ensures text { IfSome result (λ s. s.now ≡ word_at (map vec_items words.now) place) }
@@ -88,7 +88,8 @@ fn text_at<'a>(words: &'a [Vec<u8>], place: usize) -> Option<&'a str>
     str::from_utf8(word).ok()
 }
 
-/// Tells why words are no texts, and answers the status: 2, as of a fault of the command line, or 1 where memory ran out.
+/// Reports in `errors` why words are no texts. Returns the status: 1 if memory ran out, else 2, as for a fault of the
+/// command line.
 pub fn tell_words_fault<E: Write>(alloc: Global, fault: WordsFault, errors: &mut E) -> u8
     ensures memory { fault ≡ WordsFault.OutOfMemory → result ≡ 1 }
     ensures others { fault ≢ WordsFault.OutOfMemory → result ≡ 2 }

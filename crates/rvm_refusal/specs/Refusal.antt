@@ -40,7 +40,7 @@ number_of LinkFault = 31
 number_of NoOrder = 32
 number_of BadHost = 33
 
--- its name in text
+-- the name of a refusal in text
 abbrev pub name_of : Refusal → List ℕ
 name_of OutOfMemory = codes "OutOfMemory"
 name_of OutOfRange = codes "OutOfRange"
@@ -76,6 +76,6 @@ name_of LinkFault = codes "LinkFault"
 name_of NoOrder = codes "NoOrder"
 name_of BadHost = codes "BadHost"
 
--- `refused N NAME`
+-- a refusal in text: `refused N NAME`
 abbrev pub text_of : Refusal → List ℕ
 text_of r = codes "refused " ++ decimal (number_of r) ++ codes " " ++ name_of r

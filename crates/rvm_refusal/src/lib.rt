@@ -1,9 +1,9 @@
-//! The refusals of every call, by number and name: what a user is shown where a command, a line of a
-//! script or a file is refused.
+//! The refusals of all calls, by number and name: what a user sees if a command, a line of a script or a file is
+//! refused.
 //!
-//! Stands on no other crate of these. Each crate above has an error type of its own, with just the cases that its
-//! calls can answer, and turns it into a `Refusal` by `From`. `LinkFault` is shared: whoever writes can
-//! answer it, and nothing else.
+//! Stands on no other crate of this repository. Each crate above has an error type of its own, which has just the
+//! errors that its calls can return, and turns it into a `Refusal` by `From`. `LinkFault` is shared: a call that can
+//! fail only since a write fails returns it.
 #![tactic(auto)]
 
 mod link_fault;

@@ -1,4 +1,4 @@
-//! What failed outside.
+//! The error of a failed read or write.
 
 ghost use Rattle.std.specs.Prelude.{◌≡◌};
 ghost use Rattle.rvm_refusal.specs.declared.refusal.Refusal.TheVariants as refusal;
@@ -7,7 +7,7 @@ use crate::refusal::Refusal;
 use std::io;
 use thiserror::Error;
 
-/// A read, a write or a link failed; a part of what was to be written may have gone out.
+/// A read, a write or a link failed. After a failed write, any part of the bytes may have been written.
 #[derive(Clone, Copy, Debug, PartialEq, Eq, Error)]
 #[error("a read, a write or a link failed")]
 pub struct LinkFault;

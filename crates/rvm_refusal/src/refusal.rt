@@ -1,4 +1,4 @@
-//! The numbered list.
+//! The numbered list of refusals.
 
 ghost use Rattle.std.specs.Prelude.{◌≡◌};
 ghost use Rattle.rvm_refusal.specs.Refusal.{name_of, number_of};
@@ -22,7 +22,7 @@ pub enum Refusal {
     BadToken,
     /// A name has no value where it is needed.
     UnknownName,
-    /// A field cannot hold the value.
+    /// A value does not fit its field, a place is above 2^32, or a program has too many bytes.
     OutOfReach,
     /// A name is given twice.
     Defined,
@@ -30,13 +30,13 @@ pub enum Refusal {
     Overlap,
     /// The file does not begin as an ELF file.
     BadMagic,
-    /// The ELF file is for another machine.
+    /// The file is no ELF executable for 32-bit RISC-V.
     NotRiscV32,
-    /// The file ends before a header or segment.
+    /// The file ends before a header or a segment does.
     Truncated,
     /// Bytes or the entry are not in RAM, or the entry is no multiple of four.
     OutsideRam,
-    /// There are more than 16 program headers or separate pieces.
+    /// There are more than 16 program headers or segments.
     TooMany,
     /// 64 breakpoints are set.
     TooManyBreaks,
@@ -44,7 +44,7 @@ pub enum Refusal {
     BadFrame,
     /// The frame or script is longer than it may be.
     TooLong,
-    /// The reader refused the stream before.
+    /// The reader has refused an earlier part of the stream.
     Failed,
     /// The bytes are not the state of a board for that RAM.
     BadState,
@@ -77,7 +77,7 @@ pub enum Refusal {
 }
 
 impl Refusal {
-    /// Its number, 1 to 33.
+    /// The number of the refusal, 1 to 33.
     pub fn number(self) -> u32
         ensures { result ≡ number_of self }
     {
@@ -118,7 +118,7 @@ impl Refusal {
         }
     }
 
-    /// Its name, as it is printed.
+    /// The name of the refusal, as it is printed.
     pub fn name(self) -> &'static str
         ensures { result.now ≡ name_of self }
     {
@@ -160,7 +160,7 @@ impl Refusal {
     }
 }
 
-/// `refused N NAME`.
+/// A refusal is shown as `refused N NAME`.
 impl fmt::Display for Refusal {
     ghost use Rattle.rvm_refusal.specs.Refusal.{text_of};
     ghost use Rattle.std.specs.Prelude.{Some};

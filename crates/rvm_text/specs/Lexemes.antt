@@ -1,4 +1,4 @@
--- The lexical grammar of a line: what its bytes are read as, one after the other.
+-- The lexical grammar of a line: what its bytes are read as, in order.
 use Rattle.std.specs.Prelude.{ℕ, if◌then◌else◌, ◌==◌, nat_lt, List, [], ◌∷◌, ◌++◌, Option, Some, None, option_map}
 use Rattle.rvm_text.specs.Bytes.{is_word, is_space, is_mark, is_escape}
 
@@ -18,8 +18,8 @@ pub data Mode : Type 0 where
   Escaped : List ℕ → Mode
   InComment : Mode
 
--- what a byte leads to where nothing is open: the lexemes that it ends, and the mode after it;
--- none where the byte can't stand there
+-- what a byte leads to if nothing is open: the lexemes that it ends, and the mode after it; none if the byte can't
+-- stand there
 abbrev pub open_at : ℕ → Option (List Lexeme × Mode)
 open_at b =
     if is_word b then Some ([], InWord (b ∷ []))

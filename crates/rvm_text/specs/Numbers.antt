@@ -2,7 +2,7 @@
 use Rattle.std.specs.Prelude.{ℕ, ◌+◌, ◌-◌, ◌*◌, ◌^◌, ◌&&◌, ◌==◌, nat_le, nat_lt, if◌then◌else◌, List, [], ◌∷◌, Option, Some, None}
 use Rattle.rvm_text.specs.Bytes.{is_digit}
 
--- the value of a digit, small or capital, and 16 where the byte is none
+-- the value of a digit in lower or upper case, and 16 if the byte is no digit
 abbrev pub digit_value : ℕ → ℕ
 digit_value b =
     if is_digit b then b - 48

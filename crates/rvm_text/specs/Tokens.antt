@@ -25,7 +25,7 @@ abbrev pub IsTextError : ℕ → List ℕ → TextError → Type 0
 IsTextError number line error.OutOfMemory = Unit {0}
 IsTextError number line (error.BadToken n) = (n ≡ number) × (grammar.lexemes line ≡ None)
 
--- whether a word is a name: it begins with no digit
+-- whether a word is a name: it has a byte and does not begin with a digit
 abbrev pub is_name : List ℕ → Bool
 is_name [] = false
 is_name (b ∷ bs) = not (is_digit b)

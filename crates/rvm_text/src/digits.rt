@@ -1,4 +1,4 @@
-//! Bytes as hexadecimal digits, as lines of scripts and their answers have them.
+//! Writes bytes as hexadecimal digits, as lines of scripts and their answers have them.
 
 ghost use Rattle.std.specs.Prelude.{◌≤◌, length, OnOk};
 ghost use Rattle.std.specs.Io.KnownBytes.{Appends};
@@ -8,10 +8,10 @@ use hex::encode_to_slice;
 use rvm_refusal::LinkFault;
 use std::io::Write;
 
-/// How many bytes are written at most.
+/// The most bytes that one call writes.
 const MAX_BYTES: usize = 256;
 
-/// Writes at most 256 bytes, two small hexadecimal digits each. `LinkFault` where the writer failed.
+/// Writes at most 256 bytes, each as two lowercase hexadecimal digits. `LinkFault` if the writer fails.
 pub fn write_hex<W: Write>(writer: &mut W, bytes: &[u8]) -> Result<(), LinkFault>
     requires { length bytes.now ≤ 256 }
     ensures { OnOk result (Appends (W.contents writer.old) (W.contents writer.new) (encode_lower bytes.now)) }

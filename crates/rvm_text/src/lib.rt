@@ -1,6 +1,6 @@
-//! The words of a line of text: its tokens, each a part of the line, and what a word spells; and bytes as hexadecimal
-//! digits, as lines of scripts and their answers have them. It stands on the numbered refusals, and knows neither
-//! instructions nor what a line means.
+//! Takes a line of text apart into tokens, reads what a word spells, and writes bytes as hexadecimal digits, as lines
+//! of scripts and their answers have them. It stands on the numbered refusals, and knows neither instructions nor what
+//! a line means.
 //!
 //! `token` takes a line apart; `numbers`, `registers` and `strings` read a number, the name of a register and the text of a
 //! string; `digits` writes bytes.

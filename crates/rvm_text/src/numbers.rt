@@ -3,8 +3,8 @@
 ghost use Rattle.std.specs.Prelude.{◌≡◌, ◌≤◌};
 ghost use Rattle.rvm_text.specs.Numbers.{digit_value, number_in, number_of};
 
-/// The number that a word spells: hexadecimal after `0x`, binary after `0b`, else decimal. It is
-/// below 2^32, or the word spells none.
+/// The number that a word spells: hexadecimal after `0x`, binary after `0b`, else decimal. `None` if it spells none
+/// below 2^32.
 pub fn number(word: &[u8]) -> Option<u32>
     ensures { result ≡ number_of word.now }
 {
@@ -15,6 +15,8 @@ pub fn number(word: &[u8]) -> Option<u32>
     }
 }
 
+/// The number that digits of this radix, at most 16, spell. `None` if there are none, another byte is among them, or
+/// the number is 2^32 or more.
 fn number_in(radix: u32, digits: &[u8]) -> Option<u32>
     requires { radix ≤ 16 }
     ensures { result ≡ number_in radix digits.now }
@@ -33,7 +35,7 @@ fn number_in(radix: u32, digits: &[u8]) -> Option<u32>
     Some(number)
 }
 
-/// The value of a hexadecimal digit, small or capital, and 16 where the byte is none.
+/// The value of a hexadecimal digit in lower or upper case; 16 if the byte is no digit.
 pub fn digit_value(b: u8) -> u8
     ensures { result ≡ digit_value b }
 {

@@ -17,8 +17,8 @@ const NUMBERED_NAMES: [&str; 32] = [
     "x28", "x29", "x30", "x31",
 ];
 
-/// The number of the register that a word names: by its name in the calling convention, as `fp`
-/// for `s0`, or as `x0` to `x31`.
+/// The number of the register that a word names: by its name in the calling convention, by `fp`, which is `s0`, or by
+/// `x0` to `x31`. `None` if it names none.
 #[tactic(auto, unfolding(crate::specs::Registers::register_of))]
 pub fn register(word: &[u8]) -> Option<u32>
     ensures value { result ≡ register_of word.now }
@@ -30,6 +30,7 @@ pub fn register(word: &[u8]) -> Option<u32>
     }
 }
 
+/// The number of the register with this name in the calling convention.
 #[tactic(auto, unfolding(crate::specs::Registers::abi_names))]
 fn abi_register(word: &[u8]) -> Option<u32>
     ensures value { result ≡ place_from 0 abi_names word.now }
@@ -38,6 +39,7 @@ fn abi_register(word: &[u8]) -> Option<u32>
     place(&ABI_NAMES, word)
 }
 
+/// The number of the register that is named `x0` to `x31`.
 #[tactic(auto, unfolding(crate::specs::Registers::numbered_names))]
 fn numbered_register(word: &[u8]) -> Option<u32>
     ensures value { result ≡ place_from 0 numbered_names word.now }
@@ -46,7 +48,7 @@ fn numbered_register(word: &[u8]) -> Option<u32>
     place(&NUMBERED_NAMES, word)
 }
 
-/// The place of a word in a list of names.
+/// The index of a word in a list of names, if it is one of them.
 fn place(names: &[&str; 32], word: &[u8]) -> Option<u32>
     ensures value { result ≡ place_from 0 (texts_of names.now) word.now }
     ensures below { IfSome result (λ number. number < 32) }

@@ -5,8 +5,8 @@ ghost use Rattle.rvm_text.specs.Strings.{escaped_byte, text_of};
 
 use std::alloc::{AllocError, Global};
 
-/// The text of a string that is written so between its quotes: `\n` is a line feed, `\t` a tab,
-/// `\0` a zero, and `\` before any other byte is that byte. Fails only if memory runs out.
+/// The text of a string, given what is written between its quotes: `\n` is a line feed, `\t` a tab, `\0` a zero, and
+/// `\` before any other byte is that byte. Fails only if memory runs out.
 #[tactic(auto, unfolding(crate::specs::Strings::text_of))]
 pub fn unescape(alloc: Global, written: &[u8]) -> Result<Vec<u8>, AllocError>
     ensures { IfOk result (λ text. text.items ≡ text_of written.now) }
@@ -26,7 +26,7 @@ pub fn unescape(alloc: Global, written: &[u8]) -> Result<Vec<u8>, AllocError>
     Ok(text)
 }
 
-/// How many bytes the text of a string has that is written so between its quotes.
+/// The length in bytes of the text of a string, given what is written between its quotes.
 #[tactic(auto, unfolding(crate::specs::Strings::text_of))]
 pub fn text_length(written: &[u8]) -> usize
     ensures length { result ≡ length (text_of written.now) }
@@ -47,6 +47,7 @@ pub fn text_length(written: &[u8]) -> usize
     length
 }
 
+/// The byte that `b` after a `\` stands for.
 fn escaped_byte(b: u8) -> u8
     ensures { result ≡ escaped_byte b }
 {

@@ -10,7 +10,7 @@ use rvm_refusal::Refusal;
 use std::alloc::{AllocError, AllocFailed, Global};
 use thiserror::Error;
 
-/// A part of a line, with its bytes.
+/// A token of a line. It borrows its bytes from the line.
 #[derive(Clone, Copy)]
 pub enum Token<'a> {
     /// A name or a number, as it is written.
@@ -27,7 +27,7 @@ pub enum TextError {
     /// Memory ran out.
     #[error("out of memory")]
     OutOfMemory,
-    /// The line of this number is not in the grammar.
+    /// The line with this number is not in the grammar.
     #[error("line {0} is not in the grammar")]
     BadToken(usize),
 }
@@ -43,7 +43,7 @@ impl From<TextError> for Refusal {
     }
 }
 
-/// Where the reading of a line stands, with the place where a word or a string began.
+/// The state of the reading of a line, with the index at which an open word or string began.
 #[derive(Clone, Copy)]
 enum Mode {
     Between,
@@ -82,9 +82,8 @@ impl<T: Drop> From<AllocFailed<T>> for Refused {
     }
 }
 
-/// The tokens of a line, which has this number among the lines, in their order: blanks and the
-/// comment are in none. Fails with the number where the line is not in
-/// the grammar.
+/// The tokens of a line in order, without blanks and the comment. Fails with `BadToken` and `number`, the number of the
+/// line, if the line is not in the grammar, or with `OutOfMemory`.
 pub fn tokens<'a>(alloc: Global, number: usize, line: &'a [u8]) -> Result<Vec<Token<'a>>, TextError>
     ensures found { IfOk result (λ v. lexemes line.now ≡ Some (lexemes_of v.items)) }
     ensures refused { IfErr result (λ e. IsTextError number line.now e) }
@@ -111,7 +110,7 @@ fn read<'a>(alloc: Global, line: &'a [u8]) -> Result<Vec<Token<'a>>, Refused>
     Ok(out)
 }
 
-/// Whether a word is a name: it begins with no digit.
+/// Whether a word is a name: it has at least one byte and does not begin with a digit.
 pub fn is_name(word: &[u8]) -> bool
     ensures { result ≡ is_name word.now }
 {
@@ -121,31 +120,35 @@ pub fn is_name(word: &[u8]) -> bool
     }
 }
 
+/// Whether a byte may stand in a name or a number.
 fn is_word(b: u8) -> bool
     ensures { result ≡ is_word b }
 {
     matches!(b, b'a'..=b'z' | b'A'..=b'Z' | b'0'..=b'9' | b'_' | b'.')
 }
 
+/// Whether a byte is a space or a tab.
 fn is_space(b: u8) -> bool
     ensures { result ≡ is_space b }
 {
     matches!(b, b' ' | b'\t')
 }
 
+/// Whether a byte is a mark.
 fn is_mark(b: u8) -> bool
     ensures { result ≡ is_mark b }
 {
     matches!(b, b',' | b':' | b'(' | b')' | b'+' | b'-' | b'%')
 }
 
+/// Whether a byte may stand after a `\` in a string.
 fn is_escape(b: u8) -> bool
     ensures { result ≡ is_escape b }
 {
     matches!(b, b'n' | b't' | b'0' | b'"' | b'\\')
 }
 
-/// Takes the byte at a place where no word and no string is open.
+/// Takes the byte at index `at` while no word, string or comment is open. Returns the state after it.
 #[tactic(auto, using(crate::proofs::Lexing::steps))]
 fn open<'a>(out: &mut Vec<Token<'a>>, bytes: &[u8], at: usize) -> Result<Mode, Refused>
     requires { at < length bytes.now }
@@ -169,7 +172,7 @@ fn open<'a>(out: &mut Vec<Token<'a>>, bytes: &[u8], at: usize) -> Result<Mode, R
     }
 }
 
-/// Adds the word between two places.
+/// Adds the word from index `from` up to index `to`.
 #[tactic(auto, using(crate::proofs::Lexing::steps))]
 fn push_word<'a>(
     out: &mut Vec<Token<'a>>,
@@ -185,7 +188,7 @@ fn push_word<'a>(
     Ok(())
 }
 
-/// Takes the byte at a place.
+/// Takes the byte at index `at`. Returns the state after it.
 #[tactic(auto, using(crate::proofs::Lexing::steps))]
 fn step<'a>(
     out: &mut Vec<Token<'a>>,
@@ -237,7 +240,7 @@ fn step<'a>(
     }
 }
 
-/// Takes the end of the line.
+/// Takes the end of the line, which ends an open word. `BadToken` if a string is open.
 #[tactic(auto, using(crate::proofs::Lexing::steps))]
 fn close<'a>(out: &mut Vec<Token<'a>>, line: &'a [u8], mode: Mode) -> Result<(), Refused>
     requires { IsBegun (length line.now) mode }

@@ -1,5 +1,5 @@
 //! `rvmove` assembles, disassembles, runs and debugs guests of a small RISC-V board, and moves them between hosts.
-//! Takes the descriptors of the standard streams, and hands the command line and the streams to `rvm_program`.
+//! Takes the descriptors of the standard streams, and passes the command line and the streams to `rvm_program`.
 //!
 //! Stands on `rvm_program`, and on `rvm_paged` for the memory of guests.
 #![tactic(auto)]
@@ -8,6 +8,8 @@ use rvm_paged::PagedRam;
 use rvm_program::{perform, take_descriptors, take_words, tell_words_fault, texts};
 use std::process::ExitCode;
 
+/// Takes the standard descriptors and the words of the command line, does the command, and exits with its status: 1 if
+/// the descriptors are refused or memory runs out, 2 if a word is not UTF-8.
 fn main(rt: HostRuntime) -> anyhow::Result<ExitCode> {
     let descriptors = match take_descriptors(&rt) {
         Ok(descriptors) => descriptors,
