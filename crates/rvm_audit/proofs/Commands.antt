@@ -38,7 +38,7 @@ commands_append x [] ys (e ∷ es) fs so more = absurd so
 commands_append x (n ∷ ns) ys [] fs so more = absurd so
 commands_append x (n ∷ ns) ys (e ∷ es) fs so more = (so.0, commands_append x ns ys es fs so.1 more)
 
--- steps in turn
+-- the entries and the events of steps in turn
 pub steps_are : (x : ℕ) (turn harts n : ℕ) → AreCommands x (steps_in_turn turn harts n) (steps_at x turn harts n)
 unfolding steps_in_turn steps_at
 steps_are x turn harts zero = tt
@@ -47,7 +47,7 @@ steps_are x turn harts (suc n) = (
   steps_are x (turn + 1) harts n,
 )
 
--- rounds of them
+-- the entries and the events of rounds
 pub rounds_are : (x : ℕ) (turn harts steps drain n : ℕ)
     → AreCommands x (rounds_in_turn turn harts steps drain n) (rounds_at x turn harts steps drain n)
 unfolding rounds_in_turn rounds_at
@@ -61,7 +61,7 @@ rounds_are x turn harts steps drain (suc n) =
       rounds_are x (turn + steps) harts steps drain n,
     )
 
--- as many events as entries
+-- there are as many events as entries
 commands_length : (x : ℕ) (xs : List PlainEntry) (es : List Event) → AreCommands x xs es → length es ≡ length xs
 commands_length x [] [] so = refl
 commands_length x [] (e ∷ es) so = absurd so
@@ -95,7 +95,7 @@ steps_end x turn harts n k le =
     let long = commands_length x (steps_in_turn turn harts n) (steps_at x turn harts n) (steps_are x turn harts n) ∙ steps_length turn harts n in
     sym (none_at (steps_at x turn harts n) k (omega (arith, long, le)))
 
--- the same of rounds, whose entry is told
+-- the event of rounds with this index, of which the entry is known
 pub round_stands : (x : ℕ) (turn harts steps drain n k : ℕ) (entry : PlainEntry) (result : Option Event)
     → slice_get (rounds_in_turn turn harts steps drain n) k ≡ Some entry
     → ((c : Command) → entry.event ≡ Do c → result ≡ Some (At x c))
@@ -118,18 +118,18 @@ none_behind e (suc k) some = refl
 
 -- ORDERS
 
--- one more after the others
+-- one more piece after the others
 pub all_pushed : (ps : List Placed) (p : Placed) → all_events (ps ++ p ∷ []) ≡ all_events ps ++ events_of p
 all_pushed [] p = append-nil (events_of p)
 all_pushed (q ∷ ps) p =
     ap (λ es. events_of q ++ es) (all_pushed ps p) ∙ sym (append_assoc (events_of q) (all_events ps) (events_of p))
 
--- after none of them
+-- nothing of the first piece was passed
 pub from_first : (ps : List Placed) → events_behind ps 0 ≡ all_events ps
 from_first [] = refl
 from_first (p ∷ ps) = refl
 
--- the next one
+-- the next event is one of the first piece
 pub next_event : (p : Placed) (ps items : List Placed) (k : ℕ) (e : Event) → items ≡ p ∷ ps → Some e ≡ slice_get (events_of p) k
     → events_behind items k ≡ e ∷ events_behind items (k + 1)
 next_event p ps items k e is at =
@@ -142,13 +142,13 @@ ended [] (suc k) is = refl
 ended (e ∷ es) zero is = cc
 ended (e ∷ es) (suc k) is = ended es k is
 
--- after the last event of the first
+-- the first piece has no more events
 pub next_placed : (p : Placed) (ps items : List Placed) (k : ℕ) → items ≡ p ∷ ps → None ≡ slice_get (events_of p) k
     → events_behind ps 0 ≡ events_behind items k
 next_placed p ps items k is none =
     from_first ps ∙ ap (λ es. es ++ all_events ps) (sym (ended (events_of p) k none)) ∙ sym (ap (λ qs. events_behind qs k) is)
 
--- none are after the last
+-- no piece is left
 pub nothing_behind : (items : List Placed) (k : ℕ) → length items ≡ 0 → events_behind items k ≡ []
 nothing_behind [] k is = refl
 nothing_behind (p ∷ ps) k is = absurd (omega (arith, is))

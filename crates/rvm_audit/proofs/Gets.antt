@@ -32,13 +32,13 @@ take_get [] i n h = cc
 take_get (x ∷ xs) zero n h = let e : x ≡ n = cc in ap (λ y. y ∷ []) e
 take_get (x ∷ xs) (suc i) n h = ap (λ ys. x ∷ ys) (take_get xs i n h)
 
--- with nothing after them
+-- an element of a list with nothing after it
 pub get_nothing : {X : Type 0} (xs : List X) (k : ℕ) (s : X) → slice_get (xs ++ []) k ≡ Some s → slice_get xs k ≡ Some s
 get_nothing [] k s h = h
 get_nothing (x ∷ xs) zero s h = h
 get_nothing (x ∷ xs) (suc k) s h = get_nothing xs k s h
 
--- with one more after them
+-- an element of a list with one more at its end
 pub get_last : {X : Type 0} (xs : List X) (y : X) (k : ℕ) (s : X) → slice_get (xs ++ y ∷ []) k ≡ Some s
     → (slice_get xs k ≡ Some s) ⊎ ((y ≡ s) × (k ≡ length xs))
 get_last [] y zero s h = inr (same_Some y s h, refl)

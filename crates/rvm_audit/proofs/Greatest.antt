@@ -27,7 +27,7 @@ made_tail : (p : ℕ) (F : List ℕ → Type 0) (n : PlainEntry) (xs : List Plai
     → MadeIn p F xs
 made_tail p F n xs made = λ k m bytes lt at is. made (suc k) m bytes (omega arith) at is
 
--- one entry less, if it is of this host
+-- a host has one entry less before it, if the entry is its own
 made_next : (b : Bool) (p q : ℕ) (F : List ℕ → Type 0) (n : PlainEntry) (xs : List PlainEntry) → (b ≡ true → p ≡ suc q)
     → MadeIn p F (cons_if b n xs) → MadeIn (if b then q else p) F xs
 made_next true p q F n xs is made = made_tail q F n xs (subst (λ r. MadeIn r F (n ∷ xs)) (is refl) made)
@@ -170,7 +170,7 @@ module _ (j : Journals) (places q : ℕ → ℕ) (members : ℕ → Bool) (close
         record { place = k; entry = n; below = lt; stands = get_back (q y) (j.entries y) k n is; made = made };
   }
 
-  -- of a run that has this many entries of each host
+  -- no run takes more entries of a host that is stuck
   pub furthest : (es : List Event) (ss : List HostEntry) → IsRun j.openings (opened j.openings) es ss
       → ((y : ℕ) → y < j.openings.count → entries_at y ss ≡ take (q y) (j.entries y))
       → (x : ℕ) → x < j.openings.count → members x ≡ true → length (take (q x) (j.entries x)) ≤ places x

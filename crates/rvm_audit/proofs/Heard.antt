@@ -54,7 +54,7 @@ to_named version from to f bytes s three is so =
     in
     ap (λ (a : Posted). a.to) (sym is.is) ∙ ap (λ (h : ℕ × ℕ). h.1) hosts
 
--- of two hosts the only other one
+-- of two hosts, a frame goes to the only other one
 to_other : (x from to count : ℕ) → (count == 2) ≡ true → x < count → is_there x count from ≡ true
     → is_there from count to ≡ true → to ≡ x
 to_other x from to count two lt other there = grind (arith, nat_tests)

@@ -25,7 +25,7 @@ at_bytes : {X : Type 0} (b : Bool) (new old w : Option X) → (b ≡ true → ne
 at_bytes true new old w here off = here refl
 at_bytes false new old w here off = off refl
 
--- the new value at its bytes, and what was there at any other
+-- an insertion sets the value at its bytes, and keeps that at any other
 pub updates : {A X : Type 0} (bs : List ℕ) (m n : BTreeMap (Vec ℕ A) X) (w : Option X)
     → UpdatesBy (λ x y. slice_cmp nat_cmp x.items y.items) (λ k. slice_cmp nat_cmp bs k.items) m n w → (cs : List ℕ)
     → get_by (λ k. slice_cmp nat_cmp cs k.items) n ≡ (if bytes_eq bs cs then w else get_by (λ k. slice_cmp nat_cmp cs k.items) m)

@@ -44,7 +44,7 @@ allowed g valid = valid
 abbrev pub Posted : Type 0
 Posted = Addressed (List ℕ) (List ℕ)
 
--- bytes and their host, and the frame of the protocol
+-- the bytes that a host made, and the frame of the protocol
 pub record IsSame (version count : ℕ) (m : Made) (s : Posted) : Type 0 where
   pub from : s.from ≡ m.0
   pub there : is_there m.0 count s.to ≡ true
@@ -141,7 +141,7 @@ module _ (version origin : ℕ) (g : GuestState) (limits : ℕ → ℕ) (o : Ope
         ap (λ (h : LawHost). host_step board version x o.count (limits x) (event_of v) h) (so.there x lt)
         ∙ numbered w x lt (event_of v)
 
-    -- one event more
+    -- the hosts and the world after one more event
     linked_next : (x : ℕ) (n : PlainEntry) → x < o.count → IsAnswered version (outcome_in o w x n.event) n
         → Linked (after o w x n) (put hosts x (outcome_in o w x n.event).next)
         (and_sent sent (outcome_in o w x n.event).made)

@@ -25,7 +25,7 @@ as_many : (journals : List (Bor History)) → length (histories_of journals) ≡
 as_many [] = refl
 as_many (b ∷ journals) = ap suc (as_many journals)
 
--- one more
+-- a list with one more part
 pub one_longer : (parts more : List Part) (part : Part) (host : ℕ) → more ≡ parts ++ part ∷ [] → length parts ≡ host
     → length more ≡ host + 1
 one_longer parts more part host more_is long =

@@ -90,7 +90,7 @@ module _ (x : ℕ) (new : List ℕ) (made : List Made) (count : ℕ) (p q : Plac
             let e = some_pair_parts x y new bytes (ap Some last.0) in other_key x y new bytes none.1 e.0 e.1
       ]
 
--- the places after one more entry
+-- the places after one more entry, which may have made a frame
 index_next : (x : ℕ) (frame : Option (List ℕ)) (made : List Made) (count : ℕ) (p q : Places) → length made ≡ count
     → IsIndex made p → ((key : List ℕ) → q key ≡ noted (key_of x frame) count p key)
     → IsIndex (made ++ made_more x frame) q
@@ -107,7 +107,7 @@ index_next x (Some new) made count p q is index own = record {
   all = all_more x new made count p q is index own;
 }
 
--- the number of frames
+-- the number of frames after one more entry
 more_length : (x : ℕ) (frame : Option (List ℕ)) (made : List Made) (count : ℕ) → length made ≡ count
     → length (made ++ made_more x frame) ≡ counted frame count
 more_length x None made count is = let l = length-append made (made_more x None) in omega (arith, l, is)
@@ -350,7 +350,7 @@ module _ (j : Journals) (at : ℕ → ℕ) (es : List Event) (p : Places) (count
   waits x lt (inl le) = let w = m.within x lt in inl (omega (arith, le, w))
   waits x lt (inr n) = inr (unmade x n.0 n.1 n.0.event refl n.2)
 
-  -- all is in the order
+  -- if all was taken, the events are the order of the rule
   whole : ((x : ℕ) → x < o.count → at x ≡ length (j.entries x)) → IsMerge j es
   whole ended =
       let same : (x : ℕ) → x < o.count → entries_at x m.sequence ≡ j.entries x =

@@ -226,7 +226,7 @@ module _ (parts : List Part) (places : List Place) (old new : Merge) (host : ℕ
       pub few_frames : new.made ≤ old.made + 1
       few_frames = one_frame part.version (length parts) host old new took.item took.takes
 
-      -- after a frame the first host has the turn
+      -- after a frame was made, the first host has the turn
       pub lower_wait : (b : Bool) (k : ℕ) → (b ≡ true → new.made ≡ old.made) → k ≡ (if b then host else 0)
           → AllWait parts (after n took) (places_of new.places) k
       lower_wait true k same k_is =

@@ -13,7 +13,7 @@ use Rattle.rvm_protocol.specs.Host.{is_there}
 use Rattle.rvm_audit.specs.Hosts.{coming}
 use Rattle.rvm_audit.specs.Merging.{IsPlaced, IsUnplaced, Places, places_of}
 
--- before the first frame
+-- a map without entries has no place for any key
 pub no_place : {A : Type 0} (map : BTreeMap (Vec ℕ A) ℕ) → map.entries ≡ [] → (key : List ℕ) → places_of map key ≡ None
 unfolding places_of
 no_place {A} map is key = ap (λ es. lookup (is_at (λ (k : Vec ℕ A). slice_cmp nat_cmp key k.items)) es) is
@@ -25,7 +25,7 @@ pub is_coming : (from to : ℕ) (f g : Frame) → g ≡ f
     → ◌≡◌ {A = Addressed} (record { from = from; to = to; frame = g }) (coming from to f)
 is_coming from to f g is = λ j. record { from = from; to = to; frame = is j }
 
--- its key has a place, or has none
+-- the key of a frame has a place, or has none
 pub placed : (version count x from : ℕ) (f : Frame) (places : Places) (a : Addressed) (key : List ℕ) (o : Option ℕ)
     → is_there x count from ≡ true → HasSpelling (sent version a) → a ≡ coming from x f
     → key ≡ from ∷ spelling (sent version a) → o ≡ places key

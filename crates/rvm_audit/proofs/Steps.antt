@@ -35,7 +35,7 @@ cons_append false x xs ys = refl
 pub own_entries : (x : ℕ) (n : PlainEntry) (ss : List HostEntry) → entries_at x ((x, n) ∷ ss) ≡ n ∷ entries_at x ss
 own_entries x n ss = ap (λ b. cons_if b n (entries_at x ss)) (eq-eqb x x refl)
 
--- a frame of host x, among those of host y
+-- a frame of host x, beside those of host y
 pub made_step : (y x : ℕ) (F : List ℕ → Type 0) (made : List Made) (frame : Option (List ℕ))
     → ((k : ℕ) (bytes : List ℕ) → slice_get made k ≡ Some (y, bytes) → F bytes)
     → ((bytes : List ℕ) → x ≡ y → frame ≡ Some bytes → F bytes)

@@ -106,7 +106,7 @@ module _ (version count x : ℕ) (old new : Merge) where
   one_frame (Steps s) t = let c = t.count in omega (arith, c)
   one_frame (Rounds r) t = let c = t.count in omega (arith, c)
 
-  -- if an item makes no frame, the places stay
+  -- if an item makes no frame, the places stay as they are
   pub same_places : (item : ItemRef) → Takes version count x item old new → new.made ≡ old.made → (key : List ℕ)
       → places_of new.places key ≡ places_of old.places key
   same_places (Entry e) t is key =
@@ -116,7 +116,7 @@ module _ (version count x : ℕ) (old new : Merge) where
   same_places (Steps s) t is key = ap (λ p. places_of p key) t.places
   same_places (Rounds r) t is key = ap (λ p. places_of p key) t.places
 
-  -- what is left after it
+  -- what is left of a journal after an item
   pub left_behind : (entries : List PlainEntry) (i n : ℕ) (items more : List (List PlainEntry)) → all_of items ≡ drop i entries
       → AreTaken version count x items n old new → more ≡ drop 1 items → all_of more ≡ drop (i + n) entries
   left_behind entries i n items more left t is =
@@ -196,12 +196,12 @@ module _ (j : Journals) (x : ℕ) (lt : x < j.openings.count) (all : IsReplay (j
       (put_twice at x (at x + 1) (next x + length ns) (at x + length (n ∷ ns)) (omega (arith, there)))
       (subst (λ gs. Merged j (put next x (next x + length ns)) gs p count) (append_assoc fs (e ∷ []) es) more)
 
-  -- the same as the code has it
+  -- the same for the merge that the code keeps
   abbrev pub IsMerged : (ℕ → ℕ) → Merge → Type 0
   IsMerged at m = Merged j at m.order (places_of m.places) m.made
 
   module _ (at : ℕ → ℕ) (old new : Merge) (so : IsMerged at old) (waits : LowerWait at (places_of old.places)) where
-    -- a run was taken
+    -- a run of commands was taken
     ran : (k : ℕ → ℕ) (run : List Event) → IsRunTaken old new run
         → Merged j k (old.order ++ run) (places_of old.places) old.made → IsMerged k new
     ran k run t m =

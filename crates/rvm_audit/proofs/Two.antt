@@ -22,7 +22,7 @@ use Rattle.rvm_audit.proofs.Lists.{at_dead_end, in_order}
 use Rattle.rvm_audit.proofs.Parts.{start}
 use Rattle.rvm_audit.specs.PairRuns.{AreNew, IsWorldRun}
 
--- what holds of both
+-- what holds of hosts 0 and 1 holds of both
 of_two : (P : ℕ → Type 0) → P 0 → P 1 → (x : ℕ) → x < 2 → P x
 of_two P first second zero lt = first
 of_two P first second (suc zero) lt = second
@@ -49,18 +49,18 @@ module _ (a b : History) (places : List Place) (events : List Event) (ended : Is
       in_order (both a b) places events ended
       (of_two (λ x. length ((both a b).entries x) ≤ taken places x) first second)
 
-  -- one of them is not at its end
+  -- a merge that ends before the end of a journal ends at a dead end
   pub is_dead_end : (taken places 0 < length a.entries) ⊎ (taken places 1 < length b.entries)
       → every.IsDeadEnd (both a b) (taken places)
   is_dead_end (inl more) = (at_dead_end (both a b) places events ended 0 (omega arith) more).0
   is_dead_end (inr more) = (at_dead_end (both a b) places events ended 1 (omega arith) more).0
 
--- a place that is looked at
+-- a place that is in the list
 pub looked_at : (places : List Place) (x : ℕ) (place : Place) → place ≡ get_or places x place → x < length places
     → place.entries ≡ taken places x
 looked_at places x place is lt = ap (λ (p : Place). p.entries) (is ∙ get_or_default places x place start lt)
 
--- the places of two
+-- the places of two journals
 pub places_are : (places : List Place) (i j : ℕ) → length places ≡ 2 → i ≡ taken places 0 → j ≡ taken places 1
     → (x : ℕ) → taken places x ≡ get_or (i ∷ j ∷ []) x 0
 places_are [] i j two is js x = absurd (omega (arith, two))

@@ -7,7 +7,7 @@ use Rattle.rvm_core.specs.declared.event.Event.TheVariants.{At, Deliver}
 use Rattle.rvm_audit.specs.Hosts.{HostEntry, Hosts, IsEvent, Openings, after, entries_at, opened}
 use Rattle.rvm_audit.specs.Orders.{IsOrder, IsStuck, Journals, cut}
 
--- no frame of that host below place k has the bytes of frame k
+-- no frame below place k has the maker and the bytes of frame k
 abbrev pub IsLowestAt : Hosts → Event → Type 0
 IsLowestAt w (At host c) = Unit {0}
 IsLowestAt w (Deliver k) = (j : ℕ) → j < k → slice_get w.made j ≡ slice_get w.made k → ⊥

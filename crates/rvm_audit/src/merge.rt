@@ -228,8 +228,8 @@ fn delivery(
     }
 }
 
-/// The place of the first frame of these bytes that host `from` made; none if it made none, is this host, or is not
-/// there.
+/// The place of the first frame of these bytes that host `from` made; none if it made none, is this host, is not there,
+/// or if no stream has such a frame.
 fn place_of(
     alloc: Global,
     host: u8,

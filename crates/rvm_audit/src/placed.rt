@@ -140,7 +140,7 @@ impl<'a> Events<'a> {
     }
 }
 
-/// The event with this index, counted from 0, of one piece of an order.
+/// The event of one piece of an order with this index, from 0; none past the last.
 fn event_at(placed: &Placed, skipped: u32) -> Option<Event>
     ensures event { result ≡ slice_get (events_of placed.now) skipped }
     ensures few { IfSome result (λ e. skipped + 1 < 2 ^ 32) }
@@ -157,7 +157,7 @@ fn event_at(placed: &Placed, skipped: u32) -> Option<Event>
     }
 }
 
-/// The same event again.
+/// A copy of an event.
 fn copy(event: &Event) -> Event
     ensures { result ≡ event.now }
 {
@@ -167,7 +167,7 @@ fn copy(event: &Event) -> Event
     }
 }
 
-/// The event with this index, counted from 0, of a host's steps.
+/// The event of a host's steps with this index, from 0; none past the last.
 fn event_of_steps(host: u8, steps: &Steps, skipped: u32) -> Option<Event>
     ensures event { result
         ≡ slice_get (steps_at host steps.now.turn steps.now.harts steps.now.count) skipped }
@@ -180,7 +180,7 @@ fn event_of_steps(host: u8, steps: &Steps, skipped: u32) -> Option<Event>
     Some(Event::At(host, step))
 }
 
-/// The event with this index, counted from 0, of a host's rounds.
+/// The event of a host's rounds with this index, from 0; none past the last.
 fn event_of_rounds(host: u8, rounds: &Rounds, skipped: u32) -> Option<Event>
     ensures event { result ≡ slice_get (rounds_at host rounds.now.turn rounds.now.harts
         rounds.now.steps rounds.now.drain rounds.now.count) skipped }

@@ -18,7 +18,7 @@ pub(crate) fn lookup(places: &Places, key: &[u8]) -> Option<u64>
     places.get(key).copied()
 }
 
-/// Gives a key a place, in place of the one that it may have.
+/// Gives a key this place, instead of the one that it may have.
 #[tactic(auto, unfolding(crate::specs::Merging::places_of))]
 pub(crate) fn insert(places: &mut Places, key: Vec<u8>, place: u64) -> Result<(), AllocError>
     ensures { OnOk result ((other : List ℕ) → places_of places.new other

@@ -89,13 +89,13 @@ unfolding turns
 made_behind_none old mid new bytes ts dry harts turn made last none p q =
     made_behind old mid new bytes ts dry (subst (λ n. Made old mid [] (turns harts turn n last) false) none p) q
 
--- the same if the last of them failed
+-- calls that made no turn and told nothing, and others after them that failed
 pub made_behind_err : {T E : Type 0} (r : Result T E) (old mid new : PlainCaller × PlainCaller)
     → Made old mid [] [] false → Made mid new [] [] false → OnErr r (Made old new [] [] false)
 made_behind_err (Ok x) old mid new p q = tt
 made_behind_err (Err e) old mid new p q = made_behind old mid new [] [] false p q
 
--- the same of what a drain answers
+-- calls that made no turn and told nothing, and a drain after them
 pub made_behind_drain : {E : Type 0} (r : Result Drained E) (taken : List ℕ) (old mid new : PlainCaller × PlainCaller)
     → Made old mid [] [] false
     → IfOk r (λ d. Made mid new (bytes_of d taken) (if_dry (is_nothing d)) (is_nothing d))
@@ -104,7 +104,7 @@ made_behind_drain (Ok d) taken old mid new p q =
     made_behind old mid new (bytes_of d taken) (if_dry (is_nothing d)) (is_nothing d) p q
 made_behind_drain (Err e) taken old mid new p q = tt
 
--- calls after which others may come
+-- calls that end with a drain that found nothing, and after which others may come
 made_on : (old new : PlainCaller × PlainCaller) (bytes : List ℕ) (ts : List Mark) → Made old new bytes ts true
     → Made old new bytes ts false
 made_on old new bytes ts p = record {
@@ -325,7 +325,7 @@ written_failed old mid new before between after bytes e p q is =
     written_then old mid new before between after (e ≢ LinkFault) [] [] false false p
     (record { bytes = bytes; made = q; written = λ works. absurd (works is) })
 
--- the same if the last of them failed
+-- the same if the further calls failed
 pub written_still_err : {T : Type 0} (r : Result T WorkEnd) (old mid new : PlainCaller × PlainCaller)
     (before after : Option (List ℕ)) → Written old mid before after ⊤ [] false → Made mid new [] [] false
     → IfErr r (λ e. Written old new before after (e ≢ LinkFault) [] false)
@@ -341,7 +341,7 @@ written_failed_err (Ok x) old mid new before between after bytes p q is = tt
 written_failed_err (Err e) old mid new before between after bytes p q is =
     written_failed old mid new before between after bytes e p q is
 
--- calls after which others may come
+-- calls whose bytes were written, and after which others may come
 pub written_on : (old new : PlainCaller × PlainCaller) (before after : Option (List ℕ)) (ts : List Mark)
     → Written old new before after ⊤ ts true → Written old new before after ⊤ ts false
 written_on old new before after ts p =
@@ -364,7 +364,7 @@ goes_after GoOn none = refl
 goes_after Elsewhere none = refl
 goes_after (Halted status) none = absurd (none status refl)
 
--- a run failed, and would have gone on so
+-- a run failed after calls that a longer run begins with
 failed_behind : (old mid new : PlainCaller × PlainCaller) (before between after : Option (List ℕ)) (harts steps count : ℕ)
     (last : Then) (e : WorkEnd) (ts rest : List Mark) → count ≤ steps → ts ++ rest ≡ drained 0 (turns harts 0 count last)
     → Written old mid before between ⊤ ts false → Written mid new between after (e ≢ LinkFault) [] false
@@ -433,14 +433,14 @@ module _ (old mid : PlainCaller × PlainCaller) (before between : Option (List �
         written_still old mid next before between ⊤ (drained 0 (turns harts 0 turn GoOn))
         (turns harts turn made (after_turns last)) false so slice
 
-    -- a run goes on, with a drain if one is to come
+    -- the turns and drains that come to this are those of the run so far, with a drain if one is due
     goes_so : marks ++ if_dry ((turn + made) % 64 == 0) ≡ drained 0 (turns harts 0 (turn + made) (after_turns last))
     goes_so =
         append_assoc (drained 0 (turns harts 0 turn GoOn)) (turns harts turn made (after_turns last))
         (if_dry ((turn + made) % 64 == 0))
         ∙ drained_on harts turn made (after_turns last) some short
 
-    -- the run goes on, and no drain is to come
+    -- the run goes on, and no drain is due
     pub goes_on : after_turns last ≡ GoOn → (turn + made) % 64 ≢ 0 → HasCome old next before between harts (turn + made)
     goes_on is none =
         let here : nat_eq ((turn + made) % 64) 0 ≡ false = grind (arith, none) in

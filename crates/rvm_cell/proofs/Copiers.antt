@@ -32,7 +32,7 @@ pub copy_asked : (to : ℕ) (policy : Policy) (last : Option PlainExchange) → 
 copy_asked to policy None is = absurd is
 copy_asked to policy (Some x) is = is
 
--- the last frame may be asked for
+-- the last frame may be asked for again
 pub again_asked : (to : ℕ) (policy : Policy) (last : Option PlainExchange) → IsSomeAnd last (λ x. is_given x ≡ true)
     → MayAsk to policy last (event.Do command.Resend)
 again_asked to policy None is = absurd is
@@ -118,7 +118,7 @@ next_by r next.Resend is done gone = gone refl
 next_by r next.GiveUp is done gone = tt
 next_by r next.Done is done gone = done refl
 
--- the reply to a copy tells it
+-- the reply to a copy tells what is done next
 pub next_told : (old new : PlainCopier) (r : HostReply) (n : Next)
     → new ≡ record old { last = Some (exchange (event.Do command.Copy) r); refused = 0 } → n ≡ after_copy r
     → (n ≡ next.Done → says_no_move r ≡ true) → (n ≡ next.Resend → is_gone r ≡ true) → IsNext n new.last
@@ -134,7 +134,7 @@ left_told old new r is none =
 
 -- WITHOUT MEMORY
 
--- the move was to be given up
+-- the copier asked to give up its move
 pub tried_once : (old new : PlainCopier) (r : HostReply)
     → new ≡ record old { last = Some (exchange (event.Do command.Abort) r); refused = 0 } → HasTried new.last new.refused
 tried_once old new r is = subst (λ (c : PlainCopier). HasTried c.last c.refused) (sym is) (inl refl)
@@ -144,6 +144,6 @@ pub tried_given : (last : Option PlainExchange) (refused : ℕ) → IsSomeAnd la
     → HasTried last refused
 tried_given last refused given = inr (inl given)
 
--- a thousand times
+-- memory ran out for a thousand calls
 pub tried_often : (last : Option PlainExchange) (refused : ℕ) → 1000 ≤ refused → HasTried last refused
 tried_often last refused often = inr (inr often)

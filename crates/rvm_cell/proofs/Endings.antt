@@ -30,7 +30,7 @@ uncalled_is_undone BadFrame is same = absurd cc
 uncalled_is_undone TooLong is same = absurd cc
 uncalled_is_undone Failed is same = absurd cc
 
--- a copier may end so, whatever its last call
+-- a copier may end without its call, whatever its last call was
 pub uncalled_copier : (end : WorkEnd) (last : Option PlainExchange) → is_uncalled end ≡ true → IsCopierEnd end last
 uncalled_copier Done last is = absurd cc
 uncalled_copier LinkEnded last is = absurd cc
@@ -46,7 +46,7 @@ uncalled_copier BadFrame last is = absurd cc
 uncalled_copier TooLong last is = absurd cc
 uncalled_copier Failed last is = absurd cc
 
--- a receiver may end so, whatever its last call
+-- a receiver may end without its call, whatever its last call was
 pub uncalled_end : (end : WorkEnd) (last : Option PlainExchange) → is_uncalled end ≡ true → IsFrameEnd end last
 uncalled_end Done last is = absurd cc
 uncalled_end LinkEnded last is = absurd cc
@@ -62,7 +62,7 @@ uncalled_end BadFrame last is = absurd cc
 uncalled_end TooLong last is = absurd cc
 uncalled_end Failed last is = absurd cc
 
--- a receiver that does not end with its link
+-- a receiver that ends at a frame does not end with its link
 pub not_the_links : (end : WorkEnd) (last : Option PlainExchange) → IsFrameEnd end last → end ≡ LinkEnded → ⊥
 not_the_links Done last is same = absurd cc
 not_the_links LinkEnded last is same = is
@@ -78,7 +78,7 @@ not_the_links BadFrame last is same = absurd cc
 not_the_links TooLong last is same = absurd cc
 not_the_links Failed last is same = absurd cc
 
--- a receiver that could not read its link
+-- how a receiver ends that could not read its link
 pub read_end : (end : WorkEnd) (last : Option PlainExchange) → (end ≡ LinkFault) ⊎ (end ≡ LinkEnded)
     → IsFrameEnd end last ⊎ (end ≡ LinkEnded)
 read_end Done last (inl is) = absurd cc
@@ -106,20 +106,20 @@ read_end TooLong last (inr is) = absurd cc
 read_end Failed last (inl is) = absurd cc
 read_end Failed last (inr is) = absurd cc
 
--- one that could not read a frame is not done
+-- a receiver that could not read a frame is not done
 pub unread_is_undone : (why : FrameFault) → of_frame why ≡ Done → ⊥
 unread_is_undone fault.OutOfMemory is = absurd cc
 unread_is_undone fault.BadFrame is = absurd cc
 unread_is_undone fault.TooLong is = absurd cc
 unread_is_undone fault.Failed is = absurd cc
 
--- nor one that could not send a frame
+-- nor is one that could not send a frame
 pub unsent_is_undone : (why : SendError) → of_send why ≡ Done → ⊥
 unsent_is_undone send_error.OutOfMemory is = absurd cc
 unsent_is_undone send_error.LinkFault is = absurd cc
 unsent_is_undone send_error.BadFrame is = absurd cc
 
--- a receiver ends so at a frame
+-- a receiver ends so at a frame that it could not read
 pub unread_end : (why : FrameFault) (last : Option PlainExchange) → IsFrameEnd (of_frame why) last
 unread_end fault.OutOfMemory last = refl
 unread_end fault.BadFrame last = refl

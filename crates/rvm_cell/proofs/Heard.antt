@@ -15,7 +15,7 @@ use Rattle.rvm_cell.specs.declared.end.WorkEnd.{WorkEnd}
 use Rattle.rvm_cell.specs.declared.end.WorkEnd.TheVariants.{BadFrame, Done, Failed, GivenUp, GuestStopped, LinkEnded, LinkFault, NoThread, OutOfMemory, OutOfRange, RecorderFull, Stopped, TooLong}
 use Rattle.rvm_cell.specs.Heard.{AreHeard, Hears, IsAllButLast, IsFrameEnd, IsHeardOf, IsHeardUpTo, IsReceiverEnd, IsWholeStream, all_for_host, comes}
 
--- each is below 256
+-- each of these numbers is below 256
 abbrev AreBytes : List ℕ → Type 0
 AreBytes bytes = (i : ℕ) → slice_index bytes i < 256
 
@@ -54,7 +54,7 @@ last_unheard BadFrame heard all last undone is = inr (last, is)
 last_unheard TooLong heard all last undone is = inr (last, is)
 last_unheard Failed heard all last undone is = inr (last, is)
 
--- a receiver that ends at a frame
+-- a receiver may end as it does at a frame
 frame_end : (from to : ℕ) (end : WorkEnd) (last : Option PlainExchange) (bytes : Option (List ℕ)) (heard : List Frame) → IsFrameEnd end last
     → IsReceiverEnd from to end last bytes heard
 frame_end from to Done last bytes heard is = is
@@ -111,11 +111,11 @@ heard_join from to before cs ds =
     ∙ ap (λ l. before ++ l) (flat_map-append (λ x. comes from to x) (frames_given cs) (frames_given ds))
     ∙ sym (append_assoc before (all_for_host from to (frames_given cs)) (all_for_host from to (frames_given ds)))
 
--- nothing was fed
+-- nothing was fed, and nothing was heard
 pub none_heard : (from to : ℕ) (g : Gathered) (heard : List Frame) → AreHeard from to g [] heard heard g
 none_heard from to g heard = record { feeds = []; run = refl; taken = refl; heard = sym (append-nil heard) }
 
--- and then more
+-- bytes were fed and heard, and then more
 pub heard_more : (from to : ℕ) (a b c : Gathered) (one two : List ℕ) (before between behind : List Frame) → AreHeard from to a one before between b
     → AreHeard from to b two between behind c → AreHeard from to a (one ++ two) before behind c
 heard_more from to a b c one two before between behind first second = record {
@@ -129,7 +129,7 @@ heard_more from to a b c one two before between behind first second = record {
       ∙ sym (heard_join from to before first.feeds second.feeds);
 }
 
--- and then the worker ended
+-- bytes were fed and heard, and then the worker ended
 pub heard_up_to : (from to : ℕ) (end : WorkEnd) (a b : Gathered) (one two : List ℕ) (before between behind : List Frame)
     → AreHeard from to a one before between b → IsHeardUpTo from to end b two between behind → IsHeardUpTo from to end a (one ++ two) before behind
 heard_up_to from to end a b one two before between behind first second = record {
@@ -147,7 +147,7 @@ heard_up_to from to end a b one two before between behind first second = record 
       second.heard;
 }
 
--- nothing more was fed of these bytes before it ended
+-- the worker ended before anything more was fed
 pub heard_no_more : (from to : ℕ) (end : WorkEnd) (g : Gathered) (bytes : List ℕ) (heard : List Frame) → IsHeardUpTo from to end g bytes heard heard
 heard_no_more from to end g bytes heard = record {
   feeds = [];
@@ -187,7 +187,7 @@ takes_some old piece zero (Some x) waits some d =
     absurd (cc (waits, same))
 takes_some old piece (suc n) o waits some d = omega arith
 
--- the frame that it gave was heard
+-- the frame that a feed gave was heard
 pub one_heard : (from to : ℕ) (old new : Gathered) (piece : List ℕ) (n : ℕ) (x : Received) (before behind : List Frame) → AreBytes piece
     → Decides old.version old.bytes piece n (Ok (Some x)) → new ≡ next_of old piece (Some x) → behind ≡ before ++ comes from to x
     → AreHeard from to old (take n piece) before behind new
@@ -198,7 +198,7 @@ one_heard from to old new piece n x before behind fits d is heard = record {
   heard = heard ∙ ap (λ l. before ++ l) (sym (append-nil (comes from to x)));
 }
 
--- it gave none
+-- a feed gave no frame
 pub no_frame : (from to : ℕ) (old new : Gathered) (piece : List ℕ) (n : ℕ) (heard : List Frame) → AreBytes piece
     → Decides old.version old.bytes piece n (Ok None) → new ≡ next_of old piece None → AreHeard from to old (take n piece) heard heard new
 no_frame from to old new piece n heard fits d is = record {
@@ -208,7 +208,7 @@ no_frame from to old new piece n heard fits d is = record {
   heard = sym (append-nil heard);
 }
 
--- the worker ended with the frame that it gave
+-- the worker ended with the frame that a feed gave
 pub ended_with : (from to : ℕ) (end : WorkEnd) (old : Gathered) (piece : List ℕ) (n : ℕ) (x : Received) (before behind : List Frame) → AreBytes piece
     → Decides old.version old.bytes piece n (Ok (Some x)) → IsAllButLast end behind (before ++ comes from to x)
     → IsHeardUpTo from to end old piece before behind
@@ -240,23 +240,23 @@ kept : (bytes : Option (List ℕ)) → Keeps bytes bytes
 kept None = tt
 kept (Some xs) = refl
 
--- it gave nothing
+-- a link gave nothing
 pub hears_nothing : (from to : ℕ) (before after : Option (List ℕ)) (g : Gathered) (heard : List Frame) → Keeps before after
     → Hears from to before after g heard heard g
 hears_nothing from to before after g heard same =
     record { read = []; consumed = consumed_none before after same; heard = none_heard from to g heard }
 
--- it was not read yet
+-- a link was not read yet
 pub hears_none : (from to : ℕ) (bytes : Option (List ℕ)) (g : Gathered) (heard : List Frame) → Hears from to bytes bytes g heard heard g
 hears_none from to bytes g heard = hears_nothing from to bytes bytes g heard (kept bytes)
 
--- it gave a piece
+-- a link gave a piece
 pub hears_piece : (from to : ℕ) (before after : Option (List ℕ)) (piece : List ℕ) (old new : Gathered) (first last : List Frame)
     → Consumes before after piece → AreHeard from to old piece first last new → Hears from to before after old first last new
 hears_piece from to before after piece old new first last consumed heard =
     record { read = piece; consumed = consumed; heard = heard }
 
--- and then more
+-- a link gave pieces, and then more
 pub hears_more : (from to : ℕ) (first between last : Option (List ℕ)) (a b c : Gathered) (one two three : List Frame)
     → Hears from to first between a one two b → Hears from to between last b two three c → Hears from to first last a one three c
 hears_more from to first between last a b c one two three x y = record {
@@ -265,7 +265,7 @@ hears_more from to first between last a b c one two three x y = record {
   heard = heard_more from to a b c x.read y.read one two three x.heard y.heard;
 }
 
--- and then the worker ended
+-- a link gave pieces, and then the worker ended
 pub hears_up_to : (from to : ℕ) (end : WorkEnd) (first last : Option (List ℕ)) (a b : Gathered) (one two three : List Frame)
     → Hears from to first last a one two b → IfSome last (λ bytes. IsHeardUpTo from to end b bytes two three)
     → IfSome first (λ bytes. IsHeardUpTo from to end a bytes one three)
@@ -274,7 +274,7 @@ hears_up_to from to end (Some xs) None a b one two three x up = let c = x.consum
 hears_up_to from to end (Some xs) (Some ys) a b one two three x up =
     subst (λ l. IsHeardUpTo from to end a l one three) (sym x.consumed) (heard_up_to from to end a b x.read ys one two three x.heard up)
 
--- within a piece
+-- the worker ended within a piece of the link
 pub piece_up_to : (from to : ℕ) (end : WorkEnd) (first last : Option (List ℕ)) (piece : List ℕ) (g : Gathered) (before behind : List Frame)
     → Consumes first last piece → IsHeardUpTo from to end g piece before behind
     → IfSome first (λ bytes. IsHeardUpTo from to end g bytes before behind)
@@ -289,7 +289,7 @@ piece_up_to from to end (Some xs) (Some ys) piece g before behind consumed up = 
   heard = up.heard;
 }
 
--- without one
+-- the worker ended before it heard more of the link
 pub ends_heard : (from to : ℕ) (end : WorkEnd) (bytes : Option (List ℕ)) (g : Gathered) (heard : List Frame)
     → IfSome bytes (λ l. IsHeardUpTo from to end g l heard heard)
 ends_heard from to end None g heard = tt
@@ -337,7 +337,7 @@ heard_of from to bytes end heard up = record {
   told = up.heard;
 }
 
--- what is left of a piece, once n bytes more were taken
+-- what is left of a piece after n more bytes were taken
 pub goes_on : (piece read rest : List ℕ) (n : ℕ) → piece ≡ read ++ rest
     → piece ≡ (read ++ take n rest) ++ take (length rest - n) (drop n rest)
 goes_on piece read rest n is =

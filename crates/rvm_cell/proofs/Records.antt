@@ -31,7 +31,7 @@ use Rattle.rvm_cell.specs.declared.host_hearing.HearEnd.{HearEnd}
 use Rattle.rvm_cell.specs.declared.host_hearing.HearEnd.TheVariants.{BadStream, Closed, OutOfMemory}
 use Rattle.rvm_cell.specs.Hearing.{AllButLast, AreRead, AreReadUpTo, AreTold, AreToldUpTo, EndsBehind, HaveCome, IsBad, IsBadData, IsHeardOn, IsNoRecord, NamesOthers, of_frame, of_record}
 
--- each is below 256
+-- each of these numbers is below 256
 abbrev AreBytes : List ℕ → Type 0
 AreBytes bytes = (i : ℕ) → slice_index bytes i < 256
 
@@ -58,7 +58,7 @@ one_or_none : (is : Bool) (f : Frame) → ((if is then for_host f else []) ≡ f
 one_or_none true f = frame_or_none f
 one_or_none false f = inr refl
 
--- if none came of at most one frame, all came or all but the last
+-- if nothing came of at most one frame, all came or all but the last
 none_or_last : (come : List Frame) (f : Frame) → (come ≡ f ∷ []) ⊎ (come ≡ []) → AllButLast [] (come ++ [])
 none_or_last come f (inl is) = inr (f, append-nil come ∙ is)
 none_or_last come f (inr is) = inl (sym (append-nil come ∙ is))
@@ -133,7 +133,7 @@ module _ (from to : ℕ) where
   bad_behind Closed rest carried frames none = tt
   bad_behind OutOfMemory rest carried frames none = tt
 
--- the same after frames that came
+-- all came, or all but the last, after frames that came
 all_behind : (before told all : List Frame) → AllButLast told all → AllButLast (before ++ told) (before ++ all)
 all_behind before told all (inl is) = inl (ap (λ l. before ++ l) is)
 all_behind before told all (inr (last, is)) =
@@ -156,7 +156,7 @@ module _ (gave : Answers) (from to : ℕ) where
     events = refl;
   }
 
-  -- and then more
+  -- frames came, and then more
   both_have : (before mid now : Option (List PlainExchange)) (xs ys : List Frame) → HaveCome gave from before mid xs
       → HaveCome gave from mid now ys → HaveCome gave from before now (xs ++ ys)
   both_have before mid now xs ys one two = record {
@@ -169,7 +169,7 @@ module _ (gave : Answers) (from to : ℕ) where
         ∙ sym (map-append (event.Came from) xs ys);
   }
 
-  -- of a frame between these hosts that is Hello, nothing comes
+  -- nothing comes of a Hello between these hosts
   pub none_came : (asked : Option (List PlainExchange)) (hosts : Option (ℕ × ℕ)) (f : Frame) → is_between from to hosts ≡ true
       → for_host f ≡ [] → HaveCome gave from asked asked (comes from to (hosts, f))
   none_came asked hosts f between none =
@@ -187,11 +187,11 @@ module _ (gave : Answers) (from to : ℕ) where
 
   -- WHAT A READER IS FED
 
-  -- nothing
+  -- nothing was fed
   pub none_told : (asked : Option (List PlainExchange)) (g : Gathered) → AreTold gave from to asked asked g [] g
   none_told asked g = record { feeds = []; run = refl; taken = refl; came = none_has asked }
 
-  -- and then more
+  -- bytes were fed and told, and then more
   pub told_more : (before mid now : Option (List PlainExchange)) (a b c : Gathered) (one two : List ℕ)
       → AreTold gave from to before mid a one b → AreTold gave from to mid now b two c
       → AreTold gave from to before now a (one ++ two) c
@@ -204,7 +204,7 @@ module _ (gave : Answers) (from to : ℕ) where
         (both_have before mid now (all_for_host from to (frames_given x.feeds)) (all_for_host from to (frames_given y.feeds)) x.came y.came);
   }
 
-  -- and then it ended so
+  -- bytes were fed and told, and then hearing ended so
   pub told_up_to : (end : HearEnd) (before mid now : Option (List PlainExchange)) (a b : Gathered) (one two : List ℕ)
       → AreTold gave from to before mid a one b → AreToldUpTo gave from to end mid now b two
       → AreToldUpTo gave from to end before now a (one ++ two)
@@ -229,7 +229,7 @@ module _ (gave : Answers) (from to : ℕ) where
             (bad_more from to end y.new y.left (frames_given x.feeds) (frames_given y.feeds) y.bad);
       }
 
-  -- nothing more was fed before it did
+  -- hearing ended so before anything more was fed
   told_no_more : (end : HearEnd) (asked : Option (List PlainExchange)) (g : Gathered) (bytes : List ℕ)
       → IsBadData from to end g bytes [] → AreToldUpTo gave from to end asked asked g bytes
   told_no_more end asked g bytes bad = record {
@@ -244,12 +244,12 @@ module _ (gave : Answers) (from to : ℕ) where
     bad = bad;
   }
 
-  -- it refused a piece, or had no memory for it
+  -- the reader refused a piece, or had no memory for it
   pub not_fed : (asked : Option (List PlainExchange)) (g : Gathered) (piece : List ℕ) (why : FrameFault) → g.failed ≡ false
       → Faults g piece why → AreToldUpTo gave from to (of_frame why) asked asked g piece
   not_fed asked g piece why unfailed is = told_no_more (of_frame why) asked g piece (refused g piece why unfailed is from to)
 
-  -- the frame that it gave came
+  -- the frame that a feed gave came
   pub one_told : (before now : Option (List PlainExchange)) (old new : Gathered) (piece : List ℕ) (n : ℕ) (x : Received)
       → AreBytes piece → Decides old.version old.bytes piece n (Ok (Some x)) → new ≡ next_of old piece (Some x)
       → HaveCome gave from before now (comes from to x) → AreTold gave from to before now old (take n piece) new
@@ -260,7 +260,7 @@ module _ (gave : Answers) (from to : ℕ) where
     came = subst (HaveCome gave from before now) (sym (append-nil (comes from to x))) came;
   }
 
-  -- it gave none
+  -- a feed gave no frame
   pub no_frame : (asked : Option (List PlainExchange)) (old new : Gathered) (piece : List ℕ) (n : ℕ) → AreBytes piece
       → Decides old.version old.bytes piece n (Ok None) → new ≡ next_of old piece None
       → AreTold gave from to asked asked old (take n piece) new
@@ -271,7 +271,7 @@ module _ (gave : Answers) (from to : ℕ) where
     came = none_has asked;
   }
 
-  -- it ended at the frame that it gave
+  -- hearing ended at the frame that a feed gave
   pub ended_at : (end : HearEnd) (before now : Option (List PlainExchange)) (old : Gathered) (piece : List ℕ) (n : ℕ) (x : Received)
       → AreBytes piece → Decides old.version old.bytes piece n (Ok (Some x))
       → (end ≡ BadStream → is_between from to x.0 ≡ false) → HaveCome gave from before now []
@@ -302,12 +302,12 @@ module _ (gave : Answers) (from to : ℕ) where
 
   -- RECORDS
 
-  -- none was read
+  -- no record was read
   pub none_read : (asked : Option (List PlainExchange)) (bytes : Option (List ℕ)) (g : Gathered)
       → AreRead gave from to asked asked bytes bytes g g
   none_read asked bytes g = record { records = []; fit = All-nil Fits; consumed = none_taken bytes; told = none_told asked g }
 
-  -- one that carries a piece
+  -- a record that carries a piece was read
   pub data_read : (before now : Option (List PlainExchange)) (first last : Option (List ℕ)) (piece : List ℕ) (old new : Gathered)
       → Fits (Data piece) → Consumes first last (record_bytes (Data piece)) → AreTold gave from to before now old piece new
       → AreRead gave from to before now first last old new
@@ -318,7 +318,7 @@ module _ (gave : Answers) (from to : ℕ) where
     told = subst (λ l. AreTold gave from to before now old l new) (sym (append-nil piece)) told;
   }
 
-  -- one that carries nothing
+  -- a record that carries nothing was read
   aside_read : (asked : Option (List PlainExchange)) (first last : Option (List ℕ)) (r : Record) (g : Gathered) → Fits r
       → data_of r ≡ [] → Consumes first last (record_bytes r) → AreRead gave from to asked asked first last g g
   aside_read asked first last r g fit none taken = record {
@@ -338,7 +338,7 @@ module _ (gave : Answers) (from to : ℕ) where
       → AreRead gave from to asked asked first last g g
   answer_read asked first last number g fit taken = aside_read asked first last (Answer number) g fit refl taken
 
-  -- and then more
+  -- records were read, and then more
   pub read_more : (before mid now : Option (List PlainExchange)) (first between last : Option (List ℕ)) (a b c : Gathered)
       → AreRead gave from to before mid first between a b → AreRead gave from to mid now between last b c
       → AreRead gave from to before now first last a c
@@ -353,7 +353,7 @@ module _ (gave : Answers) (from to : ℕ) where
         (told_more before mid now a b c (data_in x.records) (data_in y.records) x.told y.told);
   }
 
-  -- none more was read before it ended so
+  -- hearing ended so before another record was read
   read_no_more : (end : HearEnd) (asked : Option (List PlainExchange)) (bytes : Option (List ℕ)) (g : Gathered)
       → (end ≡ BadStream → IfSome bytes IsNoRecord) → IfSome bytes (AreReadUpTo gave from to end asked asked g)
   read_no_more end asked None g none = tt
@@ -379,7 +379,7 @@ module _ (gave : Answers) (from to : ℕ) where
       let kind = other refl in
       read_no_more BadStream asked first g (λ is. no_record first last kind.0 kind.1 kind.2)
 
-  -- it ended so at a piece that the last one carries
+  -- hearing ended so at a piece that the last record carries
   pub data_up_to : (end : HearEnd) (before now : Option (List PlainExchange)) (first last : Option (List ℕ)) (piece : List ℕ)
       (g : Gathered) → Fits (Data piece) → Consumes first last (record_bytes (Data piece))
       → AreToldUpTo gave from to end before now g piece → IfSome first (AreReadUpTo gave from to end before now g)
@@ -393,7 +393,7 @@ module _ (gave : Answers) (from to : ℕ) where
     ended = inl (subst (λ l. AreToldUpTo gave from to end before now g l) (sym (append-nil piece)) told);
   }
 
-  -- it ended so after more records
+  -- hearing ended so after more records
   ends_behind : (end : HearEnd) (before mid now : Option (List PlainExchange)) (a b : Gathered) (one two rest : List ℕ)
       → AreTold gave from to before mid a one b → EndsBehind gave from to end mid now b two rest
       → EndsBehind gave from to end before now a (one ++ two) rest

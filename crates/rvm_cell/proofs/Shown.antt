@@ -114,7 +114,7 @@ module _ (gave : Answers) where
     written = subst (λ l. Appends bytes bytes l) (sym (all_nothing Kind none all.exchanges all.kind)) (none_added bytes);
   }
 
-  -- and then more
+  -- something was shown, and then more
   pub shown_more : (asked_before asked_mid asked_now : Option (List PlainExchange)) (before mid now : Option (List ℕ))
       → IsShown gave asked_before asked_mid before mid → IsShown gave asked_mid asked_now mid now
       → IsShown gave asked_before asked_now before now
@@ -135,7 +135,7 @@ module _ (gave : Answers) where
       (shown_more asked_first asked_old asked_mid first old old before (kind_shown IsTurn step_takes_nothing asked_old asked_mid old turns))
       more
 
-  -- and then bytes were typed
+  -- something was shown, and then bytes were typed
   pub input_shown : (asked_first asked_old asked_new : Option (List PlainExchange)) (first now : Option (List ℕ))
       → IsShown gave asked_first asked_old first now → AreAllOf IsInput gave asked_old asked_new
       → IsShown gave asked_first asked_new first now
@@ -143,7 +143,7 @@ module _ (gave : Answers) where
       shown_more asked_first asked_old asked_new first now now before
       (kind_shown IsInput input_takes_nothing asked_old asked_new now typed)
 
-  -- and nothing more
+  -- something was shown, and nothing more was written
   pub shown_kept : (asked_before asked_now : Option (List PlainExchange)) (before mid now : Option (List ℕ))
       → IsShown gave asked_before asked_now before mid → Keeps mid now → IsShown gave asked_before asked_now before now
   shown_kept asked_before asked_now before mid now x same = record {

@@ -22,7 +22,7 @@ unfolding turns
 first_turn harts from zero = refl
 first_turn harts from (suc n) = refl
 
--- turns after turns
+-- turns, and turns after them
 turns_behind : (harts from m n k : ℕ) (last : Then) → k ≡ m + suc n
     → turns harts from m GoOn ++ turns harts (from + m) (suc n) last ≡ turns harts from k last
 unfolding turns
@@ -54,7 +54,7 @@ length_turns harts from zero last = refl
 length_turns harts from (suc zero) last = refl
 length_turns harts from (suc (suc n)) last = ap suc (length_turns harts (suc from) (suc n) last)
 
--- a run after others
+-- turns with their drains, and turns after them
 drained_behind : (n : ℕ) (xs ys : List Mark) → drained n (xs ++ ys) ≡ drained n xs ++ drained (n + length xs) ys
 unfolding drained
 drained_behind n [] ys =

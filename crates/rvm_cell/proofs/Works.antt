@@ -93,7 +93,7 @@ last_got (y ∷ items) x reply is told =
     same_Some (get_or all (length all - 1) x) x (sym (slice_get-get_or all (length all - 1) x within) ∙ sym is) in
     subst (λ o. IfSome o (λ r. r.reply ≡ reply)) (sym (last_is all x some got)) (sym told)
 
--- what stands after others is the last
+-- a value after all of a list is its last
 got_last : {X : Type 0} (xs : List X) (x : X) → slice_get (xs ++ x ∷ []) (length xs) ≡ Some x
 got_last [] x = refl
 got_last (y ∷ xs) x = got_last xs x
@@ -116,7 +116,7 @@ heard_called old new e before behind reply call =
     ap frames_in call.added ∙ flat_map-append (λ s. frame_in s.event) before (r ∷ [])
     ∙ ap (λ l. frames_in before ++ l) (append-nil (frame_in r.event) ∙ ap frame_in call.of_event.event_is)
 
--- all calls are of such events if one more is, or none was made
+-- all calls are of such events if one more is, or if none was made
 all_called : {A : Type 0} (P : HostEvent → Type 0) (e : HostEvent) (old new : PlainCaller) (reply : A → HostReply)
     (result : Result A WorkEnd) → All (λ r. P r.event) old.receipts → P e
     → IfOk result (λ c. IsCall old.seat e old.receipts new.seat new.receipts (reply c)) → OnErr result (new ≡ old)

@@ -114,7 +114,8 @@ impl<L: Seating> Caller<L> {
     }
 
     /// Makes a drain of at most this many bytes if it finds none, and keeps its receipt. Returns whether it made the
-    /// drain: if there are bytes, the guest does not run there or memory runs out, no call is made.
+    /// drain. If there are bytes, the guest does not run there, memory runs out or the journal is full, it makes no
+    /// call.
     pub fn dry<M: PagedMemory + Drop, R: Wait>(
         &mut self,
         rt: &R,
@@ -139,7 +140,7 @@ impl<L: Seating> Caller<L> {
     }
 
     /// Makes a slice of at most `n` steps and keeps its receipts. Returns the steps that it made. If the slice is
-    /// refused, no call is made.
+    /// refused or memory runs out, it makes no call.
     #[tactic(auto, using(rvm_recorder::proofs::Tellings::few_items, crate::proofs::Endings::unsliced))]
     pub fn slice<M: PagedMemory + Drop, R: Wait>(
         &mut self,

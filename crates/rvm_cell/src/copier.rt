@@ -151,7 +151,8 @@ fn copy<L: Seating, M: PagedMemory + Drop, K: Link + Drop, G: Gate, R: Wait>(
     }
 }
 
-/// Has the last frame sent again until no move is left here: at most `TRIES` times, after which the link failed.
+/// Has the last frame sent again until no move is left here, at most `TRIES` times; `LinkFault` if a move is still left
+/// then.
 #[tactic(auto, using(crate::proofs::Endings::uncalled_copier, crate::proofs::Copiers::again_asked, crate::proofs::Copiers::left_told, crate::proofs::Copiers::tried_given))]
 fn resend<L: Seating, M: PagedMemory + Drop, K: Link + Drop, G: Gate, R: Wait + Clock>(
     rt: &R,
@@ -179,7 +180,7 @@ fn resend<L: Seating, M: PagedMemory + Drop, K: Link + Drop, G: Gate, R: Wait + 
     WorkEnd::LinkFault
 }
 
-/// Gives up the move, unless the guest was given up in the meantime: then it has the last frame sent again.
+/// Gives up the move, unless the guest was given up in the meantime: then has the last frame sent again.
 #[tactic(auto, using(crate::proofs::Endings::uncalled_copier))]
 fn give_up<L: Seating, M: PagedMemory + Drop, K: Link + Drop, G: Gate, R: Wait + Clock>(
     rt: &R,

@@ -19,7 +19,7 @@ pub struct Figures {
     pub rounds: u64,
     /// How many copies of pages were sent.
     pub copies: u64,
-    /// The bytes of all frames that this host sent meanwhile.
+    /// The number of bytes of all frames that this host sent during the move.
     pub bytes: u64,
     /// How long the move took.
     pub time: Duration,

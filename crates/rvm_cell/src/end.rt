@@ -41,7 +41,8 @@ pub enum WorkEnd {
     /// A link or the writer failed.
     #[error("a read, a write or a link failed")]
     LinkFault,
-    /// The bytes that come next in the stream are no frame that may stand there.
+    /// The next bytes of the stream are no frame that may stand there, a frame names other hosts, or a frame has no
+    /// encoding.
     #[error("no frame that may stand there")]
     BadFrame,
     /// The body of a frame is longer than the stream allows.

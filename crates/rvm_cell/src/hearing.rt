@@ -22,7 +22,8 @@ use std::alloc::Global;
 use std::marker::Model;
 use std::sync::Wait;
 
-/// A receiver's seat, and its receipts: frames of one host to another come, and nothing else does.
+/// A receiver's seat, and its receipts: the receiver tells its host the frames that one other host sends, and nothing
+/// else.
 #[derive(Drop)]
 pub(crate) struct Hearing<L: Seating> {
     caller: Caller<L>,

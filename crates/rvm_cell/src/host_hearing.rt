@@ -101,7 +101,7 @@ fn hear_record<L: Hosting, A: Access<L>, W: Write + Drop, I: Read, R: Wait>(
     Ok(())
 }
 
-/// Takes the frames that end in a piece of the stream.
+/// Tells the host the frames that end in a piece of the stream.
 fn take<L: Hosting, A: Access<L>, W: Write + Drop, R: Wait>(
     rt: &R,
     station: &Station<L, W>,

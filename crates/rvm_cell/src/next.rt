@@ -8,8 +8,8 @@ use rvm_message::{HostRefusal, HostReply};
 /// The milliseconds that the copier waits before it asks again for what could not be done yet.
 pub(crate) const SHORT_PAUSE: u32 = 1;
 
-/// The milliseconds that it waits for the other side: after the state or a part of it was sent, and before it asks for
-/// the last frame again.
+/// The milliseconds that the copier waits for the other side: after the state or a part of it was sent, and before it
+/// asks for the last frame again.
 pub(crate) const LONG_PAUSE: u32 = 10;
 
 /// What the copier does next.

@@ -202,7 +202,7 @@ fn end_of_stream(is_inside: bool) -> WorkEnd
     }
 }
 
-/// Takes the frames that end in a piece of the stream, until the receiver ends.
+/// Tells the host the frames that end in a piece of the stream, until the receiver ends.
 fn take<L: Seating, M: PagedMemory + Drop, K: Link + Drop, G: Gate, R: Wait>(
     rt: &R,
     alloc: Global,

@@ -12,7 +12,7 @@ use Rattle.rvm_greeting.specs.Peers.{Naming, Nothing, Host, Fault, IsFirstFault,
 abbrev pub bytes_of : List (Bor (List ℕ)) → List (List ℕ)
 bytes_of ws = map (λ a. a.now) ws
 
--- some first lines were read, and name hosts at these addresses, and these are left
+-- the first lines were read, and name hosts at these addresses, and these lines are left
 pub record Reading (all left : List (List ℕ)) (number : ℕ) (addresses : List (Bor (List ℕ))) : Type 0 where
   pub rest : drop number all ≡ left
   pub hosts : peers_in (take number all) ≡ Some (bytes_of addresses)

@@ -11,7 +11,7 @@ use Rattle.rvm_greeting.specs.Hmac.{zero_padded}
 use Rattle.rvm_greeting.specs.Openings.{answers, magic, opening_bytes, other_role, proof_by}
 use Rattle.rvm_link.proofs.Pieces.{both_added, three_added, three_taken}
 
--- a list of three
+-- a list of three values, by its values
 three_of : (xs : List ℕ) → length xs ≡ 3
     → slice_index_or xs 0 0 ∷ slice_index_or xs 1 0 ∷ slice_index_or xs 2 0 ∷ [] ≡ xs
 three_of [] len = absurd (omega (arith, len))
@@ -26,7 +26,7 @@ pub opening_is : (name hosts nonce : List ℕ) → name ≡ magic → length hos
 opening_is name hosts nonce named len =
     ap (λ l. l ++ (hosts ++ nonce)) named ∙ ap (λ l. magic ++ (l ++ nonce)) (sym (three_of hosts len))
 
--- zeros without the first of them
+-- the zeros of a block without the first n of them
 zeros_but : (n : ℕ) → n ≤ 64 → drop {A = ℕ} n (replicate 64 0) ≡ replicate (64 - n) 0
 zeros_but n few =
     let all : n + (64 - n) ≡ 64 = omega (arith, few) in
@@ -52,12 +52,12 @@ are_greeted block role own other told wrote heard a b c d e f g h ok same t0 t1 
   went = three_added e f g h _ _ _ a0 a1 (subst (λ q. Appends g h (facts_bytes q)) same a2);
 }
 
--- an opening was written, which is this one
+-- an opening was written, which is that of this end
 pub written_as : (old new : Option (List ℕ)) (written own : Opening) → written ≡ own
     → Appends old new (opening_bytes written) → Appends old new (opening_bytes own)
 written_as old new written own same added = subst (λ o. Appends old new (opening_bytes o)) same added
 
--- an opening and a proof were written, and the opening is this one
+-- an opening and a proof were written, and the opening is that of this end
 pub proof_written : (old mid new : Option (List ℕ)) (block : List ℕ) (role : Role) (written own other : Opening)
     → written ≡ own → Appends old mid (opening_bytes written) → Appends mid new (proof_by block role written other)
     → Appends old new (opening_bytes own ++ proof_by block role own other)

@@ -29,7 +29,7 @@ read_line front line last after known none is =
     subst (λ f. line ≡ f ++ take_through 10 after) none
     (subst (λ o. IfSome o (λ l. line ≡ front ++ take_through 10 l)) known is)
 
--- and one more
+-- one more line of the answer was read
 pub one_gone : (first last new : Option (List ℕ)) (front line : List ℕ) → HaveGone first last → front ≡ []
     → IfSome last (λ bytes. line ≡ front ++ take_through 10 bytes) → IfSome last (λ bytes. new ≡ Some (drop_through 10 bytes)) → GoesOn line
     → HaveGone first new
@@ -39,7 +39,7 @@ one_gone (Some bytes) last new front line (n, after, known, before) none is rest
     let rest : new ≡ Some (drop_through 10 after) = subst (λ o. IfSome o (λ l. new ≡ Some (drop_through 10 l))) known rest in
     (suc n, drop_through 10 after, rest, one_before n bytes after before (subst GoesOn is goes))
 
--- and the last one
+-- the last line of the answer was read
 pub says_so : (first last new : Option (List ℕ)) (front line : List ℕ) (told : Told) → HaveGone first last → front ≡ []
     → IfSome last (λ bytes. line ≡ front ++ take_through 10 bytes) → IfSome last (λ bytes. new ≡ Some (drop_through 10 bytes))
     → line ≡ last_line told → IfSome first (λ bytes. (after : List ℕ) × (new ≡ Some after) × Says told bytes after)
@@ -63,7 +63,7 @@ line_read (Some (b ∷ bytes)) new line some is rest = ((λ e. absurd cc), rest)
 
 -- ALL LINES AND ANSWERS
 
--- each line was answered so far, and this came of them
+-- each line so far was answered, and `told` says whether all happened
 pub record SoFar (lines lines_left answers answers_left : Option (List ℕ)) (told : Told) : Type 0 where
   pub each : List Told
   pub asked : IfSome lines (λ bytes. (after : List ℕ) × (lines_left ≡ Some after) × AreLinesFor each bytes after)
@@ -128,7 +128,7 @@ answered_more ts t (Some bytes) last new (after, known, before) more =
     let one = subst (λ o. IfSome o (λ l. (r : List ℕ) × (new ≡ Some r) × Says t l r)) known more in
     (one.0, one.1, answers_more ts t bytes after one.0 before one.2)
 
--- one more was answered
+-- one more line was answered
 pub one_more : (lines lines_left lines_new answers answers_left answers_new : Option (List ℕ)) (told t : Told)
     → SoFar lines lines_left answers answers_left told
     → IfSome lines_left (λ bytes. (bytes ≢ []) × (lines_new ≡ Some (drop_through 10 bytes)))

@@ -37,7 +37,7 @@ a_move_is_done = record {
 pub nothing_was_done : Says NotDone (codes "end 1\n") []
 nothing_was_done = record { lines = 0; last = codes "end 1\n"; before = refl; says = refl; rest = refl }
 
--- both, one after the other
+-- both answers, one after the other
 pub both_answers : AreAnswers (Done ∷ NotDone ∷ []) (codes "progress 1\nmoved 1\nend 0\nend 1\n") []
 both_answers = (codes "end 1\n", a_move, ([], nothing_was_done, refl)) where
   a_move : Says Done (codes "progress 1\nmoved 1\nend 0\nend 1\n") (codes "end 1\n")
@@ -49,7 +49,7 @@ both_answers = (codes "end 1\n", a_move, ([], nothing_was_done, refl)) where
     rest = refl;
   }
 
--- to two lines, of which the second did not happen
+-- the answers to two lines, of which the second did not happen
 pub two_lines_are_answered :
     AreAnswered (Some (codes "move B\nmove B\n")) (Some (codes "progress 1\nmoved 1\nend 0\nend 1\n")) NotDone
 two_lines_are_answered = record {
@@ -72,6 +72,6 @@ a_halt_with_0_has_0 = refl
 pub a_console_fault_has_1 : host_status true ConsoleFault ≡ 1
 a_console_fault_has_1 = refl
 
--- and without one
+-- the status of a host without a verdict
 pub a_halt_with_7_is_not_told_unasked : host_status false (Halted 7) ≡ 0
 a_halt_with_7_is_not_told_unasked = refl

@@ -32,6 +32,6 @@ module _ (gave : Answers) (outcome : Outcome) (before now : Option (List ℕ)) (
       → IsInputTold gave outcome before now
   input_told last written is = inr (r, last, written, is)
 
--- the reply to a byte
+-- the reply to a byte of input
 pub typed : (gave : Answers) (byte : ℕ) (r : HostReply) → gave (Do (Board (Input byte))) r → IsLastInput gave r
 typed gave byte r given = inr (Do (Board (Input byte)), (byte, refl), given)

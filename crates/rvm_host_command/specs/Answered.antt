@@ -27,7 +27,7 @@ pub record Says (told : Told) (bytes after : List ℕ) : Type 0 where
   pub says : take_through 10 last ≡ last_line told
   pub rest : after ≡ drop_through 10 last
 
--- these bytes begin with such answers, one after the other, and those come after them
+-- these bytes begin with consecutive answers, which say so, and those come after them
 abbrev pub AreAnswers : List Told → (bytes after : List ℕ) → Type 0
 AreAnswers [] bytes after = after ≡ bytes
 AreAnswers (t ∷ ts) bytes after = (between : List ℕ) × Says t bytes between × AreAnswers ts between after
@@ -42,12 +42,12 @@ abbrev pub both_done : Told → Told → Told
 both_done one Done = one
 both_done one NotDone = NotDone
 
--- whether all did
+-- whether all happened
 abbrev pub all_done : List Told → Told
 all_done [] = Done
 all_done (t ∷ ts) = both_done (all_done ts) t
 
--- each line was answered, and so it was said whether all happened
+-- each line was answered, and `told` says whether all happened
 pub record AreAnswered (lines answers : Option (List ℕ)) (told : Told) : Type 0 where
   pub each : List Told
   pub asked : IfSome lines (λ bytes. AreLinesFor each bytes [])

@@ -26,22 +26,23 @@ IsGuestOf (Some a) image (Some g) =
     IsLoadable (image_of a.raw image) a.pages
     × IfOk (image_of a.raw image) (λ i. g.guest ≡ guest_of a.harts a.pages i.0 i.1)
 
--- the host of this number, among this many, has this name
+-- the host with this number, among this many, has this name
 abbrev pub IsNamed : (name : List ℕ) → (count number : ℕ) → Type 0
 IsNamed name count number = (number < count) × (is_letter_of number name ≡ true)
 
--- the console shows what drains take of hosts that events make of the one that began so
+-- the console shows what drains took of hosts that events reach from the opening host
 abbrev pub IsShownBy : (opening : PlainHost) → (before now : Option (List ℕ)) → Type 0
 IsShownBy opening before now = IsShown (IsAnswer opening) None None before now
 
--- it worked until it came to this end: its console shows that, and where the guest's board is halted, one of these hosts
--- said so
+-- a host worked until it came to this end: its console shows what drains took, and if it ended since the guest is
+-- halted, a host that events reach from the opening host replied so
 pub record HasWorked (opening : PlainHost) (end : HartsEnd) (before now : Option (List ℕ)) : Type 0 where
   pub shown : IsShownBy opening before now
   pub halted : EndsSo (IsAnswer opening) end
 
--- a host worked until it came to this end, and its console shows what the guest sent while it was here: the world is that
--- of its file, the host that of its name, and what it began with is the guest of the image, if it was given one
+-- a host worked until it came to this end, and its console shows what the guest sent while it was here: the world is
+-- the one that the file of peers names, the host is the one with its name there, and it began with the guest of the
+-- image, if one was given
 pub record IsHosted (a : HostArguments) (peers image : List ℕ) (end : HartsEnd) (before now : Option (List ℕ)) : Type 0 where
   pub world : List (List ℕ)
   pub number : ℕ
@@ -51,14 +52,14 @@ pub record IsHosted (a : HostArguments) (peers image : List ℕ) (end : HartsEnd
   pub guest_is : IsGuestOf a.guest image guest
   pub worked : HasWorked (opening_of guest number (length world)) end before now
 
--- the status of a host that ended so: with a verdict it is 3 where the guest halted here with another status than 0
+-- the status of a host that ended so: if a verdict is asked for, 3 if the guest halted here with a status other than 0
 abbrev pub host_status : (verdict : Bool) → HartsEnd → ℕ
 host_status verdict Stopped = 0
 host_status verdict (Halted zero) = 0
 host_status verdict (Halted (suc n)) = if verdict then 3 else 0
 host_status verdict ConsoleFault = 1
 
--- and 1 is the status of one that did not begin
+-- the status of a host that ended so, and 1 if it did not begin
 abbrev pub status_told : {F : Type 0} → (verdict : Bool) → Result HartsEnd F → ℕ
 status_told verdict (Ok end) = host_status verdict end
 status_told verdict (Err fault) = 1
@@ -68,7 +69,7 @@ abbrev pub HasBegun : {F : Type 0} → Result HartsEnd F → Type 0
 HasBegun (Ok end) = end ≢ ConsoleFault
 HasBegun (Err fault) = ⊥
 
--- it worked until it came to an end that has this status
+-- a host worked until it came to an end that has this status
 abbrev pub IsHostedTo : HostArguments → (peers image : List ℕ) → (status : ℕ) → (before now : Option (List ℕ)) → Type 0
 IsHostedTo a peers image status before now =
     (end : HartsEnd) × (status ≡ host_status a.verdict end) × IsHosted a peers image end before now

@@ -26,7 +26,7 @@ use Rattle.rvm_message.specs.Replies.{reply_of}
 use Rattle.rvm_refusal.specs.declared.refusal.Refusal.TheVariants.{OutOfMemory}
 use Rattle.rvm_refusal.specs.Refusal.{text_of}
 
--- that a move happened is told only where the host heard that the guest of such a move runs at its target
+-- it is told that a move happened only if the host heard that the guest of such a move runs at its target
 abbrev pub IsMoveTold : (gave : Answers) → Outcome → Type 0
 IsMoveTold gave outcome = outcome ≡ Done → (number : ℕ) × IsFinished gave number
 
@@ -53,18 +53,18 @@ IsEventTold gave e outcome before now =
     ⊎ ((r : HostReply) × gave (Do (command.Board e)) r × Appends before now (guest_text (address_of e) (reply_of r))
     × (outcome ≡ outcome_of r))
 
--- the last of some first steps of a hart, at most this many, was answered so
+-- of at most `count` steps of a hart `made` were made, and this is the reply to the last, if there was one
 abbrev pub IsLastStep : (gave : Answers) → (hart count made : ℕ) → HostReply → Type 0
 IsLastStep gave h count made r = (made ≤ count) × (1 ≤ made → gave (step_of_hart h) r)
 
--- and that was written
+-- memory ran out, or steps of a hart were made, and the last reply was written
 abbrev pub AreStepsTold : (gave : Answers) → (hart count : ℕ) → Outcome → (before now : Option (List ℕ)) → Type 0
 AreStepsTold gave h count outcome before now =
     IsUnasked outcome before now
     ⊎ ((made : ℕ) × (r : HostReply) × IsLastStep gave h count made r × Appends before now (steps_text h made (reply_of r))
     × (outcome ≡ outcome_of r))
 
--- the last byte that came to the console was answered so, if one came
+-- this is the reply to the last byte that came to the console, if one came
 abbrev pub IsLastInput : (gave : Answers) → HostReply → Type 0
 IsLastInput gave r = (r ≡ reply.Board answer.Done) ⊎ ((e : HostEvent) × IsInput e × gave e r)
 
@@ -80,7 +80,7 @@ IsLineTold gave (line.Steps h count) outcome before now = AreStepsTold gave h co
 IsLineTold gave (line.Input bytes) outcome before now = IsInputTold gave outcome before now
 IsLineTold gave (line.Ask e) outcome before now = IsEventTold gave e outcome before now
 
--- what is told of that which a host was asked, of whose world this is the other host
+-- what is told of what a host was asked; if a move names no target, it goes to host `other`
 abbrev pub IsAskedTold : (gave : Answers) → (other : ℕ) → Asked → Outcome → (before now : Option (List ℕ)) → Type 0
 IsAskedTold gave other (asked.Guest l) outcome before now = IsLineTold gave l outcome before now
 IsAskedTold gave other (asked.Move to policy) outcome before now = IsMoveTold gave outcome

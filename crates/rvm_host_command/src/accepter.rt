@@ -9,11 +9,11 @@ use std::sync::Wait;
 use std::thread;
 use std::time::{Clock, Duration};
 
-/// How many milliseconds lie between two looks at the listener.
+/// The milliseconds between two looks at the listener.
 const LOOK: u64 = 10;
 
-/// Accepts connections until the process is to end, one after the other. Those of another host of this world come to
-/// its door; all others are closed.
+/// Accepts connections, one after the other, until the process is to end. A connection of another host of this world
+/// goes to the door of that host; any other is closed.
 pub(crate) fn accepter<L: Hosting, R: Net + Wait + Clock + RandomSource>(
     rt: &R,
     process: &Process<L, R::Stream>,
@@ -31,7 +31,7 @@ pub(crate) fn accepter<L: Hosting, R: Net + Wait + Clock + RandomSource>(
     unreachable!()
 }
 
-/// Brings a connection of another host to its door.
+/// Answers the greeting on a connection, and puts the connection at the door of the host that made it.
 fn receive<L: Hosting, R: Net + Wait + Clock + RandomSource>(
     rt: &R,
     process: &Process<L, R::Stream>,

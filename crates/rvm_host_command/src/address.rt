@@ -8,7 +8,8 @@ use std::os::unix::net::{UnixListener, UnixStream};
 use std::rt::Files;
 use std::{fs, io, str};
 
-/// The first address of a text: numbers, or a name that the runtime looks up, and a port.
+/// The first address that a text names: an IP address, or a host name that the runtime looks up, and a port. Fails if
+/// the text is not UTF-8 or names no address.
 pub(crate) fn address_of<R: Net>(rt: &R, text: &[u8]) -> io::Result<SocketAddr> {
     let Ok(text) = str::from_utf8(text) else {
         return Err(io::Error::from(ErrorKind::InvalidInput));
@@ -19,7 +20,8 @@ pub(crate) fn address_of<R: Net>(rt: &R, text: &[u8]) -> io::Result<SocketAddr> 
     }
 }
 
-/// The address of a text, which may have to be one of this machine.
+/// The address that a text names. `NoAddress` if it names none; `NotLoopback` if `only_loopback` is set and it is no
+/// loopback address.
 pub(crate) fn checked_address<R: Net>(
     rt: &R,
     place: Place,
@@ -35,7 +37,8 @@ pub(crate) fn checked_address<R: Net>(
     Ok(address)
 }
 
-/// Listens at the address of a text, which may have to be one of this machine.
+/// Listens at the address that a text names, which must be a loopback address if `only_loopback` is set. Accepting a
+/// connection does not wait.
 pub(crate) fn listen_at<R: Net>(
     rt: &R,
     place: Place,
@@ -49,8 +52,8 @@ pub(crate) fn listen_at<R: Net>(
     }
 }
 
-/// Listens for operators at the address of a text, which has to be one of this machine, or at a Unix socket, where the
-/// text is a path: it has a `/`.
+/// Listens for operators: at a Unix socket if the text is a path, else at the address that it names, which must be a
+/// loopback address. Accepting a connection does not wait.
 pub(crate) fn listen_for_operators<R: Files + Net>(
     rt: &R,
     text: &str,
@@ -65,13 +68,12 @@ pub(crate) fn listen_for_operators<R: Files + Net>(
     }
 }
 
-/// Whether a text is the path of a Unix socket, and no address.
+/// Whether a text is the path of a Unix socket, and not an address: it has a `/`.
 pub fn is_path(text: &str) -> bool {
     text.contains('/')
 }
 
-/// Listens at a Unix socket, without waiting when a connection is to be accepted. One at which nobody listens any more is
-/// replaced.
+/// Listens at a Unix socket, and replaces one at which nobody listens any more. Accepting a connection does not wait.
 fn bind_unix<R: Files + Net>(rt: &R, path: &str) -> io::Result<UnixListener> {
     let listener = match UnixListener::bind(rt, path) {
         Err(error) if error.kind() == ErrorKind::AddrInUse && is_left_over(rt, path) => {
@@ -84,7 +86,7 @@ fn bind_unix<R: Files + Net>(rt: &R, path: &str) -> io::Result<UnixListener> {
     Ok(listener)
 }
 
-/// Whether nobody listens at a Unix socket.
+/// Whether nobody listens at a Unix socket: it refuses a connection.
 fn is_left_over<R: Net>(rt: &R, path: &str) -> bool {
     match UnixStream::connect(rt, path) {
         Ok(_) => false,
@@ -92,7 +94,7 @@ fn is_left_over<R: Net>(rt: &R, path: &str) -> bool {
     }
 }
 
-/// Listens at an address, without waiting when a connection is to be accepted.
+/// Listens at an address. Accepting a connection does not wait.
 fn bind<R: Net>(rt: &R, address: SocketAddr) -> io::Result<R::Listener> {
     let listener = TcpListener::bind(rt, address)?;
     listener.set_nonblocking(true)?;

@@ -32,7 +32,7 @@ pub(crate) enum Outcome {
     Refused,
 }
 
-/// Refuses a line.
+/// Writes why a line is refused.
 fn refuse<O: Write>(output: &mut O, why: Refusal) -> Result<Outcome, LinkFault>
     ensures refused { IfOk result (λ outcome. outcome ≡ Outcome.Refused) }
     ensures told { IfOk result (λ outcome. Appends (O.contents output.old) (O.contents output.new)
@@ -42,7 +42,7 @@ fn refuse<O: Write>(output: &mut O, why: Refusal) -> Result<Outcome, LinkFault>
     Ok(Outcome::Refused)
 }
 
-/// Does what a line asks for, and writes the answer.
+/// Does what a line asks for, and writes the answer. `LinkFault` if a write fails.
 pub(crate) fn answer_line<
     L: Hosting,
     A: Access<L>,
@@ -77,12 +77,12 @@ pub(crate) fn answer_line<
     }
 }
 
-/// Whether a line asks the host with this number.
+/// Whether a line asks the host with this number: it names that host, or none.
 fn is_for(id: u8, host: Option<u8>) -> bool {
     host.is_none() || host == Some(id)
 }
 
-/// Does what the host is asked, and writes the answer. A move of which no target is named goes to the other host.
+/// Does what the host is asked, and writes the answer. If a move names no target, it goes to host `other`.
 fn answer_asked<
     L: Hosting,
     A: Access<L>,
@@ -120,12 +120,13 @@ fn answer_asked<
     }
 }
 
-/// The other one of two hosts.
+/// The target of a move that names none: the other host, if there are two.
 fn other_host(id: u8) -> u8 {
     if id == 0 { 1 } else { 0 }
 }
 
-/// Writes where the host stands, with which hosts it has a connection, and how many turns it made.
+/// Writes the status of the host: the name of its mode, its highest move number, its partner, the hosts to which it has
+/// a connection, and the number of turns that it made.
 fn tell_status<L: Hosting, A: Access<L>, S: Read + Write + OpenStream + Drop, O: Write, R: Wait>(
     rt: &R,
     process: &Process<L, S>,
@@ -167,10 +168,10 @@ pub(crate) fn letter_of(host: u8) -> char {
     char::from(b'A'.saturating_add(host))
 }
 
-/// How many milliseconds lie at least between two lines that tell how far a move has come.
+/// The least number of milliseconds between two lines that report how far a move has come.
 const PROGRESS: u64 = 500;
 
-/// An operator who is told from time to time how far a move has come.
+/// An operator to whom it is reported, from time to time, how far a move has come.
 #[derive(Drop)]
 struct Watcher<'w, O: Write, R: Clock> {
     rt: &'w R,
@@ -189,7 +190,7 @@ impl<'w, O: Write, R: Clock> ProgressReporter for Watcher<'w, O, R> {
     }
 }
 
-/// Writes how far a move has come.
+/// Writes how far a move has come, and flushes it.
 fn tell_progress<O: Write>(output: &mut O, progress: Progress) -> Result<(), LinkFault> {
     writeln!(
         output,
@@ -200,7 +201,7 @@ fn tell_progress<O: Write>(output: &mut O, progress: Progress) -> Result<(), Lin
     Ok(())
 }
 
-/// Moves the guest to another host, tells meanwhile how far the move has come, and writes how it ended.
+/// Moves the guest to another host, reports meanwhile how far the move has come, and writes how it ended.
 fn answer_move<
     L: Hosting,
     A: Access<L>,
@@ -240,7 +241,7 @@ fn answer_move<
     tell_move_end::<L, O>(output, end)
 }
 
-/// Writes how a move ended.
+/// Writes how a move ended. Returns `Done` only if the guest runs at its target.
 fn tell_move_end<L: Hosting, O: Write>(output: &mut O, end: MoveEnd) -> Result<Outcome, LinkFault>
     requires { IsMoveEnd L.gave end }
     ensures { IfOk result (IsMoveTold L.gave) }
@@ -257,7 +258,7 @@ fn tell_move_end<L: Hosting, O: Write>(output: &mut O, end: MoveEnd) -> Result<O
     Ok(Outcome::Refused)
 }
 
-/// Writes what a move came to.
+/// Writes the figures of a move whose guest runs at its target.
 fn tell_figures<O: Write>(output: &mut O, figures: &Figures) -> Result<Outcome, LinkFault> {
     writeln!(
         output,
@@ -291,7 +292,7 @@ fn answer_command<L: Hosting, A: Access<L>, S: Read + Write + OpenStream + Drop,
     Ok(outcome_of(&reply))
 }
 
-/// Whether what a host was asked happened.
+/// Whether what a host was asked happened, by its reply.
 fn outcome_of(reply: &HostReply) -> Outcome
     ensures { result ≡ outcome_of reply.now }
 {
@@ -326,7 +327,7 @@ fn answer_guest<L: Hosting, A: Access<L>, S: Read + Write + OpenStream + Drop, O
     }
 }
 
-/// Gives the guest an event: none if memory runs out.
+/// Gives the guest an event. Returns the reply; none if memory runs out.
 fn ask_guest<L: Hosting, A: Access<L>, S: Read + Write + OpenStream + Drop, R: Wait>(
     rt: &R,
     process: &Process<L, S>,
@@ -341,7 +342,7 @@ fn ask_guest<L: Hosting, A: Access<L>, S: Read + Write + OpenStream + Drop, R: W
     }
 }
 
-/// Gives the guest an event, and writes the answer.
+/// Gives the guest an event, and writes the reply.
 #[tactic(auto, using(crate::proofs::Told::event_told))]
 fn answer_event<L: Hosting, A: Access<L>, S: Read + Write + OpenStream + Drop, O: Write, R: Wait>(
     rt: &R,
@@ -360,7 +361,8 @@ fn answer_event<L: Hosting, A: Access<L>, S: Read + Write + OpenStream + Drop, O
     Ok(outcome_of(&reply))
 }
 
-/// Makes steps of a hart, up to the first that retires no instruction, and writes the last answer.
+/// Makes at most `count` steps of a hart, up to the first that retires no instruction, and writes how many it made and
+/// the last reply.
 #[tactic(auto, using(crate::proofs::Told::steps_told))]
 fn answer_steps<L: Hosting, A: Access<L>, S: Read + Write + OpenStream + Drop, O: Write, R: Wait>(
     rt: &R,
@@ -379,8 +381,8 @@ fn answer_steps<L: Hosting, A: Access<L>, S: Read + Write + OpenStream + Drop, O
     Ok(outcome_of(&last))
 }
 
-/// Makes steps of a hart, at most `count`, up to the first that retires no instruction: how many, and the last reply. None
-/// if memory runs out.
+/// Makes at most `count` steps of a hart, up to the first that retires no instruction. Returns how many it made, and
+/// the last reply; none if memory runs out.
 fn make_steps<L: Hosting, A: Access<L>, S: Read + Write + OpenStream + Drop, R: Wait>(
     rt: &R,
     process: &Process<L, S>,
@@ -402,7 +404,7 @@ fn make_steps<L: Hosting, A: Access<L>, S: Read + Write + OpenStream + Drop, R: 
     Some((made, last))
 }
 
-/// Bytes come to the console, up to the first that is not taken, and the last answer is written.
+/// Gives the console bytes of input, up to the first that it does not take, and writes the last reply.
 #[tactic(auto, using(crate::proofs::Told::input_told))]
 fn answer_input<L: Hosting, A: Access<L>, S: Read + Write + OpenStream + Drop, O: Write, R: Wait>(
     rt: &R,
@@ -420,7 +422,8 @@ fn answer_input<L: Hosting, A: Access<L>, S: Read + Write + OpenStream + Drop, O
     Ok(outcome_of(&reply))
 }
 
-/// Bytes come to the console, up to the first that is not taken: the last reply, or none if memory runs out.
+/// Gives the console bytes of input, up to the first that it does not take. Returns the last reply; none if memory runs
+/// out.
 #[tactic(auto, using(crate::proofs::Told::typed))]
 fn type_in<L: Hosting, A: Access<L>, S: Read + Write + OpenStream + Drop, R: Wait>(
     rt: &R,

@@ -13,16 +13,16 @@ use std::sync::Wait;
 use std::thread;
 use std::time::{Clock, Duration};
 
-/// How many bytes a line has at most.
+/// The most bytes of a line, without its line feed.
 const MAX_LINE: usize = 1 << 12;
 
-/// How many milliseconds lie between two looks whether the process is to end.
+/// The milliseconds between two looks for a connection, and whether the process is to end.
 const LOOK: u64 = 10;
 
-/// How many milliseconds a read waits before it is looked whether the process is to end.
+/// The milliseconds that a read waits before the thread looks whether the process is to end.
 const READ: u64 = 100;
 
-/// How many milliseconds an operator may take to read an answer.
+/// The milliseconds that a write waits for the operator to read.
 const WRITE: u64 = 2000;
 
 /// Answers operators, one connection after another, until the process is to end.
@@ -46,7 +46,8 @@ pub(crate) fn control_worker<L: Hosting, A: Access<L>, R: Net + Wait + Clock>(
     unreachable!()
 }
 
-/// Answers the lines of a connection, to its end.
+/// Answers the lines of a connection, until it ends or the process is to end. `LinkFault` if a read or a write fails,
+/// or if a line was refused before its end.
 fn answer<
     L: Hosting,
     A: Access<L>,
@@ -83,7 +84,8 @@ fn answer<
     unreachable!()
 }
 
-/// Reads what came: nothing yet, or this many bytes, none at the end.
+/// Reads what came. Returns the number of bytes, 0 at the end of the connection; none if nothing has come yet.
+/// `LinkFault` if the read fails.
 fn read_some<C: Read>(stream: &mut C, buffer: &mut [u8]) -> Result<Option<usize>, LinkFault>
     ensures { IfOk result (λ o. IfSome o (λ n. n ≤ length buffer.new)) }
 {
@@ -98,8 +100,8 @@ fn read_some<C: Read>(stream: &mut C, buffer: &mut [u8]) -> Result<Option<usize>
     }
 }
 
-/// Takes bytes that came, and answers each line that they end. A line that is too long is refused, and ends the
-/// connection.
+/// Takes bytes that came, and answers each line that they end. A line that is too long, or for which memory runs out,
+/// is refused, and ends the connection.
 fn take_bytes<
     L: Hosting,
     A: Access<L>,
@@ -127,7 +129,7 @@ fn take_bytes<
     Ok(())
 }
 
-/// Refuses a line whose end has not come, and ends the connection.
+/// Refuses a line whose end has not come. Returns `LinkFault`, which ends the connection.
 fn refuse_and_end<O: Write>(output: &mut O, why: Refusal) -> Result<(), LinkFault> {
     writeln!(output, "{why}")?;
     writeln!(output, "end 1")?;
@@ -135,7 +137,7 @@ fn refuse_and_end<O: Write>(output: &mut O, why: Refusal) -> Result<(), LinkFaul
     Err(LinkFault)
 }
 
-/// Answers a last line that does not end, if there is one.
+/// Answers the last line of a connection, if it has no line feed.
 fn answer_last<
     L: Hosting,
     A: Access<L>,

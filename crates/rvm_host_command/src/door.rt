@@ -7,9 +7,9 @@ use std::time::{Clock, Duration};
 /// The connections of another host.
 #[derive(Drop)]
 struct Connections<S: Drop> {
-    /// The one that it made last, until it is taken.
+    /// The newest connection that arrived, until it is taken.
     arrived: Option<S>,
-    /// Another handle of the one that is heard.
+    /// Another handle of the connection that is heard.
     heard: Option<S>,
 }
 
@@ -22,7 +22,7 @@ pub(crate) struct Door<S: OpenStream + Drop> {
 }
 
 impl<S: OpenStream + Drop> Door<S> {
-    /// Without a connection.
+    /// A door without a connection.
     pub(crate) fn new() -> Door<S> {
         Door {
             connections: Mutex::new(Connections {
@@ -33,7 +33,7 @@ impl<S: OpenStream + Drop> Door<S> {
         }
     }
 
-    /// A connection arrives.
+    /// Puts a connection that arrived at the door, and ends the one that is heard.
     pub(crate) fn put<R: Wait>(&self, rt: &R, stream: S) {
         let mut connections = self.connections.lock(rt);
         connections.arrived = Some(stream);
@@ -42,7 +42,7 @@ impl<S: OpenStream + Drop> Door<S> {
         self.arrival.notify_all();
     }
 
-    /// Takes the connection that arrived, and waits for one so long at most.
+    /// Takes the connection that arrived. Waits for one for at most `most`.
     pub(crate) fn take<R: Wait + Clock>(&self, rt: &R, most: Duration) -> Option<S> {
         let (mut connections, _ended) = self
             .arrival
@@ -52,7 +52,7 @@ impl<S: OpenStream + Drop> Door<S> {
         connections.arrived.take()
     }
 
-    /// A connection is heard, of which this is another handle. One that has arrived since ends it at once.
+    /// Notes that a connection is heard, of which this is another handle. Ends it at once if a newer one has arrived.
     pub(crate) fn hear<R: Wait>(&self, rt: &R, handle: S) {
         let mut connections = self.connections.lock(rt);
         connections.heard = Some(handle);
@@ -61,7 +61,7 @@ impl<S: OpenStream + Drop> Door<S> {
         }
     }
 
-    /// The connection that was heard is no more, or is to be ended.
+    /// Ends the connection that is heard, if there is one, and forgets it.
     pub(crate) fn end<R: Wait>(&self, rt: &R) {
         let mut connections = self.connections.lock(rt);
         end(&connections.heard);

@@ -9,28 +9,28 @@ use thiserror::Error;
 /// Why a host process does not begin, or ends before it is told to.
 #[derive(Clone, Copy, Debug, Error)]
 pub enum HostFault {
-    /// Memory ran out, or a thread could not be made.
+    /// Memory ran out, or the system started no thread.
     #[error("out of memory, or no thread could be made")]
     OutOfMemory,
-    /// The file of the world's hosts is none.
+    /// The file of peers does not name the hosts of a world.
     #[error("--peers: {0}")]
     Peers(PeersFault),
-    /// No line of that file has the name of this host.
+    /// The file of peers names no host with this letter.
     #[error("NAME: --peers has no such host")]
     NoSuchHost,
-    /// The file of the secret has no byte.
+    /// The file of the secret is empty.
     #[error("--secret: the file is empty")]
     EmptySecret,
-    /// The guest cannot be made.
+    /// The guest cannot be loaded from its image.
     #[error("IMAGE: {0}")]
     Image(Refused),
-    /// An address is none, or its name is not known.
+    /// A text is no address, or its host name is not known.
     #[error("{0}: no such address")]
     NoAddress(Place),
-    /// An address is not of this machine, where it has to be: there is no secret, or it is that of operators.
+    /// An address is no loopback address, but must be one: there is no secret, or it is the one for operators.
     #[error("{0}: only an address of this machine is allowed, 127.0.0.0/8 or ::1")]
     NotLoopback(Place),
-    /// An address is not of this machine at all, or something else listens there.
+    /// The system refuses to listen at an address: it is none of this machine, or something else listens there.
     #[error("{0}: cannot listen there: {1}")]
     CannotListen(Place, io::Error),
     /// No random number can be drawn.
@@ -38,16 +38,16 @@ pub enum HostFault {
     NoRandom,
 }
 
-/// Where an address stands.
+/// Which of the addresses it is.
 #[derive(Clone, Copy, Debug, PartialEq, Eq, Error)]
 pub enum Place {
-    /// It is that of this host, for other hosts.
+    /// The address at which this host listens for other hosts, as `--listen` names it.
     #[error("--listen")]
     Listen,
-    /// It is that of this host, for operators.
+    /// The address or path at which this host listens for operators, as `--control` names it.
     #[error("--control")]
     Control,
-    /// It is that of the host with this letter.
+    /// The address that the file of peers has for the host with this letter.
     #[error("--peers: {0}")]
     Peer(char),
 }

@@ -26,23 +26,26 @@ use std::sync::Wait;
 use std::thread::Threads;
 use std::time::{Clock, Duration};
 
-/// The status of a verdict on a guest that halted here with another status than 0.
+/// The status of a verdict on a guest that halted here with a status other than 0.
 const FAILED: u8 = 3;
 
 /// The bytes of the files that a host is given.
 #[derive(Clone, Copy, Debug)]
 pub struct HostBytes<'a> {
-    /// Which hosts the world has.
+    /// The file of peers, which names the hosts of the world.
     pub peers: &'a [u8],
-    /// The image of the guest that begins here; of no use where none does.
+    /// The image of the guest that begins here; not used if none does.
     pub image: &'a [u8],
-    /// The secret that the hosts share, if they do.
+    /// The secret that the hosts share, if they share one.
     pub secret: Option<&'a [u8]>,
 }
 
-/// Works at a host until an operator ends it, or its guest has halted where it is to end then. `input` comes to the guest's
-/// console while it is here. Where the host does not begin, or the console cannot be written, the status is 1, and `errors`
-/// is told why. With a verdict it is 3 where the guest halted here with another status than 0, and ended the host.
+/// Works at a host until an operator ends it, or, if `arguments.until_halt` is set, until its guest has halted here.
+/// The bytes of `input` go to the guest's console while the guest is here, and what the guest sends goes to `output`.
+///
+/// Returns the status: 1 if the host does not begin or the console cannot be written, and then `errors` says why. If a
+/// verdict is asked for, it is 3 if the guest halted here with a status other than 0, which ended the host. Else it is
+/// 0. `LinkFault` if the report why the host does not begin cannot be written.
 pub fn host_command<
     M: PagedMemory + Drop + Send,
     O: Write,
@@ -70,7 +73,7 @@ where
     tell_end(ended, verdict, errors)
 }
 
-/// Tells why a host did not begin, and answers the status.
+/// Reports why a host did not begin, if it did not. Returns the status. `LinkFault` if the report cannot be written.
 fn tell_end<E: Write>(
     ended: Result<HartsEnd, HostFault>,
     verdict: bool,
@@ -89,7 +92,7 @@ fn tell_end<E: Write>(
     }
 }
 
-/// The status of a host that ended so, which with a verdict tells how the guest ended here.
+/// The status of a host that ended so. If a verdict is asked for, it tells how the guest ended here.
 fn status_of(end: HartsEnd, verdict: bool) -> u8
     ensures { result ≡ host_status verdict end }
 {
@@ -101,7 +104,8 @@ fn status_of(end: HartsEnd, verdict: bool) -> u8
     }
 }
 
-/// Works at a host, unless something that it is given is not as it must be.
+/// Works at a host until it ends. Fails if it does not begin: a file, a name or an address is not as it must be, no
+/// random number can be drawn, memory runs out, or the system starts no thread.
 fn run_host<
     M: PagedMemory + Drop + Send,
     O: Write,
@@ -149,7 +153,7 @@ where
     ended
 }
 
-/// The number of the host with a name, among `count`.
+/// The number of the host with this name among `count` hosts: 0 for A. `NoSuchHost` if there is none.
 fn number_of(name: &str, count: usize) -> Result<u8, HostFault>
     requires { count ≤ 8 }
     ensures { IfOk result (IsNamed name.now count) }
@@ -160,7 +164,8 @@ fn number_of(name: &str, count: usize) -> Result<u8, HostFault>
     }
 }
 
-/// The secret of these bytes, of which there must be one; that of none where there is no secret.
+/// The secret with these bytes, or the one without a byte if the hosts share none. `EmptySecret` if they share one, and
+/// it has no byte.
 fn secret_of(bytes: Option<&[u8]>) -> Result<Secret, HostFault> {
     match bytes {
         Some([]) => Err(HostFault::EmptySecret),
@@ -169,7 +174,7 @@ fn secret_of(bytes: Option<&[u8]>) -> Result<Secret, HostFault> {
     }
 }
 
-/// Looks that each host of the world has an address, which may have to be one of this machine.
+/// Checks that each host of the world has a loopback address, if `only_loopback` is set; else checks nothing.
 fn check_addresses<R: Net>(rt: &R, peers: &Peers, only_loopback: bool) -> Result<(), HostFault> {
     if !only_loopback {
         return Ok(());
@@ -183,7 +188,8 @@ fn check_addresses<R: Net>(rt: &R, peers: &Peers, only_loopback: bool) -> Result
     Ok(())
 }
 
-/// Listens for other hosts, at the address of this one or at another that was given.
+/// Listens for other hosts, at the address of `--listen` if one was given, else at the one that the file of peers has
+/// for this host.
 fn listen_for_hosts<R: Net>(
     rt: &R,
     arguments: &HostArguments,
@@ -200,7 +206,7 @@ fn listen_for_hosts<R: Net>(
     }
 }
 
-/// The guest that begins here, if one does.
+/// Loads the guest that begins here, if one does. Fails with `Image` if it cannot be loaded.
 fn load<M: PagedMemory + Drop>(
     alloc: Global,
     arguments: &HostArguments,
@@ -217,7 +223,7 @@ fn load<M: PagedMemory + Drop>(
     }
 }
 
-/// Tells where the host listens. Where that cannot be told, it is not.
+/// Reports where the host listens. What cannot be written is lost.
 fn tell_addresses<N: OpenListener + Drop, E: Write>(
     hosts: &N,
     operators: &Operators<N>,

@@ -1,4 +1,4 @@
-//! A host works in a process of its own.
+//! The work of a host in a process of its own.
 
 ghost use Rattle.std.specs.Prelude.{◌≡◌, ◌≢◌, IfErr, IfOk, length};
 ghost use Rattle.rvm_host_command.specs.Hosted.{HasWorked, opening_of};
@@ -30,13 +30,13 @@ use std::sync::{Mutex, Wait};
 use std::thread::Threads;
 use std::time::{Clock, Duration};
 
-/// How many turns are made under one hold of the lock, while no move is going on.
+/// The most turns under one hold of the lock while no move is going on.
 const SLICE: u32 = 1 << 14;
 
-/// How many are made while one is.
+/// The most turns under one hold of the lock while a move is going on.
 const SLICE_IN_MOVE: u32 = 512;
 
-/// What a host process works with, and how. Neither listener waits when a connection is to be accepted.
+/// What a host process works with, and how. At neither listener does accepting a connection wait.
 #[derive(Drop)]
 pub struct HostPlan<'a, N: Drop> {
     /// The number of this host.
@@ -45,20 +45,21 @@ pub struct HostPlan<'a, N: Drop> {
     pub peers: &'a Peers,
     /// Where other hosts connect to this one.
     pub hosts: &'a N,
-    /// Where operators do.
+    /// Where operators connect to this host.
     pub operators: &'a Operators<N>,
-    /// What comes to the guest's console while it is here.
+    /// The bytes that go to the guest's console while it is here.
     pub input: &'a InputQueue,
-    /// For how long nothing may be heard in a move before it is given up, while that may be.
+    /// For how long nothing may be heard or done in a move before it is given up, while that may be.
     pub patience: Duration,
-    /// How many turns are made in a second at most, if that has a limit.
+    /// The most turns in a second, if there is a limit.
     pub rate: Option<u32>,
     /// Whether the process ends once its guest is halted here.
     pub until_halt: bool,
 }
 
-/// Works at a host until it is told to stop. What the guest sends while it is here goes to `output`; `errors` is told that
-/// the guest is halted.
+/// Works at a host until it is told to stop, or, if `plan.until_halt` is set, until its guest is halted here. What the
+/// guest sends while it is here goes to `output`. Reports once, to `errors`, that the guest is halted. Fails, before
+/// anything is written to `output`, if no random number can be drawn, memory runs out, or the system starts no thread.
 pub fn work_at<
     M: PagedMemory + Drop + Send,
     O: Write,
@@ -95,14 +96,15 @@ where
     host_over::<Brand, M, O, E, R>(rt, alloc, host, plan, known, output, errors)
 }
 
-/// A number that is drawn at random, from 1 on.
+/// Draws a number at random, from 1 on.
 fn draw_number<R: RandomSource>(rt: &R) -> io::Result<u64> {
     let mut bytes = [0u8; 8];
     rt.fill_bytes(&mut bytes)?;
     Ok(u64::from_le_bytes(bytes).max(1))
 }
 
-/// What the process of a host knows of its world at its start: the world's number, where it has the image.
+/// What the process of a host knows of its world at its start: a number that it draws for itself, and, if the guest
+/// begins here, one that it draws for the world.
 fn new_registry<R: RandomSource>(
     rt: &R,
     host: u8,
@@ -114,14 +116,14 @@ fn new_registry<R: RandomSource>(
     Ok(Registry::new(host, hosts, process, world))
 }
 
-/// What a host knows of the others at its start.
+/// What a host knows of its world at its start, and the secret.
 #[derive(Drop)]
 struct Known {
     registry: Registry,
     secret: Secret,
 }
 
-/// Works at this host.
+/// Makes what the threads of the process share, puts the host under a lock, and works at it.
 fn host_over<
     L: Opening + Send + Sync,
     M: PagedMemory + Drop + Send,
@@ -156,7 +158,7 @@ where
     work_in(rt, &cell, &process, plan, output, errors)
 }
 
-/// Works in this process.
+/// Works at the host in `cell` by the threads of this process.
 fn work_in<
     L: Opening + Send + Sync,
     M: PagedMemory + Drop + Send,

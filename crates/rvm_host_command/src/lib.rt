@@ -1,6 +1,8 @@
-//! A host in a process of its own, whose guest moves to hosts in other processes while it runs, and how it is told to.
+//! `rvmove host` and `rvmove tell`: a host in a process of its own, whose guest can move to hosts in other processes
+//! while it runs, and the command with which an operator tells it what to do.
 //!
-//! Stands on the workers of a host, on greetings and on sockets of the runtime, and knows no files but the socket of operators.
+//! Stands on `rvm_cell` for the workers of a host, on `rvm_greeting` for greetings, and on sockets of the runtime. It
+//! must not know files, but for the socket of operators.
 //!
 //! To be read in this order: `fault`, `address`, `outbound`, `timed`, `door`, `process`, `meeting`, `peer`, `accepter`,
 //! `ticker`, `operators`, `answers`, `control`, `threads`, `turns`, `hosting`, `host_command`, `tell_command`.

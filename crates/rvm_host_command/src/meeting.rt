@@ -1,4 +1,4 @@
-//! Two hosts meet on a connection.
+//! How two hosts meet on a connection.
 
 use crate::process::Process;
 use crate::timed::Timed;
@@ -11,20 +11,20 @@ use std::random::RandomSource;
 use std::sync::Wait;
 use std::time::{Clock, Duration};
 
-/// How many milliseconds a whole greeting may take.
+/// The milliseconds that a whole greeting may take.
 const GREETING: u64 = 1000;
 
-/// How many milliseconds a write may take before the connection is given up.
+/// The milliseconds that a write may take before the connection is given up.
 const WRITE: u64 = 2000;
 
-/// A number of 32 bytes that is drawn at random.
+/// Draws a nonce of 32 bytes at random.
 fn draw_nonce<R: RandomSource>(rt: &R) -> io::Result<[u8; 32]> {
     let mut nonce = [0u8; 32];
     rt.fill_bytes(&mut nonce)?;
     Ok(nonce)
 }
 
-/// Greets a host at the other end of a connection that was made to it.
+/// Greets host `to` on a connection that was made to it, and notes that it was met.
 pub(crate) fn meet_connected<
     L: Hosting,
     S: Read + Write + OpenStream + Drop,
@@ -45,7 +45,7 @@ pub(crate) fn meet_connected<
     process.registry.lock(rt).meet(to, &greeted.facts)
 }
 
-/// Answers the greeting of a host that made a connection: its number.
+/// Answers the greeting of a host that made a connection, and notes that it was met. Returns its number.
 pub(crate) fn meet_accepted<
     L: Hosting,
     S: Read + Write + OpenStream + Drop,
@@ -64,7 +64,8 @@ pub(crate) fn meet_accepted<
     Ok(other.from)
 }
 
-/// Another handle of a connection, to write to it; no write takes longer than it may.
+/// Sets how long a write to a connection may take, and has the system hold nothing back. Returns another handle, to
+/// write to it.
 fn prepare<S: OpenStream>(stream: &S) -> io::Result<S> {
     stream.set_nodelay(true)?;
     stream.set_write_timeout(Some(Duration::from_millis(WRITE)))?;

@@ -8,7 +8,7 @@ use std::net::{OpenListener, OpenStream, Shutdown};
 use std::os::unix::net::{UnixListener, UnixStream};
 use std::time::Duration;
 
-/// Where operators reach a host. It does not wait when a connection is to be accepted.
+/// Where operators reach a host. Accepting a connection does not wait.
 #[derive(Drop)]
 pub enum Operators<N: Drop> {
     Tcp(N),
@@ -16,7 +16,7 @@ pub enum Operators<N: Drop> {
 }
 
 impl<N: OpenListener + Drop> Operators<N> {
-    /// The next connection; an error where none waits.
+    /// Accepts the next connection. Fails if none waits.
     pub(crate) fn accept(&self) -> io::Result<Operator<N::Stream>> {
         match self {
             Operators::Tcp(listener) => {

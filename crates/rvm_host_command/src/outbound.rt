@@ -5,18 +5,18 @@ use std::io;
 use std::io::{BufWriter, Read, Write};
 use std::net::{OpenStream, Shutdown};
 
-/// How many bytes go out together at most: those of some thirty pages.
+/// The most bytes that go out together: those of some thirty pages.
 const TOGETHER: usize = 1 << 17;
 
-/// The end of a connection by which records go out. After a write that fails the connection is ended in both
-/// directions, so that whoever reads it finds its end, and what waits is not tried again.
+/// The end of a connection by which records go out. If a write fails, it ends the connection in both directions, so
+/// that whoever reads it finds its end, and what waits is not sent again.
 #[derive(Drop)]
 pub(crate) struct Outbound<S: Read + Write + OpenStream + Drop> {
     stream: BufWriter<S>,
 }
 
 impl<S: Read + Write + OpenStream + Drop> Outbound<S> {
-    /// A connection on which nothing waits to go out.
+    /// A connection on which nothing waits to go out. Fails if memory runs out.
     pub(crate) fn new(alloc: Global, stream: S) -> Result<Outbound<S>, AllocError> {
         match BufWriter::with_capacity(alloc, TOGETHER, stream) {
             Ok(stream) => Ok(Outbound { stream }),

@@ -12,20 +12,20 @@ use std::random::RandomSource;
 use std::sync::Wait;
 use std::time::{Clock, Duration};
 
-/// How many milliseconds a connection may take to be made.
+/// The milliseconds that it may take to make a connection.
 const CONNECT: u64 = 1000;
 
-/// How many milliseconds lie between two tries.
+/// The milliseconds between two tries.
 const RETRY: u64 = 50;
 
-/// How many milliseconds a connection may be silent: the ticker of the other host asks more often.
+/// The milliseconds for which a connection may be silent; the ticker of the other host asks more often.
 const SILENCE: u64 = 1000;
 
-/// How many bytes are read together at most.
+/// The most bytes that are read together.
 const TOGETHER: usize = 1 << 17;
 
-/// Keeps the connection with a host, and hears it, until the process is to end. The host of the lower number makes it;
-/// the other one takes those that arrive.
+/// Keeps the connection with a host, and hears it, until the process is to end. The host with the lower number makes
+/// the connection; the other one takes those that arrive.
 pub(crate) fn peer_worker<L: Hosting, A: Access<L>, R: Net + Wait + Clock + RandomSource>(
     rt: &R,
     process: &Process<L, R::Stream>,
@@ -60,7 +60,7 @@ fn next_connection<L: Hosting, R: Net + Wait + Clock + RandomSource>(
     door.take(rt, Duration::from_millis(RETRY))
 }
 
-/// Makes a connection with a host; none where that cannot be, or it refuses it.
+/// Makes a connection to a host, and greets the host. None if the connection cannot be made or the greeting fails.
 fn connect<L: Hosting, R: Net + Wait + Clock + RandomSource>(
     rt: &R,
     process: &Process<L, R::Stream>,
@@ -93,7 +93,7 @@ fn keep<L: Hosting, A: Access<L>, R: Net + Wait + Clock>(
     };
     stream.set_read_timeout(Some(Duration::from_millis(SILENCE)))?;
     door.hear(rt, stream.try_clone()?);
-    // Whoever has the process end ends what the doors hear from then on; this one may be too late for that.
+    // The process may have ended what the doors hear before this connection was noted, so it is ended here.
     if process.is_stopping() {
         door.end(rt);
         return Ok(());

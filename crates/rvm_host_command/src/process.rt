@@ -17,11 +17,11 @@ pub(crate) struct Process<L: Hosting, S: Read + Write + OpenStream + Drop> {
     pub(crate) harts: HartsPlan,
     pub(crate) registry: Mutex<Registry>,
     pub(crate) secret: Secret,
-    /// By the number of the other host.
+    /// The doors, by the number of the other host.
     pub(crate) doors: Vec<Door<S>>,
-    /// How many hosts there are.
+    /// The number of hosts of the world.
     pub(crate) hosts: u8,
-    /// For how long nothing may be heard in a move before it is given up, while that may be.
+    /// For how long nothing may be heard or done in a move before it is given up, while that may be.
     pub(crate) patience: Duration,
 }
 
@@ -31,12 +31,12 @@ impl<L: Hosting, S: Read + Write + OpenStream + Drop> Process<L, S> {
         self.harts.stop.load(Ordering::SeqCst)
     }
 
-    /// The process is to end.
+    /// Tells all threads that the process is to end.
     pub(crate) fn stop(&self) {
         self.harts.stop.store(true, Ordering::SeqCst);
     }
 
-    /// The door of another host.
+    /// The door of the host with this number; none if there is no such host.
     pub(crate) fn door(&self, host: u8) -> Option<&Door<S>> {
         self.doors.get(usize::from(host))
     }

@@ -13,7 +13,7 @@ use std::io::{BufRead, BufReader, Read, Write};
 use std::net::{Net, OpenStream, Shutdown, TcpStream};
 use std::os::unix::net::UnixStream;
 
-/// Connects to a host as an operator: at an address, or at a Unix socket, where the text is a path.
+/// Connects to a host as an operator: at a Unix socket if the text is a path, else at an address.
 pub fn connect_to<R: Net>(rt: &R, control: &str) -> io::Result<Operator<R::Stream>> {
     if is_path(control) {
         Ok(Operator::Unix(UnixStream::connect(rt, control)?))
@@ -22,22 +22,23 @@ pub fn connect_to<R: Net>(rt: &R, control: &str) -> io::Result<Operator<R::Strea
     }
 }
 
-/// What came of what was asked.
+/// Whether what was asked happened.
 #[derive(Clone, Copy, Debug, PartialEq, Eq)]
 enum Told {
     Done,
     NotDone,
 }
 
-/// The status where an answer was lost.
+/// The status if an answer was lost.
 pub const LOST: u8 = 3;
 
-/// What a line begins with that tells how far a move has come.
+/// How a line begins that reports how far a move has come.
 const PROGRESS: &[u8] = b"progress ";
 
-/// Tells a host lines over a connection, each once the answer to the one before is there, and writes its answers;
-/// `progress` is given the lines that tell meanwhile how far a move has come. The status: 0 where all that was asked
-/// happened, 1 where something did not, and 3 where an answer was lost, so that it is not known.
+/// Tells a host lines over a connection, each after the answer to the one before, and writes the answers to `output`.
+/// The lines that report how far a move has come go to `progress`. Returns the status: 0 if all that was asked
+/// happened, 1 if something did not, and 3 if that is not known, since an answer was lost or could not be written, or a
+/// line could not be read or sent.
 pub fn tell_command<S: Read + Write + OpenStream + Drop, I: BufRead, O: Write, P: Write>(
     alloc: Global,
     stream: S,
@@ -52,7 +53,7 @@ pub fn tell_command<S: Read + Write + OpenStream + Drop, I: BufRead, O: Write, P
     status_of(tell_lines(alloc, stream, lines, output, progress))
 }
 
-/// The status of what came of what was asked.
+/// The status that says whether what was asked happened.
 fn status_of(told: io::Result<Told>) -> u8
     ensures done { result ≡ 0 → IsOkAnd told (λ t. t ≡ Told.Done) }
     ensures not_done { result ≡ 1 → IsOkAnd told (λ t. t ≡ Told.NotDone) }
@@ -66,7 +67,7 @@ fn status_of(told: io::Result<Told>) -> u8
     }
 }
 
-/// Tells a host lines, and writes its answers: whether all that was asked happened.
+/// Tells a host lines, and writes its answers. Returns whether all that was asked happened.
 #[tactic(auto, using(crate::proofs::Answered::all_answered))]
 fn tell_lines<S: Read + Write + OpenStream + Drop, I: BufRead, O: Write, P: Write>(
     alloc: Global,
@@ -104,7 +105,7 @@ fn both(one: Told, other: Told) -> Told
     }
 }
 
-/// Reads a line, and ends it where it does not end itself: whether there is one.
+/// Reads a line, and adds a line feed if it has none. Returns whether there was a line.
 #[tactic(auto, using(crate::proofs::Answered::line_read))]
 fn read_line<I: BufRead>(lines: &mut I, line: &mut Vec<u8>) -> io::Result<bool>
     ensures end { result ≡ Ok false → IsAtEnd (I.remaining lines.old) }
@@ -121,7 +122,8 @@ fn read_line<I: BufRead>(lines: &mut I, line: &mut Vec<u8>) -> io::Result<bool>
     Ok(true)
 }
 
-/// Reads an answer, and writes it but for its last line, which says whether what was asked happened.
+/// Reads an answer, and writes all of it but its last line. Returns what that line says: whether what was asked
+/// happened. Fails if the answer ends before it.
 #[tactic(auto, using(crate::proofs::Answered::says_so))]
 fn read_answer<I: BufRead, O: Write, P: Write>(
     answers: &mut I,
@@ -148,7 +150,7 @@ fn read_answer<I: BufRead, O: Write, P: Write>(
     Err(io::Error::from(io::ErrorKind::UnexpectedEof))
 }
 
-/// What a line says that is the last one of an answer.
+/// What a line says if it is the last one of an answer; none if it is another.
 fn end_of(line: &[u8]) -> Option<Told>
     ensures says { IfSome result (λ told. line.now ≡ last_line told) }
     ensures none { result ≡ None → GoesOn line.now }
@@ -162,7 +164,8 @@ fn end_of(line: &[u8]) -> Option<Told>
     None
 }
 
-/// Writes a line of an answer. Where one cannot be written that tells how far a move has come, it is not.
+/// Writes a line of an answer. One that reports how far a move has come goes to `progress`, and is lost if it cannot be
+/// written.
 fn show_line<O: Write, P: Write>(line: &[u8], output: &mut O, progress: &mut P) -> io::Result<()> {
     match line.strip_prefix(PROGRESS) {
         Some(text) => {

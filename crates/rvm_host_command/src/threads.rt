@@ -18,11 +18,11 @@ use std::thread;
 use std::thread::Threads;
 use std::time::Clock;
 
-/// How many operators are answered at once.
+/// The number of operators that are answered at once.
 const CONTROLS: u32 = 4;
 
-/// Has the threads of a host process work, each with an access of its own to the host, and does a task in this one; once
-/// that is done, all others end. The task comes back where a thread could not be made.
+/// Starts the threads of a host process, and does a task in this one. When the task is done, tells all others to end,
+/// and waits for them. If a thread cannot be started, does not do the task, and hands it back.
 pub(crate) fn work_beside<
     L: Opening + Send + Sync,
     M: PagedMemory + Drop + Send,
@@ -84,7 +84,7 @@ where
     )
 }
 
-/// Has all threads end.
+/// Tells all threads to end, and ends what they hear.
 fn end_all<L: Hosting, R: Net + Wait>(rt: &R, process: &Process<L, R::Stream>) {
     process.stop();
     for host in 0..process.hosts {

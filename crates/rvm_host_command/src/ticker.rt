@@ -1,4 +1,4 @@
-//! The thread that asks all other hosts now and then, so that no connection is silent for long.
+//! The thread that asks all other hosts a question from time to time, so that no connection is silent for long.
 
 use crate::process::Process;
 use rvm_cell::Hosting;
@@ -8,13 +8,13 @@ use std::sync::Wait;
 use std::thread;
 use std::time::{Clock, Duration};
 
-/// How many milliseconds lie between two questions.
+/// The milliseconds between two questions.
 const PERIOD: u64 = 250;
 
-/// How many milliseconds lie between two looks whether the process is to end.
+/// The milliseconds between two looks whether the process is to end.
 const LOOK: u64 = 10;
 
-/// Asks all other hosts now and then, until the process is to end.
+/// Asks all other hosts a question from time to time, until the process is to end.
 pub(crate) fn ticker<L: Hosting, S: Read + Write + OpenStream + Drop, R: Wait + Clock>(
     rt: &R,
     process: &Process<L, S>,

@@ -14,7 +14,7 @@ pub(crate) struct Timed<'a, S: Read + OpenStream, R: Clock> {
 }
 
 impl<'a, S: Read + OpenStream, R: Clock> Timed<'a, S, R> {
-    /// A connection that is read for so long at most.
+    /// A connection that can be read for `most` from now on.
     pub(crate) fn new(rt: &'a R, stream: &'a mut S, most: Duration) -> Timed<'a, S, R> {
         let now = rt.monotonic().unwrap_or(Duration::ZERO);
         Timed {

@@ -1,4 +1,4 @@
-//! The turns of the guest's harts, as what the main thread does beside the others.
+//! The turns of the guest's harts, as the task of the main thread beside the others.
 
 ghost use Rattle.std.specs.Prelude.{◌≡◌, ◌≢◌, ⊤};
 ghost use Rattle.rvm_host_command.specs.Hosted.{HasWorked};
@@ -15,14 +15,14 @@ use std::sync::Wait;
 use std::thread;
 use std::time::{Clock, Duration};
 
-/// How many milliseconds a process lingers whose guest is halted, so that the host that it came from is told that it
-/// runs.
+/// The milliseconds that a process stays after its guest is halted, so that the host from which the guest came hears
+/// that it runs here.
 const LINGER: u64 = 300;
 
-/// How many milliseconds lie between two looks whether the process is to end.
+/// The milliseconds between two looks whether the process is to end.
 const LOOK: u64 = 10;
 
-/// The turns of the guest's harts, in a process, until it is to end.
+/// The task of making the turns of the guest's harts, until the process is to end.
 #[derive(Drop)]
 pub(crate) struct Turns<
     't,
@@ -81,8 +81,9 @@ impl<
     }
 }
 
-/// Stays for what others may still want of a process whose harts stand still. Where the console cannot be written, that
-/// is told, and the guest can be moved away, until an operator ends the process.
+/// Keeps the process alive after its harts stopped. If the guest is halted, waits `LINGER` milliseconds. If the console
+/// cannot be written, reports that, and waits until an operator ends the process; until then the guest can be moved
+/// away.
 fn stay<L: Hosting, S: Read + Write + OpenStream + Drop, E: Write, R: Wait + Clock>(
     rt: &R,
     process: &Process<L, S>,

@@ -8,7 +8,7 @@ use Rattle.rvm_recorder.specs.Items.{all_of, dry_entry, rounds_in_turn, steps_in
 use Rattle.rvm_recorder.proofs.StepRuns.{all_push}
 use Rattle.rvm_move.specs.Answers.{answer_text, answers_text}
 
--- one entry
+-- the text of one entry
 pub text_of_entry : (e : PlainEntry) → answers_text (e ∷ []) ≡ answer_text e
 text_of_entry e = append-nil (answer_text e)
 
@@ -27,7 +27,7 @@ none_in_rounds (suc n) turn harts steps drain =
     flat_map-append answer_text (steps_in_turn turn harts steps) rest ∙ ap (λ z. z ++ answers_text rest) (no_text turn harts steps)
     ∙ none_in_rounds n (turn + steps) harts steps drain
 
--- one more item
+-- the text of one more item
 pub one_more : (items : List (List PlainEntry)) (i : ℕ) (x : List PlainEntry) → i < length items → get_or items i x ≡ x
     → answers_text (all_of (take (i + 1) items)) ≡ answers_text (all_of (take i items)) ++ answers_text x
 one_more items i x less is =
@@ -36,7 +36,7 @@ one_more items i x less is =
     ∙ flat_map-append answer_text (all_of (take i items)) (get_or items i x)
     ∙ ap (λ z. answers_text (all_of (take i items)) ++ answers_text z) is
 
--- what was written goes on
+-- one text was written, and then another
 pub appends_on : (a b c : Option (List ℕ)) (xs ys : List ℕ) → Appends a b xs → Appends b c ys → Appends a c (xs ++ ys)
 appends_on None b c xs ys p q = tt
 appends_on (Some xs0) None c xs ys p q = absurd p

@@ -14,7 +14,7 @@ use Rattle.rvm_move.specs.Answers.{answers_text}
 use Rattle.rvm_move.specs.Ended.{AreLeft, IsFailed, IsFailureOf, IsMoveRefusal, IsNotMoved, IsSound, failure_line}
 use Rattle.rvm_refusal.specs.declared.refusal.Refusal.TheVariants as refusal
 
--- the answers of both hosts, and the line after them
+-- the replies of both hosts were written, and after them the line with which the move failed
 pub failure_told : (ends : Ends) (a b : Option CloseKind) (first second : History) (before one two after : Option (List ℕ))
     → IsReplay first.opening first.entries → IsReplay second.opening second.entries
     → Appends before one (answers_text first.entries) → Appends one two (answers_text second.entries)
@@ -28,7 +28,7 @@ failure_told ends a b first second before one two after first_replays second_rep
       (Appends-trans one two after (answers_text second.entries) (failure_line ends a b) of_second line);
 }
 
--- the same of the call that tells the line
+-- the same, if a call told the line
 pub failure_answered : {F : Type 0} (r : Result ℕ F) (ends : Ends) (a b : Option CloseKind) (first second : History)
     (before one two after : Option (List ℕ)) → IsReplay first.opening first.entries → IsReplay second.opening second.entries
     → Appends before one (answers_text first.entries) → Appends one two (answers_text second.entries)
@@ -43,12 +43,12 @@ if_err : {X F : Type 0} (r : Result X F) (P Q : F → Type 0) → ((e : F) → P
 if_err (Ok x) P Q f p = tt
 if_err (Err e) P Q f p = f e p
 
--- that memory ran out is a reason
+-- a move may be refused since memory ran out
 pub for_memory : {X : Type 0} (m : Result X Refused) (a : MoveArguments) (file : List ℕ)
     → IfErr m (λ r. r ≡ refused refusal.OutOfMemory) → IfErr m (IsMoveRefusal a file)
 for_memory m a file why = if_err m (λ r. r ≡ refused refusal.OutOfMemory) (IsMoveRefusal a file) (λ r is. inr (inr is)) why
 
--- what a call answers that tells it
+-- what a call returns that tells why a move did not begin, or failed
 pub not_moved : {X F : Type 0} (r : Result ℕ F) (m : Result X Refused) (a : MoveArguments) (file : List ℕ)
     (before after : Option (List ℕ)) (opened failure : X → Type 0)
     → ((x : X) → opened x → failure x → IsFailed a file before after) → IfOk m opened
@@ -59,7 +59,7 @@ not_moved (Ok s) (Err why) a file before after opened failure f begun reason tol
     λ is. inl (record { why = why; reason = reason; told = told })
 not_moved (Err e) m a file before after opened failure f begun reason told failed = tt
 
--- the same of two hosts
+-- the same of the two hosts of a move
 pub failed_of : (arguments : MoveArguments) (file : List ℕ) (ends : Ends) (a b : Option CloseKind) (first second : History)
     (before after : Option (List ℕ)) → AreLeft arguments file ends a b first second
     → IsFailureOf ends a b first second before after → IsFailed arguments file before after

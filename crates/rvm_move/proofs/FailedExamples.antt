@@ -35,7 +35,7 @@ a_guest_that_stopped_has_words : failure_line (record { harts = Err end.GuestSto
     ≡ codes "guest stopped between hosts\n"
 a_guest_that_stopped_has_words = refl
 
--- the same if the workers that the second receiver is to hear have no thread
+-- likewise if the workers that the second receiver is to hear have no thread
 a_thread_that_is_not_had_has_words : failure_line (record { harts = Ok StepsSpent; copier = end.Done; receiver_a = end.Done; receiver_b = end.NoThread }) None None
     ≡ codes "no thread was had for the workers at the other host\n"
 a_thread_that_is_not_had_has_words = refl

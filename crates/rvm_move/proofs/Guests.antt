@@ -67,7 +67,7 @@ abbrev Rises : List PlainReceipt → Type 0
 Rises [] = Unit {0}
 Rises (r ∷ rs) = All (λ s. r.count < s.count) rs × Rises rs
 
--- those with the same receipts are the same
+-- the first of two such lists are the same, if the lists have the same receipts
 same_front : (x y : PlainReceipt) (xs ys : List PlainReceipt) → All (λ s. x.count < s.count) xs
     → All (λ s. y.count < s.count) ys → Contains (y ∷ ys) x → Contains (x ∷ xs) y → y ≡ x
 same_front x y xs ys a b x_in y_in = elim (in_cases y x ys x_in) [
@@ -80,7 +80,7 @@ same_front x y xs ys a b x_in y_in = elim (in_cases y x ys x_in) [
   ]
 ]
 
--- what is after the first of one is after that of the other
+-- the receipts after the first of one list are those after the first of the other
 behind : (x y : PlainReceipt) (xs ys : List PlainReceipt) → y ≡ x → All (λ s. x.count < s.count) xs
     → ((r : PlainReceipt) → Contains (x ∷ xs) r → Contains (y ∷ ys) r) → (r : PlainReceipt) → Contains xs r → Contains ys r
 behind x y xs ys is a into r c = elim (in_cases y r ys (into r (tail_in x r xs c))) [
@@ -106,13 +106,13 @@ module _ (p : PlainReceipt → Bool) where
   rises_if true r rs above rise = (above refl, rise)
   rises_if false r rs above rise = rise
 
-  -- some of those that rise
+  -- some receipts of a list in which the count rises
   rises_kept : (rs : List PlainReceipt) → Rises rs → Rises (filter p rs)
   rises_kept [] rise = tt
   rises_kept (r ∷ rs) rise =
       rises_if (p r) r (filter p rs) (λ _. All-filter p (λ s. r.count < s.count) rs rise.0) (rises_kept rs rise.1)
 
-  -- those of one seat, in the order of a journal
+  -- the receipts of one seat, in the order of a journal
   rises_ordered : (rs : List PlainReceipt) (seat : ℕ)
       → ((j k : ℕ) (s r : PlainReceipt) → j < k → slice_get rs j ≡ Some s → slice_get rs k ≡ Some r → s.seat ≡ r.seat → s.count < r.count)
       → ((r : PlainReceipt) → Contains rs r → p r ≡ true → r.seat ≡ seat) → Rises (filter p rs)
@@ -126,7 +126,7 @@ module _ (p : PlainReceipt → Bool) where
       (rises_ordered rs seat (λ j k s t lt a b same. rise (suc j) (suc k) s t (omega (arith, lt)) a b same)
       (λ s c is. of s (tail_in r s rs c) is))
 
--- the calls of one seat
+-- in the calls of one seat the count rises
 rises_row : (rs : List PlainReceipt) (from : ℕ) → ((k : ℕ) (r : PlainReceipt) → slice_get rs k ≡ Some r → r.count ≡ from + k)
     → Rises rs
 rises_row [] from row = tt
@@ -218,7 +218,7 @@ module _ (P : HostEvent → Type 0) where
       All-cons (λ f. P f.event) e es (subst P (event zero r e refl refl) (All-head (λ s. P s.event) r rs all))
       (asked_alike es rs (omega (arith, len)) (λ k s f a b. event (suc k) s f a b) (All-tail (λ s. P s.event) r rs all))
 
-  -- what is so of each call is so of each entry
+  -- what holds of each call holds of each entry
   pub all_asked : (entries : List PlainEntry) (receipts : List PlainReceipt) → AreAll entries receipts
       → All (λ r. P r.event) receipts → All (λ e. P e.event) entries
   all_asked entries receipts told all =

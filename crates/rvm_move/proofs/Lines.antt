@@ -6,7 +6,7 @@ use Rattle.rvm_core.specs.EventLines.{event_line, event_lines}
 use Rattle.rvm_core.specs.declared.event.Event.{Event}
 use Rattle.rvm_move.proofs.Answered.{appends_on}
 
--- of the events of an order, the lines of all but these were written
+-- of the events of an order, the lines of all but the last ones, `left`, were written
 pub record Lines (before now : Option (List ℕ)) (all left : List Event) : Type 0 where
   pub done : List Event
   pub split : all ≡ done ++ left
@@ -16,11 +16,11 @@ nothing : (a : Option (List ℕ)) → Appends a a []
 nothing None = tt
 nothing (Some xs) = sym (append-nil xs)
 
--- none yet
+-- no line is written yet
 pub no_lines : (before : Option (List ℕ)) (all : List Event) → Lines before before all all
 no_lines before all = record { done = []; split = refl; written = nothing before }
 
--- one more
+-- one more line is written
 pub line_more : (before mid after : Option (List ℕ)) (all rest left : List Event) (e : Event) → Lines before mid all rest
     → rest ≡ e ∷ left → Appends mid after (event_line 2 e) → Lines before after all left
 line_more before mid after all rest left e so is line = record {
@@ -31,7 +31,7 @@ line_more before mid after all rest left e so is line = record {
       (appends_on before mid after (event_lines 2 so.done) (event_line 2 e) so.written line);
 }
 
--- all of them
+-- all lines are written
 pub all_lines : (before now : Option (List ℕ)) (all left : List Event) → Lines before now all left → left ≡ []
     → Appends before now (event_lines 2 all)
 all_lines before now all left so is =

@@ -65,7 +65,7 @@ opened a file first second at_a at_b loadable valid has_guest has_none same_a sa
   has_none = same_b ∙ ap (λ r. r.journal.opening) has_none;
 }
 
--- as a move left them
+-- the two hosts as a move left them
 pub left : {X E : Type 0} (m : Result X E) (a : MoveArguments) (file : List ℕ) (ends : X → Ends)
     (fault_a fault_b : X → Option CloseKind) (first second : X → History)
     → IfOk m (λ x. AreOpened a file (first x).opening (second x).opening)
@@ -105,7 +105,7 @@ made a ends fault_a fault_b first second before after end_a end_b run sound =
     let end = sound_end ends fault_a fault_b sound in
     made_so a ends fault_a fault_b first second before after end_a end_b run sound end.0 end.1
 
--- if that was reported, it was a move
+-- if the end of a sound move was reported, the guest was moved
 pub moved : (arguments : MoveArguments) (file : List ℕ) (status : ℕ) (ends : Ends) (a b : Option CloseKind)
     (first second : History) (before after output_before output_after : Option (List ℕ)) → AreLeft arguments file ends a b first second
     → IsEndRun ends a b first.entries second.entries output_before output_after arguments.guest.harts arguments.steps
@@ -124,7 +124,7 @@ moved arguments file status ends a b first second before after output_before out
   written = told.written;
 }
 
--- the same of what a call answers
+-- the same of what a call returns
 pub moved_told : {X E F : Type 0} (r : Result ℕ F) (m : Result X E) (left output : X → Type 0) (told : ℕ → X → Type 0)
     (Z : ℕ → Type 0) → ((s : ℕ) (x : X) → left x → output x → told s x → Z s) → IfOk m left → IfOk m output
     → IfOk r (λ s. s ≢ 1 → IsOkAnd m (told s)) → IfOk r (λ s. s ≢ 1 → Z s)
@@ -132,7 +132,7 @@ moved_told (Ok s) (Ok x) left output told Z f n o t = λ other. f s x n o (t oth
 moved_told (Ok s) (Err e) left output told Z f n o t = λ other. absurd (t other)
 moved_told (Err e) m left output told Z f n o t = tt
 
--- what both hosts answered was told, and then how the turns ended
+-- the replies of both hosts were told, and then how the turns ended
 told_end : (verdict : Bool) (s : ℕ) (ends : Ends) (a b : Option CloseKind) (first second : History)
     (before one two three after : Option (List ℕ)) → IsReplay first.opening first.entries
     → IsReplay second.opening second.entries → Appends before one (answers_text first.entries)
@@ -156,7 +156,7 @@ told_end verdict s ends a b first second before one two three after replay_a rep
           (subst (λ w. Appends w after (end_line verdict end.0)) silent told.1));
     }
 
--- the same of the call that tells it
+-- the same, if a call told how the turns ended
 pub end_answered : {F : Type 0} (r : Result ℕ F) (verdict : Bool) (ends : Ends) (a b : Option CloseKind) (first second : History)
     (before one two three after : Option (List ℕ)) → IsReplay first.opening first.entries
     → IsReplay second.opening second.entries → Appends before one (answers_text first.entries)
@@ -167,7 +167,7 @@ end_answered (Ok s) verdict ends a b first second before one two three after ra 
     λ other. told_end verdict s ends a b first second before one two three after ra rb fa fb silent sound ended
 end_answered (Err e) verdict ends a b first second before one two three after ra rb fa fb silent sound ended = tt
 
--- a verdict, and that a command was done, are never 1
+-- the status of a move whose turns came to their end is never 1
 no_one : (verdict : Bool) (end : TurnsEnd) → move_status verdict end ≡ 1 → ⊥
 no_one false (Halted s) is = let it : 0 ≡ 1 = is in absurd (omega (arith, it))
 no_one false StepsSpent is = let it : 0 ≡ 1 = is in absurd (omega (arith, it))

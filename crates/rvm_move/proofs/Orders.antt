@@ -63,7 +63,7 @@ audited a file status (Some h) before after are opened made order law is = recor
   never_moves = never_moves a file h.0.journal h.1.journal order.events opened order.merge.order law;
 }
 
--- what is so of two hosts is so of those that are handed out, if any are
+-- what holds of two hosts holds of those that are handed out, if any are
 pub of_hosts : (P : Recording → Recording → Type 0) (first second : Recording) (hosts : Option (Recording × Recording))
     → (IsSome hosts → P first second) → IfSome hosts (λ h. (h.0 ≡ first) × (h.1 ≡ second)) → IfSome hosts (λ h. P h.0 h.1)
 of_hosts P first second None so same = tt

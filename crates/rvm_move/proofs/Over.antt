@@ -28,7 +28,7 @@ in_at (y ∷ xs) zero x is = subst (Contains (y ∷ xs)) (ap (λ o. unwrap_or o 
 in_at (y ∷ xs) (suc k) x is = tail_in y x xs (in_at xs k x is)
 
 module _ (Q : PlainExchange → Type 0) where
-  -- of a receipt that is there
+  -- one of these receipts has this property
   abbrev HasReceipt : List PlainReceipt → Type 0
   HasReceipt rs = (r : PlainReceipt) × Contains rs r × Q (exchange_by r)
 

@@ -117,7 +117,7 @@ module _ (policy : Policy) (bytes_a bytes_b : Option (List ℕ)) (copied ended_a
       (All-append P at_b heard_b (All-weaker IsOfRun P (λ r is. inl is) at_b turns)
       (All-weaker (λ r. IsOfReceiver 0 r.event) P (λ r is. inr is) heard_b (heard_at_b bytes_b ended_b heard_b carried.of_second)))
 
-  -- of host 1 the hart worker asked for nothing but turns and drains
+  -- at host 1 the hart worker asked for nothing but turns and drains
   pub turns_of_second : All IsOfRun at_b
   turns_of_second = subst (All IsOfRun) (sym run.second) (run_at_b run.calls run.only)
 

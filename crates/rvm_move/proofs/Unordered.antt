@@ -46,7 +46,7 @@ not_begun (Ok x) status a file why before after reason told =
     λ is. inl (record { why = why; reason = reason; told = told })
 not_begun (Err e) status a file why before after reason told = tt
 
--- what a call answers after it
+-- what a call returns after the move began
 pub not_audited : {X F : Type 0} (r : Result X F) (status : X → ℕ) (arguments : MoveArguments) (file : List ℕ) (ends : Ends)
     (a b : Option CloseKind) (first second : History) (before after : Option (List ℕ))
     → AreLeft arguments file ends a b first second → IfOk r (λ x. status x ≡ 1 → HasNoOrder ends a b first second before after)

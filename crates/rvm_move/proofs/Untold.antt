@@ -23,39 +23,39 @@ use Rattle.rvm_refusal.specs.declared.refusal.Refusal.TheVariants as refusal
 abbrev line : Refused → List ℕ
 line r = refused_text r ++ codes "\n"
 
--- of an order that is refused
+-- what was to be reported if an order was refused
 unordered : (first second : History) (r : Refused) → IsOrderRefusal first second r → IsUntold (IsUnordered first second)
 unordered first second r why = (line r, record { why = r; reason = why; told = refl })
 
--- since there is none
+-- what was to be reported if there is no order
 pub no_order : (first second : History) (why : AuditError) → IsAuditError why first second
     → IsUntold (IsUnordered first second)
 no_order first second why is = unordered first second (refused (audit_refusal why)) (reason_of first second why is)
 
--- since it was not written
+-- what was to be reported if the order could not be written
 pub no_write : (first second : History) → IsUntold (IsUnordered first second)
 no_write first second = unordered first second (refused refusal.LinkFault) (inr (inl refl))
 
--- of a move that failed there is no order
+-- what was to be reported if the move failed, so that it has no order
 pub has_failed : {X F : Type 0} (r : Result X F) (ends : Ends) (a b : Option CloseKind) (first second : History)
     → (IsSound ends a b → ⊥) → OnErr r (IsUntold (HasNoOrder ends a b first second))
 has_failed (Ok x) ends a b first second failed = tt
 has_failed (Err e) ends a b first second failed =
     (failure_line ends a b, inl (record { failed = failed; told = refl }))
 
--- of a move that went, whose journals have no order
+-- what was to be reported if the move did not fail, and its journals have no order
 pub has_no_order : {X F : Type 0} (r : Result X F) (ends : Ends) (a b : Option CloseKind) (first second : History)
     → OnErr r (IsUntold (IsUnordered first second)) → OnErr r (IsUntold (HasNoOrder ends a b first second))
 has_no_order (Ok x) ends a b first second none = tt
 has_no_order (Err e) ends a b first second none = (none.0, inr none.1)
 
--- of a move that did not begin
+-- what was to be reported if the move did not begin
 pub not_begun : {X F : Type 0} (r : Result X F) (a : MoveArguments) (file : List ℕ) (why : Refused)
     → IsMoveRefusal a file why → OnErr r (IsUntold (IsNotAudited a file))
 not_begun (Ok x) a file why reason = tt
 not_begun (Err e) a file why reason = (line why, inl (record { why = why; reason = reason; told = refl }))
 
--- of a move that has no order
+-- what was to be reported if the move has no order
 pub not_audited : {X F : Type 0} (r : Result X F) (arguments : MoveArguments) (file : List ℕ) (ends : Ends)
     (a b : Option CloseKind) (first second : History) → AreLeft arguments file ends a b first second
     → OnErr r (IsUntold (HasNoOrder ends a b first second)) → OnErr r (IsUntold (IsNotAudited arguments file))
@@ -78,7 +78,7 @@ none_or_some : {X : Type 0} (o : Option X) → (o ≡ None) ⊎ (o ≡ None → 
 none_or_some None = inl refl
 none_or_some (Some x) = inr (λ e. absurd cc)
 
--- whether all three are missing
+-- three values are all missing, or not
 three : {X Y : Type 0} (o : Option X) (a b : Option Y)
     → ((o ≡ None) × (a ≡ None) × (b ≡ None)) ⊎ ((o ≡ None) × (a ≡ None) × (b ≡ None) → ⊥)
 three o a b =
@@ -96,7 +96,7 @@ three o a b =
 sound_or_not : (ends : Ends) (a b : Option CloseKind) → IsSound ends a b ⊎ (IsSound ends a b → ⊥)
 sound_or_not ends a b = three (failure ends) a b
 
--- what both hosts answered, and why the move failed, if it did, or how the turns ended, with this status
+-- the replies of both hosts, and why the move failed, if it did, or how the turns ended, with this status
 abbrev pub IsEndOf : (verdict : Bool) → Ends → (a b : Option CloseKind) → (first second : History)
     → (before after : Option (List ℕ)) → Type 0
 IsEndOf verdict ends a b first second before after =
@@ -134,7 +134,7 @@ end_of verdict ends a b first second replay_a replay_b =
       )
     ]
 
--- of a move that did not begin, whatever the call answers
+-- what was to be reported if the move did not begin, whatever the call returns
 pub not_moved : {X F : Type 0} (r : Result X F) (a : MoveArguments) (file : List ℕ) (why : Refused)
     (output_before output_after : Option (List ℕ)) → IsMoveRefusal a file why
     → OnErr r (IsUntold (λ before after.
@@ -142,7 +142,7 @@ pub not_moved : {X F : Type 0} (r : Result X F) (a : MoveArguments) (file : List
 not_moved (Ok x) a file why ob oa reason = tt
 not_moved (Err e) a file why ob oa reason = (line why, inr (inl (record { why = why; reason = reason; told = refl })))
 
--- what a call answers that was to tell it
+-- what was to be reported by a call that tells how a move ended
 pub untold_move : {X F : Type 0} (r : Result ℕ F) (m : Result X Refused) (a : MoveArguments) (file : List ℕ)
     (output_before output_after : Option (List ℕ)) (left output replays : X → Type 0)
     (Moved : X → (status : ℕ) → (before after : Option (List ℕ)) → Type 0)

@@ -1,4 +1,4 @@
--- What is reported of a journal.
+-- What is reported of the replies in a journal.
 use Rattle.std.specs.Prelude.{ℕ, List, [], None, if◌then◌else◌}
 use Rattle.std.specs.List.{flat_map}
 use Rattle.rvm_recorder.specs.Entries.{PlainEntry}

@@ -154,8 +154,8 @@ pub record IsMoved (a : MoveArguments) (file : List ℕ) (status : ℕ)
   pub written : Appends before after
       (answers_text first.entries ++ (answers_text second.entries ++ end_line a.verdict made.end))
 
--- the two hosts of a move of a file, as the move left them: what was asked of each, and how its workers ended, by its
--- journal
+-- the two hosts of a move of a file, as the move left them: what was asked of each, and what its journal tells of the
+-- ends of its workers
 pub record AreLeft (a : MoveArguments) (file : List ℕ) (ends : Ends) (fault_a fault_b : Option CloseKind)
     (first second : History) : Type 0 where
   pub opened : AreOpened a file first.opening second.opening

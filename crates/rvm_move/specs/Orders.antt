@@ -58,7 +58,7 @@ pub record HasFailed (ends : Ends) (a b : Option CloseKind) (before after : Opti
   pub failed : IsSound ends a b → ⊥
   pub told : Appends before after (failure_line ends a b)
 
--- no order of these hosts was written: their move failed, or no order could be had or written
+-- no order of these hosts was written: their move failed, they have none, memory ran out, or a write failed
 abbrev pub HasNoOrder : Ends → (a b : Option CloseKind) → (first second : History) → (before after : Option (List ℕ)) → Type 0
 HasNoOrder ends a b first second before after = HasFailed ends a b before after ⊎ IsUnordered first second before after
 
@@ -72,6 +72,6 @@ pub record IsUnaudited (a : MoveArguments) (file : List ℕ) (before after : Opt
   pub left : AreLeft a file ends fault_a fault_b first second
   pub none : HasNoOrder ends fault_a fault_b first second before after
 
--- no order was written: the move did not begin, or it failed, or no order of it could be had or written
+-- no order was written: the move did not begin or failed, it has none, memory ran out, or a write failed
 abbrev pub IsNotAudited : MoveArguments → (file : List ℕ) → (before after : Option (List ℕ)) → Type 0
 IsNotAudited a file before after = IsNotBegun a file before after ⊎ IsUnaudited a file before after

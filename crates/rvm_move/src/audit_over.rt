@@ -74,7 +74,7 @@ where
     }
 }
 
-/// Reports a refusal: the status is 1, and there are no hosts.
+/// Reports a refusal. Returns the status, which is 1, without hosts.
 fn no_hosts<M: PagedMemory + Drop, E: Write>(
     refused: Refused,
     errors: &mut E,

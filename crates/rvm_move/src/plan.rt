@@ -2,7 +2,8 @@
 
 use rvm_precopy::Policy;
 
-/// What is asked of a move: what the guest does meanwhile, when pre-copy ends, and the version of the streams.
+/// What is asked of a move: the turns that the guest makes meanwhile, when pre-copy ends, and the version of the
+/// streams.
 #[derive(Clone, Copy, Debug, PartialEq, Eq)]
 pub struct Plan {
     /// How many harts take turns, 1 to 8.

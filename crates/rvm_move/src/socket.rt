@@ -26,7 +26,7 @@ pub struct Socket<S: Read + Write + Drop> {
     has_ended: bool,
 }
 
-/// What a read of a stream gave: no byte is the end, an interrupted read is idle, any other error is a fault.
+/// What a read of a stream gave: 0 bytes are the end, an interrupted read is idle, any other error is a fault.
 fn told_by(read: io::Result<usize>) -> LinkRead
     ensures end { IfOk read (λ n. n ≡ 0 → result ≡ link.End) }
     ensures bytes { IfOk read (λ n. n ≢ 0 → result ≡ link.Bytes n) }

@@ -31,7 +31,7 @@ use std::time::{Clock, Duration};
 /// The number of the host from which the guest moves.
 pub(crate) const A: u8 = 0;
 
-/// The number of the host to which it moves.
+/// The number of the host to which the guest moves.
 pub(crate) const B: u8 = 1;
 
 /// The most looks without a pause whether a thread has begun.
@@ -107,8 +107,8 @@ fn hear<L: Seating, M: PagedMemory + Drop, K: Link + Drop, G: Gate, R: Wait>(
     receiver_worker(rt, alloc, &side, seat, gate, worker, from, to, &mut link)
 }
 
-/// Copies the guest of host A, and hears host B beside that. The first seat is the copier's. If the system cannot start
-/// a thread for the receiver, it hears after the copier, whom nobody answers, has given up.
+/// Copies the guest of host A, and hears host B at the same time. The first seat is the copier's. If the system cannot
+/// start a thread for the receiver, it hears only after the copier, which nobody answers, has given up.
 fn copy_and_hear<
     L: Seating + Send + Sync,
     M: PagedMemory + Drop + Send,

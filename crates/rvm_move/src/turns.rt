@@ -15,7 +15,7 @@ use std::io::Write;
 use std::sync::Wait;
 use std::time::Clock;
 
-/// The task of making the turns of the guest's harts, for a worker with these seats.
+/// The task of making the turns of the guest's harts, with a seat at each host.
 #[derive(Drop)]
 pub(crate) struct Turns<
     't,

@@ -9,7 +9,7 @@ use Rattle.rvm_recorder.specs.Entries.{PlainEntry}
 use Rattle.rvm_recorder.specs.Receipts.{PlainReceipt}
 use Rattle.rvm_recorder.specs.Close.{IsRightAt, IsPast, IsFirstFault, IsJournal}
 
--- the receipts below p are right
+-- the receipts of the places below p are right
 pub record Checked (entries : List PlainEntry) (receipts : List PlainReceipt) (last : ℕ → Option ℕ) (p : ℕ)
     : Type 0 where
   pub len : p ≤ length receipts
@@ -98,7 +98,7 @@ module _ (entries : List PlainEntry) (rs : List PlainReceipt) (last : ℕ → Op
       let is = f.5 in
       let count = ap (λ (x : PlainReceipt). x.count) r_is in omega (arith, more, is, count, le)
 
-  -- none of the place: those after are of higher ones
+  -- no receipt is of the place: those after are of higher ones
   pub fault_none : ((k : ℕ) (r : PlainReceipt) → p ≤ k → slice_get rs k ≡ Some r → p < r.place) → IsRightAt entries rs p → ⊥
   fault_none above w = elim (cases_at p w.index) [
     | inl low ↦ elim low [

@@ -7,6 +7,6 @@ use Rattle.rvm_recorder.specs.Keeping.{told}
 three_bytes : told (0 ∷ 7 ∷ 0 ∷ 1 ∷ []) ≡ 7 ∷ 0 ∷ 1 ∷ []
 three_bytes = refl
 
--- after a 1 those before a page of zeros
+-- after a 1 stand the bytes before a page of zeros
 a_page_behind_two : told (1 ∷ 7 ∷ 8 ∷ []) ≡ 7 ∷ 8 ∷ zeros
 a_page_behind_two = refl

@@ -10,14 +10,14 @@ use Rattle.rvm_recorder.specs.declared.items.ReceiptItem.{ReceiptItem}
 use Rattle.rvm_recorder.specs.Receipts.{PlainReceipt}
 use Rattle.rvm_recorder.specs.Runs.{all_of, receipts_of}
 
--- two parts before others
+-- two parts before others may change places
 front : (x y t : List PlainReceipt) → IsPermutation (x ++ (y ++ t)) (y ++ (x ++ t))
 front x y t =
     subst (λ l. IsPermutation l (y ++ (x ++ t))) (append_assoc x y t)
     (subst (λ l. IsPermutation ((x ++ y) ++ t) l) (append_assoc y x t)
     (IsPermutation-append_left t (x ++ y) (y ++ x) (IsPermutation-append_comm x y)))
 
--- an item comes in another one's place
+-- an item takes another one's place
 put_in : (l : List ReceiptItem) (i : ℕ) (x y : ReceiptItem) → slice_get l i ≡ Some x
     → IsPermutation (receipts_of x ++ all_of (slice_set l i y)) (receipts_of y ++ all_of l)
 put_in [] i x y at = absurd cc
@@ -33,7 +33,7 @@ put_in (z ∷ l) (suc i) x y at =
     (IsPermutation-trans (rz ++ (rx ++ new)) (rz ++ (ry ++ all_of l)) (ry ++ (rz ++ all_of l))
     (IsPermutation-append_right rz (rx ++ new) (ry ++ all_of l) (put_in l i x y at)) (front rz ry (all_of l)))
 
--- two of them in each other's place
+-- two items change places
 exchanged : (l : List ReceiptItem) (i j : ℕ) (x y : ReceiptItem) → slice_get l i ≡ Some x → slice_get l j ≡ Some y
     → IsPermutation (all_of l) (all_of (slice_set (slice_set l i y) j x))
 exchanged [] i j x y at too = absurd cc

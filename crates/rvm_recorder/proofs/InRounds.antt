@@ -22,7 +22,7 @@ no_rounds : (turn harts steps drain : ℕ) → rounds_in_turn turn harts steps d
 unfolding rounds_in_turn
 no_rounds turn harts steps drain = refl
 
--- steps with a drain after them
+-- one round is its steps with a drain after them
 pub one_round : (turn harts steps drain : ℕ) → rounds_in_turn turn harts steps drain 1 ≡ steps_in_turn turn harts steps ++ dry_entry drain ∷ []
 one_round turn harts steps drain =
     rounds_first turn harts steps drain 0
@@ -246,7 +246,7 @@ module _ (harts steps drain : ℕ) where
       ap (take k) (rounds_append n turn harts steps drain m)
       ∙ take-append-le k first (rounds_in_turn (turn + n * steps) harts steps drain m) (omega (arith, long, le))
 
-  -- the first entries of fewer and of more
+  -- the first entries of fewer rounds and of more are the same
   first_alike : (turn n m k : ℕ) → k ≤ n * (steps + 1) → k ≤ m * (steps + 1)
       → take k (rounds_in_turn turn harts steps drain n) ≡ take k (rounds_in_turn turn harts steps drain m)
   first_alike turn n m k le more =
@@ -254,7 +254,7 @@ module _ (harts steps drain : ℕ) where
       sym (first_of_more turn n m k le) ∙ ap (λ c. take k (rounds_in_turn turn harts steps drain c)) swapped
       ∙ first_of_more turn m n k more
 
--- rounds of which a round is the same
+-- rounds that begin at the same turn and are the same have their first entries in common
 pub are_first : (kept rounds : Rounds) (n : ℕ) → kept.turn ≡ rounds.turn → kept.harts ≡ rounds.harts → kept.steps ≡ rounds.steps
     → kept.drain ≡ rounds.drain → n ≤ kept.count * (kept.steps + 1) → n ≤ rounds.count * (rounds.steps + 1)
     → AreFirst n (rounds_of rounds) (rounds_of kept)
@@ -271,7 +271,7 @@ pub none_first : (others xs : List PlainEntry) (n : ℕ) → n ≤ 0 → AreFirs
 none_first others xs zero few = record { there = few_of (length xs); same = refl }
 none_first others xs (suc n) few = absurd (omega (arith, few))
 
--- what is left after them
+-- entries are those that others begin with, and what is left after them
 pub first_passed : (n : ℕ) (others xs rest : List PlainEntry) → AreFirst n others xs → xs ++ rest ≡ take n others ++ drop n (xs ++ rest)
 first_passed n others xs rest are =
     sym (take-append-drop n (xs ++ rest)) ∙ ap (λ z. z ++ drop n (xs ++ rest)) (take-append-le n xs rest are.there ∙ are.same)

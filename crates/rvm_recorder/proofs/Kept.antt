@@ -4,7 +4,7 @@ use Rattle.std.proofs.lemmas.List.{take-append-drop}
 use Rattle.rvm_frame.specs.Pages.{zeros}
 use Rattle.rvm_recorder.specs.Keeping.{told}
 
--- without them it tells the same
+-- without its page of zeros a list stands for the same bytes
 pub left_out : (items : List ℕ) (front : ℕ) → front ≢ 0 → slice_get items 0 ≡ Some 0 → drop front items ≡ zeros
     → told (slice_set (take front items) 0 1) ≡ told items
 left_out [] front some first is = absurd cc

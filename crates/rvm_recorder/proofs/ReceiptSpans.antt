@@ -32,7 +32,7 @@ unfolding steps_receipts
 steps_count place seat count turn harts zero = refl
 steps_count place seat count turn harts (suc n) = ap suc (steps_count (place + 1) seat (count + 1) (turn + 1) harts n)
 
--- receipts of entries
+-- each entry has one receipt
 from_count : (place seat count : ℕ) (es : List PlainEntry) → length (receipts_from place seat count es) ≡ length es
 from_count place seat count [] = refl
 from_count place seat count (e ∷ es) = ap suc (from_count (place + 1) seat (count + 1) es)
@@ -77,7 +77,7 @@ item_at (item.Rounds r) i less =
     let long = rounds_length r.rounds.turn r.rounds.harts r.rounds.steps r.rounds.drain r.rounds.count in
     from_at i r.place r.seat r.count (rounds_of r.rounds) (dry_entry 0) (omega (arith, long, less))
 
--- its places and counts rise by one
+-- the places and counts of an item's receipts rise by one
 pub at_place : (x : ReceiptItem) (i : ℕ) → i < count_in x → (receipt_at x i).place ≡ place_of x + i
 at_place (item.One r) i less = omega (arith, less)
 at_place (item.Steps s) i less = refl

@@ -13,7 +13,7 @@ use Rattle.rvm_recorder.specs.Slices.{IsSliceRecorded, IsSteps, most_of, step_of
 use Rattle.rvm_message.specs.declared.reply.HostReply.{HostReply}
 use Rattle.rvm_message.specs.Replies.{ends_steps, reply_of}
 
--- what stands in a list with one more after is in the list, or is the one more
+-- a value of a list with one more at its end is in the list, or is the last one
 got_or_last : {X : Type 0} (xs : List X) (a b : X) (k : ℕ) → slice_get (xs ++ a ∷ []) k ≡ Some b
     → (slice_get xs k ≡ Some b) ⊎ ((k ≡ length xs) × (a ≡ b))
 got_or_last [] a b zero h = inr (refl, same_Some a b h)
@@ -31,7 +31,7 @@ no_receipts seat place turn harts = record {
   each = λ k r h. cc;
 }
 
--- one more
+-- receipts with one more after them
 pub more_receipts : (seat : PlainSeat) (place turn harts : ℕ) (rs : List PlainReceipt) (r : PlainReceipt)
     → AreReceipts seat place turn harts rs → r.place ≡ place + length rs
     → IsReceipt (seat_of seat.id (seat.count + length rs)) (step_of (turn + length rs) harts) r

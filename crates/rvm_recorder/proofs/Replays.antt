@@ -19,7 +19,7 @@ use Rattle.rvm_protocol.specs.Host.{host_step}
 abbrev pub entry_of : (version : ℕ) → HostEvent → HostReply → Option Addressed → PlainEntry
 entry_of version event reply frame = record { event = event; reply = reply; frame = bytes_of version frame }
 
--- with these entries alone
+-- the recorder with these entries alone
 abbrev pub with_all : Recording → List PlainEntry → (reserved : ℕ) → Recording
 with_all r xs n = record r { journal = record r.journal { entries = xs; reserved = n } }
 

@@ -16,7 +16,7 @@ use Rattle.rvm_message.specs.declared.step.StepReply.TheVariants.{Stepped}
 use Rattle.rvm_message.specs.Exchanges.{step_of_hart}
 use Rattle.rvm_message.specs.Steps.{reply_to_step}
 
--- with entries after its own, and room for this many more
+-- the journal with these entries after its own, and room for this many more
 abbrev pub grown : History → List PlainEntry → (reserved : ℕ) → History
 grown h xs n = record h { entries = h.entries ++ xs; reserved = n }
 
@@ -39,7 +39,7 @@ one_step host next h capacity turn harts s so step room =
       replay = replays host next h capacity event reply None so.kept step xs refl 0 tt so.replay;
     }
 
--- steps that retired
+-- the journal after steps that retired
 many_steps : (n : ℕ) (host next : PlainHost) (h : History) (capacity turn harts : ℕ) → IsSound host h capacity
     → AreRetired harts n turn host next → n ≤ h.reserved
     → IsSound next (grown h (steps_in_turn turn harts n) (h.reserved - n)) capacity
@@ -80,7 +80,7 @@ pub run_few : (host next : PlainHost) (turn harts count : ℕ) (made : told.Reti
     → steps_of (run_of made) ≤ count
 run_few host next turn harts count made all = few_of made.last made.count count all.few all.fewer
 
--- all that a host told
+-- the journal after all steps that a host made
 pub run_sound : (host next : PlainHost) (h : History) (capacity turn harts count : ℕ) (made : told.Retired)
     → IsSound host h capacity → HostRetires harts turn count host next made → count ≤ h.reserved
     → IsSound next (grown h (entries_in turn harts (run_of made)) (h.reserved - steps_of (run_of made))) capacity

@@ -31,7 +31,7 @@ from_append (x ∷ xs) ys place seat count =
     ap (λ rs. first ∷ rs) (from_append xs ys (place + 1) seat (count + 1)
     ∙ (λ i. receipts_from (place + 1) seat (count + 1) xs ++ receipts_from (p i) seat (c i) ys))
 
--- those of steps
+-- the receipts of steps
 from_steps : (n place seat count turn harts : ℕ) → receipts_from place seat count (steps_in_turn turn harts n) ≡ steps_receipts place seat count turn harts n
 unfolding steps_in_turn steps_receipts
 from_steps zero place seat count turn harts = refl
@@ -42,7 +42,7 @@ from_steps (suc n) place seat count turn harts =
 abbrev dry_receipt : (place seat count drain : ℕ) → PlainReceipt
 dry_receipt place seat count drain = record { place = place; seat = seat; count = count; event = (dry_entry drain).event; reply = (dry_entry drain).reply }
 
--- those of a round
+-- the receipts of a round
 pub round_receipts : (place seat count turn harts steps drain : ℕ) (r : PlainReceipt) → r.place ≡ place + steps → r.seat ≡ seat → r.count ≡ count + steps
     → exchange r.event r.reply ≡ dry_exchange drain
     → receipts_from place seat count (rounds_in_turn turn harts steps drain 1) ≡ steps_receipts place seat count turn harts steps ++ r ∷ []
@@ -60,7 +60,7 @@ round_receipts place seat count turn harts steps drain r at of counts dry =
       reply = (sym dry i).reply;
     }) ∷ [])
 
--- those of rounds after others
+-- the receipts of rounds after those of others
 pub both_receipts : (place seat count p s c : ℕ) (first more all : Rounds) (n : ℕ) → rounds_of all ≡ rounds_of first ++ rounds_of more
     → n ≡ first.count * (first.steps + 1) → p ≡ place + n → s ≡ seat → c ≡ count + n
     → receipts_from place seat count (rounds_of all) ≡ receipts_from place seat count (rounds_of first) ++ receipts_from p s c (rounds_of more)
@@ -71,7 +71,7 @@ both_receipts place seat count p s c first more all n is len at of counts =
     ap (receipts_from place seat count) is ∙ from_append (rounds_of first) (rounds_of more) place seat count
     ∙ (λ i. receipts_from place seat count (rounds_of first) ++ receipts_from (pl i) (sym of i) (co i) (rounds_of more))
 
--- there are some, if there are some of the first
+-- there are receipts of all rounds, if there are some of the first
 pub some_receipts : (first more all : Rounds) → rounds_of all ≡ rounds_of first ++ rounds_of more → 1 ≤ first.count * (first.steps + 1)
     → 1 ≤ all.count * (all.steps + 1)
 some_receipts first more all is some =
@@ -86,13 +86,13 @@ last_of (suc q) turn harts steps drain some =
     let at : suc q * (steps + 1) - 1 ≡ q * (steps + 1) + steps = omega (arith, suc-mul q (steps + 1)) in
     ap (λ o. unwrap_or o (dry_entry 0)) (drain_in harts steps drain q turn (suc q) (suc q * (steps + 1) - 1) at (omega arith))
 
--- the last of rounds is a drain
+-- the last entry of rounds is a drain
 pub last_dry : (r : RoundReceipts) → entry_in r.rounds (r.rounds.count * (r.rounds.steps + 1) - 1) ≡ dry_entry r.rounds.drain
 last_dry r =
     let rs = r.rounds in
     last_of rs.count rs.turn rs.harts rs.steps rs.drain r.some
 
--- an item that takes others
+-- an item that is joined with more receipts
 pub joined_in : (old rest new : List ReceiptItem) (last item : ReceiptItem) (more : List PlainReceipt) → old ≡ rest ++ last ∷ [] → new ≡ rest ++ item ∷ []
     → receipts_of item ≡ receipts_of last ++ more → all_of new ≡ all_of old ++ more
 joined_in old rest new last item more old_is new_is item_is =

@@ -33,7 +33,7 @@ steps_first : (place seat count turn harts n : ℕ) → steps_receipts place sea
 unfolding steps_receipts
 steps_first place seat count turn harts n = refl
 
--- as many as there are steps, with their replies
+-- steps have one receipt each, with their replies
 pub steps_length : (place seat count turn harts n : ℕ) → length (steps_receipts place seat count turn harts n) ≡ n
 unfolding steps_receipts
 steps_length place seat count turn harts zero = refl
@@ -129,7 +129,7 @@ run_step run left =
     let some = in_length run in
     omega (arith, some, length-append (replies_in run) (replies_of_all left))
 
--- and of receipts with those that are left
+-- the replies of receipts, with those that are left
 pub more_run : (rs rr : List PlainReceipt) (run : StepRun) (left rest : List StepRun) (all : List HostReply)
     → replies_of rs ++ replies_to (replies_of_all rest) ≡ all → rest ≡ run ∷ left → replies_of rr ≡ replies_to (replies_in run)
     → replies_of (rs ++ rr) ++ replies_to (replies_of_all left) ≡ all

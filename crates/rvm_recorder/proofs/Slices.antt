@@ -18,7 +18,7 @@ use Rattle.rvm_message.specs.Exchanges.{step_of_hart}
 use Rattle.rvm_message.specs.Replies.{ends_steps, reply_of}
 use Rattle.rvm_message.specs.Steps.{reply_to_step}
 
--- what holds of each value by its index, and of one more
+-- what holds of each value and its index, and of one more value, holds of all
 each_snoc : {X : Type 0} (P : ℕ → X → Type 0) (xs : List X) (x : X)
     → ((k : ℕ) (y : X) → slice_get xs k ≡ Some y → P k y) → P (length xs) x
     → (k : ℕ) (y : X) → slice_get (xs ++ x ∷ []) k ≡ Some y → P k y

@@ -70,7 +70,7 @@ in_rest x items k r at le =
     let there : length (receipts_of x) + (k - count_in x) ≡ k = omega (arith, long, le) in
     sym (get_right (receipts_of x) (all_of items) (k - count_in x)) ∙ ap (slice_get (receipts_of x ++ all_of items)) there ∙ at
 
--- the receipts of items from a place on
+-- the receipts of items from a place on are of no lower place
 items_from : (q : ℕ) (items : List ReceiptItem) → AreFrom q items → (k : ℕ) (r : PlainReceipt)
     → slice_get (all_of items) k ≡ Some r → q ≤ r.place
 items_from q [] from k r at = cc
@@ -81,7 +81,7 @@ items_from q (x ∷ items) from k r at = elim (less_or (count_in x) k) [
   | inr le ↦ items_from q items from.1 (k - count_in x) r (in_rest x items k r at le)
 ]
 
--- none is of a place below that of the first item
+-- no receipt is of a place below that of the first item
 later_from : (items : List ReceiptItem) (u : ℕ) → AreRising items → first_place items ≡ Some u → (k : ℕ) (r : PlainReceipt)
     → slice_get (all_of items) k ≡ Some r → u ≤ r.place
 later_from [] u rising is k r at = cc
@@ -120,7 +120,7 @@ noted_other : (last : ℕ → Option ℕ) (x : ReceiptItem) (i q : ℕ) → q �
 noted_other last x zero q differ = refl
 noted_other last x (suc i) q differ = ap (λ b. cond b (Some (calls_before x + i)) (last q)) (ne_eqb q (seat_in x) differ)
 
--- what is checked is so by any function of the same values
+-- what is checked with one function is checked with any of the same values
 pub checked_as : (entries : List PlainEntry) (rs : List PlainReceipt) (f g : ℕ → Option ℕ) (p : ℕ) → ((q : ℕ) → g q ≡ f q)
     → Checked entries rs f p → Checked entries rs g p
 checked_as entries rs f g p same so = record {
@@ -218,7 +218,7 @@ module _ (entries : List PlainEntry) (rs : List PlainReceipt) (last : ℕ → Op
               absurd (tells.free (u - p) (omega (arith, over, less, low, at)) (is ∙ ap Some (omega (arith, low, at))))
         ]
 
-    -- no receipt after is of that place
+    -- no later receipt is of that place
     behind_at : (i : ℕ) → i < c → (k : ℕ) (r : PlainReceipt) → p + i + 1 ≤ k → slice_get rs k ≡ Some r → p + i < r.place
     behind_at i less k r le there =
         let few = tells.few in
@@ -312,7 +312,7 @@ module _ (entries : List PlainEntry) (rs : List PlainReceipt) (last : ℕ → Op
 
 -- HOW FAR RECEIPTS TELL
 
--- this many are told
+-- the first c receipts of an item are told
 pub record SoFar (x : ReceiptItem) (old now : List PlainEntry) (until : Option ℕ) (c : ℕ) : Type 0 where
   pub few : c ≤ count_in x
   pub there : c ≤ length old
@@ -356,7 +356,7 @@ after_skip x old now new until c n so skips =
     }
 
 module _ (x : ReceiptItem) (old now : List PlainEntry) (until : Option ℕ) (c : ℕ) (so : SoFar x old now until c) where
-  -- all are
+  -- all receipts of the item are told
   pub tells_all : c ≡ count_in x → Tells x old now until c
   tells_all all = record {
     few = so.few;
@@ -367,7 +367,7 @@ module _ (x : ReceiptItem) (old now : List PlainEntry) (until : Option ℕ) (c :
     stopped = λ less. absurd (omega (arith, all, less));
   }
 
-  -- the place of the item after is next
+  -- the next receipt has the place of the next item
   pub tells_until : (new : List PlainEntry) → c < count_in x → until ≡ Some (place_of x + c) → Tells x old new until c
   tells_until new less is = record {
     few = so.few;
@@ -404,7 +404,7 @@ module _ (x : ReceiptItem) (old now : List PlainEntry) (until : Option ℕ) (c :
   below_or : (i : ℕ) → i < c + 1 → (i < c) ⊎ (i ≡ c)
   below_or i less = grind (arith, less)
 
-  -- one more
+  -- one more receipt is told
   pub one_told : (e : PlainEntry) (rest : List PlainEntry) → c < count_in x → now ≡ e ∷ rest → IsOf (receipt_at x c) e
       → (until ≡ Some (place_of x + c) → ⊥) → SoFar x old rest until (c + 1)
   one_told e rest less next of none =
@@ -425,7 +425,7 @@ module _ (x : ReceiptItem) (old now : List PlainEntry) (until : Option ℕ) (c :
         ]);
       }
 
--- what a skip passes
+-- a skip may pass nothing
 pub skipped_none : (x : ReceiptItem) (index : ℕ) (left : List PlainEntry) (until : Option ℕ) → index ≤ count_in x → Skips x index left left until 0
 skipped_none x index left until few = record {
   few = omega (arith, few);
@@ -563,7 +563,7 @@ few_items (x ∷ items) =
     let rest = few_items items in
     omega (arith, some, rest, item_length x, length-append (receipts_of x) (all_of items))
 
--- the items after one have as many receipts fewer
+-- the items after one have fewer receipts, by the number that it has
 pub count_left : (items : List ReceiptItem) (k : ℕ) (x : ReceiptItem) → drop k items ≡ x ∷ drop (k + 1) items
     → length (all_of (drop k items)) ≡ count_in x + length (all_of (drop (k + 1) items))
 count_left items k x is =

@@ -9,7 +9,7 @@ use Rattle.rvm_message.specs.declared.event.HostEvent.{HostEvent}
 use Rattle.rvm_message.specs.declared.reply.HostReply.{HostReply}
 use Rattle.rvm_message.specs.Replies.{ends_steps, reply_of}
 
--- the receipt is one of this event, for this seat, with the calls that it had made
+-- the receipt is one of this event, for this seat, with the number of calls that it had made
 pub record IsReceipt (seat : PlainSeat) (event : HostEvent) (r : PlainReceipt) : Type 0 where
   pub seat_is : r.seat ≡ seat.id
   pub count : r.count ≡ seat.count

@@ -1,4 +1,4 @@
--- Runs of steps, and the entries and replies that they stand for.
+-- Runs of steps and rounds, and the entries and replies that they stand for.
 use Rattle.std.specs.Prelude.{ℕ, zero, suc, ◌+◌, ◌%◌, Bool, false, List, [], ◌∷◌, ◌++◌, replicate, Option, Some, None}
 use Rattle.rvm_hart.specs.declared.outcome.Stepped as outcome
 use Rattle.rvm_hart.specs.declared.outcome.Stepped.TheVariants.{Retired}

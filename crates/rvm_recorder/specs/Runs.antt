@@ -1,4 +1,4 @@
--- Receipts of steps in turn, as they are kept.
+-- Receipts of steps and of rounds, as they are kept.
 use Rattle.std.specs.Prelude.{ℕ, zero, suc, ◌+◌, ◌*◌, List, [], ◌∷◌, ◌++◌, Option, Some, None}
 use Rattle.rvm_hart.specs.declared.outcome.Stepped.TheVariants.{Retired}
 use Rattle.rvm_recorder.specs.declared.items.ReceiptItem.{ReceiptItem}

@@ -74,7 +74,7 @@ fn collect<L: Seating>(book: &mut Book<L>, spare: Share<L>, seats: Vec<Seat<L>>)
     book.audit(&mut all);
 }
 
-/// Whether the last receipt of the same seat at a lower place was made before these.
+/// Whether these receipts were made after the last one of the same seat at a lower place, if there is one.
 fn is_above(lasts: &BTreeMap<u32, u64>, item: &ReceiptItem) -> bool
     ensures yes { result ≡ true → (c : ℕ) → get nat_cmp lasts.now (seat_in item.now) ≡ Some c → c < calls_before item.now }
     ensures no { result ≡ false → (c : ℕ) × (get nat_cmp lasts.now (seat_in item.now) ≡ Some c) × (calls_before item.now ≤ c) }
@@ -85,7 +85,7 @@ fn is_above(lasts: &BTreeMap<u32, u64>, item: &ReceiptItem) -> bool
     }
 }
 
-/// Notes the count of a seat's last receipt.
+/// Notes the count of a seat's last receipt. Fails if memory runs out.
 fn note(lasts: &mut BTreeMap<u32, u64>, seat: u32, count: u64) -> Result<(), AllocError>
     ensures same { OnOk result (get nat_cmp lasts.new seat ≡ Some count) }
     ensures other { OnOk result ((q : ℕ) → q ≢ seat → get nat_cmp lasts.new q ≡ get nat_cmp lasts.old q) }
@@ -94,7 +94,7 @@ fn note(lasts: &mut BTreeMap<u32, u64>, seat: u32, count: u64) -> Result<(), All
     Ok(())
 }
 
-/// The place of the first receipt from an item on, if there is one.
+/// The place of the first receipt of item `k`, if there is such an item.
 fn first_from(receipts: &[ReceiptItem], k: usize) -> Option<u32>
     ensures { result ≡ first_place (drop k receipts.now) }
 {
@@ -112,7 +112,8 @@ fn is_at(until: Option<u32>, place: u32, behind: u32) -> bool
     }
 }
 
-/// How many receipts of an item are of the next entries that are left, up to the place of the item after it.
+/// Counts how many of an item's receipts, from the first one on, are of the next entries that are left, and passes
+/// these entries. Stops at `until`, the place of the next item.
 fn tell(item: &ReceiptItem, left: &mut Left<'_>, until: Option<u32>) -> u32
     ensures { Tells item.now left.old left.new until result }
 {
@@ -138,7 +139,8 @@ fn tell(item: &ReceiptItem, left: &mut Left<'_>, until: Option<u32>) -> u32
     told
 }
 
-/// The first place of which the receipts, which are sorted by place, are wrong, if there is one.
+/// The first place at which the receipts, which are sorted by place, are wrong, if there is one; the journal's length
+/// if a receipt is past its end. Fails if memory runs out.
 fn first_fault(
     alloc: Global,
     items: &[Item],
@@ -180,7 +182,7 @@ fn sort_by_place(receipts: &mut Vec<ReceiptItem>) -> Result<(), AllocError>
     receipts.sort_by_key(|item| item.place())
 }
 
-/// Why a host cannot be closed, if it cannot. The receipts are sorted by place.
+/// Why a host cannot be closed, if it cannot. The receipts are sorted by place; `have` of its `want` seats are there.
 fn fault_of<L: Seating, M: PagedMemory + Drop>(
     alloc: Global,
     locked: &Locked<L, M>,
@@ -207,7 +209,7 @@ fn fault_of<L: Seating, M: PagedMemory + Drop>(
     }
 }
 
-/// Why a host cannot be closed, if it cannot. Sorts the receipts by place.
+/// Sorts the receipts by place, and returns why a host cannot be closed, if it cannot.
 #[tactic(auto, using(crate::proofs::Flat::all_permuted))]
 fn sort_and_compare<L: Seating, M: PagedMemory + Drop>(
     alloc: Global,

@@ -1,4 +1,4 @@
-//! Why an event was not recorded.
+//! Why an event or a slice was not recorded.
 
 ghost use Rattle.std.specs.Prelude.{◌≡◌};
 ghost use Rattle.rvm_recorder.specs.Errors.{record_refusal, slice_refusal};

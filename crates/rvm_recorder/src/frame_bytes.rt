@@ -20,7 +20,7 @@ const WHOLE: u8 = 0;
 /// The first byte if a page of zeros follows the bytes that are kept.
 const BEFORE_ZEROS: u8 = 1;
 
-/// The bytes of a frame. A page of zeros at their end is not kept.
+/// The bytes of a frame. If it is a Page of zeros, the page itself is not kept.
 #[derive(Drop)]
 pub struct FrameBytes {
     /// `WHOLE` or `BEFORE_ZEROS`, and the bytes that are kept.

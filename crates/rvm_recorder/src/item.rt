@@ -82,7 +82,8 @@ impl Item {
         }
     }
 
-    /// This item with `more` after it, if it is the steps of the turns just before; otherwise hands it back.
+    /// Joins this item with `more`, if it has the steps of the turns just before. Hands it back otherwise, or if there
+    /// are too many steps to count.
     fn joined(self, more: Steps) -> Result<Item, Item>
         ensures joined { IfOk result (λ i. i ≡ self ++ steps_in_turn more.turn more.harts more.count) }
         ensures alone { IfErr result (λ i. i ≡ self) }
@@ -101,7 +102,7 @@ impl Item {
     }
 
     /// The round of these steps and a drain of at most `drain` bytes after them, which found none. Hands any other item
-    /// back.
+    /// back, and steps that are too many for a round.
     fn with_drain(self, drain: u32) -> Result<Rounds, Item>
         ensures round { IfOk result (λ r. rounds_of r ≡ self ++ dry_entry drain ∷ []) }
         ensures alone { IfErr result (λ i. i ≡ self) }
@@ -121,7 +122,8 @@ impl Item {
         })
     }
 
-    /// This item with `more` after it, if it is rounds that these continue; otherwise hands it back.
+    /// Joins this item with `more`, if it has rounds that these continue. Hands it back otherwise, or if there are too
+    /// many rounds to count.
     fn joined_rounds(self, more: Rounds) -> Result<Item, Item>
         ensures joined { IfOk result (λ i. i ≡ self ++ rounds_of more) }
         ensures alone { IfErr result (λ i. i ≡ self) }
@@ -151,7 +153,7 @@ pub fn joined(rounds: Rounds, more: Rounds) -> Option<Rounds>
     })
 }
 
-/// How many rounds there are with those of `more`, if these continue them.
+/// How many rounds there are with those of `more`. None unless these continue them, or if there are too many to count.
 fn rounds_with(rounds: Rounds, more: Rounds) -> Option<u32>
     ensures goes_on { IfSome result (λ n. GoesOn rounds more n) }
     ensures few { IfSome result (λ n. n * (rounds.steps + 1) < 2 ^ 32) }
@@ -175,7 +177,8 @@ fn rounds_with(rounds: Rounds, more: Rounds) -> Option<u32>
     Some(count)
 }
 
-/// How many steps there are with those of `more`, if these are the steps of the turns just after.
+/// How many steps there are with those of `more`. None unless these are the steps of the turns just after, or if there
+/// are too many to count.
 fn count_with(steps: Steps, more: Steps) -> Option<u32>
     ensures { IfSome result (λ n. (n ≡ steps.count + more.count) × (more.turn ≡ steps.turn + steps.count)
         × (more.harts ≡ steps.harts)) }
@@ -190,7 +193,7 @@ fn count_with(steps: Steps, more: Steps) -> Option<u32>
     steps.count.checked_add(more.count)
 }
 
-/// Appends steps to items, in room that is there.
+/// Appends steps to items, in reserved room.
 pub(crate) fn push_steps(items: &mut Vec<Item>, steps: Steps)
     requires { vec_len items.old < vec_capacity items.old }
     ensures items { all_of items.new.items
@@ -211,7 +214,7 @@ pub(crate) fn push_steps(items: &mut Vec<Item>, steps: Steps)
     }
 }
 
-/// Appends rounds to items, in room that is there.
+/// Appends rounds to items, in reserved room.
 fn push_rounds(items: &mut Vec<Item>, rounds: Rounds)
     requires { vec_len items.old < vec_capacity items.old }
     ensures items { all_of items.new.items
@@ -232,7 +235,7 @@ fn push_rounds(items: &mut Vec<Item>, rounds: Rounds)
     }
 }
 
-/// Appends a drain of at most `drain` bytes that found none to items, in room that is there.
+/// Appends to items a drain of at most `drain` bytes that found none, in reserved room.
 pub(crate) fn push_dry(items: &mut Vec<Item>, drain: u32)
     requires { vec_len items.old < vec_capacity items.old }
     ensures items { all_of items.new.items ≡ all_of items.old.items ++ dry_entry drain ∷ [] }

@@ -39,7 +39,7 @@ impl ReceiptItem {
         }
     }
 
-    /// The seat that called.
+    /// The number of the seat that called.
     pub(crate) fn seat(&self) -> u32
         ensures { result ≡ seat_in self.now }
     {
@@ -72,8 +72,8 @@ impl ReceiptItem {
         }
     }
 
-    /// Passes those of the entries that are left which belong to the receipts from an index on, lie before the place
-    /// of the next item, and are kept as one item; returns how many.
+    /// Passes the next entries, as far as a quick test finds that they belong to the receipts from `index` on and lie
+    /// before `until`, the place of the next item of receipts. Returns how many; 0 for a single receipt.
     pub(crate) fn skip(&self, index: u32, left: &mut Left<'_>, until: Option<u32>) -> u32
         requires { index ≤ count_in self.now }
         ensures { Skips self.now index left.old left.new until result }
@@ -133,7 +133,7 @@ fn dry_reply(drain: u32) -> HostReply
     Exchange::dry(drain).reply()
 }
 
-/// Passes the entries that belong to the receipts of steps from an index on, as `ReceiptItem::skip` does.
+/// Passes the entries that belong to the receipts of steps from `index` on, as `ReceiptItem::skip` does.
 fn skip_steps(steps: &StepReceipts, index: u32, left: &mut Left<'_>, until: Option<u32>) -> u32
     requires { index ≤ steps.now.steps.count }
     ensures { Skips (ReceiptItem.Steps steps.now) index left.old left.new until result }
@@ -145,7 +145,7 @@ fn skip_steps(steps: &StepReceipts, index: u32, left: &mut Left<'_>, until: Opti
     left.skip(turn, steps.steps.harts, most)
 }
 
-/// Passes the entries that belong to the receipts of rounds, from the first one on.
+/// Passes the entries that belong to the receipts of rounds from the first one on, as `ReceiptItem::skip` does.
 fn skip_rounds(rounds: &RoundReceipts, left: &mut Left<'_>, until: Option<u32>) -> u32
     ensures { Skips (ReceiptItem.Rounds rounds.now) 0 left.old left.new until result }
 {
@@ -153,7 +153,7 @@ fn skip_rounds(rounds: &RoundReceipts, left: &mut Left<'_>, until: Option<u32>) 
     left.skip_rounds(&rounds.rounds, most)
 }
 
-/// Passes the entries that belong to the steps that are left of a round.
+/// Passes the entries that belong to the steps that are left of a round, as `ReceiptItem::skip` does.
 fn skip_round(rounds: &RoundReceipts, index: u32, left: &mut Left<'_>, until: Option<u32>) -> u32
     requires { index ≤ rounds.now.rounds.count * (rounds.now.rounds.steps + 1) }
     ensures { Skips (ReceiptItem.Rounds rounds.now) index left.old left.new until result }
@@ -165,7 +165,7 @@ fn skip_round(rounds: &RoundReceipts, index: u32, left: &mut Left<'_>, until: Op
     left.skip(row.turn, row.harts, most)
 }
 
-/// How many of the `most` places from `place + index` on come before the place `until`.
+/// How many of the `most` places from `place + index` on come before `until`; all, if `until` is none of them.
 fn before(until: Option<u32>, place: u32, index: u32, most: u32) -> u32
     ensures few { result ≤ most }
     ensures free { (i : ℕ) → i < result → until ≡ Some (place + (index + i)) → ⊥ }
@@ -185,7 +185,7 @@ fn before(until: Option<u32>, place: u32, index: u32, most: u32) -> u32
     }
 }
 
-/// Appends the receipts of a run, in room that is there. `place`, `count` and `turn` are those of the first one.
+/// Appends the receipts of a run, in reserved room. `place`, `count` and `turn` are those of the first one.
 pub(crate) fn push_run(
     receipts: &mut Vec<ReceiptItem>,
     place: u32,
@@ -230,7 +230,7 @@ pub(crate) fn push_run(
     }
 }
 
-/// Appends a receipt to others, in room that is there.
+/// Appends a receipt to others, in reserved room.
 pub fn push_receipt(all: &mut Vec<ReceiptItem>, receipt: Receipt)
     requires { vec_len all.old < vec_capacity all.old }
     ensures { all_of all.new.items ≡ all_of all.old.items ++ receipt ∷ [] }
@@ -248,7 +248,7 @@ pub fn push_receipt(all: &mut Vec<ReceiptItem>, receipt: Receipt)
     }
 }
 
-/// Appends receipts of rounds to others, in room that is there.
+/// Appends receipts of rounds to others, in reserved room.
 fn push_rounds(all: &mut Vec<ReceiptItem>, rounds: RoundReceipts)
     requires { vec_len all.old < vec_capacity all.old }
     ensures { all_of all.new.items ≡ all_of all.old.items ++ receipts_of (ReceiptItem.Rounds rounds) }
@@ -266,7 +266,8 @@ fn push_rounds(all: &mut Vec<ReceiptItem>, rounds: RoundReceipts)
     }
 }
 
-/// The receipts of a round, if these are the receipts of steps and that of a drain just after them which found nothing.
+/// The receipts of a round, if `last` has the receipts of steps and `receipt` is that of a drain just after them which
+/// found nothing.
 fn with_drain(last: &ReceiptItem, receipt: &Receipt) -> Option<RoundReceipts>
     ensures { IfSome result (λ r. receipts_of (ReceiptItem.Rounds r) ≡ receipts_of last.now ++ receipt.now ∷ []) }
 {
@@ -279,7 +280,8 @@ fn with_drain(last: &ReceiptItem, receipt: &Receipt) -> Option<RoundReceipts>
     round_of(steps, receipt, drain)
 }
 
-/// The receipts of steps and that of the drain after them, if it is of the next place and the next call of their seat.
+/// The receipts of steps and of the drain after them. None unless the drain is the next call of their seat, at the next
+/// place, or if there are too many to count.
 fn round_of(steps: &StepReceipts, receipt: &Receipt, drain: u32) -> Option<RoundReceipts>
     requires { exchange receipt.now.event receipt.now.reply ≡ dry_exchange drain }
     ensures { IfSome result (λ r. receipts_of (ReceiptItem.Rounds r)
@@ -310,7 +312,7 @@ fn round_of(steps: &StepReceipts, receipt: &Receipt, drain: u32) -> Option<Round
     })
 }
 
-/// The receipts of rounds with those of `more`, if these are of the rounds just after.
+/// The receipts of `last` with those of `more`, if `last` has those of the rounds just before.
 fn joined_with(last: &ReceiptItem, more: &RoundReceipts) -> Option<RoundReceipts>
     ensures { IfSome result (λ r. receipts_of (ReceiptItem.Rounds r)
         ≡ receipts_of last.now ++ receipts_of (ReceiptItem.Rounds more.now)) }
@@ -321,7 +323,8 @@ fn joined_with(last: &ReceiptItem, more: &RoundReceipts) -> Option<RoundReceipts
     }
 }
 
-/// The receipts of rounds with those after them, if these are of the next place and the next call of their seat.
+/// The receipts of rounds with those after them. None unless these are of the next calls of the same seat, at the next
+/// places, or if there are too many to count.
 fn both(first: &RoundReceipts, more: &RoundReceipts) -> Option<RoundReceipts>
     ensures { IfSome result (λ r. receipts_of (ReceiptItem.Rounds r)
         ≡ receipts_of (ReceiptItem.Rounds first.now) ++ receipts_of (ReceiptItem.Rounds more.now)) }

@@ -23,7 +23,7 @@ pub struct Journal<M: PagedMemory + Drop> {
     pub(crate) count: u32,
     /// For how many more entries there is room.
     pub(crate) reserved: u32,
-    /// Room for the exchanges of at least as many entries.
+    /// Room for exchanges, at least `reserved` times.
     pub(crate) rooms: Vec<ExchangeRoom>,
 }
 

@@ -24,8 +24,8 @@ pub struct Left<'a> {
     skipped: u32,
 }
 
-/// A view of an entry: any entry, the step of this hart, which retired an instruction, or a drain of at most this many
-/// bytes, which found none.
+/// A view of an entry: any entry, a step of this hart that retired an instruction, or a drain of at most this many
+/// bytes that found none.
 #[derive(Clone, Copy)]
 pub enum Told<'a> {
     Entry(&'a Entry),
@@ -156,7 +156,7 @@ fn is_alike(kept: &Rounds, rounds: &Rounds) -> bool
         && kept.drain == rounds.drain
 }
 
-/// The hart of the step that is the entry of rounds with this index; None if the entry is a drain.
+/// The hart of the step at this index among the entries of rounds; None if the entry there is a drain.
 fn hart_in(rounds: &Rounds, skipped: u32) -> Option<u32>
     requires { skipped < rounds.now.count * (rounds.now.steps + 1) }
     ensures { MatchOption result (slice_get (rounds_of rounds.now) skipped ≡ Some (dry_entry rounds.now.drain))
@@ -170,7 +170,7 @@ fn hart_in(rounds: &Rounds, skipped: u32) -> Option<u32>
     Some(hart_behind(&rounds.first(), skipped - passed))
 }
 
-/// The entry of rounds with this index.
+/// The entry at this index among those of rounds.
 fn told_in<'a>(rounds: &Rounds, skipped: u32) -> Told<'a>
     requires { skipped < rounds.now.count * (rounds.now.steps + 1) }
     ensures { slice_get (rounds_of rounds.now) skipped ≡ Some (told_entry result) }
@@ -181,7 +181,7 @@ fn told_in<'a>(rounds: &Rounds, skipped: u32) -> Told<'a>
     }
 }
 
-/// Returns the event and the reply of the entry of rounds with index `skipped`, which must be below their length.
+/// Returns the event and the reply of the entry at index `skipped` of rounds, which must be below their length.
 pub fn exchange_in(rounds: &Rounds, skipped: u32) -> Exchange
     requires { skipped < rounds.now.count * (rounds.now.steps + 1) }
     ensures { slice_get (rounds_of rounds.now) skipped ≡ Some (silent result.event result.reply) }
@@ -192,8 +192,8 @@ pub fn exchange_in(rounds: &Rounds, skipped: u32) -> Exchange
     }
 }
 
-/// Returns the steps that are left of the round in which the entry with index `skipped` stands; None if that is past
-/// the last round, or the turn has no room in 64 bits.
+/// Returns the steps that are left of the round of the entry at index `skipped`. None if the index is past the last
+/// round, or if the turn exceeds 64 bits.
 pub fn row_at(rounds: &Rounds, skipped: u32) -> Option<Steps>
     ensures { IfSome result (λ s. IsRowAt rounds.now skipped s) }
 {
@@ -222,7 +222,7 @@ fn in_a_row(item: ItemRef<'_>, skipped: u32, turn: u64, harts: u32) -> u32
     }
 }
 
-/// How many steps are left after the first `skipped`, if the next one is that of this turn of this many harts.
+/// How many steps are left after the first `skipped`; 0 unless the next one is that of this turn of this many harts.
 fn left_of_steps(steps: &Steps, skipped: u32, turn: u64, harts: u32) -> u32
     ensures few { skipped + result < 2 ^ 32 }
     ensures there { (n : ℕ) → n ≤ result → (rest : List PlainEntry)
@@ -234,8 +234,8 @@ fn left_of_steps(steps: &Steps, skipped: u32, turn: u64, harts: u32) -> u32
     steps.count - skipped
 }
 
-/// How many steps are left of the round in which the entry with index `skipped` stands, if the next one is that of this
-/// turn of this many harts.
+/// How many steps are left of the round of the entry at index `skipped`; 0 unless the next one is that of this turn of
+/// this many harts.
 fn left_of_round(rounds: &Rounds, skipped: u32, turn: u64, harts: u32) -> u32
     ensures few { skipped + result < 2 ^ 32 }
     ensures there { (n : ℕ) → n ≤ result → (rest : List PlainEntry)

@@ -30,7 +30,7 @@ use std::sync::{Condvar, Mutex};
 pub struct Locked<L: Seating, M: PagedMemory + Drop> {
     pub(crate) recorded: Recorded<M>,
     pub(crate) book: Book<L>,
-    /// A share of no part, with which `close` merges the others.
+    /// A share without a part, with which `close` merges the others.
     pub(crate) spare: Share<L>,
     pub(crate) seats: u32,
     /// Whether the reply to any call was that the guest runs here.
@@ -193,7 +193,7 @@ fn is_start(reply: &HostReply) -> bool {
     matches!(reply, HostReply::Started)
 }
 
-/// How many steps runs have.
+/// How many steps these runs have.
 fn steps_in(runs: &[StepRun]) -> u32
     requires { length (replies_of_all runs.now) ≤ 64 }
     ensures { result ≡ length (replies_of_all runs.now) }
@@ -208,7 +208,7 @@ fn steps_in(runs: &[StepRun]) -> u32
     steps
 }
 
-/// A receipt for each reply of a slice from a place and a turn on.
+/// The receipts for the replies of a slice, from a place and a turn on.
 fn slice_receipts(
     place: u32,
     seat: u32,

@@ -157,7 +157,7 @@ impl<M: PagedMemory + Drop> Recorded<M> {
         Ok((place, reply, frame))
     }
 
-    /// Makes a step of a hart and records it, in room that is there; returns the reply. Takes no memory.
+    /// Makes a step of a hart and records it, in reserved room; returns the reply. Takes no memory.
     pub(crate) fn record_step(&mut self, hart: u32) -> StepReply
         requires { 0 < self.old.journal.reserved }
         ensures { self.new ≡ with_entries self.old (silent (step_of_hart hart) (reply_to_step result) ∷ [])
@@ -178,7 +178,7 @@ impl<M: PagedMemory + Drop> Recorded<M> {
     }
 
     /// Records a drain of at most `count` bytes if the guest runs here and the drain finds none; returns its place in
-    /// the journal. Records nothing, and returns None, otherwise, or if the journal is full or memory runs out.
+    /// the journal. Otherwise, or if the journal is full or memory runs out, records nothing and returns None.
     pub fn record_dry(&mut self, count: u32) -> Option<u32>
         ensures recorded { IfSome result (λ place. IsRecorded self.old (dry_exchange count).event
             (place, (dry_exchange count).reply, None) self.new) }
@@ -203,7 +203,7 @@ impl<M: PagedMemory + Drop> Recorded<M> {
         Some(place)
     }
 
-    /// Makes at most `most` steps of harts in turn and records them, in room that is there, as long as each retires an
+    /// Makes at most `most` steps of harts in turn and records them, in reserved room, as long as each retires an
     /// instruction; the first that does not is the last. It may make none. Takes no memory.
     pub(crate) fn retire(&mut self, turn: u64, harts: u32, most: u32) -> StepRun
         requires harts { 1 ≤ harts }
@@ -229,8 +229,8 @@ impl<M: PagedMemory + Drop> Recorded<M> {
         made
     }
 
-    /// Makes room for n more entries: of the next n events those of the guest take no memory. If fewer
-    /// than n places are free or memory runs out, nothing has changed.
+    /// Makes room for `n` more entries, so that those of the next `n` events that are the guest's take no memory. If
+    /// fewer than `n` places are free or memory runs out, nothing changes.
     pub fn reserve(&mut self, alloc: Global, n: u32) -> Result<(), RecordError>
         ensures room { OnOk result (self.new ≡ with_room self.old n) }
         ensures err { OnErr result (self.new ≡ self.old) }
@@ -254,7 +254,7 @@ impl<M: PagedMemory + Drop> Recorded<M> {
     }
 }
 
-/// Appends steps to items, and one more step with another reply, if there is one, in room that is there.
+/// Appends steps to items, and one more step with another reply, if there is one, in reserved room.
 fn push_run(items: &mut Vec<Item>, steps: Steps, last: Option<StepReply>)
     requires harts { 1 ≤ steps.harts }
     requires room { vec_len items.old + (steps.count + one_if last) ≤ vec_capacity items.old }
@@ -306,7 +306,7 @@ fn keep(
     }
 }
 
-/// The exchange of an event and the reply to it. Takes one of the rooms if it does not fit in a few bytes.
+/// The exchange of an event and the reply to it. Takes one of the rooms if it needs more than a few bytes.
 fn keep_exchange(rooms: &mut Vec<ExchangeRoom>, event: HostEvent, reply: &HostReply) -> Exchange
     requires room { 0 < vec_len rooms.old }
     ensures exchange { result ≡ exchange event reply.now }

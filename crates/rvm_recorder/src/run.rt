@@ -39,7 +39,7 @@ impl StepRun {
         }
     }
 
-    /// Whether consecutive steps end with this run.
+    /// Whether the last step of the run ends a slice.
     pub fn ends_steps(self) -> bool
         ensures { result ≡ ends_run self }
     {

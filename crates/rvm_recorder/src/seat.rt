@@ -37,7 +37,7 @@ pub struct Seat<L: Seating> {
     pub(crate) share: Share<L>,
     /// Room for an exchange that an earlier call did not need.
     pub(crate) room: Option<ExchangeRoom>,
-    /// Room for the receipts of a slice, which was given back.
+    /// Room for the receipts of a slice that was given back.
     pub(crate) slices: Option<Vec<ReceiptItem>>,
 }
 
@@ -61,7 +61,7 @@ impl<L: Seating> Seat<L> {
         self.id
     }
 
-    /// Room for an exchange.
+    /// Takes the seat's room for an exchange, or allocates one.
     pub(crate) fn take_room(&mut self, alloc: Global) -> Result<ExchangeRoom, AllocError>
         ensures { self.new ≡ self.old }
     {
@@ -71,7 +71,7 @@ impl<L: Seating> Seat<L> {
         }
     }
 
-    /// Room for the receipts of a slice.
+    /// Takes the seat's room for the receipts of a slice, if it is empty and large enough, else allocates it.
     pub(crate) fn take_slice_room(&mut self, alloc: Global) -> Result<Vec<ReceiptItem>, AllocError>
         ensures same { self.new ≡ self.old }
         ensures room { IfOk result (λ v. (v.items ≡ []) × (64 ≤ vec_capacity v)) }

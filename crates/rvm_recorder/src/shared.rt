@@ -75,7 +75,7 @@ impl From<ShareError> for Refusal {
 #[derive(Drop)]
 pub struct SharedHost<L: Seating, M: PagedMemory + Drop> {
     pub(crate) lock: Mutex<Locked<L, M>>,
-    /// Wakes those that wait for the guest to run here.
+    /// Wakes the threads that wait for the guest to run here.
     pub(crate) started: Condvar,
 }
 
@@ -123,7 +123,7 @@ pub fn share<L: Seating, M: PagedMemory + Drop>(
     ))
 }
 
-/// A seat for each part of a share, and the share without a part that is left.
+/// A seat for each part of a share, and the share without a part that remains.
 fn cut<L: Seating>(all: Share<L>, list: Vec<Seat<L>>, seats: u32) -> (Vec<Seat<L>>, Share<L>)
     requires parts { all.parts ≡ seats }
     requires none { all.amount ≡ 0 }
@@ -208,7 +208,7 @@ impl<L: Seating, M: PagedMemory + Drop> SharedHost<L, M> {
     }
 
     /// Records a drain of at most `bytes` bytes under the lock, if the guest runs here and the drain finds none;
-    /// returns a receipt. Records nothing, and returns None, otherwise, or if the journal is full or memory runs out.
+    /// returns a receipt. Otherwise, or if the journal is full or memory runs out, records nothing and returns None.
     /// May wait for other threads.
     pub fn call_dry<R: Wait>(&self, rt: &R, seat: &mut Seat<L>, bytes: u32) -> Option<Receipt>
         ensures receipt { IfSome result (λ r. IsReceipt seat.old (dry_exchange bytes).event r) }

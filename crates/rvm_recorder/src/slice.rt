@@ -52,7 +52,7 @@ impl<M: PagedMemory + Drop> Recorded<M> {
         Ok((place, replies))
     }
 
-    /// Makes room for `most` steps, and returns a vector for their replies. If memory runs out, nothing has changed.
+    /// Makes room for `most` steps, and returns a vector for their replies. If memory runs out, nothing changes.
     fn room_for_steps(&mut self, alloc: Global, most: u32) -> Result<Vec<StepRun>, SliceError>
         requires free { count_of self.old + most ≤ self.old.capacity }
         ensures room { OnOk result (self.new ≡ with_room self.old most) }

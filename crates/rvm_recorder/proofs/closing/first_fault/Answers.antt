@@ -82,7 +82,7 @@ loop-k-preserved c =
       inside = inside_still entries (all_of all) last c.loop-k.place x later so.so behind rising so.inside at above c.tell-told.new.left told tells;
     }
 
--- what is left
+-- if there is a next entry, an entry is left
 some_left : (o : Option Told) (left new : List PlainEntry) → is_some o ≡ true → MatchOption o (left ≡ []) (λ t. left ≡ told_entry t ∷ new)
     → (e : PlainEntry) × (left ≡ e ∷ new)
 some_left None left new is is_left = cc
