@@ -209,7 +209,8 @@ module _ (kept : Guest) where
     bytes_are = refl;
   }
 
-  -- a frame that host 0 made for host 1 comes to host 2: so the protocol asks for a version that this many hosts can speak
+  -- a frame that host 0 made for host 1 comes to host 2: therefore the protocol asks for a version that this many hosts
+  -- can speak
   a_frame_for_host_1_would_come_to_host_2 : IsRun unnamed (opened unnamed) events
       ((0, record { event = Do Resend; reply = Resent; frame = Some short_go }) ∷ (2, takes_go) ∷ [])
   a_frame_for_host_1_would_come_to_host_2 = (

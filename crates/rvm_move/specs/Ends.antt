@@ -42,7 +42,8 @@ failure ends =
     else (if fails_hearing ends.receiver_a then Some ends.receiver_a
     else (if fails_hearing ends.receiver_b then Some ends.receiver_b else None)))
 
--- a reply tells that the move is over at its host: no move is left there, or it was given up, and the guest was not gone
+-- a reply tells that the move is over at its host: no move is left there, or it was given up while the guest was not
+-- gone
 abbrev pub tells_end : PlainExchange → Bool
 tells_end x = tells_done x || tells_given_up x
 

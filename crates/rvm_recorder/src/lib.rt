@@ -5,7 +5,8 @@
 //! Stands on `rvm_host`, `rvm_message` and `rvm_frame`, and knows nothing of links, workers or the audit.
 //!
 //! To be read in this order: `frame_bytes`, `entry`, `steps`, `rounds`, `item`, `left`, `run`, `journal`, `error`,
-//! `recorded`, `slice`; then `seat`, `receipt`, `step_receipts`, `round_receipts`, `items`, `locked`, `shared`, `closing`.
+//! `recorded`, `slice`; then `seat`, `receipt`, `step_receipts`, `round_receipts`, `items`, `locked`, `shared`,
+//! `closing`.
 #![tactic(auto)]
 
 mod closing;

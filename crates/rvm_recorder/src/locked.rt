@@ -208,7 +208,7 @@ fn steps_in(runs: &[StepRun]) -> u32
     steps
 }
 
-/// The receipts for the replies of a slice, from a place and a turn on.
+/// A receipt for each reply of a slice from a place and a turn on.
 fn slice_receipts(
     place: u32,
     seat: u32,

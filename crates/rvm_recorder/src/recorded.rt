@@ -229,8 +229,8 @@ impl<M: PagedMemory + Drop> Recorded<M> {
         made
     }
 
-    /// Makes room for `n` more entries, so that those of the next `n` events that are the guest's take no memory. If
-    /// fewer than `n` places are free or memory runs out, nothing changes.
+    /// Makes room for n more entries: of the next n events those of the guest take no memory. If fewer
+    /// than n places are free or memory runs out, nothing has changed.
     pub fn reserve(&mut self, alloc: Global, n: u32) -> Result<(), RecordError>
         ensures room { OnOk result (self.new ≡ with_room self.old n) }
         ensures err { OnErr result (self.new ≡ self.old) }

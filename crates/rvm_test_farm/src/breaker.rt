@@ -7,15 +7,15 @@ use std::sync::atomic::{AtomicBool, AtomicU32, Ordering};
 use std::time::{Clock, Duration};
 use std::{io, thread};
 
-/// The bytes that the first connection carries before it breaks, and how many more each later one carries.
+/// The number of bytes that the first connection carries before it breaks, and how many more each later one carries.
 const FIRST: u64 = 2_000;
 
 const MORE: u64 = 1_000;
 
-/// How many milliseconds lie between two looks at the listener.
+/// The milliseconds between two looks at the listener.
 const LOOK: u64 = 5;
 
-/// Connections that break, and until when.
+/// How many connections broke, and whether they are still to be carried.
 #[derive(Drop)]
 pub struct Breaker {
     /// Whether connections are no longer carried.
@@ -78,7 +78,7 @@ fn carry<S: Read + Write + OpenStream + Drop, R: Wait>(
     unreachable!()
 }
 
-/// A connection whose reads wait for a millisecond at most.
+/// Sets up a connection, so that its reads wait for at most a millisecond.
 fn prepare<S: OpenStream>(stream: &S) -> io::Result<()> {
     stream.set_nonblocking(false)?;
     stream.set_nodelay(true)?;

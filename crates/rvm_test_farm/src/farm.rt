@@ -25,7 +25,7 @@ use std::time::{Clock, Duration};
 /// One of the two hosts, or what lies between them.
 #[derive(Drop)]
 pub struct Seat<N: Drop> {
-    /// For other hosts.
+    /// Where other hosts connect.
     hosts: N,
     operators: Operators<N>,
     pub address: SocketAddr,
@@ -44,7 +44,7 @@ pub struct Start<'a> {
 pub struct Farm<'a, N: Drop> {
     pub a: Seat<N>,
     pub b: Seat<N>,
-    /// Host A reaches host B by way of this one.
+    /// Where host A reaches host B: a breaker carries these connections on.
     pub between: Seat<N>,
     pub image: &'a [u8],
     pub screen: Mutex<Vec<u8>>,
@@ -52,7 +52,7 @@ pub struct Farm<'a, N: Drop> {
     pub breaker: Breaker,
 }
 
-/// An address at which a host can be reached, with any free port.
+/// Listens at free ports of this machine, for other hosts and for operators.
 pub fn new_seat<R: Net>(rt: &R) -> anyhow::Result<Seat<R::Listener>> {
     let hosts = TcpListener::bind(rt, (Ipv4Addr::LOCALHOST, 0))?;
     let operators = TcpListener::bind(rt, (Ipv4Addr::LOCALHOST, 0))?;

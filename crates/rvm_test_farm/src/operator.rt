@@ -1,4 +1,4 @@
-//! Who tells hosts what to do.
+//! An operator, who tells hosts what to do.
 
 use rvm_host_command::tell_command::tell_command;
 use std::net::{Net, SocketAddr, TcpStream};
@@ -6,7 +6,7 @@ use std::sync::Wait;
 use std::time::{Clock, Duration};
 use std::{io, thread};
 
-/// How often a host is asked for its status, 10 milliseconds apart, before it is too late.
+/// The most times that a host is asked for its status, 10 milliseconds apart.
 const TRIES: u32 = 6000;
 
 /// What a host answered.
@@ -17,12 +17,12 @@ pub struct Answer {
 }
 
 impl Answer {
-    /// Whether the answer begins so.
+    /// Whether the answer begins with this text.
     pub fn begins(&self, text: &str) -> bool {
         self.text.starts_with(text.as_bytes())
     }
 
-    /// Whether it has the text somewhere.
+    /// Whether the answer contains this text.
     fn has(&self, text: &str) -> bool {
         self.text
             .windows(text.len().max(1))
@@ -30,7 +30,7 @@ impl Answer {
     }
 }
 
-/// Tells a host a line.
+/// Tells a host a line. Returns its answer.
 pub fn tell<R: AllocGlobal + Net>(rt: &R, host: SocketAddr, line: &str) -> anyhow::Result<Answer> {
     let stream = TcpStream::connect(rt, host)?;
     let mut text = Vec::new(rt.alloc());

@@ -12,13 +12,13 @@ use std::thread;
 use std::thread::Threads;
 use std::time::{Clock, Duration};
 
-/// How often the guest is moved.
+/// The number of moves of the guest.
 const MOVES: u32 = 8;
 
 /// The fewest connections that break: the moves need more bytes than these can carry.
 const BREAKS: u32 = 4;
 
-/// How many looks at the screen, 10 milliseconds apart, are made before it is too late.
+/// The most looks at the screen, 10 milliseconds apart.
 const LOOKS: u32 = 6000;
 
 /// What is tried.

@@ -29,7 +29,7 @@ fn guest(alloc: Global) -> Result<Debugged<FlatMemory>, Fail> {
     }
 }
 
-/// What a host that has a guest, and is host 0 of two, answers under its lock.
+/// Plays a move that begins and is given up, under the lock of a host that has a guest and is host 0 of two.
 fn play<L: Opening, R: Abort + Wait>(
     rt: &R,
     alloc: Global,
@@ -69,7 +69,7 @@ fn a_host_answers_under_its_lock(rt: HostRuntime) -> Result<(), Fail> {
     }
 }
 
-/// What a host without a guest answers under its lock.
+/// Plays an offer under the lock of a host without a guest.
 fn play_empty<L: Opening, R: Abort + Wait>(
     rt: &R,
     alloc: Global,

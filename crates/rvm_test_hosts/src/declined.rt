@@ -6,7 +6,7 @@ use std::test::Fail;
 
 const A: u8 = 0;
 
-/// An event, and what is answered to it.
+/// An event, the name and the numbers of the reply to it, and the place of the frame that is made.
 type Row = (Event, &'static str, [u64; 4], Option<usize>);
 
 /// The offer of four pages to a host that takes three, and what comes of it.
@@ -21,7 +21,7 @@ static ROWS: [Row; 8] = [
     (Event::Begin(A, 0), "BadHost", [33, 0, 0, 0], None),
 ];
 
-/// The first of these events whose answer is another one.
+/// Plays these events. Returns the index of the first whose reply or frame is another one, if there is one.
 fn first_other(alloc: Global, hosts: &mut Hosts, rows: &[Row]) -> Result<Option<usize>, Fail> {
     for (place, (event, name, numbers, frame)) in rows.iter().enumerate() {
         let (said, made) = hosts.turn(alloc, *event)?;
@@ -32,7 +32,7 @@ fn first_other(alloc: Global, hosts: &mut Hosts, rows: &[Row]) -> Result<Option<
     Ok(None)
 }
 
-/// Offers the guest in new hosts.
+/// Plays the events on new hosts, the first of which has a guest of four pages.
 fn offer(alloc: Global) -> Result<Option<usize>, Fail> {
     let mut hosts = Hosts::new(alloc, 4, &[4, 3])?;
     first_other(alloc, &mut hosts, &ROWS)

@@ -11,7 +11,7 @@ use rvm_precopy::Policy;
 use std::alloc::{AllocError, Global};
 use std::test::Fail;
 
-/// At most three rounds, until fewer than one page is left, and at most three copies a page.
+/// At most three rounds, until fewer than one page is left, and at most three copies for each page.
 pub const POLICY: Policy = Policy {
     max_rounds: 3,
     min_left: 1,
@@ -27,7 +27,7 @@ const VERSION: u32 = 1;
 /// Why hosts of another number cannot be made.
 const WRONG_COUNT: &str = "there are two to eight hosts";
 
-/// What happens.
+/// An event at hosts.
 #[derive(Clone, Copy)]
 pub enum Event {
     /// A step of hart 0 at a host.
@@ -63,7 +63,7 @@ pub struct Hosts {
     pub sent: Vec<Addressed>,
 }
 
-/// The value of a call, or of a second one if the first was refused memory.
+/// The value of a call, which is repeated once if it fails.
 macro_rules! again {
     ($call:expr) => {
         match $call {
@@ -75,7 +75,7 @@ macro_rules! again {
 
 pub(crate) use again;
 
-/// A guest of one hart with this many pages, which begin with these words.
+/// A guest of one hart with this many pages, whose RAM begins with these words.
 pub fn guest(alloc: Global, pages: u32, words: &[u32]) -> Result<Debugged<FlatMemory>, Fail> {
     if pages > MAX_PAGES {
         return Err(Fail::from("a board has at most 4096 pages"));
@@ -96,7 +96,7 @@ pub fn guest(alloc: Global, pages: u32, words: &[u32]) -> Result<Debugged<FlatMe
     }
 }
 
-/// Puts the hosts in, of which the first one has a guest of this many pages that loops.
+/// Adds hosts with these limits, the first of which has a guest of this many pages that loops.
 fn fill(
     alloc: Global,
     hosts: &mut Vec<Host<FlatMemory>>,
@@ -123,7 +123,7 @@ fn fill(
 }
 
 impl Hosts {
-    /// This many hosts, with a guest of this many pages at host 0.
+    /// Hosts with these limits, the first of which has a guest of this many pages that loops.
     pub fn new(alloc: Global, pages: u32, limits: &[u16]) -> Result<Hosts, Fail> {
         let Ok(count) = u8::try_from(limits.len()) else {
             return Err(Fail::from(WRONG_COUNT));
@@ -141,7 +141,7 @@ impl Hosts {
         }
     }
 
-    /// What an event is at a host; none if no such frame was sent.
+    /// The host at which an event happens, and what it is there; none if no such frame was sent.
     fn meaning(&self, alloc: Global, event: Event) -> Result<Option<(u8, HostEvent)>, AllocError> {
         Ok(match event.in_world() {
             rvm_core::Event::At(host, command) => Some((host, HostEvent::Do(command))),
@@ -155,8 +155,8 @@ impl Hosts {
         })
     }
 
-    /// What the hosts reply to an event, also if they were refused memory at first, and the place of the frame that was
-    /// made.
+    /// Plays an event, and repeats it if memory runs out. Returns the reply, and the place of the frame that was made,
+    /// if one was.
     pub fn turn(&mut self, alloc: Global, event: Event) -> Result<(Said, Option<usize>), Fail> {
         let Some((host, event)) = again!(self.meaning(alloc, event)) else {
             return Err(Fail::from("the frame was sent"));
@@ -171,7 +171,7 @@ impl Hosts {
         Ok((said(&reply), Some(place)))
     }
 
-    /// A frame of a host comes to another one.
+    /// Gives a host a frame that comes from another one. Returns the reply.
     pub fn hear(&mut self, alloc: Global, host: u8, from: u8, frame: Frame) -> Result<Said, Fail> {
         let event = came(alloc, from, &frame);
         drop(frame);
@@ -194,7 +194,8 @@ fn shared(alloc: Global, frame: &Frame) -> Result<Shared<Frame>, AllocError> {
     Ok(Shared::new(alloc, frame.copy(alloc)?)?)
 }
 
-/// What a host replies to an event, also if it was refused memory at first.
+/// Gives a host an event, and repeats it if memory runs out. Returns the reply, and the frame that the host made, if it
+/// made one.
 fn answer(
     alloc: Global,
     hosts: &mut Vec<Host<FlatMemory>>,

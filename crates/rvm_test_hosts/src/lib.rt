@@ -1,7 +1,7 @@
 //! Tests of hosts and worlds, and of what stands between a host and a connection, for what no clause says: that each
-//! event that allocates succeeds, also after it was refused memory (`make faults` refuses allocations in turn, at most
-//! 60 of a test, or, with `MOST=0`, each one); that calls succeed if there are memory and connections; and which bytes
-//! are sent. Worked moves are cases (`moves.cases` of `rvm_test_program`).
+//! event that allocates succeeds, also if it is repeated after an allocation failed (`make faults` makes allocations
+//! fail, one at a time: at most 60 of a test, or, with `MOST=0`, each one); that calls succeed if there are memory and
+//! connections; and which bytes are sent. Worked moves are cases (`moves.cases` of `rvm_test_program`).
 //!
 //! Stands on the libraries, which have no tests of their own. The replies and the bytes that it expects are worked out
 //! by hand from the protocol's rules and from the layout of records and frames.

@@ -83,31 +83,31 @@ fn play(alloc: Global, hosts: &mut Hosts, events: usize) -> Result<(), Fail> {
     Ok(())
 }
 
-/// What a host there answers to an event.
+/// The name of the reply of the host at this place to an event.
 fn turned(alloc: Global, place: Place, event: Event) -> Result<&'static str, Fail> {
     let mut hosts = at(alloc, place)?;
     turn(alloc, &mut hosts, event)
 }
 
-/// What a host answers to an event.
+/// The name of the reply to an event.
 fn turn(alloc: Global, hosts: &mut Hosts, event: Event) -> Result<&'static str, Fail> {
     let (said, _) = hosts.turn(alloc, event)?;
     Ok(said.0)
 }
 
-/// What a host there answers to a frame of the other one.
+/// The name of the reply of the host at this place to a frame of the other one.
 fn heard(alloc: Global, place: Place, frame: Frame) -> Result<&'static str, Fail> {
     let mut hosts = at(alloc, place)?;
     hear(alloc, &mut hosts, place.host, frame)
 }
 
-/// What a host answers to a frame of the other one.
+/// The name of the reply of a host to a frame of the other one.
 fn hear(alloc: Global, hosts: &mut Hosts, host: u8, frame: Frame) -> Result<&'static str, Fail> {
     let from = if host == A { 1 } else { 0 };
     Ok(hosts.hear(alloc, host, from, frame)?.0)
 }
 
-/// The answers to Step, Begin, Copy, Resend and Abort in each mode.
+/// The replies to Step, Begin, Copy, Resend and Abort in each mode.
 static COMMANDS: [(Place, [&str; 5]); 10] = [
     (
         EMPTY,
@@ -139,7 +139,7 @@ static COMMANDS: [(Place, [&str; 5]); 10] = [
     ),
 ];
 
-/// A host there answers an event so.
+/// Asserts the name of the reply of the host at this place to an event.
 fn assert_turned(
     rt: &impl Abort,
     alloc: Global,
@@ -151,7 +151,7 @@ fn assert_turned(
     Ok(())
 }
 
-/// A host there answers each command so.
+/// Asserts the names of the replies of the host at this place to each command.
 fn assert_commands(
     rt: &impl Abort,
     alloc: Global,
@@ -181,8 +181,8 @@ fn each_command_is_answered_by_the_mode(rt: HostRuntime) -> Result<(), Fail> {
     Ok(())
 }
 
-/// The kinds of frames of the move that are not ignored in each mode, by their places in `frames`, and
-/// their answers.
+/// For each mode, the kinds of frames of the move that are not ignored, by their numbers in `frame`, and the replies to
+/// them.
 static FRAMES: [(Place, &[(u32, &str)]); 10] = [
     (EMPTY, &[]),
     (RUN, &[]),
@@ -209,7 +209,7 @@ static FRAMES: [(Place, &[(u32, &str)]); 10] = [
     (EMPTY_AFTER, &[]),
 ];
 
-/// What a kind of frame is answered.
+/// The name of the reply to a kind of frame: Ignored if it is none of these.
 fn answer_to(kind: u32, answers: &'static [(u32, &'static str)]) -> &'static str {
     for (heard, answer) in answers {
         if *heard == kind {
@@ -219,7 +219,7 @@ fn answer_to(kind: u32, answers: &'static [(u32, &'static str)]) -> &'static str
     "Ignored"
 }
 
-/// A host there answers a frame of the other one so.
+/// Asserts the name of the reply of the host at this place to a frame of the other one.
 fn assert_heard(
     rt: &impl Abort,
     alloc: Global,
@@ -231,7 +231,7 @@ fn assert_heard(
     Ok(())
 }
 
-/// A host there answers each kind of frame so.
+/// Asserts the names of the replies of the host at this place to each kind of frame.
 fn assert_frames(
     rt: &impl Abort,
     alloc: Global,
@@ -253,7 +253,7 @@ fn each_frame_is_answered_by_the_mode(rt: HostRuntime) -> Result<(), Fail> {
     Ok(())
 }
 
-/// The answers to an offer of move 1, of move 2 and of too large a guest, in each mode.
+/// The replies to an offer of move 1, of move 2 and of too large a guest, in each mode.
 static OFFERS: [(Place, [&str; 3]); 10] = [
     (EMPTY, ["accepted", "accepted", "declined"]),
     (RUN, ["Ignored", "Ignored", "Ignored"]),
@@ -267,7 +267,7 @@ static OFFERS: [(Place, [&str; 3]); 10] = [
     (EMPTY_AFTER, ["Ignored", "accepted", "declined"]),
 ];
 
-/// A host there answers the offers so.
+/// Asserts the names of the replies of the host at this place to the offers.
 fn assert_offers(
     rt: &impl Abort,
     alloc: Global,

@@ -4,7 +4,7 @@ use rvm_frame::{Addressed, Frame};
 use rvm_link::{Made, Origin, Routes, SendError};
 use std::test::Fail;
 
-/// Frames that were made anywhere.
+/// The origin of frames that were made anywhere.
 #[derive(Drop)]
 struct Anywhere;
 

@@ -8,7 +8,7 @@ use std::io;
 use std::process::Abort;
 use std::test::Fail;
 
-/// A script without an end is too long, and nothing is answered.
+/// Asserts that a script without an end is too long, and that nothing is written.
 fn assert_too_long(
     rt: &impl Abort,
     alloc: Global,

@@ -18,7 +18,7 @@ const OFFER: Frame = Frame::Offer {
     harts: 1,
 };
 
-/// Of the frames of a move, by their places, those that bring the guest, and what the target answers.
+/// The frames of a move that bring the guest, by their places, and the name of the target's reply to each.
 static BROUGHT: [(usize, &str); 3] = [(2, "stored"), (4, "ready"), (6, "started")];
 
 /// The same frame of the move with the highest number; Go for one that brings nothing.
@@ -50,7 +50,7 @@ fn of_the_last_move(alloc: Global, frame: &Frame) -> Result<Frame, AllocError> {
     })
 }
 
-/// Plays a move, whose frames are sent then.
+/// Plays a move, so that its frames are sent.
 fn play(alloc: Global, hosts: &mut Hosts) -> Result<(), Fail> {
     for event in &MOVE {
         hosts.turn(alloc, *event)?;
@@ -58,7 +58,7 @@ fn play(alloc: Global, hosts: &mut Hosts) -> Result<(), Fail> {
     Ok(())
 }
 
-/// The frames of the move come to host B as those of the move with the highest number.
+/// Gives host B the frames of the move, as those of the move with the highest number.
 fn bring(rt: &impl Abort, alloc: Global, source: &Hosts, hosts: &mut Hosts) -> Result<(), Fail> {
     assert_eq!(rt; hosts.hear(alloc, B, A, OFFER)?.0, "accepted");
     for (place, answer) in &BROUGHT {
@@ -71,13 +71,13 @@ fn bring(rt: &impl Abort, alloc: Global, source: &Hosts, hosts: &mut Hosts) -> R
     Ok(())
 }
 
-/// Host B then has the guest, which runs, and begins no move.
+/// Asserts that host B then has the guest, which runs, and begins no move.
 fn assert_spent(rt: &impl Abort, alloc: Global, source: &Hosts) -> Result<(), Fail> {
     let mut hosts = Hosts::new(alloc, 1, &[1, 1])?;
     assert_none_begins(rt, alloc, source, &mut hosts)
 }
 
-/// The same at these hosts.
+/// Asserts the same of these hosts.
 fn assert_none_begins(
     rt: &impl Abort,
     alloc: Global,

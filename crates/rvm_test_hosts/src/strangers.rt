@@ -7,7 +7,7 @@ use std::alloc::Global;
 use std::process::Abort;
 use std::test::Fail;
 
-/// The first kind of frame of move 7 that a host does not ignore when another host sends it.
+/// The first kind of frame of move 7 that a host does not ignore when another host sends it, if there is one.
 fn first_heard(alloc: Global, hosts: &mut Hosts, host: u8, from: u8) -> Result<Option<u32>, Fail> {
     for kind in 0..KINDS {
         let frame = again!(frame(alloc, 7, kind));
@@ -19,14 +19,14 @@ fn first_heard(alloc: Global, hosts: &mut Hosts, host: u8, from: u8) -> Result<O
     Ok(None)
 }
 
-/// Both hosts ignore each kind of frame of move 7.
+/// Asserts that both hosts ignore each kind of frame of move 7.
 fn assert_ignored(rt: &impl Abort, alloc: Global, hosts: &mut Hosts) -> Result<(), Fail> {
     assert_eq!(rt; first_heard(alloc, hosts, 0, 1)?, None);
     assert_eq!(rt; first_heard(alloc, hosts, 1, 0)?, None);
     Ok(())
 }
 
-/// They ignore them before and after each event of a move.
+/// Asserts that both hosts ignore them before and after each event of a move.
 fn assert_ignored_in_a_move(rt: &impl Abort, alloc: Global, hosts: &mut Hosts) -> Result<(), Fail> {
     for event in &MOVE {
         assert_ignored(rt, alloc, hosts)?;

@@ -61,7 +61,7 @@ fn stream(alloc: Global, version: u8) -> Result<Vec<u8>, Fail> {
     }
 }
 
-/// The events of the move up to the commit.
+/// Plays the events of the move up to the commit.
 fn play(alloc: Global, world: &mut World<FlatMemory>) -> Result<(), Fail> {
     for event in &FIRST_EVENTS {
         again!(world.apply(alloc, event));
@@ -101,8 +101,8 @@ fn ended(ends: &[End], bytes: usize) -> usize {
     ends.iter().filter(|(end, _)| *end <= bytes).count()
 }
 
-/// Feeds a whole piece after this many frames, and answers how many there are then; none where another
-/// frame came than the stream has there.
+/// Feeds a whole piece after this many frames. Returns how many frames there are then; none if a frame came that the
+/// stream does not have there.
 fn feed(
     alloc: Global,
     reader: &mut FrameReader,
@@ -127,7 +127,7 @@ fn feed(
     Ok(Some(came))
 }
 
-/// Feeds a stream cut in two, and answers how many frames came of its front, and of all of it.
+/// Feeds a stream cut in two. Returns how many frames came of its front, and of all of it.
 fn feed_cut(
     alloc: Global,
     stream: &[u8],
@@ -143,7 +143,7 @@ fn feed_cut(
     Ok((first, both))
 }
 
-/// A stream ends where its last frame does, and each cut of it gives the frames before it.
+/// Asserts that a stream ends where its last frame does, and that each cut of it gives the frames before it.
 fn assert_cuts(rt: &impl Abort, alloc: Global, stream: &[u8], ends: &[End]) -> Result<(), Fail> {
     assert_eq!(rt; Some(stream.len()), ends.last().map(|(end, _)| *end));
     for cut in 0..=stream.len() {

@@ -12,7 +12,7 @@ use std::alloc::Global;
 use std::process::Abort;
 use std::test::Fail;
 
-/// How many bytes of RAM an answer has, and how many such answers four pages are.
+/// The bytes of RAM in one reply, and the number of such replies for four pages.
 const VIEW: u32 = 256;
 
 const VIEWS: u32 = 64;
@@ -35,8 +35,8 @@ pub fn world(
     }
 }
 
-/// What an event is answered, and the place of the frame that was made. An event that was refused memory is
-/// made once more, in a world that is as before.
+/// Plays an event. If memory runs out, checks that the world is as before, and repeats the event. Returns the reply,
+/// and the place of the frame that was made, if one was.
 fn turn(
     alloc: Global,
     world: &mut World<FlatMemory>,
@@ -70,7 +70,7 @@ fn digest(alloc: Global, world: &mut World<FlatMemory>) -> Result<u64, Fail> {
     Ok(sum)
 }
 
-/// What a guest at this host shows, or why none answers.
+/// A number over what the guest at this host shows, or over the refusals if there is none.
 fn guest_digest(alloc: Global, world: &mut World<FlatMemory>, host: u8) -> Result<u64, Fail> {
     let mut sum = event_digest(alloc, world, host, BoardEvent::Regs(0))?;
     for view in 0..VIEWS {
@@ -83,7 +83,7 @@ fn guest_digest(alloc: Global, world: &mut World<FlatMemory>, host: u8) -> Resul
     Ok(sum)
 }
 
-/// A number over what a host answers to an event of its guest.
+/// A number over the reply of a host to an event of its guest.
 fn event_digest(
     alloc: Global,
     world: &mut World<FlatMemory>,
@@ -94,7 +94,7 @@ fn event_digest(
     Ok(reply_digest(&reply.reply))
 }
 
-/// A number over the answer of a guest.
+/// A number over a reply.
 fn reply_digest(reply: &HostReply) -> u64 {
     match reply {
         HostReply::Board(BoardReply::Regs(registers)) => registers
@@ -105,24 +105,24 @@ fn reply_digest(reply: &HostReply) -> u64 {
     }
 }
 
-/// A number over bytes after others.
+/// A number over others and these bytes.
 fn sum_bytes(sum: u64, bytes: &[u8]) -> u64 {
     bytes
         .iter()
         .fold(sum, |sum, byte| more(sum, u64::from(*byte)))
 }
 
-/// A number over one more.
+/// A number over others and one more.
 fn more(sum: u64, number: u64) -> u64 {
     sum.wrapping_mul(0x0000_0100_0000_01B3).wrapping_add(number)
 }
 
-/// What an event is answered.
+/// The reply to an event.
 fn answer(alloc: Global, world: &mut World<FlatMemory>, event: Event) -> Result<Said, Fail> {
     Ok(turn(alloc, world, &event.in_world())?.0)
 }
 
-/// An event is answered so.
+/// Asserts the name of the reply to an event.
 fn assert_answer(
     rt: &impl Abort,
     alloc: Global,
@@ -134,7 +134,7 @@ fn assert_answer(
     Ok(())
 }
 
-/// A world of this many hosts is made, or refused.
+/// Whether a world of hosts with these limits is made, or refused for its size.
 fn is_made(alloc: Global, limits: &[u16], version: u32) -> Result<bool, Fail> {
     let guest = guest(alloc, 1, &[LOOP])?;
     let made = match World::with_version(alloc, guest, limits, version) {
@@ -157,7 +157,7 @@ fn is_made(alloc: Global, limits: &[u16], version: u32) -> Result<bool, Fail> {
     }
 }
 
-/// The version that a new world of such hosts speaks; none if it is refused, and the guest comes back.
+/// The version that a new world of hosts with these limits speaks; none if it is refused, and the guest comes back.
 fn world_version(alloc: Global, limits: &[u16]) -> Result<Option<u32>, Fail> {
     let guest = guest(alloc, 1, &[LOOP])?;
     let made = match World::new(alloc, guest, limits) {
@@ -251,7 +251,7 @@ static HOSTS: [(u8, u16, Option<u32>); 6] = [
     (9, 4, None),
 ];
 
-/// Just the worlds of `MADE` that can be are made.
+/// Asserts that of the worlds of `MADE` just those are made that can be.
 fn assert_made(rt: &impl Abort, alloc: Global) -> Result<(), Fail> {
     for (limits, version, made) in &MADE {
         assert_eq!(rt; is_made(alloc, *limits, *version)?, *made);
@@ -259,7 +259,7 @@ fn assert_made(rt: &impl Abort, alloc: Global) -> Result<(), Fail> {
     Ok(())
 }
 
-/// New worlds speak the versions of `WORLDS`.
+/// Asserts that new worlds speak the versions of `WORLDS`.
 fn assert_worlds(rt: &impl Abort, alloc: Global) -> Result<(), Fail> {
     for (limits, version) in &WORLDS {
         assert_eq!(rt; world_version(alloc, *limits)?, *version);
@@ -267,7 +267,7 @@ fn assert_worlds(rt: &impl Abort, alloc: Global) -> Result<(), Fail> {
     Ok(())
 }
 
-/// New hosts speak the versions of `HOSTS`.
+/// Asserts that new hosts speak the versions of `HOSTS`.
 fn assert_hosts(rt: &impl Abort, alloc: Global) -> Result<(), Fail> {
     for (count, limit, version) in &HOSTS {
         assert_eq!(rt; host_version(alloc, *count, *limit)?, *version);
@@ -315,7 +315,7 @@ pub const FIRST_EVENTS: [rvm_core::Event; 17] = [
     rvm_core::Event::Deliver(8),
 ];
 
-/// An event, what is answered to it, and the place of the frame that was made.
+/// An event, the reply to it, and the place of the frame that was made, if one was.
 type Row = (Event, Said, Option<usize>);
 
 /// The same move, of which the fourth copy never comes: host 1 lacks its page, which is copied again.
@@ -342,7 +342,7 @@ static LOST_COPY: [Row; 20] = [
     (Event::Deliver(10), ("ready", [0; 4]), Some(11)),
 ];
 
-/// The first of these events whose answer is another one.
+/// Plays these events. Returns the index of the first whose reply or frame is another one, if there is one.
 fn first_other(
     alloc: Global,
     world: &mut World<FlatMemory>,
@@ -357,13 +357,13 @@ fn first_other(
     Ok(None)
 }
 
-/// Loses a copy in a new world.
+/// Plays the move that loses a copy, in a new world.
 fn lose_a_copy(alloc: Global) -> Result<Option<usize>, Fail> {
     let mut world = world(alloc, 4, &[4, 4], 1)?;
     first_other(alloc, &mut world, &LOST_COPY)
 }
 
-/// What is answered after the first events, with the commit on its way.
+/// The replies to events after the first ones, while the commit is on its way.
 static LAST_EVENTS: [(Event, &str); 7] = [
     (Event::Step(0), "NotHere"),
     (Event::Step(1), "Paused"),
@@ -374,7 +374,7 @@ static LAST_EVENTS: [(Event, &str); 7] = [
     (Event::Step(2), "BadHost"),
 ];
 
-/// Events are answered so.
+/// Asserts the names of the replies to these events.
 fn assert_answers(
     rt: &impl Abort,
     alloc: Global,
@@ -387,22 +387,22 @@ fn assert_answers(
     Ok(())
 }
 
-/// How long the frames of the move are.
+/// The lengths of the frames of the move.
 static LENGTHS: [usize; 11] = [16, 13, 4115, 4115, 4115, 4115, 21, 235, 13, 13, 13];
 
-/// The frames are so long.
+/// Asserts that the frames have these lengths.
 fn assert_lengths(rt: &impl Abort, world: &World<FlatMemory>) {
     for (place, length) in LENGTHS.iter().enumerate() {
         assert_eq!(rt; world.frame(place).map(|bytes| bytes.len()), Some(*length));
     }
 }
 
-/// What the last event of a list was answered.
+/// The reply to the last event of a list.
 fn last_said(replies: &[WorldReply]) -> Option<Said> {
     replies.last().map(|reply| said(&reply.reply))
 }
 
-/// Runs the events of a move as a list, and then the last ones; whether there was memory for the list.
+/// Runs the events of a move as a list, and then the last ones. Returns whether there was memory for the list.
 fn is_run(rt: &impl Abort, alloc: Global, world: &mut World<FlatMemory>) -> Result<bool, Fail> {
     let Ok(replies) = run_world(alloc, world, &FIRST_EVENTS) else {
         return Ok(false);
@@ -415,7 +415,7 @@ fn is_run(rt: &impl Abort, alloc: Global, world: &mut World<FlatMemory>) -> Resu
     Ok(true)
 }
 
-/// The same in a new world.
+/// Does the same in a new world.
 fn is_run_anew(rt: &impl Abort, alloc: Global) -> Result<bool, Fail> {
     let mut world = world(alloc, 4, &[4, 4], 1)?;
     is_run(rt, alloc, &mut world)
@@ -431,7 +431,7 @@ fn a_list_of_events_is_run(rt: HostRuntime) -> Result<(), Fail> {
     Ok(())
 }
 
-/// Some host has the guest.
+/// Whether some host has the guest.
 fn has_guest(alloc: Global, world: &mut World<FlatMemory>) -> Result<bool, Fail> {
     for host in 0..world.hosts() {
         if answer(alloc, world, Event::Step(host))?.0 != "NotHere" {
@@ -441,11 +441,11 @@ fn has_guest(alloc: Global, world: &mut World<FlatMemory>) -> Result<bool, Fail>
     Ok(false)
 }
 
-/// What is answered after a move.
+/// The replies after a move.
 static MOVED: [(Event, &str); 2] = [(Event::Step(0), "NotHere"), (Event::Step(1), "retired")];
 
-/// Drives a move that takes this many events, and answers whether there was memory for it; where not, some
-/// host has the guest.
+/// Drives a move that takes this many events. Returns whether there was memory for it; if there was not, asserts that
+/// some host has the guest.
 fn is_driven(
     rt: &impl Abort,
     alloc: Global,
@@ -461,7 +461,7 @@ fn is_driven(
     Ok(true)
 }
 
-/// The same in a new world of this many pages and a version.
+/// Does the same in a new world of this many pages and this version.
 fn is_moved(rt: &impl Abort, alloc: Global, row: (u32, u32, u32)) -> Result<bool, Fail> {
     let (pages, version, events) = row;
     let mut world = world(alloc, pages, &[4096, 4096], version)?;
@@ -485,7 +485,7 @@ fn a_move_is_driven_in_each_version(rt: HostRuntime) -> Result<(), Fail> {
     Ok(())
 }
 
-/// Drives a move, also if it was refused memory at first.
+/// Drives a move, and repeats it if memory runs out.
 fn drive_again(alloc: Global, world: &mut World<FlatMemory>) -> Result<Driven, Fail> {
     match drive_move(alloc, world, 0, 1, POLICY) {
         Ok(driven) => Ok(driven),
@@ -505,7 +505,7 @@ static REFUSED: [(u8, u8, &str); 4] = [
     (6, 0, "BadHost"),
 ];
 
-/// The moves are refused.
+/// Asserts that these moves are refused.
 fn assert_refused(
     rt: &impl Abort,
     alloc: Global,
@@ -521,7 +521,7 @@ fn assert_refused(
     Ok(())
 }
 
-/// A move to host 1 is declined, the guest runs on, and other moves are refused.
+/// Asserts that a move to host 1 is declined, the guest runs on, and other moves are refused.
 fn assert_stays(rt: &impl Abort, alloc: Global, world: &mut World<FlatMemory>) -> Result<(), Fail> {
     assert_eq!(rt; drive_again(alloc, world)?, Driven::Declined(3));
     assert_answer(rt, alloc, world, Event::Step(0), "retired")?;

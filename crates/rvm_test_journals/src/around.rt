@@ -10,20 +10,20 @@ use rvm_paged::PagedRam;
 use rvm_recorder::{Journal, Recorded};
 use std::alloc::Global;
 
-/// How many hosts there are.
+/// The number of hosts.
 const HOSTS: u8 = 3;
 
-/// How many frames can come of one another at most.
+/// The most frames that follow from one command.
 const FRAMES: u32 = 8;
 
 /// How many entries each journal takes.
 const ENTRIES: u32 = 100;
 
-/// How many events are looked at.
+/// The most events that are counted.
 const EVENTS: u32 = 100;
 
-/// The guest of host A moves to host B, and from there to host C. Their journals have an order; without what host A wrote
-/// down there is none.
+/// Moves the guest of host A to host B, and from there to host C, and puts their journals in order. Those of B and C
+/// alone have no order, since what host A recorded is missing.
 pub fn order_three_journals<R: AllocGlobal + Print>(rt: &R) -> Option<()> {
     let alloc = rt.alloc();
     let mut hosts = Vec::new(alloc);
@@ -32,7 +32,7 @@ pub fn order_three_journals<R: AllocGlobal + Print>(rt: &R) -> Option<()> {
     told
 }
 
-/// The hosts are made, the guest moves, and their journals are put in order.
+/// Makes the hosts, moves the guest, puts the journals in order, and prints what came of it.
 fn tell_order<R: AllocGlobal + Print>(
     rt: &R,
     alloc: Global,
@@ -61,7 +61,7 @@ fn new_host(alloc: Global, id: u8) -> Option<Recorded<PagedRam>> {
     Recorded::new(alloc, host, ENTRIES).ok()
 }
 
-/// The guest moves from one host to another.
+/// Moves the guest from one host to another.
 fn move_guest(hosts: &mut Vec<Recorded<PagedRam>>, alloc: Global, from: u8, to: u8) -> Option<()> {
     let begin = Command::Begin { to, policy: POLICY };
     play(hosts, alloc, from, begin)?;
@@ -71,7 +71,7 @@ fn move_guest(hosts: &mut Vec<Recorded<PagedRam>>, alloc: Global, from: u8, to: 
     Some(())
 }
 
-/// A host is told something, and each host hears what comes of it.
+/// Gives a host a command, and each host the frames that follow from it.
 fn play(
     hosts: &mut Vec<Recorded<PagedRam>>,
     alloc: Global,
@@ -89,7 +89,7 @@ fn play(
     None
 }
 
-/// An event of a host: the frame that came of it, if one did.
+/// Records an event of a host. Returns the frame that was made, if one was.
 fn at(
     hosts: &mut Vec<Recorded<PagedRam>>,
     alloc: Global,
@@ -102,7 +102,7 @@ fn at(
     }
 }
 
-/// How many events the order of some journals has, and how many deliveries among them; none if they have no order.
+/// The number of events in the order of these journals, and of the deliveries among them; none if they have no order.
 fn tally(alloc: Global, journals: &[&Journal<PagedRam>]) -> Option<(u32, u32)> {
     if journals.len() > usize::from(HOSTS) {
         return None;

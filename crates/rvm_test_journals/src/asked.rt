@@ -12,13 +12,13 @@ use rvm_paged::PagedRam;
 use rvm_recorder::{RecordError, Recorded};
 use std::alloc::Global;
 
-/// How many pages a guest has.
+/// The number of pages of a guest.
 const PAGES: u32 = 4;
 
 /// Jumps to itself.
 const LOOP: u32 = 0x0000006f;
 
-/// Makes a call, and once more if it was refused.
+/// Makes a call, and repeats it if it fails.
 macro_rules! again {
     ($call:expr) => {
         match $call {
@@ -30,8 +30,8 @@ macro_rules! again {
 
 pub(crate) use again;
 
-/// One of two hosts that speak version 1, with an empty journal for this many entries. Host 0 has a guest of so
-/// many harts and four pages that jumps to itself, host 1 has none.
+/// One of two hosts that speak version 1, with an empty journal for this many entries. Host 0 has a guest of `harts`
+/// harts and four pages that jumps to itself, host 1 has none.
 pub fn recorded(alloc: Global, id: u8, harts: u32, capacity: u32) -> Option<Recorded<PagedRam>>
     requires { (1 ≤ harts) × (harts ≤ 8) }
     ensures { IfSome result (λ r. r.journal.entries ≡ []) }
@@ -40,14 +40,14 @@ pub fn recorded(alloc: Global, id: u8, harts: u32, capacity: u32) -> Option<Reco
     Recorded::new(alloc, host, capacity).ok()
 }
 
-/// The host of such a journal, in a version of the stream.
+/// One of two such hosts, in a version of the stream.
 pub fn host(alloc: Global, id: u8, harts: u32, version: u32) -> Option<Host<PagedRam>>
     requires { (1 ≤ harts) × (harts ≤ 8) }
 {
     host_among(alloc, id, 2, harts, version)
 }
 
-/// The same among this many hosts.
+/// One of this many such hosts.
 pub fn host_among(
     alloc: Global,
     id: u8,
@@ -80,7 +80,7 @@ pub fn board(event: BoardEvent) -> HostEvent {
     HostEvent::Do(Command::Board(event))
 }
 
-/// Records an event, and once more if it was refused memory.
+/// Records an event, and repeats that if memory runs out.
 pub fn record(
     recorded: &mut Recorded<PagedRam>,
     alloc: Global,
@@ -93,7 +93,7 @@ pub fn record(
     }
 }
 
-/// The event that a frame comes from a host, also if it was refused memory at first.
+/// The event that a frame comes from a host. If an allocation fails, it is repeated.
 pub fn came(alloc: Global, from: u8, frame: Frame) -> Option<HostEvent> {
     let frame = match Shared::new(alloc, frame) {
         Err(refused) => Shared::new(alloc, refused.value).ok()?,

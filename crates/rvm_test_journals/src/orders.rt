@@ -12,26 +12,27 @@ use rvm_precopy::Policy;
 use rvm_recorder::Recorded;
 use std::alloc::Global;
 
-/// How many frames can come of one another at most.
+/// The most frames that follow from one command.
 const FRAMES: u32 = 8;
 
-/// Four pages are copied, the round ends, the guest stops, and its state is sent.
+/// The number of Copy commands of a move: four pages are copied, the round ends, the guest is paused, and its state is
+/// sent.
 pub const COPIES: u32 = 7;
 
-/// How many pages the guest has.
+/// The number of pages of the guest.
 const PAGES: u32 = 4;
 
 /// How many entries each journal takes.
 const ENTRIES: u32 = 100;
 
-/// How pages are copied.
+/// The policy of the moves.
 pub const POLICY: Policy = Policy {
     max_rounds: 3,
     min_left: 1,
     factor: 3,
 };
 
-/// The move begins.
+/// The command that begins the move.
 pub const BEGIN: Command = Command::Begin {
     to: 1,
     policy: POLICY,
@@ -63,7 +64,8 @@ pub(crate) struct Pair {
 }
 
 impl Pair {
-    /// Hosts that speak a version and have written down nothing, with journals of this many entries.
+    /// Two hosts that speak a version, with empty journals for this many entries. If `has_offered` is set, host A has
+    /// made an offer before.
     pub(crate) fn new(
         alloc: Global,
         entries: u32,
@@ -74,7 +76,7 @@ impl Pair {
         Pair::with(alloc, entries, version, a, offer)
     }
 
-    /// The hosts, of which the first is there.
+    /// The pair of this first host and a new second one.
     fn with(
         alloc: Global,
         entries: u32,
@@ -105,7 +107,7 @@ impl Pair {
         Some(self.order(alloc))
     }
 
-    /// Host A offers its guest again and again, and each offer comes to host B.
+    /// Has host A offer its guest `count` times, and gives each offer to host B.
     fn fill(&mut self, alloc: Global, count: u32) -> Option<()> {
         let mut offer = made(&mut self.a, alloc, HostEvent::Do(BEGIN))?;
         for _ in 1..count {
@@ -115,14 +117,14 @@ impl Pair {
         self.come(alloc, offer)
     }
 
-    /// A frame comes to host B.
+    /// Gives a frame to host B.
     fn come(&mut self, alloc: Global, frame: Option<Addressed>) -> Option<()> {
         let frame = frame?.frame;
         drop(made(&mut self.b, alloc, came(alloc, 0, frame)?)?);
         Some(())
     }
 
-    /// The next event of host A, and of each host as frames come of it.
+    /// Gives host A an event, and each host the frames that follow from it.
     fn play(&mut self, alloc: Global, event: HostEvent) -> Option<()> {
         let mut next = made(&mut self.a, alloc, event)?;
         for _ in 0..FRAMES {
@@ -136,7 +138,7 @@ impl Pair {
         None
     }
 
-    /// A move, from its beginning to its end.
+    /// Plays a move, from its beginning to its end.
     fn play_a_move(&mut self, alloc: Global) -> Option<()> {
         self.play(alloc, HostEvent::Do(BEGIN))?;
         for _ in 0..COPIES {
@@ -145,7 +147,7 @@ impl Pair {
         Some(())
     }
 
-    /// A move whose last page does not come at first, so that host B tells host A that it is lost.
+    /// Plays a move whose last page does not come at first, so that host B tells host A that it is lost.
     fn lose_a_page(&mut self, alloc: Global) -> Option<()> {
         self.play(alloc, HostEvent::Do(BEGIN))?;
         for _ in 1..PAGES {
@@ -159,14 +161,14 @@ impl Pair {
         Some(())
     }
 
-    /// Each host does something, and then host B accepts the offer.
+    /// Gives each host another event, and then has host B accept the offer.
     fn accept_later(&mut self, alloc: Global) -> Option<()> {
         drop(made(&mut self.a, alloc, board(BoardEvent::Step(0)))?);
         drop(made(&mut self.b, alloc, HostEvent::Do(Command::Copy))?);
         self.accept(alloc)
     }
 
-    /// Host B accepts the offer, and host A hears of it.
+    /// Has host B accept the offer, and host A hear of it.
     fn accept(&mut self, alloc: Global) -> Option<()> {
         let offer = self.offer.take()?;
         let accept = made(&mut self.b, alloc, came(alloc, 0, offer.frame)?)??;
@@ -174,7 +176,7 @@ impl Pair {
         Some(())
     }
 
-    /// One order of both journals, asked for once more if that was refused memory.
+    /// Puts both journals in order, and repeats that if memory runs out.
     pub(crate) fn order(&self, alloc: Global) -> Result<Vec<Event>, AuditError> {
         match audit(alloc, self.a.journal(), self.b.journal()) {
             Err(AuditError::OutOfMemory) => audit(alloc, self.a.journal(), self.b.journal()),
@@ -183,7 +185,7 @@ impl Pair {
     }
 }
 
-/// Records an event: the frame that came of it, if one did.
+/// Records an event. Returns the frame that was made, if one was.
 pub(crate) fn made(
     recorded: &mut Recorded<PagedRam>,
     alloc: Global,
@@ -194,13 +196,13 @@ pub(crate) fn made(
     Some(frame)
 }
 
-/// Begins a move: the offer.
+/// Begins a move. Returns the offer.
 fn begin(alloc: Global, host: &mut Host<PagedRam>) -> Option<Addressed> {
     let (_, offer) = again!(host.apply(alloc, &HostEvent::Do(BEGIN)));
     offer
 }
 
-/// Host A with an empty journal, and the offer that it made before.
+/// Host A with an empty journal, and the offer that it made before, if it made one.
 fn first_host(
     alloc: Global,
     entries: u32,
@@ -223,7 +225,8 @@ fn second_host(alloc: Global, entries: u32, version: u32) -> Option<Recorded<Pag
     Recorded::new(alloc, host, entries).ok()
 }
 
-/// The order of two journals after a story, for this many entries each, of hosts that speak a version.
+/// Plays a story on two hosts that speak a version, with journals for this many entries each. Returns the order of the
+/// journals.
 fn order_behind(
     alloc: Global,
     entries: u32,
@@ -237,7 +240,8 @@ fn order_behind(
     order
 }
 
-/// Puts two journals of this many entries in order, in which frames of equal bytes come again and again.
+/// Puts two journals of this many entries in order, in which frames of equal bytes come again and again, and prints the
+/// number of events.
 pub fn order_long_journals<R: AllocGlobal + Print>(rt: &R, entries: u32) -> Option<()> {
     let events = order_behind(rt.alloc(), entries, 1, Story::Offers(entries))?.ok()?;
     println!(rt;
@@ -247,8 +251,8 @@ pub fn order_long_journals<R: AllocGlobal + Print>(rt: &R, entries: u32) -> Opti
     .ok()
 }
 
-/// Puts journals in order: of a whole move in each version, of one that loses a page, of moves whose beginning was
-/// not written down, and of nothing.
+/// Puts journals in order: of a whole move in each version, of one that loses a page, of moves whose beginning was not
+/// recorded, and of nothing.
 pub fn put_in_order<R: AllocGlobal + Print>(rt: &R) -> Option<()> {
     for version in 1..=3 {
         order_a_move(rt, version)?;
@@ -259,7 +263,7 @@ pub fn put_in_order<R: AllocGlobal + Print>(rt: &R) -> Option<()> {
     order_nothing(rt)
 }
 
-/// A guest of four pages moves, frame by frame.
+/// Moves a guest of four pages, puts the journals in order, and prints what came of it.
 fn order_a_move<R: AllocGlobal + Print>(rt: &R, version: u32) -> Option<()> {
     let events = order_behind(rt.alloc(), ENTRIES, version, Story::Move)?.ok()?;
     let (deliveries, are_once) = deliveries(events.as_slice());
@@ -270,13 +274,13 @@ fn order_a_move<R: AllocGlobal + Print>(rt: &R, version: u32) -> Option<()> {
     .ok()
 }
 
-/// A move that loses a page, which host B asks for again.
+/// Plays a move that loses a page, which host B asks for again, and prints the number of events in its order.
 fn order_a_lost_page<R: AllocGlobal + Print>(rt: &R) -> Option<()> {
     let events = order_behind(rt.alloc(), ENTRIES, 1, Story::LostPage)?.ok()?;
     println!(rt; "a move that loses a page: {} events", events.len()).ok()
 }
 
-/// How many frames are delivered, and whether they are the first, the second and so on, each once.
+/// The number of frames that are delivered, and whether they are the first, the second and so on, each once.
 fn deliveries(events: &[Event]) -> (u64, bool) {
     let (mut next, mut are_once) = (0u64, true);
     for event in events {
@@ -288,7 +292,7 @@ fn deliveries(events: &[Event]) -> (u64, bool) {
     (next, are_once)
 }
 
-/// Host A writes nothing down before the move has begun.
+/// Plays a move that begins before host A records anything, and prints where the journals have no order.
 fn miss_the_beginning<R: AllocGlobal + Print>(rt: &R, story: Story) -> Option<()> {
     match order_behind(rt.alloc(), ENTRIES, 1, story)?.err()? {
         AuditError::NoOrder { i, j } => {
@@ -298,7 +302,7 @@ fn miss_the_beginning<R: AllocGlobal + Print>(rt: &R, story: Story) -> Option<()
     }
 }
 
-/// Hosts at which nothing happened.
+/// Puts the journals of hosts in order at which nothing happened, and prints the number of events.
 fn order_nothing<R: AllocGlobal + Print>(rt: &R) -> Option<()> {
     let events = order_behind(rt.alloc(), ENTRIES, 1, Story::Nothing)?.ok()?;
     println!(rt; "empty journals: {} events", events.len()).ok()

@@ -1,5 +1,5 @@
-//! Two journals of steps among which frames come, put in order again and again: how long that takes is the
-//! difference between many times and few.
+//! Two journals of steps among which frames come, put in order several times, so that the time that one order takes is
+//! the difference between many times and few.
 
 use crate::asked::{again, came};
 use crate::orders::{BEGIN, COPIES, Pair, made};
@@ -11,13 +11,13 @@ use rvm_precopy::Policy;
 use rvm_recorder::Recorded;
 use std::alloc::Global;
 
-/// How many steps a slice has.
+/// The number of steps of a slice.
 const SLICE: u32 = 64;
 
 /// How many entries each journal takes.
 const ENTRIES: u32 = 1048576;
 
-/// The guest goes back.
+/// The command that moves the guest back.
 const BACK: Command = Command::Begin {
     to: 0,
     policy: Policy {
@@ -27,27 +27,27 @@ const BACK: Command = Command::Begin {
     },
 };
 
-/// What is written down, and how often it is put in order.
+/// What is recorded, and how often it is put in order.
 #[derive(Clone, Copy)]
 pub struct Plan {
-    /// As a list of events, and not in runs.
+    /// Whether the order is a list of events, and not kept in runs.
     pub is_list: bool,
-    /// This many steps are made at each host,
+    /// The number of steps that are made at each host.
     pub steps: u32,
-    /// with this many offers among them, which come to the other host, and are accepted there.
+    /// The number of offers among the steps of each host, each of which comes to the other host, and is accepted there.
     pub offers: u32,
     pub times: u32,
 }
 
 impl Pair {
-    /// The guest makes its steps at host A among offers, moves to host B, and does the same there.
+    /// Has the guest make its steps at host A among offers, moves it to host B, and does the same there.
     fn play_runs(&mut self, alloc: Global, plan: Plan) -> Option<()> {
         offer_among_steps(alloc, plan, &mut self.a, &mut self.b, 0, BEGIN)?;
         self.go_over(alloc)?;
         offer_among_steps(alloc, plan, &mut self.b, &mut self.a, 1, BACK)
     }
 
-    /// Host B accepts the offer once more, host A hears of it, and the guest goes over.
+    /// Has host B accept the offer once more, and host A hear of it, and moves the guest.
     fn go_over(&mut self, alloc: Global) -> Option<()> {
         let offer = made(&mut self.a, alloc, HostEvent::Do(Command::Resend))?;
         self.answer(alloc, offer)?;
@@ -58,7 +58,7 @@ impl Pair {
         Some(())
     }
 
-    /// A frame comes, and what is made of it, and so on: at most eight.
+    /// Gives a frame to its host, and at most seven more that follow from it.
     fn answer(&mut self, alloc: Global, frame: Option<Addressed>) -> Option<()> {
         let mut next = frame;
         for _ in 0..8 {
@@ -72,7 +72,7 @@ impl Pair {
         None
     }
 
-    /// Puts both journals in order this many times: how many events they are.
+    /// Puts both journals in order this many times. Returns the number of events, or 0 if they are kept in runs.
     fn order_again(&self, alloc: Global, plan: Plan) -> Option<u64> {
         let mut count: u64 = 0;
         for _ in 0..plan.times {
@@ -81,7 +81,7 @@ impl Pair {
         Some(count)
     }
 
-    /// Puts both journals in order: how many events they are, if they are a list.
+    /// Puts both journals in order. Returns the number of events, or 0 if they are kept in runs.
     fn order_once(&self, alloc: Global, plan: Plan) -> Option<u64> {
         if plan.is_list {
             return Some(self.order(alloc).ok()?.len() as u64);
@@ -90,14 +90,14 @@ impl Pair {
         Some(0)
     }
 
-    /// Plays it, and puts both journals in order.
+    /// Plays a plan, and puts both journals in order.
     fn order_of_runs(&mut self, alloc: Global, plan: Plan) -> Option<u64> {
         self.play_runs(alloc, plan)?;
         self.order_again(alloc, plan)
     }
 }
 
-/// A host makes its steps, and offers its guest again and again, and each offer comes to the other host.
+/// Has a host make its steps and offer its guest again and again, and gives each offer to the other host.
 fn offer_among_steps(
     alloc: Global,
     plan: Plan,
@@ -121,14 +121,14 @@ fn offer_among_steps(
     come(alloc, to, id, offer)
 }
 
-/// A slice, and a drain that finds nothing.
+/// Records a slice, and a drain that finds nothing.
 fn step(alloc: Global, host: &mut Recorded<PagedRam>, turn: u32) -> Option<()> {
     drop(again!(host.record_slice(alloc, turn, 1, SLICE)));
     let _place = host.record_dry(256)?;
     Some(())
 }
 
-/// A frame comes from a host.
+/// Gives a host a frame that comes from another one.
 fn come(
     alloc: Global,
     host: &mut Recorded<PagedRam>,
@@ -140,13 +140,13 @@ fn come(
     Some(())
 }
 
-/// Puts two journals of steps and offers in order, and tells how many events they are.
+/// Puts two journals of steps and offers in order, and prints the number of events.
 pub fn order_runs<R: AllocGlobal + Print>(rt: &R, plan: Plan) -> Option<()> {
     let count = count_events(rt.alloc(), plan)?;
     println!(rt; "{count} events").ok()
 }
 
-/// How many events there are in the order of such journals.
+/// The number of events in the order of such journals.
 fn count_events(alloc: Global, plan: Plan) -> Option<u64> {
     let mut pair = Pair::new(alloc, ENTRIES, 1, false)?;
     let count = pair.order_of_runs(alloc, plan);

@@ -24,25 +24,25 @@ const POKE: BoardEvent = BoardEvent::PokeReg {
     value: 7,
 };
 
-/// What one seat writes to a register the other one reads.
+/// Has one seat write to a register, and the other one read it.
 pub fn write_and_read<R: AllocGlobal + Print + Wait>(rt: &R) -> Option<()> {
     let host = recorded(rt.alloc(), 0, 1, 100)?;
     poke_and_look::<Brand, R>(rt, Blank::new(2), host)
 }
 
-/// A journal that is full hands the event back; a host is closed with all receipts.
+/// Fills a journal, which then hands an event back, and closes the host with all receipts.
 pub fn fill_a_journal<R: AllocGlobal + Print + Wait>(rt: &R) -> Option<()> {
     let host = recorded(rt.alloc(), 0, 1, 1)?;
     fill_and_close::<Brand, R>(rt, Blank::new(2), host)
 }
 
-/// A host is not closed without a receipt, nor without its seat, and the place that is missed is told.
+/// Tries to close a host without a receipt, and without its seat, and prints which place is missed.
 pub fn miss_places<R: AllocGlobal + Print + Wait>(rt: &R) -> Option<()> {
     let host = recorded(rt.alloc(), 0, 1, 2)?;
     call_and_miss::<Brand, R>(rt, Blank::new(1), host)
 }
 
-/// Each frame that a call makes is handed out: those of a move at its source.
+/// Counts the frames that calls hand out: those of a move at its source.
 pub fn hand_out_frames<R: AllocGlobal + Print + Wait>(rt: &R) -> Option<()> {
     let host = recorded(rt.alloc(), 0, 1, 100)?;
     share_and_move::<Brand, R>(rt, Blank::new(2), host)
@@ -67,7 +67,7 @@ fn share_and_move<L: Seating, R: AllocGlobal + Print + Wait>(
     done
 }
 
-/// Tells how many frames the calls of a move hand out: the offer, four pages, the end of their round and the state.
+/// Prints how many frames the calls of a move hand out: the offer, four pages, the end of their round and the state.
 fn tell_frames<L: Seating, R: AllocGlobal + Print + Wait>(
     rt: &R,
     host: &SharedHost<L, PagedRam>,
@@ -83,7 +83,7 @@ fn tell_frames<L: Seating, R: AllocGlobal + Print + Wait>(
     println!(rt; "a move at its source hands out {frames} frames").ok()
 }
 
-/// How many frames a call hands out.
+/// Makes a call. Returns how many frames it hands out, 0 or 1.
 fn frames_of<L: Seating, R: AllocGlobal + Wait>(
     rt: &R,
     host: &SharedHost<L, PagedRam>,
@@ -114,7 +114,7 @@ fn poke_and_look<L: Seating, R: AllocGlobal + Print + Wait>(
     done
 }
 
-/// Pokes a register from the first of these seats, and tells what the second sees.
+/// Pokes a register from the first of these seats, and prints what the second sees.
 fn poke_and_tell<L: Seating, R: AllocGlobal + Print + Wait>(
     rt: &R,
     host: &SharedHost<L, PagedRam>,
@@ -126,7 +126,7 @@ fn poke_and_tell<L: Seating, R: AllocGlobal + Print + Wait>(
     println!(rt; "one seat writes 7, the other reads {t0}, at a later place {is_later}").ok()
 }
 
-/// Calls a host from one of these seats: the place of the call, and the register t0 in its answer.
+/// Calls a host from one of these seats. Returns the place of the call, and the register t0 in the reply.
 fn place_and_t0<L: Seating, R: AllocGlobal + Wait>(
     rt: &R,
     host: &SharedHost<L, PagedRam>,
@@ -142,7 +142,7 @@ fn place_and_t0<L: Seating, R: AllocGlobal + Wait>(
     Some(told)
 }
 
-/// The register t0 in an answer; 0 if it has no registers.
+/// The register t0 in a reply; 0 if it has no registers.
 fn t0_of(reply: HostReply) -> u32 {
     match reply {
         HostReply::Board(BoardReply::Regs(registers)) => registers[5],
@@ -173,7 +173,7 @@ fn fill_and_close<L: Seating, R: AllocGlobal + Print + Wait>(
     }
 }
 
-/// Calls twice from the first of these seats: the receipt of the one call that the journal takes.
+/// Calls twice from the first of these seats. Returns the receipt of the one call that the journal takes.
 fn fill<L: Seating, R: AllocGlobal + Print + Wait>(
     rt: &R,
     host: &SharedHost<L, PagedRam>,
@@ -209,7 +209,7 @@ fn close_twice<L: Seating, R: AllocGlobal + Print + Wait>(
     }
 }
 
-/// Closes a host without its one receipt, which cannot be: all comes back.
+/// Tries to close a host without its one receipt, and prints whether place 0 is missed. Returns all that came back.
 fn close_without<L: Seating, R: AllocGlobal + Print + Wait>(
     rt: &R,
     host: SharedHost<L, PagedRam>,
@@ -254,7 +254,7 @@ fn close_with<L: Seating, R: AllocGlobal + Print + Wait>(
     }
 }
 
-/// Calls a host twice by its one seat, and closes it without what it gave.
+/// Calls a host twice from its one seat, and tries to close it without the second receipt, and then without the seat.
 fn call_and_miss<L: Seating, R: AllocGlobal + Print + Wait>(
     rt: &R,
     blank: Blank,
@@ -277,7 +277,7 @@ fn call_and_miss<L: Seating, R: AllocGlobal + Print + Wait>(
     }
 }
 
-/// Makes two steps by the first of these seats: their receipts.
+/// Makes two steps from the first of these seats. Returns their receipts.
 fn call_twice<L: Seating, R: AllocGlobal + Wait>(
     rt: &R,
     host: &SharedHost<L, PagedRam>,
@@ -298,7 +298,7 @@ fn call_twice<L: Seating, R: AllocGlobal + Wait>(
     }
 }
 
-/// Closes a host without its second receipt, which cannot be.
+/// Tries to close a host without its second receipt, which must fail.
 fn miss_a_receipt<L: Seating, R: AllocGlobal + Print + Wait>(
     rt: &R,
     host: SharedHost<L, PagedRam>,
@@ -324,7 +324,7 @@ fn miss_a_receipt<L: Seating, R: AllocGlobal + Print + Wait>(
     }
 }
 
-/// Closes the host that came back with both receipts and without its seat, which cannot be either.
+/// Tries to close the host that came back with both receipts but without its seat, which must fail as well.
 fn miss_a_seat<L: Seating, R: AllocGlobal + Print + Wait>(
     rt: &R,
     error: CloseError<L, PagedRam>,
@@ -348,7 +348,7 @@ fn miss_a_seat<L: Seating, R: AllocGlobal + Print + Wait>(
     }
 }
 
-/// Tells which place was missed without the second receipt, and which is without a seat.
+/// Prints which place was missed without the second receipt, and which is without a seat.
 fn tell_missed<L: Seating, R: AllocGlobal + Print + Wait>(
     rt: &R,
     kind: CloseKind,
@@ -372,7 +372,7 @@ fn tell_missed<L: Seating, R: AllocGlobal + Print + Wait>(
     }
 }
 
-/// Receipts, and one more.
+/// These receipts, and one more.
 fn with_one_more(receipts: Vec<ReceiptItem>, receipt: Receipt) -> Option<Vec<ReceiptItem>> {
     let mut receipts = receipts;
     if receipts.reserve(1).is_err() {
@@ -382,7 +382,7 @@ fn with_one_more(receipts: Vec<ReceiptItem>, receipt: Receipt) -> Option<Vec<Rec
     Some(receipts)
 }
 
-/// Closes a host, and tells how many entries its journal has.
+/// Closes a host, and prints how many entries its journal has.
 fn tell_closed<L: Seating, R: AllocGlobal + Print + Wait>(
     rt: &R,
     host: SharedHost<L, PagedRam>,
@@ -404,7 +404,7 @@ fn tell_closed<L: Seating, R: AllocGlobal + Print + Wait>(
     }
 }
 
-/// Shares a host between this many seats, and once more if that was refused.
+/// Shares a host among this many seats, and repeats that if it fails.
 pub fn share_host<L: Seating>(
     alloc: Global,
     blank: Blank,
@@ -423,7 +423,7 @@ pub fn share_host<L: Seating>(
     }
 }
 
-/// Calls a host, and once more if that was refused memory.
+/// Calls a host, and repeats the call if memory runs out.
 fn call<L: Seating, R: AllocGlobal + Wait>(
     rt: &R,
     host: &SharedHost<L, PagedRam>,
@@ -437,7 +437,7 @@ fn call<L: Seating, R: AllocGlobal + Wait>(
     }
 }
 
-/// Tells whether a journal of one entry takes no second one, and hands its event back.
+/// Prints whether a journal of one entry takes no second one, and hands its event back.
 fn tell_full<L: Seating, R: AllocGlobal + Print + Wait>(
     rt: &R,
     host: &SharedHost<L, PagedRam>,
@@ -463,7 +463,7 @@ fn is_handed_back(answer: Result<(Receipt, Option<Addressed>), (RecordError, Hos
     }
 }
 
-/// Closes a host, and once more if that was refused memory.
+/// Closes a host, and repeats that if memory runs out.
 fn close_again<L: Seating, R: AllocGlobal + Wait>(
     rt: &R,
     host: SharedHost<L, PagedRam>,

@@ -19,7 +19,7 @@ pub fn refuse_sizes<R: AllocGlobal + Print>(rt: &R) -> Option<()> {
     ask_for_seats(rt)
 }
 
-/// A host that comes back with each refusal takes the longest journal.
+/// Asks for journals that are too small and too large, and then for the longest one, with the host that came back.
 fn ask_for_journals<R: AllocGlobal + Print>(rt: &R) -> Option<()> {
     let host = host(rt.alloc(), 0, 1, 1)?;
     let host = refuse_journal(rt.alloc(), host, 0)?;
@@ -41,7 +41,7 @@ fn refuse_journal(alloc: Global, host: Host<PagedRam>, capacity: u32) -> Option<
     }
 }
 
-/// Whether a host writes down a step of its guest.
+/// Prints whether a host records a step of its guest.
 fn tell_step<R: AllocGlobal + Print>(rt: &R, recorded: &mut Recorded<PagedRam>) -> Option<()> {
     let (_, reply, frame) = record(recorded, rt.alloc(), board(BoardEvent::Step(0)))?;
     drop(frame);
@@ -52,7 +52,7 @@ fn tell_step<R: AllocGlobal + Print>(rt: &R, recorded: &mut Recorded<PagedRam>) 
     ).ok()
 }
 
-/// A host that comes back with each refusal is shared by the most seats.
+/// Asks for no seat and for too many, and then shares the host that came back among the most seats.
 fn ask_for_seats<R: AllocGlobal + Print>(rt: &R) -> Option<()> {
     let host = recorded(rt.alloc(), 0, 1, 100)?;
     let host = refuse_seats(rt.alloc(), host, 0)?;
@@ -91,7 +91,7 @@ fn refuse_share<L: Seating>(
     }
 }
 
-/// How many seats share a host.
+/// Prints how many seats share a host.
 fn tell_seats<L: Seating, R: AllocGlobal + Print>(
     rt: &R,
     blank: Blank,

@@ -10,7 +10,7 @@ use rvm_paged::PagedRam;
 use rvm_recorder::{RecordError, Recorded, SliceError, StepRun};
 use std::alloc::Global;
 
-/// What is shown at a host.
+/// What a host is to show.
 #[derive(Clone, Copy)]
 enum Shown {
     Slices,
@@ -18,15 +18,15 @@ enum Shown {
     Room,
 }
 
-/// Records slices of the steps of four harts until the journal is full, one that ends at a breakpoint,
-/// and makes room for entries.
+/// Records slices of the steps of four harts until the journal is full, and one that ends at a breakpoint, and makes
+/// room for entries.
 pub fn record_slices<R: AllocGlobal + Print>(rt: &R) -> Option<()> {
     show_at_a_host(rt, 4, 100, Shown::Slices)?;
     show_at_a_host(rt, 1, 100, Shown::Breakpoint)?;
     show_at_a_host(rt, 1, 4, Shown::Room)
 }
 
-/// At a host with this many harts and a journal of this many entries.
+/// Shows it at a new host with this many harts and a journal for this many entries.
 fn show_at_a_host<R: AllocGlobal + Print>(
     rt: &R,
     harts: u32,
@@ -41,7 +41,7 @@ fn show_at_a_host<R: AllocGlobal + Print>(
     done
 }
 
-/// At this host.
+/// Shows it at this host.
 fn show<R: AllocGlobal + Print>(rt: &R, host: &mut Recorded<PagedRam>, shown: Shown) -> Option<()> {
     match shown {
         Shown::Slices => fill_with_slices(rt, host),
@@ -50,7 +50,7 @@ fn show<R: AllocGlobal + Print>(rt: &R, host: &mut Recorded<PagedRam>, shown: Sh
     }
 }
 
-/// Slices of four harts in a journal of 100 entries.
+/// Records slices of four harts until a journal of 100 entries is full.
 fn fill_with_slices<R: AllocGlobal + Print>(rt: &R, host: &mut Recorded<PagedRam>) -> Option<()> {
     record_a_slice(rt, host, 0)?;
     record_a_slice(rt, host, 64)?;
@@ -58,7 +58,7 @@ fn fill_with_slices<R: AllocGlobal + Print>(rt: &R, host: &mut Recorded<PagedRam
     println!(rt; "the next slice: journal of 100 entries full {is_full}").ok()
 }
 
-/// A slice of four harts from a turn on.
+/// Records a slice of four harts from a turn on, and prints what came of it.
 fn record_a_slice<R: AllocGlobal + Print>(
     rt: &R,
     host: &mut Recorded<PagedRam>,
@@ -71,7 +71,7 @@ fn record_a_slice<R: AllocGlobal + Print>(
     ).ok()
 }
 
-/// Records a slice: the place of its first entry, how many it has, and whether each has this answer.
+/// Records a slice. Returns the place of its first entry, the number of its entries, and whether each has this reply.
 fn answered(
     host: &mut Recorded<PagedRam>,
     alloc: Global,
@@ -87,7 +87,7 @@ fn answered(
     ))
 }
 
-/// How many replies there are.
+/// The number of replies in these runs.
 fn count_of(runs: &[StepRun]) -> u64 {
     let mut count: u64 = 0;
     for run in runs {
@@ -114,7 +114,7 @@ fn is_all(run: &StepRun, wanted: StepReply) -> bool {
     is_retired && is_last
 }
 
-/// A slice ends after a breakpoint.
+/// Records a slice that ends after a breakpoint, and prints what came of it.
 fn stop_at_a_breakpoint<R: AllocGlobal + Print>(
     rt: &R,
     host: &mut Recorded<PagedRam>,
@@ -128,7 +128,7 @@ fn stop_at_a_breakpoint<R: AllocGlobal + Print>(
     ).ok()
 }
 
-/// Room for as many entries as the journal takes, and for one more.
+/// Makes room for as many entries as the journal takes, and asks for one more.
 fn make_room<R: AllocGlobal + Print>(rt: &R, host: &mut Recorded<PagedRam>) -> Option<()> {
     let alloc = rt.alloc();
     again!(host.reserve(alloc, 4));

@@ -7,7 +7,7 @@ use rvm_asm_line::Fault;
 use std::alloc::Global;
 use std::test::Fail;
 
-/// The image of a text, at a second call if memory ran out at the first.
+/// The image of a text, from a second call if memory runs out in the first.
 fn image(alloc: Global, text: &str) -> Result<Image, AsmError> {
     match assemble(alloc, text) {
         Err(AsmError::OutOfMemory) => assemble(alloc, text),
@@ -19,7 +19,7 @@ fn is_at(segment: &Segment, address: u32, bytes: &[u8]) -> bool {
     segment.address == address && segment.bytes.as_slice() == bytes && segment.zeros == 0
 }
 
-/// Whether there are just these segments: their addresses and bytes.
+/// Whether the segments have just these addresses and bytes.
 fn are_at(segments: &[Segment], wanted: &[(u32, &[u8])]) -> bool {
     if segments.len() != wanted.len() {
         return false;
@@ -127,8 +127,7 @@ static FAULTS: [(&str, Fault); 16] = [
     (".word 1\n.org 0x80000000\n.byte 0", Fault::Overlap),
     ("here: nop\n\naddi a0, a0", Fault::BadToken),
     ("here: nop\n\n.ascii \"a", Fault::BadToken),
-    // A line that is not in the grammar is told so, whatever its names and values, and where
-    // it stands.
+    // A line that is not in the grammar is reported as such, whatever its names and values, and wherever it stands.
     ("here: nop\n\njalr a0, here, 4", Fault::BadToken),
     ("here: nop\n\njalr a0, a1, 4", Fault::BadToken),
     ("here: nop\n\nlw a0, 5000(q1)", Fault::BadToken),
@@ -166,9 +165,9 @@ static LARGE: [(&str, AsmError); 6] = [
         ".space 0x1000000\n.org 0x90000000\n.space 0x1000000\n.org 0x90000001\n.byte 1",
         AsmError::Line(5, Fault::Overlap),
     ),
-    // The size stands at no line.
+    // The size is a fault of no line.
     (".space 0xFFFFFF\n.byte 1\n.byte 2", AsmError::TooLarge),
-    // More than 16 segments come before more than 2^24 bytes.
+    // More than 16 segments are reported before more than 2^24 bytes.
     (
         ".space 0x1000000\n.org 0x90000000\n.byte 1\n.org 0x90000002\n.byte 2\n\
             .org 0x90000004\n.byte 3\n.org 0x90000006\n.byte 4\n.org 0x90000008\n.byte 5\n\

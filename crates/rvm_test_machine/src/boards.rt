@@ -1,4 +1,4 @@
-//! Boards at reset over one page of RAM, also if the first call was refused memory.
+//! Boards at reset over one page of RAM, from a second call if memory runs out in the first.
 
 use crate::retry::again;
 use rvm_board::{Board, BoardError, Debugged};
@@ -12,7 +12,7 @@ pub fn page(alloc: Global) -> Result<FlatMemory, AllocError> {
     Ok(again!(FlatMemory::zeroed(alloc, 1)))
 }
 
-/// A board with one page of RAM, which begins with these words.
+/// A board with one page of RAM that begins with these words.
 pub fn board(alloc: Global, harts: u32, words: &[u32]) -> Result<Debugged<FlatMemory>, Fail> {
     let mut ram = page(alloc)?;
     let mut at = 0u32;

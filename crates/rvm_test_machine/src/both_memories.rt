@@ -64,7 +64,7 @@ fn assert_little_endian<M: PagedMemory + Drop>(rt: &impl Abort, alloc: Global) -
     Ok(())
 }
 
-/// The bytes from place 8 on, and the numbers that are loaded there.
+/// Asserts which bytes, halves and word are loaded from place 8 on.
 fn assert_loads<M: Memory>(rt: &impl Abort, ram: &M, bytes: [u8; 4], halves: [u16; 2], word: u32) {
     assert!(rt; ram.len() >= 12);
     let loaded = [ram.load8(8), ram.load8(9), ram.load8(10), ram.load8(11)];

@@ -1,5 +1,5 @@
-//! Frames in each version of a stream: read by their bytes and written so again, streams in whatever
-//! pieces they come, the first fault of bytes, and what is asked for memory.
+//! Frames in each version of a stream: read from bytes and written to the same bytes; streams in pieces of any size;
+//! the first fault of bytes; and when memory is asked for.
 
 ghost use Rattle.std.specs.Prelude.{Some};
 ghost use Rattle.rvm_frame.specs.Grammar.{HasSpelling, sent};
@@ -157,8 +157,8 @@ fn a_stream_may_be_cut_anywhere(rt: HostRuntime) -> Result<(), Fail> {
     Ok(())
 }
 
-/// The fault of bytes after Hello of a version, in one piece, or None if there is none. Refusals
-/// of memory come after every other one, so that the answer is the same without memory.
+/// The fault of bytes after Hello of a version, in one piece, or None if there is none. It is found before any memory
+/// is asked for, so that the result is the same if memory runs out.
 fn fault(alloc: Global, version: u8, bytes: &[u8]) -> Result<Option<FrameFault>, FrameFault> {
     let hello = [0, 0, 0, 0, 0, 0, 0, 0, 0, 4, 0, 0, 0, version, 0, 0, 0];
     let mut reader = FrameReader::new(alloc);
@@ -168,7 +168,7 @@ fn fault(alloc: Global, version: u8, bytes: &[u8]) -> Result<Option<FrameFault>,
 
 const BAD: FrameFault = FrameFault::BadFrame;
 
-/// Versions, bytes after Hello, and the fault of them.
+/// Versions, bytes after Hello, and their fault.
 static REFUSED: [(u8, &[u8], FrameFault); 14] = [
     // A kind of another version; a second Hello.
     (1, &[12], BAD),
@@ -242,7 +242,7 @@ fn a_stream_that_was_refused_stays_so(rt: HostRuntime) -> Result<(), Fail> {
         reader.feed(alloc, &header[12..]).err(),
         Some(FrameFault::TooLong)
     );
-    // A whole frame after it comes to nothing.
+    // A whole frame after it is refused too.
     assert_eq!(rt;
         reader.feed(alloc, &AFTER_PAGE[37..]).err(),
         Some(FrameFault::Failed)
@@ -251,8 +251,8 @@ fn a_stream_that_was_refused_stays_so(rt: HostRuntime) -> Result<(), Fail> {
     Ok(())
 }
 
-/// Bytes after Hello of version 1 that are no frame from the last one on: a kind of another version, a second Hello, Ready
-/// with a body of one byte, and the pages 3 and 3 that are lost.
+/// Bytes after Hello of version 1 that are no frame from the last one on: a kind of another version, a second Hello,
+/// Ready with a body of one byte, and the pages 3 and 3 that are lost.
 static NO_FRAME: [&[u8]; 4] = [
     &[12],
     &[0],
@@ -375,12 +375,12 @@ static KINDS: [(u32, &str, &str); 18] = [
     ),
 ];
 
-/// What a frame is, with its hosts, in words.
+/// A frame and its hosts as text.
 fn words(alloc: Global, received: &Received) -> Result<String, AllocError> {
     format!(in alloc; "{:?} {:?}", received.0, received.1)
 }
 
-/// The frame that bytes are, in words.
+/// The frame that bytes are, and its hosts, as text.
 fn read_words(alloc: Global, version: u32, bytes: &[u8]) -> Result<String, Fail> {
     let received = again!(read_frame(alloc, version, bytes));
     Ok(again!(words(alloc, &received)))
@@ -396,7 +396,7 @@ fn each_kind_is_read_by_its_bytes(rt: HostRuntime) -> Result<(), Fail> {
     Ok(())
 }
 
-/// The bytes of a frame, from each of the writers, if they are the same.
+/// The bytes of a frame, if all writers write the same; else none.
 fn written(alloc: Global, version: u32, addressed: &Addressed) -> Result<Vec<u8>, Fail>
     requires { HasSpelling (sent version addressed.now) }
 {
@@ -547,8 +547,7 @@ fn at_a_page(alloc: Global) -> Result<FrameReader, FrameFault> {
     Ok(reader)
 }
 
-/// How many of these bytes are taken, and the place of the frame that they end, 0 where they end
-/// none.
+/// How many of these bytes are taken, and the place of the frame that they end, or 0 if they end none.
 fn feed_once(
     alloc: Global,
     reader: &mut FrameReader,
@@ -564,7 +563,7 @@ fn feed_once(
 fn a_page_takes_memory_once(rt: HostRuntime) -> Result<(), Fail> {
     let alloc = rt.alloc();
     let mut reader = at_a_page(alloc)?;
-    // From here on no call is refused, whichever allocation is.
+    // From here on no call takes memory, so none fails, whichever allocation does.
     feed_once(alloc, &mut reader, &BEFORE_PAGE[46..])?;
     feed_once(alloc, &mut reader, &[9; 4000])?;
     assert_eq!(rt; feed_once(alloc, &mut reader, &[9; 96])?, (96, 3));

@@ -1,5 +1,5 @@
-//! Greetings: what two ends say byte by byte, made by another program, and what is told to whoever does not know the
-//! secret.
+//! Greetings: what two ends say byte by byte, made by another program, and what is told to an end that does not know
+//! the secret.
 
 use rvm_greeting::{Facts, GreetingFault, Registry, Secret, accept, greet};
 use std::test::Fail;
@@ -7,7 +7,7 @@ use std::test::Fail;
 /// The secret of both ends.
 static SECRET: &[u8] = b"open sesame";
 
-/// What host 1 says, the connector: its nonce is 17 32 times, its world 9 and its process 86.
+/// What host 1 says, the connector: its nonce is 32 bytes of 17, its world 9 and its process 86.
 static CONNECTOR: [u8; 99] = [
     114, 118, 109, 111, 118, 101, 49, 10, 1, 2, 3, 17, 17, 17, 17, 17, 17, 17, 17, 17, 17, 17, 17,
     17, 17, 17, 17, 17, 17, 17, 17, 17, 17, 17, 17, 17, 17, 17, 17, 17, 17, 17, 17, 32, 29, 48,
@@ -16,7 +16,7 @@ static CONNECTOR: [u8; 99] = [
     0, 0, 0, 0, 0,
 ];
 
-/// What host 2 says, the acceptor: its nonce is 34 32 times, it knows no world, and its process is 70.
+/// What host 2 says, the acceptor: its nonce is 32 bytes of 34, it knows no world, and its process is 70.
 static ACCEPTOR: [u8; 99] = [
     114, 118, 109, 111, 118, 101, 49, 10, 2, 1, 3, 34, 34, 34, 34, 34, 34, 34, 34, 34, 34, 34, 34,
     34, 34, 34, 34, 34, 34, 34, 34, 34, 34, 34, 34, 34, 34, 34, 34, 34, 34, 34, 34, 242, 65, 114,

@@ -69,7 +69,7 @@ fn state(alloc: Global, body: u32) -> Result<Vec<u8>, Fail> {
     Ok(bytes)
 }
 
-/// How many bytes stand after the copy numbers of a state; none of another frame.
+/// How many bytes stand after the copy numbers of a state; none for another frame.
 fn length(frame: &Frame) -> Option<usize> {
     match frame {
         Frame::State { state, .. } => Some(state.as_slice().len()),
@@ -96,7 +96,7 @@ const TOO_LONG: [u8; 13] = [7, 1, 0, 0, 0, 0, 0, 0, 0, 1, 128, 0, 0];
 fn a_stream_fails_at_byte_13_of_a_frame_that_is_too_long(rt: HostRuntime) -> Result<(), Fail> {
     let mut reader = FrameReader::new(rt.alloc());
     again!(reader.feed(rt.alloc(), &HELLO));
-    // The twelve bytes before it are no fault, and are taken.
+    // The twelve bytes before its last one are no fault, and are taken.
     let (taken, received) = again!(reader.feed(rt.alloc(), &TOO_LONG[..12]));
     assert_eq!(rt; (taken, received.is_none()), (12, true));
     let fault = reader.feed(rt.alloc(), &TOO_LONG[12..]).err();

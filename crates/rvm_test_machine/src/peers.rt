@@ -1,4 +1,4 @@
-//! The hosts of a world, as a file names them: a file is read, and the place of a fault is told.
+//! The hosts of a world, as a file names them: a file is read, and the place of a fault is reported.
 
 use crate::retry::again;
 use rvm_greeting::{Peers, PeersFault, read_peers};

@@ -1,6 +1,6 @@
-//! Makes calls again that were refused memory.
+//! Repeats calls that fail.
 
-/// The value of a call, or of a second one if the first was refused memory.
+/// The value of a call, which is repeated once if it fails.
 macro_rules! again {
     ($call:expr) => {
         match $call {

@@ -78,7 +78,7 @@ fn other_words_have_no_row(rt: HostRuntime) {
     }
 }
 
-/// Each word has its instruction, and the instruction has the word.
+/// Asserts that each word has its instruction, and the instruction has the word.
 fn assert_rows(rt: &impl Abort, rows: &[Row]) {
     for (word, ins) in rows {
         assert!(rt; decode(*word) == Some(*ins), "{word:#x}");

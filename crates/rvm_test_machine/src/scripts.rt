@@ -11,7 +11,7 @@ use std::test::Fail;
 /// `jal zero, 0`.
 const LOOP: u32 = 0x0000006F;
 
-/// What a script over a board comes to, or a second run of it if the first was refused memory.
+/// How a script over a board ends, from a second run if memory runs out in the first.
 fn run<M: Memory, W: Write>(
     alloc: Global,
     board: &mut Debugged<M>,
@@ -38,7 +38,7 @@ fn an_endless_script_is_too_long(rt: HostRuntime) -> Result<(), Fail> {
     Ok(())
 }
 
-/// Gives a line, and then fails.
+/// A reader that gives a line, and then fails.
 #[derive(Drop)]
 struct Failing {
     line: &'static [u8],

@@ -15,7 +15,7 @@ fn at_reset(alloc: Global) -> Result<Vec<u8>, Fail> {
     Ok(again!(write_state(alloc, &guest)))
 }
 
-/// What `read_state` returns; if it was refused memory, what it returns with the RAM that it handed back.
+/// What `read_state` returns; if memory runs out, what it returns at a second call, with the RAM that it handed back.
 fn read(
     alloc: Global,
     bytes: &[u8],

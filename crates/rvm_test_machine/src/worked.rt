@@ -11,7 +11,7 @@ use std::alloc::Global;
 use std::process::Abort;
 use std::test::Fail;
 
-/// A guest's text, and what a debugger asks and is answered.
+/// A guest's text, the script of a debugger, and the answers to it.
 struct Case {
     text: &'static str,
     script: &'static str,
@@ -74,7 +74,7 @@ fn worked_cases_hold_over_both_memories(rt: HostRuntime) -> Result<(), Fail> {
     Ok(())
 }
 
-/// A script over a board of two harts and two pages has its answers.
+/// Asserts the answers to a script over a board of two harts and two pages.
 fn assert_case<M: PagedMemory + Drop>(
     rt: &impl Abort,
     alloc: Global,

@@ -178,7 +178,7 @@ fn a_failed_write_of_a_run_is_told(rt: HostRuntime) -> Result<(), Fail> {
         assert_eq!(rt; output.room, 0);
         assert_eq!(rt; status, Ok(1));
     }
-    // What is said of the end can fail too.
+    // The report of the end can fail too.
     let letter = bytes_of(alloc, &LETTER)?;
     let (mut output, mut errors) = (Vec::new(alloc), Narrow { room: 3 });
     let status = run_command::<PagedRam, _, _>(

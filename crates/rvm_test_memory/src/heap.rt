@@ -5,24 +5,24 @@ use std::alloc::Global;
 /// The largest block that is asked for at first: 16 GiB, below what a system that counts its memory refuses at once.
 const LARGEST: usize = 1 << 34;
 
-/// Blocks of half the size are asked for, down to this one, and then of each size of a step less.
+/// The smallest size to which sizes are halved; smaller ones fall by `STEP`.
 const LAST_HALF: usize = 2048;
 
 const STEP: usize = 16;
 
-/// How many blocks there may be of a size.
+/// The most blocks of one size.
 const MOST: usize = 16384;
 
-/// How many blocks are kept free while the rest is held, and how long they are: what a trial has. It is much, since the
+/// The number of blocks that are kept free for a trial while the rest is held, and their size. They are many, since the
 /// C library keeps some small blocks that are given back apart, wherever they lie.
 const FREE: usize = 1024;
 
 const FREE_SIZE: usize = 65536;
 
-/// A block that lies after them, so that the C library does not give them back to the system while they are free.
+/// The size of a block that lies after the free ones, so that the C library does not give them back to the system.
 const LID: usize = 2048;
 
-/// How many pages of stack there are before the heap is full: 1 MiB, several times what the trials take.
+/// The number of pages of stack that there are before the heap is full: 1 MiB, several times what the trials take.
 const STACK_PAGES: usize = 256;
 
 const STACK_PAGE: usize = 4096;
@@ -30,13 +30,13 @@ const STACK_PAGE: usize = 4096;
 /// The most bytes that a call may find.
 pub const MOST_ROOM: usize = 65536;
 
-/// How many bytes lie in one piece of which a call finds the last.
+/// The number of bytes of one piece, of which a call finds the last ones.
 const PIECE: usize = MOST_ROOM + 4096;
 
-/// All memory that this process can have, but for that of a trial.
+/// All memory that this process can get, except that of a trial.
 #[derive(Drop)]
 pub struct Heap {
-    /// What is held as long as the heap is.
+    /// What is held as long as the heap exists.
     held: Vec<Vec<u8>>,
     /// What is held in a trial, while a call is made.
     rest: Vec<Vec<u8>>,
@@ -97,7 +97,7 @@ impl Heap {
         Some(Heap { held, rest })
     }
 
-    /// Holds what is left but for this many bytes, in one piece, until `release`.
+    /// Holds all that is left except this many bytes in one piece, until `release`.
     pub fn leave(&mut self, alloc: Global, room: usize) -> Option<()> {
         let piece: Vec<u8> = Vec::with_capacity(alloc, PIECE).ok()?;
         hold_all(alloc, &mut self.rest, FREE * FREE_SIZE);

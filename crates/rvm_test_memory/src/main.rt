@@ -1,7 +1,7 @@
-//! Makes calls whose allocations are refused one by one. The heap of the process is full but for some bytes, more each
-//! time the call is made, until it finds all that it asks for: each of its allocations is once the first that is
-//! refused. The program prints for each call whether it was refused, whether all was unchanged each time, and whether
-//! it was made in the end.
+//! Makes calls whose allocations fail one by one. The heap of the process is full but for some bytes, more each time
+//! the call is made, until it finds all that it asks for: each of its allocations is once the first that fails. The
+//! program prints for each call whether memory ran out, whether all was unchanged each time, and whether it was made in
+//! the end.
 //!
 //! To be read in this order: `heap`, `trial`, `single`, `worlds`, `shared`.
 #![tactic(auto)]

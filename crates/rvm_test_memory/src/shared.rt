@@ -21,7 +21,7 @@ use std::sync::ledger::Blank;
 /// How many entries a journal takes.
 const CAPACITY: u32 = 100;
 
-/// The event of the calls: a move begins, for which a frame is made.
+/// The event of the calls: it begins a move, and a frame is made.
 const BEGIN: HostEvent = HostEvent::Do(Command::Begin {
     to: 1,
     policy: Policy {
@@ -52,7 +52,7 @@ fn is_handed_back(why: RecordError, event: &HostEvent) -> bool {
     why == RecordError::OutOfMemory && *event == BEGIN
 }
 
-/// An event is recorded, or comes back, and the journal is as it was.
+/// The trial of recording an event. If memory runs out, the event comes back, and the journal is as it was.
 #[derive(Drop)]
 struct Record;
 
@@ -79,7 +79,7 @@ impl Trial for Record {
     }
 }
 
-/// A host is shared between two seats, or comes back.
+/// The trial of sharing a host between two seats. If memory runs out, the host comes back.
 #[derive(Drop)]
 struct Share;
 
@@ -89,7 +89,7 @@ impl Trial for Share {
     }
 }
 
-/// The same of a new host.
+/// Does the same with a new host.
 fn share_new(alloc: Global, heap: &mut Heap, room: usize) -> Tried {
     match recorded(alloc) {
         Some(recorded) => shared_in::<Brand>(alloc, heap, room, Blank::new(2), recorded),
@@ -97,7 +97,7 @@ fn share_new(alloc: Global, heap: &mut Heap, room: usize) -> Tried {
     }
 }
 
-/// The same by a ledger.
+/// Does the same with this ledger.
 fn shared_in<L: Seating>(
     alloc: Global,
     heap: &mut Heap,
@@ -131,7 +131,7 @@ fn shared_in<L: Seating>(
     }
 }
 
-/// A shared host is called, or the event comes back.
+/// The trial of calling a shared host. If memory runs out, the event comes back.
 #[derive(Drop)]
 struct Call<'r, R: Wait> {
     rt: &'r R,
@@ -143,7 +143,7 @@ impl<R: Wait> Trial for Call<'_, R> {
     }
 }
 
-/// The same of a new host.
+/// Does the same with a new host.
 fn call_new<R: Wait>(rt: &R, alloc: Global, heap: &mut Heap, room: usize) -> Tried {
     match recorded(alloc) {
         Some(recorded) => called_in::<Brand, R>(rt, alloc, heap, room, Blank::new(2), recorded),
@@ -151,7 +151,7 @@ fn call_new<R: Wait>(rt: &R, alloc: Global, heap: &mut Heap, room: usize) -> Tri
     }
 }
 
-/// The same by a ledger.
+/// Does the same with this ledger.
 fn called_in<L: Seating, R: Wait>(
     rt: &R,
     alloc: Global,
@@ -184,7 +184,7 @@ fn called_in<L: Seating, R: Wait>(
     }
 }
 
-/// The same of this host.
+/// Does the same with this host.
 fn called<L: Seating, R: Wait>(
     rt: &R,
     alloc: Global,
@@ -207,7 +207,7 @@ fn called<L: Seating, R: Wait>(
     }
 }
 
-/// A host is closed, or comes back with its seats and receipts.
+/// The trial of closing a host. If memory runs out, it comes back with its seats and receipts.
 #[derive(Drop)]
 struct Close<'r, R: Wait> {
     rt: &'r R,
@@ -219,7 +219,7 @@ impl<R: Wait> Trial for Close<'_, R> {
     }
 }
 
-/// The same of a new host.
+/// Does the same with a new host.
 fn close_new<R: Wait>(rt: &R, alloc: Global, heap: &mut Heap, room: usize) -> Tried {
     match recorded(alloc) {
         Some(recorded) => closed_in::<Brand, R>(rt, alloc, heap, room, Blank::new(2), recorded),
@@ -227,7 +227,7 @@ fn close_new<R: Wait>(rt: &R, alloc: Global, heap: &mut Heap, room: usize) -> Tr
     }
 }
 
-/// The same by a ledger, after one call.
+/// Does the same with this ledger, after one call.
 fn closed_in<L: Seating, R: Wait>(
     rt: &R,
     alloc: Global,
@@ -261,7 +261,7 @@ fn closed_in<L: Seating, R: Wait>(
     }
 }
 
-/// The receipts of one call by the first of these seats.
+/// Makes one call from the first of these seats. Returns its receipt.
 fn call_once<L: Seating, R: Wait>(
     rt: &R,
     alloc: Global,
@@ -276,7 +276,7 @@ fn call_once<L: Seating, R: Wait>(
     Some(receipts)
 }
 
-/// The same of this host, these seats and receipts.
+/// Does the same with this host, these seats and receipts.
 fn closed<L: Seating, R: Wait>(
     rt: &R,
     alloc: Global,
@@ -305,7 +305,7 @@ fn closed<L: Seating, R: Wait>(
     }
 }
 
-/// Whether a host was not closed since memory ran out, and came back with its seats and its receipt.
+/// What became of closing a host that came back: whether memory ran out, and its seats and its receipt came back too.
 fn told_of<L: Seating>(error: CloseError<L, FlatMemory>) -> Tried {
     let is_refused = error.kind == CloseKind::OutOfMemory
         && error.seats.len() == 2

@@ -43,7 +43,7 @@ pub fn try_calls<R: AllocGlobal + Print>(rt: &R, heap: &mut Heap) -> Option<()> 
     print_tried(rt, heap, "read_image", &mut ReadImage)
 }
 
-/// A world of two hosts is made, or its guest comes back as it was.
+/// The trial of making a world of two hosts. If memory runs out, its guest comes back as it was.
 #[derive(Drop)]
 struct NewWorld;
 
@@ -56,7 +56,7 @@ impl Trial for NewWorld {
     }
 }
 
-/// The same with this guest.
+/// Does the same with this guest.
 fn new_world(
     alloc: Global,
     heap: &mut Heap,
@@ -98,7 +98,7 @@ fn page_of(ram: &FlatMemory, page: u32) -> [u8; PAGE_SIZE as usize] {
     bytes
 }
 
-/// The state of a guest is written.
+/// The trial of writing the state of a guest.
 #[derive(Drop)]
 struct WriteState;
 
@@ -120,7 +120,7 @@ impl Trial for WriteState {
     }
 }
 
-/// The state of a guest is read, or the RAM comes back.
+/// The trial of reading the state of a guest. If memory runs out, the RAM comes back.
 #[derive(Drop)]
 struct ReadState;
 
@@ -154,7 +154,7 @@ fn is_empty(ram: &FlatMemory) -> bool {
         && (0..PAGES).all(|page| page_of(ram, page) == [0; PAGE_SIZE as usize])
 }
 
-/// An image is read.
+/// The trial of reading an image.
 #[derive(Drop)]
 struct ReadImage;
 

@@ -9,7 +9,7 @@ const MORE: usize = 32;
 /// What became of a call.
 #[derive(Clone, Copy, Debug, PartialEq, Eq)]
 pub enum Tried {
-    /// It was refused memory, and all was as before.
+    /// Memory ran out, and all was as before.
     Refused,
     /// It was made.
     Made,
@@ -34,7 +34,7 @@ pub trait Trial {
     fn attempt(&mut self, alloc: Global, heap: &mut Heap, room: usize) -> Tried;
 }
 
-/// Makes a call with ever more bytes left, until it is made. Returns whether it was refused before; none if anything
+/// Makes a call with ever more bytes left, until it is made. Returns whether memory ran out before; none if anything
 /// else came of it.
 pub fn try_until_made<T: Trial>(alloc: Global, heap: &mut Heap, trial: &mut T) -> Option<bool> {
     let mut is_refused = false;

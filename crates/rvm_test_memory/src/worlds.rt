@@ -11,7 +11,7 @@ use rvm_message::{Command, HostReply};
 use rvm_precopy::Policy;
 use std::alloc::Global;
 
-/// One round, and at most three copies a page.
+/// One round, and at most three copies for each page.
 const POLICY: Policy = Policy {
     max_rounds: 1,
     min_left: 1,
@@ -21,7 +21,7 @@ const POLICY: Policy = Policy {
 /// The most events of a move.
 const MOST_EVENTS: usize = 100;
 
-/// How many bytes of the RAM an answer has.
+/// The number of bytes of RAM in one reply.
 const VIEW: u32 = 256;
 
 /// A move: the version of its stream, and a frame that is lost, by its place, if one is.
@@ -56,7 +56,7 @@ static MOVES: [Worked; 4] = [
     },
 ];
 
-/// An event of a world, and what it was answered: whether the guest runs at the other host now.
+/// The trial of an event of a world, and whether the guest runs at the other host after it.
 #[derive(Drop)]
 struct InWorld<'w> {
     world: &'w mut World<FlatMemory>,
@@ -83,7 +83,7 @@ impl Trial for InWorld<'_> {
     }
 }
 
-/// Makes the moves.
+/// Makes the moves, and prints what became of each.
 pub fn try_moves<R: AllocGlobal + Print>(rt: &R, heap: &mut Heap) -> Option<()> {
     for worked in &MOVES {
         let is_moved = try_move(rt.alloc(), heap, *worked) == Some(true);
@@ -96,7 +96,7 @@ pub fn try_moves<R: AllocGlobal + Print>(rt: &R, heap: &mut Heap) -> Option<()> 
     Some(())
 }
 
-/// Makes one move to its end, and says whether it came there.
+/// Makes one move to its end. Returns whether it came there.
 fn try_move(alloc: Global, heap: &mut Heap, worked: Worked) -> Option<bool> {
     let guest = guest(alloc)?;
     let limits = [PAGES as u16, PAGES as u16];
@@ -113,8 +113,8 @@ fn try_move(alloc: Global, heap: &mut Heap, worked: Worked) -> Option<bool> {
     }
 }
 
-/// Makes the events of a move, each with ever more bytes left, and returns whether the guest started at the other
-/// host, and some events asked for memory.
+/// Makes the events of a move, each with ever more bytes left. Returns whether the guest started at the other host, and
+/// some events asked for memory.
 fn are_made(
     alloc: Global,
     heap: &mut Heap,
@@ -141,8 +141,8 @@ fn are_made(
     false
 }
 
-/// What a world shows: the host of its guest, the bytes of each frame, and at each host the guest's registers and RAM.
-/// None if it does not answer.
+/// A number over what a world shows: the host of its guest, the bytes of each frame, and at each host the guest's
+/// registers and RAM. None if it does not answer.
 fn digest(alloc: Global, world: &mut World<FlatMemory>) -> Option<u64> {
     let mut sum = u64::from(world.current());
     for place in 0..world.sent() {
@@ -154,7 +154,7 @@ fn digest(alloc: Global, world: &mut World<FlatMemory>) -> Option<u64> {
     Some(sum)
 }
 
-/// The same of the guest at a host.
+/// A number over others and what the guest at a host shows.
 fn guest_digest(alloc: Global, world: &mut World<FlatMemory>, host: u8, sum: u64) -> Option<u64> {
     let mut sum = reply_digest(alloc, world, host, BoardEvent::Regs(0), sum)?;
     for view in 0..PAGES * PAGE_SIZE / VIEW {
@@ -168,7 +168,7 @@ fn guest_digest(alloc: Global, world: &mut World<FlatMemory>, host: u8, sum: u64
     Some(sum)
 }
 
-/// The same of one answer; a host that has no guest refuses.
+/// A number over others and one reply; a host that has no guest refuses.
 fn reply_digest(
     alloc: Global,
     world: &mut World<FlatMemory>,
@@ -191,14 +191,14 @@ fn reply_digest(
     }
 }
 
-/// A number over bytes after others.
+/// A number over others and these bytes.
 fn sum_bytes(sum: u64, bytes: &[u8]) -> u64 {
     bytes
         .iter()
         .fold(sum, |sum, byte| more(sum, u64::from(*byte)))
 }
 
-/// A number over one more, as FNV-1 has it.
+/// A number over others and one more, as FNV-1 has it.
 fn more(sum: u64, number: u64) -> u64 {
     sum.wrapping_mul(0x0000_0100_0000_01B3).wrapping_add(number)
 }

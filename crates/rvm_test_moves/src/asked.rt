@@ -4,10 +4,10 @@ ghost use Rattle.std.specs.Prelude.{◌≤◌};
 
 use rvm_arguments::{GuestArguments, MoveArguments, RunArguments, ScriptArguments, StatusOf};
 
-/// How many turns each guest makes at most.
+/// The most turns that a guest makes.
 pub const STEPS: u32 = 20000;
 
-/// How many turns the guest makes whose move is audited.
+/// The most turns that the guest makes whose move is audited.
 pub const AUDIT_STEPS: u32 = 1000;
 
 /// Prints `Hi` and halts its board: the words 100002B7 04800313 0062A023 06900313 0062A023 00A00313 0062A023
@@ -23,8 +23,8 @@ pub const WRITER: &[u8] = &[
     0xb7, 0x12, 0x00, 0x80, 0x23, 0xa0, 0x02, 0x00, 0x6f, 0xf0, 0xdf, 0xff,
 ];
 
-/// Prints a point a thousand times, at each third step, and halts its board: the words 100002B7 02E00313 3E800393 0062A023
-/// FFF38393 FE039CE3 001002B7 0002A023.
+/// Prints a point a thousand times, at each third step, and halts its board: the words 100002B7 02E00313 3E800393
+/// 0062A023 FFF38393 FE039CE3 001002B7 0002A023.
 pub const POINTS: &[u8] = &[
     0xb7, 0x02, 0x00, 0x10, 0x13, 0x03, 0xe0, 0x02, 0x93, 0x03, 0x80, 0x3e, //
     0x23, 0xa0, 0x62, 0x00, 0x93, 0x83, 0xf3, 0xff, 0xe3, 0x9c, 0x03, 0xfe, //
@@ -60,7 +60,7 @@ pub fn to_move(steps: u32, stream: u32) -> MoveArguments<'static>
     }
 }
 
-/// As many turns without a move.
+/// A run of such a guest without a move, of at most `STEPS` turns.
 pub fn to_run() -> RunArguments<'static> {
     RunArguments {
         guest: guest(),

@@ -47,7 +47,7 @@ impl<'a> Unplayed<'a> {
         }
     }
 
-    /// The place of the frame that a host's entry made, if it made one.
+    /// Notes the frame that a host's entry made, if it made one. Returns its place.
     fn place(&mut self, host: u8, told: Told<'_>) -> Option<usize> {
         if !has_frame(told) {
             return None;
@@ -66,7 +66,7 @@ fn has_frame(told: Told<'_>) -> bool {
     }
 }
 
-/// Writes the reply of an entry that is looked at.
+/// Writes the reply of an entry, by a view of it.
 fn write_told(text: &mut Vec<u8>, told: Told<'_>, place: Option<usize>) -> Result<(), LinkFault> {
     match told {
         Told::Entry(entry) => write_reply(text, entry, place),
@@ -77,7 +77,7 @@ fn write_told(text: &mut Vec<u8>, told: Told<'_>, place: Option<usize>) -> Resul
     }
 }
 
-/// Writes an entry's reply as a script is answered.
+/// Writes an entry's reply as the answer to a script has it.
 fn write_reply(text: &mut Vec<u8>, entry: &Entry, place: Option<usize>) -> Result<(), LinkFault> {
     match entry.exchange().look() {
         ExchangeRef::Step { hart, reply } => write_steps_reply(text, hart, 1, &reply.reply()),
@@ -92,7 +92,7 @@ fn write_reply(text: &mut Vec<u8>, entry: &Entry, place: Option<usize>) -> Resul
     }
 }
 
-/// What both journals answered, in an order of their events.
+/// The text of the replies in both journals, in an order of their events.
 fn answers(alloc: Global, unplayed: Unplayed, events: &[Event]) -> Option<Vec<u8>> {
     let mut unplayed = unplayed;
     let mut text = Vec::new(alloc);
@@ -105,7 +105,7 @@ fn answers(alloc: Global, unplayed: Unplayed, events: &[Event]) -> Option<Vec<u8
     Some(text)
 }
 
-/// Whether a script with the guest of the move is answered so.
+/// Whether a script with the guest of the move is answered with this text.
 fn is_played(alloc: Global, script: &[u8], told: &[u8]) -> io::Result<bool> {
     let mut played = BufWriter::new(alloc, Vec::new(alloc))?;
     let mut errors = Vec::new(alloc);
@@ -121,7 +121,7 @@ fn is_played(alloc: Global, script: &[u8], told: &[u8]) -> io::Result<bool> {
     Ok(status == Ok(0) && played.get_ref().as_slice() == told)
 }
 
-/// What both hosts of an audit answered, in the order that it found.
+/// The text of the replies of both hosts of an audit, in the order that it found.
 fn told(alloc: Global, audited: &Audited<PagedRam>) -> Option<Vec<u8>> {
     let (a, b) = audited.hosts.as_ref()?;
     let events = audit(alloc, a.journal(), b.journal()).ok()?;
@@ -133,7 +133,8 @@ fn told(alloc: Global, audited: &Audited<PagedRam>) -> Option<Vec<u8>> {
     answers(alloc, unplayed, events.as_slice())
 }
 
-/// Audits a move: what both hosts answered, if it did not fail. The order that is printed goes to `script`.
+/// Audits a move. Returns the text of the replies of both hosts, if it did not fail. The order that is printed goes to
+/// `script`.
 fn audit_move<R: AllocGlobal + Net + Threads + Wait + Clock + Sync>(
     rt: &R,
     script: &mut BufWriter<Vec<u8>>,
@@ -154,8 +155,8 @@ where
     }
 }
 
-/// Whether a move did not fail, and the order that its audit printed, played with the same guest, answers as
-/// both hosts did.
+/// Whether a move did not fail, and the order that its audit printed, played with the same guest, is answered as both
+/// hosts replied.
 fn is_audited_and_played<R: AllocGlobal + Net + Threads + Wait + Clock + Sync>(
     rt: &R,
 ) -> io::Result<bool>
@@ -170,7 +171,7 @@ where
     }
 }
 
-/// Plays the order of a move.
+/// Audits a move, plays its order as a script, and prints whether the answers are the same.
 pub fn play_order<R: AllocGlobal + Print + Net + Threads + Wait + Clock + Sync>(
     rt: &R,
 ) -> anyhow::Result<()>

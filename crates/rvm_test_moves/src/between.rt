@@ -17,10 +17,11 @@ use std::sync::atomic::{AtomicU32, Ordering};
 use std::sync::ledger::Blank;
 use std::time::{Clock, Duration};
 
-/// How many frames can come of one another at most.
+/// The most frames that follow from one command.
 const FRAMES: u32 = 8;
 
-/// Four pages are copied, the round ends, the guest stops, and its state is sent.
+/// The number of Copy commands of a move: four pages are copied, the round ends, the guest is paused, and its state is
+/// sent.
 const COPIES: u32 = 7;
 
 /// One round, since no hart steps.
@@ -30,7 +31,7 @@ const POLICY: Policy = Policy {
     factor: 3,
 };
 
-/// A clock that counts the waits of one millisecond and others, and waits for none.
+/// A clock that does not wait, but counts the waits of one millisecond and all others.
 #[derive(Drop)]
 struct Counting<'r, R: Wait> {
     rt: &'r R,
@@ -69,7 +70,7 @@ struct Party<'h, L: Seating> {
 }
 
 impl<L: Seating> Party<'_, L> {
-    /// Makes a call: the frame that the host makes, if it makes one.
+    /// Makes a call. Returns the frame that the host makes, if it makes one.
     fn call<R: AllocGlobal + Wait>(&mut self, rt: &R, event: HostEvent) -> Option<Option<Frame>> {
         match self.host.call(rt, rt.alloc(), &mut self.seat, event) {
             Ok((receipt, made)) => {
@@ -83,12 +84,12 @@ impl<L: Seating> Party<'_, L> {
         }
     }
 
-    /// Asks for a command: the frame that the host makes.
+    /// Gives the host a command. Returns the frame that the host makes, if it makes one.
     fn ask<R: AllocGlobal + Wait>(&mut self, rt: &R, command: Command) -> Option<Option<Frame>> {
         self.call(rt, HostEvent::Do(command))
     }
 
-    /// A frame comes of the other host: the frame that this one makes.
+    /// Gives the host a frame of the other one. Returns the frame that this host makes, if it makes one.
     fn hear<R: AllocGlobal + Wait>(&mut self, rt: &R, frame: Frame) -> Option<Option<Frame>> {
         let frame = Shared::new(rt.alloc(), frame).ok()?;
         self.call(rt, HostEvent::Came(self.other, frame))
@@ -122,7 +123,7 @@ impl<L: Seating> Party<'_, L> {
         Some(())
     }
 
-    /// Pauses the guest: none of its copies comes to the other host.
+    /// Offers the guest to the other host, and copies until it is paused; none of the copies comes to the other host.
     fn pause_before<N: Seating, R: AllocGlobal + Wait>(
         &mut self,
         rt: &R,
@@ -136,7 +137,7 @@ impl<L: Seating> Party<'_, L> {
     }
 }
 
-/// A frame comes to a host, and what it makes of it to the other, and so on.
+/// Gives a host a frame, the other one the frame that is made of it, and so on.
 fn pass<L: Seating, N: Seating, R: AllocGlobal + Wait>(
     rt: &R,
     frame: Option<Frame>,
@@ -183,7 +184,7 @@ fn tried<R: AllocGlobal + Wait>(rt: &R) -> Option<Tries> {
     }
 }
 
-/// The same of these hosts.
+/// Does the same with these hosts.
 fn tried_at<L: Seating, N: Seating, R: AllocGlobal + Wait>(
     rt: &R,
     blanks: (Blank, Blank),
@@ -212,7 +213,7 @@ fn tried_at<L: Seating, N: Seating, R: AllocGlobal + Wait>(
     }
 }
 
-/// The same of the first host, which is shared, and the second one.
+/// Does the same with the first host, which is shared, and the second one.
 fn tried_beside<L: Seating, N: Seating, R: AllocGlobal + Wait>(
     rt: &R,
     first: &SharedHost<L, PagedRam>,
@@ -240,7 +241,7 @@ fn tried_beside<L: Seating, N: Seating, R: AllocGlobal + Wait>(
     }
 }
 
-/// The same by two seats at each host.
+/// Does the same with two seats at each host.
 fn tried_by<L: Seating, N: Seating, R: AllocGlobal + Wait>(
     rt: &R,
     hosts: &Hosts<'_, L, N, PagedRam>,
@@ -269,7 +270,7 @@ fn tried_by<L: Seating, N: Seating, R: AllocGlobal + Wait>(
     Some(turned(rt, hosts, (harts_a, harts_b)))
 }
 
-/// How the turns of the guest are tried, by these seats.
+/// Makes turns of the guest with these seats. Returns how they were tried.
 fn turned<L: Seating, N: Seating, R: AllocGlobal + Wait>(
     rt: &R,
     hosts: &Hosts<'_, L, N, PagedRam>,

@@ -36,7 +36,7 @@ impl Write for Broken {
     }
 }
 
-/// Moves a guest that prints while one writer takes nothing, and prints what is answered.
+/// Moves a guest that prints while one writer takes nothing, and prints what is returned.
 pub fn break_writers<R: AllocGlobal + Print + Net + Threads + Wait + Clock + Sync>(
     rt: &R,
 ) -> anyhow::Result<()>
@@ -109,7 +109,7 @@ fn recorded(
     Recorded::new(alloc, host, capacity).ok()
 }
 
-/// How the workers of a move end if the hosts' journals take this many entries.
+/// Moves a guest between hosts whose journals take this many entries. Returns how the workers ended.
 fn ends_at_a<R: AllocGlobal + Net + Threads + Wait + Clock + Sync>(
     rt: &R,
     at_a: u32,
@@ -125,7 +125,7 @@ where
     }
 }
 
-/// The same of this first host.
+/// Does the same with this first host.
 fn ends_at_b<R: AllocGlobal + Net + Threads + Wait + Clock + Sync>(
     rt: &R,
     a: Recorded<PagedRam>,
@@ -144,7 +144,7 @@ where
     }
 }
 
-/// The same of these hosts.
+/// Does the same with these hosts.
 fn ends_of<R: AllocGlobal + Net + Threads + Wait + Clock + Sync>(
     rt: &R,
     recorded: (Recorded<PagedRam>, Recorded<PagedRam>),
@@ -162,7 +162,7 @@ where
     }
 }
 
-/// The same of these hosts over links.
+/// Does the same with these hosts over links.
 fn ends_over<K: Link + Drop + Send, R: AllocGlobal + Threads + Wait + Clock + Sync>(
     rt: &R,
     recorded: (Recorded<PagedRam>, Recorded<PagedRam>),

@@ -3,8 +3,8 @@
 use rvm_cell::{Gate, Worker};
 use std::sync::atomic::{AtomicBool, AtomicU32, Ordering};
 
-/// A gate that lets each call pass, counts those of each worker, and sees whether each is announced and told with
-/// the next number.
+/// A gate that lets each call pass, counts those of each worker, and checks that each is announced and told with the
+/// next number.
 #[derive(Drop)]
 pub struct CountingGate {
     harts: AtomicU32,
@@ -15,7 +15,7 @@ pub struct CountingGate {
 }
 
 impl CountingGate {
-    /// No call yet.
+    /// A gate that no call has passed yet.
     pub fn new() -> CountingGate {
         CountingGate {
             harts: AtomicU32::new(0),
@@ -36,7 +36,7 @@ impl CountingGate {
         }
     }
 
-    /// How many calls of a worker were told.
+    /// The number of calls of a worker that the gate was told of.
     pub fn calls(&self, worker: Worker) -> u32 {
         self.count_of(worker).load(Ordering::SeqCst)
     }
@@ -50,7 +50,7 @@ impl CountingGate {
         are_all && !self.is_wrong.load(Ordering::SeqCst)
     }
 
-    /// A call has this number.
+    /// Notes whether a call has the next number.
     fn note(&self, worker: Worker, call: u32) {
         if self.calls(worker) != call {
             self.is_wrong.store(true, Ordering::SeqCst);

@@ -13,8 +13,8 @@ use std::sync::Wait;
 /// Hello of version 1.
 const HELLO: [u8; 17] = [0, 0, 0, 0, 0, 0, 0, 0, 0, 4, 0, 0, 0, 1, 0, 0, 0];
 
-/// The bytes before each frame of the stream, and all of them: Hello, Offer, four pages, the end of the round, State and
-/// Go.
+/// The number of bytes before each frame of the stream, and of all of them: Hello, Offer, four pages, the end of the
+/// round, State and Go.
 const ENDS: [usize; 10] = [0, 17, 33, 4148, 8263, 12378, 16493, 16514, 16749, 16762];
 
 /// One round, since no hart steps.
@@ -49,7 +49,7 @@ fn stream(alloc: Global) -> Option<Vec<u8>> {
     }
 }
 
-/// The same of this world.
+/// The same in this world.
 fn moved(alloc: Global, world: World<PagedRam>) -> Option<Vec<u8>> {
     let mut world = world;
     let stream = match drive_move(alloc, &mut world, 0, 1, POLICY) {
@@ -78,8 +78,8 @@ fn is_of_source(frame: &[u8]) -> bool {
     matches!(frame.first(), Some(1 | 4 | 5 | 7 | 9))
 }
 
-/// How a receiver must end that hears this many bytes: with its link between two frames, and inside a frame for a fault of
-/// the link.
+/// How a receiver must end that hears this many bytes: with its link if they end between two frames, with a fault of
+/// the link if they end inside a frame.
 fn end_of(count: usize) -> WorkEnd {
     if ENDS.contains(&count) {
         WorkEnd::LinkEnded

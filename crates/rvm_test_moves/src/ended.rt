@@ -17,7 +17,7 @@ use std::sync::Wait;
 use std::thread::Threads;
 use std::time::Clock;
 
-/// What a move answered and wrote.
+/// What a move returned and wrote.
 #[derive(Drop)]
 pub struct MoveResult {
     pub status: Result<u8, LinkFault>,
@@ -26,7 +26,7 @@ pub struct MoveResult {
 }
 
 impl MoveResult {
-    /// What became of a guest that is moved by a stream of this version, over these links and past a gate.
+    /// Moves a guest by a stream of this version, over these links and past a gate. Returns what became of it.
     pub fn over_links<
         K: Link + Drop + Send,
         G: Gate + Sync,
@@ -54,7 +54,7 @@ impl MoveResult {
         }
     }
 
-    /// What became of a guest that makes this many turns and is moved by a stream of this version, over TCP.
+    /// Moves a guest that makes this many turns, by a stream of this version, over TCP. Returns what became of it.
     pub fn over_tcp<R: AllocGlobal + Net + Threads + Wait + Clock + Sync>(
         rt: &R,
         image: &[u8],
@@ -84,7 +84,7 @@ impl MoveResult {
         }
     }
 
-    /// Whether a host answered this line.
+    /// Whether a host replied with this line.
     pub fn has(&self, line: &str) -> bool {
         self.errors
             .as_slice()

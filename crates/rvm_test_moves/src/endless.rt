@@ -1,4 +1,4 @@
-//! A link that gives frames without end, a byte a read, and none of them ends a receiver.
+//! A link that gives frames without end, one byte with each read, and none of them ends a receiver.
 
 use crate::asked::HELLO;
 use crate::ended::{MoveResult, print_no_connection};
@@ -18,7 +18,7 @@ const STREAM: [u8; 30] = [
 /// Where Ready begins, which is given again and again.
 const READY: usize = 17;
 
-/// A link, or in place of what comes by it such a stream.
+/// A link, whose receiving end may give such a stream instead of what comes.
 #[derive(Drop)]
 struct Endless<K: Link + Drop> {
     link: K,

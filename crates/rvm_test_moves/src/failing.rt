@@ -13,7 +13,7 @@ use std::sync::Wait;
 use std::thread::Threads;
 use std::time::Clock;
 
-/// How many calls a worker of the harts has made that gave up: of 30000 tries, each at both hosts.
+/// The calls that the hart worker has made when it gives up: 30000 tries, each at both hosts.
 const TRIED: u32 = 60000;
 
 /// A link that sends this many times and then fails.
@@ -70,8 +70,8 @@ where
     Ok(())
 }
 
-/// Moves a guest while A sends at most this many times, and B, and prints of the side that fails whether the
-/// end is allowed.
+/// Moves a guest while A and B each send at most this many times, and prints whether the end is allowed for the side
+/// that fails.
 fn break_link<R: AllocGlobal + Print + Net + Threads + Wait + Clock + Sync>(
     rt: &R,
     side: &str,
@@ -100,9 +100,10 @@ fn print_end<R: Print>(rt: &R, side: &str, k: u32, allowed: bool) -> anyhow::Res
     Ok(())
 }
 
-/// Whether an end is allowed: no commit and no start, the whole output of a run, since the guest came to its end where it
-/// was, and the status 0; a commit, a start and that output; or a commit alone and the status 1, since the turns were
-/// tried so often that the worker gave up, or had all been made and the last frame was sent again in vain.
+/// Whether an end is allowed: no commit and no start, the whole output of a run, since the guest came to its end at
+/// host A, and the status 0; a commit, a start and that output; or a commit alone and the status 1, since the worker
+/// gave up after it had tried the turns too often, or all turns had been made and the last frame was sent again in
+/// vain.
 fn is_allowed(alloc: Global, ended: &MoveResult, calls: u32) -> bool {
     let is_started = ended.has("started");
     let is_as_run = ended.is_as_run(alloc, POINTS);

@@ -13,10 +13,10 @@ use std::sync::atomic::{AtomicU8, Ordering};
 use std::thread::Threads;
 use std::time::Clock;
 
-/// Where Hello, which is sent first, has the version.
+/// The place of the version in Hello, which is sent first.
 const VERSION: usize = 13;
 
-/// A link, and where the version is noted that the first bytes sent by it say.
+/// A link that notes the version in the first bytes that are sent by it.
 #[derive(Drop)]
 struct Noting<'v, K: Link + Drop> {
     link: K,

@@ -23,7 +23,7 @@ const STREAM: [u8; 67] = [
     8, 1, 0, 0, 0, 0, 0, 0, 0, 0, 0, 0, 0,
 ];
 
-/// The bytes before each of these frames, and all of them.
+/// The number of bytes before each of these frames, and of all of them.
 const WHOLE: [usize; 5] = [0, 17, 33, 54, 67];
 
 /// Hello twice.
@@ -80,8 +80,8 @@ const VERSIONS: [(&str, u32, &[u8]); 4] = [
     ("an offer to another host", 3, &FOR_OTHERS),
 ];
 
-/// What links give: their stream, how many reads before each of its bytes and before its end give nothing, and
-/// whether they fail in place of the end.
+/// What links give: their stream, how many reads before each of its bytes and before its end give nothing, and whether
+/// they fail instead of ending.
 const LINKS: [(&str, &[u8], u32, bool); 10] = [
     ("999 reads of nothing, and the end", &[], 999, false),
     ("1000 reads of nothing, and the end", &[], 1000, false),
@@ -100,8 +100,8 @@ const LINKS: [(&str, &[u8], u32, bool); 10] = [
     ("a body of 32769 bytes", &LONG, 0, false),
 ];
 
-/// A link that takes all bytes, and gives those of a stream, at most this many a read. Before each read that
-/// gives bytes, and before the end, this many give nothing. In place of the end it may fail, or give other bytes
+/// A link that takes all bytes, and gives those of a stream, at most `at_once` with each read. Before each read that
+/// gives bytes, and before the end, `pauses` reads give nothing. Instead of ending it may fail, or give other bytes
 /// again and again. A mute one takes no bytes. It counts reads.
 #[derive(Drop)]
 pub struct Given<'s> {
@@ -116,7 +116,7 @@ pub struct Given<'s> {
 }
 
 impl<'s> Given<'s> {
-    /// A link that gives these bytes, this many a read, and ends.
+    /// A link that gives these bytes, at most this many with each read, and ends.
     pub fn new(stream: &'s [u8], at_once: usize) -> Given<'s> {
         Given {
             stream,
@@ -242,8 +242,8 @@ fn print_end<R: Print>(rt: &R, name: &str, end: WorkEnd, reads: u32) -> anyhow::
     Ok(())
 }
 
-/// Whether a receiver that hears the first bytes of the stream, this many a read, ends as it must, however many
-/// they are: between two frames with its link, and inside a frame the link has failed.
+/// Whether a receiver that hears the first bytes of the stream, `at_once` with each read, ends as it must, however many
+/// they are: with its link between two frames, and with a fault of the link inside a frame.
 fn ends_at_each_cut<R: AllocGlobal + Wait>(rt: &R, at_once: usize) -> bool {
     let stream = STREAM;
     for count in 0..=stream.len() {

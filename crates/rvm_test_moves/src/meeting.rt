@@ -12,10 +12,10 @@ use std::thread;
 use std::thread::Threads;
 use std::time::{Clock, Duration};
 
-/// How many milliseconds a worker waits for the other.
+/// The milliseconds that a worker waits for the other.
 const PATIENCE: u32 = 10000;
 
-/// How many calls the worker of the harts makes at most: a slice of 64 turns is one.
+/// The most calls that the hart worker makes: a slice of 64 turns is one.
 const FEW: u32 = 10000;
 
 /// A gate at which the worker of the harts and the copier meet, and which counts all calls.
@@ -28,7 +28,7 @@ struct Meeting<C: Clock + Drop> {
 }
 
 impl<C: Clock + Drop> Meeting<C> {
-    /// Waits until a flag is raised.
+    /// Waits until a flag is raised. Returns whether it was in time.
     fn wait_for(&self, flag: &AtomicBool) -> bool {
         for _ in 0..PATIENCE {
             if flag.load(Ordering::SeqCst) {
@@ -67,7 +67,7 @@ impl<C: Clock + Drop> Gate for Meeting<C> {
     }
 }
 
-/// Moves a guest past such a gate.
+/// Moves a guest past such a gate, and prints what became of it.
 pub fn meet<R: AllocGlobal + Print + Net + Threads + Wait + Clock + Sync>(
     rt: &R,
 ) -> anyhow::Result<()>

@@ -19,7 +19,7 @@ const BACK: [u8; 4] = [0x6f, 0xf0, 0xdf, 0xf3];
 /// How many turns the guest makes.
 const TURNS: u32 = 100000;
 
-/// How many bytes it prints in them: 49 in each 50 turns after the first two, and 48 at last.
+/// The number of bytes that it prints in them: 49 in each 50 turns after the first two, and 48 in the last ones.
 const PRINTED: usize = 97999;
 
 /// The image of a guest that prints in 49 of 50 turns.

@@ -5,7 +5,7 @@ use rvm_refusal::Refusal;
 use std::io;
 use std::net::{Net, SocketAddr};
 
-/// A network in which a stranger connects to each port before whoever is to, and leaves.
+/// A network in which a stranger connects to each port first, and leaves.
 #[derive(Drop)]
 struct Crowded<'r, R: Net> {
     rt: &'r R,

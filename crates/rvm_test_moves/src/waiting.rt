@@ -43,8 +43,8 @@ impl Link for Silent {
     }
 }
 
-/// At which waits the other host answers, from 1: it accepts the move at this one of a millisecond, and is ready at
-/// this one of ten. At 0 it does not. And how many frames can be sent to it.
+/// When the other host answers: it accepts the move at this wait of one millisecond, and is ready at this wait of ten,
+/// both counted from 1; at 0 it does not. And how often something can be sent to it.
 #[derive(Clone, Copy)]
 struct Answers {
     accepts: u32,
@@ -52,7 +52,8 @@ struct Answers {
     sends: u32,
 }
 
-/// A clock that counts the waits of one millisecond, of ten, and others, and waits for none.
+/// A clock that does not wait, but counts the waits of one millisecond, of ten, and all others, and at which the other
+/// host answers.
 #[derive(Drop)]
 struct CountingClock<'h, L: Seating, R: Wait> {
     rt: &'h R,
@@ -65,7 +66,7 @@ struct CountingClock<'h, L: Seating, R: Wait> {
     others: AtomicU32,
 }
 
-/// Counts one more: how many they are.
+/// Adds one to a count. Returns the new count.
 fn counted(count: &AtomicU32) -> u32 {
     let more = count.load(Ordering::SeqCst).wrapping_add(1);
     count.store(more, Ordering::SeqCst);
@@ -73,7 +74,7 @@ fn counted(count: &AtomicU32) -> u32 {
 }
 
 impl<L: Seating, R: Wait> CountingClock<'_, L, R> {
-    /// A frame of the other host comes.
+    /// Gives the host a frame of the other one.
     fn answer(&self, frame: Frame) {
         let Ok(frame) = Shared::new(self.alloc, frame) else {
             return;
@@ -120,7 +121,7 @@ struct CopierEnd {
     others: u32,
 }
 
-/// Copies a guest to a host that answers as said, and prints how the copier waits and ends.
+/// Copies a guest to hosts that answer in several ways, and prints how the copier waits and ends.
 pub fn wait_for_answers<R: AllocGlobal + Print + Wait>(rt: &R) -> anyhow::Result<()> {
     print_waits(rt, "nobody answers", 0, 0, u32::MAX)?;
     print_waits(rt, "accepted at the 999th wait", 999, 0, u32::MAX)?;
@@ -129,7 +130,7 @@ pub fn wait_for_answers<R: AllocGlobal + Print + Wait>(rt: &R) -> anyhow::Result
     print_waits(rt, "a page that cannot be sent", 1, 1, 3)
 }
 
-/// Prints how a copier waits whose move is accepted and ready at these waits, and which can send so often.
+/// Prints how a copier waits whose move is accepted and ready at these waits, and which can send `sends` times.
 fn print_waits<R: AllocGlobal + Print + Wait>(
     rt: &R,
     name: &str,
@@ -195,7 +196,7 @@ fn waited_at<L: Seating, R: AllocGlobal + Wait>(
     }
 }
 
-/// How a copier waits that has the one seat, where the other host answers by the other one.
+/// How a copier waits that has one seat, while the other host answers by the other seat.
 fn waited_by<L: Seating, R: AllocGlobal + Wait>(
     rt: &R,
     host: &SharedHost<L, PagedRam>,
