@@ -27,7 +27,7 @@ use Rattle.rvm_guest.proofs.Values.{values_back}
 
 -- THE VALUES ARE READ FROM THE STATE
 
--- the first byte of a guest's bytes is how many harts it has
+-- the first byte of a guest's bytes is the number of its harts
 pub first_byte : (g : Guest) → get_or (spelling g) 0 0 ≡ length (parts_of g) % 256
 unfolding state parts head
 first_byte g = refl
@@ -35,7 +35,7 @@ first_byte g = refl
 not_256 : (g : Guest) → (get_or (spelling g) 0 0 == 256) ≡ false
 not_256 g = ne_eqb (get_or (spelling g) 0 0) 256 (λ e. let f = first_byte g in omega (arith, e, f))
 
--- the state of a guest
+-- the state of a guest as it is sent, by whether its values fit in its bytes
 abbrev stated : Bool → Guest → List ℕ
 stated b g = if b then spelling g else 256 ∷ values.write (state_of g)
 

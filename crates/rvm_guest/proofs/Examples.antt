@@ -45,12 +45,12 @@ a_page_with_a_1_is_not_of_zeros = refl
 too_few_zeros_are_no_page : is_zeros (replicate 4095 0) ≡ false
 too_few_zeros_are_no_page = refl
 
--- the bytes of a guest begin with how many harts it has
+-- the bytes of a guest begin with the number of its harts
 a_state_begins_with_the_harts : get_or (body_of (guest 2 4096)) 0 0 ≡ 2
 unfolding body_of state parts head shared hart csrs mstatus mie breakpoints
 a_state_begins_with_the_harts = refl
 
--- its time has eight bytes
+-- a guest whose mtime is too large for its eight bytes
 abbrev late : Guest
 late =
     let g = guest 2 4096 in
@@ -60,7 +60,7 @@ a_number_too_large_is_no_bytes : get_or (body_of late) 0 0 ≡ 256
 unfolding body_of state parts head shared
 a_number_too_large_is_no_bytes = refl
 
--- how many numbers in two bytes, each in four, and the state
+-- the count of the numbers in two bytes, each number in four, and the state
 one_piece : cut (3 ∷ 258 ∷ []) (9 ∷ 8 ∷ []) ≡ (2 ∷ 0 ∷ 3 ∷ 0 ∷ 0 ∷ 0 ∷ 2 ∷ 1 ∷ 0 ∷ 0 ∷ 9 ∷ 8 ∷ []) ∷ []
 unfolding cut pieces
 one_piece = refl

@@ -26,7 +26,7 @@ pub some_piece : (numbers b : List ℕ) → 0 < length (cut numbers b)
 unfolding cut
 some_piece numbers b = some _ _ _ (omega arith)
 
--- as many as it takes, the last one with what is left
+-- as few pieces as possible, the last one with what is left
 pub length_pieces : (n : ℕ) (bytes : List ℕ) → length bytes ≤ n → length (pieces n bytes) ≡ div_ceil (length bytes) 4096
 unfolding pieces
 length_pieces zero [] h = refl

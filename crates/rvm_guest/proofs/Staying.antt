@@ -29,7 +29,7 @@ use Rattle.rvm_guest.proofs.Joined.{length_pages, page_at}
 
 -- VALID
 
--- a hart of a number, with its registers
+-- the hart has this number and 32 registers, of which x0 is 0
 pub record IsHart (n : ℕ) (h : HartState) : Type 0 where
   pub number : h.csrs.hart ≡ n
   pub registers : AreRegisters h.regs
@@ -63,7 +63,7 @@ harts_so first (h ∷ hs) blank each =
     (harts_so (first + 1) hs blank
     (λ k lt. let y : first + suc k ≡ first + 1 + k = omega arith in subst (λ n. IsHart n (get_or hs k blank)) y (each (suc k) (omega (arith, lt)))))
 
--- so are the first harts of a guest
+-- each of the first n harts of a guest is valid, and has its index as its number
 abbrev pub AreHarts : ℕ → Guest → Type 0
 AreHarts n g = (k : ℕ) → k < n → IsHart k (hart_at k g.board)
 
@@ -123,7 +123,7 @@ one_hart_more parts n d lt long so_far =
     below_more (λ k. (blank : HartPart) → length (get_or parts k blank).fields.registers ≡ 31) n so_far
     (λ blank. ap (λ (p : HartPart). length p.fields.registers) (get_or_default parts n blank d lt) ∙ long)
 
--- what is kept of each hart makes them all
+-- the harts that are made of what is kept of each hart are valid
 made_harts : (g : Guest) (parts : List HartPart) → numbered 0 parts ≡ g.board.harts → HaveRegisters (length parts) parts → AreHarts (length parts) g
 made_harts g parts made have k lt =
     let blank : HartPart = part_of 0 g in
@@ -132,7 +132,7 @@ made_harts g parts made have k lt =
     let is : with_number (0 + k) fields ≡ hart_at k g.board = sym (numbered_at 0 parts k blank (new_hart 0 0) lt) ∙ ap (λ hs. get_or hs k (new_hart 0 0)) made in
     subst (λ h. IsHart k h) is (record { number = number; registers = (ap suc (have k lt blank), refl) })
 
--- a guest that its values and its RAM make
+-- a guest that its values and its RAM make is valid
 pub made_valid : (g : Guest) (parts : List HartPart) → parts ≡ parts_of g → guest_of g.board.shared.bytes (state_of g) ≡ g → HaveRegisters (length parts) parts → size_of g % 4096 ≡ 0 → within 1 4096 (count_of g) ≡ true → IsValid g
 made_valid g parts are made have whole count =
     let all : List HartPart = parts_of g in
@@ -190,7 +190,7 @@ same_processors g e = (answered_keeps e g).harts
 
 -- PAGES
 
--- a page that is not marked is none of those that are
+-- a page that is not marked after these pages are marked is none of them, and was not marked before
 unmarked : (pages : List ℕ) (d : List Bool) (p : ℕ) → p < length d → has p (mark_all pages d) ≡ false → NoneOf p pages × (has p d ≡ false)
 unmarked [] d p lt h = (tt, h)
 unmarked (q ∷ pages) d p lt h =

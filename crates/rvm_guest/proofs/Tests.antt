@@ -1,4 +1,4 @@
--- Tests that hold.
+-- The test for zeros accepts the page of zeros, and no other bytes.
 use Rattle.std.proofs.Common.{◌≡◌, ℕ, true, ◌==◌, List, [], ◌∷◌, replicate, length, refl, ap, ◌∙◌}
 use Rattle.std.specs.List.{list_all}
 use Rattle.std.proofs.lemmas.Bool.{eqb-true}

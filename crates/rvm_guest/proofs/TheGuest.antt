@@ -1,4 +1,4 @@
--- The debugged board has the laws of a guest.
+-- The debugged board is a guest: all that the protocol asks of a guest holds of it.
 use Rattle.rvm_protocol.specs.Guest.{IsGuest}
 use Rattle.rvm_guest.specs.TheGuest.{board}
 use Rattle.rvm_guest.proofs.Bodies.{read_back}

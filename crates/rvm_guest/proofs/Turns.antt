@@ -21,7 +21,7 @@ next_below RoundRobin n h lt = mod-lt (h + 1) {m = n} (omega (arith, lt))
 step_is : (h : ℕ) (g : Guest) → h < length g.board.harts → answered (Step h) g ≡ steps h g
 step_is h g lt = ap (λ (b : Bool). if b then steps h g else refuses BadHart g) (lt-ltb h (length g.board.harts) lt)
 
--- a turn and the others, unless it ends them
+-- a turn, and the others after it unless it ends them
 one_turn : (h : ℕ) (g : Guest) (o : Option Stop) (turn : Answered) (events : List BoardEvent) (others : AfterTurns) → answered (Step h) g ≡ turn → AreTurns events others turn.guest
     → AreTurns (Step h ∷ unless_over o events) (unless_stopped o turn others) g
 unfolding after_all written

@@ -30,7 +30,7 @@ steps_in order (suc n) h g =
     let turn = answered (Step h) g in
     Step h ∷ unless_over (stop_in turn.reply) (steps_in order n (next_hart order (length g.board.harts) h) turn.guest)
 
--- turns leave the guest that these events leave, write the same pages, and are as many
+-- turns leave the guest that these events leave, write the same pages, and are as many as the events
 pub record AreTurns (events : List BoardEvent) (t : AfterTurns) (g : Guest) : Type 0 where
   pub guest : t.guest ≡ after_all g events
   pub pages : t.pages ≡ written g events

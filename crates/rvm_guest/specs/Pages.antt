@@ -7,11 +7,11 @@ use Rattle.rvm_board.specs.declared.event.BoardEvent.{BoardEvent}
 use Rattle.rvm_board.specs.Guest.{Guest}
 use Rattle.rvm_board.specs.Events.{answered}
 
--- how many bytes a guest's RAM has
+-- the number of bytes of a guest's RAM
 abbrev pub size_of : Guest → ℕ
 size_of g = length g.board.shared.bytes
 
--- how many pages a guest's RAM has
+-- the number of whole pages of a guest's RAM
 abbrev pub count_of : Guest → ℕ
 count_of g = size_of g / 4096
 

@@ -1,4 +1,5 @@
--- The debugged board as a guest of the protocol of live migration: its states, pages, events, answers, and states as they are sent.
+-- The debugged board as a guest of the protocol of live migration: its states, pages, events and answers, and its
+-- states as they are sent.
 use Rattle.std.specs.Prelude.{ℕ, List, length}
 use Rattle.rvm_protocol.specs.Guest.{Guest}
 use Rattle.rvm_board.specs.declared.event.BoardEvent.{BoardEvent}

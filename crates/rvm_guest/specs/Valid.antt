@@ -9,13 +9,13 @@ use Rattle.rvm_guest.specs.Pages.{count_of, size_of}
 abbrev pub is_hart : (number : ℕ) → HartState → Bool
 is_hart n h = (h.csrs.hart == n) && ((length h.regs == 32) && (get_or h.regs 0 0 == 0))
 
--- the harts are valid and numbered in order from the first number on
+-- the harts are valid, and are numbered in order from this first number on
 abbrev pub are_harts : (first : ℕ) → List HartState → Bool
 are_harts n [] = true
 are_harts n (h ∷ hs) = is_hart n h && are_harts (n + 1) hs
 
--- each hart has its index as its number; devices, reservations and stops are for as many harts; RAM has 1 to 4096 whole
--- pages
+-- each hart is valid and has its index as its number; devices, reservations and stops are for as many harts; RAM has 1
+-- to 4096 whole pages
 unfoldable pub is_valid : Guest → Bool
 is_valid g =
     let n = length g.board.harts in

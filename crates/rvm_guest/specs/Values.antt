@@ -18,11 +18,11 @@ front (n ∷ rest) = Some (n, rest)
 unfoldable pub one : Codec ℕ
 one = record { fits = λ n. true; write = λ n. n ∷ []; read = front }
 
--- a list: how many values there are, and each value
+-- a list: the number of its values, and each value
 abbrev pub many : {A : Type 0} → Codec A → Codec (List A)
 many c = as_type (then_each one (λ n. n) c) (λ t. t.1) (λ xs. (length xs, xs))
 
--- the three interrupts, of their flags: software, timer, external
+-- the three interrupts that have these flags: software, timer, external
 abbrev pub interrupts_in : Bool × (Bool × Bool) → Interrupts
 interrupts_in t = record { software = t.0; timer = t.1.0; external = t.1.1 }
 
@@ -47,7 +47,7 @@ hart =
     as_type (both one (both (many one) (both csrs (both flag (both one (both (optional one anything) flag))))))
     hart_of hart_parts
 
--- what the devices keep for all harts together, in the order of its bytes
+-- what the devices keep for all harts together, in the order of their bytes
 unfoldable pub shared : Codec DeviceFields
 shared = as_type (both (optional one anything) (both flag (both flag one))) shared_of shared_parts
 

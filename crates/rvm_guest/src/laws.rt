@@ -29,13 +29,13 @@ pub fn each_event_leaves_a_valid_guest()
     ensures { (g : Guest) (e : BoardEvent) → is_valid g ≡ true → is_valid (after g e) ≡ true }
 {}
 
-/// If a guest's bytes determine it, as for each guest that a host has, its state is these bytes.
+/// If its bytes determine a guest, as those of each guest that a host has do, its state is these bytes.
 pub fn a_state_is_the_bytes_of_its_guest()
     ensures { (g : Guest) → HasSpelling g → body_of g ≡ spelling g }
 {}
 
-/// Bytes and the pages of a RAM build the guest that they spell, if it has this many harts; they build none if
-/// they spell none.
+/// Bytes and the pages of a RAM build the guest that they spell, if it has this many harts; they build none if they
+/// spell none.
 pub fn bytes_build_the_guest_that_they_spell()
     ensures spelled { (harts : ℕ) (bytes ram : List ℕ) (g : Guest) → length ram % 4096 ≡ 0
         → Spells bytes ram g
@@ -45,8 +45,8 @@ pub fn bytes_build_the_guest_that_they_spell()
         → build harts bytes (pages_in ram) ≡ None }
 {}
 
-/// The pages of a RAM: each page is the bytes that the RAM has for its number; a RAM of zeros has pages of zeros;
-/// and bytes put over one page replace that page alone.
+/// The pages of a RAM are those of the memory: each page is the 4096 bytes that the RAM has for its number; a RAM of
+/// zeros has pages of zeros; and 4096 bytes put over one page replace that page alone.
 pub fn pages_are_those_of_the_memory()
     ensures bytes { (page : ℕ) (ram : List ℕ) → page < length ram / 4096
         → get_or (pages_in ram) page zeros ≡ page_of page ram }
@@ -56,8 +56,8 @@ pub fn pages_are_those_of_the_memory()
         → pages_in (replaced (4096 * page) new ram) ≡ slice_set (pages_in ram) page new }
 {}
 
-/// A state is sent in as few pieces as it takes: each is 4096 bytes of the body of its State frame, and the last
-/// one is what is left.
+/// A state is cut into as few pieces as possible: each is 4096 bytes of the body of its State frame, and the last one
+/// is what is left.
 pub fn a_piece_is_4096_bytes_of_a_state()
     ensures count { (numbers body : List ℕ)
         → length (cut numbers body) ≡ div_ceil (length (state.write (numbers, body))) 4096 }
@@ -66,8 +66,8 @@ pub fn a_piece_is_4096_bytes_of_a_state()
         ≡ take 4096 (drop (4096 * place) (state.write (numbers, body))) }
 {}
 
-/// Turns that begin with a hart of the guest are steps: they leave the guest that as many consecutive events
-/// leave, and write the pages that these write.
+/// Turns that begin with a hart of the guest are steps: they leave the guest that the events of these steps leave, are
+/// as many, and write the same pages.
 pub fn turns_are_steps()
     ensures { (order : Order) (n h : ℕ) (g : Guest) → h < length g.board.harts
         → AreTurns (steps_in order n h g) (after_turns order n h g) g }

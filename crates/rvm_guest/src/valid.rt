@@ -6,8 +6,8 @@ ghost use Rattle.rvm_guest.specs.Valid.{is_valid};
 use rvm_board::Debugged;
 use rvm_mem::Memory;
 
-/// Proves that a guest which a host has is valid. Looks at each hart once, and takes no memory; an event leaves a
-/// valid guest valid, so there is no need to call this again after one.
+/// Proves that a guest that a host has is valid. Looks at each hart once, and takes no memory. An event leaves a valid
+/// guest valid, so this need not be called again after one.
 pub fn valid_guest<M: Memory>(guest: &Debugged<M>)
     ensures { is_valid guest.now.guest ≡ true }
 {
@@ -18,7 +18,7 @@ pub fn valid_guest<M: Memory>(guest: &Debugged<M>)
     }
 }
 
-/// The list of x1 to x31 has 31 registers.
+/// Proves that the list of x1 to x31 has 31 registers.
 fn has_registers(registers: &[u32; 31])
     ensures { length registers.now ≡ 31 }
 {

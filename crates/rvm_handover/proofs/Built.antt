@@ -17,7 +17,7 @@ use Rattle.rvm_guest.specs.Pages.{pages_in}
 use Rattle.rvm_guest.proofs.Bodies.{built, first_byte, not_built}
 use Rattle.rvm_handover.specs.Outcomes.{IsFault}
 
--- the first byte of the bytes of a guest is how many harts it has
+-- the first byte of the bytes of a guest is the number of its harts
 harts_first : (bytes ram : List ℕ) (g : Guest) → Spells bytes ram g → get_or bytes 0 0 ≡ length g.board.harts
 harts_first bytes ram g is =
     let spelled = ap (λ xs. get_or xs 0 0) is.spelled in
@@ -31,7 +31,7 @@ made harts bytes ram g whole first is =
     built harts bytes ram g whole is
     ∙ ap (λ (b : Bool). if b then Some g else None) (eq-eqb (length g.board.harts) harts (sym (harts_first bytes ram g is) ∙ first))
 
--- a guest of another number of harts
+-- if the first byte is another number of harts, no guest is built
 other_read : (harts : ℕ) (bytes ram : List ℕ) (o : Option State) → (state (length ram)).read bytes ≡ o → length ram % 4096 ≡ 0 → 0 < length ram → IsBytes bytes → (get_or bytes 0 0 ≡ harts → ⊥) → build harts bytes (pages_in ram) ≡ None
 other_read harts bytes ram None e whole some are other = not_built harts bytes ram whole some are (none bytes ram e)
 other_read harts bytes ram (Some s) e whole some are other =
@@ -43,7 +43,7 @@ other_read harts bytes ram (Some s) e whole some are other =
 pub other_harts : (harts : ℕ) (bytes ram : List ℕ) → length ram % 4096 ≡ 0 → 0 < length ram → IsBytes bytes → (get_or bytes 0 0 ≡ harts → ⊥) → build harts bytes (pages_in ram) ≡ None
 other_harts harts bytes ram whole some are other = other_read harts bytes ram ((state (length ram)).read bytes) refl whole some are other
 
--- why none is read
+-- the fault of reading is right for the guest that is built, if any
 pub fault_is : (fault : StateFault) (harts : ℕ) (bytes ram : List ℕ) → length ram % 4096 ≡ 0 → 0 < length ram → IsBytes bytes → get_or bytes 0 0 ≡ harts
     → ((fault ≡ BadState) ↔ ((g : Guest) → Spells bytes ram g → ⊥)) → (fault ≡ OutOfMemory → (g : Guest) × Spells bytes ram g)
     → IsFault fault (build harts bytes (pages_in ram))

@@ -35,7 +35,7 @@ newer_is s p k l =
     let n : length s.bytes / 4096 ≡ length s.have = omega (arith, l) in
     ap (λ c. nat_lt p c && nat_lt (get_or s.have p 0) k) (length_pages (length s.bytes / 4096) s.bytes ∙ n)
 
--- a copy that comes
+-- the outcome of a copy that comes, by whether it is newer
 abbrev came_if : (move p k : ℕ) → List ℕ → PlainStage → Bool → BoardOutcome
 came_if move p k b s newer =
     if newer then says (Stored p k) (Staging move (with_page (stage_of s) p k b)) else ignores (Staging move (stage_of s))
@@ -51,7 +51,7 @@ staged move p k b s true is lb l =
     ap (λ x. says (Stored p k) (Staging move x)) (sym (stage_with_copy s p k b lb l lt))
 staged move p k b s false is lb l = refl
 
--- a copy that comes, if the stage says whether it stored it, and what the stage is then
+-- the outcome of a copy that comes is right for the flag that it was stored and the stage after it
 pub copy_came : (move p k : ℕ) (b : List ℕ) (s t : PlainStage) (stored : Bool) → length b ≡ 4096 → length s.bytes ≡ 4096 * length s.have
     → stored ≡ is_newer p k s → t ≡ (if is_newer p k s then with_copy p k b s else s)
     → page_came board move (stage_of s) p k b ≡ copied move p k stored t

@@ -1,4 +1,4 @@
--- The bytes of all pieces, concatenated, if none is lacking.
+-- The bytes of all pieces, concatenated, if none is missing.
 use Rattle.std.proofs.Common.{◌≡◌, ◌<◌, ◌≤◌, ℕ, suc, ◌+◌, ◌-◌, Bool, true, false, List, ◌++◌, Option, Some, None, refl, sym, ap, ◌∙◌, arith, append_assoc, append-nil}
 use Rattle.std.specs.Prelude.{is_some, option_map}
 use Rattle.rvm_protocol.specs.Pages.{gathered, with_first}
@@ -44,7 +44,7 @@ module _ (f : ℕ → Option (List ℕ)) (p n : ℕ) (xs : List ℕ) (all : Opti
       ∙ ap (λ k. behind xs (option_map joined (gathered f p k))) (sym e)
       ∙ so_far
 
--- WHETHER NONE IS LACKING
+-- WHETHER NONE IS MISSING
 
 first_there : (x : List ℕ) (rest : Option (List (List ℕ))) → is_some (with_first (Some x) rest) ≡ is_some rest
 first_there x None = refl

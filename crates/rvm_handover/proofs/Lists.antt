@@ -13,7 +13,7 @@ next_is b s p n lt is =
     ∙ ap (λ q. if s p then p ∷ members s q (n - (p + 1)) else members s q (n - (p + 1))) more
     ∙ ap (λ (c : Bool). if c then p ∷ members s (p + 1) (n - (p + 1)) else members s (p + 1) (n - (p + 1))) is
 
--- those so far and those from a number on are all
+-- the members listed so far, and those from p on, are all
 module _ (s : Pages) (p n : ℕ) (xs all : List ℕ) (so_far : xs ++ members s p (n - p) ≡ all) where
   pub taken : p < n → s p ≡ true → (xs ++ p ∷ []) ++ members s (p + 1) (n - (p + 1)) ≡ all
   taken lt is =

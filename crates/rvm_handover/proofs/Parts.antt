@@ -24,7 +24,7 @@ use Rattle.rvm_board.specs.Guest.{Guest}
 use Rattle.rvm_board.specs.declared.event.BoardReply.{BoardReply}
 use Rattle.rvm_handover.proofs.Tables.{of_replicate, set_is_put}
 
--- the pieces before one
+-- the pieces that stay beside a new one, as a table by index
 before_is : (b : Bool) (pieces : List (Option (List ℕ))) → ◌≡◌ {A = ℕ → Option (List ℕ)} (λ i. get_or (if b then replicate 6 None else pieces) i None) (if b then (λ i. None) else (λ i. get_or pieces i None))
 before_is true pieces = fun_ext (λ i. of_replicate {V = Option (List ℕ)} 6 i None)
 before_is false pieces = refl
@@ -41,7 +41,7 @@ stage_with_piece s stamp part parts bytes l lt =
     let all = one ∙ ap (λ f. put f part (Some bytes)) (before_is (nat_lt s.stamp stamp) s.pieces) in
     λ i. record { pages = (stage_of s).pages; have = (stage_of s).have; processors = s.harts; stamp = stamp; parts = parts; pieces = all i }
 
--- WHAT COMES OF A PIECE, BY THE BYTES OF ALL
+-- THE OUTCOME OF A PIECE, BY THE BYTES OF ALL
 
 abbrev pub by_whole : (move : ℕ) → (old s : Stage (List ℕ)) → (part parts : ℕ) → Option (List ℕ) → BoardOutcome
 by_whole move old s part parts None = says (Kept part parts) (Staging move s)
@@ -164,7 +164,7 @@ module _ (move : ℕ) (s : PlainStage) (stamp part parts : ℕ) (bytes numbers b
   left_too ready_not.OutOfMemory places lt h =
       state_whole move (stage_of s) kept numbers body (length kept.pages) (length numbers == length kept.pages) (nat_lt 0 (size (lacks kept numbers) (length kept.pages)))
 
--- the reason and the stage that are left, as the last piece gave them
+-- the outcome stays right for a reason and a stage that are equal to others
 pub left_kept : (move stamp part parts : ℕ) (bytes : List ℕ) (s t u : PlainStage) (r : NotReady) (j : NotJoined) (o : BoardOutcome)
     → j ≡ reason_joined r → u ≡ left_of j (with_piece stamp part parts bytes t) t → t ≡ s
     → IsPartLeft move part parts (reason_joined r) (left_of (reason_joined r) (with_piece stamp part parts bytes s) s) o

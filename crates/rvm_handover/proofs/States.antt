@@ -23,11 +23,11 @@ use Rattle.rvm_handover.proofs.Lists.{members_count}
 pub pages_are : (s : PlainStage) → length s.bytes ≡ 4096 * length s.have → length (stage_of s).pages ≡ length s.have
 pages_are s l = let n : length s.bytes / 4096 ≡ length s.have = omega (arith, l) in length_pages (length s.bytes / 4096) s.bytes ∙ n
 
--- with other pieces
+-- a stage, as the protocol has it, with other pieces
 abbrev pub with_pieces : PlainStage → (stamp parts : ℕ) → (ℕ → Option (List ℕ)) → Stage (List ℕ)
 with_pieces s stamp parts pieces = record (stage_of s) { stamp = stamp; parts = parts; pieces = pieces }
 
--- WHAT COMES OF A STATE, BY HOW MANY PAGES THERE ARE
+-- THE OUTCOME OF A STATE, BY THE NUMBER OF PAGES
 
 abbrev pub came_if : (move : ℕ) → (old s : Stage (List ℕ)) → (numbers body : List ℕ) → (count : ℕ) → (fits lacks_some : Bool) → BoardOutcome
 came_if move old s numbers body count fits lacks_some =
@@ -62,7 +62,7 @@ module _ (move : ℕ) (s : PlainStage) (stamp parts : ℕ) (pieces : ℕ → Opt
       ∙ ap (λ n. sends (Lacking n) (Lost move (members (lacks (stage_of s) numbers) 0 count)) (Staging move next)) (sym long)
       ∙ ap (λ ps. sends (Lacking (length missing)) (Lost move ps) (Staging move next)) (sym are)
 
-  -- out of memory, if copies are lacking
+  -- if copies are missing, the state is not refused as a bad one
   pub lack_is_good : length numbers ≡ count → 0 < length (members (lacks (stage_of s) numbers) 0 count)
       → is_bad (state_came board move (stage_of s) next numbers body).reply ≡ false
   lack_is_good same some = ap (λ (o : BoardOutcome). is_bad o.reply) (some_lack (members (lacks (stage_of s) numbers) 0 count) same refl some)
@@ -76,7 +76,7 @@ module _ (move : ℕ) (s : PlainStage) (stamp parts : ℕ) (pieces : ℕ → Opt
       ∙ ap (λ b. came_if move (stage_of s) next numbers body count b (nat_lt 0 (size (lacks next numbers) count))) (eq-eqb (length numbers) count same)
       ∙ ap (λ b. came_if move (stage_of s) next numbers body count true b) (le-ltb 0 (size (lacks next numbers) count) (omega (arith, none, long)))
 
--- why no guest was made
+-- a fault that is right for the guest that is built, if any, is right for the outcome
 left_is : (move : ℕ) (s : PlainStage) (fault : StateFault) (made : Option Guest) → IsFault fault made → IsLeft move (reason_of fault) s (guest_read board move (stage_of s) made)
 left_is move s faults.BadState made is = ap (λ o. guest_read board move (stage_of s) o) is
 left_is move s faults.OutOfMemory None is = absurd cc

@@ -1,4 +1,4 @@
--- The pages whose copies are lacking fit in a Lost frame.
+-- The pages whose copies are missing fit in a Lost frame.
 use Rattle.std.proofs.Common.{◌≡◌, ◌<◌, ◌≤◌, ℕ, zero, suc, ◌+◌, Bool, true, false, ◌&&◌, if◌then◌else◌, List, ◌∷◌, length, refl, sym, subst, arith}
 use Rattle.std.specs.List.{list_all}
 use Rattle.std.proofs.lemmas.Bool.{le-leb}
@@ -21,7 +21,7 @@ both false b h k = h
 is_within : (low high n : ℕ) → low ≤ n → n ≤ high → within low high n ≡ true
 is_within low high n above below = both (nat_le low n) (nat_le n high) (le-leb low n above) (le-leb n high below)
 
--- MEMBERS OF A SET RISE, AND ARE AS FEW AND AS LOW AS THE NUMBERS THAT ARE LOOKED AT
+-- MEMBERS OF A SET RISE, AND ARE NO MORE AND NO HIGHER THAN THE NUMBERS THAT ARE LOOKED AT
 
 rise_if : (b : Bool) (low first : ℕ) (rest : List ℕ) → low ≤ first → rise_from (first + 1) rest ≡ true → rise_from low rest ≡ true
     → rise_from low (if b then first ∷ rest else rest) ≡ true
@@ -67,12 +67,12 @@ members_fit s count few some =
     (members_low s 4095 0 count (omega (arith, few))))
     (members_rise s 0 0 count (omega arith))
 
--- a fault of reading tells of no pages
+-- a fault of reading names no pages
 pub told_fault : (fault : StateFault) (reason : NotReady) → reason ≡ reason_of fault → CanBeTold reason
 told_fault faults.BadState reason is = subst CanBeTold (sym is) tt
 told_fault faults.OutOfMemory reason is = subst CanBeTold (sym is) tt
 
--- a reason of a state, as that of the last of its pieces
+-- if the reason of a state can be told, so can that of the last of its pieces
 pub told_joined : (reason : NotReady) (joined : NotJoined) → joined ≡ reason_joined reason → CanBeTold reason → PartCanBeTold joined
 told_joined (ready.Lacking pages) joined is told = subst PartCanBeTold (sym is) told
 told_joined ready.BadState joined is told = subst PartCanBeTold (sym is) tt

@@ -36,15 +36,15 @@ abbrev pub is_bad : Reply BoardReply → Bool
 is_bad (Refused replies.BadState) = true
 is_bad reply = false
 
--- the outcome of a state that made no guest for this reason, and left this stage; of a bad state, out of memory is
--- not the reason
+-- the outcome of a state that made no guest for this reason, and left this stage; if the state is bad, the reason is
+-- not that memory ran out
 abbrev pub IsLeft : (move : ℕ) → NotReady → PlainStage → BoardOutcome → Type 0
 IsLeft move (reasons.Lacking pages) s o =
     o ≡ sends (Lacking (length pages)) (Lost move pages) (Staging move (stage_of s))
 IsLeft move reasons.BadState s o = o ≡ refuses replies.BadState (Staging move (stage_of s))
 IsLeft move reasons.OutOfMemory s o = is_bad o.reply ≡ false
 
--- the pages that are lacking fit in a Lost frame
+-- the pages whose copies are missing fit in a Lost frame
 abbrev pub CanBeTold : NotReady → Type 0
 CanBeTold (reasons.Lacking pages) = lost.fits pages ≡ true
 CanBeTold reason = Unit {0}

@@ -30,14 +30,14 @@ left_of (reasons.Lacking pages) kept before = kept
 left_of reasons.BadState kept before = before
 left_of reasons.OutOfMemory kept before = before
 
--- whether a piece is ignored, or kept while others are lacking
+-- whether a piece is ignored, or kept while others are missing
 abbrev pub is_partial : Reply BoardReply → Bool
 is_partial (Refused replies.Ignored) = true
 is_partial (replies.Kept part parts) = true
 is_partial reply = false
 
--- the outcome of a piece that made no guest for this reason, and left this stage; out of memory is the reason only
--- for a piece with which all are there
+-- the outcome of a piece that made no guest for this reason, and left this stage; the reason is that memory ran out
+-- only if with this piece all are there
 abbrev pub IsPartLeft : (move part parts : ℕ) → NotJoined → PlainStage → BoardOutcome → Type 0
 IsPartLeft move part parts reasons.Ignored s o = o ≡ ignores (Staging move (stage_of s))
 IsPartLeft move part parts reasons.Kept s o = o ≡ says (replies.Kept part parts) (Staging move (stage_of s))
@@ -46,7 +46,7 @@ IsPartLeft move part parts (reasons.Lacking pages) s o =
 IsPartLeft move part parts reasons.BadState s o = o ≡ refuses replies.BadState (Staging move (stage_of s))
 IsPartLeft move part parts reasons.OutOfMemory s o = is_partial o.reply ≡ false
 
--- the pages that are lacking fit in a Lost frame
+-- the pages whose copies are missing fit in a Lost frame
 abbrev pub PartCanBeTold : NotJoined → Type 0
 PartCanBeTold (reasons.Lacking pages) = lost.fits pages ≡ true
 PartCanBeTold reason = Unit {0}

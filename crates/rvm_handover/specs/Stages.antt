@@ -1,12 +1,13 @@
--- What is here of a guest that is on its way, as plain values and as the protocol of live migration has it.
+-- The stage of a guest that is on its way, as plain values and as the protocol of live migration has it.
 use Rattle.std.specs.Prelude.{ℕ, ◌*◌, Bool, ◌&&◌, nat_lt, List, length, get_or, slice_set, replicate, Option, None}
 use Rattle.rvm_mem.specs.Bytes.{replaced}
 use Rattle.rvm_protocol.specs.Pages.{Pages}
 use Rattle.rvm_protocol.specs.Staging as protocol
 use Rattle.rvm_guest.specs.Pages.{pages_in}
 
--- a stage: the RAM so far; for each page the number of the copy that is here, 0 for none; how many harts the guest has;
--- and, of the pieces of its state that are kept, the stamp, their state's count of pieces, and each piece by its index
+-- a stage: the RAM so far; for each page the number of the copy that is here, 0 for none; the number of the guest's
+-- harts; and, of the pieces of its state that are kept, the stamp, their state's count of pieces, and each piece by its
+-- index
 pub record PlainStage : Type 0 where
   pub bytes : List ℕ
   pub have : List ℕ

@@ -1,4 +1,4 @@
-//! Why a state made no guest yet.
+//! Why no guest was made when its state came.
 
 ghost use Rattle.std.specs.Prelude.{◌≡◌};
 ghost use Rattle.rvm_handover.specs.Outcomes.{reason_of};
@@ -7,14 +7,14 @@ use rvm_frame::PageNumbers;
 use rvm_state::StateFault;
 use thiserror::Error;
 
-/// Why a state made no guest yet.
+/// Why no guest was made when its state came.
 #[derive(Debug, Drop, Error)]
 pub enum NotReady {
     /// These pages, in rising order, have no copy here or an older one than the state names.
     #[error("copies of pages are lacking")]
     Lacking(PageNumbers),
-    /// The state does not name one copy for each page, or its bytes make no guest of the pages and harts that
-    /// were offered.
+    /// The state does not name one copy for each page, or its bytes make no guest of the pages and harts that were
+    /// offered.
     #[error("the state does not fit what was offered, or spells no guest")]
     BadState,
     /// Memory ran out.
@@ -23,7 +23,7 @@ pub enum NotReady {
 }
 
 impl NotReady {
-    /// The reason that stands for a fault of reading a state.
+    /// The reason for this fault of reading a state.
     pub(crate) fn from_fault(fault: StateFault) -> NotReady
         ensures { result ≡ reason_of fault }
     {

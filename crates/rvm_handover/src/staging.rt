@@ -1,4 +1,4 @@
-//! What is here of a guest that is on its way: its pages and the pieces of its state.
+//! The stage of a guest that is on its way: its pages and the pieces of its state that are here.
 
 ghost use Rattle.std.specs.Prelude.{◌≡◌, ◌≤◌, ◌*◌, ◌<◌, ℕ, true, length, get_or, IfOk, IfErr, OnErr, Some, None, is_some, option_map, if◌then◌else◌};
 ghost use Rattle.rvm_frame.specs.Bodies.{lost};
@@ -57,8 +57,8 @@ impl<M: PagedMemory> Model for Staging<M> {
 }
 
 impl<M: PagedMemory> Staging<M> {
-    /// Makes a stage for a guest of this many pages, 1 to 4096, and harts: pages of zeros, with no copy and no
-    /// piece of a state. Fails if memory runs out; a stage takes memory for pages only here.
+    /// Makes a stage for a guest of this many pages, 1 to 4096, and harts: pages of zeros, with no copy and no piece of
+    /// a state. Fails if memory runs out; a stage takes memory for pages only here.
     pub fn offer(alloc: Global, pages: u32, harts: u32) -> Result<Staging<M>, AllocError>
         requires some { 0 < pages }
         requires few { pages ≤ 4096 }
@@ -77,7 +77,7 @@ impl<M: PagedMemory> Staging<M> {
         })
     }
 
-    /// Returns how many pages the guest has, 1 to 4096.
+    /// Returns the number of the guest's pages, 1 to 4096.
     pub fn pages(&self) -> u32
         ensures pages { result ≡ length self.now.have }
         ensures bytes { length self.now.bytes ≡ 4096 * result }
@@ -88,8 +88,8 @@ impl<M: PagedMemory> Staging<M> {
         self.memory.pages()
     }
 
-    /// Stores a copy of a page with this number if the page is one of the guest's and the copy is newer than the
-    /// one here; returns whether it did. Otherwise nothing changes. Takes no memory.
+    /// Stores a copy of a page, which has this copy number, if the page is one of the guest's and the copy is newer
+    /// than the one here; otherwise changes nothing. Returns whether it stored the copy. Takes no memory.
     pub fn page(&mut self, page: u32, number: u32, bytes: &[u8; PAGE_SIZE as usize]) -> bool
         ensures stored { result ≡ is_newer page number self.old }
         ensures stage { self.new
@@ -102,7 +102,7 @@ impl<M: PagedMemory> Staging<M> {
         self.store(page, number, bytes)
     }
 
-    /// Stores a copy of a page if it is newer than the one here.
+    /// Stores a copy of a page, as `page` does.
     fn store(&mut self, page: u32, number: u32, bytes: &[u8; PAGE_SIZE as usize]) -> bool
         ensures stored { result ≡ is_newer page number self.old }
         ensures stage { self.new
@@ -129,11 +129,12 @@ impl<M: PagedMemory> Staging<M> {
         self.page(page, number, &[0; PAGE_SIZE as usize])
     }
 
-    /// Makes the guest of the pages and the bytes of a state. `numbers` names a copy for each page, in order; each
-    /// of them, or a newer one, must be here. Otherwise returns the reason, and the stage unchanged. In this order:
-    /// `BadState` if there are not as many numbers as pages; `Lacking` if copies are lacking; `BadState` if the
-    /// bytes make no guest of these pages with as many harts as were offered. `OutOfMemory` is the reason only if
-    /// none of these applies, or if there is no memory to list the copies that are lacking.
+    /// Makes the guest of the pages and the bytes of a state. `numbers` names a copy for each page, in order; each of
+    /// them, or a newer one, must be here. If it makes no guest, returns the reason, and the stage unchanged. The
+    /// reasons, in this order: `BadState` if there are not as many numbers as pages; `Lacking` if copies are missing;
+    /// `BadState` if the bytes make no guest of these pages with as many harts as were offered. The reason is
+    /// `OutOfMemory` only if none of these applies, or if memory runs out for the list of pages whose copies are
+    /// missing.
     pub fn state(
         self,
         alloc: Global,
@@ -164,10 +165,10 @@ impl<M: PagedMemory> Staging<M> {
         }
     }
 
-    /// Takes a piece of a state of stream versions 2 and 3: its stamp, its index `part` among `parts` pieces, at
-    /// most 6, and its bytes. If all pieces are there, goes on as `state` does with the state that they join to.
-    /// If that makes no guest, returns the reason, and the stage, which has the piece if the reason says that it is
-    /// kept. `OutOfMemory` is the reason only for a piece with which all are there.
+    /// Takes a piece of a state, as versions 2 and 3 of the stream send it: its stamp, its index `part` among `parts`
+    /// pieces, at most 6, and its bytes. If with it all pieces are there, goes on as `state` does with the state that
+    /// they join to. If no guest is made, returns the reason, and the stage, which has the piece if the reason says
+    /// that it is kept. The reason is `OutOfMemory` only if with this piece all are there.
     pub fn part(
         self,
         alloc: Global,
@@ -206,7 +207,7 @@ impl<M: PagedMemory> Staging<M> {
     }
 
     /// The reason that a state in pieces made no guest, and the stage, which keeps the last piece if copies are
-    /// lacking.
+    /// missing.
     fn kept_if(
         self,
         reason: NotReady,
@@ -240,7 +241,7 @@ impl<M: PagedMemory> Staging<M> {
         part < parts && (self.stamp < stamp || stamp == self.stamp && parts == self.parts)
     }
 
-    /// The stage with this piece too; if its stamp is higher, without the pieces before.
+    /// The stage with this piece too; if the piece's stamp is higher, without the pieces kept before.
     fn with_piece(mut self, stamp: u32, part: u8, parts: u8, bytes: Bytes) -> Staging<M>
         requires { part < 6 }
         ensures { result ≡ with_piece stamp part parts bytes self }
@@ -255,8 +256,8 @@ impl<M: PagedMemory> Staging<M> {
         self
     }
 
-    /// The bytes of all pieces of a state, if none is lacking once this one is there. Takes memory only in that
-    /// case.
+    /// The bytes of all pieces of a state, concatenated, if with this one none is missing; else None. Takes memory only
+    /// if none is missing.
     fn joined(
         &self,
         alloc: Global,
@@ -277,8 +278,8 @@ impl<M: PagedMemory> Staging<M> {
         }
     }
 
-    /// The guest that the pages and the bytes of a state make; if there is none, the fault and the stage
-    /// unchanged.
+    /// The guest that the pages and the bytes of a state make, with as many harts as were offered. If there is none or
+    /// memory runs out, the fault and the stage unchanged.
     fn make_guest(
         self,
         alloc: Global,
@@ -328,8 +329,8 @@ fn first_of(bytes: &[u8]) -> u32
     }
 }
 
-/// The pages whose copy here is older than the one that `numbers` names, in rising order. Takes memory only if
-/// there are any.
+/// The pages whose copy here is older than the one that `numbers` names, in rising order. Takes memory only if there
+/// are any.
 fn missing(alloc: Global, have: &[u32], numbers: &[u32]) -> Result<Vec<u16>, AllocError>
     requires same { length numbers.now ≡ length have.now }
     requires few { length have.now ≤ 4096 }
@@ -346,7 +347,7 @@ fn missing(alloc: Global, have: &[u32], numbers: &[u32]) -> Result<Vec<u16>, All
     Ok(pages)
 }
 
-/// The piece with index `place`, if it is the one that came or is kept.
+/// The piece with index `place`, if it is the one that came, which has index `part`, or one that is kept.
 fn piece_at<'a>(
     pieces: &'a [Option<Bytes>],
     place: u8,
@@ -378,7 +379,8 @@ fn are_all_there(pieces: &[Option<Bytes>], part: u8, parts: u8, bytes: &[u8]) ->
     true
 }
 
-/// The bytes of all pieces, concatenated, if none is lacking. Takes memory only in that case.
+/// The bytes of all pieces, concatenated, if with the one that came none is missing; else None. Takes memory only if
+/// none is missing.
 fn join(
     alloc: Global,
     pieces: &[Option<Bytes>],

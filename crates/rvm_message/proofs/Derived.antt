@@ -11,7 +11,7 @@ use denote.Enum.Compared.{Each, by}
 abbrev pub TellsApart : {K : Type 0} → (K → K → Bool) → Type 0
 TellsApart {K} E = (x y : K) → Decides (E x y) (x ≡ y)
 
--- what such a test answered
+-- the result of such a test decides whether two values are equal
 pub told_apart : {K : Type 0} {E : K → K → Bool} → TellsApart E → (r : Bool) (x y : K) → r ≡ E x y → Decides r (x ≡ y)
 told_apart s r x y e = subst (λ (t : Bool). Decides t (x ≡ y)) (sym e) (s x y)
 

@@ -21,7 +21,7 @@ or_twice : (a b c : Bool) → ((a || b) || c) ≡ (a || (b || c))
 or_twice true b c = refl
 or_twice false b c = refl
 
--- a mark, as one on an empty log
+-- a page is in a log after one mark if and only if it was in it, or is in an empty log after this mark
 has_mark : (q : ℕ) (d : List Bool) (p : ℕ) → has p (set d q true) ≡ (has p d || has p (set (replicate (length d) false) q true))
 has_mark q d p =
     let n = length d in
@@ -49,7 +49,7 @@ pub length_marked : (ps : List ℕ) (d : List Bool) → length (mark_all ps d) �
 length_marked [] d = refl
 length_marked (q ∷ ps) d = length_marked ps (set d q true) ∙ length-set d q true
 
--- marks, as those on an empty log
+-- the same for several marks
 pub has_marked : (ps : List ℕ) (d : List Bool) (p : ℕ) → has p (mark_all ps d) ≡ (has p d || has p (mark_all ps (replicate (length d) false)))
 has_marked [] d p = sym (ap (λ b. has p d || b) (has_none (length d) p) ∙ or_false (has p d))
 has_marked (q ∷ ps) d p =

@@ -117,7 +117,7 @@ refused_makes_none version self count AbortMove mode = abort_none mode
 
 -- COPY, WHEN A PAGE MAY BE DUE
 
--- it is refused only if no copy number is left
+-- the only refusal that is known outright is that no copy number is left
 abbrev OnlySpent : BoardOutcome → Type 0
 OnlySpent o = is_refused_outright o.reply ≡ is_seq_spent o.reply
 
@@ -138,7 +138,7 @@ last_only version n l None =
 pub stopped_only : (version n : ℕ) (l : Last Guest) → OnlySpent (obeying.copy board version (Stopped n l))
 stopped_only version n l = last_only version n l (to_copy board l)
 
--- then nothing is done
+-- if no copy number is left, nothing is done
 abbrev Stays : BoardMode → BoardOutcome → Type 0
 Stays mode o = is_seq_spent o.reply ≡ true → o ≡ refuses SeqSpent mode
 

@@ -1,4 +1,5 @@
--- `==` tells any two events apart, and any two replies: a lemma for each type, with the fields of its variants in the order written.
+-- `==` tells any two events apart, and any two replies: a lemma for each type, with the fields of its variants in the
+-- order in which they are declared.
 use Rattle.std.specs.Prelude.{Bool, ◌&&◌, ℕ, nat_eq}
 use Rattle.std.proofs.Common.{rules}
 use Rattle.std.specs.Cmp.{unsigned_Decides}

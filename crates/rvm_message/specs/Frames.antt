@@ -31,7 +31,7 @@ frame_of (frame.Abort n) = protocol.Abort n
 frame_of (frame.Zero n page number) = protocol.Zero n page number
 frame_of (frame.Part n stamp part parts bytes) = protocol.Part n stamp part parts bytes
 
--- whether a frame's counts are in range: an offer is of at least one page, and a state comes in at most six parts
+-- whether a frame's counts are in range: an offer is of at least one page, and a state comes in at most six pieces
 abbrev pub is_whole : Frame → Bool
 is_whole (frame.Offer n pages harts) = nat_lt 0 pages
 is_whole (frame.Part n stamp part parts bytes) = nat_le parts 6

@@ -54,8 +54,8 @@ abbrev pub ends_steps : protocol.Reply BoardReply → Bool
 ends_steps (protocol.Answered answer) = events.ends_steps answer
 ends_steps r = true
 
--- whether the reply is a refusal that is known before any memory is asked for. BadState is not: before it, the pieces
--- of a state are joined and the whole state is read
+-- whether the reply is a refusal that is known before anything is allocated. BadState is not: before it, the pieces of
+-- a state are joined and the whole state is read
 abbrev pub is_refused_outright : protocol.Reply BoardReply → Bool
 is_refused_outright (protocol.Refused protocol.BadState) = false
 is_refused_outright (protocol.Refused why) = true

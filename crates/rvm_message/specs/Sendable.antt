@@ -5,7 +5,7 @@ use Rattle.rvm_frame.specs.declared.frame.Frame.{Frame}
 use Rattle.rvm_frame.specs.Grammar.{body_fits, body_of}
 use Rattle.rvm_frame.specs.Kinds.{kind_of, move_fits, move_of, stands}
 
--- the frame may stand in a stream of this version after Hello, its values lie within their limits, and its body has at
+-- the frame may stand in a stream of this version after Hello, its values are within their limits, and its body has at
 -- most this many bytes
 pub record IsSendable (version most : ℕ) (f : Frame) : Type 0 where
   pub stands : stands (Some version) (kind_of f) ≡ true

@@ -4,7 +4,7 @@ use Rattle.rvm_board.specs.declared.turns.Order.TheVariants.{Alone}
 use Rattle.rvm_board.specs.Guest.{Guest}
 use Rattle.rvm_board.specs.Turns.{AfterTurns, after_turns}
 
--- the guest after at most n consecutive turns of hart h, and none if there is no such hart
+-- the guest after at most n consecutive turns of hart h; no turn is made if there is no such hart
 abbrev pub guest_turned : (h n : ℕ) → Guest → AfterTurns
 guest_turned h n g =
     if nat_lt h (length g.board.harts) then after_turns Alone n h g

@@ -16,9 +16,9 @@ pub enum Command {
     Board(BoardEvent),
     /// Begin a move of the guest to host `to`.
     Begin { to: u8, policy: Policy },
-    /// Make the next copy of a page, or the next step of the move.
+    /// Copy the next page, or take the next action of the move.
     Copy,
-    /// Send the last frame of this mode again.
+    /// Send again what the other host may not have heard: the offer, the state, Ready or Go.
     Resend,
     /// Give up the move.
     Abort,
@@ -52,8 +52,8 @@ impl Command {
 }
 
 impl HostEvent {
-    /// Returns a copy of this event. A frame is shared with one more owner, which takes no memory; fails only
-    /// if it has more owners than can be counted.
+    /// Returns a copy of this event. The frame of an event gets one more owner, which takes no memory; fails only if it
+    /// has more owners than can be counted.
     pub fn copy(&self) -> Result<HostEvent, AllocError>
         ensures copy { IfOk result (λ copy. copy ≡ self.now) }
         ensures err { OnErr result (is_frame self.now ≡ true) }

@@ -13,9 +13,8 @@ use rvm_frame::Frame;
 use std::alloc::{AllocError, Global};
 use std::marker::Model;
 
-/// An event of a host and the reply to it. The most frequent ones are kept in a few bytes: a step of a hart,
-/// a drain that found nothing, a copy of a page, and a copy that came and was stored. Any other exchange is kept
-/// in a box.
+/// An event of a host and the reply to it. The most frequent ones are kept in a few bytes: a step of a hart, a drain
+/// that found nothing, a copy of a page, and a copy that came and was stored. Any other exchange is kept in a box.
 #[derive(Drop)]
 pub struct Exchange {
     kept: Kept,
@@ -92,7 +91,7 @@ impl Model for Exchange {
 
     ghost Value = { PlainExchange };
 
-    // Below `Value`, since it reads a type of this crate.
+    // It comes after `Value`, since it reads a type of this crate.
     ghost use Rattle.rvm_message.specs.Exchanges.{plain_of};
 
     ghost view = { λ x. plain_of x.kept };
@@ -130,8 +129,8 @@ impl Exchange {
         }
     }
 
-    /// Whether `small` takes this event and its reply, so that they need no room: a drain that found nothing, a
-    /// copy of a page, or a frame that was stored. For a step, which needs none either, there is `of_step`.
+    /// Whether `small` takes this event and its reply, so that they need no room: a drain that found nothing, a copy of
+    /// a page, or a frame that was stored. For a step, which needs no room either, there is `of_step`.
     pub fn is_small(event: &HostEvent, reply: &HostReply) -> bool
         ensures { result ≡ is_small event.now reply.now }
     {
@@ -153,7 +152,7 @@ impl Exchange {
         Exchange { kept }
     }
 
-    /// Makes an exchange of any event and the reply to it, in room allocated beforehand. Takes no more memory.
+    /// Makes an exchange of any event and the reply to it, in room allocated beforehand. Allocates nothing.
     pub fn new(room: ExchangeRoom, event: HostEvent, reply: HostReply) -> Exchange
         ensures { result ≡ exchange event reply }
     {
@@ -331,7 +330,7 @@ fn kept_drain(event: &BoardEvent, reply: &HostReply) -> Kept
     Kept::Dry(*count)
 }
 
-/// A reply with no bytes equals the one that `nothing_drained` returns.
+/// Proves that the reply of a drain with no bytes equals the one that `nothing_drained` returns.
 #[tactic(auto, using(crate::proofs::Dry::no_bytes))]
 fn know_nothing(reply: &HostReply)
     requires { tells_nothing reply.now ≡ true }

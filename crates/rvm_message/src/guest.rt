@@ -7,8 +7,8 @@ ghost use Rattle.rvm_guest.specs.TheGuest.{board};
 use rvm_board::{BoardEvent, BoardReply, Debugged};
 use rvm_mem::{Memory, PagedMemory};
 
-/// Gives a guest an event and returns the answer. The pages that the event writes are added to the guest's
-/// dirty log. Takes no memory.
+/// Gives a guest an event and returns the answer. Adds the pages that the event writes to the guest's dirty log. Takes
+/// no memory.
 pub fn apply_event<M: PagedMemory>(guest: &mut Debugged<M>, event: &BoardEvent) -> BoardReply
     ensures reply { result ≡ board.answer guest.old.guest event.now }
     ensures next { guest.new.guest ≡ board.next guest.old.guest event.now }

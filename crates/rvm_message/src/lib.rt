@@ -1,7 +1,7 @@
-//! The events of a host, its replies and the frames that it makes, with what each of them is in the protocol
-//! of live migration; and the calls that give a guest an event, a step or turns.
+//! The events of a host, its replies and the frames that it makes, with what each of them is in the protocol of live
+//! migration; and the calls that give a guest an event, a step or turns.
 //!
-//! Stands on `rvm_board`, `rvm_precopy`, `rvm_frame` and `rvm_guest`, and knows nothing of modes or hosts.
+//! Stands on `rvm_board`, `rvm_precopy`, `rvm_frame` and `rvm_guest`, and must not know modes or hosts.
 //!
 //! To be read in this order: `shared`, `event`, `frame`, `reply`, `step`, `turns`, `exchange`, `guest`.
 #![tactic(auto)]

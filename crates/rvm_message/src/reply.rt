@@ -79,8 +79,8 @@ pub enum HostReply {
         page: u16,
         copy_number: u32,
     },
-    /// A round is over: its number, how many pages it copied, how many it skipped since they were written again,
-    /// and how many are in the dirty log.
+    /// A round is over: its number, the number of pages that it copied, the number that it skipped because they were
+    /// written again, and the number in the dirty log.
     RoundEnded {
         round: u16,
         sent: u16,
@@ -91,12 +91,12 @@ pub enum HostReply {
     Stopping,
     /// The state was sent.
     StateSent,
-    /// A piece of the state was sent: its index, from 0, and how many pieces there are.
+    /// A piece of the state was sent: its index, from 0, and the number of pieces.
     PartSent {
         part: u8,
         parts: u8,
     },
-    /// The last frame was sent again.
+    /// The frame that the other host may not have heard was sent again.
     Resent,
     /// The move was given up, and the guest runs on here.
     Aborted,
@@ -121,12 +121,12 @@ pub enum HostReply {
     },
     /// The end of a round was noted.
     Noted,
-    /// A piece of a state is kept: its index, from 0, and how many pieces there are.
+    /// A piece of a state is kept: its index, from 0, and the number of pieces.
     Kept {
         part: u8,
         parts: u8,
     },
-    /// Copies of this many pages are lacking.
+    /// Copies of this many pages are missing, and the source is told which.
     Lacking(u16),
     /// The whole guest is here, and waits for the commit.
     ReadySent,
@@ -196,7 +196,7 @@ impl HostReply {
         }
     }
 
-    /// Makes an answer of a refusal, without a frame.
+    /// Makes the answer that is this refusal, without a frame.
     pub fn refused(why: HostRefusal) -> Answer
         ensures reply { result.0 ≡ HostReply.Refused why }
         ensures frame { result.1 ≡ None }
@@ -204,7 +204,7 @@ impl HostReply {
         (HostReply::Refused(why), None)
     }
 
-    /// Makes an answer of this reply, without a frame.
+    /// Makes the answer that is this reply, without a frame.
     pub fn alone(self) -> Answer
         ensures reply { result.0 ≡ self }
         ensures frame { result.1 ≡ None }
@@ -222,7 +222,7 @@ impl HostReply {
         }
     }
 
-    /// Makes an answer of this reply and a frame.
+    /// Makes the answer that is this reply and a frame.
     pub fn with(self, frame: Frame) -> Answer
         ensures reply { result.0 ≡ self }
         ensures frame { result.1 ≡ Some frame }

@@ -6,8 +6,8 @@ use std::alloc::{AllocError, AllocFailed, Global};
 use std::marker::Model;
 use std::sync::Arc;
 
-/// A value that several owners keep in one place, such as a frame of a journal and of a receipt.
-/// Contracts see the value.
+/// A value that several owners keep in one place, such as a frame that a journal and a receipt keep. Contracts see the
+/// value.
 #[derive(Drop)]
 pub struct Shared<T> {
     place: Arc<T>,
@@ -37,8 +37,8 @@ impl<T> Shared<T> {
         &self.place
     }
 
-    /// Returns the same value for one more owner. Takes no memory; fails only if there are more owners than can
-    /// be counted.
+    /// Returns the same value for one more owner. Takes no memory; fails only if there are more owners than can be
+    /// counted.
     pub fn share(&self) -> Result<Shared<T>, AllocError>
         ensures { IfOk result (λ shared. shared ≡ self.now) }
     {

@@ -13,8 +13,8 @@ use rvm_board::{BoardRefusal, BoardReply, Debugged};
 use rvm_hart::Stepped;
 use rvm_mem::{Memory, PagedMemory};
 
-/// The reply of a host to a step of a hart. It takes a few bytes, whereas a `HostReply` has room for all that
-/// a board can answer.
+/// The reply of a host to a step of a hart. It takes a few bytes, whereas a `HostReply` has room for all that a board
+/// can answer.
 #[derive(Clone, Copy, Debug, PartialEq, Eq)]
 pub enum StepReply {
     /// The hart took a step.
@@ -40,8 +40,8 @@ impl StepReply {
         }
     }
 
-    /// Whether consecutive steps end with this reply: the hart stopped at a breakpoint, the board is halted, there
-    /// is no such hart, or the host refused the step.
+    /// Whether consecutive steps end with this reply: the hart stopped at a breakpoint, the board is halted, there is
+    /// no such hart, or the host refused the step.
     pub fn ends_steps(self) -> bool
         ensures { result ≡ ends_steps (reply_of (reply_to_step self)) }
     {
@@ -53,7 +53,7 @@ impl StepReply {
     }
 }
 
-/// Makes a step of a hart of a guest, as `apply_event` does, and returns the reply. Takes no memory.
+/// Gives a guest the event of a step of a hart, as `apply_event` does, and returns the reply. Takes no memory.
 pub fn step_guest<M: PagedMemory>(guest: &mut Debugged<M>, hart: u32) -> StepReply
     ensures reply { reply_to_step result ≡ HostReply.Board (board.answer guest.old.guest (Step hart)) }
     ensures next { guest.new.guest ≡ board.next guest.old.guest (Step hart) }
@@ -65,7 +65,7 @@ pub fn step_guest<M: PagedMemory>(guest: &mut Debugged<M>, hart: u32) -> StepRep
     step_if_there(guest, hart)
 }
 
-/// Makes a step of a hart, if the board has it.
+/// Gives a guest the event of a step of a hart, if the board has that hart; else only returns `BadHart`.
 #[inline(always)]
 fn step_if_there<M: PagedMemory>(guest: &mut Debugged<M>, hart: u32) -> StepReply
     ensures guest { guest.new.guest ≡ (steps_if_there hart guest.old.guest).guest }

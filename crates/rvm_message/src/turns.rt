@@ -6,14 +6,14 @@ ghost use Rattle.rvm_message.specs.Turns.{guest_turned};
 use rvm_board::{Debugged, Order, Turns};
 use rvm_mem::Memory;
 
-/// No turn was made.
+/// The result of turns if no turn was made.
 pub const NO_TURNS: Turns = Turns {
     made: 0,
     stop: None,
 };
 
-/// Makes at most `count` consecutive turns of a hart of a guest, as `Debugged::turns` does; none if the board
-/// has no such hart. Takes no memory.
+/// Makes at most `count` consecutive turns of a hart of a guest, as `Debugged::turns` does; none if the board has no
+/// such hart. Takes no memory.
 pub fn turn_guest<M: Memory>(guest: &mut Debugged<M>, hart: u32, count: u32) -> Turns
     ensures { TakesTurns (guest_turned hart count guest.old.guest) guest.old guest.new result }
 {

@@ -10,7 +10,7 @@ use Rattle.rvm_precopy.specs.declared.rounds.Next.{Next}
 use Rattle.rvm_precopy.proofs.Scans.{least_is_lowest, same_peek}
 use Rattle.rvm_precopy.proofs.Ties.{bit_of_window, no_bit}
 
--- the newest copies, once page p has copy n + 1
+-- the newest copies, after page p got copy n + 1
 module _ (newest : List ℕ) (p n : ℕ) (inside : p < length newest) where
   new_copy : (q : ℕ) → q ≡ p → get_or (set newest p (n + 1)) q 0 ≡ n + 1
   new_copy q same = ap (λ k. get_or (set newest p (n + 1)) k 0) same ∙ get_or-set_same newest p (n + 1) 0 inside
@@ -104,7 +104,7 @@ module _ (log : List Bool) (r : Plan) (is : IsPlanOf (length log) r) (c : Covers
     over = λ stops. absurd (true≢false (sym stops ∙ goes));
   }
 
-  -- a turn, by the page that is found
+  -- an action, given the page that is found
   turn : (o : Option ℕ) → r.stop ≡ false → IsLowest (due log r) r.scan (length r.to_send) o
       → Covers (with_found log r o).log (with_found log r o).plan
   turn (Some p) = copied p

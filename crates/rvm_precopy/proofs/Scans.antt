@@ -28,7 +28,7 @@ pub least_end : (f : ℕ → Bool) (p n : ℕ) → n ≤ p → least f p (n - p)
 unfolding least
 least_end f p n le = let e : n - p ≡ 0 = omega arith in rw e refl
 
--- it is the lowest, or there is none
+-- `least` gives the lowest member, or there is none
 pub least_is_lowest : (f : ℕ → Bool) (p n end : ℕ) → p + n ≡ end → IsLowest f p end (least f p n)
 unfolding least
 least_is_lowest f p zero end is = λ k from below. absurd (omega arith)
@@ -47,7 +47,7 @@ least_is_lowest f p (suc n) end is =
           (omega (arith, low.0), low.1, low.2, λ k from below. later k from not_here (λ up. low.3 k up below))
       further None not_here low = λ k from below. later k from not_here (λ up. low k up below)
 
--- no member from one number on and before another
+-- if no number from p on and below e is a member, the search may begin at e
 least_skips : (f : ℕ → Bool) (p e n : ℕ) → p ≤ e → e ≤ n → ((k : ℕ) → p ≤ k → k < e → f k ≡ false) → least f p (n - p) ≡ least f e (n - e)
 least_skips f p e n up inside none =
     steps (e - p) p (omega arith) none where
@@ -83,7 +83,7 @@ peek_kept log r n =
 pub same_peek : (log : List Bool) (r : Plan) (p q : ℕ) → q / 64 ≡ p / 64 → peek log r q ≡ peek log r p
 same_peek log r p q e = rw e refl
 
--- before this block nothing was found, and the word is the peeked-at log of the block that the scan began in
+-- before this block no page was found, and if the scan began inside a block, the word is the log as peeked at there
 pub record Scanning (log : List Bool) (r : Plan) (block peeked : ℕ) : Type 0 where
   pub from : r.scan / 64 ≤ block
   pub same : found log r ≡ least (due log r) (max r.scan (64 * block)) (length r.to_send - max r.scan (64 * block))
@@ -98,7 +98,7 @@ scan_begins log r block is =
       word = λ n. sym (ap (peek log r) first ∙ peek_kept log r (λ z. n (omega arith)));
     }
 
--- the place that a block is looked at from, and the word that it is looked at with
+-- the page from which a block is looked at, and the word with which it is looked at
 pub record Looked (log : List Bool) (r : Plan) (block p peeked : ℕ) : Type 0 where
   pub at : p ≡ max r.scan (64 * block)
   pub is : peeked ≡ peek log r p

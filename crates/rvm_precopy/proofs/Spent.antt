@@ -1,4 +1,4 @@
--- Whether a turn finds a page that no copy number is left for.
+-- Whether an action finds a page for which no copy number is left.
 use Rattle.std.proofs.Common.{◌≡◌, ℕ, ◌-◌, ◌^◌, ◌==◌, ◌&&◌, Bool, true, false, if◌then◌else◌, List, Option, Some, None, refl, sym, ◌∙◌}
 use Rattle.std.specs.Prelude.{is_some, not, option_map}
 use Rattle.rvm_precopy.specs.declared.rounds.Next.{Next}

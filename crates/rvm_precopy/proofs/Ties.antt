@@ -1,5 +1,4 @@
--- What a source keeps as lists is what the protocol has as sets and tables, and each of its turns is
--- the protocol's.
+-- What a source keeps as lists is what the protocol has as sets and tables, and each of its actions is the protocol's.
 use Rattle.std.proofs.Common.{◌≡◌, inl, inr, ℕ, zero, suc, ◌+◌, ◌-◌, ◌*◌, ◌/◌, ◌%◌, ◌<◌, Bool, true, false, not, ◌&&◌, ◌||◌, ◌==◌, if◌then◌else◌, nat_lt, nat_le, List, [], ◌∷◌, length, replicate, get_or, set, drop, refl, sym, ap, ◌∙◌, arith, add-one}
 use Rattle.std.proofs.Math.Path.{fun_ext}
 use Rattle.std.proofs.lemmas.List.{get_or-set_same, get_or-set_other, get_or-replicate, get_or_past, length-replicate, drop_more, drop_all}
@@ -107,7 +106,7 @@ zero_of_zeros n p = elim (cases_lt p n) [
   | inr ge ↦ get_or_past {X = ℕ} (replicate n 0) p 0 (let e = length-replicate {A = ℕ} n 0 in omega (arith, e, ge))
 ]
 
--- turns
+-- actions
 module _ {S P E A B : Type 0} (m : Guest S P E A B) where
   pub found_is : (g : S) (log : List Bool) (r : Plan) → page_count m g ≡ length r.to_send
       → protocol.next_page m (rounds_of g log r) ≡ found log r

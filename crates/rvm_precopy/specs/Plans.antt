@@ -137,8 +137,8 @@ stops left r =
     || nat_lt left r.policy.min_left
     || nat_lt (r.policy.factor * length r.to_send) r.copies
 
--- the plan and the dirty log after a round, given the stop rule's answer: either the log goes on until the guest is
--- paused, or its pages are the next round's, which begins
+-- the plan and the dirty log after a round, given the stop rule's answer: if it is true, the log goes on until the
+-- guest is paused; else its pages are those of the next round, which begins
 abbrev pub after_round : (log : List Bool) → Plan → Bool → Plan × List Bool
 after_round log r true = (record r { peeked = 0; scan = length r.to_send; stop = true }, log)
 after_round log r false = (

@@ -37,7 +37,7 @@ pub fn the_pause_is_the_protocols<S, P, E, A, B>()
     ensures { (m : Guest S P E A B) → ThePauseIsTheProtocols m }
 {}
 
-/// The page that is copied next of the paused guest is the protocol's.
+/// The page of the paused guest that is copied next is the protocol's.
 pub fn the_last_page_is_the_protocols<S, P, E, A, B>()
     ensures { (m : Guest S P E A B) → TheLastPageIsTheProtocols m }
 {}

@@ -4,15 +4,15 @@ ghost use Rattle.std.specs.Prelude.{◌≡◌};
 ghost use Rattle.rvm_protocol.specs.Commands.{is_allowed};
 ghost use Rattle.rvm_precopy.specs.Policies.{policy_of};
 
-/// The policy of a move. Pre-copy ends after `max_rounds` rounds, or with fewer than `min_left`
-/// pages left to copy, or after more copies than `factor` times the guest's pages.
+/// The policy of a move. Pre-copy ends at the end of a round if `max_rounds` rounds were made, or fewer than `min_left`
+/// pages are left to copy, or more copies were made than `factor` times the guest's pages.
 #[derive(Clone, Copy, Debug, PartialEq, Eq)]
 pub struct Policy {
     /// The most rounds, 1 to 1000.
     pub max_rounds: u32,
     /// The number of pages below which pre-copy ends, 1 to 4096.
     pub min_left: u32,
-    /// The most copies, as a multiple of the guest's pages, 1 to 100.
+    /// The number of copies above which pre-copy ends, as a multiple of the guest's pages, 1 to 100.
     pub factor: u32,
 }
 
@@ -30,7 +30,7 @@ impl Policy {
     }
 }
 
-/// 29 rounds, 50 pages, and 3 times the guest's pages.
+/// The default policy: 29 rounds, 50 pages, and 3 times the guest's pages.
 impl Default for Policy {
     ghost is_default = { λ p. policy_of p ≡ record { max_rounds = 29; min_left = 50; factor = 3 } };
 

@@ -18,15 +18,15 @@ pub enum Next {
         page: u32,
         number: u32,
     },
-    /// The round is over: its number, the number of pages that it copied, the number that it did not copy since they
-    /// were written again, and the number in the dirty log.
+    /// The round is over: its number, the number of pages that it copied, the number that it skipped because they were
+    /// written again, and the number in the dirty log.
     RoundEnded {
         round: u32,
         sent: u32,
         skipped: u32,
         left: u32,
     },
-    /// Pre-copy is over, and the guest must be paused.
+    /// Pre-copy is over, and the guest must now be paused.
     Stopping,
     /// No copy number is left.
     SeqSpent,
@@ -43,8 +43,8 @@ pub enum LastNext {
     SeqSpent,
 }
 
-/// What the source of a move keeps beside its guest: the pages of the round, the place of its scan, and the number of
-/// each page's newest copy. Only `begin` takes memory.
+/// What the source of a move keeps beside its guest: the pages of the round, the place of its scan, the pages that were
+/// reported lost, and the number of each page's newest copy. Only `begin` takes memory.
 #[derive(Drop)]
 pub struct Rounds {
     policy: Policy,
@@ -90,7 +90,8 @@ impl Model for Rounds {
 }
 
 impl Rounds {
-    /// All that a move of a guest of this many pages needs. `open` must come before the first copy.
+    /// Allocates all that a move of a guest of `pages` pages needs; fails if memory runs out. `open` must come before
+    /// the first copy.
     pub fn begin(alloc: Global, pages: u32, policy: Policy) -> Result<Rounds, AllocError>
         requires pages { pages ≤ 4096 }
         requires policy { is_allowed (policy_of policy) ≡ true }
@@ -140,8 +141,8 @@ impl Rounds {
         self.stop = false;
     }
 
-    /// The page that this round copies next, and the dirty log of its block of 64 pages as it is peeked at. None if no
-    /// page of this round is left.
+    /// The page that this round copies next, and the dirty log of its block of 64 pages as it is peeked at. None if
+    /// this round has no page left to copy.
     fn find<L: DirtyLog>(&self, log: &L) -> Option<(u32, u64)>
         requires { length (L.log log.now) ≡ length self.now.to_send }
         ensures page { option_map (λ found. found.0) result ≡ found (L.log log.now) self.now }
@@ -162,8 +163,8 @@ impl Rounds {
         None
     }
 
-    /// Takes the source's next action while its guest runs: copies the round's next page, or ends the round, or ends
-    /// pre-copy.
+    /// Takes the source's next action while its guest runs: gives the round's next page a copy number, or ends the
+    /// round, or ends pre-copy. Changes nothing if it returns `SeqSpent`.
     #[tactic(auto, unfolding(crate::specs::Plans::next_of))]
     pub fn next<L: DirtyLog>(&mut self, log: &mut L) -> Next
         requires { length (L.log log.old) ≡ length self.old.to_send }
@@ -201,7 +202,7 @@ impl Rounds {
         self.find(log).is_some()
     }
 
-    /// Makes the pages of the dirty log the last round's, for the guest that is paused.
+    /// Makes the pages of the dirty log those of the last round, for the guest that is paused, and empties the log.
     fn pause<L: DirtyLog>(&mut self, log: &mut L)
         requires { length (L.log log.old) ≡ length self.old.to_send }
         ensures plan { self.new ≡ (stopping (L.log log.old) self.old).plan }
@@ -212,7 +213,8 @@ impl Rounds {
         self.to_fix.clear();
     }
 
-    /// Copies page `page`, if a copy number is left.
+    /// Gives page `page` the next copy number, if one is left, and moves the scan past the page. `peeked` is the dirty
+    /// log of the page's block.
     fn copy(&mut self, page: u32, peeked: u64) -> Next
         requires inside { page < length self.old.to_send }
         requires from { self.old.scan ≤ page }
@@ -234,7 +236,7 @@ impl Rounds {
         }
     }
 
-    /// Ends the round, no page of which is left, by the stop rule.
+    /// Ends the round, which has no page left to copy: by the stop rule, pre-copy ends or the next round begins.
     fn end_round<L: DirtyLog>(&mut self, log: &mut L) -> Next
         requires { length (L.log log.old) ≡ length self.old.to_send }
         ensures answer { result ≡ (round_ended (L.log log.old) self.old).answer }
@@ -272,7 +274,8 @@ impl Rounds {
                 < u64::from(self.copies)
     }
 
-    /// Takes the source's next action once its guest is paused: copies the lowest page that is left.
+    /// Takes the source's next action once its guest is paused: gives the lowest page that is left a copy number.
+    /// Changes nothing if it returns another answer than `Copied`.
     #[tactic(auto, unfolding(crate::specs::Plans::last_next_of))]
     pub fn next_last(&mut self) -> LastNext
         ensures answer { result ≡ (last_next_of self.old).answer }
@@ -312,7 +315,8 @@ impl Rounds {
         self.find_last().is_some()
     }
 
-    /// Copies page `page` of the paused guest, if a copy number is left.
+    /// Gives page `page` of the paused guest the next copy number, if one is left; the page is then no longer left to
+    /// be copied.
     fn copy_last(&mut self, page: u32) -> LastNext
         requires { page < length self.old.to_send }
         ensures answer { result ≡ (with_last self.old (Some page)).answer }

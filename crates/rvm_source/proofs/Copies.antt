@@ -1,4 +1,4 @@
--- A turn of the source is the protocol's Copy.
+-- An action of the source is the protocol's Copy.
 use Rattle.std.proofs.Common.{◌≡◌, inl, inr, ℕ, ◌+◌, ◌-◌, ◌^◌, ◌<◌, ◌≤◌, ◌==◌, Bool, true, false, nat_le, if◌then◌else◌, List, length, Option, Some, None, refl, sym, ap, ◌∙◌, subst, arith, add-one}
 use Rattle.std.proofs.lemmas.Bool.{cases_Bool}
 use Rattle.std.proofs.lemmas.Bool.Decides.{nat_tests}
@@ -31,7 +31,7 @@ spent_is copies lt = grind (arith, nat_tests)
 -- THE GUEST RUNS
 
 module _ {S P E A B : Type 0} (m : Guest S P E A B) where
-  -- what a turn of the source comes to
+  -- the outcome of an action of the source
   abbrev pub turned : ℕ → S → Next → Plan → List Bool → Outcome S P A B
   turned n g (next.Copied p k) r log =
       sends (replies.Copied p k) (Page n p k (page_of m g p)) (Copying n (rounds_of g log r))
@@ -102,7 +102,7 @@ module _ {S P E A B : Type 0} (m : Guest S P E A B) where
             ∙ ap (λ (t : Turn). turn_of n g t) (sym (if_false r.stop (stopping log r) (with_found log r (found log r)) h))
       ]
 
-  -- after a turn, by what the call told
+  -- the outcome of the protocol's Copy, by what the call of the rounds returned
   pub turn_is : (version n : ℕ) (g g' : S) (log log' : List Bool) (r r' : Plan) (a : Next) → IsPlanOf (page_count m g) r → r.copies < 2 ^ 32
       → length log ≡ page_count m g → a ≡ (next_of log r).answer → r' ≡ (next_of log r).plan → log' ≡ (next_of log r).log → g' ≡ g
       → copy m version (Copying n (rounds_of g log r)) ≡ turned n g' a r' log'
@@ -110,14 +110,14 @@ module _ {S P E A B : Type 0} (m : Guest S P E A B) where
       copy_is version n g log r is few l
       ∙ (λ i. turned n (sym eg i) (sym ea i) (sym er i) (sym el i))
 
--- an answer's numbers, beside this many pages
+-- an answer's numbers are in range for this many pages
 abbrev pub InRange : ℕ → Next → Type 0
 InRange n (next.Copied p k) = p < n
 InRange n (next.RoundEnded round sent skipped left) = (round ≤ 1000) × ((sent ≤ n) × ((skipped ≤ n) × (left ≤ n)))
 InRange n next.Stopping = Unit {0}
 InRange n next.SeqSpent = Unit {0}
 
--- a turn keeps a log and a plan of equal length, and copies a page of them
+-- an action leaves a log and a plan for as many pages, and its answer's numbers are in range
 record Whole (n : ℕ) (t : Turn) : Type 0 where
   log : length t.log ≡ n
   send : length t.plan.to_send ≡ n
@@ -181,7 +181,7 @@ log_kept n log log' r is l e = ap length e ∙ (whole_turn n log r is l).log
 -- THE GUEST IS PAUSED
 
 module _ {S P E A B : Type 0} (m : Guest S P E A B) where
-  -- what a turn of the source comes to once its guest is paused
+  -- the outcome of an action of the source once its guest is paused
   abbrev pub last_turned : (version n turn : ℕ) → S → LastNext → Plan → Outcome S P A B
   last_turned version n turn g (last.Copied p k) r =
       sends (replies.Copied p k) (Page n p k (page_of m g p)) (Stopped n (last_of g 0 r))
@@ -213,7 +213,7 @@ module _ {S P E A B : Type 0} (m : Guest S P E A B) where
       last_page_is version n turn g r p is few
       (let b = is.send in least_below _ 0 (length r.to_send) _ p (omega (arith, b)) e)
 
-  -- after a turn, by what the call told
+  -- the outcome of the protocol's Copy, by what the call of the rounds returned
   pub last_turn_is : (version n turn : ℕ) (g : S) (r r' : Plan) (a : LastNext) → IsPlanOf (page_count m g) r → r.copies < 2 ^ 32
       → a ≡ (last_next_of r).answer → r' ≡ (last_next_of r).plan
       → copy m version (Stopped n (last_of g turn r)) ≡ last_turned version n turn g a r'
@@ -223,7 +223,7 @@ module _ {S P E A B : Type 0} (m : Guest S P E A B) where
       ∙ last_found_or version n turn g r (last_found r) refl is few
       ∙ (λ i. last_turned version n turn g (sym ea i) (sym er i))
 
--- an answer's page, beside this many pages; what is left of a plan if no page is copied
+-- an answer's page is one of this many; if no page is copied, the plan is unchanged
 abbrev pub LastInRange : ℕ → Plan → LastNext → Plan → Type 0
 LastInRange n r (last.Copied p k) r' = p < n
 LastInRange n r last.NothingLeft r' = r' ≡ r

@@ -22,7 +22,7 @@ use Rattle.rvm_source.specs.Sources.{HasPages, HasTurn, IsCovered, PlainSource}
 
 -- THE GUEST RUNS
 
--- a turn by its answer: it ends the rounds if the stop rule said so, and the number of a copy is at least 1
+-- an action by its answer: it ends pre-copy if and only if the stop rule said so, and a copy's number is at least 1
 abbrev pub IsTurn : Plan → Next → Type 0
 IsTurn r (next.Copied p k) = (r.stop ≡ false) × (0 < k)
 IsTurn r (next.RoundEnded round sent skipped left) = r.stop ≡ false
@@ -47,7 +47,7 @@ next_turn log r =
 pub turn_is : (log : List Bool) (r : Plan) (a : Next) → a ≡ (next_of log r).answer → IsTurn r a
 turn_is log r a e = subst (IsTurn r) (sym e) (next_turn log r)
 
--- after a turn that gave an answer no page is forgotten
+-- after an action with this answer no page is forgotten
 abbrev pub IsCoveredBy : Next → (log : List Bool) → Plan → Type 0
 IsCoveredBy next.Stopping log r = CoversLast r
 IsCoveredBy a log r = Covers log r
@@ -77,7 +77,7 @@ pub still_covered : (f : Phase) (log : List Bool) (plan : Plan) → f ≡ phases
     → IsCovered f log plan
 still_covered f log plan phase c = subst (λ x. IsCovered x log plan) (sym phase) c
 
--- with more pages in the dirty log none is forgotten
+-- no page is forgotten if the dirty log has more pages
 covers_more : (log more : List Bool) (r : Plan) → ((p : ℕ) → has p log ≡ true → has p more ≡ true) → Covers log r
     → Covers more r
 covers_more log more r grows c =
@@ -98,7 +98,7 @@ marked_covered ps log r c =
     covers_more log (mark_all ps log) r
     (λ p here. has_marked ps log p ∙ ap (λ b. b || has p (mark_all ps (replicate (length log) false))) here) c
 
--- turns of a guest that runs, whose pages are in the log then, leave what its source has to keep
+-- turns of a guest that runs, with the pages that they write added to the log, preserve the invariant of its source
 pub turns_keep : (f : Phase) {t : AfterTurns} {g new : GuestState} {told : Turns} (r : Plan)
     → (f ≡ phases.Offering) ⊎ (f ≡ phases.Copying) → TakesTurns t g new told
     → length g.dirty ≡ length r.to_send → IsCovered f g.dirty r
@@ -112,7 +112,7 @@ turns_keep phases.Copying {t} {g} r runs took size c = (
 turns_keep (phases.Stopped turn) r (inl e) took size c = absurd cc
 turns_keep (phases.Stopped turn) r (inr e) took size c = absurd cc
 
--- and so do steps that retire
+-- steps that retire preserve it, too
 pub retire_keeps : (f : Phase) {harts turn count : ℕ} {g new : GuestState} {told : Retired} (r : Plan)
     → (f ≡ phases.Offering) ⊎ (f ≡ phases.Copying) → RetiresThen harts turn count g new told
     → length g.dirty ≡ length r.to_send → IsCovered f g.dirty r
@@ -130,7 +130,7 @@ retire_keeps (phases.Stopped turn') r (inr e) all size c = absurd cc
 
 -- THE GUEST IS PAUSED
 
--- a turn by its answer: the number of a copy is at least 1, and if nothing is left, no page is found
+-- an action by its answer: a copy's number is at least 1, and if nothing is left, no page is found
 abbrev pub IsLastTurn : Plan → LastNext → Type 0
 IsLastTurn r (last.Copied p k) = 0 < k
 IsLastTurn r last.NothingLeft = last_found r ≡ None

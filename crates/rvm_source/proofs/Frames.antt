@@ -24,7 +24,7 @@ none_is : (b : Bool) → (b ≡ true → ⊥) → false ≡ b
 none_is true never = absurd (never refl)
 none_is false never = refl
 
--- it is told exactly whether bytes are a page of zeros
+-- a flag that is set if and only if bytes are a page of zeros is the protocol's test of them
 pub zeros_are : (bytes : List ℕ) (told : Bool) → (told ≡ true ↔ bytes ≡ zeros) → told ≡ is_zeros bytes
 unfolding board
 zeros_are bytes true is = sym (ap is_zeros (is.0 refl))

@@ -29,7 +29,7 @@ use Rattle.rvm_source.specs.Sources.{HasPages, PlainSource, is_stopped, mode_in,
 use Rattle.rvm_source.specs.States.{sends_state_of}
 use Rattle.rvm_source.proofs.Frames.{if_true}
 
--- PAGES THAT ARE LACKING
+-- PAGES THAT ARE MISSING
 
 has_union : (xs ys : List Bool) (p : ℕ) → length ys ≡ length xs → has p (union xs ys) ≡ (has p xs || has p ys)
 unfolding union
@@ -50,7 +50,7 @@ size_below s most (suc n) le =
     ap (λ b. (if b then 1 else 0) + size (λ p. s p && nat_lt p most) n) (ap (λ b. s n && b) (lt-ltb n most (omega (arith, le))) ∙ and_true (s n))
     ∙ ap (λ k. (if s n then 1 else 0) + k) (size_below s most n (omega (arith, le)))
 
--- how many of a list's numbers are below a count
+-- the number of a list's numbers that are below a count
 count_in : (ps : List ℕ) (pages : ℕ) (set : List Bool) → ((p : ℕ) → has p set ≡ (is_in ps p && nat_lt p pages)) → length set ≡ pages
     → count set ≡ size (is_in ps) pages
 count_in ps pages set each long =

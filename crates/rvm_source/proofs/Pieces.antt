@@ -10,7 +10,7 @@ use Rattle.rvm_state.specs.Spelling.{longest}
 use Rattle.rvm_guest.specs.Pieces.{cut, pieces}
 use Rattle.rvm_guest.proofs.Pieces.{length_pieces, piece_at}
 
--- a list's front, by a length that is also its own if it is shorter
+-- a list's first 4096 elements, or all of them if it is shorter
 shorter : (bytes : List ℕ) (n : ℕ) → n ≡ min (length bytes) 4096 → take n bytes ≡ take 4096 bytes
 shorter bytes n is = elim (cases_lt 4096 (length bytes)) [
   | inl lt ↦ let full : n ≡ 4096 = omega (arith, is, lt) in ap (λ k. take k bytes) full
@@ -21,14 +21,14 @@ shorter bytes n is = elim (cases_lt 4096 (length bytes)) [
 pub begins : (bytes : List ℕ) (place : ℕ) → place < length (pieces (length bytes) bytes) → 4096 * place < length bytes
 begins bytes place lt = let count = length_pieces (length bytes) bytes (omega arith) in omega (arith, count, lt)
 
--- and ends after 4096 bytes, or with the body
+-- a piece ends after 4096 bytes, or with the body
 pub ends : (bytes : List ℕ) (place end : ℕ) → end ≡ min (length bytes) (4096 * place + 4096) → place < length (pieces (length bytes) bytes)
     → take (end - 4096 * place) (drop (4096 * place) bytes) ≡ get_or (pieces (length bytes) bytes) place []
 ends bytes place end is lt =
     shorter (drop (4096 * place) bytes) (end - 4096 * place) (let d = length-drop (4096 * place) bytes in omega (arith, is, d))
     ∙ sym (piece_at (length bytes) place bytes lt)
 
--- the pieces of the body of a State frame, and how long it is
+-- the pieces of the body of a State frame, and the length of that body
 is_cut : (bytes numbers state body : List ℕ) → bytes ≡ frame.state.write (numbers, state) → state ≡ body → pieces (length bytes) bytes ≡ cut numbers body
 unfolding cut
 is_cut bytes numbers state body is same = ap (λ b. pieces (length b) b) (is ∙ ap (λ b. frame.state.write (numbers, b)) same)
@@ -45,6 +45,6 @@ not_longer items numbers state (Ok b) is few small =
     omega (arith, same, length_state numbers state, few, small)
 not_longer items numbers state (Err e) is few small = tt
 
--- as many as it takes
+-- the number of pieces is the least possible
 pub count_is : (bytes numbers body : List ℕ) → pieces (length bytes) bytes ≡ cut numbers body → div_ceil (length bytes) 4096 ≡ length (cut numbers body)
 count_is bytes numbers body is = sym (length_pieces (length bytes) bytes (omega arith)) ∙ ap length is

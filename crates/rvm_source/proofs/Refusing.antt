@@ -34,7 +34,7 @@ refused o = is_refused_outright o.reply
 abbrev spent : BoardOutcome → Bool
 spent o = is_seq_spent o.reply
 
--- a turn says whether a copy number is left
+-- an action's answer says whether no copy number is left
 turned_spent : (n : ℕ) (g : Guest) (a : Next) (r : Plan) (log : List Bool) → spent (turned board n g a r log) ≡ is_spent a
 turned_spent n g (next.Copied p k) r log = refl
 turned_spent n g (next.RoundEnded a b c d) r log = refl
@@ -68,7 +68,7 @@ spent_paused version pages turn s h phase =
     ∙ ap spent (last_turn_is board version s.move_number turn s.guest.guest s.plan t.plan t.answer (plan_is pages s h) h.copies refl refl)
     ∙ last_turned_spent version s.move_number turn s.guest.guest t.answer t.plan
 
--- Copy is refused for no other reason
+-- Copy is refused only if no copy number is left
 pub running_refused : (version : ℕ) (s : PlainSource) → s.phase ≡ phases.Copying → refused (copy board version (mode_of s)) ≡ spent (copy board version (mode_of s))
 running_refused version s phase =
     subst (λ (f : Phase). refused (copy board version (mode_in s.move_number s.guest s.plan f)) ≡ spent (copy board version (mode_in s.move_number s.guest s.plan f))) (sym phase)

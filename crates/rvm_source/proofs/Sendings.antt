@@ -25,7 +25,7 @@ use Rattle.rvm_source.specs.Bounds.{body_bound, is_copied, state_bound, state_fr
 use Rattle.rvm_source.specs.Sources.{PlainSource}
 use Rattle.rvm_source.specs.declared.phase.Phase.TheVariants as phases
 
--- a number in its limits
+-- a number is within its limits
 in_limits : (low high n : ℕ) → low ≤ n → n ≤ high → within low high n ≡ true
 in_limits low high n a b = grind (arith, nat_tests)
 
@@ -38,7 +38,7 @@ move_fits m some small = grind (arith, nat_tests)
 copy_fits : (n : ℕ) → 0 < n → n < 2 ^ 32 → within 1 (2 ^ 32 - 1) n ≡ true
 copy_fits n some small = grind (arith, nat_tests)
 
--- each number of a list is one of a copy
+-- each number of a list can be a copy number
 abbrev pub AreCopies : List ℕ → Type 0
 AreCopies numbers = (p : ℕ) → p < length numbers → (0 < get_or numbers p 0) × (get_or numbers p 0 < 2 ^ 32)
 
@@ -105,7 +105,7 @@ part_can_be_sent version m stamp turn parts bytes new some_move small_move some_
       body_length = omega (arith, short);
     }
 
--- a guest has a page
+-- a guest has at least one page
 pub some_page : (g : GuestState) (r : Plan) (size : ℕ) → 0 < length g.guest.board.shared.bytes
     → size ≡ length g.guest.board.shared.bytes → size ≡ 4096 * length g.dirty → length g.dirty ≡ length r.to_send
     → 0 < length r.to_send

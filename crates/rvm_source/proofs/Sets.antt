@@ -11,7 +11,7 @@ and_false : (b : Bool) → (b && false) ≡ false
 and_false true = refl
 and_false false = refl
 
--- what is in the set and what is left of the list are the whole set
+-- what is in the set so far, and what is left of the list, together make the whole set
 pub record Gathers (numbers : List ℕ) (pages i : ℕ) (s : List Bool) : Type 0 where
   pub size : length s ≡ pages
   pub all : (p : ℕ) → (has p s || (is_in (drop i numbers) p && nat_lt p pages)) ≡ (is_in numbers p && nat_lt p pages)

@@ -40,7 +40,7 @@ paused version pages turn s plan a answer after h phase ea er does =
     (sym (ap (λ f. copy board version (mode_in s.move_number s.guest s.plan f)) phase
     ∙ last_turn_is board version s.move_number turn s.guest.guest s.plan plan a (plan_is pages s h) h.copies ea er)) does
 
--- a page's number and a count of pages have room in 16 bits
+-- a page's number and a count of pages fit in 16 bits
 pub below : (pages p : ℕ) (s : PlainSource) → HasPages pages s → p < pages → p < 2 ^ 16
 below pages p s h lt = let few : pages ≤ 4096 = h.plan.few in omega (arith, few, lt)
 
@@ -50,7 +50,7 @@ within pages n s h le = let few : pages ≤ 4096 = h.plan.few in omega (arith, f
 pub few_rounds : (n : ℕ) → n ≤ 1000 → n < 2 ^ 16
 few_rounds n le = omega (arith, le)
 
--- the first piece is there
+-- a state has a first piece
 pub first_turn : (g : GuestState) (r : Plan) → HasTurn (phases.Stopped 0) g r
 first_turn g r = some_piece r.newest (body_of g.guest)
 

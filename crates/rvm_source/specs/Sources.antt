@@ -19,7 +19,8 @@ pub record PlainSource : Type 0 where
   pub plan : Plan
   pub phase : Phase
 
--- the guest of a source has this many pages, its dirty log and its plan are of as many, and its copies are below 2^32
+-- the guest of a source has this many pages, its dirty log and its plan are of as many, and fewer than 2^32 copies were
+-- made
 pub record HasPages (pages : ℕ) (s : PlainSource) : Type 0 where
   pub count : page_count board s.guest.guest ≡ pages
   pub log : length s.guest.dirty ≡ pages

@@ -9,7 +9,7 @@ use Rattle.rvm_source.specs.declared.phase.Phase.{Phase}
 use Rattle.rvm_source.specs.declared.phase.Phase.TheVariants as phases
 use Rattle.rvm_source.specs.Sources.{PlainSource}
 
--- a source after turns of its guest, how many were made, and what ended them early, if anything did
+-- a source after turns of its guest, the number of turns made, and what ended them early, if anything did
 pub record SourceTurned : Type 0 where
   pub source : PlainSource
   pub made : ℕ

@@ -1,7 +1,6 @@
-//! The source of a move: a guest that runs while its pages are copied, and is paused for the last copies
-//! and its state.
+//! The source of a move: a guest that runs while its pages are copied, and is paused for the last copies and its state.
 //!
-//! Stands on `rvm_message`, `rvm_precopy` and `rvm_state`, and knows nothing of targets, hosts or worlds.
+//! Stands on `rvm_message`, `rvm_precopy` and `rvm_state`, and must not know targets, hosts or worlds.
 //!
 //! To be read in this order: `phase`, `page`, `state`, `source`.
 #![tactic(auto)]

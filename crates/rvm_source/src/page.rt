@@ -14,8 +14,8 @@ use rvm_mem::{Memory, PAGE_SIZE, PagedMemory};
 /// The most body bytes of the frame of a copy: two for the page's number, four for the copy's, and the page.
 pub(crate) const COPY_BODY: usize = 2 + 4 + PAGE_SIZE as usize;
 
-/// Makes the frame of a copy of a page with this copy number, as a stream of this version has it: from version
-/// 2 on, a page of zeros is sent without its bytes. The bytes go into `part`, which is empty before.
+/// Makes the frame of a copy of a page with this copy number, as a stream of this version has it: from version 2 on, a
+/// page of zeros is sent without its bytes. Puts the page's bytes into `part`, which must be empty.
 pub(crate) fn page_frame<M: PagedMemory>(
     version: u32,
     mut part: PagePart,

@@ -7,7 +7,7 @@ pub enum Phase {
     Offering,
     /// The guest runs, and its pages are copied in rounds.
     Copying,
-    /// The guest is paused, and its last pages and its state are sent; `turn` is the index of the next piece of
-    /// the state.
+    /// The guest is paused, and its last pages and its state are sent; `turn` is the index of the piece of the state
+    /// that is sent next.
     Stopped { turn: u8 },
 }

@@ -66,8 +66,8 @@ impl<M: PagedMemory> Model for Source<M> {
 }
 
 impl<M: PagedMemory> Source<M> {
-    /// Begins the move with this number, at least 1, by offering the guest. If memory runs out, returns the
-    /// guest unchanged.
+    /// Begins the move with this number, at least 1: the guest is then on offer. If memory runs out, returns the guest
+    /// unchanged.
     pub fn begin(
         alloc: Global,
         move_number: u64,
@@ -100,7 +100,7 @@ impl<M: PagedMemory> Source<M> {
         self.move_number
     }
 
-    /// Returns how many harts the guest has, 1 to 8.
+    /// Returns the number of the guest's harts, 1 to 8.
     pub fn harts(&self) -> u32
         ensures count { result ≡ length self.now.guest.guest.board.harts }
         ensures some { 0 < result }
@@ -130,14 +130,14 @@ impl<M: PagedMemory> Source<M> {
         move_number == self.move_number && matches!(self.phase, Phase::Stopped { .. })
     }
 
-    /// Gives up the move and returns the guest.
+    /// Ends the source and returns the guest.
     pub fn into_guest(self) -> Debugged<M>
         ensures { Some result.guest ≡ protocol.guest_in (mode_of self) }
     {
         self.guest
     }
 
-    /// How many pages the guest has.
+    /// The number of the guest's pages.
     fn pages(&self) -> u32
         ensures { HasPages result self.now }
     {
@@ -146,8 +146,8 @@ impl<M: PagedMemory> Source<M> {
         self.rounds.pages()
     }
 
-    /// Returns the most body bytes that the next frame of this source can have in a stream of this version, at
-    /// most 32768. Takes no memory.
+    /// Returns the most body bytes that the next frame of this source can have in a stream of this version, at most
+    /// 32768. Takes no memory.
     pub fn body_bound(&self, version: u32) -> usize
         ensures bound { result ≡ body_bound version self.now }
         ensures short { result ≤ 32768 }
@@ -175,8 +175,7 @@ impl<M: PagedMemory> Source<M> {
         offer_frame(self.move_number, &self.guest)
     }
 
-    /// Gives the guest an event and returns its answer; refuses with `Paused` if the guest is paused. Takes no
-    /// memory.
+    /// Gives the guest an event and returns its answer; refuses with `Paused` if the guest is paused. Takes no memory.
     pub fn apply(&mut self, event: &BoardEvent) -> HostReply
         ensures { (version : ℕ) → Answers version (obeying.board board event.now (mode_of self.old))
             (result, None) (mode_of self.new) }
@@ -190,7 +189,7 @@ impl<M: PagedMemory> Source<M> {
         }
     }
 
-    /// Makes a step of a hart of the guest, as `apply` does. Takes no memory.
+    /// Gives the guest the event of a step of a hart, as `apply` does. Takes no memory.
     pub fn step(&mut self, hart: u32) -> StepReply
         ensures { (version : ℕ) → Answers version (obeying.board board (Step hart) (mode_of self.old))
             (reply_to_step result, None) (mode_of self.new) }
@@ -215,8 +214,8 @@ impl<M: PagedMemory> Source<M> {
         }
     }
 
-    /// Makes at most `count` consecutive turns of a hart of the guest, as `Debugged::turns` does; none if the
-    /// guest is paused or has no such hart. Takes no memory.
+    /// Makes at most `count` consecutive turns of a hart of the guest, as `Debugged::turns` does; none if the guest is
+    /// paused or has no such hart. Takes no memory.
     pub fn turns(&mut self, hart: u32, count: u32) -> Turns
         ensures source { self.new ≡ (source_turned hart count self.old).source }
         ensures made { result.made ≡ (source_turned hart count self.old).made }
@@ -230,8 +229,8 @@ impl<M: PagedMemory> Source<M> {
         }
     }
 
-    /// Makes steps of this many harts of the guest in turn, as `Debugged::retire` does; none if the guest is
-    /// paused. Takes no memory.
+    /// Makes at most `count` steps of the guest's `harts` harts in turn, as `Debugged::retire` does; none if the guest
+    /// is paused. Takes no memory.
     pub fn retire(&mut self, turn: u64, harts: u32, count: u32) -> Retired
         ensures { SourceRetires harts turn count self.old self.new result }
     {
@@ -270,8 +269,8 @@ impl<M: PagedMemory> Source<M> {
         }
     }
 
-    /// Whether Resend would be refused: the guest runs and is being copied, or it is paused and a page is left
-    /// to be copied. Takes no memory.
+    /// Whether Resend would be refused: the guest runs and is being copied, or it is paused and a page is left to be
+    /// copied. Takes no memory.
     pub fn refuses_resend(&self) -> bool
         ensures { (version : ℕ) → result
             ≡ is_refused_outright (obeying.resend board version (mode_of self.now)).reply }
@@ -292,7 +291,7 @@ impl<M: PagedMemory> Source<M> {
         matches!(self.phase, Phase::Stopped { .. })
     }
 
-    /// Whether a page is due and no copy number is left for it.
+    /// Whether Copy would find a page to copy and no copy number left for it.
     fn is_spent(&self) -> bool
         ensures { (version : ℕ) → result
             ≡ is_seq_spent (obeying.copy board version (mode_of self.now)).reply }
@@ -305,8 +304,8 @@ impl<M: PagedMemory> Source<M> {
         }
     }
 
-    /// Handles Copy: makes the next copy of a page, or the next step of the move, for a stream of this version.
-    /// If memory runs out, nothing has changed; a copy that is refused asks for no memory.
+    /// Handles Copy: copies the next page, or takes the next action of the move, for a stream of this version. If
+    /// memory runs out, changes nothing. A refusal allocates nothing.
     pub fn copy(&mut self, alloc: Global, version: u32) -> Result<Answer, AllocError>
         ensures answer { IfOk result (λ a. Answers version
             (obeying.copy board version (mode_of self.old)) a (mode_of self.new)) }
@@ -326,7 +325,7 @@ impl<M: PagedMemory> Source<M> {
         }
     }
 
-    /// Copy while the guest runs.
+    /// Handles Copy while the guest runs and is being copied, if no copy number is lacking.
     fn copy_running(&mut self, alloc: Global, version: u32) -> Result<Answer, AllocError>
         requires phase { self.old.phase ≡ Phase.Copying }
         requires left { is_seq_spent (obeying.copy board version (mode_of self.old)).reply ≡ false }
@@ -365,7 +364,7 @@ impl<M: PagedMemory> Source<M> {
         })
     }
 
-    /// Copy once the guest is paused.
+    /// Handles Copy once the guest is paused, if no copy number is lacking.
     fn copy_paused(&mut self, alloc: Global, version: u32, turn: u8) -> Result<Answer, AllocError>
         requires phase { self.old.phase ≡ Phase.Stopped turn }
         requires left { is_seq_spent (obeying.copy board version (mode_of self.old)).reply ≡ false }
@@ -394,8 +393,8 @@ impl<M: PagedMemory> Source<M> {
         }
     }
 
-    /// Handles Resend: makes the last frame of this phase again for a stream of this version; in versions 2 and
-    /// 3, the next piece of the state. If memory runs out, nothing has changed; a refusal asks for no memory.
+    /// Handles Resend: makes the offer or the paused guest's state again, for a stream of this version; in versions 2
+    /// and 3, the next piece of the state. If memory runs out, changes nothing. A refusal allocates nothing.
     pub fn resend(&mut self, alloc: Global, version: u32) -> Result<Answer, AllocError>
         ensures answer { IfOk result (λ a. Answers version
             (obeying.resend board version (mode_of self.old)) a (mode_of self.new)) }
@@ -412,7 +411,7 @@ impl<M: PagedMemory> Source<M> {
         }
     }
 
-    /// Resend once the guest is paused: sends the state again if no page is left to be copied.
+    /// Handles Resend once the guest is paused: sends the state again if no page is left to be copied.
     fn resend_state(&mut self, alloc: Global, version: u32, turn: u8) -> Result<Answer, AllocError>
         requires { self.old.phase ≡ Phase.Stopped turn }
         ensures answer { IfOk result (λ a. Answers version
@@ -434,8 +433,8 @@ impl<M: PagedMemory> Source<M> {
     }
 
     /// Handles Lost: if the guest is paused for the move with this number, marks the listed pages for another copy,
-    /// except those that the guest does not have, and returns how many; otherwise refuses with `Ignored`. If memory
-    /// runs out, nothing has changed.
+    /// except those that the guest does not have, and returns how many it marked; otherwise refuses with `Ignored`. If
+    /// memory runs out, changes nothing.
     pub fn lost(
         &mut self,
         alloc: Global,
@@ -517,7 +516,7 @@ fn round_ended(move_number: u64, round: u16, sent: u16, skipped: u16, left: u16)
     })
 }
 
-/// The set of those numbers that are below a count of pages.
+/// Makes the set of those numbers that are below a count of pages. Fails if memory runs out.
 fn set_of(alloc: Global, pages: u32, numbers: &[u16]) -> Result<PageSet, AllocError>
     requires { pages ≤ 4096 }
     ensures set { IfOk result (λ s. (p : ℕ) → has p s ≡ (is_in numbers.now p && nat_lt p pages)) }

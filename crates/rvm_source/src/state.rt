@@ -21,10 +21,10 @@ use rvm_precopy::Rounds;
 use rvm_state::{MAX_STATE_LEN, write_state};
 use std::alloc::{AllocError, Global};
 
-/// How many bytes each piece of a state has; the last one may have fewer, but has at least one.
+/// The number of bytes of each piece of a state; the last one may have fewer, but has at least one.
 const PIECE: usize = 4096;
 
-/// What one command sends of a state: the reply to Copy, the frame, and the phase after it.
+/// What one command sends of a state: the reply, if the command is Copy; the frame; and the phase after it.
 #[derive(Drop)]
 pub(crate) struct Sent {
     pub(crate) reply: HostReply,
@@ -32,16 +32,16 @@ pub(crate) struct Sent {
     pub(crate) next: Phase,
 }
 
-/// The most body bytes of a State frame of a guest of this many pages: the number of each page's newest copy,
-/// and the state.
+/// The most body bytes of a State frame of a guest of this many pages: the number of each page's newest copy, and the
+/// state.
 pub(crate) fn state_bound(pages: u32) -> usize
     ensures { result ≡ state_bound pages }
 {
     2 + 4 * pages as usize + MAX_STATE_LEN
 }
 
-/// Makes the frame of a paused guest's state for a stream of this version: the whole state in version 1, and
-/// from version 2 on the piece with index `turn`. Fails if memory runs out.
+/// Makes the frame of a paused guest's state for a stream of this version: the whole state in version 1, and from
+/// version 2 on the piece with index `turn`. Fails if memory runs out.
 pub(crate) fn send_state<M: PagedMemory>(
     alloc: Global,
     version: u32,
@@ -102,7 +102,7 @@ fn turn_after(turn: u8, parts: u8) -> u8
     if next < parts { next } else { 0 }
 }
 
-/// The State frame of a guest: its state, with the number of each page's newest copy.
+/// Makes the State frame of a guest: its state, with the number of each page's newest copy. Fails if memory runs out.
 fn state_frame<M: PagedMemory>(
     alloc: Global,
     move_number: u64,
@@ -121,14 +121,14 @@ fn state_frame<M: PagedMemory>(
     })
 }
 
-/// A piece of a state, and how many pieces the state has.
+/// A piece of a state, and the number of pieces that the state has.
 #[derive(Drop)]
 struct Piece {
     parts: u8,
     bytes: Bytes,
 }
 
-/// The piece of a state with index `turn`, and how many pieces there are, at most 6.
+/// Cuts the piece with index `turn` from a state, and counts the state's pieces: at most 6. Fails if memory runs out.
 fn cut_piece<M: PagedMemory>(
     alloc: Global,
     numbers: &[u32],
@@ -151,7 +151,7 @@ fn cut_piece<M: PagedMemory>(
     })
 }
 
-/// The piece with this index.
+/// The piece of a body with the index `place`.
 fn piece_of(body: &[u8], place: u8) -> &[u8]
     requires { place < length (pieces (length body.now) body.now) }
     ensures { result.now ≡ get_or (pieces (length body.now) body.now) place [] }
@@ -160,7 +160,7 @@ fn piece_of(body: &[u8], place: u8) -> &[u8]
     &body[first..body.len().min(first + PIECE)]
 }
 
-/// The body of a State frame, which is sent in pieces.
+/// Makes the body of a State frame, which is sent in pieces. Fails if memory runs out.
 fn frame_body<M: PagedMemory>(
     alloc: Global,
     numbers: &[u32],
@@ -175,7 +175,7 @@ fn frame_body<M: PagedMemory>(
     state_body(alloc, numbers, state.as_slice())
 }
 
-/// The bytes of a guest's state, as the protocol of live migration has them.
+/// Makes the bytes of a guest's state, as the protocol of live migration has them. Fails if memory runs out.
 fn body_of<M: PagedMemory>(alloc: Global, guest: &Debugged<M>) -> Result<Vec<u8>, AllocError>
     ensures bytes { IfOk result (λ bytes. bytes.items ≡ body_of guest.now.guest) }
     ensures size { IfOk result (λ bytes. length bytes.items ≤ longest) }

@@ -1,4 +1,4 @@
--- How long the bytes of a guest are.
+-- The length of the bytes of a guest.
 use Rattle.std.proofs.Common.{◌≡◌, ℕ, ◌+◌, ◌*◌, ◌≤◌, true, eqb, List, [], ◌∷◌, ◌++◌, length, length-append, refl, sym, subst, ◌∙◌, arith}
 use Rattle.std.specs.List.{flat_map, list_all}
 use Rattle.std.proofs.lemmas.Bool.{eqb-true}
@@ -65,7 +65,7 @@ harts_fit size s h =
     let front = both_are (head.fits (length s.harts, s.shared)) _ a.0 in
     (both_are (eqb (length s.harts) (length s.harts)) (list_all (hart size).fits s.harts) front.1).1
 
--- the bytes of a state that fits are not longer than the longest
+-- a state that fits has at most `longest` bytes
 at_most : (size : ℕ) (s : State) → (state size).fits s ≡ true → length ((state size).write s) ≤ longest
 unfolding state
 at_most size s h =

@@ -42,7 +42,7 @@ wrote size s harts input output addresses m0 m1 m2 m3 m4 m5 of_harts of_input of
     behind (then_written (λ (h : ℕ × DeviceFields). h.0) refl start told)
     (behind (same_written of_input first) (behind (same_written of_output second) (same_written of_addresses third)))
 
--- what was written of the values of a guest, in front of which there was nothing
+-- the values of a guest were written, and no bytes stood before them
 pub guest_written : (g : Guest) (s : State) (front bytes : List ℕ) → front ≡ [] → s ≡ state_of g → Writes (parts (length g.board.shared.bytes)) (whole_parts s) front bytes → Writes (parts (length g.board.shared.bytes)) (whole_parts (state_of g)) [] bytes
 guest_written g s front bytes empty is all =
     let size : ℕ = length g.board.shared.bytes in

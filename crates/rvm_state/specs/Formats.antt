@@ -22,7 +22,7 @@ aligned = only (any 4) (λ n. n % 4 == 0)
 abbrev pub enables_of : ℕ → Bool × Bool
 enables_of n = (is_set 3 n, is_set 7 n)
 
--- mstatus with MIE and MPIE, and no other bit
+-- mstatus with these MIE and MPIE, and no other bit
 abbrev pub enable_bits : Bool × Bool → ℕ
 enable_bits x = bit (2 ^ 3) x.0 + bit (2 ^ 7) x.1
 
@@ -121,7 +121,7 @@ shared_parts f = (f.halted, (f.overrun, (f.interrupt_enable, f.mtime)))
 unfoldable pub shared : Codec DeviceFields
 shared = as_type (both (optional (any 1) anything) (both flag (both flag (any 8)))) shared_of shared_parts
 
--- how many harts there are, 1 to 8, and what the devices keep for all of them together
+-- the number of harts, 1 to 8, and what the devices keep for all of them together
 unfoldable pub head : Codec (ℕ × DeviceFields)
 head = both (number 1 (within 1 8)) shared
 
@@ -142,7 +142,7 @@ whole_of t =
 abbrev pub whole_parts : State → StateParts
 whole_parts s = (((length s.harts, s.shared), s.harts), (s.input, (s.output, s.breakpoints)))
 
--- as many harts as the head says, at most 16 bytes of input and 4096 of output, and the breakpoints
+-- the head, as many harts as it says, at most 16 bytes of input and 4096 of output, and the breakpoints
 unfoldable pub parts : (size : ℕ) → Codec StateParts
 parts size =
     both (then_each head (λ h. h.0) (hart size))

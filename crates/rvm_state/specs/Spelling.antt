@@ -8,8 +8,8 @@ use Rattle.rvm_state.specs.Formats.{state}
 abbrev pub spelling : Guest → List ℕ
 spelling g = (state (length g.board.shared.bytes)).write (state_of g)
 
--- the most bytes of a guest: 13 for all harts together and 187 for each of at most 8, then at most 16 bytes of input,
--- 4096 of output and 64 breakpoints of four bytes, each with their count
+-- the most bytes of a guest without its RAM: 13 for all harts together and 187 for each of at most 8, then at most 16
+-- bytes of input, 4096 of output and 64 breakpoints of four bytes, each of the three with its count
 abbrev pub longest : ℕ
 longest = 13 + 8 * 187 + (1 + 16) + (2 + 4096) + (1 + 4 * 64)
 

@@ -14,7 +14,7 @@ pub record WritesEach {A : Type 0} (c : Codec A) (xs : List A) (old new : List �
   pub bytes : new ≡ old ++ flat_map c.write xs
   pub fits : list_all c.fits xs ≡ true
 
--- how many bytes a guest's values have
+-- the number of bytes of a guest's values
 abbrev pub length_of : State → ℕ
 length_of s =
     13 + 187 * length s.harts + (1 + length s.input) + (2 + length s.output) + (1 + 4 * length s.breakpoints)

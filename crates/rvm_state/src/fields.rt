@@ -12,7 +12,7 @@ use rvm_dev::DeviceFields;
 use rvm_hart::RAM_BASE;
 use rvm_word::{bit, is_set};
 
-/// A number of four bytes that is a multiple of four.
+/// Reads a number of four bytes that is a multiple of four.
 pub(crate) fn aligned_at(bytes: &[u8]) -> Option<(u32, &[u8])>
     ensures { option_map (λ x. (x.0, x.1.now)) result ≡ aligned.read bytes.now }
 {
@@ -20,7 +20,7 @@ pub(crate) fn aligned_at(bytes: &[u8]) -> Option<(u32, &[u8])>
     if n % 4 == 0 { Some((n, rest)) } else { None }
 }
 
-/// MIE and MPIE, of an mstatus with no other bit.
+/// Reads MIE and MPIE from an mstatus in which no other bit is set.
 #[tactic(auto, unfolding(crate::specs::Formats::mstatus))]
 fn mstatus_at(bytes: &[u8]) -> Option<((bool, bool), &[u8])>
     ensures { option_map (λ x. (x.0, x.1.now)) result ≡ mstatus.read bytes.now }
@@ -34,7 +34,7 @@ fn mstatus_at(bytes: &[u8]) -> Option<((bool, bool), &[u8])>
     }
 }
 
-/// The interrupts that mie enables; it has no other bits than theirs.
+/// Reads the interrupts that mie enables; no other bits of it are set.
 #[tactic(auto, unfolding(crate::specs::Formats::mie))]
 fn mie_at(bytes: &[u8]) -> Option<(Interrupts, &[u8])>
     ensures { option_map (λ x. (x.0, x.1.now)) result ≡ mie.read bytes.now }
@@ -48,7 +48,7 @@ fn mie_at(bytes: &[u8]) -> Option<(Interrupts, &[u8])>
     }
 }
 
-/// mtvec: a base, and a mode whose bit 1 is 0.
+/// Reads mtvec: a base, and a mode whose bit 1 is 0.
 fn mtvec_at(bytes: &[u8]) -> Option<(u32, &[u8])>
     ensures { option_map (λ x. (x.0, x.1.now)) result ≡ mtvec.read bytes.now }
 {
@@ -60,7 +60,7 @@ fn mtvec_at(bytes: &[u8]) -> Option<(u32, &[u8])>
     }
 }
 
-/// The control and status registers.
+/// Reads the control and status registers.
 #[tactic(auto, unfolding(crate::specs::Formats::csrs))]
 pub(crate) fn csrs_at(bytes: &[u8]) -> Option<(CsrFields, &[u8])>
     ensures { option_map (λ x. (x.0, x.1.now)) result ≡ csrs.read bytes.now }
@@ -89,7 +89,7 @@ pub(crate) fn csrs_at(bytes: &[u8]) -> Option<(CsrFields, &[u8])>
     Some((fields, rest))
 }
 
-/// The address of the word that a hart has reserved in a RAM of `size` bytes, if any; a hart with none has
+/// Reads the address of the word that a hart has reserved in a RAM of `size` bytes, if any; a hart without one has
 /// address 0.
 pub(crate) fn reserved_at(size: u32, bytes: &[u8]) -> Option<(Option<u32>, &[u8])>
     ensures { option_map (λ x. (x.0, x.1.now)) result
@@ -118,7 +118,7 @@ fn is_ram_word(size: u32, address: u32) -> bool
     address % 4 == 0 && RAM_BASE <= address && u64::from(address) + 4 <= end
 }
 
-/// The status with which the board halted, if it has; a board that has not has status 0.
+/// Reads the status with which the board halted, if it has; a board that has not halted has status 0.
 fn status_at(bytes: &[u8]) -> Option<(Option<u8>, &[u8])>
     ensures { option_map (λ x. (x.0, x.1.now)) result
         ≡ (optional (any 1) anything).read bytes.now }
@@ -134,7 +134,7 @@ fn status_at(bytes: &[u8]) -> Option<(Option<u8>, &[u8])>
     }
 }
 
-/// What the devices keep for all harts together.
+/// Reads what the devices keep for all harts together.
 #[tactic(auto, unfolding(crate::specs::Formats::shared))]
 pub(crate) fn shared_at(bytes: &[u8]) -> Option<(DeviceFields, &[u8])>
     ensures { option_map (λ x. (x.0, x.1.now)) result ≡ shared.read bytes.now }

@@ -12,13 +12,13 @@ pub fn no_two_guests_have_one_spelling()
         → Spells bytes ram g → Spells bytes ram h → g ≡ h }
 {}
 
-/// The bytes that are written of a guest are, with its RAM, its encoding.
+/// The bytes that are written for a guest are, with its RAM, its encoding.
 pub fn what_is_written_spells_the_guest()
     ensures { (g : Guest) → 0 < length g.board.shared.bytes → HasSpelling g
         → Spells (spelling g) g.board.shared.bytes g }
 {}
 
-/// The values of a guest are read back from the bytes that are written of it.
+/// The values of a guest are read back from the bytes that are written for it.
 pub fn what_is_written_is_read_back()
     ensures { (g : Guest) → HasSpelling g
         → (state (length g.board.shared.bytes)).read (spelling g) ≡ Some (state_of g) }

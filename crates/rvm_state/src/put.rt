@@ -1,5 +1,5 @@
-//! Writers that append the values of a snapshot to a vector, in room that the caller reserved: no call takes
-//! memory, and the capacity stays as it is.
+//! Writers that append the values of a snapshot to a vector, in room that the caller reserved: no call takes memory,
+//! and the capacity stays as it is.
 
 ghost use Rattle.std.specs.Prelude.{◌≡◌, ◌+◌, ◌*◌, ◌≤◌, ℕ, true, length, vec_len, vec_capacity};
 ghost use Rattle.rvm_csr.specs.Fields.{CanBeHeld as CsrsHeld};
@@ -75,7 +75,7 @@ fn put_words(out: &mut Vec<u8>, words: &[u32])
     }
 }
 
-/// x1 to x31.
+/// Appends x1 to x31.
 fn put_registers(out: &mut Vec<u8>, registers: &[u32; 31])
     requires { vec_len out.old + 124 ≤ vec_capacity out.old }
     ensures written { Writes (times 31 (any 4)) registers.now out.old.items out.new.items }
@@ -85,7 +85,7 @@ fn put_registers(out: &mut Vec<u8>, registers: &[u32; 31])
     put_words(out, registers);
 }
 
-/// mstatus, with MIE and MPIE alone.
+/// Appends mstatus, in which only MIE and MPIE may be set.
 fn put_mstatus(out: &mut Vec<u8>, enabled: bool, before: bool)
     requires { vec_len out.old + 4 ≤ vec_capacity out.old }
     ensures written { Writes mstatus (enabled, before) out.old.items out.new.items }
@@ -104,7 +104,7 @@ fn put_mie(out: &mut Vec<u8>, interrupts: Interrupts)
     put_u32(out, interrupts.bits());
 }
 
-/// The control and status registers.
+/// Appends the control and status registers.
 fn put_csrs(out: &mut Vec<u8>, fields: &CsrFields)
     requires { vec_len out.old + 44 ≤ vec_capacity out.old }
     ensures written { CsrsHeld fields.now → Writes csrs fields.now out.old.items out.new.items }
@@ -122,7 +122,7 @@ fn put_csrs(out: &mut Vec<u8>, fields: &CsrFields)
     put_u64(out, fields.minstret);
 }
 
-/// Whether a hart has a reservation, and the address of the reserved word, 0 for none.
+/// Appends whether a hart has a reservation, and the address of the reserved word, 0 for none.
 fn put_reserved(out: &mut Vec<u8>, reserved: Option<u32>)
     requires { vec_len out.old + 5 ≤ vec_capacity out.old }
     ensures written { (size : ℕ) → is_in_ram size reserved ≡ true
@@ -142,7 +142,7 @@ fn put_reserved(out: &mut Vec<u8>, reserved: Option<u32>)
     }
 }
 
-/// What is kept of a hart.
+/// Appends what is kept of a hart.
 fn put_hart(out: &mut Vec<u8>, part: &HartPart)
     requires { vec_len out.old + 187 ≤ vec_capacity out.old }
     ensures written { (size : ℕ) → CanBeHeld size part.now
@@ -159,7 +159,7 @@ fn put_hart(out: &mut Vec<u8>, part: &HartPart)
     put_flag(out, part.stopped);
 }
 
-/// What is kept of each hart.
+/// Appends what is kept of each hart.
 fn put_harts(out: &mut Vec<u8>, harts: &[HartPart])
     requires { vec_len out.old + 187 * length harts.now ≤ vec_capacity out.old }
     ensures written { (size : ℕ) → AreHeld size harts.now
@@ -172,7 +172,7 @@ fn put_harts(out: &mut Vec<u8>, harts: &[HartPart])
     }
 }
 
-/// Whether the board is halted, and with which status, 0 if it is not.
+/// Appends whether the board is halted, and its status, 0 if it is not halted.
 fn put_status(out: &mut Vec<u8>, halted: Option<u8>)
     requires { vec_len out.old + 2 ≤ vec_capacity out.old }
     ensures written { Writes (optional (any 1) anything) halted out.old.items out.new.items }
@@ -191,7 +191,7 @@ fn put_status(out: &mut Vec<u8>, halted: Option<u8>)
     }
 }
 
-/// What the devices keep for all harts together.
+/// Appends what the devices keep for all harts together.
 fn put_shared(out: &mut Vec<u8>, fields: &DeviceFields)
     requires { vec_len out.old + 12 ≤ vec_capacity out.old }
     ensures written { Writes shared fields.now out.old.items out.new.items }
@@ -204,7 +204,7 @@ fn put_shared(out: &mut Vec<u8>, fields: &DeviceFields)
     put_u64(out, fields.mtime);
 }
 
-/// How many harts there are, and what the devices keep for all of them together.
+/// Appends the number of harts, and what the devices keep for all of them together.
 fn put_head(out: &mut Vec<u8>, count: u8, fields: &DeviceFields)
     requires some { 1 ≤ count }
     requires bound { count ≤ 8 }
@@ -217,7 +217,7 @@ fn put_head(out: &mut Vec<u8>, count: u8, fields: &DeviceFields)
     put_shared(out, fields);
 }
 
-/// The breakpoints: their count, and each address.
+/// Appends the breakpoints: their count, and each address.
 fn put_breakpoints(out: &mut Vec<u8>, addresses: &[u32])
     requires few { length addresses.now ≤ 64 }
     requires rising { AreRising addresses.now }
@@ -228,7 +228,7 @@ fn put_breakpoints(out: &mut Vec<u8>, addresses: &[u32])
     put_words(out, addresses);
 }
 
-/// The input that waits for the guest: its count, and its bytes.
+/// Appends the input that waits for the guest: its count, and its bytes.
 fn put_input(out: &mut Vec<u8>, bytes: &[u8])
     requires few { length bytes.now ≤ 16 }
     requires room { vec_len out.old + (1 + length bytes.now) ≤ vec_capacity out.old }
@@ -241,7 +241,7 @@ fn put_input(out: &mut Vec<u8>, bytes: &[u8])
     append_bytes(out, bytes);
 }
 
-/// The output that waits for a drain: its count, and its bytes.
+/// Appends the output that waits for a drain: its count, and its bytes.
 fn put_output(out: &mut Vec<u8>, bytes: &[u8])
     requires few { length bytes.now ≤ 4096 }
     requires room { vec_len out.old + (2 + length bytes.now) ≤ vec_capacity out.old }
@@ -254,7 +254,7 @@ fn put_output(out: &mut Vec<u8>, bytes: &[u8])
     append_bytes(out, bytes);
 }
 
-/// How many bytes the encoding of a snapshot has.
+/// The number of bytes of the encoding of a snapshot.
 pub(crate) fn snapshot_len(snapshot: &Snapshot) -> usize
     ensures { result ≡ length_of (state_in snapshot.now) }
 {
@@ -264,7 +264,7 @@ pub(crate) fn snapshot_len(snapshot: &Snapshot) -> usize
         + (1 + 4 * snapshot.breakpoints.len())
 }
 
-/// All that a guest keeps beside its RAM.
+/// Appends all that a guest keeps beside its RAM.
 pub(crate) fn put_snapshot(out: &mut Vec<u8>, snapshot: &Snapshot)
     requires some { 1 ≤ length snapshot.now.harts.items }
     requires rising { AreRising snapshot.now.breakpoints.items }

@@ -12,8 +12,8 @@ use rvm_mem::Memory;
 use std::alloc::Global;
 
 /// Returns the guest of which these bytes and this RAM are the encoding, with the dirty log of the RAM. Fails with
-/// `BadState` if there is no such guest, and with `OutOfMemory` if memory runs out, which is asked for only once all
-/// bytes are read; either error hands the RAM back unchanged.
+/// `BadState` if there is no such guest, and with `OutOfMemory` if an allocation fails; it allocates only after all
+/// bytes are read and found good. Either error hands the RAM back unchanged.
 pub fn read_state<M: Memory>(
     alloc: Global,
     bytes: &[u8],

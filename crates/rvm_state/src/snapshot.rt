@@ -16,10 +16,10 @@ use rvm_hart::HartFields;
 /// The most harts that a board has.
 const HARTS: usize = MAX_HARTS as usize;
 
-/// How many registers a hart has beside x0.
+/// The number of a hart's registers other than x0.
 const REGISTERS: usize = 31;
 
-/// `count` consecutive numbers of four bytes.
+/// Reads `count` consecutive numbers of four bytes.
 fn words_at<const CAP: usize>(count: usize, bytes: &[u8]) -> Option<(ArrayVec<u32, CAP>, &[u8])>
     requires { count ≤ CAP }
     ensures words { option_map (λ x. (x.0.items, x.1.now)) result
@@ -40,7 +40,7 @@ fn words_at<const CAP: usize>(count: usize, bytes: &[u8]) -> Option<(ArrayVec<u3
     Some((words, rest))
 }
 
-/// x1 to x31.
+/// Reads x1 to x31.
 fn registers_at(bytes: &[u8]) -> Option<([u32; REGISTERS], &[u8])>
     ensures { option_map (λ x. (x.0, x.1.now)) result ≡ (times 31 (any 4)).read bytes.now }
 {
@@ -51,7 +51,7 @@ fn registers_at(bytes: &[u8]) -> Option<([u32; REGISTERS], &[u8])>
     }
 }
 
-/// What is kept of a hart of a board with a RAM of `size` bytes.
+/// Reads what is kept of one hart of a board with a RAM of `size` bytes.
 #[tactic(auto, unfolding(crate::specs::Formats::hart))]
 fn hart_at(size: u32, bytes: &[u8]) -> Option<(HartPart, &[u8])>
     ensures { option_map (λ x. (x.0, x.1.now)) result ≡ (hart size).read bytes.now }
@@ -77,7 +77,7 @@ fn hart_at(size: u32, bytes: &[u8]) -> Option<(HartPart, &[u8])>
     Some((part, rest))
 }
 
-/// What is kept of `count` harts of such a board.
+/// Reads what is kept of `count` harts of a board with a RAM of `size` bytes.
 fn harts_at(size: u32, count: usize, bytes: &[u8]) -> Option<(ArrayVec<HartPart, HARTS>, &[u8])>
     requires { count ≤ 8 }
     ensures harts { option_map (λ x. (x.0.items, x.1.now)) result
@@ -98,7 +98,7 @@ fn harts_at(size: u32, count: usize, bytes: &[u8]) -> Option<(ArrayVec<HartPart,
     Some((harts, rest))
 }
 
-/// How many harts there are, and what the devices keep for all of them together.
+/// Reads the number of harts, and what the devices keep for all of them together.
 #[tactic(auto, unfolding(crate::specs::Formats::head))]
 fn head_at(bytes: &[u8]) -> Option<((u8, DeviceFields), &[u8])>
     ensures head { option_map (λ x. ((x.0.0, x.0.1), x.1.now)) result ≡ head.read bytes.now }
@@ -109,7 +109,7 @@ fn head_at(bytes: &[u8]) -> Option<((u8, DeviceFields), &[u8])>
     Some(((count, shared), rest))
 }
 
-/// A queue of `count` bytes.
+/// Reads a queue of `count` bytes.
 fn queue_at<const CAP: usize>(count: usize, bytes: &[u8]) -> Option<(ArrayVec<u8, CAP>, &[u8])>
     requires { count ≤ CAP }
     ensures { option_map (λ x. (x.0.items, x.1.now)) result ≡ bytes_at count bytes.now }
@@ -121,7 +121,7 @@ fn queue_at<const CAP: usize>(count: usize, bytes: &[u8]) -> Option<(ArrayVec<u8
     Some((queue, rest))
 }
 
-/// The input that waits for the guest: at most 16 bytes.
+/// Reads the input that waits for the guest: at most 16 bytes.
 fn input_at(bytes: &[u8]) -> Option<(ArrayVec<u8, INPUT_CAPACITY>, &[u8])>
     ensures { option_map (λ x. (x.0.items, x.1.now)) result
         ≡ (counted_bytes 1 (within 0 16)).read bytes.now }
@@ -130,7 +130,7 @@ fn input_at(bytes: &[u8]) -> Option<(ArrayVec<u8, INPUT_CAPACITY>, &[u8])>
     queue_at(count as usize, rest)
 }
 
-/// The output that waits for a drain: at most 4096 bytes.
+/// Reads the output that waits for a drain: at most 4096 bytes.
 fn output_at(bytes: &[u8]) -> Option<(ArrayVec<u8, OUTPUT_CAPACITY>, &[u8])>
     ensures { option_map (λ x. (x.0.items, x.1.now)) result
         ≡ (counted_bytes 2 (within 0 4096)).read bytes.now }
@@ -139,7 +139,7 @@ fn output_at(bytes: &[u8]) -> Option<(ArrayVec<u8, OUTPUT_CAPACITY>, &[u8])>
     queue_at(count as usize, rest)
 }
 
-/// The breakpoints: at most 64 addresses, rising.
+/// Reads the breakpoints: at most 64 addresses, in rising order.
 #[tactic(auto, unfolding(crate::specs::Formats::breakpoints))]
 fn breakpoints_at(bytes: &[u8]) -> Option<(ArrayVec<u32, MAX_BREAKPOINTS>, &[u8])>
     ensures { option_map (λ x. (x.0.items, x.1.now)) result ≡ breakpoints.read bytes.now }
@@ -153,7 +153,7 @@ fn breakpoints_at(bytes: &[u8]) -> Option<(ArrayVec<u32, MAX_BREAKPOINTS>, &[u8]
     }
 }
 
-/// The snapshot of which these bytes are the encoding, for a RAM of `size` bytes; None if there is none.
+/// The snapshot that all of these bytes encode, for a RAM of `size` bytes; None if there is none.
 #[tactic(auto, unfolding(crate::specs::Formats::state, crate::specs::Formats::parts))]
 pub(crate) fn snapshot_of(size: u32, bytes: &[u8]) -> Option<Snapshot>
     ensures { option_map state_in result ≡ (state size).read bytes.now }

@@ -8,8 +8,8 @@ use rvm_board::Debugged;
 use rvm_mem::Memory;
 use std::alloc::{AllocError, Global};
 
-/// The most bytes that a guest has without its RAM: 13 for all harts together and 187 for each of at most 8, then
-/// at most 16 bytes of input, 4096 of output and 64 breakpoints of four bytes, each with their count.
+/// The most bytes of the encoding of a guest without its RAM: 13 for all harts together and 187 for each of at most 8,
+/// then at most 16 bytes of input, 4096 of output and 64 breakpoints of four bytes, each of the three with its count.
 pub const MAX_STATE_LEN: usize = 13 + 8 * 187 + (1 + 16) + (2 + 4096) + (1 + 4 * 64);
 
 /// Returns the encoding of a guest without its RAM, at most `MAX_STATE_LEN` bytes; with the RAM it determines the

@@ -5,7 +5,7 @@ use Rattle.rvm_guest.specs.Pages.{joined}
 use Rattle.rvm_handover.proofs.Gathering.{behind}
 use Rattle.rvm_handover.proofs.staging.join.Given as goal
 
--- the bytes so far with those of the pieces after are all
+-- the bytes so far, and those of the pieces from this one on, are all
 abbrev pub invariant-loop-place : goal.invariant-loop-place
 invariant-loop-place l =
     let piece = put (λ i. get_or l.pieces i None) l.part (Some l.bytes) in

@@ -12,7 +12,7 @@ use Rattle.rvm_handover.proofs.States.{lack_is_good, left_so, none_lack, other_c
 use Rattle.rvm_handover.proofs.Told.{told_fault}
 use Rattle.rvm_handover.proofs.staging.Staging.state.Goals as goal
 
--- the pages that are lacking, by the numbers of the copies that are here
+-- the pages whose copies are missing, by the numbers of the copies that are here
 lacking : List ℕ → List ℕ → List ℕ
 lacking numbers have = members (is_older have numbers) 0 (length have)
 

@@ -6,7 +6,7 @@ use Rattle.rvm_precopy.proofs.rounds.Rounds.find.Given.{Over}
 use Rattle.rvm_precopy.proofs.rounds.Rounds.find.Goals.{then-from-eq0, else-from-eq0, After-next_except, In-Some}
 use Rattle.rvm_precopy.proofs.rounds.Rounds.find.Goals as goal
 
--- the word that the block is looked at with
+-- the word with which the block is looked at
 looked : (g : Over) (c : After-next_except g) → Looked (g.L.DirtyLog.log c.args.log.now) c.args.self.now c.loop-block.block c.max-from.result c.if-from-eq0.peeked
 looked g c =
     let log = g.L.DirtyLog.log c.args.log.now in
@@ -21,7 +21,7 @@ looked g c =
           (looked_kept log r c.loop-block.block c.max-from.result c.loop-block.peeked c.loop-block.invariant at w.if-from-eq0.false)
     ]
 
--- what the block has
+-- the lowest page that is due in the block, if there is one
 lowest : (g : Over) (c : After-next_except g) → IsLowest (has_except c.if-from-eq0.peeked c.args.self.now.to_send) c.max-from.result (64 * (c.max-from.result / 64) + 64) c.next_except.result
 lowest g c =
     subst (λ (x : Plan). IsLowest (has_except c.if-from-eq0.peeked x.to_send) c.max-from.result (64 * (c.max-from.result / 64) + 64) c.next_except.result) c.self.view_is c.next_except.ensures
