@@ -20,7 +20,7 @@ use Rattle.rvm_protocol.proofs.OneCurrent.{came_lands, moved, obeyed, one_curren
 
 -- WORLDS OF BOARDS
 
--- what is told of a world that was reached
+-- what the replies of a world that was reached told, and its modes show
 record Known (w : BoardWorld) : Type 0 where
   pub t : Told BoardGuest
   pub sound : SoundAt board board_laws w t
@@ -57,7 +57,7 @@ told_here w t s x (Came y f) =
     came_lands board board_laws w t s x y (plain board f)
     ∙ same_move (result_at board w x (Came y f)).reply y f t.current
 
--- after an event
+-- the current host after an event
 pub moves_on : (w new : BoardWorld) (ev : Event BoardEvent) (x : ℕ) (e : BoardHostEvent) (current : ℕ) → IsReached w
     → ((t : Told BoardGuest) → Shown w.hosts t → current ≡ t.current) → meaning board w ev ≡ Some (x, e)
     → new ≡ world_at board w x e → (t : Told BoardGuest) → Shown new.hosts t

@@ -101,19 +101,19 @@ replies_next w w' x ys r qs h =
     in
     (both.0, λ is. ap (λ z. replies board z ys) is ∙ both.1)
 
--- the first this many of a list by a function of the place
+-- the first k of a list by a function of the place
 pub take_listed : {V : Type 0} (f : ℕ → V) (i k n : ℕ) → k ≤ n → take k (listed f i n) ≡ listed f i k
 unfolding listed
 take_listed f i zero n le = refl
 take_listed f i (suc k) zero le = absurd (omega (arith, le))
 take_listed f i (suc k) (suc n) le = ap (λ z. f i ∷ z) (take_listed f (suc i) k n (omega (arith, le)))
 
--- a fact of an error
+-- what holds anyway holds if a result is an error
 pub on_err : {X F : Type 0} (r : Result X F) (P : Type 0) → P → OnErr r P
 on_err (Ok x) P p = tt
 on_err (Err e) P p = p
 
--- so far, and what is left
+-- the events made so far, and those that are left, are all
 pub record Going (f : ℕ → Event BoardEvent) (w0 w : BoardWorld) (i n : ℕ) : Type 0 where
   pub left : run board w (listed f i (n - i)) ≡ run board w0 (listed f 0 n)
   pub so_far : w ≡ run board w0 (listed f 0 i)
@@ -140,7 +140,7 @@ one_further f w0 w w' i so_far next =
     ∙ sym (ap (run board w0) all ∙ run_append xs (f i ∷ []) w0 ∙ run_first (run board w0 xs) (f i) []
     ∙ run_none (step board (run board w0 xs) (f i)))
 
--- so it goes on
+-- the same after one event more
 pub goes_on : (f : ℕ → Event BoardEvent) (w0 w w' : BoardWorld) (i n : ℕ) → Going f w0 w i n → i < n
     → w' ≡ step board w (f i) → Going f w0 w' (i + 1) n
 goes_on f w0 w w' i n going lt next =
@@ -166,12 +166,12 @@ ends f w0 w i n going le =
 
 -- THE FIRST EVENTS OF A LIST
 
--- none of them was made
+-- no event was made
 pub part_none : (x : Event BoardEvent) (xs : List (Event BoardEvent)) (w new : BoardWorld) → new ≡ w
     → IsPartOf (x ∷ xs) w new
 part_none x xs w new is = record { made = 0; there = omega arith; leaves = is ∙ sym (run_none w) }
 
--- one was, and some of those after it
+-- the first event was made, and some of those after it
 pub part_first : (x : Event BoardEvent) (xs : List (Event BoardEvent)) (w mid new : BoardWorld) → mid ≡ step board w x
     → IsPartOf xs mid new → IsPartOf (x ∷ xs) w new
 part_first x xs w mid new is part =
@@ -183,7 +183,7 @@ part_first x xs w mid new is part =
       leaves = part.leaves ∙ ap (λ z. run board z some) is ∙ sym (run_first w x some);
     }
 
--- in the first of two parts
+-- some events of the first of two parts were made
 pub part_before : (xs ys : List (Event BoardEvent)) (w new : BoardWorld) → IsPartOf xs w new → IsPartOf (xs ++ ys) w new
 part_before xs ys w new part =
     let fewer = part.there in
@@ -194,7 +194,7 @@ part_before xs ys w new part =
       leaves = part.leaves ∙ ap (run board w) (sym (take-append-le part.made xs ys (omega (arith, fewer))));
     }
 
--- in the second of two parts
+-- the first of two parts was made, and some events of the second
 pub part_behind : (xs ys : List (Event BoardEvent)) (w mid new : BoardWorld) → mid ≡ run board w xs
     → IsPartOf ys mid new → IsPartOf (xs ++ ys) w new
 part_behind [] ys w mid new is part = subst (λ z. IsPartOf ys z new) (is ∙ run_none w) part
@@ -202,7 +202,7 @@ part_behind (x ∷ xs) ys w mid new is part =
     part_first x (xs ++ ys) w (step board w x) new refl
     (part_behind xs ys (step board w x) mid new (is ∙ run_first w x xs) part)
 
--- in events of one kind
+-- some of several events of one kind were made
 pub part_of_listed : (f : ℕ → Event BoardEvent) (w new : BoardWorld) (i n : ℕ) → i < n
     → new ≡ run board w (listed f 0 i) → IsPartOf (listed f 0 n) w new
 part_of_listed f w new i n lt is =

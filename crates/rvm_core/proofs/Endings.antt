@@ -37,16 +37,16 @@ no_limit limit r told is = let none : None ≡ Some limit = sym (ap limit_told i
 limit_is : (limit most : ℕ) (r : Reply BoardReply) → limit_told r ≡ Some limit → r ≡ Declined most → limit ≡ most
 limit_is limit most r told is = some_is limit most (sym told ∙ ap limit_told is)
 
--- it did not decline
+-- a reply without a limit is not that the target declined
 declines_not : (most : ℕ) (r : Reply BoardReply) → limit_told r ≡ None → r ≡ Declined most → ⊥
 declines_not most r told is = let some : None ≡ Some most = sym told ∙ ap limit_told is in cc
 
--- how a move begins, its frames being those from k on
+-- how a move begins whose frames are those from k on
 module _ (w0 : BoardWorld) (from to k : ℕ) (p : Policy) (reached : IsReached w0) (place : k ≡ length w0.sent) where
   abbrev first_event : Event BoardEvent
   first_event = At from (Begin to p)
 
-  -- the number of the move or why none began, told by a reply
+  -- the number of the move, or why none began, as the reply to Begin tells it
   pub record IsBegun (r : Reply BoardReply) (x : Result ℕ HostRefusal) : Type 0 where
     pub reply : r ≡ reply_to board w0 first_event
     pub begun : (n : ℕ) → r ≡ Begun n → x ≡ Ok n
@@ -101,7 +101,7 @@ module _ (w0 : BoardWorld) (from to k : ℕ) (p : Policy) (reached : IsReached w
       in
       record { begun = a.0; declined = b.0 }
 
-  -- it did not begin
+  -- the move did not begin
   pub refused : (w1 : BoardWorld) (r : Reply BoardReply) (x : Result ℕ HostRefusal) (why : HostRefusal) → IsBegun r x
       → x ≡ Err why → w1 ≡ step board w0 first_event → DrivesTo (driven.Refused why) w0 w1 from to p
   refused w1 r x why first is s1 =
@@ -120,7 +120,7 @@ module _ (w0 : BoardWorld) (from to k : ℕ) (p : Policy) (reached : IsReached w
             };
       }
 
-  -- its target declined
+  -- the target declined
   pub declined : (w1 w2 w3 : BoardWorld) (r r2 : Reply BoardReply) (x : Result ℕ HostRefusal) (number limit : ℕ)
       → IsBegun r x → x ≡ Ok number → r2 ≡ reply_to board w1 (Deliver k) → limit_told r2 ≡ Some limit
       → w1 ≡ step board w0 first_event → w2 ≡ step board w1 (Deliver k) → w3 ≡ step board w2 (Deliver (k + 1))
@@ -147,7 +147,7 @@ module _ (w0 : BoardWorld) (from to k : ℕ) (p : Policy) (reached : IsReached w
         refused = λ why told. absurd (not_both number why x is (first.refused why (first.reply ∙ told)));
       }
 
-  -- the guest went
+  -- the guest was moved
   pub moved : (w1 w2 w3 w4 : BoardWorld) (r r2 : Reply BoardReply) (x : Result ℕ HostRefusal) (number events : ℕ)
       → IsBegun r x → x ≡ Ok number → r2 ≡ reply_to board w1 (Deliver k) → limit_told r2 ≡ None
       → w1 ≡ step board w0 first_event → w2 ≡ step board w1 (Deliver k) → w3 ≡ step board w2 (Deliver (k + 1))
@@ -185,7 +185,7 @@ module _ (w0 : BoardWorld) (from to k : ℕ) (p : Policy) (reached : IsReached w
 
   -- MEMORY RAN OUT
 
-  -- the first this many events of a move are those of the list that the protocol has
+  -- the first events of a move are the first of the list that the protocol has
   first_moved : (g : Guest) (new : BoardWorld)
       → IsPartOf (first_event ∷ Deliver k ∷ Deliver (k + 1)
       ∷ sending from (k + 2) (page_count board g) (state_frames board w0.version g)) w0 new
@@ -195,12 +195,12 @@ module _ (w0 : BoardWorld) (from to k : ℕ) (p : Policy) (reached : IsReached w
       let s = state_frames board w0.version g in
       subst (λ z. IsPartOf z w0 new) (sym (drive_is from to p k n s) ∙ ap (λ z. drive from to p z n s) place) part
 
-  -- and so are those of a move that is declined
+  -- so are those of a move that is declined
   first_declined : (new : BoardWorld) → IsPartOf (drive_opening from to p k) w0 new
       → IsPartOf (drive_opening from to p (length w0.sent)) w0 new
   first_declined new part = subst (λ z. IsPartOf (drive_opening from to p z) w0 new) place part
 
-  -- some of the events up to the target's answer were made, whatever comes after it; none, if it did not begin
+  -- some events up to the target's answer were made, whatever comes after it; none if the move did not begin
   left_opening : (new : BoardWorld)
       → ((rest : List (Event BoardEvent)) → IsPartOf (first_event ∷ Deliver k ∷ Deliver (k + 1) ∷ rest) w0 new)
       → ((why : HostRefusal) → reply_to board w0 first_event ≡ Refused (refusal_of why) → new ≡ w0)
@@ -213,19 +213,19 @@ module _ (w0 : BoardWorld) (from to k : ℕ) (p : Policy) (reached : IsReached w
         refused = none;
       }
 
-  -- it began, so it was not refused
+  -- a move that began was not refused
   not_refused : (new : BoardWorld) (r : Reply BoardReply) (x : Result ℕ HostRefusal) (number : ℕ) → IsBegun r x
       → x ≡ Ok number → (why : HostRefusal) → reply_to board w0 first_event ≡ Refused (refusal_of why) → new ≡ w0
   not_refused new r x number first is why told =
       absurd (not_both number why x is (first.refused why (first.reply ∙ told)))
 
-  -- at the command to begin
+  -- memory ran out at the command to begin
   pub left_at_once : (w1 : BoardWorld) → w1 ≡ w0 → WasLeft w0 w1 from to p
   left_at_once w1 stays =
       left_opening w1 (λ rest. part_none first_event (Deliver k ∷ Deliver (k + 1) ∷ rest) w0 w1 stays)
       (λ why told. stays)
 
-  -- at the offer
+  -- memory ran out at the offer
   pub left_offering : (w1 w2 : BoardWorld) (r : Reply BoardReply) (x : Result ℕ HostRefusal) (number : ℕ) → IsBegun r x
       → x ≡ Ok number → w1 ≡ step board w0 first_event → w2 ≡ w1 → WasLeft w0 w2 from to p
   left_offering w1 w2 r x number first is s1 stays =
@@ -233,7 +233,7 @@ module _ (w0 : BoardWorld) (from to k : ℕ) (p : Policy) (reached : IsReached w
       (λ rest. part_first first_event (Deliver k ∷ Deliver (k + 1) ∷ rest) w0 w1 w2 s1
       (part_none (Deliver k) (Deliver (k + 1) ∷ rest) w1 w2 stays)) (not_refused w2 r x number first is)
 
-  -- at its answer
+  -- memory ran out at the answer to the offer
   pub left_answering : (w1 w2 w3 : BoardWorld) (r : Reply BoardReply) (x : Result ℕ HostRefusal) (number : ℕ)
       → IsBegun r x → x ≡ Ok number → w1 ≡ step board w0 first_event → w2 ≡ step board w1 (Deliver k) → w3 ≡ w2
       → WasLeft w0 w3 from to p
@@ -243,7 +243,7 @@ module _ (w0 : BoardWorld) (from to k : ℕ) (p : Policy) (reached : IsReached w
       (part_first (Deliver k) (Deliver (k + 1) ∷ rest) w1 w2 w3 s2 (part_none (Deliver (k + 1)) rest w2 w3 stays)))
       (not_refused w3 r x number first is)
 
-  -- while the guest went
+  -- memory ran out while the guest was sent
   pub left_sending : (w1 w2 w3 w4 : BoardWorld) (r r2 : Reply BoardReply) (x : Result ℕ HostRefusal) (number : ℕ)
       → IsBegun r x → x ≡ Ok number → r2 ≡ reply_to board w1 (Deliver k) → limit_told r2 ≡ None
       → w1 ≡ step board w0 first_event → w2 ≡ step board w1 (Deliver k) → w3 ≡ step board w2 (Deliver (k + 1))

@@ -24,7 +24,7 @@ pub record Ahead (from : ℕ) (w0 w : BoardWorld) (i n : ℕ) : Type 0 where
   pub told : replies board w (copies_at from i (suc ahead)) ≡ told_at n i ahead
   pub leads : run board w (copies_at from i (suc ahead)) ≡ run board w0 (copies from (n + 1))
 
--- if it is a round at all
+-- i copies were made; if the replies are those of a first round, these are the first i of its copies
 pub record Rounding (from : ℕ) (w0 w : BoardWorld) (i : ℕ) : Type 0 where
   pub counted : (n : ℕ) → n ≤ 4096 → replies board w0 (copies from (n + 1)) ≡ round_replies n → Ahead from w0 w i n
   pub so_far : w ≡ run board w0 (copies from i)
@@ -130,7 +130,7 @@ too_many from w0 w i rounding many =
     let e = a.is in
     absurd (omega (arith, e, most, many))
 
--- it stopped before its end
+-- memory ran out before the end of the round
 pub stopped : (from : ℕ) (w0 w w' : BoardWorld) (i : ℕ) → Rounding from w0 w i → w' ≡ w → IsRoundLeft w0 w' from
 stopped from w0 w w' i rounding is =
     λ n most told.

@@ -68,7 +68,7 @@ pub record Happens (w new : PlainWorld) (x : ℕ) (e : BoardHostEvent) (answer :
   pub replied : reply_of answer ≡ (result_at board (world_of w) x e).reply
   pub turned : world_of new ≡ world_at board (world_of w) x e
 
--- the protocol's answer of a host
+-- the result of an event at a host, as the protocol has it
 abbrev Answer : Type 0
 Answer = protocol.Result Guest (List ℕ) BoardReply (List ℕ)
 
@@ -124,7 +124,7 @@ at_there w x c lt = ap (λ b. if b then Some (x, Do c) else None) (lt-ltb x w.co
 at_past : (w : BoardWorld) (x : ℕ) (c : Command BoardEvent) → w.count ≤ x → meaning board w (At x c) ≡ None
 at_past w x c le = ap (λ b. if b then Some (x, Do c) else None) (le-ltb x w.count le)
 
--- a command at no host
+-- a command to a host that is not there is refused
 pub at_refused : (w : PlainWorld) (x : ℕ) (c : Command BoardEvent) → length w.hosts ≤ x
     → Turned w w (At x c) (Refused BadHost)
 at_refused w x c le =
@@ -157,7 +157,7 @@ sent_past f [] k le = refl
 sent_past f (x ∷ xs) zero le = absurd (omega (arith, le))
 sent_past f (x ∷ xs) (suc k) le = sent_past f xs k (omega (arith, le))
 
--- a frame that was not sent
+-- the delivery of a frame that was not sent is refused
 pub deliver_refused : (w : PlainWorld) (k : ℕ) → length w.sent ≤ k → Turned w w (Deliver k) (Refused NoFrame)
 deliver_refused w k le =
     let W = world_of w in
@@ -287,17 +287,17 @@ stays_world w x most now ev e a h is lt s p turned means moved =
           (turned ∙ ap (happened board W) means) t shown;
     }
 
--- a reply, and a world after it, of an event: it is one still
+-- a reply and a world after it are those of the protocol's step, and it is a world still
 pub record Becomes (w new : PlainWorld) (ev : Event BoardEvent) (answer : Reply BoardReply) : Type 0 where
   pub replied : answer ≡ reply_to board (world_of w) ev
   pub turned : world_of new ≡ step board (world_of w) ev
   pub stays : IsWorld new
 
--- a host of a world, as it was read
+-- the host that was read from the list is the host of the world
 pub is_host : (xs : List PlainHost) (x : ℕ) (h : PlainHost) → x < length xs → h ≡ get_or xs x h → h ≡ host_at xs x
 is_host xs x h lt is = is ∙ get_or_default xs x h (new_host None x 0 0 0) lt
 
--- a frame that was sent, as it was read
+-- the frame that was read from the list is one of the world
 pub is_kept : (w : PlainWorld) (k : ℕ) (kept : Kept) → IsWorld w → k < length w.sent
     → kept ≡ get_or w.sent k kept → IsKept w.version (length w.hosts) kept
 is_kept w k kept is lt same =
@@ -336,7 +336,7 @@ at_becomes w sent x most c a old h is lt here s p all =
       stays = stays_world w x most now (At x c) (Do c) a h is lt s' p' t.turned (at_there (world_of w) x c lt) refl;
     })
 
--- what a command is answered
+-- the reply to a command is its host's
 at_said : (w : PlainWorld) (x : ℕ) (c : Command BoardEvent) → IsWorld w → x < length w.hosts
     → reply_to board (world_of w) (At x c) ≡ (step_of (host_at w.hosts x) (Do c)).reply
 at_said w x c is lt =
@@ -353,7 +353,7 @@ by_bound : (b : Bool) (n : ℕ) → 0 < (if b then 0 else n) → b ≡ false
 by_bound true n some = absurd (omega (arith, some))
 by_bound false n some = refl
 
--- there is room for a frame of a command that is not refused
+-- if there is room for a command's frame, the command is not refused outright
 pub bound_heeds : (h : PlainHost) (c : Command BoardEvent) → 0 < frame_bound h (Do c)
     → is_refused_outright (step_of h (Do c)).reply ≡ false
 bound_heeds h c some = by_bound (is_refused_outright (step_of h (Do c)).reply) (with_header h.version (event_body h (Do c))) some
@@ -362,7 +362,7 @@ no_room : (b : Bool) → 0 < (if b then 0 else 0) → ⊥
 no_room true some = omega (arith, some)
 no_room false some = omega (arith, some)
 
--- and the guest's events have none
+-- if there is room for a command's frame, the command may take memory
 pub bound_asks : (h : PlainHost) (x : ℕ) (c : Command BoardEvent) → 0 < frame_bound h (Do c) → asks_memory (At x c) ≡ true
 bound_asks h x (commands.Board e) some = absurd (no_room (is_refused_outright (step_of h (Do (commands.Board e))).reply) some)
 bound_asks h x (commands.Begin to p) some = refl
@@ -400,7 +400,7 @@ deliver_becomes w sent k kept from to most now frame a old h is lk same ef et re
 
 -- OUT OF MEMORY
 
--- a host that stays as it was read, and no frame more
+-- with a host that stays as it was read, and no frame more, the world is unchanged
 pub unchanged : (w : PlainWorld) (x : ℕ) (old h : PlainHost) (sent : List Kept) → h ≡ old
     → old ≡ get_or w.hosts x old → sent ≡ w.sent → with_host w x h sent w.current ≡ w
 unchanged w x old h sent stays here same =

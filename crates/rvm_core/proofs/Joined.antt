@@ -9,7 +9,7 @@ use Rattle.rvm_dis.proofs.Reading.{is_one_word, is_plain, first_of, second_of, b
 use Rattle.rvm_debug.specs.Words.{piece, lines, lines_from, without_return, words, words_from}
 use Rattle.rvm_text.specs.Bytes.{is_space, is_word}
 
--- with a space between any two
+-- words with a space between any two
 abbrev pub joined : List (List ℕ) → List ℕ
 joined [] = []
 joined (w ∷ []) = w
@@ -32,7 +32,7 @@ no_space b is = neither (eqb b 32) (eqb b 9) (is_none_of b 32 is refl) (is_none_
 is_no_end : (b : ℕ) → is_word b ≡ true → is_plain b ≡ true
 is_no_end b is = ap not (neither (eqb b 10) (eqb b 13) (is_none_of b 10 is refl) (is_none_of b 13 is refl))
 
--- the bytes of a word
+-- each byte of a word is one that a word may have
 all_word : (w : List ℕ) → is_one_word w ≡ true → list_all is_word w ≡ true
 all_word [] one = cc
 all_word (b ∷ w) one = one
@@ -85,7 +85,7 @@ words_joined (w ∷ v ∷ ws) all =
     word_read w (32 ∷ rest) [] (all_word w one) ∙ blank_read rest w ∙ ap (λ p. p ++ words rest) (one_piece w one)
     ∙ ap (λ p. w ∷ p) (words_joined (v ∷ ws) others)
 
--- and have no byte that ends a line
+-- joined words have no byte that ends a line
 plain_joined : (ws : List (List ℕ)) → list_all is_one_word ws ≡ true → list_all is_plain (joined ws) ≡ true
 plain_joined [] all = refl
 plain_joined (w ∷ []) all = plain_word w (all_word w (first_of (is_one_word w) true all))
@@ -129,7 +129,7 @@ pub lines_joined : (ws : List (List ℕ)) (rest : List ℕ) → list_all is_one_
 lines_joined ws rest all =
     line_read (joined ws) (10 ∷ rest) [] (plain_joined ws all) ∙ feed_read rest (joined ws)
 
--- which has no carriage return
+-- joined words have no carriage return
 plain_at : (bs : List ℕ) (i : ℕ) → list_all is_plain bs ≡ true → eqb (get_or bs i 0) 13 ≡ false
 plain_at [] i all = refl
 plain_at (b ∷ bs) zero all = no_return b (first_of (is_plain b) (list_all is_plain bs) all)

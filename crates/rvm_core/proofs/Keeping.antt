@@ -74,7 +74,7 @@ can_be_read version made bytes s =
 
 -- THE FRAMES THAT WERE SENT
 
--- one more frame is sent
+-- with a frame that was made, one more frame is sent
 pub kept_made : (h : PlainHost) (most : ℕ) (o : Option Addressed) (xs : List Kept) → CanBePosted h most o
     → map (kept_of h.version) (xs ++ posted h.version o) ≡ and_sent (map (kept_of h.version) xs) (addressed_made o)
 kept_made h most None xs p = ap (map (kept_of h.version)) (append-nil xs)
@@ -86,7 +86,7 @@ kept_made h most (Some a) xs p =
 there : (self count x : ℕ) → is_there self count x ≡ true → x < count
 there self count x h = grind (arith, nat_tests)
 
--- it is of hosts that are there, and spelled
+-- a frame that was made goes between hosts that are there, and is spelled
 pub posted_kept : (h : PlainHost) (most : ℕ) (o : Option Addressed) → CanBePosted h most o → h.id < h.count
     → (k : ℕ) → k < length (posted h.version o) → IsKept h.version h.count (get_or (posted h.version o) k no_kept)
 posted_kept h most None p lt k lk = absurd (omega (arith, lk))
@@ -102,7 +102,7 @@ posted_kept h most (Some a) p lt zero lk =
     }
 posted_kept h most (Some a) p lt (suc k) lk = absurd (omega (arith, lk))
 
--- there is room for it
+-- there is room for a frame that was made
 pub can_be_kept : (h : PlainHost) (version most room places : ℕ) (o : Option Addressed) → h.version ≡ version
     → CanBePosted h most o → most ≤ room → (0 < most → 0 < places) → CanBeKept version room places o
 can_be_kept h version most room places None same p le some = tt

@@ -11,7 +11,7 @@ use Rattle.rvm_core.specs.WorldLines.{world_command_of, world_line_of}
 use Rattle.rvm_core.specs.declared.world_line.Asked.TheVariants as asked
 use Rattle.rvm_core.specs.declared.world_line.WorldLine.TheVariants as line
 
--- a letter names the host, and the target of two hosts may be left out
+-- a letter names the host, and if there are two hosts, the target may be left out
 a_move_begins_at_a_host : world_line_of 2 (codes "A begin 3 1 3")
     ≡ Some (line.Host (Some 0) (asked.Begin None (record { max_rounds = 3; min_left = 1; factor = 3 })))
 unfolding world_line_of words_from world_command_of

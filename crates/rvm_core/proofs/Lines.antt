@@ -18,7 +18,7 @@ use Rattle.rvm_core.specs.Sayable.{IsAskable, IsSayable, IsTellable}
 use Rattle.rvm_core.proofs.Joined.{joined}
 use Rattle.rvm_core.proofs.Spelled.{hex_is_word, letter_word, register_word}
 
--- what a guest is asked
+-- the words of an event of a guest
 abbrev pub asked_words : BoardEvent → List (List ℕ)
 asked_words (asked.Step h) = codes "step" ∷ decimal h ∷ []
 asked_words (asked.Input b) = codes "input" ∷ encode_lower (b ∷ []) ∷ []
@@ -31,16 +31,16 @@ asked_words (asked.Dis a) = codes "dis" ∷ decimal a ∷ []
 asked_words (asked.PokeReg h r v) = codes "reg" ∷ decimal h ∷ register r ∷ decimal v ∷ []
 asked_words (asked.PokeMem a bytes) = codes "poke" ∷ decimal a ∷ encode_lower bytes ∷ []
 
--- a policy
+-- the words of a policy
 abbrev pub policy_words : Policy → List (List ℕ)
 policy_words p = decimal p.max_rounds ∷ decimal p.min_left ∷ decimal p.factor ∷ []
 
--- a target, unless it is the other one of two hosts, and a policy
+-- the words of a target, unless it is the other one of two hosts, and of a policy
 abbrev pub course_words : (is : Bool) → (to : ℕ) → Policy → List (List ℕ)
 course_words true to p = policy_words p
 course_words false to p = letter to ∷ policy_words p
 
--- what a host is told to do
+-- the words of a command to a host
 abbrev pub command_words : (n h : ℕ) → Command → List (List ℕ)
 command_words n h (command.Board e) = asked_words e
 command_words n h (command.Begin to p) = codes "begin" ∷ course_words (is_other n h to) to p
@@ -78,7 +78,7 @@ command_joined n h command.Copy = refl
 command_joined n h command.Resend = refl
 command_joined n h command.Abort = refl
 
--- a command has a word
+-- there is a word
 abbrev IsSome : List (List ℕ) → Type 0
 IsSome [] = ⊥
 IsSome (w ∷ ws) = Unit {0}
@@ -115,7 +115,7 @@ event_joined n (event.At h c) =
     )
 event_joined n (event.Deliver k) = refl
 
--- each of them is a word
+-- each of these is a word
 abbrev all_words : List (List ℕ) → Bool
 all_words ws = list_all is_one_word ws
 

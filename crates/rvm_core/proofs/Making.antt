@@ -38,7 +38,7 @@ unfolding after_all
 after_more s [] fs = refl
 after_more s (e ∷ es) fs = after_more (after s e) es fs
 
--- the world, and what the replies told, are those of the protocol
+-- after events, the world and what the replies told are those of the protocol
 pub after_run : (s : Standing) (es : List (Event BoardEvent)) → (after_all s es).world ≡ run board s.world es
 unfolding after_all run
 after_run s [] = refl
@@ -57,7 +57,7 @@ allowed : (g : Guest) → is_valid g ≡ true → board.valid g ≡ true
 unfolding board
 allowed g valid = valid
 
--- from a world that was reached, events keep what the modes show
+-- if the modes of a world that was reached show what the replies told, they do so after events
 shown_after_all : (s : Standing) (es : List (Event BoardEvent)) → IsReached s.world → Shown s.world.hosts s.told
     → Shown (after_all s es).world.hosts (after_all s es).told
 unfolding OneGuestFromAnyWorld

@@ -152,7 +152,7 @@ declines w from to p e g r can large =
     (ap (λ z. mode_at board z from) (sym r.reached) ∙ can.runs) can.number can.allowed can.here can.there
     (subst (λ z. z to < page_count board g) (limits_are w r) large))
 
--- a state takes a frame at least, and a reply for each
+-- a state takes at least one frame
 pub some_frame : (version : ℕ) (g : Guest) → 0 < state_frames board version g
 some_frame version g = either (is_compact version)
   where

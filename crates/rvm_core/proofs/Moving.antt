@@ -39,7 +39,7 @@ record Begins (w : BoardWorld) (from to : ℕ) (p : protocol.Policy) (n : ℕ) :
   can : CanBegin w from to p before guest
   number : n ≡ suc before
 
--- what Begin can be answered
+-- the reply that Begin can get
 abbrev BeginReply : (w : BoardWorld) (from to : ℕ) → protocol.Policy → Reply BoardReply → Type 0
 BeginReply w from to p (reply.Begun n) = Begins w from to p n
 BeginReply w from to p (reply.Refused why) = Unit {0}
@@ -95,7 +95,7 @@ begin_told w from to p r =
     (moves_are_numbered board r.start w.version 0 w.count r.limits r.before from))
     refl
 
--- each refusal of the protocol is a host's
+-- a refusal of the protocol is a host's
 record Named (why : reply.Refusal) : Type 0 where
   name : HostRefusal
   is : refusal_of name ≡ why
@@ -120,7 +120,7 @@ refused_text : (why : HostRefusal) (r : reply.Refusal) → refusal_of why ≡ r
     → driven_text (driven.Refused why) ≡ words_of (reply.Refused r) ++ codes "\n"
 refused_text why r is = ap (λ z. move_text (reply.Refused z) None) is ∙ no_place (words_of (reply.Refused r))
 
--- what a move left, and the text of its answer
+-- the world that a move left, and the text of its answer
 pub record MovedAs (d : Driven) (new : BoardWorld) (r : Replied) : Type 0 where
   pub world : new ≡ r.standing.world
   pub text : driven_text d ≡ r.text
@@ -189,7 +189,7 @@ moved_by d w new from to p t drives reply.ReadySent is b = absurd b
 moved_by d w new from to p t drives reply.StartedHere is b = absurd b
 moved_by d w new from to p t drives reply.Dropped is b = absurd b
 
--- a move that was driven is the one of a script
+-- a move that was driven is the one that a script makes
 pub moved_as : (d : Driven) (w new : BoardWorld) (from to : ℕ) (p : Policy) (t : Told Guest) → IsReached w
     → DrivesTo d w new from to (policy_of p) → MovedAs d new (moved from to p (standing w t))
 moved_as d w new from to p t reached drives =

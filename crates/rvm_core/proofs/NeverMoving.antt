@@ -16,7 +16,7 @@ pub allowed : (g : Guest) → is_valid g ≡ true → board.valid g ≡ true
 unfolding board
 allowed g valid = valid
 
--- from any world that was reached
+-- in runs from any world that was reached
 pub never_moved : (old new : BoardWorld) → IsReached old → NeverMoved old new
 unfolding NeverMoved RunsNeverMoveFromAnyWorld
 never_moved old new r t events shown made =
@@ -24,7 +24,7 @@ never_moved old new r t events shown made =
     (course_law_from_any_world board board_laws r.start old.version 0 old.count r.limits r.before events t
     (allowed r.start r.valid) (subst (λ z. Shown z.hosts t) r.reached shown))
 
--- from a new world
+-- in runs from a new world
 pub tells_its_past : (old new : BoardWorld) → TellsItsPast old new
 unfolding TellsItsPast RunsTellTheirPast
 tells_its_past old new start limits events valid is_new made =

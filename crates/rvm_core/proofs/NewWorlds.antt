@@ -42,7 +42,7 @@ one_more g version limits n hosts all h new more is =
       ];
     })
 
--- the first one, which has the guest
+-- the first host, which has the guest
 pub first : (g : GuestState) (version : ℕ) (limits : List ℕ) (none all : List PlainHost) (h : PlainHost)
     → none ≡ [] → all ≡ none ++ h ∷ [] → h ≡ new_host (Some g) 0 (length limits) (limit_at limits 0) version
     → AreNew g version limits 1 all

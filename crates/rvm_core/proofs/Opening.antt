@@ -19,7 +19,7 @@ use Rattle.rvm_core.specs.Worlds.{BoardWorld}
 abbrev BoardOutcome : Type 0
 BoardOutcome = Outcome Guest (List ℕ) BoardReply (List ℕ)
 
--- it begins, or it is refused and nothing changes
+-- the outcome is that a move begins, or a refusal that changes nothing
 record Begins (o : BoardOutcome) (mode : BoardMode) : Type 0 where
   told : begins_or_not o.reply ≡ true
   stays : (why : Refusal) → o.reply ≡ Refused why → o ≡ refuses why mode
@@ -60,7 +60,7 @@ begins_at version self count to p (Given n kept) = refused NotHere (Given n kept
 begins_at version self count to p (Staging n s) = refused NotHere (Staging n s)
 begins_at version self count to p (Held n g) = refused NotHere (Held n g)
 
--- in a world
+-- the same in a world
 begins_in : (w : BoardWorld) (from to : ℕ) (p : Policy) (here : Bool)
     → begins_or_not (reply_or board w (Refused BadHost) (if here then Some (from, Do (Begin to p)) else None)) ≡ true
 begins_in w from to p true = (begins_at w.version from w.count to p (w.hosts from).mode).told

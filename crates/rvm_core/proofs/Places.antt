@@ -8,7 +8,7 @@ use Rattle.rvm_core.specs.declared.event.WorldReply.{WorldReply}
 use Rattle.rvm_core.specs.Worlds.{BoardWorld, PlainWorld, kept_of, meant, place_of, places_of, world_of}
 use Rattle.rvm_core.proofs.Runs.{drop_all, map_length, map_pushed}
 
--- where the frames of some replies lie
+-- the places of the frames of some replies
 abbrev pub frames_at : List WorldReply → List (Option ℕ)
 frames_at said = map (λ (r : WorldReply). r.frame) said
 
@@ -16,7 +16,7 @@ frames_at said = map (λ (r : WorldReply). r.frame) said
 pub record Placing (w0 w : BoardWorld) (all : List Event) (i : ℕ) (said : List WorldReply) : Type 0 where
   pub placed : frames_at said ++ places_of w (map meant (drop i all)) ≡ places_of w0 (map meant all)
 
--- one event and the others, and no event
+-- the places of one event and of the others, and of no event
 places_first : (w : BoardWorld) (x : Event) (rest : List Event)
     → places_of w (map meant (x ∷ rest))
     ≡ place_of (length w.sent) (length (step board w (meant x)).sent)
@@ -68,7 +68,7 @@ one_placed w0 old new all i said said' x r so_far lt is place next more =
           ∙ so_far.placed;
     }
 
--- all of them
+-- after the last event
 pub all_placed : (w0 w : BoardWorld) (all : List Event) (i : ℕ) (said : List WorldReply) → Placing w0 w all i said
     → length all ≤ i → frames_at said ≡ places_of w0 (map meant all)
 all_placed w0 w all i said so_far le =

@@ -1,4 +1,4 @@
--- What the words of the lines of events are read as.
+-- The words of the lines of events are read as the lines that make these events.
 use Rattle.std.proofs.Common.{◌≡◌, ℕ, ◌-◌, ◌<◌, ◌≤◌, Bool, true, false, cond, eqb, ◌&&◌, nat_lt, nat_le, option_map, List, [], ◌∷◌, ◌++◌, length, map, Some, None, refl, sym, ap, ◌∙◌, append_assoc, arith}
 use Rattle.std.specs.Prelude.{codes}
 use Rattle.std.proofs.lemmas.List.{append-nil}
@@ -22,7 +22,7 @@ use Rattle.rvm_core.proofs.Joined.{joined, lines_joined, no_lines, whole_joined,
 use Rattle.rvm_core.proofs.Lines.{command_words, course_words, event_all, event_joined, event_words, one_byte}
 use Rattle.rvm_core.proofs.Spelled.{decimal_no_letter, hex_reads, letter_names, letter_speaks, numeral_decimal, register_names}
 
--- what is asked after a letter
+-- the words of a command after the letter of its host are read as the line that gives it
 abbrev Reads : (n h : ℕ) → Command → Type 0
 Reads n h c = asked_at n (Some h) (command_words n h c) ≡ Some (line.Host (Some h) (telling n h c))
 
@@ -30,7 +30,7 @@ Reads n h c = asked_at n (Some h) (command_words n h c) ≡ Some (line.Host (Som
 two_if : (n h to : ℕ) → is_other n h to ≡ true → eqb n 2 ≡ true
 two_if n h to is = first_of (eqb n 2) (nat_lt h 2 && eqb to (1 - h)) is
 
--- a target and a policy
+-- the words of a target and a policy are read as these
 course_read : (n h to : ℕ) (p : Policy) (is : Bool) → is_other n h to ≡ is → IsTellable (command.Begin to p)
     → course_of n (course_words is to p) ≡ Some (cond is None (Some to), p)
 course_read n h to p true e can =
@@ -104,7 +104,7 @@ text_read n e most can =
     ∙ ap (world_asked n) (words_joined (event_words n e) all)
     ∙ words_read n e most can
 
--- with its line feed it is a line
+-- the text of an event with its line feed is one line
 pub text_ends : (n : ℕ) (e : Event) (rest : List ℕ) → n ≤ 8 → IsSayable n e
     → lines (event_line n e ++ rest) ≡ text n e ∷ lines rest
 text_ends n e rest most can =

@@ -29,7 +29,7 @@ no_line n s = refl
 behind_both : (xs ys : List ℕ) (a : Answers) → behind xs (behind ys a) ≡ behind (xs ++ ys) a
 behind_both xs ys a = ap (λ l. record a { text = l }) (sym (append_assoc xs ys a.text))
 
--- lines after others, none of which ended the script
+-- the answers of lines after others that did not end the script
 line_both : (o : Option WorldLine) (ls more : List (List ℕ)) (n : ℕ) (s : Standing)
     → ((t : Standing) → (world_script_of ls (n + 1) t).end ≡ None
     → world_script_of (ls ++ more) (n + 1) t
@@ -70,7 +70,7 @@ one_line ls b l s on is =
     ∙ ap (behind r.text) (no_line (n + 1) r.standing))
     ∙ ap (λ ts. record { standing = r.standing; text = d.text ++ ts; end = None }) (append-nil r.text)
 
--- the line that is none
+-- the line that is not in the grammar
 end_line : (ls bs : List (List ℕ)) (b : List ℕ) (s : Standing) → (world_script_of ls 1 s).end ≡ None
     → world_line_of (world_script_of ls 1 s).standing.world.count b ≡ None
     → let d = world_script_of ls 1 s in
@@ -83,7 +83,7 @@ end_line ls bs b s on is =
     ∙ ap (behind d.text)
     (line_first b bs n d.standing ∙ ap (λ o. answers_by o n d.standing (world_script_of bs (n + 1))) is)
 
--- lines that were done, and those that are left, the first of which has this number, are all
+-- the lines that were done, and those that are left, of which the first has this number, are all
 pub record Lines (all left : List (List ℕ)) (number : ℕ) (start : Standing) (now : BoardWorld)
     (before written : Option (List ℕ)) : Type 0 where
   pub done : List (List ℕ)
@@ -203,7 +203,7 @@ one_refused all left bs b number k start old new before mid after (BadToken j) N
           (subst (Appends before mid) (sym (append-nil d.text) ∙ ap (λ (a : Answers). a.text) (sym told)) p.text),
     )
 
--- a line that is none, that found no memory, or whose answer was not written
+-- a line that is not in the grammar, in which memory ran out, or whose answer was not written
 pub line_refused : (all left bs : List (List ℕ)) (b : List ℕ) (number k : ℕ) (start : Standing) (old new : BoardWorld)
     (before mid after : Option (List ℕ)) (e : WorldScriptError) → Lines all left number start old before mid
     → IsReached start.world → Shown start.world.hosts start.told → k ≡ number → left ≡ b ∷ bs
@@ -220,7 +220,7 @@ pub empty_done : (l : WorldLine) (s : Standing) (out : Option (List ℕ)) → l 
     → (s.world ≡ (done_by l s).standing.world) × Appends out out (done_by l s).text
 empty_done l s out is = rw is (refl, appends_none out)
 
--- a script that can't be read
+-- a script that cannot be read
 unread : (lines : List (List ℕ)) (s : Standing) → IsPartWay lines s s.world
 unfolding world_script_of
 unread lines s = record { done = []; left = lines; whole = refl; on = refl; world = refl; last = inl refl }

@@ -102,7 +102,7 @@ module _ {S P E A B V R : Type 0} (m : Guest S P E A B) (event : V → protocol.
   all_run w0 w all i said so_far le =
       sym (ap (λ z. run m w (map event z)) (drop_all all i le) ∙ nowhere w) ∙ so_far.left
 
--- if it stopped before its end
+-- a run that stopped before its end made the first of its events
 part_of : {V : Type 0} (event : V → protocol.Event BoardEvent) (w0 w : BoardWorld) (all : List V) (i : ℕ)
     → i < length all → w ≡ run board w0 (take i (map event all)) → IsPartOf (map event all) w0 w
 part_of event w0 w all i lt made =

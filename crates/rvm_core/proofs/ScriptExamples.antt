@@ -1,4 +1,4 @@
--- Scripts that make no event, the target of moves that name none, and lines that ask for memory.
+-- Scripts that make no event, the target of moves that name none, and lines that take memory.
 use Rattle.std.proofs.Common.{◌≡◌, ℕ, List, [], Option, None, Some, codes, refl, arith}
 use Rattle.rvm_board.specs.Guest.{Guest}
 use Rattle.rvm_guest.specs.TheGuest.{board}
@@ -50,7 +50,7 @@ a_frame_that_comes_asks_for_memory : (g : Guest) → AsksMemoryIn (codes "delive
 unfolding start world_line_of words_from
 a_frame_that_comes_asks_for_memory g = tt
 
--- the first line is none, so that the second is not the one that found no memory
+-- the first line is not in the grammar, so memory does not run out in the second
 nothing_runs_out_behind_a_line_that_is_none : (g : Guest) (new : BoardWorld) (before after : Option (List ℕ))
     → IsSpent 2 (lines (codes "C copy\ncopy\n")) (start g) new before after → ⊥
 unfolding start world_script_of world_line_of lines_from words_from

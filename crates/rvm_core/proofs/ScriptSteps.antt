@@ -18,7 +18,7 @@ use Rattle.rvm_core.specs.Replies.{guest_text, steps_text}
 use Rattle.rvm_core.specs.Runs.{IsInput, standing}
 use Rattle.rvm_core.specs.WorldScript.{Replied, Standing, Stepping, after, guest_done, inputs, is_taken, reply_in, stepping}
 
--- the world, the number and the last reply are those of the world's steps
+-- a script's steps leave the world, the number and the last reply that the world's steps leave
 record IsAlike (s : Stepping) (w : steps.Stepping) : Type 0 where
   pub world : w.world ≡ s.standing.world
   pub count : w.count ≡ s.count
@@ -42,13 +42,13 @@ steps_alike x h (suc left) made last s =
     (record { world = refl; count = refl; reply = refl })
     (steps_alike x h left (made + 1) (reply_in s ev) now)
 
--- what steps leave, how many there were and the reply to the last
+-- the world that steps leave, the number of the steps, and the reply to the last
 pub record IsStepped (s : Stepping) (new : BoardWorld) (count : ℕ) (last : Reply BoardReply) : Type 0 where
   pub world : new ≡ s.standing.world
   pub made : count ≡ s.count
   pub reply : last ≡ s.reply
 
--- what steps leave, how many there were and the reply to the last, are those of a script
+-- the world that steps leave, the number of the steps, and the reply to the last are those of a script
 pub steps_are : (x h n : ℕ) (w new : BoardWorld) (count : ℕ) (last : Reply BoardReply) (t : Told Guest)
     → steps.AreSteps (steps.steps_of x h n w) new count last
     → IsStepped (stepping x h n 0 (Answered answer.Retired) (standing w t)) new count last
@@ -60,7 +60,7 @@ steps_are x h n w new count last t are =
       reply = are.reply ∙ same.reply;
     }
 
--- a line of steps
+-- the world and the text that a line of steps leaves
 pub record StepsDone (new : BoardWorld) (h count : ℕ) (last : Reply BoardReply) (r : Replied) : Type 0 where
   pub world : new ≡ r.standing.world
   pub text : steps_text h count last ≡ r.text
@@ -85,7 +85,7 @@ no_byte : (x : ℕ) (last : Reply BoardReply) (s : Standing)
 unfolding inputs
 no_byte x last s = refl
 
--- the bytes that came, and those that are left, are all
+-- the bytes given so far, and those that are left, are all
 pub record InputsLeft (all : Replied) (x : ℕ) (left : List ℕ) (last : Reply BoardReply) (w : BoardWorld) : Type 0 where
   pub told : Told Guest
   pub same : inputs x left last (standing w told) ≡ all

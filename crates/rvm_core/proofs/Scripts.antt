@@ -1,4 +1,4 @@
--- What scripts do whose lines are those of events.
+-- What scripts whose lines are those of events do.
 use Rattle.std.proofs.Common.{◌≡◌, ℕ, ◌+◌, ◌-◌, ◌≤◌, Bool, true, false, cond, eqb, eqb-true, ◌&&◌, nat_lt, List, [], ◌∷◌, map, Option, Some, None, refl, sym, ap, subst}
 use Rattle.rvm_board.specs.declared.event.BoardEvent.{BoardEvent}
 use Rattle.rvm_board.specs.declared.event.BoardEvent.TheVariants as asked
@@ -19,7 +19,7 @@ use Rattle.rvm_core.specs.Sayable.{AreSayable, line_making}
 use Rattle.rvm_core.proofs.Joined.{no_lines}
 use Rattle.rvm_core.proofs.Reading.{text, text_ends, text_read}
 
--- whichever way a byte was answered
+-- a byte leaves the same standing whether it was taken or not
 either : (b : Bool) (r q : Replied) (s : Standing) → r.standing ≡ s → q.standing ≡ s → (cond b r q).standing ≡ s
 either true r q s e f = e
 either false r q s e f = f
@@ -39,7 +39,7 @@ asked_made m h (asked.Dis a) s = refl
 asked_made m h (asked.PokeReg x r v) s = refl
 asked_made m h (asked.PokeMem a bytes) s = refl
 
--- the other one of two hosts is meant by a line that names none
+-- a line that names no target means the other one of two hosts
 other_is : (n h to : ℕ) → is_other n h to ≡ true → 1 - h ≡ to
 other_is n h to is =
     sym (eqb-true to (1 - h) (second_of (nat_lt h 2) (eqb to (1 - h))
@@ -58,7 +58,7 @@ line_made n (event.At h command.Resend) s = refl
 line_made n (event.At h command.Abort) s = refl
 line_made n (event.Deliver k) s = refl
 
--- no event changes how many hosts there are
+-- no event changes the number of hosts
 happened_count : (w : BoardWorld) (e : Option (ℕ × BoardHostEvent)) → (happened board w e).count ≡ w.count
 happened_count w None = refl
 happened_count w (Some e) = refl

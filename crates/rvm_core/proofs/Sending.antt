@@ -14,7 +14,7 @@ use Rattle.rvm_core.specs.Phases.{IsRound, IsRoundLeft, IsSent, IsSentLeft, IsSt
 use Rattle.rvm_core.specs.Worlds.{BoardWorld, IsPartOf}
 use Rattle.rvm_core.proofs.Drives.{listed_first, listed_length, listed_none, part_before, part_behind, part_first, part_none, part_of_listed, replies_first, replies_length, replies_next, replies_split, run_append, run_first, run_none}
 
--- the reply to the first of the frames of a state tells how many there are
+-- the reply to the first of the frames of a state tells their number
 first_of : (b : Bool) (k : ℕ) (r : Reply BoardReply) (rs : List (Reply BoardReply))
     → r ∷ rs ≡ (if b then listed (λ i. PartSent i (suc k)) 0 (suc k) else StateSent ∷ [])
     → length rs ≡ k → frames_told r ≡ suc k
@@ -26,13 +26,13 @@ first_of false k r rs is long =
     let e : length rs ≡ 0 = ap length none in
     ap frames_told z ∙ omega (arith, e, long)
 
--- copies are alike, whatever their places
+-- lists of the command Copy are equal, wherever they begin
 shifted_from : (from i j k : ℕ) → listed {V = Event BoardEvent} (λ p. At from Copy) i k ≡ listed (λ p. At from Copy) j k
 unfolding listed
 shifted_from from i j zero = refl
 shifted_from from i j (suc k) = ap (λ z. At from Copy ∷ z) (shifted_from from (suc i) (suc j) k)
 
--- the frames that were counted
+-- the number of frames that was told is that of the state
 frames_are : (from : ℕ) (w0 : BoardWorld) (frames version s : ℕ) (r : Reply BoardReply)
     → r ≡ reply_to board w0 (At from Copy) → frames ≡ frames_told r → 0 < s
     → replies board w0 (copies from s) ≡ state_replies version s → frames ≡ s
@@ -50,7 +50,7 @@ frames_are from w0 frames version (suc k) r reply told some all =
     ∙ first_of (is_compact version) k (reply_to board w0 (At from Copy))
     (replies board (step board w0 (At from Copy)) rest) (sym (replies_first w0 (At from Copy) rest) ∙ whole) long
 
--- the first copy, and those after it
+-- the copies of a state are the first one and those after it
 copies_are : (from frames s : ℕ) → frames ≡ s → 0 < s → copies from s ≡ At from Copy ∷ copies from (frames - 1)
 copies_are from frames s is some =
     let one : s ≡ suc (frames - 1) = omega (arith, is, some) in
@@ -70,7 +70,7 @@ state_sent from w0 w1 w2 frames r reply next told last =
           ∙ ap (run board w0) (sym (copies_are from frames s is some)),
     )
 
--- memory ran out before its first frame, or after it
+-- memory ran out before the first frame of a state, or after it
 pub no_state : (from : ℕ) (w0 w1 : BoardWorld) → w1 ≡ w0 → IsStateLeft w0 w1 from
 no_state from w0 w1 is =
     λ version s some all. part_of_listed (λ p. At from Copy) w0 w1 0 s some
@@ -87,7 +87,7 @@ state_left from w0 w1 w2 frames r reply next told part =
 
 -- ALL PHASES
 
--- the events of a guest that goes, phase by phase, and their replies
+-- the events that send a guest, phase by phase, and their replies
 module _ (from first version move n s : ℕ) where
   abbrev round_events : List (Event BoardEvent)
   round_events = copies from (n + 1)
@@ -113,7 +113,7 @@ module _ (from first version move n s : ℕ) where
   abbrev replies_from_stop : List (Reply BoardReply)
   replies_from_stop = Stopping ∷ (state_replies version s ++ last_replies)
 
-  -- the round, as it is replied
+  -- the replies to the events of the round
   round_told : (w0 w1 : BoardWorld) → replies board w0 (sending from first n s) ≡ sending_replies version move n s
       → (replies board w0 round_events ≡ round_replies n)
       × (w1 ≡ run board w0 round_events
@@ -125,7 +125,7 @@ module _ (from first version move n s : ℕ) where
       ∙ ap (λ z. z + 1) (listed_length (λ p. Copied p (suc p)) 0 n)
       ∙ sym (listed_length (λ p. At from Copy) 0 (n + 1)))
 
-  -- its frames came
+  -- the replies to the events from the stop on, after the frames of the round came
   came_told : (w1 w2 : BoardWorld) → replies board w1 (came_events ++ from_stop) ≡ came_replies ++ replies_from_stop
       → w2 ≡ run board w1 came_events → replies board w2 from_stop ≡ replies_from_stop
   came_told w1 w2 told came =
@@ -134,7 +134,7 @@ module _ (from first version move n s : ℕ) where
       ∙ ap (λ z. z + 1) (listed_length (λ p. Stored p (suc p)) 0 n)
       ∙ sym (listed_length (λ p. Deliver (first + p)) 0 (n + 1)))).1 came
 
-  -- the state, as it is replied
+  -- the replies to the copies of the state
   state_told : (w2 w3 : BoardWorld) → length (state_replies {A = BoardReply} version s) ≡ s
       → replies board w2 from_stop ≡ replies_from_stop → w3 ≡ step board w2 (At from Copy)
       → replies board w3 state_events ≡ state_replies version s
@@ -150,7 +150,7 @@ module _ (from first version move n s : ℕ) where
     came : w2 ≡ run board w1 came_events
     told : replies board w3 state_events ≡ state_replies version s
 
-  -- if the replies are those of a guest that is sent
+  -- the phases, if the replies are those of a guest that is sent
   phases : (w0 w1 w2 w3 : BoardWorld) (round : ℕ) → n ≤ 4096 → length (state_replies {A = BoardReply} version s) ≡ s
       → replies board w0 (sending from first n s) ≡ sending_replies version move n s → IsRound round w0 w1 from
       → w2 ≡ run board w1 (deliveries first round) → w3 ≡ step board w2 (At from Copy) → Phases w0 w1 w2 w3 round
@@ -165,7 +165,7 @@ module _ (from first version move n s : ℕ) where
         told = state_told w2 w3 whole (came_told w1 w2 (p.1 r.1) here) stop;
       }
 
-  -- the last frames, counted either way
+  -- the place of the first frame of the state, counted in two ways
   further : first + (n + 1) ≡ first + n + 1
   further = omega arith
 
@@ -174,7 +174,7 @@ module _ (from first version move n s : ℕ) where
   last_are round frames counted told =
       (λ j. deliveries (first + counted j) (told j + 3)) ∙ ap (λ z. deliveries z (s + 3)) further
 
-  -- some of the events after the round, after the coming of its frames, and after the stop
+  -- some events were made after the round, after its frames came, or after the stop
   behind_round : (w0 w1 new : BoardWorld) → w1 ≡ run board w0 round_events → IsPartOf (came_events ++ from_stop) w1 new
       → IsPartOf (sending from first n s) w0 new
   behind_round w0 w1 new made part = part_behind round_events (came_events ++ from_stop) w0 w1 new made part
@@ -189,7 +189,7 @@ module _ (from first version move n s : ℕ) where
       behind_round w0 w1 new p.made
       (behind_came w1 w2 new p.came (part_first (At from Copy) (state_events ++ last_events) w2 w3 new stop part))
 
--- the guest went
+-- the guest was sent
 pub guest_sent : (from first : ℕ) (w0 w1 w2 w3 w4 w5 : BoardWorld) (round frames : ℕ)
     → IsRound round w0 w1 from → w2 ≡ run board w1 (deliveries first round) → w3 ≡ step board w2 (At from Copy)
     → IsState frames w3 w4 from → w5 ≡ run board w4 (deliveries (first + round) (frames + 3))
@@ -222,14 +222,14 @@ guest_sent from first w0 w1 w2 w3 w4 w5 round frames made came stop state ready 
 
 -- MEMORY RAN OUT
 
--- in the round
+-- memory ran out in the round
 pub left_in_round : (from first : ℕ) (w0 w1 : BoardWorld) → IsRoundLeft w0 w1 from → IsSentLeft w0 w1 from first
 left_in_round from first w0 w1 left =
     λ version move n s most some whole all.
     part_before (copies from (n + 1)) (deliveries first (n + 1) ++ from_stop from first version move n s) w0 w1
     (left n most (round_told from first version move n s w0 w1 all).0)
 
--- while its frames came
+-- memory ran out while the frames of the round came
 pub left_coming : (from first : ℕ) (w0 w1 w2 : BoardWorld) (round : ℕ) → IsRound round w0 w1 from
     → IsPartOf (deliveries first round) w1 w2 → IsSentLeft w0 w2 from first
 left_coming from first w0 w1 w2 round made part =
@@ -239,7 +239,7 @@ left_coming from first w0 w1 w2 round made part =
     (part_before (deliveries first (n + 1)) (from_stop from first version move n s) w1 w2
     (subst (λ z. IsPartOf (deliveries first z) w1 w2) r.0 part))
 
--- at the stop
+-- memory ran out at the stop
 pub left_before_stop : (from first : ℕ) (w0 w1 w2 w3 : BoardWorld) (round : ℕ) → IsRound round w0 w1 from
     → w2 ≡ run board w1 (deliveries first round) → w3 ≡ w2 → IsSentLeft w0 w3 from first
 left_before_stop from first w0 w1 w2 w3 round made came stays =
@@ -249,7 +249,7 @@ left_before_stop from first w0 w1 w2 w3 round made came stays =
     (behind_came from first version move n s w1 w2 w3 (came ∙ ap (λ z. run board w1 (deliveries first z)) r.0)
     (part_none (At from Copy) (copies from s ++ deliveries (first + n + 1) (s + 3)) w2 w3 stays))
 
--- in the state
+-- memory ran out while the state was sent
 pub left_in_state : (from first : ℕ) (w0 w1 w2 w3 w4 : BoardWorld) (round : ℕ) → IsRound round w0 w1 from
     → w2 ≡ run board w1 (deliveries first round) → w3 ≡ step board w2 (At from Copy) → IsStateLeft w3 w4 from
     → IsSentLeft w0 w4 from first
@@ -259,7 +259,7 @@ left_in_state from first w0 w1 w2 w3 w4 round made came stop left =
     behind_stop from first version move n s w0 w1 w2 w3 w4 round p stop
     (part_before (copies from s) (deliveries (first + n + 1) (s + 3)) w3 w4 (left version s some p.told))
 
--- while its frames came, and Ready, Go and Started
+-- memory ran out while the frames of the state came, or Ready, Go and Started
 pub left_closing : (from first : ℕ) (w0 w1 w2 w3 w4 w5 : BoardWorld) (round frames : ℕ) → IsRound round w0 w1 from
     → w2 ≡ run board w1 (deliveries first round) → w3 ≡ step board w2 (At from Copy) → IsState frames w3 w4 from
     → IsPartOf (deliveries (first + round) (frames + 3)) w4 w5 → IsSentLeft w0 w5 from first

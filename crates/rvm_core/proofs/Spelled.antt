@@ -1,4 +1,4 @@
--- Letters, numbers, registers and bytes as words, and what these words are read as.
+-- Letters, numbers, registers and bytes as words, which are read as these again.
 use Rattle.std.proofs.Common.{◌≡◌, ℕ, suc, ◌+◌, ◌-◌, ◌*◌, ◌/◌, ◌%◌, ◌^◌, ◌<◌, ◌≤◌, Bool, true, false, not, cond, ◌&&◌, eqb, nat_le, List, [], ◌∷◌, length, slice_index, Option, Some, None, refl, sym, ap, subst, ◌∙◌, arith, eqb-true, inl, inr}
 use Rattle.std.specs.Char as char
 use Rattle.std.specs.Fmt.{decimal, digits}
@@ -20,7 +20,7 @@ use Rattle.rvm_text.specs.Tokens.{is_name}
 use Rattle.rvm_text.specs.Registers.{abi_names, numbered_names, register_of}
 use Rattle.rvm_core.specs.WorldLines.{letter_host}
 
--- whether this is that number
+-- whether the option is this number
 abbrev is_some : Option ℕ → ℕ → Bool
 is_some None n = false
 is_some (Some m) n = eqb m n
@@ -115,7 +115,7 @@ register_names r most =
     (second_of (is_one_word (register r)) (is_some (register_in (register r)) r)
     (each_below 33 is_register registers r (omega arith)))
 
--- the digit of four bits is a byte of a word, and has their value
+-- the digit of four bits, which is a byte of a word and has their value
 abbrev digit_at : ℕ → ℕ
 digit_at d = slice_index lower_digits d
 
@@ -139,7 +139,7 @@ hex_digit d below =
     let inside : digit_value (digit_at d) < 16 = omega arith in
     grind (arith, nat_tests)
 
--- what each digit passes, all digits of bytes pass
+-- a test that each digit passes is passed by all digits of bytes
 digits_pass : (test : ℕ → Bool) → ((d : ℕ) → d < 16 → test (digit_at d) ≡ true) → (bs : List ℕ) → IsBytes bs
     → list_all test (encode_lower bs) ≡ true
 unfolding encode_with

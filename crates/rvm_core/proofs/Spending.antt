@@ -1,4 +1,4 @@
--- Memory runs out only in a line that asks for it, which stands before the line that is not in the grammar.
+-- Memory runs out only in a line that takes it, which stands before the line that is not in the grammar.
 use Rattle.std.proofs.Common.{◌≡◌, ℕ, ◌+◌, ◌<◌, ◌≤◌, List, [], ◌∷◌, ◌++◌, length, Option, Some, None, ap, sym, ◌∙◌, arith}
 use Rattle.rvm_core.specs.Worlds.{BoardWorld}
 use Rattle.rvm_core.specs.declared.world_line.Asked.TheVariants as asked
@@ -9,7 +9,7 @@ use Rattle.rvm_core.specs.Runs.{AsksMemory, AsksMemoryIn, IsSpent, IsSpentIn}
 use Rattle.rvm_core.specs.WorldScript.{Answers, Standing, answers_by, done_by, world_script_of}
 use Rattle.rvm_core.proofs.Running.{line_first, script_both}
 
--- a line that found no memory asks for it
+-- a line in which memory ran out takes memory
 spent_asks : (o : Option WorldLine) (s : Standing) (new : BoardWorld) → IsSpentIn o s new → AsksMemory o
 spent_asks None s new spent = absurd spent
 spent_asks (Some lines.Empty) s new spent = absurd spent
@@ -21,12 +21,12 @@ spent_asks (Some (lines.Host host asked.Resend)) s new spent = tt
 spent_asks (Some (lines.Host host asked.Abort)) s new spent = tt
 spent_asks (Some (lines.Deliver k)) s new spent = tt
 
--- the same of its bytes
+-- the same for the bytes of a line
 pub line_asks : (line : List ℕ) (s : Standing) (new : BoardWorld) → IsSpentIn (world_line_of s.world.count line) s new
     → AsksMemoryIn line s
 line_asks line s new spent = spent_asks (world_line_of s.world.count line) s new spent
 
--- lines end at none before the first of them
+-- lines do not end at a line before the first of them
 ends_by : (o : Option WorldLine) (n k : ℕ) (s : Standing) (rest : Standing → Answers)
     → ((t : Standing) → (rest t).end ≡ Some k → n + 1 ≤ k) → (answers_by o n s rest).end ≡ Some k → n ≤ k
 ends_by None n k s rest others ends = let same : n ≡ k = cc in omega (arith, same)
@@ -39,7 +39,7 @@ ends_late [] n k s ends = absurd cc
 ends_late (l ∷ ls) n k s ends =
     ends_by (world_line_of s.world.count l) n k s (world_script_of ls (n + 1)) (ends_late ls (n + 1) k) ends
 
--- a line that asks for memory is not the one that is none
+-- a line that takes memory is not the one that is not in the grammar
 asks_before : (o : Option WorldLine) (n k : ℕ) (s : Standing) (rest : Standing → Answers)
     → ((t : Standing) → (rest t).end ≡ Some k → n + 1 ≤ k) → AsksMemory o → (answers_by o n s rest).end ≡ Some k
     → n < k
@@ -47,7 +47,7 @@ asks_before None n k s rest others asks ends = absurd asks
 asks_before (Some l) n k s rest others asks ends =
     let later : n + 1 ≤ k = others (done_by l s).standing ends in omega (arith, later)
 
--- a line that asks for memory, after lines that were done, stands before the line that is none
+-- a line that takes memory, after lines that were done, stands before the line that is not in the grammar
 pub asks_before_the_end : (done left : List (List ℕ)) (line : List ℕ) (k : ℕ) (s : Standing)
     → (world_script_of done 1 s).end ≡ None → AsksMemoryIn line (world_script_of done 1 s).standing
     → (world_script_of (done ++ line ∷ left) 1 s).end ≡ Some k → length done + 1 < k

@@ -39,7 +39,7 @@ steps_spent : (x h made : ℕ) (last : Reply BoardReply) (w : BoardWorld)
 unfolding stepping
 steps_spent x h made last w = refl
 
--- while steps go on, it does not matter what the last reply was
+-- steps go on alike after any two replies that do not end them
 pub go_on_alike : (x h left made : ℕ) (last other : Reply BoardReply) (w : BoardWorld) → 0 < left
     → ends_steps last ≡ false → ends_steps other ≡ false
     → stepping x h left made last w ≡ stepping x h left made other w
@@ -106,7 +106,7 @@ steps_over all x h count made next w w' p lt le said leaves =
 
 -- ALL STEPS
 
--- none is asked for
+-- no step is asked for
 pub no_steps : (x h count : ℕ) (w : BoardWorld) → count ≡ 0
     → AreSteps (steps_of x h count w) w 0 (Answered answer.Retired)
 no_steps x h count w none =

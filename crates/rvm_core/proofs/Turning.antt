@@ -41,7 +41,7 @@ use Rattle.rvm_core.proofs.Stepping.{go_on_alike, step_more}
 
 -- ONE TURN
 
--- the answers that end steps are those that end turns
+-- a step's answer ends steps if and only if it ends turns
 alike_reply : (x : Stepped) → events.ends_steps (reply_of x) ≡ is_some (stop_in (reply_of x))
 alike_reply outcome.Retired = refl
 alike_reply (outcome.Trapped e) = refl
@@ -62,7 +62,7 @@ alike_halted (Some status) h g = refl
 alike : (h : ℕ) (g : Guest) → events.ends_steps (steps h g).reply ≡ is_some (stop_in (steps h g).reply)
 alike h g = alike_halted g.board.shared.devices.halted h g
 
--- what ended turns is the answer
+-- the answer that ended turns, if one did, else this one
 abbrev told_or : Option Stop → BoardReply → BoardReply
 told_or (Some s) r = reply_of_stop s
 told_or None r = r
@@ -137,7 +137,7 @@ one_more_first w mid new x h m made r o b on f =
       stays = f.stays;
     }
 
--- a host that stays as it is
+-- no turn is made at a host that stays as it is
 still_first : (w : PlainWorld) (x h n : ℕ) (old new : PlainHost) → IsWorld w → old ≡ get_or w.hosts x old → new ≡ old
     → First w (with_host w x new w.sent w.current) x h n 0 None
 still_first w x h n old new is here same =
@@ -147,7 +147,7 @@ still_first w x h n old new is here same =
 abbrev in_mode : PlainHost → PlainMode → PlainHost
 in_mode old m = record old { mode = m }
 
--- a world with such a host
+-- a world with a host in another mode
 abbrev with_mode : PlainWorld → (x : ℕ) → PlainHost → PlainMode → PlainWorld
 with_mode w x old m = with_host w x (in_mode old m) w.sent w.current
 
@@ -273,7 +273,7 @@ mode_first (Given k kept) n w x h old same logged is lt here = stays_first (Give
 mode_first (Staging k s) n w x h old same logged is lt here = stays_first (Staging k s) n w x h old same is here
 mode_first (Held k g) n w x h old same logged is lt here = stays_first (Held k g) n w x h old same is here
 
--- what a host's turns make of its world
+-- a world after turns at a host: it is a world still, and the turns are the first of any number of steps above n
 pub record TurnsBecome (w new : PlainWorld) (x h n made : ℕ) (stop : Option Stop) : Type 0 where
   pub stays : IsWorld new
   pub first : AreFirst x h n (world_of w) (world_of new) made stop

@@ -14,7 +14,7 @@ use Rattle.rvm_core.specs.Worlds.{BoardWorld, IsPartOf}
 abbrev pub copies : (from n : ℕ) → List (Event BoardEvent)
 copies from n = listed (λ p. At from Copy) 0 n
 
--- the deliveries of this many frames, from a place on
+-- the deliveries of this many frames, from this place on
 abbrev pub deliveries : (first n : ℕ) → List (Event BoardEvent)
 deliveries first n = listed (λ p. Deliver (first + p)) 0 n
 
@@ -49,7 +49,7 @@ begins_or_not (Begun n) = true
 begins_or_not (Refused why) = true
 begins_or_not r = false
 
--- how many frames a state is sent in, by the reply to the first Copy of it
+-- the number of frames in which a state is sent, by the reply to the first Copy of it
 abbrev pub frames_told : Reply BoardReply → ℕ
 frames_told (PartSent part parts) = parts
 frames_told r = 1

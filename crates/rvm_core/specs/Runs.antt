@@ -50,7 +50,7 @@ AsksMemory (Some (lines.Host host (asked.Guest l))) = ⊥
 AsksMemory (Some (lines.Host host a)) = Unit {0}
 AsksMemory (Some (lines.Deliver k)) = Unit {0}
 
--- memory may run out in the line of these bytes, if a script stands there
+-- memory may run out in the line of these bytes, if the script stands here before it
 abbrev pub AsksMemoryIn : (line : List ℕ) → Standing → Type 0
 AsksMemoryIn line s = AsksMemory (world_line_of s.world.count line)
 
@@ -125,7 +125,7 @@ IsLineError e = Unit {0}
 abbrev pub standing : BoardWorld → Told Guest → Standing
 standing w t = record { world = w; told = t }
 
--- all events of a line were made, and its answer was written, or that failed; or memory ran out before its answer
+-- all events of a line were made, and its answer was written, or the write failed; or memory ran out before the answer
 abbrev pub IsDone : Result (Unit {0}) LineFault → Replied → (spent : Type 0) → (new : BoardWorld)
     → (before after : Option (List ℕ)) → Type 0
 IsDone (Ok u) r spent new before after = (new ≡ r.standing.world) × Appends before after r.text

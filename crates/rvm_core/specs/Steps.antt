@@ -13,7 +13,7 @@ use Rattle.rvm_protocol.specs.Replies.{Reply, Answered}
 use Rattle.rvm_protocol.specs.World.{At, Event, reply_to, step}
 use Rattle.rvm_core.specs.Worlds.{BoardWorld}
 
--- the world that steps leave, how many there were, and the last reply
+-- the world that steps leave, the number of the steps, and the last reply
 pub record Stepping : Type 0 where
   pub world : BoardWorld
   pub count : ℕ
@@ -23,7 +23,7 @@ pub record Stepping : Type 0 where
 abbrev pub step_at : (x h : ℕ) → Event BoardEvent
 step_at x h = At x (Board (event.Step h))
 
--- at most this many more steps of hart h at host x, after this many, the last of which had this reply
+-- at most `left` more steps of hart h at host x, after `made` steps, the last of which had this reply
 unfoldable pub stepping : (x h left made : ℕ) → Reply BoardReply → BoardWorld → Stepping
 stepping x h zero made last w = record { world = w; count = made; reply = last }
 stepping x h (suc left) made last w =
@@ -45,7 +45,7 @@ pub record AreFirst (x h n : ℕ) (old new : BoardWorld) (made : ℕ) (stop : Op
   pub first : (count : ℕ) → n < count
       → steps_of x h count old ≡ stepping x h (count - made) made (last_of stop) new
 
--- the world that these steps leave, how many there were, and the reply to the last
+-- the world that these steps leave, the number of the steps, and the reply to the last
 pub record AreSteps (s : Stepping) (new : BoardWorld) (count : ℕ) (last : Reply BoardReply) : Type 0 where
   pub world : new ≡ s.world
   pub made : count ≡ s.count

@@ -21,7 +21,7 @@ abbrev pub policy_if : (rounds left factor : Option ℕ) → Option Policy
 policy_if (Some r) (Some l) (Some f) = Some (record { max_rounds = r; min_left = l; factor = f })
 policy_if rounds left factor = None
 
--- `[R L F]`: 29 rounds, 50 pages and 3 times the guest's pages, if nothing is said
+-- the policy that `[R L F]` names: 29 rounds, 50 pages and 3 times the guest's pages, if there are no words
 abbrev pub policy_in : List (List ℕ) → Option Policy
 policy_in [] = Some (record { max_rounds = 29; min_left = 50; factor = 3 })
 policy_in (r ∷ l ∷ f ∷ []) = policy_if (numeral r) (numeral l) (numeral f)
@@ -35,12 +35,12 @@ Course = Option ℕ × Policy
 abbrev pub to_the_other : (hosts : ℕ) → Option Policy → Option Course
 to_the_other n policy = if n == 2 then option_map (λ p. (None, p)) policy else None
 
--- a first word with the host that it names, if it does, and the words after it
+-- the target and the policy that a first word, with the host that it names if it names one, and the words after it name
 abbrev pub named_course : (hosts : ℕ) → (target : Option ℕ) → (first : List ℕ) → List (List ℕ) → Option Course
 named_course n (Some to) w ws = option_map (λ p. (Some to, p)) (policy_in ws)
 named_course n None w ws = to_the_other n (policy_in (w ∷ ws))
 
--- `[HOST] [R L F]`; if there are more than two hosts, the target must be named
+-- the target and the policy that `[HOST] [R L F]` names; if there are more than two hosts, the target must be named
 abbrev pub course_of : (hosts : ℕ) → List (List ℕ) → Option Course
 course_of n [] = to_the_other n (policy_in [])
 course_of n (w ∷ ws) = named_course n (letter_host w) w ws
@@ -73,30 +73,30 @@ abbrev pub asked_by : (hosts : ℕ) → Option WorldCommand → (name : List ℕ
 asked_by n (Some c) w ws = world_commanded n c ws
 asked_by n None w ws = option_map asked.Guest (statement (command_of w) ws)
 
--- what words ask of a host, after its letter or without one
+-- what words ask of a host, which is named by a letter before them or not at all
 abbrev pub asked_at : (hosts : ℕ) → (host : Option ℕ) → List (List ℕ) → Option WorldLine
 asked_at n host [] = None
 asked_at n host (w ∷ ws) = option_map (line.Host host) (asked_by n (world_command_of w) w ws)
 
--- what words ask after the letter of a host, which must be there
+-- what the words after the letter of a host ask of that host, which must be one of this many
 abbrev pub behind_letter : (hosts host : ℕ) → List (List ℕ) → Option WorldLine
 behind_letter n x ws = if nat_lt x n then asked_at n (Some x) ws else None
 
--- `deliver K`, or what is asked of the host that has the guest
+-- what a line without a letter asks for: `deliver K`, or something of the host that has the guest
 abbrev pub without_letter : (hosts : ℕ) → (first : List ℕ) → List (List ℕ) → Option WorldLine
 without_letter n w ws =
     if bytes_eq w (codes "deliver") then option_map line.Deliver (one_number ws) else asked_at n None (w ∷ ws)
 
--- a first word with the host that it names, if it does, and the words after it
+-- what a first word, with the host that it names if it names one, and the words after it ask for
 abbrev pub lettered : (hosts : ℕ) → (host : Option ℕ) → (first : List ℕ) → List (List ℕ) → Option WorldLine
 lettered n (Some x) w ws = behind_letter n x ws
 lettered n None w ws = without_letter n w ws
 
--- what words ask for in a world of this many hosts; none, if they are no line
+-- what words ask for in a world of this many hosts; none if they are no line
 abbrev pub world_asked : (hosts : ℕ) → List (List ℕ) → Option WorldLine
 world_asked n [] = Some line.Empty
 world_asked n (w ∷ ws) = if is_comment w then Some line.Empty else lettered n (letter_host w) w ws
 
--- what a line asks for; none, if it is not in the grammar
+-- what a line asks for; none if it is not in the grammar
 unfoldable pub world_line_of : (hosts : ℕ) → List ℕ → Option WorldLine
 world_line_of n bytes = world_asked n (words (without_return bytes))

@@ -60,7 +60,7 @@ pub record Replied : Type 0 where
   pub standing : Standing
   pub text : List ℕ
 
--- what an event of a move does, or a frame that comes
+-- what an event of a move or a frame that comes does
 abbrev pub replied : Event BoardEvent → Standing → Replied
 replied e s = record { standing = after s e; text = move_text (reply_in s e) (place_in s e) }
 
@@ -70,13 +70,13 @@ guest_replied x e s =
     let ev = At x (Board e) in
     record { standing = after s ev; text = guest_text (address_of e) (reply_in s ev) }
 
--- where a script stands after steps, how many there were, and the last reply
+-- where a script stands after steps, the number of the steps, and the last reply
 pub record Stepping : Type 0 where
   pub standing : Standing
   pub count : ℕ
   pub reply : Reply BoardReply
 
--- at most this many more steps of hart h at host x, after this many, the last of which had this reply
+-- at most `left` more steps of hart h at host x, after `made` steps, the last of which had this reply
 unfoldable pub stepping : (x h left made : ℕ) → Reply BoardReply → Standing → Stepping
 stepping x h zero made last s = record { standing = s; count = made; reply = last }
 stepping x h (suc left) made last s =
@@ -95,7 +95,7 @@ abbrev pub is_taken : Reply BoardReply → Bool
 is_taken (Answered a) = if is_refused a then false else true
 is_taken r = false
 
--- what bytes do that come to the console at host x, up to the first that is refused
+-- what bytes that come to the console at host x do, up to the first that is refused
 unfoldable pub inputs : (x : ℕ) → List ℕ → Reply BoardReply → Standing → Replied
 inputs x [] last s = record { standing = s; text = guest_text None last }
 inputs x (b ∷ bs) last s =

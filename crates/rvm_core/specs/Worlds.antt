@@ -109,7 +109,7 @@ abbrev pub current_after : BoardHostEvent → Reply BoardReply → (current : �
 current_after (Came from frame) (Committed n) current = from
 current_after e r current = current
 
--- whether an event may ask for memory: any but an event of the guest
+-- whether an event may take memory: any but an event of the guest
 abbrev pub asks_memory : protocol.Event BoardEvent → Bool
 asks_memory (protocol.At x (Board e)) = false
 asks_memory e = true
@@ -146,13 +146,13 @@ pub record IsReached (w : BoardWorld) : Type 0 where
   pub valid : is_valid start ≡ true
   pub reached : w ≡ protocol.run board (protocol.new_world board w.version 0 start w.count limits) before
 
--- some of the first of these events, but not all, lead from the world `old` to the world `new`
+-- the first `made` of these events, which are not all of them, lead from the world `old` to the world `new`
 pub record IsPartOf (events : List (protocol.Event BoardEvent)) (old new : BoardWorld) : Type 0 where
   pub made : ℕ
   pub there : made < length events
   pub leaves : new ≡ protocol.run board old (take made events)
 
--- a host knows its place, how many hosts there are, and the version of its streams
+-- a host knows its own number, the number of hosts, and the version of its streams
 pub record Placed (version count x : ℕ) (h : PlainHost) : Type 0 where
   pub named : h.id ≡ x
   pub counts : h.count ≡ count
@@ -165,8 +165,8 @@ pub record IsKept (version count : ℕ) (k : Kept) : Type 0 where
   pub receiver : k.to < count
   pub spelled : IsSpelled version (kept_of version k) k.bytes
 
--- a world has its numbers within their limits, each host stands at its place, each frame is spelled, some events lead
--- to it from a new world, and the guest is at its current host
+-- a world's numbers are within their limits, each host stands at its place, each frame is spelled, some events lead to
+-- the world from a new one, and the guest is at its current host
 pub record IsWorld (w : PlainWorld) : Type 0 where
   pub sized : is_sized w.version (map (λ h. h.limit) w.hosts) ≡ true
   pub placed : (x : ℕ) → x < length w.hosts → Placed w.version (length w.hosts) x (host_at w.hosts x)

@@ -18,19 +18,20 @@ use rvm_message::{Command, HostRefusal, HostReply};
 use rvm_precopy::Policy;
 use std::alloc::{AllocError, Global};
 
-/// The events until the target takes the guest: the command to begin, and the deliveries of the offer and its answer.
+/// The number of events until the target takes the guest: the command to begin, and the deliveries of the offer and its
+/// answer.
 const OPENING: u32 = 3;
-/// The frames that these events make.
+/// The number of frames that these events make: the offer and its answer.
 const OFFER: u64 = 2;
-/// The command that pauses the guest.
+/// The number of commands that pause the guest.
 const STOP: u32 = 1;
-/// The last frames: Ready, Go and Started.
+/// The number of the last frames: Ready, Go and Started.
 const CLOSING: u32 = 3;
 
 /// How a move that was driven ended.
 #[derive(Clone, Copy, Debug, PartialEq, Eq)]
 pub enum Driven {
-    /// The guest runs at the target: the number of the move, and how many events it took.
+    /// The guest runs at the target: the number of the move, and the number of its events.
     Moved(u64, u32),
     /// The target declined, since it takes at most this many pages; the guest runs on where it was.
     Declined(u16),
@@ -69,8 +70,8 @@ pub fn drive_move<M: PagedMemory + Drop>(
     Ok(Driven::Moved(move_number, events + OPENING))
 }
 
-/// Sends the guest to the target that takes it, and delivers each frame of the move; returns how many events that
-/// took.
+/// Sends the guest to the target that takes it, and delivers each frame that this makes, from place `first` on; returns
+/// the number of events that this took.
 fn send_guest<M: PagedMemory + Drop>(
     alloc: Global,
     world: &mut World<M>,
@@ -90,8 +91,8 @@ fn send_guest<M: PagedMemory + Drop>(
     Ok(2 * (round + state) + STOP + CLOSING)
 }
 
-/// Copies pages until the round is over, and returns how many frames that made: those of the pages and of the round's
-/// end.
+/// Copies pages until the round is over, and returns the number of frames that this made: those of the pages, and that
+/// of the round's end.
 fn copy_round<M: PagedMemory + Drop>(
     alloc: Global,
     world: &mut World<M>,
@@ -110,7 +111,7 @@ fn copy_round<M: PagedMemory + Drop>(
     Ok(MAX_PAGES + 1)
 }
 
-/// Sends the state of the paused guest, and returns how many frames it took.
+/// Sends the state of the paused guest, and returns the number of frames that this made.
 fn send_state<M: PagedMemory + Drop>(
     alloc: Global,
     world: &mut World<M>,
@@ -189,7 +190,7 @@ fn is_copied(reply: &HostReply) -> bool
     matches!(reply, HostReply::Copied { .. })
 }
 
-/// How many frames a state is sent in, by the reply to the first Copy of it.
+/// The number of frames in which a state is sent, by the reply to the first Copy of it.
 fn frames_told(reply: &HostReply) -> u8
     ensures { result ≡ frames_told (reply_of reply.now) }
 {

@@ -9,8 +9,8 @@ use thiserror::Error;
 /// Why a world was not made.
 #[derive(Clone, Copy, Debug, PartialEq, Eq, Error)]
 pub enum WorldError {
-    /// There are not 2 to 8 hosts, a host takes not 1 to 4096 pages, or this many hosts do not speak the version of the
-    /// stream.
+    /// There are fewer than 2 or more than 8 hosts, the limit of a host is not 1 to 4096 pages, or this many hosts
+    /// cannot speak the version of the stream.
     #[error("hosts, their pages or the stream's version are outside limits")]
     BadSize,
     /// Memory ran out.

@@ -57,7 +57,7 @@ impl fmt::Display for Register {
     }
 }
 
-/// Writes an event of a host's guest.
+/// Writes the words of a line that ask the guest for an event.
 fn write_asked<W: Write>(writer: &mut W, event: &BoardEvent) -> Result<(), LinkFault>
     ensures { OnOk result (Appends (W.contents writer.old) (W.contents writer.new) (asked_line event.now)) }
 {
@@ -124,7 +124,7 @@ fn named(hosts: u8, host: u8, to: u8) -> Target
     }
 }
 
-/// Writes a command to a host of a world of this many hosts.
+/// Writes the words of a line that give a host, of this many, a command.
 fn write_command<W: Write>(
     writer: &mut W,
     hosts: u8,

@@ -29,7 +29,7 @@ fn are_limits(limits: &[u16]) -> bool
         .all(|limit| 1 <= *limit && *limit <= MAX_LIMIT)
 }
 
-/// Adds a host for each limit, in room that is there. The first host has the guest.
+/// Adds a host for each limit to `hosts`, which must be empty and have room for them. The first host has the guest.
 pub(crate) fn add_hosts<M: PagedMemory + Drop>(
     hosts: &mut Vec<Host<M>>,
     guest: Debugged<M>,

@@ -3,7 +3,7 @@
 //! events are written as lines that make them again.
 //!
 //! Stands on `rvm_host` for hosts, on `rvm_frame` for the bytes of frames, and on `rvm_text` and `rvm_debug` for the
-//! lines of a script. It knows nothing of threads, links or files.
+//! lines of a script. It must not know threads, links or files.
 //!
 //! To be read in this order: `event`, `error`, `sent`, `hosts`, `world`, `steps`, `run`, `drive`; then scripts:
 //! `world_command`, `world_line`, `replies`, `script_lines`, `script`, `event_lines`, `laws`.

@@ -112,8 +112,8 @@ pub fn write_guest_reply<W: Write>(
     }
 }
 
-/// Writes how many steps of a hart were made and what the last one did, or why it was refused. Fails with `LinkFault`
-/// if the writer fails.
+/// Writes the number of steps that a hart made, and what the last one did, or only why it was refused. Fails with
+/// `LinkFault` if the writer fails.
 pub fn write_steps_reply<W: Write>(
     writer: &mut W,
     hart: u32,

@@ -44,13 +44,13 @@ pub enum WorldScriptError {
 /// and is read before the first answer is written. A line without a letter goes to the host that has the guest: in a
 /// new world the first host, in any other the one that its modes show.
 ///
-/// Fails with `TooLong` if the script has more than 2^26 bytes, and with `OutOfMemory` if there is no memory to read
-/// it: then nothing was written, and the world is unchanged. Fails with `BadToken` at the first line that is not in
+/// Fails with `TooLong` if the script has more than 2^26 bytes, and with `OutOfMemory` if memory runs out while it is
+/// read: then nothing was written, and the world is unchanged. Fails with `BadToken` at the first line that is not in
 /// the grammar: the answers of the lines before it are written, and the world is as they left it. Fails with
 /// `LineOutOfMemory` at a line for which memory runs out: the same holds, but if the line is a whole move, its first
 /// events may have been made; a line for the guest takes no memory. Fails with `LinkFault` if a read or a write
-/// fails. If a read failed, no line was done; if a write failed, the world is as the lines up to the one whose answer
-/// was not written left it, each of them done to its end.
+/// fails. If a read failed, no line was done; if a write failed, each line up to the one whose answer was not written
+/// was done to its end, and no other line was begun.
 #[tactic(auto, using(crate::proofs::NeverMoving::never_moved))]
 pub fn run_world_script<M: PagedMemory + Drop, R: Read, W: Write>(
     alloc: Global,
@@ -81,7 +81,8 @@ pub fn run_world_script<M: PagedMemory + Drop, R: Read, W: Write>(
     }
 }
 
-/// Does what each line of a script asks for, in order, and writes the answers.
+/// Does what each line of a script that was read asks for, in order, and writes the answers. Fails at a line as
+/// `run_world_script` does.
 fn run_lines<M: PagedMemory + Drop, W: Write>(
     alloc: Global,
     world: &mut World<M>,
@@ -107,7 +108,7 @@ fn run_lines<M: PagedMemory + Drop, W: Write>(
     Ok(())
 }
 
-/// Does what the line with this number asks for, and writes its answer.
+/// Does what the line with this number asks for, and writes its answer. Fails as `run_world_script` does at a line.
 fn run_line<M: PagedMemory + Drop, W: Write>(
     alloc: Global,
     world: &mut World<M>,

@@ -60,9 +60,9 @@ impl From<LinkFault> for LineFault {
     }
 }
 
-/// Does what a line asks for, and writes its answer. If memory runs out, nothing is written, and nothing has changed,
-/// except that the first events of a whole move may have been made. If the answer cannot be written, the line was
-/// done to its end.
+/// Does what a line asks for, and writes its answer. If memory runs out, writes nothing and changes nothing, except
+/// that the first events of a whole move may have been made. If the answer cannot be written, the line was done to its
+/// end.
 pub fn do_line<M: PagedMemory + Drop, W: Write>(
     alloc: Global,
     world: &mut World<M>,
@@ -244,7 +244,8 @@ fn ask_guest<M: PagedMemory + Drop, W: Write>(
     }
 }
 
-/// Gives the console bytes of input, up to the first that is not taken; returns the reply to the last one given.
+/// Gives the console bytes of input, up to the first that is not taken; returns the reply to the last one given, or
+/// Done if there are no bytes. Takes no memory.
 fn input<M: PagedMemory + Drop>(
     alloc: Global,
     world: &mut World<M>,

@@ -59,7 +59,8 @@ impl Sent {
     }
 }
 
-/// Allocates room for a frame of at most `bound` bytes, and a place for it in `sent`; none if `bound` is 0.
+/// Allocates room for a frame of at most `bound` bytes, and a place for it in `sent`; neither if `bound` is 0. Fails if
+/// memory runs out.
 pub(crate) fn make_room(
     alloc: Global,
     sent: &mut Vec<Sent>,
@@ -78,8 +79,8 @@ pub(crate) fn make_room(
     Vec::with_capacity(alloc, bound)
 }
 
-/// Keeps the bytes of a frame, if one was made, and returns its place. There is room for it; frees what it does not
-/// need.
+/// Writes the bytes of a frame, if one was made, keeps them in `sent`, and returns their place. `bytes` and `sent` must
+/// have room for the frame; the room in `bytes` that it does not need is freed.
 pub(crate) fn post(
     version: u32,
     sent: &mut Vec<Sent>,

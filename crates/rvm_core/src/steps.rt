@@ -19,16 +19,16 @@ use std::alloc::Global;
 /// The result of steps of a hart.
 #[derive(Drop)]
 pub struct Steps {
-    /// How many steps there were.
+    /// The number of steps, with the one that ended them.
     pub count: u32,
-    /// The reply to the last one.
+    /// The reply to the last step; Retired if there was none.
     pub last: HostReply,
 }
 
 impl<M: PagedMemory + Drop> World<M> {
     /// Makes at most `count` consecutive steps of a hart of the guest at a host, each as `apply` makes it. They end
-    /// early with a step that is refused, that stops at a breakpoint or that leaves the board halted. Returns how
-    /// many there were, and the last reply. Takes no memory.
+    /// early with a step that is refused, that stops at a breakpoint or that leaves the board halted. Returns the
+    /// number of steps and the last reply. Takes no memory.
     pub fn steps(&mut self, alloc: Global, host: u8, hart: u32, count: u32) -> Steps
         ensures { AreSteps (steps_of host hart count (world_of self.old)) (world_of self.new)
             result.count (reply_of result.last) }
@@ -49,7 +49,7 @@ impl<M: PagedMemory + Drop> World<M> {
         }
     }
 
-    /// Makes the steps of `count` that are left after the first `first`, none of which ended them, one by one.
+    /// Makes the rest of `count` steps, one by one, after the first `first` of them, none of which ended the steps.
     fn more_steps(&mut self, alloc: Global, host: u8, hart: u32, first: u32, count: u32) -> Steps
         requires { first < count }
         ensures { AreSteps (stepping host hart (count - first) first (Answered Retired) (world_of self.old))
@@ -72,7 +72,7 @@ impl<M: PagedMemory + Drop> World<M> {
         }
     }
 
-    /// Makes one step.
+    /// Applies the event of one step. Takes no memory.
     fn step(&mut self, alloc: Global, host: u8, hart: u32) -> HostReply
         ensures reply { reply_of result ≡ reply_to board (world_of self.old) (step_at host hart) }
         ensures next { world_of self.new ≡ step board (world_of self.old) (step_at host hart) }

@@ -94,6 +94,7 @@ impl<M: PagedMemory + Drop> World<M> {
     }
 
     /// Makes a world as `with_version` does, with streams of version 1 if there are two hosts, and else of version 3.
+    /// Fails as `with_version` does.
     pub fn new(
         alloc: Global,
         guest: Debugged<M>,
@@ -120,7 +121,7 @@ impl<M: PagedMemory + Drop> World<M> {
         self.version
     }
 
-    /// Returns how many hosts the world has, 2 to 8.
+    /// Returns the number of the world's hosts, 2 to 8.
     pub fn hosts(&self) -> u8
         ensures { result ≡ length self.now.hosts }
     {
@@ -135,7 +136,7 @@ impl<M: PagedMemory + Drop> World<M> {
         self.current
     }
 
-    /// Returns how many frames were sent.
+    /// Returns the number of frames that were sent.
     pub fn sent(&self) -> usize
         ensures count { result ≡ length self.now.sent }
         ensures room { result < 2 ^ 63 }
@@ -147,7 +148,7 @@ impl<M: PagedMemory + Drop> World<M> {
     pub fn frame(&self, place: usize) -> Option<&[u8]>
         ensures some { IfSome result (λ bytes. bytes.now ≡ (get_or self.now.sent place no_kept).bytes) }
         ensures none { (result ≡ None) ↔ (length self.now.sent ≤ place) }
-        // They spell the frame that the protocol has at that place, with the hosts that it goes between.
+        // They spell the frame that the protocol has at that place, with the hosts between which it goes.
         ensures spelled { AreSpelled self.now.version (slice_get (world_of self.now).sent place)
             (option_map (λ bytes. bytes.now) result) }
     {
@@ -165,8 +166,8 @@ impl<M: PagedMemory + Drop> World<M> {
     }
 
     /// Applies an event: returns the reply, and the place of the frame that was made, if any. If memory runs out,
-    /// nothing has changed. An event of the guest takes no memory, nor does a command that is refused or the delivery
-    /// of a frame that was never sent.
+    /// changes nothing. An event of the guest takes no memory, nor does a command that is refused or the delivery of a
+    /// frame that was never sent.
     #[tactic(auto, using(crate::proofs::NeverMoving::never_moved))]
     pub fn apply(&mut self, alloc: Global, event: &Event) -> Result<WorldReply, AllocError>
         ensures reply { IfOk result (λ r. reply_of r.reply
@@ -187,8 +188,8 @@ impl<M: PagedMemory + Drop> World<M> {
         }
     }
 
-    /// Makes at most `count` consecutive turns, the first of some steps of a hart, if the guest runs at this host; else
-    /// none.
+    /// Makes at most `count` consecutive turns of a hart if the guest runs at this host; else none. They are the first
+    /// of any number of steps above `count`.
     pub(crate) fn turns(&mut self, host: u8, hart: u32, count: u32) -> Turns
         ensures { AreFirst host hart count (world_of self.old) (world_of self.new) result.made result.stop }
     {

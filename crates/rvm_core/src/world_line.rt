@@ -16,9 +16,9 @@ pub enum Asked<'a> {
     Begin { to: Option<u8>, policy: Policy },
     /// Make a whole move to this host, or to the other host of two.
     Move { to: Option<u8>, policy: Policy },
-    /// Make the next copy of a page, or the next step of the move.
+    /// Copy the next page, or take the next action of the move.
     Copy,
-    /// Send the last frame again.
+    /// Send again what the other host may not have heard: the offer, the state, Ready or Go.
     Resend,
     /// Give up the move.
     Abort,
@@ -49,7 +49,7 @@ impl<'a> WorldLine<'a> {
     }
 }
 
-/// What words ask for.
+/// What words ask for in a world of this many hosts; None if they are no line.
 fn world_asked<'a>(words: Words<'a>, hosts: u8) -> Option<WorldLine<'a>>
     ensures { result ≡ world_asked hosts words.entry }
 {
@@ -60,7 +60,7 @@ fn world_asked<'a>(words: Words<'a>, hosts: u8) -> Option<WorldLine<'a>>
     }
 }
 
-/// What a line asks for, with the letter of a host of this world as its first word, or without one.
+/// What a line asks for, whose first word may be the letter of a host.
 fn lettered<'a>(first: &[u8], words: Words<'a>, hosts: u8) -> Option<WorldLine<'a>>
     ensures { result ≡ lettered hosts (letter_host first.now) first.now words.entry }
 {
@@ -70,7 +70,7 @@ fn lettered<'a>(first: &[u8], words: Words<'a>, hosts: u8) -> Option<WorldLine<'
     }
 }
 
-/// What words ask of a host of this world.
+/// What the words after the letter of a host ask of that host; None if this world has no such host.
 fn behind_letter<'a>(host: u8, words: Words<'a>, hosts: u8) -> Option<WorldLine<'a>>
     ensures { result ≡ behind_letter hosts host words.entry }
 {
@@ -86,7 +86,7 @@ fn behind_letter<'a>(host: u8, words: Words<'a>, hosts: u8) -> Option<WorldLine<
     })
 }
 
-/// `deliver K`, or what is asked of the host that has the guest.
+/// What a line without a letter asks for: `deliver K`, or something of the host that has the guest.
 fn without_letter<'a>(first: &[u8], words: Words<'a>, hosts: u8) -> Option<WorldLine<'a>>
     ensures { result ≡ without_letter hosts first.now words.entry }
 {
@@ -107,7 +107,7 @@ fn asked_by<'a>(name: &[u8], words: Words<'a>, hosts: u8) -> Option<Asked<'a>>
     }
 }
 
-/// What a command of a move asks for with the words after its name.
+/// What a command of a move and the words after its name ask for.
 fn commanded<'a>(command: WorldCommand, words: Words<'a>, hosts: u8) -> Option<Asked<'a>>
     ensures { result ≡ world_commanded hosts command words.entry }
 {
@@ -133,7 +133,7 @@ fn alone<'a>(asked: Asked<'a>, words: Words) -> Option<Asked<'a>>
     if words.is_empty() { Some(asked) } else { None }
 }
 
-/// `[HOST] [R L F]`; if there are more than two hosts, the target must be named.
+/// The target and the policy that `[HOST] [R L F]` names; if there are more than two hosts, the target must be named.
 fn course(words: Words, hosts: u8) -> Option<Course>
     ensures { result ≡ course_of hosts words.entry }
 {
@@ -158,7 +158,7 @@ fn to_the_other(hosts: u8, policy: Option<Policy>) -> Option<Course>
     }
 }
 
-/// `[R L F]`.
+/// The policy that `[R L F]` names; the default policy if there are no words.
 fn policy(words: Words) -> Option<Policy>
     ensures { result ≡ policy_in words.entry }
 {
@@ -169,7 +169,7 @@ fn policy(words: Words) -> Option<Policy>
     }
 }
 
-/// `R L F`.
+/// The policy that `R L F` names.
 fn numbers(first: &[u8], words: Words) -> Option<Policy>
     ensures { result ≡ policy_in (first.now ∷ words.entry) }
 {

@@ -45,7 +45,7 @@ dry_guest n g few none =
     else leaves (with_board (with_output (drop n sent) g.board) g) (Bytes (take n sent))) few
     ∙ (λ i. leaves (with_board (with_output (none_dropped n sent none i) g.board) g) (Bytes (none_taken n sent none i)))
 
--- an outcome that says so
+-- an outcome that only says that the drain found nothing
 says_dry : (n version : ℕ) (o : BoardOutcome) (m : BoardMode) → o ≡ says (Answered (Bytes [])) m
     → Answers version o ((dry_exchange n).reply, None) m
 says_dry n version o m is = record {

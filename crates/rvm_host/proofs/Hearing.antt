@@ -13,11 +13,11 @@ use Rattle.rvm_protocol.specs.Receiving.{came}
 use Rattle.rvm_host.proofs.Sendings.{frame_is}
 use Rattle.rvm_host.proofs.Targets.{alone, if_err, if_ok}
 
--- what a host hears of a frame
+-- a frame as a host hears it
 abbrev pub heard : Frame → BoardFrame
 heard f = plain board (frame_heard f)
 
--- what comes of a frame that is not refused outright
+-- the outcome is no outright refusal
 abbrev pub Heeds : BoardOutcome → Type 0
 Heeds o = is_refused_outright o.reply ≡ false
 
@@ -38,7 +38,7 @@ module _ (limit : ℕ) (f : Frame) (h : BoardFrame) (mode next : BoardMode) (is 
   pub so_heeded : Heeds (came board limit h mode) → Heeds (came board limit (heard f) mode)
   so_heeded so = subst (λ (x : BoardFrame). Heeds (came board limit x mode)) (sym is) so
 
-  -- what holds for every limit
+  -- what holds for every limit holds for this one
   pub err_heeded : (r : Result (HostReply × Option Frame) AllocError)
       → OnErr r ((most : ℕ) → Heeds (came board most h mode)) → OnErr r (Heeds (came board limit (heard f) mode))
   err_heeded r = if_err r ((most : ℕ) → Heeds (came board most h mode)) (Heeds (came board limit (heard f) mode)) (λ so. so_heeded (so limit))

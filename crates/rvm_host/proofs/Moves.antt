@@ -35,7 +35,7 @@ use Rattle.rvm_host.proofs.Settling.{outcome_of}
 abbrev BoardStage : Type 0
 BoardStage = Stage (List ℕ)
 
--- what holds either way
+-- what holds of both values holds of the one that a test chooses
 pub either : {X : Type 0} (Q : X → Type 0) (b : Bool) (x y : X) → (b ≡ true → Q x) → (b ≡ false → Q y)
     → Q (if b then x else y)
 either Q true x y f g = f refl
@@ -45,7 +45,7 @@ module _ (id count : ℕ) where
   abbrev pub There : ℕ → Type 0
   There x = is_there id count x ≡ true
 
-  -- as the protocol has a mode
+  -- in each mode of a move, as the protocol has it, the move has a number, and another host is its other party
   abbrev pub Keeps : (partner : ℕ) → BoardMode → Type 0
   Keeps x (Empty n) = Unit {0}
   Keeps x (Run n g) = Unit {0}
@@ -61,7 +61,7 @@ module _ (id count : ℕ) where
   Reaches to None = Unit {0}
   Reaches to (Some f) = There to
 
-  -- after an event
+  -- both hold after an event
   abbrev pub Stays : BoardHostEvent → (partner : ℕ) → BoardOutcome → Type 0
   Stays e x o = Keeps (partner_then e o.reply x) o.next × Reaches (addressee e (partner_then e o.reply x)) o.made
 
@@ -271,7 +271,7 @@ module _ (h : PlainHost) (ok : IsHost h) where
       (plain board f) (mode_of h.mode) law_keeps)
       (λ _. (law_keeps, tt))
 
-  -- it stays a host
+  -- after an event it is a host still
   pub host_stays : (new : PlainHost) (e : BoardHostEvent) (answer : HostReply × Option Addressed)
       → Steps h e answer new → IsHost new
   host_stays new e answer does =
@@ -282,7 +282,7 @@ module _ (h : PlainHost) (ok : IsHost h) where
             (stays e).0);
       })
 
-  -- and a frame of it goes to one that is there
+  -- a frame that it makes goes to a host that is there
   pub host_reaches : (new : PlainHost) (e : BoardHostEvent) (answer : HostReply × Option Addressed)
       → Steps h e answer new → Goes h.id h.count answer.1
   host_reaches new e answer does =

@@ -81,7 +81,7 @@ length_spelled names from to f =
       length-append size (body_of f),
     )
 
--- what the limits of a host say
+-- the limits of a host's numbers
 pub record Sizes (id count limit version : ℕ) : Type 0 where
   pub few : count ≤ 8
   pub below : id < count
@@ -144,7 +144,7 @@ module _ (h : PlainHost) (ok : IsHost h) where
   posted_if to None (Some f) there short so = absurd so
   posted_if to (Some n) (Some f) there short so = is_posted to n f there (so sized.version_fits) short
 
-  -- the frame of an event; a command that is refused makes none
+  -- the frame of an event can be posted
   posts : (new : PlainHost) (e : BoardHostEvent) (answer : HostReply × Option Addressed) (to : ℕ)
       (made : Option Frame) → Steps h e answer new → answer.1 ≡ addressed h.id to made → IsShort (event_body h e)
       → CanBeSent h.version (event_body h e) made → CanBePosted h (with_header h.version (event_body h e)) answer.1
@@ -177,7 +177,7 @@ module _ (h : PlainHost) (ok : IsHost h) where
       (refused_posts_none new c answer does) (posts new (Do c) answer to made does is short so)
   host_posts new (Came from f) answer to made does is short so = posts new (Came from f) answer to made does is short so
 
--- an answer to a frame is short
+-- the body of an answer to a frame has at most 32768 bytes
 pub came_short : (f : BoardFrame) → IsShort (came_body f)
 came_short (frames.Offer n pages harts) = omega arith
 came_short (frames.State n numbers state) = omega arith

@@ -26,7 +26,7 @@ use Rattle.rvm_host.proofs.Running.{IsLogged, copying_runs, law_step, leaving, o
 abbrev pub in_mode : PlainHost → PlainMode → PlainHost
 in_mode old m = record old { mode = m }
 
--- modes by the guest that runs in them, as long as something holds of it that a step leaves
+-- modes by the guest that runs in them, if something holds of it that each step preserves
 module _ (mode : GuestState → PlainMode) (ok : GuestState → Type 0)
     (keeps : (h : ℕ) (g : GuestState) → h < length g.guest.board.harts → ok g → ok (stepped h g))
     (law : (h : ℕ) (g : GuestState) → ok g → h < length g.guest.board.harts
@@ -78,14 +78,14 @@ module _ (mode : GuestState → PlainMode) (ok : GuestState → Type 0)
         last = a_last ((turn + made.count) % harts) made.last all.between new mid refl first.1 all.ends;
       }
 
--- no step
+-- no step is made
 no_steps : (harts turn count : ℕ) (old new : PlainHost) (made : told.Retired) → new ≡ old
     → made ≡ record { count = 0; last = None } → HostRetires harts turn count old new made
 no_steps harts turn count old new made same none =
     subst (λ m. HostRetires harts turn count old new m) (sym none)
     (record { between = old; few = omega arith; fewer = λ is. cc; retired = refl; last = same })
 
--- in each mode
+-- STEPS IN EACH MODE
 run_law : (k h : ℕ) (g : GuestState) → Unit {0} → h < length g.guest.board.harts
     → law_step h (Run k g.guest) ≡ says (Answered (steps h g.guest).reply) (mode_of (Run k (stepped h g).guest))
 unfolding board
@@ -140,7 +140,7 @@ host_retires (Staging k s) harts turn count old new made is all rest =
 host_retires (Held k g) harts turn count old new made is all rest =
     no_steps harts turn count old new made (rest ∙ (λ i. in_mode old ((all.0 ∙ sym is) i))) all.1
 
--- its move, if any, is the same
+-- after the steps, the move of the mode, if any, is with another host still
 keeps_move : (id count partner : ℕ) (m new : PlainMode) (harts turn n : ℕ) (made : told.Retired)
     → ModeRetires harts turn n m new made → KeepsMove id count partner m → KeepsMove id count partner new
 keeps_move id count partner (Run k g) new harts turn n made all keeps =

@@ -30,11 +30,11 @@ behind_turns t g = record { guest = t.guest; dirty = mark_all t.pages g.dirty }
 abbrev pub stepped : (h : ℕ) → GuestState → GuestState
 stepped h g = let a = steps h g.guest in record { guest = a.guest; dirty = mark_all a.pages g.dirty }
 
--- its dirty log is of its pages
+-- a guest's dirty log has an item for each of its pages
 abbrev pub IsLogged : GuestState → Type 0
 IsLogged g = length g.dirty ≡ count_of g.guest
 
--- a step of a hart that is there is that of the event
+-- the event of a step of a hart that is there makes the hart's step
 pub there_steps : (h : ℕ) (g : Guest) → h < length g.board.harts → answered (event.Step h) g ≡ steps h g
 there_steps h g there =
     ap (λ b. cond b (steps h g) (refuses BadHart g)) (lt-ltb h (length g.board.harts) there)
@@ -45,7 +45,7 @@ stepped_logged h g there logged =
     let kept = subst (λ (a : GuestAnswered). Keeps a g.guest) e (answered_keeps (event.Step h) g.guest) in
     length_marked (steps h g.guest).pages g.dirty ∙ logged ∙ sym (ap (λ n. n / 4096) kept.size)
 
--- what the protocol makes of such a step in a mode
+-- the protocol's outcome of such a step in a mode
 abbrev pub law_step : (h : ℕ) → PlainMode → BoardOutcome
 law_step h m = obeying.board board (event.Step h) (mode_of m)
 
@@ -66,7 +66,7 @@ run_runs k =
           ap (λ (a : GuestAnswered). says (Answered a.reply) (protocol.Run k a.guest)) (there_steps h g.guest there);
     }
 
--- its move is going on, in a phase
+-- the guest's move is going on, in a phase
 abbrev pub leaving : (move : ℕ) → Plan → Phase → GuestState → PlainMode
 leaving k r f g = Leaving (record { move_number = k; guest = g; plan = r; phase = f })
 

@@ -23,7 +23,7 @@ number_fits n some below = grind (arith, nat_tests)
 lost_short : (n : ℕ) → may_have kind.Lost n ≡ true → n ≤ 8194
 lost_short n is = grind (arith, nat_tests)
 
--- of pages that can be told
+-- a Lost of pages that fit in one can be sent
 pub lost_sent : (n : ℕ) (pages : List ℕ) (a : Option Frame) → 0 < n → n < 2 ^ 64 → lost.fits pages ≡ true
     → a ≡ Some (frame.Lost n pages) → (version : ℕ) → CanBeSent version (Some 8194) a
 lost_sent n pages a some below fits is version =
@@ -38,7 +38,7 @@ lost_sent n pages a some below fits is version =
 pub frame_is : {f x : Frame} → f ≡ x → true ≡ can_come f → frame_heard f ≡ frame_of x
 frame_is {f = f} is come = ap (λ b. if b then frame_of f else no_frame) (sym come) ∙ ap frame_of is
 
--- an answer to a frame
+-- an answer to a frame can be sent
 module _ {f x : Frame} (is : f ≡ x) (come : true ≡ can_come f) where
   pub answer_sent : (version : ℕ) (a : Option Frame) → CanBeSent version (came_body (frame_of x)) a
       → CanBeSent version (came_body (frame_heard f)) a

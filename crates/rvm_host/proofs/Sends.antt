@@ -1,4 +1,4 @@
--- A host may go to any thread if its memory may.
+-- A host may be sent to another thread if its memory may.
 use denote.RattleType.{RattleType}
 use denote.Enum.Declared.{shape}
 use denote.Enum.Enum.{Enum}

@@ -29,7 +29,7 @@ use Rattle.rvm_source.specs.declared.phase.Phase.TheVariants as phases
 use Rattle.rvm_host.specs.Hosts.{PlainHost, Steps, host_of, partner_of}
 use Rattle.rvm_host.specs.Modes.{PlainMode, Empty, Run, Leaving, Given, Staging, Held, mode_of, runs}
 
--- what a host's event makes of it
+-- the protocol's outcome of an event at a host
 abbrev pub outcome_of : PlainHost → BoardHostEvent → BoardOutcome
 outcome_of h e = outcome board h.version h.id h.count h.limit e (host_of h)
 

@@ -46,7 +46,7 @@ alone version o a r next first second is = record { reply = ap reply_of first �
 this_move : (n k : ℕ) (o : BoardOutcome) (mode : BoardMode) → n ≡ k → of_this_move board n k o mode ≡ o
 this_move n k o mode same = ap (λ (b : Bool). if b then o else ignores mode) (eq-eqb n k same)
 
--- a piece counts for the move whose pages come
+-- a piece that is taken is of the move that is staged
 pub of_staged : (k stamp part parts n : ℕ) (mode : PlainMode) (s : PlainStage) → mode ≡ Staging n s → takes_part k stamp part parts mode ≡ true → n ≡ k
 of_staged k stamp part parts n mode s here takes =
     let is : takes_part k stamp part parts (Staging n s) ≡ true = sym (ap (λ (m : PlainMode). takes_part k stamp part parts m) here) ∙ takes in
@@ -75,7 +75,7 @@ module _ (limit version n k : ℕ) (mode last : PlainMode) (before after : Plain
       subst (λ (m : PlainMode). Answers version (came board limit (Part k stamp part parts bytes) (mode_of mode)) a (mode_of m)) (sym there)
       (subst (λ (x : BoardOutcome). Answers version x a (mode_of (Staging k after))) (sym is) (so after (o k copy) left))
 
--- an offer, if it counts by its number alone
+-- an offer whose outcome is decided by its move number alone
 module _ (limit k pages harts : ℕ) (mode here : PlainMode) (is : mode ≡ here) where
   abbrev by_number : PlainMode → BoardOutcome
   by_number m = offer_above board (move_of (mode_of m)) limit k pages harts (mode_of m)
@@ -96,7 +96,7 @@ module _ (limit k pages harts : ℕ) (mode here : PlainMode) (is : mode ≡ here
   offer_counts_too r next so is_so =
       offer_counts r next so (subst (λ (m : PlainMode). IfOk r (λ a. (version : ℕ) → Answers version (by_number m) a next)) is is_so)
 
--- an offer of another move than the one that is staged
+-- an offer of another move than the staged one is decided by its move number alone
 pub other_offer : (limit k pages harts n : ℕ) (s : PlainStage) → (n ≡ k → ⊥)
     → came board limit (Offer k pages harts) (mode_of (Staging n s)) ≡ offer_above board n limit k pages harts (mode_of (Staging n s))
 other_offer limit k pages harts n s other =

@@ -15,19 +15,19 @@ use Rattle.rvm_source.specs.Bounds.{body_bound}
 use Rattle.rvm_host.specs.Hosts.{PlainHost, is_sized, step_of}
 use Rattle.rvm_host.specs.Modes.{PlainMode, Leaving, Given, Held, Empty, Run, Staging}
 
--- the most body bytes of the frame that Copy makes; None if it makes no frame
+-- the most body bytes of the frame that Copy may make; if None, it makes no frame
 abbrev pub copy_body : (version : ℕ) → PlainMode → Option ℕ
 copy_body version (Leaving s) = Some (body_bound version s)
 copy_body version mode = None
 
--- the most body bytes of the frame that Resend makes
+-- the most body bytes of the frame that Resend may make
 abbrev pub resend_body : (version : ℕ) → PlainMode → Option ℕ
 resend_body version (Leaving s) = Some (body_bound version s)
 resend_body version (Given n kept) = Some 0
 resend_body version (Held n g) = Some 0
 resend_body version mode = None
 
--- the most body bytes of the frame that a command makes
+-- the most body bytes of the frame that a command may make
 abbrev pub command_body : (version : ℕ) → PlainMode → Command BoardEvent → Option ℕ
 command_body version mode (Board e) = None
 command_body version mode (Begin to p) = Some 3
@@ -35,7 +35,7 @@ command_body version mode Copy = copy_body version mode
 command_body version mode Resend = resend_body version mode
 command_body version mode AbortMove = Some 0
 
--- the most body bytes of the frame that answers one that comes
+-- the most body bytes of the frame that may answer one that comes
 abbrev pub came_body : BoardFrame → Option ℕ
 came_body (Offer n pages harts) = Some 2
 came_body (State n numbers state) = Some 8194
@@ -44,17 +44,17 @@ came_body (Ready n) = Some 0
 came_body (Go n) = Some 0
 came_body f = None
 
--- the most body bytes of the frame that an event makes
+-- the most body bytes of the frame that an event may make
 abbrev pub event_body : PlainHost → BoardHostEvent → Option ℕ
 event_body h (Do c) = command_body h.version h.mode c
 event_body h (Came from f) = came_body f
 
--- the bytes of a frame with this many body bytes; 0 if there is no frame
+-- the number of bytes of a frame with this many body bytes; 0 if there is no frame
 abbrev pub with_header : (version : ℕ) → Option ℕ → ℕ
 with_header version None = 0
 with_header version (Some n) = header_len (names_hosts (Some version)) + n
 
--- the most bytes of the frame that an event makes; a command that is refused makes none
+-- the most bytes of the frame that an event may make; a command that is refused outright makes none
 abbrev pub frame_bound : PlainHost → BoardHostEvent → ℕ
 frame_bound h (Do c) =
     if is_refused_outright (step_of h (Do c)).reply then 0 else with_header h.version (event_body h (Do c))
@@ -103,7 +103,7 @@ HasNumber (Given n kept) = 0 < n
 HasNumber (Held n g) = 0 < n
 HasNumber mode = Unit {0}
 
--- a host has its numbers within their limits, and its move, if any, is with another host
+-- a host's numbers are within their limits, and its move, if any, is with another host
 pub record IsHost (h : PlainHost) : Type 0 where
   pub sized : is_sized h.id h.count h.limit h.version ≡ true
   pub moves : KeepsMove h.id h.count h.partner h.mode

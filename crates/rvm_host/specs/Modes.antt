@@ -42,7 +42,7 @@ abbrev pub is_held : (move : ℕ) → PlainMode → Bool
 is_held k (Held n g) = n == k
 is_held k mode = false
 
--- whether the guest of this move is staged here and this piece of its state counts
+-- whether the guest of this move is staged here and its stage takes this piece of its state
 abbrev pub takes_part : (move stamp part parts : ℕ) → PlainMode → Bool
 takes_part k stamp part parts (Staging n s) = (n == k) && staging.takes_part (stage_of s) stamp part parts
 takes_part k stamp part parts mode = false

@@ -14,7 +14,7 @@ use Rattle.rvm_source.specs.Sources.{PlainSource}
 use Rattle.rvm_host.specs.Hosts.{PlainHost, Steps}
 use Rattle.rvm_host.specs.Modes.{PlainMode, Empty, Run, Leaving, Given, Staging, Held}
 
--- a host answered the step of hart h in this way
+-- a host answers the step of hart h with this reply
 abbrev pub IsStep : (h : ℕ) → Stepped → (old new : PlainHost) → Type 0
 IsStep h s old new = Steps old (event_of (step_of_hart h)) (reply_to_step (step.Stepped s), None) new
 
@@ -24,7 +24,7 @@ AreRetired harts zero turn old new = new ≡ old
 AreRetired harts (suc n) turn old new =
     (between : PlainHost) × (IsStep (turn % harts) Retired old between) × AreRetired harts n (turn + 1) between new
 
--- what the step of hart h after these did, if one was made
+-- the step of hart h that was made after these, if one was
 abbrev pub IsLast : (h : ℕ) → Option Stepped → (old new : PlainHost) → Type 0
 IsLast h None old new = new ≡ old
 IsLast h (Some s) old new = IsStep h s old new
@@ -51,7 +51,7 @@ pub record LeavingRetires (harts turn count : ℕ) (s : PlainSource) (new : Plai
   pub to_is : new ≡ Leaving to
   pub retired : SourceRetires harts turn count s to made
 
--- no step was made, as no guest runs here
+-- no step was made, since no guest runs here
 abbrev pub MakesNone : (old new : PlainMode) → told.Retired → Type 0
 MakesNone old new made = (new ≡ old) × (made ≡ record { count = 0; last = None })
 

@@ -9,7 +9,7 @@ use Rattle.rvm_protocol.specs.Modes.{move_of}
 use Rattle.rvm_source.specs.declared.phase.Phase.{Phase}
 use Rattle.rvm_source.specs.declared.phase.Phase.TheVariants as phase
 
--- the kind of a source's mode
+-- the kind of the mode of a source in this phase
 abbrev pub phase_kind : Phase → ModeKind
 phase_kind phase.Offering = kind.Offering
 phase_kind phase.Copying = kind.Copying
@@ -28,7 +28,7 @@ kind_of (Held k g) = kind.Held
 abbrev pub status_of : PlainHost → HostStatus
 status_of h = record { kind = kind_of h.mode; move_number = move_of (mode_of h.mode); partner = h.partner }
 
--- how many harts the guest has that runs at a host or leaves it
+-- the number of harts of the guest that runs at a host or leaves it
 abbrev pub harts_of : PlainMode → Option ℕ
 harts_of (Run k g) = Some (length g.board.harts)
 harts_of (Leaving s) = Some (length s.guest.guest.board.harts)

@@ -6,7 +6,7 @@ use Rattle.rvm_message.specs.Turns.{guest_turned}
 use Rattle.rvm_source.specs.Turns.{source_turned}
 use Rattle.rvm_host.specs.Modes.{PlainMode, Empty, Run, Leaving, Given, Staging, Held}
 
--- the mode after turns, how many were made, and what ended them early, if anything did
+-- the mode after turns, the number of turns made, and what ended them early, if anything did
 pub record Turned : Type 0 where
   pub mode : PlainMode
   pub made : ℕ

@@ -11,19 +11,20 @@ use rvm_frame::Frame;
 use rvm_mem::PagedMemory;
 use rvm_message::{Command, can_come};
 
-/// The body bytes of an Offer.
+/// The number of body bytes of an Offer.
 const OFFER: usize = 3;
-/// The body bytes of a Refuse, and so the most of any answer to an offer.
+/// The number of body bytes of a Refuse, which is the most of any answer to an offer.
 const REFUSE: usize = 2;
-/// The body bytes of a Lost that names 4096 pages, and so the most of any answer to a state.
+/// The number of body bytes of a Lost that names 4096 pages, which is the most of any answer to a state.
 const LOST: usize = 2 + 2 * 4096;
-/// The bytes of a header.
+/// The number of bytes of a header.
 const HEADER: usize = 13;
-/// The bytes of a header that names the hosts between which the frame goes, as in version 3.
+/// The number of bytes of a header that names the hosts between which the frame goes, as in version 3.
 const HEADER_WITH_HOSTS: usize = 15;
 
 impl<M: PagedMemory + Drop> Mode<M> {
-    /// The most body bytes of the frame that a command may make in this mode; None if it makes no frame.
+    /// The most body bytes of the frame that a command may make in this mode. With None it makes no frame; with a
+    /// number it may still make none.
     pub(crate) fn command_body(&self, version: u32, command: &Command) -> Option<usize>
         ensures body { result ≡ command_body version (plain_of self.now) (command_of command.now) }
         ensures short { IsShort result }
@@ -37,7 +38,7 @@ impl<M: PagedMemory + Drop> Mode<M> {
         }
     }
 
-    /// The most body bytes of the frame that Copy makes.
+    /// The most body bytes of the frame that Copy may make in this mode, as `command_body` gives them.
     fn copy_body(&self, version: u32) -> Option<usize>
         ensures body { result ≡ copy_body version (plain_of self.now) }
         ensures short { IsShort result }
@@ -48,7 +49,7 @@ impl<M: PagedMemory + Drop> Mode<M> {
         }
     }
 
-    /// The most body bytes of the frame that Resend makes.
+    /// The most body bytes of the frame that Resend may make in this mode, as `command_body` gives them.
     fn resend_body(&self, version: u32) -> Option<usize>
         ensures body { result ≡ resend_body version (plain_of self.now) }
         ensures short { IsShort result }
@@ -61,7 +62,8 @@ impl<M: PagedMemory + Drop> Mode<M> {
     }
 }
 
-/// The most body bytes of the frame that may answer one that comes; None if no frame answers it.
+/// The most body bytes of the frame that may answer one that comes. With None no frame answers it; with a number one
+/// may.
 pub(crate) fn came_body(frame: &Frame) -> Option<usize>
     ensures body { result ≡ came_body (frame_heard frame.now) }
     ensures short { IsShort result }
@@ -77,7 +79,7 @@ pub(crate) fn came_body(frame: &Frame) -> Option<usize>
     }
 }
 
-/// The bytes of a frame with this many body bytes; 0 if there is no frame.
+/// The number of bytes of a frame with this many body bytes; 0 if there is no frame.
 pub(crate) fn with_header(version: u32, body: Option<usize>) -> usize
     requires { IsShort body }
     ensures { result ≡ with_header version body }

@@ -30,8 +30,8 @@ use rvm_precopy::Policy;
 use std::alloc::{AllocError, Global};
 use std::marker::Model;
 
-/// A host: a place at which a guest runs, arrives or leaves. It has a number, from 0, among the two to eight
-/// hosts of its world.
+/// A host: a place at which a guest runs, arrives or leaves. It has a number, from 0, among the two to eight hosts of
+/// its world.
 #[derive(Drop)]
 pub struct Host<M: PagedMemory> {
     mode: Mode<M>,
@@ -50,7 +50,7 @@ impl<M: PagedMemory> Model for Host<M> {
 
     ghost Value = { PlainHost };
 
-    // Below `Value`, since they read a type of this crate.
+    // They come after `Value`, since they read a type of this crate.
     ghost use Rattle.rvm_host.specs.Bounds.{IsHost};
     ghost use Rattle.rvm_host.specs.Modes.{plain_of};
 
@@ -110,7 +110,7 @@ impl<M: PagedMemory + Drop> Host<M> {
     }
 
     /// Makes a host as `with_version` does, which speaks version 1 of the stream if there are two hosts, and else
-    /// version 3. Fails with `BadSize`, and hands the guest back, if `with_version` would.
+    /// version 3. Fails with `BadSize`, and hands the guest back, as `with_version` does.
     pub fn new(
         guest: Option<Debugged<M>>,
         id: u8,
@@ -124,9 +124,9 @@ impl<M: PagedMemory + Drop> Host<M> {
         Host::with_version(guest, id, count, limit, version_of(count as usize))
     }
 
-    /// Applies an event: returns the reply, and the frame that the host made, if any. If memory runs out, nothing
-    /// has changed. Only Begin, Copy, Resend and the frames Offer, Lost, State and Part take memory, and none of
-    /// these if it is refused, except for a state that turns out to be bad.
+    /// Applies an event: returns the reply, and the frame that the host made, if any. If memory runs out, changes
+    /// nothing. Only Begin, Copy, Resend and the frames Offer, Lost, State and Part take memory, and none of these does
+    /// if it is refused, except a State or a Part that is refused since the state is bad.
     pub fn apply(
         &mut self,
         alloc: Global,
@@ -169,7 +169,7 @@ impl<M: PagedMemory + Drop> Host<M> {
         Ok((reply, addressed(self.id, self.partner, frame)))
     }
 
-    /// Makes a step of a hart, as `apply` does, and returns a reply of a few bytes. Takes no memory.
+    /// Applies the event of a step of a hart, as `apply` does, and returns a reply of a few bytes. Takes no memory.
     pub fn step(&mut self, hart: u32) -> StepReply
         ensures { Steps self.old (event_of (step_of_hart hart)) (reply_to_step result, None) self.new }
     {
@@ -196,8 +196,8 @@ impl<M: PagedMemory + Drop> Host<M> {
         self.mode.turns(hart, count)
     }
 
-    /// Makes steps of this many harts in turn, at most `count`, from turn `turn` on, as long as each retires an
-    /// instruction; the first that does not is the last. It may make none. Takes no memory.
+    /// Makes at most `count` steps of the guest's `harts` harts in turn, from turn `turn` on, up to the first that does
+    /// not retire an instruction. May make none. Takes no memory.
     pub fn retire(&mut self, turn: u64, harts: u32, count: u32) -> Retired
         ensures { HostRetires harts turn count self.old self.new result }
     {
@@ -251,8 +251,8 @@ impl<M: PagedMemory + Drop> Host<M> {
         Ok((reply, addressed(self.id, from, made)))
     }
 
-    /// Returns the most bytes of the frame that an event may make. With 0 it makes none; with more it may still make
-    /// none.
+    /// Returns the most bytes of the frame that an event may make. If this is 0, the event makes none; if it is more,
+    /// the event may still make none.
     pub fn frame_bound(&self, event: &HostEvent) -> usize
         ensures { result ≡ frame_bound self.now (event_of event.now) }
     {
@@ -272,7 +272,7 @@ impl<M: PagedMemory + Drop> Host<M> {
         self.mode.refuses(command)
     }
 
-    /// Whether a move to host `to` would be refused.
+    /// Whether a Begin to host `to` would be refused.
     #[tactic(auto, using(crate::proofs::Refused::begin_refused))]
     fn refuses_begin(&self, to: u8, policy: Policy) -> bool
         ensures { result ≡ is_refused_outright
@@ -306,8 +306,8 @@ impl<M: PagedMemory + Drop> Host<M> {
         host < self.count && host != self.id
     }
 
-    /// Whether the host listens to a frame: it comes from its partner, or it is another host's offer of a move
-    /// above all that this host has begun or staged.
+    /// Whether the host hears a frame: it comes from its partner, or it is another host's offer of a move above all
+    /// that this host has begun or staged.
     fn hears(&self, from: u8, frame: &Frame) -> bool
         ensures { result ≡ is_heard self.now.id self.now.count from
             (plain board (frame_heard frame.now)) (host_of self.now) }
@@ -328,7 +328,8 @@ impl<M: PagedMemory + Drop> Host<M> {
         }
     }
 
-    /// Returns how many harts the guest has that runs at this host or leaves it, 1 to 8; None if there is none.
+    /// Returns the number of harts of the guest that runs at this host or leaves it, 1 to 8; None if there is no such
+    /// guest.
     pub fn harts(&self) -> Option<u32>
         ensures count { result ≡ harts_of self.now.mode }
         ensures bound { IfSome result (λ n. (0 < n) × (n ≤ 8)) }

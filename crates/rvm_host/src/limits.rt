@@ -9,8 +9,8 @@ use thiserror::Error;
 /// The most hosts of a world.
 pub const MAX_HOSTS: usize = 8;
 
-/// The number of hosts, a host's number, the most pages that it takes or the version of its streams is outside its
-/// limits.
+/// A number of a host is outside its limits: the number of hosts, the host's own number, the most pages that it takes,
+/// or the version of its streams.
 #[derive(Clone, Copy, Debug, PartialEq, Eq, Error)]
 #[error("a number of a host is outside its limits")]
 pub struct BadSize;

@@ -24,8 +24,8 @@ use rvm_source::Source;
 use std::alloc::{AllocError, Global};
 use std::mem;
 
-/// The number of no move. A frame that no stream can have is heard as an Accept of this move, for which no host
-/// waits.
+/// A number that no move has. A host hears a frame that cannot come as an Accept of a move with this number, for which
+/// no host waits.
 const NO_MOVE: u64 = 0;
 
 /// The mode of a host, with the highest number of a move that it has begun or staged.
@@ -96,7 +96,7 @@ impl<M: PagedMemory + Drop> Mode<M> {
         matches!(self, Mode::Run { .. })
     }
 
-    /// Keeps this mode, and refuses.
+    /// Changes to this mode, and makes the answer that is this refusal.
     pub(crate) fn stay(&mut self, mode: Mode<M>, why: HostRefusal) -> Answer
         ensures reply { result.0 ≡ HostReply.Refused why }
         ensures frame { result.1 ≡ None }
@@ -106,7 +106,7 @@ impl<M: PagedMemory + Drop> Mode<M> {
         HostReply::refused(why)
     }
 
-    /// Applies a command. Whether the target of Begin is another host is for the caller to check.
+    /// Applies a command. Does not check that the target of Begin is another host. If memory runs out, changes nothing.
     pub(crate) fn obey(
         &mut self,
         alloc: Global,
@@ -133,7 +133,7 @@ impl<M: PagedMemory + Drop> Mode<M> {
         }
     }
 
-    /// Applies a frame that comes. Whether the host listens to its sender is for the caller to check.
+    /// Applies a frame that comes. Does not check that the host hears its sender. If memory runs out, changes nothing.
     pub(crate) fn came(
         &mut self,
         alloc: Global,

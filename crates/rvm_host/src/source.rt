@@ -34,7 +34,7 @@ use rvm_source::Source;
 use std::alloc::{AllocError, Global};
 
 impl<M: PagedMemory + Drop> Mode<M> {
-    /// Gives the guest an event, if it runs here. Takes no memory.
+    /// Gives the guest an event, if it runs here; else refuses. Takes no memory.
     pub(crate) fn board(&mut self, event: &BoardEvent) -> HostReply
         ensures { (version : ℕ) → Answers version
             (obeying.board board event.now (mode_of (plain_of self.old)))
@@ -50,7 +50,7 @@ impl<M: PagedMemory + Drop> Mode<M> {
         }
     }
 
-    /// Makes a step of a hart of the guest, as `board` does. Takes no memory.
+    /// Gives the guest the event of a step of a hart, as `board` does. Takes no memory.
     pub(crate) fn step(&mut self, hart: u32) -> StepReply
         ensures { (version : ℕ) → Answers version
             (obeying.board board (Step hart) (mode_of (plain_of self.old)))
@@ -94,8 +94,8 @@ impl<M: PagedMemory + Drop> Mode<M> {
         }
     }
 
-    /// Makes steps of this many harts in turn, as `Debugged::retire` does; none unless the guest runs here. Takes
-    /// no memory.
+    /// Makes at most `count` steps of the guest's `harts` harts in turn, as `Debugged::retire` does; none unless the
+    /// guest runs here. Takes no memory.
     pub(crate) fn retire(&mut self, turn: u64, harts: u32, count: u32) -> Retired
         ensures { ModeRetires harts turn count (plain_of self.old) (plain_of self.new) result }
     {
@@ -180,7 +180,7 @@ impl<M: PagedMemory + Drop> Mode<M> {
         }
     }
 
-    /// Begins a move to another host. If memory runs out, nothing has changed.
+    /// Begins a move to another host. If memory runs out, changes nothing.
     pub(crate) fn begin(&mut self, alloc: Global, policy: Policy) -> Result<Answer, AllocError>
         ensures answer { IfOk result (λ a. (version : ℕ) → Answers version
             (obeying.begin board (policy_of policy) (mode_of (plain_of self.old)))
@@ -197,7 +197,7 @@ impl<M: PagedMemory + Drop> Mode<M> {
         }
     }
 
-    /// Begins a move of a guest that runs.
+    /// Begins a move of a guest that runs. If memory runs out, the guest runs on in the same mode.
     fn begin_run(
         &mut self,
         alloc: Global,
@@ -232,7 +232,7 @@ impl<M: PagedMemory + Drop> Mode<M> {
         }
     }
 
-    /// Makes the next copy of a page, or the next step of the move. If memory runs out, nothing has changed.
+    /// Copies the next page, or takes the next action of the move. If memory runs out, changes nothing.
     pub(crate) fn copy(&mut self, alloc: Global, version: u32) -> Result<Answer, AllocError>
         ensures answer { IfOk result (λ a. Answers version
             (obeying.copy board version (mode_of (plain_of self.old)))
@@ -249,7 +249,8 @@ impl<M: PagedMemory + Drop> Mode<M> {
         }
     }
 
-    /// Makes the last frame of this mode again. If memory runs out, nothing has changed.
+    /// Makes again the frame that the other host may not have heard: the offer, the state, Go or Ready. If memory runs
+    /// out, changes nothing.
     pub(crate) fn resend(&mut self, alloc: Global, version: u32) -> Result<Answer, AllocError>
         requires { HasNumber (plain_of self.old) }
         ensures answer { IfOk result (λ a. Answers version
@@ -274,7 +275,7 @@ impl<M: PagedMemory + Drop> Mode<M> {
         }
     }
 
-    /// Gives up the move: the guest runs on here.
+    /// Gives up the move of a guest that is leaving: the guest runs on here. Refuses in any other mode.
     pub(crate) fn abort(&mut self) -> Answer
         ensures answer { (version : ℕ) → Answers version
             (obeying.abort board (mode_of (plain_of self.old)))
@@ -295,7 +296,7 @@ impl<M: PagedMemory + Drop> Mode<M> {
         }
     }
 
-    /// Handles Accept: the target takes the guest.
+    /// Handles Accept: the target takes the guest, and its first round begins.
     pub(crate) fn accepted(&mut self, move_number: u64) -> HostReply
         ensures { (limit version : ℕ) → Answers version
             (receiving.came board limit (frames.Accept move_number) (mode_of (plain_of self.old)))
@@ -327,8 +328,8 @@ impl<M: PagedMemory + Drop> Mode<M> {
         }
     }
 
-    /// Handles Lost: the target lacks copies of pages. If memory runs out, nothing has changed; a frame that is
-    /// ignored asks for no memory.
+    /// Handles Lost: the target lacks copies of pages, which are to be copied again. If memory runs out, changes
+    /// nothing. Allocates nothing for a frame that is ignored.
     pub(crate) fn lost(
         &mut self,
         alloc: Global,
@@ -405,7 +406,8 @@ fn is_dry<M: PagedMemory>(guest: &Debugged<M>, count: u32) -> bool
     count <= DRAIN_SIZE && guest.waiting() == 0
 }
 
-/// Whether the same holds of a guest that is being moved, and runs.
+/// Whether the guest of a source runs, and a drain of at most `count` bytes, up to 256, finds none and leaves it as it
+/// is.
 fn is_dry_source<M: PagedMemory>(from: &Source<M>, count: u32) -> bool
     ensures { result ≡ true → (version : ℕ) → Answers version
         (obeying.board board (Drain count) (sources.mode_of from.now))

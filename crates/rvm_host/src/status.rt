@@ -53,7 +53,7 @@ impl<M: PagedMemory + Drop> Mode<M> {
         }
     }
 
-    /// How many harts the guest has that runs at the host or leaves it, 1 to 8.
+    /// The number of harts of the guest that runs at the host or leaves it, 1 to 8; None if there is no such guest.
     pub(crate) fn harts(&self) -> Option<u32>
         ensures count { result ≡ harts_of (plain_of self.now) }
         ensures bound { IfSome result (λ n. (0 < n) × (n ≤ 8)) }
@@ -66,7 +66,7 @@ impl<M: PagedMemory + Drop> Mode<M> {
     }
 }
 
-/// The kind of a source's mode.
+/// The kind of the mode of a source in this phase.
 fn phase_kind(phase: Phase) -> ModeKind
     ensures { result ≡ phase_kind phase }
 {

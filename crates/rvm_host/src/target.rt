@@ -23,8 +23,8 @@ use rvm_message::{Answer, HostRefusal, HostReply};
 use std::alloc::{AllocError, Global};
 
 impl<M: PagedMemory + Drop> Mode<M> {
-    /// Handles Offer. What is staged or held here is kept until there is room for the new guest. If memory runs
-    /// out, nothing has changed; an offer that is ignored asks for no memory.
+    /// Handles Offer. Keeps what is staged or held here until there is room for the new guest. If memory runs out,
+    /// changes nothing. Allocates nothing for an offer that is ignored.
     pub(crate) fn offered(
         &mut self,
         alloc: Global,
@@ -161,8 +161,8 @@ impl<M: PagedMemory + Drop> Mode<M> {
         }
     }
 
-    /// Handles State, the state of the guest. What is staged is kept whole until the guest is made. If memory runs
-    /// out, nothing has changed; a state that is ignored asks for no memory.
+    /// Handles State, the state of the guest. Keeps all that is staged until the guest is made. If memory runs out,
+    /// changes nothing. Allocates nothing for a state that is ignored.
     pub(crate) fn state(
         &mut self,
         alloc: Global,
@@ -206,8 +206,8 @@ impl<M: PagedMemory + Drop> Mode<M> {
         }
     }
 
-    /// Handles Part, a piece of the state. If memory runs out, nothing has changed; a piece that is ignored asks for
-    /// no memory.
+    /// Handles Part, a piece of the state. If memory runs out, changes nothing. Allocates nothing for a piece that is
+    /// ignored.
     pub(crate) fn part(
         &mut self,
         alloc: Global,
@@ -246,7 +246,7 @@ impl<M: PagedMemory + Drop> Mode<M> {
         }
     }
 
-    /// Whether the guest of this move is staged here and a piece of its state counts. Takes no memory.
+    /// Whether the guest of this move is staged here and its stage takes such a piece of its state. Takes no memory.
     fn takes_part(&self, move_number: u64, stamp: u32, part: u8, parts: u8) -> bool
         ensures { result ≡ takes_part move_number stamp part parts (plain_of self.now) }
     {
@@ -259,7 +259,7 @@ impl<M: PagedMemory + Drop> Mode<M> {
         }
     }
 
-    /// Keeps what has come of the guest.
+    /// Changes back to the mode in which this stage is kept.
     fn keep(&mut self, move_number: u64, staging: Staging<M>)
         ensures { self.new ≡ Mode.Staging move_number staging }
     {
@@ -269,7 +269,7 @@ impl<M: PagedMemory + Drop> Mode<M> {
         });
     }
 
-    /// Holds the whole guest until the source commits.
+    /// Holds the whole guest until the source commits, and answers Ready.
     fn hold(&mut self, move_number: u64, guest: Debugged<M>) -> Answer
         ensures reply { result.0 ≡ HostReply.ReadySent }
         ensures frame { result.1 ≡ Some (Frame.Ready move_number) }
@@ -292,7 +292,8 @@ impl<M: PagedMemory + Drop> Mode<M> {
         }
     }
 
-    /// Handles Go: the source has committed, and the guest runs here. Takes no memory.
+    /// Handles Go: the source has committed, and the guest that is held runs here. If it already runs, answers Started
+    /// again. Takes no memory.
     pub(crate) fn go(&mut self, move_number: u64) -> Answer
         requires { 0 < move_number }
         ensures answer { (limit version : ℕ) → Answers version
@@ -370,7 +371,7 @@ fn stored(stored: bool, page: u16, copy_number: u32) -> HostReply
     }
 }
 
-/// The answer to a state that made no guest.
+/// The answer to a state that made no guest. Fails if the reason is that memory ran out.
 fn not_ready(move_number: u64, reason: NotReady) -> Result<Answer, AllocError>
     requires number { 0 < move_number }
     requires pages { CanBeTold reason }
@@ -390,7 +391,7 @@ fn not_ready(move_number: u64, reason: NotReady) -> Result<Answer, AllocError>
     }
 }
 
-/// The answer to a piece of a state that made no guest.
+/// The answer to a piece of a state if no guest was made. Fails if the reason is that memory ran out.
 fn not_joined(
     move_number: u64,
     part: u8,

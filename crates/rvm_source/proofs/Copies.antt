@@ -117,7 +117,7 @@ InRange n (next.RoundEnded round sent skipped left) = (round ≤ 1000) × ((sent
 InRange n next.Stopping = Unit {0}
 InRange n next.SeqSpent = Unit {0}
 
--- an action leaves a log and a plan for as many pages, and its answer's numbers are in range
+-- an action leaves a log and a plan for n pages, and its answer's numbers are in range
 record Whole (n : ℕ) (t : Turn) : Type 0 where
   log : length t.log ≡ n
   send : length t.plan.to_send ≡ n

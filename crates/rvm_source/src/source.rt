@@ -325,7 +325,7 @@ impl<M: PagedMemory> Source<M> {
         }
     }
 
-    /// Handles Copy while the guest runs and is being copied, if no copy number is lacking.
+    /// Handles Copy while the guest runs and is being copied. The caller must have checked that `is_spent` is false.
     fn copy_running(&mut self, alloc: Global, version: u32) -> Result<Answer, AllocError>
         requires phase { self.old.phase ≡ Phase.Copying }
         requires left { is_seq_spent (obeying.copy board version (mode_of self.old)).reply ≡ false }
@@ -364,7 +364,7 @@ impl<M: PagedMemory> Source<M> {
         })
     }
 
-    /// Handles Copy once the guest is paused, if no copy number is lacking.
+    /// Handles Copy once the guest is paused. The caller must have checked that `is_spent` is false.
     fn copy_paused(&mut self, alloc: Global, version: u32, turn: u8) -> Result<Answer, AllocError>
         requires phase { self.old.phase ≡ Phase.Stopped turn }
         requires left { is_seq_spent (obeying.copy board version (mode_of self.old)).reply ≡ false }

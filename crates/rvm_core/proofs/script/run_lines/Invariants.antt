@@ -8,7 +8,7 @@ use Rattle.rvm_core.specs.Runs.{standing}
 use Rattle.rvm_core.proofs.Running.{Lines}
 use Rattle.rvm_core.proofs.script.run_lines.Given as goal
 
--- the lines so far and those that are left are all
+-- the lines done so far, and those that are left, are all
 abbrev pub invariant-loop-rest : goal.invariant-loop-rest
 invariant-loop-rest g l = record {
   count : l.number + length l.rest ≤ length l.script;

@@ -10,7 +10,7 @@ use Rattle.rvm_core.specs.WorldScript.{inputs}
 use Rattle.rvm_core.proofs.ScriptSteps.{InputsLeft}
 use Rattle.rvm_core.proofs.script_lines.input.Given as goal
 
--- the bytes so far and those that are left are all
+-- the bytes given so far, and those that are left, are all
 abbrev pub invariant-loop-byte : goal.invariant-loop-byte
 invariant-loop-byte g l =
     (t : Told Guest)

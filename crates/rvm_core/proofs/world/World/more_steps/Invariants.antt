@@ -6,7 +6,7 @@ use Rattle.rvm_core.specs.Worlds.{world_of}
 use Rattle.rvm_core.proofs.Stepping.{StepsLeft}
 use Rattle.rvm_core.proofs.world.World.more_steps.Given as goal
 
--- the steps so far and those that are left are all
+-- the steps made so far, and those that are left, are all
 abbrev pub invariant-loop-made : goal.invariant-loop-made
 invariant-loop-made g l = record {
   below : l.made < l.count;
