@@ -1,6 +1,6 @@
 //! What a hart reaches: RAM, devices and reservations.
 
-ghost use Rattle.std.specs.Prelude.{◌≡◌, ◌%◌, ◌<◌, ◌^◌, ◌+◌, ◌*◌, ◌-◌, ◌++◌, ◌∷◌, [], ◌↔◌, length, min, take, drop, IfNone, IfSome, OnOk, OnErr, IsErr, ◌≤◌, false, true, None, get_or, is_some, replicate};
+ghost use Rattle.std.specs.Prelude.{◌≡◌, ◌%◌, ◌<◌, ◌^◌, ◌+◌, ◌*◌, ◌-◌, ◌++◌, ◌∷◌, [], ◌↔◌, length, min, take, drop, IfNone, IfSome, OnOk, OnErr, IsErr, ◌≤◌, false, true, None, get_or, is_some, replicate, Some};
 ghost use Rattle.rvm_mem.specs.Bytes.{slice};
 ghost use Rattle.rvm_res.specs.Reservations as res;
 ghost use Rattle.rvm_dev.specs.Shared.{restored};
@@ -220,11 +220,23 @@ impl<M: Memory> Bus<M> {
         requires { at % 4 ≡ 0 }
         ensures { result ≡ ram_load 4 (based at) self.now.shared.bytes }
     {
-        if at < self.ram.len() {
+        if self.ram.has(at) {
             Some(self.ram.load32(at))
         } else {
             None
         }
+    }
+
+    /// The word at an aligned offset from RAM's first byte, if it is in RAM. The offset has 64 bits, so that the
+    /// compiler need not narrow it: a host instruction of each step.
+    #[inline(always)]
+    #[tactic(auto, unfolding(crate::specs::Straight::based))]
+    pub(crate) fn fetch(&self, at: u64) -> Option<u32>
+        requires { at % 4 ≡ 0 }
+        ensures word { IfSome result (λ word. ram_load 4 (based at) self.now.shared.bytes ≡ Some word) }
+        ensures none { at < 2 ^ 32 → result ≡ ram_load 4 (based at) self.now.shared.bytes }
+    {
+        self.ram.try_load32(at)
     }
 
     /// The byte at an offset from RAM's first byte, if it is in RAM.
@@ -233,7 +245,7 @@ impl<M: Memory> Bus<M> {
     pub(crate) fn ram_byte(&self, at: u32) -> Option<u8>
         ensures { result ≡ ram_load 1 (based at) self.now.shared.bytes }
     {
-        if at < self.ram.len() {
+        if self.ram.has(at) {
             Some(self.ram.load8(at))
         } else {
             None
@@ -247,7 +259,7 @@ impl<M: Memory> Bus<M> {
         requires { at % 2 ≡ 0 }
         ensures { result ≡ ram_load 2 (based at) self.now.shared.bytes }
     {
-        if at < self.ram.len() {
+        if self.ram.has(at) {
             Some(self.ram.load16(at))
         } else {
             None
@@ -263,7 +275,7 @@ impl<M: Memory> Bus<M> {
         ensures none { IfNone result (self.new ≡ self.old) }
     {
         let at = address.wrapping_sub(RAM_BASE);
-        if at < self.ram.len() {
+        if self.ram.has(at) {
             Some(self.ram.load32(at))
         } else {
             self.devices.load(address)
@@ -313,7 +325,7 @@ impl<M: Memory> Bus<M> {
         ensures bus { self.new ≡ left_by (ram_stored 1 hart (based at) value self.old.shared) self.old }
         ensures stored { result ≡ is_some (ram_stored 1 hart (based at) value self.old.shared) }
     {
-        if at >= self.ram.len() {
+        if !self.ram.has(at) {
             return false;
         }
         self.ram.store8(at, value);
@@ -332,7 +344,7 @@ impl<M: Memory> Bus<M> {
         ensures bus { self.new ≡ left_by (ram_stored 2 hart (based at) value self.old.shared) self.old }
         ensures stored { result ≡ is_some (ram_stored 2 hart (based at) value self.old.shared) }
     {
-        if at >= self.ram.len() {
+        if !self.ram.has(at) {
             return false;
         }
         self.ram.store16(at, value);
@@ -351,7 +363,7 @@ impl<M: Memory> Bus<M> {
         ensures bus { self.new ≡ left_by (ram_stored 4 hart (based at) value self.old.shared) self.old }
         ensures stored { result ≡ is_some (ram_stored 4 hart (based at) value self.old.shared) }
     {
-        if at >= self.ram.len() {
+        if !self.ram.has(at) {
             return false;
         }
         self.ram.store32(at, value);
@@ -370,7 +382,7 @@ impl<M: Memory> Bus<M> {
         ensures wrote { result ≡ wrote_by (word_stored hart address value self.old.shared) }
     {
         let at = address.wrapping_sub(RAM_BASE);
-        if at < self.ram.len() {
+        if self.ram.has(at) {
             self.ram.store32(at, value);
             self.reservations.stored(hart as usize, address);
             Some(Written::Other)

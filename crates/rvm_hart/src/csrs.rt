@@ -11,7 +11,7 @@ ghost use Rattle.rvm_hart.specs.declared.csrs.CsrChange.TheVariants.{Clear, Set,
 use crate::bus::Bus;
 use crate::hart::Hart;
 use crate::outcome::{Stepped, Written};
-use rvm_csr::{Csr, Exception, is_read_only};
+use rvm_csr::{Csr, Exception, Interrupts, is_read_only};
 use rvm_isa::{CsrNo, Imm5, Reg};
 use rvm_mem::Memory;
 
@@ -152,8 +152,21 @@ impl Hart {
         requires { self.now.csrs.hart < length bus.now.shared.devices.msip }
         ensures { result ≡ value_of register (mip_of self.now.csrs.hart bus.now.shared.devices) self.now.csrs }
     {
-        let pending = bus.interrupts(self.csrs.hart());
+        let pending = self.shown_as_pending(register, bus);
         self.csrs.value_of(register, pending)
+    }
+
+    /// The interrupts that a CSR shows as pending. Only mip shows any, so they are looked up for it alone.
+    #[inline(always)]
+    fn shown_as_pending<M: Memory>(&self, register: Csr, bus: &Bus<M>) -> Interrupts
+        requires { self.now.csrs.hart < length bus.now.shared.devices.msip }
+        ensures { value_of register result self.now.csrs
+            ≡ value_of register (mip_of self.now.csrs.hart bus.now.shared.devices) self.now.csrs }
+    {
+        match register {
+            Csr::Mip => bus.interrupts(self.csrs.hart()),
+            _ => Interrupts::from_bits(0),
+        }
     }
 
     /// Puts the old value of a CSR into rd and writes the source to it.

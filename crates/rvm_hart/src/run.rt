@@ -13,7 +13,7 @@ use crate::bus::Bus;
 use crate::hart::Hart;
 use crate::marks::Marks;
 use crate::outcome::Stepped;
-use crate::straight::{address_of, offset_of};
+use crate::straight::address_of;
 use rvm_csr::{Cause, Exception};
 use rvm_mem::Memory;
 
@@ -123,11 +123,10 @@ impl Hart {
         requires devices { self.old.csrs.hart < length bus.old.shared.devices.msip }
         ensures { Executes execute self.old bus.old self.new bus.new result }
     {
-        let pc = self.pc;
-        let at = offset_of(pc);
-        let fetched = bus.ram_word(at);
+        let at = self.offset();
+        let fetched = bus.fetch(at);
         let Some(word) = fetched else {
-            return self.trap(Exception::InstructionAccessFault, pc, bus);
+            return self.trap(Exception::InstructionAccessFault, self.pc, bus);
         };
         if let Some(next) = self.straight::<M, LOOP>(fetched, at, bus) {
             return self.end_straight(next, bus);
@@ -137,7 +136,7 @@ impl Hart {
 
     /// Ends the step of an instruction of the straight path; the hart goes on at offset `next` of RAM.
     #[inline(always)]
-    fn end_straight<M: Memory>(&mut self, next: u32, bus: &mut Bus<M>) -> Stepped
+    fn end_straight<M: Memory>(&mut self, next: u64, bus: &mut Bus<M>) -> Stepped
         requires { next % 4 ≡ 0 }
         ensures machine { machine self.new bus.new
             ≡ after_ticks all_tick (machine (at_pc (based next) self.old) bus.old) }

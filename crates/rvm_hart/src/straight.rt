@@ -131,13 +131,13 @@ impl Hart {
         ensures reservations { length bus.new.shared.reservations ≡ length bus.old.shared.reservations }
     {
         let mut left = count;
-        let mut at = offset_of(self.pc);
+        let mut at = self.offset();
         let mut word = 0;
         while left > 0 {
             if watched && marks.has(address_of(at)) {
                 break;
             }
-            let fetched = bus.ram_word(at);
+            let fetched = bus.fetch(at);
             let Some(next) = self.straight::<M, LOOP>(fetched, at, bus) else {
                 if let Some(fetched) = fetched {
                     word = fetched;
@@ -151,9 +151,19 @@ impl Hart {
         Straight { left, word }
     }
 
+    /// The offset of the current instruction in RAM.
+    #[inline(always)]
+    pub(crate) fn offset(&self) -> u64
+        ensures address { based result ≡ self.now.pc }
+        ensures aligned { result % 4 ≡ 0 }
+        ensures word { result < 2 ^ 32 }
+    {
+        u64::from(offset_of(self.pc))
+    }
+
     /// Puts a value into rd.
     #[inline]
-    fn put<M: Memory>(&mut self, rd: Reg, value: u32, at: u32, bus: &mut Bus<M>) -> Option<u32>
+    fn put<M: Memory>(&mut self, rd: Reg, value: u32, at: u64, bus: &mut Bus<M>) -> Option<u64>
         requires at { at % 4 ≡ 0 }
         requires hart { self.old.csrs.hart < length bus.old.shared.reservations }
         ensures goes { IfSome result (λ next. Goes (done_with rd value) (based at) self.old bus.old (based next) self.new bus.new) }
@@ -177,9 +187,9 @@ impl Hart {
         rd: Reg,
         rs1: Reg,
         rs2: Reg,
-        at: u32,
+        at: u64,
         bus: &mut Bus<M>,
-    ) -> Option<u32>
+    ) -> Option<u64>
         requires at { at % 4 ≡ 0 }
         requires hart { self.old.csrs.hart < length bus.old.shared.reservations }
         ensures goes { IfSome result (λ next. Goes (arithmetic operation rd (reg rs1 self.old) (reg rs2 self.old)) (based at) self.old bus.old (based next) self.new bus.new) }
@@ -201,9 +211,9 @@ impl Hart {
         rd: Reg,
         rs1: Reg,
         imm: Imm12,
-        at: u32,
+        at: u64,
         bus: &mut Bus<M>,
-    ) -> Option<u32>
+    ) -> Option<u64>
         requires at { at % 4 ≡ 0 }
         requires hart { self.old.csrs.hart < length bus.old.shared.reservations }
         ensures goes { IfSome result (λ next. Goes (arithmetic operation rd (reg rs1 self.old) (modulo 32 imm)) (based at) self.old bus.old (based next) self.new bus.new) }
@@ -225,9 +235,9 @@ impl Hart {
         rd: Reg,
         rs1: Reg,
         amount: Shamt,
-        at: u32,
+        at: u64,
         bus: &mut Bus<M>,
-    ) -> Option<u32>
+    ) -> Option<u64>
         requires at { at % 4 ≡ 0 }
         requires hart { self.old.csrs.hart < length bus.old.shared.reservations }
         ensures goes { IfSome result (λ next. Goes (arithmetic operation rd (reg rs1 self.old) amount) (based at) self.old bus.old (based next) self.new bus.new) }
@@ -247,9 +257,9 @@ impl Hart {
         &mut self,
         rd: Reg,
         target: u32,
-        at: u32,
+        at: u64,
         bus: &mut Bus<M>,
-    ) -> Option<u32>
+    ) -> Option<u64>
         requires at { at % 4 ≡ 0 }
         requires hart { self.old.csrs.hart < length bus.old.shared.reservations }
         ensures goes { IfSome result (λ next. Goes (jump rd target) (based at) self.old bus.old (based next) self.new bus.new) }
@@ -265,7 +275,7 @@ impl Hart {
         }
         self.regs[rd.index()] = address_of(at).wrapping_add(4);
         self.regs[0] = 0;
-        Some(offset_of(target))
+        Some(u64::from(offset_of(target)))
     }
 
     /// Jumps by an offset (JAL); none if the target is no multiple of four.
@@ -274,9 +284,9 @@ impl Hart {
         &mut self,
         rd: Reg,
         offset: Off21,
-        at: u32,
+        at: u64,
         bus: &mut Bus<M>,
-    ) -> Option<u32>
+    ) -> Option<u64>
         requires at { at % 4 ≡ 0 }
         requires hart { self.old.csrs.hart < length bus.old.shared.reservations }
         ensures goes { IfSome result (λ next. Goes (jump rd (sum (based at) offset)) (based at) self.old bus.old (based next) self.new bus.new) }
@@ -303,9 +313,9 @@ impl Hart {
         rs1: Reg,
         rs2: Reg,
         offset: Off13,
-        at: u32,
+        at: u64,
         bus: &mut Bus<M>,
-    ) -> Option<u32>
+    ) -> Option<u64>
         requires at { at % 4 ≡ 0 }
         requires hart { self.old.csrs.hart < length bus.old.shared.reservations }
         ensures goes { IfSome result (λ next. Goes (branch (holds comparison (reg rs1 self.old) (reg rs2 self.old)) offset) (based at) self.old bus.old (based next) self.new bus.new) }
@@ -331,9 +341,9 @@ impl Hart {
         &mut self,
         rd: Reg,
         address: u32,
-        at: u32,
+        at: u64,
         bus: &mut Bus<M>,
-    ) -> Option<u32>
+    ) -> Option<u64>
         requires at { at % 4 ≡ 0 }
         requires hart { self.old.csrs.hart < length bus.old.shared.reservations }
         ensures goes { IfSome result (λ next. Goes (load_byte sign_extended_byte rd address) (based at) self.old bus.old (based next) self.new bus.new) }
@@ -356,9 +366,9 @@ impl Hart {
         &mut self,
         rd: Reg,
         address: u32,
-        at: u32,
+        at: u64,
         bus: &mut Bus<M>,
-    ) -> Option<u32>
+    ) -> Option<u64>
         requires at { at % 4 ≡ 0 }
         requires hart { self.old.csrs.hart < length bus.old.shared.reservations }
         ensures goes { IfSome result (λ next. Goes (load_byte zero_extended rd address) (based at) self.old bus.old (based next) self.new bus.new) }
@@ -381,9 +391,9 @@ impl Hart {
         &mut self,
         rd: Reg,
         address: u32,
-        at: u32,
+        at: u64,
         bus: &mut Bus<M>,
-    ) -> Option<u32>
+    ) -> Option<u64>
         requires at { at % 4 ≡ 0 }
         requires hart { self.old.csrs.hart < length bus.old.shared.reservations }
         ensures goes { IfSome result (λ next. Goes (load_half sign_extended_half rd address) (based at) self.old bus.old (based next) self.new bus.new) }
@@ -410,9 +420,9 @@ impl Hart {
         &mut self,
         rd: Reg,
         address: u32,
-        at: u32,
+        at: u64,
         bus: &mut Bus<M>,
-    ) -> Option<u32>
+    ) -> Option<u64>
         requires at { at % 4 ≡ 0 }
         requires hart { self.old.csrs.hart < length bus.old.shared.reservations }
         ensures goes { IfSome result (λ next. Goes (load_half zero_extended rd address) (based at) self.old bus.old (based next) self.new bus.new) }
@@ -439,9 +449,9 @@ impl Hart {
         &mut self,
         rd: Reg,
         address: u32,
-        at: u32,
+        at: u64,
         bus: &mut Bus<M>,
-    ) -> Option<u32>
+    ) -> Option<u64>
         requires at { at % 4 ≡ 0 }
         requires hart { self.old.csrs.hart < length bus.old.shared.reservations }
         ensures goes { IfSome result (λ next. Goes (load_word rd address) (based at) self.old bus.old (based next) self.new bus.new) }
@@ -469,9 +479,9 @@ impl Hart {
         &mut self,
         address: u32,
         value: u32,
-        at: u32,
+        at: u64,
         bus: &mut Bus<M>,
-    ) -> Option<u32>
+    ) -> Option<u64>
         requires at { at % 4 ≡ 0 }
         requires hart { self.old.csrs.hart < length bus.old.shared.reservations }
         ensures goes { IfSome result (λ next. Goes (store_byte address value) (based at) self.old bus.old (based next) self.new bus.new) }
@@ -494,9 +504,9 @@ impl Hart {
         &mut self,
         address: u32,
         value: u32,
-        at: u32,
+        at: u64,
         bus: &mut Bus<M>,
-    ) -> Option<u32>
+    ) -> Option<u64>
         requires at { at % 4 ≡ 0 }
         requires hart { self.old.csrs.hart < length bus.old.shared.reservations }
         ensures goes { IfSome result (λ next. Goes (store_half address value) (based at) self.old bus.old (based next) self.new bus.new) }
@@ -523,9 +533,9 @@ impl Hart {
         &mut self,
         address: u32,
         value: u32,
-        at: u32,
+        at: u64,
         bus: &mut Bus<M>,
-    ) -> Option<u32>
+    ) -> Option<u64>
         requires at { at % 4 ≡ 0 }
         requires hart { self.old.csrs.hart < length bus.old.shared.reservations }
         ensures goes { IfSome result (λ next. Goes (store_word address value) (based at) self.old bus.old (based next) self.new bus.new) }
@@ -554,9 +564,9 @@ impl Hart {
         rs1: Reg,
         rs2: Reg,
         imm: Imm12,
-        at: u32,
+        at: u64,
         bus: &mut Bus<M>,
-    ) -> Option<u32>
+    ) -> Option<u64>
         requires at { at % 4 ≡ 0 }
         requires hart { self.old.csrs.hart < length bus.old.shared.reservations }
         ensures goes { IfSome result (λ next. Goes (store_byte (sum (reg rs1 self.old) imm) (reg rs2 self.old)) (based at) self.old bus.old (based next) self.new bus.new) }
@@ -579,9 +589,9 @@ impl Hart {
         rs1: Reg,
         rs2: Reg,
         imm: Imm12,
-        at: u32,
+        at: u64,
         bus: &mut Bus<M>,
-    ) -> Option<u32>
+    ) -> Option<u64>
         requires at { at % 4 ≡ 0 }
         requires hart { self.old.csrs.hart < length bus.old.shared.reservations }
         ensures goes { IfSome result (λ next. Goes (store_half (sum (reg rs1 self.old) imm) (reg rs2 self.old)) (based at) self.old bus.old (based next) self.new bus.new) }
@@ -604,9 +614,9 @@ impl Hart {
         rs1: Reg,
         rs2: Reg,
         imm: Imm12,
-        at: u32,
+        at: u64,
         bus: &mut Bus<M>,
-    ) -> Option<u32>
+    ) -> Option<u64>
         requires at { at % 4 ≡ 0 }
         requires hart { self.old.csrs.hart < length bus.old.shared.reservations }
         ensures goes { IfSome result (λ next. Goes (store_word (sum (reg rs1 self.old) imm) (reg rs2 self.old)) (based at) self.old bus.old (based next) self.new bus.new) }
@@ -625,7 +635,7 @@ impl Hart {
 
     /// Goes on to the next instruction (FENCE, FENCE.I, WFI).
     #[inline]
-    fn straight_fence<M: Memory>(&mut self, at: u32, bus: &mut Bus<M>) -> Option<u32>
+    fn straight_fence<M: Memory>(&mut self, at: u64, bus: &mut Bus<M>) -> Option<u64>
         requires at { at % 4 ≡ 0 }
         requires hart { self.old.csrs.hart < length bus.old.shared.reservations }
         ensures goes { IfSome result (λ next. Goes (done) (based at) self.old bus.old (based next) self.new bus.new) }
@@ -645,9 +655,9 @@ impl Hart {
         &mut self,
         rd: Reg,
         address: u32,
-        at: u32,
+        at: u64,
         bus: &mut Bus<M>,
-    ) -> Option<u32>
+    ) -> Option<u64>
         requires at { at % 4 ≡ 0 }
         requires hart { self.old.csrs.hart < length bus.old.shared.reservations }
         ensures goes { IfSome result (λ next. Goes (load_reserved rd address) (based at) self.old bus.old (based next) self.new bus.new) }
@@ -679,9 +689,9 @@ impl Hart {
         rd: Reg,
         address: u32,
         value: u32,
-        at: u32,
+        at: u64,
         bus: &mut Bus<M>,
-    ) -> Option<u32>
+    ) -> Option<u64>
         requires at { at % 4 ≡ 0 }
         requires hart { self.old.csrs.hart < length bus.old.shared.reservations }
         ensures goes { IfSome result (λ next. Goes (store_conditional rd address value) (based at) self.old bus.old (based next) self.new bus.new) }
@@ -718,9 +728,9 @@ impl Hart {
         rd: Reg,
         address: u32,
         source: u32,
-        at: u32,
+        at: u64,
         bus: &mut Bus<M>,
-    ) -> Option<u32>
+    ) -> Option<u64>
         requires at { at % 4 ≡ 0 }
         requires hart { self.old.csrs.hart < length bus.old.shared.reservations }
         ensures goes { IfSome result (λ next. Goes (atomic operation rd address source) (based at) self.old bus.old (based next) self.new bus.new) }
@@ -752,9 +762,9 @@ impl Hart {
         rd: Reg,
         rs1: Reg,
         rs2: Reg,
-        at: u32,
+        at: u64,
         bus: &mut Bus<M>,
-    ) -> Option<u32>
+    ) -> Option<u64>
         requires at { at % 4 ≡ 0 }
         requires hart { self.old.csrs.hart < length bus.old.shared.reservations }
         ensures goes { IfSome result (λ next. Goes (atomic operation rd (reg rs1 self.old) (reg rs2 self.old)) (based at) self.old bus.old (based next) self.new bus.new) }
@@ -777,9 +787,9 @@ impl Hart {
         rd: Reg,
         rs1: Reg,
         rs2: Reg,
-        at: u32,
+        at: u64,
         bus: &mut Bus<M>,
-    ) -> Option<u32>
+    ) -> Option<u64>
         requires at { at % 4 ≡ 0 }
         requires hart { self.old.csrs.hart < length bus.old.shared.reservations }
         ensures goes { IfSome result (λ next. Goes (store_conditional rd (reg rs1 self.old) (reg rs2 self.old)) (based at) self.old bus.old (based next) self.new bus.new) }
@@ -803,9 +813,9 @@ impl Hart {
         &mut self,
         word: u32,
         ins: Ins,
-        at: u32,
+        at: u64,
         bus: &mut Bus<M>,
-    ) -> Option<u32>
+    ) -> Option<u64>
         requires at { at % 4 ≡ 0 }
         requires hart { self.old.csrs.hart < length bus.old.shared.reservations }
         ensures goes { IfSome result (λ next. Goes (effect word ins) (based at) self.old bus.old (based next) self.new bus.new) }
@@ -1150,11 +1160,11 @@ impl Hart {
     pub(crate) fn straight<M: Memory, const LOOP: u8>(
         &mut self,
         fetched: Option<u32>,
-        at: u32,
+        at: u64,
         bus: &mut Bus<M>,
-    ) -> Option<u32>
+    ) -> Option<u64>
         requires at { at % 4 ≡ 0 }
-        requires fetched { fetched ≡ ram_load 4 (based at) bus.old.shared.bytes }
+        requires fetched { IfSome fetched (λ word. ram_load 4 (based at) bus.old.shared.bytes ≡ Some word) }
         requires hart { self.old.csrs.hart < length bus.old.shared.reservations }
         ensures goes { IfSome result (λ next. Goes (execute) (based at) self.old bus.old (based next) self.new bus.new) }
         ensures stays { IfSome result (λ next. is_straight (machine (at_pc (based at) self.old) bus.old) ≡ true) }
@@ -1175,14 +1185,14 @@ impl Hart {
     }
 }
 
-/// The address of an offset in RAM.
+/// The address of an offset in RAM, modulo 2 ^ 32.
 #[inline(always)]
 #[tactic(auto, unfolding(crate::specs::Straight::based))]
-pub(crate) fn address_of(at: u32) -> u32
+pub(crate) fn address_of(at: u64) -> u32
     ensures address { result ≡ based at }
     ensures aligned { at % 4 ≡ 0 → result % 4 ≡ 0 }
 {
-    at.wrapping_add(RAM_BASE)
+    ((at & 0xFFFF_FFFF) as u32).wrapping_add(RAM_BASE)
 }
 
 /// The offset of an address from RAM's first byte, modulo 2 ^ 32.
@@ -1198,7 +1208,7 @@ pub(crate) fn offset_of(address: u32) -> u32
 /// The offset of the next instruction.
 #[inline(always)]
 #[tactic(auto, unfolding(crate::specs::Straight::based))]
-fn next_of(at: u32) -> u32
+fn next_of(at: u64) -> u64
     ensures address { based result ≡ (based at + 4) % 2 ^ 32 }
     ensures aligned { at % 4 ≡ 0 → result % 4 ≡ 0 }
 {
@@ -1209,13 +1219,13 @@ fn next_of(at: u32) -> u32
 /// need not keep both.
 #[inline(always)]
 #[tactic(auto, using(crate::proofs::Places::moved, crate::proofs::Places::moved_to_four), unfolding(crate::specs::Straight::based))]
-fn moved(at: u32, offset: i32) -> Option<u32>
+fn moved(at: u64, offset: i32) -> Option<u64>
     requires { at % 4 ≡ 0 }
     ensures address { IfSome result (λ next. based next ≡ sum (based at) offset) }
     ensures target { IfSome result (λ next. sum (based at) offset % 4 ≡ 0) }
     ensures aligned { IfSome result (λ next. next % 4 ≡ 0) }
 {
-    let by = offset.cast_unsigned();
+    let by = i64::from(offset).cast_unsigned();
     if by % 4 != 0 {
         return None;
     }

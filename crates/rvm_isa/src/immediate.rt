@@ -116,6 +116,17 @@ impl Off13 {
         Off13((bits << 19).cast_signed() >> 19)
     }
 
+    /// The offset that a word holds, sign-extended.
+    #[inline(always)]
+    #[tactic(auto, using(rvm_word::proofs::Casts::casts))]
+    pub(crate) fn of_word(word: u32) -> Off13
+        requires in_range { FitsSignedBits 13 (signed word) }
+        requires even { IsEven (signed word) }
+        ensures { result ≡ signed word }
+    {
+        Off13(word.cast_signed())
+    }
+
     /// The number.
     #[inline(always)]
     pub fn value(self) -> i32

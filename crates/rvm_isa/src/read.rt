@@ -7,6 +7,7 @@ ghost use Rattle.rvm_isa.specs.Fields as fields;
 
 use crate::field::{CsrNo, Imm5, Imm20, Reg, Shamt};
 use crate::immediate::{Imm12, Off13, Off21};
+use rvm_word::sra;
 
 /// The destination register, bits 11 to 7.
 #[inline(always)]
@@ -82,19 +83,17 @@ pub fn s_imm(word: u32) -> Imm12
     Imm12::from_bits(((word >> 7 & 0x1F) << 20 | word >> 25 << 25) >> 20)
 }
 
-/// The offset of a branch, of the B format, in bytes.
+/// The offset of a branch, of the B format, in bytes. The sign and bits 10 to 5 of it stand together in the word, so one
+/// shift brings them to their place.
 #[inline(always)]
+#[tactic(auto, using(crate::proofs::Offsets::offsets))]
 pub fn b_offset(word: u32) -> Off13
     ensures value { result ≡ fields.b_offset word }
     ensures bits { modulo 13 result ≡ fields.b_bits word }
 {
-    Off13::from_bits(
-        ((word >> 8 & 0xF) << 20
-            | (word >> 25 & 0x3F) << 24
-            | (word >> 7 & 1) << 30
-            | word >> 31 << 31)
-            >> 19,
-    )
+    let top = sra(word, 20) & 0xFFFF_F7E0;
+    let low = (word >> 7 & 0x1E) + ((word & 0x80) << 4);
+    Off13::of_word(top + low)
 }
 
 /// The offset of a jump, of the J format, in bytes.

@@ -1,6 +1,6 @@
 //! What a guest's memory promises.
 
-ghost use Rattle.std.specs.Prelude.{◌≡◌, ℕ, ◌+◌, ◌*◌, ◌/◌, ◌%◌, ◌^◌, ◌≤◌, List, Bool, length};
+ghost use Rattle.std.specs.Prelude.{◌≡◌, ℕ, ◌+◌, ◌*◌, ◌/◌, ◌%◌, ◌^◌, ◌≤◌, List, Bool, IfNone, IfSome, length, nat_lt};
 ghost use Rattle.rvm_mem.specs.Bytes.{load, replaced, store};
 ghost use Rattle.rvm_mem.specs.Pages.{byte_pages, mark, mark_all};
 
@@ -29,6 +29,20 @@ pub trait Memory {
         ensures length { result ≡ length (bytes self.now) }
         ensures pages { result ≡ 4096 * length (dirty self.now) }
         ensures bound { result ≤ 2 ^ 24 };
+
+    /// Whether there is a byte at a place.
+    fn has(&self, at: u32) -> bool
+        ensures has { result ≡ nat_lt at (length (bytes self.now)) }
+        ensures pages { length (bytes self.now) ≡ 4096 * length (dirty self.now) }
+        ensures bound { length (bytes self.now) ≤ 2 ^ 24 };
+
+    /// The number in the four bytes at a place of 64 bits, or none if the place is past the end.
+    fn try_load32(&self, at: u64) -> Option<u32>
+        requires aligned { at % 4 ≡ 0 }
+        ensures inside { IfSome result (λ n. at + 4 ≤ length (bytes self.now)) }
+        ensures number { IfSome result (λ n. n ≡ load 4 at (bytes self.now)) }
+        ensures outside { IfNone result (length (bytes self.now) ≤ at) }
+        ensures bound { length (bytes self.now) ≤ 2 ^ 24 };
 
     /// The byte at a place.
     fn load8(&self, at: u32) -> u8

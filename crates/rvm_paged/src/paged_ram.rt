@@ -82,6 +82,21 @@ impl Memory for PagedRam {
         self.bytes.len() as u32
     }
 
+    // The log's length says it: with that of the bytes, both of a fetch and of a load in one step, the compiler would
+    // keep it in a register, and a step would take a host instruction more.
+    #[inline(always)]
+    fn has(&self, at: u32) -> bool {
+        at / PAGE_SIZE < self.dirty.pages()
+    }
+
+    #[inline(always)]
+    fn try_load32(&self, at: u64) -> Option<u32> {
+        if at >= self.bytes.len() as u64 {
+            return None;
+        }
+        Some(LittleEndian::read_u32(&self.bytes[at as usize..]))
+    }
+
     #[inline(always)]
     fn load8(&self, at: u32) -> u8 {
         self.bytes[at as usize]
@@ -99,20 +114,20 @@ impl Memory for PagedRam {
 
     #[inline(always)]
     fn store8(&mut self, at: u32, value: u8) {
-        self.dirty.insert(at / PAGE_SIZE);
         self.bytes[at as usize] = value;
+        self.dirty.insert(at / PAGE_SIZE);
     }
 
     #[inline(always)]
     fn store16(&mut self, at: u32, value: u16) {
-        self.dirty.insert(at / PAGE_SIZE);
         block::put16(&mut self.bytes, at as usize, value);
+        self.dirty.insert(at / PAGE_SIZE);
     }
 
     #[inline(always)]
     fn store32(&mut self, at: u32, value: u32) {
-        self.dirty.insert(at / PAGE_SIZE);
         block::put32(&mut self.bytes, at as usize, value);
+        self.dirty.insert(at / PAGE_SIZE);
     }
 
     fn store_bytes(&mut self, at: u32, from: &[u8]) {
