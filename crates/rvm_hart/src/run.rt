@@ -15,6 +15,7 @@ use crate::marks::Marks;
 use crate::outcome::Stepped;
 use crate::straight::address_of;
 use rvm_csr::{Cause, Exception};
+use rvm_isa::Decoder;
 use rvm_mem::Memory;
 
 /// How consecutive steps ended.
@@ -128,7 +129,7 @@ impl Hart {
         let Some(word) = fetched else {
             return self.trap(Exception::InstructionAccessFault, self.pc, bus);
         };
-        if let Some(next) = self.straight::<M, LOOP>(fetched, at, bus) {
+        if let Some(next) = self.straight::<M, LOOP>(Decoder::new(0), fetched, at, bus) {
             return self.end_straight(next, bus);
         }
         self.execute_word(word, bus)

@@ -19,7 +19,7 @@ use crate::bus::{Bus, RAM_BASE};
 use crate::hart::Hart;
 use crate::jumps::Comparison;
 use crate::marks::Marks;
-use rvm_isa::{Imm12, Ins, Off13, Off21, Reg, Shamt, decode_straight};
+use rvm_isa::{Decoder, Imm12, Ins, Off13, Off21, Reg, Shamt};
 use rvm_mem::Memory;
 use rvm_word::{add_signed, sext};
 
@@ -131,6 +131,7 @@ impl Hart {
         ensures reservations { length bus.new.shared.reservations ≡ length bus.old.shared.reservations }
     {
         let mut left = count;
+        let decoder = Decoder::new(self.regs[0]);
         let mut at = self.offset();
         let mut word = 0;
         while left > 0 {
@@ -138,7 +139,7 @@ impl Hart {
                 break;
             }
             let fetched = bus.fetch(at);
-            let Some(next) = self.straight::<M, LOOP>(fetched, at, bus) else {
+            let Some(next) = self.straight::<M, LOOP>(decoder, fetched, at, bus) else {
                 if let Some(fetched) = fetched {
                     word = fetched;
                 }
@@ -1159,6 +1160,7 @@ impl Hart {
     #[inline(always)]
     pub(crate) fn straight<M: Memory, const LOOP: u8>(
         &mut self,
+        decoder: Decoder,
         fetched: Option<u32>,
         at: u64,
         bus: &mut Bus<M>,
@@ -1178,7 +1180,7 @@ impl Hart {
         let Some(word) = fetched else {
             return None;
         };
-        let Some(ins) = decode_straight(word) else {
+        let Some(ins) = decoder.decode(word) else {
             return None;
         };
         self.apply_straight::<M, LOOP>(word, ins, at, bus)

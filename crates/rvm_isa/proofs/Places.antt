@@ -1,5 +1,5 @@
 -- The place of a word's kind, and what lies there.
-use Rattle.std.proofs.Common.{◌≡◌, ℕ, zero, suc, ◌+◌, ◌*◌, ◌/◌, ◌%◌, ◌^◌, Bool, true, ◌&&◌, eqb, List, [], ◌∷◌, get_or, bit_and, refl, subst, arith}
+use Rattle.std.proofs.Common.{◌≡◌, ℕ, zero, suc, ◌+◌, ◌*◌, ◌/◌, ◌%◌, ◌^◌, Bool, true, ◌&&◌, eqb, List, [], ◌∷◌, get_or, length, bit_and, refl, subst, arith}
 use Rattle.std.proofs.lemmas.Bool.Decides.{nat_tests}
 use Rattle.rvm_isa.proofs.Rows.{mask_707F}
 use Rattle.rvm_isa.specs.Fields.{opcode, funct3}
@@ -116,6 +116,10 @@ in_place p (suc i) (k ∷ ks) e =
 kinds_fit : all_fit 0 kinds ≡ true
 unfolding kinds
 kinds_fit = refl
+
+pub kinds_length : length kinds ≡ 1024
+unfolding kinds
+kinds_length = refl
 
 -- the kind in the place of a word
 pub kind_at : (w p : ℕ) → p ≡ 8 * opcode w + funct3 w → Fits (get_or kinds p kind.Other) (opcode w) (funct3 w)

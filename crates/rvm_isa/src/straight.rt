@@ -192,62 +192,81 @@ fn table() -> &'static [Kind; 1024]
     &KINDS
 }
 
-/// The kind of a word.
-#[inline(always)]
-#[tactic(auto, using(crate::proofs::Places::kind_at))]
-fn kind_of(word: u32) -> Kind
-    ensures { Fits result (opcode word) (funct3 word) }
-{
-    let place = place(word);
-    table()[place as usize]
+/// The decoder of rows that reach registers, RAM and reservations alone.
+#[derive(Clone, Copy)]
+pub struct Decoder {
+    table: &'static [Kind],
+    ghost whole: { table.now ≡ kinds },
 }
 
-/// Decodes a word whose row reaches registers, RAM and reservations alone; none if it has no such row.
-#[inline(always)]
-#[tactic(auto, using(crate::proofs::Rows::opcodes), unfolding(crate::specs::Table::table, crate::specs::Opcodes::with_opcode))]
-pub fn decode_straight(word: u32) -> Option<Ins>
-    ensures { IfSome result (λ i. decoded word ≡ Some i) }
-{
-    match kind_of(word) {
-        Kind::Lui => ins!(U Lui word),
-        Kind::Auipc => ins!(U Auipc word),
-        Kind::Jal => ins!(J Jal word),
-        Kind::Jalr => ins!(I Jalr word),
-        Kind::Beq => ins!(B Beq word),
-        Kind::Bne => ins!(B Bne word),
-        Kind::Blt => ins!(B Blt word),
-        Kind::Bge => ins!(B Bge word),
-        Kind::Bltu => ins!(B Bltu word),
-        Kind::Bgeu => ins!(B Bgeu word),
-        Kind::Lb => ins!(I Lb word),
-        Kind::Lh => ins!(I Lh word),
-        Kind::Lw => ins!(I Lw word),
-        Kind::Lbu => ins!(I Lbu word),
-        Kind::Lhu => ins!(I Lhu word),
-        Kind::Sb => ins!(S Sb word),
-        Kind::Sh => ins!(S Sh word),
-        Kind::Sw => ins!(S Sw word),
-        Kind::Addi => ins!(I Addi word),
-        Kind::Slli => by_funct7!(Shift word 0x00 Slli),
-        Kind::Slti => ins!(I Slti word),
-        Kind::Sltiu => ins!(I Sltiu word),
-        Kind::Xori => ins!(I Xori word),
-        Kind::ShiftRightI => by_funct7!(Shift word 0x00 Srli 0x20 Srai),
-        Kind::Ori => ins!(I Ori word),
-        Kind::Andi => ins!(I Andi word),
-        Kind::Add => by_funct7!(R word 0x00 Add 0x20 Sub 0x01 Mul),
-        Kind::Sll => by_funct7!(R word 0x00 Sll 0x01 Mulh),
-        Kind::Slt => by_funct7!(R word 0x00 Slt 0x01 Mulhsu),
-        Kind::Sltu => by_funct7!(R word 0x00 Sltu 0x01 Mulhu),
-        Kind::Xor => by_funct7!(R word 0x00 Xor 0x01 Div),
-        Kind::ShiftRight => by_funct7!(R word 0x00 Srl 0x20 Sra 0x01 Divu),
-        Kind::Or => by_funct7!(R word 0x00 Or 0x01 Rem),
-        Kind::And => by_funct7!(R word 0x00 And 0x01 Remu),
-        Kind::Fence => ins!(I Fence word),
-        Kind::FenceI => ins!(I FenceI word),
-        Kind::Amo => amo(word),
-        Kind::System => if word == WFI { Some(Ins::Wfi) } else { None },
-        Kind::Other => None,
+impl Decoder {
+    /// A decoder for many words. `zero` is a 0 that the compiler does not know, as the content of x0: the table is then
+    /// a value that stays in a register, where the address of a constant would be made anew at each word.
+    #[inline(always)]
+    pub fn new(zero: u32) -> Decoder
+        requires { zero ≡ 0 }
+    {
+        let table: &'static [Kind] = if zero == 0 { table() } else { &[] };
+        Decoder { table }
+    }
+
+    /// The kind of a word.
+    #[inline(always)]
+    #[tactic(auto, using(crate::proofs::Places::kind_at, crate::proofs::Places::kinds_length))]
+    fn kind_of(self, word: u32) -> Kind
+        ensures { Fits result (opcode word) (funct3 word) }
+    {
+        let place = place(word);
+        self.table[place as usize]
+    }
+
+    /// Decodes a word whose row reaches registers, RAM and reservations alone; none if it has no such row.
+    #[inline(always)]
+    #[tactic(auto, using(crate::proofs::Rows::opcodes), unfolding(crate::specs::Table::table, crate::specs::Opcodes::with_opcode))]
+    pub fn decode(self, word: u32) -> Option<Ins>
+        ensures { IfSome result (λ i. decoded word ≡ Some i) }
+    {
+        match self.kind_of(word) {
+            Kind::Lui => ins!(U Lui word),
+            Kind::Auipc => ins!(U Auipc word),
+            Kind::Jal => ins!(J Jal word),
+            Kind::Jalr => ins!(I Jalr word),
+            Kind::Beq => ins!(B Beq word),
+            Kind::Bne => ins!(B Bne word),
+            Kind::Blt => ins!(B Blt word),
+            Kind::Bge => ins!(B Bge word),
+            Kind::Bltu => ins!(B Bltu word),
+            Kind::Bgeu => ins!(B Bgeu word),
+            Kind::Lb => ins!(I Lb word),
+            Kind::Lh => ins!(I Lh word),
+            Kind::Lw => ins!(I Lw word),
+            Kind::Lbu => ins!(I Lbu word),
+            Kind::Lhu => ins!(I Lhu word),
+            Kind::Sb => ins!(S Sb word),
+            Kind::Sh => ins!(S Sh word),
+            Kind::Sw => ins!(S Sw word),
+            Kind::Addi => ins!(I Addi word),
+            Kind::Slli => by_funct7!(Shift word 0x00 Slli),
+            Kind::Slti => ins!(I Slti word),
+            Kind::Sltiu => ins!(I Sltiu word),
+            Kind::Xori => ins!(I Xori word),
+            Kind::ShiftRightI => by_funct7!(Shift word 0x00 Srli 0x20 Srai),
+            Kind::Ori => ins!(I Ori word),
+            Kind::Andi => ins!(I Andi word),
+            Kind::Add => by_funct7!(R word 0x00 Add 0x20 Sub 0x01 Mul),
+            Kind::Sll => by_funct7!(R word 0x00 Sll 0x01 Mulh),
+            Kind::Slt => by_funct7!(R word 0x00 Slt 0x01 Mulhsu),
+            Kind::Sltu => by_funct7!(R word 0x00 Sltu 0x01 Mulhu),
+            Kind::Xor => by_funct7!(R word 0x00 Xor 0x01 Div),
+            Kind::ShiftRight => by_funct7!(R word 0x00 Srl 0x20 Sra 0x01 Divu),
+            Kind::Or => by_funct7!(R word 0x00 Or 0x01 Rem),
+            Kind::And => by_funct7!(R word 0x00 And 0x01 Remu),
+            Kind::Fence => ins!(I Fence word),
+            Kind::FenceI => ins!(I FenceI word),
+            Kind::Amo => amo(word),
+            Kind::System => if word == WFI { Some(Ins::Wfi) } else { None },
+            Kind::Other => None,
+        }
     }
 }
 
