@@ -14,7 +14,7 @@ use Rattle.rvm_hart.specs.Frozen.{risen_by}
 use Rattle.rvm_hart.specs.Machine.{BusState, HartState, Machine, number_of, shape, with_devices}
 use Rattle.rvm_hart.specs.Step.{After, step}
 use Rattle.rvm_hart.specs.Straight.{IsQuiet, at_time, is_retired, risen, timed}
-use Rattle.rvm_hart.proofs.Strides.{Strides, strides_shape}
+use Rattle.rvm_hart.proofs.Strides.{Strides}
 use Rattle.rvm_board.specs.Board.{Board, BoardState, IsBoard, hart_at, machine_at, new_hart, with_machine}
 use Rattle.rvm_board.specs.declared.event.BoardReply.TheVariants as reply
 use Rattle.rvm_board.specs.declared.turns.Order.TheVariants.{RoundRobin}
@@ -22,7 +22,7 @@ use Rattle.rvm_board.specs.declared.turns.Stop.{Stop}
 use Rattle.rvm_board.specs.declared.turns.Turns.{Turns}
 use Rattle.rvm_board.specs.Guest.{Guest, GuestState, fresh}
 use Rattle.rvm_board.specs.Events.{Answered, steps, with_board}
-use Rattle.rvm_board.specs.Rounds.{AreQuiet, guest_on, risen_after, risen_board, risen_up_to, share}
+use Rattle.rvm_board.specs.Rounds.{AreQuiet, GoOn, Striding, guest_on, risen_after, risen_board, risen_up_to, share}
 use Rattle.rvm_board.specs.Turns.{AfterTurns, TakesTurns, after_turns, behind, next_hart, stop_in, unless_stopped}
 use Rattle.rvm_board.proofs.Boards.{machine_is_board}
 use Rattle.rvm_board.proofs.Going.{put_same, retired_turn}
@@ -125,16 +125,6 @@ one_after harts k h g0 old mid new pages size below took turn marked =
       stop = sym (ap (λ (a : AfterTurns). a.stop) all);
     }
 
--- of at most `count` turns some were made, but no counter rose
-pub record Striding (count first : ℕ) (old : BoardState) (left hart : ℕ) (now : BoardState) : Type 0 where
-  pub few : left ≤ count
-  pub size : length now.plain.harts ≡ length old.plain.harts
-  pub place : hart ≡ (first + (count - left)) % length old.plain.harts
-  pub board : IsBoard now.plain
-  pub on : now.plain.shared.devices.halted ≡ None
-  pub quiet : AreQuiet count now.plain
-  pub took : TakesTurns (after_turns RoundRobin (count - left) first (fresh old.plain)) (guest_on old) (guest_on (record { plain = risen_after first (count - left) now.plain; dirty = now.dirty })) (record { made = count - left; stop = None })
-
 -- of no turns, nothing is left to rise
 pub nothing_risen : (first : ℕ) (b : Board) → first < length b.harts → risen_after first 0 b ≡ b
 nothing_risen first b inside =
@@ -150,6 +140,7 @@ pub begins : (count first : ℕ) (b : BoardState) → first < length b.plain.har
 begins count first b inside board on quiet =
     let zero_made : count - count ≡ 0 = omega arith in
     record {
+      inside = inside;
       few = omega arith;
       size = refl;
       place = sym (mod-eq_of_lt inside) ∙ ap (λ i. i % length b.plain.harts) (omega (arith, zero_made));
@@ -165,9 +156,10 @@ next_place : (harts first k : ℕ) → ((first + k) % harts + 1) % harts ≡ (fi
 next_place harts first k = mod-add-mod (first + k) harts 1 ∙ ap (λ i. i % harts) (omega arith)
 
 -- one turn more
-pub strides_on : (count first left left' hart hart' : ℕ) (old now new : BoardState) (x : Machine) → Striding count first old left hart now → 0 < left → left' ≡ left - 1 → hart' ≡ next_hart RoundRobin (length old.plain.harts) hart → first < length old.plain.harts
+pub strides_on : (count first left left' hart hart' : ℕ) (old now new : BoardState) (x : Machine) → Striding count first old left hart now → 0 < left → left' ≡ left - 1 → hart' ≡ next_hart RoundRobin (length old.plain.harts) hart
     → Strides (machine_at hart now.plain) x now.dirty new.dirty → new.plain ≡ with_machine hart x now.plain → Striding count first old left' hart' new
-strides_on count first left left' hart hart' old now new x so some less next below made put =
+strides_on count first left left' hart hart' old now new x so some less next made put =
+    let below : first < length old.plain.harts = so.inside in
     let n : ℕ = count - left in
     let b : Board = now.plain in
     let harts : ℕ = length b.harts in
@@ -188,16 +180,39 @@ strides_on count first left left' hart hart' old now new x so some less next bel
     let took : TakesTurns (after_turns RoundRobin (suc n) first (fresh old.plain)) (guest_on old) last (record { made = suc n; stop = None }) =
     one_after (length old.plain.harts) n first (fresh old.plain) (guest_on old) mid last made.pages refl below so.took
     (ap (λ i. steps i mid.guest) (sym so.place) ∙ turn ∙ ap (λ (y : Board). record { guest = fresh (risen_after first (suc n) y); pages = made.pages; reply = reply.Retired }) (sym put)) made.dirty in
-    let all_now : pending (mip_of (number_of (machine_at hart b)) b.shared.devices) (hart_at hart b).csrs ≡ None = so.quiet hart inside 0 (omega (arith, some, so.few)) in
     record {
+      inside = so.inside;
       few = omega (arith, so.few, less);
       size = ap (λ (y : Board). length y.harts) put ∙ long ∙ so.size;
       place = next ∙ ap (λ i. (i + 1) % length old.plain.harts) so.place ∙ next_place (length old.plain.harts) first n ∙ ap (λ i. (first + i) % length old.plain.harts) one;
-      board = subst IsBoard (sym put) (machine_is_board b hart x (strides_shape made so.on all_now) so.board inside);
+      board = subst IsBoard (sym put) (machine_is_board b hart x made.sizes so.board inside);
       on = ap (λ (y : Board). y.shared.devices.halted) put ∙ ap (λ (d : DeviceState). d.halted) made.devices ∙ so.on;
       quiet = subst (AreQuiet count) (sym put) (quiet_put count hart x b inside made.csrs made.devices so.quiet);
       took = subst (λ i. TakesTurns (after_turns RoundRobin i first (fresh old.plain)) (guest_on old) (guest_on (record { plain = risen_after first i new.plain; dirty = new.dirty })) (record { made = i; stop = None })) one took;
     }
+
+-- ROWS
+
+pub row_begins : (h : ℕ) (b : BoardState) → GoOn h h b b
+row_begins h b = λ count from left begun enough so. subst (λ i. Striding count from begun i (h % length b.plain.harts) b) (omega arith) so
+
+pub row_goes_on : (first h : ℕ) (old now new : BoardState) (x : Machine) → GoOn first h old now → first ≤ h → h < length now.plain.harts → length now.plain.harts ≡ length old.plain.harts
+    → Strides (machine_at h now.plain) x now.dirty new.dirty → new.plain ≡ with_machine h x now.plain → GoOn first (h + 1) old new
+row_goes_on first h old now new x go above inside size made put = λ count from left begun enough so.
+    let harts : ℕ = length old.plain.harts in
+    let so_far : Striding count from begun (left - (h - first)) (h % harts) now = go count from left begun (omega (arith, enough, above)) so in
+    let same : h ≡ h % harts = sym (mod-eq_of_lt (omega (arith, inside, size))) in
+    let next : (h + 1) % harts ≡ (h % harts + 1) % length begun.plain.harts = sym (mod-add-mod h harts 1) ∙ ap (λ l. (h % harts + 1) % l) so.size in
+    strides_on count from (left - (h - first)) (left - (h + 1 - first)) (h % harts) ((h + 1) % harts) begun now new x so_far (omega (arith, enough, above)) (omega (arith, enough, above)) next
+    (subst (λ i. Strides (machine_at i now.plain) x now.dirty new.dirty) same made) (put ∙ ap (λ i. with_machine i x now.plain) same)
+
+-- a row, and the turns before it
+pub after_row : (count from left left' h next hart' : ℕ) (begun old new : BoardState) → GoOn h next old new → Striding count from begun left h old → h < length old.plain.harts → next - h ≤ left → left' ≡ left - (next - h) → hart' ≡ next % length old.plain.harts
+    → Striding count from begun left' hart' new
+after_row count from left left' h next hart' begun old new go so inside enough less place =
+    subst (λ i. Striding count from begun i hart' new) (sym less)
+    (subst (λ i. Striding count from begun (left - (next - h)) i new) (sym place)
+    (go count from left begun enough (subst (λ i. Striding count from begun left i old) (sym (mod-eq_of_lt inside)) so)))
 
 -- BOARDS
 

@@ -5,12 +5,11 @@ ghost use Rattle.rvm_hart.specs.Machine.{with_devices};
 ghost use Rattle.rvm_hart.specs.Straight.{at_time, risen};
 ghost use Rattle.rvm_board.specs.Board.{IsBoard};
 ghost use Rattle.rvm_board.specs.Guest.{fresh};
-ghost use Rattle.rvm_board.specs.Rounds.{AreQuiet, guest_on, risen_after, risen_up_to, share};
+ghost use Rattle.rvm_board.specs.Rounds.{AreQuiet, GoOn, board_of, guest_on, risen_after, risen_up_to, share};
 ghost use Rattle.rvm_board.specs.Turns.{TakesTurns, after_turns};
 ghost use Rattle.rvm_board.specs.declared.turns.Order.TheVariants.{RoundRobin};
 
 use crate::board::Board;
-use crate::turns::Order;
 use rvm_hart::{Bus, Hart};
 use rvm_mem::Memory;
 
@@ -62,8 +61,8 @@ fn turns_of_all<M: Memory, const LOOP: u8>(
     ensures size { length harts.new ≡ length harts.old }
     ensures turns { TakesTurns
         (after_turns RoundRobin (count - result.left) first (fresh (record { harts = harts.old; shared = bus.old.shared })))
-        (guest_on (record { plain = record { harts = harts.old; shared = bus.old.shared }; dirty = bus.old.dirty }))
-        (guest_on (record { plain = record { harts = harts.new; shared = bus.new.shared }; dirty = bus.new.dirty }))
+        (guest_on (board_of harts.old bus.old))
+        (guest_on (board_of harts.new bus.new))
         (record { made = count - result.left; stop = None }) }
 {
     if bus.halted().is_some() {
@@ -117,7 +116,7 @@ fn rows_in_turn<M: Memory, const LOOP: u8>(
     ensures size { length harts.new ≡ length harts.old }
     ensures turns { TakesTurns
         (after_turns RoundRobin (count - result.left) first (fresh (record { harts = harts.old; shared = bus.old.shared })))
-        (guest_on (record { plain = record { harts = harts.old; shared = bus.old.shared }; dirty = bus.old.dirty }))
+        (guest_on (board_of harts.old bus.old))
         (guest_on (record { plain = risen_after first (count - result.left) (record { harts = harts.new; shared = bus.new.shared }); dirty = bus.new.dirty }))
         (record { made = count - result.left; stop = None }) }
 {
@@ -125,14 +124,55 @@ fn rows_in_turn<M: Memory, const LOOP: u8>(
     let mut hart = first;
     let mut left = count;
     while left > 0 {
-        let running = &mut harts[hart as usize];
-        if !running.row_straight::<M, LOOP>(bus) {
+        let end = hart + left.min(number - hart);
+        let next = row_of_harts::<M, LOOP>(harts, bus, hart, end);
+        left -= next - hart;
+        hart = hart_at_place(next, number);
+        if next < end {
             return Rounds { left, hart };
         }
-        hart = Order::RoundRobin.next(hart, number);
-        left -= 1;
     }
     Rounds { left, hart }
+}
+
+/// Runs one instruction of the path of each hart from `first` to the one before `end`. Ends early before one that
+/// leaves the path. No counter rises. Returns the number after that of the last hart that ran one.
+#[inline(always)]
+fn row_of_harts<M: Memory, const LOOP: u8>(
+    harts: &mut [Hart],
+    bus: &mut Bus<M>,
+    first: u32,
+    end: u32,
+) -> u32
+    requires first { first ≤ end }
+    requires end { end ≤ length harts.old }
+    requires board { IsBoard (board_of harts.old bus.old).plain }
+    ensures first { first ≤ result }
+    ensures end { result ≤ end }
+    ensures size { length harts.new ≡ length harts.old }
+    ensures board { IsBoard (board_of harts.new bus.new).plain }
+    ensures turns { GoOn first result (board_of harts.old bus.old) (board_of harts.new bus.new) }
+{
+    let mut hart = first;
+    while hart < end {
+        let running = &mut harts[hart as usize];
+        if !running.row_straight::<M, LOOP>(bus) {
+            return hart;
+        }
+        hart += 1;
+    }
+    hart
+}
+
+/// The hart with this number; hart 0 comes after the last one.
+#[inline(always)]
+fn hart_at_place(place: u32, harts: u32) -> u32
+    requires some { 0 < harts }
+    requires within { place ≤ harts }
+    ensures hart { result ≡ place % harts }
+    ensures inside { result < harts }
+{
+    if place == harts { 0 } else { place }
 }
 
 /// Raises the counters of each hart by its number of turns, if `made` turns were made and hart `first` had the first,

@@ -39,6 +39,8 @@ pub(crate) const IN_RETIRING: u8 = 5;
 
 pub(crate) const IN_RETIRING_ROUNDS: u8 = 6;
 
+const IN_STRAIGHT_ROUNDS: u8 = 7;
+
 /// Which hart has the next turn.
 #[derive(Clone, Copy, Debug, PartialEq, Eq)]
 pub enum Order {
@@ -217,7 +219,7 @@ impl<M: Memory> Debugged<M> {
     }
 
     /// Makes turns of the harts in their order, none of which can stop: all before one that leaves the straight path,
-    /// then that one, and so on.
+    /// then that one and those up to the last hart, and so on.
     #[inline(never)]
     fn turns_in_rounds(&mut self, first: u32, count: u32) -> Ended
         requires first { first < length self.old.guest.board.harts }
@@ -231,22 +233,47 @@ impl<M: Memory> Debugged<M> {
         let mut hart = first;
         let mut left = count;
         while left > 0 {
-            let rounds = self.straight_rounds::<IN_ROUNDS>(hart, left);
+            let rounds = self.straight_rounds::<IN_STRAIGHT_ROUNDS>(hart, left);
             left = rounds.left;
-            if left == 0 {
+            let turns = left.min(harts - rounds.hart);
+            left -= turns;
+            let ended = self.turns_in_a_row(rounds.hart, rounds.hart + turns);
+            if ended.stop.is_some() {
                 return Ended {
-                    left: 0,
-                    stop: None,
+                    left: left + ended.left,
+                    stop: ended.stop,
                 };
             }
-            left -= 1;
-            if let Some(stop) = stop_of(0, Some(self.step_on(rounds.hart))) {
+            hart = 0;
+        }
+        Ended {
+            left: 0,
+            stop: None,
+        }
+    }
+
+    /// Makes one turn of each hart from `first` to the one before `end`, none of which can stop.
+    #[inline(always)]
+    fn turns_in_a_row(&mut self, first: u32, end: u32) -> Ended
+        requires first { first ≤ end }
+        requires end { end ≤ length self.old.guest.board.harts }
+        requires breakpoints { self.old.guest.breakpoints ≡ [] }
+        requires stopped { list_any (λ s. s) self.old.guest.stopped ≡ false }
+        ensures turns { TakesTurns (after_turns RoundRobin (end - first) first self.old.guest) self.old self.new
+            (record { made = end - first - result.left; stop = result.stop }) }
+        ensures left { result.left ≤ end - first }
+        ensures breakpoints { self.new.guest.breakpoints ≡ self.old.guest.breakpoints }
+        ensures stopped { self.new.guest.stopped ≡ self.old.guest.stopped }
+    {
+        let mut hart = first;
+        while hart < end {
+            if let Some(stop) = stop_of(0, Some(self.turn_of::<IN_ROUNDS>(hart))) {
                 return Ended {
-                    left,
+                    left: end - hart - 1,
                     stop: Some(stop),
                 };
             }
-            hart = Order::RoundRobin.next(rounds.hart, harts);
+            hart += 1;
         }
         Ended {
             left: 0,

@@ -12,7 +12,7 @@ use Rattle.rvm_hart.specs.Step.{After, after_outcome, execute, step}
 use Rattle.rvm_hart.specs.Straight.{Goes, at_pc, at_time, is_straight, pages_of, risen, timed}
 use Rattle.rvm_hart.specs.Frozen.{risen_by}
 use Rattle.rvm_hart.proofs.Made.{plain_after, plain_cases, risen_is, step_on}
-use Rattle.rvm_hart.proofs.Shape.{step_keeps}
+use Rattle.rvm_hart.proofs.Shape.{pending_keeps}
 use Rattle.rvm_hart.proofs.Still.{Still, execute_still}
 
 -- the machine n is what one instruction of the straight path leaves of m, with the counters of m; the step is that at
@@ -22,6 +22,7 @@ pub record Strides (m n : Machine) (old new : List Bool) : Type 0 where
   pub dirty : new ≡ mark_all pages old
   pub csrs : n.hart.csrs ≡ m.hart.csrs
   pub devices : n.shared.devices ≡ m.shared.devices
+  pub sizes : shape n ≡ shape m
   pub step : (c i t : ℕ) → m.shared.devices.halted ≡ None → pending (mip_of (number_of m) (at_time t m.shared.devices)) m.hart.csrs ≡ None
       → step (timed c i t m) ≡ record { machine = timed (counted true c) (counted true i) (counted true t) n; pages = pages; answer = Retired }
 
@@ -36,20 +37,15 @@ strides h n b c goes straight =
       dirty = goes.dirty;
       csrs = ap (λ (x : Machine). x.hart.csrs) (sym left) ∙ still.csrs;
       devices = ap (λ (x : Machine). x.shared.devices) (sym left) ∙ still.devices;
+      sizes = ap shape (sym left)
+          ∙ sym (ap (λ (a : After). shape a.machine) (ap (λ y. after_outcome y (timed 0 0 0 m)) (still.any 0 0 0) ∙ plain_cases 0 0 0 o m goes.plain))
+          ∙ pending_keeps None (timed 0 0 0 m);
       step = λ c i t on quiet.
           step_on (timed c i t m) on quiet
           ∙ ap (λ y. after_outcome y (timed c i t m)) (still.any c i t)
           ∙ plain_cases c i t o m goes.plain
           ∙ ap (λ (x : Machine). record { machine = timed (counted true c) (counted true i) (counted true t) x; pages = pages_of o; answer = Retired }) left;
     }
-
--- the sizes stay
-pub strides_shape : {m n : Machine} {old new : List Bool} → Strides m n old new → m.shared.devices.halted ≡ None → pending (mip_of (number_of m) m.shared.devices) m.hart.csrs ≡ None → shape n ≡ shape m
-strides_shape {m} {n} made on quiet =
-    let c : ℕ = m.hart.csrs.mcycle in
-    let i : ℕ = m.hart.csrs.minstret in
-    let t : ℕ = m.shared.devices.mtime in
-    ap (λ (a : After). shape a.machine) (sym (made.step c i t on quiet)) ∙ step_keeps m
 
 -- mcycle and minstret of a hart, this many steps later
 pub rises : (k : ℕ) (h : HartState) → 0 < k

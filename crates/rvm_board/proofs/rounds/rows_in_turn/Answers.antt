@@ -1,31 +1,42 @@
-use Rattle.std.proofs.Common.{◌-◌, get_or, length, refl, slice_set, subst, arith}
-use Rattle.std.proofs.lemmas.List.{get_or_default, length-set}
-use Rattle.rvm_hart.specs.Machine.{HartState, Machine, machine}
-use Rattle.rvm_hart.proofs.Strides.{Strides, strides}
-use Rattle.rvm_board.specs.Board.{BoardState, machine_at, new_hart}
-use Rattle.rvm_board.proofs.Striding.{begins, strides_on}
+use Rattle.std.proofs.Common.{ℕ, ◌-◌, ◌%◌, length, ap, refl, sym, ◌∙◌, arith}
+use Rattle.rvm_board.specs.Rounds.{Striding, board_of}
+use Rattle.rvm_board.proofs.Striding.{after_row, begins}
 use Rattle.rvm_board.proofs.rounds.rows_in_turn.Goals as goal
 
 pub loop-left-init : goal.loop-left-init
 loop-left-init g c =
     record {
       hart = c.requires.first;
-      turns = begins c.args.count c.args.first (record { plain = record { harts = c.args.harts.now; shared = c.args.bus.now.shared }; dirty = c.args.bus.now.dirty }) c.requires.first c.requires.board c.requires.on c.requires.quiet;
+      turns = begins c.args.count c.args.first (board_of c.args.harts.now c.args.bus.now) c.requires.first c.requires.board c.requires.on c.requires.quiet;
     }
 
 pub loop-left-preserved : goal.loop-left-preserved
 loop-left-preserved g c =
     let so = c.loop-left.invariant in
-    let x : Machine = machine c.row_straight.new.self c.row_straight.new.bus in
-    let old : BoardState = record { plain = record { harts = c.args.harts.now; shared = c.args.bus.now.shared }; dirty = c.args.bus.now.dirty } in
-    let now : BoardState = record { plain = record { harts = c.loop-left.harts; shared = c.loop-left.bus.shared }; dirty = c.loop-left.bus.dirty } in
-    let new : BoardState = record { plain = record { harts = slice_set c.loop-left.harts c.loop-left.hart c.row_straight.new.self; shared = c.row_straight.new.bus.shared }; dirty = c.row_straight.new.bus.dirty } in
-    let running : HartState = get_or c.loop-left.harts c.loop-left.hart c.index-harts-hart.result in
-    let was = get_or_default c.loop-left.harts c.loop-left.hart c.index-harts-hart.result (new_hart 0 0) so.hart in
-    let made : Strides (machine_at c.loop-left.hart now.plain) x now.dirty new.dirty =
-    subst (λ (h : HartState). Strides (machine h c.loop-left.bus) x now.dirty new.dirty) was
-    (strides running c.row_straight.new.self c.loop-left.bus c.row_straight.new.bus (c.row_straight.ensures.goes c.if-not-row_straight.false) (c.row_straight.ensures.stays c.if-not-row_straight.false)) in
-    record {
-      hart = omega (arith, c.next-hart.ensures.below, length-set c.loop-left.harts c.loop-left.hart c.row_straight.new.self, so.turns.size);
-      turns = strides_on c.args.count c.args.first c.loop-left.left (c.loop-left.left - 1) c.loop-left.hart c.next-hart.result old now new x so.turns (omega (arith, c.loop-left-test.true)) refl c.next-hart.ensures.next c.requires.first made refl;
-    }
+    let next : ℕ = c.row_of_harts-next.result in
+    let less : ℕ = c.loop-left.left - (next - c.loop-left.hart) in
+    let turns : Striding c.args.count c.args.first (board_of c.args.harts.now c.args.bus.now) less c.hart_at_place-hart.result (board_of c.row_of_harts-next.new.harts c.row_of_harts-next.new.bus) =
+    after_row c.args.count c.args.first c.loop-left.left less c.loop-left.hart next c.hart_at_place-hart.result (board_of c.args.harts.now c.args.bus.now) (board_of c.loop-left.harts c.loop-left.bus) (board_of c.row_of_harts-next.new.harts c.row_of_harts-next.new.bus)
+    c.row_of_harts-next.ensures.turns so.turns so.hart (omega (arith, c.row_of_harts-next.ensures.end, c.min.ensures)) refl (c.hart_at_place-hart.ensures.hart ∙ ap (λ l. next % l) (sym so.turns.size)) in
+    record { hart = omega (arith, c.hart_at_place-hart.ensures.inside, turns.size); turns = turns; }
+
+-- an instruction of the hart whose turn it is leaves the path
+pub returns-then-next-end-clause-hart : goal.returns-then-next-end-clause-hart
+returns-then-next-end-clause-hart g c =
+    let so = c.loop-left.invariant in
+    let next : ℕ = c.row_of_harts-next.result in
+    let less : ℕ = c.loop-left.left - (next - c.loop-left.hart) in
+    let turns : Striding c.args.count c.args.first (board_of c.args.harts.now c.args.bus.now) less c.hart_at_place-hart.result (board_of c.row_of_harts-next.new.harts c.row_of_harts-next.new.bus) =
+    after_row c.args.count c.args.first c.loop-left.left less c.loop-left.hart next c.hart_at_place-hart.result (board_of c.args.harts.now c.args.bus.now) (board_of c.loop-left.harts c.loop-left.bus) (board_of c.row_of_harts-next.new.harts c.row_of_harts-next.new.bus)
+    c.row_of_harts-next.ensures.turns so.turns so.hart (omega (arith, c.row_of_harts-next.ensures.end, c.min.ensures)) refl (c.hart_at_place-hart.ensures.hart ∙ ap (λ l. next % l) (sym so.turns.size)) in
+    turns.place
+
+pub returns-then-next-end-clause-turns : goal.returns-then-next-end-clause-turns
+returns-then-next-end-clause-turns g c =
+    let so = c.loop-left.invariant in
+    let next : ℕ = c.row_of_harts-next.result in
+    let less : ℕ = c.loop-left.left - (next - c.loop-left.hart) in
+    let turns : Striding c.args.count c.args.first (board_of c.args.harts.now c.args.bus.now) less c.hart_at_place-hart.result (board_of c.row_of_harts-next.new.harts c.row_of_harts-next.new.bus) =
+    after_row c.args.count c.args.first c.loop-left.left less c.loop-left.hart next c.hart_at_place-hart.result (board_of c.args.harts.now c.args.bus.now) (board_of c.loop-left.harts c.loop-left.bus) (board_of c.row_of_harts-next.new.harts c.row_of_harts-next.new.bus)
+    c.row_of_harts-next.ensures.turns so.turns so.hart (omega (arith, c.row_of_harts-next.ensures.end, c.min.ensures)) refl (c.hart_at_place-hart.ensures.hart ∙ ap (λ l. next % l) (sym so.turns.size)) in
+    turns.took

@@ -1,5 +1,5 @@
-use Rattle.std.proofs.Common.{◌≡◌, ◌<◌, length}
-use Rattle.rvm_board.proofs.Striding.{Striding}
+use Rattle.std.proofs.Common.{◌<◌, length}
+use Rattle.rvm_board.specs.Rounds.{Striding, board_of}
 use Rattle.rvm_board.proofs.rounds.rows_in_turn.Given as goal
 
 -- turns whose counters did not rise yet
@@ -7,8 +7,7 @@ abbrev pub invariant-loop-left : goal.invariant-loop-left
 invariant-loop-left g l =
     record {
       hart : l.hart < length l.harts;
-      turns : Striding l.count l.first (record { plain = record { harts = l.fn.harts; shared = l.fn.bus.shared }; dirty = l.fn.bus.dirty }) l.left l.hart
-          (record { plain = record { harts = l.harts; shared = l.bus.shared }; dirty = l.bus.dirty });
+      turns : Striding l.count l.first (board_of l.fn.harts l.fn.bus) l.left l.hart (board_of l.harts l.bus);
     }
 
 abbrev pub decreases-loop-left : goal.decreases-loop-left
