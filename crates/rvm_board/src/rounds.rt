@@ -96,8 +96,8 @@ fn quiet_turns<M: Memory>(harts: &[Hart], bus: &Bus<M>, count: u32) -> u32
     quiet
 }
 
-/// Runs at most `count` instructions of the path, one of each hart in turn, and the first of hart `first`. Ends early
-/// before one that leaves the path. No counter rises.
+/// Runs at most `count` instructions of the path, one of each hart in turn, and the first of hart `first`. Ends after
+/// that of the last hart, or early before one that leaves the path. No counter rises.
 #[inline(always)]
 fn rows_in_turn<M: Memory, const LOOP: u8>(
     harts: &mut [Hart],
@@ -123,14 +123,13 @@ fn rows_in_turn<M: Memory, const LOOP: u8>(
     let number = harts.len() as u32;
     let mut hart = first;
     let mut left = count;
-    while left > 0 {
-        let end = hart + left.min(number - hart);
-        let next = row_of_harts::<M, LOOP>(harts, bus, hart, end);
+    while left >= number - hart {
+        let next = row_of_harts::<M, LOOP>(harts, bus, hart, number);
         left -= next - hart;
-        hart = hart_at_place(next, number);
-        if next < end {
-            return Rounds { left, hart };
+        if next < number {
+            return Rounds { left, hart: next };
         }
+        hart = 0;
     }
     Rounds { left, hart }
 }
@@ -162,17 +161,6 @@ fn row_of_harts<M: Memory, const LOOP: u8>(
         hart += 1;
     }
     hart
-}
-
-/// The hart with this number; hart 0 comes after the last one.
-#[inline(always)]
-fn hart_at_place(place: u32, harts: u32) -> u32
-    requires some { 0 < harts }
-    requires within { place ≤ harts }
-    ensures hart { result ≡ place % harts }
-    ensures inside { result < harts }
-{
-    if place == harts { 0 } else { place }
 }
 
 /// Raises the counters of each hart by its number of turns, if `made` turns were made and hart `first` had the first,
