@@ -5,6 +5,8 @@ pub mod BreakpointExamples
 pub mod Rising
 pub mod Turning
 pub mod Going
+pub mod Shares
+pub mod Striding
 pub mod Running
 pub mod Marking
 pub mod Retirings

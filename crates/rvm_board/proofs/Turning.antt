@@ -185,7 +185,7 @@ made_cases None turn all some k others same made =
     ∙ ap (λ (i : ℕ). behind (turn.pages ++ some.pages) i (others some.guest)) (omega arith)
 made_cases (Some s) turn all some k others same made = absurd cc
 
-all_were_made : (harts n k m h : ℕ) (g : Guest) → length g.board.harts ≡ harts → n ≡ k + m → h < harts → is_some (after_turns RoundRobin k h g).stop ≡ false
+pub all_were_made : (harts n k m h : ℕ) (g : Guest) → length g.board.harts ≡ harts → n ≡ k + m → h < harts → is_some (after_turns RoundRobin k h g).stop ≡ false
     → after_turns RoundRobin n h g ≡ behind (after_turns RoundRobin k h g).pages k (after_turns RoundRobin m ((h + k) % harts) (after_turns RoundRobin k h g).guest)
 unfolding after_turns
 all_were_made harts n zero m h g size e below made =

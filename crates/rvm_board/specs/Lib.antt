@@ -8,6 +8,7 @@ pub mod Marks
 pub mod Kept
 pub mod Parts
 pub mod Turns
+pub mod Rounds
 pub mod WhileFull
 pub mod Retiring
 pub mod EventRefusals

@@ -31,8 +31,8 @@ pub const MAX_HARTS: u32 = rvm_res::MAX_HARTS as u32;
 /// Harts, RAM and devices.
 #[derive(Drop)]
 pub struct Board<M: Memory> {
-    harts: Vec<Hart>,
-    bus: Bus<M>,
+    pub(crate) harts: Vec<Hart>,
+    pub(crate) bus: Bus<M>,
 }
 
 impl<M: Memory> Model for Board<M> {

@@ -15,6 +15,7 @@ mod event;
 pub mod laws;
 mod part;
 mod retiring;
+mod rounds;
 mod snapshot;
 mod turns;
 mod view;

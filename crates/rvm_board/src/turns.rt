@@ -1,6 +1,6 @@
 //! Consecutive turns of harts: the loop of a run, and of a script's steps.
 
-ghost use Rattle.std.specs.Prelude.{◌≡◌, ◌<◌, ◌≤◌, ◌-◌, [], false, true, length, get_or};
+ghost use Rattle.std.specs.Prelude.{◌≡◌, ◌<◌, ◌≤◌, ◌+◌, ◌-◌, ◌%◌, [], None, false, true, length, get_or};
 ghost use Rattle.std.specs.List.{list_any};
 ghost use Rattle.rvm_mem.specs.Pages.{mark_all};
 ghost use Rattle.rvm_hart.specs.Running.{ends_so};
@@ -14,6 +14,7 @@ ghost use Rattle.rvm_board.specs.declared.turns.Order.TheVariants.{Alone, RoundR
 
 use crate::debugged::Debugged;
 use crate::event::BoardReply;
+use crate::rounds::Rounds;
 use rvm_hart::Stepped;
 use rvm_mem::Memory;
 
@@ -37,6 +38,8 @@ pub(crate) const WHILE_FULL: u8 = 4;
 pub(crate) const IN_RETIRING: u8 = 5;
 
 pub(crate) const IN_RETIRING_ROUNDS: u8 = 6;
+
+const IN_STRAIGHT_ROUNDS: u8 = 7;
 
 /// Which hart has the next turn.
 #[derive(Clone, Copy, Debug, PartialEq, Eq)]
@@ -215,7 +218,8 @@ impl<M: Memory> Debugged<M> {
         self.turns_in_rounds(first, count)
     }
 
-    /// Makes turns of the harts in their order, none of which can stop: up to the last hart, and again from hart 0 on.
+    /// Makes turns of the harts in their order, none of which can stop: all before one that leaves the straight path,
+    /// then that one and those up to the last hart, and so on.
     #[inline(never)]
     fn turns_in_rounds(&mut self, first: u32, count: u32) -> Ended
         requires first { first < length self.old.guest.board.harts }
@@ -229,9 +233,11 @@ impl<M: Memory> Debugged<M> {
         let mut hart = first;
         let mut left = count;
         while left > 0 {
-            let turns = left.min(harts - hart);
+            let rounds = self.straight_rounds::<IN_STRAIGHT_ROUNDS>(hart, left);
+            left = rounds.left;
+            let turns = left.min(harts - rounds.hart);
             left -= turns;
-            let ended = self.turns_in_a_row(hart, hart + turns);
+            let ended = self.turns_in_a_row(rounds.hart, rounds.hart + turns);
             if ended.stop.is_some() {
                 return Ended {
                     left: left + ended.left,
@@ -273,6 +279,24 @@ impl<M: Memory> Debugged<M> {
             left: 0,
             stop: None,
         }
+    }
+
+    /// Makes at most `count` turns of the harts in their order on the straight path, none of which can stop.
+    #[inline(always)]
+    fn straight_rounds<const LOOP: u8>(&mut self, first: u32, count: u32) -> Rounds
+        requires first { first < length self.old.guest.board.harts }
+        requires breakpoints { self.old.guest.breakpoints ≡ [] }
+        requires stopped { list_any (λ s. s) self.old.guest.stopped ≡ false }
+        ensures left { result.left ≤ count }
+        ensures inside { result.hart < length self.new.guest.board.harts }
+        ensures hart { result.hart
+            ≡ (first + (count - result.left)) % length self.old.guest.board.harts }
+        ensures turns { TakesTurns (after_turns RoundRobin (count - result.left) first self.old.guest)
+            self.old self.new (record { made = count - result.left; stop = None }) }
+        ensures breakpoints { self.new.guest.breakpoints ≡ self.old.guest.breakpoints }
+        ensures stopped { self.new.guest.stopped ≡ self.old.guest.stopped }
+    {
+        self.board.run_rounds::<LOOP>(first, count)
     }
 
     /// Makes turns of the harts in their order, any of which may stop.

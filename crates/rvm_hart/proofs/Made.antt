@@ -38,11 +38,11 @@ mark_more [] qs dirty = refl
 mark_more (p ∷ ps) qs dirty = mark_more ps qs (mark p dirty)
 
 -- a step of a machine that is not halted and at which nothing is pending
-step_on : (m : Machine) → m.shared.devices.halted ≡ None → pending (mip_of (number_of m) m.shared.devices) m.hart.csrs ≡ None → step m ≡ after_outcome (execute m) m
+pub step_on : (m : Machine) → m.shared.devices.halted ≡ None → pending (mip_of (number_of m) m.shared.devices) m.hart.csrs ≡ None → step m ≡ after_outcome (execute m) m
 step_on m on quiet = ap (λ o. unless_halted o m) on ∙ ap (λ o. unless_pending o m) quiet
 
 -- what the step of a plain instruction leaves, at any values of the counters
-abbrev plain_after : (c i t : ℕ) → Outcome → Machine → After
+abbrev pub plain_after : (c i t : ℕ) → Outcome → Machine → After
 plain_after c i t o m = record { machine = timed (counted true c) (counted true i) (counted true t) (machine_after o m); pages = pages_of o; answer = Retired }
 
 written_plain : (c i t : ℕ) (after : Machine) (pages : List ℕ) (w : Written) (m : Machine) → is_other w ≡ true
@@ -53,7 +53,7 @@ written_plain c i t after pages Minstret m plain = absurd cc
 written_plain c i t after pages Mtime m plain = absurd cc
 written_plain c i t after pages (Halt s) m plain = absurd cc
 
-plain_cases : (c i t : ℕ) (o : Outcome) (m : Machine) → is_plain o ≡ true → after_outcome (timed_outcome c i t o) (timed c i t m) ≡ plain_after c i t o m
+pub plain_cases : (c i t : ℕ) (o : Outcome) (m : Machine) → is_plain o ≡ true → after_outcome (timed_outcome c i t o) (timed c i t m) ≡ plain_after c i t o m
 plain_cases c i t (Done after pages w) m plain = written_plain c i t after pages w m plain
 plain_cases c i t (Traps e v) m plain = absurd cc
 

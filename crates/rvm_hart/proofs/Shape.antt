@@ -358,7 +358,7 @@ after_outcome_keeps : (o : Outcome) (m : Machine) → Keeps o m → shape (after
 after_outcome_keeps (Done after pages w) m keeps = keeps
 after_outcome_keeps (Traps e v) m keeps = refl
 
-pending_keeps : (o : Option Interrupt) (m : Machine) → shape (unless_pending o m).machine ≡ shape m
+pub pending_keeps : (o : Option Interrupt) (m : Machine) → shape (unless_pending o m).machine ≡ shape m
 pending_keeps None m = after_outcome_keeps (execute m) m (fetched_keeps (ram_load 4 m.hart.pc m.shared.bytes) m)
 pending_keeps (Some i) m = refl
 

@@ -92,7 +92,7 @@ impl Hart {
     /// The number of steps, at most `count`, that can be made before an interrupt is pending, if mtime alone changes in
     /// the devices.
     #[inline(always)]
-    fn quiet_steps<M: Memory>(&self, bus: &Bus<M>, count: u32) -> u32
+    pub fn quiet_steps<M: Memory>(&self, bus: &Bus<M>, count: u32) -> u32
         requires { self.now.csrs.hart < length bus.now.shared.devices.msip }
         ensures within { result ≤ count }
         ensures quiet { IsQuiet result (machine self.now bus.now) }

@@ -1,0 +1,307 @@
+-- Turns on the straight path: instructions without their counters, which rise after all of them.
+use Rattle.std.proofs.Common.{◌≡◌, ℕ, zero, suc, ◌+◌, ◌-◌, ◌%◌, ◌<◌, ◌≤◌, List, [], ◌∷◌, ◌++◌, length, Bool, true, false, get_or, set, replicate, Option, Some, None, refl, sym, ap, ◌∙◌, subst, arith, inl, inr, is_some}
+use Rattle.std.specs.List.{list_any}
+use Rattle.std.proofs.lemmas.Bool.{cases_eq}
+use Rattle.std.proofs.lemmas.List.{get_or-set_same, get_or-set_other, length-set, set-get_or}
+use Rattle.std.proofs.Math.Nat.{mod-eq_of_lt, mod-lt, mod-add-mod}
+use Rattle.rvm_mem.specs.Pages.{mark_all}
+use Rattle.rvm_csr.specs.Registers.{CsrState}
+use Rattle.rvm_csr.specs.Traps.{pending}
+use Rattle.rvm_dev.specs.Devices.{DeviceState}
+use Rattle.rvm_hart.specs.Bus.{mip_of}
+use Rattle.rvm_hart.specs.declared.outcome.Stepped.TheVariants.{Retired}
+use Rattle.rvm_hart.specs.Frozen.{risen_by}
+use Rattle.rvm_hart.specs.Machine.{BusState, HartState, Machine, number_of, shape, with_devices}
+use Rattle.rvm_hart.specs.Step.{After, step}
+use Rattle.rvm_hart.specs.Straight.{IsQuiet, at_time, is_retired, risen, timed}
+use Rattle.rvm_hart.proofs.Strides.{Strides}
+use Rattle.rvm_board.specs.Board.{Board, BoardState, IsBoard, hart_at, machine_at, new_hart, with_machine}
+use Rattle.rvm_board.specs.declared.event.BoardReply.TheVariants as reply
+use Rattle.rvm_board.specs.declared.turns.Order.TheVariants.{RoundRobin}
+use Rattle.rvm_board.specs.declared.turns.Stop.{Stop}
+use Rattle.rvm_board.specs.declared.turns.Turns.{Turns}
+use Rattle.rvm_board.specs.Guest.{Guest, GuestState, fresh}
+use Rattle.rvm_board.specs.Events.{Answered, steps, with_board}
+use Rattle.rvm_board.specs.Rounds.{AreQuiet, GoOn, Striding, guest_on, risen_after, risen_board, risen_up_to, share}
+use Rattle.rvm_board.specs.Turns.{AfterTurns, TakesTurns, after_turns, behind, next_hart, stop_in, unless_stopped}
+use Rattle.rvm_board.proofs.Boards.{machine_is_board}
+use Rattle.rvm_board.proofs.Going.{put_same, retired_turn}
+use Rattle.rvm_board.proofs.Shares.{length-risen, no_share, none_risen, one_share, other_share, risen_at, set_risen}
+use Rattle.rvm_board.proofs.Turning.{Turning, all_were_made, behind_both, mark_more, one_more, turns_count}
+
+-- no hart stands at a breakpoint
+pub none_stands : (n k : ℕ) → get_or (replicate n false) k false ≡ false
+none_stands zero k = refl
+none_stands (suc n) zero = refl
+none_stands (suc n) (suc k) = none_stands n k
+
+-- the machine of a hart of a board whose counters rose
+risen_machine : (counts : ℕ → ℕ) (n k : ℕ) (b : Board) → k < length b.harts
+    → machine_at k (risen_board counts n b) ≡ timed (risen (counts k) (hart_at k b).csrs.mcycle) (risen (counts k) (hart_at k b).csrs.minstret) (risen n b.shared.devices.mtime) (machine_at k b)
+risen_machine counts n k b inside =
+    ap (λ (y : HartState). record { hart = y; shared = (risen_board counts n b).shared }) (risen_at counts (length b.harts) k b.harts (new_hart 0 0) (omega arith) inside)
+
+-- the counters of a machine that are those of another one
+same_counters : (r n : ℕ) (m x : Machine) → x.hart.csrs ≡ m.hart.csrs → x.shared.devices ≡ m.shared.devices
+    → timed (risen r m.hart.csrs.mcycle) (risen r m.hart.csrs.minstret) (risen n m.shared.devices.mtime) x
+    ≡ record { hart = risen_by r x.hart; shared = record x.shared { devices = at_time (risen n x.shared.devices.mtime) x.shared.devices } }
+same_counters r n m x csrs devices =
+    ap (λ (s : CsrState). timed (risen r s.mcycle) (risen r s.minstret) (risen n m.shared.devices.mtime) x) (sym csrs)
+    ∙ ap (λ (d : DeviceState). timed (risen r x.hart.csrs.mcycle) (risen r x.hart.csrs.minstret) (risen n d.mtime) x) (sym devices)
+
+-- a hart that took one step more is put back
+risen_put : (counts counts' : ℕ → ℕ) (n k : ℕ) (x : Machine) (b : Board) → k < length b.harts → counts' k ≡ suc (counts k) → ((j : ℕ) → j < length b.harts → (j ≡ k → ⊥) → counts' j ≡ counts j)
+    → x.hart.csrs ≡ (hart_at k b).csrs → x.shared.devices ≡ b.shared.devices
+    → with_machine k (timed (risen (suc (counts k)) (hart_at k b).csrs.mcycle) (risen (suc (counts k)) (hart_at k b).csrs.minstret) (risen (suc n) b.shared.devices.mtime) x) (risen_board counts n b)
+    ≡ risen_board counts' (suc n) (with_machine k x b)
+risen_put counts counts' n k x b inside one others csrs devices =
+    ap (λ m. with_machine k m (risen_board counts n b)) (same_counters (suc (counts k)) (suc n) (machine_at k b) x csrs devices)
+    ∙ ap (λ (i : ℕ). with_machine k (record { hart = risen_by i x.hart; shared = record x.shared { devices = at_time (risen (suc n) x.shared.devices.mtime) x.shared.devices } }) (risen_board counts n b)) (sym one)
+    ∙ ap (λ (hs : List HartState). record { harts = hs; shared = record x.shared { devices = at_time (risen (suc n) x.shared.devices.mtime) x.shared.devices } }) (set_risen counts counts' k x.hart b.harts inside others)
+
+-- what no instruction of the path changes leaves the harts quiet
+quiet_is : (n : ℕ) (m x : Machine) → x.hart.csrs ≡ m.hart.csrs → x.shared.devices ≡ m.shared.devices → IsQuiet n m → IsQuiet n x
+quiet_is n m x csrs devices quiet = λ i below.
+    ap (λ (s : CsrState). pending (mip_of s.hart (at_time (risen i x.shared.devices.mtime) x.shared.devices)) s) csrs
+    ∙ ap (λ (d : DeviceState). pending (mip_of m.hart.csrs.hart (at_time (risen i d.mtime) d)) m.hart.csrs) devices
+    ∙ quiet i below
+
+csrs_stay : (harts : List HartState) (k j : ℕ) (x blank : HartState) → k < length harts → x.csrs ≡ (get_or harts k blank).csrs → (get_or (set harts k x) j blank).csrs ≡ (get_or harts j blank).csrs
+csrs_stay harts k j x blank inside same =
+    elim (cases_eq j k) [
+      | inl e ↦ ap (λ (h : HartState). h.csrs) (ap (λ i. get_or (set harts k x) i blank) e ∙ get_or-set_same harts k x blank inside) ∙ same ∙ ap (λ i. (get_or harts i blank).csrs) (sym e)
+      | inr other ↦ ap (λ (h : HartState). h.csrs) (get_or-set_other harts k j x blank other)
+    ]
+
+quiet_put : (n k : ℕ) (x : Machine) (b : Board) → k < length b.harts → x.hart.csrs ≡ (hart_at k b).csrs → x.shared.devices ≡ b.shared.devices → AreQuiet n b → AreQuiet n (with_machine k x b)
+quiet_put n k x b inside csrs devices quiet = λ j below.
+    quiet_is n (machine_at j b) (machine_at j (with_machine k x b)) (csrs_stay b.harts k j x.hart (new_hart 0 0) inside csrs) devices (quiet j (omega (arith, below, length-set b.harts k x.hart)))
+
+-- no interrupt is pending now
+quiet_now : (n i : ℕ) (m : Machine) → i < n → IsQuiet n m → pending (mip_of (number_of m) (at_time (risen i m.shared.devices.mtime) m.shared.devices)) m.hart.csrs ≡ None
+quiet_now n i m below quiet = quiet i below
+
+-- a turn, if the counters of all turns before it have risen
+turn_made : {dirty dirty' : List Bool} (counts counts' : ℕ → ℕ) (n k : ℕ) (x : Machine) (b : Board) (made : Strides (machine_at k b) x dirty dirty') → k < length b.harts → counts' k ≡ suc (counts k)
+    → ((j : ℕ) → j < length b.harts → (j ≡ k → ⊥) → counts' j ≡ counts j) → b.shared.devices.halted ≡ None
+    → pending (mip_of (number_of (machine_at k b)) (at_time (risen n b.shared.devices.mtime) b.shared.devices)) (hart_at k b).csrs ≡ None
+    → steps k (fresh (risen_board counts n b)) ≡ record { guest = fresh (risen_board counts' (suc n) (with_machine k x b)); pages = made.pages; reply = reply.Retired }
+turn_made counts counts' n k x b made inside one others on none =
+    let now : Board = risen_board counts n b in
+    let g : Guest = fresh now in
+    let m : Machine = machine_at k b in
+    let c : ℕ = risen (counts k) m.hart.csrs.mcycle in
+    let i : ℕ = risen (counts k) m.hart.csrs.minstret in
+    let t : ℕ = risen n m.shared.devices.mtime in
+    let after : Machine = timed (risen (suc (counts k)) m.hart.csrs.mcycle) (risen (suc (counts k)) m.hart.csrs.minstret) (risen (suc n) m.shared.devices.mtime) x in
+    let within : k < length now.harts = omega (arith, inside, length-risen counts (length b.harts) b.harts) in
+    let stepped : step (machine_at k now) ≡ record { machine = after; pages = made.pages; answer = Retired } = ap step (risen_machine counts n k b inside) ∙ made.step c i t on none in
+    ap (λ (y : Board). steps k (with_board y g)) (sym (put_same k now))
+    ∙ retired_turn k (machine_at k now) g within refl (none_stands (length now.harts) k) (ap (λ (a : After). is_retired a.answer) stepped)
+    ∙ ap (λ (a : After). record { guest = with_board (with_machine k a.machine now) g; pages = a.pages; reply = reply.Retired }) stepped
+    ∙ ap (λ (l : ℕ). record { guest = record { board = with_machine k after now; breakpoints = []; stopped = replicate l false }; pages = made.pages; reply = reply.Retired }) (sym (length-set now.harts k after.hart))
+    ∙ ap (λ (y : Board). record { guest = fresh y; pages = made.pages; reply = reply.Retired }) (risen_put counts counts' n k x b inside one others made.csrs made.devices)
+
+-- turns and one more
+one_after : (harts k h : ℕ) (g0 : Guest) (old mid new : GuestState) (pages : List ℕ) → length g0.board.harts ≡ harts → h < harts → TakesTurns (after_turns RoundRobin k h g0) old mid (record { made = k; stop = None })
+    → steps ((h + k) % harts) mid.guest ≡ record { guest = new.guest; pages = pages; reply = reply.Retired } → new.dirty ≡ mark_all pages mid.dirty
+    → TakesTurns (after_turns RoundRobin (suc k) h g0) old new (record { made = suc k; stop = None })
+unfolding after_turns
+one_after harts k h g0 old mid new pages size below took turn marked =
+    let t : AfterTurns = after_turns RoundRobin k h g0 in
+    let j : ℕ = (h + k) % harts in
+    let last : AfterTurns = record { guest = new.guest; pages = pages ++ []; made = 1; stop = None } in
+    let answer : Answered = record { guest = new.guest; pages = pages; reply = reply.Retired } in
+    let one : after_turns RoundRobin 1 j t.guest ≡ last =
+    ap (after_turns RoundRobin 1 j) (sym took.guest)
+    ∙ one_more RoundRobin 1 0 j mid.guest refl
+    ∙ ap (λ (a : Answered). unless_stopped (stop_in a.reply) a (after_turns RoundRobin 0 (next_hart RoundRobin (length mid.guest.board.harts) j) a.guest)) turn in
+    let all : after_turns RoundRobin (suc k) h g0 ≡ behind t.pages k last =
+    all_were_made harts (suc k) k 1 h g0 size (omega arith) below (ap (λ (o : Option Stop). is_some o) (sym took.stop)) ∙ ap (behind t.pages k) one in
+    record {
+      guest = sym (ap (λ (a : AfterTurns). a.guest) all);
+      dirty = marked ∙ ap (mark_all pages) took.dirty ∙ sym (mark_more pages [] (mark_all t.pages old.dirty)) ∙ sym (mark_more t.pages (pages ++ []) old.dirty) ∙ sym (ap (λ (a : AfterTurns). mark_all a.pages old.dirty) all);
+      made = omega arith ∙ sym (ap (λ (a : AfterTurns). a.made) all);
+      stop = sym (ap (λ (a : AfterTurns). a.stop) all);
+    }
+
+-- of no turns, nothing is left to rise
+pub nothing_risen : (first : ℕ) (b : Board) → first < length b.harts → risen_after first 0 b ≡ b
+nothing_risen first b inside =
+    ap (λ (hs : List HartState). record { harts = hs; shared = b.shared }) (none_risen (λ k. share (length b.harts) first 0 k) b.harts (λ k below. no_share (length b.harts) first k inside))
+
+pub took_none : (n first : ℕ) (b : BoardState) → n ≡ 0 → TakesTurns (after_turns RoundRobin n first (fresh b.plain)) (guest_on b) (guest_on b) (record { made = n; stop = None })
+unfolding after_turns
+took_none zero first b e = record { guest = refl; dirty = refl; made = refl; stop = refl }
+took_none (suc n) first b e = absurd (omega (arith, e))
+
+-- before the first turn
+pub begins : (count first : ℕ) (b : BoardState) → first < length b.plain.harts → IsBoard b.plain → b.plain.shared.devices.halted ≡ None → AreQuiet count b.plain → Striding count first b count first b
+begins count first b inside board on quiet =
+    let zero_made : count - count ≡ 0 = omega arith in
+    record {
+      inside = inside;
+      few = omega arith;
+      size = refl;
+      place = sym (mod-eq_of_lt inside) ∙ ap (λ i. i % length b.plain.harts) (omega (arith, zero_made));
+      board = board;
+      on = on;
+      quiet = quiet;
+      took = subst (λ i. TakesTurns (after_turns RoundRobin i first (fresh b.plain)) (guest_on b) (guest_on (record { plain = risen_after first i b.plain; dirty = b.dirty })) (record { made = i; stop = None })) (sym zero_made)
+          (subst (λ (y : Board). TakesTurns (after_turns RoundRobin 0 first (fresh b.plain)) (guest_on b) (guest_on (record { plain = y; dirty = b.dirty })) (record { made = 0; stop = None })) (sym (nothing_risen first b.plain inside)) (took_none 0 first b refl));
+    }
+
+-- the hart after the one that has turn k is that of turn k + 1
+next_place : (harts first k : ℕ) → ((first + k) % harts + 1) % harts ≡ (first + suc k) % harts
+next_place harts first k = mod-add-mod (first + k) harts 1 ∙ ap (λ i. i % harts) (omega arith)
+
+-- one turn more
+pub strides_on : (count first left left' hart hart' : ℕ) (old now new : BoardState) (x : Machine) → Striding count first old left hart now → 0 < left → left' ≡ left - 1 → hart' ≡ next_hart RoundRobin (length old.plain.harts) hart
+    → Strides (machine_at hart now.plain) x now.dirty new.dirty → new.plain ≡ with_machine hart x now.plain → Striding count first old left' hart' new
+strides_on count first left left' hart hart' old now new x so some less next made put =
+    let below : first < length old.plain.harts = so.inside in
+    let n : ℕ = count - left in
+    let b : Board = now.plain in
+    let harts : ℕ = length b.harts in
+    let one : suc n ≡ count - left' = omega (arith, some, less, so.few) in
+    let place : hart ≡ (first + n) % harts = so.place ∙ ap (λ l. (first + n) % l) (sym so.size) in
+    let inside : hart < harts = omega (arith, place, mod-lt (first + n) {m = harts} (omega (arith, below, so.size))) in
+    let long : length (with_machine hart x b).harts ≡ harts = length-set b.harts hart x.hart in
+    let none : pending (mip_of (number_of (machine_at hart b)) (at_time (risen n b.shared.devices.mtime) b.shared.devices)) (hart_at hart b).csrs ≡ None = so.quiet hart inside n (omega (arith, some, so.few)) in
+    let counts : ℕ → ℕ = λ k. share harts first n k in
+    let counts' : ℕ → ℕ = λ k. share (length (with_machine hart x b).harts) first (suc n) k in
+    let turn : steps hart (fresh (risen_board counts n b)) ≡ record { guest = fresh (risen_board counts' (suc n) (with_machine hart x b)); pages = made.pages; reply = reply.Retired } =
+    turn_made counts counts' n hart x b made inside
+    (ap (λ l. share l first (suc n) hart) long ∙ one_share harts first n hart inside place)
+    (λ j within other. ap (λ l. share l first (suc n) j) long ∙ other_share harts first n j within (λ e. other (e ∙ sym place)))
+    so.on none in
+    let mid : GuestState = guest_on (record { plain = risen_after first n b; dirty = now.dirty }) in
+    let last : GuestState = guest_on (record { plain = risen_after first (suc n) new.plain; dirty = new.dirty }) in
+    let took : TakesTurns (after_turns RoundRobin (suc n) first (fresh old.plain)) (guest_on old) last (record { made = suc n; stop = None }) =
+    one_after (length old.plain.harts) n first (fresh old.plain) (guest_on old) mid last made.pages refl below so.took
+    (ap (λ i. steps i mid.guest) (sym so.place) ∙ turn ∙ ap (λ (y : Board). record { guest = fresh (risen_after first (suc n) y); pages = made.pages; reply = reply.Retired }) (sym put)) made.dirty in
+    record {
+      inside = so.inside;
+      few = omega (arith, so.few, less);
+      size = ap (λ (y : Board). length y.harts) put ∙ long ∙ so.size;
+      place = next ∙ ap (λ i. (i + 1) % length old.plain.harts) so.place ∙ next_place (length old.plain.harts) first n ∙ ap (λ i. (first + i) % length old.plain.harts) one;
+      board = subst IsBoard (sym put) (machine_is_board b hart x made.sizes so.board inside);
+      on = ap (λ (y : Board). y.shared.devices.halted) put ∙ ap (λ (d : DeviceState). d.halted) made.devices ∙ so.on;
+      quiet = subst (AreQuiet count) (sym put) (quiet_put count hart x b inside made.csrs made.devices so.quiet);
+      took = subst (λ i. TakesTurns (after_turns RoundRobin i first (fresh old.plain)) (guest_on old) (guest_on (record { plain = risen_after first i new.plain; dirty = new.dirty })) (record { made = i; stop = None })) one took;
+    }
+
+-- ROWS
+
+pub row_begins : (h : ℕ) (b : BoardState) → GoOn h h b b
+row_begins h b = λ count from left begun enough so. subst (λ i. Striding count from begun i (h % length b.plain.harts) b) (omega arith) so
+
+pub row_goes_on : (first h : ℕ) (old now new : BoardState) (x : Machine) → GoOn first h old now → first ≤ h → h < length now.plain.harts → length now.plain.harts ≡ length old.plain.harts
+    → Strides (machine_at h now.plain) x now.dirty new.dirty → new.plain ≡ with_machine h x now.plain → GoOn first (h + 1) old new
+row_goes_on first h old now new x go above inside size made put = λ count from left begun enough so.
+    let harts : ℕ = length old.plain.harts in
+    let so_far : Striding count from begun (left - (h - first)) (h % harts) now = go count from left begun (omega (arith, enough, above)) so in
+    let same : h ≡ h % harts = sym (mod-eq_of_lt (omega (arith, inside, size))) in
+    let next : (h + 1) % harts ≡ (h % harts + 1) % length begun.plain.harts = sym (mod-add-mod h harts 1) ∙ ap (λ l. (h % harts + 1) % l) so.size in
+    strides_on count from (left - (h - first)) (left - (h + 1 - first)) (h % harts) ((h + 1) % harts) begun now new x so_far (omega (arith, enough, above)) (omega (arith, enough, above)) next
+    (subst (λ i. Strides (machine_at i now.plain) x now.dirty new.dirty) same made) (put ∙ ap (λ i. with_machine i x now.plain) same)
+
+-- a row, and the turns before it
+pub after_row : (count from left left' h next hart' : ℕ) (begun old new : BoardState) → GoOn h next old new → Striding count from begun left h old → h < length old.plain.harts → next - h ≤ left → left' ≡ left - (next - h) → hart' ≡ next % length old.plain.harts
+    → Striding count from begun left' hart' new
+after_row count from left left' h next hart' begun old new go so inside enough less place =
+    subst (λ i. Striding count from begun i hart' new) (sym less)
+    (subst (λ i. Striding count from begun (left - (next - h)) i new) (sym place)
+    (go count from left begun enough (subst (λ i. Striding count from begun left i old) (sym (mod-eq_of_lt inside)) so)))
+
+-- BOARDS
+
+-- a board whose counters rise is a board
+pub risen_is_board : (counts : ℕ → ℕ) (n : ℕ) (b : Board) → IsBoard b → IsBoard (risen_board counts n b)
+risen_is_board counts n b board =
+    let size : length (risen_board counts n b).harts ≡ length b.harts = length-risen counts (length b.harts) b.harts in
+    record {
+      some = omega (arith, size, board.some);
+      bound = omega (arith, size, board.bound);
+      numbers = λ k below.
+          let within : k < length b.harts = omega (arith, below, size) in
+          ap (λ (h : HartState). h.csrs.hart) (risen_at counts (length b.harts) k b.harts (new_hart 0 0) (omega arith) within) ∙ board.numbers k within;
+      reservations = board.reservations ∙ sym size;
+      msip = board.msip ∙ sym size;
+      ram = board.ram;
+    }
+
+-- counters that rise after the turns that they count
+pub then_counted : (first n n' : ℕ) (old : BoardState) (xs ys : List HartState) (b c : BusState)
+    → TakesTurns (after_turns RoundRobin n first (fresh old.plain)) (guest_on old) (guest_on (record { plain = risen_after first n (record { harts = xs; shared = b.shared }); dirty = b.dirty })) (record { made = n; stop = None })
+    → ys ≡ risen_up_to (λ k. share (length xs) first n k) (length xs) xs → c ≡ with_devices (at_time (risen n b.shared.devices.mtime) b.shared.devices) b → n' ≡ n
+    → TakesTurns (after_turns RoundRobin n' first (fresh old.plain)) (guest_on old) (guest_on (record { plain = record { harts = ys; shared = c.shared }; dirty = c.dirty })) (record { made = n'; stop = None })
+then_counted first n n' old xs ys b c took harts bus same =
+    subst (λ i. TakesTurns (after_turns RoundRobin i first (fresh old.plain)) (guest_on old) (guest_on (record { plain = record { harts = ys; shared = c.shared }; dirty = c.dirty })) (record { made = i; stop = None })) (sym same)
+    (subst (λ (hs : List HartState). TakesTurns (after_turns RoundRobin n first (fresh old.plain)) (guest_on old) (guest_on (record { plain = record { harts = hs; shared = c.shared }; dirty = c.dirty })) (record { made = n; stop = None })) (sym harts)
+    (subst (λ (y : BusState). TakesTurns (after_turns RoundRobin n first (fresh old.plain)) (guest_on old)
+    (guest_on (record { plain = record { harts = risen_up_to (λ k. share (length xs) first n k) (length xs) xs; shared = y.shared }; dirty = y.dirty })) (record { made = n; stop = None })) (sym bus) took))
+
+pub counted_is_board : (first n : ℕ) (xs ys : List HartState) (b c : BusState) → IsBoard (record { harts = xs; shared = b.shared })
+    → ys ≡ risen_up_to (λ k. share (length xs) first n k) (length xs) xs → c ≡ with_devices (at_time (risen n b.shared.devices.mtime) b.shared.devices) b → IsBoard (record { harts = ys; shared = c.shared })
+counted_is_board first n xs ys b c board harts bus =
+    subst (λ (hs : List HartState). IsBoard (record { harts = hs; shared = c.shared })) (sym harts)
+    (subst (λ (y : BusState). IsBoard (record { harts = risen_up_to (λ k. share (length xs) first n k) (length xs) xs; shared = y.shared })) (sym bus)
+    (risen_is_board (λ k. share (length xs) first n k) n (record { harts = xs; shared = b.shared }) board))
+
+-- the harts up to one are quiet for fewer steps, and so is that one
+pub quiet_more : (n m h : ℕ) (x : HartState) (b : Board) → m ≤ n → x ≡ hart_at h b → ((k : ℕ) → k < h → IsQuiet n (machine_at k b)) → IsQuiet m (record { hart = x; shared = b.shared }) → (k : ℕ) → k < h + 1 → IsQuiet m (machine_at k b)
+quiet_more n m h x b fewer is so_far now k below =
+    elim (cases_eq k h) [
+      | inl same ↦ subst (λ i. IsQuiet m (machine_at i b)) (sym same) (subst (λ (y : HartState). IsQuiet m (record { hart = y; shared = b.shared })) is now)
+      | inr other ↦ λ i low. so_far k (omega (arith, below, other)) i (omega (arith, low, fewer))
+    ]
+
+-- GUESTS
+
+same_flags : (flags : List Bool) → list_any (λ flag. flag) flags ≡ false → replicate (length flags) false ≡ flags
+same_flags [] none = refl
+same_flags (true ∷ flags) none = absurd cc
+same_flags (false ∷ flags) none = ap (λ fs. false ∷ fs) (same_flags flags none)
+
+-- a guest without breakpoints, none of whose harts stands at one
+fresh_is : (g : Guest) → g.breakpoints ≡ [] → list_any (λ flag. flag) g.stopped ≡ false → length g.stopped ≡ length g.board.harts → fresh g.board ≡ g
+fresh_is g none stand size =
+    ap (λ (l : ℕ). record { board = g.board; breakpoints = []; stopped = replicate l false }) (sym size)
+    ∙ ap (λ (fs : List Bool). record { board = g.board; breakpoints = []; stopped = fs }) (same_flags g.stopped stand)
+    ∙ ap (λ (bs : List ℕ). record g { breakpoints = bs }) (sym none)
+
+-- turns of such a guest are those of its board
+pub on_guest : (k h : ℕ) (old new : GuestState) (told : Turns) → old.guest.breakpoints ≡ [] → list_any (λ flag. flag) old.guest.stopped ≡ false → length old.guest.stopped ≡ length old.guest.board.harts
+    → new.guest.breakpoints ≡ old.guest.breakpoints → new.guest.stopped ≡ old.guest.stopped
+    → TakesTurns (after_turns RoundRobin k h (fresh old.guest.board)) (guest_on (record { plain = old.guest.board; dirty = old.dirty })) (guest_on (record { plain = new.guest.board; dirty = new.dirty })) told
+    → TakesTurns (after_turns RoundRobin k h old.guest) old new told
+on_guest k h old new told none stand size breaks flags took =
+    let is : fresh old.guest.board ≡ old.guest = fresh_is old.guest none stand size in
+    let count : length new.guest.board.harts ≡ length old.guest.board.harts = ap (λ (g : Guest). length g.board.harts) took.guest ∙ turns_count RoundRobin k h (fresh old.guest.board) in
+    let left : fresh new.guest.board ≡ new.guest =
+    fresh_is new.guest (breaks ∙ none) (ap (list_any (λ flag. flag)) flags ∙ stand) (ap (λ fs. length fs) flags ∙ size ∙ sym count) in
+    record {
+      guest = sym left ∙ took.guest ∙ ap (λ g. (after_turns RoundRobin k h g).guest) is;
+      dirty = took.dirty ∙ ap (λ g. mark_all (after_turns RoundRobin k h g).pages old.dirty) is;
+      made = took.made ∙ ap (λ g. (after_turns RoundRobin k h g).made) is;
+      stop = took.stop ∙ ap (λ g. (after_turns RoundRobin k h g).stop) is;
+    }
+
+-- turns that all were made, and those that go on after them
+pub goes_on_after : {all : AfterTurns} {first : List Bool} (harts n k m h h' made made' : ℕ) (old new : GuestState) (told : Turns) → Turning all (after_turns RoundRobin n h old.guest) made first old.dirty → length old.guest.board.harts ≡ harts → n ≡ k + m
+    → made' ≡ made + k → h < harts → h' ≡ (h + k) % length old.guest.board.harts → TakesTurns (after_turns RoundRobin k h old.guest) old new told → told.stop ≡ None → Turning all (after_turns RoundRobin m h' new.guest) made' first new.dirty
+goes_on_after {all} {first} harts n k m h h' made made' old new told so_far size more counted below next took none =
+    let t : AfterTurns = after_turns RoundRobin k h old.guest in
+    let on : after_turns RoundRobin n h old.guest ≡ behind t.pages k (after_turns RoundRobin m ((h + k) % harts) t.guest) =
+    all_were_made harts n k m h old.guest size more below (ap (λ (x : Option Stop). is_some x) (sym took.stop ∙ none)) in
+    record {
+      pages = so_far.pages ++ t.pages;
+      log = took.dirty ∙ ap (mark_all t.pages) so_far.log ∙ sym (mark_more so_far.pages t.pages first);
+      whole = ap (λ i. behind (so_far.pages ++ t.pages) i (after_turns RoundRobin m h' new.guest)) counted
+          ∙ ap (λ x. behind (so_far.pages ++ t.pages) (made + k) (after_turns RoundRobin m h' x)) took.guest
+          ∙ ap (λ i. behind (so_far.pages ++ t.pages) (made + k) (after_turns RoundRobin m i t.guest)) (next ∙ ap (λ l. (h + k) % l) size)
+          ∙ sym (behind_both so_far.pages t.pages made k (after_turns RoundRobin m ((h + k) % harts) t.guest))
+          ∙ ap (behind so_far.pages made) (sym on)
+          ∙ so_far.whole;
+    }
