@@ -11,6 +11,7 @@ ghost use Rattle.rvm_board.specs.declared.turns.Order.TheVariants.{RoundRobin};
 
 use crate::board::Board;
 use rvm_hart::{Bus, Hart};
+use rvm_isa::Decoder;
 use rvm_mem::Memory;
 
 /// The most turns that are made before the counters rise, so that their number and a hart's have a sum.
@@ -121,10 +122,11 @@ fn rows_in_turn<M: Memory, const LOOP: u8>(
         (record { made = count - result.left; stop = None }) }
 {
     let number = harts.len() as u32;
+    let decoder = harts[first as usize].decoder();
     let mut hart = first;
     let mut left = count;
     while left >= number - hart {
-        let next = row_of_harts::<M, LOOP>(harts, bus, hart, number);
+        let next = row_of_harts::<M, LOOP>(decoder, harts, bus, hart, number);
         left -= next - hart;
         if next < number {
             return Rounds { left, hart: next };
@@ -138,6 +140,7 @@ fn rows_in_turn<M: Memory, const LOOP: u8>(
 /// leaves the path. No counter rises. Returns the number after that of the last hart that ran one.
 #[inline(always)]
 fn row_of_harts<M: Memory, const LOOP: u8>(
+    decoder: Decoder,
     harts: &mut [Hart],
     bus: &mut Bus<M>,
     first: u32,
@@ -155,7 +158,7 @@ fn row_of_harts<M: Memory, const LOOP: u8>(
     let mut hart = first;
     while hart < end {
         let running = &mut harts[hart as usize];
-        if !running.row_straight::<M, LOOP>(bus) {
+        if !running.row_straight::<M, LOOP>(decoder, bus) {
             return hart;
         }
         hart += 1;

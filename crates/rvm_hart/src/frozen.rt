@@ -9,23 +9,28 @@ ghost use Rattle.rvm_hart.specs.Straight.{Goes, at_time, is_straight, risen};
 
 use crate::bus::Bus;
 use crate::hart::Hart;
-use crate::straight::{address_of, offset_of};
+use crate::straight::address_of;
+use rvm_isa::Decoder;
 use rvm_mem::Memory;
 
 impl Hart {
     /// Runs the instruction at pc if it is on the straight path. No counter rises. Returns whether it ran; if not,
     /// nothing changes. `LOOP` is the number of the caller's loop, as in `run_straight`.
     #[inline(always)]
-    pub fn row_straight<M: Memory, const LOOP: u8>(&mut self, bus: &mut Bus<M>) -> bool
+    pub fn row_straight<M: Memory, const LOOP: u8>(
+        &mut self,
+        decoder: Decoder,
+        bus: &mut Bus<M>,
+    ) -> bool
         requires { self.old.csrs.hart < length bus.old.shared.reservations }
         ensures goes { result ≡ true → Goes execute self.old.pc self.old bus.old self.new.pc self.new bus.new }
         ensures stays { result ≡ true → is_straight (machine self.old bus.old) ≡ true }
         ensures hart { result ≡ false → self.new ≡ self.old }
         ensures bus { result ≡ false → bus.new ≡ bus.old }
     {
-        let at = offset_of(self.pc);
-        let fetched = bus.ram_word(at);
-        let Some(next) = self.straight::<M, LOOP>(fetched, at, bus) else {
+        let at = self.offset();
+        let fetched = bus.fetch(at);
+        let Some(next) = self.straight::<M, LOOP>(decoder, fetched, at, bus) else {
             return false;
         };
         self.pc = address_of(next);

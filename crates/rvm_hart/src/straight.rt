@@ -131,7 +131,7 @@ impl Hart {
         ensures reservations { length bus.new.shared.reservations ≡ length bus.old.shared.reservations }
     {
         let mut left = count;
-        let decoder = Decoder::new(self.regs[0]);
+        let decoder = self.decoder();
         let mut at = self.offset();
         let mut word = 0;
         while left > 0 {
@@ -150,6 +150,12 @@ impl Hart {
         }
         self.pc = address_of(at);
         Straight { left, word }
+    }
+
+    /// A decoder for many words.
+    #[inline(always)]
+    pub fn decoder(&self) -> Decoder {
+        Decoder::new(self.regs[0])
     }
 
     /// The offset of the current instruction in RAM.
