@@ -1,5 +1,5 @@
 -- Instructions that reach registers, RAM and reservations alone, and steps that make them.
-use Rattle.std.specs.Prelude.{◌≡◌, ◌==◌, ℕ, zero, suc, ◌+◌, ◌%◌, ◌^◌, ◌<◌, Bool, true, false, not, ◌&&◌, is_some, List, [], ◌++◌, length, Option, Some, None}
+use Rattle.std.specs.Prelude.{◌≡◌, ◌==◌, ℕ, zero, suc, ◌+◌, ◌%◌, ◌^◌, ◌<◌, Bool, true, false, not, ◌&&◌, is_some, List, [], ◌++◌, length, nat_lt, Option, Some, None}
 use Rattle.rvm_mem.specs.Pages.{mark_all}
 use Rattle.rvm_isa.specs.declared.ins.Ins.{Ins}
 use Rattle.rvm_isa.specs.declared.ins.Ins.TheVariants.{Lui, Auipc, Jal, Jalr, Beq, Bne, Blt, Bge, Bltu, Bgeu, Lb, Lh, Lw, Lbu, Lhu, Sb, Sh, Sw, Addi, Slti, Sltiu, Xori, Ori, Andi, Slli, Srli, Srai, Add, Sub, Sll, Slt, Sltu, Xor, Srl, Sra, Or, And, Mul, Mulh, Mulhsu, Mulhu, Div, Divu, Rem, Remu, Fence, FenceI, Ecall, Ebreak, Mret, Wfi, Csrrw, Csrrs, Csrrc, Csrrwi, Csrrsi, Csrrci, LrW, ScW, AmoswapW, AmoaddW, AmoxorW, AmoandW, AmoorW, AmominW, AmomaxW, AmominuW, AmomaxuW}
@@ -25,6 +25,10 @@ at_pc pc h = record h { pc = pc }
 -- the address of an offset in RAM
 unfoldable pub based : ℕ → ℕ
 based at = (at + 0x80000000) % 2 ^ 32
+
+-- whether a number of 64 bits is the offset of an address: an address before RAM has a negative one, modulo 2 ^ 64
+unfoldable pub is_offset : ℕ → Bool
+is_offset at = nat_lt ((at + 0x80000000) % 2 ^ 64) (2 ^ 32)
 
 -- the pages that an outcome wrote
 abbrev pub pages_of : Outcome → List ℕ

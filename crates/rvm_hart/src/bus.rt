@@ -6,7 +6,7 @@ ghost use Rattle.rvm_res.specs.Reservations as res;
 ghost use Rattle.rvm_dev.specs.Shared.{restored};
 ghost use Rattle.rvm_hart.specs.Kinds.{atomic_value};
 ghost use Rattle.rvm_hart.specs.Machine.{BusState, with_devices, with_reservations};
-ghost use Rattle.rvm_hart.specs.Straight.{based};
+ghost use Rattle.rvm_hart.specs.Straight.{based, is_offset};
 ghost use Rattle.rvm_hart.specs.Pokes.{bus_cleared, bus_poked, poked_each};
 ghost use Rattle.rvm_hart.specs.Fields.{are_in_ram, hart_restored, is_in_ram, is_ram_word};
 ghost use Rattle.rvm_hart.specs.Bus.{in_ram, ram_base, ram_load, word_loaded, after_word_load, ram_stored, word_stored, device_stored, left_by, wrote_by, wrote_of, mip_of};
@@ -230,11 +230,11 @@ impl<M: Memory> Bus<M> {
     /// The word at an aligned offset from RAM's first byte, if it is in RAM. The offset has 64 bits, so that the
     /// compiler need not narrow it: a host instruction of each step.
     #[inline(always)]
-    #[tactic(auto, unfolding(crate::specs::Straight::based))]
+    #[tactic(auto, unfolding(crate::specs::Straight::based, crate::specs::Straight::is_offset))]
     pub(crate) fn fetch(&self, at: u64) -> Option<u32>
         requires { at % 4 ≡ 0 }
         ensures word { IfSome result (λ word. ram_load 4 (based at) self.now.shared.bytes ≡ Some word) }
-        ensures none { at < 2 ^ 32 → result ≡ ram_load 4 (based at) self.now.shared.bytes }
+        ensures none { is_offset at ≡ true → result ≡ ram_load 4 (based at) self.now.shared.bytes }
     {
         self.ram.try_load32(at)
     }

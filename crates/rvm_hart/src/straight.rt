@@ -7,7 +7,7 @@ ghost use Rattle.rvm_word.specs.Word.{modulo};
 ghost use Rattle.rvm_hart.specs.Outcome.{done, done_with, reg};
 ghost use Rattle.rvm_hart.specs.Kinds.{arithmetic, atomic, branch, even, holds, jump, load_byte, load_half, load_reserved, load_word, store_byte, store_conditional, store_half, store_word, sum};
 ghost use Rattle.rvm_hart.specs.Rows.{effect, sign_extended_byte, sign_extended_half, zero_extended};
-ghost use Rattle.rvm_hart.specs.Straight.{Goes, IsQuiet, all_pass, at_pc, based, input_stays, is_next, is_straight, stays_in_ram, steps, timed_after, went};
+ghost use Rattle.rvm_hart.specs.Straight.{Goes, IsQuiet, all_pass, at_pc, based, input_stays, is_next, is_offset, is_straight, stays_in_ram, steps, timed_after, went};
 ghost use Rattle.rvm_hart.specs.Bus.{in_ram, ram_load};
 ghost use Rattle.rvm_mem.specs.Pages.{mark_all};
 ghost use Rattle.rvm_hart.specs.Step.{execute};
@@ -158,14 +158,15 @@ impl Hart {
         Decoder::new(self.regs[0])
     }
 
-    /// The offset of the current instruction in RAM.
+    /// The offset of the current instruction in RAM, modulo 2 ^ 64.
     #[inline(always)]
+    #[tactic(auto, unfolding(crate::specs::Straight::based, crate::specs::Straight::is_offset))]
     pub(crate) fn offset(&self) -> u64
         ensures address { based result ≡ self.now.pc }
         ensures aligned { result % 4 ≡ 0 }
-        ensures word { result < 2 ^ 32 }
+        ensures one { is_offset result ≡ true }
     {
-        u64::from(offset_of(self.pc))
+        u64::from(self.pc).wrapping_sub(u64::from(RAM_BASE))
     }
 
     /// Puts a value into rd.
