@@ -146,7 +146,7 @@ fn row_of_harts<M: Memory, const LOOP: u8>(
     first: u32,
     end: u32,
 ) -> u32
-    requires first { first ≤ end }
+    requires first { first < end }
     requires end { end ≤ length harts.old }
     requires board { IsBoard (board_of harts.old bus.old).plain }
     ensures first { first ≤ result }
@@ -156,14 +156,16 @@ fn row_of_harts<M: Memory, const LOOP: u8>(
     ensures turns { GoOn first result (board_of harts.old bus.old) (board_of harts.new bus.new) }
 {
     let mut hart = first;
-    while hart < end {
+    loop {
         let running = &mut harts[hart as usize];
         if !running.row_straight::<M, LOOP>(decoder, bus) {
             return hart;
         }
         hart += 1;
+        if hart == end {
+            return hart;
+        }
     }
-    hart
 }
 
 /// Raises the counters of each hart by its number of turns, if `made` turns were made and hart `first` had the first,

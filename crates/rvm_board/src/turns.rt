@@ -235,6 +235,12 @@ impl<M: Memory> Debugged<M> {
         while left > 0 {
             let rounds = self.straight_rounds::<IN_STRAIGHT_ROUNDS>(hart, left);
             left = rounds.left;
+            if left == 0 {
+                return Ended {
+                    left: 0,
+                    stop: None,
+                };
+            }
             let turns = left.min(harts - rounds.hart);
             left -= turns;
             let ended = self.turns_in_a_row(rounds.hart, rounds.hart + turns);

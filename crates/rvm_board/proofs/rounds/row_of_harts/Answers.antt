@@ -8,8 +8,8 @@ use Rattle.rvm_board.proofs.Boards.{machine_is_board}
 use Rattle.rvm_board.proofs.Striding.{row_begins, row_goes_on}
 use Rattle.rvm_board.proofs.rounds.row_of_harts.Goals as goal
 
-pub loop-hart-init : goal.loop-hart-init
-loop-hart-init g c =
+pub loop-first-init : goal.loop-first-init
+loop-first-init g c =
     record {
       first = omega arith;
       end = c.requires.first;
@@ -18,22 +18,51 @@ loop-hart-init g c =
       turns = row_begins c.args.first (board_of c.args.harts.now c.args.bus.now);
     }
 
-pub loop-hart-preserved : goal.loop-hart-preserved
-loop-hart-preserved g c =
-    let so = c.loop-hart.invariant in
+pub loop-first-preserved : goal.loop-first-preserved
+loop-first-preserved g c =
+    let so = c.loop-first.invariant in
     let x : Machine = machine c.row_straight.new.self c.row_straight.new.bus in
-    let now : BoardState = board_of c.loop-hart.harts c.loop-hart.bus in
-    let new : BoardState = board_of (slice_set c.loop-hart.harts c.loop-hart.hart c.row_straight.new.self) c.row_straight.new.bus in
-    let running : HartState = get_or c.loop-hart.harts c.loop-hart.hart c.index-harts-hart.result in
-    let inside : c.loop-hart.hart < length c.loop-hart.harts = omega (arith, c.loop-hart-test.true, c.requires.end, so.size) in
-    let was = get_or_default c.loop-hart.harts c.loop-hart.hart c.index-harts-hart.result (new_hart 0 0) inside in
-    let made : Strides (machine_at c.loop-hart.hart now.plain) x now.dirty new.dirty =
-    subst (λ (h : HartState). Strides (machine h c.loop-hart.bus) x now.dirty new.dirty) was
-    (strides running c.row_straight.new.self c.loop-hart.bus c.row_straight.new.bus (c.row_straight.ensures.goes c.if-not-row_straight.false) (c.row_straight.ensures.stays c.if-not-row_straight.false)) in
+    let now : BoardState = board_of c.loop-first.harts c.loop-first.bus in
+    let new : BoardState = board_of (slice_set c.loop-first.harts c.loop-first.hart c.row_straight.new.self) c.row_straight.new.bus in
+    let running : HartState = get_or c.loop-first.harts c.loop-first.hart c.index-harts-hart.result in
+    let inside : c.loop-first.hart < length c.loop-first.harts = omega (arith, so.end, c.requires.end, so.size) in
+    let was = get_or_default c.loop-first.harts c.loop-first.hart c.index-harts-hart.result (new_hart 0 0) inside in
+    let made : Strides (machine_at c.loop-first.hart now.plain) x now.dirty new.dirty =
+    subst (λ (h : HartState). Strides (machine h c.loop-first.bus) x now.dirty new.dirty) was
+    (strides running c.row_straight.new.self c.loop-first.bus c.row_straight.new.bus (c.row_straight.ensures.goes c.if-not-row_straight.false) (c.row_straight.ensures.stays c.if-not-row_straight.false)) in
     record {
       first = omega (arith, so.first);
-      end = omega (arith, c.loop-hart-test.true);
-      size = length-set c.loop-hart.harts c.loop-hart.hart c.row_straight.new.self ∙ so.size;
-      board = machine_is_board now.plain c.loop-hart.hart x made.sizes so.board inside;
-      turns = row_goes_on c.args.first c.loop-hart.hart (board_of c.args.harts.now c.args.bus.now) now new x so.turns so.first inside so.size made refl;
+      end = omega (arith, so.end, c.if-hart-end.false);
+      size = length-set c.loop-first.harts c.loop-first.hart c.row_straight.new.self ∙ so.size;
+      board = machine_is_board now.plain c.loop-first.hart x made.sizes so.board inside;
+      turns = row_goes_on c.args.first c.loop-first.hart (board_of c.args.harts.now c.args.bus.now) now new x so.turns so.first inside so.size made refl;
     }
+
+-- the last hart ran one
+pub returns-then-hart-end-clause-board : goal.returns-then-hart-end-clause-board
+returns-then-hart-end-clause-board g c =
+    let so = c.loop-first.invariant in
+    let x : Machine = machine c.row_straight.new.self c.row_straight.new.bus in
+    let now : BoardState = board_of c.loop-first.harts c.loop-first.bus in
+    let new : BoardState = board_of (slice_set c.loop-first.harts c.loop-first.hart c.row_straight.new.self) c.row_straight.new.bus in
+    let running : HartState = get_or c.loop-first.harts c.loop-first.hart c.index-harts-hart.result in
+    let inside : c.loop-first.hart < length c.loop-first.harts = omega (arith, so.end, c.requires.end, so.size) in
+    let was = get_or_default c.loop-first.harts c.loop-first.hart c.index-harts-hart.result (new_hart 0 0) inside in
+    let made : Strides (machine_at c.loop-first.hart now.plain) x now.dirty new.dirty =
+    subst (λ (h : HartState). Strides (machine h c.loop-first.bus) x now.dirty new.dirty) was
+    (strides running c.row_straight.new.self c.loop-first.bus c.row_straight.new.bus (c.row_straight.ensures.goes c.if-not-row_straight.false) (c.row_straight.ensures.stays c.if-not-row_straight.false)) in
+    machine_is_board now.plain c.loop-first.hart x made.sizes so.board inside
+
+pub returns-then-hart-end-clause-turns : goal.returns-then-hart-end-clause-turns
+returns-then-hart-end-clause-turns g c =
+    let so = c.loop-first.invariant in
+    let x : Machine = machine c.row_straight.new.self c.row_straight.new.bus in
+    let now : BoardState = board_of c.loop-first.harts c.loop-first.bus in
+    let new : BoardState = board_of (slice_set c.loop-first.harts c.loop-first.hart c.row_straight.new.self) c.row_straight.new.bus in
+    let running : HartState = get_or c.loop-first.harts c.loop-first.hart c.index-harts-hart.result in
+    let inside : c.loop-first.hart < length c.loop-first.harts = omega (arith, so.end, c.requires.end, so.size) in
+    let was = get_or_default c.loop-first.harts c.loop-first.hart c.index-harts-hart.result (new_hart 0 0) inside in
+    let made : Strides (machine_at c.loop-first.hart now.plain) x now.dirty new.dirty =
+    subst (λ (h : HartState). Strides (machine h c.loop-first.bus) x now.dirty new.dirty) was
+    (strides running c.row_straight.new.self c.loop-first.bus c.row_straight.new.bus (c.row_straight.ensures.goes c.if-not-row_straight.false) (c.row_straight.ensures.stays c.if-not-row_straight.false)) in
+    row_goes_on c.args.first c.loop-first.hart (board_of c.args.harts.now c.args.bus.now) now new x so.turns so.first inside so.size made refl

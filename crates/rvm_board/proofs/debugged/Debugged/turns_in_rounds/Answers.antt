@@ -10,6 +10,15 @@ turns_in_a_row-ended-requires-clause-end g c =
     let harts = ap (λ (b : Guest). length b.board.harts) c.straight_rounds-rounds.ensures.turns.guest ∙ turns_count RoundRobin (c.loop-left.left - c.straight_rounds-rounds.result.left) c.loop-left.hart c.loop-left.self.guest ∙ c.loop-left.invariant.harts in
     omega (arith, c.min-turns.ensures, c.straight_rounds-rounds.ensures.inside, harts)
 
+-- all that were left were made
+pub returns-then-left-eq0-clause-turns : goal.returns-then-left-eq0-clause-turns
+returns-then-left-eq0-clause-turns g c =
+    let left : ℕ = c.straight_rounds-rounds.result.left in
+    let fewer : left ≤ c.loop-left.left = c.straight_rounds-rounds.ensures.left in
+    let so_far = goes_on_after c.harts-harts.result c.loop-left.left (c.loop-left.left - left) left c.loop-left.hart c.straight_rounds-rounds.result.hart (c.args.count - c.loop-left.left) (c.args.count - left) c.loop-left.self c.straight_rounds-rounds.new.self _ c.loop-left.invariant.turns
+    c.loop-left.invariant.harts (omega (arith, fewer)) (omega (arith, fewer, c.loop-left.invariant.left)) c.loop-left.invariant.hart c.straight_rounds-rounds.ensures.hart c.straight_rounds-rounds.ensures.turns refl in
+    all_made RoundRobin left c.straight_rounds-rounds.result.hart (c.args.count - left) (c.args.count - 0) _ _ _ so_far c.if-left-eq0.true (omega (arith, c.if-left-eq0.true)) refl
+
 pub returns-then-is_some-clause-turns : goal.returns-then-is_some-clause-turns
 returns-then-is_some-clause-turns g c =
     let hart : ℕ = c.straight_rounds-rounds.result.hart in
