@@ -155,15 +155,15 @@ fn row_of_harts<M: Memory, const LOOP: u8>(
     ensures board { IsBoard (board_of harts.new bus.new).plain }
     ensures turns { GoOn first result (board_of harts.old bus.old) (board_of harts.new bus.new) }
 {
-    let mut hart = first;
+    let mut hart = first as usize;
     loop {
-        let running = &mut harts[hart as usize];
+        let running = &mut harts[hart];
         if !running.row_straight::<M, LOOP>(decoder, bus) {
-            return hart;
+            return hart as u32;
         }
         hart += 1;
-        if hart == end {
-            return hart;
+        if hart == end as usize {
+            return end;
         }
     }
 }

@@ -3,7 +3,7 @@ use Rattle.std.proofs.lemmas.List.{get_or_default, length-set}
 use Rattle.rvm_hart.specs.Machine.{HartState, Machine, machine}
 use Rattle.rvm_hart.proofs.Strides.{Strides, strides}
 use Rattle.rvm_board.specs.Board.{BoardState, machine_at, new_hart}
-use Rattle.rvm_board.specs.Rounds.{board_of}
+use Rattle.rvm_board.specs.Rounds.{GoOn, board_of}
 use Rattle.rvm_board.proofs.Boards.{machine_is_board}
 use Rattle.rvm_board.proofs.Striding.{row_begins, row_goes_on}
 use Rattle.rvm_board.proofs.rounds.row_of_harts.Goals as goal
@@ -65,4 +65,5 @@ returns-then-hart-end-clause-turns g c =
     let made : Strides (machine_at c.loop-first.hart now.plain) x now.dirty new.dirty =
     subst (λ (h : HartState). Strides (machine h c.loop-first.bus) x now.dirty new.dirty) was
     (strides running c.row_straight.new.self c.loop-first.bus c.row_straight.new.bus (c.row_straight.ensures.goes c.if-not-row_straight.false) (c.row_straight.ensures.stays c.if-not-row_straight.false)) in
-    row_goes_on c.args.first c.loop-first.hart (board_of c.args.harts.now c.args.bus.now) now new x so.turns so.first inside so.size made refl
+    subst (λ i. GoOn c.args.first i (board_of c.args.harts.now c.args.bus.now) new) c.if-hart-end.true
+    (row_goes_on c.args.first c.loop-first.hart (board_of c.args.harts.now c.args.bus.now) now new x so.turns so.first inside so.size made refl)
