@@ -1,6 +1,6 @@
 //! Turns of several harts on the straight path. One loop makes them, and the counters of all harts rise after it.
 
-ghost use Rattle.std.specs.Prelude.{◌≡◌, ◌<◌, ◌≤◌, ◌+◌, ◌-◌, ◌%◌, ◌^◌, None, if◌then◌else◌, length, true};
+ghost use Rattle.std.specs.Prelude.{◌≡◌, ◌<◌, ◌≤◌, ◌+◌, ◌-◌, ◌%◌, ◌^◌, IfNone, IfSome, None, if◌then◌else◌, length, true};
 ghost use Rattle.rvm_hart.specs.Machine.{with_devices};
 ghost use Rattle.rvm_hart.specs.Straight.{at_time, risen};
 ghost use Rattle.rvm_board.specs.Board.{IsBoard};
@@ -126,18 +126,18 @@ fn rows_in_turn<M: Memory, const LOOP: u8>(
     let mut hart = first;
     let mut left = count;
     while left >= number - hart {
-        let next = row_of_harts::<M, LOOP>(decoder, harts, bus, hart, number);
-        left -= next - hart;
-        if next < number {
+        if let Some(next) = row_of_harts::<M, LOOP>(decoder, harts, bus, hart, number) {
+            left -= next - hart;
             return Rounds { left, hart: next };
         }
+        left -= number - hart;
         hart = 0;
     }
     Rounds { left, hart }
 }
 
 /// Runs one instruction of the path of each hart from `first` to the one before `end`. Ends early before one that
-/// leaves the path. No counter rises. Returns the number after that of the last hart that ran one.
+/// leaves the path, and returns the hart of this one. No counter rises.
 #[inline(always)]
 fn row_of_harts<M: Memory, const LOOP: u8>(
     decoder: Decoder,
@@ -145,25 +145,28 @@ fn row_of_harts<M: Memory, const LOOP: u8>(
     bus: &mut Bus<M>,
     first: u32,
     end: u32,
-) -> u32
+) -> Option<u32>
     requires first { first < end }
     requires end { end ≤ length harts.old }
     requires board { IsBoard (board_of harts.old bus.old).plain }
-    ensures first { first ≤ result }
-    ensures end { result ≤ end }
+    ensures first { IfSome result (λ next. first ≤ next) }
+    ensures end { IfSome result (λ next. next < end) }
     ensures size { length harts.new ≡ length harts.old }
     ensures board { IsBoard (board_of harts.new bus.new).plain }
-    ensures turns { GoOn first result (board_of harts.old bus.old) (board_of harts.new bus.new) }
+    ensures some { IfSome result
+        (λ next. GoOn first next (board_of harts.old bus.old) (board_of harts.new bus.new)) }
+    ensures all { IfNone result
+        (GoOn first end (board_of harts.old bus.old) (board_of harts.new bus.new)) }
 {
     let mut hart = first as usize;
     loop {
         let running = &mut harts[hart];
         if !running.row_straight::<M, LOOP>(decoder, bus) {
-            return hart as u32;
+            return Some(hart as u32);
         }
         hart += 1;
         if hart == end as usize {
-            return end;
+            return None;
         }
     }
 }

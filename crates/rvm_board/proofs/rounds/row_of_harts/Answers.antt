@@ -53,8 +53,8 @@ returns-then-hart-end-clause-board g c =
     (strides running c.row_straight.new.self c.loop-first.bus c.row_straight.new.bus (c.row_straight.ensures.goes c.if-not-row_straight.false) (c.row_straight.ensures.stays c.if-not-row_straight.false)) in
     machine_is_board now.plain c.loop-first.hart x made.sizes so.board inside
 
-pub returns-then-hart-end-clause-turns : goal.returns-then-hart-end-clause-turns
-returns-then-hart-end-clause-turns g c =
+pub returns-then-hart-end-clause-all : goal.returns-then-hart-end-clause-all
+returns-then-hart-end-clause-all g c =
     let so = c.loop-first.invariant in
     let x : Machine = machine c.row_straight.new.self c.row_straight.new.bus in
     let now : BoardState = board_of c.loop-first.harts c.loop-first.bus in

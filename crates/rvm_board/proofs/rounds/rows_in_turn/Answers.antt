@@ -1,6 +1,6 @@
-use Rattle.std.proofs.Common.{ℕ, ◌-◌, ◌≡◌, ◌<◌, ◌%◌, length, ap, refl, sym, ◌∙◌, arith}
+use Rattle.std.proofs.Common.{ℕ, ◌-◌, ◌≡◌, ◌<◌, ◌%◌, length, ap, refl, subst, sym, ◌∙◌, arith}
 use Rattle.std.proofs.Math.Nat.{mod-eq_of_lt, mod_self}
-use Rattle.rvm_board.specs.Rounds.{Striding, board_of}
+use Rattle.rvm_board.specs.Rounds.{GoOn, Striding, board_of}
 use Rattle.rvm_board.proofs.Striding.{after_row, begins}
 use Rattle.rvm_board.proofs.rounds.rows_in_turn.Goals as goal
 
@@ -14,33 +14,34 @@ loop-hart-init g c =
 pub loop-hart-preserved : goal.loop-hart-preserved
 loop-hart-preserved g c =
     let so = c.loop-hart.invariant in
-    let next : ℕ = c.row_of_harts-next.result in
-    let last : next ≡ length c.loop-hart.harts = omega (arith, c.if-next-number.false, c.row_of_harts-next.ensures.end, so.turns.size) in
+    let harts : ℕ = length c.loop-hart.harts in
+    let all : GoOn c.loop-hart.hart harts (board_of c.loop-hart.harts c.loop-hart.bus) (board_of c.row_of_harts.new.harts c.row_of_harts.new.bus) =
+    subst (λ i. GoOn c.loop-hart.hart i (board_of c.loop-hart.harts c.loop-hart.bus) (board_of c.row_of_harts.new.harts c.row_of_harts.new.bus)) (sym so.turns.size) c.in_default.ensures.all in
     record {
-      hart = omega (arith, so.hart, c.row_of_harts-next.ensures.size);
-      turns = after_row c.args.count c.args.first c.loop-hart.left (c.loop-hart.left - (next - c.loop-hart.hart)) c.loop-hart.hart next 0 (board_of c.args.harts.now c.args.bus.now) (board_of c.loop-hart.harts c.loop-hart.bus) (board_of c.row_of_harts-next.new.harts c.row_of_harts-next.new.bus)
-          c.row_of_harts-next.ensures.turns so.turns so.hart (omega (arith, last, so.turns.size, c.loop-hart-test.true)) refl (sym (ap (λ i. i % length c.loop-hart.harts) last ∙ mod_self (length c.loop-hart.harts)));
+      hart = omega (arith, so.hart, c.row_of_harts.ensures.size);
+      turns = after_row c.args.count c.args.first c.loop-hart.left (c.loop-hart.left - (length c.args.harts.now - c.loop-hart.hart)) c.loop-hart.hart harts 0 (board_of c.args.harts.now c.args.bus.now) (board_of c.loop-hart.harts c.loop-hart.bus) (board_of c.row_of_harts.new.harts c.row_of_harts.new.bus)
+          all so.turns so.hart (omega (arith, so.turns.size, c.loop-hart-test.true)) (ap (λ l. c.loop-hart.left - (l - c.loop-hart.hart)) (sym so.turns.size)) (sym (mod_self harts));
     }
 
 -- an instruction of the hart whose turn it is leaves the path
-pub returns-then-next-number-clause-hart : goal.returns-then-next-number-clause-hart
-returns-then-next-number-clause-hart g c =
+pub returns-in-Some-clause-hart : goal.returns-in-Some-clause-hart
+returns-in-Some-clause-hart g c =
     let so = c.loop-hart.invariant in
-    let next : ℕ = c.row_of_harts-next.result in
+    let next : ℕ = c.in-Some.next in
     let less : ℕ = c.loop-hart.left - (next - c.loop-hart.hart) in
-    let inside : next < length c.loop-hart.harts = omega (arith, c.if-next-number.true, so.turns.size) in
-    let turns : Striding c.args.count c.args.first (board_of c.args.harts.now c.args.bus.now) less next (board_of c.row_of_harts-next.new.harts c.row_of_harts-next.new.bus) =
-    after_row c.args.count c.args.first c.loop-hart.left less c.loop-hart.hart next next (board_of c.args.harts.now c.args.bus.now) (board_of c.loop-hart.harts c.loop-hart.bus) (board_of c.row_of_harts-next.new.harts c.row_of_harts-next.new.bus)
-    c.row_of_harts-next.ensures.turns so.turns so.hart (omega (arith, inside, so.turns.size, c.loop-hart-test.true)) refl (sym (mod-eq_of_lt inside)) in
+    let inside : next < length c.loop-hart.harts = omega (arith, c.in-Some.ensures.end, so.turns.size) in
+    let turns : Striding c.args.count c.args.first (board_of c.args.harts.now c.args.bus.now) less next (board_of c.row_of_harts.new.harts c.row_of_harts.new.bus) =
+    after_row c.args.count c.args.first c.loop-hart.left less c.loop-hart.hart next next (board_of c.args.harts.now c.args.bus.now) (board_of c.loop-hart.harts c.loop-hart.bus) (board_of c.row_of_harts.new.harts c.row_of_harts.new.bus)
+    c.in-Some.ensures.some so.turns so.hart (omega (arith, inside, so.turns.size, c.loop-hart-test.true)) refl (sym (mod-eq_of_lt inside)) in
     turns.place
 
-pub returns-then-next-number-clause-turns : goal.returns-then-next-number-clause-turns
-returns-then-next-number-clause-turns g c =
+pub returns-in-Some-clause-turns : goal.returns-in-Some-clause-turns
+returns-in-Some-clause-turns g c =
     let so = c.loop-hart.invariant in
-    let next : ℕ = c.row_of_harts-next.result in
+    let next : ℕ = c.in-Some.next in
     let less : ℕ = c.loop-hart.left - (next - c.loop-hart.hart) in
-    let inside : next < length c.loop-hart.harts = omega (arith, c.if-next-number.true, so.turns.size) in
-    let turns : Striding c.args.count c.args.first (board_of c.args.harts.now c.args.bus.now) less next (board_of c.row_of_harts-next.new.harts c.row_of_harts-next.new.bus) =
-    after_row c.args.count c.args.first c.loop-hart.left less c.loop-hart.hart next next (board_of c.args.harts.now c.args.bus.now) (board_of c.loop-hart.harts c.loop-hart.bus) (board_of c.row_of_harts-next.new.harts c.row_of_harts-next.new.bus)
-    c.row_of_harts-next.ensures.turns so.turns so.hart (omega (arith, inside, so.turns.size, c.loop-hart-test.true)) refl (sym (mod-eq_of_lt inside)) in
+    let inside : next < length c.loop-hart.harts = omega (arith, c.in-Some.ensures.end, so.turns.size) in
+    let turns : Striding c.args.count c.args.first (board_of c.args.harts.now c.args.bus.now) less next (board_of c.row_of_harts.new.harts c.row_of_harts.new.bus) =
+    after_row c.args.count c.args.first c.loop-hart.left less c.loop-hart.hart next next (board_of c.args.harts.now c.args.bus.now) (board_of c.loop-hart.harts c.loop-hart.bus) (board_of c.row_of_harts.new.harts c.row_of_harts.new.bus)
+    c.in-Some.ensures.some so.turns so.hart (omega (arith, inside, so.turns.size, c.loop-hart-test.true)) refl (sym (mod-eq_of_lt inside)) in
     turns.took
