@@ -123,7 +123,7 @@ impl Pair {
     }
 
     /// The next event of host A, and of each host as frames come of it.
-    fn play(&mut self, alloc: Global, event: HostEvent) -> Option<()> {
+    pub(crate) fn play(&mut self, alloc: Global, event: HostEvent) -> Option<()> {
         let mut next = made(&mut self.a, alloc, event)?;
         for _ in 0..FRAMES {
             let Some(Addressed { from, to, frame }) = next else {

@@ -49,27 +49,11 @@ impl Pair {
 
     /// Host B accepts the offer once more, host A hears of it, and the guest goes over.
     fn go_over(&mut self, alloc: Global) -> Option<()> {
-        let offer = made(&mut self.a, alloc, HostEvent::Do(Command::Resend))?;
-        self.answer(alloc, offer)?;
+        self.play(alloc, HostEvent::Do(Command::Resend))?;
         for _ in 0..COPIES {
-            let next = made(&mut self.a, alloc, HostEvent::Do(Command::Copy))?;
-            self.answer(alloc, next)?;
+            self.play(alloc, HostEvent::Do(Command::Copy))?;
         }
         Some(())
-    }
-
-    /// A frame comes, and what is made of it, and so on: at most eight.
-    fn answer(&mut self, alloc: Global, frame: Option<Addressed>) -> Option<()> {
-        let mut next = frame;
-        for _ in 0..8 {
-            let Some(Addressed { from, to, frame }) = next else {
-                return Some(());
-            };
-            let host = if to == 0 { &mut self.a } else { &mut self.b };
-            next = made(host, alloc, came(alloc, from, frame)?)?;
-        }
-        drop(next);
-        None
     }
 
     /// Puts both journals in order this many times: how many events they are.
