@@ -9,7 +9,8 @@ ghost use Rattle.clap.specs.declared.builder.command.Command.TheViews.{out-Comma
 ghost use Rattle.clap.specs.declared.error.kind.ErrorKind.TheVariants as kind;
 ghost use Rattle.rvm_command_line.specs.Program.{allowed, asm, audit, bounded, debug, dis, flag, host, move, needed, needed_option, number, option, program, run, script, tell, top, with_addresses, with_board, with_default, with_guest, with_hosting, with_move, with_name, with_policy, with_status, with_verdict, with_world};
 
-use clap::{Arg, ArgAction, Command, Error, value_parser};
+use clap::builder::ValueParser;
+use clap::{Arg, ArgAction, Command, Error};
 use std::alloc::Global;
 
 /// The version of the program.
@@ -165,351 +166,107 @@ fn bare_program<'a>(alloc: Global) -> Command<'a>
         .arg_required_else_help(true)
 }
 
-/// The argument IMAGE: the file of an image.
-fn image_argument<'a>(alloc: Global) -> Arg<'a>
-    ensures rule { rule_of result ≡ needed (codes "image") }
+/// A word with this name that may be there. Help calls it `value`.
+fn allowed<'a>(alloc: Global, id: &'a str, value: &'a str, help: &'a str) -> Arg<'a>
+    ensures rule { rule_of result ≡ allowed id.now }
     ensures local { result.global ≡ false }
 {
-    Arg::new(alloc, "image")
-        .value_name("IMAGE")
-        .required(true)
-        .help("The image: an ELF file, or plain bytes")
+    Arg::new(alloc, id).value_name(value).help(help)
 }
 
-/// The flag `--raw`: whether the image is plain bytes.
-fn raw_argument<'a>(alloc: Global) -> Arg<'a>
-    ensures rule { rule_of result ≡ flag (codes "raw") }
+/// A word with this name that must be there.
+fn needed<'a>(alloc: Global, id: &'a str, value: &'a str, help: &'a str) -> Arg<'a>
+    ensures rule { rule_of result ≡ needed id.now }
     ensures local { result.global ≡ false }
 {
-    Arg::new(alloc, "raw")
-        .long("raw")
+    allowed(alloc, id, value, help).required(true)
+}
+
+/// A flag, `--name`.
+fn flag<'a>(alloc: Global, name: &'a str, help: &'a str) -> Arg<'a>
+    ensures rule { rule_of result ≡ flag name.now }
+    ensures local { result.global ≡ false }
+{
+    Arg::new(alloc, name)
+        .long(name)
         .action(ArgAction::SetTrue)
-        .help("IMAGE is plain bytes, to be placed at 0x80000000")
+        .help(help)
 }
 
-/// The option `--harts`: the number of harts of the board.
-fn harts_argument<'a>(alloc: Global) -> Arg<'a>
-    ensures rule { rule_of result ≡ number (codes "harts") (codes "1") 8 }
+/// An option with a text, `--name`. Help calls the text `value`.
+fn option<'a>(alloc: Global, name: &'a str, value: &'a str, help: &'a str) -> Arg<'a>
+    ensures rule { rule_of result ≡ option name.now }
     ensures local { result.global ≡ false }
 {
-    Arg::new(alloc, "harts")
-        .long("harts")
-        .value_name("N")
-        .default_value("1")
-        .value_parser(value_parser!(u32).range(1..=8))
-        .help("How many harts, 1 to 8")
+    allowed(alloc, name, value, help).long(name)
 }
 
-/// The option `--pages`: the number of pages of RAM.
-fn pages_argument<'a>(alloc: Global) -> Arg<'a>
-    ensures rule { rule_of result ≡ number (codes "pages") (codes "256") 4096 }
+/// An option with a text, which must be given.
+fn needed_option<'a>(alloc: Global, name: &'a str, value: &'a str, help: &'a str) -> Arg<'a>
+    ensures rule { rule_of result ≡ needed_option name.now }
     ensures local { result.global ≡ false }
 {
-    Arg::new(alloc, "pages")
-        .long("pages")
-        .value_name("N")
-        .default_value("256")
-        .value_parser(value_parser!(u32).range(1..=4096))
-        .help("How many pages of 4096 bytes of RAM, 1 to 4096")
+    option(alloc, name, value, help).required(true)
 }
 
-/// The option `--steps` of `run`: the most turns that it makes.
-fn steps_argument<'a>(alloc: Global) -> Arg<'a>
-    ensures rule { rule_of result ≡ number (codes "steps") (codes "1000000") 1000000000 }
+/// An option with a number from `least` to `most`.
+fn bounded<'a>(
+    alloc: Global,
+    name: &'a str,
+    value: &'a str,
+    least: u32,
+    most: u32,
+    help: &'a str,
+) -> Arg<'a>
+    ensures rule { rule_of result ≡ bounded name.now least most }
     ensures local { result.global ≡ false }
 {
-    Arg::new(alloc, "steps")
-        .long("steps")
-        .value_name("N")
-        .default_value("1000000")
-        .value_parser(value_parser!(u32).range(1..=1_000_000_000))
-        .help("How many turns at most, 1 to 1000000000")
+    let parser = ValueParser::signed(i64::from(least), i64::from(most));
+    option(alloc, name, value, help).value_parser(parser)
+}
+
+/// An option that has this text if none is given.
+fn with_default<'a>(option: Arg<'a>, default: &'a str) -> Arg<'a>
+    ensures rule { rule_of result ≡ with_default default.now (rule_of option.entry) }
+    ensures local { result.global ≡ option.entry.global }
+{
+    option.default_value(default)
+}
+
+/// An option with a number from 1 to `most`, which is `default` if none is given.
+fn number<'a>(
+    alloc: Global,
+    name: &'a str,
+    value: &'a str,
+    default: &'a str,
+    most: u32,
+    help: &'a str,
+) -> Arg<'a>
+    ensures rule { rule_of result ≡ number name.now default.now most }
+    ensures local { result.global ≡ false }
+{
+    with_default(bounded(alloc, name, value, 1, most, help), default)
 }
 
 /// The option `--input`: the file whose bytes come to the console.
-fn input_argument<'a>(alloc: Global) -> Arg<'a>
+fn input_option<'a>(alloc: Global) -> Arg<'a>
     ensures rule { rule_of result ≡ option (codes "input") }
     ensures local { result.global ≡ false }
 {
-    Arg::new(alloc, "input")
-        .long("input")
-        .value_name("FILE")
-        .help("The file whose bytes come to the guest's console")
-}
-
-/// The flag `--verdict`: whether the status tells how the guest ended.
-fn verdict_argument<'a>(alloc: Global) -> Arg<'a>
-    ensures rule { rule_of result ≡ flag (codes "verdict") }
-    ensures local { result.global ≡ false }
-{
-    Arg::new(alloc, "verdict")
-        .long("verdict")
-        .action(ArgAction::SetTrue)
-        .help("The status tells how the guest ended")
-}
-
-/// The flag `--exit-status`: whether the status is the one with which the guest halted.
-fn exit_status_argument<'a>(alloc: Global) -> Arg<'a>
-    ensures rule { rule_of result ≡ flag (codes "exit-status") }
-    ensures local { result.global ≡ false }
-{
-    Arg::new(alloc, "exit-status")
-        .long("exit-status")
-        .action(ArgAction::SetTrue)
-        .help("The status is that with which the guest halted")
-}
-
-/// The argument SRC: the file of the assembly text.
-fn source_argument<'a>(alloc: Global) -> Arg<'a>
-    ensures rule { rule_of result ≡ needed (codes "source") }
-    ensures local { result.global ≡ false }
-{
-    Arg::new(alloc, "source")
-        .value_name("SRC")
-        .required(true)
-        .help("The file of the assembly text")
-}
-
-/// The argument OUT: the ELF file that is written.
-fn output_argument<'a>(alloc: Global) -> Arg<'a>
-    ensures rule { rule_of result ≡ needed (codes "output") }
-    ensures local { result.global ≡ false }
-{
-    Arg::new(alloc, "output")
-        .value_name("OUT")
-        .required(true)
-        .help("The ELF file that is written")
-}
-
-/// The argument FILE: the file of a script.
-fn script_argument<'a>(alloc: Global) -> Arg<'a>
-    ensures rule { rule_of result ≡ needed (codes "script") }
-    ensures local { result.global ≡ false }
-{
-    Arg::new(alloc, "script")
-        .value_name("FILE")
-        .required(true)
-        .help("The file of the script")
-}
-
-/// The option `--hosts`: the number of hosts of the world.
-fn hosts_argument<'a>(alloc: Global) -> Arg<'a>
-    ensures rule { rule_of result ≡ with_default (codes "2") (bounded (codes "hosts") 2 8) }
-    ensures local { result.global ≡ false }
-{
-    Arg::new(alloc, "hosts")
-        .long("hosts")
-        .value_name("N")
-        .default_value("2")
-        .value_parser(value_parser!(u32).range(2..=8))
-        .help("How many hosts, 2 to 8")
-}
-
-/// The option `--stream` of `script`: the version of the streams between the hosts.
-fn stream_argument<'a>(alloc: Global) -> Arg<'a>
-    ensures rule { rule_of result ≡ bounded (codes "stream") 1 3 }
-    ensures local { result.global ≡ false }
-{
-    Arg::new(alloc, "stream")
-        .long("stream")
-        .value_name("V")
-        .value_parser(value_parser!(u32).range(1..=3))
-        .help("The version of their streams, 1 to 3; if not given, 1 for two hosts and 3 for more")
-}
-
-/// The option `--steps` of `move` and `audit`: the most turns that the guest makes.
-fn move_steps_argument<'a>(alloc: Global) -> Arg<'a>
-    ensures rule { rule_of result ≡ number (codes "steps") (codes "10000") 100000 }
-    ensures local { result.global ≡ false }
-{
-    Arg::new(alloc, "steps")
-        .long("steps")
-        .value_name("N")
-        .default_value("10000")
-        .value_parser(value_parser!(u32).range(1..=100_000))
-        .help("How many turns at most, 1 to 100000")
-}
-
-/// The option `--rounds`: the number of rounds of copies after which the guest is paused.
-fn rounds_argument<'a>(alloc: Global) -> Arg<'a>
-    ensures rule { rule_of result ≡ number (codes "rounds") (codes "29") 1000 }
-    ensures local { result.global ≡ false }
-{
-    Arg::new(alloc, "rounds")
-        .long("rounds")
-        .value_name("R")
-        .default_value("29")
-        .value_parser(value_parser!(u32).range(1..=1000))
-        .help("Pauses the guest after R rounds of copies, 1 to 1000")
-}
-
-/// The option `--left`: the guest is paused once fewer pages than this are left.
-fn left_argument<'a>(alloc: Global) -> Arg<'a>
-    ensures rule { rule_of result ≡ number (codes "left") (codes "50") 4096 }
-    ensures local { result.global ≡ false }
-{
-    Arg::new(alloc, "left")
-        .long("left")
-        .value_name("L")
-        .default_value("50")
-        .value_parser(value_parser!(u32).range(1..=4096))
-        .help("Pauses it once fewer than L pages are left, 1 to 4096")
-}
-
-/// The option `--factor`: the guest is paused once more copies are made than this many times its pages.
-fn factor_argument<'a>(alloc: Global) -> Arg<'a>
-    ensures rule { rule_of result ≡ number (codes "factor") (codes "3") 100 }
-    ensures local { result.global ≡ false }
-{
-    Arg::new(alloc, "factor")
-        .long("factor")
-        .value_name("F")
-        .default_value("3")
-        .value_parser(value_parser!(u32).range(1..=100))
-        .help("Pauses it once more copies are made than F times its pages, 1 to 100")
-}
-
-/// The option `--stream` of `move` and `audit`: the version of the streams.
-fn move_stream_argument<'a>(alloc: Global) -> Arg<'a>
-    ensures rule { rule_of result ≡ number (codes "stream") (codes "1") 3 }
-    ensures local { result.global ≡ false }
-{
-    Arg::new(alloc, "stream")
-        .long("stream")
-        .value_name("V")
-        .default_value("1")
-        .value_parser(value_parser!(u32).range(1..=3))
-        .help("The version of the streams, 1 to 3")
-}
-
-/// The argument NAME: the name of a host.
-fn name_argument<'a>(alloc: Global) -> Arg<'a>
-    ensures rule { rule_of result ≡ needed (codes "name") }
-    ensures local { result.global ≡ false }
-{
-    Arg::new(alloc, "name")
-        .value_name("NAME")
-        .required(true)
-        .help("The name of this host in the file of the world's hosts, A to H")
-}
-
-/// The argument IMAGE of `host`, which may be missing: the file of the image of the guest that begins there.
-fn optional_image_argument<'a>(alloc: Global) -> Arg<'a>
-    ensures rule { rule_of result ≡ allowed (codes "image") }
-    ensures local { result.global ≡ false }
-{
-    Arg::new(alloc, "image").value_name("IMAGE").help(
-        "The image of the guest that begins here, if one does: an ELF file, or plain bytes",
+    option(
+        alloc,
+        "input",
+        "FILE",
+        "The file whose bytes come to the guest's console",
     )
 }
 
-/// The option `--peers`: the file of the world's hosts.
-fn peers_argument<'a>(alloc: Global) -> Arg<'a>
-    ensures rule { rule_of result ≡ needed_option (codes "peers") }
+/// The flag `--verdict`: whether the status tells how the guest ended.
+fn verdict_flag<'a>(alloc: Global) -> Arg<'a>
+    ensures rule { rule_of result ≡ flag (codes "verdict") }
     ensures local { result.global ≡ false }
 {
-    Arg::new(alloc, "peers")
-        .long("peers")
-        .value_name("FILE")
-        .required(true)
-        .help("The file of the world's hosts: a line `NAME ADDRESS:PORT` for each, 2 to 8")
-}
-
-/// The option `--listen`: the address at which a host listens for other hosts.
-fn listen_argument<'a>(alloc: Global) -> Arg<'a>
-    ensures rule { rule_of result ≡ option (codes "listen") }
-    ensures local { result.global ≡ false }
-{
-    Arg::new(alloc, "listen")
-        .long("listen")
-        .value_name("ADDR")
-        .help(
-            "The address at which it listens for other hosts, if it is not that of its name in FILE",
-        )
-}
-
-/// The option `--control`: where a host listens for operators.
-fn control_argument<'a>(alloc: Global) -> Arg<'a>
-    ensures rule { rule_of result ≡ needed_option (codes "control") }
-    ensures local { result.global ≡ false }
-{
-    Arg::new(alloc, "control")
-        .long("control")
-        .value_name("SOCKET")
-        .required(true)
-        .help(
-            "Where it listens for operators: the path of a Unix socket, or an address of this machine",
-        )
-}
-
-/// The option `--secret`: the file of the secret that hosts share.
-fn secret_argument<'a>(alloc: Global) -> Arg<'a>
-    ensures rule { rule_of result ≡ option (codes "secret") }
-    ensures local { result.global ≡ false }
-{
-    Arg::new(alloc, "secret")
-        .long("secret")
-        .value_name("FILE")
-        .help("The file of the secret that the hosts of the world share")
-}
-
-/// The option `--patience`: the number of milliseconds that a move waits for an answer.
-fn patience_argument<'a>(alloc: Global) -> Arg<'a>
-    ensures rule { rule_of result ≡ number (codes "patience") (codes "10000") 1000000000 }
-    ensures local { result.global ≡ false }
-{
-    Arg::new(alloc, "patience")
-        .long("patience")
-        .value_name("MS")
-        .default_value("10000")
-        .value_parser(value_parser!(u32).range(1..=1_000_000_000))
-        .help("Gives a move up after so many milliseconds without an answer, 1 to 1000000000")
-}
-
-/// The option `--rate`: the most turns that a guest makes in a second.
-fn rate_argument<'a>(alloc: Global) -> Arg<'a>
-    ensures rule { rule_of result ≡ bounded (codes "rate") 1 1000000000 }
-    ensures local { result.global ≡ false }
-{
-    Arg::new(alloc, "rate")
-        .long("rate")
-        .value_name("N")
-        .value_parser(value_parser!(u32).range(1..=1_000_000_000))
-        .help(
-            "How many turns the guest makes in a second at most, 1 to 1000000000; if not given, as many as it can",
-        )
-}
-
-/// The flag `--until-halt`: whether the process of a host ends once the guest has halted there.
-fn until_halt_argument<'a>(alloc: Global) -> Arg<'a>
-    ensures rule { rule_of result ≡ flag (codes "until-halt") }
-    ensures local { result.global ≡ false }
-{
-    Arg::new(alloc, "until-halt")
-        .long("until-halt")
-        .action(ArgAction::SetTrue)
-        .help("Ends once the guest has halted here")
-}
-
-/// The argument SOCKET of `tell`: where the host listens for operators.
-fn socket_argument<'a>(alloc: Global) -> Arg<'a>
-    ensures rule { rule_of result ≡ needed (codes "socket") }
-    ensures local { result.global ≡ false }
-{
-    Arg::new(alloc, "socket")
-        .value_name("SOCKET")
-        .required(true)
-        .help("What the host was given by --control: a path, which has a `/`, or an address")
-}
-
-/// The argument LINE of `tell`, which may be missing: the line that the host is told.
-fn line_argument<'a>(alloc: Global) -> Arg<'a>
-    ensures rule { rule_of result ≡ allowed (codes "line") }
-    ensures local { result.global ≡ false }
-{
-    Arg::new(alloc, "line")
-        .value_name("LINE")
-        .help("The line; without it, those of standard input")
+    flag(alloc, "verdict", "The status tells how the guest ended")
 }
 
 /// Adds to a command the words for the form of an image and for its board.
@@ -521,9 +278,20 @@ fn board_command<'a>(command: Command<'a>, alloc: Global) -> Result<Command<'a>,
 {
     Ok(
         command
-            .arg(raw_argument(alloc))?
-            .arg(harts_argument(alloc))?
-            .arg(pages_argument(alloc))?,
+            .arg(flag(
+                alloc,
+                "raw",
+                "IMAGE is plain bytes, to be placed at 0x80000000",
+            ))?
+            .arg(number(alloc, "harts", "N", "1", 8, "How many harts, 1 to 8"))?
+            .arg(number(
+                alloc,
+                "pages",
+                "N",
+                "256",
+                4096,
+                "How many pages of 4096 bytes of RAM, 1 to 4096",
+            ))?,
     )
 }
 
@@ -534,7 +302,15 @@ fn guest_command<'a>(command: Command<'a>, alloc: Global) -> Result<Command<'a>,
         → IfOk result (λ c. (fields_of c).has_globals ≡ false) }
     ensures memory { IfErr result (λ e. kind_of e ≡ kind.OutOfMemory) }
 {
-    board_command(command.arg(image_argument(alloc))?, alloc)
+    board_command(
+        command.arg(needed(
+            alloc,
+            "image",
+            "IMAGE",
+            "The image: an ELF file, or plain bytes",
+        ))?,
+        alloc,
+    )
 }
 
 /// Adds to a command the words for a guest and for the hosts of a world.
@@ -546,8 +322,18 @@ fn world_command<'a>(command: Command<'a>, alloc: Global) -> Result<Command<'a>,
 {
     Ok(
         guest_command(command, alloc)?
-            .arg(hosts_argument(alloc))?
-            .arg(stream_argument(alloc))?,
+            .arg(with_default(
+                bounded(alloc, "hosts", "N", 2, 8, "How many hosts, 2 to 8"),
+                "2",
+            ))?
+            .arg(bounded(
+                alloc,
+                "stream",
+                "V",
+                1,
+                3,
+                "The version of their streams, 1 to 3; if not given, 1 for two hosts and 3 for more",
+            ))?,
     )
 }
 
@@ -560,9 +346,30 @@ fn policy_command<'a>(command: Command<'a>, alloc: Global) -> Result<Command<'a>
 {
     Ok(
         command
-            .arg(rounds_argument(alloc))?
-            .arg(left_argument(alloc))?
-            .arg(factor_argument(alloc))?,
+            .arg(number(
+                alloc,
+                "rounds",
+                "R",
+                "29",
+                1000,
+                "Pauses the guest after R rounds of copies, 1 to 1000",
+            ))?
+            .arg(number(
+                alloc,
+                "left",
+                "L",
+                "50",
+                4096,
+                "Pauses it once fewer than L pages are left, 1 to 4096",
+            ))?
+            .arg(number(
+                alloc,
+                "factor",
+                "F",
+                "3",
+                100,
+                "Pauses it once more copies are made than F times its pages, 1 to 100",
+            ))?,
     )
 }
 
@@ -573,8 +380,22 @@ fn moving_command<'a>(command: Command<'a>, alloc: Global) -> Result<Command<'a>
         → IfOk result (λ c. (fields_of c).has_globals ≡ false) }
     ensures memory { IfErr result (λ e. kind_of e ≡ kind.OutOfMemory) }
 {
-    let guest = guest_command(command, alloc)?.arg(move_steps_argument(alloc))?;
-    Ok(policy_command(guest, alloc)?.arg(move_stream_argument(alloc))?)
+    let guest = guest_command(command, alloc)?.arg(number(
+        alloc,
+        "steps",
+        "N",
+        "10000",
+        100_000,
+        "How many turns at most, 1 to 100000",
+    ))?;
+    Ok(policy_command(guest, alloc)?.arg(number(
+        alloc,
+        "stream",
+        "V",
+        "1",
+        3,
+        "The version of the streams, 1 to 3",
+    ))?)
 }
 
 /// Adds to a command the flag by which its status tells how the guest ended.
@@ -584,7 +405,16 @@ fn judged_command<'a>(command: Command<'a>, alloc: Global) -> Result<Command<'a>
         → IfOk result (λ c. (fields_of c).has_globals ≡ false) }
     ensures memory { IfErr result (λ e. kind_of e ≡ kind.OutOfMemory) }
 {
-    Ok(command.arg(verdict_argument(alloc))?)
+    Ok(command.arg(verdict_flag(alloc))?)
+}
+
+/// The flag `--exit-status`: whether the status is the one with which the guest halted.
+fn exit_status_flag<'a>(alloc: Global) -> Arg<'a>
+    ensures rule { rule_of result ≡ flag (codes "exit-status") }
+    ensures local { result.global ≡ false }
+{
+    let help = "The status is that with which the guest halted";
+    flag(alloc, "exit-status", help)
 }
 
 /// Adds to a command the flags that say what its status tells.
@@ -596,8 +426,8 @@ fn status_command<'a>(command: Command<'a>, alloc: Global) -> Result<Command<'a>
 {
     Ok(
         command
-            .arg(verdict_argument(alloc))?
-            .arg(exit_status_argument(alloc))?,
+            .arg(verdict_flag(alloc))?
+            .arg(exit_status_flag(alloc))?,
     )
 }
 
@@ -611,8 +441,15 @@ fn run_command<'a>(alloc: Global) -> Result<Command<'a>, Error>
         .about("Runs a guest, and writes what it sends")
         .after_help(RUN_HELP);
     let run = guest_command(run, alloc)?
-        .arg(steps_argument(alloc))?
-        .arg(input_argument(alloc))?;
+        .arg(number(
+            alloc,
+            "steps",
+            "N",
+            "1000000",
+            1_000_000_000,
+            "How many turns at most, 1 to 1000000000",
+        ))?
+        .arg(input_option(alloc))?;
     status_command(run, alloc)
 }
 
@@ -626,8 +463,8 @@ fn asm_command<'a>(alloc: Global) -> Result<Command<'a>, Error>
         Command::new(alloc, "asm")
             .about("Assembles a text into an ELF file")
             .after_help(ASM_HELP)
-            .arg(source_argument(alloc))?
-            .arg(output_argument(alloc))?,
+            .arg(needed(alloc, "source", "SRC", "The file of the assembly text"))?
+            .arg(needed(alloc, "output", "OUT", "The ELF file that is written"))?,
     )
 }
 
@@ -664,7 +501,12 @@ fn script_command<'a>(alloc: Global) -> Result<Command<'a>, Error>
     let script = Command::new(alloc, "script")
         .about("Answers the lines of a script for hosts between which a guest moves")
         .after_help(SCRIPT_HELP);
-    Ok(world_command(script, alloc)?.arg(script_argument(alloc))?)
+    Ok(world_command(script, alloc)?.arg(needed(
+        alloc,
+        "script",
+        "FILE",
+        "The file of the script",
+    ))?)
 }
 
 /// The command `move`, with the words that it takes.
@@ -700,10 +542,30 @@ fn addresses_command<'a>(command: Command<'a>, alloc: Global) -> Result<Command<
 {
     Ok(
         command
-            .arg(peers_argument(alloc))?
-            .arg(listen_argument(alloc))?
-            .arg(control_argument(alloc))?
-            .arg(secret_argument(alloc))?,
+            .arg(needed_option(
+                alloc,
+                "peers",
+                "FILE",
+                "The file of the world's hosts: a line `NAME ADDRESS:PORT` for each, 2 to 8",
+            ))?
+            .arg(option(
+                alloc,
+                "listen",
+                "ADDR",
+                "The address at which it listens for other hosts, if it is not that of its name in FILE",
+            ))?
+            .arg(needed_option(
+                alloc,
+                "control",
+                "SOCKET",
+                "Where it listens for operators: the path of a Unix socket, or an address of this machine",
+            ))?
+            .arg(option(
+                alloc,
+                "secret",
+                "FILE",
+                "The file of the secret that the hosts of the world share",
+            ))?,
     )
 }
 
@@ -716,9 +578,46 @@ fn named_command<'a>(command: Command<'a>, alloc: Global) -> Result<Command<'a>,
 {
     Ok(
         command
-            .arg(name_argument(alloc))?
-            .arg(optional_image_argument(alloc))?,
+            .arg(needed(
+                alloc,
+                "name",
+                "NAME",
+                "The name of this host in the file of the world's hosts, A to H",
+            ))?
+            .arg(allowed(
+                alloc,
+                "image",
+                "IMAGE",
+                "The image of the guest that begins here, if one does: an ELF file, or plain bytes",
+            ))?,
     )
+}
+
+/// The option `--patience`: the number of milliseconds that a move waits for an answer.
+fn patience_option<'a>(alloc: Global) -> Arg<'a>
+    ensures rule { rule_of result ≡ number (codes "patience") (codes "10000") 1000000000 }
+    ensures local { result.global ≡ false }
+{
+    let help = "Gives a move up after so many milliseconds without an answer, 1 to 1000000000";
+    number(alloc, "patience", "MS", "10000", 1_000_000_000, help)
+}
+
+/// The option `--rate`: the most turns that a guest makes in a second.
+fn rate_option<'a>(alloc: Global) -> Arg<'a>
+    ensures rule { rule_of result ≡ bounded (codes "rate") 1 1000000000 }
+    ensures local { result.global ≡ false }
+{
+    let help =
+        "How many turns the guest makes in a second at most, 1 to 1000000000; if not given, as many as it can";
+    bounded(alloc, "rate", "N", 1, 1_000_000_000, help)
+}
+
+/// The flag `--until-halt`: whether the process of a host ends once the guest has halted there.
+fn until_halt_flag<'a>(alloc: Global) -> Arg<'a>
+    ensures rule { rule_of result ≡ flag (codes "until-halt") }
+    ensures local { result.global ≡ false }
+{
+    flag(alloc, "until-halt", "Ends once the guest has halted here")
 }
 
 /// Adds to a command the words that say how a host works.
@@ -730,10 +629,10 @@ fn hosting_command<'a>(command: Command<'a>, alloc: Global) -> Result<Command<'a
 {
     Ok(
         command
-            .arg(input_argument(alloc))?
-            .arg(patience_argument(alloc))?
-            .arg(rate_argument(alloc))?
-            .arg(until_halt_argument(alloc))?,
+            .arg(input_option(alloc))?
+            .arg(patience_option(alloc))?
+            .arg(rate_option(alloc))?
+            .arg(until_halt_flag(alloc))?,
     )
 }
 
@@ -761,7 +660,17 @@ fn tell_command<'a>(alloc: Global) -> Result<Command<'a>, Error>
         Command::new(alloc, "tell")
             .about("Tells a host lines of an operator, and writes its answers")
             .after_help(TELL_HELP)
-            .arg(socket_argument(alloc))?
-            .arg(line_argument(alloc))?,
+            .arg(needed(
+                alloc,
+                "socket",
+                "SOCKET",
+                "What the host was given by --control: a path, which has a `/`, or an address",
+            ))?
+            .arg(allowed(
+                alloc,
+                "line",
+                "LINE",
+                "The line; without it, those of standard input",
+            ))?,
     )
 }

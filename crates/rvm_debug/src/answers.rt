@@ -7,7 +7,7 @@ ghost use Rattle.rvm_dis.specs.Disassembly.{line_at};
 ghost use Rattle.rvm_debug.specs.Answers.{address_of, bytes_text, four_text, memory_text, output_text, is_refused, registers_text, reply_text, row_text, step_text, two_text};
 
 use rvm_board::{BoardEvent, BoardReply};
-use rvm_dis::write_line;
+use rvm_dis::{Digits, write_line};
 use rvm_refusal::{LinkFault, Refusal};
 use rvm_text::{register_name, write_hex};
 use std::fmt;
@@ -15,23 +15,6 @@ use std::io::Write;
 
 /// The most bytes of RAM that a line shows.
 const ROW_SIZE: usize = 16;
-
-/// A word, shown as eight hexadecimal digits.
-#[derive(Clone, Copy)]
-struct Word(u32);
-
-impl fmt::Display for Word {
-    ghost use Rattle.std.specs.Prelude.{Some};
-    ghost use Rattle.rvm_dis.specs.Pieces.{hex_digits};
-
-    ghost output = { λ word. Some (hex_digits 8 word.0) };
-
-    #[tactic(auto, using(rvm_dis::proofs::Hex::hexes))]
-    fn fmt<W: fmt::Write>(&self, f: &mut fmt::Formatter<W>) -> fmt::Result {
-        let word = self.0;
-        write!(f, "{word:08x}")
-    }
-}
 
 /// A register, shown as `NAME=VVVVVVVV`.
 #[derive(Clone, Copy)]
@@ -47,7 +30,7 @@ impl fmt::Display for Named {
     ghost output = { λ r. Some (register_text r.name.now r.value) };
 
     fn fmt<W: fmt::Write>(&self, f: &mut fmt::Formatter<W>) -> fmt::Result {
-        write!(f, "{}={}", self.name, Word(self.value))
+        write!(f, "{}={}", self.name, Digits(self.value))
     }
 }
 
@@ -67,7 +50,7 @@ impl<'a> fmt::Display for InWords<'a> {
             BoardReply::Trapped(exception) => write!(f, "trapped {}", exception.code()),
             BoardReply::Interrupted(interrupt) => write!(f, "interrupted {}", interrupt.code()),
             BoardReply::Halted(status) => write!(f, "halted {status}"),
-            BoardReply::Break(address) => write!(f, "break {}", Word(*address)),
+            BoardReply::Break(address) => write!(f, "break {}", Digits(*address)),
             BoardReply::Done => write!(f, "done"),
             BoardReply::Refused(why) => write!(f, "{}", Refusal::from(*why)),
             BoardReply::Bytes(_) | BoardReply::Regs(_) | BoardReply::Line { .. } => Ok(()),
@@ -191,7 +174,7 @@ fn write_row<W: Write>(
 {
     let from = ROW_SIZE * row;
     let to = bytes.len().min(from + ROW_SIZE);
-    write!(writer, "{}: ", Word(address.wrapping_add(from as u32)))?;
+    write!(writer, "{}: ", Digits(address.wrapping_add(from as u32)))?;
     write_hex(writer, &bytes[from..to])?;
     writeln!(writer)?;
     Ok(())
@@ -206,7 +189,7 @@ fn write_registers<W: Write>(writer: &mut W, registers: &[u32; 33]) -> Result<()
     for row in 0..8 {
         write_four(writer, registers, 4 * row)?;
     }
-    writeln!(writer, "pc={}", Word(registers[32]))?;
+    writeln!(writer, "pc={}", Digits(registers[32]))?;
     Ok(())
 }
 

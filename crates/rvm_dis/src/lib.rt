@@ -4,14 +4,16 @@
 //! Its laws are stated by what the assembler makes of a text, which no code here uses: the text of a word, assembled,
 //! is the word again, as a line alone and as a text with an address.
 //!
-//! To be read in this order: `shapes`, `rows`, `line`, `laws`, `reassembly`.
+//! To be read in this order: `digits`, `shapes`, `rows`, `line`, `laws`, `reassembly`.
 #![tactic(auto)]
 
+mod digits;
 pub mod laws;
 mod line;
 pub mod reassembly;
 mod rows;
 mod shapes;
 
+pub use digits::Digits;
 pub use line::write_line;
 pub use rows::write_ins;

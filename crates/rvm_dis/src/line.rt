@@ -5,9 +5,9 @@ ghost use Rattle.std.specs.Io.KnownBytes.{Appends};
 ghost use Rattle.rvm_dis.specs.Disassembly.{line_at};
 ghost use Rattle.rvm_dis.specs.Pieces.{listed};
 
+use crate::digits::Digits;
 use crate::rows::write_ins;
 use rvm_refusal::LinkFault;
-use std::fmt;
 use std::io::Write;
 
 /// Writes `address` and `word`, each as eight hexadecimal digits, and the text of the instruction that the word is
@@ -18,23 +18,6 @@ pub fn write_line<W: Write>(address: u32, word: u32, writer: &mut W) -> Result<(
 {
     write_numbers(address, word, writer)?;
     write_ins(address, word, writer)
-}
-
-/// A number, shown as eight hexadecimal digits.
-#[derive(Clone, Copy)]
-struct Digits(u32);
-
-impl fmt::Display for Digits {
-    ghost use Rattle.std.specs.Prelude.{Some};
-    ghost use Rattle.rvm_dis.specs.Pieces.{hex_digits};
-
-    ghost output = { λ number. Some (hex_digits 8 number.0) };
-
-    #[tactic(auto, using(crate::proofs::Hex::hexes))]
-    fn fmt<W: fmt::Write>(&self, f: &mut fmt::Formatter<W>) -> fmt::Result {
-        let number = self.0;
-        write!(f, "{number:08x}")
-    }
 }
 
 /// Writes the address and the word, which stand before the text.

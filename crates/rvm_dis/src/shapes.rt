@@ -5,6 +5,7 @@ ghost use Rattle.std.specs.Io.KnownBytes.{Appends};
 ghost use Rattle.rvm_text.specs.Registers.{name_of};
 ghost use Rattle.rvm_dis.specs.Texts.{upper_text, jump_text, branch_text, access_text, immediate_text, shift_text, registers_text, csr_text, csr_immediate_text, load_reserved_text, atomic_text, word_text, fence_text};
 
+use crate::digits::Digits;
 use rvm_isa::{CsrNo, Imm5, Imm12, Imm20, Off13, Off21, Reg, Shamt};
 use rvm_refusal::LinkFault;
 use rvm_text::register_name;
@@ -29,10 +30,8 @@ impl fmt::Display for Word {
 
     ghost output = { λ word. Some (hex 8 word.0) };
 
-    #[tactic(auto, using(crate::proofs::Hex::hexes))]
     fn fmt<W: fmt::Write>(&self, f: &mut fmt::Formatter<W>) -> fmt::Result {
-        let word = self.0;
-        write!(f, "0x{word:08x}")
+        write!(f, "0x{}", Digits(self.0))
     }
 }
 

@@ -33,7 +33,7 @@ pub(crate) enum Outcome {
 }
 
 /// Writes why a line is refused.
-fn refuse<O: Write>(output: &mut O, why: Refusal) -> Result<Outcome, LinkFault>
+pub(crate) fn refuse<O: Write>(output: &mut O, why: Refusal) -> Result<Outcome, LinkFault>
     ensures refused { IfOk result (λ outcome. outcome ≡ Outcome.Refused) }
     ensures told { IfOk result (λ outcome. Appends (O.contents output.old) (O.contents output.new)
         (text_of why ++ codes "\n")) }

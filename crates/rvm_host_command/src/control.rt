@@ -2,7 +2,7 @@
 
 ghost use Rattle.std.specs.Prelude.{◌≤◌, length, IfOk, IfSome};
 
-use crate::answers::{Outcome, answer_line};
+use crate::answers::{Outcome, answer_line, refuse};
 use crate::operators::Operators;
 use crate::process::Process;
 use rvm_cell::{Access, Hosting};
@@ -131,9 +131,8 @@ fn take_bytes<
 
 /// Refuses a line whose end has not come. Returns `LinkFault`, which ends the connection.
 fn refuse_and_end<O: Write>(output: &mut O, why: Refusal) -> Result<(), LinkFault> {
-    writeln!(output, "{why}")?;
-    writeln!(output, "end 1")?;
-    output.flush()?;
+    let outcome = refuse(output, why)?;
+    end_answer(output, outcome)?;
     Err(LinkFault)
 }
 
@@ -171,7 +170,13 @@ fn answer_and_end<
     line: &[u8],
     output: &mut O,
 ) -> Result<(), LinkFault> {
-    let status = match answer_line(rt, process, access, line, output)? {
+    let outcome = answer_line(rt, process, access, line, output)?;
+    end_answer(output, outcome)
+}
+
+/// Writes the last line of an answer.
+fn end_answer<O: Write>(output: &mut O, outcome: Outcome) -> Result<(), LinkFault> {
+    let status = match outcome {
         Outcome::Done => 0,
         Outcome::Refused => 1,
     };

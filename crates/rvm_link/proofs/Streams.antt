@@ -11,7 +11,9 @@ use Rattle.rvm_link.specs.declared.error.SendError.{SendError}
 use Rattle.rvm_link.specs.declared.error.SendError.TheVariants.{BadFrame}
 use Rattle.rvm_link.specs.Records.{Answer, Carries, Fits, Question, Record, data_of, record_bytes}
 use Rattle.rvm_link.proofs.Records.{both_carried, one_more, one_record}
-use Rattle.rvm_link.specs.Streams.{IsSent, hello, stream_of}
+use Rattle.rvm_link.specs.Streams.{IsSent, hello, record_of, stream_of}
+use Rattle.rvm_link.specs.declared.stream.Aside.{Aside}
+use Rattle.rvm_link.specs.declared.stream.Aside.TheVariants as kind
 
 -- the bytes before a body are few
 short_behind : (hosts move size body : List ℕ) (kind : ℕ) → length hosts ≤ 2 → length move ≡ 8 → length size ≡ 4
@@ -96,10 +98,9 @@ module _ (is_made : Addressed → Type 0) (version host : ℕ) (before : Option 
         carries = subst (λ l. Carries l before now) same (one_more all r before mid now fit s.carries added);
       }
 
-  pub asked : (mid now : Option (List ℕ)) (number : ℕ) → number < 2 ^ 64 → IsSent is_made version host before mid
-      → Appends mid now (record_bytes (Question number)) → IsSent is_made version host before now
-  asked mid now number fit s added = aside mid now (Question number) fit refl s added
-
-  pub answered : (mid now : Option (List ℕ)) (number : ℕ) → number < 2 ^ 64 → IsSent is_made version host before mid
-      → Appends mid now (record_bytes (Answer number)) → IsSent is_made version host before now
-  answered mid now number fit s added = aside mid now (Answer number) fit refl s added
+  -- a question or an answer more
+  pub asked : (mid now : Option (List ℕ)) (a : Aside) (number : ℕ) → number < 2 ^ 64
+      → IsSent is_made version host before mid → Appends mid now (record_bytes (record_of a number))
+      → IsSent is_made version host before now
+  asked mid now kind.Question number fit s added = aside mid now (Question number) fit refl s added
+  asked mid now kind.Answer number fit s added = aside mid now (Answer number) fit refl s added

@@ -5,7 +5,9 @@ use Rattle.std.specs.Prelude.{◌≡◌, ℕ, List, ◌++◌, Option}
 use Rattle.rvm_frame.specs.declared.addressed.Addressed.{Addressed}
 use Rattle.rvm_frame.specs.declared.frame.Frame.TheVariants.{Hello}
 use Rattle.rvm_frame.specs.Grammar.{sent, spelling}
-use Rattle.rvm_link.specs.Records.{Record, Carries, record_bytes}
+use Rattle.rvm_link.specs.Records.{Record, Answer, Carries, Question, record_bytes}
+use Rattle.rvm_link.specs.declared.stream.Aside.{Aside}
+use Rattle.rvm_link.specs.declared.stream.Aside.TheVariants as aside
 
 -- Hello, which is written without the hosts that it goes between
 abbrev pub hello_frame : (version : ℕ) → Addressed
@@ -49,3 +51,8 @@ pub record GoesOn (bytes : List ℕ) (s t : PlainStream) : Type 0 where
 pub record Adds (r : Record) (s t : PlainStream) : Type 0 where
   pub same : t ≡ record s { now = t.now }
   pub written : Appends s.now t.now (record_bytes r)
+
+-- the record that asks or answers with a number
+abbrev pub record_of : Aside → (number : ℕ) → Record
+record_of aside.Question number = Question number
+record_of aside.Answer number = Answer number

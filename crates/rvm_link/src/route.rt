@@ -2,12 +2,11 @@
 
 ghost use Rattle.std.specs.Prelude.{◌≡◌, ◌≢◌, Err, IfErr, IfSome, IsErr, IsSome, None, OnErr, OnOk, is_some};
 ghost use Rattle.rvm_frame.specs.Grammar.{HasSpelling, sent, spelling};
-ghost use Rattle.rvm_link.specs.Records.{Answer, Question};
-ghost use Rattle.rvm_link.specs.Streams.{Adds, Begins, GoesOn, hello_frame};
+ghost use Rattle.rvm_link.specs.Streams.{Adds, Begins, GoesOn, hello_frame, record_of};
 
 use crate::error::SendError;
 use crate::made::{Made, Origin};
-use crate::stream::Stream;
+use crate::stream::{Aside, Stream};
 use rvm_refusal::LinkFault;
 use std::io::Write;
 
@@ -58,10 +57,10 @@ impl<L: Origin, W: Write + Drop> Route<L, W> {
         sent
     }
 
-    /// Asks whether all that was sent has come. `LinkFault` if there is no connection or it fails; then it is dropped.
-    pub(crate) fn ask(&mut self, number: u64) -> Result<(), LinkFault>
+    /// Writes a question or an answer. `LinkFault` if there is no connection or it fails; then it is dropped.
+    pub(crate) fn add(&mut self, aside: Aside, number: u64) -> Result<(), LinkFault>
         ensures sent { OnOk result (IfSome self.old.stream (λ old. IfSome self.new.stream
-            (Adds (Question number) old))) }
+            (Adds (record_of aside number) old))) }
         ensures kept { OnOk result (IsSome self.new.stream) }
         ensures closed { self.old.stream ≡ None → IsErr result }
         ensures lost { OnErr result (self.new.stream ≡ None) }
@@ -69,22 +68,7 @@ impl<L: Origin, W: Write + Drop> Route<L, W> {
         let Some(stream) = self.stream.take() else {
             return Err(LinkFault);
         };
-        self.stream = stream.ask(number);
-        self.stays_open()
-    }
-
-    /// Answers a question. `LinkFault` if there is no connection or it fails; then it is dropped.
-    pub(crate) fn answer(&mut self, number: u64) -> Result<(), LinkFault>
-        ensures sent { OnOk result (IfSome self.old.stream (λ old. IfSome self.new.stream
-            (Adds (Answer number) old))) }
-        ensures kept { OnOk result (IsSome self.new.stream) }
-        ensures closed { self.old.stream ≡ None → IsErr result }
-        ensures lost { OnErr result (self.new.stream ≡ None) }
-    {
-        let Some(stream) = self.stream.take() else {
-            return Err(LinkFault);
-        };
-        self.stream = stream.answer(number);
+        self.stream = stream.add(aside, number);
         self.stays_open()
     }
 

@@ -7,6 +7,7 @@ ghost use Rattle.rvm_link.specs.Streams.{hello_frame};
 use crate::error::SendError;
 use crate::made::{Made, Origin};
 use crate::route::Route;
+use crate::stream::Aside;
 use rvm_refusal::LinkFault;
 use std::alloc::{AllocError, Global};
 use std::io::Write;
@@ -61,17 +62,19 @@ impl<L: Origin, W: Write + Drop> Routes<L, W> {
     /// Asks a host whether all that was sent to it has come. `LinkFault` if no connection to it is open or it fails.
     /// The call may wait for another thread.
     pub fn ask<R: Wait>(&self, rt: &R, host: u8, number: u64) -> Result<(), LinkFault> {
-        match self.ends.get(usize::from(host)) {
-            Some(end) => end.lock(rt).ask(number),
-            None => Err(LinkFault),
-        }
+        self.add(rt, host, Aside::Question, number)
     }
 
     /// Answers a question of a host. `LinkFault` if no connection to it is open or it fails. The call may wait for
     /// another thread.
     pub fn answer<R: Wait>(&self, rt: &R, host: u8, number: u64) -> Result<(), LinkFault> {
+        self.add(rt, host, Aside::Answer, number)
+    }
+
+    /// Sends a question or an answer to a host. `LinkFault` if no connection to it is open or it fails.
+    fn add<R: Wait>(&self, rt: &R, host: u8, aside: Aside, number: u64) -> Result<(), LinkFault> {
         match self.ends.get(usize::from(host)) {
-            Some(end) => end.lock(rt).answer(number),
+            Some(end) => end.lock(rt).add(aside, number),
             None => Err(LinkFault),
         }
     }

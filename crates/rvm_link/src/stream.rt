@@ -3,8 +3,8 @@
 ghost use Rattle.std.specs.Prelude.{◌≡◌, ◌≢◌, Err, IfErr, IfOk, IfSome, IsSome, None, OnOk, Some, length};
 ghost use Rattle.std.specs.Io.KnownBytes.{Appends};
 ghost use Rattle.rvm_frame.specs.Grammar.{HasSpelling, sent, spelling};
-ghost use Rattle.rvm_link.specs.Records.{Answer, Carries, Question, record_bytes};
-ghost use Rattle.rvm_link.specs.Streams.{Adds, Begins, GoesOn, hello, hello_frame};
+ghost use Rattle.rvm_link.specs.Records.{Carries, record_bytes};
+ghost use Rattle.rvm_link.specs.Streams.{Adds, Begins, GoesOn, hello, hello_frame, record_of};
 
 use crate::error::SendError;
 use crate::made::{Made, Origin};
@@ -15,6 +15,13 @@ use std::io;
 use std::io::Write;
 use std::marker::{Model, PhantomData};
 use std::snapshot::Snapshot;
+
+/// A question whether all that was sent has come, or the answer to one.
+#[derive(Clone, Copy)]
+pub(crate) enum Aside {
+    Question,
+    Answer,
+}
 
 /// A connection to a host on which a stream of frames was begun. Since then only records were written on it, which
 /// carry Hello and frames that were made here for that host, or are questions and answers. Contracts see the bytes that
@@ -120,10 +127,10 @@ impl<L: Origin, W: Write + Drop> Stream<L, W> {
         (Some(stream), sent)
     }
 
-    /// Asks whether all that was sent has come. None, and the connection is dropped, if it fails.
+    /// Writes a question or an answer with this number. None, and the connection is dropped, if it fails.
     #[tactic(auto, using(crate::proofs::Streams::asked))]
-    pub(crate) fn ask(self, number: u64) -> Option<Stream<L, W>>
-        ensures { IfSome result (Adds (Question number) self) }
+    pub(crate) fn add(self, aside: Aside, number: u64) -> Option<Stream<L, W>>
+        ensures { IfSome result (Adds (record_of aside number) self) }
     {
         let Stream {
             version,
@@ -133,32 +140,7 @@ impl<L: Origin, W: Write + Drop> Stream<L, W> {
             origin,
         } = self;
         let mut output = output;
-        if put_question(&mut output, number).is_err() {
-            return None;
-        }
-        Some(Stream {
-            version,
-            host,
-            first,
-            output,
-            origin,
-        })
-    }
-
-    /// Answers a question. None, and the connection is dropped, if it fails.
-    #[tactic(auto, using(crate::proofs::Streams::answered))]
-    pub(crate) fn answer(self, number: u64) -> Option<Stream<L, W>>
-        ensures { IfSome result (Adds (Answer number) self) }
-    {
-        let Stream {
-            version,
-            host,
-            first,
-            output,
-            origin,
-        } = self;
-        let mut output = output;
-        if put_answer(&mut output, number).is_err() {
+        if put_aside(&mut output, aside, number).is_err() {
             return None;
         }
         Some(Stream {
@@ -237,18 +219,22 @@ fn record_len(version: u32, addressed: &Addressed) -> u16
     frame_len(version, addressed) as u16
 }
 
-/// Writes a question and flushes it.
-fn put_question<W: Write>(output: &mut W, number: u64) -> io::Result<()>
-    ensures { OnOk result (Appends (W.contents output.old) (W.contents output.new) (record_bytes (Question number))) }
+/// Writes a question or an answer, and flushes it.
+fn put_aside<W: Write>(output: &mut W, aside: Aside, number: u64) -> io::Result<()>
+    ensures { OnOk result (Appends (W.contents output.old) (W.contents output.new)
+        (record_bytes (record_of aside number))) }
 {
-    write_question(output, number)?;
+    write_aside(output, aside, number)?;
     output.flush()
 }
 
-/// Writes an answer and flushes it.
-fn put_answer<W: Write>(output: &mut W, number: u64) -> io::Result<()>
-    ensures { OnOk result (Appends (W.contents output.old) (W.contents output.new) (record_bytes (Answer number))) }
+/// Writes a question or an answer.
+fn write_aside<W: Write>(output: &mut W, aside: Aside, number: u64) -> io::Result<()>
+    ensures { OnOk result (Appends (W.contents output.old) (W.contents output.new)
+        (record_bytes (record_of aside number))) }
 {
-    write_answer(output, number)?;
-    output.flush()
+    match aside {
+        Aside::Question => write_question(output, number),
+        Aside::Answer => write_answer(output, number),
+    }
 }

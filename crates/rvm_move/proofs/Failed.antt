@@ -70,5 +70,5 @@ failed_of arguments file ends a b first second before after left failure = recor
   first = first;
   second = second;
   left = left;
-  failure = failure;
+  holds = failure;
 }

@@ -58,6 +58,6 @@ not_audited (Ok x) status arguments file ends a b first second before after left
   first = first;
   second = second;
   left = left;
-  none = none is;
+  holds = none is;
 })
 not_audited (Err e) status arguments file ends a b first second before after left none = tt

@@ -69,7 +69,7 @@ not_audited (Err e) arguments file ends a b first second left none = (
     first = first;
     second = second;
     left = left;
-    none = none.1;
+    holds = none.1;
   }),
 )
 

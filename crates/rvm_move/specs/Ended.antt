@@ -183,15 +183,21 @@ pub record IsNotBegun (a : MoveArguments) (file : List ℕ) (before after : Opti
   pub reason : IsMoveRefusal a file why
   pub told : IsTold why before after
 
--- a move of two hosts failed, the first of which began with the guest of the file, and it was reported how
-pub record IsFailed (a : MoveArguments) (file : List ℕ) (before after : Option (List ℕ)) : Type 0 where
+-- this holds of the two hosts of a move, the first of which began with the guest of the file, as the move left them
+pub record HoldsOfHosts (a : MoveArguments) (file : List ℕ)
+    (Holds : Ends → (fault_a fault_b : Option CloseKind) → (first second : History) → Type 0) : Type 0 where
   pub ends : Ends
   pub fault_a : Option CloseKind
   pub fault_b : Option CloseKind
   pub first : History
   pub second : History
   pub left : AreLeft a file ends fault_a fault_b first second
-  pub failure : IsFailureOf ends fault_a fault_b first second before after
+  pub holds : Holds ends fault_a fault_b first second
+
+-- a move of two hosts failed, the first of which began with the guest of the file, and it was reported how
+abbrev pub IsFailed : MoveArguments → (file : List ℕ) → (before after : Option (List ℕ)) → Type 0
+IsFailed a file before after =
+    HoldsOfHosts a file (λ ends fault_a fault_b first second. IsFailureOf ends fault_a fault_b first second before after)
 
 -- the move did not begin, or it failed
 abbrev pub IsNotMoved : MoveArguments → (file : List ℕ) → (before after : Option (List ℕ)) → Type 0

@@ -12,7 +12,7 @@ use Rattle.rvm_core.specs.EventLines.{event_lines}
 use Rattle.rvm_guest.specs.TheGuest.{board}
 use Rattle.rvm_recorder.specs.History.{History}
 use Rattle.rvm_move.specs.declared.ends.Ends.{Ends}
-use Rattle.rvm_move.specs.Ended.{AreLeft, IsMade, IsNotBegun, IsSound, failure_line}
+use Rattle.rvm_move.specs.Ended.{HoldsOfHosts, IsMade, IsNotBegun, IsSound, failure_line}
 use Rattle.rvm_move.specs.Opening.{AreOpened, guest_in}
 use Rattle.rvm_protocol.specs.World.{new_world}
 use Rattle.rvm_refusal.specs.declared.refusal.Refusal.TheVariants as refusal
@@ -63,14 +63,9 @@ abbrev pub HasNoOrder : Ends → (a b : Option CloseKind) → (first second : Hi
 HasNoOrder ends a b first second before after = HasFailed ends a b before after ⊎ IsUnordered first second before after
 
 -- no order was written of a move between two hosts, the first of which began with the guest of the file
-pub record IsUnaudited (a : MoveArguments) (file : List ℕ) (before after : Option (List ℕ)) : Type 0 where
-  pub ends : Ends
-  pub fault_a : Option CloseKind
-  pub fault_b : Option CloseKind
-  pub first : History
-  pub second : History
-  pub left : AreLeft a file ends fault_a fault_b first second
-  pub none : HasNoOrder ends fault_a fault_b first second before after
+abbrev pub IsUnaudited : MoveArguments → (file : List ℕ) → (before after : Option (List ℕ)) → Type 0
+IsUnaudited a file before after =
+    HoldsOfHosts a file (λ ends fault_a fault_b first second. HasNoOrder ends fault_a fault_b first second before after)
 
 -- no order was written: the move did not begin or failed, it has none, memory ran out, or a write failed
 abbrev pub IsNotAudited : MoveArguments → (file : List ℕ) → (before after : Option (List ℕ)) → Type 0

@@ -14,13 +14,18 @@ use Rattle.rvm_command_line.specs.Program.{faults_of, program}
 use Rattle.rvm_program.specs.Ended.{HasEnded, IsUnbegun, IsUntold, Written}
 use Rattle.rvm_program.specs.Files.{Named}
 
--- words have no fault for `clap`, and what they ask for has ended with this status
-pub record IsEnded (files created : Named) (words : List Text) (status : ℕ) (script : Option (List ℕ))
-    (output errors : Written) : Type 0 where
+-- words have no fault for `clap`, and this holds of what they ask for
+pub record AskFor (words : List Text) (Holds : Arguments → Type 0) : Type 0 where
   pub faultless : fault_of program words ≡ []
   pub arguments : Arguments
   pub asked : IsAsked (subcommand_of program words) arguments
-  pub ended : HasEnded files created arguments status script output errors
+  pub holds : Holds arguments
+
+-- what words ask for has ended with this status
+abbrev pub IsEnded : (files created : Named) → (words : List Text) → (status : ℕ) → (script : Option (List ℕ))
+    → (output errors : Written) → Type 0
+IsEnded files created words status script output errors =
+    AskFor words (λ a. HasEnded files created a status script output errors)
 
 -- how a command with the status 1 ended: it was refused, or passes on the status 1 of a guest, or did not begin, and
 -- that was reported; or a write to the errors failed
@@ -29,25 +34,20 @@ HasFailed files created a script output errors =
     HasEnded files created a 1 script output errors
     ⊎ (IsUnbegun files a 1 errors ⊎ IsUntold files created a script output)
 
--- words have no fault for `clap`, and what they ask for failed so
-pub record IsRefused (files created : Named) (words : List Text) (script : Option (List ℕ)) (output errors : Written)
-    : Type 0 where
-  pub faultless : fault_of program words ≡ []
-  pub arguments : Arguments
-  pub asked : IsAsked (subcommand_of program words) arguments
-  pub failed : HasFailed files created arguments script output errors
+-- what words ask for failed so
+abbrev pub IsRefused : (files created : Named) → (words : List Text) → (script : Option (List ℕ)) → (output errors : Written)
+    → Type 0
+IsRefused files created words script output errors =
+    AskFor words (λ a. HasFailed files created a script output errors)
 
 -- a host is told something
 abbrev pub IsTelling : Arguments → Type 0
 IsTelling (Tell a) = ⊤
 IsTelling other = ⊥
 
--- words have no fault for `clap`, and ask for a host to be told something
-pub record AreTelling (words : List Text) : Type 0 where
-  pub faultless : fault_of program words ≡ []
-  pub arguments : Arguments
-  pub asked : IsAsked (subcommand_of program words) arguments
-  pub telling : IsTelling arguments
+-- words ask for a host to be told something
+abbrev pub AreTelling : (words : List Text) → Type 0
+AreTelling words = AskFor words (λ a. IsTelling a)
 
 -- a status tells more than that a run ended
 abbrev pub TellsMore : StatusOf → Type 0
@@ -62,24 +62,18 @@ IsJudged (Move a) = a.verdict ≡ true
 IsJudged (Host a) = a.verdict ≡ true
 IsJudged other = ⊥
 
--- words have no fault for `clap`, and ask for such a status
-pub record AreJudged (words : List Text) : Type 0 where
-  pub faultless : fault_of program words ≡ []
-  pub arguments : Arguments
-  pub asked : IsAsked (subcommand_of program words) arguments
-  pub judged : IsJudged arguments
+-- words ask for such a status
+abbrev pub AreJudged : (words : List Text) → Type 0
+AreJudged words = AskFor words (λ a. IsJudged a)
 
 -- a run has the status of its guest
 abbrev pub IsPassingOn : Arguments → Type 0
 IsPassingOn (Run a) = a.status ≡ Guest
 IsPassingOn other = ⊥
 
--- words have no fault for `clap`, and ask for a run with the status of its guest
-pub record ArePassingOn (words : List Text) : Type 0 where
-  pub faultless : fault_of program words ≡ []
-  pub arguments : Arguments
-  pub asked : IsAsked (subcommand_of program words) arguments
-  pub passing : IsPassingOn arguments
+-- words ask for a run with the status of its guest
+abbrev pub ArePassingOn : (words : List Text) → Type 0
+ArePassingOn words = AskFor words (λ a. IsPassingOn a)
 
 -- words may ask for help
 abbrev pub AskHelp : (words : List Text) → Type 0

@@ -125,7 +125,7 @@ impl Pair {
     }
 
     /// Gives host A an event, and each host the frames that follow from it.
-    fn play(&mut self, alloc: Global, event: HostEvent) -> Option<()> {
+    pub(crate) fn play(&mut self, alloc: Global, event: HostEvent) -> Option<()> {
         let mut next = made(&mut self.a, alloc, event)?;
         for _ in 0..FRAMES {
             let Some(Addressed { from, to, frame }) = next else {

@@ -49,27 +49,11 @@ impl Pair {
 
     /// Has host B accept the offer once more, and host A hear of it, and moves the guest.
     fn go_over(&mut self, alloc: Global) -> Option<()> {
-        let offer = made(&mut self.a, alloc, HostEvent::Do(Command::Resend))?;
-        self.answer(alloc, offer)?;
+        self.play(alloc, HostEvent::Do(Command::Resend))?;
         for _ in 0..COPIES {
-            let next = made(&mut self.a, alloc, HostEvent::Do(Command::Copy))?;
-            self.answer(alloc, next)?;
+            self.play(alloc, HostEvent::Do(Command::Copy))?;
         }
         Some(())
-    }
-
-    /// Gives a frame to its host, and at most seven more that follow from it.
-    fn answer(&mut self, alloc: Global, frame: Option<Addressed>) -> Option<()> {
-        let mut next = frame;
-        for _ in 0..8 {
-            let Some(Addressed { from, to, frame }) = next else {
-                return Some(());
-            };
-            let host = if to == 0 { &mut self.a } else { &mut self.b };
-            next = made(host, alloc, came(alloc, from, frame)?)?;
-        }
-        drop(next);
-        None
     }
 
     /// Puts both journals in order this many times. Returns the number of events, or 0 if they are kept in runs.

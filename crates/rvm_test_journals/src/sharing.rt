@@ -24,44 +24,80 @@ const POKE: BoardEvent = BoardEvent::PokeReg {
     value: 7,
 };
 
+/// What is tried with a shared host.
+#[derive(Clone, Copy)]
+enum Trial {
+    Poke,
+    Fill,
+    Miss,
+    Move,
+}
+
 /// Has one seat write to a register, and the other one read it.
 pub fn write_and_read<R: AllocGlobal + Print + Wait>(rt: &R) -> Option<()> {
-    let host = recorded(rt.alloc(), 0, 1, 100)?;
-    poke_and_look::<Brand, R>(rt, Blank::new(2), host)
+    share_new(rt, 100, 2, Trial::Poke)
 }
 
 /// Fills a journal, which then hands an event back, and closes the host with all receipts.
 pub fn fill_a_journal<R: AllocGlobal + Print + Wait>(rt: &R) -> Option<()> {
-    let host = recorded(rt.alloc(), 0, 1, 1)?;
-    fill_and_close::<Brand, R>(rt, Blank::new(2), host)
+    share_new(rt, 1, 2, Trial::Fill)
 }
 
 /// Tries to close a host without a receipt, and without its seat, and prints which place is missed.
 pub fn miss_places<R: AllocGlobal + Print + Wait>(rt: &R) -> Option<()> {
-    let host = recorded(rt.alloc(), 0, 1, 2)?;
-    call_and_miss::<Brand, R>(rt, Blank::new(1), host)
+    share_new(rt, 2, 1, Trial::Miss)
 }
 
 /// Counts the frames that calls hand out: those of a move at its source.
 pub fn hand_out_frames<R: AllocGlobal + Print + Wait>(rt: &R) -> Option<()> {
-    let host = recorded(rt.alloc(), 0, 1, 100)?;
-    share_and_move::<Brand, R>(rt, Blank::new(2), host)
+    share_new(rt, 100, 2, Trial::Move)
 }
 
-/// Shares a host, and counts the frames of a move at it.
-fn share_and_move<L: Seating, R: AllocGlobal + Print + Wait>(
+/// Shares a new host, whose journal takes this many entries, between this many seats, and does this with it.
+fn share_new<R: AllocGlobal + Print + Wait>(
+    rt: &R,
+    capacity: u32,
+    seats: u32,
+    trial: Trial,
+) -> Option<()> {
+    let host = recorded(rt.alloc(), 0, 1, capacity)?;
+    share_and_try::<Brand, R>(rt, Blank::new(u64::from(seats)), host, seats, trial)
+}
+
+/// Shares a host between this many seats, and does this with it.
+fn share_and_try<L: Seating, R: AllocGlobal + Print + Wait>(
     rt: &R,
     blank: Blank,
     recorded: Recorded<PagedRam>,
+    seats: u32,
+    trial: Trial,
 ) -> Option<()>
     requires ledger { (blank.name ≡ L.name) × (blank.parts ≡ L.parts) × (L.seats ≡ L.parts) }
-    requires seats { blank.parts ≡ 2 }
+    requires seats { blank.parts ≡ seats }
     requires empty { recorded.journal.entries ≡ [] }
     requires opening { recorded.journal.opening ≡ L.opening }
     requires capacity { recorded.capacity ≡ L.capacity }
 {
-    let (host, mut seats) = share_host::<L>(rt.alloc(), blank, recorded, 2)?;
-    let done = tell_frames(rt, &host, seats.as_mut_slice());
+    let (host, seats) = share_host::<L>(rt.alloc(), blank, recorded, seats)?;
+    match trial {
+        Trial::Poke | Trial::Move => tell_and_drop(rt, host, seats, trial),
+        Trial::Fill => fill_and_close(rt, host, seats),
+        Trial::Miss => call_and_miss(rt, host, seats),
+    }
+}
+
+/// Tells what the calls of these seats answer.
+fn tell_and_drop<L: Seating, R: AllocGlobal + Print + Wait>(
+    rt: &R,
+    host: SharedHost<L, PagedRam>,
+    seats: Vec<Seat<L>>,
+    trial: Trial,
+) -> Option<()> {
+    let mut seats = seats;
+    let done = match trial {
+        Trial::Poke => poke_and_tell(rt, &host, seats.as_mut_slice()),
+        _ => tell_frames(rt, &host, seats.as_mut_slice()),
+    };
     drop(host);
     drop(seats);
     done
@@ -93,25 +129,6 @@ fn frames_of<L: Seating, R: AllocGlobal + Wait>(
     let (receipt, frame) = call(rt, host, seat, event)?;
     drop(receipt);
     Some(u32::from(frame.is_some()))
-}
-
-/// Pokes a register from the first seat, and looks at it from the second.
-fn poke_and_look<L: Seating, R: AllocGlobal + Print + Wait>(
-    rt: &R,
-    blank: Blank,
-    recorded: Recorded<PagedRam>,
-) -> Option<()>
-    requires ledger { (blank.name ≡ L.name) × (blank.parts ≡ L.parts) × (L.seats ≡ L.parts) }
-    requires seats { blank.parts ≡ 2 }
-    requires empty { recorded.journal.entries ≡ [] }
-    requires opening { recorded.journal.opening ≡ L.opening }
-    requires capacity { recorded.capacity ≡ L.capacity }
-{
-    let (host, mut seats) = share_host::<L>(rt.alloc(), blank, recorded, 2)?;
-    let done = poke_and_tell(rt, &host, seats.as_mut_slice());
-    drop(host);
-    drop(seats);
-    done
 }
 
 /// Pokes a register from the first of these seats, and prints what the second sees.
@@ -153,16 +170,12 @@ fn t0_of(reply: HostReply) -> u32 {
 /// Calls once more than the journal takes, and closes the host, first without its one receipt.
 fn fill_and_close<L: Seating, R: AllocGlobal + Print + Wait>(
     rt: &R,
-    blank: Blank,
-    recorded: Recorded<PagedRam>,
+    host: SharedHost<L, PagedRam>,
+    seats: Vec<Seat<L>>,
 ) -> Option<()>
-    requires ledger { (blank.name ≡ L.name) × (blank.parts ≡ L.parts) × (L.seats ≡ L.parts) }
-    requires seats { blank.parts ≡ 2 }
-    requires empty { recorded.journal.entries ≡ [] }
-    requires opening { recorded.journal.opening ≡ L.opening }
-    requires capacity { recorded.capacity ≡ L.capacity }
+    requires { L.seats ≡ L.parts }
 {
-    let (host, mut seats) = share_host::<L>(rt.alloc(), blank, recorded, 2)?;
+    let mut seats = seats;
     match fill(rt, &host, seats.as_mut_slice()) {
         Some(receipt) => close_twice(rt, host, seats, receipt),
         None => {
@@ -257,16 +270,12 @@ fn close_with<L: Seating, R: AllocGlobal + Print + Wait>(
 /// Calls a host twice from its one seat, and tries to close it without the second receipt, and then without the seat.
 fn call_and_miss<L: Seating, R: AllocGlobal + Print + Wait>(
     rt: &R,
-    blank: Blank,
-    recorded: Recorded<PagedRam>,
+    host: SharedHost<L, PagedRam>,
+    seats: Vec<Seat<L>>,
 ) -> Option<()>
-    requires ledger { (blank.name ≡ L.name) × (blank.parts ≡ L.parts) × (L.seats ≡ L.parts) }
-    requires seats { blank.parts ≡ 1 }
-    requires empty { recorded.journal.entries ≡ [] }
-    requires opening { recorded.journal.opening ≡ L.opening }
-    requires capacity { recorded.capacity ≡ L.capacity }
+    requires { L.seats ≡ L.parts }
 {
-    let (host, mut seats) = share_host::<L>(rt.alloc(), blank, recorded, 1)?;
+    let mut seats = seats;
     match call_twice(rt, &host, seats.as_mut_slice()) {
         Some((first, second)) => miss_a_receipt(rt, host, seats, first, second),
         None => {
