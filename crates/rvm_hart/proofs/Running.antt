@@ -1,5 +1,5 @@
 -- Consecutive steps of a hart.
-use Rattle.std.proofs.Common.{◌≡◌, ◌==◌, ℕ, zero, suc, ◌+◌, length, Bool, true, false, ◌&&◌, not, is_some, List, ◌++◌, Option, Some, None, refl, sym, ap, ◌∙◌, subst, arith}
+use Rattle.std.proofs.Common.{◌≡◌, ℕ, zero, suc, ◌+◌, length, Bool, true, false, ◌&&◌, not, is_some, List, ◌++◌, Option, Some, None, refl, sym, ap, ◌∙◌, subst, arith}
 use Rattle.std.proofs.lemmas.Bool.Decides.{nat_tests}
 use Rattle.rvm_mem.specs.Pages.{mark_all}
 use Rattle.rvm_hart.specs.declared.outcome.Stepped.{Stepped}

@@ -1,5 +1,5 @@
 -- Loads and stores by address: RAM, devices, and whose reservations a store ends.
-use Rattle.std.specs.Prelude.{ℕ, ◌+◌, ◌-◌, ◌/◌, ◌%◌, ◌^◌, Bool, false, ◌&&◌, ◌||◌, ◌==◌, nat_le, if◌then◌else◌, List, [], ◌∷◌, length, Option, Some, None, option_map, get_or}
+use Rattle.std.specs.Prelude.{ℕ, ◌+◌, ◌-◌, ◌/◌, ◌%◌, ◌^◌, Bool, false, ◌&&◌, nat_le, if◌then◌else◌, List, [], ◌∷◌, length, Option, Some, None, option_map, get_or}
 use Rattle.rvm_mem.specs.Bytes.{load, store}
 use Rattle.rvm_mem.specs.Pages.{mark_all}
 use Rattle.rvm_csr.specs.declared.interrupts.Interrupts.{Interrupts}

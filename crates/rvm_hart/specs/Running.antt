@@ -1,6 +1,5 @@
 -- Consecutive steps of a hart, up to one that halts the board or finds it halted.
-use Rattle.std.specs.Prelude.{ℕ, zero, suc, ◌≡◌, ◌==◌, Bool, true, false, ◌&&◌, not, is_some, List, Option, Some, None}
-use Rattle.rvm_mem.specs.Pages.{mark_all}
+use Rattle.std.specs.Prelude.{ℕ, zero, suc, ◌==◌, Bool, true, false, ◌&&◌, not, is_some, Option, Some, None}
 use Rattle.rvm_hart.specs.declared.outcome.Stepped.{Stepped}
 use Rattle.rvm_hart.specs.declared.outcome.Stepped.TheVariants.{Retired, Trapped, Interrupted, Halted}
 use Rattle.rvm_hart.specs.Machine.{Machine}

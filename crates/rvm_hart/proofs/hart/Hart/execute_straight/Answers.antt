@@ -1,5 +1,4 @@
-use Rattle.std.proofs.Common.{ℕ, IfSome, ap, subst, ◌∙◌}
-use Rattle.rvm_hart.specs.Machine.{HartState}
+use Rattle.std.proofs.Common.{IfSome, subst}
 use Rattle.rvm_hart.specs.Step.{execute}
 use Rattle.rvm_hart.specs.Straight.{Goes, based}
 use Rattle.rvm_hart.proofs.Running.{goes_executes}

@@ -1,9 +1,9 @@
-use Rattle.std.proofs.Common.{ℕ, ◌≡◌, ◌-◌, not, true, Bool, List, sym, ap, ◌∙◌, arith, refl, Option, None}
+use Rattle.std.proofs.Common.{ℕ, ◌≡◌, ◌-◌, not, true, sym, ap, ◌∙◌, arith, refl, Option}
 use Rattle.rvm_hart.specs.Machine.{Machine, machine}
 use Rattle.rvm_hart.specs.Marks.{passes}
 use Rattle.rvm_hart.specs.Running.{status_in}
 use Rattle.rvm_hart.specs.Step.{step}
-use Rattle.rvm_hart.proofs.Running.{Gone, Runs, Sizes, gone_init, halts_last, more_straight, one_more_to, runs_on, sizes_after, sizes_stepped}
+use Rattle.rvm_hart.proofs.Running.{Gone, Sizes, gone_init, halts_last, more_straight, one_more_to, runs_on, sizes_after, sizes_stepped}
 use Rattle.rvm_hart.proofs.hart.Hart.run.Goals as goal
 
 pub loop-left-init : goal.loop-left-init
