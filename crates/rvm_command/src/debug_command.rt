@@ -1,11 +1,10 @@
 //! `rvmove debug`: answers a debugger's script.
 
-ghost use Rattle.std.specs.Prelude.{◌≡◌, ◌⊎◌, ◌*◌, None, Result, IfOk, IfErr, IsErr, OnOk, false};
+ghost use Rattle.std.specs.Prelude.{◌≡◌, ◌⊎◌, None, Result, IfOk, IfErr, OnOk};
 ghost use Rattle.std.specs.Io.Buffered.{writer_contents};
-ghost use Rattle.rvm_elf.specs.Load.{fits};
 ghost use Rattle.rvm_command.specs.declared.refused.Refused.{Refused};
 ghost use Rattle.rvm_command.specs.Command.{image_of};
-ghost use Rattle.rvm_command.specs.Ends.{HasStatus, IsDebugEnd, IsScriptEndOf};
+ghost use Rattle.rvm_command.specs.Ends.{HasStatus, IsDebugEnd, IsLoadable, IsScriptEndOf};
 ghost use Rattle.rvm_command.specs.Flushed.{is_flushed};
 ghost use Rattle.rvm_command.specs.Refusals.{IsTold, refused};
 ghost use Rattle.rvm_refusal.specs.declared.refusal.Refusal.{Refusal};
@@ -50,11 +49,8 @@ pub fn debug_command<M: PagedMemory + Drop, R: Read, O: Write + Drop, E: Write>(
     ensures output { (end : Result (Unit {0}) Refused)
         × IsDebugEnd arguments.now image.now (R.remaining reader.old) end
         (writer_contents O.contents output.old) (writer_contents O.contents output.new) }
-    ensures fault { IsErr (image_of arguments.now.raw image.now)
-        → writer_contents O.contents output.new ≡ writer_contents O.contents output.old }
-    ensures outside { IfOk (image_of arguments.now.raw image.now) (λ i.
-        fits i.0 i.1 (4096 * arguments.now.pages) ≡ false
-        → writer_contents O.contents output.new ≡ writer_contents O.contents output.old) }
+    ensures unloadable { IsLoadable (image_of arguments.now.raw image.now) arguments.now.pages
+        ⊎ (writer_contents O.contents output.new ≡ writer_contents O.contents output.old) }
 {
     match debug::<M, R, O>(alloc, arguments, image, reader, output) {
         Ok(()) => Ok(0),
@@ -75,11 +71,8 @@ fn debug<M: PagedMemory + Drop, R: Read, O: Write + Drop>(
         (writer_contents O.contents output.old) (writer_contents O.contents output.new) }
     ensures out { OnOk result (is_flushed output.new) }
     ensures lines { IfErr result (λ r. is_flushed output.new ⊎ (r.line ≡ None)) }
-    ensures fault { IsErr (image_of arguments.now.raw image.now)
-        → writer_contents O.contents output.new ≡ writer_contents O.contents output.old }
-    ensures outside { IfOk (image_of arguments.now.raw image.now) (λ i.
-        fits i.0 i.1 (4096 * arguments.now.pages) ≡ false
-        → writer_contents O.contents output.new ≡ writer_contents O.contents output.old) }
+    ensures unloadable { IsLoadable (image_of arguments.now.raw image.now) arguments.now.pages
+        ⊎ (writer_contents O.contents output.new ≡ writer_contents O.contents output.old) }
 {
     let mut guest = load_guest::<M>(alloc, arguments, image)?;
     answer(alloc, &mut guest, reader, output)?;

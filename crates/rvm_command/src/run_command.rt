@@ -1,13 +1,12 @@
 //! `rvmove run`: runs the guest of an image, and reports how that ended.
 
-ghost use Rattle.std.specs.Prelude.{◌≡◌, ◌*◌, ◌++◌, Result, IfOk, IsErr, codes, false};
+ghost use Rattle.std.specs.Prelude.{◌≡◌, ◌⊎◌, ◌++◌, Result, IfOk, codes};
 ghost use Rattle.std.specs.Io.KnownBytes.{Appends};
-ghost use Rattle.rvm_elf.specs.Load.{fits};
 ghost use Rattle.rvm_arguments.specs.declared.arguments.StatusOf.TheVariants as tells;
 ghost use Rattle.rvm_command.specs.declared.refused.Refused.{Refused};
 ghost use Rattle.rvm_command.specs.declared.run.Ended.{Ended};
 ghost use Rattle.rvm_command.specs.Command.{end_text, image_of};
-ghost use Rattle.rvm_command.specs.Ends.{IsRunEnd, RunHasStatus, run_status};
+ghost use Rattle.rvm_command.specs.Ends.{IsLoadable, IsRunEnd, RunHasStatus, run_status};
 
 use crate::guest::load_guest;
 use crate::refused::{Refused, tell};
@@ -59,11 +58,8 @@ pub fn run_command<M: PagedMemory + Drop, O: Write, E: Write>(
         (E.contents errors.old) (E.contents errors.new)) }
     ensures output { (end : Result Ended Refused) × IsRunEnd arguments.now image.now input.now end
         (O.contents output.old) (O.contents output.new) }
-    ensures fault { IsErr (image_of arguments.now.guest.raw image.now)
-        → O.contents output.new ≡ O.contents output.old }
-    ensures outside { IfOk (image_of arguments.now.guest.raw image.now) (λ i.
-        fits i.0 i.1 (4096 * arguments.now.guest.pages) ≡ false
-        → O.contents output.new ≡ O.contents output.old) }
+    ensures unloadable { IsLoadable (image_of arguments.now.guest.raw image.now) arguments.now.guest.pages
+        ⊎ (O.contents output.new ≡ O.contents output.old) }
 {
     match run_image::<M, O>(alloc, arguments, image, input, output) {
         Ok(ended) => tell_run_end(ended, arguments.status, errors),
@@ -129,11 +125,8 @@ fn run_image<M: PagedMemory + Drop, O: Write>(
 ) -> Result<Ended, Refused>
     ensures end { IsRunEnd arguments.now image.now input.now result
         (O.contents output.old) (O.contents output.new) }
-    ensures fault { IsErr (image_of arguments.now.guest.raw image.now)
-        → O.contents output.new ≡ O.contents output.old }
-    ensures outside { IfOk (image_of arguments.now.guest.raw image.now) (λ i.
-        fits i.0 i.1 (4096 * arguments.now.guest.pages) ≡ false
-        → O.contents output.new ≡ O.contents output.old) }
+    ensures unloadable { IsLoadable (image_of arguments.now.guest.raw image.now) arguments.now.guest.pages
+        ⊎ (O.contents output.new ≡ O.contents output.old) }
 {
     let mut guest = load_guest::<M>(alloc, &arguments.guest, image)?;
     Ok(run(&mut guest, arguments.steps, input, output)?)

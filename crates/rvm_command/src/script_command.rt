@@ -1,14 +1,13 @@
 //! `rvmove script`: answers a script for hosts between which a guest moves.
 
-ghost use Rattle.std.specs.Prelude.{◌≡◌, ◌⊎◌, ◌*◌, None, Result, IfOk, IfErr, IsErr, OnOk, false};
+ghost use Rattle.std.specs.Prelude.{◌≡◌, ◌⊎◌, None, Result, IfOk, IfErr, OnOk, false};
 ghost use Rattle.std.specs.Io.Buffered.{writer_contents};
 ghost use Rattle.rvm_command.specs.declared.refused.Refused.{Refused};
 ghost use Rattle.rvm_command.specs.Command.{image_of};
-ghost use Rattle.rvm_command.specs.Ends.{HasStatus};
+ghost use Rattle.rvm_command.specs.Ends.{HasStatus, IsLoadable};
 ghost use Rattle.rvm_command.specs.Flushed.{is_flushed};
 ghost use Rattle.rvm_command.specs.Refusals.{IsTold, refused};
 ghost use Rattle.rvm_board.specs.Guest.{Guest};
-ghost use Rattle.rvm_elf.specs.Load.{fits};
 ghost use Rattle.rvm_protocol.specs.Shown.{Shown};
 ghost use Rattle.rvm_protocol.specs.Told.{Told};
 ghost use Rattle.rvm_refusal.specs.declared.refusal.Refusal.{Refusal};
@@ -58,11 +57,8 @@ pub fn script_command<M: PagedMemory + Drop, R: Read, O: Write + Drop, E: Write>
     ensures output { (end : Result (Unit {0}) Refused)
         × IsScriptEnd arguments.now image.now (R.remaining script.old) end
         (writer_contents O.contents output.old) (writer_contents O.contents output.new) }
-    ensures fault { IsErr (image_of arguments.now.guest.raw image.now)
-        → writer_contents O.contents output.new ≡ writer_contents O.contents output.old }
-    ensures outside { IfOk (image_of arguments.now.guest.raw image.now) (λ i.
-        fits i.0 i.1 (4096 * arguments.now.guest.pages) ≡ false
-        → writer_contents O.contents output.new ≡ writer_contents O.contents output.old) }
+    ensures unloadable { IsLoadable (image_of arguments.now.guest.raw image.now) arguments.now.guest.pages
+        ⊎ (writer_contents O.contents output.new ≡ writer_contents O.contents output.old) }
     ensures size { is_sized (version_asked arguments.now) (limits_of arguments.now.hosts) ≡ false
         → writer_contents O.contents output.new ≡ writer_contents O.contents output.old }
 {
@@ -85,11 +81,8 @@ fn answer_image<M: PagedMemory + Drop, R: Read, O: Write + Drop>(
         (writer_contents O.contents output.old) (writer_contents O.contents output.new) }
     ensures out { OnOk result (is_flushed output.new) }
     ensures lines { IfErr result (λ r. is_flushed output.new ⊎ (r.line ≡ None)) }
-    ensures fault { IsErr (image_of arguments.now.guest.raw image.now)
-        → writer_contents O.contents output.new ≡ writer_contents O.contents output.old }
-    ensures outside { IfOk (image_of arguments.now.guest.raw image.now) (λ i.
-        fits i.0 i.1 (4096 * arguments.now.guest.pages) ≡ false
-        → writer_contents O.contents output.new ≡ writer_contents O.contents output.old) }
+    ensures unloadable { IsLoadable (image_of arguments.now.guest.raw image.now) arguments.now.guest.pages
+        ⊎ (writer_contents O.contents output.new ≡ writer_contents O.contents output.old) }
     ensures size { is_sized (version_asked arguments.now) (limits_of arguments.now.hosts) ≡ false
         → writer_contents O.contents output.new ≡ writer_contents O.contents output.old }
 {
