@@ -1,7 +1,6 @@
 -- An instruction of the straight path makes the step of its hart at any values of the counters.
-use Rattle.std.proofs.Common.{◌≡◌, ℕ, suc, zero, ◌+◌, ◌%◌, ◌^◌, ◌<◌, Bool, true, List, Option, None, IfSome, refl, sym, ap, ◌∙◌, subst, arith}
+use Rattle.std.proofs.Common.{◌≡◌, ℕ, ◌+◌, ◌%◌, ◌^◌, ◌<◌, Bool, true, List, None, sym, ap, ◌∙◌}
 use Rattle.rvm_mem.specs.Pages.{mark_all}
-use Rattle.rvm_csr.specs.Registers.{CsrState}
 use Rattle.rvm_csr.specs.Counters.{counted}
 use Rattle.rvm_csr.specs.Traps.{pending}
 use Rattle.rvm_hart.specs.declared.outcome.Stepped.TheVariants.{Retired}
@@ -9,9 +8,9 @@ use Rattle.rvm_hart.specs.Machine.{BusState, HartState, Machine, machine, number
 use Rattle.rvm_hart.specs.Bus.{mip_of}
 use Rattle.rvm_hart.specs.Outcome.{Outcome, machine_after}
 use Rattle.rvm_hart.specs.Step.{After, after_outcome, execute, step}
-use Rattle.rvm_hart.specs.Straight.{Goes, at_pc, at_time, is_straight, pages_of, risen, timed}
+use Rattle.rvm_hart.specs.Straight.{Goes, at_time, is_straight, pages_of, risen, timed}
 use Rattle.rvm_hart.specs.Frozen.{risen_by}
-use Rattle.rvm_hart.proofs.Made.{plain_after, plain_cases, risen_is, step_on}
+use Rattle.rvm_hart.proofs.Made.{plain_cases, risen_is, step_on}
 use Rattle.rvm_hart.proofs.Shape.{pending_keeps}
 use Rattle.rvm_hart.proofs.Still.{Still, execute_still}
 
