@@ -1,8 +1,8 @@
 -- Turns on the straight path: instructions without their counters, which rise after all of them.
-use Rattle.std.proofs.Common.{◌≡◌, ℕ, zero, suc, ◌+◌, ◌-◌, ◌%◌, ◌<◌, ◌≤◌, List, [], ◌∷◌, ◌++◌, length, Bool, true, false, get_or, set, replicate, Option, Some, None, refl, sym, ap, ◌∙◌, subst, arith, inl, inr, is_some}
+use Rattle.std.proofs.Common.{◌≡◌, ℕ, zero, suc, ◌+◌, ◌-◌, ◌%◌, ◌<◌, ◌≤◌, List, [], ◌∷◌, ◌++◌, length, Bool, true, false, get_or, set, replicate, Option, None, refl, sym, ap, ◌∙◌, subst, arith, inl, inr, is_some}
 use Rattle.std.specs.List.{list_any}
 use Rattle.std.proofs.lemmas.Bool.{cases_eq}
-use Rattle.std.proofs.lemmas.List.{get_or-set_same, get_or-set_other, length-set, set-get_or}
+use Rattle.std.proofs.lemmas.List.{get_or-set_same, get_or-set_other, length-set}
 use Rattle.std.proofs.Math.Nat.{mod-eq_of_lt, mod-lt, mod-add-mod}
 use Rattle.rvm_mem.specs.Pages.{mark_all}
 use Rattle.rvm_csr.specs.Registers.{CsrState}
@@ -11,7 +11,7 @@ use Rattle.rvm_dev.specs.Devices.{DeviceState}
 use Rattle.rvm_hart.specs.Bus.{mip_of}
 use Rattle.rvm_hart.specs.declared.outcome.Stepped.TheVariants.{Retired}
 use Rattle.rvm_hart.specs.Frozen.{risen_by}
-use Rattle.rvm_hart.specs.Machine.{BusState, HartState, Machine, number_of, shape, with_devices}
+use Rattle.rvm_hart.specs.Machine.{BusState, HartState, Machine, number_of, with_devices}
 use Rattle.rvm_hart.specs.Step.{After, step}
 use Rattle.rvm_hart.specs.Straight.{IsQuiet, at_time, is_retired, risen, timed}
 use Rattle.rvm_hart.proofs.Strides.{Strides}
@@ -76,10 +76,6 @@ csrs_stay harts k j x blank inside same =
 quiet_put : (n k : ℕ) (x : Machine) (b : Board) → k < length b.harts → x.hart.csrs ≡ (hart_at k b).csrs → x.shared.devices ≡ b.shared.devices → AreQuiet n b → AreQuiet n (with_machine k x b)
 quiet_put n k x b inside csrs devices quiet = λ j below.
     quiet_is n (machine_at j b) (machine_at j (with_machine k x b)) (csrs_stay b.harts k j x.hart (new_hart 0 0) inside csrs) devices (quiet j (omega (arith, below, length-set b.harts k x.hart)))
-
--- no interrupt is pending now
-quiet_now : (n i : ℕ) (m : Machine) → i < n → IsQuiet n m → pending (mip_of (number_of m) (at_time (risen i m.shared.devices.mtime) m.shared.devices)) m.hart.csrs ≡ None
-quiet_now n i m below quiet = quiet i below
 
 -- a turn, if the counters of all turns before it have risen
 turn_made : {dirty dirty' : List Bool} (counts counts' : ℕ → ℕ) (n k : ℕ) (x : Machine) (b : Board) (made : Strides (machine_at k b) x dirty dirty') → k < length b.harts → counts' k ≡ suc (counts k)
@@ -290,11 +286,11 @@ on_guest k h old new told none stand size breaks flags took =
 
 -- turns that all were made, and those that go on after them
 pub goes_on_after : {all : AfterTurns} {first : List Bool} (harts n k m h h' made made' : ℕ) (old new : GuestState) (told : Turns) → Turning all (after_turns RoundRobin n h old.guest) made first old.dirty → length old.guest.board.harts ≡ harts → n ≡ k + m
-    → made' ≡ made + k → h < harts → h' ≡ (h + k) % length old.guest.board.harts → TakesTurns (after_turns RoundRobin k h old.guest) old new told → told.stop ≡ None → Turning all (after_turns RoundRobin m h' new.guest) made' first new.dirty
+    → made' ≡ made + k → h < harts → h' ≡ (h + k) % length old.guest.board.harts → TakesTurns (after_turns RoundRobin k h old.guest) old new told → is_some told.stop ≡ false → Turning all (after_turns RoundRobin m h' new.guest) made' first new.dirty
 goes_on_after {all} {first} harts n k m h h' made made' old new told so_far size more counted below next took none =
     let t : AfterTurns = after_turns RoundRobin k h old.guest in
     let on : after_turns RoundRobin n h old.guest ≡ behind t.pages k (after_turns RoundRobin m ((h + k) % harts) t.guest) =
-    all_were_made harts n k m h old.guest size more below (ap (λ (x : Option Stop). is_some x) (sym took.stop ∙ none)) in
+    all_were_made harts n k m h old.guest size more below (ap (λ (x : Option Stop). is_some x) (sym took.stop) ∙ none) in
     record {
       pages = so_far.pages ++ t.pages;
       log = took.dirty ∙ ap (mark_all t.pages) so_far.log ∙ sym (mark_more so_far.pages t.pages first);

@@ -3,8 +3,8 @@
 //!
 //! Stands on `rvm_hart`, and must not know scripts, files or hosts. No event takes memory.
 //!
-//! To be read in this order: `error`, `board`, `view`, `breakpoints`, `event`, `part`, `debugged`, `snapshot`, `turns`,
-//! `while_full`, `retiring`, `laws`.
+//! To be read in this order: `error`, `board`, `view`, `breakpoints`, `event`, `part`, `debugged`, `snapshot`, `rounds`,
+//! `turns`, `while_full`, `retiring`, `laws`.
 #![tactic(auto)]
 
 mod board;

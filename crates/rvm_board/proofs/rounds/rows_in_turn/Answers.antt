@@ -1,4 +1,4 @@
-use Rattle.std.proofs.Common.{ℕ, ◌-◌, ◌≡◌, ◌<◌, ◌%◌, length, ap, refl, subst, sym, ◌∙◌, arith}
+use Rattle.std.proofs.Common.{ℕ, ◌-◌, ◌<◌, length, ap, refl, subst, sym, arith}
 use Rattle.std.proofs.Math.Nat.{mod-eq_of_lt, mod_self}
 use Rattle.rvm_board.specs.Rounds.{GoOn, Striding, board_of}
 use Rattle.rvm_board.proofs.Striding.{after_row, begins}
