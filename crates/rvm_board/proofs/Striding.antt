@@ -286,11 +286,11 @@ on_guest k h old new told none stand size breaks flags took =
 
 -- turns that all were made, and those that go on after them
 pub goes_on_after : {all : AfterTurns} {first : List Bool} (harts n k m h h' made made' : ℕ) (old new : GuestState) (told : Turns) → Turning all (after_turns RoundRobin n h old.guest) made first old.dirty → length old.guest.board.harts ≡ harts → n ≡ k + m
-    → made' ≡ made + k → h < harts → h' ≡ (h + k) % length old.guest.board.harts → TakesTurns (after_turns RoundRobin k h old.guest) old new told → is_some told.stop ≡ false → Turning all (after_turns RoundRobin m h' new.guest) made' first new.dirty
+    → made' ≡ made + k → h < harts → h' ≡ (h + k) % length old.guest.board.harts → TakesTurns (after_turns RoundRobin k h old.guest) old new told → told.stop ≡ None → Turning all (after_turns RoundRobin m h' new.guest) made' first new.dirty
 goes_on_after {all} {first} harts n k m h h' made made' old new told so_far size more counted below next took none =
     let t : AfterTurns = after_turns RoundRobin k h old.guest in
     let on : after_turns RoundRobin n h old.guest ≡ behind t.pages k (after_turns RoundRobin m ((h + k) % harts) t.guest) =
-    all_were_made harts n k m h old.guest size more below (ap (λ (x : Option Stop). is_some x) (sym took.stop) ∙ none) in
+    all_were_made harts n k m h old.guest size more below (ap (λ (x : Option Stop). is_some x) (sym took.stop ∙ none)) in
     record {
       pages = so_far.pages ++ t.pages;
       log = took.dirty ∙ ap (mark_all t.pages) so_far.log ∙ sym (mark_more so_far.pages t.pages first);

@@ -41,10 +41,6 @@ pub(crate) const IN_RETIRING_ROUNDS: u8 = 6;
 
 const IN_STRAIGHT_ROUNDS: u8 = 7;
 
-/// The number of turns that are single steps where one left the straight path: as many as cost what the way out of the
-/// loop of the path and into it does.
-const SINGLE_TURNS: u32 = 24;
-
 /// Which hart has the next turn.
 #[derive(Clone, Copy, Debug, PartialEq, Eq)]
 pub enum Order {
@@ -223,7 +219,7 @@ impl<M: Memory> Debugged<M> {
     }
 
     /// Makes turns of the harts in their order, none of which can stop: all before one that leaves the straight path,
-    /// then some by single steps, and so on.
+    /// then that one and those up to the last hart, and so on.
     #[inline(never)]
     fn turns_in_rounds(&mut self, first: u32, count: u32) -> Ended
         requires first { first < length self.old.guest.board.harts }
@@ -245,43 +241,9 @@ impl<M: Memory> Debugged<M> {
                     stop: None,
                 };
             }
-            let turns = left.min(SINGLE_TURNS);
+            let turns = left.min(harts - rounds.hart);
             left -= turns;
-            let ended = self.single_turns(rounds.hart, turns);
-            if ended.stop.is_some() {
-                return Ended {
-                    left: left + ended.left,
-                    stop: ended.stop,
-                };
-            }
-            hart = (rounds.hart + turns) % harts;
-        }
-        Ended {
-            left: 0,
-            stop: None,
-        }
-    }
-
-    /// Makes turns of the harts in their order by single steps, none of which can stop: up to the last hart, and again
-    /// from hart 0 on.
-    #[inline(always)]
-    fn single_turns(&mut self, first: u32, count: u32) -> Ended
-        requires first { first < length self.old.guest.board.harts }
-        requires breakpoints { self.old.guest.breakpoints ≡ [] }
-        requires stopped { list_any (λ s. s) self.old.guest.stopped ≡ false }
-        ensures turns { TakesTurns (after_turns RoundRobin count first self.old.guest) self.old self.new
-            (record { made = count - result.left; stop = result.stop }) }
-        ensures left { result.left ≤ count }
-        ensures breakpoints { self.new.guest.breakpoints ≡ [] }
-        ensures stopped { list_any (λ s. s) self.new.guest.stopped ≡ false }
-    {
-        let harts = self.harts();
-        let mut hart = first;
-        let mut left = count;
-        while left > 0 {
-            let turns = left.min(harts - hart);
-            left -= turns;
-            let ended = self.turns_in_a_row(hart, hart + turns);
+            let ended = self.turns_in_a_row(rounds.hart, rounds.hart + turns);
             if ended.stop.is_some() {
                 return Ended {
                     left: left + ended.left,

@@ -1,10 +1,14 @@
-use Rattle.std.proofs.Common.{ℕ, ◌+◌, ◌-◌, ◌%◌, ◌≤◌, length, ap, sym, ◌∙◌, arith, refl}
-use Rattle.std.proofs.Math.Nat.{mod-lt}
+use Rattle.std.proofs.Common.{ℕ, ◌+◌, ◌-◌, ◌≤◌, length, ap, sym, ◌∙◌, arith, refl}
 use Rattle.rvm_board.specs.Guest.{Guest}
 use Rattle.rvm_board.specs.declared.turns.Order.TheVariants.{RoundRobin}
 use Rattle.rvm_board.proofs.Striding.{goes_on_after}
-use Rattle.rvm_board.proofs.Turning.{all_made, stops_behind, turns_count}
+use Rattle.rvm_board.proofs.Turning.{all_made, goes_on_behind, stops_behind, turns_count}
 use Rattle.rvm_board.proofs.debugged.Debugged.turns_in_rounds.Goals as goal
+
+pub turns_in_a_row-ended-requires-clause-end : goal.turns_in_a_row-ended-requires-clause-end
+turns_in_a_row-ended-requires-clause-end g c =
+    let harts = ap (λ (b : Guest). length b.board.harts) c.straight_rounds-rounds.ensures.turns.guest ∙ turns_count RoundRobin (c.loop-left.left - c.straight_rounds-rounds.result.left) c.loop-left.hart c.loop-left.self.guest ∙ c.loop-left.invariant.harts in
+    omega (arith, c.min-turns.ensures, c.straight_rounds-rounds.ensures.inside, harts)
 
 -- all that were left were made
 pub returns-then-left-eq0-clause-turns : goal.returns-then-left-eq0-clause-turns
@@ -23,9 +27,9 @@ returns-then-is_some-clause-turns g c =
     let fewer : left ≤ c.loop-left.left = c.straight_rounds-rounds.ensures.left in
     let so_far = goes_on_after c.harts-harts.result c.loop-left.left (c.loop-left.left - left) left c.loop-left.hart hart (c.args.count - c.loop-left.left) (c.args.count - left) c.loop-left.self c.straight_rounds-rounds.new.self _ c.loop-left.invariant.turns
     c.loop-left.invariant.harts (omega (arith, fewer)) (omega (arith, fewer, c.loop-left.invariant.left)) c.loop-left.invariant.hart c.straight_rounds-rounds.ensures.hart c.straight_rounds-rounds.ensures.turns refl in
-    stops_behind left turns (left - turns) hart (c.args.count - left) _ _ _ _ _ so_far
-    (omega (arith, c.min-turns.ensures)) c.single_turns-ended.ensures.turns (sym c.is_some.ensures ∙ c.if-is_some.true)
-    (omega (arith, c.min-turns.ensures, fewer, c.loop-left.invariant.left, c.single_turns-ended.ensures.left)) refl
+    stops_behind left (hart + turns - hart) (left - turns) hart (c.args.count - left) _ _ _ _ _ so_far
+    (omega (arith, c.min-turns.ensures)) c.turns_in_a_row-ended.ensures.turns (sym c.is_some.ensures ∙ c.if-is_some.true)
+    (omega (arith, c.min-turns.ensures, fewer, c.loop-left.invariant.left, c.turns_in_a_row-ended.ensures.left)) refl
 
 pub loop-left-preserved : goal.loop-left-preserved
 loop-left-preserved g c =
@@ -38,15 +42,15 @@ loop-left-preserved g c =
     let harts = ap (λ (b : Guest). length b.board.harts) c.straight_rounds-rounds.ensures.turns.guest ∙ turns_count RoundRobin (c.loop-left.left - left) c.loop-left.hart c.loop-left.self.guest ∙ c.loop-left.invariant.harts in
     record {
       left = omega (arith, fewer, c.loop-left.invariant.left);
-      harts = ap (λ (b : Guest). length b.board.harts) c.single_turns-ended.ensures.turns.guest
-          ∙ turns_count RoundRobin turns hart c.straight_rounds-rounds.new.self.guest
+      harts = ap (λ (b : Guest). length b.board.harts) c.turns_in_a_row-ended.ensures.turns.guest
+          ∙ turns_count RoundRobin (hart + turns - hart) hart c.straight_rounds-rounds.new.self.guest
           ∙ harts;
-      hart = mod-lt (hart + turns) {m = c.harts-harts.result} c.harts-harts.ensures.some;
-      breakpoints = c.single_turns-ended.ensures.breakpoints;
-      stopped = c.single_turns-ended.ensures.stopped;
-      turns = goes_on_after c.harts-harts.result left turns (left - turns) hart ((hart + turns) % c.harts-harts.result) (c.args.count - left) (c.args.count - (left - turns)) c.straight_rounds-rounds.new.self c.single_turns-ended.new.self _ so_far
+      hart = c.harts-harts.ensures.some;
+      breakpoints = c.turns_in_a_row-ended.ensures.breakpoints ∙ c.straight_rounds-rounds.ensures.breakpoints ∙ c.loop-left.invariant.breakpoints;
+      stopped = rw c.turns_in_a_row-ended.ensures.stopped (rw c.straight_rounds-rounds.ensures.stopped c.loop-left.invariant.stopped);
+      turns = goes_on_behind c.harts-harts.result left (hart + turns - hart) (left - turns) hart (c.args.count - left) (c.args.count - (left - turns)) _ _ _ so_far
           harts (omega (arith, c.min-turns.ensures)) (omega (arith, c.min-turns.ensures, fewer, c.loop-left.invariant.left)) (omega (arith, c.straight_rounds-rounds.ensures.inside, harts))
-          (ap (λ l. (hart + turns) % l) (sym harts)) c.single_turns-ended.ensures.turns (sym c.is_some.ensures ∙ c.if-is_some.false);
+          (λ more. omega (arith, c.min-turns.ensures, c.straight_rounds-rounds.ensures.inside, harts, more)) c.turns_in_a_row-ended.ensures.turns (sym c.is_some.ensures ∙ c.if-is_some.false);
     }
 
 pub returns-clause-turns : goal.returns-clause-turns
