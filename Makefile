@@ -1,6 +1,7 @@
 # make hi: builds the program without its proofs, and runs it on examples/hi.bin. make build: proves and builds it.
 # make test: the merge gate.
-# make wrong: all wrong bodies, or those of one crate, as in make wrong CRATE=rvm_hart.
+# make wrong: all wrong bodies, or those of one crate, as in make wrong CRATE=rvm_hart, over the libraries that `rt ci` made
+# in this checkout, or in the one that OVER names.
 # make times: the merge gate, and the processor seconds of each crate.
 # make faults: the tests, with growths of memory refused in turn, at most 60 of a test; with MOST=0 each one.
 # make docs-check: the commands of README and docs are run, also with standard streams closed, links and the table of
@@ -28,7 +29,7 @@ test:
 	rt ci
 
 wrong:
-	tools/try-wrong $(CRATE)
+	tools/try-wrong $(if $(OVER),--over $(OVER)) $(CRATE)
 
 times:
 	tools/gate-times
