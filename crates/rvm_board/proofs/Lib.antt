@@ -10,6 +10,7 @@ pub mod Striding
 pub mod Running
 pub mod Marking
 pub mod Retirings
+pub mod Computes
 pub mod Waiting
 pub mod Guests
 pub mod Made

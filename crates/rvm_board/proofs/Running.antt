@@ -13,7 +13,6 @@ use Rattle.rvm_hart.specs.Straight as straight
 use Rattle.rvm_board.specs.Board.{Board, machine_at, with_machine}
 use Rattle.rvm_board.specs.declared.event.BoardReply.TheVariants as reply
 use Rattle.rvm_board.specs.declared.turns.Order.TheVariants.{Alone}
-use Rattle.rvm_board.specs.declared.turns.Stop.{Stop}
 use Rattle.rvm_board.specs.declared.turns.Stop.TheVariants.{Halted}
 use Rattle.rvm_board.specs.declared.turns.Turns.{Turns}
 use Rattle.rvm_board.specs.Guest.{Guest, GuestState, is_in}

@@ -19,15 +19,17 @@ use Rattle.rvm_board.specs.Board.{Board, BoardState, IsBoard, hart_at, machine_a
 use Rattle.rvm_board.specs.declared.event.BoardReply.TheVariants as reply
 use Rattle.rvm_board.specs.declared.turns.Order.TheVariants.{RoundRobin}
 use Rattle.rvm_board.specs.declared.turns.Stop.{Stop}
-use Rattle.rvm_board.specs.declared.turns.Turns.{Turns}
 use Rattle.rvm_board.specs.Guest.{Guest, GuestState, fresh}
 use Rattle.rvm_board.specs.Events.{Answered, steps, with_board}
 use Rattle.rvm_board.specs.Rounds.{AreQuiet, GoOn, Striding, guest_on, risen_after, risen_board, risen_up_to, share}
-use Rattle.rvm_board.specs.Turns.{AfterTurns, TakesTurns, after_turns, behind, next_hart, stop_in, unless_stopped}
+use Rattle.rvm_board.specs.Retiring.{stepped}
+use Rattle.rvm_board.specs.Computing.{Compute, HaveSameConsole}
+use Rattle.rvm_board.specs.Turns.{AfterTurns, TakesTurns, after_turns, behind, next_hart}
 use Rattle.rvm_board.proofs.Boards.{machine_is_board}
+use Rattle.rvm_board.proofs.Computes.{compute_count, compute_more, computes_take}
 use Rattle.rvm_board.proofs.Going.{put_same, retired_turn}
 use Rattle.rvm_board.proofs.Shares.{length-risen, no_share, none_risen, one_share, other_share, risen_at, set_risen}
-use Rattle.rvm_board.proofs.Turning.{Turning, all_were_made, behind_both, mark_more, one_more, turns_count}
+use Rattle.rvm_board.proofs.Turning.{Turning, all_were_made, behind_both, mark_more}
 
 -- no hart stands at a breakpoint
 pub none_stands : (n k : ℕ) → get_or (replicate n false) k false ≡ false
@@ -98,38 +100,10 @@ turn_made counts counts' n k x b made inside one others on none =
     ∙ ap (λ (l : ℕ). record { guest = record { board = with_machine k after now; breakpoints = []; stopped = replicate l false }; pages = made.pages; reply = reply.Retired }) (sym (length-set now.harts k after.hart))
     ∙ ap (λ (y : Board). record { guest = fresh y; pages = made.pages; reply = reply.Retired }) (risen_put counts counts' n k x b inside one others made.csrs made.devices)
 
--- turns and one more
-one_after : (harts k h : ℕ) (g0 : Guest) (old mid new : GuestState) (pages : List ℕ) → length g0.board.harts ≡ harts → h < harts → TakesTurns (after_turns RoundRobin k h g0) old mid (record { made = k; stop = None })
-    → steps ((h + k) % harts) mid.guest ≡ record { guest = new.guest; pages = pages; reply = reply.Retired } → new.dirty ≡ mark_all pages mid.dirty
-    → TakesTurns (after_turns RoundRobin (suc k) h g0) old new (record { made = suc k; stop = None })
-unfolding after_turns
-one_after harts k h g0 old mid new pages size below took turn marked =
-    let t : AfterTurns = after_turns RoundRobin k h g0 in
-    let j : ℕ = (h + k) % harts in
-    let last : AfterTurns = record { guest = new.guest; pages = pages ++ []; made = 1; stop = None } in
-    let answer : Answered = record { guest = new.guest; pages = pages; reply = reply.Retired } in
-    let one : after_turns RoundRobin 1 j t.guest ≡ last =
-    ap (after_turns RoundRobin 1 j) (sym took.guest)
-    ∙ one_more RoundRobin 1 0 j mid.guest refl
-    ∙ ap (λ (a : Answered). unless_stopped (stop_in a.reply) a (after_turns RoundRobin 0 (next_hart RoundRobin (length mid.guest.board.harts) j) a.guest)) turn in
-    let all : after_turns RoundRobin (suc k) h g0 ≡ behind t.pages k last =
-    all_were_made harts (suc k) k 1 h g0 size (omega arith) below (ap (λ (o : Option Stop). is_some o) (sym took.stop)) ∙ ap (behind t.pages k) one in
-    record {
-      guest = sym (ap (λ (a : AfterTurns). a.guest) all);
-      dirty = marked ∙ ap (mark_all pages) took.dirty ∙ sym (mark_more pages [] (mark_all t.pages old.dirty)) ∙ sym (mark_more t.pages (pages ++ []) old.dirty) ∙ sym (ap (λ (a : AfterTurns). mark_all a.pages old.dirty) all);
-      made = omega arith ∙ sym (ap (λ (a : AfterTurns). a.made) all);
-      stop = sym (ap (λ (a : AfterTurns). a.stop) all);
-    }
-
 -- of no turns, nothing is left to rise
 pub nothing_risen : (first : ℕ) (b : Board) → first < length b.harts → risen_after first 0 b ≡ b
 nothing_risen first b inside =
     ap (λ (hs : List HartState). record { harts = hs; shared = b.shared }) (none_risen (λ k. share (length b.harts) first 0 k) b.harts (λ k below. no_share (length b.harts) first k inside))
-
-pub took_none : (n first : ℕ) (b : BoardState) → n ≡ 0 → TakesTurns (after_turns RoundRobin n first (fresh b.plain)) (guest_on b) (guest_on b) (record { made = n; stop = None })
-unfolding after_turns
-took_none zero first b e = record { guest = refl; dirty = refl; made = refl; stop = refl }
-took_none (suc n) first b e = absurd (omega (arith, e))
 
 -- before the first turn
 pub begins : (count first : ℕ) (b : BoardState) → first < length b.plain.harts → IsBoard b.plain → b.plain.shared.devices.halted ≡ None → AreQuiet count b.plain → Striding count first b count first b
@@ -143,8 +117,8 @@ begins count first b inside board on quiet =
       board = board;
       on = on;
       quiet = quiet;
-      took = subst (λ i. TakesTurns (after_turns RoundRobin i first (fresh b.plain)) (guest_on b) (guest_on (record { plain = risen_after first i b.plain; dirty = b.dirty })) (record { made = i; stop = None })) (sym zero_made)
-          (subst (λ (y : Board). TakesTurns (after_turns RoundRobin 0 first (fresh b.plain)) (guest_on b) (guest_on (record { plain = y; dirty = b.dirty })) (record { made = 0; stop = None })) (sym (nothing_risen first b.plain inside)) (took_none 0 first b refl));
+      computed = subst (λ i. Compute (length b.plain.harts) i first (guest_on b) (guest_on (record { plain = risen_after first i b.plain; dirty = b.dirty }))) (sym zero_made)
+          (ap (λ (y : Board). guest_on (record { plain = y; dirty = b.dirty })) (nothing_risen first b.plain inside));
     }
 
 -- the hart after the one that has turn k is that of turn k + 1
@@ -173,9 +147,18 @@ strides_on count first left left' hart hart' old now new x so some less next mad
     so.on none in
     let mid : GuestState = guest_on (record { plain = risen_after first n b; dirty = now.dirty }) in
     let last : GuestState = guest_on (record { plain = risen_after first (suc n) new.plain; dirty = new.dirty }) in
-    let took : TakesTurns (after_turns RoundRobin (suc n) first (fresh old.plain)) (guest_on old) last (record { made = suc n; stop = None }) =
-    one_after (length old.plain.harts) n first (fresh old.plain) (guest_on old) mid last made.pages refl below so.took
-    (ap (λ i. steps i mid.guest) (sym so.place) ∙ turn ∙ ap (λ (y : Board). record { guest = fresh (risen_after first (suc n) y); pages = made.pages; reply = reply.Retired }) (sym put)) made.dirty in
+    let still : HaveSameConsole mid.guest (steps hart mid.guest).guest =
+    record {
+      input = ap (λ (a : Answered). a.guest.board.shared.devices.input) turn ∙ ap (λ (d : DeviceState). d.input) made.devices;
+      output = ap (λ (a : Answered). a.guest.board.shared.devices.output) turn ∙ ap (λ (d : DeviceState). d.output) made.devices;
+    } in
+    let to : last ≡ stepped hart mid =
+    ap (λ (y : Board). guest_on (record { plain = risen_after first (suc n) y; dirty = new.dirty })) put
+    ∙ ap (λ (d : List Bool). guest_on (record { plain = risen_after first (suc n) (with_machine hart x b); dirty = d })) made.dirty
+    ∙ sym (ap (λ (a : Answered). record { guest = a.guest; dirty = mark_all a.pages now.dirty }) turn) in
+    let computed : Compute (length old.plain.harts) (suc n) first (guest_on old) last =
+    compute_more (length old.plain.harts) n first hart (guest_on old) mid last so.computed so.place
+    (omega (arith, inside, length-risen counts (length b.harts) b.harts)) (ap (λ (a : Answered). a.reply) turn) still to in
     record {
       inside = so.inside;
       few = omega (arith, so.few, less);
@@ -184,7 +167,7 @@ strides_on count first left left' hart hart' old now new x so some less next mad
       board = subst IsBoard (sym put) (machine_is_board b hart x made.sizes so.board inside);
       on = ap (λ (y : Board). y.shared.devices.halted) put ∙ ap (λ (d : DeviceState). d.halted) made.devices ∙ so.on;
       quiet = subst (AreQuiet count) (sym put) (quiet_put count hart x b inside made.csrs made.devices so.quiet);
-      took = subst (λ i. TakesTurns (after_turns RoundRobin i first (fresh old.plain)) (guest_on old) (guest_on (record { plain = risen_after first i new.plain; dirty = new.dirty })) (record { made = i; stop = None })) one took;
+      computed = subst (λ i. Compute (length old.plain.harts) i first (guest_on old) (guest_on (record { plain = risen_after first i new.plain; dirty = new.dirty }))) one computed;
     }
 
 -- ROWS
@@ -229,14 +212,14 @@ risen_is_board counts n b board =
 
 -- counters that rise after the turns that they count
 pub then_counted : (first n n' : ℕ) (old : BoardState) (xs ys : List HartState) (b c : BusState)
-    → TakesTurns (after_turns RoundRobin n first (fresh old.plain)) (guest_on old) (guest_on (record { plain = risen_after first n (record { harts = xs; shared = b.shared }); dirty = b.dirty })) (record { made = n; stop = None })
+    → Compute (length old.plain.harts) n first (guest_on old) (guest_on (record { plain = risen_after first n (record { harts = xs; shared = b.shared }); dirty = b.dirty }))
     → ys ≡ risen_up_to (λ k. share (length xs) first n k) (length xs) xs → c ≡ with_devices (at_time (risen n b.shared.devices.mtime) b.shared.devices) b → n' ≡ n
-    → TakesTurns (after_turns RoundRobin n' first (fresh old.plain)) (guest_on old) (guest_on (record { plain = record { harts = ys; shared = c.shared }; dirty = c.dirty })) (record { made = n'; stop = None })
-then_counted first n n' old xs ys b c took harts bus same =
-    subst (λ i. TakesTurns (after_turns RoundRobin i first (fresh old.plain)) (guest_on old) (guest_on (record { plain = record { harts = ys; shared = c.shared }; dirty = c.dirty })) (record { made = i; stop = None })) (sym same)
-    (subst (λ (hs : List HartState). TakesTurns (after_turns RoundRobin n first (fresh old.plain)) (guest_on old) (guest_on (record { plain = record { harts = hs; shared = c.shared }; dirty = c.dirty })) (record { made = n; stop = None })) (sym harts)
-    (subst (λ (y : BusState). TakesTurns (after_turns RoundRobin n first (fresh old.plain)) (guest_on old)
-    (guest_on (record { plain = record { harts = risen_up_to (λ k. share (length xs) first n k) (length xs) xs; shared = y.shared }; dirty = y.dirty })) (record { made = n; stop = None })) (sym bus) took))
+    → Compute (length old.plain.harts) n' first (guest_on old) (guest_on (record { plain = record { harts = ys; shared = c.shared }; dirty = c.dirty }))
+then_counted first n n' old xs ys b c are harts bus same =
+    subst (λ i. Compute (length old.plain.harts) i first (guest_on old) (guest_on (record { plain = record { harts = ys; shared = c.shared }; dirty = c.dirty }))) (sym same)
+    (subst (λ (hs : List HartState). Compute (length old.plain.harts) n first (guest_on old) (guest_on (record { plain = record { harts = hs; shared = c.shared }; dirty = c.dirty }))) (sym harts)
+    (subst (λ (y : BusState). Compute (length old.plain.harts) n first (guest_on old)
+    (guest_on (record { plain = record { harts = risen_up_to (λ k. share (length xs) first n k) (length xs) xs; shared = y.shared }; dirty = y.dirty }))) (sym bus) are))
 
 pub counted_is_board : (first n : ℕ) (xs ys : List HartState) (b c : BusState) → IsBoard (record { harts = xs; shared = b.shared })
     → ys ≡ risen_up_to (λ k. share (length xs) first n k) (length xs) xs → c ≡ with_devices (at_time (risen n b.shared.devices.mtime) b.shared.devices) b → IsBoard (record { harts = ys; shared = c.shared })
@@ -268,29 +251,31 @@ fresh_is g none stand size =
     ∙ ap (λ (bs : List ℕ). record g { breakpoints = bs }) (sym none)
 
 -- turns of such a guest are those of its board
-pub on_guest : (k h : ℕ) (old new : GuestState) (told : Turns) → old.guest.breakpoints ≡ [] → list_any (λ flag. flag) old.guest.stopped ≡ false → length old.guest.stopped ≡ length old.guest.board.harts
+pub on_guest : (k h : ℕ) (old new : GuestState) → old.guest.breakpoints ≡ [] → list_any (λ flag. flag) old.guest.stopped ≡ false → length old.guest.stopped ≡ length old.guest.board.harts
     → new.guest.breakpoints ≡ old.guest.breakpoints → new.guest.stopped ≡ old.guest.stopped
-    → TakesTurns (after_turns RoundRobin k h (fresh old.guest.board)) (guest_on (record { plain = old.guest.board; dirty = old.dirty })) (guest_on (record { plain = new.guest.board; dirty = new.dirty })) told
-    → TakesTurns (after_turns RoundRobin k h old.guest) old new told
-on_guest k h old new told none stand size breaks flags took =
-    let is : fresh old.guest.board ≡ old.guest = fresh_is old.guest none stand size in
-    let count : length new.guest.board.harts ≡ length old.guest.board.harts = ap (λ (g : Guest). length g.board.harts) took.guest ∙ turns_count RoundRobin k h (fresh old.guest.board) in
-    let left : fresh new.guest.board ≡ new.guest =
-    fresh_is new.guest (breaks ∙ none) (ap (list_any (λ flag. flag)) flags ∙ stand) (ap (λ fs. length fs) flags ∙ size ∙ sym count) in
-    record {
-      guest = sym left ∙ took.guest ∙ ap (λ g. (after_turns RoundRobin k h g).guest) is;
-      dirty = took.dirty ∙ ap (λ g. mark_all (after_turns RoundRobin k h g).pages old.dirty) is;
-      made = took.made ∙ ap (λ g. (after_turns RoundRobin k h g).made) is;
-      stop = took.stop ∙ ap (λ g. (after_turns RoundRobin k h g).stop) is;
-    }
+    → Compute (length old.guest.board.harts) k h (guest_on (record { plain = old.guest.board; dirty = old.dirty })) (guest_on (record { plain = new.guest.board; dirty = new.dirty }))
+    → Compute (length old.guest.board.harts) k h old new
+on_guest k h old new none stand size breaks flags are =
+    let harts : ℕ = length old.guest.board.harts in
+    let was : GuestState = guest_on (record { plain = old.guest.board; dirty = old.dirty }) in
+    let now : GuestState = guest_on (record { plain = new.guest.board; dirty = new.dirty }) in
+    let begun : was ≡ old = λ i. record { guest = fresh_is old.guest none stand size i; dirty = old.dirty } in
+    let left : now ≡ new =
+    λ i. record {
+      guest = fresh_is new.guest (breaks ∙ none) (ap (list_any (λ flag. flag)) flags ∙ stand) (ap (λ fs. length fs) flags ∙ size ∙ sym (compute_count harts k h was now are)) i;
+      dirty = new.dirty;
+    } in
+    subst (λ (g : GuestState). Compute harts k h old g) left (subst (λ (g : GuestState). Compute harts k h g now) begun are)
 
 -- turns that all were made, and those that go on after them
-pub goes_on_after : {all : AfterTurns} {first : List Bool} (harts n k m h h' made made' : ℕ) (old new : GuestState) (told : Turns) → Turning all (after_turns RoundRobin n h old.guest) made first old.dirty → length old.guest.board.harts ≡ harts → n ≡ k + m
-    → made' ≡ made + k → h < harts → h' ≡ (h + k) % length old.guest.board.harts → TakesTurns (after_turns RoundRobin k h old.guest) old new told → told.stop ≡ None → Turning all (after_turns RoundRobin m h' new.guest) made' first new.dirty
-goes_on_after {all} {first} harts n k m h h' made made' old new told so_far size more counted below next took none =
+pub goes_on_after : {all : AfterTurns} {first : List Bool} (harts n k m h h' made made' : ℕ) (old new : GuestState) → Turning all (after_turns RoundRobin n h old.guest) made first old.dirty → length old.guest.board.harts ≡ harts → n ≡ k + m
+    → made' ≡ made + k → h < harts → h' ≡ (h + k) % length old.guest.board.harts → Compute (length old.guest.board.harts) k h old new → Turning all (after_turns RoundRobin m h' new.guest) made' first new.dirty
+goes_on_after {all} {first} harts n k m h h' made made' old new so_far size more counted below next are =
     let t : AfterTurns = after_turns RoundRobin k h old.guest in
+    let took : TakesTurns t old new (record { made = k; stop = None }) =
+    computes_take (length old.guest.board.harts) k h h old new are refl (sym (mod-eq_of_lt (omega (arith, below, size)))) in
     let on : after_turns RoundRobin n h old.guest ≡ behind t.pages k (after_turns RoundRobin m ((h + k) % harts) t.guest) =
-    all_were_made harts n k m h old.guest size more below (ap (λ (x : Option Stop). is_some x) (sym took.stop ∙ none)) in
+    all_were_made harts n k m h old.guest size more below (ap (λ (x : Option Stop). is_some x) (sym took.stop)) in
     record {
       pages = so_far.pages ++ t.pages;
       log = took.dirty ∙ ap (mark_all t.pages) so_far.log ∙ sym (mark_more so_far.pages t.pages first);

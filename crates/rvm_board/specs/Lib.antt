@@ -11,6 +11,7 @@ pub mod Turns
 pub mod Rounds
 pub mod WhileFull
 pub mod Retiring
+pub mod Computing
 pub mod EventRefusals
 pub mod State
 pub mod Snapshot

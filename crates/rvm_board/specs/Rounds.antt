@@ -5,8 +5,7 @@ use Rattle.rvm_hart.specs.Frozen.{risen_by}
 use Rattle.rvm_hart.specs.Straight.{IsQuiet, at_time, risen}
 use Rattle.rvm_board.specs.Board.{Board, BoardState, IsBoard, machine_at, new_hart}
 use Rattle.rvm_board.specs.Guest.{GuestState, fresh}
-use Rattle.rvm_board.specs.Turns.{TakesTurns, after_turns}
-use Rattle.rvm_board.specs.declared.turns.Order.TheVariants.{RoundRobin}
+use Rattle.rvm_board.specs.Computing.{Compute}
 
 -- how many of n turns hart k has, of this many harts, if hart `first` has the first turn
 unfoldable pub share : (harts first n k : ℕ) → ℕ
@@ -49,9 +48,8 @@ pub record Striding (count first : ℕ) (old : BoardState) (left next : ℕ) (no
   pub board : IsBoard now.plain
   pub on : now.plain.shared.devices.halted ≡ None
   pub quiet : AreQuiet count now.plain
-  pub took : TakesTurns (after_turns RoundRobin (count - left) first (fresh old.plain)) (guest_on old)
+  pub computed : Compute (length old.plain.harts) (count - left) first (guest_on old)
       (guest_on (record { plain = risen_after first (count - left) now.plain; dirty = now.dirty }))
-      (record { made = count - left; stop = None })
 
 -- whatever turns were made before, those of harts h to the one before `next` go on after them
 abbrev pub GoOn : (h next : ℕ) → (old new : BoardState) → Type 0

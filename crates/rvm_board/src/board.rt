@@ -6,7 +6,7 @@ ghost use Rattle.rvm_mem.specs.Bytes.{slice};
 ghost use Rattle.rvm_mem.specs.Pages.{mark_all};
 ghost use Rattle.rvm_hart.specs.Bus.{in_ram, ram_base, ram_load};
 ghost use Rattle.rvm_hart.specs.Running.{ends_so};
-ghost use Rattle.rvm_hart.specs.Straight.{all_pass, input_stays, steps};
+ghost use Rattle.rvm_hart.specs.Straight.{DevicesStay, all_pass, steps};
 ghost use Rattle.rvm_hart.specs.Fields.{CanBeHeld, fields_of, is_in_ram, with_number};
 ghost use Rattle.rvm_board.specs.declared.error.BoardError.TheVariants.{BadSize};
 ghost use Rattle.rvm_board.specs.declared.error.PokeError.TheVariants.{BadHart, OutOfRange};
@@ -238,7 +238,7 @@ impl<M: Memory> Board<M> {
         ensures retired { (steps (count - result) (machine_at hart self.old.plain)).retired ≡ true }
         ensures pass { all_pass watched marks.now (count - result) (machine_at hart self.old.plain)
             ≡ true }
-        ensures input { input_stays (count - result) (machine_at hart self.old.plain) ≡ true }
+        ensures devices { DevicesStay (count - result) (machine_at hart self.old.plain) }
     {
         let stepping = &mut self.harts[hart as usize];
         let straight = stepping.run_straight::<M, LOOP>(&mut self.bus, count, marks, watched);

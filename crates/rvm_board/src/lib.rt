@@ -4,11 +4,12 @@
 //! Stands on `rvm_hart`, and must not know scripts, files or hosts. No event takes memory.
 //!
 //! To be read in this order: `error`, `board`, `view`, `breakpoints`, `event`, `part`, `debugged`, `snapshot`, `rounds`,
-//! `turns`, `while_full`, `retiring`, `laws`.
+//! `turns`, `while_full`, `computing`, `retiring`, `laws`.
 #![tactic(auto)]
 
 mod board;
 mod breakpoints;
+mod computing;
 mod debugged;
 mod error;
 mod event;

@@ -1,12 +1,14 @@
 //! Steps of harts in turn, as long as each retires an instruction: the loop of a slice.
 
-ghost use Rattle.std.specs.Prelude.{◌≡◌, ◌<◌, [], false, true, length};
+ghost use Rattle.std.specs.Prelude.{◌≡◌, ◌<◌, ◌≤◌, ◌+◌, ◌-◌, ◌%◌, [], false, true, length};
 ghost use Rattle.std.specs.List.{list_any};
+ghost use Rattle.rvm_board.specs.Computing.{Compute};
 ghost use Rattle.rvm_board.specs.Events.{reply_of};
 ghost use Rattle.rvm_board.specs.Retiring.{RetiresThen};
 ghost use Rattle.rvm_board.specs.declared.event.BoardReply.TheVariants as reply;
 
 use crate::debugged::Debugged;
+use crate::rounds::Rounds;
 use crate::turns::{IN_RETIRING, IN_RETIRING_ROUNDS, Order, any};
 use rvm_hart::Stepped;
 use rvm_mem::Memory;
@@ -79,17 +81,46 @@ impl<M: Memory> Debugged<M> {
         let mut hart = (turn % u64::from(harts)) as u32;
         let mut left = count;
         while left > 0 {
+            let rounds = self.rounds_of_all(hart, left);
+            left = rounds.left;
+            if left == 0 {
+                return Retired { count, last: None };
+            }
             left -= 1;
-            let stepped = self.turn_of::<IN_RETIRING_ROUNDS>(hart);
+            let stepped = self.turn_of::<IN_RETIRING_ROUNDS>(rounds.hart);
             if !has_retired(stepped) {
                 return Retired {
                     count: count - left - 1,
                     last: Some(stepped),
                 };
             }
-            hart = Order::RoundRobin.next(hart, harts);
+            hart = Order::RoundRobin.next(rounds.hart, harts);
         }
         Retired { count, last: None }
+    }
+
+    /// Makes turns of the harts on the straight path, if hart 0 has the first: one that left the path is likely not the
+    /// only one of its round.
+    #[inline(always)]
+    fn rounds_of_all(&mut self, first: u32, count: u32) -> Rounds
+        requires first { first < length self.old.guest.board.harts }
+        requires breakpoints { self.old.guest.breakpoints ≡ [] }
+        requires stopped { list_any (λ s. s) self.old.guest.stopped ≡ false }
+        ensures left { result.left ≤ count }
+        ensures inside { result.hart < length self.new.guest.board.harts }
+        ensures hart { result.hart
+            ≡ (first + (count - result.left)) % length self.old.guest.board.harts }
+        ensures computes { Compute (length self.old.guest.board.harts) (count - result.left) first self.old self.new }
+        ensures breakpoints { self.new.guest.breakpoints ≡ self.old.guest.breakpoints }
+        ensures stopped { self.new.guest.stopped ≡ self.old.guest.stopped }
+    {
+        if first > 0 {
+            return Rounds {
+                left: count,
+                hart: first,
+            };
+        }
+        self.compute_in_rounds(0, count)
     }
 }
 

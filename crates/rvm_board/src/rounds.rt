@@ -4,10 +4,8 @@ ghost use Rattle.std.specs.Prelude.{◌≡◌, ◌<◌, ◌≤◌, ◌+◌, ◌-
 ghost use Rattle.rvm_hart.specs.Machine.{with_devices};
 ghost use Rattle.rvm_hart.specs.Straight.{at_time, risen};
 ghost use Rattle.rvm_board.specs.Board.{IsBoard};
-ghost use Rattle.rvm_board.specs.Guest.{fresh};
+ghost use Rattle.rvm_board.specs.Computing.{Compute};
 ghost use Rattle.rvm_board.specs.Rounds.{AreQuiet, GoOn, board_of, guest_on, risen_after, risen_up_to, share};
-ghost use Rattle.rvm_board.specs.Turns.{TakesTurns, after_turns};
-ghost use Rattle.rvm_board.specs.declared.turns.Order.TheVariants.{RoundRobin};
 
 use crate::board::Board;
 use rvm_hart::{Bus, Hart};
@@ -37,8 +35,8 @@ impl<M: Memory> Board<M> {
         ensures inside { result.hart < length self.new.plain.harts }
         ensures hart { result.hart ≡ (first + (count - result.left)) % length self.old.plain.harts }
         ensures harts { length self.new.plain.harts ≡ length self.old.plain.harts }
-        ensures turns { TakesTurns (after_turns RoundRobin (count - result.left) first (fresh self.old.plain))
-            (guest_on self.old) (guest_on self.new) (record { made = count - result.left; stop = None }) }
+        ensures computes { Compute (length self.old.plain.harts) (count - result.left) first
+            (guest_on self.old) (guest_on self.new) }
     {
         let harts = self.harts.as_mut_slice();
         turns_of_all::<M, LOOP>(harts, &mut self.bus, first, count)
@@ -60,11 +58,9 @@ fn turns_of_all<M: Memory, const LOOP: u8>(
     ensures hart { result.hart ≡ (first + (count - result.left)) % length harts.old }
     ensures board { IsBoard (record { harts = harts.new; shared = bus.new.shared }) }
     ensures size { length harts.new ≡ length harts.old }
-    ensures turns { TakesTurns
-        (after_turns RoundRobin (count - result.left) first (fresh (record { harts = harts.old; shared = bus.old.shared })))
+    ensures computes { Compute (length harts.old) (count - result.left) first
         (guest_on (board_of harts.old bus.old))
-        (guest_on (board_of harts.new bus.new))
-        (record { made = count - result.left; stop = None }) }
+        (guest_on (board_of harts.new bus.new)) }
 {
     if bus.halted().is_some() {
         return Rounds {
@@ -115,11 +111,9 @@ fn rows_in_turn<M: Memory, const LOOP: u8>(
     ensures hart { result.hart ≡ (first + (count - result.left)) % length harts.old }
     ensures board { IsBoard (record { harts = harts.new; shared = bus.new.shared }) }
     ensures size { length harts.new ≡ length harts.old }
-    ensures turns { TakesTurns
-        (after_turns RoundRobin (count - result.left) first (fresh (record { harts = harts.old; shared = bus.old.shared })))
+    ensures computes { Compute (length harts.old) (count - result.left) first
         (guest_on (board_of harts.old bus.old))
-        (guest_on (record { plain = risen_after first (count - result.left) (record { harts = harts.new; shared = bus.new.shared }); dirty = bus.new.dirty }))
-        (record { made = count - result.left; stop = None }) }
+        (guest_on (record { plain = risen_after first (count - result.left) (board_of harts.new bus.new).plain; dirty = bus.new.dirty })) }
 {
     let number = harts.len() as u32;
     let decoder = harts[first as usize].decoder();

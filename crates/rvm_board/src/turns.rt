@@ -6,6 +6,7 @@ ghost use Rattle.rvm_mem.specs.Pages.{mark_all};
 ghost use Rattle.rvm_hart.specs.Running.{ends_so};
 ghost use Rattle.rvm_hart.specs.Straight as straight;
 ghost use Rattle.rvm_board.specs.Board.{machine_at};
+ghost use Rattle.rvm_board.specs.Computing.{Compute};
 ghost use Rattle.rvm_board.specs.Events.{pc_of, reply_of, step_reply, steps};
 ghost use Rattle.rvm_board.specs.Guest.{is_in};
 ghost use Rattle.rvm_board.specs.Marks.{gone, none_stops};
@@ -40,6 +41,8 @@ pub(crate) const IN_RETIRING: u8 = 5;
 pub(crate) const IN_RETIRING_ROUNDS: u8 = 6;
 
 const IN_STRAIGHT_ROUNDS: u8 = 7;
+
+pub(crate) const IN_COMPUTING_ROUNDS: u8 = 8;
 
 /// Which hart has the next turn.
 #[derive(Clone, Copy, Debug, PartialEq, Eq)]
@@ -289,7 +292,7 @@ impl<M: Memory> Debugged<M> {
 
     /// Makes at most `count` turns of the harts in their order on the straight path, none of which can stop.
     #[inline(always)]
-    fn straight_rounds<const LOOP: u8>(&mut self, first: u32, count: u32) -> Rounds
+    pub(crate) fn straight_rounds<const LOOP: u8>(&mut self, first: u32, count: u32) -> Rounds
         requires first { first < length self.old.guest.board.harts }
         requires breakpoints { self.old.guest.breakpoints ≡ [] }
         requires stopped { list_any (λ s. s) self.old.guest.stopped ≡ false }
@@ -297,8 +300,7 @@ impl<M: Memory> Debugged<M> {
         ensures inside { result.hart < length self.new.guest.board.harts }
         ensures hart { result.hart
             ≡ (first + (count - result.left)) % length self.old.guest.board.harts }
-        ensures turns { TakesTurns (after_turns RoundRobin (count - result.left) first self.old.guest)
-            self.old self.new (record { made = count - result.left; stop = None }) }
+        ensures computes { Compute (length self.old.guest.board.harts) (count - result.left) first self.old self.new }
         ensures breakpoints { self.new.guest.breakpoints ≡ self.old.guest.breakpoints }
         ensures stopped { self.new.guest.stopped ≡ self.old.guest.stopped }
     {

@@ -45,7 +45,7 @@ impl<M: Memory> Debugged<M> {
 
     /// Whether 16 bytes wait for the guest, so that no more can come.
     #[inline(always)]
-    fn input_is_full(&self) -> bool
+    pub fn input_is_full(&self) -> bool
         ensures { result ≡ is_full self.now.guest }
     {
         self.board.devices().input_is_full()

@@ -4,7 +4,7 @@ use Rattle.std.proofs.lemmas.List.{drop_min, take_at, take_min, length-take, len
 use Rattle.std.proofs.lemmas.Bool.{eqb-true, lt-ltb}
 use Rattle.std.proofs.lemmas.Bool.Decides.{nat_tests}
 use Rattle.std.proofs.lemmas.Nat.{mod_below}
-use Rattle.std.proofs.Math.Nat.{mod-add-div, add-mul-mod_self_left}
+use Rattle.std.proofs.Math.Nat.{mod-add-div, mod-add-mod, mod-mod, add-mul-mod_self_left}
 use Rattle.std.specs.Io.KnownBytes.{Appends}
 use Rattle.rvm_mem.specs.Pages.{mark_all}
 use Rattle.rvm_hart.specs.declared.outcome.Stepped.{Stepped}
@@ -21,8 +21,11 @@ use Rattle.rvm_board.specs.declared.turns.Turns.{Turns}
 use Rattle.rvm_board.specs.Guest.{Guest, GuestState}
 use Rattle.rvm_board.specs.Events.{Answered, answered, leaves, pc_of, refuses, reply_of, steps, stops, takes_step, with_board, with_stopped}
 use Rattle.rvm_board.specs.Events as events
+use Rattle.rvm_board.specs.Retiring.{stepped}
+use Rattle.rvm_board.specs.Computing.{Compute, HaveSameConsole}
 use Rattle.rvm_board.specs.Turns.{AfterTurns, TakesTurns, after_turns, behind, stop_in, unless_stopped}
 use Rattle.rvm_board.specs.WhileFull.{is_full, no_turns, turns_while}
+use Rattle.rvm_board.proofs.Computes.{compute_console}
 use Rattle.rvm_board.proofs.Turning.{mark_more, steps_count}
 use Rattle.rvm_board.proofs.Waiting.{as_they_are, while_some, while_within}
 use Rattle.rvm_command.specs.declared.run.Ended.{Ended}
@@ -526,6 +529,117 @@ slice_from is_so (suc k) (suc p) t h made input rest status old mid new told som
       so_far = is_after_both (offers input) part.events old mid new offered done;
       quiet = bytes_both (offers input) part.events old mid offered ∙ ap (λ (l : List ℕ). l ++ (after part.events mid.guest).bytes) (offer_quiet input old.guest).0 ∙ ap (λ (x : After). x.bytes) part.made;
     }
+
+-- ---- turns on the straight path
+
+-- a run goes on, and goes on again
+goes_both : {run between rest : Run} {old mid new : GuestState} → GoesOn run between old mid → GoesOn between rest mid new → GoesOn run rest old new
+goes_both {run} {between} {rest} {old} {mid} {new} a b =
+    record {
+      events = a.events ++ b.events;
+      whole = a.whole ∙ ap (first a.events) b.whole ∙ ap (λ (l : List BoardEvent). record rest { events = l }) (sym (append_assoc a.events b.events rest.events));
+      so_far = is_after_both a.events b.events old mid new a.so_far b.so_far;
+      quiet = bytes_both a.events b.events old mid a.so_far ∙ ap (λ (l : List ℕ). l ++ (after b.events mid.guest).bytes) a.quiet ∙ b.quiet;
+    }
+
+-- an offer that changes nothing
+goes_idle : (input : List ℕ) (rest : Run) (g : GuestState) → IsIdle input g.guest → GoesOn (first (offers input) rest) rest g g
+goes_idle input rest g none =
+    record {
+      events = offers input;
+      whole = refl;
+      so_far = record { guest = ap (λ (x : After). x.guest) (sym none.made); dirty = ap (λ (x : After). mark_all x.pages g.dirty) (sym none.made) };
+      quiet = ap (λ (x : After). x.bytes) none.made;
+    }
+
+-- a drain that finds nothing
+drains_nothing : (drain : Bool) (n t : ℕ) (input : List ℕ) (g : Guest) → length g.board.shared.devices.output ≡ 0 → behind_drain drain n t input g ≡ run_from n t input g
+drains_nothing false n t input g none = ap (λ (x : After). run_from n t input x.guest) (after_none g)
+drains_nothing true n t input g none =
+    ap (λ (l : List BoardEvent). first l (run_from n t input (after l g).guest)) (drains_none g none) ∙ ap (λ (x : After). run_from n t input x.guest) (after_none g)
+
+-- a turn that retires and leaves nothing to take
+goes_turn : (n t h : ℕ) (input : List ℕ) (g : GuestState) → h < length g.guest.board.harts → (steps h g.guest).reply ≡ reply.Retired → length (steps h g.guest).guest.board.shared.devices.output ≡ 0
+    → GoesOn (stepping n t h input (answered (Step h) g.guest)) (run_from n (t + 1) input (steps h g.guest).guest) g (stepped h g)
+goes_turn n t h input g there said none =
+    let s : Answered = steps h g.guest in
+    let one = after_step h g.guest there in
+    record {
+      events = Step h ∷ [];
+      whole = ap (stepping n t h input) (there_steps h g.guest there)
+          ∙ ap (λ (r : BoardReply). first (Step h ∷ []) (unless_halted r s.guest (behind_drain (nat_eq (t % 64) 63) n (t + 1) input s.guest))) said
+          ∙ ap (first (Step h ∷ [])) (drains_nothing (nat_eq (t % 64) 63) n (t + 1) input s.guest none);
+      so_far = record { guest = ap (λ (x : After). x.guest) (sym one); dirty = ap (λ (x : After). mark_all x.pages g.dirty) (sym one) };
+      quiet = ap (λ (x : After). x.bytes) one;
+    }
+
+takes_still : (is_more : Bool) (g new : Guest) → HaveSameConsole g new → takes_none is_more g ≡ true → takes_none is_more new ≡ true
+takes_still true g new still full = ap (λ (l : List ℕ). nat_eq (length l) 16) still.input ∙ full
+takes_still false g new still full = refl
+
+goes_computing : (k n t u harts : ℕ) (is_more : Bool) (input : List ℕ) (g new : GuestState) → (is_more ≡ false → input ≡ []) → takes_none is_more g.guest ≡ true → length g.guest.board.shared.devices.output ≡ 0
+    → length g.guest.board.harts ≡ harts → u % harts ≡ t % harts → Compute harts (suc k) u g new
+    → GoesOn (stepping (k + n) t (u % harts) input (answered (Step (u % harts)) g.guest)) (run_from n (t + suc k) input new.guest) g new
+goes_computing zero n t u harts is_more input g new none full sent size same are =
+    let h : ℕ = u % harts in
+    let one : t + 1 ≡ t + suc zero = omega arith in
+    let all : n ≡ 0 + n = omega arith in
+    subst (λ i. GoesOn (stepping i t h input (answered (Step h) g.guest)) (run_from n (t + suc zero) input new.guest) g new) all
+    (subst (λ (x : GuestState). GoesOn (stepping n t h input (answered (Step h) g.guest)) (run_from n (t + suc zero) input x.guest) g x) (sym are.3)
+    (subst (λ i. GoesOn (stepping n t h input (answered (Step h) g.guest)) (run_from n i input (steps h g.guest).guest) g (stepped h g)) one
+    (goes_turn n t h input g are.0 are.1 (ap length are.2.output ∙ sent))))
+goes_computing (suc k) n t u harts is_more input g new none full sent size same are =
+    let h : ℕ = u % harts in
+    let mid : GuestState = stepped h g in
+    let still : HaveSameConsole g.guest mid.guest = are.2 in
+    let so : takes_none is_more mid.guest ≡ true = takes_still is_more g.guest mid.guest still full in
+    let empty : length mid.guest.board.shared.devices.output ≡ 0 = ap length still.output ∙ sent in
+    let long : length mid.guest.board.harts ≡ harts = steps_count h g.guest ∙ size in
+    let next : (u + 1) % harts ≡ (t + 1) % harts = sym (mod-add-mod u harts 1) ∙ ap (λ i. (i + 1) % harts) same ∙ mod-add-mod t harts 1 in
+    let hart : (t + 1) % length mid.guest.board.harts ≡ (u + 1) % harts = ap (λ l. (t + 1) % l) long ∙ sym next in
+    let quiet : IsIdle input mid.guest = idle is_more input none mid.guest so in
+    let sum : t + 1 + suc k ≡ t + suc (suc k) = omega arith in
+    let turns : GoesOn (stepping (k + n) (t + 1) ((u + 1) % harts) input (answered (Step ((u + 1) % harts)) mid.guest)) (run_from n (t + suc (suc k)) input new.guest) mid new =
+    subst (λ i. GoesOn (stepping (k + n) (t + 1) ((u + 1) % harts) input (answered (Step ((u + 1) % harts)) mid.guest)) (run_from n i input new.guest) mid new) sum
+    (goes_computing k n (t + 1) (u + 1) harts is_more input mid new none so empty long next are.3) in
+    let whole : run_from (suc (k + n)) (t + 1) input mid.guest ≡ first (offers input) (stepping (k + n) (t + 1) ((u + 1) % harts) input (answered (Step ((u + 1) % harts)) mid.guest)) =
+    idle_turn (k + n) (t + 1) input mid.guest quiet ∙ ap (λ (j : ℕ). first (offers input) (stepping (k + n) (t + 1) j input (answered (Step j) mid.guest))) hart in
+    let all : suc (k + n) ≡ suc k + n = omega arith in
+    subst (λ i. GoesOn (stepping i t h input (answered (Step h) g.guest)) (run_from n (t + suc (suc k)) input new.guest) g new) all
+    (goes_both (goes_turn (suc (k + n)) t h input g are.0 are.1 empty)
+    (subst (λ (r : Run). GoesOn r (run_from n (t + suc (suc k)) input new.guest) mid new) (sym whole)
+    (goes_both (goes_idle input (stepping (k + n) (t + 1) ((u + 1) % harts) input (answered (Step ((u + 1) % harts)) mid.guest)) mid quiet) turns)))
+
+-- a byte that is offered and turns on the straight path, between which a drain finds nothing
+pub computed_from : (n t h made : ℕ) (is_more : Bool) (input rest : List ℕ) (old mid new : GuestState) → 0 < made → made ≤ n → h ≡ t % length mid.guest.board.harts
+    → IsAfter (offers input) old mid → rest ≡ left input old.guest → (is_more ≡ false → rest ≡ []) → takes_none is_more mid.guest ≡ true → length mid.guest.board.shared.devices.output ≡ 0
+    → Compute (length mid.guest.board.harts) made h mid new → GoesOn (run_from n t input old.guest) (rest_of_run None (n - made) (t + made) rest new.guest) old new
+computed_from n t h zero is_more input rest old mid new some within turn offered kept none full sent are = absurd (omega (arith, some))
+computed_from n t h (suc k) is_more input rest old mid new some within turn offered kept none full sent are =
+    let harts : ℕ = length mid.guest.board.harts in
+    let m : ℕ = n - suc k in
+    let at : mid.guest ≡ (after (offers input) old.guest).guest = offered.guest in
+    let size : harts ≡ length old.guest.board.harts = ap (λ (g : Guest). length g.board.harts) at ∙ (offer_quiet input old.guest).1 in
+    let same : h % harts ≡ t % harts = ap (λ i. i % harts) turn ∙ mod-mod t harts in
+    let hart : t % length old.guest.board.harts ≡ h % harts = ap (λ l. t % l) (sym size) ∙ sym same in
+    let left_empty : length new.guest.board.shared.devices.output ≡ 0 = ap length (compute_console harts (suc k) h mid new are).output ∙ sent in
+    let whole : run_from n t input old.guest ≡ first (offers input) (stepping (k + m) t (h % harts) rest (answered (Step (h % harts)) mid.guest)) =
+    ap (λ i. run_from i t input old.guest) (omega (arith, within))
+    ∙ turn_first (k + m) t input old.guest
+    ∙ ap (λ (l : List ℕ). first (offers input) (stepping (k + m) t (t % length old.guest.board.harts) l (answered (step_of t old.guest) (after (offers input) old.guest).guest))) (sym kept)
+    ∙ ap (λ (g : Guest). first (offers input) (stepping (k + m) t (t % length old.guest.board.harts) rest (answered (step_of t old.guest) g))) (sym at)
+    ∙ ap (λ (j : ℕ). first (offers input) (stepping (k + m) t j rest (answered (Step j) mid.guest))) hart in
+    let offer : GoesOn (first (offers input) (stepping (k + m) t (h % harts) rest (answered (Step (h % harts)) mid.guest))) (stepping (k + m) t (h % harts) rest (answered (Step (h % harts)) mid.guest)) old mid =
+    record { events = offers input; whole = refl; so_far = offered; quiet = (offer_quiet input old.guest).0 } in
+    let turns : GoesOn (stepping (k + m) t (h % harts) rest (answered (Step (h % harts)) mid.guest)) (rest_of_run None m (t + suc k) rest new.guest) mid new =
+    subst (λ (r : Run). GoesOn (stepping (k + m) t (h % harts) rest (answered (Step (h % harts)) mid.guest)) r mid new) (sym (drains_nothing (nat_eq ((t + suc k) % 64) 0) m (t + suc k) rest new.guest left_empty))
+    (goes_computing k m t h harts is_more rest mid new none full sent refl same are) in
+    subst (λ (r : Run). GoesOn r (rest_of_run None m (t + suc k) rest new.guest) old new) (sym whole) (goes_both offer turns)
+
+-- no turn was made
+pub unmoved : (harts n turn : ℕ) (old new : GuestState) → n ≡ 0 → Compute harts n turn old new → new ≡ old
+unmoved harts zero turn old new none are = are
+unmoved harts (suc n) turn old new none are = absurd (omega (arith, none))
 
 -- how many turns were made
 pub some_made : (is_so : Guest → Bool) (count h : ℕ) (g : Guest) → 0 < count → 0 < (turns_while is_so count h g).made

@@ -1,9 +1,10 @@
 //! The loop of `rvmove run`: turns of the harts, input to the guest, and what it sends.
 
-ghost use Rattle.std.specs.Prelude.{◌≡◌, ◌<◌, ◌≤◌, ◌+◌, ◌-◌, ◌%◌, ◌∷◌, ◌++◌, [], OnOk, OnErr, IfOk, IsTrue, drop, length};
+ghost use Rattle.std.specs.Prelude.{◌≡◌, ◌<◌, ◌≤◌, ◌+◌, ◌-◌, ◌%◌, ◌∷◌, ◌++◌, [], OnOk, OnErr, IfOk, IsTrue, drop, length, true};
 ghost use Rattle.std.specs.Io.KnownBytes.{Appends};
 ghost use Rattle.rvm_mem.specs.Pages.{mark_all};
 ghost use Rattle.rvm_board.specs.declared.event.BoardEvent.TheVariants.{Drain};
+ghost use Rattle.rvm_board.specs.Computing.{Compute};
 ghost use Rattle.rvm_board.specs.Turns.{TakesTurns};
 ghost use Rattle.rvm_board.specs.WhileFull.{turns_while};
 ghost use Rattle.rvm_command.specs.Buffered.{GoesOut};
@@ -86,7 +87,8 @@ struct Slice {
     status: Option<u8>,
 }
 
-/// Offers a byte of input and makes turns, from turn `turn` on, at most up to the next drain.
+/// Offers a byte of input and makes turns, from turn `turn` on, at most up to the next drain that finds something, or
+/// up to the next write.
 #[inline]
 fn make_turns<M: Memory>(
     guest: &mut Debugged<M>,
@@ -105,14 +107,53 @@ fn make_turns<M: Memory>(
     ensures next { result.next ≤ length input.now }
 {
     let next = feed(guest, input, next);
-    let count = (DRAIN_EVERY - turn % DRAIN_EVERY).min(steps - turn);
+    let is_more = next < input.len();
     let first = turn % guest.harts();
-    let turns = take_turns(guest, next < input.len(), first, count);
+    let made = compute(guest, is_more, first, ahead(turn, steps));
+    if made > 0 {
+        return Slice {
+            made,
+            next,
+            status: None,
+        };
+    }
+    let count = (DRAIN_EVERY - turn % DRAIN_EVERY).min(steps - turn);
+    let turns = take_turns(guest, is_more, first, count);
     Slice {
         made: turns.made,
         next,
         status: status_of(turns.stop),
     }
+}
+
+/// How many turns may be made from turn `turn` on with no drain between them, if none has anything to take: all up to
+/// the next write. None but directly after a drain, so that a guest that often does more than compute is asked once
+/// for each drain.
+#[inline(always)]
+fn ahead(turn: u32, steps: u32) -> u32
+    requires { turn < steps }
+    ensures { turn + result ≤ steps }
+{
+    if turn % DRAIN_EVERY > 0 {
+        return 0;
+    }
+    (WRITE_EVERY - turn % WRITE_EVERY).min(steps - turn)
+}
+
+/// Makes at most `count` turns that neither send anything nor take any input, the first by hart `first`, if nothing
+/// that the guest sent waits and no byte can come. Returns how many were made.
+#[inline(always)]
+fn compute<M: Memory>(guest: &mut Debugged<M>, is_more: bool, first: u32, count: u32) -> u32
+    requires { first < length guest.old.guest.board.harts }
+    ensures made { result ≤ count }
+    ensures computes { Compute (length guest.old.guest.board.harts) result first guest.old guest.new }
+    ensures input { 0 < result → takes_none is_more guest.old.guest ≡ true }
+    ensures output { 0 < result → length guest.old.guest.board.shared.devices.output ≡ 0 }
+{
+    if count == 0 || guest.waiting() > 0 || (is_more && !guest.input_is_full()) {
+        return 0;
+    }
+    guest.compute(first, count)
 }
 
 /// The status of the board, if the turns stopped because it is halted.

@@ -1,5 +1,5 @@
 -- Consecutive straight instructions, and the steps that make them.
-use Rattle.std.proofs.Common.{◌≡◌, ◌==◌, length, ℕ, zero, suc, ◌+◌, ◌%◌, ◌^◌, ◌<◌, ◌≤◌, Bool, true, false, ◌&&◌, cond, List, [], ◌∷◌, ◌++◌, Option, Some, None, refl, sym, ap, ◌∙◌, subst, arith, nat_le, get_or, is_some, not, ◌-◌}
+use Rattle.std.proofs.Common.{◌≡◌, ℕ, zero, suc, ◌+◌, ◌%◌, ◌^◌, ◌<◌, ◌≤◌, Bool, true, false, ◌&&◌, cond, List, [], ◌∷◌, ◌++◌, Option, Some, None, refl, sym, ap, ◌∙◌, subst, arith, nat_le, get_or, is_some, not, ◌-◌}
 use Rattle.std.proofs.lemmas.Bool.Decides.{nat_tests}
 use Rattle.std.proofs.Math.Nat.{mod-add-mod, mod-eq_of_lt}
 use Rattle.rvm_mem.specs.Pages.{mark, mark_all}
@@ -18,7 +18,7 @@ use Rattle.rvm_hart.specs.Bus.{mip_of, ram_load}
 use Rattle.rvm_hart.specs.Outcome.{Outcome, Done, Traps, machine_after}
 use Rattle.rvm_hart.specs.Step.{After, after_outcome, execute, step, unless_halted, unless_pending}
 use Rattle.rvm_hart.specs.Marks.{passes}
-use Rattle.rvm_hart.specs.Straight.{IsQuiet, Steps, Went, all_pass, at_time, input_stays, is_fetched, is_next, is_other, is_plain, is_retired, is_straight, pages_of, risen, steps, timed, timed_after, went}
+use Rattle.rvm_hart.specs.Straight.{DevicesStay, IsQuiet, Steps, Went, all_pass, at_time, is_fetched, is_next, is_other, is_plain, is_retired, is_straight, pages_of, risen, steps, timed, timed_after, went}
 use Rattle.rvm_hart.proofs.Shape.{step_keeps}
 use Rattle.rvm_hart.proofs.Still.{Still, execute_still, timed_outcome}
 
@@ -65,15 +65,11 @@ pub record Agrees (w : Bool) (ms : List Bool) (n : ℕ) (m : Machine) (d : List 
   pub csrs : (went w ms n m d).machine.hart.csrs ≡ m.hart.csrs
   pub devices : (went w ms n m d).machine.shared.devices ≡ m.shared.devices
   pub pass : all_pass w ms n m ≡ true
-  pub input : input_stays n m ≡ true
-
--- a number is itself
-same_number : (n : ℕ) → (n == n) ≡ true
-same_number n = grind (arith, nat_tests)
+  pub stays : DevicesStay n m
 
 pub agrees : (w : Bool) (ms : List Bool) (n : ℕ) (m : Machine) (d : List Bool) → (went w ms n m d).plain ≡ true → m.shared.devices.halted ≡ None → IsQuiet n m → Agrees w ms n m d
-unfolding steps all_pass input_stays
-agrees w ms zero m d plain on quiet = record { left = refl; dirty = refl; retired = refl; csrs = refl; devices = refl; pass = refl; input = refl }
+unfolding steps all_pass
+agrees w ms zero m d plain on quiet = record { left = refl; dirty = refl; retired = refl; csrs = refl; devices = refl; pass = refl; stays = tt }
 agrees w ms (suc n) m d plain on quiet =
     let was : Went = went w ms n m d in
     let x : Machine = was.machine in
@@ -97,18 +93,15 @@ agrees w ms (suc n) m d plain on quiet =
     ∙ step_on (timed c i t x) not_halted none
     ∙ ap (λ y. after_outcome y (timed c i t x)) (still.any c i t)
     ∙ plain_cases c i t o x inner.second in
-    let waiting : DeviceState → Bool = λ y. length y.input == length m.shared.devices.input in
+    let left : (steps (suc n) m).machine ≡ timed_after (suc n) m (machine_after o x) = ap (λ (a : After). a.machine) made in
     record {
-      left = ap (λ (a : After). a.machine) made;
+      left = left;
       dirty = ap (λ y. mark_all (pages_of o) y) so_far.dirty ∙ sym (mark_more s.pages (pages_of o) d) ∙ ap (λ (a : After). mark_all (s.pages ++ a.pages) d) (sym made);
       retired = ap (λ b. b && is_retired (step s.machine).answer) so_far.retired ∙ ap (λ (a : After). is_retired a.answer) made;
       csrs = still.csrs ∙ so_far.csrs;
       devices = still.devices ∙ so_far.devices;
       pass = ap (λ b. b && passes w ms s.machine.hart.pc) so_far.pass ∙ ap (λ (y : Machine). passes w ms y.hart.pc) so_far.left ∙ path.second;
-      input = ap (λ b. b && waiting (step s.machine).machine.shared.devices) so_far.input
-          ∙ ap (λ (a : After). waiting a.machine.shared.devices) made
-          ∙ ap waiting (still.devices ∙ so_far.devices)
-          ∙ same_number (length m.shared.devices.input);
+      stays = (so_far.stays, ap (λ (y : Machine). y.shared.devices) left ∙ ap (at_time (risen (suc n) m.shared.devices.mtime)) (still.devices ∙ so_far.devices));
     }
 
 -- COUNTERS
@@ -204,9 +197,8 @@ pub none_pass : (w : Bool) (ms : List Bool) (n : ℕ) (m : Machine) → n ≡ 0 
 unfolding all_pass
 none_pass w ms n m e = rw e refl
 
-pub none_input : (n : ℕ) (m : Machine) → n ≡ 0 → input_stays n m ≡ true
-unfolding input_stays
-none_input n m e = rw e refl
+pub none_change : (n : ℕ) (m : Machine) → n ≡ 0 → DevicesStay n m
+none_change n m e = rw e tt
 
 -- a machine and its dirty log are those that k steps leave, all of which retired on the path
 pub record MadeSteps (w : Bool) (ms : List Bool) (k : ℕ) (old : Machine) (log : List Bool) (new : Machine) (dirty : List Bool) : Type 0 where
@@ -214,7 +206,7 @@ pub record MadeSteps (w : Bool) (ms : List Bool) (k : ℕ) (old : Machine) (log 
   pub marked : dirty ≡ mark_all (steps k old).pages log
   pub retired : (steps k old).retired ≡ true
   pub pass : all_pass w ms k old ≡ true
-  pub input : input_stays k old ≡ true
+  pub stays : DevicesStay k old
 
 pub made_steps : (w : Bool) (ms : List Bool) (k : ℕ) (old : Machine) (log : List Bool) (x new : Machine) (dirty : List Bool) → record { machine = x; dirty = dirty; plain = true } ≡ went w ms k old log
     → old.shared.devices.halted ≡ None → IsQuiet k old → new ≡ timed_after k x x → MadeSteps w ms k old log new dirty
@@ -230,7 +222,7 @@ made_steps w ms k old log x new dirty same on quiet counted_on =
       marked = ap (λ (y : Went). y.dirty) same ∙ a.dirty;
       retired = a.retired;
       pass = a.pass;
-      input = a.input;
+      stays = a.stays;
     }
 
 none_of_some : (o : Option Interrupt) → is_some o ≡ false → o ≡ None

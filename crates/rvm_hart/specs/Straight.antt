@@ -1,5 +1,5 @@
 -- Instructions that reach registers, RAM and reservations alone, and steps that make them.
-use Rattle.std.specs.Prelude.{◌≡◌, ◌==◌, ℕ, zero, suc, ◌+◌, ◌%◌, ◌^◌, ◌<◌, Bool, true, false, not, ◌&&◌, is_some, List, [], ◌++◌, length, nat_lt, Option, Some, None}
+use Rattle.std.specs.Prelude.{◌≡◌, ◌==◌, ℕ, zero, suc, ◌+◌, ◌%◌, ◌^◌, ◌<◌, Bool, true, false, not, ◌&&◌, is_some, List, [], ◌++◌, nat_lt, Option, Some, None}
 use Rattle.rvm_mem.specs.Pages.{mark_all}
 use Rattle.rvm_isa.specs.declared.ins.Ins.{Ins}
 use Rattle.rvm_isa.specs.declared.ins.Ins.TheVariants.{Lui, Auipc, Jal, Jalr, Beq, Bne, Blt, Bge, Bltu, Bgeu, Lb, Lh, Lw, Lbu, Lhu, Sb, Sh, Sw, Addi, Slti, Sltiu, Xori, Ori, Andi, Slli, Srli, Srai, Add, Sub, Sll, Slt, Sltu, Xor, Srl, Sra, Or, And, Mul, Mulh, Mulhsu, Mulhu, Div, Divu, Rem, Remu, Fence, FenceI, Ecall, Ebreak, Mret, Wfi, Csrrw, Csrrs, Csrrc, Csrrwi, Csrrsi, Csrrci, LrW, ScW, AmoswapW, AmoaddW, AmoxorW, AmoandW, AmoorW, AmominW, AmomaxW, AmominuW, AmomaxuW}
@@ -232,8 +232,8 @@ unfoldable pub all_pass : (watched : Bool) → (marks : List Bool) → (n : ℕ)
 all_pass watched marks zero m = true
 all_pass watched marks (suc n) m = all_pass watched marks n m && passes watched marks (steps n m).machine.hart.pc
 
--- after each of the first n steps, as many bytes wait for the guest as before them
-unfoldable pub input_stays : (n : ℕ) → Machine → Bool
-input_stays zero m = true
-input_stays (suc n) m =
-    input_stays n m && length (steps (suc n) m).machine.shared.devices.input == length m.shared.devices.input
+-- of the devices, each of the first n steps changed mtime alone
+abbrev pub DevicesStay : (n : ℕ) → Machine → Type 0
+DevicesStay zero m = Unit {0}
+DevicesStay (suc n) m =
+    DevicesStay n m × ((steps (suc n) m).machine.shared.devices ≡ at_time (risen (suc n) m.shared.devices.mtime) m.shared.devices)

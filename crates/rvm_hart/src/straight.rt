@@ -7,7 +7,7 @@ ghost use Rattle.rvm_word.specs.Word.{modulo};
 ghost use Rattle.rvm_hart.specs.Outcome.{done, done_with, reg};
 ghost use Rattle.rvm_hart.specs.Kinds.{arithmetic, atomic, branch, even, holds, jump, load_byte, load_half, load_reserved, load_word, store_byte, store_conditional, store_half, store_word, sum};
 ghost use Rattle.rvm_hart.specs.Rows.{effect, sign_extended_byte, sign_extended_half, zero_extended};
-ghost use Rattle.rvm_hart.specs.Straight.{Goes, IsQuiet, all_pass, at_pc, based, input_stays, is_next, is_offset, is_straight, stays_in_ram, steps, timed_after, went};
+ghost use Rattle.rvm_hart.specs.Straight.{DevicesStay, Goes, IsQuiet, all_pass, at_pc, based, is_next, is_offset, is_straight, stays_in_ram, steps, timed_after, went};
 ghost use Rattle.rvm_hart.specs.Bus.{in_ram, ram_load};
 ghost use Rattle.rvm_mem.specs.Pages.{mark_all};
 ghost use Rattle.rvm_hart.specs.Step.{execute};
@@ -57,7 +57,7 @@ impl Hart {
         ensures retired { (steps (count - result.left) (machine self.old bus.old)).retired ≡ true }
         ensures pass { all_pass watched marks.now (count - result.left) (machine self.old bus.old) ≡ true }
         ensures next { is_next result.word (machine self.new bus.new) ≡ true }
-        ensures input { input_stays (count - result.left) (machine self.old bus.old) ≡ true }
+        ensures devices { DevicesStay (count - result.left) (machine self.old bus.old) }
     {
         if bus.halted().is_some() {
             return Straight {

@@ -1,7 +1,7 @@
-//! The rows of the straight path: no clause says that a step of one is made there.
+//! The straight path: no clause says that a step of one of its rows is made there, or that harts compute.
 
 use crate::boards::page;
-use rvm_board::Board;
+use rvm_board::{Board, Debugged};
 use rvm_hart::{Marks, RAM_BASE};
 use rvm_mem::{FlatMemory, write_bytes};
 use std::alloc::Global;
@@ -74,11 +74,14 @@ const WORDS: [u32; 58] = [
     0xE094_252F, // amomaxu.w a0, s1, (s0)
 ];
 
-/// A board of one hart whose next instruction is this word, and whose s0 is the middle of its page.
-fn board(alloc: Global, word: u32) -> Result<Board<FlatMemory>, Fail> {
+/// `jal x0, 0`: a jump to itself.
+const LOOP: u32 = 0x0000_006F;
+
+/// A board of this many harts whose next instruction is this word. The s0 of hart 0 is the middle of the page.
+fn board(alloc: Global, harts: u32, word: u32) -> Result<Board<FlatMemory>, Fail> {
     let mut ram = page(alloc)?;
     write_bytes(&mut ram, 0, &word.to_le_bytes())?;
-    match Board::new(alloc, 1, ram, RAM_BASE) {
+    match Board::new(alloc, harts, ram, RAM_BASE) {
         Ok(made) => {
             let mut board = made;
             board.poke_reg(0, S0, RAM_BASE + 0x800)?;
@@ -91,9 +94,19 @@ fn board(alloc: Global, word: u32) -> Result<Board<FlatMemory>, Fail> {
 #[test]
 fn each_row_of_the_straight_path_is_made_there(rt: HostRuntime) -> Result<(), Fail> {
     for word in &WORDS {
-        let mut board = board(rt.alloc(), *word)?;
+        let mut board = board(rt.alloc(), 1, *word)?;
         assert!(rt; board.harts() == 1);
         assert_eq!(rt; board.run_straight::<0>(0, 1, &Marks::new(), false), 0);
+    }
+    Ok(())
+}
+
+#[test]
+fn harts_that_compute_make_all_turns(rt: HostRuntime) -> Result<(), Fail> {
+    for harts in [2, 4, 8] {
+        let mut guest = Debugged::new(board(rt.alloc(), harts, LOOP)?);
+        assert!(rt; guest.harts() == harts);
+        assert_eq!(rt; guest.compute(0, 1000), 1000);
     }
     Ok(())
 }

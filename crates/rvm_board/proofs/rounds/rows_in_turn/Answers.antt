@@ -35,8 +35,8 @@ returns-in-Some-clause-hart g c =
     c.in-Some.ensures.some so.turns so.hart (omega (arith, inside, so.turns.size, c.loop-hart-test.true)) refl (sym (mod-eq_of_lt inside)) in
     turns.place
 
-pub returns-in-Some-clause-turns : goal.returns-in-Some-clause-turns
-returns-in-Some-clause-turns g c =
+pub returns-in-Some-clause-computes : goal.returns-in-Some-clause-computes
+returns-in-Some-clause-computes g c =
     let so = c.loop-hart.invariant in
     let next : ℕ = c.in-Some.next in
     let less : ℕ = c.loop-hart.left - (next - c.loop-hart.hart) in
@@ -44,4 +44,4 @@ returns-in-Some-clause-turns g c =
     let turns : Striding c.args.count c.args.first (board_of c.args.harts.now c.args.bus.now) less next (board_of c.row_of_harts.new.harts c.row_of_harts.new.bus) =
     after_row c.args.count c.args.first c.loop-hart.left less c.loop-hart.hart next next (board_of c.args.harts.now c.args.bus.now) (board_of c.loop-hart.harts c.loop-hart.bus) (board_of c.row_of_harts.new.harts c.row_of_harts.new.bus)
     c.in-Some.ensures.some so.turns so.hart (omega (arith, inside, so.turns.size, c.loop-hart-test.true)) refl (sym (mod-eq_of_lt inside)) in
-    turns.took
+    turns.computed

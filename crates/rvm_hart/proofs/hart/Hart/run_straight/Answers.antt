@@ -2,7 +2,7 @@ use Rattle.std.proofs.Common.{ℕ, ◌-◌, sym, ap, ◌∙◌, arith}
 use Rattle.rvm_mem.specs.Pages.{mark_all}
 use Rattle.rvm_hart.specs.Machine.{machine}
 use Rattle.rvm_hart.specs.Straight.{Steps}
-use Rattle.rvm_hart.proofs.Made.{made_for, next_for, no_steps, none_input, none_next, none_pass}
+use Rattle.rvm_hart.proofs.Made.{made_for, next_for, no_steps, none_change, none_next, none_pass}
 use Rattle.rvm_hart.proofs.hart.Hart.run_straight.Goals as goal
 
 -- a halted board
@@ -22,9 +22,9 @@ pub returns-then-is_some-clause-pass : goal.returns-then-is_some-clause-pass
 returns-then-is_some-clause-pass g c =
     none_pass c.args.watched c.args.marks.now (c.args.count - c.args.count) (machine c.args.self.now c.args.bus.now) (omega arith)
 
-pub returns-then-is_some-clause-input : goal.returns-then-is_some-clause-input
-returns-then-is_some-clause-input g c =
-    none_input (c.args.count - c.args.count) (machine c.args.self.now c.args.bus.now) (omega arith)
+pub returns-then-is_some-clause-devices : goal.returns-then-is_some-clause-devices
+returns-then-is_some-clause-devices g c =
+    none_change (c.args.count - c.args.count) (machine c.args.self.now c.args.bus.now) (omega arith)
 
 -- all steps that were made
 pub returns-clause-machine : goal.returns-clause-machine
@@ -59,13 +59,13 @@ returns-clause-pass g c =
     (omega (arith, c.quiet_steps-quiet.ensures.within)) (omega arith) c.halted.ensures (sym c.is_some.ensures ∙ c.if-is_some.false) c.quiet_steps-quiet.ensures.quiet
     c.rows_straight-rows.ensures.went c.count_steps.ensures.machine c.count_steps.ensures.dirty).pass
 
-pub returns-clause-input : goal.returns-clause-input
-returns-clause-input g c =
+pub returns-clause-devices : goal.returns-clause-devices
+returns-clause-devices g c =
     let k : ℕ = c.quiet_steps-quiet.result - c.rows_straight-rows.result.left in
     (made_for c.args.watched c.args.marks.now (c.args.count - (c.args.count - k)) k c.quiet_steps-quiet.result c.halted.result (machine c.args.self.now c.args.bus.now) c.args.bus.now.dirty
     (machine c.rows_straight-rows.new.self c.rows_straight-rows.new.bus) (machine c.count_steps.new.self c.count_steps.new.bus) c.rows_straight-rows.new.bus.dirty c.count_steps.new.bus.dirty
     (omega (arith, c.quiet_steps-quiet.ensures.within)) (omega arith) c.halted.ensures (sym c.is_some.ensures ∙ c.if-is_some.false) c.quiet_steps-quiet.ensures.quiet
-    c.rows_straight-rows.ensures.went c.count_steps.ensures.machine c.count_steps.ensures.dirty).input
+    c.rows_straight-rows.ensures.went c.count_steps.ensures.machine c.count_steps.ensures.dirty).stays
 
 -- the word of the next step
 pub returns-clause-next : goal.returns-clause-next
