@@ -1,4 +1,4 @@
--- Turns that reach registers, RAM and reservations alone.
+-- Turns that leave the console as it is.
 use Rattle.std.specs.Prelude.{◌≡◌, ℕ, zero, suc, ◌+◌, ◌%◌, ◌<◌, length}
 use Rattle.rvm_board.specs.declared.event.BoardReply.TheVariants as reply
 use Rattle.rvm_board.specs.Guest.{Guest, GuestState}

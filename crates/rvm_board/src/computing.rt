@@ -1,4 +1,4 @@
-//! Turns of harts that compute: they reach registers, RAM and reservations alone.
+//! Turns of several harts that compute: they reach registers, RAM and reservations alone.
 
 ghost use Rattle.std.specs.Prelude.{◌≡◌, ◌<◌, ◌≤◌, ◌+◌, ◌-◌, ◌%◌, [], false, length};
 ghost use Rattle.std.specs.List.{list_any};
@@ -12,8 +12,9 @@ use rvm_mem::Memory;
 impl<M: Memory> Debugged<M> {
     /// Makes at most `count` turns of the harts in their order, from the turn of hart `first` on, as long as each runs
     /// an instruction that reaches registers, RAM and reservations alone. No such turn changes what waits in the
-    /// console, so nothing need be looked at between them. Makes none if a breakpoint is set or a hart stands at one,
-    /// and none on a board of one hart, whose steps `turns` makes as fast. Returns how many were made. Takes no memory.
+    /// console, so nothing need be looked at between them. Ends after the turn of the last hart where fewer than a
+    /// turn of each are left. Makes none if a breakpoint is set or a hart stands at one, and none on a board of one
+    /// hart, whose steps `turns` makes as fast. Returns how many were made. Takes no memory.
     pub fn compute(&mut self, first: u32, count: u32) -> u32
         requires { first < length self.old.guest.board.harts }
         ensures made { result ≤ count }
