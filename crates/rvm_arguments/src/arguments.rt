@@ -10,7 +10,7 @@ pub enum Arguments<'a> {
     Run(RunArguments<'a>),
     Asm(AsmArguments<'a>),
     Dis(DisArguments<'a>),
-    Debug(GuestArguments<'a>),
+    Debug(DebugArguments<'a>),
     Script(ScriptArguments<'a>),
     Move(MoveArguments<'a>),
     Audit(MoveArguments<'a>),
@@ -39,9 +39,10 @@ pub enum StatusOf {
     /// The status tells that the command was done: 0, however the run ended.
     Command,
     /// The status is the verdict: 0 if the guest halted with 0, 3 if it halted with another status, 4 if all steps were
-    /// spent.
+    /// spent, 5 if the run ended at a fault.
     Verdict,
-    /// The status is the one with which the guest halted, 0 to 255, or 4 if all steps were spent.
+    /// The status is the one with which the guest halted, 0 to 255, or 4 if all steps were spent, or 5 if the run ended
+    /// at a fault.
     Guest,
 }
 
@@ -55,7 +56,22 @@ pub struct RunArguments<'a> {
     pub steps: u32,
     /// What the status of the program tells.
     pub status: StatusOf,
+    /// Whether the run ends at the first trap that the guest has no handler for.
+    pub stop_at_fault: bool,
+    /// What is traced of the run, if anything.
+    pub trace: Option<TraceArguments<'a>>,
     ghost steps_allowed: { (1 ≤ steps) × (steps ≤ 1000000000) },
+}
+
+/// The trace of a run. Turns are counted from 0.
+#[derive(Debug, Drop)]
+pub struct TraceArguments<'a> {
+    /// The file that gets a line for each step.
+    pub file: &'a str,
+    /// The first turn that has a line.
+    pub from: u32,
+    /// The last turn that has a line.
+    pub to: u32,
 }
 
 /// The arguments of `rvmove asm`.
@@ -75,6 +91,14 @@ pub struct DisArguments<'a> {
     pub image: &'a str,
     /// Whether the image is plain bytes, which stand at 0x80000000, and not an ELF file.
     pub raw: bool,
+}
+
+/// The arguments of `rvmove debug`.
+#[derive(Debug, Drop)]
+pub struct DebugArguments<'a> {
+    pub guest: GuestArguments<'a>,
+    /// Whether the lines of an extended session are taken, beside those of a script.
+    pub extended: bool,
 }
 
 /// The arguments of `rvmove script`.

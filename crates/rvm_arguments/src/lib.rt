@@ -6,6 +6,6 @@
 mod arguments;
 
 pub use arguments::{
-    Arguments, AsmArguments, DisArguments, GuestArguments, HostArguments, MoveArguments,
-    RunArguments, ScriptArguments, StatusOf, TellArguments,
+    Arguments, AsmArguments, DebugArguments, DisArguments, GuestArguments, HostArguments,
+    MoveArguments, RunArguments, ScriptArguments, StatusOf, TellArguments, TraceArguments,
 };

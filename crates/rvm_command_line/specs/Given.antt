@@ -5,6 +5,7 @@ use Rattle.clap.specs.Walk.{Row, Text, first_of, one_of}
 use Rattle.std.specs.Prelude.{List}
 use Rattle.rvm_arguments.specs.declared.arguments.Arguments.{Arguments}
 use Rattle.rvm_arguments.specs.declared.arguments.Arguments.TheVariants.{Run, Asm, Dis, Debug, Script, Move, Audit, Host, Tell}
+use Rattle.rvm_arguments.specs.declared.arguments.DebugArguments.{DebugArguments}
 use Rattle.rvm_arguments.specs.declared.arguments.GuestArguments.{GuestArguments}
 use Rattle.rvm_arguments.specs.declared.arguments.HostArguments.{HostArguments}
 use Rattle.rvm_arguments.specs.declared.arguments.MoveArguments.{MoveArguments}
@@ -13,6 +14,7 @@ use Rattle.rvm_arguments.specs.declared.arguments.ScriptArguments.{ScriptArgumen
 use Rattle.rvm_arguments.specs.declared.arguments.StatusOf.{StatusOf}
 use Rattle.rvm_arguments.specs.declared.arguments.StatusOf.TheVariants.{Command, Verdict, Guest}
 use Rattle.rvm_arguments.specs.declared.arguments.TellArguments.{TellArguments}
+use Rattle.rvm_arguments.specs.declared.arguments.TraceArguments.{TraceArguments}
 
 -- a text was given, and it writes this number in decimal digits alone
 abbrev pub IsNumber : Option Text → ℕ → Type 0
@@ -44,12 +46,35 @@ IsStatusOf verdict exit_status Command = IsFlag verdict false × IsFlag exit_sta
 IsStatusOf verdict exit_status Verdict = IsFlag verdict true × IsFlag exit_status false
 IsStatusOf verdict exit_status Guest = IsFlag verdict false × IsFlag exit_status true
 
--- a guest, its input, its turns, and what the status tells
+-- this is the number that was given, or this other one if none was
+abbrev pub IsNumberOr : (default : ℕ) → Option Text → ℕ → Type 0
+IsNumberOr default None n = n ≡ default
+IsNumberOr default (Some text) n = IsNumber (Some text) n
+
+-- there is a trace if and only if a file was named for it; its turns are those from one number to another, if these are
+-- given, or else from the first or to the last
+abbrev pub IsTrace : List Row → Option TraceArguments → Type 0
+IsTrace rows None =
+    (first_of (codes "trace") rows ≡ None) × (first_of (codes "trace-from") rows ≡ None)
+    × (first_of (codes "trace-to") rows ≡ None)
+IsTrace rows (Some trace) =
+    (first_of (codes "trace") rows ≡ Some trace.file.now)
+    × IsNumberOr 0 (first_of (codes "trace-from") rows) trace.from
+    × IsNumberOr 999999999 (first_of (codes "trace-to") rows) trace.to
+
+-- a guest, its input, its turns, what the status tells, and what is looked at while it runs
 pub record IsRun (rows : List Row) (run : RunArguments) : Type 0 where
   pub guest : IsGuest rows run.guest
   pub input : first_of (codes "input") rows ≡ option_map (λ s. s.now) run.input
   pub steps : IsNumber (first_of (codes "steps") rows) run.steps
   pub status : IsStatusOf (one_of (codes "verdict") rows) (one_of (codes "exit-status") rows) run.status
+  pub stop_at_fault : IsFlag (one_of (codes "stop-at-fault") rows) run.stop_at_fault
+  pub trace : IsTrace rows run.trace
+
+-- a guest, and whether the session is extended
+pub record IsDebug (rows : List Row) (asked : DebugArguments) : Type 0 where
+  pub guest : IsGuest rows asked.guest
+  pub extended : IsFlag (one_of (codes "extended") rows) asked.extended
 
 -- a guest, its script, and its hosts with the version of their streams
 pub record IsScript (rows : List Row) (asked : ScriptArguments) : Type 0 where
@@ -95,7 +120,7 @@ pub record IsTell (rows : List Row) (tell : TellArguments) : Type 0 where
 -- what the words of a command with this name ask for
 abbrev pub Gives : Text → List Row → Arguments → Type 0
 Gives name rows (Run run) = (name ≡ codes "run") × IsRun rows run
-Gives name rows (Debug guest) = (name ≡ codes "debug") × IsGuest rows guest
+Gives name rows (Debug asked) = (name ≡ codes "debug") × IsDebug rows asked
 Gives name rows (Script script) = (name ≡ codes "script") × IsScript rows script
 Gives name rows (Move asked) = (name ≡ codes "move") × IsMove rows asked
 Gives name rows (Audit asked) = (name ≡ codes "audit") × IsMove rows asked

@@ -79,13 +79,25 @@ with_verdict command = with_rule command (flag (codes "verdict"))
 abbrev pub with_status : App → App
 with_status command = with_rule (with_verdict command) (flag (codes "exit-status"))
 
+-- a command that takes the words of a trace
+abbrev pub with_trace : App → App
+with_trace command =
+    with_rule
+    (with_rule (with_rule command (option (codes "trace"))) (bounded (codes "trace-from") 0 999999999))
+    (bounded (codes "trace-to") 0 999999999)
+
+-- a command that takes the words that say what is looked at while the guest runs
+abbrev pub with_watch : App → App
+with_watch command = with_trace (with_rule command (flag (codes "stop-at-fault")))
+
 -- the command that runs a guest
 abbrev pub run : App
 run =
-    with_status
+    with_watch
+    (with_status
     (with_rule
     (with_rule (with_guest (new_app (codes "run"))) (number (codes "steps") (codes "1000000") 1000000000))
-    (option (codes "input")))
+    (option (codes "input"))))
 
 -- the command that makes an ELF file of an assembly text
 abbrev pub asm : App
@@ -97,7 +109,7 @@ dis = with_guest (new_app (codes "dis"))
 
 -- the command that does to a guest what the lines of standard input ask for
 abbrev pub debug : App
-debug = with_guest (new_app (codes "debug"))
+debug = with_rule (with_guest (new_app (codes "debug"))) (flag (codes "extended"))
 
 -- the command that does to a world of hosts what the lines of a file ask for
 abbrev pub script : App

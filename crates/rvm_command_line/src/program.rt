@@ -7,7 +7,7 @@ ghost use Rattle.clap.specs.Walk.{rule_of};
 ghost use Rattle.clap.specs.Words.{kind_of};
 ghost use Rattle.clap.specs.declared.builder.command.Command.TheViews.{out-Command as fields_of};
 ghost use Rattle.clap.specs.declared.error.kind.ErrorKind.TheVariants as kind;
-ghost use Rattle.rvm_command_line.specs.Program.{allowed, asm, audit, bounded, debug, dis, flag, host, move, needed, needed_option, number, option, program, run, script, tell, top, with_addresses, with_board, with_default, with_guest, with_hosting, with_move, with_name, with_policy, with_status, with_verdict, with_world};
+ghost use Rattle.rvm_command_line.specs.Program.{allowed, asm, audit, bounded, debug, dis, flag, host, move, needed, needed_option, number, option, program, run, script, tell, top, with_addresses, with_board, with_default, with_guest, with_hosting, with_move, with_name, with_policy, with_status, with_trace, with_verdict, with_watch, with_world};
 
 use clap::builder::ValueParser;
 use clap::{Arg, ArgAction, Command, Error};
@@ -25,13 +25,16 @@ const RUN_HELP: &str = "\
 Example: rvmove run hello.elf --steps 5000 --input keys.txt
 
 Harts take turns of one instruction each. At the end standard error has `halted S` or `steps spent`.
+With --stop-at-fault the run ends at the first trap whose handler cannot run, and standard error has it:
+`fault: hart 0 cause 7 (store access fault) at 80000040 value 10000000: sb a4, 0(a5)`.
+With --trace the file has a line for each step: its turn, its hart, the instruction and what it wrote.
 
-The status:      halted 0  halted S  steps spent  refused
-                 0         0         0            1
-  --verdict      0         3         4            1
-  --exit-status  0         S         4            1
-It is 2 for a fault of the command line. With --exit-status these 1, 2 and 4 cannot be told from a guest's
-own; with --verdict each means one thing. The two options exclude each other.";
+The status:      halted 0  halted S  steps spent  fault  refused
+                 0         0         0            0      1
+  --verdict      0         3         4            5      1
+  --exit-status  0         S         4            5      1
+It is 2 for a fault of the command line. With --exit-status these 1, 2, 4 and 5 cannot be told from a
+guest's own; with --verdict each means one thing. The two options exclude each other.";
 
 /// The text below the help of `asm`.
 const ASM_HELP: &str = "\
@@ -60,6 +63,10 @@ Lines of a script, with numbers in decimal or 0x hexadecimal:
   dis ADDR          writes the instruction at an address
   reg H NAME VALUE  sets a register of hart H
   poke ADDR HEX     writes bytes into RAM
+With --extended also:
+  turns N           N turns of all harts, one after the other, as in `rvmove run`
+  csrs H            writes the control and status registers of hart H
+  devices           writes what the timer, the console and the halt word hold
 Blank lines and lines that begin with # are passed over.";
 
 /// The text below the help of `script`.
@@ -450,7 +457,72 @@ fn run_command<'a>(alloc: Global) -> Result<Command<'a>, Error>
             "How many turns at most, 1 to 1000000000",
         ))?
         .arg(input_option(alloc))?;
-    status_command(run, alloc)
+    watch_command(status_command(run, alloc)?, alloc)
+}
+
+/// Adds to a command the words that say what is looked at while the guest runs.
+fn watch_command<'a>(command: Command<'a>, alloc: Global) -> Result<Command<'a>, Error>
+    ensures app { IfOk result (λ c. app_of c ≡ with_watch (app_of command.entry)) }
+    ensures local { (fields_of command.entry).has_globals ≡ false
+        → IfOk result (λ c. (fields_of c).has_globals ≡ false) }
+    ensures memory { IfErr result (λ e. kind_of e ≡ kind.OutOfMemory) }
+{
+    trace_command(command.arg(stop_at_fault_flag(alloc))?, alloc)
+}
+
+/// Adds to a command the words of a trace.
+fn trace_command<'a>(command: Command<'a>, alloc: Global) -> Result<Command<'a>, Error>
+    ensures app { IfOk result (λ c. app_of c ≡ with_trace (app_of command.entry)) }
+    ensures local { (fields_of command.entry).has_globals ≡ false
+        → IfOk result (λ c. (fields_of c).has_globals ≡ false) }
+    ensures memory { IfErr result (λ e. kind_of e ≡ kind.OutOfMemory) }
+{
+    Ok(
+        command
+            .arg(trace_option(alloc))?
+            .arg(trace_from_option(alloc))?
+            .arg(trace_to_option(alloc))?,
+    )
+}
+
+/// The flag `--stop-at-fault`: whether the run ends at the first trap that the guest has no handler for.
+fn stop_at_fault_flag<'a>(alloc: Global) -> Arg<'a>
+    ensures rule { rule_of result ≡ flag (codes "stop-at-fault") }
+    ensures local { result.global ≡ false }
+{
+    let help = "Ends at the first trap whose handler cannot run";
+    flag(alloc, "stop-at-fault", help)
+}
+
+/// The option `--trace`: the file that gets a line for each step.
+fn trace_option<'a>(alloc: Global) -> Arg<'a>
+    ensures rule { rule_of result ≡ option (codes "trace") }
+    ensures local { result.global ≡ false }
+{
+    option(
+        alloc,
+        "trace",
+        "FILE",
+        "The file that gets a line for each step",
+    )
+}
+
+/// The option `--trace-from`: the first turn of the trace.
+fn trace_from_option<'a>(alloc: Global) -> Arg<'a>
+    ensures rule { rule_of result ≡ bounded (codes "trace-from") 0 999999999 }
+    ensures local { result.global ≡ false }
+{
+    let help = "The first turn of the trace, from 0";
+    bounded(alloc, "trace-from", "N", 0, 999_999_999, help)
+}
+
+/// The option `--trace-to`: the last turn of the trace.
+fn trace_to_option<'a>(alloc: Global) -> Arg<'a>
+    ensures rule { rule_of result ≡ bounded (codes "trace-to") 0 999999999 }
+    ensures local { result.global ≡ false }
+{
+    let help = "The last turn of the trace";
+    bounded(alloc, "trace-to", "N", 0, 999_999_999, help)
 }
 
 /// The command `asm`, with the words that it takes.
@@ -489,7 +561,11 @@ fn debug_command<'a>(alloc: Global) -> Result<Command<'a>, Error>
     let debug = Command::new(alloc, "debug")
         .about("Answers the lines of a debugger's script from standard input")
         .after_help(DEBUG_HELP);
-    guest_command(debug, alloc)
+    Ok(guest_command(debug, alloc)?.arg(flag(
+        alloc,
+        "extended",
+        "Takes more lines than those of a script",
+    ))?)
 }
 
 /// The command `script`, with the words that it takes.

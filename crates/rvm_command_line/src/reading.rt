@@ -8,15 +8,15 @@ ghost use Rattle.clap.specs.Simple.{app_of, subcommand_of, subcommand_rows_of};
 ghost use Rattle.clap.specs.Walk.{first_of, one_of, rows_of};
 ghost use Rattle.clap.specs.Words.{kind_of};
 ghost use Rattle.clap.specs.declared.error.kind.ErrorKind.TheVariants as kind;
-ghost use Rattle.rvm_command_line.specs.Given.{Gives, IsAsked, IsFlag, IsGuest, IsHost, IsMove, IsNumber, IsOptionalGuest, IsOptionalNumber, IsStatusOf, IsTell};
+ghost use Rattle.rvm_command_line.specs.Given.{Gives, IsAsked, IsFlag, IsGuest, IsHost, IsMove, IsNumber, IsNumberOr, IsOptionalGuest, IsOptionalNumber, IsStatusOf, IsTell, IsTrace};
 ghost use Rattle.rvm_command_line.specs.Program.{faults_of, program};
 
 use crate::program::program;
 use clap::error::ErrorKind;
 use clap::{ArgMatches, Command, Error};
 use rvm_arguments::{
-    Arguments, AsmArguments, DisArguments, GuestArguments, HostArguments, MoveArguments,
-    RunArguments, ScriptArguments, StatusOf, TellArguments,
+    Arguments, AsmArguments, DebugArguments, DisArguments, GuestArguments, HostArguments,
+    MoveArguments, RunArguments, ScriptArguments, StatusOf, TellArguments, TraceArguments,
 };
 use rvm_mem::MAX_PAGES;
 use std::alloc::Global;
@@ -33,6 +33,9 @@ const MAX_STREAM: u32 = 3;
 
 /// The most turns that a run makes.
 pub const MAX_STEPS: u32 = 1_000_000_000;
+
+/// The last turn that a run can make, counted from 0.
+const LAST_TURN: u32 = MAX_STEPS - 1;
 
 /// The most turns of a guest that moves.
 const MAX_MOVE_STEPS: u32 = 100_000;
@@ -130,7 +133,51 @@ fn read_run<'a>(run: &ArgMatches<'a>) -> Result<Arguments<'a>, &'static str>
         input: text(run, "input"),
         steps,
         status,
+        stop_at_fault: flag(run, "stop-at-fault"),
+        trace: read_trace(run)?,
     }))
+}
+
+/// What is traced of a run. Fails with a text if an option of a trace has no number within its limits, if one is given
+/// and no file is named for the trace, or if that file is one that the run reads.
+fn read_trace<'a>(run: &ArgMatches<'a>) -> Result<Option<TraceArguments<'a>>, &'static str>
+    ensures { IfOk result (IsTrace (rows_of (found_of run.now))) }
+{
+    let Some(file) = text(run, "trace") else {
+        return read_no_trace(run);
+    };
+    if is_named(text(run, "image"), file) || is_named(text(run, "input"), file) {
+        return Err("the file of --trace is one that is read");
+    }
+    let Some(from) = number_or(run, "trace-from", 0, 0, LAST_TURN) else {
+        return Err("--trace-from takes a decimal number from 0 to 999999999");
+    };
+    let Some(to) = number_or(run, "trace-to", LAST_TURN, 0, LAST_TURN) else {
+        return Err("--trace-to takes a decimal number from 0 to 999999999");
+    };
+    Ok(Some(TraceArguments { file, from, to }))
+}
+
+/// Whether an argument names this file.
+fn is_named(argument: Option<&str>, file: &str) -> bool {
+    match argument {
+        Some(name) => name == file,
+        None => false,
+    }
+}
+
+/// That nothing is traced. Fails with a text if the turns of a trace are given, for which no file is named.
+fn read_no_trace<'a>(run: &ArgMatches<'a>) -> Result<Option<TraceArguments<'a>>, &'static str>
+    requires { first_of (codes "trace") (rows_of (found_of run.now)) ≡ None }
+    ensures { IfOk result (IsTrace (rows_of (found_of run.now))) }
+{
+    if text(run, "trace-from").is_some() {
+        return Err("--trace-from wants --trace");
+    }
+    if text(run, "trace-to").is_some() {
+        return Err("--trace-to wants --trace");
+    }
+    Ok(None)
 }
 
 /// What the status of `run` tells. Fails with a text if its two flags are both given.
@@ -199,7 +246,11 @@ fn read_dis<'a>(dis: &ArgMatches<'a>) -> Result<Arguments<'a>, &'static str>
 fn read_debug<'a>(debug: &ArgMatches<'a>) -> Result<Arguments<'a>, &'static str>
     ensures { IfOk result (Gives (codes "debug") (rows_of (found_of debug.now))) }
 {
-    Ok(Arguments::Debug(read_guest(debug)?))
+    let guest = read_guest(debug)?;
+    Ok(Arguments::Debug(DebugArguments {
+        guest,
+        extended: flag(debug, "extended"),
+    }))
 }
 
 /// The arguments of `script`. Fails with a text that says which of them is not what it must be.
@@ -350,6 +401,17 @@ fn optional_number(command: &ArgMatches, option: &str, least: u32, most: u32) ->
         return Some(None);
     }
     Some(Some(number(command, option, least, most)?))
+}
+
+/// The number of an option that need not be given, from `least` to `most`, or `default` if none is given. `None` if what
+/// is given is no such number.
+fn number_or(command: &ArgMatches, option: &str, default: u32, least: u32, most: u32) -> Option<u32>
+    ensures { IfSome result (IsNumberOr default (first_of option.now (rows_of (found_of command.now)))) }
+{
+    if text(command, option).is_none() {
+        return Some(default);
+    }
+    number(command, option, least, most)
 }
 
 /// The number below 2^32 that a text writes in decimal digits alone, if it does.

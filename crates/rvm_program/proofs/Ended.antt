@@ -5,8 +5,8 @@ use Rattle.std.specs.Borrow.{Bor}
 use Rattle.std.specs.Prelude.{◌≢◌, OnErr}
 use Rattle.std.specs.Result.{IfOk}
 use Rattle.rvm_arguments.specs.declared.arguments.AsmArguments.{AsmArguments}
+use Rattle.rvm_arguments.specs.declared.arguments.DebugArguments.{DebugArguments}
 use Rattle.rvm_arguments.specs.declared.arguments.DisArguments.{DisArguments}
-use Rattle.rvm_arguments.specs.declared.arguments.GuestArguments.{GuestArguments}
 use Rattle.rvm_arguments.specs.declared.arguments.HostArguments.{HostArguments}
 use Rattle.rvm_arguments.specs.declared.arguments.MoveArguments.{MoveArguments}
 use Rattle.rvm_arguments.specs.declared.arguments.RunArguments.{RunArguments}
@@ -15,11 +15,11 @@ use Rattle.rvm_arguments.specs.declared.arguments.StatusOf.{StatusOf}
 use Rattle.rvm_command.specs.declared.refused.Refused.{Refused}
 use Rattle.rvm_command.specs.declared.run.Ended.{Ended}
 use Rattle.rvm_command.specs.Command.{end_text, image_of, refused_text}
-use Rattle.rvm_command.specs.Ends.{HasStatus, IsAsmEnd, IsDebugEnd, IsListEnd, IsRunEnd, RunHasStatus, run_status}
+use Rattle.rvm_command.specs.Ends.{HasStatus, IsAsmEnd, IsListEnd, IsRunEnd, RunHasStatus, run_status}
 use Rattle.rvm_host_command.specs.Hosted.{IsHostedTo}
 use Rattle.rvm_move.specs.Ended.{IsMoved, IsNotMoved, IsUntold}
 use Rattle.rvm_move.specs.Orders.{IsAudited, IsNotAudited}
-use Rattle.rvm_program.specs.Ended.{AsmEnded, AuditEnded, DebugEnded, DisEnded, HasHosted, HostEnded, MoveEnded, RunEnded, ScriptEnded, TellEnded, ToTell, Written}
+use Rattle.rvm_program.specs.Ended.{AsmEnded, AuditEnded, DebugEnded, DisEnded, HasHosted, HostEnded, IsSessionEnd, MoveEnded, RunEnded, ScriptEnded, TellEnded, ToTell, Written}
 use Rattle.rvm_command.proofs.Inputs.{ends_so}
 use Rattle.rvm_program.specs.Files.{IsApart, IsCreated, IsFile, IsFirst, IsFirstInput, IsImage, IsInput, IsOpened, Named}
 use Rattle.rvm_command.specs.ScriptEnds.{IsScriptEnd}
@@ -130,17 +130,17 @@ module _ {F : Type 0} (files : Named) (errors : Written) where
       }
 
       -- and so `debug`
-      pub debug_ended : (a : GuestArguments) (script : Option (List ℕ)) (r : Result ℕ F)
-          → IsFile (files a.image.now) bytes
-          → IfOk r (λ status. HasStatus status (λ end. IsDebugEnd a image script end held told)
+      pub debug_ended : (a : DebugArguments) (script : Option (List ℕ)) (r : Result ℕ F)
+          → IsFile (files a.guest.image.now) bytes
+          → IfOk r (λ status. HasStatus status (λ end. IsSessionEnd a.extended a.guest image script end held told)
           errors.before errors.after)
           → IfOk r (λ status. DebugEnded files a status script output errors)
       debug_ended a script (Err e) is ended = tt
       debug_ended a script (Ok status) is ended = record {
         image = image;
         told = told;
-        image_is = subst (IsFile (files a.image.now)) (sym same) is;
-        ended = subst (λ before. HasStatus status (λ end. IsDebugEnd a image script end before told)
+        image_is = subst (IsFile (files a.guest.image.now)) (sym same) is;
+        ended = subst (λ before. HasStatus status (λ end. IsSessionEnd a.extended a.guest image script end before told)
             errors.before errors.after) begun ended;
       }
 
@@ -265,19 +265,19 @@ module _ {F : Type 0} (files : Named) where
             },
           )
 
-      pub debug_untold : (a : GuestArguments) (script : Option (List ℕ)) (r : Result ℕ F) → IsFile (files a.image.now) bytes
-          → (end : Result (Unit {0}) Refused) × IsDebugEnd a image script end held told
+      pub debug_untold : (a : DebugArguments) (script : Option (List ℕ)) (r : Result ℕ F) → IsFile (files a.guest.image.now) bytes
+          → (end : Result (Unit {0}) Refused) × IsSessionEnd a.extended a.guest image script end held told
           → OnErr r (ToTell (λ status errors. DebugEnded files a status script output errors))
       debug_untold a script (Ok s) is end = tt
       debug_untold a script (Err e) is end =
-          let t = to_tell (λ e. IsDebugEnd a image script e output told)
-          (subst (λ before. (end : Result (Unit {0}) Refused) × IsDebugEnd a image script end before told) begun end) in (
+          let t = to_tell (λ e. IsSessionEnd a.extended a.guest image script e output told)
+          (subst (λ before. (end : Result (Unit {0}) Refused) × IsSessionEnd a.extended a.guest image script end before told) begun end) in (
             t.0,
             t.1,
             record {
               image = image;
               told = told;
-              image_is = subst (IsFile (files a.image.now)) (sym same) is;
+              image_is = subst (IsFile (files a.guest.image.now)) (sym same) is;
               ended = t.2;
             },
           )

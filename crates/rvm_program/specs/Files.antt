@@ -80,7 +80,7 @@ abbrev pub IsTooLong : Named → Arguments → Refusal → Type 0
 IsTooLong files (Run a) r = IsLongImage files a.guest r ⊎ IsLongInput files a.input r
 IsTooLong files (Asm a) r = IsLong (files a.source.now) max_size refusal.TooLong r
 IsTooLong files (Dis a) r = IsLong (files a.image.now) max_size refusal.TooLong r
-IsTooLong files (Debug g) r = IsLongImage files g r
+IsTooLong files (Debug a) r = IsLongImage files a.guest r
 IsTooLong files (Script a) r = IsLongImage files a.guest r
 IsTooLong files (Move a) r = IsLongImage files a.guest r
 IsTooLong files (Audit a) r = IsLongImage files a.guest r

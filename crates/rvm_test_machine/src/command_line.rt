@@ -74,10 +74,10 @@ fn debug_takes_a_guest(rt: HostRuntime) -> Result<(), Fail> {
         rt.alloc(),
         &["rvmove", "debug", "hello.elf", "--pages", "7"],
     )? {
-        Arguments::Debug(guest) => {
-            assert_eq!(rt; guest.image, "hello.elf");
-            assert_eq!(rt; [guest.harts, guest.pages], [1, 7]);
-            assert!(rt; !guest.raw);
+        Arguments::Debug(debug) => {
+            assert_eq!(rt; debug.guest.image, "hello.elf");
+            assert_eq!(rt; [debug.guest.harts, debug.guest.pages], [1, 7]);
+            assert!(rt; !debug.guest.raw && !debug.extended);
         }
         other => panic!(rt; "{other:?}"),
     }

@@ -121,6 +121,8 @@ fn a_run_writes_in_large_pieces_and_before_it_ends(rt: HostRuntime) -> Result<()
         input: None,
         steps: 1_000_000,
         status: StatusOf::Command,
+        stop_at_fault: false,
+        trace: None,
     };
     let mut falling = Vec::new(alloc);
     for number in (1..=10_000u32).rev() {
@@ -161,6 +163,8 @@ fn a_failed_write_of_a_run_is_told(rt: HostRuntime) -> Result<(), Fail> {
         input: None,
         steps: 1000,
         status: StatusOf::Command,
+        stop_at_fault: false,
+        trace: None,
     };
     let letters = bytes_of(alloc, &LETTERS)?;
     // The output fails in the middle of a piece, or at once.

@@ -2,8 +2,9 @@
 //! standard input is the file after `<`, or else the lines `> TEXT` below it. After the command stand what it wrote to
 //! standard output and to standard error, and its status if that is not 0. What goes to a file after ` > ` or ` 2> ` is
 //! written there instead. Each command is done over both memories of a guest, and a line after it says so if they
-//! differ in what is printed. Two more commands look at such a file: `$ grep -c WORD FILE` prints how many lines of it
-//! contain the word, and `$ drained FILE` prints the bytes of its lines `out N HEX`. All other lines are kept.
+//! differ in what is printed. Three more commands look at such a file: `$ cat FILE` prints it, `$ grep -c WORD FILE`
+//! prints how many lines of it contain the word, and `$ drained FILE` prints the bytes of its lines `out N HEX`. All
+//! other lines are kept.
 #![tactic(auto)]
 
 use rvm_mem::{FlatMemory, PagedMemory};
@@ -66,6 +67,10 @@ where
     };
     if let Some(words) = command.strip_prefix("grep -c ") {
         return count_lines(rt, words);
+    }
+    if let Some(file) = command.strip_prefix("cat ") {
+        io::writer(rt).write_all(&fs::read(rt, file)?)?;
+        return Ok(());
     }
     if let Some(file) = command.strip_prefix("drained ") {
         return print_drained(rt, file);
