@@ -1,6 +1,6 @@
 #!/bin/sh
-# Runs each image of a folder with `rvmove run --verdict`, as many at once as the machine has cores, and writes what
-# became of them to junit.xml. The status is 0 only if there are images and each guest halted with 0.
+# Runs each image of a folder with `rvmove run --verdict --stop-at-fault`, as many at once as the machine has cores, and
+# writes what became of them to junit.xml. The status is 0 only if there are images and each guest halted with 0.
 #
 #     farm.sh FOLDER [RVMOVE [OPTION..]]
 #
@@ -30,7 +30,7 @@ find "$folder" -type f -name '*.elf' ! -name '*
 
 # The status of parallel is of no use here: the log has that of each run.
 parallel --will-cite --arg-file "$work/images" --joblog "$work/log" --results "$work/{#}/" \
-    "$rvmove" run {} --verdict "$@" > /dev/null 2>&1 < /dev/null || true
+    "$rvmove" run {} --verdict --stop-at-fault "$@" > /dev/null 2>&1 < /dev/null || true
 
 FARM_SUITE=$folder LC_ALL=C awk -v work="$work" -f "$here/junit.awk" "$work/log" "$work/images" |
     iconv -c -f UTF-8 -t UTF-8 > junit.xml

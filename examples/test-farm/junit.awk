@@ -2,11 +2,12 @@
 # kinds=1 how many images there were of each kind, and the status 0 only if all passed. work: the folder in which parallel
 # left what the runs wrote, in folders by number. FARM_SUITE, in the environment: the name of the suite.
 
-# What a status of `rvmove run --verdict` says.
+# What a status of `rvmove run --verdict --stop-at-fault` says.
 function kind_of(status) {
     if (status == 0) return "passed"
     if (status == 3) return "failed"
     if (status == 4) return "steps spent"
+    if (status == 5) return "fault"
     if (status == 1) return "refused"
     return "no verdict"
 }
@@ -70,7 +71,7 @@ END {
     }
     print "<?xml version=\"1.0\" encoding=\"UTF-8\"?>"
     printf "<testsuite name=\"%s\" tests=\"%d\" failures=\"%d\" errors=\"%d\" time=\"%.3f\">\n", escaped(ENVIRON["FARM_SUITE"]), all,
-        count["failed"] + count["steps spent"] + count["refused"], count["no verdict"], all_seconds
+        count["failed"] + count["steps spent"] + count["fault"] + count["refused"], count["no verdict"], all_seconds
     for (number = 1; number <= all; number++) print_case(images[number], number, kind[number])
     print "</testsuite>"
 }

@@ -19,7 +19,7 @@ use Rattle.rvm_command.specs.Ends.{HasStatus, IsAsmEnd, IsListEnd, IsRunEnd, Run
 use Rattle.rvm_host_command.specs.Hosted.{IsHostedTo}
 use Rattle.rvm_move.specs.Ended.{IsMoved, IsNotMoved, IsUntold}
 use Rattle.rvm_move.specs.Orders.{IsAudited, IsNotAudited}
-use Rattle.rvm_program.specs.Ended.{AsmEnded, AuditEnded, DebugEnded, DisEnded, HasHosted, HostEnded, IsSessionEnd, MoveEnded, RunEnded, ScriptEnded, TellEnded, ToTell, Written}
+use Rattle.rvm_program.specs.Ended.{AsmEnded, AuditEnded, DebugEnded, DisEnded, HasHosted, HasRunTo, HostEnded, IsSessionEnd, IsTraceFile, MoveEnded, RunEnded, ScriptEnded, TellEnded, ToTell, Written}
 use Rattle.rvm_command.proofs.Inputs.{ends_so}
 use Rattle.rvm_program.specs.Files.{IsApart, IsCreated, IsFile, IsFirst, IsFirstInput, IsImage, IsInput, IsOpened, Named}
 use Rattle.rvm_command.specs.ScriptEnds.{IsScriptEnd}
@@ -65,13 +65,16 @@ whole_input files None steps given none = ([], refl, inl none)
 whole_input files (Some name) steps given is = whole_file (files name.now) steps given is
 
 -- how a run ended that was given enough, so it ends with all of its input
-ends_with : (a : RunArguments) (image begun given input : List ℕ) (output : Written) (end : Result Ended Refused)
-    → begun ≡ given → IsEnough a.steps given input → IsRunEnd a image begun end output.before output.after
-    → IsRunEnd a image input end output.before output.after
-ends_with a image begun given input output end same (inl all) is =
-    subst (λ i. IsRunEnd a image i end output.before output.after) (same ∙ all) is
-ends_with a image begun given input output end same (inr part) is =
-    ends_so a image begun input end output.before output.after (same ∙ part) is
+ends_with : (created : Named) (a : RunArguments) (image begun given input : List ℕ) (output : Written)
+    (end : Result Ended Refused) → begun ≡ given → IsEnough a.steps given input
+    → HasRunTo created a image begun end output → HasRunTo created a image input end output
+ends_with created a image begun given input output end same (inl all) is =
+    subst (λ i. HasRunTo created a image i end output) (same ∙ all) is
+ends_with created a image begun given input output end same (inr part) is = record {
+  trace = is.trace;
+  trace_is = is.trace_is;
+  ended = ends_so a image begun input end output.before output.after is.trace.before is.trace.after (same ∙ part) is.ended;
+}
 
 -- a run that ended so has its status of each end that it has, too
 ended_so : (asked : StatusOf) (status : ℕ) (errors : Written) (P Q : Result Ended Refused → Type 0)
@@ -80,21 +83,33 @@ ended_so : (asked : StatusOf) (status : ℕ) (errors : Written) (P Q : Result En
 ended_so asked status errors P Q f (inl (e, is, end, told)) = inl (e, is, f (Ok e) end, told)
 ended_so asked status errors P Q f (inr (r, is, end, told)) = inr (r, is, f (Err r) end, told)
 
+-- a run whose end is told wrote to this file of its trace, if it has one
+pub run_told : {F : Type 0} (created : Named) (a : RunArguments) (image input : List ℕ) (output errors trace : Written)
+    (r : Result ℕ F) → IsTraceFile created a.trace trace.before
+    → IfOk r (λ status. RunHasStatus a.status status
+    (λ end. IsRunEnd a image input end output.before output.after trace.before trace.after) errors.before errors.after)
+    → IfOk r (λ status. RunHasStatus a.status status (λ end. HasRunTo created a image input end output)
+    errors.before errors.after)
+run_told created a image input output errors trace (Err e) trace_is told = tt
+run_told created a image input output errors trace (Ok status) trace_is told =
+    ended_so a.status status errors _ _ (λ end is. record { trace = trace; trace_is = trace_is; ended = is }) told
+
 module _ {F : Type 0} (files : Named) (errors : Written) where
   -- `run` was given the image of its file, and of its input the bytes that its turns can take
-  pub run_ended : (a : RunArguments) (image bytes begun given : List ℕ) (output : Written) (r : Result ℕ F)
+  pub run_ended : (created : Named) (a : RunArguments) (image bytes begun given : List ℕ) (output : Written) (r : Result ℕ F)
       → image ≡ bytes → begun ≡ given → IsFile (files a.guest.image.now) bytes → IsFirstInput files a.input a.steps given
-      → IfOk r (λ status. RunHasStatus a.status status (λ end. IsRunEnd a image begun end output.before output.after)
+      → IfOk r (λ status. RunHasStatus a.status status (λ end. HasRunTo created a image begun end output)
       errors.before errors.after)
-      → IfOk r (λ status. RunEnded files a status output errors)
-  run_ended a image bytes begun given output (Err e) same begun_same is given_is ended = tt
-  run_ended a image bytes begun given output (Ok status) same begun_same is given_is ended =
+      → IfOk r (λ status. RunEnded files created a status output errors)
+  run_ended created a image bytes begun given output (Err e) same begun_same is given_is ended = tt
+  run_ended created a image bytes begun given output (Ok status) same begun_same is given_is ended =
       let whole = whole_input files a.input a.steps given given_is in record {
         image = image;
         input = whole.0;
         image_is = subst (IsFile (files a.guest.image.now)) (sym same) is;
         input_is = whole.1;
-        ended = ended_so a.status status errors _ _ (λ end. ends_with a image begun given whole.0 output end begun_same whole.2) ended;
+        ended = ended_so a.status status errors _ _
+            (λ end. ends_with created a image begun given whole.0 output end begun_same whole.2) ended;
       }
 
   -- `asm` was given the text of its file, and wrote to its output file
@@ -207,15 +222,15 @@ move_ended files output errors image bytes a (Ok status) same is done failed = r
 
 -- what the same commands were to report if a write to the errors failed
 module _ {F : Type 0} (files : Named) where
-  pub run_untold : (a : RunArguments) (image bytes begun given : List ℕ) (output : Written) (r : Result ℕ F) → image ≡ bytes
-      → begun ≡ given → IsFile (files a.guest.image.now) bytes → IsFirstInput files a.input a.steps given
-      → (end : Result Ended Refused) × IsRunEnd a image begun end output.before output.after
-      → OnErr r (ToTell (λ status errors. RunEnded files a status output errors))
-  run_untold a image bytes begun given output (Ok s) same begun_same is given_is end = tt
-  run_untold a image bytes begun given output (Err e) same begun_same is given_is end =
+  pub run_untold : (created : Named) (a : RunArguments) (image bytes begun given : List ℕ) (output : Written) (r : Result ℕ F)
+      → image ≡ bytes → begun ≡ given → IsFile (files a.guest.image.now) bytes → IsFirstInput files a.input a.steps given
+      → (end : Result Ended Refused) × HasRunTo created a image begun end output
+      → OnErr r (ToTell (λ status errors. RunEnded files created a status output errors))
+  run_untold created a image bytes begun given output (Ok s) same begun_same is given_is end = tt
+  run_untold created a image bytes begun given output (Err e) same begun_same is given_is end =
       let whole = whole_input files a.input a.steps given given_is in
-      let t = run_to_tell a.status (λ e. IsRunEnd a image whole.0 e output.before output.after)
-      (end.0, ends_with a image begun given whole.0 output end.0 begun_same whole.2 end.1) in (
+      let t = run_to_tell a.status (λ e. HasRunTo created a image whole.0 e output)
+      (end.0, ends_with created a image begun given whole.0 output end.0 begun_same whole.2 end.1) in (
         t.0,
         t.1,
         record {

@@ -4,7 +4,7 @@ use Rattle.std.specs.Result.{IfErr, IfOk}
 use Rattle.std.specs.Prelude.{OnErr}
 use Rattle.rvm_arguments.specs.declared.arguments.Arguments.{Arguments}
 use Rattle.rvm_arguments.specs.declared.arguments.Arguments.TheVariants.{Run, Asm, Dis, Debug, Script, Move, Audit, Host, Tell}
-use Rattle.rvm_program.specs.Ended.{HasEnded, HostEnded, IsUnbegun, IsUntold, MoveHasStatus, TellEnded, Written}
+use Rattle.rvm_program.specs.Ended.{HasEnded, HasRunTo, HostEnded, IsUnbegun, IsUntold, MoveHasStatus, TellEnded, Written}
 use Rattle.rvm_program.specs.Performed.{HasFailed, IsJudged, IsPassingOn, IsTelling, TellsMore}
 use Rattle.rvm_arguments.specs.declared.arguments.HostArguments.{HostArguments}
 use Rattle.rvm_arguments.specs.declared.arguments.MoveArguments.{MoveArguments}
@@ -14,9 +14,9 @@ use Rattle.rvm_arguments.specs.declared.arguments.StatusOf.TheVariants.{Command,
 use Rattle.rvm_arguments.specs.declared.arguments.TellArguments.{TellArguments}
 use Rattle.rvm_command.specs.declared.refused.Refused.{Refused}
 use Rattle.rvm_command.specs.declared.run.Ended.{Ended}
-use Rattle.rvm_command.specs.declared.run.Ended.TheVariants.{HaltedWith, StepsSpent}
+use Rattle.rvm_command.specs.declared.run.Ended.TheVariants.{Fault, HaltedWith, StepsSpent}
 use Rattle.rvm_command.specs.Command.{refused_text}
-use Rattle.rvm_command.specs.Ends.{IsRunEnd, RunHasStatus, run_status}
+use Rattle.rvm_command.specs.Ends.{RunHasStatus, run_status}
 use Rattle.rvm_command.specs.Refusals.{refused}
 use Rattle.rvm_move.specs.Ended.{ended_of, status_asked}
 use Rattle.rvm_program.specs.Files.{IsUnread, Named}
@@ -52,11 +52,12 @@ passing_run a s more passing = record {
   judged = λ above. more;
 }
 
--- a verdict is 0, 3 or 4
+-- a verdict is 0, 3, 4 or 5
 no_verdict : (e : Ended) → run_status Verdict e ≡ 2 → ⊥
 no_verdict (HaltedWith zero) is = let it : 0 ≡ 2 = is in absurd (omega (arith, it))
 no_verdict (HaltedWith (suc n)) is = let it : 3 ≡ 2 = is in absurd (omega (arith, it))
 no_verdict StepsSpent is = let it : 4 ≡ 2 = is in absurd (omega (arith, it))
+no_verdict (Fault f) is = let it : 5 ≡ 2 = is in absurd (omega (arith, it))
 
 -- a run has the status that was asked for
 run_asked : (a : RunArguments) (asked : StatusOf) (s : ℕ) (e : Ended) → a.status ≡ asked → s ≡ run_status asked e
@@ -113,7 +114,7 @@ told a s (inr (inr three)) = record {
 more : (files created : Named) (a : Arguments) (n : ℕ) (script : Option (List ℕ)) (output errors : Written)
     → HasEnded files created a (suc (suc n)) script output errors → IsAskedFor a (suc (suc n))
 more files created (Run a) n script output errors e =
-    run_ended a (suc (suc n)) (λ end. IsRunEnd a e.image e.input end output.before output.after) errors.before errors.after
+    run_ended a (suc (suc n)) (λ end. HasRunTo created a e.image e.input end output) errors.before errors.after
     e.ended
 more files created (Asm a) n script output errors e = absurd e.ended
 more files created (Dis a) n script output errors e = absurd e.ended

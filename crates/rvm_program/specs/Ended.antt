@@ -1,5 +1,5 @@
 -- How a command ended, given the files that it names.
-use Rattle.std.specs.Prelude.{◌≡◌, ◌⊎◌, ⊤, ℕ, zero, suc, Bool, true, false, List, [], Option, Some, Result}
+use Rattle.std.specs.Prelude.{◌≡◌, ◌⊎◌, ⊤, ℕ, zero, suc, Bool, true, false, List, [], Option, None, Some, Result}
 use Rattle.rvm_arguments.specs.declared.arguments.Arguments.{Arguments}
 use Rattle.rvm_arguments.specs.declared.arguments.Arguments.TheVariants.{Run, Asm, Dis, Debug, Script, Move, Audit, Host, Tell}
 use Rattle.rvm_arguments.specs.declared.arguments.AsmArguments.{AsmArguments}
@@ -10,8 +10,10 @@ use Rattle.rvm_arguments.specs.declared.arguments.HostArguments.{HostArguments}
 use Rattle.rvm_arguments.specs.declared.arguments.MoveArguments.{MoveArguments}
 use Rattle.rvm_arguments.specs.declared.arguments.RunArguments.{RunArguments}
 use Rattle.rvm_arguments.specs.declared.arguments.ScriptArguments.{ScriptArguments}
+use Rattle.rvm_arguments.specs.declared.arguments.TraceArguments.{TraceArguments}
 use Rattle.rvm_command.specs.Command.{image_of}
 use Rattle.rvm_command.specs.declared.refused.Refused.{Refused}
+use Rattle.rvm_command.specs.declared.run.Ended.{Ended}
 use Rattle.rvm_command.specs.ExtendedEnds.{IsExtendedEnd}
 use Rattle.rvm_command.specs.Ends.{HasStatus, IsAsmEnd, IsDebugEnd, IsListEnd, IsRunEnd, RunHasStatus}
 use Rattle.rvm_command.specs.Refusals.{IsTold, refused}
@@ -31,13 +33,25 @@ pub record Written : Type 0 where
 abbrev pub written : (before after : Option (List ℕ)) → Written
 written before after = record { before = before; after = after }
 
+-- a writer is the file of this trace, new or emptied; without a trace it may be any
+abbrev pub IsTraceFile : (created : Named) → Option TraceArguments → (held : Option (List ℕ)) → Type 0
+IsTraceFile created None held = ⊤
+IsTraceFile created (Some trace) held = IsCreated (created trace.file.now) held
+
+-- a run of this image with this input ended so, and wrote to the file of its trace, if it has one
+pub record HasRunTo (created : Named) (a : RunArguments) (image input : List ℕ) (end : Result Ended Refused)
+    (output : Written) : Type 0 where
+  pub trace : Written
+  pub trace_is : IsTraceFile created a.trace trace.before
+  pub ended : IsRunEnd a image input end output.before output.after trace.before trace.after
+
 -- `run` was given the image that it names, and the input, if it names one, and has the status that was asked for
-pub record RunEnded (files : Named) (a : RunArguments) (status : ℕ) (output errors : Written) : Type 0 where
+pub record RunEnded (files created : Named) (a : RunArguments) (status : ℕ) (output errors : Written) : Type 0 where
   pub image : List ℕ
   pub input : List ℕ
   pub image_is : IsFile (files a.guest.image.now) image
   pub input_is : IsInput files a.input input
-  pub ended : RunHasStatus a.status status (λ end. IsRunEnd a image input end output.before output.after)
+  pub ended : RunHasStatus a.status status (λ end. HasRunTo created a image input end output)
       errors.before errors.after
 
 -- `asm` was given the text that it names, and wrote to the file that it names, which had other bytes
@@ -134,7 +148,7 @@ TellEnded status = (status ≡ 0) ⊎ ((status ≡ 1) ⊎ (status ≡ 3))
 -- what a command line asks for ended with this status
 abbrev pub HasEnded : (files created : Named) → Arguments → (status : ℕ) → (script : Option (List ℕ))
     → (output errors : Written) → Type 0
-HasEnded files created (Run a) status script output errors = RunEnded files a status output errors
+HasEnded files created (Run a) status script output errors = RunEnded files created a status output errors
 HasEnded files created (Asm a) status script output errors = AsmEnded files created a status errors
 HasEnded files created (Dis a) status script output errors = DisEnded files a status output.before errors
 HasEnded files created (Debug a) status script output errors = DebugEnded files a status script output.before errors

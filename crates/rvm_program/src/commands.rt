@@ -8,8 +8,9 @@ ghost use Rattle.rvm_arguments.specs.declared.arguments.Arguments.TheVariants as
 ghost use Rattle.rvm_refusal.specs.declared.refusal.Refusal.TheVariants as refusal;
 ghost use Rattle.std.specs.Io.Buffered.{writer_contents};
 ghost use Rattle.rvm_command.specs.declared.refused.Refused.{Refused};
-ghost use Rattle.rvm_command.specs.Ends.{HasStatus};
-ghost use Rattle.rvm_program.specs.Ended.{AsmEnded, AuditEnded, DebugEnded, DisEnded, HostEnded, IsSessionEnd, MoveEnded, RunEnded, ScriptEnded, TellEnded, ToTell, written};
+ghost use Rattle.rvm_command.specs.declared.run.Ended.{Ended};
+ghost use Rattle.rvm_command.specs.Ends.{HasStatus, RunHasStatus};
+ghost use Rattle.rvm_program.specs.Ended.{AsmEnded, AuditEnded, DebugEnded, DisEnded, HasRunTo, HostEnded, IsSessionEnd, MoveEnded, RunEnded, ScriptEnded, TellEnded, ToTell, written};
 ghost use Rattle.rvm_program.specs.Files.{IsFile, IsFileRefusal, IsFirst, IsFirstInput, IsImage, IsLong, IsLongInput, IsUnread, max_size};
 
 use crate::files::{MAX_FILE_SIZE, NamedFiles, keep_apart, read_beginning, read_whole, refusal_of};
@@ -33,7 +34,7 @@ use rvm_move::audit_command::audit_command;
 use rvm_move::move_command::move_command;
 use rvm_refusal::{LinkFault, Refusal};
 use std::alloc::{AllocError, Global};
-use std::io::{BufRead, BufReader, BufWriter, Read, Write};
+use std::io::{BufRead, BufReader, BufWriter, Read, Sink, Write};
 use std::net::{Net, OpenStream};
 use std::sync::{Arc, Wait};
 use std::thread::Threads;
@@ -55,11 +56,11 @@ pub(crate) fn run<M: PagedMemory + Drop, F: NamedFiles, O: Write, E: Write>(
     output: &mut O,
     errors: &mut E,
 ) -> Result<Told, Refusal>
-    ensures ended { IfOk result (λ told. IfOk told (λ status. RunEnded (F.bytes_of files.now) arguments.now status
-        (written (O.contents output.old) (O.contents output.new))
+    ensures ended { IfOk result (λ told. IfOk told (λ status. RunEnded (F.bytes_of files.now) (F.created_of files.now)
+        arguments.now status (written (O.contents output.old) (O.contents output.new))
         (written (E.contents errors.old) (E.contents errors.new)))) }
     ensures untold { IfOk result (λ told. OnErr told (ToTell (λ status errors. RunEnded (F.bytes_of files.now)
-        arguments.now status (written (O.contents output.old) (O.contents output.new)) errors))) }
+        (F.created_of files.now) arguments.now status (written (O.contents output.old) (O.contents output.new)) errors))) }
     ensures unbegun { IfErr result (λ r. IsUnread (F.bytes_of files.now) (asks.Run arguments.now) r
         × (O.contents output.new ≡ O.contents output.old)
         × (E.contents errors.new ≡ E.contents errors.old)) }
@@ -67,7 +68,44 @@ pub(crate) fn run<M: PagedMemory + Drop, F: NamedFiles, O: Write, E: Write>(
     let image = begin_image(files, alloc, &arguments.guest)?;
     let input = read_input(files, alloc, arguments)?;
     check_image(&arguments.guest, &image)?;
-    Ok(run_command::<M, O, E>(alloc, arguments, &image, &input, output, errors))
+    run_read::<M, F, O, E>(alloc, files, arguments, &image, &input, output, errors)
+}
+
+/// Runs a guest of which all was read. Creates or empties the file of its trace, if it has one. Fails with a refusal if
+/// that file cannot be created, or if memory runs out.
+fn run_read<M: PagedMemory + Drop, F: NamedFiles, O: Write, E: Write>(
+    alloc: Global,
+    files: &F,
+    arguments: &RunArguments,
+    image: &[u8],
+    input: &[u8],
+    output: &mut O,
+    errors: &mut E,
+) -> Result<Told, Refusal>
+    ensures told { IfOk result (λ told. IfOk told (λ status. RunHasStatus arguments.now.status status
+        (λ end. HasRunTo (F.created_of files.now) arguments.now image.now input.now end
+        (written (O.contents output.old) (O.contents output.new)))
+        (E.contents errors.old) (E.contents errors.new))) }
+    ensures end { IfOk result (λ told. (end : Result Ended Refused) × HasRunTo (F.created_of files.now) arguments.now
+        image.now input.now end (written (O.contents output.old) (O.contents output.new))) }
+    ensures refused { IfErr result (λ r. IsFileRefusal r × (O.contents output.new ≡ O.contents output.old)
+        × (E.contents errors.new ≡ E.contents errors.old)) }
+{
+    match &arguments.trace {
+        None => Ok(run_command::<M, O, Sink, E>(
+            alloc,
+            arguments,
+            image,
+            input,
+            output,
+            &mut io::sink(),
+            errors,
+        )),
+        Some(trace) => {
+            let mut file = buffered(alloc, files.create(trace.file)?)?;
+            Ok(run_command::<M, O, _, E>(alloc, arguments, image, input, output, &mut file, errors))
+        }
+    }
 }
 
 /// The bytes for the console: the first bytes of a file, at most one for each turn, or none if no file is named.
