@@ -512,7 +512,7 @@ fn trace_from_option<'a>(alloc: Global) -> Arg<'a>
     ensures rule { rule_of result ≡ bounded (codes "trace-from") 0 999999999 }
     ensures local { result.global ≡ false }
 {
-    let help = "The first turn of the trace, from 0";
+    let help = "The first turn of the trace, 0 if none is given";
     bounded(alloc, "trace-from", "N", 0, 999_999_999, help)
 }
 
@@ -521,7 +521,7 @@ fn trace_to_option<'a>(alloc: Global) -> Arg<'a>
     ensures rule { rule_of result ≡ bounded (codes "trace-to") 0 999999999 }
     ensures local { result.global ≡ false }
 {
-    let help = "The last turn of the trace";
+    let help = "The last turn of the trace, that of the run if none is given";
     bounded(alloc, "trace-to", "N", 0, 999_999_999, help)
 }
 

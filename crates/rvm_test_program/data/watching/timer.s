@@ -5,5 +5,5 @@
     sw zero, 4(t0)              # 80000008
     li t1, 0x80                 # MTIE: 8000000c
     csrw mie, t1                # 80000010
-    csrwi mstatus, 8            # MIE: 80000014
+    csrrsi zero, mstatus, 8     # MIE: 80000014
     li a0, 1                    # 80000018
