@@ -55,7 +55,22 @@ pub struct RunArguments<'a> {
     pub steps: u32,
     /// What the status of the program tells.
     pub status: StatusOf,
+    /// Whether the run ends at the first trap that the guest has no handler for.
+    pub stop_at_fault: bool,
+    /// What is traced of the run, if anything.
+    pub trace: Option<TraceArguments<'a>>,
     ghost steps_allowed: { (1 ≤ steps) × (steps ≤ 1000000000) },
+}
+
+/// The trace of a run.
+#[derive(Debug, Drop)]
+pub struct TraceArguments<'a> {
+    /// The file that gets a line for each step.
+    pub file: &'a str,
+    /// The first turn that has a line.
+    pub from: u32,
+    /// The last turn that has a line.
+    pub to: u32,
 }
 
 /// The arguments of `rvmove asm`.

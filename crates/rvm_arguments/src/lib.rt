@@ -7,5 +7,5 @@ mod arguments;
 
 pub use arguments::{
     Arguments, AsmArguments, DisArguments, GuestArguments, HostArguments, MoveArguments,
-    RunArguments, ScriptArguments, StatusOf, TellArguments,
+    RunArguments, ScriptArguments, StatusOf, TellArguments, TraceArguments,
 };
