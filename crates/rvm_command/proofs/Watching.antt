@@ -66,10 +66,10 @@ steps_cond : (due : Bool) (g : Guest) → steps_in (cond due (drains g) []) g �
 steps_cond true g = steps_drains g
 steps_cond false g = steps_none g
 
-steps_between : (end : Option Ended) (n : ℕ) (g : Guest) → steps_in (between end n g) g ≡ []
+pub steps_between : (end : Option Ended) (n : ℕ) (g : Guest) → steps_in (between end n g) g ≡ []
 steps_between end n g = steps_cond (drains_after end n) g
 
-steps_one : (h : ℕ) (g : Guest) → steps_in (Step h ∷ []) g ≡ taken_by h g ∷ []
+pub steps_one : (h : ℕ) (g : Guest) → steps_in (Step h ∷ []) g ≡ taken_by h g ∷ []
 steps_one h g = steps_more (Step h) [] g ∙ ap (λ (l : List Taken). taken_by h g ∷ l) (steps_none (answered (Step h) g).guest)
 
 -- the events of a turn before those that follow its step
@@ -108,7 +108,7 @@ rest_after (Some (ended.HaltedWith s)) n t input g = record { events = drains g;
 rest_after (Some ended.StepsSpent) n t input g = record { events = drains g; ended = ended.StepsSpent }
 
 -- what follows the step of a turn
-abbrev follows : Option Ended → (n t : ℕ) → (input : List ℕ) → Guest → Run
+abbrev pub follows : Option Ended → (n t : ℕ) → (input : List ℕ) → Guest → Run
 follows end n t input g = first (between end t g) (rest_after end n t input (after (between end t g) g).guest)
 
 goes_on_unless : (shown : Option Fault) (stop : Bool) (n t : ℕ) (input : List ℕ) (g : Guest) → behind_drain (nat_eq (t % 64) 63) n (t + 1) input g ≡ follows (stops_at shown stop) n (t + 1) input g
@@ -128,7 +128,7 @@ after_answer (reply.Regs values) shown stop n t input g = goes_on_unless shown s
 after_answer (reply.Line a word) shown stop n t input g = goes_on_unless shown stop n t input g
 after_answer (reply.Refused why) shown stop n t input g = goes_on_unless shown stop n t input g
 
-turn_then : (shown : Option Fault) (stop : Bool) (n t : ℕ) (input : List ℕ) (g : Guest) → let s = answered (step_of t g) (after (offers input) g).guest in run_from (suc n) t input g ≡ first (offers input ++ step_of t g ∷ []) (follows (ends_turns s.reply shown stop) n (t + 1) (left input g) s.guest)
+pub turn_then : (shown : Option Fault) (stop : Bool) (n t : ℕ) (input : List ℕ) (g : Guest) → let s = answered (step_of t g) (after (offers input) g).guest in run_from (suc n) t input g ≡ first (offers input ++ step_of t g ∷ []) (follows (ends_turns s.reply shown stop) n (t + 1) (left input g) s.guest)
 unfolding run_from
 turn_then shown stop n t input g =
     let s = answered (step_of t g) (after (offers input) g).guest in
@@ -528,7 +528,7 @@ pub record Closes (stop : Bool) (input : List ℕ) (start now : GuestState) (ste
   pub last : rest_after end more turn kept now.guest ≡ record { events = drains now.guest; ended = plain_end end }
   pub told : unwrap_or end ended.StepsSpent ≡ end_at (fault_among stop [] (steps_of_run steps input start.guest)) (plain_end end)
 
-no_turns_left : (t : ℕ) (input : List ℕ) (g : Guest) → run_from 0 t input g ≡ record { events = drains g; ended = ended.StepsSpent }
+pub no_turns_left : (t : ℕ) (input : List ℕ) (g : Guest) → run_from 0 t input g ≡ record { events = drains g; ended = ended.StepsSpent }
 unfolding run_from
 no_turns_left t input g = refl
 

@@ -11,13 +11,12 @@ use Rattle.rvm_board.specs.Guest.{Guest, fresh}
 use Rattle.rvm_dis.specs.Disassembly.{line_at}
 use Rattle.rvm_refusal.specs.Refusal.{text_of}
 use Rattle.rvm_arguments.specs.declared.arguments.RunArguments.{RunArguments}
-use Rattle.rvm_arguments.specs.declared.arguments.TraceArguments.{TraceArguments}
 use Rattle.rvm_command.specs.declared.refused.Refused.{Refused}
 use Rattle.rvm_command.specs.declared.run.Ended.{Ended}
 use Rattle.rvm_command.specs.declared.run.Ended.TheVariants.{HaltedWith, StepsSpent}
 use Rattle.rvm_command.specs.declared.run.Ended.TheVariants as ended
 use Rattle.rvm_command.specs.FaultTexts.{fault_text}
-use Rattle.rvm_command.specs.Watched.{Watched, run_with}
+use Rattle.rvm_command.specs.Watched.{Watched, run_with, traced_of}
 
 -- the entry and the pieces of an image, or why a file has no image
 abbrev pub FileImage : Type 0
@@ -32,11 +31,6 @@ image_of false file = meaning file
 abbrev pub guest_of : (harts pages entry : ℕ) → List Piece → Guest
 guest_of harts pages entry pieces =
     fresh (loaded entry pieces (at_reset harts 0x80000000 (replicate (4096 * pages) 0)))
-
--- the first and the last turn that have a line in a trace, if there is one
-abbrev pub traced_of : Option TraceArguments → Option (ℕ × ℕ)
-traced_of None = None
-traced_of (Some t) = Some (t.from, t.to)
 
 -- the run of the guest of an image that these arguments ask for, with this input
 abbrev pub run_of : RunArguments → (image : ℕ × List Piece) → (input : List ℕ) → Watched

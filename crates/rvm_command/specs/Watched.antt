@@ -5,6 +5,7 @@ use Rattle.std.specs.Io.KnownBytes.{Appends}
 use Rattle.rvm_mem.specs.Pages.{mark_all}
 use Rattle.rvm_board.specs.declared.event.BoardEvent.{BoardEvent}
 use Rattle.rvm_board.specs.Guest.{Guest, GuestState}
+use Rattle.rvm_arguments.specs.declared.arguments.TraceArguments.{TraceArguments}
 use Rattle.rvm_command.specs.declared.run.Ended.{Ended}
 use Rattle.rvm_command.specs.declared.run.Ended.TheVariants as ended
 use Rattle.rvm_command.specs.Faults.{Shown, first_fault}
@@ -30,6 +31,11 @@ turns_until (Some found) turns = found.steps
 abbrev pub end_at : Option Shown → Ended → Ended
 end_at None end = end
 end_at (Some found) end = ended.Fault found.fault
+
+-- the first and the last turn that have a line in a trace, if there is one
+abbrev pub traced_of : Option TraceArguments → Option (ℕ × ℕ)
+traced_of None = None
+traced_of (Some t) = Some (t.from, t.to)
 
 -- whether the trace has a line for a turn: from its first to its last turn
 abbrev pub is_traced : Option (ℕ × ℕ) → (turn : ℕ) → Bool

@@ -2,7 +2,7 @@
 
 ghost use Rattle.std.specs.Prelude.{◌≡◌, OnOk, Some};
 ghost use Rattle.std.specs.Io.KnownBytes.{Appends};
-ghost use Rattle.rvm_command.specs.FaultTexts.{exception_name, fault_text, interrupt_name, word_tail};
+ghost use Rattle.rvm_command.specs.FaultTexts.{exception_name, fault_head, fault_text, interrupt_name, word_tail};
 
 use rvm_csr::{Cause, Exception, Interrupt};
 use rvm_dis::{Digits, write_ins};
@@ -91,9 +91,28 @@ fn interrupt_name(interrupt: Interrupt) -> &'static str
 pub(crate) fn write_fault<W: Write>(fault: &Fault, writer: &mut W) -> Result<(), LinkFault>
     ensures { OnOk result (Appends (W.contents writer.old) (W.contents writer.new) (fault_text fault.now)) }
 {
+    write_head(fault, writer)?;
+    write_tail(fault.pc, fault.word, writer)
+}
+
+/// Writes a fault without its instruction.
+fn write_head<W: Write>(fault: &Fault, writer: &mut W) -> Result<(), LinkFault>
+    ensures { OnOk result (Appends (W.contents writer.old) (W.contents writer.new) (fault_head fault.now)) }
+{
     write!(writer, "{fault}")?;
-    match fault.word {
-        Some(word) => write_word(fault.pc, word, writer),
+    Ok(())
+}
+
+/// Writes the instruction that `word` is at `address`, if there is one, after a colon.
+fn write_tail<W: Write>(
+    address: u32,
+    word: Option<u32>,
+    writer: &mut W,
+) -> Result<(), LinkFault>
+    ensures { OnOk result (Appends (W.contents writer.old) (W.contents writer.new) (word_tail address word)) }
+{
+    match word {
+        Some(word) => write_word(address, word, writer),
         None => Ok(()),
     }
 }

@@ -1,23 +1,20 @@
 //! `rvmove run`: runs the guest of an image, and reports how that ended.
 
-ghost use Rattle.std.specs.Prelude.{◌≡◌, ◌⊎◌, ◌++◌, Result, OnErr, OnOk, IfOk, codes};
+ghost use Rattle.std.specs.Prelude.{◌≡◌, ◌⊎◌, ◌++◌, Result, OnOk, IfOk, codes};
 ghost use Rattle.std.specs.Io.KnownBytes.{Appends};
 ghost use Rattle.rvm_arguments.specs.declared.arguments.StatusOf.TheVariants as tells;
 ghost use Rattle.rvm_command.specs.declared.refused.Refused.{Refused};
 ghost use Rattle.rvm_command.specs.declared.run.Ended.{Ended};
-ghost use Rattle.rvm_command.specs.Command.{end_text, image_of, traced_of};
+ghost use Rattle.rvm_command.specs.Command.{end_text, image_of};
 ghost use Rattle.rvm_command.specs.Ends.{IsLoadable, IsRunEnd, RunHasStatus, run_status};
-ghost use Rattle.rvm_command.specs.Run.{run_from};
-ghost use Rattle.rvm_command.specs.Watched.{BreaksOff, HasRun, run_with, turns_of};
 
 use crate::fault::write_fault;
 use crate::guest::load_guest;
 use crate::refused::{Refused, tell};
-use crate::run::{Ended, run};
-use crate::watched::{Asked, run_watched};
-use rvm_arguments::{RunArguments, StatusOf, TraceArguments};
-use rvm_board::Debugged;
-use rvm_mem::{Memory, PagedMemory};
+use crate::run::Ended;
+use crate::watched::run_asked;
+use rvm_arguments::{RunArguments, StatusOf};
+use rvm_mem::PagedMemory;
 use rvm_refusal::LinkFault;
 use std::alloc::Global;
 use std::io::Write;
@@ -141,43 +138,4 @@ fn run_image<M: PagedMemory + Drop, O: Write, T: Write>(
 {
     let mut guest = load_guest::<M>(alloc, &arguments.guest, image)?;
     Ok(run_asked(&mut guest, arguments, input, output, trace)?)
-}
-
-/// Runs a guest as the arguments ask for: turn by turn, if it has to stop at a fault or is traced. `LinkFault` if a
-/// write fails.
-fn run_asked<M: Memory, O: Write, T: Write>(
-    guest: &mut Debugged<M>,
-    arguments: &RunArguments,
-    input: &[u8],
-    output: &mut O,
-    trace: &mut T,
-) -> Result<Ended, LinkFault>
-    ensures run { IfOk result (λ end. HasRun (run_with arguments.now.stop_at_fault (traced_of arguments.now.trace)
-        arguments.now.steps input.now guest.old.guest) end guest.old guest.new
-        (O.contents output.old) (O.contents output.new) (T.contents trace.old) (T.contents trace.new)) }
-    ensures broken { OnErr result (BreaksOff (run_with arguments.now.stop_at_fault (traced_of arguments.now.trace)
-        arguments.now.steps input.now guest.old.guest)
-        (run_from (turns_of arguments.now.stop_at_fault arguments.now.steps input.now guest.old.guest) 0 input.now
-        guest.old.guest).events guest.old guest.new) }
-{
-    let asked = Asked {
-        steps: arguments.steps,
-        stop_at_fault: arguments.stop_at_fault,
-        traced: traced_of(&arguments.trace),
-    };
-    if asked.stop_at_fault || asked.traced.is_some() {
-        run_watched(guest, asked, input, output, trace)
-    } else {
-        run(guest, asked.steps, input, output)
-    }
-}
-
-/// The first and the last turn that have a line in a trace, if there is one.
-fn traced_of(trace: &Option<TraceArguments>) -> Option<(u32, u32)>
-    ensures { result ≡ traced_of trace.now }
-{
-    match trace {
-        Some(asked) => Some((asked.from, asked.to)),
-        None => None,
-    }
 }

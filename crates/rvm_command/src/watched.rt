@@ -8,27 +8,67 @@ ghost use Rattle.rvm_board.specs.Events.{answered};
 ghost use Rattle.rvm_command.specs.Buffered.{GoesOut};
 ghost use Rattle.rvm_command.specs.Run.{IsAfter, IsPartWay, after, run_from};
 ghost use Rattle.rvm_command.specs.Turns.{between, drains_after, ends_turns, taken_by};
-ghost use Rattle.rvm_command.specs.Watched.{BreaksOff, HasRun, is_traced, lines_from, run_with, turns_of};
+ghost use Rattle.rvm_command.specs.Watched.{BreaksOff, HasRun, is_traced, lines_from, run_with, traced_of, turns_of};
 
 use crate::fault::Fault;
 use crate::latest_traps::LatestTraps;
 use crate::output_buffer::OutputBuffer;
-use crate::run::{Ended, WRITE_EVERY, drain, feed};
+use crate::run::{Ended, WRITE_EVERY, drain, feed, run};
 use crate::trace::{look, write_step};
+use rvm_arguments::{RunArguments, TraceArguments};
 use rvm_board::{BoardEvent, BoardReply, DRAIN_EVERY, Debugged};
 use rvm_mem::Memory;
 use rvm_refusal::LinkFault;
 use std::io::Write;
 
+/// Runs a guest as the arguments ask for: turn by turn, if it has to stop at a fault or is traced. `LinkFault` if a
+/// write fails.
+pub(crate) fn run_asked<M: Memory, O: Write, T: Write>(
+    guest: &mut Debugged<M>,
+    arguments: &RunArguments,
+    input: &[u8],
+    output: &mut O,
+    trace: &mut T,
+) -> Result<Ended, LinkFault>
+    ensures run { IfOk result (λ end. HasRun (run_with arguments.now.stop_at_fault (traced_of arguments.now.trace)
+        arguments.now.steps input.now guest.old.guest) end guest.old guest.new
+        (O.contents output.old) (O.contents output.new) (T.contents trace.old) (T.contents trace.new)) }
+    ensures broken { OnErr result (BreaksOff (run_with arguments.now.stop_at_fault (traced_of arguments.now.trace)
+        arguments.now.steps input.now guest.old.guest)
+        (run_from (turns_of arguments.now.stop_at_fault arguments.now.steps input.now guest.old.guest) 0 input.now
+        guest.old.guest).events guest.old guest.new) }
+{
+    let asked = Asked {
+        steps: arguments.steps,
+        stop_at_fault: arguments.stop_at_fault,
+        traced: traced_of(&arguments.trace),
+    };
+    if asked.stop_at_fault || asked.traced.is_some() {
+        run_watched(guest, asked, input, output, trace)
+    } else {
+        run(guest, asked.steps, input, output)
+    }
+}
+
+/// The first and the last turn that have a line in a trace, if there is one.
+fn traced_of(trace: &Option<TraceArguments>) -> Option<(u32, u32)>
+    ensures { result ≡ traced_of trace.now }
+{
+    match trace {
+        Some(asked) => Some((asked.from, asked.to)),
+        None => None,
+    }
+}
+
 /// What is asked of a run.
 #[derive(Clone, Copy)]
-pub(crate) struct Asked {
+struct Asked {
     /// The most turns that it makes.
-    pub steps: u32,
+    steps: u32,
     /// Whether it ends at the first fault.
-    pub stop_at_fault: bool,
+    stop_at_fault: bool,
     /// The first and the last turn that have a line in its trace, if it is traced.
-    pub traced: Option<(u32, u32)>,
+    traced: Option<(u32, u32)>,
 }
 
 /// Makes the turns of a run, as `run` does, one by one. If the run is asked to stop at a fault, it ends after the step
@@ -37,7 +77,7 @@ pub(crate) struct Asked {
 ///
 /// `LinkFault` if a write fails, which is possible only if there was something to write, to the one writer or the other.
 /// The guest is then what the first events of the run left, up to some event.
-pub(crate) fn run_watched<M: Memory, W: Write, T: Write>(
+fn run_watched<M: Memory, W: Write, T: Write>(
     guest: &mut Debugged<M>,
     asked: Asked,
     input: &[u8],
