@@ -1,5 +1,5 @@
--- Known faults: which runs show one, and how it is reported.
-use Rattle.std.proofs.Common.{◌≡◌, ◌∷◌, ◌++◌, ℕ, Bool, true, false, List, [], Option, Some, None, refl, replicate, codes}
+-- Known faults: which runs show one, and how it is reported; and which steps a trace has.
+use Rattle.std.proofs.Common.{◌≡◌, ◌∷◌, ℕ, true, false, List, [], Some, None, refl, length, replicate, codes}
 use Rattle.std.specs.Fmt.{digits}
 use Rattle.rvm_csr.specs.declared.cause.Cause.TheVariants as cause
 use Rattle.rvm_csr.specs.declared.cause.Exception.TheVariants as exception
@@ -17,9 +17,9 @@ use Rattle.rvm_command.specs.declared.fault.Fault.{Fault}
 use Rattle.rvm_command.specs.declared.run.Ended.TheVariants as ended
 use Rattle.rvm_command.specs.Faults.{Shown, first_fault, latest_fault}
 use Rattle.rvm_command.specs.FaultTexts.{fault_text}
-use Rattle.rvm_command.specs.Run.{after, run_from}
-use Rattle.rvm_command.specs.Taken.{steps_in}
-use Rattle.rvm_command.specs.Watched.{fault_among, lines_from, run_with, steps_of_run, turns_of}
+use Rattle.rvm_command.specs.Run.{after, ran, run_from}
+use Rattle.rvm_command.specs.Taken.{Taken, steps_in}
+use Rattle.rvm_command.specs.Watched.{fault_among, line_at, lines_from, run_with, steps_of_run, trace_of, turns_of}
 
 -- a guest of harts at reset, with these bytes in its RAM
 abbrev guest : (harts : ℕ) → List ℕ → Guest
@@ -69,6 +69,23 @@ a_run_goes_on = refl
 it_makes_two_turns : turns_of true 5 [] (guest 1 (replicate 4 0)) ≡ 2
 unfolding run_from after steps_in first_fault latest_fault isa.decoded isa.row_of isa.table signed_value
 it_makes_two_turns = refl
+
+-- the steps of a trace
+a_trace_has_its_first_and_its_last_turn : (t0 t1 t2 t3 : Taken) → trace_of (Some (1, 2)) (t0 ∷ t1 ∷ t2 ∷ t3 ∷ []) ≡ line_at 1 t1 ∷ line_at 2 t2 ∷ []
+unfolding lines_from
+a_trace_has_its_first_and_its_last_turn t0 t1 t2 t3 = refl
+
+a_trace_from_0_has_the_first_turn : (t0 t1 : Taken) → trace_of (Some (0, 0)) (t0 ∷ t1 ∷ []) ≡ line_at 0 t0 ∷ []
+unfolding lines_from
+a_trace_from_0_has_the_first_turn t0 t1 = refl
+
+a_trace_ends_with_the_step_that_shows_the_fault : length (run_with true (Some (0, 9)) 5 [] (guest 1 (replicate 4 0))).lines ≡ 2
+unfolding run_from after steps_in first_fault latest_fault lines_from isa.decoded isa.row_of isa.table signed_value
+a_trace_ends_with_the_step_that_shows_the_fault = refl
+
+-- a run of which nothing is asked
+a_plain_run_is_the_run_of_all_its_steps : (steps : ℕ) (input : List ℕ) (g : Guest) → (run_with false None steps input g).written ≡ (ran steps input g).written
+a_plain_run_is_the_run_of_all_its_steps steps input g = refl
 
 -- how faults are reported
 an_exception_with_its_instruction : fault_text (record { hart = 0; cause = cause.Exception exception.Breakpoint; pc = 0x80000040; value = 0x80000040; word = Some 0x00100073 })

@@ -121,6 +121,8 @@ fn a_run_writes_in_large_pieces_and_before_it_ends(rt: HostRuntime) -> Result<()
         input: None,
         steps: 1_000_000,
         status: StatusOf::Command,
+        stop_at_fault: false,
+        trace: None,
     };
     let mut falling = Vec::new(alloc);
     for number in (1..=10_000u32).rev() {
@@ -137,12 +139,13 @@ fn a_run_writes_in_large_pieces_and_before_it_ends(rt: HostRuntime) -> Result<()
             bytes: Vec::new(alloc),
         };
         let mut errors = Vec::new(alloc);
-        let status = run_command::<PagedRam, _, _>(
+        let status = run_command::<PagedRam, _, _, _>(
             alloc,
             &arguments,
             &image,
             &[],
             &mut output,
+            &mut io::sink(),
             &mut errors,
         );
         assert_eq!(rt; errors.as_slice(), "halted 0\n".as_bytes());
@@ -161,17 +164,20 @@ fn a_failed_write_of_a_run_is_told(rt: HostRuntime) -> Result<(), Fail> {
         input: None,
         steps: 1000,
         status: StatusOf::Command,
+        stop_at_fault: false,
+        trace: None,
     };
     let letters = bytes_of(alloc, &LETTERS)?;
     // The output fails in the middle of a piece, or at once.
     for room in [40, 0] {
         let (mut output, mut errors) = (Narrow { room }, Vec::new(alloc));
-        let status = run_command::<PagedRam, _, _>(
+        let status = run_command::<PagedRam, _, _, _>(
             alloc,
             &arguments,
             &letters,
             &[],
             &mut output,
+            &mut io::sink(),
             &mut errors,
         );
         assert_eq!(rt; errors.as_slice(), REFUSAL.as_bytes());
@@ -181,12 +187,13 @@ fn a_failed_write_of_a_run_is_told(rt: HostRuntime) -> Result<(), Fail> {
     // The report of the end can fail too.
     let letter = bytes_of(alloc, &LETTER)?;
     let (mut output, mut errors) = (Vec::new(alloc), Narrow { room: 3 });
-    let status = run_command::<PagedRam, _, _>(
+    let status = run_command::<PagedRam, _, _, _>(
         alloc,
         &arguments,
         &letter,
         &[],
         &mut output,
+        &mut io::sink(),
         &mut errors,
     );
     assert_eq!(rt; output.as_slice(), "A".as_bytes());

@@ -67,6 +67,8 @@ pub fn to_run() -> RunArguments<'static> {
         input: None,
         steps: STEPS,
         status: StatusOf::Command,
+        stop_at_fault: false,
+        trace: None,
     }
 }
 
