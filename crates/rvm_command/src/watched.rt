@@ -4,7 +4,7 @@ ghost use Rattle.std.specs.Prelude.{◌≡◌, ◌<◌, ◌≤◌, ◌+◌, ◌%
 ghost use Rattle.std.specs.List.{concat};
 ghost use Rattle.std.specs.Io.KnownBytes.{Appends};
 ghost use Rattle.rvm_board.specs.declared.event.BoardEvent.TheVariants.{Step};
-ghost use Rattle.rvm_board.specs.Events.{answered};
+ghost use Rattle.rvm_board.specs.Events.{answered, pc_of, step_reply};
 ghost use Rattle.rvm_command.specs.Buffered.{GoesOut};
 ghost use Rattle.rvm_command.specs.Run.{IsAfter, IsPartWay, after, run_from};
 ghost use Rattle.rvm_command.specs.Turns.{between, drains_after, ends_turns, taken_by};
@@ -16,7 +16,8 @@ use crate::output_buffer::OutputBuffer;
 use crate::run::{Ended, WRITE_EVERY, drain, feed, run};
 use crate::trace::{look, write_step};
 use rvm_arguments::{RunArguments, TraceArguments};
-use rvm_board::{BoardEvent, BoardReply, DRAIN_EVERY, Debugged};
+use rvm_board::{BoardReply, DRAIN_EVERY, Debugged};
+use rvm_hart::Stepped;
 use rvm_mem::Memory;
 use rvm_refusal::LinkFault;
 use std::io::Write;
@@ -101,7 +102,8 @@ fn run_watched<M: Memory, W: Write, T: Write>(
         let hart = turn % guest.harts();
         next = feed(guest, input, next);
         let pc = guest.pc(hart);
-        let reply = take_step(guest, turn, hart, asked.traced, trace)?;
+        let stepped = take_step(guest, turn, hart, asked.traced, trace)?;
+        let reply = reply_of(pc, stepped);
         let shown = traps.note(guest, hart, pc, &reply);
         turn += 1;
         end = end_of(&reply, shown, asked.stop_at_fault);
@@ -111,18 +113,20 @@ fn run_watched<M: Memory, W: Write, T: Write>(
     Ok(end.unwrap_or(Ended::StepsSpent))
 }
 
-/// Makes the step of a turn, by this hart, and writes its line if the turn is traced. `LinkFault` if that write fails.
+/// Makes the step of a turn, by this hart, and writes its line if the turn is traced. Returns none if the hart stopped at
+/// a breakpoint instead. `LinkFault` if that write fails.
 fn take_step<M: Memory, T: Write>(
     guest: &mut Debugged<M>,
     turn: u32,
     hart: u32,
     traced: Option<(u32, u32)>,
     trace: &mut T,
-) -> Result<BoardReply, LinkFault>
+) -> Result<Option<Stepped>, LinkFault>
     requires { hart < length guest.old.guest.board.harts }
     ensures step { IsAfter (Step hart ∷ []) guest.old guest.new }
     ensures harts { length guest.new.guest.board.harts ≡ length guest.old.guest.board.harts }
-    ensures reply { IfOk result (λ reply. reply ≡ (answered (Step hart) guest.old.guest).reply) }
+    ensures reply { IfOk result (λ stepped. step_reply (pc_of hart guest.old.guest) stepped
+        ≡ (answered (Step hart) guest.old.guest).reply) }
     ensures line { OnOk result (Appends (T.contents trace.old) (T.contents trace.new)
         (concat (lines_from traced turn (taken_by hart guest.old.guest ∷ [])))) }
     ensures err { OnErr result (is_traced traced turn ≡ true) }
@@ -130,21 +134,33 @@ fn take_step<M: Memory, T: Write>(
     if !is_traced(traced, turn) {
         return Ok(step(guest, hart));
     }
+    let pc = guest.pc(hart);
     let before = look(guest, hart);
-    let reply = step(guest, hart);
-    write_step(guest, turn, hart, &before, &reply, trace)?;
-    Ok(reply)
+    let stepped = step(guest, hart);
+    write_step(guest, turn, hart, &before, &reply_of(pc, stepped), trace)?;
+    Ok(stepped)
 }
 
-/// Makes a step of a hart.
-fn step<M: Memory>(guest: &mut Debugged<M>, hart: u32) -> BoardReply
+/// Makes a step of a hart. Returns none if the hart stopped at a breakpoint instead.
+fn step<M: Memory>(guest: &mut Debugged<M>, hart: u32) -> Option<Stepped>
     requires { hart < length guest.old.guest.board.harts }
     ensures step { IsAfter (Step hart ∷ []) guest.old guest.new }
     ensures guest { guest.new.guest ≡ (answered (Step hart) guest.old.guest).guest }
     ensures harts { length guest.new.guest.board.harts ≡ length guest.old.guest.board.harts }
-    ensures reply { result ≡ (answered (Step hart) guest.old.guest).reply }
+    ensures reply { step_reply (pc_of hart guest.old.guest) result
+        ≡ (answered (Step hart) guest.old.guest).reply }
 {
-    guest.apply(BoardEvent::Step(hart))
+    guest.step(hart)
+}
+
+/// The answer to a step of a hart with this `pc`.
+fn reply_of(pc: u32, stepped: Option<Stepped>) -> BoardReply
+    ensures { result ≡ step_reply pc stepped }
+{
+    match stepped {
+        Some(stepped) => BoardReply::of_step(stepped),
+        None => BoardReply::Break(pc),
+    }
 }
 
 /// Whether the trace has a line for a turn.

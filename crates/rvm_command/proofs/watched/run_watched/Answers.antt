@@ -1,5 +1,6 @@
 use Rattle.std.proofs.Common.{[], ◌≡◌, ℕ, ◌+◌, ◌%◌, ◌<◌, ◌++◌, None, List, length, drop, ap, sym, subst, ◌∙◌, refl, arith}
 use Rattle.std.proofs.lemmas.Nat.{mod_below}
+use Rattle.rvm_board.specs.Events.{step_reply}
 use Rattle.rvm_board.specs.Guest.{GuestState}
 use Rattle.rvm_command.specs.Buffered.{GoesOut}
 use Rattle.rvm_command.specs.Run.{IsAfter, IsPartWay, after, run_from}
@@ -32,14 +33,14 @@ note-shown-requires g c =
     omega (arith, there, c.take_step.ensures.harts)
 
 -- the line of a step could not be written
-pub returns-in_err-reply-clause-broken : goal.returns-in_err-reply-clause-broken
-returns-in_err-reply-clause-broken g c =
+pub returns-in_err-stepped-clause-broken : goal.returns-in_err-stepped-clause-broken
+returns-in_err-stepped-clause-broken g c =
     let none = none_of c.loop-turn.end c.is_none.result c.is_none.ensures c.if-is_none.true in
     let asked = c.args.asked in
     on_err c.from_residual.result
     (BreaksOff (run_with asked.stop_at_fault asked.traced asked.steps c.args.input.now c.args.guest.now.guest) (run_from (turns_of asked.stop_at_fault asked.steps c.args.input.now c.args.guest.now.guest) 0 c.args.input.now c.args.guest.now.guest).events c.args.guest.now c.take_step.new.guest)
     (line_failed (c.loop-turn.turn % c.harts.result) asked.steps (drop c.feed-next.result c.args.input.now) c.feed-next.new.guest c.take_step.new.guest c.loop-turn-test.true (unended none c.loop-turn.invariant.turned)
-    (ap (λ k. c.loop-turn.turn % k) c.harts.ensures.count) c.feed-next.ensures.fed c.feed-next.ensures.left c.in_err-reply.ensures.step c.in_err-reply.ensures.err)
+    (ap (λ k. c.loop-turn.turn % k) c.harts.ensures.count) c.feed-next.ensures.fed c.feed-next.ensures.left c.in_err-stepped.ensures.step c.in_err-stepped.ensures.err)
 
 pub loop-turn-preserved : goal.loop-turn-preserved
 loop-turn-preserved g c =
@@ -47,13 +48,13 @@ loop-turn-preserved g c =
     let asked = c.args.asked in
     let hart : ℕ = c.loop-turn.turn % c.harts.result in
     let left = drop c.feed-next.result c.args.input.now in
-    let this : TurnMade asked.stop_at_fault c.loop-turn.turn hart (drop c.loop-turn.next c.args.input.now) left c.loop-turn.guest c.feed-next.new.guest c.take_step.new.guest c.in_ok-reply.reply c.note-shown.result c.end_of-end.result =
+    let this : TurnMade asked.stop_at_fault c.loop-turn.turn hart (drop c.loop-turn.next c.args.input.now) left c.loop-turn.guest c.feed-next.new.guest c.take_step.new.guest c.reply_of-reply.result c.note-shown.result c.end_of-end.result =
     record {
       hart = ap (λ k. c.loop-turn.turn % k) c.harts.ensures.count;
       offered = c.feed-next.ensures.fed;
       fewer = c.feed-next.ensures.left;
-      made = c.in_ok-reply.ensures.step;
-      said = c.in_ok-reply.ensures.reply;
+      made = c.in_ok-stepped.ensures.step;
+      said = c.reply_of-reply.ensures ∙ ap (λ k. step_reply k c.in_ok-stepped.stepped) c.pc-pc.ensures ∙ c.in_ok-stepped.ensures.reply;
       ends = c.end_of-end.ensures;
     } in
     let below : hart < 8 = omega (arith, mod_below c.loop-turn.turn c.harts.result c.harts.ensures.some, c.harts.ensures.bound) in
@@ -62,7 +63,7 @@ loop-turn-preserved g c =
     record {
       next = c.feed-next.ensures.within;
       turn = omega (arith, c.loop-turn-test.true);
-      turned = turned_more c.drain_between.new.guest below (unended none c.loop-turn.invariant.turned) this c.pc-pc.ensures c.note-shown.ensures.shown c.note-shown.ensures.noted c.in_ok-reply.ensures.line
+      turned = turned_more c.drain_between.new.guest below (unended none c.loop-turn.invariant.turned) this c.pc-pc.ensures c.note-shown.ensures.shown c.note-shown.ensures.noted c.in_ok-stepped.ensures.line
           (subst (λ (x : GuestState). IsAfter (between end turns x.guest) x c.drain_between.new.guest) c.note-shown.ensures.guest c.in_ok-drain_between.ensures.guest)
           (subst (λ (x : GuestState). GoesOut (after (between end turns x.guest) x.guest).bytes c.loop-turn.buffer c.drain_between.new.buffer (g.W.Write.contents c.loop-turn.writer) (g.W.Write.contents c.drain_between.new.writer)) c.note-shown.ensures.guest c.in_ok-drain_between.ensures.written);
     }
@@ -74,13 +75,13 @@ returns-in_err-drain_between-clause-broken g c =
     let asked = c.args.asked in
     let hart : ℕ = c.loop-turn.turn % c.harts.result in
     let left = drop c.feed-next.result c.args.input.now in
-    let this : TurnMade asked.stop_at_fault c.loop-turn.turn hart (drop c.loop-turn.next c.args.input.now) left c.loop-turn.guest c.feed-next.new.guest c.take_step.new.guest c.in_ok-reply.reply c.note-shown.result c.end_of-end.result =
+    let this : TurnMade asked.stop_at_fault c.loop-turn.turn hart (drop c.loop-turn.next c.args.input.now) left c.loop-turn.guest c.feed-next.new.guest c.take_step.new.guest c.reply_of-reply.result c.note-shown.result c.end_of-end.result =
     record {
       hart = ap (λ k. c.loop-turn.turn % k) c.harts.ensures.count;
       offered = c.feed-next.ensures.fed;
       fewer = c.feed-next.ensures.left;
-      made = c.in_ok-reply.ensures.step;
-      said = c.in_ok-reply.ensures.reply;
+      made = c.in_ok-stepped.ensures.step;
+      said = c.reply_of-reply.ensures ∙ ap (λ k. step_reply k c.in_ok-stepped.stepped) c.pc-pc.ensures ∙ c.in_ok-stepped.ensures.reply;
       ends = c.end_of-end.ensures;
     } in
     let end = c.end_of-end.result in
