@@ -8,14 +8,13 @@ use Rattle.rvm_csr.specs.Registers as csr
 use Rattle.rvm_isa.specs.Table as isa
 use Rattle.rvm_word.specs.Word.{signed_value}
 use Rattle.rvm_hart.specs.Rows.{effect}
-use Rattle.rvm_hart.specs.Machine.{HartState}
-use Rattle.rvm_board.specs.Board.{Board, at_reset, new_hart}
+use Rattle.rvm_board.specs.Board.{at_reset, new_hart}
 use Rattle.rvm_board.specs.Guest.{Guest, fresh}
 use Rattle.rvm_dis.specs.Disassembly.{text_of}
 use Rattle.rvm_dis.specs.Pieces.{hex_digits}
 use Rattle.rvm_command.specs.declared.fault.Fault.{Fault}
 use Rattle.rvm_command.specs.declared.run.Ended.TheVariants as ended
-use Rattle.rvm_command.specs.Faults.{Shown, first_fault, latest_fault}
+use Rattle.rvm_command.specs.Faults.{first_fault, latest_fault}
 use Rattle.rvm_command.specs.FaultTexts.{fault_text}
 use Rattle.rvm_command.specs.Run.{after, ran, run_from}
 use Rattle.rvm_command.specs.Taken.{Taken, steps_in}

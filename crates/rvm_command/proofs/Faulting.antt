@@ -1,7 +1,6 @@
 -- What is reported of a trap, from what a guest keeps for its hart.
-use Rattle.std.proofs.Common.{◌≡◌, ℕ, ◌+◌, ◌<◌, List, length, get_or, map, ap, ◌∙◌, arith}
+use Rattle.std.proofs.Common.{◌≡◌, ℕ, ◌<◌, List, length, get_or, ap, ◌∙◌, arith}
 use Rattle.std.proofs.lemmas.List.FromFn.{get_or-map-range_with_len, length-map-range_with_len}
-use Rattle.std.specs.List.{range_with_len}
 use Rattle.rvm_board.specs.declared.part.HartPart.{HartPart}
 use Rattle.rvm_board.specs.Board.{hart_at}
 use Rattle.rvm_board.specs.Guest.{Guest}

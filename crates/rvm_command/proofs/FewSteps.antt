@@ -1,15 +1,12 @@
 -- A run takes at most one step in each turn, and a fault that it shows is shown within them.
-use Rattle.std.proofs.Common.{◌≡◌, ℕ, zero, suc, ◌+◌, ◌%◌, ◌<◌, ◌≤◌, List, [], ◌∷◌, ◌++◌, length, Option, Some, None, Bool, true, false, refl, sym, ap, subst, ◌∙◌, arith}
-use Rattle.std.proofs.lemmas.List.{length-append}
-use Rattle.rvm_board.specs.declared.event.BoardEvent.{BoardEvent}
-use Rattle.rvm_board.specs.declared.event.BoardEvent.TheVariants.{Step}
+use Rattle.std.proofs.Common.{◌≡◌, ℕ, zero, suc, ◌+◌, ◌%◌, ◌≤◌, List, [], ◌∷◌, ◌++◌, length, Option, Some, None, Bool, true, false, ap, ◌∙◌, arith}
 use Rattle.rvm_board.specs.Guest.{Guest}
-use Rattle.rvm_board.specs.Events.{Answered, answered}
+use Rattle.rvm_board.specs.Events.{answered}
 use Rattle.rvm_command.specs.declared.fault.Fault.{Fault}
 use Rattle.rvm_command.specs.declared.run.Ended.{Ended}
 use Rattle.rvm_command.specs.declared.run.Ended.TheVariants as ended
 use Rattle.rvm_command.specs.Faults.{Shown, first_fault, latest_fault, or_later, shown}
-use Rattle.rvm_command.specs.Run.{After, Run, after, drains, left, offers, run_from, step_of}
+use Rattle.rvm_command.specs.Run.{After, Run, after, left, offers, run_from, step_of}
 use Rattle.rvm_command.specs.Taken.{Taken, steps_in}
 use Rattle.rvm_command.specs.Turns.{between, ends_turns, taken_by}
 use Rattle.rvm_command.specs.Watched.{fault_among, steps_of_run, turns_of, turns_until}

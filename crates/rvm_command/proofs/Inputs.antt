@@ -125,8 +125,7 @@ pub ends_so : (a : RunArguments) (file begun input : List ℕ) (end : Result End
 ends_so a file begun input (Ok ended) before after trace_before trace_after is (loadable, came) = (
   loadable,
   if_ok (image_of a.guest.raw file) _ _ (λ i came.
-      let same = same_watched a.stop_at_fault (traced_of a.trace) a.steps begun input (guest_of a.guest.harts a.guest.pages i.0 i.1) is in
-      (
+      let same = same_watched a.stop_at_fault (traced_of a.trace) a.steps begun input (guest_of a.guest.harts a.guest.pages i.0 i.1) is in (
         came.0 ∙ ap (λ (r : Watched). r.ended) same,
         subst (Appends before after) (ap (λ (r : Watched). r.written) same) came.1,
         subst (λ (l : List (List ℕ)). Appends trace_before trace_after (concat l)) (ap (λ (r : Watched). r.lines) same) came.2,

@@ -1,10 +1,10 @@
 -- A run turn by turn: the steps among its events, the first fault that they show, and their lines.
-use Rattle.std.proofs.Common.{◌≡◌, ◌⊎◌, ℕ, zero, suc, ◌+◌, ◌-◌, ◌*◌, ◌/◌, ◌%◌, ◌<◌, ◌≤◌, List, [], ◌∷◌, ◌++◌, length, get_or, replicate, Option, Some, None, Bool, true, false, refl, sym, ap, ap₂, subst, ◌∙◌, inl, inr, arith, append_assoc, append-nil, cond, nat_eq, nat_lt}
+use Rattle.std.proofs.Common.{◌≡◌, ◌⊎◌, ℕ, zero, suc, ◌+◌, ◌-◌, ◌/◌, ◌%◌, ◌<◌, ◌≤◌, List, [], ◌∷◌, ◌++◌, length, get_or, replicate, Option, Some, None, Bool, true, false, refl, sym, ap, subst, ◌∙◌, inl, inr, arith, append_assoc, append-nil, cond, nat_eq, nat_lt}
 use Rattle.std.proofs.lemmas.Bool.{cases_eq, ne_eqb}
 use Rattle.std.proofs.lemmas.Bool.Decides.{nat_tests}
 use Rattle.std.proofs.lemmas.List.{get_or-set_same, get_or-set_other, get_or-replicate, length-append, length-set}
 use Rattle.std.proofs.lemmas.Nat.{mod_below}
-use Rattle.std.specs.Prelude.{slice_set, option_map, unwrap_or, ◌&&◌, is_some, not}
+use Rattle.std.specs.Prelude.{slice_set, option_map, unwrap_or, is_some, not}
 use Rattle.std.specs.List.{concat}
 use Rattle.std.specs.Io.KnownBytes.{Appends}
 use Rattle.rvm_mem.specs.Pages.{mark_all}
@@ -23,11 +23,11 @@ use Rattle.rvm_command.specs.declared.run.Ended.{Ended}
 use Rattle.rvm_command.specs.declared.run.Ended.TheVariants as ended
 use Rattle.rvm_command.specs.Buffered.{GoesOut}
 use Rattle.rvm_command.specs.Faults.{Shown, cause_of, fault_at, fault_of, first_fault, latest_fault, or_later, shown}
-use Rattle.rvm_command.specs.Run.{After, IsAfter, IsPartWay, Run, after, bytes_in, drains, first, left, offers, ran, run_from, step_of, unless_halted}
+use Rattle.rvm_command.specs.Run.{After, IsAfter, IsPartWay, Run, after, bytes_in, drains, first, left, offers, run_from, step_of, unless_halted}
 use Rattle.rvm_command.specs.Taken.{Taken, step_in, steps_in}
 use Rattle.rvm_command.specs.Turns.{between, drains_after, ends_turns, stops_at, taken_by}
-use Rattle.rvm_command.specs.Watched.{BreaksOff, HasRun, Watched, end_at, fault_among, is_traced, line_at, lines_from, run_with, steps_of_run, trace_of, turns_of, turns_until}
-use Rattle.rvm_command.proofs.Runs.{Finished, Progress, after_both, after_more, after_none, after_one, appends_more, appends_none, behind_drain, broken_off, bytes_both, ends_slice, finished, goes_quietly, is_after_both, is_after_none, is_after_one, last_drains, none_made, nothing, offer_quiet, out_more, part_way, quiet_halted, some_bytes, stays, there_steps}
+use Rattle.rvm_command.specs.Watched.{BreaksOff, HasRun, end_at, fault_among, is_traced, line_at, lines_from, run_with, steps_of_run, trace_of, turns_of, turns_until}
+use Rattle.rvm_command.proofs.Runs.{Finished, Progress, after_more, after_none, after_one, appends_more, appends_none, behind_drain, broken_off, bytes_both, ends_slice, finished, goes_quietly, is_after_both, is_after_none, is_after_one, last_drains, none_made, offer_quiet, out_more, part_way, quiet_halted, some_bytes, stays, there_steps}
 
 -- ---- steps among events
 

@@ -1,5 +1,5 @@
 -- A run turn by turn: how its turns end, and the rest of it after some of them.
-use Rattle.std.specs.Prelude.{ℕ, ◌%◌, ◌==◌, Bool, true, false, not, ◌&&◌, if◌then◌else◌, List, [], ◌∷◌, Option, Some, None}
+use Rattle.std.specs.Prelude.{ℕ, ◌%◌, ◌==◌, Bool, true, false, not, ◌&&◌, if◌then◌else◌, List, [], Option, Some, None}
 use Rattle.rvm_board.specs.declared.event.BoardEvent.{BoardEvent}
 use Rattle.rvm_board.specs.declared.event.BoardEvent.TheVariants.{Step}
 use Rattle.rvm_board.specs.declared.event.BoardReply.{BoardReply}

@@ -104,11 +104,7 @@ fn write_head<W: Write>(fault: &Fault, writer: &mut W) -> Result<(), LinkFault>
 }
 
 /// Writes the instruction that `word` is at `address`, if there is one, after a colon.
-fn write_tail<W: Write>(
-    address: u32,
-    word: Option<u32>,
-    writer: &mut W,
-) -> Result<(), LinkFault>
+fn write_tail<W: Write>(address: u32, word: Option<u32>, writer: &mut W) -> Result<(), LinkFault>
     ensures { OnOk result (Appends (W.contents writer.old) (W.contents writer.new) (word_tail address word)) }
 {
     match word {

@@ -1,5 +1,4 @@
-use Rattle.std.proofs.Common.{◌≡◌, List, ap, ◌∙◌, arith}
-use Rattle.rvm_board.specs.declared.part.HartPart.{HartPart}
+use Rattle.std.proofs.Common.{◌≡◌, ap, ◌∙◌, arith}
 use Rattle.rvm_board.specs.State.{State, parts_of}
 use Rattle.rvm_command.proofs.Faulting.{mtval_of, parts_count}
 use Rattle.rvm_command.proofs.latest_traps.mtval.Goals as goal

@@ -1,11 +1,11 @@
-use Rattle.std.proofs.Common.{[], ◌≡◌, ℕ, ◌+◌, ◌%◌, ◌<◌, ◌++◌, None, List, length, drop, ap, sym, subst, ◌∙◌, refl, arith}
+use Rattle.std.proofs.Common.{ℕ, ◌+◌, ◌%◌, ◌<◌, ◌++◌, length, drop, ap, subst, ◌∙◌, refl, arith}
 use Rattle.std.proofs.lemmas.Nat.{mod_below}
 use Rattle.rvm_board.specs.Events.{step_reply}
 use Rattle.rvm_board.specs.Guest.{GuestState}
 use Rattle.rvm_command.specs.Buffered.{GoesOut}
 use Rattle.rvm_command.specs.Run.{IsAfter, IsPartWay, after, run_from}
 use Rattle.rvm_command.specs.Turns.{between}
-use Rattle.rvm_command.specs.Watched.{BreaksOff, HasRun, run_with, turns_of}
+use Rattle.rvm_command.specs.Watched.{BreaksOff, run_with, turns_of}
 use Rattle.rvm_command.proofs.Runs.{on_err}
 use Rattle.rvm_command.proofs.Watching.{TurnMade, drain_failed, line_failed, none_of, none_turned, not_none, run_broken, run_closed, turn_there, turned_more, unended}
 use Rattle.rvm_command.proofs.watched.run_watched.Goals.{then-loop-turn-test+else-is_none, else-loop-turn-test}

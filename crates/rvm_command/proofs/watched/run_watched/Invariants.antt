@@ -1,4 +1,4 @@
-use Rattle.std.proofs.Common.{◌≡◌, ◌-◌, ◌≤◌, length, drop}
+use Rattle.std.proofs.Common.{◌-◌, ◌≤◌, length, drop}
 use Rattle.rvm_command.proofs.Watching.{Turned}
 use Rattle.rvm_command.proofs.watched.run_watched.Given as goal
 

@@ -1,4 +1,4 @@
-use Rattle.std.proofs.Common.{◌≡◌, List, ap, sym, ◌∙◌}
+use Rattle.std.proofs.Common.{◌≡◌, ap, sym, ◌∙◌}
 use Rattle.rvm_mem.specs.Pages.{mark_all}
 use Rattle.rvm_board.specs.declared.event.BoardEvent.TheVariants.{Step}
 use Rattle.rvm_board.specs.Events.{Answered, answered, steps}

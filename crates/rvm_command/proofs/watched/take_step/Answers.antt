@@ -1,4 +1,4 @@
-use Rattle.std.proofs.Common.{◌≡◌, ap, ◌∙◌, refl, sym}
+use Rattle.std.proofs.Common.{◌≡◌, ap, ◌∙◌, sym}
 use Rattle.rvm_board.specs.declared.event.BoardEvent.TheVariants.{Step}
 use Rattle.rvm_board.specs.Events.{answered, pc_of, step_reply}
 use Rattle.rvm_board.specs.Guest.{Guest, GuestState}
