@@ -1,5 +1,5 @@
--- Traps and interrupts that the guest has no handler for: the next step of the same hart, the first of the handler, traps
--- too.
+-- Traps and interrupts that the guest has no handler for: the next step of the same hart, the first of the handler,
+-- traps too.
 use Rattle.std.specs.Prelude.{ℕ, ◌+◌, ◌%◌, ◌==◌, if◌then◌else◌, List, [], ◌∷◌, length, Option, Some, None, option_map}
 use Rattle.rvm_csr.specs.declared.cause.Cause.{Cause}
 use Rattle.rvm_csr.specs.declared.cause.Cause.TheVariants as cause

@@ -70,8 +70,8 @@ pub record Watched : Type 0 where
 abbrev pub turns_of : (stop : Bool) → (steps : ℕ) → (input : List ℕ) → Guest → ℕ
 turns_of stop steps input g = turns_until (fault_among stop [] (steps_of_run steps input g)) steps
 
--- what a run of at most this many turns leaves of a guest, with this input, that stops at the first fault if it is asked
--- to, and has a trace of the turns of a range if there is one
+-- what a run of at most this many turns leaves of a guest, with this input, that stops at the first fault if it is
+-- asked to, and has a trace of the turns of a range if there is one
 abbrev pub run_with : (stop : Bool) → (range : Option (ℕ × ℕ)) → (steps : ℕ) → (input : List ℕ) → Guest → Watched
 run_with stop range steps input g =
     let turns = turns_of stop steps input g in

@@ -39,8 +39,8 @@ impl LatestTraps {
         }
     }
 
-    /// Notes a step of a hart that had this `pc` before it, and its answer. Returns the fault that the step shows: if it
-    /// trapped, and the hart's latest step before it had trapped or was interrupted, that one.
+    /// Notes a step of a hart that had this `pc` before it, and its answer. Returns the fault that the step shows: if
+    /// it trapped, and the hart's latest step before it had trapped or was interrupted, that one.
     pub(crate) fn note<M: Memory>(
         &mut self,
         guest: &mut Debugged<M>,

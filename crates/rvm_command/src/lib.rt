@@ -1,6 +1,6 @@
 //! The commands as functions over values, and the loops of a run. A command takes parsed arguments, the bytes of its
-//! files and writers; it returns the status, or `LinkFault` if it could not report how it ended. `move`, `audit`, `host`
-//! and `tell` have crates of their own.
+//! files and writers; it returns the status, or `LinkFault` if it could not report how it ended. `move`, `audit`,
+//! `host` and `tell` have crates of their own.
 //!
 //! Stands on `rvm_board` and `rvm_debug` for the debugged board and its scripts, on `rvm_elf` for images, on `rvm_asm`
 //! and `rvm_dis`, on `rvm_core` for worlds and their scripts, and on `rvm_arguments`. It must not know files, processes

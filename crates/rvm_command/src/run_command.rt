@@ -75,7 +75,8 @@ pub fn tell_run_end<E: Write>(
     Ok(run_status(asked, ended))
 }
 
-/// Writes how a run ended, without a line feed: `halted S`, `steps spent`, or the fault. `LinkFault` if the write fails.
+/// Writes how a run ended, without a line feed: `halted S`, `steps spent`, or the fault. `LinkFault` if the write
+/// fails.
 fn write_end<E: Write>(ended: &Ended, errors: &mut E) -> Result<(), LinkFault>
     ensures { OnOk result (Appends (E.contents errors.old) (E.contents errors.new) (end_text ended.now)) }
 {
@@ -98,8 +99,8 @@ fn run_status(asked: StatusOf, ended: Ended) -> u8
     }
 }
 
-/// The verdict on a run: 0 if the guest halted with 0, 3 if with another status, 4 if all steps were spent, 5 if it ended
-/// at a fault.
+/// The verdict on a run: 0 if the guest halted with 0, 3 if with another status, 4 if all steps were spent, 5 if it
+/// ended at a fault.
 fn verdict(ended: Ended) -> u8
     ensures { result ≡ run_status tells.Verdict ended }
 {

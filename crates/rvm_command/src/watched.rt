@@ -76,8 +76,8 @@ struct Asked {
 /// that shows the first one. Writes a line to `trace` for each step whose turn is traced; turns are counted from 0.
 /// Returns how the run ended.
 ///
-/// `LinkFault` if a write fails, which is possible only if there was something to write, to the one writer or the other.
-/// The guest is then what the first events of the run left, up to some event.
+/// `LinkFault` if a write fails, which is possible only if there was something to write, to the one writer or the
+/// other. The guest is then what the first events of the run left, up to some event.
 fn run_watched<M: Memory, W: Write, T: Write>(
     guest: &mut Debugged<M>,
     asked: Asked,
@@ -113,8 +113,8 @@ fn run_watched<M: Memory, W: Write, T: Write>(
     Ok(end.unwrap_or(Ended::StepsSpent))
 }
 
-/// Makes the step of a turn, by this hart, and writes its line if the turn is traced. Returns none if the hart stopped at
-/// a breakpoint instead. `LinkFault` if that write fails.
+/// Makes the step of a turn, by this hart, and writes its line if the turn is traced. Returns none if the hart stopped
+/// at a breakpoint instead. `LinkFault` if that write fails.
 fn take_step<M: Memory, T: Write>(
     guest: &mut Debugged<M>,
     turn: u32,
@@ -186,8 +186,8 @@ fn end_of(reply: &BoardReply, shown: Option<Fault>, stop_at_fault: bool) -> Opti
     }
 }
 
-/// Takes all that the guest sent after each 64 turns, unless the board is halted; after each 65,536 turns also writes all
-/// that is held. `turn` is the number of turns that were made. `LinkFault` if a write fails.
+/// Takes all that the guest sent after each 64 turns, unless the board is halted; after each 65,536 turns also writes
+/// all that is held. `turn` is the number of turns that were made. `LinkFault` if a write fails.
 fn drain_between<M: Memory, W: Write>(
     guest: &mut Debugged<M>,
     turn: u32,
