@@ -19,6 +19,7 @@ mod words;
 pub use answers::{InWords, address_of, is_refused, write_reply, write_steps};
 pub use hex_text::HexText;
 pub use line::{Line, one_number, without_return};
+pub use lines::do_line;
 pub use rvm_board::{BoardEvent, BoardRefusal, BoardReply, Debugged, View};
 pub use script::{MAX_SCRIPT_SIZE, ScriptError, read_script, run_script, split_line};
 pub use words::{Words, numeral};
