@@ -4,6 +4,8 @@ use Rattle.rvm_hart.specs.Machine.{HartState, Shared}
 use Rattle.rvm_board.specs.declared.event.BoardEvent.TheVariants.{Step, Input, Drain}
 use Rattle.rvm_board.specs.Guest.{Guest}
 use Rattle.rvm_arguments.specs.declared.arguments.StatusOf.TheVariants as tells
+use Rattle.rvm_command.specs.declared.fault.Fault.{Fault}
+use Rattle.rvm_command.specs.declared.run.Ended.TheVariants as ended
 use Rattle.rvm_command.specs.declared.run.Ended.TheVariants.{HaltedWith, StepsSpent}
 use Rattle.rvm_command.specs.Ends.{run_status}
 use Rattle.rvm_command.specs.Run.{after, left, ran, run_from}
@@ -61,6 +63,9 @@ the_command_is_done = refl
 
 a_verdict : run_status tells.Verdict (HaltedWith 0) ∷ run_status tells.Verdict (HaltedWith 7) ∷ run_status tells.Verdict (HaltedWith 255) ∷ run_status tells.Verdict StepsSpent ∷ [] ≡ 0 ∷ 3 ∷ 3 ∷ 4 ∷ []
 a_verdict = refl
+
+a_fault_has_a_status_of_its_own : (f : Fault) → run_status tells.Command (ended.Fault f) ∷ run_status tells.Verdict (ended.Fault f) ∷ run_status tells.Guest (ended.Fault f) ∷ [] ≡ 0 ∷ 5 ∷ 5 ∷ []
+a_fault_has_a_status_of_its_own f = refl
 
 a_guest_s_own : run_status tells.Guest (HaltedWith 0) ∷ run_status tells.Guest (HaltedWith 7) ∷ run_status tells.Guest (HaltedWith 255) ∷ run_status tells.Guest StepsSpent ∷ [] ≡ 0 ∷ 7 ∷ 255 ∷ 4 ∷ []
 a_guest_s_own = refl

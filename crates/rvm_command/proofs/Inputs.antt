@@ -1,6 +1,7 @@
 -- A run takes at most one byte of its input in each turn, so bytes that no turn can take change nothing.
-use Rattle.std.proofs.Common.{◌≡◌, ◌∙◌, ◌+◌, ◌%◌, ◌==◌, ◌<◌, ◌≤◌, ℕ, zero, suc, List, [], ◌∷◌, ◌++◌, Option, Result, Ok, Err, length, take, drop, get_or, refl, sym, ap, ap₂, subst, inl, inr, arith, length-take}
-use Rattle.std.proofs.lemmas.List.{take_all}
+use Rattle.std.proofs.Common.{◌≡◌, ◌∙◌, ◌+◌, ◌%◌, ◌==◌, ◌<◌, ◌≤◌, ◌⊎◌, Bool, ℕ, zero, suc, List, [], ◌∷◌, ◌++◌, Option, Result, Ok, Err, length, take, drop, get_or, refl, sym, ap, ap₂, subst, inl, inr, arith}
+use Rattle.std.proofs.lemmas.List.{take-take}
+use Rattle.std.specs.List.{concat}
 use Rattle.std.specs.Io.KnownBytes.{Appends}
 use Rattle.std.specs.Prelude.{IfOk, if◌then◌else◌}
 use Rattle.rvm_arguments.specs.declared.arguments.RunArguments.{RunArguments}
@@ -14,7 +15,10 @@ use Rattle.rvm_command.specs.declared.refused.Refused.{Refused}
 use Rattle.rvm_command.specs.declared.run.Ended.{Ended}
 use Rattle.rvm_command.specs.Command.{guest_of, image_of}
 use Rattle.rvm_command.specs.Ends.{IsRunEnd}
-use Rattle.rvm_command.specs.Run.{Ran, Run, after, drains, first, left, offers, ran, run_from, step_of, unless_halted, unless_refused}
+use Rattle.rvm_command.specs.Taken.{steps_in}
+use Rattle.rvm_command.specs.Watched.{Watched, end_at, fault_among, run_with, trace_of, traced_of, turns_of, turns_until}
+use Rattle.rvm_command.proofs.FewSteps.{turns_within}
+use Rattle.rvm_command.specs.Run.{Run, after, drains, first, left, offers, run_from, step_of, unless_halted, unless_refused}
 
 -- lists with the same first bytes have the same first bytes but one
 fewer : (n : ℕ) (a b : List ℕ) → take (suc n) a ≡ take (suc n) b → take n a ≡ take n b
@@ -81,38 +85,58 @@ same_run (suc n) t (x ∷ a) (y ∷ b) g same =
     (left_same n x a b (answered (Input x) g).reply it))
     ∙ sym (turn_is n t (x ∷ b) g)) same
 
--- what a run leaves
-abbrev ran_of : Run → Guest → Ran
-ran_of run g =
-    let all = after run.events g in
-    record { guest = all.guest; pages = all.pages; written = all.bytes; ended = run.ended }
+-- the first bytes of fewer
+take_fewer : (n m : ℕ) (a b : List ℕ) → n ≤ m → a ≡ take m b → take n a ≡ take n b
+take_fewer n m a b small is = ap (take n) is ∙ take-take n m b small
 
-same_ran : (steps : ℕ) (begun input : List ℕ) (g : Guest) → begun ≡ take steps input → ran steps begun g ≡ ran steps input g
-same_ran steps begun input g is =
-    let size = length-take steps input in
-    let few : length (take steps input) ≤ steps = omega (arith, size) in
-    ap (λ run. ran_of run g)
-    (same_run steps 0 begun input g (ap (take steps) is ∙ take_all steps (take steps input) few))
+-- what a run leaves, by its events and those of the whole run that it may stop in
+abbrev watched_of : (stop : Bool) → Option (ℕ × ℕ) → (steps : ℕ) → (whole run : Run) → Guest → Watched
+watched_of stop range steps whole run g =
+    let all = after run.events g in
+    record {
+      guest = all.guest;
+      pages = all.pages;
+      written = all.bytes;
+      ended = end_at (fault_among stop [] (steps_in whole.events g)) run.ended;
+      lines = trace_of range (steps_in run.events g);
+    }
+
+same_watched : (stop : Bool) (range : Option (ℕ × ℕ)) (steps : ℕ) (begun input : List ℕ) (g : Guest) → begun ≡ take steps input → run_with stop range steps begun g ≡ run_with stop range steps input g
+same_watched stop range steps begun input g is =
+    let whole : run_from steps 0 begun g ≡ run_from steps 0 input g = same_run steps 0 begun input g (take_fewer steps steps begun input (omega arith) is) in
+    let n = turns_of stop steps begun g in
+    let turns : n ≡ turns_of stop steps input g = ap (λ (r : Run). turns_until (fault_among stop [] (steps_in r.events g)) steps) whole in
+    let run : run_from n 0 begun g ≡ run_from n 0 input g = same_run n 0 begun input g (take_fewer n steps begun input (turns_within stop steps begun g) is) in
+    ap (λ (r : Run). watched_of stop range steps r (run_from n 0 begun g) g) whole
+    ∙ ap (λ (r : Run). watched_of stop range steps (run_from steps 0 input g) r g) run
+    ∙ ap (λ (k : ℕ). watched_of stop range steps (run_from steps 0 input g) (run_from k 0 input g) g) turns
 
 if_ok : {X E : Type 0} (r : Result X E) (P Q : X → Type 0) → ((x : X) → P x → Q x) → IfOk r P → IfOk r Q
 if_ok (Ok x) P Q f p = f x p
 if_ok (Err e) P Q f p = tt
 
+-- a run had something to write
+abbrev Writes : Watched → Type 0
+Writes r = (0 < length r.written) ⊎ (0 < length r.lines)
+
 -- how a run ended that was given the bytes of its input that its turns can take, so it ends with all of them
-pub ends_so : (a : RunArguments) (file begun input : List ℕ) (end : Result Ended Refused) (before after : Option (List ℕ))
-    → begun ≡ take a.steps input → IsRunEnd a file begun end before after → IsRunEnd a file input end before after
-ends_so a file begun input (Ok ended) before after is (loadable, came) = (
+pub ends_so : (a : RunArguments) (file begun input : List ℕ) (end : Result Ended Refused) (before after trace_before trace_after : Option (List ℕ))
+    → begun ≡ take a.steps input → IsRunEnd a file begun end before after trace_before trace_after → IsRunEnd a file input end before after trace_before trace_after
+ends_so a file begun input (Ok ended) before after trace_before trace_after is (loadable, came) = (
   loadable,
   if_ok (image_of a.guest.raw file) _ _ (λ i came.
-      let same = same_ran a.steps begun input (guest_of a.guest.harts a.guest.pages i.0 i.1) is in
-      (came.0 ∙ ap (λ (r : Ran). r.ended) same, subst (Appends before after) (ap (λ (r : Ran). r.written) same) came.1)) came,
+      let same = same_watched a.stop_at_fault (traced_of a.trace) a.steps begun input (guest_of a.guest.harts a.guest.pages i.0 i.1) is in (
+        came.0 ∙ ap (λ (r : Watched). r.ended) same,
+        subst (Appends before after) (ap (λ (r : Watched). r.written) same) came.1,
+        subst (λ (l : List (List ℕ)). Appends trace_before trace_after (concat l)) (ap (λ (r : Watched). r.lines) same) came.2,
+      )) came,
 )
-ends_so a file begun input (Err r) before after is (inl refused) = inl refused
-ends_so a file begun input (Err r) before after is (inr (failed, loadable, came)) =
+ends_so a file begun input (Err r) before after trace_before trace_after is (inl refused) = inl refused
+ends_so a file begun input (Err r) before after trace_before trace_after is (inr (failed, loadable, came)) =
     inr (
       failed,
       loadable,
       if_ok (image_of a.guest.raw file) _ _ (λ i some.
-          let same = same_ran a.steps begun input (guest_of a.guest.harts a.guest.pages i.0 i.1) is in
-          subst (λ written. 0 < length written) (ap (λ (r : Ran). r.written) same) some) came,
+          let same = same_watched a.stop_at_fault (traced_of a.trace) a.steps begun input (guest_of a.guest.harts a.guest.pages i.0 i.1) is in
+          subst Writes same some) came,
     )

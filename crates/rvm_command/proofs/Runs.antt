@@ -82,24 +82,24 @@ on_err (Err e) P p = p
 -- ---- events after others
 
 -- what events leave, with other events after them
-abbrev joined : After → After → After
+abbrev pub joined : After → After → After
 joined a b = record { guest = b.guest; pages = a.pages ++ b.pages; bytes = a.bytes ++ b.bytes }
 
-abbrev of_one : Answered → After
+abbrev pub of_one : Answered → After
 of_one a = record { guest = a.guest; pages = a.pages; bytes = bytes_in a.reply }
 
-abbrev nothing : Guest → After
+abbrev pub nothing : Guest → After
 nothing g = record { guest = g; pages = []; bytes = [] }
 
-after_none : (g : Guest) → after [] g ≡ nothing g
+pub after_none : (g : Guest) → after [] g ≡ nothing g
 unfolding after
 after_none g = refl
 
-after_more : (e : BoardEvent) (es : List BoardEvent) (g : Guest) → after (e ∷ es) g ≡ joined (of_one (answered e g)) (after es (answered e g).guest)
+pub after_more : (e : BoardEvent) (es : List BoardEvent) (g : Guest) → after (e ∷ es) g ≡ joined (of_one (answered e g)) (after es (answered e g).guest)
 unfolding after
 after_more e es g = refl
 
-after_one : (e : BoardEvent) (g : Guest) → after (e ∷ []) g ≡ of_one (answered e g)
+pub after_one : (e : BoardEvent) (g : Guest) → after (e ∷ []) g ≡ of_one (answered e g)
 after_one e g =
     let a = answered e g in
     after_more e [] g ∙ ap (λ (x : After). joined (of_one a) x) (after_none a.guest)
@@ -135,7 +135,7 @@ is_after_both es fs old mid new before behind =
           ∙ ap (λ (x : After). mark_all x.pages old.dirty) both;
     }
 
-bytes_both : (es fs : List BoardEvent) (old mid : GuestState) → IsAfter es old mid → (after (es ++ fs) old.guest).bytes ≡ (after es old.guest).bytes ++ (after fs mid.guest).bytes
+pub bytes_both : (es fs : List BoardEvent) (old mid : GuestState) → IsAfter es old mid → (after (es ++ fs) old.guest).bytes ≡ (after es old.guest).bytes ++ (after fs mid.guest).bytes
 bytes_both es fs old mid before =
     ap (λ (x : After). x.bytes) (after_both es fs old.guest) ∙ ap (λ (g : Guest). (after es old.guest).bytes ++ (after fs g).bytes) (sym before.guest)
 
@@ -245,7 +245,7 @@ drained_piece count sent old new is_least made =
     ap (take count) made ∙ take_at (take count sent) (drop count old) count size
 
 -- one event
-is_after_one : (e : BoardEvent) (old new : GuestState) → new.guest ≡ (answered e old.guest).guest → new.dirty ≡ mark_all (answered e old.guest).pages old.dirty → IsAfter (e ∷ []) old new
+pub is_after_one : (e : BoardEvent) (old new : GuestState) → new.guest ≡ (answered e old.guest).guest → new.dirty ≡ mark_all (answered e old.guest).pages old.dirty → IsAfter (e ∷ []) old new
 is_after_one e old new left marked =
     let one = sym (after_one e old.guest) in
     record { guest = left ∙ ap (λ (x : After). x.guest) one; dirty = marked ∙ ap (λ (x : After). mark_all x.pages old.dirty) one }
@@ -307,7 +307,7 @@ offer_cases : (b : ℕ) (g : Guest) (full : Bool) → let a = cond full (refuses
 offer_cases b g true = (refl, refl)
 offer_cases b g false = (refl, refl)
 
-offer_quiet : (input : List ℕ) (g : Guest) → ((after (offers input) g).bytes ≡ []) × (length (after (offers input) g).guest.board.harts ≡ length g.board.harts)
+pub offer_quiet : (input : List ℕ) (g : Guest) → ((after (offers input) g).bytes ≡ []) × (length (after (offers input) g).guest.board.harts ≡ length g.board.harts)
 offer_quiet [] g = rw (after_none g) (refl, refl)
 offer_quiet (b ∷ rest) g = rw (after_one (Input b) g) (offer_cases b g (is_full g))
 
@@ -341,7 +341,7 @@ next_turn t hart n e =
     ap (λ h. (h + 1) % n) e ∙ sym (add-mul-mod_self_left (t % n + 1) n (t / n)) ∙ ap (λ k. k % n) sum
 
 -- the last turn before a drain
-ends_slice : (t : ℕ) → nat_eq (t % 64) 63 ≡ nat_eq ((t + 1) % 64) 0
+pub ends_slice : (t : ℕ) → nat_eq (t % 64) 63 ≡ nat_eq ((t + 1) % 64) 0
 ends_slice t = grind arith
 
 -- a step of a hart that is there is answered no bytes
@@ -355,11 +355,11 @@ quiet_on : (b : Bool) (h : ℕ) (g : Guest) → bytes_in (cond b (leaves (with_s
 quiet_on true h g = refl
 quiet_on false h g = quiet_reply (board.stepped h g.board).answer
 
-quiet_halted : (o : Option ℕ) (h : ℕ) (g : Guest) → bytes_in (events.unless_halted o h g).reply ≡ []
+pub quiet_halted : (o : Option ℕ) (h : ℕ) (g : Guest) → bytes_in (events.unless_halted o h g).reply ≡ []
 quiet_halted None h g = quiet_on (stops h g) h g
 quiet_halted (Some status) h g = refl
 
-there_steps : (h : ℕ) (g : Guest) → h < length g.board.harts → answered (Step h) g ≡ steps h g
+pub there_steps : (h : ℕ) (g : Guest) → h < length g.board.harts → answered (Step h) g ≡ steps h g
 there_steps h g there = ap (λ b. cond b (steps h g) (refuses BadHart g)) (lt-ltb h (length g.board.harts) there)
 
 -- what turns leave, as what events leave
@@ -372,7 +372,7 @@ after_step h g there =
     ∙ ap (λ (l : List ℕ). record { guest = (steps h g).guest; pages = (steps h g).pages; bytes = l }) (quiet_halted g.board.shared.devices.halted h g)
 
 -- n turns from turn t on, after a drain or not
-abbrev behind_drain : Bool → (n t : ℕ) → (input : List ℕ) → Guest → Run
+abbrev pub behind_drain : Bool → (n t : ℕ) → (input : List ℕ) → Guest → Run
 behind_drain drain n t input g = let taken = cond drain (drains g) [] in first taken (run_from n t input (after taken g).guest)
 
 -- the run after the offer of turn t: hart h steps, and n turns follow

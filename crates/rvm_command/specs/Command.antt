@@ -10,10 +10,13 @@ use Rattle.rvm_board.specs.Board.{at_reset}
 use Rattle.rvm_board.specs.Guest.{Guest, fresh}
 use Rattle.rvm_dis.specs.Disassembly.{line_at}
 use Rattle.rvm_refusal.specs.Refusal.{text_of}
+use Rattle.rvm_arguments.specs.declared.arguments.RunArguments.{RunArguments}
 use Rattle.rvm_command.specs.declared.refused.Refused.{Refused}
 use Rattle.rvm_command.specs.declared.run.Ended.{Ended}
 use Rattle.rvm_command.specs.declared.run.Ended.TheVariants.{HaltedWith, StepsSpent}
-use Rattle.rvm_command.specs.Run.{Ran, ran}
+use Rattle.rvm_command.specs.declared.run.Ended.TheVariants as ended
+use Rattle.rvm_command.specs.FaultTexts.{fault_text}
+use Rattle.rvm_command.specs.Watched.{Watched, run_with, traced_of}
 
 -- the entry and the pieces of an image, or why a file has no image
 abbrev pub FileImage : Type 0
@@ -29,14 +32,16 @@ abbrev pub guest_of : (harts pages entry : ℕ) → List Piece → Guest
 guest_of harts pages entry pieces =
     fresh (loaded entry pieces (at_reset harts 0x80000000 (replicate (4096 * pages) 0)))
 
--- the run of the guest of an image, of at most this many turns, with this input
-abbrev pub run_of : (harts pages steps : ℕ) → (image : ℕ × List Piece) → (input : List ℕ) → Ran
-run_of harts pages steps image input = ran steps input (guest_of harts pages image.0 image.1)
+-- the run of the guest of an image that these arguments ask for, with this input
+abbrev pub run_of : RunArguments → (image : ℕ × List Piece) → (input : List ℕ) → Watched
+run_of a image input =
+    run_with a.stop_at_fault (traced_of a.trace) a.steps input (guest_of a.guest.harts a.guest.pages image.0 image.1)
 
--- `halted S`, or `steps spent`
+-- `halted S`, `steps spent`, or the text of a fault
 abbrev pub end_text : Ended → List ℕ
 end_text (HaltedWith s) = codes "halted " ++ decimal s
 end_text StepsSpent = codes "steps spent"
+end_text (ended.Fault f) = fault_text f
 
 -- `line L: `, or nothing if a refusal is at no line
 abbrev pub at_line : Option ℕ → List ℕ

@@ -2,6 +2,7 @@
 use Rattle.std.specs.Prelude.{◌≡◌, ◌⊎◌, ℕ, zero, suc, ◌+◌, ◌*◌, ◌^◌, ◌<◌, ◌≤◌, ◌==◌, true, false, List, ◌++◌, Option, Some, None, Result, Ok, Err, IfOk, IfSome, IsOk, length, take, codes, count_by}
 use Rattle.std.specs.Str.{IsUtf8, IsValidUpTo}
 use Rattle.std.specs.Io.KnownBytes.{Appends, Keeps}
+use Rattle.std.specs.List.{concat}
 use Rattle.rvm_asm.specs.Images.{Piece}
 use Rattle.rvm_elf.specs.declared.error.WriteError.{WriteError}
 use Rattle.rvm_elf.specs.declared.error.WriteError.TheVariants as image
@@ -22,6 +23,7 @@ use Rattle.rvm_arguments.specs.declared.arguments.StatusOf.{StatusOf}
 use Rattle.rvm_arguments.specs.declared.arguments.StatusOf.TheVariants as tells
 use Rattle.rvm_command.specs.declared.refused.Refused.{Refused}
 use Rattle.rvm_command.specs.declared.run.Ended.{Ended}
+use Rattle.rvm_command.specs.declared.run.Ended.TheVariants as ended
 use Rattle.rvm_command.specs.declared.run.Ended.TheVariants.{HaltedWith, StepsSpent}
 use Rattle.rvm_command.specs.Assembled.{IsFileOf}
 use Rattle.rvm_command.specs.Command.{FileImage, end_text, guest_of, image_of, listing, run_of}
@@ -44,19 +46,19 @@ IsLoadRefusal (Ok image) pages r =
     (r ≡ refused OutOfMemory)
     ⊎ ((r ≡ refused OutsideRam) × (fits image.0 image.1 (4096 * pages) ≡ false))
 
--- a run has made its last turn, or was refused: before its first, or since a write failed
+-- a run has made its last turn, or was refused: before its first, or since a write failed, of its output or its trace
 abbrev pub IsRunEnd : RunArguments → (file input : List ℕ) → Result Ended Refused
-    → (before after : Option (List ℕ)) → Type 0
-IsRunEnd a file input (Ok ended) before after =
+    → (before after trace_before trace_after : Option (List ℕ)) → Type 0
+IsRunEnd a file input (Ok ended) before after trace_before trace_after =
     IsLoadable (image_of a.guest.raw file) a.guest.pages
     × IfOk (image_of a.guest.raw file) (λ i.
-    (ended ≡ (run_of a.guest.harts a.guest.pages a.steps i input).ended)
-    × Appends before after (run_of a.guest.harts a.guest.pages a.steps i input).written)
-IsRunEnd a file input (Err r) before after =
-    (IsLoadRefusal (image_of a.guest.raw file) a.guest.pages r × (after ≡ before))
+    (ended ≡ (run_of a i input).ended) × Appends before after (run_of a i input).written
+    × Appends trace_before trace_after (concat (run_of a i input).lines))
+IsRunEnd a file input (Err r) before after trace_before trace_after =
+    (IsLoadRefusal (image_of a.guest.raw file) a.guest.pages r × (after ≡ before) × (trace_after ≡ trace_before))
     ⊎ ((r ≡ refused LinkFault) × IsLoadable (image_of a.guest.raw file) a.guest.pages
     × IfOk (image_of a.guest.raw file) (λ i.
-    0 < length (run_of a.guest.harts a.guest.pages a.steps i input).written))
+    (0 < length (run_of a i input).written) ⊎ (0 < length (run_of a i input).lines)))
 
 -- the lines of an image are written, or it was refused: for its file, or since a write failed
 abbrev pub IsListEnd : FileImage → Result (Unit {0}) Refused
@@ -136,8 +138,10 @@ run_status tells.Command ended = 0
 run_status tells.Verdict (HaltedWith zero) = 0
 run_status tells.Verdict (HaltedWith (suc n)) = 3
 run_status tells.Verdict StepsSpent = 4
+run_status tells.Verdict (ended.Fault f) = 5
 run_status tells.Guest (HaltedWith n) = n
 run_status tells.Guest StepsSpent = 4
+run_status tells.Guest (ended.Fault f) = 5
 
 -- the status of the command `run`, by what the user asked it to tell: the status for how the run ended, which is
 -- written to `errors`, or 1 if the run was refused, with the refusal written there

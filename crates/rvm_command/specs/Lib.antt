@@ -1,5 +1,11 @@
 pub mod Run
 pub mod Slices
+pub mod Taken
+pub mod Faults
+pub mod FaultTexts
+pub mod Trace
+pub mod Watched
+pub mod Turns
 pub mod Buffered
 pub mod Command
 pub mod Assembled

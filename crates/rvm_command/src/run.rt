@@ -11,6 +11,7 @@ ghost use Rattle.rvm_command.specs.Buffered.{GoesOut};
 ghost use Rattle.rvm_command.specs.Run.{IsAfter, IsPartWay, after, drains, left, offers, ran, run_from};
 ghost use Rattle.rvm_command.specs.Slices.{GoesOn, rest_of_run, status_of, takes_none};
 
+use crate::fault::Fault;
 use crate::output_buffer::OutputBuffer;
 use rvm_board::{DRAIN_EVERY, DRAIN_SIZE, Debugged, Order, Stop, Turns};
 use rvm_mem::Memory;
@@ -19,7 +20,7 @@ use std::io::Write;
 
 /// The number of turns after which what was taken is written at the latest. `run` has no clock; this many turns take
 /// about a millisecond.
-const WRITE_EVERY: u32 = 65_536;
+pub(crate) const WRITE_EVERY: u32 = 65_536;
 
 /// How a run ended.
 #[derive(Clone, Copy, Debug, PartialEq, Eq)]
@@ -28,6 +29,8 @@ pub enum Ended {
     HaltedWith(u8),
     /// All turns that were asked for were made.
     StepsSpent,
+    /// The guest has no handler for a trap or an interrupt.
+    Fault(Fault),
 }
 
 /// Makes `steps` turns, or fewer if the guest halts the board. Returns how the run ended. In turn t the next byte of
@@ -185,7 +188,7 @@ fn take_turns<M: Memory>(guest: &mut Debugged<M>, is_more: bool, first: u32, cou
 /// Offers the guest the byte of `input` at index `next`, if there is one. Returns the index of the byte to offer after
 /// that: the same if the console had no room.
 #[inline(always)]
-fn feed<M: Memory>(guest: &mut Debugged<M>, input: &[u8], next: usize) -> usize
+pub(crate) fn feed<M: Memory>(guest: &mut Debugged<M>, input: &[u8], next: usize) -> usize
     requires { next ≤ length input.now }
     ensures fed { IsAfter (offers (drop next input.now)) guest.old guest.new }
     ensures left { drop result input.now ≡ left (drop next input.now) guest.old.guest }
@@ -203,7 +206,7 @@ fn feed<M: Memory>(guest: &mut Debugged<M>, input: &[u8], next: usize) -> usize
 /// Takes all that the guest sent, if it sent anything. If a write `is_due`, writes all that is held. `LinkFault` if a
 /// write fails.
 #[inline(always)]
-fn drain<M: Memory, W: Write>(
+pub(crate) fn drain<M: Memory, W: Write>(
     guest: &mut Debugged<M>,
     buffer: &mut OutputBuffer,
     is_due: bool,

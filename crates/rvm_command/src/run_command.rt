@@ -1,6 +1,6 @@
 //! `rvmove run`: runs the guest of an image, and reports how that ended.
 
-ghost use Rattle.std.specs.Prelude.{◌≡◌, ◌⊎◌, ◌++◌, Result, IfOk, codes};
+ghost use Rattle.std.specs.Prelude.{◌≡◌, ◌⊎◌, ◌++◌, Result, OnOk, IfOk, codes};
 ghost use Rattle.std.specs.Io.KnownBytes.{Appends};
 ghost use Rattle.rvm_arguments.specs.declared.arguments.StatusOf.TheVariants as tells;
 ghost use Rattle.rvm_command.specs.declared.refused.Refused.{Refused};
@@ -8,14 +8,15 @@ ghost use Rattle.rvm_command.specs.declared.run.Ended.{Ended};
 ghost use Rattle.rvm_command.specs.Command.{end_text, image_of};
 ghost use Rattle.rvm_command.specs.Ends.{IsLoadable, IsRunEnd, RunHasStatus, run_status};
 
+use crate::fault::write_fault;
 use crate::guest::load_guest;
 use crate::refused::{Refused, tell};
-use crate::run::{Ended, run};
+use crate::run::Ended;
+use crate::watched::run_asked;
 use rvm_arguments::{RunArguments, StatusOf};
 use rvm_mem::PagedMemory;
 use rvm_refusal::LinkFault;
 use std::alloc::Global;
-use std::fmt;
 use std::io::Write;
 
 /// The verdict on a guest that halted with a status other than 0.
@@ -24,44 +25,36 @@ const FAILED: u8 = 3;
 /// The status if all steps were spent: as the verdict, and in place of the guest's own status.
 const SPENT: u8 = 4;
 
-/// `halted S`, or `steps spent`.
-impl fmt::Display for Ended {
-    ghost use Rattle.std.specs.Prelude.{Some};
-    ghost use Rattle.rvm_command.specs.Command.{end_text};
+/// The status if the run ended at a fault: as the verdict, and in place of the guest's own status.
+const FAULTED: u8 = 5;
 
-    ghost output = { λ e. Some (end_text e) };
-
-    fn fmt<W: fmt::Write>(&self, f: &mut fmt::Formatter<W>) -> fmt::Result {
-        match self {
-            Ended::HaltedWith(status) => write!(f, "halted {status}"),
-            Ended::StepsSpent => write!(f, "steps spent"),
-        }
-    }
-}
-
-/// Runs the guest of the file `image`, whose console gets `input`. What the guest sends goes to `output`.
+/// Runs the guest of the file `image`, whose console gets `input`. What the guest sends goes to `output`, and the lines
+/// of the steps that `arguments.trace` asks for to `trace`.
 ///
 /// Returns the status: what `arguments.status` asks for, or 1 if the run was refused. `errors` gets one line: how the
 /// run ended, or the refusal. The fault of the file, `OutsideRam` if the image does not lie in RAM, and `OutOfMemory`
-/// leave `output` unchanged; `LinkFault` says that a write to `output` failed, and a part of what the guest sent may
-/// have been written. No clause says when a writer fails. The error `LinkFault` says that a write to `errors` failed.
-pub fn run_command<M: PagedMemory + Drop, O: Write, E: Write>(
+/// leave `output` and `trace` unchanged; `LinkFault` says that a write to one of them failed, and a part of what the
+/// guest sent and of the trace may have been written. No clause says when a writer fails. The error `LinkFault` says
+/// that a write to `errors` failed.
+pub fn run_command<M: PagedMemory + Drop, O: Write, T: Write, E: Write>(
     alloc: Global,
     arguments: &RunArguments,
     image: &[u8],
     input: &[u8],
     output: &mut O,
+    trace: &mut T,
     errors: &mut E,
 ) -> Result<u8, LinkFault>
     ensures status { IfOk result (λ status. RunHasStatus arguments.now.status status
-        (λ end. IsRunEnd arguments.now image.now input.now end (O.contents output.old) (O.contents output.new))
+        (λ end. IsRunEnd arguments.now image.now input.now end (O.contents output.old) (O.contents output.new)
+        (T.contents trace.old) (T.contents trace.new))
         (E.contents errors.old) (E.contents errors.new)) }
     ensures output { (end : Result Ended Refused) × IsRunEnd arguments.now image.now input.now end
-        (O.contents output.old) (O.contents output.new) }
+        (O.contents output.old) (O.contents output.new) (T.contents trace.old) (T.contents trace.new) }
     ensures unloadable { IsLoadable (image_of arguments.now.guest.raw image.now) arguments.now.guest.pages
-        ⊎ (O.contents output.new ≡ O.contents output.old) }
+        ⊎ ((O.contents output.new ≡ O.contents output.old) × (T.contents trace.new ≡ T.contents trace.old)) }
 {
-    match run_image::<M, O>(alloc, arguments, image, input, output) {
+    match run_image::<M, O, T>(alloc, arguments, image, input, output, trace) {
         Ok(ended) => tell_run_end(ended, arguments.status, errors),
         Err(refused) => tell(refused, errors),
     }
@@ -77,10 +70,22 @@ pub fn tell_run_end<E: Write>(
     ensures { IfOk result (λ status. (status ≡ run_status asked ended)
         × Appends (E.contents errors.old) (E.contents errors.new) (end_text ended ++ codes "\n")) }
 {
-    match writeln!(errors, "{ended}") {
-        Ok(()) => Ok(run_status(asked, ended)),
-        Err(_) => Err(LinkFault),
+    write_end(&ended, errors)?;
+    writeln!(errors)?;
+    Ok(run_status(asked, ended))
+}
+
+/// Writes how a run ended, without a line feed: `halted S`, `steps spent`, or the fault. `LinkFault` if the write
+/// fails.
+fn write_end<E: Write>(ended: &Ended, errors: &mut E) -> Result<(), LinkFault>
+    ensures { OnOk result (Appends (E.contents errors.old) (E.contents errors.new) (end_text ended.now)) }
+{
+    match ended {
+        Ended::HaltedWith(status) => write!(errors, "halted {status}")?,
+        Ended::StepsSpent => write!(errors, "steps spent")?,
+        Ended::Fault(fault) => write_fault(fault, errors)?,
     }
+    Ok(())
 }
 
 /// The status of a run that ended so, by what `asked` says that it tells.
@@ -94,7 +99,8 @@ fn run_status(asked: StatusOf, ended: Ended) -> u8
     }
 }
 
-/// The verdict on a run: 0 if the guest halted with 0, 3 if with another status, 4 if all steps were spent.
+/// The verdict on a run: 0 if the guest halted with 0, 3 if with another status, 4 if all steps were spent, 5 if it
+/// ended at a fault.
 fn verdict(ended: Ended) -> u8
     ensures { result ≡ run_status tells.Verdict ended }
 {
@@ -102,32 +108,35 @@ fn verdict(ended: Ended) -> u8
         Ended::HaltedWith(0) => 0,
         Ended::HaltedWith(_) => FAILED,
         Ended::StepsSpent => SPENT,
+        Ended::Fault(_) => FAULTED,
     }
 }
 
-/// The status with which the guest halted; 4 if all steps were spent.
+/// The status with which the guest halted; 4 if all steps were spent, 5 if the run ended at a fault.
 fn guest_status(ended: Ended) -> u8
     ensures { result ≡ run_status tells.Guest ended }
 {
     match ended {
         Ended::HaltedWith(status) => status,
         Ended::StepsSpent => SPENT,
+        Ended::Fault(_) => FAULTED,
     }
 }
 
 /// Loads the guest and runs it. Returns how the run ended, or why it was refused.
-fn run_image<M: PagedMemory + Drop, O: Write>(
+fn run_image<M: PagedMemory + Drop, O: Write, T: Write>(
     alloc: Global,
     arguments: &RunArguments,
     image: &[u8],
     input: &[u8],
     output: &mut O,
+    trace: &mut T,
 ) -> Result<Ended, Refused>
     ensures end { IsRunEnd arguments.now image.now input.now result
-        (O.contents output.old) (O.contents output.new) }
+        (O.contents output.old) (O.contents output.new) (T.contents trace.old) (T.contents trace.new) }
     ensures unloadable { IsLoadable (image_of arguments.now.guest.raw image.now) arguments.now.guest.pages
-        ⊎ (O.contents output.new ≡ O.contents output.old) }
+        ⊎ ((O.contents output.new ≡ O.contents output.old) × (T.contents trace.new ≡ T.contents trace.old)) }
 {
     let mut guest = load_guest::<M>(alloc, &arguments.guest, image)?;
-    Ok(run(&mut guest, arguments.steps, input, output)?)
+    Ok(run_asked(&mut guest, arguments, input, output, trace)?)
 }

@@ -139,12 +139,13 @@ fn a_run_writes_in_large_pieces_and_before_it_ends(rt: HostRuntime) -> Result<()
             bytes: Vec::new(alloc),
         };
         let mut errors = Vec::new(alloc);
-        let status = run_command::<PagedRam, _, _>(
+        let status = run_command::<PagedRam, _, _, _>(
             alloc,
             &arguments,
             &image,
             &[],
             &mut output,
+            &mut io::sink(),
             &mut errors,
         );
         assert_eq!(rt; errors.as_slice(), "halted 0\n".as_bytes());
@@ -170,12 +171,13 @@ fn a_failed_write_of_a_run_is_told(rt: HostRuntime) -> Result<(), Fail> {
     // The output fails in the middle of a piece, or at once.
     for room in [40, 0] {
         let (mut output, mut errors) = (Narrow { room }, Vec::new(alloc));
-        let status = run_command::<PagedRam, _, _>(
+        let status = run_command::<PagedRam, _, _, _>(
             alloc,
             &arguments,
             &letters,
             &[],
             &mut output,
+            &mut io::sink(),
             &mut errors,
         );
         assert_eq!(rt; errors.as_slice(), REFUSAL.as_bytes());
@@ -185,12 +187,13 @@ fn a_failed_write_of_a_run_is_told(rt: HostRuntime) -> Result<(), Fail> {
     // The report of the end can fail too.
     let letter = bytes_of(alloc, &LETTER)?;
     let (mut output, mut errors) = (Vec::new(alloc), Narrow { room: 3 });
-    let status = run_command::<PagedRam, _, _>(
+    let status = run_command::<PagedRam, _, _, _>(
         alloc,
         &arguments,
         &letter,
         &[],
         &mut output,
+        &mut io::sink(),
         &mut errors,
     );
     assert_eq!(rt; output.as_slice(), "A".as_bytes());

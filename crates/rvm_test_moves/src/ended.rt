@@ -12,6 +12,7 @@ use rvm_move::move_over::move_over;
 use rvm_paged::PagedRam;
 use rvm_refusal::LinkFault;
 use std::alloc::Global;
+use std::io;
 use std::net::Net;
 use std::sync::Wait;
 use std::thread::Threads;
@@ -96,12 +97,13 @@ impl MoveResult {
     pub fn is_as_run(&self, alloc: Global, image: &[u8]) -> bool {
         let mut output = Vec::new(alloc);
         let mut errors = Vec::new(alloc);
-        let run = run_command::<PagedRam, _, _>(
+        let run = run_command::<PagedRam, _, _, _>(
             alloc,
             &to_run(),
             image,
             &[],
             &mut output,
+            &mut io::sink(),
             &mut errors,
         );
         run == Ok(0) && output.as_slice() == self.output.as_slice()

@@ -1,0 +1,219 @@
+//! The loop of a run that may end at a fault, and of which a part may be traced: turn by turn, and slower than `run`.
+
+ghost use Rattle.std.specs.Prelude.{◌≡◌, ◌<◌, ◌≤◌, ◌+◌, ◌%◌, ◌∷◌, ◌++◌, [], Some, None, IfOk, OnOk, OnErr, false, true, drop, length};
+ghost use Rattle.std.specs.List.{concat};
+ghost use Rattle.std.specs.Io.KnownBytes.{Appends};
+ghost use Rattle.rvm_board.specs.declared.event.BoardEvent.TheVariants.{Step};
+ghost use Rattle.rvm_board.specs.Events.{answered, pc_of, step_reply};
+ghost use Rattle.rvm_command.specs.Buffered.{GoesOut};
+ghost use Rattle.rvm_command.specs.Run.{IsAfter, IsPartWay, after, run_from};
+ghost use Rattle.rvm_command.specs.Turns.{between, drains_after, ends_turns, taken_by};
+ghost use Rattle.rvm_command.specs.Watched.{BreaksOff, HasRun, is_traced, lines_from, run_with, traced_of, turns_of};
+
+use crate::fault::Fault;
+use crate::latest_traps::LatestTraps;
+use crate::output_buffer::OutputBuffer;
+use crate::run::{Ended, WRITE_EVERY, drain, feed, run};
+use crate::trace::{look, write_step};
+use rvm_arguments::{RunArguments, TraceArguments};
+use rvm_board::{BoardReply, DRAIN_EVERY, Debugged};
+use rvm_hart::Stepped;
+use rvm_mem::Memory;
+use rvm_refusal::LinkFault;
+use std::io::Write;
+
+/// Runs a guest as the arguments ask for: turn by turn, if it has to stop at a fault or is traced. `LinkFault` if a
+/// write fails.
+pub(crate) fn run_asked<M: Memory, O: Write, T: Write>(
+    guest: &mut Debugged<M>,
+    arguments: &RunArguments,
+    input: &[u8],
+    output: &mut O,
+    trace: &mut T,
+) -> Result<Ended, LinkFault>
+    ensures run { IfOk result (λ end. HasRun (run_with arguments.now.stop_at_fault (traced_of arguments.now.trace)
+        arguments.now.steps input.now guest.old.guest) end guest.old guest.new
+        (O.contents output.old) (O.contents output.new) (T.contents trace.old) (T.contents trace.new)) }
+    ensures broken { OnErr result (BreaksOff (run_with arguments.now.stop_at_fault (traced_of arguments.now.trace)
+        arguments.now.steps input.now guest.old.guest)
+        (run_from (turns_of arguments.now.stop_at_fault arguments.now.steps input.now guest.old.guest) 0 input.now
+        guest.old.guest).events guest.old guest.new) }
+{
+    let asked = Asked {
+        steps: arguments.steps,
+        stop_at_fault: arguments.stop_at_fault,
+        traced: traced_of(&arguments.trace),
+    };
+    if asked.stop_at_fault || asked.traced.is_some() {
+        run_watched(guest, asked, input, output, trace)
+    } else {
+        run(guest, asked.steps, input, output)
+    }
+}
+
+/// The first and the last turn that have a line in a trace, if there is one.
+fn traced_of(trace: &Option<TraceArguments>) -> Option<(u32, u32)>
+    ensures { result ≡ traced_of trace.now }
+{
+    match trace {
+        Some(asked) => Some((asked.from, asked.to)),
+        None => None,
+    }
+}
+
+/// What is asked of a run.
+#[derive(Clone, Copy)]
+struct Asked {
+    /// The most turns that it makes.
+    steps: u32,
+    /// Whether it ends at the first fault.
+    stop_at_fault: bool,
+    /// The first and the last turn that have a line in its trace, if it is traced.
+    traced: Option<(u32, u32)>,
+}
+
+/// Makes the turns of a run, as `run` does, one by one. If the run is asked to stop at a fault, it ends after the step
+/// that shows the first one. Writes a line to `trace` for each step whose turn is traced; turns are counted from 0.
+/// Returns how the run ended.
+///
+/// `LinkFault` if a write fails, which is possible only if there was something to write, to the one writer or the
+/// other. The guest is then what the first events of the run left, up to some event.
+fn run_watched<M: Memory, W: Write, T: Write>(
+    guest: &mut Debugged<M>,
+    asked: Asked,
+    input: &[u8],
+    writer: &mut W,
+    trace: &mut T,
+) -> Result<Ended, LinkFault>
+    ensures run { IfOk result (λ end. HasRun
+        (run_with asked.stop_at_fault asked.traced asked.steps input.now guest.old.guest) end guest.old guest.new
+        (W.contents writer.old) (W.contents writer.new) (T.contents trace.old) (T.contents trace.new)) }
+    ensures broken { OnErr result (BreaksOff
+        (run_with asked.stop_at_fault asked.traced asked.steps input.now guest.old.guest)
+        (run_from (turns_of asked.stop_at_fault asked.steps input.now guest.old.guest) 0 input.now guest.old.guest).events
+        guest.old guest.new) }
+{
+    let mut next = 0;
+    let mut turn = 0;
+    let mut end = None;
+    let mut buffer = OutputBuffer::new();
+    let mut traps = LatestTraps::new();
+    while turn < asked.steps && end.is_none() {
+        let hart = turn % guest.harts();
+        next = feed(guest, input, next);
+        let pc = guest.pc(hart);
+        let stepped = take_step(guest, turn, hart, asked.traced, trace)?;
+        let reply = reply_of(pc, stepped);
+        let shown = traps.note(guest, hart, pc, &reply);
+        turn += 1;
+        end = end_of(&reply, shown, asked.stop_at_fault);
+        drain_between(guest, turn, end, &mut buffer, writer)?;
+    }
+    drain(guest, &mut buffer, true, writer)?;
+    Ok(end.unwrap_or(Ended::StepsSpent))
+}
+
+/// Makes the step of a turn, by this hart, and writes its line if the turn is traced. Returns none if the hart stopped
+/// at a breakpoint instead. `LinkFault` if that write fails.
+fn take_step<M: Memory, T: Write>(
+    guest: &mut Debugged<M>,
+    turn: u32,
+    hart: u32,
+    traced: Option<(u32, u32)>,
+    trace: &mut T,
+) -> Result<Option<Stepped>, LinkFault>
+    requires { hart < length guest.old.guest.board.harts }
+    ensures step { IsAfter (Step hart ∷ []) guest.old guest.new }
+    ensures harts { length guest.new.guest.board.harts ≡ length guest.old.guest.board.harts }
+    ensures reply { IfOk result (λ stepped. step_reply (pc_of hart guest.old.guest) stepped
+        ≡ (answered (Step hart) guest.old.guest).reply) }
+    ensures line { OnOk result (Appends (T.contents trace.old) (T.contents trace.new)
+        (concat (lines_from traced turn (taken_by hart guest.old.guest ∷ [])))) }
+    ensures err { OnErr result (is_traced traced turn ≡ true) }
+{
+    if !is_traced(traced, turn) {
+        return Ok(step(guest, hart));
+    }
+    let pc = guest.pc(hart);
+    let before = look(guest, hart);
+    let stepped = step(guest, hart);
+    write_step(guest, turn, hart, &before, &reply_of(pc, stepped), trace)?;
+    Ok(stepped)
+}
+
+/// Makes a step of a hart. Returns none if the hart stopped at a breakpoint instead.
+fn step<M: Memory>(guest: &mut Debugged<M>, hart: u32) -> Option<Stepped>
+    requires { hart < length guest.old.guest.board.harts }
+    ensures step { IsAfter (Step hart ∷ []) guest.old guest.new }
+    ensures guest { guest.new.guest ≡ (answered (Step hart) guest.old.guest).guest }
+    ensures harts { length guest.new.guest.board.harts ≡ length guest.old.guest.board.harts }
+    ensures reply { step_reply (pc_of hart guest.old.guest) result
+        ≡ (answered (Step hart) guest.old.guest).reply }
+{
+    guest.step(hart)
+}
+
+/// The answer to a step of a hart with this `pc`.
+fn reply_of(pc: u32, stepped: Option<Stepped>) -> BoardReply
+    ensures { result ≡ step_reply pc stepped }
+{
+    match stepped {
+        Some(stepped) => BoardReply::of_step(stepped),
+        None => BoardReply::Break(pc),
+    }
+}
+
+/// Whether the trace has a line for a turn.
+fn is_traced(traced: Option<(u32, u32)>, turn: u32) -> bool
+    ensures { result ≡ is_traced traced turn }
+{
+    match traced {
+        Some((from, to)) => from <= turn && turn <= to,
+        None => false,
+    }
+}
+
+/// How a run ends with a step that has this answer and shows this fault, if it ends with it.
+fn end_of(reply: &BoardReply, shown: Option<Fault>, stop_at_fault: bool) -> Option<Ended>
+    ensures { result ≡ ends_turns reply.now shown stop_at_fault }
+{
+    match reply {
+        BoardReply::Halted(status) => Some(Ended::HaltedWith(*status)),
+        _ => match shown {
+            Some(fault) if stop_at_fault => Some(Ended::Fault(fault)),
+            _ => None,
+        },
+    }
+}
+
+/// Takes all that the guest sent after each 64 turns, unless the board is halted; after each 65,536 turns also writes
+/// all that is held. `turn` is the number of turns that were made. `LinkFault` if a write fails.
+fn drain_between<M: Memory, W: Write>(
+    guest: &mut Debugged<M>,
+    turn: u32,
+    end: Option<Ended>,
+    buffer: &mut OutputBuffer,
+    writer: &mut W,
+) -> Result<(), LinkFault>
+    ensures written { OnOk result (GoesOut (after (between end turn guest.old.guest) guest.old.guest).bytes
+        buffer.old buffer.new (W.contents writer.old) (W.contents writer.new)) }
+    ensures guest { OnOk result (IsAfter (between end turn guest.old.guest) guest.old guest.new) }
+    ensures err { OnErr result
+        (0 < length (buffer.old ++ (after (between end turn guest.old.guest) guest.old.guest).bytes)) }
+    ensures part { OnErr result (IsPartWay (between end turn guest.old.guest) guest.old guest.new) }
+{
+    if !drains_after(end, turn) {
+        return Ok(());
+    }
+    drain(guest, buffer, turn % WRITE_EVERY == 0, writer)
+}
+
+/// Whether what the guest sent is taken after this many turns.
+fn drains_after(end: Option<Ended>, turns: u32) -> bool
+    ensures { result ≡ drains_after end turns }
+{
+    match end {
+        Some(Ended::HaltedWith(_)) => false,
+        _ => turns % DRAIN_EVERY == 0,
+    }
+}
