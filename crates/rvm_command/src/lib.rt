@@ -2,17 +2,24 @@
 //! files and two writers; it returns the status, or `LinkFault` if it could not report how it ended. `move`, `audit`,
 //! `host` and `tell` have crates of their own.
 //!
-//! Stands on `rvm_board` and `rvm_debug` for the debugged board and its scripts, on `rvm_elf` for images, on `rvm_asm`
-//! and `rvm_dis`, on `rvm_core` for worlds and their scripts, and on `rvm_arguments`. It must not know files, processes
-//! or the terminal.
+//! Stands on `rvm_board` and `rvm_debug` for the debugged board and its scripts, on `rvm_csr` and `rvm_dev` for what an
+//! extended session shows of it, on `rvm_elf` for images, on `rvm_asm` and `rvm_dis`, on `rvm_core` for worlds and their
+//! scripts, and on `rvm_arguments`. It must not know files, processes or the terminal.
 //!
 //! To be read in this order: `guest`, `refused`, `flush`, `output_buffer`, `run`, `run_command`, `asm_command`,
-//! `dis_command`, `debug_command`; `script_refused`, `first_world`, `script_command`.
+//! `dis_command`, `debug_command`; `extended_command`, `extended_line`, `extended_answers`, `extended_lines`,
+//! `extended_script`, `extended_debug_command`; `script_refused`, `first_world`, `script_command`.
 #![tactic(auto)]
 
 pub mod asm_command;
 pub mod debug_command;
 pub mod dis_command;
+mod extended_answers;
+mod extended_command;
+pub mod extended_debug_command;
+mod extended_line;
+mod extended_lines;
+mod extended_script;
 mod first_world;
 pub mod flush;
 pub mod guest;
