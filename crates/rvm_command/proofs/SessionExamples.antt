@@ -1,5 +1,6 @@
 -- Lines of extended sessions and their answers, by the definitions.
-use Rattle.std.proofs.Common.{◌≡◌, ℕ, ◌^◌, ◌-◌, List, [], ◌∷◌, Option, Some, None, true, false, codes, refl}
+use Rattle.std.proofs.Common.{◌≡◌, ℕ, ◌^◌, ◌-◌, [], ◌∷◌, Option, Some, None, true, false, codes, refl}
+use Rattle.std.specs.Fmt.{digits}
 use Rattle.hex.specs.Hex.{encode_with}
 use Rattle.rvm_csr.specs.Registers as csr
 use Rattle.rvm_csr.specs.Table.{csr_at, table}
@@ -13,7 +14,7 @@ use Rattle.rvm_debug.specs.declared.line.Line.TheVariants as plain
 use Rattle.rvm_debug.specs.Lines.{command_of, line_of}
 use Rattle.rvm_debug.specs.Words.{words_from}
 use Rattle.rvm_command.specs.declared.extended_line.ExtendedLine.TheVariants as line
-use Rattle.rvm_command.specs.ExtendedAnswers.{csrs_answer, csrs_text, devices_text, hart_lines}
+use Rattle.rvm_command.specs.ExtendedAnswers.{csrs_answer, csrs_text, devices_text, hart_lines, turns_text}
 use Rattle.rvm_command.specs.ExtendedLines.{extended_command_of, extended_line_of}
 use Rattle.rvm_command.specs.ExtendedRuns.{session_told}
 use Rattle.rvm_command.specs.ExtendedScript.{session_of}
@@ -84,7 +85,7 @@ two_harts h r halted =
         shared = record r {
           devices = record {
             msip = false ∷ true ∷ [];
-            mtimecmp = 2 ^ 64 - 1 ∷ 0x1234 ∷ [];
+            mtimecmp = (2 ^ 64 - 1) ∷ 0x1234 ∷ [];
             mtime = 0x500000000;
             input = [];
             output = 0x68 ∷ 0x69 ∷ [];
@@ -99,26 +100,31 @@ two_harts h r halted =
     }
 
 there_is_no_hart_2 : (h : HartState) (r : Shared) → csrs_answer 2 (two_harts h r None) ≡ codes "refused 5 BadHart\n"
+unfolding digits
 there_is_no_hart_2 h r = refl
 
 -- DEVICES
 
 the_devices_of_two_harts : (h : HartState) (r : Shared) → devices_text (state_of (two_harts h r None))
     ≡ codes "mtime=0000000500000000\nhart 0 mtimecmp=ffffffffffffffff msip=0\nhart 1 mtimecmp=0000000000001234 msip=1\ninput 0\noutput 2 6869\ninterrupt_enable=1 overrun=0\n"
-unfolding hex_digits hart_lines encode_with
+unfolding digits hex_digits hart_lines encode_with
 the_devices_of_two_harts h r = refl
 
 the_devices_of_a_halted_board : (h : HartState) (r : Shared) → devices_text (state_of (two_harts h r (Some 3)))
     ≡ codes "mtime=0000000500000000\nhart 0 mtimecmp=ffffffffffffffff msip=0\nhart 1 mtimecmp=0000000000001234 msip=1\ninput 0\noutput 2 6869\ninterrupt_enable=1 overrun=0\nhalted 3\n"
-unfolding hex_digits hart_lines encode_with
+unfolding digits hex_digits hart_lines encode_with
 the_devices_of_a_halted_board h r = refl
 
 -- TURNS
 
+all_turns_are_made : turns_text 0x10 1 None ≡ codes "turns 16: done\n"
+unfolding digits
+all_turns_are_made = refl
+
 -- the second line goes on with the hart after the last turn of the first
 turns_go_on : (h : HartState) (r : Shared) → (session_told (codes "turns 5" ∷ codes "turns 5" ∷ []) (two_harts h r None)).text
     ≡ codes "turns 1: hart 0 break 80000010\nturns 1: hart 1 break 80000010\n"
-unfolding session_of extended_line_of extended_command_of line_of words_from command_of after_turns hex_digits
+unfolding session_of extended_line_of extended_command_of line_of words_from command_of after_turns digits hex_digits
 turns_go_on h r = refl
 
 -- a step of a hart is no turn of the schedule
@@ -127,7 +133,7 @@ unfolding session_of extended_line_of extended_command_of line_of words_from com
 steps_are_no_turns h r = refl
 
 a_halted_board_ends_turns : (h : HartState) (r : Shared) → (session_told (codes "turns 5" ∷ []) (two_harts h r (Some 3))).text ≡ codes "turns 1: halted 3\n"
-unfolding session_of extended_line_of extended_command_of line_of words_from command_of after_turns
+unfolding session_of extended_line_of extended_command_of line_of words_from command_of after_turns digits
 a_halted_board_ends_turns h r = refl
 
 -- a line that is not in the grammar ends the session, with its number

@@ -1,4 +1,4 @@
-use Rattle.rvm_command.proofs.Showing.{encoded_all, encoded_more}
+use Rattle.rvm_command.proofs.Showing.{encoded_more}
 use Rattle.rvm_command.proofs.extended_answers.write_bytes.Goals as goal
 
 pub loop-rest-preserved : goal.loop-rest-preserved
