@@ -1,5 +1,5 @@
 -- How `debug` ends with an extended session, and what it wrote to its output until then.
-use Rattle.std.specs.Prelude.{◌≡◌, ◌⊎◌, List, Option, Result, Ok, Err, IfOk, IfSome}
+use Rattle.std.specs.Prelude.{◌≡◌, ◌⊎◌, ℕ, List, Option, Result, Ok, Err, IfOk, IfSome}
 use Rattle.rvm_arguments.specs.declared.arguments.GuestArguments.{GuestArguments}
 use Rattle.rvm_board.specs.Guest.{Guest}
 use Rattle.rvm_debug.specs.declared.script.ScriptError.{ScriptError}

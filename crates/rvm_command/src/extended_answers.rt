@@ -55,7 +55,12 @@ impl fmt::Display for LongDigits {
 
     fn fmt<W: fmt::Write>(&self, f: &mut fmt::Formatter<W>) -> fmt::Result {
         let number = self.0;
-        write!(f, "{}{}", Digits(high_half(number)), Digits(low_half(number)))
+        write!(
+            f,
+            "{}{}",
+            Digits(high_half(number)),
+            Digits(low_half(number))
+        )
     }
 }
 
@@ -70,7 +75,11 @@ impl fmt::Display for Flag {
     ghost output = { λ f. Some (flag f.0) };
 
     fn fmt<W: fmt::Write>(&self, f: &mut fmt::Formatter<W>) -> fmt::Result {
-        if self.0 { write!(f, "1") } else { write!(f, "0") }
+        if self.0 {
+            write!(f, "1")
+        } else {
+            write!(f, "0")
+        }
     }
 }
 
