@@ -44,13 +44,13 @@ not_loaded_at_no_line (Ok x) pages r (inl h) = ap (λ (r : Refused). r.line) h
 not_loaded_at_no_line (Ok x) pages r (inr h) = ap (λ (r : Refused). r.line) h.0
 
 -- bytes that went out and stay
-appends_kept : (a b c : Option (List ℕ)) (bs : List ℕ) → Appends a b bs → Keeps b c → Appends a c bs
+pub appends_kept : (a b c : Option (List ℕ)) (bs : List ℕ) → Appends a b bs → Keeps b c → Appends a c bs
 appends_kept None b c bs h k = tt
 appends_kept (Some x) None c bs h k = absurd h
 appends_kept (Some x) (Some y) None bs h k = absurd k
 appends_kept (Some x) (Some y) (Some z) bs h k = k ∙ h
 
-still_kept : (a b c : Option (List ℕ)) → b ≡ a → Keeps b c → Keeps a c
+pub still_kept : (a b c : Option (List ℕ)) → b ≡ a → Keeps b c → Keeps a c
 still_kept a b c e k = subst (λ (o : Option (List ℕ)). Keeps o c) e k
 
 -- a script that was answered and flushed

@@ -15,3 +15,8 @@ pub mod Flushed
 pub mod FirstWorld
 pub mod ScriptRefusals
 pub mod ScriptEnds
+pub mod ExtendedLines
+pub mod ExtendedAnswers
+pub mod ExtendedScript
+pub mod ExtendedRuns
+pub mod ExtendedEnds

@@ -1,19 +1,26 @@
 //! The commands as functions over values, and the loops of a run. A command takes parsed arguments, the bytes of its
-//! files and writers; it returns the status, or `LinkFault` if it could not report how it ended. `move`, `audit`,
+//! files and its writers; it returns the status, or `LinkFault` if it could not report how it ended. `move`, `audit`,
 //! `host` and `tell` have crates of their own.
 //!
-//! Stands on `rvm_board` and `rvm_debug` for the debugged board and its scripts, on `rvm_elf` for images, on `rvm_asm`
-//! and `rvm_dis`, on `rvm_core` for worlds and their scripts, and on `rvm_arguments`. It must not know files, processes
-//! or the terminal.
+//! Stands on `rvm_board` and `rvm_debug` for the debugged board and its scripts, on `rvm_isa`, `rvm_csr` and `rvm_dev` for
+//! what a trace and an extended session show of it, on `rvm_elf` for images, on `rvm_asm` and `rvm_dis`, on `rvm_core` for
+//! worlds and their scripts, and on `rvm_arguments`. It must not know files, processes or the terminal.
 //!
 //! To be read in this order: `guest`, `refused`, `flush`, `output_buffer`, `fault`, `run`, `latest_traps`, `trace`,
-//! `watched`, `run_command`, `asm_command`, `dis_command`, `debug_command`; `script_refused`, `first_world`,
+//! `watched`, `run_command`, `asm_command`, `dis_command`, `debug_command`; `extended_command`, `extended_line`,
+//! `extended_answers`, `extended_lines`, `extended_script`, `extended_debug_command`; `script_refused`, `first_world`,
 //! `script_command`.
 #![tactic(auto)]
 
 pub mod asm_command;
 pub mod debug_command;
 pub mod dis_command;
+mod extended_answers;
+mod extended_command;
+pub mod extended_debug_command;
+mod extended_line;
+mod extended_lines;
+mod extended_script;
 pub mod fault;
 mod first_world;
 pub mod flush;

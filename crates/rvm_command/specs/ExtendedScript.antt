@@ -1,0 +1,69 @@
+-- What an extended session does to a guest, and what it answers: a fold over its lines.
+use Rattle.std.specs.Prelude.{ℕ, ◌+◌, ◌-◌, ◌%◌, List, [], ◌∷◌, length, Option, Some, None}
+use Rattle.rvm_board.specs.declared.turns.Order.TheVariants.{RoundRobin}
+use Rattle.rvm_board.specs.Guest.{Guest}
+use Rattle.rvm_board.specs.State.{state_of}
+use Rattle.rvm_board.specs.Turns.{AfterTurns, after_turns}
+use Rattle.rvm_debug.specs.Script.{Answers, Replied, answers_behind, done_by, ended}
+use Rattle.rvm_command.specs.declared.extended_line.ExtendedLine.{ExtendedLine}
+use Rattle.rvm_command.specs.declared.extended_line.ExtendedLine.TheVariants as line
+use Rattle.rvm_command.specs.ExtendedAnswers.{csrs_answer, devices_text, turns_text}
+use Rattle.rvm_command.specs.ExtendedLines.{extended_line_of}
+
+-- what a line leaves and answers, and how many turns the lines `turns` have made so far
+pub record Extended : Type 0 where
+  pub replied : Replied
+  pub turns : ℕ
+
+-- a line only tells something of a guest
+abbrev pub tells : Guest → (text : List ℕ) → Replied
+tells g text = record { guest = g; pages = []; text = text }
+
+-- the hart whose turn is turn t
+abbrev pub hart_of_turn : (t : ℕ) → Guest → ℕ
+hart_of_turn t g = t % length g.board.harts
+
+-- at most n turns of the harts in their order, from turn t on
+abbrev pub turns_from : (n t : ℕ) → Guest → AfterTurns
+turns_from n t g = after_turns RoundRobin n (hart_of_turn t g) g
+
+-- what at most n turns do, from turn t on
+abbrev pub turns_done : (n t : ℕ) → Guest → Extended
+turns_done n t g =
+    let after = turns_from n t g in
+    record {
+      replied = record {
+        guest = after.guest;
+        pages = after.pages;
+        text = turns_text after.made (hart_of_turn (t + after.made - 1) g) after.stop;
+      };
+      turns = t + after.made;
+    }
+
+-- what a line does after t turns
+abbrev pub extended_done_by : ExtendedLine → (t : ℕ) → Guest → Extended
+extended_done_by (line.Plain l) t g = record { replied = done_by l g; turns = t }
+extended_done_by (line.Csrs h) t g = record { replied = tells g (csrs_answer h g); turns = t }
+extended_done_by line.Devices t g = record { replied = tells g (devices_text (state_of g)); turns = t }
+extended_done_by (line.Turns n) t g = turns_done n t g
+
+-- what a session leaves and answers, as a script does, and how many turns its lines `turns` have made
+pub record Session : Type 0 where
+  pub told : Answers
+  pub turns : ℕ
+
+-- a session after a line that was done before it
+abbrev pub session_behind : Extended → Session → Session
+session_behind d s =
+    record s { told = answers_behind d.replied.pages d.replied.text s.told }
+
+-- a line with this number after t turns, and the rest of its session after it
+abbrev pub session_by : Option ExtendedLine → (number t : ℕ) → Guest → ((t : ℕ) → Guest → Session) → Session
+session_by None n t g rest = record { told = ended (Some n) g; turns = t }
+session_by (Some l) n t g rest =
+    let d = extended_done_by l t g in session_behind d (rest d.turns d.replied.guest)
+
+-- what lines do after t turns, the first of which has this number
+unfoldable pub session_of : List (List ℕ) → (number t : ℕ) → Guest → Session
+session_of [] n t g = record { told = ended None g; turns = t }
+session_of (l ∷ ls) n t g = session_by (extended_line_of l) n t g (session_of ls (n + 1))

@@ -1,0 +1,84 @@
+//! What a line of an extended session does.
+
+ghost use Rattle.std.specs.Prelude.{◌≡◌, ◌+◌, ◌%◌, ◌^◌, ◌<◌, ◌≤◌, length, IfOk, OnErr, OnOk};
+ghost use Rattle.std.specs.Io.KnownBytes.{Appends};
+ghost use Rattle.rvm_mem.specs.Pages.{mark_all};
+ghost use Rattle.rvm_command.specs.ExtendedRuns.{IsAnswered};
+ghost use Rattle.rvm_command.specs.ExtendedScript.{extended_done_by, turns_done};
+
+use crate::extended_answers::{write_csrs, write_devices, write_turns};
+use crate::extended_line::ExtendedLine;
+use rvm_board::{Debugged, Order};
+use rvm_debug::do_line;
+use rvm_mem::Memory;
+use rvm_refusal::LinkFault;
+use std::io::Write;
+
+/// Does what a line asks for after `turns` turns, and writes its answer. Returns how many turns there are then.
+/// `LinkFault` if the writer fails; the line is done even then. An empty line has no answer, so that it cannot fail.
+pub fn do_extended_line<M: Memory, W: Write>(
+    board: &mut Debugged<M>,
+    turns: u64,
+    line: ExtendedLine,
+    writer: &mut W,
+) -> Result<u64, LinkFault>
+    requires { turns ≤ 2 ^ 63 }
+    ensures text { OnOk result (Appends (W.contents writer.old) (W.contents writer.new)
+        (extended_done_by line.entry turns board.old.guest).replied.text) }
+    ensures turns { IfOk result (λ t. t ≡ (extended_done_by line.entry turns board.old.guest).turns) }
+    ensures within { IfOk result (λ t. t ≤ turns + 2 ^ 32) }
+    ensures guest { board.new.guest ≡ (extended_done_by line.entry turns board.old.guest).replied.guest }
+    ensures dirty { board.new.dirty
+        ≡ mark_all (extended_done_by line.entry turns board.old.guest).replied.pages board.old.dirty }
+    ensures answered { OnErr result (IsAnswered line.entry) }
+{
+    match line {
+        ExtendedLine::Plain(line) => {
+            do_line(board, line, writer)?;
+            Ok(turns)
+        }
+        ExtendedLine::Csrs(hart) => {
+            write_csrs(writer, board, hart)?;
+            Ok(turns)
+        }
+        ExtendedLine::Devices => {
+            write_devices(writer, board)?;
+            Ok(turns)
+        }
+        ExtendedLine::Turns(count) => make_turns(board, turns, count, writer),
+    }
+}
+
+/// Makes at most `count` turns of the harts in their order, from turn `turns` on, and writes how they ended. Returns
+/// how many turns there are then. `LinkFault` if the writer fails; the turns are made even then.
+fn make_turns<M: Memory, W: Write>(
+    board: &mut Debugged<M>,
+    turns: u64,
+    count: u32,
+    writer: &mut W,
+) -> Result<u64, LinkFault>
+    requires { turns ≤ 2 ^ 63 }
+    ensures text { OnOk result (Appends (W.contents writer.old) (W.contents writer.new)
+        (turns_done count turns board.old.guest).replied.text) }
+    ensures turns { IfOk result (λ t. t ≡ (turns_done count turns board.old.guest).turns) }
+    ensures within { IfOk result (λ t. t ≤ turns + 2 ^ 32) }
+    ensures guest { board.new.guest ≡ (turns_done count turns board.old.guest).replied.guest }
+    ensures dirty { board.new.dirty
+        ≡ mark_all (turns_done count turns board.old.guest).replied.pages board.old.dirty }
+{
+    let harts = board.harts();
+    let made = board.turns(Order::RoundRobin, hart_of_turn(turns, harts), count);
+    let after = turns + u64::from(made.made);
+    let last = hart_of_turn(after.saturating_sub(1), harts);
+    write_turns(writer, made.made, last, made.stop)?;
+    Ok(after)
+}
+
+/// The hart whose turn is turn `turn`, of so many.
+fn hart_of_turn(turn: u64, harts: u32) -> u32
+    requires { 0 < harts }
+    ensures hart { result ≡ turn % harts }
+    ensures within { result < harts }
+{
+    (turn % u64::from(harts)) as u32
+}
