@@ -9,3 +9,4 @@ pub mod Flushed
 pub mod FirstWorld
 pub mod ScriptRefusals
 pub mod ScriptEnds
+pub mod Trace
