@@ -1,5 +1,5 @@
 -- A line of a trace: a step of a hart, what its instruction wrote, and what became of it.
-use Rattle.std.specs.Prelude.{ℕ, ◌%◌, ◌==◌, ◌&&◌, not, if◌then◌else◌, List, [], ◌∷◌, ◌++◌, Option, Some, None, option_map, slice_index, codes}
+use Rattle.std.specs.Prelude.{ℕ, ◌%◌, ◌==◌, if◌then◌else◌, List, [], ◌∷◌, ◌++◌, Option, Some, None, option_map, slice_index, codes}
 use Rattle.std.specs.Fmt.{decimal}
 use Rattle.rvm_isa.specs.declared.ins.Ins.{Ins}
 use Rattle.rvm_isa.specs.declared.ins.Ins.TheVariants.{Lui, Auipc, Jal, Jalr, Beq, Bne, Blt, Bge}
@@ -124,12 +124,12 @@ writes_of_decoded None = writes.Nothing
 writes_of_decoded (Some ins) = writes_of ins
 
 -- the same of a word, if there is one
-abbrev pub writes_of_word : Option ℕ → Writes
+unfoldable pub writes_of_word : Option ℕ → Writes
 writes_of_word None = writes.Nothing
 writes_of_word (Some word) = writes_of_decoded (decoded word)
 
 -- the destination register, or x0 if there is none
-abbrev pub destination : Writes → ℕ
+unfoldable pub destination : Writes → ℕ
 destination writes.Nothing = 0
 destination (writes.Register rd) = rd
 destination (writes.Store size rs1 rs2 imm) = 0
@@ -151,7 +151,7 @@ stored_conditional rd became a v =
 
 -- what a retired instruction stored, by the registers before its step and after it: addresses and values are those
 -- before it, but for an AMO's word, which is the one in RAM after it
-abbrev pub stored_by : Writes → (before now : List ℕ) → (after : Guest) → Option Stored
+unfoldable pub stored_by : Writes → (before now : List ℕ) → (after : Guest) → Option Stored
 stored_by writes.Nothing before now g = None
 stored_by (writes.Register rd) before now g = None
 stored_by (writes.Store size rs1 rs2 imm) before now g =
@@ -173,26 +173,26 @@ abbrev pub stored_text : Stored → List ℕ
 stored_text s = codes "[" ++ hex_digits 8 s.address ++ codes "]=" ++ digits_of s.size s.value
 
 -- the same after two spaces, if anything was stored
-abbrev pub shown : Option Stored → List ℕ
+unfoldable pub shown : Option Stored → List ℕ
 shown None = []
 shown (Some s) = codes "  " ++ stored_text s
 
 -- `NAME=VVVVVVVV` after two spaces, unless the register is x0
-abbrev pub register_text : (rd : ℕ) → (now : List ℕ) → List ℕ
+unfoldable pub register_text : (rd : ℕ) → (now : List ℕ) → List ℕ
 register_text rd now = if rd == 0 then [] else codes "  " ++ numbered_text now rd
 
 -- what a retired instruction of a hart wrote: its register, then what it stored
-abbrev pub writes_text : Writes → (before : List ℕ) → (hart : ℕ) → (after : Guest) → List ℕ
+unfoldable pub writes_text : Writes → (before : List ℕ) → (hart : ℕ) → (after : Guest) → List ℕ
 writes_text w before h g =
     register_text (destination w) (registers_of h g) ++ shown (stored_by w before (registers_of h g) g)
 
 -- what a retired instruction wrote, or what became of the step in place of that
-abbrev pub outcome_text : (hart : ℕ) → Before → (after : Guest) → BoardReply → List ℕ
+unfoldable pub outcome_text : (hart : ℕ) → Before → (after : Guest) → BoardReply → List ℕ
 outcome_text h before g Retired = writes_text (writes_of_word before.word) before.registers h g
 outcome_text h before g reply = codes "  " ++ reply_word reply
 
 -- the address, the word there and its text, or `AAAAAAAA: --------` if there is no word
-abbrev pub instruction_text : (pc : ℕ) → Option ℕ → List ℕ
+unfoldable pub instruction_text : (pc : ℕ) → Option ℕ → List ℕ
 instruction_text pc None = hex_digits 8 pc ++ codes ": --------"
 instruction_text pc (Some word) = line_at pc word
 

@@ -151,13 +151,15 @@ impl fmt::Display for Stored {
 }
 
 /// What a trace shows of a hart, to be taken before its step.
+#[tactic(auto, unfolding(crate::specs::Trace::before_of))]
 pub(crate) fn look<M: Memory>(guest: &mut Debugged<M>, hart: u32) -> Before
     requires { hart < length guest.old.guest.board.harts }
     ensures seen { result ≡ before_of hart guest.old.guest }
     ensures guest { guest.new ≡ guest.old }
 {
+    let pc = guest.pc(hart);
     let registers = registers_of(guest, hart);
-    let word = word_at(guest, registers[PC as usize]);
+    let word = word_at(guest, pc);
     Before { registers, word }
 }
 
@@ -208,6 +210,7 @@ pub(crate) fn write_step<M: Memory, W: Write>(
 }
 
 /// Writes the address, the word there and its text; or the address, if there is no word.
+#[tactic(auto, unfolding(crate::specs::Trace::instruction_text))]
 fn write_instruction<W: Write>(pc: u32, word: Option<u32>, writer: &mut W) -> Result<(), LinkFault>
     ensures { OnOk result (Appends (W.contents writer.old) (W.contents writer.new)
         (instruction_text pc word)) }
@@ -222,6 +225,7 @@ fn write_instruction<W: Write>(pc: u32, word: Option<u32>, writer: &mut W) -> Re
 }
 
 /// Writes what a retired instruction wrote, or what became of the step.
+#[tactic(auto, unfolding(crate::specs::Trace::outcome_text))]
 fn write_outcome<M: Memory, W: Write>(
     guest: &mut Debugged<M>,
     hart: u32,
@@ -244,6 +248,7 @@ fn write_outcome<M: Memory, W: Write>(
 }
 
 /// Writes what a retired instruction wrote.
+#[tactic(auto, unfolding(crate::specs::Trace::writes_text))]
 fn write_writes<M: Memory, W: Write>(
     guest: &mut Debugged<M>,
     hart: u32,
@@ -257,12 +262,14 @@ fn write_writes<M: Memory, W: Write>(
 {
     let writes = writes_of_word(before.word);
     let now = registers_of(guest, hart);
+    let rd = destination(&writes);
     let stored = stored_by(guest, writes, &before.registers, &now);
-    write_register(destination(writes), &now, writer)?;
+    write_register(rd, &now, writer)?;
     write_stored(stored, writer)
 }
 
 /// What the instruction that a word is writes if it retires; nothing if there is no word, or it is no instruction.
+#[tactic(auto, unfolding(crate::specs::Trace::writes_of_word))]
 fn writes_of_word(word: Option<u32>) -> Writes
     ensures { result ≡ writes_of_word word }
 {
@@ -368,18 +375,20 @@ fn writes_of(ins: Ins) -> Writes
 }
 
 /// The register that an instruction writes, or x0.
-fn destination(writes: Writes) -> Reg
-    ensures { result ≡ destination writes }
+#[tactic(auto, unfolding(crate::specs::Trace::destination))]
+fn destination(writes: &Writes) -> Reg
+    ensures { result ≡ destination writes.now }
 {
     match writes {
         Writes::Nothing | Writes::Store { .. } => Reg::new(0),
-        Writes::Register(rd) => rd,
-        Writes::Conditional { rd, .. } => rd,
-        Writes::Exchange { rd, .. } => rd,
+        Writes::Register(rd) => *rd,
+        Writes::Conditional { rd, .. } => *rd,
+        Writes::Exchange { rd, .. } => *rd,
     }
 }
 
 /// What a retired instruction stored, by the registers before its step and after it.
+#[tactic(auto, unfolding(crate::specs::Trace::stored_by))]
 fn stored_by<M: Memory>(
     guest: &mut Debugged<M>,
     writes: Writes,
@@ -441,6 +450,7 @@ fn stored_word<M: Memory>(guest: &mut Debugged<M>, address: u32) -> Option<Store
 }
 
 /// Writes a register and its value, unless it is x0.
+#[tactic(auto, unfolding(crate::specs::Trace::register_text))]
 fn write_register<W: Write>(rd: Reg, now: &[u32; 33], writer: &mut W) -> Result<(), LinkFault>
     ensures { OnOk result (Appends (W.contents writer.old) (W.contents writer.new)
         (register_text rd now.now)) }
@@ -455,6 +465,7 @@ fn write_register<W: Write>(rd: Reg, now: &[u32; 33], writer: &mut W) -> Result<
 }
 
 /// Writes what was stored, if anything was.
+#[tactic(auto, unfolding(crate::specs::Trace::shown))]
 fn write_stored<W: Write>(stored: Option<Stored>, writer: &mut W) -> Result<(), LinkFault>
     ensures { OnOk result (Appends (W.contents writer.old) (W.contents writer.new)
         (shown stored)) }
