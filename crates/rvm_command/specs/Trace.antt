@@ -196,8 +196,11 @@ unfoldable pub instruction_text : (pc : ℕ) → Option ℕ → List ℕ
 instruction_text pc None = hex_digits 8 pc ++ codes ": --------"
 instruction_text pc (Some word) = line_at pc word
 
--- the line of a step: the turn and the hart, the instruction at pc before it, and what that wrote or what became of it
+-- the turn, the hart, and the instruction at pc
+unfoldable pub turn_text : (turn hart pc : ℕ) → Option ℕ → List ℕ
+turn_text turn h pc word = decimal turn ++ codes " " ++ decimal h ++ codes " " ++ instruction_text pc word
+
+-- the line of a step: the turn, the hart and the instruction at pc before it, then what that wrote or what became of it
 unfoldable pub line_of : (turn hart : ℕ) → Before → (after : Guest) → BoardReply → List ℕ
 line_of turn h before g reply =
-    decimal turn ++ codes " " ++ decimal h ++ codes " " ++ instruction_text (slice_index before.registers 32) before.word
-    ++ outcome_text h before g reply ++ codes "\n"
+    turn_text turn h (slice_index before.registers 32) before.word ++ outcome_text h before g reply ++ codes "\n"

@@ -24,7 +24,7 @@
 
 ghost use Rattle.std.specs.Prelude.{◌≡◌, ◌<◌, length, OnOk};
 ghost use Rattle.std.specs.Io.KnownBytes.{Appends};
-ghost use Rattle.rvm_command.specs.Trace.{before_of, destination, instruction_text, line_of, outcome_text, register_text, registers_of, shown, stored_by, stored_conditional, stored_part, word_at, writes_of, writes_of_word, writes_text};
+ghost use Rattle.rvm_command.specs.Trace.{before_of, destination, instruction_text, line_of, outcome_text, register_text, registers_of, shown, stored_by, stored_conditional, stored_part, turn_text, word_at, writes_of, writes_of_word, writes_text};
 
 use rvm_board::{BoardEvent, BoardReply, Debugged};
 use rvm_debug::InWords;
@@ -202,11 +202,26 @@ pub(crate) fn write_step<M: Memory, W: Write>(
         (line_of turn hart before.now guest.old.guest reply.now)) }
     ensures guest { guest.new ≡ guest.old }
 {
-    write!(writer, "{turn} {hart} ")?;
-    write_instruction(before.registers[PC as usize], before.word, writer)?;
+    write_turn(turn, hart, before.registers[PC as usize], before.word, writer)?;
     write_outcome(guest, hart, before, reply, writer)?;
     writeln!(writer)?;
     Ok(())
+}
+
+/// Writes the turn and the hart, and the instruction at pc.
+#[tactic(auto, unfolding(crate::specs::Trace::turn_text))]
+fn write_turn<W: Write>(
+    turn: u32,
+    hart: u32,
+    pc: u32,
+    word: Option<u32>,
+    writer: &mut W,
+) -> Result<(), LinkFault>
+    ensures { OnOk result (Appends (W.contents writer.old) (W.contents writer.new)
+        (turn_text turn hart pc word)) }
+{
+    write!(writer, "{turn} {hart} ")?;
+    write_instruction(pc, word, writer)
 }
 
 /// Writes the address, the word there and its text; or the address, if there is no word.
