@@ -1,5 +1,5 @@
 -- What `{:02x}` writes of the lowest byte of a number: its last two digits.
-use Rattle.std.proofs.Common.{◌≡◌, ℕ, ◌/◌, ◌%◌, ◌^◌, ◌-◌, false, List, [], ◌∷◌, ◌++◌, refl, ap, ◌∙◌, arith, inl, inr}
+use Rattle.std.proofs.Common.{◌≡◌, ℕ, ◌/◌, ◌%◌, ◌^◌, ◌-◌, false, List, [], ◌∷◌, ◌++◌, ap, ◌∙◌, arith, inl, inr}
 use Rattle.std.proofs.lemmas.Bool.{cases_eq}
 use Rattle.std.specs.Fmt.{digits, digit_glyph, padded_integral, format_spec, char_count}
 use Rattle.rvm_dis.specs.Pieces.{hex_digits}
