@@ -182,13 +182,13 @@ unfoldable pub register_text : (rd : ℕ) → (now : List ℕ) → List ℕ
 register_text rd now = if rd == 0 then [] else codes "  " ++ numbered_text now rd
 
 -- what a retired instruction of a hart wrote: its register, then what it stored
-unfoldable pub writes_text : Writes → (before : List ℕ) → (hart : ℕ) → (after : Guest) → List ℕ
-writes_text w before h g =
+unfoldable pub written_text : Writes → (before : List ℕ) → (hart : ℕ) → (after : Guest) → List ℕ
+written_text w before h g =
     register_text (destination w) (registers_of h g) ++ shown (stored_by w before (registers_of h g) g)
 
 -- what a retired instruction wrote, or what became of the step in place of that
 unfoldable pub outcome_text : (hart : ℕ) → Before → (after : Guest) → BoardReply → List ℕ
-outcome_text h before g Retired = writes_text (writes_of_word before.word) before.registers h g
+outcome_text h before g Retired = written_text (writes_of_word before.word) before.registers h g
 outcome_text h before g reply = codes "  " ++ reply_word reply
 
 -- the address, the word there and its text, or `AAAAAAAA: --------` if there is no word

@@ -24,7 +24,7 @@
 
 ghost use Rattle.std.specs.Prelude.{◌≡◌, ◌<◌, length, OnOk};
 ghost use Rattle.std.specs.Io.KnownBytes.{Appends};
-ghost use Rattle.rvm_command.specs.Trace.{before_of, destination, instruction_text, line_of, outcome_text, register_text, registers_of, shown, stored_by, stored_conditional, stored_part, turn_text, word_at, writes_of, writes_of_word, writes_text};
+ghost use Rattle.rvm_command.specs.Trace.{before_of, destination, instruction_text, line_of, outcome_text, register_text, registers_of, shown, stored_by, stored_conditional, stored_part, turn_text, word_at, writes_of, writes_of_word, written_text};
 
 use rvm_board::{BoardEvent, BoardReply, Debugged};
 use rvm_debug::InWords;
@@ -171,6 +171,7 @@ fn registers_of<M: Memory>(guest: &mut Debugged<M>, hart: u32) -> [u32; 33]
 {
     match guest.apply(BoardEvent::Regs(hart)) {
         BoardReply::Regs(registers) => registers,
+        // never, since there is such a hart
         _ => [0; 33],
     }
 }
@@ -202,7 +203,13 @@ pub(crate) fn write_step<M: Memory, W: Write>(
         (line_of turn hart before.now guest.old.guest reply.now)) }
     ensures guest { guest.new ≡ guest.old }
 {
-    write_turn(turn, hart, before.registers[PC as usize], before.word, writer)?;
+    write_turn(
+        turn,
+        hart,
+        before.registers[PC as usize],
+        before.word,
+        writer,
+    )?;
     write_outcome(guest, hart, before, reply, writer)?;
     writeln!(writer)?;
     Ok(())
@@ -224,7 +231,7 @@ fn write_turn<W: Write>(
     write_instruction(pc, word, writer)
 }
 
-/// Writes the address, the word there and its text; or the address, if there is no word.
+/// Writes the address, the word there and its text; without a word, the address and dashes.
 #[tactic(auto, unfolding(crate::specs::Trace::instruction_text))]
 fn write_instruction<W: Write>(pc: u32, word: Option<u32>, writer: &mut W) -> Result<(), LinkFault>
     ensures { OnOk result (Appends (W.contents writer.old) (W.contents writer.new)
@@ -254,7 +261,7 @@ fn write_outcome<M: Memory, W: Write>(
     ensures guest { guest.new ≡ guest.old }
 {
     match reply {
-        BoardReply::Retired => write_writes(guest, hart, before, writer),
+        BoardReply::Retired => write_written(guest, hart, before, writer),
         _ => {
             write!(writer, "  {}", InWords(reply))?;
             Ok(())
@@ -263,8 +270,8 @@ fn write_outcome<M: Memory, W: Write>(
 }
 
 /// Writes what a retired instruction wrote.
-#[tactic(auto, unfolding(crate::specs::Trace::writes_text))]
-fn write_writes<M: Memory, W: Write>(
+#[tactic(auto, unfolding(crate::specs::Trace::written_text))]
+fn write_written<M: Memory, W: Write>(
     guest: &mut Debugged<M>,
     hart: u32,
     before: &Before,
@@ -272,7 +279,7 @@ fn write_writes<M: Memory, W: Write>(
 ) -> Result<(), LinkFault>
     requires { hart < length guest.old.guest.board.harts }
     ensures text { OnOk result (Appends (W.contents writer.old) (W.contents writer.new)
-        (writes_text (writes_of_word before.now.word) before.now.registers hart guest.old.guest)) }
+        (written_text (writes_of_word before.now.word) before.now.registers hart guest.old.guest)) }
     ensures guest { guest.new ≡ guest.old }
 {
     let writes = writes_of_word(before.word);
@@ -435,11 +442,11 @@ fn stored_by<M: Memory>(
     }
 }
 
-/// The word that an `sc.w` stored at an address, if rd, which is `value` after it, says that it stored it.
-fn stored_conditional(rd: Reg, told: u32, address: u32, value: u32) -> Option<Stored>
-    ensures { result ≡ stored_conditional rd told address value }
+/// The word of an `sc.w` at an address, which was stored if rd, unless it is x0, became 0.
+fn stored_conditional(rd: Reg, became: u32, address: u32, value: u32) -> Option<Stored>
+    ensures { result ≡ stored_conditional rd became address value }
 {
-    if rd.bits() == 0 || told != 0 {
+    if rd.bits() == 0 || became != 0 {
         return None;
     }
     Some(Stored {
