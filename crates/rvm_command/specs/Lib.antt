@@ -10,3 +10,4 @@ pub mod FirstWorld
 pub mod ScriptRefusals
 pub mod ScriptEnds
 pub mod Trace
+pub mod TraceLaw
