@@ -20,3 +20,4 @@ pub mod ExtendedAnswers
 pub mod ExtendedScript
 pub mod ExtendedRuns
 pub mod ExtendedEnds
+pub mod TraceLaw
