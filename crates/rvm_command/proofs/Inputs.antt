@@ -14,7 +14,7 @@ use Rattle.rvm_board.specs.Events.{Answered, answered}
 use Rattle.rvm_command.specs.declared.refused.Refused.{Refused}
 use Rattle.rvm_command.specs.declared.run.Ended.{Ended}
 use Rattle.rvm_command.specs.Command.{guest_of, image_of}
-use Rattle.rvm_command.specs.Ends.{IsRunEnd}
+use Rattle.rvm_command.specs.Ends.{IsRunEnd, Writes}
 use Rattle.rvm_command.specs.Taken.{steps_in}
 use Rattle.rvm_command.specs.Watched.{Watched, end_at, fault_among, run_with, trace_of, traced_of, turns_of, turns_until}
 use Rattle.rvm_command.proofs.FewSteps.{turns_within}
@@ -115,10 +115,6 @@ if_ok : {X E : Type 0} (r : Result X E) (P Q : X → Type 0) → ((x : X) → P 
 if_ok (Ok x) P Q f p = f x p
 if_ok (Err e) P Q f p = tt
 
--- a run had something to write
-abbrev Writes : Watched → Type 0
-Writes r = (0 < length r.written) ⊎ (0 < length r.lines)
-
 -- how a run ended that was given the bytes of its input that its turns can take, so it ends with all of them
 pub ends_so : (a : RunArguments) (file begun input : List ℕ) (end : Result Ended Refused) (before after trace_before trace_after : Option (List ℕ))
     → begun ≡ take a.steps input → IsRunEnd a file begun end before after trace_before trace_after → IsRunEnd a file input end before after trace_before trace_after
@@ -138,5 +134,5 @@ ends_so a file begun input (Err r) before after trace_before trace_after is (inr
       loadable,
       if_ok (image_of a.guest.raw file) _ _ (λ i some.
           let same = same_watched a.stop_at_fault (traced_of a.trace) a.steps begun input (guest_of a.guest.harts a.guest.pages i.0 i.1) is in
-          subst Writes same some) came,
+          subst (λ (r : Watched). Writes r a.trace) same some) came,
     )

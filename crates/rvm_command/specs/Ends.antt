@@ -20,6 +20,7 @@ use Rattle.rvm_refusal.specs.declared.refusal.Refusal.TheVariants.{OutOfMemory, 
 use Rattle.rvm_arguments.specs.declared.arguments.GuestArguments.{GuestArguments}
 use Rattle.rvm_arguments.specs.declared.arguments.RunArguments.{RunArguments}
 use Rattle.rvm_arguments.specs.declared.arguments.StatusOf.{StatusOf}
+use Rattle.rvm_arguments.specs.declared.arguments.TraceArguments.{TraceArguments}
 use Rattle.rvm_arguments.specs.declared.arguments.StatusOf.TheVariants as tells
 use Rattle.rvm_command.specs.declared.refused.Refused.{Refused}
 use Rattle.rvm_command.specs.declared.run.Ended.{Ended}
@@ -27,6 +28,7 @@ use Rattle.rvm_command.specs.declared.run.Ended.TheVariants as ended
 use Rattle.rvm_command.specs.declared.run.Ended.TheVariants.{HaltedWith, StepsSpent}
 use Rattle.rvm_command.specs.Assembled.{IsFileOf}
 use Rattle.rvm_command.specs.Command.{FileImage, end_text, guest_of, image_of, listing, run_of}
+use Rattle.rvm_command.specs.Watched.{Watched}
 use Rattle.rvm_command.specs.Refusals.{IsTold, refused, refused_at, refused_of_text, refused_of_script}
 use Rattle.rvm_elf.specs.Refusals.{refusal_of_file, refusal_of_image}
 
@@ -46,6 +48,15 @@ IsLoadRefusal (Ok image) pages r =
     (r ≡ refused OutOfMemory)
     ⊎ ((r ≡ refused OutsideRam) × (fits image.0 image.1 (4096 * pages) ≡ false))
 
+-- a run has a trace
+abbrev pub IsTraced : Option TraceArguments → Type 0
+IsTraced None = ⊥
+IsTraced (Some trace) = Unit {0}
+
+-- something is to be written of a run: it has output, or a trace, which is flushed
+abbrev pub Writes : Watched → Option TraceArguments → Type 0
+Writes r trace = (0 < length r.written) ⊎ IsTraced trace
+
 -- a run has made its last turn, or was refused: before its first, or since a write failed, of its output or its trace
 abbrev pub IsRunEnd : RunArguments → (file input : List ℕ) → Result Ended Refused
     → (before after trace_before trace_after : Option (List ℕ)) → Type 0
@@ -57,8 +68,7 @@ IsRunEnd a file input (Ok ended) before after trace_before trace_after =
 IsRunEnd a file input (Err r) before after trace_before trace_after =
     (IsLoadRefusal (image_of a.guest.raw file) a.guest.pages r × (after ≡ before) × (trace_after ≡ trace_before))
     ⊎ ((r ≡ refused LinkFault) × IsLoadable (image_of a.guest.raw file) a.guest.pages
-    × IfOk (image_of a.guest.raw file) (λ i.
-    (0 < length (run_of a i input).written) ⊎ (0 < length (run_of a i input).lines)))
+    × IfOk (image_of a.guest.raw file) (λ i. Writes (run_of a i input) a.trace))
 
 -- the lines of an image are written, or it was refused: for its file, or since a write failed
 abbrev pub IsListEnd : FileImage → Result (Unit {0}) Refused

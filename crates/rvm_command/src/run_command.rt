@@ -1,20 +1,22 @@
 //! `rvmove run`: runs the guest of an image, and reports how that ended.
 
-ghost use Rattle.std.specs.Prelude.{◌≡◌, ◌⊎◌, ◌++◌, Result, OnOk, IfOk, codes};
-ghost use Rattle.std.specs.Io.KnownBytes.{Appends};
+ghost use Rattle.std.specs.Prelude.{◌≡◌, ◌⊎◌, ◌++◌, Result, OnErr, OnOk, IfOk, codes};
+ghost use Rattle.std.specs.Io.KnownBytes.{Appends, Keeps};
 ghost use Rattle.rvm_arguments.specs.declared.arguments.StatusOf.TheVariants as tells;
 ghost use Rattle.rvm_command.specs.declared.refused.Refused.{Refused};
 ghost use Rattle.rvm_command.specs.declared.run.Ended.{Ended};
 ghost use Rattle.rvm_command.specs.Command.{end_text, image_of};
-ghost use Rattle.rvm_command.specs.Ends.{IsLoadable, IsRunEnd, RunHasStatus, run_status};
+ghost use Rattle.rvm_command.specs.Ends.{IsLoadable, IsRunEnd, IsTraced, RunHasStatus, Writes, run_status};
+ghost use Rattle.rvm_command.specs.Watched.{HasRun, run_with, traced_of};
 
 use crate::fault::write_fault;
 use crate::guest::load_guest;
 use crate::refused::{Refused, tell};
 use crate::run::Ended;
 use crate::watched::run_asked;
-use rvm_arguments::{RunArguments, StatusOf};
-use rvm_mem::PagedMemory;
+use rvm_arguments::{RunArguments, StatusOf, TraceArguments};
+use rvm_board::Debugged;
+use rvm_mem::{Memory, PagedMemory};
 use rvm_refusal::LinkFault;
 use std::alloc::Global;
 use std::io::Write;
@@ -138,5 +140,36 @@ fn run_image<M: PagedMemory + Drop, O: Write, T: Write>(
         ⊎ ((O.contents output.new ≡ O.contents output.old) × (T.contents trace.new ≡ T.contents trace.old)) }
 {
     let mut guest = load_guest::<M>(alloc, &arguments.guest, image)?;
-    Ok(run_asked(&mut guest, arguments, input, output, trace)?)
+    Ok(run_to_end(&mut guest, arguments, input, output, trace)?)
+}
+
+/// Runs a guest as the arguments ask for, and flushes its trace, if it has one. `LinkFault` if a write fails.
+#[tactic(auto, using(crate::proofs::Flushing::flushed, crate::proofs::Flushing::writes))]
+fn run_to_end<M: Memory, O: Write, T: Write>(
+    guest: &mut Debugged<M>,
+    arguments: &RunArguments,
+    input: &[u8],
+    output: &mut O,
+    trace: &mut T,
+) -> Result<Ended, LinkFault>
+    ensures run { IfOk result (λ end. HasRun (run_with arguments.now.stop_at_fault (traced_of arguments.now.trace)
+        arguments.now.steps input.now guest.old.guest) end guest.old guest.new
+        (O.contents output.old) (O.contents output.new) (T.contents trace.old) (T.contents trace.new)) }
+    ensures some { OnErr result (Writes (run_with arguments.now.stop_at_fault (traced_of arguments.now.trace)
+        arguments.now.steps input.now guest.old.guest) arguments.now.trace) }
+{
+    let ended = run_asked(guest, arguments, input, output, trace)?;
+    flush_trace(&arguments.trace, trace)?;
+    Ok(ended)
+}
+
+/// Flushes a trace, if there is one. `LinkFault` if that fails.
+fn flush_trace<T: Write>(asked: &Option<TraceArguments>, trace: &mut T) -> Result<(), LinkFault>
+    ensures same { Keeps (T.contents trace.old) (T.contents trace.new) }
+    ensures traced { OnErr result (IsTraced asked.now) }
+{
+    match asked {
+        Some(_) => Ok(trace.flush()?),
+        None => Ok(()),
+    }
 }
